@@ -1,0 +1,8 @@
+//! Loads the files of a program, and writes what a run came to.
+#![tactic(auto)]
+
+pub mod loading;
+pub mod texts;
+
+pub use loading::{FileError, load_first};
+pub use texts::{refusal, report};

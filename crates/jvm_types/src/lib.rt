@@ -1,0 +1,17 @@
+//! The data that the crates of the machine share: class files, outcomes of a run, and the definitions
+//! that their contracts cite.
+#![tactic(auto)]
+
+pub mod class_file;
+pub mod first;
+pub mod gate;
+pub mod outcome;
+pub mod refusal;
+pub mod rows;
+
+pub use class_file::{Attr, ClassFile, Code, Constant, Handler, Member, MemberAttr};
+pub use first::FirstOp;
+pub use gate::{Gate, OpenGate};
+pub use outcome::{Counts, End, Outcome, Print, ThreadReport, Thrown};
+pub use refusal::{CRule, KRule, LRule, NO_METHOD, Place, Rule, SRule, VRule};
+pub use rows::{Bytes, Rows};
