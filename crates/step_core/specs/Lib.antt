@@ -1,1 +1,3 @@
 pub mod PlainRun
+pub mod Shown
+pub mod Progress

@@ -2,5 +2,6 @@
 #![tactic(auto)]
 
 pub mod first_run;
+mod frame;
 
-pub use first_run::run_first;
+pub use first_run::{run_first};
