@@ -1,5 +1,5 @@
 -- A print more, with the next ticket.
-use Rattle.std.proofs.Common.{◌≡◌, ℕ, ℤ, ◌+◌, List, [], ◌∷◌, ◌++◌, length, map, Result, Ok, Err, OnOk, refl, ap, sym, ◌∙◌, arith, add-zero, suc}
+use Rattle.std.proofs.Common.{◌≡◌, ℕ, ℤ, ◌+◌, List, [], ◌∷◌, ◌++◌, length, Result, Ok, Err, OnOk, refl, ap, sym, ◌∙◌, arith, add-zero, suc}
 use Rattle.std.proofs.lemmas.List.{length-map, length_push}
 use Rattle.jvm_types.specs.declared.outcome.Print.{Print as Printed}
 use Rattle.step_core.specs.PlainRun.{ticketed}
@@ -23,9 +23,9 @@ ticketed_next ps word n e k =
     let p : Printed = record { ticket = word; value = n } in
     let at : word ≡ 0 + length (values ps) = omega (arith, length-map ps (λ (q : Printed). q.value)) in
     ap (λ (qs : List Printed). qs ++ p ∷ []) e
-        ∙ ap (λ (j : ℕ). ticketed 0 (values ps) ++ record { ticket = j; value = n } ∷ []) at
-        ∙ sym (ticketed_push 0 (values ps) n)
-        ∙ ap (ticketed 0) (sym (values_push ps p))
+    ∙ ap (λ (j : ℕ). ticketed 0 (values ps) ++ record { ticket = j; value = n } ∷ []) at
+    ∙ sym (ticketed_push 0 (values ps) n)
+    ∙ ap (ticketed 0) (sym (values_push ps p))
 
 pub counted_next : (ps qs : List Printed) (p : Printed) (word : ℕ) → qs ≡ ps ++ p ∷ [] → word ≡ length ps → word + 1 ≡ length qs
 counted_next ps qs p word e k = rw (e, length_push) (omega arith)

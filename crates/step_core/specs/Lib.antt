@@ -1,3 +1,4 @@
 pub mod PlainRun
 pub mod Shown
 pub mod Progress
+pub mod OneOutcome

@@ -5,10 +5,9 @@ ghost use Rattle.jvm_types.specs.declared.first.FirstOp.{FirstOp as Op};
 ghost use Rattle.step_core.specs.PlainRun.{effect, gone_on, outcome_of, IsPlainOutcome};
 ghost use Rattle.step_core.specs.Progress.{top_frame, shown, acts_until, returned, IsTicketed, IsReached};
 
+use crate::frame::{Frame, Stack};
 use jvm_types::{Counts, End, FirstOp, Outcome, Print, Rows, ThreadReport};
 use std::alloc::{AllocError, Global};
-
-use crate::frame::{Frame, Stack};
 
 /// Thread 0 in its one frame, with the word of print tickets, which no other thread uses.
 #[derive(Debug, Drop)]
@@ -51,7 +50,10 @@ impl Thread {
     {
         let ticket = self.tickets;
         self.tickets += 1;
-        self.prints.push(Print { ticket, value: number })
+        self.prints.push(Print {
+            ticket,
+            value: number,
+        })
     }
 
     /// Begins and does one instruction, which is no return.
@@ -116,4 +118,76 @@ pub fn run_first(alloc: Global, ops: &Rows<FirstOp>) -> Result<Outcome, AllocErr
         }
     }
     unreachable!()
+}
+
+#[cfg(test)]
+mod tests {
+    use super::*;
+
+    #[test]
+    fn prints_a_sum(rt: HostRuntime) -> Result<(), AllocError> {
+        let code = [
+            FirstOp::Out,
+            FirstOp::Const(2),
+            FirstOp::Const(3),
+            FirstOp::Add,
+            FirstOp::Print,
+            FirstOp::Return,
+        ];
+        let ops = Rows::from_slice(rt.alloc(), &code)?;
+        let outcome = run_first(rt.alloc(), &ops)?;
+        assert_eq!(rt; outcome.done, End::Returned);
+        for thread in outcome.threads.as_slice() {
+            assert_eq!(rt; thread.end, End::Returned);
+            let prints = [Print {
+                ticket: 0,
+                value: 5,
+            }];
+            assert_eq!(rt; thread.prints.as_slice(), prints.as_slice());
+            assert_eq!(rt;
+                thread.counts,
+                Counts {
+                    instructions: 6,
+                    elided: 0,
+                    failed: 0,
+                    locked: 0,
+                    inflated: 0
+                }
+            );
+        }
+        assert_eq!(rt; outcome.threads.len(), 1);
+        Ok(())
+    }
+
+    #[test]
+    fn wraps_at_32_bits(rt: HostRuntime) -> Result<(), AllocError> {
+        let code = [
+            FirstOp::Out,
+            FirstOp::Out,
+            FirstOp::Const(2147483647),
+            FirstOp::Const(1),
+            FirstOp::Add,
+            FirstOp::Print,
+            FirstOp::Const(-1),
+            FirstOp::Print,
+            FirstOp::Return,
+        ];
+        let ops = Rows::from_slice(rt.alloc(), &code)?;
+        let outcome = run_first(rt.alloc(), &ops)?;
+        for thread in outcome.threads.as_slice() {
+            let prints = [
+                Print {
+                    ticket: 0,
+                    value: -2147483648,
+                },
+                Print {
+                    ticket: 1,
+                    value: -1,
+                },
+            ];
+            assert_eq!(rt; thread.prints.as_slice(), prints.as_slice());
+        }
+        assert_eq!(rt; outcome.threads.len(), 1);
+        Ok(())
+    }
 }

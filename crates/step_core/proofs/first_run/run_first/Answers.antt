@@ -1,6 +1,6 @@
-use Rattle.std.proofs.Common.{◌≡◌, ◌+◌, drop, Some, slice_get, sym, ◌∙◌, ap}
+use Rattle.std.proofs.Common.{◌+◌, drop, Some, sym, ◌∙◌, ap}
 use Rattle.step_core.specs.Progress.{shown, top_frame}
-use Rattle.step_core.proofs.Goes.{Goes, goes_first, goes_at, goes_next, goes_none, some_of}
+use Rattle.step_core.proofs.Goes.{goes_first, goes_at, goes_next, goes_none, some_of}
 use Rattle.step_core.proofs.Reached.{reached_next, reached_end}
 use Rattle.step_core.proofs.first_run.run_first.Goals as goal
 
