@@ -1,6 +1,6 @@
 -- A stable sort by the ticket answers `by_ticket`: two lists in order, which have the same prints of each ticket
 -- in the same order, are one.
-use Rattle.std.proofs.Common.{◌≡◌, ℕ, ◌+◌, ◌<◌, ◌≤◌, zero, suc, Bool, true, false, cond, eqb, ltb, leb, nat_le, List, [], ◌∷◌, length, get_or, pos, not, ◌&&◌, subst, refl, ap, sym, ◌∙◌, arith}
+use Rattle.std.proofs.Common.{◌≡◌, ℕ, ◌+◌, ◌<◌, ◌≤◌, suc, Bool, true, false, cond, eqb, leb, nat_le, List, [], ◌∷◌, length, get_or, pos, not, ◌&&◌, subst, refl, ap, sym, ◌∙◌, arith}
 use Rattle.std.specs.List.{filter, AllByRecursion}
 use Rattle.std.specs.List.Sorted.{IsNonDecreasingBy, IsSortedByKey, IsStableByKey, ties}
 use Rattle.std.specs.Ordering.{nat_cmp, is_lt}
@@ -39,7 +39,7 @@ all_put : (t : ℕ) (p : Print) (qs : List Print) → t ≤ p.ticket → AllByRe
 all_put t p [] low all = (low, tt)
 all_put t p (q ∷ qs) low all =
     elim (nat_le p.ticket q.ticket) as (λ (b : Bool). AllByRecursion (λ (r : Print). t ≤ r.ticket) (cond b (p ∷ q ∷ qs) (q ∷ put p qs)))
-      [ true ↦ (low, all) | false ↦ (all.0, all_put t p qs low all.1) ]
+    [ true ↦ (low, all) | false ↦ (all.0, all_put t p qs low all.1) ]
 
 all_lower : (s t : ℕ) (qs : List Print) → s ≤ t → AllByRecursion (λ (q : Print). t ≤ q.ticket) qs → AllByRecursion (λ (q : Print). s ≤ q.ticket) qs
 all_lower s t [] low all = tt
@@ -73,7 +73,7 @@ filter_put t p (q ∷ qs) = at (nat_le p.ticket q.ticket) refl (filter_put t p q
     at true e later = refl
     at false e later =
         ap (λ (rs : List Print). cond (has t q) (q ∷ rs) rs) later
-            ∙ passed (has t p) (has t q) p q (filter (has t) qs) (apart p.ticket q.ticket t e)
+        ∙ passed (has t p) (has t q) p q (filter (has t) qs) (apart p.ticket q.ticket t e)
 
 filter_by_ticket : (t : ℕ) (ps : List Print) → filter (has t) (by_ticket ps) ≡ filter (has t) ps
 filter_by_ticket t [] = refl
@@ -148,5 +148,5 @@ filter_ties x (p ∷ ps) = rw (ties_own x.ticket p.ticket, filter_ties x ps)
 pub sorted_is_by_ticket : (ps qs : List Print) → IsSortedByKey (λ (p : Print). p.ticket) nat_cmp qs → IsStableByKey (λ (p : Print). p.ticket) nat_cmp ps qs → qs ≡ by_ticket ps
 sorted_is_by_ticket ps qs sorted stable =
     one_list qs (by_ticket ps) (rises_along qs (IsNonDecreasingBy-from_sort (λ (p : Print). p.ticket) qs sorted)) (rises_by_ticket ps) (λ t.
-      let x : Print = record { ticket = t; value = pos 0 } in
-      sym (filter_ties x qs) ∙ stable x ∙ filter_ties x ps ∙ sym (filter_by_ticket t ps))
+    let x : Print = record { ticket = t; value = pos 0 } in
+    sym (filter_ties x qs) ∙ stable x ∙ filter_ties x ps ∙ sym (filter_by_ticket t ps))

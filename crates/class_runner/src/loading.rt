@@ -3,13 +3,12 @@ ghost use Rattle.jvm_types.specs.FirstForm.{IsFirstForm, IsFirstRun};
 ghost use Rattle.class_runner.specs.Loading.{IsNotBuilt};
 ghost use Rattle.jvm_types.specs.declared.first.FirstOp.{FirstOp as Op};
 
+use crate::texts::RuleText;
 use class_reader::{FirstError, read_first};
 use jvm_types::{Bytes, FirstOp, LRule, NO_METHOD, Place, Rows, Rule};
 use std::alloc::Global;
 use std::fmt;
 use thiserror::Error;
-
-use crate::texts::RuleText;
 
 /// Why files were not loaded.
 #[derive(Debug, Drop, Error)]
@@ -57,5 +56,23 @@ pub fn load_first(alloc: Global, bytes: &Bytes) -> Result<Rows<FirstOp>, FileErr
         Ok(ops) => Ok(ops),
         Err(FirstError::Memory) => Err(FileError::Memory),
         Err(FirstError::Other) => Err(FileError::Refused(Rule::L(LRule::L0), FIRST_FILE)),
+    }
+}
+
+#[cfg(test)]
+mod tests {
+    use super::*;
+
+    #[test]
+    fn errors_are_shown(rt: HostRuntime) -> Result<(), std::alloc::AllocError> {
+        let place = Place {
+            file: 2,
+            method: 1,
+            at: 7,
+        };
+        let error = FileError::Refused(Rule::L(LRule::L2), place);
+        let text = format!(in rt.alloc(); "{error}")?;
+        assert_eq!(rt; text.as_str(), "refused L2 file 2 method 1 at 7");
+        Ok(())
     }
 }

@@ -3,7 +3,10 @@ ghost use Rattle.std.specs.List.{flat_map};
 ghost use Rattle.class_runner.specs.Report.{report_text, by_ticket, print_lines, class_name, thread_ends, end_lines, counts_line, counts_lines};
 ghost use Rattle.class_runner.specs.Refusal.{refusal_text, method_text, c_number, k_number, l_number, v_number, s_number};
 
-use jvm_types::{Bytes, CRule, Counts, End, KRule, LRule, NO_METHOD, Outcome, Place, Print, Rule, SRule, ThreadReport, Thrown, VRule};
+use jvm_types::{
+    Bytes, CRule, Counts, End, KRule, LRule, NO_METHOD, Outcome, Place, Print, Rule, SRule,
+    ThreadReport, Thrown, VRule,
+};
 use std::alloc::{AllocError, Global};
 use std::fmt;
 
@@ -63,7 +66,11 @@ fn prints_by_thread(alloc: Global, threads: &[ThreadReport]) -> Result<Vec<Print
     Ok(prints)
 }
 
-fn write_prints(text: &mut String, alloc: Global, threads: &[ThreadReport]) -> Result<(), AllocError>
+fn write_prints(
+    text: &mut String,
+    alloc: Global,
+    threads: &[ThreadReport],
+) -> Result<(), AllocError>
     ensures { OnOk result (string_bytes text.new ≡ string_bytes text.old ++ print_lines threads.now) }
 {
     let prints = prints_by_ticket(alloc, threads)?;
@@ -119,7 +126,10 @@ fn write_counts_of(text: &mut String, number: usize, counts: Counts) -> Result<(
         locked,
         inflated,
     } = counts;
-    write!(text, "counts {number} instructions {instructions} elided {elided} failed {failed}")?;
+    write!(
+        text,
+        "counts {number} instructions {instructions} elided {elided} failed {failed}"
+    )?;
     writeln!(text, " locked {locked} inflated {inflated}")
 }
 
@@ -274,5 +284,83 @@ fn s_number(rule: SRule) -> u8
         SRule::S2 => 2,
         SRule::S3 => 3,
         SRule::S4 => 4,
+    }
+}
+
+#[cfg(test)]
+mod tests {
+    use super::*;
+    use jvm_types::Rows;
+
+    #[test]
+    fn reports_two_threads(rt: HostRuntime) -> Result<(), AllocError> {
+        let first = [
+            Print {
+                ticket: 0,
+                value: 5,
+            },
+            Print {
+                ticket: 2,
+                value: -7,
+            },
+        ];
+        let second = [Print {
+            ticket: 1,
+            value: 12,
+        }];
+        let mut threads = Rows::new(rt.alloc());
+        threads.push(ThreadReport {
+            end: End::Returned,
+            prints: Rows::from_slice(rt.alloc(), &first)?,
+            counts: Counts {
+                instructions: 6,
+                elided: 0,
+                failed: 0,
+                locked: 1,
+                inflated: 0,
+            },
+        })?;
+        threads.push(ThreadReport {
+            end: End::Uncaught(Thrown::ArithmeticException),
+            prints: Rows::from_slice(rt.alloc(), &second)?,
+            counts: Counts {
+                instructions: 40,
+                elided: 2,
+                failed: 1,
+                locked: 0,
+                inflated: 3,
+            },
+        })?;
+        let outcome = Outcome {
+            threads,
+            done: End::NotRun,
+        };
+        let text = report(rt.alloc(), &outcome)?;
+        let expected =
+            "5\n12\n-7\ninit returned\nthread 1 uncaught java/lang/ArithmeticException\ndone not run\ncounts 0 instructions 6 elided 0 failed 0 locked 1 inflated 0\ncounts 1 instructions 40 elided 2 failed 1 locked 0 inflated 3\n";
+        assert_eq!(rt; text.as_slice(), expected.as_bytes());
+        Ok(())
+    }
+
+    #[test]
+    fn refuses_by_a_line(rt: HostRuntime) -> Result<(), AllocError> {
+        let whole = Place {
+            file: 0,
+            method: NO_METHOD,
+            at: 0,
+        };
+        let text = refusal(rt.alloc(), Rule::L(LRule::L0), whole)?;
+        assert_eq!(rt; text.as_slice(), "refused L0 file 0 at 0\n".as_bytes());
+        let inner = Place {
+            file: 3,
+            method: 12,
+            at: 65535,
+        };
+        let text = refusal(rt.alloc(), Rule::C(CRule::C10), inner)?;
+        assert_eq!(rt;
+            text.as_slice(),
+            "refused C10 file 3 method 12 at 65535\n".as_bytes()
+        );
+        Ok(())
     }
 }
