@@ -1,4 +1,4 @@
 pub mod PlainRun
-pub mod Shown
+pub mod Operands
 pub mod Progress
 pub mod OneOutcome

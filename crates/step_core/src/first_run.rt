@@ -117,6 +117,7 @@ pub fn run_first(alloc: Global, ops: &Rows<FirstOp>) -> Result<Outcome, AllocErr
             _ => thread.step(*op)?,
         }
     }
+    // The code ends in its return.
     unreachable!()
 }
 

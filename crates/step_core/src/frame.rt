@@ -1,7 +1,7 @@
 ghost use Rattle.std.specs.Prelude.{◌≡◌, ◌+◌, ◌<◌, [], ◌∷◌, IfOk, OnOk, IsSome, MatchOption};
 ghost use Rattle.std.specs.Option.{option_to_list};
 ghost use Rattle.step_core.specs.PlainRun.{effect, Number};
-ghost use Rattle.step_core.specs.Shown.{value_of, IsNumberFirst};
+ghost use Rattle.step_core.specs.Operands.{value_of, IsNumberFirst};
 
 use jvm_types::{FirstOp, Rows};
 use std::alloc::{AllocError, Global};
@@ -24,7 +24,7 @@ pub struct Stack {
 impl Model for Stack {
     ghost use Rattle.std.specs.Prelude.{List};
     ghost use Rattle.step_core.specs.PlainRun.{Value as PlainValue};
-    ghost use Rattle.step_core.specs.Shown.{tops};
+    ghost use Rattle.step_core.specs.Operands.{tops};
 
     ghost Value = { List PlainValue };
 
@@ -32,7 +32,7 @@ impl Model for Stack {
 }
 
 impl Stack {
-    #[tactic(auto, unfolding(crate::specs::Shown::tops))]
+    #[tactic(auto, unfolding(crate::specs::Operands::tops))]
     pub fn new(alloc: Global) -> Self
         ensures { result ≡ [] }
     {
