@@ -1,1 +1,4 @@
 pub mod PlainRun
+pub mod Operands
+pub mod Progress
+pub mod OneOutcome

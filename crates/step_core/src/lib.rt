@@ -2,5 +2,8 @@
 #![tactic(auto)]
 
 pub mod first_run;
+mod frame;
+pub mod laws;
 
 pub use first_run::run_first;
+pub use laws::plain_outcome_is_one;

@@ -1,0 +1,11 @@
+use Rattle.std.proofs.Common.{◌∙◌, ap, rules}
+use Rattle.std.proofs.lemmas.List.Sorted.{answers_always}
+use Rattle.class_runner.specs.Report.{by_ticket}
+use Rattle.class_runner.proofs.ByTicket.{sorted_is_by_ticket}
+use Rattle.class_runner.proofs.texts.prints_by_ticket.Goals as goal
+
+pub returns : goal.returns
+returns c =
+    let sorted = c.in_ok-sort_by_key.ensures.sorted (λ p. p.ticket) (answers_always _ _ _ (λ f a r g h. search rules)) in
+    let stable = c.sort_by_key.ensures.stable (λ p. p.ticket) (answers_always _ _ _ (λ f a r g h. search rules)) in
+    sorted_is_by_ticket c.in_ok-prints.prints.items c.sort_by_key.new.self.items sorted stable ∙ ap by_ticket c.in_ok-prints.ensures

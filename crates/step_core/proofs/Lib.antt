@@ -1,0 +1,6 @@
+pub mod Tops
+pub mod Tickets
+pub mod Runs
+pub mod Goes
+pub mod Reached
+pub mod OneOutcome
