@@ -2,17 +2,9 @@ ghost use Rattle.std.specs.Prelude.{◌≡◌, ◌≢◌, List, IfOk};
 ghost use Rattle.jvm_types.specs.FirstForm.{IsFirstForm, IsFirstRun};
 ghost use Rattle.jvm_types.specs.declared.first.FirstOp.{FirstOp as Op};
 
+use crate::error::FirstError;
 use jvm_types::{Bytes, FirstOp, Rows};
 use std::alloc::Global;
-
-/// Why a file was not read.
-#[derive(Clone, Copy, Debug, PartialEq, Eq)]
-pub enum FirstError {
-    /// Memory ran out.
-    Memory,
-    /// The file is not of the first form.
-    Other,
-}
 
 /// The instructions of a file of the first form: one class whose static `init` adds and prints
 /// (JVMS, SE 6, chapter 4).

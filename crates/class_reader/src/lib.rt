@@ -1,6 +1,12 @@
 //! Reads class files.
 #![tactic(auto)]
 
+mod constants;
+mod error;
+mod fields;
 pub mod first_form;
+mod parts;
+mod shape;
 
-pub use first_form::{FirstError, read_first};
+pub use error::FirstError;
+pub use first_form::read_first;
