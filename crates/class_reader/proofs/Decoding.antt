@@ -24,7 +24,7 @@ pub begins : (pool : List Constant) (code : List ℕ) → IsBytes code → Reads
 begins pool code fits = record { whole = λ tail h. h; only = λ all h. (all, refl, h); fits = fits }
 
 -- no instruction is without bytes
-front_long : (pool : List Constant) (op : FirstOp) (front : List ℕ) → SpellsOp pool op front → 0 < length front
+pub front_long : (pool : List Constant) (op : FirstOp) (front : List ℕ) → SpellsOp pool op front → 0 < length front
 front_long pool Out front h = rw (h.1) (omega arith)
 front_long pool (Const n) front h = rw (h.1) (omega arith)
 front_long pool Add front h = rw h (omega arith)

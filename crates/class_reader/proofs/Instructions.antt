@@ -1,5 +1,5 @@
 -- An instruction that is read is spelled so, and one that is spelled so is read.
-use Rattle.std.proofs.Common.{◌≡◌, ℕ, ◌≤◌, Bool, true, false, cond, eqb, leb, ◌&&◌, pos, List, [], ◌∷◌, ◌++◌, Option, Some, None, refl, sym, ap, subst, ◌∙◌, arith}
+use Rattle.std.proofs.Common.{◌≡◌, ℕ, ◌≤◌, true, cond, eqb, leb, ◌&&◌, pos, List, [], ◌∷◌, ◌++◌, Some, None, refl, sym, ap, subst, ◌∙◌, arith}
 use Rattle.std.specs.Prelude.{slice_get, codes, ◌-ℤ◌}
 use Rattle.std.proofs.lemmas.Bool.{eqb-true}
 use Rattle.std.proofs.lemmas.Bool.Decides.{nat_tests}
@@ -10,7 +10,7 @@ use Rattle.jvm_types.specs.declared.first.FirstOp.{FirstOp}
 use Rattle.jvm_types.specs.declared.first.FirstOp.TheVariants.{Out, Const, Add, Print, Return}
 use Rattle.class_reader.specs.Reading.{u1_at, u2_at}
 use Rattle.class_reader.specs.Testing.{is_field, is_method, out_at, print_at, coded_at, op_at}
-use Rattle.class_reader.proofs.Numbers.{IsBytes, bind_some, then_some, guard_some, some_is, none_some, u1_takes, u2_takes, u2_again}
+use Rattle.class_reader.proofs.Numbers.{IsBytes, bind_some, then_some, guard_some, some_is, none_some, by_test, u1_takes, u2_takes, u2_again}
 use Rattle.class_reader.proofs.Naming.{is_field-Decides, is_method-Decides}
 
 -- the code begins with this instruction, and the rest follows
@@ -22,10 +22,6 @@ pub record Begins (pool : List Constant) (code : List ℕ) (op : FirstOp) (rest 
 -- and the rest are bytes
 abbrev pub BeginsBytes : List Constant → List ℕ → FirstOp × List ℕ → Type 0
 BeginsBytes pool code x = Begins pool code x.0 x.1 × IsBytes x.1
-
-by_test : {A P : Type 0} (b : Bool) (x y z : Option A) → cond b x y ≡ z → (b ≡ true → x ≡ z → P) → (b ≡ false → y ≡ z → P) → P
-by_test true x y z e f g = f refl e
-by_test false x y z e f g = g refl e
 
 out_takes : (pool : List Constant) (bytes : List ℕ) (x : FirstOp × List ℕ) → IsBytes bytes → out_at pool bytes ≡ Some x → BeginsBytes pool (178 ∷ bytes) x
 unfolding out_at

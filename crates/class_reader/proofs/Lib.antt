@@ -5,3 +5,6 @@ pub mod Naming
 pub mod Instructions
 pub mod Decoding
 pub mod Returns
+pub mod Entries
+pub mod Spelled
+pub mod Joined

@@ -40,6 +40,11 @@ some_is x y e = cc
 pub none_some : {A : Type 0} (x : A) → None ≡ Some x → ⊥
 none_some x e = cc
 
+-- which way a test went
+pub by_test : {A P : Type 0} (b : Bool) (x y z : Option A) → cond b x y ≡ z → (b ≡ true → x ≡ z → P) → (b ≡ false → y ≡ z → P) → P
+by_test true x y z e f g = f refl e
+by_test false x y z e f g = g refl e
+
 -- what a reader took from the front
 pub record Takes (bytes text rest : List ℕ) : Type 0 where
   pub parts : bytes ≡ text ++ rest
