@@ -1,0 +1,10 @@
+pub mod Loop
+pub mod Numbers
+pub mod Operands
+pub mod Naming
+pub mod Instructions
+pub mod Decoding
+pub mod Returns
+pub mod Entries
+pub mod Spelled
+pub mod Joined

@@ -1,0 +1,35 @@
+-- Reading entries of the pool one after the other, as a loop does.
+use Rattle.std.proofs.Common.{◌≡◌, ℕ, suc, ◌-◌, ◌+◌, ◌≤◌, ◌<◌, List, [], ◌∷◌, ◌++◌, Option, Some, None, refl, sym, ap, ◌∙◌, append_assoc, arith}
+use Rattle.std.proofs.lemmas.List.{append-nil}
+use Rattle.jvm_types.specs.declared.class_file.Constant.{Constant}
+use Rattle.class_reader.specs.declared.error.FirstError.{FirstError}
+use Rattle.class_reader.specs.declared.error.FirstError.TheVariants.{Memory, Other}
+use Rattle.class_reader.specs.Reading.{◌>>=◌, Fails, with_front, constant_at, entries_at}
+
+regroup : (front : List Constant) (n : Constant) (read : Option (List Constant × List ℕ)) → with_front front (read >>= λ x. Some (n ∷ x.0, x.1)) ≡ with_front (front ++ n ∷ []) read
+regroup front n (Some x) = ap (λ (ns : List Constant). Some (ns, x.1)) (simp append_assoc)
+regroup front n None = refl
+
+pub goes_on : (front : List Constant) (count i : ℕ) (bytes : List ℕ) (n : Constant) (after : List ℕ) (total : Option (List Constant × List ℕ)) → i < count → constant_at bytes ≡ Some (n, after)
+    → with_front front (entries_at (count - i) bytes) ≡ total → with_front (front ++ n ∷ []) (entries_at (count - (i + 1)) after) ≡ total
+unfolding entries_at
+goes_on front count i bytes n after total lt h so_far =
+    let k : count - i ≡ suc (count - (i + 1)) = omega arith in
+    let one : with_front front (entries_at (count - i) bytes) ≡ with_front (front ++ n ∷ []) (entries_at (count - (i + 1)) after) = rw (k, h) (regroup front n (entries_at (count - (i + 1)) after)) in
+    sym one ∙ so_far
+
+pub ends : (e : FirstError) (front : List Constant) (count i : ℕ) (bytes : List ℕ) (total : Option (List Constant × List ℕ)) → i < count → Fails e (constant_at bytes)
+    → with_front front (entries_at (count - i) bytes) ≡ total → Fails e total
+unfolding entries_at
+ends Memory front count i bytes total lt h so_far = tt
+ends Other front count i bytes total lt h so_far =
+    let k : count - i ≡ suc (count - (i + 1)) = omega arith in
+    let one : with_front front (entries_at (count - i) bytes) ≡ None = rw (k, h) refl in
+    sym so_far ∙ one
+
+pub is_done : (front : List Constant) (count i : ℕ) (bytes : List ℕ) (total : Option (List Constant × List ℕ)) → count ≤ i → with_front front (entries_at (count - i) bytes) ≡ total → total ≡ Some (front, bytes)
+unfolding entries_at
+is_done front count i bytes total le so_far =
+    let k : count - i ≡ 0 = omega arith in
+    let one : with_front front (entries_at (count - i) bytes) ≡ Some (front, bytes) = rw k (ap (λ (ns : List Constant). Some (ns, bytes)) (append-nil front)) in
+    sym so_far ∙ one
