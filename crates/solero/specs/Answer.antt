@@ -1,0 +1,71 @@
+-- What the program owes to its words and files: a text, and a status with it.
+use Rattle.std.specs.Prelude.{◌≡◌, ℕ, ◌<◌, ◌≤◌, List, length, codes, Option, Some, None, IfSome, ◌⊎◌}
+use Rattle.jvm_types.specs.FirstForm.{IsFirstForm}
+use Rattle.jvm_types.specs.declared.first.FirstOp.{FirstOp}
+use Rattle.jvm_types.specs.declared.outcome.Outcome.{Outcome}
+use Rattle.jvm_types.specs.declared.refusal.Rule.TheVariants as rules
+use Rattle.jvm_types.specs.declared.refusal.LRule.TheVariants.{L0}
+use Rattle.step_core.specs.PlainRun.{IsPlainOutcome}
+use Rattle.class_runner.specs.Report.{line, report_text}
+use Rattle.class_runner.specs.Refusal.{refusal_text}
+use Rattle.class_runner.specs.Loading.{first_file}
+use Rattle.solero.specs.Faults.{CountsFault}
+use Rattle.solero.specs.Shelf.{content_of}
+use Rattle.solero.specs.declared.shelf.NamedFile.{NamedFile}
+use Rattle.solero.specs.declared.answer.Due.{Due}
+use Rattle.solero.specs.declared.answer.Due.TheVariants.{Report, Usage, Refusal, CannotRead, OutOfMemory}
+
+abbrev pub status_of : Due → ℕ
+status_of (Report text) = 0
+status_of Usage = 2
+status_of (Refusal text) = 3
+status_of CannotRead = 4
+status_of OutOfMemory = 6
+
+abbrev pub text_of : Due → List ℕ
+text_of (Report text) = text
+text_of Usage = line (codes "usage: solero [options] FILE...")
+text_of (Refusal text) = text
+text_of CannotRead = line (codes "cannot read file 0")
+text_of OutOfMemory = line (codes "out of memory")
+
+-- a file that is longer is refused
+abbrev pub longest_file : ℕ
+longest_file = 1048576
+
+abbrev pub IsNoFirstForm : List ℕ → Type 0
+IsNoFirstForm content = (ops : List FirstOp) → IsFirstForm content ops → ⊥
+
+abbrev pub not_built : List ℕ
+not_built = refusal_text (rules.L L0) first_file
+
+-- the text reports a plain run of the instructions that the content spells
+pub record Reports (content text : List ℕ) : Type 0 where
+  pub ops : List FirstOp
+  pub form : IsFirstForm content ops
+  pub outcome : Outcome
+  pub run : IsPlainOutcome ops outcome
+  pub report : text ≡ report_text outcome
+
+-- What is due to a command, None where the words are not read, and to the files, None where the shelf does not tell
+-- them. The shelf's count of faults goes from before to after.
+abbrev pub IsDue : Option (List ℕ) → Option (List NamedFile) → ℕ → ℕ → Due → Type 0
+IsDue None files before after due = (due ≡ Usage) × (after ≡ before)
+IsDue (Some name) files before after Usage = ⊥
+IsDue (Some name) files before after CannotRead = CountsFault before after
+IsDue (Some name) files before after OutOfMemory = before ≤ after
+IsDue (Some name) files before after (Refusal text) = (after ≡ before) × (text ≡ not_built) × IfSome files (λ fs. (longest_file < length (content_of fs name)) ⊎ IsNoFirstForm (content_of fs name))
+IsDue (Some name) files before after (Report text) = (after ≡ before) × ((content : List ℕ) × (length content ≤ longest_file) × Reports content text × IfSome files (λ fs. content ≡ content_of fs name))
+
+-- what is due to the content of a file that is not too long
+abbrev pub IsRun : List ℕ → Due → Type 0
+IsRun content (Report text) = Reports content text
+IsRun content (Refusal text) = (text ≡ not_built) × IsNoFirstForm content
+IsRun content OutOfMemory = Unit {0}
+IsRun content due = ⊥
+
+-- the refusal with this text, unless memory ran out
+abbrev pub IsRefusal : List ℕ → Due → Type 0
+IsRefusal line (Refusal text) = text ≡ line
+IsRefusal line OutOfMemory = Unit {0}
+IsRefusal line due = ⊥

@@ -1,0 +1,42 @@
+//! The program `solero`: runs class files, and writes what came of it.
+#![tactic(auto)]
+
+mod adapters;
+mod answer;
+mod command;
+mod delivery;
+mod program;
+mod shelf;
+mod sink;
+
+use adapters::{FileShelf, OutputSink};
+use answer::Due;
+use jvm_types::OpenGate;
+use std::process::ExitCode;
+use std::rt::Env;
+use std::{env, io};
+
+fn main(rt: HostRuntime) -> ExitCode {
+    let mut shelf = FileShelf::new(&rt);
+    let mut sink = OutputSink::new(&rt);
+    let status = match words(&rt) {
+        Ok(words) => program::top(rt.alloc(), &words, &mut shelf, &mut sink, &OpenGate),
+        Err(error) => delivery::deliver(&mut sink, &without_words(&error)),
+    };
+    ExitCode::from(status)
+}
+
+// The words that the program was called with, the first of which is its name.
+fn words<R: Env + AllocGlobal>(rt: &R) -> io::Result<Vec<String>> {
+    let words = env::args(rt)?.collect(rt.alloc())?;
+    Ok(words)
+}
+
+// What is due where the words cannot be had: those that are no text are not read.
+fn without_words(error: &io::Error) -> Due {
+    if error.kind() == io::ErrorKind::OutOfMemory {
+        Due::OutOfMemory
+    } else {
+        Due::Usage
+    }
+}
