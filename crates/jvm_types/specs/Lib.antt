@@ -2,3 +2,5 @@ pub mod Numbers
 pub mod Spelling
 pub mod Pool
 pub mod FirstForm
+pub mod ClassTree
+pub mod CodeTable
