@@ -4,3 +4,7 @@ pub mod Pool
 pub mod FirstForm
 pub mod ClassTree
 pub mod CodeTable
+pub mod ClassNames
+pub mod Descriptors
+pub mod Members
+pub mod Layout
