@@ -7,4 +7,7 @@ pub mod CodeTable
 pub mod ClassNames
 pub mod Descriptors
 pub mod Members
+pub mod Targets
 pub mod Layout
+pub mod Linked
+pub mod LinkFaults
