@@ -1,7 +1,6 @@
 -- Members and how a name finds one (JVMS 5.4.3.2, 5.4.3.3): in the named class and then in Object, which is the superclass
 -- of every class of a file, and an `<init>` in the named class alone (JVMS 5.4.3.3 with 6.5, `invokespecial`).
 use Rattle.std.specs.Prelude.{ℕ, bytes_eq, ◌+◌, ◌==◌, Bool, ◌&&◌, ◌||◌, not, List, [], ◌∷◌, ◌++◌, map, Option, Some, None, codes, if◌then◌else◌}
-use Rattle.std.specs.Bool.{xor}
 use Rattle.std.specs.Option.{option_or}
 use Rattle.std.specs.List.{find, range_with_len}
 use Rattle.jvm_types.specs.Numbers.{has_flag}
@@ -135,11 +134,15 @@ is_hidden site class flags = is_private flags && not (class == site.class)
 abbrev pub initializes : Site → Bool → ℕ → Bool
 initializes site static class = (class == site.class) && (if static then is_class_init_name site.name else is_init_name site.name)
 
+-- an instruction for static fields on an instance field, or the reverse
+abbrev pub is_other_sort : (static : Bool) → (flags : ℕ) → Bool
+is_other_sort static flags = if static then not (is_static flags) else is_static flags
+
 -- The rule that refuses the use of a field with this class and these flags, by an instruction for static fields or not,
 -- which writes or not. `System.out` is of no file, so that no site may write it.
 abbrev pub field_rule : (static writes : Bool) → Site → (class flags : ℕ) → Option LRule
 field_rule static writes site class flags = first_rule (
-    (xor static (is_static flags), L2)
+    (is_other_sort static flags, L2)
     ∷ (is_hidden site class flags, L3)
     ∷ (writes && is_final flags && not (initializes site static class), L7) ∷ [])
 

@@ -1,0 +1,2 @@
+mod NameTries
+mod LinkTries
