@@ -4,3 +4,5 @@ pub mod Pool
 pub mod FirstForm
 pub mod ClassTree
 pub mod CodeTable
+pub mod CodeGrammar
+pub mod CodeFault

@@ -1,0 +1,2 @@
+mod CodeTries
+mod GrammarTries
