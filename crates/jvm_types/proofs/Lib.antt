@@ -1,2 +1,4 @@
 mod NameTries
 mod LinkTries
+mod CodeTries
+mod GrammarTries

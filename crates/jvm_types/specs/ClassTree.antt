@@ -1,7 +1,7 @@
 -- The classes by their numbers, and which is below which. Every class of a program is just below Object
 -- (this machine has no inheritance between them); of Java's tree of throwables the twelve built-in ones
 -- stand, without IndexOutOfBoundsException and VirtualMachineError between them (JVMS 2.10).
-use Rattle.std.specs.Prelude.{ℕ, Bool, true, false, ◌||◌, ◌==◌, if◌then◌else◌, List, [], ◌∷◌}
+use Rattle.std.specs.Prelude.{ℕ, Bool, false, ◌||◌, ◌==◌, if◌then◌else◌, List, [], ◌∷◌}
 
 abbrev pub object_class : ℕ
 object_class = 1

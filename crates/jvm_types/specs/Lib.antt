@@ -11,3 +11,5 @@ pub mod Targets
 pub mod Layout
 pub mod Linked
 pub mod LinkFaults
+pub mod CodeGrammar
+pub mod CodeFault
