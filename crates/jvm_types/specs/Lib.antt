@@ -2,3 +2,8 @@ pub mod Numbers
 pub mod Spelling
 pub mod Pool
 pub mod FirstForm
+pub mod ClassGrammar
+pub mod ReadingSteps
+pub mod ReadingPool
+pub mod ReadingClass
+pub mod ClassLaws

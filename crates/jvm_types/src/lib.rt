@@ -5,6 +5,7 @@
 pub mod class_file;
 pub mod first;
 pub mod gate;
+pub mod index_kind;
 pub mod outcome;
 pub mod refusal;
 pub mod rows;
@@ -12,6 +13,7 @@ pub mod rows;
 pub use class_file::{Attr, ClassFile, Code, Constant, Handler, Member, MemberAttr};
 pub use first::FirstOp;
 pub use gate::{Gate, OpenGate};
+pub use index_kind::IndexKind;
 pub use outcome::{Counts, End, Outcome, Print, ThreadReport, Thrown};
 pub use refusal::{CRule, KRule, LRule, NO_METHOD, Place, Rule, SRule, VRule};
 pub use rows::{Bytes, Rows};
