@@ -1,3 +1,4 @@
 pub mod StepLaws
 pub mod IndexLaws
 pub mod ConstantLaws
+pub mod PoolLaws
