@@ -2,3 +2,7 @@ mod NameTries
 mod LinkTries
 mod CodeTries
 mod GrammarTries
+pub mod StepLaws
+pub mod IndexLaws
+pub mod ConstantLaws
+pub mod PoolLaws

@@ -13,3 +13,8 @@ pub mod Linked
 pub mod LinkFaults
 pub mod CodeGrammar
 pub mod CodeFault
+pub mod ClassGrammar
+pub mod ReadingSteps
+pub mod ReadingPool
+pub mod ReadingClass
+pub mod ClassLaws

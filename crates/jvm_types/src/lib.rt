@@ -6,6 +6,7 @@ pub mod class_file;
 pub mod code;
 pub mod first;
 pub mod gate;
+pub mod index_kind;
 pub mod outcome;
 pub mod program;
 pub mod refusal;
@@ -16,6 +17,7 @@ pub use class_file::{Attr, ClassFile, Code, Constant, Handler, Member, MemberAtt
 pub use code::{Case, Cmp, Insn, Op};
 pub use first::FirstOp;
 pub use gate::{Gate, OpenGate};
+pub use index_kind::IndexKind;
 pub use outcome::{Counts, End, Outcome, Print, ThreadReport, Thrown};
 pub use program::{FieldInfo, Kind, MethodInfo, Program, Row, Target};
 pub use refusal::{CRule, KRule, LRule, NO_METHOD, Place, Rule, SRule, VRule};
