@@ -1,12 +1,12 @@
 -- What the definitions of linking say of small programs, by computing.
-use Rattle.std.proofs.Common.{◌≡◌, ℕ, ◌+◌, pos, negsuc, Bool, true, false, List, [], ◌∷◌, ◌++◌, Option, Some, None, refl}
+use Rattle.std.proofs.Common.{◌≡◌, ℕ, ◌+◌, pos, List, [], ◌∷◌, Option, Some, None, refl}
 use Rattle.std.specs.Prelude.{replicate, codes, map}
 use Rattle.jvm_types.specs.LinkFaults.{LinkFault, link_fault, in_file, in_method, word_pass}
 use Rattle.jvm_types.specs.Linked.{program_of}
 use Rattle.jvm_types.specs.declared.class_file.Constant.{Constant}
 use Rattle.jvm_types.specs.declared.class_file.Constant.TheVariants.{Gap, Utf8, Integer, Float, Class, Field, Method, InterfaceMethod, NameAndType}
 use Rattle.jvm_types.specs.declared.class_file.Handler.{Handler}
-use Rattle.jvm_types.specs.declared.class_file.MemberAttr.TheVariants.{Code, Other}
+use Rattle.jvm_types.specs.declared.class_file.MemberAttr.TheVariants.{Code}
 use Rattle.jvm_types.specs.declared.class_file.Member.{Member as ClassMember}
 use Rattle.jvm_types.specs.declared.class_file.ClassFile.{ClassFile}
 use Rattle.jvm_types.specs.declared.code.Insn.{Insn}
@@ -22,20 +22,20 @@ use Rattle.jvm_types.specs.declared.refusal.LRule.TheVariants.{L1, L2, L3, L4, L
 -- 0 to 19 are those of a class A whose `init` prints; the others are named where they are used
 abbrev pool : List Constant
 pool = Gap ∷ Utf8 (codes "A") ∷ Class 1 ∷ Utf8 (codes "java/lang/Object") ∷ Class 3
-  ∷ Utf8 (codes "init") ∷ Utf8 (codes "()V") ∷ Utf8 (codes "Code") ∷ Utf8 (codes "java/lang/System") ∷ Class 8
-  ∷ Utf8 (codes "out") ∷ Utf8 (codes "Ljava/io/PrintStream;") ∷ NameAndType 10 11 ∷ Field 9 12 ∷ Utf8 (codes "java/io/PrintStream")
-  ∷ Class 14 ∷ Utf8 (codes "println") ∷ Utf8 (codes "(I)V") ∷ NameAndType 16 17 ∷ Method 15 18
-  -- 20 println()V, 21 a Float, 22 the class C, which is no file, 24 its field x
-  ∷ NameAndType 16 6 ∷ Float 0 ∷ Class 23 ∷ Utf8 (codes "C") ∷ Field 22 25
-  ∷ NameAndType 26 27 ∷ Utf8 (codes "x") ∷ Utf8 (codes "I") ∷ Method 15 20 ∷ Field 2 25
-  -- 30 java/lang/Exception, 32 the class B, 34 its field x, 35 its <init>()V, 36 Object's
-  ∷ Class 31 ∷ Utf8 (codes "java/lang/Exception") ∷ Class 33 ∷ Utf8 (codes "B") ∷ Field 32 25
-  ∷ Method 32 37 ∷ Method 4 37 ∷ NameAndType 38 6 ∷ Utf8 (codes "<init>") ∷ Utf8 (codes "wait")
-  -- 40 A.wait()V, 42 an interface's method, 43 A.init()V, 45 x of type J, 48 <clinit>
-  ∷ Method 2 41 ∷ NameAndType 39 6 ∷ InterfaceMethod 15 18 ∷ Method 2 44 ∷ NameAndType 5 6
-  ∷ Field 2 46 ∷ NameAndType 26 47 ∷ Utf8 (codes "J") ∷ Utf8 (codes "<clinit>") ∷ Utf8 (codes "run")
-  -- 50 the Exception's <init>()V, 51 an Integer
-  ∷ Method 30 37 ∷ Integer (pos 9) ∷ []
+    ∷ Utf8 (codes "init") ∷ Utf8 (codes "()V") ∷ Utf8 (codes "Code") ∷ Utf8 (codes "java/lang/System") ∷ Class 8
+    ∷ Utf8 (codes "out") ∷ Utf8 (codes "Ljava/io/PrintStream;") ∷ NameAndType 10 11 ∷ Field 9 12 ∷ Utf8 (codes "java/io/PrintStream")
+    ∷ Class 14 ∷ Utf8 (codes "println") ∷ Utf8 (codes "(I)V") ∷ NameAndType 16 17 ∷ Method 15 18
+    -- 20 println()V, 21 a Float, 22 the class C, which is no file, 24 its field x
+    ∷ NameAndType 16 6 ∷ Float 0 ∷ Class 23 ∷ Utf8 (codes "C") ∷ Field 22 25
+    ∷ NameAndType 26 27 ∷ Utf8 (codes "x") ∷ Utf8 (codes "I") ∷ Method 15 20 ∷ Field 2 25
+    -- 30 java/lang/Exception, 32 the class B, 34 its field x, 35 its <init>()V, 36 Object's
+    ∷ Class 31 ∷ Utf8 (codes "java/lang/Exception") ∷ Class 33 ∷ Utf8 (codes "B") ∷ Field 32 25
+    ∷ Method 32 37 ∷ Method 4 37 ∷ NameAndType 38 6 ∷ Utf8 (codes "<init>") ∷ Utf8 (codes "wait")
+    -- 40 A.wait()V, 42 an interface's method, 43 A.init()V, 45 x of type J, 48 <clinit>
+    ∷ Method 2 41 ∷ NameAndType 39 6 ∷ InterfaceMethod 15 18 ∷ Method 2 44 ∷ NameAndType 5 6
+    ∷ Field 2 46 ∷ NameAndType 26 47 ∷ Utf8 (codes "J") ∷ Utf8 (codes "<clinit>") ∷ Utf8 (codes "run")
+    -- 50 the Exception's <init>()V, 51 an Integer
+    ∷ Method 30 37 ∷ Integer (pos 9) ∷ []
 
 -- ---- classes, and their instructions
 
@@ -66,7 +66,7 @@ abbrev targets_of : List MethodInfo → List (List Target)
 targets_of methods = map (λ m. m.targets) methods
 
 prints_targets : targets_of (program_of (class 2 4 0 [] (coded 8 5 6 [] ∷ []) ∷ []) (insns 0 (Getstatic 13 ∷ Iconst (pos 2) ∷ Iconst (pos 3) ∷ Iadd ∷ Invokevirtual 19 ∷ Return ∷ []) ∷ []) 65536 0).methods
-  ≡ (targets.Out ∷ targets.Nothing ∷ targets.Nothing ∷ targets.Nothing ∷ targets.Println ∷ targets.Nothing ∷ []) ∷ []
+    ≡ (targets.Out ∷ targets.Nothing ∷ targets.Nothing ∷ targets.Nothing ∷ targets.Println ∷ targets.Nothing ∷ []) ∷ []
 prints_targets = refl
 
 -- ---- the third pass

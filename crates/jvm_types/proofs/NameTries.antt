@@ -1,19 +1,16 @@
 -- What the definitions of class names, descriptors, members and the layout say of small cases, by computing.
-use Rattle.std.proofs.Common.{◌≡◌, ℕ, pos, negsuc, Bool, true, false, List, [], ◌∷◌, ◌++◌, Option, Some, None, refl}
+use Rattle.std.proofs.Common.{◌≡◌, ℕ, pos, true, false, List, [], ◌∷◌, Some, None, refl}
 use Rattle.std.specs.Prelude.{replicate, codes}
-use Rattle.jvm_types.specs.ClassNames.{class_number, named_class, is_built_in_name, can_be_made, is_class}
-use Rattle.jvm_types.specs.Descriptors.{field_kind, Signature, method_signature}
-use Rattle.jvm_types.specs.Members.{Entry, built_in_methods, look_up, field_rule, call_rule, Virtual, Special, Static, is_static}
+use Rattle.jvm_types.specs.ClassNames.{class_number, named_class, can_be_made}
+use Rattle.jvm_types.specs.Descriptors.{field_kind, method_signature}
+use Rattle.jvm_types.specs.Members.{built_in_methods, look_up, field_rule, call_rule, Virtual, Special, Static}
 use Rattle.jvm_types.specs.Layout.{fixed_words, laid_out_fields}
 use Rattle.jvm_types.specs.declared.class_file.Constant.{Constant}
 use Rattle.jvm_types.specs.declared.class_file.Constant.TheVariants.{Gap, Utf8, Integer, Float, Class}
 use Rattle.jvm_types.specs.declared.class_file.MemberAttr.TheVariants.{ConstantValue}
 use Rattle.jvm_types.specs.declared.class_file.Member.{Member as ClassMember}
 use Rattle.jvm_types.specs.declared.class_file.ClassFile.{ClassFile}
-use Rattle.jvm_types.specs.declared.program.Kind.{Kind}
 use Rattle.jvm_types.specs.declared.program.Kind.TheVariants as kinds
-use Rattle.jvm_types.specs.declared.program.FieldInfo.{FieldInfo}
-use Rattle.jvm_types.specs.declared.program.Target.TheVariants as targets
 use Rattle.jvm_types.specs.declared.refusal.LRule.TheVariants.{L2, L3, L7}
 
 -- two classes, A and B
@@ -55,14 +52,14 @@ made = refl
 -- ---- descriptors
 
 types : (field_kind names (codes "I") ∷ field_kind names (codes "Z") ∷ field_kind names (codes "[I") ∷ field_kind names (codes "LB;") ∷ field_kind names (codes "Ljava/io/PrintStream;") ∷ [])
-  ≡ Some kinds.Int ∷ Some kinds.Bool ∷ Some (kinds.Ref 2) ∷ Some (kinds.Ref 18) ∷ Some (kinds.Ref 3) ∷ []
+    ≡ Some kinds.Int ∷ Some kinds.Bool ∷ Some (kinds.Ref 2) ∷ Some (kinds.Ref 18) ∷ Some (kinds.Ref 3) ∷ []
 types = refl
 
 -- other types and classes, and texts that are no type
 no_types : (field_kind names (codes "J") ∷ field_kind names (codes "[Z") ∷ field_kind names (codes "[[I") ∷ field_kind names (codes "[LA;")
     ∷ field_kind names (codes "LC;") ∷ field_kind names (codes "Ljava/lang/System;") ∷ field_kind names (codes "L[I;")
     ∷ field_kind names (codes "") ∷ field_kind names (codes "II") ∷ field_kind names (codes "LA") ∷ field_kind names (codes "LA;;") ∷ field_kind names (codes "V") ∷ [])
-  ≡ replicate 12 None
+    ≡ replicate 12 None
 no_types = refl
 
 no_arguments : method_signature names (codes "()V") ≡ Some (record { args = []; result = None })
@@ -73,7 +70,7 @@ all_arguments = refl
 
 no_signatures : (method_signature names (codes "I") ∷ method_signature names (codes "()") ∷ method_signature names (codes "(V)V") ∷ method_signature names (codes "(I")
     ∷ method_signature names (codes "()VV") ∷ method_signature names (codes "(LC;)V") ∷ method_signature names (codes "([)V") ∷ method_signature names (codes "()J") ∷ method_signature names (codes "(LA)V") ∷ [])
-  ≡ replicate 9 None
+    ≡ replicate 9 None
 no_signatures = refl
 
 -- a class whose name has a `)` in it
@@ -126,7 +123,7 @@ own_public = refl
 
 inits : (call_rule Special (record { class = 18; name = codes "m" }) 17 (codes "<init>") 1 ∷ call_rule Special (record { class = 18; name = codes "m" }) 17 (codes "<init>") 2
     ∷ call_rule Virtual (record { class = 18; name = codes "m" }) 17 (codes "<init>") 1 ∷ call_rule Static (record { class = 17; name = codes "m" }) 17 (codes "<clinit>") 8 ∷ [])
-  ≡ None ∷ Some L3 ∷ Some L2 ∷ Some L2 ∷ []
+    ≡ None ∷ Some L3 ∷ Some L2 ∷ Some L2 ∷ []
 inits = refl
 
 -- ---- layout
@@ -149,9 +146,9 @@ some_statics = refl
 
 -- instance fields count up from 0, static ones from the third word of their class; a static field starts with its constant
 laid_out : laid_out_fields names (with_fields (field 0 1 ∷ field 8 1 ∷ field 0 2 ∷ field 8 2 ∷ []) ∷ with_fields (field 8 1 ∷ []) ∷ [])
-  ≡ record { class = 17; flags = 0; kind = kinds.Int; index = 0; start = pos 0 }
-  ∷ record { class = 17; flags = 8; kind = kinds.Int; index = 2070; start = pos 7 }
-  ∷ record { class = 17; flags = 0; kind = kinds.Bool; index = 1; start = pos 0 }
-  ∷ record { class = 17; flags = 8; kind = kinds.Bool; index = 2071; start = pos 1 }
-  ∷ record { class = 18; flags = 8; kind = kinds.Int; index = 2074; start = pos 7 } ∷ []
+    ≡ record { class = 17; flags = 0; kind = kinds.Int; index = 0; start = pos 0 }
+    ∷ record { class = 17; flags = 8; kind = kinds.Int; index = 2070; start = pos 7 }
+    ∷ record { class = 17; flags = 0; kind = kinds.Bool; index = 1; start = pos 0 }
+    ∷ record { class = 17; flags = 8; kind = kinds.Bool; index = 2071; start = pos 1 }
+    ∷ record { class = 18; flags = 8; kind = kinds.Int; index = 2074; start = pos 7 } ∷ []
 laid_out = refl

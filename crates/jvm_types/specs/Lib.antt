@@ -11,6 +11,8 @@ pub mod Targets
 pub mod Layout
 pub mod Linked
 pub mod LinkFaults
+pub mod ProgramInvariant
+pub mod Linkable
 pub mod CodeGrammar
 pub mod CodeFault
 pub mod ClassGrammar
