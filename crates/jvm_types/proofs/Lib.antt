@@ -1,5 +1,8 @@
 mod NameTries
 mod LinkTries
+pub mod KindLaws
+pub mod EachAfter
+pub mod LayoutLaws
 mod CodeTries
 mod GrammarTries
 pub mod StepLaws

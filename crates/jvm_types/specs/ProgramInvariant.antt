@@ -56,13 +56,13 @@ index_after earlier f =
 abbrev pub words_of : Program → ℕ
 words_of p = first_class_word + 2 * length p.names + statics_among p.fields
 
--- the field with this number
-pub record IsFieldOf (p : Program) (number : ℕ) (f : FieldInfo) : Type 0 where
+-- a field of the program, behind those before it
+pub record IsFieldOf (p : Program) (before : List FieldInfo) (f : FieldInfo) : Type 0 where
   pub class : IsFileClass p f.class
   -- fields stand in order of their classes
-  pub ordered : AllByRecursion (λ e. e.class ≤ f.class) (take number p.fields)
+  pub ordered : AllByRecursion (λ e. e.class ≤ f.class) before
   pub kind : IsKindOf p f.kind
-  pub index : f.index ≡ index_after (take number p.fields) f
+  pub index : f.index ≡ index_after before f
   -- an int, of which the field keeps all; 0 where it is of a reference type or no static field
   pub start_fits : FitsSigned w32 f.start
   pub start_kept : f.start ≡ (if is_static f.flags then kept_int f.kind f.start else pos 0)
@@ -135,12 +135,12 @@ site_in m = record { class = m.class; name = m.name }
 abbrev pub is_same_method : MethodInfo → MethodInfo → Bool
 is_same_method e m = (e.class == m.class) && bytes_eq e.name m.name && bytes_eq e.descriptor m.descriptor
 
--- the method with this number
-pub record IsMethodOf (p : Program) (number : ℕ) (m : MethodInfo) : Type 0 where
+-- a method of the program, behind those before it
+pub record IsMethodOf (p : Program) (before : List MethodInfo) (m : MethodInfo) : Type 0 where
   pub class : IsFileClass p m.class
   -- methods stand in order of their classes
-  pub ordered : AllByRecursion (λ e. e.class ≤ m.class) (take number p.methods)
-  pub distinct : AllByRecursion (λ e. is_same_method e m ≡ false) (take number p.methods)
+  pub ordered : AllByRecursion (λ e. e.class ≤ m.class) before
+  pub distinct : AllByRecursion (λ e. is_same_method e m ≡ false) before
   pub described : method_signature p.names m.descriptor ≡ Some (record { args = m.args; result = m.result })
   pub args : AllByRecursion (IsKindOf p) m.args
   pub result : IfSome m.result (IsKindOf p)
@@ -177,8 +177,8 @@ pub record IsProgram (p : Program) : Type 0 where
   pub words : words_of p ≤ p.heap
   -- no class has the name of a built-in one or of one before it
   pub names : (number : ℕ) (name : List ℕ) → slice_get p.names number ≡ Some name → is_taken (take number p.names) name ≡ false
-  pub fields : (number : ℕ) (f : FieldInfo) → slice_get p.fields number ≡ Some f → IsFieldOf p number f
-  pub methods : (number : ℕ) (m : MethodInfo) → slice_get p.methods number ≡ Some m → IsMethodOf p number m
+  pub fields : (number : ℕ) (f : FieldInfo) → slice_get p.fields number ≡ Some f → IsFieldOf p (take number p.fields) f
+  pub methods : (number : ℕ) (m : MethodInfo) → slice_get p.methods number ≡ Some m → IsMethodOf p (take number p.methods) m
   -- with workers there is a `run(I)V` of the first class
   pub run : 0 < p.workers → list_any (λ m. (m.class == file_class 0) && is_run m.name m.descriptor) p.methods ≡ true
   pub size : sum_by (λ m. length m.code) p.methods ≤ most_instructions
