@@ -3,6 +3,7 @@ mod LinkTries
 pub mod KindLaws
 pub mod EachAfter
 pub mod LayoutLaws
+pub mod PassLaws
 mod CodeTries
 mod GrammarTries
 pub mod StepLaws

@@ -133,7 +133,7 @@ site_in m = record { class = m.class; name = m.name }
 
 -- a method of the same class, name and descriptor
 abbrev pub is_same_method : MethodInfo → MethodInfo → Bool
-is_same_method e m = (e.class == m.class) && bytes_eq e.name m.name && bytes_eq e.descriptor m.descriptor
+is_same_method e m = (e.class == m.class) && (bytes_eq e.name m.name && bytes_eq e.descriptor m.descriptor)
 
 -- a method of the program, behind those before it
 pub record IsMethodOf (p : Program) (before : List MethodInfo) (m : MethodInfo) : Type 0 where
