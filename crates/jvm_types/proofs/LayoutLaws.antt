@@ -71,7 +71,7 @@ from_constant : (kind : Kind) (o : Option Constant) → IfSome o FieldsFit → S
 from_constant kind (Some (Integer n)) h = record { fits = kept_fits kind n h; kept = low_bit_kept kind n }
 from_constant kind o h = record { fits = zero_fits; kept = zero_kept kind }
 
-entry_fits : (pool : List Constant) (i : ℕ) → AllByRecursion FieldsFit pool → IfSome (slice_get pool i) FieldsFit
+pub entry_fits : (pool : List Constant) (i : ℕ) → AllByRecursion FieldsFit pool → IfSome (slice_get pool i) FieldsFit
 entry_fits [] i h = tt
 entry_fits (c ∷ cs) zero h = h.0
 entry_fits (c ∷ cs) (suc i) h = entry_fits cs i h.1

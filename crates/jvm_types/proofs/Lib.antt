@@ -4,6 +4,7 @@ pub mod KindLaws
 pub mod EachAfter
 pub mod LayoutLaws
 pub mod PassLaws
+pub mod TargetLaws
 mod CodeTries
 mod GrammarTries
 pub mod StepLaws
