@@ -5,6 +5,7 @@ pub mod EachAfter
 pub mod LayoutLaws
 pub mod PassLaws
 pub mod TargetLaws
+pub mod ScopeLaws
 mod CodeTries
 mod GrammarTries
 pub mod StepLaws

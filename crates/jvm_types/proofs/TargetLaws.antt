@@ -68,7 +68,7 @@ member_fits P rule entries (Some class) described name descriptor h =
 
 -- all fields and methods that may be named stand for something of the program
 abbrev pub FieldFits : Program → Entry → Type 0
-FieldFits p e = (static writes : Bool) (site : Site) → field_rule static writes site e.class e.flags ≡ None → IsFieldTarget p site static writes e.target
+FieldFits p e = (static writes : Bool) (site : Site) → 0 < site.class → field_rule static writes site e.class e.flags ≡ None → IsFieldTarget p site static writes e.target
 
 abbrev pub MethodFits : Program → Entry → Type 0
 MethodFits p e = (call : Call) (site : Site) → call_rule call site e.class e.name e.flags ≡ None → IsMethodTarget p site call e.target
@@ -82,11 +82,11 @@ all_of : {X : Type 0} (P Q : X → Type 0) → ((x : X) → P x → Q x) → (xs
 all_of P Q w [] h = tt
 all_of P Q w (x ∷ xs) h = (w x h.0, all_of P Q w xs h.1)
 
-module _ (p : Program) (s : Scope) (fit : ScopeFits p s) (site : Site) (pool : List Constant) (entries : AllByRecursion FieldsFit pool) where
+module _ (p : Program) (s : Scope) (fit : ScopeFits p s) (site : Site) (of_file : 0 < site.class) (pool : List Constant) (entries : AllByRecursion FieldsFit pool) where
   field_fits : (static writes : Bool) (o : Option Constant) → Fits (IsFieldTarget p site static writes) (field_target s site pool static writes o)
   field_fits static writes (Some (constants.Field class member)) e =
     member_fits (IsFieldTarget p site static writes) (λ e. field_rule static writes site e.class e.flags) s.fields (class_at s pool class) _ _ _
-      (all_of (FieldFits p) (λ e. field_rule static writes site e.class e.flags ≡ None → IsFieldTarget p site static writes e.target) (λ e h. h static writes site) s.fields fit.fields) e
+      (all_of (FieldFits p) (λ e. field_rule static writes site e.class e.flags ≡ None → IsFieldTarget p site static writes e.target) (λ e h. h static writes site of_file) s.fields fit.fields) e
   field_fits static writes o e = absurd cc
 
   method_fits : (call : Call) (o : Option Constant) → Fits (IsMethodTarget p site call) (method_target s site pool call o)
