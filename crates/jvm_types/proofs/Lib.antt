@@ -6,6 +6,7 @@ pub mod LayoutLaws
 pub mod PassLaws
 pub mod TargetLaws
 pub mod ScopeLaws
+pub mod SizeLaws
 mod CodeTries
 mod GrammarTries
 pub mod StepLaws
