@@ -7,6 +7,7 @@ pub mod PassLaws
 pub mod TargetLaws
 pub mod ScopeLaws
 pub mod SizeLaws
+pub mod LinkedLaws
 mod CodeTries
 mod GrammarTries
 pub mod StepLaws

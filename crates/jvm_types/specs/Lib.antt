@@ -13,6 +13,7 @@ pub mod Linked
 pub mod LinkFaults
 pub mod ProgramInvariant
 pub mod Linkable
+pub mod LinkLaws
 pub mod CodeGrammar
 pub mod CodeFault
 pub mod ClassGrammar
