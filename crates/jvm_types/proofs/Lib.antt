@@ -8,6 +8,7 @@ pub mod TargetLaws
 pub mod ScopeLaws
 pub mod SizeLaws
 pub mod LinkedLaws
+pub mod DescriptorProofs
 mod CodeTries
 mod GrammarTries
 pub mod StepLaws

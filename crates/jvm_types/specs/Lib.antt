@@ -6,6 +6,7 @@ pub mod ClassTree
 pub mod CodeTable
 pub mod ClassNames
 pub mod Descriptors
+pub mod DescriptorLaws
 pub mod Members
 pub mod Targets
 pub mod Layout

@@ -7,6 +7,7 @@ pub mod code;
 pub mod first;
 pub mod gate;
 pub mod index_kind;
+pub mod link_laws;
 pub mod outcome;
 pub mod program;
 pub mod refusal;
