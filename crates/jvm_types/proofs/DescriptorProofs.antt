@@ -1,14 +1,13 @@
 -- A descriptor has a meaning exactly where it is the text of that meaning.
 use Rattle.std.proofs.Common.{◌≡◌, ℕ, Bool, true, false, cond, ◌||◌, List, [], ◌∷◌, ◌++◌, Option, Some, None, refl, sym, ap, ◌∙◌, subst, inl, inr, append_assoc, append-nil}
-use Rattle.std.specs.Prelude.{◌==◌, ◌⊎◌, bytes_eq, codes}
+use Rattle.std.specs.Prelude.{◌==◌, bytes_eq, codes}
 use Rattle.std.specs.Option.{option_map, option_and_then}
 use Rattle.std.specs.List.{list_any}
 use Rattle.std.proofs.lemmas.Bool.{cond_both, eqb-true, or_parts}
 use Rattle.std.proofs.lemmas.Slice.Eq.{bytes_eq-Decides}
-use Rattle.jvm_types.specs.ClassTree.{int_array_class}
 use Rattle.jvm_types.specs.ClassNames.{class_number}
-use Rattle.jvm_types.specs.Descriptors.{Types, Reading, followed, array_of, class_kind, types_from, read_byte, read_from, only_kind, field_kind, Signature, result_kind, returned, method_signature}
-use Rattle.jvm_types.specs.DescriptorLaws.{SpellsClass, SpellsKind, SpellsKinds, SpellsResult, SpellsSignature, FieldsAreSpelled, MethodsAreSpelled}
+use Rattle.jvm_types.specs.Descriptors.{Types, Reading, followed, array_of, class_kind, types_from, read_from, only_kind, field_kind, Signature, result_kind, returned, method_signature}
+use Rattle.jvm_types.specs.DescriptorLaws.{SpellsKind, SpellsKinds, SpellsResult, SpellsSignature, FieldsAreSpelled, MethodsAreSpelled}
 use Rattle.jvm_types.specs.declared.program.Kind.{Kind}
 use Rattle.jvm_types.specs.declared.program.Kind.TheVariants as kinds
 
@@ -70,15 +69,16 @@ module _ (names : List (List ℕ)) where
   class_read bytes name None behind k h t e = absurd cc
   class_read bytes name (Some kind) None k h t e = absurd cc
   class_read bytes name (Some kind) (Some u) k h t e =
-    let b : Behind bytes name u = h u refl in
-    let whole : 76 ∷ bytes ≡ (76 ∷ (name ++ 59 ∷ [])) ++ b.tail = ap (λ x. 76 ∷ x) (b.is ∙ sym (append_assoc name (59 ∷ []) b.tail)) in
-    front_of (76 ∷ bytes) (some_same e) (subst (λ x. Front x (record { kinds = kind ∷ u.kinds; rest = u.rest })) (sym whole)
+      let b : Behind bytes name u = h u refl in
+      let whole : 76 ∷ bytes ≡ (76 ∷ (name ++ 59 ∷ [])) ++ b.tail = ap (λ x. 76 ∷ x) (b.is ∙ sym (append_assoc name (59 ∷ []) b.tail)) in
+      front_of (76 ∷ bytes) (some_same e) (subst (λ x. Front x (record { kinds = kind ∷ u.kinds; rest = u.rest })) (sym whole)
       (one_more kind (76 ∷ (name ++ 59 ∷ [])) b.tail u (class_spelled kind (class_kind_is (class_number names name) (bytes_eq name (codes "[I")) kind k) k b.plain) b.types))
     where
       class_kind_is : (n : Option ℕ) (b : Bool) (kind : Kind) → cond b None (option_map kinds.Ref n) ≡ Some kind → (class : ℕ) × (kind ≡ kinds.Ref class)
       class_kind_is n true kind e = absurd cc
       class_kind_is None false kind e = absurd cc
       class_kind_is (Some class) false kind e = (class, sym (some_same e))
+
       class_spelled : (kind : Kind) → ((class : ℕ) × (kind ≡ kinds.Ref class)) → class_kind names name ≡ Some kind → list_any (λ b. b == 59) name ≡ false → SpellsKind names kind (76 ∷ (name ++ 59 ∷ []))
       class_spelled kind c k plain = subst (λ j. SpellsKind names j (76 ∷ (name ++ 59 ∷ []))) (sym c.1) (inr (record { name = name; is = refl; known = k ∙ ap (λ j. Some j) c.1; plain = plain }))
 
@@ -90,17 +90,17 @@ module _ (names : List (List ℕ)) where
 
   types_read : (byte : ℕ) (bytes : List ℕ) (after : Reading) → Reads bytes after → Fronts (byte ∷ bytes) (types_from names byte bytes after)
   types_read byte bytes after h =
-    cond_both (byte == 73) _ _ (Fronts (byte ∷ bytes)) (λ e. starts_with byte bytes 73 _ e (followed_read kinds.Int (73 ∷ []) bytes after.types refl h.types))
-    (λ e. cond_both (byte == 90) _ _ (Fronts (byte ∷ bytes)) (λ e. starts_with byte bytes 90 _ e (followed_read kinds.Bool (90 ∷ []) bytes after.types refl h.types))
-    (λ e. cond_both (byte == 91) _ _ (Fronts (byte ∷ bytes)) (λ e. starts_with byte bytes 91 _ e (arrays_read bytes after.types h.types))
-    (λ e. cond_both (byte == 76) _ _ (Fronts (byte ∷ bytes)) (λ e. starts_with byte bytes 76 _ e (class_read bytes after.name (class_kind names after.name) after.behind refl h.behind))
-    (λ e. none_read (byte ∷ bytes)))))
+      cond_both (byte == 73) _ _ (Fronts (byte ∷ bytes)) (λ e. starts_with byte bytes 73 _ e (followed_read kinds.Int (73 ∷ []) bytes after.types refl h.types))
+      (λ e. cond_both (byte == 90) _ _ (Fronts (byte ∷ bytes)) (λ e. starts_with byte bytes 90 _ e (followed_read kinds.Bool (90 ∷ []) bytes after.types refl h.types))
+      (λ e. cond_both (byte == 91) _ _ (Fronts (byte ∷ bytes)) (λ e. starts_with byte bytes 91 _ e (arrays_read bytes after.types h.types))
+      (λ e. cond_both (byte == 76) _ _ (Fronts (byte ∷ bytes)) (λ e. starts_with byte bytes 76 _ e (class_read bytes after.name (class_kind names after.name) after.behind refl h.behind))
+      (λ e. none_read (byte ∷ bytes)))))
 
   behind_at : (byte : ℕ) (bytes : List ℕ) (after : Reading) → Reads bytes after → (b : Bool) → (byte == 59) ≡ b → (t : Types) → cond b after.types after.behind ≡ Some t → Behind (byte ∷ bytes) (cond b [] (byte ∷ after.name)) t
   behind_at byte bytes after h true b t e = record { tail = bytes; is = ap (λ n. n ∷ bytes) (eqb-true byte 59 b); plain = refl; types = h.types t e }
   behind_at byte bytes after h false b t e =
-    let more : Behind bytes after.name t = h.behind t e in
-    record { tail = more.tail; is = ap (λ x. byte ∷ x) more.is; plain = ap (λ x. x || list_any (λ b. b == 59) after.name) b ∙ more.plain; types = more.types }
+      let more : Behind bytes after.name t = h.behind t e in
+      record { tail = more.tail; is = ap (λ x. byte ∷ x) more.is; plain = ap (λ x. x || list_any (λ b. b == 59) after.name) b ∙ more.plain; types = more.types }
 
   reads : (bytes : List ℕ) → Reads bytes (read_from names bytes)
   reads [] = record { types = none_read []; behind = λ t e. absurd cc }
@@ -118,38 +118,39 @@ module _ (names : List (List ℕ)) where
   name_read : (name tail : List ℕ) → list_any (λ b. b == 59) name ≡ false → ((read_from names (name ++ 59 ∷ tail)).name ≡ name) × ((read_from names (name ++ 59 ∷ tail)).behind ≡ (read_from names tail).types)
   name_read [] tail p = (refl, refl)
   name_read (byte ∷ name) tail p =
-    let parts = or_parts (byte == 59) (list_any (λ b. b == 59) name) p in
-    let more = name_read name tail parts.1 in
-    (ap (λ b. cond b [] (byte ∷ (read_from names (name ++ 59 ∷ tail)).name)) parts.0 ∙ ap (λ x. byte ∷ x) more.0,
-     ap (λ b. cond b (read_from names (name ++ 59 ∷ tail)).types (read_from names (name ++ 59 ∷ tail)).behind) parts.0 ∙ more.1)
+      let parts = or_parts (byte == 59) (list_any (λ b. b == 59) name) p in
+      let more = name_read name tail parts.1 in (
+        ap (λ b. cond b [] (byte ∷ (read_from names (name ++ 59 ∷ tail)).name)) parts.0 ∙ ap (λ x. byte ∷ x) more.0,
+        ap (λ b. cond b (read_from names (name ++ 59 ∷ tail)).types (read_from names (name ++ 59 ∷ tail)).behind) parts.0 ∙ more.1,
+      )
 
   after_kind : (kind : Kind) (text tail : List ℕ) (ks : List Kind) (rest : List ℕ) → SpellsKind names kind text → (read_from names tail).types ≡ Some (record { kinds = ks; rest = rest })
-    → (read_from names (text ++ tail)).types ≡ Some (record { kinds = kind ∷ ks; rest = rest })
+      → (read_from names (text ++ tail)).types ≡ Some (record { kinds = kind ∷ ks; rest = rest })
   after_kind kinds.Int text tail ks rest h e = ap (λ t. (read_from names (t ++ tail)).types) h ∙ ap (followed (Some kinds.Int)) e
   after_kind kinds.Bool text tail ks rest h e = ap (λ t. (read_from names (t ++ tail)).types) h ∙ ap (followed (Some kinds.Bool)) e
   after_kind (kinds.Ref class) text tail ks rest (inl h) e =
-    ap (λ t. (read_from names (t ++ tail)).types) h.1 ∙ ap (λ o. option_and_then (λ t. array_of t.kinds t.rest) (followed (Some kinds.Int) o)) e ∙ ap (λ c. Some (record { kinds = kinds.Ref c ∷ ks; rest = rest })) (sym h.0)
+      ap (λ t. (read_from names (t ++ tail)).types) h.1 ∙ ap (λ o. option_and_then (λ t. array_of t.kinds t.rest) (followed (Some kinds.Int) o)) e ∙ ap (λ c. Some (record { kinds = kinds.Ref c ∷ ks; rest = rest })) (sym h.0)
   after_kind (kinds.Ref class) text tail ks rest (inr h) e =
-    let parts = name_read h.name tail h.plain in
-    ap (λ t. (read_from names (t ++ tail)).types) h.is
-    ∙ ap (λ x. (read_from names (76 ∷ x)).types) (append_assoc h.name (59 ∷ []) tail)
-    ∙ ap (λ n. followed (class_kind names n) (read_from names (h.name ++ 59 ∷ tail)).behind) parts.0
-    ∙ ap (λ k. followed k (read_from names (h.name ++ 59 ∷ tail)).behind) h.known
-    ∙ ap (followed (Some (kinds.Ref class))) (parts.1 ∙ e)
+      let parts = name_read h.name tail h.plain in
+      ap (λ t. (read_from names (t ++ tail)).types) h.is
+      ∙ ap (λ x. (read_from names (76 ∷ x)).types) (append_assoc h.name (59 ∷ []) tail)
+      ∙ ap (λ n. followed (class_kind names n) (read_from names (h.name ++ 59 ∷ tail)).behind) parts.0
+      ∙ ap (λ k. followed k (read_from names (h.name ++ 59 ∷ tail)).behind) h.known
+      ∙ ap (followed (Some (kinds.Ref class))) (parts.1 ∙ e)
 
   after_kinds : (ks : List Kind) (text rest : List ℕ) → SpellsKinds names ks text → Stops rest → (read_from names (text ++ rest)).types ≡ Some (record { kinds = ks; rest = rest })
   after_kinds [] text rest h s = ap (λ t. (read_from names (t ++ rest)).types) h ∙ s
   after_kinds (kind ∷ ks) text rest (front, more, e, h, hs) s =
-    ap (λ t. (read_from names (t ++ rest)).types) e ∙ ap (λ t. (read_from names t).types) (append_assoc front more rest)
-    ∙ after_kind kind front (more ++ rest) ks rest h (after_kinds ks more rest hs s)
+      ap (λ t. (read_from names (t ++ rest)).types) e ∙ ap (λ t. (read_from names t).types) (append_assoc front more rest)
+      ∙ after_kind kind front (more ++ rest) ks rest h (after_kinds ks more rest hs s)
 
   -- ---- fields
 
   only_read : (text : List ℕ) (ks : List Kind) (rest : List ℕ) (kind : Kind) → only_kind ks rest ≡ Some kind → Front text (record { kinds = ks; rest = rest }) → SpellsKind names kind text
   only_read text [] rest kind e f = absurd cc
   only_read text (k ∷ []) [] kind e f =
-    let whole : text ≡ f.spelled.0 = f.is ∙ append-nil f.front ∙ f.spelled.2 ∙ ap (λ b. f.spelled.0 ++ b) f.spelled.4 ∙ append-nil f.spelled.0 in
-    subst (λ j. SpellsKind names j text) (some_same e) (subst (SpellsKind names k) (sym whole) f.spelled.3)
+      let whole : text ≡ f.spelled.0 = f.is ∙ append-nil f.front ∙ f.spelled.2 ∙ ap (λ b. f.spelled.0 ++ b) f.spelled.4 ∙ append-nil f.spelled.0 in
+      subst (λ j. SpellsKind names j text) (some_same e) (subst (SpellsKind names k) (sym whole) f.spelled.3)
   only_read text (k ∷ []) (byte ∷ rest) kind e f = absurd cc
   only_read text (k ∷ j ∷ ks) rest kind e f = absurd cc
 
@@ -159,7 +160,7 @@ module _ (names : List (List ℕ)) where
 
   field_there : (text : List ℕ) (kind : Kind) → SpellsKind names kind text → field_kind names text ≡ Some kind
   field_there text kind h =
-    ap (λ o. option_and_then (λ t. only_kind t.kinds t.rest) o)
+      ap (λ o. option_and_then (λ t. only_kind t.kinds t.rest) o)
       (sym (ap (λ t. (read_from names t).types) (append-nil text)) ∙ after_kinds (kind ∷ []) text [] (text, [], sym (append-nil text), h, refl) refl)
 
   -- ---- methods
@@ -178,6 +179,7 @@ module _ (names : List (List ℕ)) where
     where
       not_void : text ≡ codes "V" → ⊥
       not_void e = let wrong : None ≡ Some kind = sym (ap (field_kind names) e) ∙ field_there text kind h in absurd cc
+
       at : (b : Bool) → bytes_eq text (codes "V") ≡ b → cond b (Some None) (option_map (λ k. Some k) (field_kind names text)) ≡ Some (Some kind)
       at true v = absurd (not_void ((bytes_eq-Decides text (codes "V")).0 v))
       at false v = ap (option_map (λ k. Some k)) (field_there text kind h)
@@ -195,6 +197,7 @@ module _ (names : List (List ℕ)) where
         spelled_args = f.spelled;
         spelled_result = result_at rest (bytes_eq rest (codes "V")) refl kind r;
       })
+
       at : (b : Bool) → (byte == 41) ≡ b → cond b (option_map (λ kind. record { args = ks; result = kind }) (result_kind names rest)) None ≡ Some s → SpellsSignature names s (40 ∷ bytes)
       at true b e = made b (result_kind names rest) refl e
       at false b e = absurd cc
@@ -213,9 +216,9 @@ module _ (names : List (List ℕ)) where
 
   method_there : (text : List ℕ) (s : Signature) → SpellsSignature names s text → method_signature names text ≡ Some s
   method_there text s h =
-    ap (method_signature names) h.is
-    ∙ ap (λ o. option_and_then (λ t. returned names t.kinds t.rest) o) (after_kinds s.args h.args (41 ∷ h.result) h.spelled_args refl)
-    ∙ ap (λ r. option_map (λ kind. record { args = s.args; result = kind }) r) (result_there h.result s.result h.spelled_result)
+      ap (method_signature names) h.is
+      ∙ ap (λ o. option_and_then (λ t. returned names t.kinds t.rest) o) (after_kinds s.args h.args (41 ∷ h.result) h.spelled_args refl)
+      ∙ ap (λ r. option_map (λ kind. record { args = s.args; result = kind }) r) (result_there h.result s.result h.spelled_result)
 
 -- ---- the laws
 

@@ -1,5 +1,5 @@
 -- Every class number that a name has, and every type that a descriptor names, is one of the program.
-use Rattle.std.proofs.Common.{◌≡◌, ℕ, suc, ◌+◌, ◌<◌, ◌≤◌, Bool, true, false, cond, List, [], ◌∷◌, length, Option, Some, None, IfSome, IsTrue, refl, sym, ap, ◌∙◌, subst, arith}
+use Rattle.std.proofs.Common.{◌≡◌, ℕ, suc, ◌+◌, ◌<◌, ◌≤◌, Bool, true, false, cond, List, [], ◌∷◌, length, Option, Some, None, IfSome, refl, subst, arith}
 use Rattle.std.specs.Prelude.{◌==◌, bytes_eq, codes}
 use Rattle.std.specs.Option.{option_or, option_map, option_and_then}
 use Rattle.std.specs.List.{AllByRecursion, position_from}
@@ -36,7 +36,7 @@ numbered_at files class None there h k e = of_file files class (k e)
 -- a class that has a number is one of the program's
 pub numbered : (names : List (List ℕ)) (text : List ℕ) (class : ℕ) → class_number names text ≡ Some class → is_class (length names) class ≡ true
 numbered names text class e = numbered_at (length names) class (position_from (bytes_eq text) 1 numbered_names) (position_from (bytes_eq text) 17 names)
-  (place_in (bytes_eq text) 1 numbered_names class) (place_in (bytes_eq text) 17 names class) e
+    (place_in (bytes_eq text) 1 numbered_names class) (place_in (bytes_eq text) 17 names class) e
 
 -- ---- types
 
@@ -50,7 +50,7 @@ module _ (p : Program) where
 
   class_kind_in : (text : List ℕ) → IfSome (class_kind p.names text) (IsKindOf p)
   class_kind_in text = cond_both (bytes_eq text (codes "[I")) None (option_map kinds.Ref (class_number p.names text)) (λ o. IfSome o (IsKindOf p)) (λ e. tt)
-    (λ e. ref_kind (class_number p.names text) (numbered p.names text))
+      (λ e. ref_kind (class_number p.names text) (numbered p.names text))
 
   followed_in : (kind : Option Kind) (after : Option Types) → IfSome kind (IsKindOf p) → Kinds after → Kinds (followed kind after)
   followed_in (Some kind) (Some after) k h t e = subst (λ (u : Types). AllByRecursion (IsKindOf p) u.kinds) (some_is e) (k, h after refl)
@@ -83,11 +83,11 @@ module _ (p : Program) where
 
   types_in : (byte : ℕ) (bytes : List ℕ) (after : Reading) → Known after → Kinds (types_from p.names byte bytes after)
   types_in byte bytes after h =
-    cond_both (byte == 73) _ _ Kinds (λ e. followed_in (Some kinds.Int) after.types tt h.types)
-    (λ e. cond_both (byte == 90) _ _ Kinds (λ e. followed_in (Some kinds.Bool) after.types tt h.types)
-    (λ e. cond_both (byte == 91) _ _ Kinds (λ e. arrays_in after.types h.types)
-    (λ e. cond_both (byte == 76) _ _ Kinds (λ e. followed_in (class_kind p.names after.name) after.behind (class_kind_in after.name) h.behind)
-    (λ e. none_in (byte ∷ bytes)))))
+      cond_both (byte == 73) _ _ Kinds (λ e. followed_in (Some kinds.Int) after.types tt h.types)
+      (λ e. cond_both (byte == 90) _ _ Kinds (λ e. followed_in (Some kinds.Bool) after.types tt h.types)
+      (λ e. cond_both (byte == 91) _ _ Kinds (λ e. arrays_in after.types h.types)
+      (λ e. cond_both (byte == 76) _ _ Kinds (λ e. followed_in (class_kind p.names after.name) after.behind (class_kind_in after.name) h.behind)
+      (λ e. none_in (byte ∷ bytes)))))
 
   known : (bytes : List ℕ) → Known (read_from p.names bytes)
   known [] = record { types = none_in []; behind = λ t e. absurd cc }
@@ -112,10 +112,11 @@ module _ (p : Program) where
 
   result_in : (text : List ℕ) → (kind : Option Kind) → result_kind p.names text ≡ Some kind → IfSome kind (IsKindOf p)
   result_in text kind = cond_both (bytes_eq text (codes "V")) (Some None) (option_map (λ k. Some k) (field_kind p.names text)) (λ o. o ≡ Some kind → IfSome kind (IsKindOf p))
-    (λ b e. subst (λ (k : Option Kind). IfSome k (IsKindOf p)) (some_is e) tt) (λ b. mapped (field_kind p.names text) (field_kind_in text))
+      (λ b e. subst (λ (k : Option Kind). IfSome k (IsKindOf p)) (some_is e) tt) (λ b. mapped (field_kind p.names text) (field_kind_in text))
     where
       some_is : {j k : Option Kind} → Some j ≡ Some k → j ≡ k
       some_is e = cc
+
       mapped : (o : Option Kind) → IfSome o (IsKindOf p) → option_map (λ k. Some k) o ≡ Some kind → IfSome kind (IsKindOf p)
       mapped None h e = absurd cc
       mapped (Some k) h e = subst (λ (j : Option Kind). IfSome j (IsKindOf p)) (some_is e) h

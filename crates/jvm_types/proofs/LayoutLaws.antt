@@ -1,9 +1,9 @@
 -- The fields that are laid out file by file stand at the places and words that the invariant of a program counts.
-use Rattle.std.proofs.Common.{◌≡◌, ℕ, zero, suc, ◌+◌, ◌%◌, ◌-◌, ◌*◌, ◌<◌, ◌≤◌, ℤ, pos, Bool, true, false, cond, not, ◌&&◌, List, [], ◌∷◌, ◌++◌, length, Option, Some, None, IfSome, refl, sym, ap, ◌∙◌, subst, arith}
+use Rattle.std.proofs.Common.{◌≡◌, ℕ, zero, suc, ◌+◌, ◌%◌, ◌*◌, ◌<◌, ◌≤◌, ℤ, pos, Bool, true, false, cond, not, ◌&&◌, List, [], ◌∷◌, ◌++◌, length, Option, Some, None, IfSome, refl, sym, ap, ◌∙◌, subst, arith}
 use Rattle.std.specs.Prelude.{◌==◌, FitsSigned, slice_get}
 use Rattle.std.specs.Int.{w32, cast_unsigned}
 use Rattle.std.specs.Option.{option_and_then, unwrap_or}
-use Rattle.std.specs.List.{AllByRecursion, count_by, sum_by}
+use Rattle.std.specs.List.{AllByRecursion, sum_by}
 use Rattle.std.proofs.lemmas.Bool.{eq-eqb, ne_eqb}
 use Rattle.std.proofs.lemmas.List.Sums.{sum_by-append}
 use Rattle.jvm_types.proofs.EachAfter.{EachAfter, each_append, all_append, all_weaker, sum_first, sum_last}
@@ -13,7 +13,7 @@ use Rattle.jvm_types.specs.ClassGrammar.{FieldsFit}
 use Rattle.jvm_types.specs.Descriptors.{field_kind}
 use Rattle.jvm_types.specs.Members.{is_static}
 use Rattle.jvm_types.specs.Layout.{first_class_word, static_count, class_words, first_constant, kept_int, start_of_constant, static_start, kind_of, field_info, fields_of, fields_from, laid_out_fields, fixed_words}
-use Rattle.jvm_types.specs.ProgramInvariant.{IsKindOf, statics_among, instances_among, index_after, words_of, IsFieldOf}
+use Rattle.jvm_types.specs.ProgramInvariant.{IsKindOf, statics_among, instances_among, IsFieldOf}
 use Rattle.jvm_types.specs.declared.class_file.Constant.{Constant}
 use Rattle.jvm_types.specs.declared.class_file.Constant.TheVariants.{Integer}
 use Rattle.jvm_types.specs.declared.class_file.Member.{Member as ClassMember}
@@ -99,9 +99,9 @@ kind_in p (Some kind) h = h
 
 -- a field of a file, behind fields of this class and of those before it
 field_fits : (p : Program) (file : ℕ) (pool : List Constant) (place word : ℕ) (m : ClassMember) (before : List FieldInfo)
-  → file < length p.names → AllByRecursion FieldsFit pool → AllByRecursion (λ e. e.class ≤ file_class file) before
-  → place ≡ instances_among (file_class file) before → word ≡ first_class_word + 2 * (file + 1) + statics_among before
-  → IsFieldOf p before (field_info p.names file pool (cond (is_static m.flags) word place) m)
+    → file < length p.names → AllByRecursion FieldsFit pool → AllByRecursion (λ e. e.class ≤ file_class file) before
+    → place ≡ instances_among (file_class file) before → word ≡ first_class_word + 2 * (file + 1) + statics_among before
+    → IsFieldOf p before (field_info p.names file pool (cond (is_static m.flags) word place) m)
 field_fits p file pool place word m before l h o e f = record {
   class = (omega arith, omega (arith, l));
   ordered = o;
@@ -113,30 +113,31 @@ field_fits p file pool place word m before l h o e f = record {
 
 -- the fields of a class, behind those of the classes before it
 class_fits : (p : Program) (file : ℕ) (pool : List Constant) (place word : ℕ) (ms : List ClassMember) (before : List FieldInfo)
-  → file < length p.names → AllByRecursion FieldsFit pool → AllByRecursion (λ e. e.class ≤ file_class file) before
-  → place ≡ instances_among (file_class file) before → word ≡ first_class_word + 2 * (file + 1) + statics_among before
-  → EachAfter (IsFieldOf p) before (fields_of p.names file pool place word ms)
+    → file < length p.names → AllByRecursion FieldsFit pool → AllByRecursion (λ e. e.class ≤ file_class file) before
+    → place ≡ instances_among (file_class file) before → word ≡ first_class_word + 2 * (file + 1) + statics_among before
+    → EachAfter (IsFieldOf p) before (fields_of p.names file pool place word ms)
 class_fits p file pool place word [] before l h o e f = tt
 class_fits p file pool place word (m ∷ ms) before l h o e f =
-  let b : Bool = is_static m.flags in
-  let info : FieldInfo = field_info p.names file pool (cond b word place) m in
-  let e' : cond b place (place + 1) ≡ instances_among (file_class file) (before ++ info ∷ []) =
+    let b : Bool = is_static m.flags in
+    let info : FieldInfo = field_info p.names file pool (cond b word place) m in
+    let e' : cond b place (place + 1) ≡ instances_among (file_class file) (before ++ info ∷ []) =
     next_place b (file_class file) place (instances_among (file_class file) before) e ∙ sym (sum_last (λ f. cond ((f.class == file_class file) && not (is_static f.flags)) 1 0) before info) in
-  let f' : cond b (word + 1) word ≡ first_class_word + 2 * (file + 1) + statics_among (before ++ info ∷ []) =
-    next_word b word (first_class_word + 2 * (file + 1)) (statics_among before) f ∙ ap (λ n. first_class_word + 2 * (file + 1) + n) (sym (sum_last (λ f. cond (is_static f.flags) 1 0) before info)) in
-  (field_fits p file pool place word m before l h o e f,
-   class_fits p file pool (cond b place (place + 1)) (cond b (word + 1) word) ms (before ++ info ∷ []) l h (all_append (λ e. e.class ≤ file_class file) before (info ∷ []) o (omega arith, tt)) e' f')
+    let f' : cond b (word + 1) word ≡ first_class_word + 2 * (file + 1) + statics_among (before ++ info ∷ []) =
+    next_word b word (first_class_word + 2 * (file + 1)) (statics_among before) f ∙ ap (λ n. first_class_word + 2 * (file + 1) + n) (sym (sum_last (λ f. cond (is_static f.flags) 1 0) before info)) in (
+      field_fits p file pool place word m before l h o e f,
+      class_fits p file pool (cond b place (place + 1)) (cond b (word + 1) word) ms (before ++ info ∷ []) l h (all_append (λ e. e.class ≤ file_class file) before (info ∷ []) o (omega arith, tt)) e' f',
+    )
 
 -- ---- all classes
 
 statics_same : (names : List (List ℕ)) (file : ℕ) (pool : List Constant) (place word : ℕ) (ms : List ClassMember) → statics_among (fields_of names file pool place word ms) ≡ static_count ms
 statics_same names file pool place word [] = refl
 statics_same names file pool place word (m ∷ ms) =
-  let b : Bool = is_static m.flags in
-  let tail : List FieldInfo = fields_of names file pool (cond b place (place + 1)) (cond b (word + 1) word) ms in
-  sum_first (λ f. cond (is_static f.flags) 1 0) (field_info names file pool (cond b word place) m) tail
-  ∙ ap (λ n. cond b 1 0 + n) (statics_same names file pool (cond b place (place + 1)) (cond b (word + 1) word) ms)
-  ∙ sym (sum_first (λ x. cond (is_static x.flags) 1 0) m ms)
+    let b : Bool = is_static m.flags in
+    let tail : List FieldInfo = fields_of names file pool (cond b place (place + 1)) (cond b (word + 1) word) ms in
+    sum_first (λ f. cond (is_static f.flags) 1 0) (field_info names file pool (cond b word place) m) tail
+    ∙ ap (λ n. cond b 1 0 + n) (statics_same names file pool (cond b place (place + 1)) (cond b (word + 1) word) ms)
+    ∙ sym (sum_first (λ x. cond (is_static x.flags) 1 0) m ms)
 
 classes_same : (names : List (List ℕ)) (file : ℕ) (pool : List Constant) (place word : ℕ) (ms : List ClassMember) → AllByRecursion (λ f. f.class ≤ file_class file) (fields_of names file pool place word ms)
 classes_same names file pool place word [] = tt
@@ -145,27 +146,27 @@ classes_same names file pool place word (m ∷ ms) = (omega arith, classes_same 
 none_yet : (class : ℕ) (before : List FieldInfo) → AllByRecursion (λ e. e.class < class) before → 0 ≡ instances_among class before
 none_yet class [] h = refl
 none_yet class (f ∷ before) h =
-  let test : (f.class == class) ≡ false = ne_eqb f.class class (λ e. omega (arith, h.0, e)) in
-  let here : ℕ = cond ((f.class == class) && not (is_static f.flags)) 1 0 in
-  let first : here ≡ 0 = ap (λ t. cond (t && not (is_static f.flags)) 1 0) test in
-  let sum : instances_among class (f ∷ before) ≡ here + instances_among class before = sum_first (λ f. cond ((f.class == class) && not (is_static f.flags)) 1 0) f before in
-  let rest : 0 ≡ instances_among class before = none_yet class before h.1 in
-  omega (arith, first, sum, rest)
+    let test : (f.class == class) ≡ false = ne_eqb f.class class (λ e. omega (arith, h.0, e)) in
+    let here : ℕ = cond ((f.class == class) && not (is_static f.flags)) 1 0 in
+    let first : here ≡ 0 = ap (λ t. cond (t && not (is_static f.flags)) 1 0) test in
+    let sum : instances_among class (f ∷ before) ≡ here + instances_among class before = sum_first (λ f. cond ((f.class == class) && not (is_static f.flags)) 1 0) f before in
+    let rest : 0 ≡ instances_among class before = none_yet class before h.1 in
+    omega (arith, first, sum, rest)
 
 -- the fields of the classes from a file on
 files_fit : (p : Program) (file word : ℕ) (cs : List ClassFile) (before : List FieldInfo)
-  → file + length cs ≡ length p.names → AllByRecursion (λ (c : ClassFile). AllByRecursion FieldsFit c.constants) cs → AllByRecursion (λ e. e.class < file_class file) before
-  → word ≡ first_class_word + 2 * file + statics_among before
-  → EachAfter (IsFieldOf p) before (fields_from p.names file word cs)
+    → file + length cs ≡ length p.names → AllByRecursion (λ (c : ClassFile). AllByRecursion FieldsFit c.constants) cs → AllByRecursion (λ e. e.class < file_class file) before
+    → word ≡ first_class_word + 2 * file + statics_among before
+    → EachAfter (IsFieldOf p) before (fields_from p.names file word cs)
 files_fit p file word [] before l h o f = tt
 files_fit p file word (c ∷ cs) before l h o f =
-  let fields : List FieldInfo = fields_of p.names file c.constants 0 (word + 2) c.fields in
-  let ordered : AllByRecursion (λ (e : FieldInfo). e.class ≤ file_class file) before = all_weaker (λ (e : FieldInfo). e.class < file_class file) (λ (e : FieldInfo). e.class ≤ file_class file) (λ e l. omega (arith, l)) before o in
-  let ordered' : AllByRecursion (λ (e : FieldInfo). e.class < file_class (file + 1)) (before ++ fields) =
+    let fields : List FieldInfo = fields_of p.names file c.constants 0 (word + 2) c.fields in
+    let ordered : AllByRecursion (λ (e : FieldInfo). e.class ≤ file_class file) before = all_weaker (λ (e : FieldInfo). e.class < file_class file) (λ (e : FieldInfo). e.class ≤ file_class file) (λ e l. omega (arith, l)) before o in
+    let ordered' : AllByRecursion (λ (e : FieldInfo). e.class < file_class (file + 1)) (before ++ fields) =
     all_weaker (λ (e : FieldInfo). e.class ≤ file_class file) (λ (e : FieldInfo). e.class < file_class (file + 1)) (λ e l. omega (arith, l)) (before ++ fields) (all_append (λ (e : FieldInfo). e.class ≤ file_class file) before fields ordered (classes_same p.names file c.constants 0 (word + 2) c.fields)) in
-  let count : statics_among (before ++ fields) ≡ statics_among before + statics_among fields = sum_by-append (λ f. cond (is_static f.flags) 1 0) before fields in
-  let same : statics_among fields ≡ static_count c.fields = statics_same p.names file c.constants 0 (word + 2) c.fields in
-  each_append (IsFieldOf p) before fields (fields_from p.names (file + 1) (word + class_words c) cs)
+    let count : statics_among (before ++ fields) ≡ statics_among before + statics_among fields = sum_by-append (λ f. cond (is_static f.flags) 1 0) before fields in
+    let same : statics_among fields ≡ static_count c.fields = statics_same p.names file c.constants 0 (word + 2) c.fields in
+    each_append (IsFieldOf p) before fields (fields_from p.names (file + 1) (word + class_words c) cs)
     (class_fits p file c.constants 0 (word + 2) c.fields before (omega (arith, l)) h.0 ordered (none_yet (file_class file) before o) (omega (arith, f)))
     (files_fit p (file + 1) (word + class_words c) cs (before ++ fields) (omega (arith, l)) h.1 ordered' (omega (arith, f, count, same)))
 
@@ -178,12 +179,12 @@ fields_placed p files l h = files_fit p 0 first_class_word files [] (omega (arit
 words_from : (names : List (List ℕ)) (file word : ℕ) (cs : List ClassFile) → sum_by class_words cs ≡ 2 * length cs + statics_among (fields_from names file word cs)
 words_from names file word [] = refl
 words_from names file word (c ∷ cs) =
-  let fields : List FieldInfo = fields_of names file c.constants 0 (word + 2) c.fields in
-  let first : sum_by class_words (c ∷ cs) ≡ class_words c + sum_by class_words cs = sum_first class_words c cs in
-  let count : statics_among (fields ++ fields_from names (file + 1) (word + class_words c) cs) ≡ statics_among fields + statics_among (fields_from names (file + 1) (word + class_words c) cs) = sum_by-append (λ f. cond (is_static f.flags) 1 0) fields _ in
-  let same : statics_among fields ≡ static_count c.fields = statics_same names file c.constants 0 (word + 2) c.fields in
-  let rest : sum_by class_words cs ≡ 2 * length cs + statics_among (fields_from names (file + 1) (word + class_words c) cs) = words_from names (file + 1) (word + class_words c) cs in
-  omega (arith, first, count, same, rest)
+    let fields : List FieldInfo = fields_of names file c.constants 0 (word + 2) c.fields in
+    let first : sum_by class_words (c ∷ cs) ≡ class_words c + sum_by class_words cs = sum_first class_words c cs in
+    let count : statics_among (fields ++ fields_from names (file + 1) (word + class_words c) cs) ≡ statics_among fields + statics_among (fields_from names (file + 1) (word + class_words c) cs) = sum_by-append (λ f. cond (is_static f.flags) 1 0) fields _ in
+    let same : statics_among fields ≡ static_count c.fields = statics_same names file c.constants 0 (word + 2) c.fields in
+    let rest : sum_by class_words cs ≡ 2 * length cs + statics_among (fields_from names (file + 1) (word + class_words c) cs) = words_from names (file + 1) (word + class_words c) cs in
+    omega (arith, first, count, same, rest)
 
 -- the fixed words of the files are those of the program
 pub words_counted : (names : List (List ℕ)) (files : List ClassFile) → fixed_words files ≡ first_class_word + 2 * length files + statics_among (laid_out_fields names files)

@@ -1,21 +1,19 @@
 -- A name that no rule refuses names something of the program that may stand there.
-use Rattle.std.proofs.Common.{◌≡◌, ℕ, zero, suc, ◌+◌, ◌<◌, ◌≤◌, Bool, true, false, cond, not, ◌&&◌, ◌||◌, List, [], ◌∷◌, ◌++◌, map, length, Option, Some, None, is_some, IsSomeAnd, IfSome, IsTrue, refl, sym, ap, ◌∙◌, subst, inl, inr, arith}
-use Rattle.std.specs.Prelude.{◌==◌, ◌⊎◌, bytes_eq, slice_get, FitsSigned, codes}
-use Rattle.std.specs.Int.{w32}
-use Rattle.std.specs.Option.{option_or, option_map}
+use Rattle.std.proofs.Common.{◌≡◌, ℕ, zero, suc, ◌<◌, Bool, true, false, cond, List, [], ◌∷◌, length, Option, Some, None, IfSome, refl, sym, subst, inl, inr}
+use Rattle.std.specs.Prelude.{bytes_eq, slice_get}
+use Rattle.std.specs.Option.{option_or}
 use Rattle.std.specs.Result.{result_err, result_unwrap_or}
 use Rattle.std.specs.declared.result.Result.{Result}
 use Rattle.std.specs.declared.result.Result.TheVariants.{Ok, Err}
-use Rattle.std.specs.List.{AllByRecursion, AllZip, find}
+use Rattle.std.specs.List.{AllByRecursion, find}
 use Rattle.std.proofs.lemmas.Bool.{cond_both}
 use Rattle.jvm_types.proofs.KindLaws.{numbered}
 use Rattle.jvm_types.proofs.LayoutLaws.{entry_fits}
 use Rattle.jvm_types.specs.ClassNames.{class_number, named_class, class_text_at, text_at, is_class, can_be_made, system_name}
 use Rattle.jvm_types.specs.ClassTree.{object_class}
 use Rattle.jvm_types.specs.ClassGrammar.{FieldsFit}
-use Rattle.jvm_types.specs.Descriptors.{field_kind, method_signature}
-use Rattle.jvm_types.specs.Members.{Entry, Site, member_in, look_up, is_init_name, field_rule, Call, Virtual, Special, Static, call_rule, built_in_fields, built_in_methods}
-use Rattle.jvm_types.specs.Targets.{Scope, unless_refused, found_target, member_target, member_name, member_descriptor, class_at, field_target, method_target, loaded_target, made_target, new_target, target_of, caught, catch_class}
+use Rattle.jvm_types.specs.Members.{Entry, Site, member_in, look_up, is_init_name, field_rule, Call, Virtual, Special, Static, call_rule}
+use Rattle.jvm_types.specs.Targets.{Scope, unless_refused, found_target, member_target, class_at, field_target, method_target, loaded_target, made_target, new_target, target_of, caught, catch_class}
 use Rattle.jvm_types.specs.ProgramInvariant.{IsClassOf, IsFieldTarget, IsMethodTarget, IsValueTarget, IsNewTarget, IsTargetOf, IsCaught}
 use Rattle.jvm_types.specs.declared.class_file.Constant.{Constant}
 use Rattle.jvm_types.specs.declared.class_file.Constant.TheVariants as constants
@@ -43,7 +41,7 @@ either_found P (Some x) b h k = h
 
 looked_up : (P : Entry → Type 0) (entries : List Entry) (class : ℕ) (name descriptor : List ℕ) → AllByRecursion P entries → IfSome (look_up entries class name descriptor) P
 looked_up P entries class name descriptor h =
-  either_found P (member_in entries class name descriptor) (cond (is_init_name name) None (member_in entries object_class name descriptor))
+    either_found P (member_in entries class name descriptor) (cond (is_init_name name) None (member_in entries object_class name descriptor))
     (found P _ entries h) (cond_both (is_init_name name) None (member_in entries object_class name descriptor) (λ o. IfSome o P) (λ e. tt) (λ e. found P _ entries h))
 
 -- ---- a member
@@ -60,10 +58,10 @@ refused : (P : Target → Type 0) (rule : LRule) → Fits P (Err rule)
 refused P rule e = absurd cc
 
 member_fits : (P : Target → Type 0) (rule : Entry → Option LRule) (entries : List Entry) (class : Option ℕ) (described : Bool) (name descriptor : List ℕ)
-  → AllByRecursion (λ e. rule e ≡ None → P e.target) entries → Fits P (member_target rule entries class described name descriptor)
+    → AllByRecursion (λ e. rule e ≡ None → P e.target) entries → Fits P (member_target rule entries class described name descriptor)
 member_fits P rule entries None described name descriptor h = refused P L1
 member_fits P rule entries (Some class) described name descriptor h =
-  cond_both described (found_target rule (look_up entries class name descriptor)) (Err L1) (Fits P)
+    cond_both described (found_target rule (look_up entries class name descriptor)) (Err L1) (Fits P)
     (λ b. found_fits P rule (look_up entries class name descriptor) (looked_up (λ e. rule e ≡ None → P e.target) entries class name descriptor h)) (λ b. refused P L1)
 
 -- all fields and methods that may be named stand for something of the program
@@ -85,13 +83,13 @@ all_of P Q w (x ∷ xs) h = (w x h.0, all_of P Q w xs h.1)
 module _ (p : Program) (s : Scope) (fit : ScopeFits p s) (site : Site) (of_file : 0 < site.class) (pool : List Constant) (entries : AllByRecursion FieldsFit pool) where
   field_fits : (static writes : Bool) (o : Option Constant) → Fits (IsFieldTarget p site static writes) (field_target s site pool static writes o)
   field_fits static writes (Some (constants.Field class member)) e =
-    member_fits (IsFieldTarget p site static writes) (λ e. field_rule static writes site e.class e.flags) s.fields (class_at s pool class) _ _ _
+      member_fits (IsFieldTarget p site static writes) (λ e. field_rule static writes site e.class e.flags) s.fields (class_at s pool class) _ _ _
       (all_of (FieldFits p) (λ e. field_rule static writes site e.class e.flags ≡ None → IsFieldTarget p site static writes e.target) (λ e h. h static writes site of_file) s.fields fit.fields) e
   field_fits static writes o e = absurd cc
 
   method_fits : (call : Call) (o : Option Constant) → Fits (IsMethodTarget p site call) (method_target s site pool call o)
   method_fits call (Some (constants.Method class member)) e =
-    member_fits (IsMethodTarget p site call) (λ e. call_rule call site e.class e.name e.flags) s.methods (class_at s pool class) _ _ _
+      member_fits (IsMethodTarget p site call) (λ e. call_rule call site e.class e.name e.flags) s.methods (class_at s pool class) _ _ _
       (all_of (MethodFits p) (λ e. call_rule call site e.class e.name e.flags ≡ None → IsMethodTarget p site call e.target) (λ e h. h call site) s.methods fit.methods) e
   method_fits call o e = absurd cc
 
@@ -105,10 +103,11 @@ module _ (p : Program) (s : Scope) (fit : ScopeFits p s) (site : Site) (of_file 
   -- `java/lang/System` cannot be made
   made_in : (text : List ℕ) (class : ℕ) → named_class s.names text ≡ Some class → can_be_made class ≡ true → IsClassOf p class
   made_in text class = cond_both (bytes_eq text system_name) (Some 0) (class_number s.names text) (λ o. o ≡ Some class → can_be_made class ≡ true → IsClassOf p class)
-    (λ b e m. absurd (not_zero class (same e) m)) (λ b e m. class_in text class e)
+      (λ b e m. absurd (not_zero class (same e) m)) (λ b e m. class_in text class e)
     where
       same : {a b : ℕ} → Some a ≡ Some b → a ≡ b
       same e = cc
+
       not_zero : (n : ℕ) → 0 ≡ n → can_be_made n ≡ true → ⊥
       not_zero n e m = let z : can_be_made 0 ≡ true = subst (λ (k : ℕ). can_be_made k ≡ true) (sym e) m in absurd cc
 
