@@ -6,3 +6,5 @@ pub mod ClassTree
 pub mod CodeTable
 pub mod CodeGrammar
 pub mod CodeFault
+pub mod Types
+pub mod Verifying
