@@ -1,2 +1,3 @@
 mod CodeTries
 mod GrammarTries
+mod TypingTries
