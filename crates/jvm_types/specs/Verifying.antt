@@ -108,7 +108,7 @@ is_return op = false
 
 -- V7, its five cases: a misused value; one that is uninitialised at a branch to a pc at or before it; one that
 -- is uninitialised by `new` in a local where a handler row covers; an `<init>` that returns before `this` is
--- initialised. The standard asks the second and third of backward branches and protected code alike.
+-- initialised. The standard forbids `this` too in such a local.
 abbrev pub misuses_object : MethodInfo → Insn → OpRow → Shape → Bool
 misuses_object m insn r f =
     some_operand (misuses m) r f
