@@ -1,3 +1,5 @@
 mod CodeTries
 mod GrammarTries
 mod TypingTries
+pub mod CodeReading
+mod CodeLaws
