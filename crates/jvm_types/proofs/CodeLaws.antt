@@ -14,7 +14,7 @@ use Rattle.jvm_types.proofs.CodeReading.{not_negative, FormLaw, extent_of, exten
 
 -- ---- the forms of the table
 
-abbrev FormHolds : Option Form → Type 0
+abbrev pub FormHolds : Option Form → Type 0
 FormHolds None = Unit {0}
 FormHolds (Some f) = FormLaw f
 
@@ -86,7 +86,7 @@ references_hold b = (λ n. refl, (λ n. refl, (λ n. refl, (λ n. refl, (λ n. r
 group : (t : Bool) (rs : FormRows) (y : Option Form) → AllByRecursion (λ r. FormLaw r.1) rs → FormHolds y → FormHolds (if t then first_row rs else y)
 group t rs y h k = by_test t (first_row rs) y (first_holds rs h) k
 
-form_holds : (b : ℕ) → FormHolds (form b)
+pub form_holds : (b : ℕ) → FormHolds (form b)
 form_holds b =
     group (nat_lt b 0x15) (constants b) _ (constants_hold b) (group (nat_lt b 0x36) (loads b) _ (loads_hold b) (group (nat_lt b 0x57) (stores b) _ (stores_hold b)
     (group (nat_lt b 0x60) (stack_moves b) _ (stack_moves_hold b) (group (nat_lt b 0x99) (arithmetic b) _ (arithmetic_hold b) (group (nat_lt b 0xb2) (control b) (first_row (references b)) (control_hold b)
@@ -94,7 +94,7 @@ form_holds b =
 
 -- ---- reading instructions back
 
-known_back : (pc : ℕ) (o : Option Form) (op : Op) (operands rest : List ℕ) → FormHolds o → IsSomeAnd o (λ f. SpellsOperands pc f op operands)
+pub known_back : (pc : ℕ) (o : Option Form) (op : Op) (operands rest : List ℕ) → FormHolds o → IsSomeAnd o (λ f. SpellsOperands pc f op operands)
     → known_extent pc o (operands ++ rest) ≡ extent_of (length operands) (branches_to op)
 known_back pc None op operands rest law h = absurd h
 known_back pc (Some f) op operands rest law h = extent_back pc f op operands rest law h

@@ -17,25 +17,25 @@ use Rattle.jvm_types.specs.declared.refusal.KRule.{KRule}
 
 -- ---- numbers
 
-u2_back : (n : ℕ) (rest : List ℕ) → from_be_bytes w16 (take 2 (u2 n ++ rest)) ≡ n
+pub u2_back : (n : ℕ) (rest : List ℕ) → from_be_bytes w16 (take 2 (u2 n ++ rest)) ≡ n
 u2_back n rest = omega arith
 
 u4_back : (n : ℕ) (rest : List ℕ) → from_be_bytes w32 (take 4 (u4 n ++ rest)) ≡ n
 u4_back n rest = omega arith
 
-s2_back : (n : ℤ) (rest : List ℕ) → FitsSigned w16 n → s2_of (s2 n ++ rest) ≡ n
+pub s2_back : (n : ℤ) (rest : List ℕ) → FitsSigned w16 n → s2_of (s2 n ++ rest) ≡ n
 s2_back n rest h = ap (cast_signed w16) (u2_back (cast_unsigned w16 n) rest) ∙ to_z-of_z w16 n h
 
-s4_back : (n : ℤ) (rest : List ℕ) → FitsSigned w32 n → s4_of (s4 n ++ rest) ≡ n
+pub s4_back : (n : ℤ) (rest : List ℕ) → FitsSigned w32 n → s4_of (s4 n ++ rest) ≡ n
 s4_back n rest h = ap (cast_signed w32) (u4_back (cast_unsigned w32 n) rest) ∙ to_z-of_z w32 n h
 
 landed : (pc to : ℕ) → landing pc (offset pc to) ≡ pos to
 landed pc to = grind arith
 
-landed_at : (pc to : ℕ) (rest : List ℕ) → FitsSigned w32 (offset pc to) → landing pc (s4_of (s4 (offset pc to) ++ rest)) ≡ pos to
+pub landed_at : (pc to : ℕ) (rest : List ℕ) → FitsSigned w32 (offset pc to) → landing pc (s4_of (s4 (offset pc to) ++ rest)) ≡ pos to
 landed_at pc to rest h = ap (landing pc) (s4_back (offset pc to) rest h) ∙ landed pc to
 
-landed_near : (pc to : ℕ) (rest : List ℕ) → FitsSigned w16 (offset pc to) → landing pc (s2_of (s2 (offset pc to) ++ rest)) ≡ pos to
+pub landed_near : (pc to : ℕ) (rest : List ℕ) → FitsSigned w16 (offset pc to) → landing pc (s2_of (s2 (offset pc to) ++ rest)) ≡ pos to
 landed_near pc to rest h = ap (landing pc) (s2_back (offset pc to) rest h) ∙ landed pc to
 
 -- ---- operands of a known number of bytes
@@ -48,7 +48,7 @@ sized_back n size ts us rest h e f = rw (not_less (length rest) n h) (rw e (rw f
 
 -- ---- switches
 
-same_cons : {A : Type 0} (a b : A) (xs ys : List A) → a ≡ b → xs ≡ ys → a ∷ xs ≡ b ∷ ys
+pub same_cons : {A : Type 0} (a b : A) (xs ys : List A) → a ≡ b → xs ≡ ys → a ∷ xs ≡ b ∷ ys
 same_cons a b xs ys e f = rw e (rw f refl)
 
 words_length : (pc : ℕ) (tos : List ℕ) → length (flat_map (λ to. s4 (offset pc to)) tos) ≡ 4 * length tos
@@ -59,7 +59,7 @@ cases_length : (pc : ℕ) (cases : List Case) → length (flat_map (spelled_case
 cases_length pc [] = refl
 cases_length pc (c ∷ cases) = omega (arith, cases_length pc cases)
 
-offsets_back : (pc : ℕ) (tos rest : List ℕ) → AllByRecursion (λ to. FitsSigned w32 (offset pc to)) tos → offsets pc (length tos) (flat_map (λ to. s4 (offset pc to)) tos ++ rest) ≡ map pos tos
+pub offsets_back : (pc : ℕ) (tos rest : List ℕ) → AllByRecursion (λ to. FitsSigned w32 (offset pc to)) tos → offsets pc (length tos) (flat_map (λ to. s4 (offset pc to)) tos ++ rest) ≡ map pos tos
 offsets_back pc [] rest h = refl
 offsets_back pc (to ∷ tos) rest h = same_cons _ _ _ _ (landed_at pc to (flat_map (λ t. s4 (offset pc t)) tos ++ rest) h.0) (offsets_back pc tos rest h.1)
 
@@ -74,7 +74,7 @@ below_is m n h = first_of (grind arith, search arith)
 not_below_is : (m n : ℤ) (k : ℕ) → pos k ≡ n -ℤ m +ℤ pos 1 → 0 < k → int_lt n m ≡ false
 not_below_is m n k e h = first_of (grind arith, search arith)
 
-count_is : (k : ℕ) (n : ℤ) → pos k ≡ n → nat_abs n ≡ k
+pub count_is : (k : ℕ) (n : ℤ) → pos k ≡ n → nat_abs n ≡ k
 count_is k n e = rw (← e) refl
 
 below_by : (m n x y : ℤ) → x ≡ m → y ≡ n → m <ℤ n → int_lt x y ≡ true
@@ -92,7 +92,7 @@ ascend_back pc (c ∷ d ∷ cases) rest h a =
     (s4_back d.key (s4 (offset pc d.target) ++ (flat_map (spelled_case pc) cases ++ rest)) h.1.0.0) a.0)
     (ascend_back pc (d ∷ cases) rest h.1 a.1)
 
-body_back : (pad xs rest : List ℕ) (k : ℕ) → length pad ≡ k → drop k ((pad ++ xs) ++ rest) ≡ xs ++ rest
+pub body_back : (pad xs rest : List ℕ) (k : ℕ) → length pad ≡ k → drop k ((pad ++ xs) ++ rest) ≡ xs ++ rest
 body_back pad xs rest k e = rw (← e) (rw (append_assoc pad xs rest) (drop-append_seam pad (xs ++ rest)))
 
 -- by what its numbers are
@@ -121,7 +121,7 @@ lookup_by : (pc pad n : ℕ) (first : ℤ) (ts : List ℤ) (body : List ℕ) →
 lookup_by pc pad n first ts body at4 at0 up at8 fits =
     rw (not_less (length body) 8 (omega (arith, fits))) (rw at4 (rw (not_negative n) (rw (not_less (length body) (8 + 8 * n) fits) (rw up (rw at0 (rw at8 refl))))))
 
-fits_signed : (n : ℕ) → n < 2 ^ 31 → FitsSigned w32 (pos n)
+pub fits_signed : (n : ℕ) → n < 2 ^ 31 → FitsSigned w32 (pos n)
 fits_signed n h = grind arith
 
 lookup_back : (pc pad : ℕ) (otherwise : ℕ) (cases : List Case) (rest : List ℕ) → FitsSigned w32 (offset pc otherwise) → length cases < 2 ^ 31 → Ascend cases

@@ -2,4 +2,5 @@ mod CodeTries
 mod GrammarTries
 mod TypingTries
 pub mod CodeReading
-mod CodeLaws
+pub mod CodeLaws
+pub mod CodeOnce
