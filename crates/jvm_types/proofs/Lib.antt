@@ -15,3 +15,7 @@ pub mod StepLaws
 pub mod IndexLaws
 pub mod ConstantLaws
 pub mod PoolLaws
+mod TypingTries
+pub mod CodeReading
+pub mod CodeLaws
+pub mod CodeOnce

@@ -1,12 +1,13 @@
 -- Why bytes are no code: the first rule that they break, and where. K5 goes first; then K1, K2 and K6 in one
 -- pass by pc; then K3 by pc; then K4 by rows. The rules are those of JVMS 4.9.1 and 4.9.2, cut to this
 -- machine's table; their order and numbers are its own.
-use Rattle.std.specs.Prelude.{ℕ, zero, suc, ◌+◌, ◌*◌, ℤ, pos, ◌+ℤ◌, ◌-ℤ◌, nat_abs, int_lt, Bool, true, not, ◌==◌, ◌||◌, ◌&&◌, nat_lt, if◌then◌else◌, List, [], ◌∷◌, length, map, take, drop, Option, Some, None, Result, Ok, Err}
+use Rattle.std.specs.Prelude.{◌≡◌, ℕ, zero, suc, ◌+◌, ◌*◌, ℤ, pos, ◌+ℤ◌, ◌-ℤ◌, nat_abs, int_lt, Bool, true, not, ◌==◌, ◌||◌, ◌&&◌, nat_lt, if◌then◌else◌, List, [], ◌∷◌, length, map, take, drop, Option, Some, None, Result, Ok, Err}
 use Rattle.std.specs.Int.{w16, w32, cast_signed, from_be_bytes}
 use Rattle.jvm_types.specs.ClassTree.{has_number}
 use Rattle.jvm_types.specs.CodeTable.{Form, Plain, Byte, Short, SignedByte, SignedShort, Branch, WideBranch, LocalAndStep, IntArray, Table, Lookup, form}
-use Rattle.jvm_types.specs.CodeGrammar.{padding_size}
+use Rattle.jvm_types.specs.CodeGrammar.{padding_size, IsCode}
 use Rattle.jvm_types.specs.declared.class_file.Handler.{Handler}
+use Rattle.jvm_types.specs.declared.code.Insn.{Insn}
 use Rattle.jvm_types.specs.declared.refusal.KRule.{KRule}
 use Rattle.jvm_types.specs.declared.refusal.KRule.TheVariants.{K1, K2, K3, K4, K5, K6}
 
@@ -18,12 +19,12 @@ pub record Extent : Type 0 where
   pub size : ℕ
   pub targets : List ℤ
 
--- the signed number of two or four bytes at a place
-abbrev pub s2_at : ℕ → List ℕ → ℤ
-s2_at i bytes = cast_signed w16 (from_be_bytes w16 (take 2 (drop i bytes)))
+-- the signed number of the two or four bytes at the front
+abbrev pub s2_of : List ℕ → ℤ
+s2_of bytes = cast_signed w16 (from_be_bytes w16 (take 2 bytes))
 
-abbrev pub s4_at : ℕ → List ℕ → ℤ
-s4_at i bytes = cast_signed w32 (from_be_bytes w32 (take 4 (drop i bytes)))
+abbrev pub s4_of : List ℕ → ℤ
+s4_of bytes = cast_signed w32 (from_be_bytes w32 (take 4 bytes))
 
 -- where an offset leads from a pc
 abbrev pub landing : ℕ → ℤ → ℤ
@@ -33,16 +34,20 @@ landing pc way = pos pc +ℤ way
 abbrev pub sized : ℕ → List ℤ → List ℕ → Result Extent KRule
 sized n targets rest = if nat_lt (length rest) n then Err K2 else Ok (record { size = n; targets = targets })
 
--- from a place on, the targets of so many offsets, each a step of bytes behind the one before
-abbrev pub offsets_at : ℕ → ℕ → ℕ → ℕ → List ℕ → List ℤ
-offsets_at pc zero step i rest = []
-offsets_at pc (suc n) step i rest = landing pc (s4_at i rest) ∷ offsets_at pc n step (i + step) rest
+-- the targets of so many offsets, and of those in so many pairs of a key and an offset
+abbrev pub offsets : ℕ → ℕ → List ℕ → List ℤ
+offsets pc zero bytes = []
+offsets pc (suc n) bytes = landing pc (s4_of bytes) ∷ offsets pc n (drop 4 bytes)
 
--- whether so many keys ascend from a place on
-abbrev pub ascend : ℕ → ℕ → List ℕ → Bool
-ascend zero i rest = true
-ascend (suc zero) i rest = true
-ascend (suc (suc n)) i rest = int_lt (s4_at i rest) (s4_at (i + 8) rest) && ascend (suc n) (i + 8) rest
+abbrev pub case_offsets : ℕ → ℕ → List ℕ → List ℤ
+case_offsets pc zero bytes = []
+case_offsets pc (suc n) bytes = landing pc (s4_of (drop 4 bytes)) ∷ case_offsets pc n (drop 8 bytes)
+
+-- whether the keys of so many pairs ascend
+abbrev pub ascend : ℕ → List ℕ → Bool
+ascend zero bytes = true
+ascend (suc zero) bytes = true
+ascend (suc (suc n)) bytes = int_lt (s4_of bytes) (s4_of (drop 8 bytes)) && ascend (suc n) (drop 8 bytes)
 
 -- a `newarray` of int
 abbrev pub array_extent : List ℕ → Result Extent KRule
@@ -50,43 +55,46 @@ array_extent [] = Err K2
 array_extent (type ∷ rest) = if type == 10 then Ok (record { size = 1; targets = [] }) else Err K1
 
 -- a `tableswitch` from its default on, behind so many bytes of padding: K6 as soon as low and high are there
-abbrev pub table_extent : ℕ → ℕ → List ℕ → Result Extent KRule
-table_extent pc pad rest =
-    if nat_lt (length rest) (pad + 12) then Err K2 else
-    if int_lt (s4_at (pad + 8) rest) (s4_at (pad + 4) rest) then Err K6 else
-    with_count (nat_abs (s4_at (pad + 8) rest -ℤ s4_at (pad + 4) rest) + 1)
-  where
-    with_count : ℕ → Result Extent KRule
-    with_count n = sized (pad + 12 + 4 * n) (landing pc (s4_at pad rest) ∷ offsets_at pc n 4 (pad + 12) rest) rest
+abbrev pub table_of : ℕ → ℕ → ℕ → List ℕ → Result Extent KRule
+table_of pc pad n body =
+    if nat_lt (length body) (12 + 4 * n) then Err K2 else
+    Ok (record { size = pad + (12 + 4 * n); targets = landing pc (s4_of body) ∷ offsets pc n (drop 12 body) })
 
--- a `lookupswitch`: K6 as soon as the number of pairs is there and negative, and K2 before keys that do not ascend
+abbrev pub table_extent : ℕ → ℕ → List ℕ → Result Extent KRule
+table_extent pc pad body =
+    if nat_lt (length body) 12 then Err K2 else
+    if int_lt (s4_of (drop 8 body)) (s4_of (drop 4 body)) then Err K6 else
+    table_of pc pad (nat_abs (s4_of (drop 8 body) -ℤ s4_of (drop 4 body) +ℤ pos 1)) body
+
+-- a `lookupswitch`, likewise: K6 as soon as the number of pairs is there and negative, and K2 before keys that do
+-- not ascend
+abbrev pub lookup_of : ℕ → ℕ → ℕ → List ℕ → Result Extent KRule
+lookup_of pc pad n body =
+    if nat_lt (length body) (8 + 8 * n) then Err K2 else
+    if not (ascend n (drop 8 body)) then Err K6 else
+    Ok (record { size = pad + (8 + 8 * n); targets = landing pc (s4_of body) ∷ case_offsets pc n (drop 8 body) })
+
 abbrev pub lookup_extent : ℕ → ℕ → List ℕ → Result Extent KRule
-lookup_extent pc pad rest =
-    if nat_lt (length rest) (pad + 8) then Err K2 else
-    if int_lt (s4_at (pad + 4) rest) (pos 0) then Err K6 else
-    with_count (nat_abs (s4_at (pad + 4) rest))
-  where
-    with_count : ℕ → Result Extent KRule
-    with_count n =
-        if nat_lt (length rest) (pad + 8 + 8 * n) then Err K2 else
-        if not (ascend n (pad + 8) rest) then Err K6 else
-        Ok (record { size = pad + 8 + 8 * n; targets = landing pc (s4_at pad rest) ∷ offsets_at pc n 8 (pad + 12) rest })
+lookup_extent pc pad body =
+    if nat_lt (length body) 8 then Err K2 else
+    if int_lt (s4_of (drop 4 body)) (pos 0) then Err K6 else
+    lookup_of pc pad (nat_abs (s4_of (drop 4 body))) body
 
 -- the instruction at a pc, by the form of its operands and the bytes behind its opcode
 abbrev pub extent : ℕ → Form → List ℕ → Result Extent KRule
-extent pc (Plain op) rest = sized 0 [] rest
+extent pc (Plain op) rest = Ok (record { size = 0; targets = [] })
 extent pc (Byte make) rest = sized 1 [] rest
 extent pc (Short make) rest = sized 2 [] rest
 extent pc (SignedByte make) rest = sized 1 [] rest
 extent pc (SignedShort make) rest = sized 2 [] rest
-extent pc (Branch make) rest = sized 2 (landing pc (s2_at 0 rest) ∷ []) rest
-extent pc (WideBranch make) rest = sized 4 (landing pc (s4_at 0 rest) ∷ []) rest
+extent pc (Branch make) rest = sized 2 (landing pc (s2_of rest) ∷ []) rest
+extent pc (WideBranch make) rest = sized 4 (landing pc (s4_of rest) ∷ []) rest
 extent pc (LocalAndStep make) rest = sized 2 [] rest
 extent pc (IntArray op) rest = array_extent rest
-extent pc Table rest = table_extent pc (padding_size pc) rest
-extent pc Lookup rest = lookup_extent pc (padding_size pc) rest
+extent pc Table rest = table_extent pc (padding_size pc) (drop (padding_size pc) rest)
+extent pc Lookup rest = lookup_extent pc (padding_size pc) (drop (padding_size pc) rest)
 
--- K1, K2 and K6 at one instruction
+-- the instruction at a pc, by what its opcode is in the table
 abbrev pub known_extent : ℕ → Option Form → List ℕ → Result Extent KRule
 known_extent pc None rest = Err K1
 known_extent pc (Some f) rest = extent pc f rest
@@ -148,3 +156,13 @@ reach_fault (Ok rs) size rows = with_starts (map (λ r. r.pc) rs)
 -- the first fault of the bytes and rows, with its pc or the number of its row; None where they are code
 abbrev pub code_fault : List ℕ → List Handler → Option (KRule × ℕ)
 code_fault bytes rows = if length bytes == 0 || nat_lt 65535 (length bytes) then Some (K5, 0) else reach_fault (reaches 0 0 bytes) (length bytes) rows
+
+-- ---- laws
+
+-- code spells one list of instructions
+abbrev pub SpellsOnce : Type 0
+SpellsOnce = (bytes : List ℕ) (rows hs : List Handler) (insns others : List Insn) → IsCode bytes rows insns → IsCode bytes hs others → insns ≡ others
+
+-- what is code breaks no rule
+abbrev pub CodeIsFaultless : Type 0
+CodeIsFaultless = (bytes : List ℕ) (rows : List Handler) (insns : List Insn) → IsCode bytes rows insns → code_fault bytes rows ≡ None

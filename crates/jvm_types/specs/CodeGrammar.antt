@@ -36,7 +36,7 @@ pub record SpellsTable (pc : ℕ) (op : Op) (bytes : List ℕ) : Type 0 where
   pub high : ℤ
   pub targets : List ℕ
   pub is : op ≡ Tableswitch otherwise low targets
-  pub spelled : bytes ≡ padding ++ s4 (offset pc otherwise) ++ s4 low ++ s4 high ++ flat_map (λ to. s4 (offset pc to)) targets
+  pub spelled : bytes ≡ padding ++ (s4 (offset pc otherwise) ++ s4 low ++ s4 high ++ flat_map (λ to. s4 (offset pc to)) targets)
   pub padded : length padding ≡ padding_size pc
   pub counted : pos (length targets) ≡ high -ℤ low +ℤ pos 1
   pub some : 0 < length targets
@@ -61,7 +61,7 @@ pub record SpellsLookup (pc : ℕ) (op : Op) (bytes : List ℕ) : Type 0 where
   pub otherwise : ℕ
   pub cases : List Case
   pub is : op ≡ Lookupswitch otherwise cases
-  pub spelled : bytes ≡ padding ++ s4 (offset pc otherwise) ++ s4 (pos (length cases)) ++ flat_map (spelled_case pc) cases
+  pub spelled : bytes ≡ padding ++ (s4 (offset pc otherwise) ++ s4 (pos (length cases)) ++ flat_map (spelled_case pc) cases)
   pub padded : length padding ≡ padding_size pc
   pub count_fits : length cases < 2 ^ 31
   pub ascending : Ascend cases

@@ -22,3 +22,5 @@ pub mod ReadingSteps
 pub mod ReadingPool
 pub mod ReadingClass
 pub mod ClassLaws
+pub mod Types
+pub mod Verifying

@@ -4,6 +4,7 @@
 
 pub mod class_file;
 pub mod code;
+pub mod code_laws;
 pub mod first;
 pub mod gate;
 pub mod index_kind;
