@@ -2,3 +2,5 @@ pub mod StepLaws
 pub mod IndexLaws
 pub mod ConstantLaws
 pub mod PoolLaws
+pub mod AttrLaws
+pub mod ClassReads
