@@ -9,6 +9,7 @@ use Rattle.jvm_types.specs.Spelling.{counted, constant, attr, member_attr, membe
 use Rattle.jvm_types.specs.declared.refusal.CRule.TheVariants.{C1, C2, C9, C10}
 use Rattle.jvm_types.specs.declared.index_kind.IndexKind.TheVariants as kinds
 use Rattle.jvm_types.specs.declared.class_file.Constant.{Constant}
+use Rattle.jvm_types.specs.declared.class_file.Constant.TheVariants.{Class}
 use Rattle.jvm_types.specs.declared.class_file.MemberAttr.{MemberAttr}
 use Rattle.jvm_types.specs.declared.class_file.Member.{Member}
 use Rattle.jvm_types.specs.declared.class_file.ClassFile.{ClassFile}
@@ -70,3 +71,82 @@ method_reads pool = record {
     record { ok = record { parts = a.parts; fits = record { member = a.fits; body = body_from_test m.0 ok }; rest = a.rest } };
   again = λ m rest is. rw (member_again (IsMethodAttr pool) (method_attr_at pool) (method_attr_reads pool) pool m rest is.member, test_from_body m is.body);
 }
+
+-- ---- classes
+
+under : (x : List ℕ) {y z : List ℕ} → y ≡ z → x ++ y ≡ x ++ z
+under x e = ap (λ (t : List ℕ). x ++ t) e
+
+regrouped : (a b c d e f g h i j k rest : List ℕ) → (a ++ b ++ c ++ d ++ e ++ f ++ g ++ h ++ i ++ j ++ k) ++ rest ≡ a ++ (b ++ (c ++ (d ++ (e ++ (f ++ (g ++ (h ++ (i ++ (j ++ (k ++ rest))))))))))
+regrouped a b c d e f g h i j k rest = simp append_assoc
+
+-- the bytes of a class and what follows, field by field from the left
+parts_of : ClassFile → List ℕ → List ℕ
+parts_of c rest = u4 3405691582 ++ (u2 c.minor ++ (u2 c.major ++ (counted constant c.constants ++ (u2 c.flags ++ (u2 c.this_class ++ (u2 c.super_class
+    ++ (counted u2 c.interfaces ++ (counted member c.fields ++ (counted member c.methods ++ (counted attr c.attrs ++ rest))))))))))
+
+in_parts : (c : ClassFile) (rest : List ℕ) → class_file c ++ rest ≡ parts_of c rest
+unfolding parts_of
+in_parts c rest = regrouped (u4 3405691582) (u2 c.minor) (u2 c.major) (counted constant c.constants) (u2 c.flags) (u2 c.this_class) (u2 c.super_class)
+    (counted u2 c.interfaces) (counted member c.fields) (counted member c.methods) (counted attr c.attrs) rest
+
+none_named : (pool : List Constant) (i : ℕ) → pool ≡ [] → Names kinds.Class pool i → ⊥
+none_named pool i none named = let found = subst (λ (p : List Constant). slice_get p i ≡ Some (Class named.0)) none named.1 in absurd cc
+
+pool_there : (pool : List Constant) (i : ℕ) → IsPoolOrNone pool → Names kinds.Class pool i → IsPool pool
+pool_there pool i (inl none) named = absurd (none_named pool i none named)
+pool_there pool i (inr is) named = is
+
+class_takes : (bytes : List ℕ) → IsBytes bytes → Gives (class_at bytes) (Took class_file (λ c. length (class_file c) ≤ 1048576 → IsClass c) bytes)
+unfolding class_at parts_of
+class_takes bytes fits =
+    on_step u4_reads bytes fits _ _ λ magic a.
+    on_wanted (eqb magic.0 3405691582) C1 (length bytes) _ _ λ is_magic.
+    on_step u2_reads magic.1 a.rest _ _ λ minor b.
+    on_step u2_reads minor.1 b.rest _ _ λ major c.
+    on_wanted (leb 45 major.0 && leb major.0 50) C2 (length minor.1) _ _ λ version.
+    on_step pool_reads major.1 c.rest _ _ λ pool d.
+    on_step u2_reads pool.1 d.rest _ _ λ flags e.
+    on_step (index_reads kinds.Class pool.0) flags.1 e.rest _ _ λ own f.
+    on_step (index_reads kinds.Class pool.0) own.1 f.rest _ _ λ super g.
+    on_step (counted_reads u2 (IsIndex kinds.Class pool.0) (index_at kinds.Class pool.0) (index_reads kinds.Class pool.0)) super.1 g.rest _ _ λ interfaces h.
+    on_step (counted_reads member (IsField pool.0) (field_at pool.0) (field_reads pool.0)) interfaces.1 h.rest _ _ λ fields i.
+    on_step (counted_reads member (IsMethod pool.0) (method_at pool.0) (method_reads pool.0)) fields.1 i.rest _ _ λ methods j.
+    on_step (counted_reads attr (IsAttr pool.0) (attr_at pool.0) (attr_reads pool.0)) methods.1 j.rest _ _ λ attrs k.
+    let there = pool_there pool.0 own.0 d.fits f.fits.names in
+    let P : List ℕ = counted constant pool.0 in
+    let tail : flags.1 ≡ u2 own.0 ++ (u2 super.0 ++ (counted u2 interfaces.0 ++ (counted member fields.0 ++ (counted member methods.0 ++ (counted attr attrs.0 ++ attrs.1)))))
+        = f.parts ∙ under (u2 own.0) (g.parts ∙ under (u2 super.0) (h.parts ∙ under (counted u2 interfaces.0) (i.parts ∙ under (counted member fields.0) (j.parts ∙ under (counted member methods.0) k.parts)))) in
+    let all : bytes ≡ parts_of (record { minor = minor.0; major = major.0; constants = pool.0; flags = flags.0; this_class = own.0; super_class = super.0; interfaces = interfaces.0; fields = fields.0; methods = methods.0; attrs = attrs.0 }) attrs.1
+        = a.parts ∙ ap (λ (n : ℕ). u4 n ++ magic.1) (eqb-true _ _ is_magic)
+          ∙ under (u4 3405691582) (b.parts ∙ under (u2 minor.0) (c.parts ∙ under (u2 major.0) (d.parts ∙ under P (e.parts ∙ under (u2 flags.0) tail)))) in
+    record { ok = record {
+      parts = all ∙ sym (in_parts _ attrs.1);
+      fits = λ short. record {
+        short = short; minor = b.fits; from_45 = leb-true _ _ (and_parts _ _ version).0; to_50 = leb-true _ _ (and_parts _ _ version).1;
+        pool = there; flags = e.fits; this_class = f.fits; super_class = g.fits; interfaces = h.fits; fields = i.fits; methods = j.fits; attrs = k.fits;
+      };
+      rest = k.rest;
+    } }
+
+pub class_again : (c : ClassFile) (rest : List ℕ) → IsClass c → class_at (class_file c ++ rest) ≡ Ok (c, rest)
+unfolding class_at parts_of
+class_again c rest is =
+    let a : List ℕ = counted attr c.attrs ++ rest in
+    let m : List ℕ = counted member c.methods ++ a in
+    let f : List ℕ = counted member c.fields ++ m in
+    let i : List ℕ = counted u2 c.interfaces ++ f in
+    let s : List ℕ = u2 c.super_class ++ i in
+    let t : List ℕ = u2 c.this_class ++ s in
+    let g : List ℕ = u2 c.flags ++ t in
+    let p : List ℕ = counted constant c.constants ++ g in
+    let j : List ℕ = u2 c.major ++ p in
+    let n : List ℕ = u2 c.minor ++ j in
+    ap class_at (in_parts c rest)
+      ∙ rw (u4_again 3405691582 n, u2_again c.minor j, u2_again c.major p, and_from _ _ (le-leb 45 c.major is.from_45) (le-leb c.major 50 is.to_50),
+          pool_reads.again c.constants g (inr is.pool), u2_again c.flags t,
+          (index_reads kinds.Class c.constants).again c.this_class s is.this_class, (index_reads kinds.Class c.constants).again c.super_class i is.super_class,
+          (counted_reads u2 (IsIndex kinds.Class c.constants) (index_at kinds.Class c.constants) (index_reads kinds.Class c.constants)).again c.interfaces f is.interfaces,
+          (counted_reads member (IsField c.constants) (field_at c.constants) (field_reads c.constants)).again c.fields m is.fields,
+          (counted_reads member (IsMethod c.constants) (method_at c.constants) (method_reads c.constants)).again c.methods a is.methods,
+          (counted_reads attr (IsAttr c.constants) (attr_at c.constants) (attr_reads c.constants)).again c.attrs rest is.attrs)
