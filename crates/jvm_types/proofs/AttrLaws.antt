@@ -1,7 +1,6 @@
 -- An attribute that is read is spelled so and keeps its rules, and what is spelled so is read again.
-use Rattle.std.proofs.Common.{◌≡◌, ℕ, zero, suc, ◌+◌, ◌^◌, ◌<◌, Bool, true, false, cond, List, [], ◌∷◌, ◌++◌, length, Result, Ok, Err, refl, sym, ap, subst, ◌∙◌, append_assoc, arith}
+use Rattle.std.proofs.Common.{◌≡◌, ℕ, ◌+◌, ◌^◌, ◌<◌, Bool, true, false, cond, List, [], ◌∷◌, ◌++◌, length, Result, Ok, Err, refl, sym, ap, subst, ◌∙◌, append_assoc}
 use Rattle.std.specs.Prelude.{slice_get, codes}
-use Rattle.std.specs.List.{flat_map}
 use Rattle.std.proofs.lemmas.List.{append-nil}
 use Rattle.jvm_types.specs.Numbers.{u2, u4}
 use Rattle.jvm_types.specs.Spelling.{counted, attr, handler, code_body, member_attr}
@@ -13,11 +12,11 @@ use Rattle.jvm_types.specs.declared.class_file.Handler.{Handler}
 use Rattle.jvm_types.specs.declared.class_file.Code.{Code}
 use Rattle.jvm_types.specs.declared.class_file.MemberAttr.{MemberAttr}
 use Rattle.jvm_types.specs.declared.class_file.MemberAttr.TheVariants as member_attrs
-use Rattle.jvm_types.specs.ClassGrammar.{IsByte, IsCounted, IsIndex, IsAttr, IsNamed, IsHandler, IsCode, IsFieldAttr, IsMethodAttr}
-use Rattle.jvm_types.specs.ReadingSteps.{Fault, fault, ◌>>=◌, ended, whole, in_body, u2_at, u4_at, run_at, counted_at}
+use Rattle.jvm_types.specs.ClassGrammar.{IsCounted, IsIndex, IsAttr, IsNamed, IsHandler, IsCode, IsFieldAttr, IsMethodAttr}
+use Rattle.jvm_types.specs.ReadingSteps.{Fault, ended, whole, in_body}
 use Rattle.jvm_types.specs.ReadingPool.{is_text, index_at}
 use Rattle.jvm_types.specs.ReadingClass.{attr_at, handler_at, code_at, code_of, value_of, field_attr_at, method_attr_at}
-use Rattle.jvm_types.proofs.StepLaws.{IsBytes, Gives, on_bind, weaker, Took, Reads, on_step, u2_reads, u2_again, u4_reads, u4_again, run_reads, run_again, counted_reads}
+use Rattle.jvm_types.proofs.StepLaws.{IsBytes, Gives, on_bind, Took, Reads, on_step, u2_reads, u2_again, u4_reads, u4_again, run_reads, run_again, counted_reads}
 use Rattle.jvm_types.proofs.IndexLaws.{index_reads, IsTextAt-from_test, test_from_IsTextAt, no_IsTextAt, no_test}
 
 -- ---- attributes that are kept unread
@@ -28,11 +27,13 @@ attr_takes pool bytes fits =
     on_step (index_reads kinds.Text pool) bytes fits _ _ λ name a.
     on_step u4_reads name.1 a.rest _ _ λ n b.
     on_step (run_reads n.0) n.1 b.rest _ _ λ body c.
-    record { ok = record {
-      parts = a.parts ∙ ap (λ (x : List ℕ). u2 name.0 ++ x) (b.parts ∙ ap (λ (x : List ℕ). u4 n.0 ++ x) c.parts ∙ ap (λ (k : ℕ). u4 k ++ (body.0 ++ body.1)) (sym c.fits.count));
-      fits = record { name = a.fits; count = rw c.fits.count b.fits; bytes = c.fits.bytes };
-      rest = c.rest;
-    } }
+    record {
+      ok = record {
+        parts = a.parts ∙ ap (λ (x : List ℕ). u2 name.0 ++ x) (b.parts ∙ ap (λ (x : List ℕ). u4 n.0 ++ x) c.parts ∙ ap (λ (k : ℕ). u4 k ++ (body.0 ++ body.1)) (sym c.fits.count));
+        fits = record { name = a.fits; count = rw c.fits.count b.fits; bytes = c.fits.bytes };
+        rest = c.rest;
+      };
+    }
 
 -- the bytes of an attribute are read again, whatever they are
 attr_again : (pool : List Constant) (a : Attr) (rest : List ℕ) → IsIndex kinds.Text pool a.name → attr_at pool (attr a ++ rest) ≡ Ok (a, rest)
@@ -52,17 +53,23 @@ handler_takes pool bytes fits =
     on_step u2_reads start.1 a.rest _ _ λ end b.
     on_step u2_reads end.1 b.rest _ _ λ to c.
     on_step (index_reads kinds.CatchType pool) to.1 c.rest _ _ λ catch d.
-    record { ok = record {
-      parts = a.parts ∙ ap (λ (x : List ℕ). u2 start.0 ++ x) (b.parts ∙ ap (λ (x : List ℕ). u2 end.0 ++ x) (c.parts ∙ ap (λ (x : List ℕ). u2 to.0 ++ x) d.parts));
-      fits = record { start = a.fits; «end» = b.fits; handler = c.fits; catch_type = d.fits };
-      rest = d.rest;
-    } }
+    record {
+      ok = record {
+        parts = a.parts ∙ ap (λ (x : List ℕ). u2 start.0 ++ x) (b.parts ∙ ap (λ (x : List ℕ). u2 end.0 ++ x) (c.parts ∙ ap (λ (x : List ℕ). u2 to.0 ++ x) d.parts));
+        fits = record { start = a.fits; «end» = b.fits; handler = c.fits; catch_type = d.fits };
+        rest = d.rest;
+      };
+    }
 
 handler_again : (pool : List Constant) (h : Handler) (rest : List ℕ) → IsHandler pool h → handler_at pool (handler h ++ rest) ≡ Ok (h, rest)
 unfolding handler_at
 handler_again pool h rest is =
-    rw (u2_again h.start (u2 h.end ++ (u2 h.handler ++ (u2 h.catch_type ++ rest))), u2_again h.end (u2 h.handler ++ (u2 h.catch_type ++ rest)), u2_again h.handler (u2 h.catch_type ++ rest),
-      (index_reads kinds.CatchType pool).again h.catch_type rest is.catch_type)
+    rw (
+      u2_again h.start (u2 h.end ++ (u2 h.handler ++ (u2 h.catch_type ++ rest))),
+      u2_again h.end (u2 h.handler ++ (u2 h.catch_type ++ rest)),
+      u2_again h.handler (u2 h.catch_type ++ rest),
+      (index_reads kinds.CatchType pool).again h.catch_type rest is.catch_type,
+    )
 
 pub handler_reads : (pool : List Constant) → Reads handler (IsHandler pool) (handler_at pool)
 handler_reads pool = record { takes = handler_takes pool; again = handler_again pool }
@@ -91,12 +98,14 @@ code_takes pool name bytes fits =
     let R : List ℕ = counted handler rows.0 in
     let A : List ℕ = counted attr attrs.0 in
     let body : n.1 ≡ ((code.0 ++ R) ++ A) ++ attrs.1 = d.parts ∙ ap (λ (x : List ℕ). code.0 ++ x) (e.parts ∙ ap (λ (x : List ℕ). R ++ x) f.parts) ∙ sym (append_assoc code.0 R (A ++ attrs.1)) ∙ sym (append_assoc (code.0 ++ R) A attrs.1) in
-    record { ok = record {
-      parts = a.parts ∙ ap (λ (x : List ℕ). u2 stack.0 ++ x) (b.parts ∙ ap (λ (x : List ℕ). u2 locals.0 ++ x) (c.parts ∙ ap (λ (x : List ℕ). u4 n.0 ++ x) body
-          ∙ ap (λ (k : ℕ). u4 k ++ (((code.0 ++ R) ++ A) ++ attrs.1)) (sym d.fits.count)));
-      fits = record { named = refl; max_stack = a.fits; max_locals = b.fits; count = rw d.fits.count c.fits; bytes = d.fits.bytes; rows = e.fits; attrs = f.fits };
-      rest = f.rest;
-    } }
+    record {
+      ok = record {
+        parts = a.parts ∙ ap (λ (x : List ℕ). u2 stack.0 ++ x) (b.parts ∙ ap (λ (x : List ℕ). u2 locals.0 ++ x) (c.parts ∙ ap (λ (x : List ℕ). u4 n.0 ++ x) body
+            ∙ ap (λ (k : ℕ). u4 k ++ (((code.0 ++ R) ++ A) ++ attrs.1)) (sym d.fits.count)));
+        fits = record { named = refl; max_stack = a.fits; max_locals = b.fits; count = rw d.fits.count c.fits; bytes = d.fits.bytes; rows = e.fits; attrs = f.fits };
+        rest = f.rest;
+      };
+    }
 
 code_again : (pool : List Constant) (name : ℕ) (c : Code) (rest : List ℕ) → AreParts pool name c → code_at pool name (code_body c ++ rest) ≡ Ok (c, rest)
 unfolding code_at
@@ -105,10 +114,15 @@ code_again pool name c rest is =
     let attrs : List ℕ = counted attr c.attrs in
     let regrouped : ((c.bytes ++ rows) ++ attrs) ++ rest ≡ c.bytes ++ (rows ++ (attrs ++ rest)) = append_assoc (c.bytes ++ rows) attrs rest ∙ append_assoc c.bytes rows (attrs ++ rest) in
     ap (λ (x : List ℕ). code_at pool name (u2 c.max_stack ++ (u2 c.max_locals ++ (u4 (length c.bytes) ++ x)))) regrouped
-      ∙ rw (u2_again c.max_stack (u2 c.max_locals ++ (u4 (length c.bytes) ++ (c.bytes ++ (rows ++ (attrs ++ rest))))), u2_again c.max_locals (u4 (length c.bytes) ++ (c.bytes ++ (rows ++ (attrs ++ rest)))),
-          u4_again (length c.bytes) (c.bytes ++ (rows ++ (attrs ++ rest))), run_again c.bytes (rows ++ (attrs ++ rest)),
-          (counted_reads handler (IsHandler pool) (handler_at pool) (handler_reads pool)).again c.rows (attrs ++ rest) is.rows,
-          (counted_reads attr (IsAttr pool) (attr_at pool) (attr_reads pool)).again c.attrs rest is.attrs, ← is.named)
+    ∙ rw (
+      u2_again c.max_stack (u2 c.max_locals ++ (u4 (length c.bytes) ++ (c.bytes ++ (rows ++ (attrs ++ rest))))),
+      u2_again c.max_locals (u4 (length c.bytes) ++ (c.bytes ++ (rows ++ (attrs ++ rest)))),
+      u4_again (length c.bytes) (c.bytes ++ (rows ++ (attrs ++ rest))),
+      run_again c.bytes (rows ++ (attrs ++ rest)),
+      (counted_reads handler (IsHandler pool) (handler_at pool) (handler_reads pool)).again c.rows (attrs ++ rest) is.rows,
+      (counted_reads attr (IsAttr pool) (attr_at pool) (attr_reads pool)).again c.attrs rest is.attrs,
+      ← is.named,
+    )
 
 pub code_reads : (pool : List Constant) (name : ℕ) → Reads code_body (AreParts pool name) (code_at pool name)
 code_reads pool name = record { takes = code_takes pool name; again = code_again pool name }
@@ -161,23 +175,32 @@ code_kept : (pool : List Constant) (a : Attr) (behind : ℕ) → IsAttr pool a �
 unfolding code_of
 code_kept pool a behind is named =
     on_bind _ _ _ _ (inside_takes code_body (AreParts pool a.name) (code_at pool a.name) (code_reads pool a.name) (4 + length a.body + behind) behind a.body is.bytes) λ c f.
-    record { ok = record {
-      same = ap (λ (x : List ℕ). u2 a.name ++ (u4 (length x) ++ x)) f.all ∙ ap (λ (n : ℕ). u2 n ++ (u4 (length (code_body c)) ++ code_body c)) (sym f.fits.named);
-      fits = record {
-        name = record { number = rw f.fits.named is.name.number; named = rw f.fits.named named };
-        size = subst (λ (x : List ℕ). length x < 2 ^ 32) f.all is.count;
-        max_stack = f.fits.max_stack; max_locals = f.fits.max_locals; count = f.fits.count; bytes = f.fits.bytes; rows = f.fits.rows; attrs = f.fits.attrs;
+    record {
+      ok = record {
+        same = ap (λ (x : List ℕ). u2 a.name ++ (u4 (length x) ++ x)) f.all ∙ ap (λ (n : ℕ). u2 n ++ (u4 (length (code_body c)) ++ code_body c)) (sym f.fits.named);
+        fits = record {
+          name = record { number = rw f.fits.named is.name.number; named = rw f.fits.named named };
+          size = subst (λ (x : List ℕ). length x < 2 ^ 32) f.all is.count;
+          max_stack = f.fits.max_stack;
+          max_locals = f.fits.max_locals;
+          count = f.fits.count;
+          bytes = f.fits.bytes;
+          rows = f.fits.rows;
+          attrs = f.fits.attrs;
+        };
       };
-    } }
+    }
 
 value_kept : (pool : List Constant) (a : Attr) (behind : ℕ) → IsAttr pool a → IsTextAt pool a.name (codes "ConstantValue") → Gives (value_of pool a behind) (Kept (IsFieldAttr pool) a)
 unfolding value_of
 value_kept pool a behind is named =
     on_bind _ _ _ _ (inside_takes u2 (IsIndex kinds.Value pool) (index_at kinds.Value pool) (index_reads kinds.Value pool) (4 + length a.body + behind) behind a.body is.bytes) λ value f.
-    record { ok = record {
-      same = ap (λ (x : List ℕ). u2 a.name ++ (u4 (length x) ++ x)) f.all;
-      fits = (record { number = is.name.number; named = named }, f.fits);
-    } }
+    record {
+      ok = record {
+        same = ap (λ (x : List ℕ). u2 a.name ++ (u4 (length x) ++ x)) f.all;
+        fits = (record { number = is.name.number; named = named }, f.fits);
+      };
+    }
 
 chosen : (b : Bool) (x : Result MemberAttr Fault) (y : MemberAttr) (P : MemberAttr → Type 0) → (b ≡ true → Gives x P) → (b ≡ false → P y) → Gives (cond b x (Ok y)) P
 chosen true x y P h k = h refl
@@ -189,8 +212,8 @@ field_attr_takes pool bytes fits =
     on_step (attr_reads pool) bytes fits _ _ λ a p.
     let text : List ℕ = codes "ConstantValue" in
     on_bind _ _ _ _ (chosen (is_text text (slice_get pool a.0.name)) (value_of pool a.0 (length a.1)) (member_attrs.Other a.0) (Kept (IsFieldAttr pool) a.0)
-        (λ e. value_kept pool a.0 (length a.1) p.fits (IsTextAt-from_test text pool a.0.name e))
-        (λ e. record { same = refl; fits = (p.fits, no_IsTextAt text pool a.0.name e) })) λ m kept.
+    (λ e. value_kept pool a.0 (length a.1) p.fits (IsTextAt-from_test text pool a.0.name e))
+    (λ e. record { same = refl; fits = (p.fits, no_IsTextAt text pool a.0.name e) })) λ m kept.
     record { ok = record { parts = p.parts ∙ ap (λ (x : List ℕ). x ++ a.1) kept.same; fits = kept.fits; rest = p.rest } }
 
 method_attr_takes : (pool : List Constant) (bytes : List ℕ) → IsBytes bytes → Gives (method_attr_at pool bytes) (Took member_attr (IsMethodAttr pool) bytes)
@@ -199,8 +222,8 @@ method_attr_takes pool bytes fits =
     on_step (attr_reads pool) bytes fits _ _ λ a p.
     let text : List ℕ = codes "Code" in
     on_bind _ _ _ _ (chosen (is_text text (slice_get pool a.0.name)) (code_of pool a.0 (length a.1)) (member_attrs.Other a.0) (Kept (IsMethodAttr pool) a.0)
-        (λ e. code_kept pool a.0 (length a.1) p.fits (IsTextAt-from_test text pool a.0.name e))
-        (λ e. record { same = refl; fits = (p.fits, no_IsTextAt text pool a.0.name e) })) λ m kept.
+    (λ e. code_kept pool a.0 (length a.1) p.fits (IsTextAt-from_test text pool a.0.name e))
+    (λ e. record { same = refl; fits = (p.fits, no_IsTextAt text pool a.0.name e) })) λ m kept.
     record { ok = record { parts = p.parts ∙ ap (λ (x : List ℕ). x ++ a.1) kept.same; fits = kept.fits; rest = p.rest } }
 
 named_index : (pool : List Constant) (name : ℕ) (text : List ℕ) → IsNamed pool name text → IsIndex kinds.Text pool name
@@ -210,7 +233,7 @@ code_stands : (pool : List Constant) (c : Code) (behind : ℕ) → IsCode pool c
 unfolding code_of
 code_stands pool c behind is =
     rw (inside_again code_body (AreParts pool c.name) (code_at pool c.name) (code_reads pool c.name) (4 + length (code_body c) + behind) behind c
-      (record { named = refl; max_stack = is.max_stack; max_locals = is.max_locals; count = is.count; bytes = is.bytes; rows = is.rows; attrs = is.attrs }))
+    (record { named = refl; max_stack = is.max_stack; max_locals = is.max_locals; count = is.count; bytes = is.bytes; rows = is.rows; attrs = is.attrs }))
 
 value_stands : (pool : List Constant) (name value behind : ℕ) → IsIndex kinds.Value pool value → value_of pool (record { name = name; body = u2 value }) behind ≡ Ok (member_attrs.ConstantValue name value)
 unfolding value_of
@@ -221,15 +244,21 @@ field_attr_again : (pool : List Constant) (m : MemberAttr) (rest : List ℕ) →
 unfolding field_attr_at
 field_attr_again pool (member_attrs.Code c) rest is = absurd is
 field_attr_again pool (member_attrs.ConstantValue name value) rest is =
-    rw (attr_again pool (record { name = name; body = u2 value }) rest (named_index pool name (codes "ConstantValue") is.0), test_from_IsTextAt (codes "ConstantValue") pool name is.0.named,
-      value_stands pool name value (length rest) is.1)
+    rw (
+      attr_again pool (record { name = name; body = u2 value }) rest (named_index pool name (codes "ConstantValue") is.0),
+      test_from_IsTextAt (codes "ConstantValue") pool name is.0.named,
+      value_stands pool name value (length rest) is.1,
+    )
 field_attr_again pool (member_attrs.Other a) rest is = rw (attr_again pool a rest is.0.name, no_test (codes "ConstantValue") pool a.name is.1)
 
 method_attr_again : (pool : List Constant) (m : MemberAttr) (rest : List ℕ) → IsMethodAttr pool m → method_attr_at pool (member_attr m ++ rest) ≡ Ok (m, rest)
 unfolding method_attr_at
 method_attr_again pool (member_attrs.Code c) rest is =
-    rw (attr_again pool (record { name = c.name; body = code_body c }) rest (named_index pool c.name (codes "Code") is.name), test_from_IsTextAt (codes "Code") pool c.name is.name.named,
-      code_stands pool c (length rest) is)
+    rw (
+      attr_again pool (record { name = c.name; body = code_body c }) rest (named_index pool c.name (codes "Code") is.name),
+      test_from_IsTextAt (codes "Code") pool c.name is.name.named,
+      code_stands pool c (length rest) is,
+    )
 method_attr_again pool (member_attrs.ConstantValue name value) rest is = absurd is
 method_attr_again pool (member_attrs.Other a) rest is = rw (attr_again pool a rest is.0.name, no_test (codes "Code") pool a.name is.1)
 

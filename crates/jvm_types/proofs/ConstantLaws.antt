@@ -1,20 +1,18 @@
 -- An entry of the constant pool that is read is spelled so, and what is spelled so is read again.
-use Rattle.std.proofs.Common.{◌≡◌, ℕ, ℤ, zero, suc, ◌+◌, ◌*◌, ◌/◌, ◌%◌, ◌^◌, ◌<◌, Bool, true, false, cond, eqb, ltb, List, [], ◌∷◌, ◌++◌, length, Result, Ok, Err, refl, sym, ap, subst, ◌∙◌, append_assoc, arith}
-use Rattle.std.specs.Prelude.{◌&&◌, ◌==◌}
+use Rattle.std.proofs.Common.{◌≡◌, ℕ, ℤ, ◌+◌, ◌*◌, ◌/◌, ◌%◌, ◌^◌, ◌<◌, Bool, true, false, cond, eqb, ltb, List, [], ◌∷◌, ◌++◌, length, Result, Ok, refl, sym, ap, subst, ◌∙◌, arith}
+use Rattle.std.specs.Prelude.{◌&&◌}
 use Rattle.std.specs.List.{AllByRecursion}
 use Rattle.std.specs.Int.{w32, cast_signed, cast_unsigned}
-use Rattle.std.specs.Int.RustNames.{FitsSigned}
 use Rattle.std.proofs.Math.Facts.{sfits_to_z}
 use Rattle.std.proofs.lemmas.Int.{of_z-to_z, to_z-of_z}
 use Rattle.std.proofs.lemmas.Bool.{eqb-true, and_parts, and_from, ltb-true, lt-ltb}
-use Rattle.jvm_types.specs.Numbers.{u1, u2, u4, u8, s4}
+use Rattle.jvm_types.specs.Numbers.{u2, u4, u8, s4}
 use Rattle.jvm_types.specs.Spelling.{constant}
-use Rattle.jvm_types.specs.declared.refusal.CRule.{CRule}
-use Rattle.jvm_types.specs.declared.refusal.CRule.TheVariants.{C4, C6}
+use Rattle.jvm_types.specs.declared.refusal.CRule.TheVariants.{C6}
 use Rattle.jvm_types.specs.declared.class_file.Constant.{Constant}
 use Rattle.jvm_types.specs.declared.class_file.Constant.TheVariants.{Gap, Utf8, Integer, Float, Long, Double, Class, Text, Field, Method, InterfaceMethod, NameAndType}
 use Rattle.jvm_types.specs.ClassGrammar.{IsUtf8Byte, FieldsFit, is_gap}
-use Rattle.jvm_types.specs.ReadingSteps.{Fault, fault, ◌>>=◌, wanted, u1_at, u2_at, u4_at, run_at}
+use Rattle.jvm_types.specs.ReadingSteps.{Fault}
 use Rattle.jvm_types.specs.ReadingPool.{text_wanted, text_at, one_at, two_at, word_at, wide_at, tagged_at, constant_at}
 use Rattle.jvm_types.proofs.StepLaws.{IsBytes, Gives, on_bind, weaker, on_wanted, Took, Reads, on_step, u1_reads, u1_again, u2_reads, u2_again, u4_reads, u4_again, run_reads, run_again}
 
@@ -47,11 +45,13 @@ text_takes bytes fits =
     on_step u2_reads bytes fits _ _ λ n a.
     on_step (run_reads n.0) n.1 a.rest _ _ λ text b.
     on_bind _ _ _ _ (text_holds text.0 (length text.1)) λ ok each.
-    record { ok = record {
-      parts = ap (λ (x : List ℕ). 1 ∷ x) (a.parts ∙ ap (λ (x : List ℕ). u2 n.0 ++ x) b.parts ∙ ap (λ (k : ℕ). u2 k ++ (text.0 ++ text.1)) (sym b.fits.count));
-      fits = record { fields = (rw b.fits.count a.fits, each); entry = refl };
-      rest = b.rest;
-    } }
+    record {
+      ok = record {
+        parts = ap (λ (x : List ℕ). 1 ∷ x) (a.parts ∙ ap (λ (x : List ℕ). u2 n.0 ++ x) b.parts ∙ ap (λ (k : ℕ). u2 k ++ (text.0 ++ text.1)) (sym b.fits.count));
+        fits = record { fields = (rw b.fits.count a.fits, each); entry = refl };
+        rest = b.rest;
+      };
+    }
 
 -- ---- numbers
 
@@ -68,11 +68,13 @@ unfolding two_at
 two_takes tag entry spelled is bytes fits =
     on_step u2_reads bytes fits _ _ λ m a.
     on_step u2_reads m.1 a.rest _ _ λ n b.
-    record { ok = record {
-      parts = ap (λ (x : List ℕ). tag ∷ x) (a.parts ∙ ap (λ (x : List ℕ). u2 m.0 ++ x) b.parts) ∙ ap (λ (x : List ℕ). x ++ n.1) (sym (spelled m.0 n.0));
-      fits = is m.0 n.0 a.fits b.fits;
-      rest = b.rest;
-    } }
+    record {
+      ok = record {
+        parts = ap (λ (x : List ℕ). tag ∷ x) (a.parts ∙ ap (λ (x : List ℕ). u2 m.0 ++ x) b.parts) ∙ ap (λ (x : List ℕ). x ++ n.1) (sym (spelled m.0 n.0));
+        fits = is m.0 n.0 a.fits b.fits;
+        rest = b.rest;
+      };
+    }
 
 word_takes : (tag : ℕ) (entry : ℕ → Constant) → ((n : ℕ) → n < 2 ^ 32 → constant (entry n) ≡ tag ∷ u4 n) → ((n : ℕ) → n < 2 ^ 32 → IsEntry (entry n))
     → (bytes : List ℕ) → IsBytes bytes → Gives (word_at entry bytes) (Entered tag bytes)
@@ -97,11 +99,13 @@ wide_takes tag entry spelled is bytes fits =
     on_step u4_reads bytes fits _ _ λ high a.
     on_step u4_reads high.1 a.rest _ _ λ low b.
     let n : ℕ = high.0 * 4294967296 + low.0 in
-    record { ok = record {
-      parts = ap (λ (x : List ℕ). tag ∷ x) (a.parts ∙ ap (λ (x : List ℕ). u4 high.0 ++ x) b.parts) ∙ ap (λ (x : List ℕ). tag ∷ (x ++ low.1)) (sym (u8_spelled high.0 low.0 b.fits)) ∙ ap (λ (x : List ℕ). x ++ low.1) (sym (spelled n));
-      fits = is n (omega (arith, a.fits, b.fits));
-      rest = b.rest;
-    } }
+    record {
+      ok = record {
+        parts = ap (λ (x : List ℕ). tag ∷ x) (a.parts ∙ ap (λ (x : List ℕ). u4 high.0 ++ x) b.parts) ∙ ap (λ (x : List ℕ). tag ∷ (x ++ low.1)) (sym (u8_spelled high.0 low.0 b.fits)) ∙ ap (λ (x : List ℕ). x ++ low.1) (sym (spelled n));
+        fits = is n (omega (arith, a.fits, b.fits));
+        rest = b.rest;
+      };
+    }
 
 -- ---- by the tag
 

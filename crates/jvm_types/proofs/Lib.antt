@@ -4,3 +4,4 @@ pub mod ConstantLaws
 pub mod PoolLaws
 pub mod AttrLaws
 pub mod ClassReads
+pub mod ClassLawProofs

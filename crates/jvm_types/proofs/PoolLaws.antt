@@ -1,5 +1,5 @@
 -- The constant pool that is read is spelled so and keeps its rules, and what is spelled so is read again.
-use Rattle.std.proofs.Common.{◌≡◌, ℕ, zero, suc, ◌+◌, ◌-◌, ◌^◌, ◌<◌, Bool, true, false, List, [], ◌∷◌, ◌++◌, length, Result, Ok, Err, refl, sym, ap, subst, ◌∙◌, append_assoc, arith, inl, inr}
+use Rattle.std.proofs.Common.{◌≡◌, ℕ, zero, suc, ◌-◌, ◌^◌, ◌<◌, Bool, true, false, List, [], ◌∷◌, ◌++◌, length, Ok, refl, sym, ap, subst, ◌∙◌, append_assoc, arith, inl, inr}
 use Rattle.std.specs.Prelude.{◌&&◌, ◌==◌, ◌⊎◌, not}
 use Rattle.std.specs.List.{flat_map, AllByRecursion}
 use Rattle.std.proofs.lemmas.Bool.{not-true, ne_eqb}
@@ -9,13 +9,13 @@ use Rattle.jvm_types.specs.declared.refusal.CRule.TheVariants.{C5}
 use Rattle.jvm_types.specs.declared.index_kind.IndexKind.{IndexKind}
 use Rattle.jvm_types.specs.declared.index_kind.IndexKind.TheVariants as kinds
 use Rattle.jvm_types.specs.declared.class_file.Constant.{Constant}
-use Rattle.jvm_types.specs.declared.class_file.Constant.TheVariants.{Gap, Utf8, Integer, Float, Long, Double, Class, Text, Field, Method, InterfaceMethod, NameAndType}
+use Rattle.jvm_types.specs.declared.class_file.Constant.TheVariants.{Gap, Class, Text, Field, Method, InterfaceMethod, NameAndType}
 use Rattle.jvm_types.specs.ClassGrammar.{Names, is_wide, is_gap, GapsFit, FieldsFit, IndicesFit, IsPool}
-use Rattle.jvm_types.specs.ReadingSteps.{Fault, ◌>>=◌, wanted, u2_at}
-use Rattle.jvm_types.specs.ReadingPool.{names, constant_at, entries_at, both_wanted, entry_wanted, entries_wanted, pool_at}
+use Rattle.jvm_types.specs.ReadingSteps.{wanted}
+use Rattle.jvm_types.specs.ReadingPool.{names, entries_at, both_wanted, entry_wanted, entries_wanted, pool_at}
 use Rattle.jvm_types.proofs.StepLaws.{IsBytes, Gives, on_bind, weaker, on_wanted, Took, Reads, on_step, u2_reads, u2_again}
 use Rattle.jvm_types.proofs.IndexLaws.{Names-from_test, test_from_Names}
-use Rattle.jvm_types.proofs.ConstantLaws.{IsEntry, constant_reads}
+use Rattle.jvm_types.proofs.ConstantLaws.{constant_reads}
 
 -- ---- entries
 
@@ -38,11 +38,13 @@ entries_take (suc n) true bytes fits =
 entries_take (suc n) false bytes fits =
     on_step constant_reads bytes fits _ _ λ first a.
     on_bind _ _ _ _ (entries_take n (is_wide first.0) first.1 a.rest) λ others b.
-    record { ok = record {
-      parts = a.parts ∙ ap (λ (x : List ℕ). constant first.0 ++ x) b.parts ∙ sym (append_assoc (constant first.0) (flat_map constant others.0) others.1);
-      fits = record { count = ap suc b.fits.count; gaps = (a.fits.entry, b.fits.gaps); fields = (a.fits.fields, b.fits.fields) };
-      rest = b.rest;
-    } }
+    record {
+      ok = record {
+        parts = a.parts ∙ ap (λ (x : List ℕ). constant first.0 ++ x) b.parts ∙ sym (append_assoc (constant first.0) (flat_map constant others.0) others.1);
+        fits = record { count = ap suc b.fits.count; gaps = (a.fits.entry, b.fits.gaps); fields = (a.fits.fields, b.fits.fields) };
+        rest = b.rest;
+      };
+    }
 
 gap_is : (c : Constant) → is_gap c ≡ true → c ≡ Gap
 gap_is Gap e = refl
@@ -157,11 +159,13 @@ pool_takes bytes fits =
     on_step u2_reads bytes fits _ _ λ n a.
     on_bind _ _ _ _ (entries_take n.0 true n.1 a.rest) λ pool b.
     on_bind _ _ _ _ (entries_hold pool.0 pool.0 (length n.1)) λ ok stand.
-    record { ok = record {
-      parts = a.parts ∙ ap (λ (x : List ℕ). u2 n.0 ++ x) b.parts ∙ ap (λ (k : ℕ). u2 k ++ (flat_map constant pool.0 ++ pool.1)) (sym b.fits.count);
-      fits = is_pool pool.0 (rw b.fits.count a.fits) b.fits.gaps b.fits.fields stand;
-      rest = b.rest;
-    } }
+    record {
+      ok = record {
+        parts = a.parts ∙ ap (λ (x : List ℕ). u2 n.0 ++ x) b.parts ∙ ap (λ (k : ℕ). u2 k ++ (flat_map constant pool.0 ++ pool.1)) (sym b.fits.count);
+        fits = is_pool pool.0 (rw b.fits.count a.fits) b.fits.gaps b.fits.fields stand;
+        rest = b.rest;
+      };
+    }
 
 pool_again : (pool : List Constant) (rest : List ℕ) → IsPoolOrNone pool → pool_at (counted constant pool ++ rest) ≡ Ok (pool, rest)
 unfolding pool_at entries_at entries_wanted

@@ -1,5 +1,5 @@
 -- What a step reads is spelled so, and what is spelled so is read again, whatever follows.
-use Rattle.std.proofs.Common.{◌≡◌, ℕ, zero, suc, ◌+◌, ◌*◌, ◌/◌, ◌%◌, ◌-◌, ◌^◌, ◌<◌, ◌≤◌, Bool, true, false, cond, ltb, List, [], ◌∷◌, ◌++◌, length, take, drop, Result, Ok, Err, refl, sym, ap, subst, ◌∙◌, append_assoc, arith, inl, inr}
+use Rattle.std.proofs.Common.{◌≡◌, ℕ, zero, suc, ◌+◌, ◌*◌, ◌/◌, ◌%◌, ◌^◌, ◌<◌, ◌≤◌, Bool, true, false, cond, ltb, List, [], ◌∷◌, ◌++◌, length, take, drop, Result, Ok, Err, refl, sym, ap, ◌∙◌, append_assoc, arith}
 use Rattle.std.specs.Prelude.{IfOk}
 use Rattle.std.specs.List.{flat_map, AllByRecursion}
 use Rattle.std.proofs.lemmas.Bool.{ltb-false, le-ltb}
@@ -7,7 +7,7 @@ use Rattle.std.proofs.lemmas.Result.{IfOk-weaker}
 use Rattle.std.proofs.lemmas.List.{take_at, drop_at, take-append-drop, length-append, length-take}
 use Rattle.jvm_types.specs.declared.refusal.CRule.{CRule}
 use Rattle.jvm_types.specs.declared.refusal.CRule.TheVariants.{C3}
-use Rattle.jvm_types.specs.Numbers.{u1, u2, u4, u8}
+use Rattle.jvm_types.specs.Numbers.{u1, u2, u4}
 use Rattle.jvm_types.specs.Spelling.{counted}
 use Rattle.jvm_types.specs.ClassGrammar.{IsByte, IsCounted}
 use Rattle.jvm_types.specs.ReadingSteps.{Fault, fault, ◌>>=◌, wanted, u1_at, u2_at, u4_at, run_at, many_at, counted_at}
@@ -82,7 +82,7 @@ u4_spelled a b c d p q r s =
     let high : ((a * 256 + b) * 65536 + (c * 256 + d)) / 65536 ≡ a * 256 + b = omega arith in
     let low : ((a * 256 + b) * 65536 + (c * 256 + d)) % 65536 ≡ c * 256 + d = omega arith in
     ap (λ (n : ℕ). u2 n ++ u2 (((a * 256 + b) * 65536 + (c * 256 + d)) % 65536)) high ∙ ap (λ (n : ℕ). u2 (a * 256 + b) ++ u2 n) low
-      ∙ ap (λ (x : List ℕ). x ++ u2 (c * 256 + d)) (u2_spelled a b p q) ∙ ap (λ (x : List ℕ). a ∷ b ∷ x) (u2_spelled c d r s)
+    ∙ ap (λ (x : List ℕ). x ++ u2 (c * 256 + d)) (u2_spelled a b p q) ∙ ap (λ (x : List ℕ). a ∷ b ∷ x) (u2_spelled c d r s)
 
 pub u4_takes : (bytes : List ℕ) → IsBytes bytes → Gives (u4_at bytes) (Took u4 (λ n. n < 2 ^ 32) bytes)
 unfolding u4_at
@@ -159,11 +159,13 @@ many_takes spell Fits item_at reads zero bytes fits = record { ok = record { par
 many_takes spell Fits item_at reads (suc n) bytes fits =
     on_step reads bytes fits _ _ λ first a.
     on_bind _ _ _ _ (many_takes spell Fits item_at reads n first.1 a.rest) λ others b.
-    record { ok = record {
-      parts = a.parts ∙ ap (λ (x : List ℕ). spell first.0 ++ x) b.parts ∙ sym (append_assoc (spell first.0) (flat_map spell others.0) others.1);
-      fits = record { count = ap suc b.fits.count; each = (a.fits, b.fits.each) };
-      rest = b.rest;
-    } }
+    record {
+      ok = record {
+        parts = a.parts ∙ ap (λ (x : List ℕ). spell first.0 ++ x) b.parts ∙ sym (append_assoc (spell first.0) (flat_map spell others.0) others.1);
+        fits = record { count = ap suc b.fits.count; each = (a.fits, b.fits.each) };
+        rest = b.rest;
+      };
+    }
 
 pub many_again : {A : Type 0} (spell : A → List ℕ) (Fits : A → Type 0) (item_at : List ℕ → Result (A × List ℕ) Fault) → Reads spell Fits item_at
     → (xs : List A) (rest : List ℕ) → AllByRecursion Fits xs → many_at item_at (length xs) (flat_map spell xs ++ rest) ≡ Ok (xs, rest)
@@ -177,12 +179,12 @@ pub counted_reads : {A : Type 0} (spell : A → List ℕ) (Fits : A → Type 0) 
 unfolding counted_at
 counted_reads spell Fits item_at reads = record {
   takes = λ bytes fits.
-    on_step u2_reads bytes fits _ _ λ n a.
-    weaker (Took (counted spell) (IsCounted Fits) bytes) (many_takes spell Fits item_at reads n.0 n.1 a.rest) λ xs b.
-    record {
-      parts = a.parts ∙ ap (λ (x : List ℕ). u2 n.0 ++ x) b.parts ∙ ap (λ (k : ℕ). u2 k ++ (flat_map spell xs.0 ++ xs.1)) (sym b.fits.count);
-      fits = record { count = rw b.fits.count a.fits; each = b.fits.each };
-      rest = b.rest;
-    };
+      on_step u2_reads bytes fits _ _ λ n a.
+      weaker (Took (counted spell) (IsCounted Fits) bytes) (many_takes spell Fits item_at reads n.0 n.1 a.rest) λ xs b.
+      record {
+        parts = a.parts ∙ ap (λ (x : List ℕ). u2 n.0 ++ x) b.parts ∙ ap (λ (k : ℕ). u2 k ++ (flat_map spell xs.0 ++ xs.1)) (sym b.fits.count);
+        fits = record { count = rw b.fits.count a.fits; each = b.fits.each };
+        rest = b.rest;
+      };
   again = λ xs rest fits. rw (u2_again (length xs) (flat_map spell xs ++ rest), many_again spell Fits item_at reads xs rest fits.each);
 }

@@ -3,6 +3,7 @@
 #![tactic(auto)]
 
 pub mod class_file;
+pub mod class_laws;
 pub mod first;
 pub mod gate;
 pub mod index_kind;
@@ -11,6 +12,7 @@ pub mod refusal;
 pub mod rows;
 
 pub use class_file::{Attr, ClassFile, Code, Constant, Handler, Member, MemberAttr};
+pub use class_laws::{one_class, one_spelling, spelled_or_faulty};
 pub use first::FirstOp;
 pub use gate::{Gate, OpenGate};
 pub use index_kind::IndexKind;
