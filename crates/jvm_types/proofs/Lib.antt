@@ -5,3 +5,4 @@ pub mod PoolLaws
 pub mod AttrLaws
 pub mod ClassReads
 pub mod ClassLawProofs
+pub mod WorkedFiles
