@@ -14,6 +14,7 @@ use Rattle.jvm_types.specs.declared.class_file.Constant.TheVariants.{Gap, Utf8, 
 use Rattle.jvm_types.specs.ClassGrammar.{IsUtf8Byte, FieldsFit, is_gap}
 use Rattle.jvm_types.specs.ReadingSteps.{Fault}
 use Rattle.jvm_types.specs.ReadingPool.{text_wanted, text_at, one_at, two_at, word_at, wide_at, tagged_at, constant_at}
+use Rattle.jvm_types.proofs.ByteOrder.{eight_back, u8_spelled}
 use Rattle.jvm_types.proofs.StepLaws.{IsBytes, Gives, on_bind, weaker, on_wanted, Took, Reads, on_step, u1_reads, u1_again, u2_reads, u2_again, u4_reads, u4_again, run_reads, run_again}
 
 -- an entry, and no gap
@@ -82,15 +83,6 @@ unfolding word_at
 word_takes tag entry spelled is bytes fits =
     on_step u4_reads bytes fits _ _ λ n a.
     record { ok = record { parts = ap (λ (x : List ℕ). tag ∷ x) a.parts ∙ ap (λ (x : List ℕ). x ++ n.1) (sym (spelled n.0 a.fits)); fits = is n.0 a.fits; rest = a.rest } }
-
-pub eight_back : (n : ℕ) → n / 4294967296 * 4294967296 + n % 4294967296 ≡ n
-eight_back n = omega arith
-
-pub u8_spelled : (high low : ℕ) → low < 2 ^ 32 → u8 (high * 4294967296 + low) ≡ u4 high ++ u4 low
-u8_spelled high low lt =
-    let p : (high * 4294967296 + low) / 4294967296 ≡ high = omega arith in
-    let q : (high * 4294967296 + low) % 4294967296 ≡ low = omega arith in
-    ap (λ (n : ℕ). u4 n ++ u4 ((high * 4294967296 + low) % 4294967296)) p ∙ ap (λ (n : ℕ). u4 high ++ u4 n) q
 
 wide_takes : (tag : ℕ) (entry : ℕ → Constant) → ((n : ℕ) → constant (entry n) ≡ tag ∷ u8 n) → ((n : ℕ) → n < 2 ^ 64 → IsEntry (entry n))
     → (bytes : List ℕ) → IsBytes bytes → Gives (wide_at entry bytes) (Entered tag bytes)

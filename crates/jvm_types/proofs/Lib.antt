@@ -1,3 +1,4 @@
+pub mod ByteOrder
 pub mod StepLaws
 pub mod IndexLaws
 pub mod ConstantLaws

@@ -1,5 +1,5 @@
 -- What a step reads is spelled so, and what is spelled so is read again, whatever follows.
-use Rattle.std.proofs.Common.{◌≡◌, ℕ, zero, suc, ◌+◌, ◌*◌, ◌/◌, ◌%◌, ◌^◌, ◌<◌, ◌≤◌, Bool, true, false, cond, ltb, List, [], ◌∷◌, ◌++◌, length, take, drop, Result, Ok, Err, refl, sym, ap, ◌∙◌, append_assoc, arith}
+use Rattle.std.proofs.Common.{◌≡◌, ℕ, zero, suc, ◌^◌, ◌<◌, ◌≤◌, Bool, true, false, cond, ltb, List, [], ◌∷◌, ◌++◌, length, take, drop, Result, Ok, Err, refl, sym, ap, ◌∙◌, append_assoc, arith}
 use Rattle.std.specs.Prelude.{IfOk}
 use Rattle.std.specs.List.{flat_map, AllByRecursion}
 use Rattle.std.proofs.lemmas.Bool.{ltb-false, le-ltb}
@@ -11,6 +11,7 @@ use Rattle.jvm_types.specs.Numbers.{u1, u2, u4}
 use Rattle.jvm_types.specs.Spelling.{counted}
 use Rattle.jvm_types.specs.ClassGrammar.{IsByte, IsCounted}
 use Rattle.jvm_types.specs.ReadingSteps.{Fault, fault, ◌>>=◌, wanted, u1_at, u2_at, u4_at, run_at, many_at, counted_at}
+use Rattle.jvm_types.proofs.ByteOrder.{two_back, u2_spelled, four_back, u4_spelled}
 
 -- ---- results
 
@@ -36,9 +37,6 @@ on_wanted false rule left f Q h = record { ok = tt }
 abbrev pub IsBytes : List ℕ → Type 0
 IsBytes bytes = AllByRecursion IsByte bytes
 
-pub two_back : (n : ℕ) → n / 256 * 256 + n % 256 ≡ n
-two_back n = omega arith
-
 -- what a step took from the front
 pub record Took {A : Type 0} (spell : A → List ℕ) (Fits : A → Type 0) (bytes : List ℕ) (x : A × List ℕ) : Type 0 where
   pub parts : bytes ≡ spell x.0 ++ x.1
@@ -55,12 +53,6 @@ pub on_step : {A B : Type 0} {spell : A → List ℕ} {Fits : A → Type 0} {ite
     → (f : A × List ℕ → Result B Fault) (Q : B → Type 0) → ((x : A × List ℕ) → Took spell Fits bytes x → Gives (f x) Q) → Gives (item_at bytes >>= f) Q
 on_step {spell = spell} {Fits = Fits} {item_at = item_at} reads bytes fits f Q h = on_bind (item_at bytes) f (Took spell Fits bytes) Q (reads.takes bytes fits) h
 
-pub u2_spelled : (a b : ℕ) → a < 256 → b < 256 → u2 (a * 256 + b) ≡ a ∷ b ∷ []
-u2_spelled a b p q =
-    let high : (a * 256 + b) / 256 ≡ a = omega arith in
-    let low : (a * 256 + b) % 256 ≡ b = omega arith in
-    rw (high, low)
-
 pub u2_takes : (bytes : List ℕ) → IsBytes bytes → Gives (u2_at bytes) (Took u2 (λ n. n < 2 ^ 16) bytes)
 unfolding u2_at
 u2_takes (a ∷ b ∷ rest) fits = record { ok = record { parts = ap (λ (text : List ℕ). text ++ rest) (sym (u2_spelled a b fits.0 fits.1.0)); fits = omega arith; rest = fits.1.1 } }
@@ -73,16 +65,6 @@ u2_again n rest = rw (two_back n)
 
 pub u2_reads : Reads u2 (λ n. n < 2 ^ 16) u2_at
 u2_reads = record { takes = u2_takes; again = λ n rest fits. u2_again n rest }
-
-four_back : (n : ℕ) → (n / 65536 / 256 * 256 + n / 65536 % 256) * 65536 + (n % 65536 / 256 * 256 + n % 65536 % 256) ≡ n
-four_back n = omega arith
-
-u4_spelled : (a b c d : ℕ) → a < 256 → b < 256 → c < 256 → d < 256 → u4 ((a * 256 + b) * 65536 + (c * 256 + d)) ≡ a ∷ b ∷ c ∷ d ∷ []
-u4_spelled a b c d p q r s =
-    let high : ((a * 256 + b) * 65536 + (c * 256 + d)) / 65536 ≡ a * 256 + b = omega arith in
-    let low : ((a * 256 + b) * 65536 + (c * 256 + d)) % 65536 ≡ c * 256 + d = omega arith in
-    ap (λ (n : ℕ). u2 n ++ u2 (((a * 256 + b) * 65536 + (c * 256 + d)) % 65536)) high ∙ ap (λ (n : ℕ). u2 (a * 256 + b) ++ u2 n) low
-    ∙ ap (λ (x : List ℕ). x ++ u2 (c * 256 + d)) (u2_spelled a b p q) ∙ ap (λ (x : List ℕ). a ∷ b ∷ x) (u2_spelled c d r s)
 
 pub u4_takes : (bytes : List ℕ) → IsBytes bytes → Gives (u4_at bytes) (Took u4 (λ n. n < 2 ^ 32) bytes)
 unfolding u4_at
