@@ -7,3 +7,4 @@ pub mod AttrLaws
 pub mod ClassReads
 pub mod ClassLawProofs
 pub mod WorkedFiles
+pub mod FaultPlaces
