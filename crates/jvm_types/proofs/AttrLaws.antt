@@ -16,12 +16,12 @@ use Rattle.jvm_types.specs.ClassGrammar.{IsCounted, IsIndex, IsAttr, IsNamed, Is
 use Rattle.jvm_types.specs.ReadingSteps.{Fault, ended, whole, in_body}
 use Rattle.jvm_types.specs.ReadingPool.{is_text, index_at}
 use Rattle.jvm_types.specs.ReadingClass.{attr_at, handler_at, code_at, code_of, value_of, field_attr_at, method_attr_at}
-use Rattle.jvm_types.proofs.StepLaws.{IsBytes, Gives, on_bind, Took, Reads, on_step, u2_reads, u2_again, u4_reads, u4_again, run_reads, run_again, counted_reads}
+use Rattle.jvm_types.proofs.StepLaws.{IsBytes, Finds, on_bind, Took, Reads, on_step, u2_reads, u2_again, u4_reads, u4_again, run_reads, run_again, counted_reads}
 use Rattle.jvm_types.proofs.IndexLaws.{index_reads, IsTextAt-from_test, test_from_IsTextAt, no_IsTextAt, no_test}
 
 -- ---- attributes that are kept unread
 
-attr_takes : (pool : List Constant) (bytes : List ℕ) → IsBytes bytes → Gives (attr_at pool bytes) (Took attr (IsAttr pool) bytes)
+attr_takes : (pool : List Constant) (bytes : List ℕ) → IsBytes bytes → Finds (attr_at pool bytes) (Took attr (IsAttr pool) bytes)
 unfolding attr_at
 attr_takes pool bytes fits =
     on_step (index_reads kinds.Text pool) bytes fits _ _ λ name a.
@@ -46,7 +46,7 @@ attr_reads pool = record { takes = attr_takes pool; again = λ a rest is. attr_a
 
 -- ---- exception tables
 
-handler_takes : (pool : List Constant) (bytes : List ℕ) → IsBytes bytes → Gives (handler_at pool bytes) (Took handler (IsHandler pool) bytes)
+handler_takes : (pool : List Constant) (bytes : List ℕ) → IsBytes bytes → Finds (handler_at pool bytes) (Took handler (IsHandler pool) bytes)
 unfolding handler_at
 handler_takes pool bytes fits =
     on_step u2_reads bytes fits _ _ λ start a.
@@ -86,7 +86,7 @@ pub record AreParts (pool : List Constant) (name : ℕ) (c : Code) : Type 0 wher
   pub rows : IsCounted (IsHandler pool) c.rows
   pub attrs : IsCounted (IsAttr pool) c.attrs
 
-code_takes : (pool : List Constant) (name : ℕ) (bytes : List ℕ) → IsBytes bytes → Gives (code_at pool name bytes) (Took code_body (AreParts pool name) bytes)
+code_takes : (pool : List Constant) (name : ℕ) (bytes : List ℕ) → IsBytes bytes → Finds (code_at pool name bytes) (Took code_body (AreParts pool name) bytes)
 unfolding code_at
 code_takes pool name bytes fits =
     on_step u2_reads bytes fits _ _ λ stack a.
@@ -134,11 +134,11 @@ pub record Filled {A : Type 0} (spell : A → List ℕ) (Fits : A → Type 0) (b
   pub all : bytes ≡ spell x
   pub fits : Fits x
 
-end_takes : {A : Type 0} (spell : A → List ℕ) (Fits : A → Type 0) (bytes : List ℕ) (x : A) (rest : List ℕ) → Took spell Fits bytes (x, rest) → Gives (ended x rest) (Filled spell Fits bytes)
+end_takes : {A : Type 0} (spell : A → List ℕ) (Fits : A → Type 0) (bytes : List ℕ) (x : A) (rest : List ℕ) → Took spell Fits bytes (x, rest) → Finds (ended x rest) (Filled spell Fits bytes)
 end_takes spell Fits bytes x [] took = record { ok = record { all = took.parts ∙ append-nil (spell x); fits = took.fits } }
 end_takes spell Fits bytes x (b ∷ rest) took = record { ok = tt }
 
-pub whole_takes : {A : Type 0} (spell : A → List ℕ) (Fits : A → Type 0) (bytes : List ℕ) (r : Result (A × List ℕ) Fault) → Gives r (Took spell Fits bytes) → Gives (whole r) (Filled spell Fits bytes)
+pub whole_takes : {A : Type 0} (spell : A → List ℕ) (Fits : A → Type 0) (bytes : List ℕ) (r : Result (A × List ℕ) Fault) → Finds r (Took spell Fits bytes) → Finds (whole r) (Filled spell Fits bytes)
 unfolding whole
 whole_takes spell Fits bytes (Ok x) given = end_takes spell Fits bytes x.0 x.1 given.ok
 whole_takes spell Fits bytes (Err f) given = record { ok = tt }
@@ -148,14 +148,14 @@ pub whole_again : {A : Type 0} (spell : A → List ℕ) (Fits : A → Type 0) (i
 unfolding whole
 whole_again spell Fits item_at reads x fits = rw (← append-nil (spell x), reads.again x [] fits)
 
-body_takes : {A : Type 0} (at_length behind : ℕ) (r : Result A Fault) (P : A → Type 0) → Gives r P → Gives (in_body at_length behind r) P
+body_takes : {A : Type 0} (at_length behind : ℕ) (r : Result A Fault) (P : A → Type 0) → Finds r P → Finds (in_body at_length behind r) P
 unfolding in_body
 body_takes at_length behind (Ok x) P given = given
 body_takes at_length behind (Err f) P given = record { ok = tt }
 
 -- what stands in the bytes of an attribute, read by its own step
 inside_takes : {A : Type 0} (spell : A → List ℕ) (Fits : A → Type 0) (item_at : List ℕ → Result (A × List ℕ) Fault) (reads : Reads spell Fits item_at) (at_length behind : ℕ) (bytes : List ℕ) → IsBytes bytes
-    → Gives (in_body at_length behind (whole (item_at bytes))) (Filled spell Fits bytes)
+    → Finds (in_body at_length behind (whole (item_at bytes))) (Filled spell Fits bytes)
 inside_takes spell Fits item_at reads at_length behind bytes fits =
     body_takes at_length behind (whole (item_at bytes)) (Filled spell Fits bytes) (whole_takes spell Fits bytes (item_at bytes) (reads.takes bytes fits))
 
@@ -171,7 +171,7 @@ record Kept (Fits : MemberAttr → Type 0) (a : Attr) (m : MemberAttr) : Type 0 
   same : attr a ≡ member_attr m
   fits : Fits m
 
-code_kept : (pool : List Constant) (a : Attr) (behind : ℕ) → IsAttr pool a → IsTextAt pool a.name (codes "Code") → Gives (code_of pool a behind) (Kept (IsMethodAttr pool) a)
+code_kept : (pool : List Constant) (a : Attr) (behind : ℕ) → IsAttr pool a → IsTextAt pool a.name (codes "Code") → Finds (code_of pool a behind) (Kept (IsMethodAttr pool) a)
 unfolding code_of
 code_kept pool a behind is named =
     on_bind _ _ _ _ (inside_takes code_body (AreParts pool a.name) (code_at pool a.name) (code_reads pool a.name) (4 + length a.body + behind) behind a.body is.bytes) λ c f.
@@ -191,7 +191,7 @@ code_kept pool a behind is named =
       };
     }
 
-value_kept : (pool : List Constant) (a : Attr) (behind : ℕ) → IsAttr pool a → IsTextAt pool a.name (codes "ConstantValue") → Gives (value_of pool a behind) (Kept (IsFieldAttr pool) a)
+value_kept : (pool : List Constant) (a : Attr) (behind : ℕ) → IsAttr pool a → IsTextAt pool a.name (codes "ConstantValue") → Finds (value_of pool a behind) (Kept (IsFieldAttr pool) a)
 unfolding value_of
 value_kept pool a behind is named =
     on_bind _ _ _ _ (inside_takes u2 (IsIndex kinds.Value pool) (index_at kinds.Value pool) (index_reads kinds.Value pool) (4 + length a.body + behind) behind a.body is.bytes) λ value f.
@@ -202,11 +202,11 @@ value_kept pool a behind is named =
       };
     }
 
-chosen : (b : Bool) (x : Result MemberAttr Fault) (y : MemberAttr) (P : MemberAttr → Type 0) → (b ≡ true → Gives x P) → (b ≡ false → P y) → Gives (cond b x (Ok y)) P
+chosen : (b : Bool) (x : Result MemberAttr Fault) (y : MemberAttr) (P : MemberAttr → Type 0) → (b ≡ true → Finds x P) → (b ≡ false → P y) → Finds (cond b x (Ok y)) P
 chosen true x y P h k = h refl
 chosen false x y P h k = record { ok = k refl }
 
-field_attr_takes : (pool : List Constant) (bytes : List ℕ) → IsBytes bytes → Gives (field_attr_at pool bytes) (Took member_attr (IsFieldAttr pool) bytes)
+field_attr_takes : (pool : List Constant) (bytes : List ℕ) → IsBytes bytes → Finds (field_attr_at pool bytes) (Took member_attr (IsFieldAttr pool) bytes)
 unfolding field_attr_at
 field_attr_takes pool bytes fits =
     on_step (attr_reads pool) bytes fits _ _ λ a p.
@@ -216,7 +216,7 @@ field_attr_takes pool bytes fits =
     (λ e. record { same = refl; fits = (p.fits, no_IsTextAt text pool a.0.name e) })) λ m kept.
     record { ok = record { parts = p.parts ∙ ap (λ (x : List ℕ). x ++ a.1) kept.same; fits = kept.fits; rest = p.rest } }
 
-method_attr_takes : (pool : List Constant) (bytes : List ℕ) → IsBytes bytes → Gives (method_attr_at pool bytes) (Took member_attr (IsMethodAttr pool) bytes)
+method_attr_takes : (pool : List Constant) (bytes : List ℕ) → IsBytes bytes → Finds (method_attr_at pool bytes) (Took member_attr (IsMethodAttr pool) bytes)
 unfolding method_attr_at
 method_attr_takes pool bytes fits =
     on_step (attr_reads pool) bytes fits _ _ λ a p.

@@ -16,7 +16,7 @@ use Rattle.jvm_types.specs.ClassGrammar.{Names, IsIndex, IsPool, IsAttr, IsField
 use Rattle.jvm_types.specs.ReadingSteps.{Fault, fault, whole}
 use Rattle.jvm_types.specs.ReadingPool.{index_at}
 use Rattle.jvm_types.specs.ReadingClass.{attr_at, field_attr_at, method_attr_at, member_at, field_at, has_body, method_at, class_at, read_class}
-use Rattle.jvm_types.proofs.StepLaws.{IsBytes, Gives, weaker, on_wanted, Took, Reads, on_step, u2_reads, u2_again, u4_reads, u4_again, counted_reads}
+use Rattle.jvm_types.proofs.StepLaws.{IsBytes, Finds, weaker, on_wanted, Took, Reads, on_step, u2_reads, u2_again, u4_reads, u4_again, counted_reads}
 use Rattle.jvm_types.proofs.IndexLaws.{index_reads}
 use Rattle.jvm_types.proofs.PoolLaws.{IsPoolOrNone, pool_reads}
 use Rattle.jvm_types.proofs.AttrLaws.{attr_reads, field_attr_reads, method_attr_reads, whole_takes}
@@ -24,7 +24,7 @@ use Rattle.jvm_types.proofs.AttrLaws.{attr_reads, field_attr_reads, method_attr_
 -- ---- fields and methods
 
 member_takes : (Fits : MemberAttr → Type 0) (item_at : List ℕ → Result (MemberAttr × List ℕ) Fault) (reads : Reads member_attr Fits item_at) (pool : List Constant) (bytes : List ℕ) → IsBytes bytes
-    → Gives (member_at item_at pool bytes) (Took member (IsMember Fits pool) bytes)
+    → Finds (member_at item_at pool bytes) (Took member (IsMember Fits pool) bytes)
 unfolding member_at
 member_takes Fits item_at reads pool bytes fits =
     on_step u2_reads bytes fits _ _ λ flags a.
@@ -51,7 +51,7 @@ member_again Fits item_at reads pool m rest is =
       (counted_reads member_attr Fits item_at reads).again m.attrs rest is.attrs,
     )
 
-member_reads : (Fits : MemberAttr → Type 0) (item_at : List ℕ → Result (MemberAttr × List ℕ) Fault) (reads : Reads member_attr Fits item_at) (pool : List Constant) → Reads member (IsMember Fits pool) (member_at item_at pool)
+pub member_reads : (Fits : MemberAttr → Type 0) (item_at : List ℕ → Result (MemberAttr × List ℕ) Fault) (reads : Reads member_attr Fits item_at) (pool : List Constant) → Reads member (IsMember Fits pool) (member_at item_at pool)
 member_reads Fits item_at reads pool = record { takes = member_takes Fits item_at reads pool; again = member_again Fits item_at reads pool }
 
 pub field_reads : (pool : List Constant) → Reads member (IsField pool) (field_at pool)
@@ -102,7 +102,7 @@ pool_there : (pool : List Constant) (i : ℕ) → IsPoolOrNone pool → Names ki
 pool_there pool i (inl none) named = absurd (none_named pool i none named)
 pool_there pool i (inr is) named = is
 
-class_takes : (bytes : List ℕ) → IsBytes bytes → Gives (class_at bytes) (Took class_file (λ c. length (class_file c) ≤ 1048576 → IsClass c) bytes)
+pub class_takes : (bytes : List ℕ) → IsBytes bytes → Finds (class_at bytes) (Took class_file (λ c. length (class_file c) ≤ 1048576 → IsClass c) bytes)
 unfolding class_at parts_of
 class_takes bytes fits =
     on_step u4_reads bytes fits _ _ λ magic a.
@@ -177,12 +177,12 @@ class_again c rest is =
 
 -- ---- files
 
-not_long : {B : Type 0} (b : Bool) (left : ℕ) (y : Result B Fault) (Q : B → Type 0) → (b ≡ false → Gives y Q) → Gives (cond b (fault C10 left) y) Q
+not_long : {B : Type 0} (b : Bool) (left : ℕ) (y : Result B Fault) (Q : B → Type 0) → (b ≡ false → Finds y Q) → Finds (cond b (fault C10 left) y) Q
 not_long true left y Q h = record { ok = tt }
 not_long false left y Q h = h refl
 
 -- the class that is read is spelled so
-pub read_takes : (bytes : List ℕ) → IsBytes bytes → Gives (read_class bytes) (Spells bytes)
+pub read_takes : (bytes : List ℕ) → IsBytes bytes → Finds (read_class bytes) (Spells bytes)
 unfolding read_class
 read_takes bytes fits =
     not_long (ltb 1048576 (length bytes)) (length bytes - 1048576) (whole (class_at bytes)) (Spells bytes) λ short.

@@ -15,7 +15,7 @@ use Rattle.jvm_types.specs.ClassGrammar.{IsUtf8Byte, FieldsFit, is_gap}
 use Rattle.jvm_types.specs.ReadingSteps.{Fault}
 use Rattle.jvm_types.specs.ReadingPool.{text_wanted, text_at, one_at, two_at, word_at, wide_at, tagged_at, constant_at}
 use Rattle.jvm_types.proofs.ByteOrder.{eight_back, u8_spelled}
-use Rattle.jvm_types.proofs.StepLaws.{IsBytes, Gives, on_bind, weaker, on_wanted, Took, Reads, on_step, u1_reads, u1_again, u2_reads, u2_again, u4_reads, u4_again, run_reads, run_again}
+use Rattle.jvm_types.proofs.StepLaws.{IsBytes, Finds, on_bind, weaker, on_wanted, Took, Reads, on_step, u1_reads, u1_again, u2_reads, u2_again, u4_reads, u4_again, run_reads, run_again}
 
 -- an entry, and no gap
 pub record IsEntry (c : Constant) : Type 0 where
@@ -27,7 +27,7 @@ Entered tag bytes x = Took constant IsEntry (tag ∷ bytes) x
 
 -- ---- texts
 
-text_holds : (text : List ℕ) (behind : ℕ) → Gives (text_wanted text behind) (λ ok. AllByRecursion IsUtf8Byte text)
+text_holds : (text : List ℕ) (behind : ℕ) → Finds (text_wanted text behind) (λ ok. AllByRecursion IsUtf8Byte text)
 unfolding text_wanted
 text_holds [] behind = record { ok = tt }
 text_holds (b ∷ text) behind =
@@ -40,7 +40,7 @@ unfolding text_wanted
 text_stands [] behind each = refl
 text_stands (b ∷ text) behind each = rw (and_from _ _ (lt-ltb 0 b each.0.0) (lt-ltb b 240 each.0.1)) (text_stands text behind each.1)
 
-text_takes : (bytes : List ℕ) → IsBytes bytes → Gives (text_at bytes) (Entered 1 bytes)
+text_takes : (bytes : List ℕ) → IsBytes bytes → Finds (text_at bytes) (Entered 1 bytes)
 unfolding text_at
 text_takes bytes fits =
     on_step u2_reads bytes fits _ _ λ n a.
@@ -57,14 +57,14 @@ text_takes bytes fits =
 -- ---- numbers
 
 one_takes : (tag : ℕ) (entry : ℕ → Constant) → ((n : ℕ) → constant (entry n) ≡ tag ∷ u2 n) → ((n : ℕ) → n < 2 ^ 16 → IsEntry (entry n))
-    → (bytes : List ℕ) → IsBytes bytes → Gives (one_at entry bytes) (Entered tag bytes)
+    → (bytes : List ℕ) → IsBytes bytes → Finds (one_at entry bytes) (Entered tag bytes)
 unfolding one_at
 one_takes tag entry spelled is bytes fits =
     on_step u2_reads bytes fits _ _ λ n a.
     record { ok = record { parts = ap (λ (x : List ℕ). tag ∷ x) a.parts ∙ ap (λ (x : List ℕ). x ++ n.1) (sym (spelled n.0)); fits = is n.0 a.fits; rest = a.rest } }
 
 two_takes : (tag : ℕ) (entry : ℕ → ℕ → Constant) → ((m n : ℕ) → constant (entry m n) ≡ tag ∷ (u2 m ++ u2 n)) → ((m n : ℕ) → m < 2 ^ 16 → n < 2 ^ 16 → IsEntry (entry m n))
-    → (bytes : List ℕ) → IsBytes bytes → Gives (two_at entry bytes) (Entered tag bytes)
+    → (bytes : List ℕ) → IsBytes bytes → Finds (two_at entry bytes) (Entered tag bytes)
 unfolding two_at
 two_takes tag entry spelled is bytes fits =
     on_step u2_reads bytes fits _ _ λ m a.
@@ -78,14 +78,14 @@ two_takes tag entry spelled is bytes fits =
     }
 
 word_takes : (tag : ℕ) (entry : ℕ → Constant) → ((n : ℕ) → n < 2 ^ 32 → constant (entry n) ≡ tag ∷ u4 n) → ((n : ℕ) → n < 2 ^ 32 → IsEntry (entry n))
-    → (bytes : List ℕ) → IsBytes bytes → Gives (word_at entry bytes) (Entered tag bytes)
+    → (bytes : List ℕ) → IsBytes bytes → Finds (word_at entry bytes) (Entered tag bytes)
 unfolding word_at
 word_takes tag entry spelled is bytes fits =
     on_step u4_reads bytes fits _ _ λ n a.
     record { ok = record { parts = ap (λ (x : List ℕ). tag ∷ x) a.parts ∙ ap (λ (x : List ℕ). x ++ n.1) (sym (spelled n.0 a.fits)); fits = is n.0 a.fits; rest = a.rest } }
 
 wide_takes : (tag : ℕ) (entry : ℕ → Constant) → ((n : ℕ) → constant (entry n) ≡ tag ∷ u8 n) → ((n : ℕ) → n < 2 ^ 64 → IsEntry (entry n))
-    → (bytes : List ℕ) → IsBytes bytes → Gives (wide_at entry bytes) (Entered tag bytes)
+    → (bytes : List ℕ) → IsBytes bytes → Finds (wide_at entry bytes) (Entered tag bytes)
 unfolding wide_at
 wide_takes tag entry spelled is bytes fits =
     on_step u4_reads bytes fits _ _ λ high a.
@@ -101,17 +101,17 @@ wide_takes tag entry spelled is bytes fits =
 
 -- ---- by the tag
 
-on_tag : {A : Type 0} (tag k : ℕ) (x y : Result A Fault) (Q : ℕ → A → Type 0) → Gives x (Q k) → Gives y (Q tag) → Gives (cond (eqb tag k) x y) (Q tag)
+on_tag : {A : Type 0} (tag k : ℕ) (x y : Result A Fault) (Q : ℕ → A → Type 0) → Finds x (Q k) → Finds y (Q tag) → Finds (cond (eqb tag k) x y) (Q tag)
 on_tag tag k x y Q here other = at (eqb tag k) refl
   where
-    at : (b : Bool) → eqb tag k ≡ b → Gives (cond b x y) (Q tag)
-    at true e = subst (λ (n : ℕ). Gives x (Q n)) (sym (eqb-true _ _ e)) here
+    at : (b : Bool) → eqb tag k ≡ b → Finds (cond b x y) (Q tag)
+    at true e = subst (λ (n : ℕ). Finds x (Q n)) (sym (eqb-true _ _ e)) here
     at false e = other
 
 entry_of : (c : Constant) → FieldsFit c → is_gap c ≡ false → IsEntry c
 entry_of c fields entry = record { fields = fields; entry = entry }
 
-tagged_takes : (tag at_tag : ℕ) (bytes : List ℕ) → IsBytes bytes → Gives (tagged_at tag at_tag bytes) (Entered tag bytes)
+tagged_takes : (tag at_tag : ℕ) (bytes : List ℕ) → IsBytes bytes → Finds (tagged_at tag at_tag bytes) (Entered tag bytes)
 unfolding tagged_at
 tagged_takes tag at_tag bytes fits =
     let Q : ℕ → Constant × List ℕ → Type 0 = λ n. Entered n bytes in
@@ -128,11 +128,11 @@ tagged_takes tag at_tag bytes fits =
     on_tag tag 12 _ _ Q (two_takes 12 NameAndType (λ m n. refl) (λ m n p q. entry_of (NameAndType m n) (p, q) refl) bytes fits)
     (record { ok = tt })))))))))))
 
-constant_takes : (bytes : List ℕ) → IsBytes bytes → Gives (constant_at bytes) (Took constant IsEntry bytes)
+constant_takes : (bytes : List ℕ) → IsBytes bytes → Finds (constant_at bytes) (Took constant IsEntry bytes)
 unfolding constant_at
 constant_takes bytes fits =
     on_step u1_reads bytes fits _ _ λ tag a.
-    subst (λ (x : List ℕ). Gives (tagged_at tag.0 (length bytes) tag.1) (Took constant IsEntry x)) (sym a.parts) (tagged_takes tag.0 (length bytes) tag.1 a.rest)
+    subst (λ (x : List ℕ). Finds (tagged_at tag.0 (length bytes) tag.1) (Took constant IsEntry x)) (sym a.parts) (tagged_takes tag.0 (length bytes) tag.1 a.rest)
 
 -- ---- and again
 

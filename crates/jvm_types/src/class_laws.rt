@@ -1,6 +1,6 @@
 //! Laws of the class grammar: `Spells bytes c` says that the bytes are a spelling of the class `c`.
 
-ghost use Rattle.jvm_types.specs.ClassLaws.{HasOneSpelling, SpellsOneClass, IsSpelledOrFaulty};
+ghost use Rattle.jvm_types.specs.ClassLaws.{HasOneSpelling, SpellsOneClass, IsSpelledOrFaulty, FaultsLieInside};
 
 /// No class has two spellings.
 #[tactic(auto, using(crate::proofs::ClassLawProofs::one_spelling))]
@@ -18,4 +18,10 @@ pub fn one_class()
 #[tactic(auto, using(crate::proofs::ClassLawProofs::spelled_or_faulty))]
 pub fn spelled_or_faulty()
     ensures { IsSpelledOrFaulty }
+{}
+
+/// The place of a fault lies in the bytes, or at their end.
+#[tactic(auto, using(crate::proofs::ClassLawProofs::faults_inside))]
+pub fn faults_inside()
+    ensures { FaultsLieInside }
 {}

@@ -12,7 +12,7 @@ pub mod refusal;
 pub mod rows;
 
 pub use class_file::{Attr, ClassFile, Code, Constant, Handler, Member, MemberAttr};
-pub use class_laws::{one_class, one_spelling, spelled_or_faulty};
+pub use class_laws::{faults_inside, one_class, one_spelling, spelled_or_faulty};
 pub use first::FirstOp;
 pub use gate::{Gate, OpenGate};
 pub use index_kind::IndexKind;
