@@ -8,3 +8,4 @@ pub mod ClassReads
 pub mod ClassLawProofs
 pub mod WorkedFiles
 pub mod FaultPlaces
+pub mod LoopLaws
