@@ -1,22 +1,21 @@
 -- An entry of the constant pool that is read is spelled so, and what is spelled so is read again.
-use Rattle.std.proofs.Common.{◌≡◌, ℕ, ℤ, zero, suc, ◌+◌, ◌*◌, ◌/◌, ◌%◌, ◌^◌, ◌<◌, Bool, true, false, cond, eqb, ltb, List, [], ◌∷◌, ◌++◌, length, Result, Ok, Err, refl, sym, ap, subst, ◌∙◌, append_assoc, arith}
-use Rattle.std.specs.Prelude.{◌&&◌, ◌==◌}
+use Rattle.std.proofs.Common.{◌≡◌, ℕ, ℤ, ◌+◌, ◌*◌, ◌/◌, ◌%◌, ◌^◌, ◌<◌, Bool, true, false, cond, eqb, ltb, List, [], ◌∷◌, ◌++◌, length, Result, Ok, refl, sym, ap, subst, ◌∙◌, arith}
+use Rattle.std.specs.Prelude.{◌&&◌}
 use Rattle.std.specs.List.{AllByRecursion}
 use Rattle.std.specs.Int.{w32, cast_signed, cast_unsigned}
-use Rattle.std.specs.Int.RustNames.{FitsSigned}
 use Rattle.std.proofs.Math.Facts.{sfits_to_z}
 use Rattle.std.proofs.lemmas.Int.{of_z-to_z, to_z-of_z}
 use Rattle.std.proofs.lemmas.Bool.{eqb-true, and_parts, and_from, ltb-true, lt-ltb}
-use Rattle.jvm_types.specs.Numbers.{u1, u2, u4, u8, s4}
+use Rattle.jvm_types.specs.Numbers.{u2, u4, u8, s4}
 use Rattle.jvm_types.specs.Spelling.{constant}
-use Rattle.jvm_types.specs.declared.refusal.CRule.{CRule}
-use Rattle.jvm_types.specs.declared.refusal.CRule.TheVariants.{C4, C6}
+use Rattle.jvm_types.specs.declared.refusal.CRule.TheVariants.{C6}
 use Rattle.jvm_types.specs.declared.class_file.Constant.{Constant}
 use Rattle.jvm_types.specs.declared.class_file.Constant.TheVariants.{Gap, Utf8, Integer, Float, Long, Double, Class, Text, Field, Method, InterfaceMethod, NameAndType}
 use Rattle.jvm_types.specs.ClassGrammar.{IsUtf8Byte, FieldsFit, is_gap}
-use Rattle.jvm_types.specs.ReadingSteps.{Fault, fault, ◌>>=◌, wanted, u1_at, u2_at, u4_at, run_at}
+use Rattle.jvm_types.specs.ReadingSteps.{Fault}
 use Rattle.jvm_types.specs.ReadingPool.{text_wanted, text_at, one_at, two_at, word_at, wide_at, tagged_at, constant_at}
-use Rattle.jvm_types.proofs.StepLaws.{IsBytes, Gives, on_bind, weaker, on_wanted, Took, Reads, on_step, u1_reads, u1_again, u2_reads, u2_again, u4_reads, u4_again, run_reads, run_again}
+use Rattle.jvm_types.proofs.ByteOrder.{eight_back, u8_spelled}
+use Rattle.jvm_types.proofs.StepLaws.{IsBytes, Finds, on_bind, weaker, on_wanted, Took, Reads, on_step, u1_reads, u1_again, u2_reads, u2_again, u4_reads, u4_again, run_reads, run_again}
 
 -- an entry, and no gap
 pub record IsEntry (c : Constant) : Type 0 where
@@ -28,7 +27,7 @@ Entered tag bytes x = Took constant IsEntry (tag ∷ bytes) x
 
 -- ---- texts
 
-text_holds : (text : List ℕ) (behind : ℕ) → Gives (text_wanted text behind) (λ ok. AllByRecursion IsUtf8Byte text)
+text_holds : (text : List ℕ) (behind : ℕ) → Finds (text_wanted text behind) (λ ok. AllByRecursion IsUtf8Byte text)
 unfolding text_wanted
 text_holds [] behind = record { ok = tt }
 text_holds (b ∷ text) behind =
@@ -41,81 +40,78 @@ unfolding text_wanted
 text_stands [] behind each = refl
 text_stands (b ∷ text) behind each = rw (and_from _ _ (lt-ltb 0 b each.0.0) (lt-ltb b 240 each.0.1)) (text_stands text behind each.1)
 
-text_takes : (bytes : List ℕ) → IsBytes bytes → Gives (text_at bytes) (Entered 1 bytes)
+text_takes : (bytes : List ℕ) → IsBytes bytes → Finds (text_at bytes) (Entered 1 bytes)
 unfolding text_at
 text_takes bytes fits =
     on_step u2_reads bytes fits _ _ λ n a.
     on_step (run_reads n.0) n.1 a.rest _ _ λ text b.
     on_bind _ _ _ _ (text_holds text.0 (length text.1)) λ ok each.
-    record { ok = record {
-      parts = ap (λ (x : List ℕ). 1 ∷ x) (a.parts ∙ ap (λ (x : List ℕ). u2 n.0 ++ x) b.parts ∙ ap (λ (k : ℕ). u2 k ++ (text.0 ++ text.1)) (sym b.fits.count));
-      fits = record { fields = (rw b.fits.count a.fits, each); entry = refl };
-      rest = b.rest;
-    } }
+    record {
+      ok = record {
+        parts = ap (λ (x : List ℕ). 1 ∷ x) (a.parts ∙ ap (λ (x : List ℕ). u2 n.0 ++ x) b.parts ∙ ap (λ (k : ℕ). u2 k ++ (text.0 ++ text.1)) (sym b.fits.count));
+        fits = record { fields = (rw b.fits.count a.fits, each); entry = refl };
+        rest = b.rest;
+      };
+    }
 
 -- ---- numbers
 
 one_takes : (tag : ℕ) (entry : ℕ → Constant) → ((n : ℕ) → constant (entry n) ≡ tag ∷ u2 n) → ((n : ℕ) → n < 2 ^ 16 → IsEntry (entry n))
-    → (bytes : List ℕ) → IsBytes bytes → Gives (one_at entry bytes) (Entered tag bytes)
+    → (bytes : List ℕ) → IsBytes bytes → Finds (one_at entry bytes) (Entered tag bytes)
 unfolding one_at
 one_takes tag entry spelled is bytes fits =
     on_step u2_reads bytes fits _ _ λ n a.
     record { ok = record { parts = ap (λ (x : List ℕ). tag ∷ x) a.parts ∙ ap (λ (x : List ℕ). x ++ n.1) (sym (spelled n.0)); fits = is n.0 a.fits; rest = a.rest } }
 
 two_takes : (tag : ℕ) (entry : ℕ → ℕ → Constant) → ((m n : ℕ) → constant (entry m n) ≡ tag ∷ (u2 m ++ u2 n)) → ((m n : ℕ) → m < 2 ^ 16 → n < 2 ^ 16 → IsEntry (entry m n))
-    → (bytes : List ℕ) → IsBytes bytes → Gives (two_at entry bytes) (Entered tag bytes)
+    → (bytes : List ℕ) → IsBytes bytes → Finds (two_at entry bytes) (Entered tag bytes)
 unfolding two_at
 two_takes tag entry spelled is bytes fits =
     on_step u2_reads bytes fits _ _ λ m a.
     on_step u2_reads m.1 a.rest _ _ λ n b.
-    record { ok = record {
-      parts = ap (λ (x : List ℕ). tag ∷ x) (a.parts ∙ ap (λ (x : List ℕ). u2 m.0 ++ x) b.parts) ∙ ap (λ (x : List ℕ). x ++ n.1) (sym (spelled m.0 n.0));
-      fits = is m.0 n.0 a.fits b.fits;
-      rest = b.rest;
-    } }
+    record {
+      ok = record {
+        parts = ap (λ (x : List ℕ). tag ∷ x) (a.parts ∙ ap (λ (x : List ℕ). u2 m.0 ++ x) b.parts) ∙ ap (λ (x : List ℕ). x ++ n.1) (sym (spelled m.0 n.0));
+        fits = is m.0 n.0 a.fits b.fits;
+        rest = b.rest;
+      };
+    }
 
 word_takes : (tag : ℕ) (entry : ℕ → Constant) → ((n : ℕ) → n < 2 ^ 32 → constant (entry n) ≡ tag ∷ u4 n) → ((n : ℕ) → n < 2 ^ 32 → IsEntry (entry n))
-    → (bytes : List ℕ) → IsBytes bytes → Gives (word_at entry bytes) (Entered tag bytes)
+    → (bytes : List ℕ) → IsBytes bytes → Finds (word_at entry bytes) (Entered tag bytes)
 unfolding word_at
 word_takes tag entry spelled is bytes fits =
     on_step u4_reads bytes fits _ _ λ n a.
     record { ok = record { parts = ap (λ (x : List ℕ). tag ∷ x) a.parts ∙ ap (λ (x : List ℕ). x ++ n.1) (sym (spelled n.0 a.fits)); fits = is n.0 a.fits; rest = a.rest } }
 
-pub eight_back : (n : ℕ) → n / 4294967296 * 4294967296 + n % 4294967296 ≡ n
-eight_back n = omega arith
-
-pub u8_spelled : (high low : ℕ) → low < 2 ^ 32 → u8 (high * 4294967296 + low) ≡ u4 high ++ u4 low
-u8_spelled high low lt =
-    let p : (high * 4294967296 + low) / 4294967296 ≡ high = omega arith in
-    let q : (high * 4294967296 + low) % 4294967296 ≡ low = omega arith in
-    ap (λ (n : ℕ). u4 n ++ u4 ((high * 4294967296 + low) % 4294967296)) p ∙ ap (λ (n : ℕ). u4 high ++ u4 n) q
-
 wide_takes : (tag : ℕ) (entry : ℕ → Constant) → ((n : ℕ) → constant (entry n) ≡ tag ∷ u8 n) → ((n : ℕ) → n < 2 ^ 64 → IsEntry (entry n))
-    → (bytes : List ℕ) → IsBytes bytes → Gives (wide_at entry bytes) (Entered tag bytes)
+    → (bytes : List ℕ) → IsBytes bytes → Finds (wide_at entry bytes) (Entered tag bytes)
 unfolding wide_at
 wide_takes tag entry spelled is bytes fits =
     on_step u4_reads bytes fits _ _ λ high a.
     on_step u4_reads high.1 a.rest _ _ λ low b.
     let n : ℕ = high.0 * 4294967296 + low.0 in
-    record { ok = record {
-      parts = ap (λ (x : List ℕ). tag ∷ x) (a.parts ∙ ap (λ (x : List ℕ). u4 high.0 ++ x) b.parts) ∙ ap (λ (x : List ℕ). tag ∷ (x ++ low.1)) (sym (u8_spelled high.0 low.0 b.fits)) ∙ ap (λ (x : List ℕ). x ++ low.1) (sym (spelled n));
-      fits = is n (omega (arith, a.fits, b.fits));
-      rest = b.rest;
-    } }
+    record {
+      ok = record {
+        parts = ap (λ (x : List ℕ). tag ∷ x) (a.parts ∙ ap (λ (x : List ℕ). u4 high.0 ++ x) b.parts) ∙ ap (λ (x : List ℕ). tag ∷ (x ++ low.1)) (sym (u8_spelled high.0 low.0 b.fits)) ∙ ap (λ (x : List ℕ). x ++ low.1) (sym (spelled n));
+        fits = is n (omega (arith, a.fits, b.fits));
+        rest = b.rest;
+      };
+    }
 
 -- ---- by the tag
 
-on_tag : {A : Type 0} (tag k : ℕ) (x y : Result A Fault) (Q : ℕ → A → Type 0) → Gives x (Q k) → Gives y (Q tag) → Gives (cond (eqb tag k) x y) (Q tag)
+on_tag : {A : Type 0} (tag k : ℕ) (x y : Result A Fault) (Q : ℕ → A → Type 0) → Finds x (Q k) → Finds y (Q tag) → Finds (cond (eqb tag k) x y) (Q tag)
 on_tag tag k x y Q here other = at (eqb tag k) refl
   where
-    at : (b : Bool) → eqb tag k ≡ b → Gives (cond b x y) (Q tag)
-    at true e = subst (λ (n : ℕ). Gives x (Q n)) (sym (eqb-true _ _ e)) here
+    at : (b : Bool) → eqb tag k ≡ b → Finds (cond b x y) (Q tag)
+    at true e = subst (λ (n : ℕ). Finds x (Q n)) (sym (eqb-true _ _ e)) here
     at false e = other
 
 entry_of : (c : Constant) → FieldsFit c → is_gap c ≡ false → IsEntry c
 entry_of c fields entry = record { fields = fields; entry = entry }
 
-tagged_takes : (tag at_tag : ℕ) (bytes : List ℕ) → IsBytes bytes → Gives (tagged_at tag at_tag bytes) (Entered tag bytes)
+tagged_takes : (tag at_tag : ℕ) (bytes : List ℕ) → IsBytes bytes → Finds (tagged_at tag at_tag bytes) (Entered tag bytes)
 unfolding tagged_at
 tagged_takes tag at_tag bytes fits =
     let Q : ℕ → Constant × List ℕ → Type 0 = λ n. Entered n bytes in
@@ -132,11 +128,11 @@ tagged_takes tag at_tag bytes fits =
     on_tag tag 12 _ _ Q (two_takes 12 NameAndType (λ m n. refl) (λ m n p q. entry_of (NameAndType m n) (p, q) refl) bytes fits)
     (record { ok = tt })))))))))))
 
-constant_takes : (bytes : List ℕ) → IsBytes bytes → Gives (constant_at bytes) (Took constant IsEntry bytes)
+constant_takes : (bytes : List ℕ) → IsBytes bytes → Finds (constant_at bytes) (Took constant IsEntry bytes)
 unfolding constant_at
 constant_takes bytes fits =
     on_step u1_reads bytes fits _ _ λ tag a.
-    subst (λ (x : List ℕ). Gives (tagged_at tag.0 (length bytes) tag.1) (Took constant IsEntry x)) (sym a.parts) (tagged_takes tag.0 (length bytes) tag.1 a.rest)
+    subst (λ (x : List ℕ). Finds (tagged_at tag.0 (length bytes) tag.1) (Took constant IsEntry x)) (sym a.parts) (tagged_takes tag.0 (length bytes) tag.1 a.rest)
 
 -- ---- and again
 

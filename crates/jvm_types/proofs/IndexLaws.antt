@@ -1,19 +1,18 @@
 -- The tests on an index of the constant pool say what they are called.
-use Rattle.std.proofs.Common.{◌≡◌, ℕ, zero, suc, ◌+◌, ◌^◌, ◌<◌, Bool, true, false, cond, eqb, List, [], ◌∷◌, ◌++◌, length, Option, Some, None, Result, Ok, Err, refl, sym, ap, subst, ◌∙◌, arith, inl, inr}
-use Rattle.std.specs.Prelude.{slice_get, bytes_eq, ◌⊎◌, ◌==◌}
-use Rattle.std.proofs.lemmas.Bool.{eqb-true, eqb-false, eq-eqb, cases_Bool}
+use Rattle.std.proofs.Common.{◌≡◌, ℕ, Bool, true, false, cond, List, length, Option, Some, refl, ap, ◌∙◌, inl, inr}
+use Rattle.std.specs.Prelude.{slice_get, ◌==◌}
+use Rattle.std.proofs.lemmas.Bool.{eqb-true, eqb-false, cases_Bool}
 use Rattle.std.proofs.lemmas.Slice.Eq.{bytes_eq-Decides}
 use Rattle.jvm_types.specs.Numbers.{u2}
-use Rattle.jvm_types.specs.Pool.{IsTextAt, NamesText, NamesClass, NamesNameAndType}
+use Rattle.jvm_types.specs.Pool.{IsTextAt}
 use Rattle.jvm_types.specs.declared.refusal.CRule.TheVariants.{C5}
 use Rattle.jvm_types.specs.declared.index_kind.IndexKind.{IndexKind}
 use Rattle.jvm_types.specs.declared.index_kind.IndexKind.TheVariants as kinds
 use Rattle.jvm_types.specs.declared.class_file.Constant.{Constant}
-use Rattle.jvm_types.specs.declared.class_file.Constant.TheVariants.{Gap, Utf8, Integer, Float, Long, Double, Class, Text, Field, Method, InterfaceMethod, NameAndType}
+use Rattle.jvm_types.specs.declared.class_file.Constant.TheVariants.{Utf8, Integer, Float, Long, Double, Class, Text, NameAndType}
 use Rattle.jvm_types.specs.ClassGrammar.{IsValue, Names, IsIndex}
-use Rattle.jvm_types.specs.ReadingSteps.{Fault, ◌>>=◌, wanted, u2_at}
 use Rattle.jvm_types.specs.ReadingPool.{is_of, names, is_text, index_at}
-use Rattle.jvm_types.proofs.StepLaws.{IsBytes, Gives, on_wanted, Took, Reads, on_step, u2_reads, u2_again}
+use Rattle.jvm_types.proofs.StepLaws.{on_wanted, Reads, on_step, u2_reads, u2_again}
 
 -- ---- entries of a kind
 
@@ -78,9 +77,9 @@ pub index_reads : (kind : IndexKind) (pool : List Constant) → Reads u2 (IsInde
 unfolding index_at
 index_reads kind pool = record {
   takes = λ bytes fits.
-    on_step u2_reads bytes fits _ _ λ i a.
-    on_wanted (names kind pool i.0) C5 (length bytes) _ _ λ ok.
-    record { ok = record { parts = a.parts; fits = record { number = a.fits; names = Names-from_test kind pool i.0 ok }; rest = a.rest } };
+      on_step u2_reads bytes fits _ _ λ i a.
+      on_wanted (names kind pool i.0) C5 (length bytes) _ _ λ ok.
+      record { ok = record { parts = a.parts; fits = record { number = a.fits; names = Names-from_test kind pool i.0 ok }; rest = a.rest } };
   again = λ i rest fits. rw (u2_again i rest, test_from_Names kind pool i fits.names);
 }
 
@@ -101,6 +100,6 @@ no_IsTextAt text pool i e h = let t = test_from_IsTextAt text pool i h in absurd
 
 pub no_test : (text : List ℕ) (pool : List Constant) (i : ℕ) → (IsTextAt pool i text → ⊥) → is_text text (slice_get pool i) ≡ false
 no_test text pool i h = elim (cases_Bool (is_text text (slice_get pool i))) [
-    | inl same ↦ absurd (h (IsTextAt-from_test text pool i same))
-    | inr other ↦ other
-  ]
+  | inl same ↦ absurd (h (IsTextAt-from_test text pool i same))
+  | inr other ↦ other
+]

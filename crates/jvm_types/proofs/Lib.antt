@@ -11,6 +11,7 @@ pub mod LinkedLaws
 pub mod DescriptorProofs
 mod CodeTries
 mod GrammarTries
+pub mod ByteOrder
 pub mod StepLaws
 pub mod IndexLaws
 pub mod ConstantLaws
@@ -19,3 +20,9 @@ mod TypingTries
 pub mod CodeReading
 pub mod CodeLaws
 pub mod CodeOnce
+pub mod AttrLaws
+pub mod ClassReads
+pub mod ClassLawProofs
+pub mod WorkedFiles
+pub mod FaultPlaces
+pub mod LoopLaws

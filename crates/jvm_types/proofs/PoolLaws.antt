@@ -1,5 +1,5 @@
 -- The constant pool that is read is spelled so and keeps its rules, and what is spelled so is read again.
-use Rattle.std.proofs.Common.{◌≡◌, ℕ, zero, suc, ◌+◌, ◌-◌, ◌^◌, ◌<◌, Bool, true, false, List, [], ◌∷◌, ◌++◌, length, Result, Ok, Err, refl, sym, ap, subst, ◌∙◌, append_assoc, arith, inl, inr}
+use Rattle.std.proofs.Common.{◌≡◌, ℕ, zero, suc, ◌-◌, ◌^◌, ◌<◌, Bool, true, false, List, [], ◌∷◌, ◌++◌, length, Ok, refl, sym, ap, subst, ◌∙◌, append_assoc, arith, inl, inr}
 use Rattle.std.specs.Prelude.{◌&&◌, ◌==◌, ◌⊎◌, not}
 use Rattle.std.specs.List.{flat_map, AllByRecursion}
 use Rattle.std.proofs.lemmas.Bool.{not-true, ne_eqb}
@@ -9,13 +9,13 @@ use Rattle.jvm_types.specs.declared.refusal.CRule.TheVariants.{C5}
 use Rattle.jvm_types.specs.declared.index_kind.IndexKind.{IndexKind}
 use Rattle.jvm_types.specs.declared.index_kind.IndexKind.TheVariants as kinds
 use Rattle.jvm_types.specs.declared.class_file.Constant.{Constant}
-use Rattle.jvm_types.specs.declared.class_file.Constant.TheVariants.{Gap, Utf8, Integer, Float, Long, Double, Class, Text, Field, Method, InterfaceMethod, NameAndType}
+use Rattle.jvm_types.specs.declared.class_file.Constant.TheVariants.{Gap, Class, Text, Field, Method, InterfaceMethod, NameAndType}
 use Rattle.jvm_types.specs.ClassGrammar.{Names, is_wide, is_gap, GapsFit, FieldsFit, IndicesFit, IsPool}
-use Rattle.jvm_types.specs.ReadingSteps.{Fault, ◌>>=◌, wanted, u2_at}
-use Rattle.jvm_types.specs.ReadingPool.{names, constant_at, entries_at, both_wanted, entry_wanted, entries_wanted, pool_at}
-use Rattle.jvm_types.proofs.StepLaws.{IsBytes, Gives, on_bind, weaker, on_wanted, Took, Reads, on_step, u2_reads, u2_again}
+use Rattle.jvm_types.specs.ReadingSteps.{wanted}
+use Rattle.jvm_types.specs.ReadingPool.{names, entries_at, both_wanted, entry_wanted, entries_wanted, pool_at}
+use Rattle.jvm_types.proofs.StepLaws.{IsBytes, Finds, on_bind, weaker, on_wanted, Took, Reads, on_step, u2_reads, u2_again}
 use Rattle.jvm_types.proofs.IndexLaws.{Names-from_test, test_from_Names}
-use Rattle.jvm_types.proofs.ConstantLaws.{IsEntry, constant_reads}
+use Rattle.jvm_types.proofs.ConstantLaws.{constant_reads}
 
 -- ---- entries
 
@@ -29,7 +29,7 @@ record AreEntries (n : ℕ) (due : Bool) (cs : List Constant) : Type 0 where
   gaps : GapsSoFar due cs
   fields : AllByRecursion FieldsFit cs
 
-entries_take : (n : ℕ) (due : Bool) (bytes : List ℕ) → IsBytes bytes → Gives (entries_at n due bytes) (Took (flat_map constant) (AreEntries n due) bytes)
+entries_take : (n : ℕ) (due : Bool) (bytes : List ℕ) → IsBytes bytes → Finds (entries_at n due bytes) (Took (flat_map constant) (AreEntries n due) bytes)
 unfolding entries_at
 entries_take zero due bytes fits = record { ok = record { parts = refl; fits = record { count = refl; gaps = tt; fields = tt }; rest = fits } }
 entries_take (suc n) true bytes fits =
@@ -38,11 +38,13 @@ entries_take (suc n) true bytes fits =
 entries_take (suc n) false bytes fits =
     on_step constant_reads bytes fits _ _ λ first a.
     on_bind _ _ _ _ (entries_take n (is_wide first.0) first.1 a.rest) λ others b.
-    record { ok = record {
-      parts = a.parts ∙ ap (λ (x : List ℕ). constant first.0 ++ x) b.parts ∙ sym (append_assoc (constant first.0) (flat_map constant others.0) others.1);
-      fits = record { count = ap suc b.fits.count; gaps = (a.fits.entry, b.fits.gaps); fields = (a.fits.fields, b.fits.fields) };
-      rest = b.rest;
-    } }
+    record {
+      ok = record {
+        parts = a.parts ∙ ap (λ (x : List ℕ). constant first.0 ++ x) b.parts ∙ sym (append_assoc (constant first.0) (flat_map constant others.0) others.1);
+        fits = record { count = ap suc b.fits.count; gaps = (a.fits.entry, b.fits.gaps); fields = (a.fits.fields, b.fits.fields) };
+        rest = b.rest;
+      };
+    }
 
 gap_is : (c : Constant) → is_gap c ≡ true → c ≡ Gap
 gap_is Gap e = refl
@@ -60,11 +62,11 @@ entries_again (c ∷ cs) false rest gaps fields =
 
 -- ---- their indices
 
-last_wanted : {P : Type 0} (b : Bool) (left : ℕ) → (b ≡ true → P) → Gives (wanted b C5 left) (λ ok. P)
+last_wanted : {P : Type 0} (b : Bool) (left : ℕ) → (b ≡ true → P) → Finds (wanted b C5 left) (λ ok. P)
 last_wanted true left h = record { ok = h refl }
 last_wanted false left h = record { ok = tt }
 
-both_hold : (kind other : IndexKind) (pool : List Constant) (i j left : ℕ) → Gives (both_wanted kind other pool i j left) (λ ok. Names kind pool i × Names other pool j)
+both_hold : (kind other : IndexKind) (pool : List Constant) (i j left : ℕ) → Finds (both_wanted kind other pool i j left) (λ ok. Names kind pool i × Names other pool j)
 unfolding both_wanted
 both_hold kind other pool i j left =
     on_wanted (names kind pool i) C5 (left - 1) _ _ λ a.
@@ -81,7 +83,7 @@ record StandsWell (pool : List Constant) (c : Constant) (last : Bool) : Type 0 w
 well : (pool : List Constant) (c : Constant) (last : Bool) → IndicesFit pool c → (is_wide c && last) ≡ false → StandsWell pool c last
 well pool c last indices inside = record { indices = indices; inside = inside }
 
-entry_holds : (pool : List Constant) (c : Constant) (last : Bool) (left : ℕ) → Gives (entry_wanted pool c last left) (λ ok. StandsWell pool c last)
+entry_holds : (pool : List Constant) (c : Constant) (last : Bool) (left : ℕ) → Finds (entry_wanted pool c last left) (λ ok. StandsWell pool c last)
 unfolding entry_wanted
 entry_holds pool (Class name) last left = last_wanted (names kinds.Text pool name) (left - 1) λ e. well pool (Class name) last (Names-from_test kinds.Text pool name e) refl
 entry_holds pool (Text string) last left = last_wanted (names kinds.Text pool string) (left - 1) λ e. well pool (Text string) last (Names-from_test kinds.Text pool string e) refl
@@ -115,7 +117,7 @@ at_end : (b : Bool) → (b && true) ≡ false → b ≡ false
 at_end true e = e
 at_end false e = e
 
-entries_hold : (pool cs : List Constant) (left : ℕ) → Gives (entries_wanted pool cs left) (λ ok. StandAll pool cs)
+entries_hold : (pool cs : List Constant) (left : ℕ) → Finds (entries_wanted pool cs left) (λ ok. StandAll pool cs)
 unfolding entries_wanted
 entries_hold pool [] left = record { ok = record { indices = tt; ends = tt } }
 entries_hold pool (c ∷ []) left =
@@ -151,17 +153,19 @@ is_pool : (pool : List Constant) → length pool < 2 ^ 16 → GapsSoFar true poo
 is_pool [] count gaps fields stand = inl refl
 is_pool (c ∷ cs) count gaps fields stand = inr (record { count = count; gaps = gaps_fit c cs true gaps stand.ends; fields = fields; indices = stand.indices })
 
-pool_takes : (bytes : List ℕ) → IsBytes bytes → Gives (pool_at bytes) (Took (counted constant) IsPoolOrNone bytes)
+pool_takes : (bytes : List ℕ) → IsBytes bytes → Finds (pool_at bytes) (Took (counted constant) IsPoolOrNone bytes)
 unfolding pool_at
 pool_takes bytes fits =
     on_step u2_reads bytes fits _ _ λ n a.
     on_bind _ _ _ _ (entries_take n.0 true n.1 a.rest) λ pool b.
     on_bind _ _ _ _ (entries_hold pool.0 pool.0 (length n.1)) λ ok stand.
-    record { ok = record {
-      parts = a.parts ∙ ap (λ (x : List ℕ). u2 n.0 ++ x) b.parts ∙ ap (λ (k : ℕ). u2 k ++ (flat_map constant pool.0 ++ pool.1)) (sym b.fits.count);
-      fits = is_pool pool.0 (rw b.fits.count a.fits) b.fits.gaps b.fits.fields stand;
-      rest = b.rest;
-    } }
+    record {
+      ok = record {
+        parts = a.parts ∙ ap (λ (x : List ℕ). u2 n.0 ++ x) b.parts ∙ ap (λ (k : ℕ). u2 k ++ (flat_map constant pool.0 ++ pool.1)) (sym b.fits.count);
+        fits = is_pool pool.0 (rw b.fits.count a.fits) b.fits.gaps b.fits.fields stand;
+        rest = b.rest;
+      };
+    }
 
 pool_again : (pool : List Constant) (rest : List ℕ) → IsPoolOrNone pool → pool_at (counted constant pool ++ rest) ≡ Ok (pool, rest)
 unfolding pool_at entries_at entries_wanted

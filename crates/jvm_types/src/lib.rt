@@ -3,6 +3,7 @@
 #![tactic(auto)]
 
 pub mod class_file;
+pub mod class_laws;
 pub mod code;
 pub mod code_laws;
 pub mod first;
@@ -16,6 +17,7 @@ pub mod rows;
 pub mod typing;
 
 pub use class_file::{Attr, ClassFile, Code, Constant, Handler, Member, MemberAttr};
+pub use class_laws::{faults_inside, one_class, one_spelling, spelled_or_faulty};
 pub use code::{Case, Cmp, Insn, Op};
 pub use first::FirstOp;
 pub use gate::{Gate, OpenGate};
