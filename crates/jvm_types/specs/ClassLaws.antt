@@ -1,0 +1,23 @@
+-- The laws of the class grammar.
+use Rattle.std.specs.Prelude.{◌≡◌, ◌↔◌, ℕ, ◌≤◌, List, length, None, Err}
+use Rattle.std.specs.List.{AllByRecursion}
+use Rattle.jvm_types.specs.declared.class_file.ClassFile.{ClassFile}
+use Rattle.jvm_types.specs.ClassGrammar.{IsByte, Spells}
+use Rattle.jvm_types.specs.ReadingSteps.{Fault}
+use Rattle.jvm_types.specs.ReadingClass.{read_class, class_fault}
+
+-- no class has two spellings
+abbrev pub HasOneSpelling : Type 0
+HasOneSpelling = (a b : List ℕ) (c : ClassFile) → Spells a c → Spells b c → a ≡ b
+
+-- no bytes spell two classes
+abbrev pub SpellsOneClass : Type 0
+SpellsOneClass = (bytes : List ℕ) (c d : ClassFile) → Spells bytes c → Spells bytes d → c ≡ d
+
+-- bytes spell a class exactly where there is no fault
+abbrev pub IsSpelledOrFaulty : Type 0
+IsSpelledOrFaulty = (bytes : List ℕ) → AllByRecursion IsByte bytes → (class_fault bytes ≡ None) ↔ ((c : ClassFile) × Spells bytes c)
+
+-- a fault has its place in the bytes or at their end, so its offset is what stands before that place
+abbrev pub FaultsLieInside : Type 0
+FaultsLieInside = (bytes : List ℕ) (f : Fault) → AllByRecursion IsByte bytes → read_class bytes ≡ Err f → f.left ≤ length bytes

@@ -1,0 +1,48 @@
+-- The classes by their numbers, and which is below which. Every class of a program is just below Object
+-- (this machine has no inheritance between them); of Java's tree of throwables the twelve built-in ones
+-- stand, without IndexOutOfBoundsException and VirtualMachineError between them (JVMS 2.10).
+use Rattle.std.specs.Prelude.{ℕ, Bool, false, ◌||◌, ◌==◌, if◌then◌else◌, List, [], ◌∷◌}
+
+abbrev pub object_class : ℕ
+object_class = 1
+
+abbrev pub int_array_class : ℕ
+int_array_class = 2
+
+abbrev pub print_stream_class : ℕ
+print_stream_class = 3
+
+abbrev pub throwable_class : ℕ
+throwable_class = 4
+
+-- the class just above; Object stands above itself. RuntimeException is 7, Exception 5 and Error 6.
+abbrev pub super_class : ℕ → ℕ
+super_class class =
+    if class == 5 || class == 6 then 4 else
+    if class == 7 || class == 8 then 5 else
+    if class == 9 || class == 10 || class == 11 || class == 12 || class == 13 then 7 else
+    if class == 14 || class == 15 then 6 else
+    object_class
+
+-- a class and those above it: no class is more than four steps from Object, and so each list ends there
+abbrev pub ancestors : ℕ → List ℕ
+ancestors class = line class (super_class class)
+  where
+    line : ℕ → ℕ → List ℕ
+    line c d = c ∷ d ∷ super_class d ∷ super_class (super_class d) ∷ super_class (super_class (super_class d)) ∷ []
+
+abbrev pub has_number : List ℕ → ℕ → Bool
+has_number [] n = false
+has_number (m ∷ ms) n = m == n || has_number ms n
+
+-- a class is below itself and below each of its ancestors
+abbrev pub is_subclass : ℕ → ℕ → Bool
+is_subclass class other = has_number (ancestors class) other
+
+-- the nearest common ancestor of two classes
+abbrev pub first_common : List ℕ → List ℕ → ℕ
+first_common [] ds = object_class
+first_common (c ∷ cs) ds = if has_number ds c then c else first_common cs ds
+
+abbrev pub common_ancestor : ℕ → ℕ → ℕ
+common_ancestor class other = first_common (ancestors class) (ancestors other)
