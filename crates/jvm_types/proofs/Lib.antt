@@ -9,3 +9,4 @@ pub mod ClassLawProofs
 pub mod WorkedFiles
 pub mod FaultPlaces
 pub mod LoopLaws
+pub mod FirstIsClass
