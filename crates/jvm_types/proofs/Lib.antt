@@ -26,3 +26,4 @@ pub mod ClassLawProofs
 pub mod WorkedFiles
 pub mod FaultPlaces
 pub mod LoopLaws
+pub mod FirstIsClass
