@@ -100,32 +100,37 @@ kind_in p (Some kind) h = h
 -- a field of a file, behind fields of this class and of those before it
 field_fits : (p : Program) (file : ℕ) (pool : List Constant) (place word : ℕ) (m : ClassMember) (before : List FieldInfo)
     → file < length p.names → AllByRecursion FieldsFit pool → AllByRecursion (λ e. e.class ≤ file_class file) before
-    → place ≡ instances_among (file_class file) before → word ≡ first_class_word + 2 * (file + 1) + statics_among before
+    → place ≡ instances_among (file_class file) before → word ≡ first_class_word + 2 * (file + 1) + statics_among before → place < 65535
     → IsFieldOf p before (field_info p.names file pool (cond (is_static m.flags) word place) m)
-field_fits p file pool place word m before l h o e f = record {
+field_fits p file pool place word m before l h o e f few = record {
   class = (omega arith, omega (arith, l));
   ordered = o;
   kind = kind_in p (field_kind p.names (text_at pool m.descriptor)) (field_kind_in p (text_at pool m.descriptor));
   index = both_ways_same (is_static m.flags) word place _ _ (omega (arith, f)) e;
+  few = omega (arith, few, e);
   start_fits = starts_fit (is_static m.flags) (kind_of p.names pool m) (static_start pool (kind_of p.names pool m) m) (static_starts pool (kind_of p.names pool m) m h);
   start_kept = starts_kept (is_static m.flags) (kind_of p.names pool m) (static_start pool (kind_of p.names pool m) m) (static_starts pool (kind_of p.names pool m) m h);
 }
 
+step_few : (b : Bool) (place rest : ℕ) → place + suc rest < 65536 → cond b place (place + 1) + rest < 65536
+step_few true place rest h = omega (arith, h)
+step_few false place rest h = omega (arith, h)
+
 -- the fields of a class, behind those of the classes before it
 class_fits : (p : Program) (file : ℕ) (pool : List Constant) (place word : ℕ) (ms : List ClassMember) (before : List FieldInfo)
     → file < length p.names → AllByRecursion FieldsFit pool → AllByRecursion (λ e. e.class ≤ file_class file) before
-    → place ≡ instances_among (file_class file) before → word ≡ first_class_word + 2 * (file + 1) + statics_among before
+    → place ≡ instances_among (file_class file) before → word ≡ first_class_word + 2 * (file + 1) + statics_among before → place + length ms < 65536
     → EachAfter (IsFieldOf p) before (fields_of p.names file pool place word ms)
-class_fits p file pool place word [] before l h o e f = tt
-class_fits p file pool place word (m ∷ ms) before l h o e f =
+class_fits p file pool place word [] before l h o e f few = tt
+class_fits p file pool place word (m ∷ ms) before l h o e f few =
     let b : Bool = is_static m.flags in
     let info : FieldInfo = field_info p.names file pool (cond b word place) m in
     let e' : cond b place (place + 1) ≡ instances_among (file_class file) (before ++ info ∷ []) =
     next_place b (file_class file) place (instances_among (file_class file) before) e ∙ sym (sum_last (λ f. cond ((f.class == file_class file) && not (is_static f.flags)) 1 0) before info) in
     let f' : cond b (word + 1) word ≡ first_class_word + 2 * (file + 1) + statics_among (before ++ info ∷ []) =
     next_word b word (first_class_word + 2 * (file + 1)) (statics_among before) f ∙ ap (λ n. first_class_word + 2 * (file + 1) + n) (sym (sum_last (λ f. cond (is_static f.flags) 1 0) before info)) in (
-      field_fits p file pool place word m before l h o e f,
-      class_fits p file pool (cond b place (place + 1)) (cond b (word + 1) word) ms (before ++ info ∷ []) l h (all_append (λ e. e.class ≤ file_class file) before (info ∷ []) o (omega arith, tt)) e' f',
+      field_fits p file pool place word m before l h o e f (omega (arith, few)),
+      class_fits p file pool (cond b place (place + 1)) (cond b (word + 1) word) ms (before ++ info ∷ []) l h (all_append (λ e. e.class ≤ file_class file) before (info ∷ []) o (omega arith, tt)) e' f' (step_few b place (length ms) few),
     )
 
 -- ---- all classes
@@ -155,7 +160,7 @@ none_yet class (f ∷ before) h =
 
 -- the fields of the classes from a file on
 files_fit : (p : Program) (file word : ℕ) (cs : List ClassFile) (before : List FieldInfo)
-    → file + length cs ≡ length p.names → AllByRecursion (λ (c : ClassFile). AllByRecursion FieldsFit c.constants) cs → AllByRecursion (λ e. e.class < file_class file) before
+    → file + length cs ≡ length p.names → AllByRecursion (λ (c : ClassFile). AllByRecursion FieldsFit c.constants × (length c.fields < 65536)) cs → AllByRecursion (λ e. e.class < file_class file) before
     → word ≡ first_class_word + 2 * file + statics_among before
     → EachAfter (IsFieldOf p) before (fields_from p.names file word cs)
 files_fit p file word [] before l h o f = tt
@@ -167,11 +172,11 @@ files_fit p file word (c ∷ cs) before l h o f =
     let count : statics_among (before ++ fields) ≡ statics_among before + statics_among fields = sum_by-append (λ f. cond (is_static f.flags) 1 0) before fields in
     let same : statics_among fields ≡ static_count c.fields = statics_same p.names file c.constants 0 (word + 2) c.fields in
     each_append (IsFieldOf p) before fields (fields_from p.names (file + 1) (word + class_words c) cs)
-    (class_fits p file c.constants 0 (word + 2) c.fields before (omega (arith, l)) h.0 ordered (none_yet (file_class file) before o) (omega (arith, f)))
+    (class_fits p file c.constants 0 (word + 2) c.fields before (omega (arith, l)) h.0.0 ordered (none_yet (file_class file) before o) (omega (arith, f)) (omega (arith, h.0.1)))
     (files_fit p (file + 1) (word + class_words c) cs (before ++ fields) (omega (arith, l)) h.1 ordered' (omega (arith, f, count, same)))
 
 -- the fields of a program stand where its invariant has them
-pub fields_placed : (p : Program) (files : List ClassFile) → length files ≡ length p.names → AllByRecursion (λ (c : ClassFile). AllByRecursion FieldsFit c.constants) files → EachAfter (IsFieldOf p) [] (laid_out_fields p.names files)
+pub fields_placed : (p : Program) (files : List ClassFile) → length files ≡ length p.names → AllByRecursion (λ (c : ClassFile). AllByRecursion FieldsFit c.constants × (length c.fields < 65536)) files → EachAfter (IsFieldOf p) [] (laid_out_fields p.names files)
 fields_placed p files l h = files_fit p 0 first_class_word files [] (omega (arith, l)) h tt refl
 
 -- ---- words

@@ -1,5 +1,5 @@
 -- What files are linked to keeps the invariant of a program.
-use Rattle.std.proofs.Common.{◌≡◌, ℕ, ◌+◌, ◌*◌, ◌≤◌, Bool, true, false, not, ◌&&◌, ◌||◌, ltb, List, [], ◌∷◌, ◌++◌, map, length, Option, Some, None, is_none, refl, sym, ap, ◌∙◌, subst, arith}
+use Rattle.std.proofs.Common.{◌<◌, ◌≡◌, ℕ, ◌+◌, ◌*◌, ◌≤◌, Bool, true, false, not, ◌&&◌, ◌||◌, ltb, List, [], ◌∷◌, ◌++◌, map, length, Option, Some, None, is_none, refl, sym, ap, ◌∙◌, subst, arith}
 use Rattle.std.specs.Prelude.{◌==◌}
 use Rattle.std.specs.Option.{unwrap_or}
 use Rattle.std.specs.List.{AllByRecursion, AllZip, zip, list_any}
@@ -139,7 +139,7 @@ program_fits files code heap workers able classes members uses roots words =
     let counted : fixed_words files ≡ first_class_word + 2 * length files + statics_among (laid_out_fields (class_names files) files) = words_counted (class_names files) files in
     let size = program_within (scope_of files) files code able.classes able.decoded in
     let fields : EachAfter (IsFieldOf p) [] (laid_out_fields (class_names files) files) =
-    fields_placed p files (sym count) (all_weaker IsClass (λ (c : ClassFile). AllByRecursion FieldsFit c.constants) (λ c h. h.pool.fields) files able.classes) in
+    fields_placed p files (sym count) (all_weaker IsClass (λ (c : ClassFile). AllByRecursion FieldsFit c.constants × (length c.fields < 65536)) (λ c h. (h.pool.fields, h.fields.count)) files able.classes) in
     let methods : EachAfter (IsMethodOf p) [] (linked_methods (scope_of files) (coded_methods files code)) =
     methods_fit p (scope_of files) (scope_fits files code heap workers able.decoded) [] (declared_methods files) code (methods_declared files members) able.decoded
     (nowhere (uses_fault (scope_of files)) (coded_methods files code) uses) wrong.0 (all_pools 0 files able.classes) in

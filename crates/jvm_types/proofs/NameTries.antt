@@ -1,5 +1,5 @@
 -- What the definitions of class names, descriptors, members and the layout say of small cases, by computing.
-use Rattle.std.proofs.Common.{◌≡◌, ℕ, pos, true, false, List, [], ◌∷◌, Some, None, refl}
+use Rattle.std.proofs.Common.{◌≡◌, ℕ, pos, negsuc, true, false, List, [], ◌∷◌, Some, None, refl}
 use Rattle.std.specs.Prelude.{replicate, codes}
 use Rattle.jvm_types.specs.ClassNames.{class_number, named_class, can_be_made}
 use Rattle.jvm_types.specs.Descriptors.{field_kind, method_signature}
@@ -152,3 +152,21 @@ laid_out : laid_out_fields names (with_fields (field 0 1 ∷ field 8 1 ∷ field
     ∷ record { class = 17; flags = 8; kind = kinds.Bool; index = 2071; start = pos 1 }
     ∷ record { class = 18; flags = 8; kind = kinds.Int; index = 2074; start = pos 7 } ∷ []
 laid_out = refl
+
+abbrev rv_pool : List Constant
+rv_pool = Gap ∷ Utf8 (codes "I") ∷ Utf8 (codes "Z") ∷ Integer (negsuc 0) ∷ Float 2 ∷ Utf8 (codes "A") ∷ Class 5 ∷ Integer (negsuc 1) ∷ Utf8 (codes "[I") ∷ []
+
+abbrev rv_field : (flags descriptor first second : ℕ) → ClassMember
+rv_field flags descriptor first second = record { flags = flags; name = 1; descriptor = descriptor; attrs = ConstantValue 0 first ∷ ConstantValue 0 second ∷ [] }
+
+abbrev rv_class : List ClassMember → ClassFile
+rv_class fields = record { minor = 0; major = 50; constants = rv_pool; flags = 0; this_class = 6; super_class = 0; interfaces = []; fields = fields; methods = []; attrs = [] }
+
+rv_laid_out : laid_out_fields names (rv_class (rv_field 8 2 3 4 ∷ rv_field 8 2 7 3 ∷ rv_field 8 1 4 3 ∷ rv_field 8 8 3 3 ∷ rv_field 0 1 3 3 ∷ rv_field 8 1 3 4 ∷ []) ∷ [])
+    ≡ record { class = 17; flags = 8; kind = kinds.Bool; index = 2070; start = pos 1 }
+    ∷ record { class = 17; flags = 8; kind = kinds.Bool; index = 2071; start = pos 0 }
+    ∷ record { class = 17; flags = 8; kind = kinds.Int; index = 2072; start = pos 0 }
+    ∷ record { class = 17; flags = 8; kind = kinds.Ref 2; index = 2073; start = pos 0 }
+    ∷ record { class = 17; flags = 0; kind = kinds.Int; index = 0; start = pos 0 }
+    ∷ record { class = 17; flags = 8; kind = kinds.Int; index = 2074; start = negsuc 0 } ∷ []
+rv_laid_out = refl

@@ -63,6 +63,8 @@ pub record IsFieldOf (p : Program) (before : List FieldInfo) (f : FieldInfo) : T
   pub ordered : AllByRecursion (λ e. e.class ≤ f.class) before
   pub kind : IsKindOf p f.kind
   pub index : f.index ≡ index_after before f
+  -- a class has at most 65,535 fields, which its file counts in two bytes
+  pub few : instances_among f.class before < 65535
   -- an int, of which the field keeps all; 0 where it is of a reference type or no static field
   pub start_fits : FitsSigned w32 f.start
   pub start_kept : f.start ≡ (if is_static f.flags then kept_int f.kind f.start else pos 0)
