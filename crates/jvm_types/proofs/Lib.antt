@@ -4,3 +4,5 @@ mod TypingTries
 pub mod CodeReading
 pub mod CodeLaws
 pub mod CodeOnce
+pub mod CodeWhole
+pub mod CodeExact
