@@ -6,3 +6,4 @@ pub mod CodeLaws
 pub mod CodeOnce
 pub mod CodeWhole
 pub mod CodeExact
+pub mod TypeOrder
