@@ -103,7 +103,7 @@ skipped : (front rest : List ℕ) (pc next : ℕ) → next ≡ pc + length front
 skipped [] rest pc next e = ap (λ n. reaches 0 n rest) (omega (arith, e))
 skipped (b ∷ front) rest pc next e = skipped front rest (pc + 1) next (omega (arith, e))
 
-abbrev reach_of : Insn → Reach
+abbrev pub reach_of : Insn → Reach
 reach_of insn = record { pc = insn.pc; targets = map pos (branches_to insn.op) }
 
 one_back : (pc next : ℕ) (op : Op) (front rest : List ℕ) (others : List Reach) → SpellsOp pc op front → next ≡ pc + length front → reaches 0 next rest ≡ Ok others
@@ -112,13 +112,13 @@ one_back pc next op front rest others h e more =
     let at : next ≡ pc + 1 + length h.operands = omega (arith, e, ap length h.is) in
     rw h.is (rw (known_back pc (form h.opcode) op h.operands rest (form_holds h.opcode) h.spelled) (rw (skipped h.operands rest (pc + 1) next at) (rw more refl)))
 
-reaches_back : (pc : ℕ) (insns : List Insn) (bytes : List ℕ) → SpellsInsns pc insns bytes → reaches 0 pc bytes ≡ Ok (map reach_of insns)
+pub reaches_back : (pc : ℕ) (insns : List Insn) (bytes : List ℕ) → SpellsInsns pc insns bytes → reaches 0 pc bytes ≡ Ok (map reach_of insns)
 reaches_back pc [] bytes h = rw h refl
 reaches_back pc (insn ∷ insns) bytes h = rw h.2 (rw h.3 (one_back pc insn.next insn.op h.0 h.1 (map reach_of insns) h.5 h.4 (reaches_back insn.next insns h.1 h.6)))
 
 -- ---- targets and rows
 
-starts_of : (insns : List Insn) (to : ℕ) → has_number (map (λ r. r.pc) (map reach_of insns)) to ≡ is_start insns to
+pub starts_of : (insns : List Insn) (to : ℕ) → has_number (map (λ r. r.pc) (map reach_of insns)) to ≡ is_start insns to
 starts_of [] to = refl
 starts_of (insn ∷ insns) to = rw (starts_of insns to) refl
 

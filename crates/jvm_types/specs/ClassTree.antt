@@ -1,7 +1,7 @@
 -- The classes by their numbers, and which is below which. Every class of a program is just below Object
 -- (this machine has no inheritance between them); of Java's tree of throwables the twelve built-in ones
 -- stand, without IndexOutOfBoundsException and VirtualMachineError between them (JVMS 2.10).
-use Rattle.std.specs.Prelude.{ℕ, Bool, false, ◌||◌, ◌==◌, if◌then◌else◌, List, [], ◌∷◌}
+use Rattle.std.specs.Prelude.{ℕ, slice_index_or, Bool, false, ◌||◌, ◌==◌, if◌then◌else◌, List, [], ◌∷◌}
 
 abbrev pub object_class : ℕ
 object_class = 1
@@ -15,14 +15,15 @@ print_stream_class = 3
 abbrev pub throwable_class : ℕ
 throwable_class = 4
 
--- the class just above; Object stands above itself. RuntimeException is 7, Exception 5 and Error 6.
+-- the class just above each built-in one, by its number: Exception 5 and Error 6 are below Throwable,
+-- RuntimeException 7 and InterruptedException 8 below Exception, 9 to 13 below RuntimeException, and 14 and 15
+-- below Error. Object stands above itself, and no class has the number 0.
+abbrev pub built_in_supers : List ℕ
+built_in_supers = 1 ∷ 1 ∷ 1 ∷ 1 ∷ 1 ∷ 4 ∷ 4 ∷ 5 ∷ 5 ∷ 7 ∷ 7 ∷ 7 ∷ 7 ∷ 7 ∷ 6 ∷ 6 ∷ []
+
+-- the class just above
 abbrev pub super_class : ℕ → ℕ
-super_class class =
-    if class == 5 || class == 6 then 4 else
-    if class == 7 || class == 8 then 5 else
-    if class == 9 || class == 10 || class == 11 || class == 12 || class == 13 then 7 else
-    if class == 14 || class == 15 then 6 else
-    object_class
+super_class class = slice_index_or built_in_supers class object_class
 
 -- a class and those above it: no class is more than four steps from Object, and so each list ends there
 abbrev pub ancestors : ℕ → List ℕ

@@ -1,7 +1,8 @@
 -- Why bytes are no code: the first rule that they break, and where. K5 goes first; then K1, K2 and K6 in one
 -- pass by pc; then K3 by pc; then K4 by rows. The rules are those of JVMS 4.9.1 and 4.9.2, cut to this
 -- machine's table; their order and numbers are its own.
-use Rattle.std.specs.Prelude.{◌≡◌, ℕ, zero, suc, ◌+◌, ◌*◌, ℤ, pos, ◌+ℤ◌, ◌-ℤ◌, nat_abs, int_lt, Bool, true, not, ◌==◌, ◌||◌, ◌&&◌, nat_lt, if◌then◌else◌, List, [], ◌∷◌, length, map, take, drop, Option, Some, None, Result, Ok, Err}
+use Rattle.std.specs.Prelude.{◌≡◌, ◌<◌, ◌^◌, ℕ, zero, suc, ◌+◌, ◌*◌, ℤ, pos, ◌+ℤ◌, ◌-ℤ◌, nat_abs, int_lt, Bool, true, not, ◌==◌, ◌||◌, ◌&&◌, nat_lt, if◌then◌else◌, List, [], ◌∷◌, length, map, take, drop, Option, Some, None, Result, Ok, Err}
+use Rattle.std.specs.List.{AllByRecursion}
 use Rattle.std.specs.Int.{w16, w32, cast_signed, from_be_bytes}
 use Rattle.jvm_types.specs.ClassTree.{has_number}
 use Rattle.jvm_types.specs.CodeTable.{Form, Plain, Byte, Short, SignedByte, SignedShort, Branch, WideBranch, LocalAndStep, IntArray, Table, Lookup, form}
@@ -106,13 +107,14 @@ pub record Reach : Type 0 where
   pub pc : ℕ
   pub targets : List ℤ
 
+abbrev pub followed : Reach → Result (List Reach) (KRule × ℕ) → Result (List Reach) (KRule × ℕ)
+followed r (Ok others) = Ok (r ∷ others)
+followed r (Err fault) = Err fault
+
+-- an instruction, and those that follow its operands
 abbrev pub joined : ℕ → Result Extent KRule → (ℕ → Result (List Reach) (KRule × ℕ)) → Result (List Reach) (KRule × ℕ)
 joined pc (Err rule) more = Err (rule, pc)
-joined pc (Ok e) more = with_more (more e.size)
-  where
-    with_more : Result (List Reach) (KRule × ℕ) → Result (List Reach) (KRule × ℕ)
-    with_more (Ok others) = Ok (record { pc = pc; targets = e.targets } ∷ others)
-    with_more (Err fault) = Err fault
+joined pc (Ok e) more = followed (record { pc = pc; targets = e.targets }) (more e.size)
 
 -- the instructions of the bytes from a pc on, of which the first few still belong to the instruction before;
 -- or the first of K1, K2 and K6
@@ -166,3 +168,7 @@ SpellsOnce = (bytes : List ℕ) (rows hs : List Handler) (insns others : List In
 -- what is code breaks no rule
 abbrev pub CodeIsFaultless : Type 0
 CodeIsFaultless = (bytes : List ℕ) (rows : List Handler) (insns : List Insn) → IsCode bytes rows insns → code_fault bytes rows ≡ None
+
+-- bytes that break no rule are code
+abbrev pub FaultlessIsCode : Type 0
+FaultlessIsCode = (bytes : List ℕ) (rows : List Handler) → AllByRecursion (λ b. b < 2 ^ 8) bytes → code_fault bytes rows ≡ None → (insns : List Insn) × IsCode bytes rows insns
