@@ -94,10 +94,11 @@ too_many = refl
 no_such_local : verified program (small (insn 0 1 (ops.Iload 0) ∷ insn 1 2 ops.Pop ∷ insn 2 3 ops.Return ∷ []) (nothing ∷ nothing ∷ nothing ∷ [])) ≡ Refused V3 0
 no_such_local = refl
 
--- the one argument has no local: the stack rules of pc 0 go before
+-- `this` has no local
 no_place_for_this : verified program (method 0 (codes "m") 1 0 (insn 0 1 ops.Return ∷ []) (nothing ∷ []) []) ≡ Refused V3 0
 no_place_for_this = refl
 
+-- the stack rules of pc 0 go before
 no_place_and_too_few : verified program (method 0 (codes "m") 1 0 (insn 0 1 ops.Pop ∷ []) (nothing ∷ []) []) ≡ Refused V1 0
 no_place_and_too_few = refl
 
@@ -223,6 +224,65 @@ loop : verified program (method 8 (codes "m") 1 1
     ≡ Typed (shape [] (Top ∷ []) ∷ shape (Int ∷ []) (Top ∷ []) ∷ shape [] (Top ∷ []) ∷ shape (Int ∷ []) (Top ∷ []) ∷ shape [] (Top ∷ []) ∷ shape (Null ∷ []) (Top ∷ [])
     ∷ shape [] (Null ∷ []) ∷ shape [] (Top ∷ []) ∷ [])
 loop = refl
+
+-- ---- edges to handlers and the order of rules
+
+abbrev two_nothings : List Target
+two_nothings = nothing ∷ nothing ∷ []
+
+abbrev to_handler : (start end handler : ℕ) → Row
+to_handler start end handler = record { start = start; end = end; handler = handler; catch_class = 0 }
+
+-- a handler that code falls into with two values on the stack
+handler_of_other_depth : verified program (method 8 (codes "m") 2 0
+    (insn 0 1 (ops.Iconst (pos 0)) ∷ insn 1 2 (ops.Iconst (pos 0)) ∷ insn 2 3 ops.Nop ∷ insn 3 4 ops.Pop ∷ insn 4 5 ops.Return ∷ [])
+    (nothing ∷ nothing ∷ nothing ∷ two_nothings) (to_handler 2 3 3 ∷ [])) ≡ Refused V5 3
+handler_of_other_depth = refl
+
+end_before_row : verified program (method 8 (codes "m") 0 0 (insn 0 1 ops.Nop ∷ []) (nothing ∷ []) (to_handler 0 1 0 ∷ [])) ≡ Refused V6 0
+end_before_row = refl
+
+depth_before_end : verified program (method 8 (codes "m") 2 0
+    (insn 0 1 (ops.Iconst (pos 0)) ∷ insn 1 2 (ops.Iconst (pos 0)) ∷ insn 2 5 (ops.If cmps.Eq 0) ∷ []) (nothing ∷ two_nothings) []) ≡ Refused V5 0
+depth_before_end = refl
+
+-- ---- returns
+
+other_class_returned : verified program (record (small (insn 0 3 (ops.Getstatic 26) ∷ insn 3 4 ops.Areturn ∷ []) (targets.Field 2 ∷ nothing ∷ [])) { result = Some (kinds.Ref 18) }) ≡ Refused V4 3
+other_class_returned = refl
+
+reference_where_void : verified program (small (insn 0 3 (ops.Getstatic 26) ∷ insn 3 4 ops.Areturn ∷ []) (targets.Field 2 ∷ nothing ∷ [])) ≡ Refused V8 3
+reference_where_void = refl
+
+int_as_reference : verified program (small (insn 0 1 (ops.Iconst (pos 0)) ∷ insn 1 2 ops.Areturn ∷ []) two_nothings) ≡ Refused V4 1
+int_as_reference = refl
+
+-- ---- `this` before it is initialised, and what `new` made
+
+back_with_this : verified program (method 0 (codes "<init>") 1 1 (insn 0 3 (ops.Goto 0) ∷ []) (nothing ∷ []) []) ≡ Refused V7 0
+back_with_this = refl
+
+-- `this` is initialised on one of two ways to the return
+started_on_one_way : verified program (record (method 0 (codes "<init>") 1 2
+    (insn 0 1 (ops.Iload 1) ∷ insn 1 4 (ops.If cmps.Eq 8) ∷ insn 4 5 (ops.Aload 0) ∷ insn 5 8 (ops.Invokespecial 19) ∷ insn 8 9 ops.Return ∷ [])
+    (nothing ∷ nothing ∷ nothing ∷ targets.Init 1 ∷ nothing ∷ []) []) { args = kinds.Int ∷ [] }) ≡ Refused V7 8
+started_on_one_way = refl
+
+static_init : verified program (method 8 (codes "<init>") 1 1 (insn 0 1 ops.Return ∷ []) (nothing ∷ []) []) ≡ Refused V7 0
+static_init = refl
+
+-- the handler finds the locals as they are before the `astore`
+new_stored_where_covered : verified program (method 8 (codes "m") 1 1
+    (insn 0 3 (ops.New 2) ∷ insn 3 4 (ops.Astore 0) ∷ insn 4 5 ops.Return ∷ insn 5 6 ops.Athrow ∷ []) (targets.Class 17 ∷ nothing ∷ two_nothings) (to_handler 3 4 5 ∷ []))
+    ≡ Typed (shape [] (Top ∷ []) ∷ shape (New 0 ∷ []) (Top ∷ []) ∷ shape [] (New 0 ∷ []) ∷ shape (Ref 4 ∷ []) (Top ∷ []) ∷ [])
+new_stored_where_covered = refl
+
+-- the top of three values goes below them
+copied_below_three : verified program (method 8 (codes "m") 4 0
+    (insn 0 1 (ops.Iconst (pos 0)) ∷ insn 1 2 ops.AconstNull ∷ insn 2 5 (ops.Getstatic 26) ∷ insn 5 6 ops.DupX2 ∷ insn 6 7 ops.Return ∷ [])
+    (nothing ∷ nothing ∷ targets.Field 2 ∷ two_nothings) [])
+    ≡ Typed (shape [] [] ∷ shape (Int ∷ []) [] ∷ shape (Null ∷ Int ∷ []) [] ∷ shape (Ref 17 ∷ Null ∷ Int ∷ []) [] ∷ shape (Ref 17 ∷ Null ∷ Int ∷ Ref 17 ∷ []) [] ∷ [])
+copied_below_three = refl
 
 -- ---- the tree of classes
 
