@@ -7,3 +7,4 @@ pub mod CodeOnce
 pub mod CodeWhole
 pub mod CodeExact
 pub mod TypeOrder
+pub mod ShapeOrder

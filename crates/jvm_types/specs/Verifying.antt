@@ -1,4 +1,4 @@
--- Verification by inference of types (JVMS 4.10.2): the rules at one instruction, its edges, and the visits.
+-- Verification by inference of types (JVMS 4.10.2, as SE 7 numbers it): the rules at one instruction, its edges, and the visits.
 -- The instruction that is visited next is the waiting one of least pc; the standard leaves this open.
 use Rattle.std.specs.Prelude.{◌≡◌, ◌≢◌, IsTrue, IsSomeAnd, ℕ, suc, ◌+◌, ◌-◌, Bool, true, false, not, ◌&&◌, ◌||◌, ◌==◌, nat_lt, nat_le, if◌then◌else◌, List, [], ◌∷◌, ◌++◌, length, map, Option, Some, None, Result, Ok, Err, slice_get, slice_set}
 use Rattle.std.specs.List.{list_any, filter, AllByRecursion, AllZip}
