@@ -96,7 +96,7 @@ names_no_local m (Some local) = nat_le m.max_locals local.0
 abbrev pub lacks_locals : MethodInfo → OpRow → Shape → Bool
 lacks_locals m r f = names_no_local m r.reads || names_no_local m r.writes || nat_lt m.max_locals (length f.locals)
 
--- whether a handler row covers a pc (JVMS 2.10)
+-- whether a handler row covers a pc (JVMS 2.10, as SE 7 numbers it)
 abbrev pub covers : ℕ → Row → Bool
 covers pc handler = nat_le handler.start pc && nat_lt pc handler.end
 
@@ -106,9 +106,9 @@ is_return ops.Areturn = true
 is_return ops.Return = true
 is_return op = false
 
--- V7, its five cases: a misused value; one that is uninitialised at a branch to a pc at or before it; one that
--- is uninitialised by `new` in a local where a handler row covers; an `<init>` that returns before `this` is
--- initialised. The standard forbids `this` too in such a local.
+-- V7, its cases: a misused value; one that is uninitialised at a branch to a pc at or before it; one that is
+-- uninitialised by `new` in a local where a handler row covers, where the standard forbids `this` too; an
+-- `<init>` that returns before `this` is initialised.
 abbrev pub misuses_object : MethodInfo → Insn → OpRow → Shape → Bool
 misuses_object m insn r f =
     some_operand (misuses m) r f
