@@ -3,15 +3,29 @@
 #![tactic(auto)]
 
 pub mod class_file;
+pub mod class_laws;
+pub mod code;
+pub mod code_laws;
 pub mod first;
 pub mod gate;
+pub mod index_kind;
+pub mod link_laws;
 pub mod outcome;
+pub mod program;
 pub mod refusal;
 pub mod rows;
+pub mod typing;
 
 pub use class_file::{Attr, ClassFile, Code, Constant, Handler, Member, MemberAttr};
+pub use class_laws::{
+    counts_fit, faults_inside, one_class, one_spelling, read_what_is_spelled, spelled_or_faulty,
+};
+pub use code::{Case, Cmp, Insn, Op};
 pub use first::FirstOp;
 pub use gate::{Gate, OpenGate};
+pub use index_kind::IndexKind;
 pub use outcome::{Counts, End, Outcome, Print, ThreadReport, Thrown};
+pub use program::{FieldInfo, Kind, MethodInfo, Program, Row, Target};
 pub use refusal::{CRule, KRule, LRule, NO_METHOD, Place, Rule, SRule, VRule};
 pub use rows::{Bytes, Rows};
+pub use typing::{TypeFrame, Typing, VType};
