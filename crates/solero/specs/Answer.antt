@@ -10,7 +10,7 @@ use Rattle.class_runner.specs.Report.{line, report_text}
 use Rattle.class_runner.specs.Refusal.{refusal_text}
 use Rattle.class_runner.specs.Loading.{first_file}
 use Rattle.solero.specs.Faults.{CountsFault}
-use Rattle.solero.specs.Shelf.{content_of}
+use Rattle.solero.specs.Shelf.{content_of, IsContentOf}
 use Rattle.solero.specs.declared.shelf.NamedFile.{NamedFile}
 use Rattle.solero.specs.declared.answer.Due.{Due}
 use Rattle.solero.specs.declared.answer.Due.TheVariants.{Report, Usage, Refusal, CannotRead, OutOfMemory}
@@ -47,15 +47,19 @@ pub record Reports (content text : List ℕ) : Type 0 where
   pub run : IsPlainOutcome ops outcome
   pub report : text ≡ report_text outcome
 
+-- a file that is refused: it is too long, or of no first form
+abbrev pub IsNotAccepted : List ℕ → Type 0
+IsNotAccepted content = (longest_file < length content) ⊎ IsNoFirstForm content
+
 -- What is due to a command, None where the words are not read, and to the files, None where the shelf does not tell
--- them. The shelf's count of faults goes from before to after.
+-- them. The shelf's count of faults goes from before to after. Want of memory may come to any command.
 abbrev pub IsDue : Option (List ℕ) → Option (List NamedFile) → ℕ → ℕ → Due → Type 0
 IsDue None files before after due = (due ≡ Usage) × (after ≡ before)
 IsDue (Some name) files before after Usage = ⊥
 IsDue (Some name) files before after CannotRead = CountsFault before after
 IsDue (Some name) files before after OutOfMemory = before ≤ after
-IsDue (Some name) files before after (Refusal text) = (after ≡ before) × (text ≡ not_built) × IfSome files (λ fs. (longest_file < length (content_of fs name)) ⊎ IsNoFirstForm (content_of fs name))
-IsDue (Some name) files before after (Report text) = (after ≡ before) × ((content : List ℕ) × (length content ≤ longest_file) × Reports content text × IfSome files (λ fs. content ≡ content_of fs name))
+IsDue (Some name) files before after (Refusal text) = (after ≡ before) × (text ≡ not_built) × IfSome files (λ fs. IsNotAccepted (content_of fs name))
+IsDue (Some name) files before after (Report text) = (after ≡ before) × ((content : List ℕ) × IsContentOf files name content × (length content ≤ longest_file) × Reports content text)
 
 -- what is due to the content of a file that is not too long
 abbrev pub IsRun : List ℕ → Due → Type 0

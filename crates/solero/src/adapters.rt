@@ -54,8 +54,10 @@ fn read_path<R: Files>(rt: &R, alloc: Global, path: &str, limit: u64) -> Result<
 // All that is left to read, where that is at most `limit` bytes. Of more, no more than a chunk is read.
 fn read_within<F: Read>(file: &mut F, alloc: Global, limit: u64) -> Result<Bytes, ShelfError>
     ensures within { IfOk result (λ content. length content ≤ limit) }
-    ensures whole { IfOk result (λ content. IfSome (F.remaining file.old) (λ bytes. content ≡ bytes)) }
-    ensures too_long { result ≡ Err ShelfError.TooLong → IfSome (F.remaining file.old) (λ bytes. limit < length bytes) }
+    ensures whole { IfOk result (λ content.
+        IfSome (F.remaining file.old) (λ bytes. content ≡ bytes)) }
+    ensures too_long { result ≡ Err ShelfError.TooLong →
+        IfSome (F.remaining file.old) (λ bytes. limit < length bytes) }
 {
     let mut content = Bytes::new(alloc);
     let mut chunk = [0; CHUNK];

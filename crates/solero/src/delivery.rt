@@ -9,7 +9,8 @@ const SINK_FAILED: u8 = 5;
 
 // Writes the whole text, or its front up to a fault of the sink.
 fn write_whole<K: Sink>(sink: &mut K, text: &[u8]) -> Result<(), SinkFailed>
-    ensures { IsWritten (K.text sink.old) (K.text sink.new) (K.faults sink.old) (K.faults sink.new) text.now result }
+    ensures { IsWritten (K.text sink.old) (K.text sink.new)
+        (K.faults sink.old) (K.faults sink.new) text.now result }
 {
     let mut written = 0;
     while written < text.len() {
@@ -20,7 +21,8 @@ fn write_whole<K: Sink>(sink: &mut K, text: &[u8]) -> Result<(), SinkFailed>
 
 /// Writes the text that is due, and answers its status, or 5 where the sink fails.
 pub fn deliver<K: Sink>(sink: &mut K, due: &Due) -> u8
-    ensures { Delivers (K.text sink.old) (K.text sink.new) (K.faults sink.old) (K.faults sink.new) due.now result }
+    ensures { Delivers (K.text sink.old) (K.text sink.new)
+        (K.faults sink.old) (K.faults sink.new) due.now result }
 {
     match write_whole(sink, due.text()) {
         Ok(()) => due.status(),

@@ -36,8 +36,10 @@ pub fn top<S: Shelf, K: Sink, G: Gate + Sync>(
 ) -> u8
     // What the words and the files are owed is written, and answered by its status.
     ensures answer { (due : TheDue)
-        × IsDue (command (texts words.now.items)) (S.files shelf.old) (S.faults shelf.old) (S.faults shelf.new) due
-        × Delivers (K.text sink.old) (K.text sink.new) (K.faults sink.old) (K.faults sink.new) due result }
+        × IsDue (command (texts words.now.items)) (S.files shelf.old)
+        (S.faults shelf.old) (S.faults shelf.new) due
+        × Delivers (K.text sink.old) (K.text sink.new)
+        (K.faults sink.old) (K.faults sink.new) due result }
     ensures files { S.files shelf.new ≡ S.files shelf.old }
 
     // Each status comes for its cause, and a fault of the sink goes before all.
@@ -56,7 +58,8 @@ pub fn top<S: Shelf, K: Sink, G: Gate + Sync>(
 
 // What is due to the words.
 fn work<S: Shelf>(alloc: Global, words: &Vec<String>, shelf: &mut S) -> Due
-    ensures due { IsDue (command (texts words.now.items)) (S.files shelf.old) (S.faults shelf.old) (S.faults shelf.new) result }
+    ensures due { IsDue (command (texts words.now.items)) (S.files shelf.old)
+        (S.faults shelf.old) (S.faults shelf.new) result }
     ensures files { S.files shelf.new ≡ S.files shelf.old }
 {
     match file_name(words) {
@@ -67,7 +70,8 @@ fn work<S: Shelf>(alloc: Global, words: &Vec<String>, shelf: &mut S) -> Due
 
 // What is due to the file of that name.
 fn work_on<S: Shelf>(alloc: Global, name: &str, shelf: &mut S) -> Due
-    ensures due { IsDue (Some name.now) (S.files shelf.old) (S.faults shelf.old) (S.faults shelf.new) result }
+    ensures due { IsDue (Some name.now) (S.files shelf.old)
+        (S.faults shelf.old) (S.faults shelf.new) result }
     ensures files { S.files shelf.new ≡ S.files shelf.old }
 {
     match shelf.read_file(alloc, name, LONGEST_FILE) {
@@ -95,7 +99,8 @@ fn run_file(alloc: Global, content: &Bytes) -> Due
 // The report of a run of the instructions.
 fn report_of(alloc: Global, ops: &Rows<FirstOp>) -> Result<Bytes, AllocError>
     requires { IsFirstRun ops.now }
-    ensures { IfOk result (λ text. (outcome : Outcome) × IsPlainOutcome ops.now outcome × (text ≡ report_text outcome)) }
+    ensures { IfOk result (λ text. (outcome : Outcome)
+        × IsPlainOutcome ops.now outcome × (text ≡ report_text outcome)) }
 {
     let outcome = run_first(alloc, ops)?;
     report(alloc, &outcome)

@@ -39,7 +39,8 @@ pub trait Shelf {
     /// The content of the file of that name, of at most `limit` bytes.
     fn read_file(&mut self, alloc: Global, name: &str, limit: u64) -> Result<Bytes, ShelfError>
         ensures files { files self.new ≡ files self.old }
-        ensures answer { IsRead (files self.old) name.now limit (faults self.old) (faults self.new) result };
+        ensures answer { IsRead (files self.old) name.now limit
+            (faults self.old) (faults self.new) result };
 }
 
 /// A file with its name.
@@ -85,7 +86,12 @@ impl Model for ListShelf {
 
     ghost Value = { Listed };
 
-    ghost view = { λ s. record { files = s.files; failing = s.failing; calls = s.calls; faults = s.faults } };
+    ghost view = { λ s. record {
+      files = s.files;
+      failing = s.failing;
+      calls = s.calls;
+      faults = s.faults;
+    } };
 }
 
 impl ListShelf {
@@ -109,7 +115,8 @@ impl Shelf for ListShelf {
 
     fn read_file(&mut self, alloc: Global, name: &str, limit: u64) -> Result<Bytes, ShelfError>
         ensures files { self.new.files ≡ self.old.files }
-        ensures answer { IsRead (Some self.old.files) name.now limit self.old.faults self.new.faults result }
+        ensures answer { IsRead (Some self.old.files) name.now limit
+            self.old.faults self.new.faults result }
         // Which calls fail, and what they leave.
         ensures failed { (result ≡ Err ShelfError.Failed) ↔ IsTrue (fails self.old name.now) }
         ensures after { self.new ≡ after_reading self.old name.now }

@@ -22,7 +22,8 @@ pub trait Sink {
     /// Accepts at least one byte from the front of the piece, and answers how many.
     fn write_some(&mut self, piece: &[u8]) -> Result<usize, SinkFailed>
         requires { 0 < length piece.now }
-        ensures { IsTaken (text self.old) (text self.new) (faults self.old) (faults self.new) piece.now result };
+        ensures { IsTaken (text self.old) (text self.new)
+            (faults self.old) (faults self.new) piece.now result };
 }
 
 /// A sink in memory. It accepts the bytes before a stated one and none from there on, and of one
@@ -41,7 +42,12 @@ impl Model for ListSink {
 
     ghost Value = { Accepting };
 
-    ghost view = { λ s. record { text = s.text; fails_from = s.fails_from; most = s.most; faults = s.faults } };
+    ghost view = { λ s. record {
+      text = s.text;
+      fails_from = s.fails_from;
+      most = s.most;
+      faults = s.faults;
+    } };
 
     ghost invariant = { λ s. 0 < s.most };
 }
@@ -97,8 +103,12 @@ impl Sink for ListSink {
 
     fn write_some(&mut self, piece: &[u8]) -> Result<usize, SinkFailed>
         requires { 0 < length piece.now }
-        ensures answer { IsTaken (Some self.old.text) (Some self.new.text) self.old.faults self.new.faults piece.now result }
-        ensures ok { IfOk result (λ n. (n ≡ accepted self.old (length piece.now)) × (self.new ≡ record self.old { text = self.old.text ++ take n piece.now })) }
+        ensures answer { IsTaken (Some self.old.text) (Some self.new.text)
+            self.old.faults self.new.faults piece.now result }
+        // How many bytes are accepted, and what else stays.
+        ensures count { IfOk result (λ n. n ≡ accepted self.old (length piece.now)) }
+        ensures ok { IfOk result (λ n.
+            self.new ≡ record self.old { text = self.old.text ++ take n piece.now }) }
         ensures err { OnErr result (self.new ≡ record self.old { faults = risen self.old.faults }) }
     {
         let count = self.accepted(piece.len());
