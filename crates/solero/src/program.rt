@@ -35,11 +35,9 @@ pub fn top<S: Shelf, K: Sink, G: Gate + Sync>(
     gate: &G,
 ) -> u8
     // What the words and the files are owed is written, and answered by its status.
-    ensures answer { (due : TheDue)
-        × IsDue (command (texts words.now.items)) (S.files shelf.old)
-        (S.faults shelf.old) (S.faults shelf.new) due
-        × Delivers (K.text sink.old) (K.text sink.new)
-        (K.faults sink.old) (K.faults sink.new) due result }
+    ensures answer { let named = command (texts words.now.items) in (due : TheDue)
+        × IsDue named (S.files shelf.old) (S.faults shelf.old) (S.faults shelf.new) due
+        × Delivers (K.text sink.old) (K.text sink.new) (K.faults sink.old) (K.faults sink.new) due result }
     ensures files { S.files shelf.new ≡ S.files shelf.old }
 
     // Each status comes for its cause, and a fault of the sink goes before all.
