@@ -1,10 +1,11 @@
-ghost use Rattle.std.specs.Prelude.{◌≡◌, List, IfOk, IfErr};
+ghost use Rattle.std.specs.Prelude.{◌≡◌, ◌≤◌, List, None, length, IfOk, IfErr, OnOk};
 ghost use Rattle.jvm_types.specs.FirstForm.{IsFirstForm, IsFirstRun};
-ghost use Rattle.class_runner.specs.Loading.{IsNotBuilt};
+ghost use Rattle.jvm_types.specs.ReadingClass.{class_fault};
+ghost use Rattle.class_runner.specs.Loading.{IsNotLoaded, in_first_file as first_place};
 ghost use Rattle.jvm_types.specs.declared.first.FirstOp.{FirstOp as Op};
 
 use crate::texts::RuleText;
-use class_reader::{FirstError, read_first};
+use class_reader::{FirstError, ReadError, read_class, read_first};
 use jvm_types::{Bytes, FirstOp, LRule, NO_METHOD, Place, Rows, Rule};
 use std::alloc::Global;
 use std::fmt;
@@ -36,26 +37,51 @@ impl fmt::Display for FileError {
     }
 }
 
-/// File 0, in no method, at 0.
-const FIRST_FILE: Place = Place {
-    file: 0,
-    method: NO_METHOD,
-    at: 0,
-};
+/// A place in file 0, in no method.
+fn in_first_file(at: u32) -> Place
+    ensures { result ≡ first_place at }
+{
+    Place {
+        file: 0,
+        method: NO_METHOD,
+        at,
+    }
+}
 
-/// The instructions of the one file, which has to be of the first form.
+/// The instructions of the one file, which has to spell a class of the first form.
 pub fn load_first(alloc: Global, bytes: &Bytes) -> Result<Rows<FirstOp>, FileError>
     ensures spelled { IfOk result (λ ops. IsFirstForm bytes.now ops) }
+    ensures faultless { OnOk result (class_fault bytes.now ≡ None) }
     ensures runs { IfOk result (λ ops. IsFirstRun ops) }
-    // A file of the first form has no other instructions, so it is answered with these or with Memory.
+    // A file of the first form has no other instructions, so it is answered with these; with Memory
+    // alone in their place, unless it is too long for a file.
     ensures only { (ops : List Op) → IsFirstForm bytes.now ops → IfOk result (λ found. found ≡ ops) }
-    // Another file is refused by L0 in file 0, in no method, at 0.
-    ensures refused { IfErr result (λ e. IsNotBuilt bytes.now e) }
+    ensures accepted { (ops : List Op) → IsFirstForm bytes.now ops → length bytes.now ≤ 1048576 → IfErr result (λ e. e ≡ FileError.Memory) }
+    // Another file is refused by its first fault, or as not built yet.
+    ensures refused { IfErr result (λ e. IsNotLoaded bytes.now e) }
+{
+    match read_class(alloc, bytes) {
+        Ok(_class) => load_class(alloc, bytes),
+        Err(ReadError::Memory) => Err(FileError::Memory),
+        Err(ReadError::Refused(rule, at)) => {
+            Err(FileError::Refused(Rule::C(rule), in_first_file(at)))
+        }
+    }
+}
+
+/// The instructions of a file that spells a class.
+fn load_class(alloc: Global, bytes: &Bytes) -> Result<Rows<FirstOp>, FileError>
+    requires { class_fault bytes.now ≡ None }
+    ensures spelled { IfOk result (λ ops. IsFirstForm bytes.now ops) }
+    ensures runs { IfOk result (λ ops. IsFirstRun ops) }
+    ensures only { (ops : List Op) → IsFirstForm bytes.now ops → IfOk result (λ found. found ≡ ops) }
+    ensures accepted { (ops : List Op) → IsFirstForm bytes.now ops → IfErr result (λ e. e ≡ FileError.Memory) }
+    ensures refused { IfErr result (λ e. IsNotLoaded bytes.now e) }
 {
     match read_first(alloc, bytes) {
         Ok(ops) => Ok(ops),
         Err(FirstError::Memory) => Err(FileError::Memory),
-        Err(FirstError::Other) => Err(FileError::Refused(Rule::L(LRule::L0), FIRST_FILE)),
+        Err(FirstError::Other) => { Err(FileError::Refused(Rule::L(LRule::L0), in_first_file(0))) }
     }
 }
 

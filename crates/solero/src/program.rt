@@ -6,7 +6,7 @@ ghost use Rattle.solero.specs.Faults.{CountsFault};
 ghost use Rattle.solero.specs.Command.{texts, command};
 ghost use Rattle.class_runner.specs.Refusal.{refusal_text};
 ghost use Rattle.jvm_types.specs.declared.outcome.Outcome.{Outcome};
-ghost use Rattle.solero.specs.Answer.{IsDue, IsRun, IsRefusal, not_built as first_refusal};
+ghost use Rattle.solero.specs.Answer.{IsDue, IsRun, IsRefusal, too_long_line};
 ghost use Rattle.solero.specs.Delivery.{Delivers};
 ghost use Rattle.solero.specs.declared.answer.Due.{Due as TheDue};
 
@@ -16,7 +16,7 @@ use crate::delivery::deliver;
 use crate::shelf::{Shelf, ShelfError};
 use crate::sink::Sink;
 use class_runner::{FileError, load_first, refusal, report};
-use jvm_types::{Bytes, FirstOp, Gate, LRule, NO_METHOD, Place, Rows, Rule};
+use jvm_types::{Bytes, CRule, FirstOp, Gate, NO_METHOD, Place, Rows, Rule};
 use std::alloc::{AllocError, Global};
 use step_core::run_first;
 
@@ -74,7 +74,7 @@ fn work_on<S: Shelf>(alloc: Global, name: &str, shelf: &mut S) -> Due
 {
     match shelf.read_file(alloc, name, LONGEST_FILE) {
         Ok(content) => run_file(alloc, &content),
-        Err(ShelfError::TooLong) => not_built(alloc),
+        Err(ShelfError::TooLong) => too_long(alloc),
         Err(ShelfError::Failed) => Due::CannotRead,
         Err(ShelfError::Memory) => Due::OutOfMemory,
     }
@@ -104,16 +104,16 @@ fn report_of(alloc: Global, ops: &Rows<FirstOp>) -> Result<Bytes, AllocError>
     report(alloc, &outcome)
 }
 
-// The file is refused, since what it needs is not built yet.
-fn not_built(alloc: Global) -> Due
-    ensures { IsRefusal first_refusal result }
+// The file is too long to be a class file.
+fn too_long(alloc: Global) -> Due
+    ensures { IsRefusal too_long_line result }
 {
     let place = Place {
         file: 0,
         method: NO_METHOD,
-        at: 0,
+        at: LONGEST_FILE as u32,
     };
-    refused(alloc, Rule::L(LRule::L0), place)
+    refused(alloc, Rule::C(CRule::C10), place)
 }
 
 // The line of a refusal.
