@@ -370,7 +370,7 @@ ops_short pool (op ∷ ops) bytes h =
 pub runs : (bytes : List ℕ) (ops : List FirstOp) → IsFirstForm bytes ops → IsFirstRun ops
 runs bytes ops form =
     let code = form.2.init.first in
-    record { most = form.2.init.code.max_stack; short = omega (arith, ops_short form.0.constants ops form.2.init.code.bytes code.spelled, code.short); ends = code.ends; within = code.within }
+    record { most = form.2.init.code.max_stack; room = omega (arith, code.slots); short = omega (arith, ops_short form.0.constants ops form.2.init.code.bytes code.spelled, code.short); ends = code.ends; within = code.within }
 
 pub found_runs : (bytes : List ℕ) (r : Result (List FirstOp) FirstError) → Finds (IsFirstForm bytes) r → IfOk r IsFirstRun
 found_runs bytes (Ok ops) f = runs bytes ops f.0

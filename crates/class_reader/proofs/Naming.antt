@@ -3,7 +3,7 @@ use Rattle.std.proofs.Common.{◌≡◌, ℕ, List, Option, Some, Decides, refl,
 use Rattle.std.specs.Prelude.{slice_get}
 use Rattle.std.proofs.lemmas.Slice.Eq.{bytes_eq-Decides}
 use Rattle.std.proofs.lemmas.Bool.Decides.{Decides-and}
-use Rattle.jvm_types.specs.Pool.{IsTextAt, IsClassAt, IsNameAndTypeAt, IsFieldAt, IsMethodAt, NamesText, NamesClass, NamesNameAndType}
+use Rattle.jvm_types.specs.Pool.{IsTextAt, IsClassAt, IsNameAndTypeAt, IsFieldAt, IsMethodAt, NamesUtf8, NamesClass, NamesNameAndType}
 use Rattle.jvm_types.specs.declared.class_file.Constant.{Constant}
 use Rattle.jvm_types.specs.declared.class_file.Constant.TheVariants.{Utf8, Class, Field, Method, NameAndType}
 use Rattle.class_reader.specs.Testing.{is_text, is_class, is_name_and_type, is_field, is_method, names_text, names_class, names_name_and_type}
@@ -71,11 +71,11 @@ is_method-Decides pool i owner text type = method_from pool i owner text type (s
 
 -- ---- the kinds that an entry needs
 
-pub names_text-Decides : (pool : List Constant) (i : ℕ) → Decides (names_text (slice_get pool i)) (NamesText pool i)
+pub names_text-Decides : (pool : List Constant) (i : ℕ) → Decides (names_text (slice_get pool i)) (NamesUtf8 pool i)
 unfolding names_text
 names_text-Decides pool i = from (slice_get pool i) refl
   where
-    from : (o : Option Constant) → slice_get pool i ≡ o → Decides (names_text o) (NamesText pool i)
+    from : (o : Option Constant) → slice_get pool i ≡ o → Decides (names_text o) (NamesUtf8 pool i)
     from (Some (Utf8 text)) e = (λ t. (text, e), λ h. refl)
     from o e = (λ t. absurd (cc), λ h. absurd (cc (sym h.1 ∙ e)))
 

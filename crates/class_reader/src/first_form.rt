@@ -43,12 +43,12 @@ fn find_ops(alloc: Global, bytes: &[u8]) -> Result<Rows<FirstOp>, FirstError>
 }
 
 /// The instructions of a file of the first form: one class whose static `init` adds and prints
-/// (JVMS, SE 6, chapter 4).
+/// (JVMS 4).
 pub fn read_first(alloc: Global, bytes: &Bytes) -> Result<Rows<FirstOp>, FirstError>
     // What is answered are the instructions that the bytes spell, and they may be run.
     ensures spelled { IfOk result (λ ops. IsFirstForm bytes.now ops) }
     ensures runs { IfOk result (λ ops. IsFirstRun ops) }
-    // A file of the first form has no other instructions, so it is answered with these.
+    // A file of the first form has no other instructions, so it is answered with these or with Memory.
     ensures only { (ops : List Op) → IsFirstForm bytes.now ops → IfOk result (λ found. found ≡ ops) }
     // Other comes exactly where the file is of no such form; memory may run out on any file.
     ensures other { (ops : List Op) → IsFirstForm bytes.now ops → result ≢ Err FirstError.Other }

@@ -24,7 +24,7 @@ use Rattle.jvm_types.proofs.IndexLaws.{index_reads, IsTextAt-from_test, test_fro
 attr_takes : (pool : List Constant) (bytes : List ℕ) → IsBytes bytes → Finds (attr_at pool bytes) (Took attr (IsAttr pool) bytes)
 unfolding attr_at
 attr_takes pool bytes fits =
-    on_step (index_reads kinds.Text pool) bytes fits _ _ λ name a.
+    on_step (index_reads kinds.Utf8 pool) bytes fits _ _ λ name a.
     on_step u4_reads name.1 a.rest _ _ λ n b.
     on_step (run_reads n.0) n.1 b.rest _ _ λ body c.
     record {
@@ -36,10 +36,10 @@ attr_takes pool bytes fits =
     }
 
 -- the bytes of an attribute are read again, whatever they are
-attr_again : (pool : List Constant) (a : Attr) (rest : List ℕ) → IsIndex kinds.Text pool a.name → attr_at pool (attr a ++ rest) ≡ Ok (a, rest)
+attr_again : (pool : List Constant) (a : Attr) (rest : List ℕ) → IsIndex kinds.Utf8 pool a.name → attr_at pool (attr a ++ rest) ≡ Ok (a, rest)
 unfolding attr_at
 attr_again pool a rest is =
-    rw ((index_reads kinds.Text pool).again a.name (u4 (length a.body) ++ (a.body ++ rest)) is, u4_again (length a.body) (a.body ++ rest), run_again a.body rest)
+    rw ((index_reads kinds.Utf8 pool).again a.name (u4 (length a.body) ++ (a.body ++ rest)) is, u4_again (length a.body) (a.body ++ rest), run_again a.body rest)
 
 pub attr_reads : (pool : List Constant) → Reads attr (IsAttr pool) (attr_at pool)
 attr_reads pool = record { takes = attr_takes pool; again = λ a rest is. attr_again pool a rest is.name }
@@ -226,7 +226,7 @@ method_attr_takes pool bytes fits =
     (λ e. record { same = refl; fits = (p.fits, no_IsTextAt text pool a.0.name e) })) λ m kept.
     record { ok = record { parts = p.parts ∙ ap (λ (x : List ℕ). x ++ a.1) kept.same; fits = kept.fits; rest = p.rest } }
 
-named_index : (pool : List Constant) (name : ℕ) (text : List ℕ) → IsNamed pool name text → IsIndex kinds.Text pool name
+named_index : (pool : List Constant) (name : ℕ) (text : List ℕ) → IsNamed pool name text → IsIndex kinds.Utf8 pool name
 named_index pool name text is = record { number = is.number; names = (text, is.named) }
 
 code_stands : (pool : List Constant) (c : Code) (behind : ℕ) → IsCode pool c → code_of pool (record { name = c.name; body = code_body c }) behind ≡ Ok (member_attrs.Code c)

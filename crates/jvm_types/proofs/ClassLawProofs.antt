@@ -5,15 +5,15 @@ use Rattle.jvm_types.specs.declared.class_file.ClassFile.{ClassFile}
 use Rattle.jvm_types.specs.ClassGrammar.{Spells}
 use Rattle.jvm_types.specs.ReadingSteps.{Fault}
 use Rattle.jvm_types.specs.ReadingClass.{read_class, fault_of, class_fault}
-use Rattle.jvm_types.specs.ClassLaws.{HasOneSpelling, SpellsOneClass, IsSpelledOrFaulty, FaultsLieInside}
+use Rattle.jvm_types.specs.ClassLaws.{HasAtMostOneSpelling, SpellsAtMostOneClass, IsSpelledOrFaulty, ReadsWhatIsSpelled, FaultsLieInside}
 use Rattle.jvm_types.proofs.StepLaws.{IsBytes, Finds}
 use Rattle.jvm_types.proofs.ClassReads.{read_takes, read_again}
 use Rattle.jvm_types.proofs.FaultPlaces.{read_near}
 
-pub one_spelling : HasOneSpelling
+pub one_spelling : HasAtMostOneSpelling
 one_spelling a b c p q = p.spelled ∙ sym q.spelled
 
-pub one_class : SpellsOneClass
+pub one_class : SpellsAtMostOneClass
 one_class bytes c d p q = let e = sym (read_again bytes c p) ∙ read_again bytes d q in cc
 
 read_from_none : {A : Type 0} (n : ℕ) (r : Result A Fault) (P : A → Type 0) → Finds r P → fault_of n r ≡ None → (x : A) × P x
@@ -36,3 +36,6 @@ spelled_if_read bytes c fits e = IfOk-at_ok (Spells bytes) e (read_takes bytes f
 
 pub read_if_spelled : (bytes : List ℕ) (c : ClassFile) → Spells bytes c → read_class bytes ≡ Ok c
 read_if_spelled bytes c spells = read_again bytes c spells
+
+pub reads_what_is_spelled : ReadsWhatIsSpelled
+reads_what_is_spelled bytes c fits = (spelled_if_read bytes c fits, read_if_spelled bytes c)

@@ -28,8 +28,8 @@ member_takes : (Fits : MemberAttr → Type 0) (item_at : List ℕ → Result (Me
 unfolding member_at
 member_takes Fits item_at reads pool bytes fits =
     on_step u2_reads bytes fits _ _ λ flags a.
-    on_step (index_reads kinds.Text pool) flags.1 a.rest _ _ λ name b.
-    on_step (index_reads kinds.Text pool) name.1 b.rest _ _ λ descriptor c.
+    on_step (index_reads kinds.Utf8 pool) flags.1 a.rest _ _ λ name b.
+    on_step (index_reads kinds.Utf8 pool) name.1 b.rest _ _ λ descriptor c.
     on_step (counted_reads member_attr Fits item_at reads) descriptor.1 c.rest _ _ λ attrs d.
     record {
       ok = record {
@@ -46,8 +46,8 @@ member_again Fits item_at reads pool m rest is =
     let tail : List ℕ = counted member_attr m.attrs ++ rest in
     rw (
       u2_again m.flags (u2 m.name ++ (u2 m.descriptor ++ tail)),
-      (index_reads kinds.Text pool).again m.name (u2 m.descriptor ++ tail) is.name,
-      (index_reads kinds.Text pool).again m.descriptor tail is.descriptor,
+      (index_reads kinds.Utf8 pool).again m.name (u2 m.descriptor ++ tail) is.name,
+      (index_reads kinds.Utf8 pool).again m.descriptor tail is.descriptor,
       (counted_reads member_attr Fits item_at reads).again m.attrs rest is.attrs,
     )
 

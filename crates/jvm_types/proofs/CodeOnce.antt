@@ -5,7 +5,7 @@ use Rattle.std.specs.List.{AllByRecursion, flat_map}
 use Rattle.std.specs.Int.{w8, w16, w32, cast_signed, from_be_bytes}
 use Rattle.std.proofs.lemmas.Int.{to_z-of_z}
 use Rattle.jvm_types.specs.Numbers.{s4}
-use Rattle.jvm_types.specs.CodeTable.{Form, Plain, Byte, Short, SignedByte, SignedShort, Branch, WideBranch, LocalAndStep, IntArray, Table, Lookup, form}
+use Rattle.jvm_types.specs.CodeTable.{Form, Plain, Byte, Short, SignedByte, SignedShort, Branch, WideBranch, LocalAndStep, IntArray, Table, Lookup, form_of}
 use Rattle.jvm_types.specs.CodeGrammar.{offset, padding_size, spelled_case, SpellsTable, SpellsLookup, SpellsOperands, SpellsInsns}
 use Rattle.jvm_types.specs.CodeFault.{Extent, s2_of, s4_of, landing, offsets, known_extent, SpellsOnce}
 use Rattle.jvm_types.specs.declared.code.Case.{Case}
@@ -109,7 +109,7 @@ with_insn pc f e rest more = []
 abbrev pub insns_of : ℕ → ℕ → List ℕ → List Insn
 insns_of skip pc [] = []
 insns_of (suc skip) pc (b ∷ rest) = insns_of skip (pc + 1) rest
-insns_of zero pc (b ∷ rest) = with_insn pc (form b) (known_extent pc (form b) rest) rest (λ size. insns_of size (pc + 1) rest)
+insns_of zero pc (b ∷ rest) = with_insn pc (form_of b) (known_extent pc (form_of b) rest) rest (λ size. insns_of size (pc + 1) rest)
 
 passed : (front rest : List ℕ) (pc next : ℕ) → next ≡ pc + length front → insns_of (length front) pc (front ++ rest) ≡ insns_of 0 next rest
 passed [] rest pc next e = ap (λ n. insns_of 0 n rest) (omega (arith, e))
@@ -129,7 +129,7 @@ insns_back : (pc : ℕ) (insns : List Insn) (bytes : List ℕ) → SpellsInsns p
 insns_back pc [] bytes h = rw h refl
 insns_back pc (i ∷ insns) bytes h =
     let at : pc + 1 + length h.5.operands ≡ i.next = omega (arith, h.4, ap length h.5.is) in
-    rw h.2 (rw h.5.is (with_back pc (form h.5.opcode) i.op h.5.operands h.1 i (λ size. insns_of size (pc + 1) (h.5.operands ++ h.1)) insns (form_holds h.5.opcode) h.5.spelled (sym h.3) at refl
+    rw h.2 (rw h.5.is (with_back pc (form_of h.5.opcode) i.op h.5.operands h.1 i (λ size. insns_of size (pc + 1) (h.5.operands ++ h.1)) insns (form_holds h.5.opcode) h.5.spelled (sym h.3) at refl
     (passed h.5.operands h.1 (pc + 1) i.next (sym at) ∙ insns_back i.next insns h.1 h.6)))
 
 pub once : SpellsOnce

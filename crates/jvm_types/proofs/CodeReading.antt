@@ -10,7 +10,7 @@ use Rattle.std.proofs.Common.{length-append}
 use Rattle.jvm_types.specs.Numbers.{u1, u2, u4, s4}
 use Rattle.jvm_types.specs.CodeTable.{Form, Plain, Byte, Short, SignedByte, SignedShort, Branch, WideBranch, LocalAndStep, IntArray, Table, Lookup, branches_to}
 use Rattle.jvm_types.specs.CodeGrammar.{s1, s2, offset, padding_size, spelled_case, Ascend, SpellsOperands}
-use Rattle.jvm_types.specs.CodeFault.{Extent, s2_of, s4_of, landing, sized, offsets, case_offsets, ascend, table_extent, lookup_extent, extent}
+use Rattle.jvm_types.specs.CodeFault.{Extent, s2_of, s4_of, landing, sized, offsets, case_offsets, ascend, table_extent, lookup_extent, extent_of}
 use Rattle.jvm_types.specs.declared.code.Case.{Case}
 use Rattle.jvm_types.specs.declared.code.Op.{Op}
 use Rattle.jvm_types.specs.declared.refusal.KRule.{KRule}
@@ -153,19 +153,19 @@ FormLaw Lookup = Unit {0}
 abbrev sized_as : ℕ → List ℤ → Result Extent KRule
 sized_as size ts = Ok (record { size = size; targets = ts })
 
-abbrev pub extent_of : ℕ → List ℕ → Result Extent KRule
-extent_of size tos = Ok (record { size = size; targets = map pos tos })
+abbrev pub extent_with : ℕ → List ℕ → Result Extent KRule
+extent_with size tos = Ok (record { size = size; targets = map pos tos })
 
 same_size : (m n : ℕ) (ts : List ℤ) → m ≡ n → sized_as m ts ≡ sized_as n ts
 same_size m n ts e = rw e refl
 
-near_back : (pc to : ℕ) (rest : List ℕ) → FitsSigned w16 (offset pc to) → sized 2 (landing pc (s2_of (s2 (offset pc to) ++ rest)) ∷ []) (s2 (offset pc to) ++ rest) ≡ extent_of 2 (to ∷ [])
+near_back : (pc to : ℕ) (rest : List ℕ) → FitsSigned w16 (offset pc to) → sized 2 (landing pc (s2_of (s2 (offset pc to) ++ rest)) ∷ []) (s2 (offset pc to) ++ rest) ≡ extent_with 2 (to ∷ [])
 near_back pc to rest h = sized_back 2 2 _ (pos to ∷ []) (s2 (offset pc to) ++ rest) (omega arith) refl (same_cons _ _ [] [] (landed_near pc to rest h) refl)
 
-wide_back : (pc to : ℕ) (rest : List ℕ) → FitsSigned w32 (offset pc to) → sized 4 (landing pc (s4_of (s4 (offset pc to) ++ rest)) ∷ []) (s4 (offset pc to) ++ rest) ≡ extent_of 4 (to ∷ [])
+wide_back : (pc to : ℕ) (rest : List ℕ) → FitsSigned w32 (offset pc to) → sized 4 (landing pc (s4_of (s4 (offset pc to) ++ rest)) ∷ []) (s4 (offset pc to) ++ rest) ≡ extent_with 4 (to ∷ [])
 wide_back pc to rest h = sized_back 4 4 _ (pos to ∷ []) (s4 (offset pc to) ++ rest) (omega arith) refl (same_cons _ _ [] [] (landed_at pc to rest h) refl)
 
-pub extent_back : (pc : ℕ) (f : Form) (op : Op) (operands rest : List ℕ) → FormLaw f → SpellsOperands pc f op operands → extent pc f (operands ++ rest) ≡ extent_of (length operands) (branches_to op)
+pub extent_back : (pc : ℕ) (f : Form) (op : Op) (operands rest : List ℕ) → FormLaw f → SpellsOperands pc f op operands → extent_of pc f (operands ++ rest) ≡ extent_with (length operands) (branches_to op)
 extent_back pc (Plain plain) op operands rest law h = rw h.0 (rw h.1 (rw law refl))
 extent_back pc (Byte make) op operands rest law h = rw h.1 (rw h.2 (rw (law h.0) (sized_back 1 1 [] [] (u1 h.0 ++ rest) (omega arith) refl refl)))
 extent_back pc (Short make) op operands rest law h = rw h.1 (rw h.2 (rw (law h.0) (sized_back 2 2 [] [] (u2 h.0 ++ rest) (omega arith) refl refl)))

@@ -1,7 +1,7 @@
 -- What the definitions of code say of small codes, by computing.
 use Rattle.std.proofs.Common.{◌≡◌, [], ◌∷◌, Some, None, refl}
 use Rattle.std.specs.Prelude.{ℕ, List, filter, is_some, zero, suc}
-use Rattle.jvm_types.specs.CodeTable.{form}
+use Rattle.jvm_types.specs.CodeTable.{form_of}
 use Rattle.jvm_types.specs.CodeFault.{code_fault}
 use Rattle.jvm_types.specs.declared.refusal.KRule.TheVariants.{K1, K2, K3, K4, K5, K6}
 
@@ -73,7 +73,7 @@ below zero bs = bs
 below (suc n) bs = below n (n ∷ bs)
 
 abbrev known : List ℕ → List ℕ
-known bs = filter (λ b. is_some (form b)) bs
+known bs = filter (λ b. is_some (form_of b)) bs
 
 opcodes : known (below 256 []) ≡
     0x00 ∷ 0x01 ∷ 0x02 ∷ 0x03 ∷ 0x04 ∷ 0x05 ∷ 0x06 ∷ 0x07 ∷ 0x08 ∷ 0x10 ∷ 0x11 ∷ 0x12 ∷ 0x13

@@ -12,7 +12,7 @@ use Rattle.std.proofs.lemmas.Bool.Decides.{nat_tests}
 use Rattle.jvm_types.specs.Numbers.{u1, u2, u4, s4}
 use Rattle.jvm_types.specs.CodeTable.{Form, Plain, Byte, Short, SignedByte, SignedShort, Branch, WideBranch, LocalAndStep, IntArray, Table, Lookup}
 use Rattle.jvm_types.specs.CodeGrammar.{s1, s2, offset, padding_size, spelled_case, Ascend, SpellsTable, SpellsLookup, SpellsOperands}
-use Rattle.jvm_types.specs.CodeFault.{Extent, s2_of, s4_of, landing, sized, offsets, case_offsets, ascend, array_extent, table_of, table_extent, lookup_of, lookup_extent, extent}
+use Rattle.jvm_types.specs.CodeFault.{Extent, s2_of, s4_of, landing, sized, offsets, case_offsets, ascend, array_extent, table_of, table_extent, lookup_of, lookup_extent, extent_of}
 use Rattle.jvm_types.specs.declared.code.Op.{Op}
 use Rattle.jvm_types.specs.declared.refusal.KRule.{KRule}
 use Rattle.jvm_types.specs.declared.refusal.KRule.TheVariants.{K1, K2, K6}
@@ -339,7 +339,7 @@ lookup_whole pc rest body e is b t l =
     (subst (λ (x : List ℕ). SpellsLookup pc (lookup_op pc x) (take (padding_size pc + (8 + 8 * n)) rest)) (sym is) (lookup_spelled pc rest body is b t.fits t.counted t.up lands.0 lands.1))
 
 -- the same, with its extent named
-pub whole : (pc : ℕ) (f : Form) (rest : List ℕ) (e : Extent) → AreBytes rest → extent pc f rest ≡ Ok e → AllByRecursion Lands e.targets → IsWhole pc f rest e
+pub whole : (pc : ℕ) (f : Form) (rest : List ℕ) (e : Extent) → AreBytes rest → extent_of pc f rest ≡ Ok e → AllByRecursion Lands e.targets → IsWhole pc f rest e
 whole pc (Plain op) rest e b h l = as_whole pc (Plain op) rest e 0 [] (cc) (omega arith) (refl, refl)
 whole pc (Byte make) [] e b h l = absurd (omega (arith, (sized_is 1 [] [] e h).0))
 whole pc (Byte make) (x ∷ rest) e b h l = let is = sized_is 1 [] (x ∷ rest) e h in as_whole pc (Byte make) (x ∷ rest) e 1 [] is.1 is.0 (x, refl, refl, b.0)

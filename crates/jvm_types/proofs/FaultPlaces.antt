@@ -213,12 +213,12 @@ both_near most kind other pool i j left le = near_wanted most (names kind pool i
 
 entry_near : (most : ℕ) (pool : List Constant) (c : Constant) (last : Bool) (left : ℕ) → left ≤ most → Near most (entry_wanted pool c last left)
 unfolding entry_wanted
-entry_near most pool (Class name) last left le = just_wanted most (names kinds.Text pool name) C5 (left - 1) (omega arith)
-entry_near most pool (Text string) last left le = just_wanted most (names kinds.Text pool string) C5 (left - 1) (omega arith)
+entry_near most pool (Class name) last left le = just_wanted most (names kinds.Utf8 pool name) C5 (left - 1) (omega arith)
+entry_near most pool (Text string) last left le = just_wanted most (names kinds.Utf8 pool string) C5 (left - 1) (omega arith)
 entry_near most pool (Field m n) last left le = both_near most kinds.Class kinds.NameAndType pool m n left le
 entry_near most pool (Method m n) last left le = both_near most kinds.Class kinds.NameAndType pool m n left le
 entry_near most pool (InterfaceMethod m n) last left le = both_near most kinds.Class kinds.NameAndType pool m n left le
-entry_near most pool (NameAndType m n) last left le = both_near most kinds.Text kinds.Text pool m n left le
+entry_near most pool (NameAndType m n) last left le = both_near most kinds.Utf8 kinds.Utf8 pool m n left le
 entry_near most pool c last left le = just_wanted most (not (is_wide c && last)) C5 left le
 
 entries_wanted_near : (most : ℕ) (pool cs : List Constant) (left : ℕ) → left ≤ most → Near most (entries_wanted pool cs left)
@@ -246,7 +246,7 @@ unfolding attr_at
 attr_placed pool = record {
   reads = attr_reads pool;
   near = λ bytes fits.
-      near_step (index_placed kinds.Text pool) (length bytes) bytes fits (omega arith) _ λ name a short.
+      near_step (index_placed kinds.Utf8 pool) (length bytes) bytes fits (omega arith) _ λ name a short.
       near_step u4_placed (length bytes) name.1 a.rest short _ λ n b shorter.
       near_step (run_placed n.0) (length bytes) n.1 b.rest shorter _ λ body c shortest.
       record { place = tt };
@@ -349,8 +349,8 @@ member_placed Fits item_at placed pool = record {
   near = λ bytes fits.
       let most : ℕ = length bytes in
       near_step u2_placed most bytes fits (omega arith) _ λ flags a p.
-      near_step (index_placed kinds.Text pool) most flags.1 a.rest p _ λ name b q.
-      near_step (index_placed kinds.Text pool) most name.1 b.rest q _ λ descriptor c r.
+      near_step (index_placed kinds.Utf8 pool) most flags.1 a.rest p _ λ name b q.
+      near_step (index_placed kinds.Utf8 pool) most name.1 b.rest q _ λ descriptor c r.
       near_step (counted_placed member_attr Fits item_at placed) most descriptor.1 c.rest r _ λ attrs d s.
       record { place = tt };
 }

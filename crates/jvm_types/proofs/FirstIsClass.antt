@@ -95,7 +95,7 @@ code_is pool c ops fits is =
       attrs = rw is.attrs (record { count = omega arith; each = tt });
     }
 
-text_index : (pool : List Constant) (i : ℕ) (text : List ℕ) → length pool < 2 ^ 16 → IsTextAt pool i text → IsIndex kinds.Text pool i
+text_index : (pool : List Constant) (i : ℕ) (text : List ℕ) → length pool < 2 ^ 16 → IsTextAt pool i text → IsIndex kinds.Utf8 pool i
 text_index pool i text fits is = let p = slice_get_within pool i _ is in record { number = omega arith; names = (text, is) }
 
 class_index : (pool : List Constant) (i : ℕ) (text : List ℕ) → length pool < 2 ^ 16 → IsClassAt pool i text → IsIndex kinds.Class pool i

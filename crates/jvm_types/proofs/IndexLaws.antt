@@ -16,7 +16,7 @@ use Rattle.jvm_types.proofs.StepLaws.{on_wanted, Reads, on_step, u2_reads, u2_ag
 
 -- ---- entries of a kind
 
-text_of : (o : Option Constant) → is_of kinds.Text o ≡ true → (text : List ℕ) × (o ≡ Some (Utf8 text))
+text_of : (o : Option Constant) → is_of kinds.Utf8 o ≡ true → (text : List ℕ) × (o ≡ Some (Utf8 text))
 text_of (Some (Utf8 text)) e = (text, refl)
 text_of o e = absurd cc
 
@@ -55,7 +55,7 @@ caught pool i true e h = inl (eqb-true _ _ e)
 caught pool i false e h = inr (catch_of (slice_get pool i) h)
 
 pub Names-from_test : (kind : IndexKind) (pool : List Constant) (i : ℕ) → names kind pool i ≡ true → Names kind pool i
-Names-from_test kinds.Text pool i e = text_of (slice_get pool i) e
+Names-from_test kinds.Utf8 pool i e = text_of (slice_get pool i) e
 Names-from_test kinds.Class pool i e = class_of (slice_get pool i) e
 Names-from_test kinds.NameAndType pool i e = member_of (slice_get pool i) e
 Names-from_test kinds.Value pool i e = value_of (slice_get pool i) e
@@ -67,7 +67,7 @@ catches pool i false e (inl none) = absurd (eqb-false i 0 e none)
 catches pool i false e (inr class) = ap (is_of kinds.CatchType) class.1
 
 pub test_from_Names : (kind : IndexKind) (pool : List Constant) (i : ℕ) → Names kind pool i → names kind pool i ≡ true
-test_from_Names kinds.Text pool i h = ap (is_of kinds.Text) h.1
+test_from_Names kinds.Utf8 pool i h = ap (is_of kinds.Utf8) h.1
 test_from_Names kinds.Class pool i h = ap (is_of kinds.Class) h.1
 test_from_Names kinds.NameAndType pool i h = ap (is_of kinds.NameAndType) h.2
 test_from_Names kinds.Value pool i h = ap (is_of kinds.Value) h.1 ∙ is_value h.0 h.2

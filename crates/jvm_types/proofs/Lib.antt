@@ -23,6 +23,7 @@ pub mod CodeOnce
 pub mod AttrLaws
 pub mod ClassReads
 pub mod ClassLawProofs
+pub mod CountLaws
 pub mod WorkedFiles
 pub mod FaultPlaces
 pub mod LoopLaws
@@ -30,3 +31,4 @@ pub mod FirstIsClass
 pub mod CodeWhole
 pub mod CodeExact
 pub mod TypeOrder
+pub mod ShapeOrder

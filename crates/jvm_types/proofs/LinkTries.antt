@@ -190,41 +190,41 @@ most_statics = refl
 too_many_statics : word_pass (class 2 4 0 (replicate 2027 (field 8)) [] ∷ []) 4096 ≡ Some (L8, in_file 0 0)
 too_many_statics = refl
 
--- ---- review
+-- ---- `wait` and `<init>` of a program's own, and the order of the passes
 
-rv_wait : targets_of (program_of (class 2 4 0 [] (coded 8 5 6 [] ∷ coded 0 39 6 [] ∷ []) ∷ []) (insns 0 (Invokevirtual 40 ∷ Invokevirtual 36 ∷ Return ∷ []) ∷ [] ∷ []) 65536 0).methods
+own_wait : targets_of (program_of (class 2 4 0 [] (coded 8 5 6 [] ∷ coded 0 39 6 [] ∷ []) ∷ []) (insns 0 (Invokevirtual 40 ∷ Invokevirtual 36 ∷ Return ∷ []) ∷ [] ∷ []) 65536 0).methods
     ≡ (targets.Method 1 ∷ targets.Nothing ∷ targets.Nothing ∷ []) ∷ [] ∷ []
-rv_wait = refl
+own_wait = refl
 
-rv_private_wait : link_fault (class 2 4 0 [] (coded 2 39 6 [] ∷ []) ∷ class 32 4 0 [] (coded 8 5 6 [] ∷ coded 8 49 6 [] ∷ []) ∷ []) ([] ∷ [] ∷ insns 0 (Nop ∷ Invokevirtual 40 ∷ []) ∷ []) 65536 0 ≡ Some (L3, in_method 1 1 3)
-rv_private_wait = refl
+private_wait : link_fault (class 2 4 0 [] (coded 2 39 6 [] ∷ []) ∷ class 32 4 0 [] (coded 8 5 6 [] ∷ coded 8 49 6 [] ∷ []) ∷ []) ([] ∷ [] ∷ insns 0 (Nop ∷ Invokevirtual 40 ∷ []) ∷ []) 65536 0 ≡ Some (L3, in_method 1 1 3)
+private_wait = refl
 
-rv_static_wait : link_fault (class 2 4 0 [] (coded 8 39 6 [] ∷ []) ∷ []) (insns 0 (Invokevirtual 40 ∷ []) ∷ []) 65536 0 ≡ Some (L2, in_method 0 0 0)
-rv_static_wait = refl
+static_wait : link_fault (class 2 4 0 [] (coded 8 39 6 [] ∷ []) ∷ []) (insns 0 (Invokevirtual 40 ∷ []) ∷ []) 65536 0 ≡ Some (L2, in_method 0 0 0)
+static_wait = refl
 
-rv_pass_order : link_fault (class 2 4 0 (record { flags = 0; name = 26; descriptor = 47; attrs = [] } ∷ []) [] ∷ class 32 30 0 [] [] ∷ []) [] 65536 0 ≡ Some (L6, in_file 1 0)
-rv_pass_order = refl
+classes_before_members : link_fault (class 2 4 0 (record { flags = 0; name = 26; descriptor = 47; attrs = [] } ∷ []) [] ∷ class 32 30 0 [] [] ∷ []) [] 65536 0 ≡ Some (L6, in_file 1 0)
+classes_before_members = refl
 
-rv_l6_l5 : link_fault (class 9 30 0 [] [] ∷ []) [] 65536 0 ≡ Some (L6, in_file 0 0)
-rv_l6_l5 = refl
+superclass_before_name : link_fault (class 9 30 0 [] [] ∷ []) [] 65536 0 ≡ Some (L6, in_file 0 0)
+superclass_before_name = refl
 
-rv_l5_before_l6_of_next : link_fault (class 9 4 0 [] [] ∷ class 2 30 0 [] [] ∷ []) [] 65536 0 ≡ Some (L5, in_file 0 0)
-rv_l5_before_l6_of_next = refl
+file_by_file : link_fault (class 9 4 0 [] [] ∷ class 2 30 0 [] [] ∷ []) [] 65536 0 ≡ Some (L5, in_file 0 0)
+file_by_file = refl
 
-rv_row_before_next_method : link_fault (class 2 4 0 [] (coded 8 5 6 (row 2 22 ∷ []) ∷ coded 8 49 6 [] ∷ []) ∷ []) (insns 0 (Nop ∷ []) ∷ insns 0 (Ldc 0 ∷ []) ∷ []) 65536 0 ≡ Some (L1, in_method 0 0 2)
-rv_row_before_next_method = refl
+row_before_next_method : link_fault (class 2 4 0 [] (coded 8 5 6 (row 2 22 ∷ []) ∷ coded 8 49 6 [] ∷ []) ∷ []) (insns 0 (Nop ∷ []) ∷ insns 0 (Ldc 0 ∷ []) ∷ []) 65536 0 ≡ Some (L1, in_method 0 0 2)
+row_before_next_method = refl
 
-rv_private_init : link_fault (class 2 4 0 [] (coded 8 5 6 [] ∷ []) ∷ class 32 4 0 [] (coded 2 38 6 [] ∷ []) ∷ []) (insns 0 (Invokespecial 35 ∷ []) ∷ [] ∷ []) 65536 0 ≡ Some (L3, in_method 0 0 0)
-rv_private_init = refl
+private_init : link_fault (class 2 4 0 [] (coded 8 5 6 [] ∷ []) ∷ class 32 4 0 [] (coded 2 38 6 [] ∷ []) ∷ []) (insns 0 (Invokespecial 35 ∷ []) ∷ [] ∷ []) 65536 0 ≡ Some (L3, in_method 0 0 0)
+private_init = refl
 
-rv_methods_after_fields : link_fault (class 2 4 0 (field 0 ∷ field 8 ∷ []) (coded 40 49 47 [] ∷ []) ∷ []) ([] ∷ []) 65536 0 ≡ Some (L5, in_file 0 1)
-rv_methods_after_fields = refl
+fields_before_methods : link_fault (class 2 4 0 (field 0 ∷ field 8 ∷ []) (coded 40 49 47 [] ∷ []) ∷ []) ([] ∷ []) 65536 0 ≡ Some (L5, in_file 0 1)
+fields_before_methods = refl
 
-rv_method_l1_l5_l9 : link_fault (class 32 4 0 [] [] ∷ class 2 4 0 [] (coded 8 49 6 [] ∷ coded 40 49 6 [] ∷ []) ∷ []) ([] ∷ [] ∷ []) 65536 0 ≡ Some (L5, in_method 1 1 0)
-rv_method_l1_l5_l9 = refl
+repeated_before_synchronized : link_fault (class 32 4 0 [] [] ∷ class 2 4 0 [] (coded 8 49 6 [] ∷ coded 40 49 6 [] ∷ []) ∷ []) ([] ∷ [] ∷ []) 65536 0 ≡ Some (L5, in_method 1 1 0)
+repeated_before_synchronized = refl
 
-rv_l4_l8 : link_fault (class 2 4 0 (replicate 1 (field 8)) (coded 0 5 6 [] ∷ []) ∷ []) ([] ∷ []) 10 0 ≡ Some (L4, in_file 0 0)
-rv_l4_l8 = refl
+roots_before_words : link_fault (class 2 4 0 (replicate 1 (field 8)) (coded 0 5 6 [] ∷ []) ∷ []) ([] ∷ []) 10 0 ≡ Some (L4, in_file 0 0)
+roots_before_words = refl
 
-rv_out_wait_from_system : with_init [] (Invokevirtual 36 ∷ []) ≡ Some (L2, in_method 0 0 0)
-rv_out_wait_from_system = refl
+init_from_elsewhere : with_init [] (Invokevirtual 36 ∷ []) ≡ Some (L2, in_method 0 0 0)
+init_from_elsewhere = refl

@@ -153,20 +153,21 @@ laid_out : laid_out_fields names (with_fields (field 0 1 ∷ field 8 1 ∷ field
     ∷ record { class = 18; flags = 8; kind = kinds.Int; index = 2074; start = pos 7 } ∷ []
 laid_out = refl
 
-abbrev rv_pool : List Constant
-rv_pool = Gap ∷ Utf8 (codes "I") ∷ Utf8 (codes "Z") ∷ Integer (negsuc 0) ∷ Float 2 ∷ Utf8 (codes "A") ∷ Class 5 ∷ Integer (negsuc 1) ∷ Utf8 (codes "[I") ∷ []
+-- the first ConstantValue of a static field counts, and an Integer alone; of a boolean its low bit
+abbrev start_pool : List Constant
+start_pool = Gap ∷ Utf8 (codes "I") ∷ Utf8 (codes "Z") ∷ Integer (negsuc 0) ∷ Float 2 ∷ Utf8 (codes "A") ∷ Class 5 ∷ Integer (negsuc 1) ∷ Utf8 (codes "[I") ∷ []
 
-abbrev rv_field : (flags descriptor first second : ℕ) → ClassMember
-rv_field flags descriptor first second = record { flags = flags; name = 1; descriptor = descriptor; attrs = ConstantValue 0 first ∷ ConstantValue 0 second ∷ [] }
+abbrev start_field : (flags descriptor first second : ℕ) → ClassMember
+start_field flags descriptor first second = record { flags = flags; name = 1; descriptor = descriptor; attrs = ConstantValue 0 first ∷ ConstantValue 0 second ∷ [] }
 
-abbrev rv_class : List ClassMember → ClassFile
-rv_class fields = record { minor = 0; major = 50; constants = rv_pool; flags = 0; this_class = 6; super_class = 0; interfaces = []; fields = fields; methods = []; attrs = [] }
+abbrev start_class : List ClassMember → ClassFile
+start_class fields = record { minor = 0; major = 50; constants = start_pool; flags = 0; this_class = 6; super_class = 0; interfaces = []; fields = fields; methods = []; attrs = [] }
 
-rv_laid_out : laid_out_fields names (rv_class (rv_field 8 2 3 4 ∷ rv_field 8 2 7 3 ∷ rv_field 8 1 4 3 ∷ rv_field 8 8 3 3 ∷ rv_field 0 1 3 3 ∷ rv_field 8 1 3 4 ∷ []) ∷ [])
+start_values : laid_out_fields names (start_class (start_field 8 2 3 4 ∷ start_field 8 2 7 3 ∷ start_field 8 1 4 3 ∷ start_field 8 8 3 3 ∷ start_field 0 1 3 3 ∷ start_field 8 1 3 4 ∷ []) ∷ [])
     ≡ record { class = 17; flags = 8; kind = kinds.Bool; index = 2070; start = pos 1 }
     ∷ record { class = 17; flags = 8; kind = kinds.Bool; index = 2071; start = pos 0 }
     ∷ record { class = 17; flags = 8; kind = kinds.Int; index = 2072; start = pos 0 }
     ∷ record { class = 17; flags = 8; kind = kinds.Ref 2; index = 2073; start = pos 0 }
     ∷ record { class = 17; flags = 0; kind = kinds.Int; index = 0; start = pos 0 }
     ∷ record { class = 17; flags = 8; kind = kinds.Int; index = 2074; start = negsuc 0 } ∷ []
-rv_laid_out = refl
+start_values = refl

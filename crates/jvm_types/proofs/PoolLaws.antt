@@ -85,22 +85,22 @@ well pool c last indices inside = record { indices = indices; inside = inside }
 
 entry_holds : (pool : List Constant) (c : Constant) (last : Bool) (left : ℕ) → Finds (entry_wanted pool c last left) (λ ok. StandsWell pool c last)
 unfolding entry_wanted
-entry_holds pool (Class name) last left = last_wanted (names kinds.Text pool name) (left - 1) λ e. well pool (Class name) last (Names-from_test kinds.Text pool name e) refl
-entry_holds pool (Text string) last left = last_wanted (names kinds.Text pool string) (left - 1) λ e. well pool (Text string) last (Names-from_test kinds.Text pool string e) refl
+entry_holds pool (Class name) last left = last_wanted (names kinds.Utf8 pool name) (left - 1) λ e. well pool (Class name) last (Names-from_test kinds.Utf8 pool name e) refl
+entry_holds pool (Text string) last left = last_wanted (names kinds.Utf8 pool string) (left - 1) λ e. well pool (Text string) last (Names-from_test kinds.Utf8 pool string e) refl
 entry_holds pool (Field m n) last left = weaker (λ ok. StandsWell pool (Field m n) last) (both_hold kinds.Class kinds.NameAndType pool m n left) λ ok h. well pool (Field m n) last h refl
 entry_holds pool (Method m n) last left = weaker (λ ok. StandsWell pool (Method m n) last) (both_hold kinds.Class kinds.NameAndType pool m n left) λ ok h. well pool (Method m n) last h refl
 entry_holds pool (InterfaceMethod m n) last left = weaker (λ ok. StandsWell pool (InterfaceMethod m n) last) (both_hold kinds.Class kinds.NameAndType pool m n left) λ ok h. well pool (InterfaceMethod m n) last h refl
-entry_holds pool (NameAndType m n) last left = weaker (λ ok. StandsWell pool (NameAndType m n) last) (both_hold kinds.Text kinds.Text pool m n left) λ ok h. well pool (NameAndType m n) last h refl
+entry_holds pool (NameAndType m n) last left = weaker (λ ok. StandsWell pool (NameAndType m n) last) (both_hold kinds.Utf8 kinds.Utf8 pool m n left) λ ok h. well pool (NameAndType m n) last h refl
 entry_holds pool c last left = last_wanted (not (is_wide c && last)) left λ e. well pool c last tt (not-true (is_wide c && last) e)
 
 entry_stands : (pool : List Constant) (c : Constant) (last : Bool) (left : ℕ) → IndicesFit pool c → (is_wide c && last) ≡ false → entry_wanted pool c last left ≡ Ok tt
 unfolding entry_wanted
-entry_stands pool (Class name) last left h e = ap (λ (b : Bool). wanted b C5 (left - 1)) (test_from_Names kinds.Text pool name h)
-entry_stands pool (Text string) last left h e = ap (λ (b : Bool). wanted b C5 (left - 1)) (test_from_Names kinds.Text pool string h)
+entry_stands pool (Class name) last left h e = ap (λ (b : Bool). wanted b C5 (left - 1)) (test_from_Names kinds.Utf8 pool name h)
+entry_stands pool (Text string) last left h e = ap (λ (b : Bool). wanted b C5 (left - 1)) (test_from_Names kinds.Utf8 pool string h)
 entry_stands pool (Field m n) last left h e = both_stand kinds.Class kinds.NameAndType pool m n left h.0 h.1
 entry_stands pool (Method m n) last left h e = both_stand kinds.Class kinds.NameAndType pool m n left h.0 h.1
 entry_stands pool (InterfaceMethod m n) last left h e = both_stand kinds.Class kinds.NameAndType pool m n left h.0 h.1
-entry_stands pool (NameAndType m n) last left h e = both_stand kinds.Text kinds.Text pool m n left h.0 h.1
+entry_stands pool (NameAndType m n) last left h e = both_stand kinds.Utf8 kinds.Utf8 pool m n left h.0 h.1
 entry_stands pool c last left h e = ap (λ (b : Bool). wanted (not b) C5 left) e
 
 -- no Long or Double at the end

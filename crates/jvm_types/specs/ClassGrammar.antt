@@ -1,4 +1,4 @@
--- The class grammar: which bytes spell a class (JVMS, SE 6, chapter 4).
+-- The class grammar: which bytes spell a class (JVMS 4).
 -- A spelling is the bytes of a class field by field, of a class that keeps the rules of this file. The rules are by
 -- the structures of the chapter. Where they differ from the chapter, the line says so after "here".
 use Rattle.std.specs.Prelude.{◌≡◌, ◌⊎◌, ℕ, ◌<◌, ◌≤◌, ◌^◌, Bool, true, false, List, [], ◌∷◌, length, Some, slice_get, codes}
@@ -7,7 +7,7 @@ use Rattle.std.specs.Int.{w32}
 use Rattle.std.specs.Int.RustNames.{FitsSigned}
 use Rattle.jvm_types.specs.Numbers.{has_flag}
 use Rattle.jvm_types.specs.Spelling.{code_body, class_file}
-use Rattle.jvm_types.specs.Pool.{IsTextAt, NamesText, NamesClass, NamesNameAndType}
+use Rattle.jvm_types.specs.Pool.{IsTextAt, NamesUtf8, NamesClass, NamesNameAndType}
 use Rattle.jvm_types.specs.declared.index_kind.IndexKind.{IndexKind}
 use Rattle.jvm_types.specs.declared.index_kind.IndexKind.TheVariants as kinds
 use Rattle.jvm_types.specs.declared.class_file.Constant.{Constant}
@@ -39,9 +39,9 @@ IsValue (Double n) = Unit {0}
 IsValue (Text string) = Unit {0}
 IsValue c = ⊥
 
--- the index names an entry of this kind; 0 and the gaps name none
+-- the index names an entry of this kind, which 0 and the gaps never are; a catch type may also be 0
 abbrev pub Names : IndexKind → List Constant → ℕ → Type 0
-Names kinds.Text pool i = NamesText pool i
+Names kinds.Utf8 pool i = NamesUtf8 pool i
 Names kinds.Class pool i = NamesClass pool i
 Names kinds.NameAndType pool i = NamesNameAndType pool i
 Names kinds.Value pool i = (c : Constant) × (slice_get pool i ≡ Some c) × IsValue c
@@ -91,12 +91,12 @@ FieldsFit (NameAndType name descriptor) = (name < 2 ^ 16) × (descriptor < 2 ^ 1
 -- the indices of an entry name what they have to (JVMS 4.4.1, 4.4.2, 4.4.3, 4.4.6);
 -- here the texts of names and descriptors are not looked at, nor whether a class is an interface
 abbrev pub IndicesFit : List Constant → Constant → Type 0
-IndicesFit pool (Class name) = Names kinds.Text pool name
-IndicesFit pool (Text string) = Names kinds.Text pool string
+IndicesFit pool (Class name) = Names kinds.Utf8 pool name
+IndicesFit pool (Text string) = Names kinds.Utf8 pool string
 IndicesFit pool (Field class member) = Names kinds.Class pool class × Names kinds.NameAndType pool member
 IndicesFit pool (Method class member) = Names kinds.Class pool class × Names kinds.NameAndType pool member
 IndicesFit pool (InterfaceMethod class member) = Names kinds.Class pool class × Names kinds.NameAndType pool member
-IndicesFit pool (NameAndType name descriptor) = Names kinds.Text pool name × Names kinds.Text pool descriptor
+IndicesFit pool (NameAndType name descriptor) = Names kinds.Utf8 pool name × Names kinds.Utf8 pool descriptor
 IndicesFit pool c = Unit {0}
 
 -- an entry for each index; a gap is due at 0, and no Long or Double has the last index
@@ -110,7 +110,7 @@ pub record IsPool (pool : List Constant) : Type 0 where
 
 -- an attribute that is kept unread; here those are all but Code of a method and ConstantValue of a field
 pub record IsAttr (pool : List Constant) (a : Attr) : Type 0 where
-  pub name : IsIndex kinds.Text pool a.name
+  pub name : IsIndex kinds.Utf8 pool a.name
   pub count : length a.body < 2 ^ 32
   pub bytes : AllByRecursion IsByte a.body
 
@@ -137,7 +137,8 @@ pub record IsCode (pool : List Constant) (c : Code) : Type 0 where
   pub rows : IsCounted (IsHandler pool) c.rows
   pub attrs : IsCounted (IsAttr pool) c.attrs
 
--- an attribute of a field: a ConstantValue exactly where it is named so (JVMS 4.7.2); here there may be several
+-- an attribute of a field: a ConstantValue exactly where it is named so (JVMS 4.7.2); here there may be several, also of a
+-- field that is not static, and of another type than the field's
 abbrev pub IsFieldAttr : List Constant → MemberAttr → Type 0
 IsFieldAttr pool (member_attrs.Code c) = ⊥
 IsFieldAttr pool (member_attrs.ConstantValue name value) = IsNamed pool name (codes "ConstantValue") × IsIndex kinds.Value pool value
@@ -151,11 +152,12 @@ IsMethodAttr pool (member_attrs.Other a) = IsAttr pool a × (IsTextAt pool a.nam
 
 -- ---- fields and methods (JVMS 4.5, 4.6)
 
--- here the flags may be any, and the texts of names and descriptors are looked at where the classes are linked
+-- here the flags may be any (but see HasBody); the texts of names and descriptors are looked at where the classes are linked,
+-- nor is it asked here whether two members have one name and descriptor
 pub record IsMember (Fits : MemberAttr → Type 0) (pool : List Constant) (m : Member) : Type 0 where
   pub flags : m.flags < 2 ^ 16
-  pub name : IsIndex kinds.Text pool m.name
-  pub descriptor : IsIndex kinds.Text pool m.descriptor
+  pub name : IsIndex kinds.Utf8 pool m.name
+  pub descriptor : IsIndex kinds.Utf8 pool m.descriptor
   pub attrs : IsCounted Fits m.attrs
 
 abbrev pub IsField : List Constant → Member → Type 0

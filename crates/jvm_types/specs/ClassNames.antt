@@ -35,7 +35,8 @@ class_names files = map class_name files
 
 -- ---- numbers
 
--- The built-in classes with a number, from 1 on. This machine has these alone, where the standard's platform has many.
+-- The built-in classes with a number, from 1 on. This machine has these and System, where the standard's
+-- platform has many.
 abbrev pub numbered_names : List (List ℕ)
 numbered_names = codes "java/lang/Object" ∷ codes "[I" ∷ codes "java/io/PrintStream"
     ∷ codes "java/lang/Throwable" ∷ codes "java/lang/Exception" ∷ codes "java/lang/Error"

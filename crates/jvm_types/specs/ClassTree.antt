@@ -1,7 +1,8 @@
 -- The classes by their numbers, and which is below which. Every class of a program is just below Object
--- (this machine has no inheritance between them); of Java's tree of throwables the twelve built-in ones
--- stand, without IndexOutOfBoundsException and VirtualMachineError between them (JVMS 2.10).
-use Rattle.std.specs.Prelude.{ℕ, slice_index_or, Bool, false, ◌||◌, ◌==◌, if◌then◌else◌, List, [], ◌∷◌}
+-- (this machine has no inheritance between them). The tree of throwables is that of the platform's API; twelve of
+-- them stand here, without IndexOutOfBoundsException and VirtualMachineError between them.
+use Rattle.std.specs.Prelude.{ℕ, slice_index_or, Bool, if◌then◌else◌, List, [], ◌∷◌}
+use Rattle.jvm_types.specs.Numbers.{has_number}
 
 abbrev pub object_class : ℕ
 object_class = 1
@@ -32,18 +33,15 @@ ancestors class = line class (super_class class)
     line : ℕ → ℕ → List ℕ
     line c d = c ∷ d ∷ super_class d ∷ super_class (super_class d) ∷ super_class (super_class (super_class d)) ∷ []
 
-abbrev pub has_number : List ℕ → ℕ → Bool
-has_number [] n = false
-has_number (m ∷ ms) n = m == n || has_number ms n
-
 -- a class is below itself and below each of its ancestors
-abbrev pub is_subclass : ℕ → ℕ → Bool
+unfoldable pub is_subclass : ℕ → ℕ → Bool
 is_subclass class other = has_number (ancestors class) other
 
--- the nearest common ancestor of two classes
-abbrev pub first_common : List ℕ → List ℕ → ℕ
-first_common [] ds = object_class
-first_common (c ∷ cs) ds = if has_number ds c then c else first_common cs ds
+-- the first of some classes that another is below
+abbrev pub first_above : ℕ → List ℕ → ℕ
+first_above other [] = object_class
+first_above other (c ∷ cs) = if is_subclass other c then c else first_above other cs
 
-abbrev pub common_ancestor : ℕ → ℕ → ℕ
-common_ancestor class other = first_common (ancestors class) (ancestors other)
+-- the nearest common ancestor of two classes
+unfoldable pub common_ancestor : ℕ → ℕ → ℕ
+common_ancestor class other = first_above other (ancestors class)

@@ -4,8 +4,8 @@
 use Rattle.std.specs.Prelude.{◌≡◌, ◌<◌, ◌^◌, ℕ, zero, suc, ◌+◌, ◌*◌, ℤ, pos, ◌+ℤ◌, ◌-ℤ◌, nat_abs, int_lt, Bool, true, not, ◌==◌, ◌||◌, ◌&&◌, nat_lt, if◌then◌else◌, List, [], ◌∷◌, length, map, take, drop, Option, Some, None, Result, Ok, Err}
 use Rattle.std.specs.List.{AllByRecursion}
 use Rattle.std.specs.Int.{w16, w32, cast_signed, from_be_bytes}
-use Rattle.jvm_types.specs.ClassTree.{has_number}
-use Rattle.jvm_types.specs.CodeTable.{Form, Plain, Byte, Short, SignedByte, SignedShort, Branch, WideBranch, LocalAndStep, IntArray, Table, Lookup, form}
+use Rattle.jvm_types.specs.Numbers.{has_number}
+use Rattle.jvm_types.specs.CodeTable.{Form, Plain, Byte, Short, SignedByte, SignedShort, Branch, WideBranch, LocalAndStep, IntArray, Table, Lookup, form_of}
 use Rattle.jvm_types.specs.CodeGrammar.{padding_size, IsCode}
 use Rattle.jvm_types.specs.declared.class_file.Handler.{Handler}
 use Rattle.jvm_types.specs.declared.code.Insn.{Insn}
@@ -82,46 +82,46 @@ lookup_extent pc pad body =
     lookup_of pc pad (nat_abs (s4_of (drop 4 body))) body
 
 -- the instruction at a pc, by the form of its operands and the bytes behind its opcode
-abbrev pub extent : ℕ → Form → List ℕ → Result Extent KRule
-extent pc (Plain op) rest = Ok (record { size = 0; targets = [] })
-extent pc (Byte make) rest = sized 1 [] rest
-extent pc (Short make) rest = sized 2 [] rest
-extent pc (SignedByte make) rest = sized 1 [] rest
-extent pc (SignedShort make) rest = sized 2 [] rest
-extent pc (Branch make) rest = sized 2 (landing pc (s2_of rest) ∷ []) rest
-extent pc (WideBranch make) rest = sized 4 (landing pc (s4_of rest) ∷ []) rest
-extent pc (LocalAndStep make) rest = sized 2 [] rest
-extent pc (IntArray op) rest = array_extent rest
-extent pc Table rest = table_extent pc (padding_size pc) (drop (padding_size pc) rest)
-extent pc Lookup rest = lookup_extent pc (padding_size pc) (drop (padding_size pc) rest)
+abbrev pub extent_of : ℕ → Form → List ℕ → Result Extent KRule
+extent_of pc (Plain op) rest = Ok (record { size = 0; targets = [] })
+extent_of pc (Byte make) rest = sized 1 [] rest
+extent_of pc (Short make) rest = sized 2 [] rest
+extent_of pc (SignedByte make) rest = sized 1 [] rest
+extent_of pc (SignedShort make) rest = sized 2 [] rest
+extent_of pc (Branch make) rest = sized 2 (landing pc (s2_of rest) ∷ []) rest
+extent_of pc (WideBranch make) rest = sized 4 (landing pc (s4_of rest) ∷ []) rest
+extent_of pc (LocalAndStep make) rest = sized 2 [] rest
+extent_of pc (IntArray op) rest = array_extent rest
+extent_of pc Table rest = table_extent pc (padding_size pc) (drop (padding_size pc) rest)
+extent_of pc Lookup rest = lookup_extent pc (padding_size pc) (drop (padding_size pc) rest)
 
 -- the instruction at a pc, by what its opcode is in the table
 abbrev pub known_extent : ℕ → Option Form → List ℕ → Result Extent KRule
 known_extent pc None rest = Err K1
-known_extent pc (Some f) rest = extent pc f rest
+known_extent pc (Some f) rest = extent_of pc f rest
 
 -- ---- all instructions
 
 -- an instruction's pc, and the pcs that its branches lead to
-pub record Reach : Type 0 where
+pub record Outline : Type 0 where
   pub pc : ℕ
   pub targets : List ℤ
 
-abbrev pub followed : Reach → Result (List Reach) (KRule × ℕ) → Result (List Reach) (KRule × ℕ)
+abbrev pub followed : Outline → Result (List Outline) (KRule × ℕ) → Result (List Outline) (KRule × ℕ)
 followed r (Ok others) = Ok (r ∷ others)
 followed r (Err fault) = Err fault
 
 -- an instruction, and those that follow its operands
-abbrev pub joined : ℕ → Result Extent KRule → (ℕ → Result (List Reach) (KRule × ℕ)) → Result (List Reach) (KRule × ℕ)
-joined pc (Err rule) more = Err (rule, pc)
-joined pc (Ok e) more = followed (record { pc = pc; targets = e.targets }) (more e.size)
+abbrev pub with_rest : ℕ → Result Extent KRule → (ℕ → Result (List Outline) (KRule × ℕ)) → Result (List Outline) (KRule × ℕ)
+with_rest pc (Err rule) more = Err (rule, pc)
+with_rest pc (Ok e) more = followed (record { pc = pc; targets = e.targets }) (more e.size)
 
 -- the instructions of the bytes from a pc on, of which the first few still belong to the instruction before;
 -- or the first of K1, K2 and K6
-abbrev pub reaches : ℕ → ℕ → List ℕ → Result (List Reach) (KRule × ℕ)
-reaches skip pc [] = Ok []
-reaches (suc skip) pc (b ∷ rest) = reaches skip (pc + 1) rest
-reaches zero pc (b ∷ rest) = joined pc (known_extent pc (form b) rest) (λ size. reaches size (pc + 1) rest)
+abbrev pub outlines : ℕ → ℕ → List ℕ → Result (List Outline) (KRule × ℕ)
+outlines skip pc [] = Ok []
+outlines (suc skip) pc (b ∷ rest) = outlines skip (pc + 1) rest
+outlines zero pc (b ∷ rest) = with_rest pc (known_extent pc (form_of b) rest) (λ size. outlines size (pc + 1) rest)
 
 -- whether a pc is one of these; none below 0 is
 abbrev pub is_at : List ℕ → ℤ → Bool
@@ -132,7 +132,7 @@ all_at starts [] = true
 all_at starts (to ∷ tos) = is_at starts to && all_at starts tos
 
 -- K3: the first branch that leads to no start of an instruction
-abbrev pub branch_fault : List ℕ → List Reach → Option (KRule × ℕ)
+abbrev pub branch_fault : List ℕ → List Outline → Option (KRule × ℕ)
 branch_fault starts [] = None
 branch_fault starts (r ∷ rs) = if all_at starts r.targets then branch_fault starts rs else Some (K3, r.pc)
 
@@ -140,24 +140,24 @@ abbrev pub row_fits : List ℕ → ℕ → Handler → Bool
 row_fits starts size h = nat_lt h.start h.end && has_number starts h.start && (has_number starts h.end || h.end == size) && has_number starts h.handler
 
 -- K4: the first row, by its number
-abbrev pub row_fault : List ℕ → ℕ → ℕ → List Handler → Option (KRule × ℕ)
-row_fault starts size number [] = None
-row_fault starts size number (h ∷ hs) = if row_fits starts size h then row_fault starts size (number + 1) hs else Some (K4, number)
+abbrev pub handler_fault : List ℕ → ℕ → ℕ → List Handler → Option (KRule × ℕ)
+handler_fault starts size number [] = None
+handler_fault starts size number (h ∷ hs) = if row_fits starts size h then handler_fault starts size (number + 1) hs else Some (K4, number)
 
 abbrev pub or_else : {A : Type 0} → Option A → Option A → Option A
 or_else (Some x) other = Some x
 or_else None other = other
 
-abbrev pub reach_fault : Result (List Reach) (KRule × ℕ) → ℕ → List Handler → Option (KRule × ℕ)
-reach_fault (Err fault) size rows = Some fault
-reach_fault (Ok rs) size rows = with_starts (map (λ r. r.pc) rs)
+abbrev pub outline_fault : Result (List Outline) (KRule × ℕ) → ℕ → List Handler → Option (KRule × ℕ)
+outline_fault (Err fault) size rows = Some fault
+outline_fault (Ok rs) size rows = with_starts (map (λ r. r.pc) rs)
   where
     with_starts : List ℕ → Option (KRule × ℕ)
-    with_starts starts = or_else (branch_fault starts rs) (row_fault starts size 0 rows)
+    with_starts starts = or_else (branch_fault starts rs) (handler_fault starts size 0 rows)
 
 -- the first fault of the bytes and rows, with its pc or the number of its row; None where they are code
 abbrev pub code_fault : List ℕ → List Handler → Option (KRule × ℕ)
-code_fault bytes rows = if length bytes == 0 || nat_lt 65535 (length bytes) then Some (K5, 0) else reach_fault (reaches 0 0 bytes) (length bytes) rows
+code_fault bytes rows = if length bytes == 0 || nat_lt 65535 (length bytes) then Some (K5, 0) else outline_fault (outlines 0 0 bytes) (length bytes) rows
 
 -- ---- laws
 

@@ -1,10 +1,10 @@
--- What bytes are the code of a method, and which instructions they spell (JVMS, SE 6, 4.7.3, 4.9 and 6.5).
+-- What bytes are the code of a method, and which instructions they spell (JVMS 4.7.3, 4.9 and 6.5).
 -- An instruction is spelled at its pc, since the padding of a switch hangs on it.
 use Rattle.std.specs.Prelude.{◌≡◌, ℕ, ◌+◌, ◌-◌, ◌%◌, ◌<◌, ◌≤◌, ◌^◌, ℤ, pos, ◌+ℤ◌, ◌-ℤ◌, ◌<ℤ◌, FitsSigned, Bool, false, ◌==◌, ◌||◌, List, [], ◌∷◌, ◌++◌, length, IsSomeAnd, IsTrue, ◌⊎◌}
 use Rattle.std.specs.List.{flat_map, AllByRecursion}
 use Rattle.std.specs.Int.{w8, w16, w32, cast_unsigned}
 use Rattle.jvm_types.specs.Numbers.{u1, u2, s4}
-use Rattle.jvm_types.specs.CodeTable.{Form, Plain, Byte, Short, SignedByte, SignedShort, Branch, WideBranch, LocalAndStep, IntArray, Table, Lookup, form, branches_to}
+use Rattle.jvm_types.specs.CodeTable.{Form, Plain, Byte, Short, SignedByte, SignedShort, Branch, WideBranch, LocalAndStep, IntArray, Table, Lookup, form_of, branches_to}
 use Rattle.jvm_types.specs.declared.class_file.Handler.{Handler}
 use Rattle.jvm_types.specs.declared.code.Case.{Case}
 use Rattle.jvm_types.specs.declared.code.Insn.{Insn}
@@ -89,7 +89,7 @@ pub record SpellsOp (pc : ℕ) (op : Op) (bytes : List ℕ) : Type 0 where
   pub opcode : ℕ
   pub operands : List ℕ
   pub is : bytes ≡ opcode ∷ operands
-  pub spelled : IsSomeAnd (form opcode) (λ f. SpellsOperands pc f op operands)
+  pub spelled : IsSomeAnd (form_of opcode) (λ f. SpellsOperands pc f op operands)
 
 -- the bytes of instructions that follow one another from a pc on
 abbrev pub SpellsInsns : ℕ → List Insn → List ℕ → Type 0

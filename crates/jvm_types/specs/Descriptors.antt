@@ -27,7 +27,8 @@ abbrev pub class_kind : List (List ℕ) → List ℕ → Option Kind
 class_kind names text = if bytes_eq text (codes "[I") then None else option_map kinds.Ref (class_number names text)
 
 -- The bytes of a descriptor from some place on, read in both ways: as types, and as what is left of the name of a class
--- up to the next `;`, with what stands behind that. None where a type is cut, or is none of this machine's.
+-- up to the next `;`, with what stands behind that. None where a type that begins
+-- with `[` or `L` is cut or is none of this machine's; any other byte begins no type and is left in `rest`.
 pub record Reading : Type 0 where
   pub types : Option Types
   pub name : List ℕ

@@ -4,7 +4,7 @@ use Rattle.std.specs.Prelude.{◌≡◌, ◌≢◌, ℕ, ◌+◌, ◌<◌, ◌�
 use Rattle.std.specs.List.{AllByRecursion}
 use Rattle.jvm_types.specs.Numbers.{u2, has_flag}
 use Rattle.jvm_types.specs.Spelling.{class_file}
-use Rattle.jvm_types.specs.Pool.{IsTextAt, NamesText, NamesClass, NamesNameAndType, IsClassAt, IsFieldAt, IsMethodAt}
+use Rattle.jvm_types.specs.Pool.{IsTextAt, NamesUtf8, NamesClass, NamesNameAndType, IsClassAt, IsFieldAt, IsMethodAt}
 use Rattle.jvm_types.specs.declared.class_file.Constant.{Constant}
 use Rattle.jvm_types.specs.declared.class_file.Constant.TheVariants.{Gap, Utf8, Class, Field, Method, NameAndType}
 use Rattle.jvm_types.specs.declared.class_file.Code.{Code}
@@ -23,10 +23,10 @@ IsTextByte b = (0 < b) × (b < 240)
 -- an entry with one of the tags 1, 7, 9, 10 and 12, whose indices name what they have to
 abbrev pub IsFirstConstant : List Constant → Constant → Type 0
 IsFirstConstant pool (Utf8 text) = (length text < 2 ^ 16) × AllByRecursion IsTextByte text
-IsFirstConstant pool (Class name) = NamesText pool name
+IsFirstConstant pool (Class name) = NamesUtf8 pool name
 IsFirstConstant pool (Field class member) = NamesClass pool class × NamesNameAndType pool member
 IsFirstConstant pool (Method class member) = NamesClass pool class × NamesNameAndType pool member
-IsFirstConstant pool (NameAndType name descriptor) = NamesText pool name × NamesText pool descriptor
+IsFirstConstant pool (NameAndType name descriptor) = NamesUtf8 pool name × NamesUtf8 pool descriptor
 IsFirstConstant pool c = ⊥
 
 -- index 0 is no entry; the count of the pool fits its two bytes
@@ -138,9 +138,10 @@ IsFirstForm bytes ops = (c : ClassFile) × (bytes ≡ class_file c) × IsFirstCl
 
 -- ---- what may be run
 
--- instructions that some file of the first form has: they find their operands, and the one return is last
+-- what running them needs: they find their operands within the slots of a thread, and the one return is last
 pub record IsFirstRun (ops : List FirstOp) : Type 0 where
   pub most : ℕ
+  pub room : most ≤ 16384
   pub short : length ops ≤ 65535
   pub ends : EndsInReturn ops
   pub within : RunsWithin most [] ops

@@ -18,6 +18,7 @@ pub mod LinkLaws
 pub mod CodeGrammar
 pub mod CodeFault
 pub mod ClassGrammar
+pub mod Counts
 pub mod ReadingSteps
 pub mod ReadingPool
 pub mod ReadingClass

@@ -1,6 +1,7 @@
 -- Why some class files are not linked (JVMS 4.1, 4.5, 4.6, 5.3, 5.4), and where. There are five passes over the files, and
--- the first refusal is the answer. The standard resolves a name when it is first used; here every name that an instruction,
--- a descriptor or a handler row has is resolved before the program runs, reached or not, and no other name is.
+-- the first refusal is the answer. The standard lets a machine resolve early or late, and reports an error only where the
+-- name is used (JVMS 5.4); here every name that an instruction, a descriptor or a handler row has is resolved before the
+-- program runs, reached or not, and no other name is.
 use Rattle.std.specs.Prelude.{◌≡◌, ℕ, bytes_eq, ◌+◌, nat_lt, ◌==◌, Bool, ◌&&◌, ◌||◌, not, List, [], ◌∷◌, length, map, take, Option, None, is_none, codes}
 use Rattle.std.specs.Option.{option_map, option_or}
 use Rattle.std.specs.Result.{result_err}
@@ -116,7 +117,8 @@ abbrev pub is_entry : (name descriptor : List ℕ) → Bool
 is_entry name descriptor = is_run name descriptor
     || (bytes_eq descriptor (codes "()V") && (bytes_eq name (codes "init") || bytes_eq name (codes "done")))
 
--- a `<clinit>` that is not the static one without arguments, or an entry of the entry class that is not static
+-- a `<clinit>` that is not the static one without arguments, or an entry of the entry class that is not static; the standard
+-- lets other methods named `<clinit>` stand, of no consequence (JVMS 2.9)
 abbrev pub is_wrong_root : (class : ℕ) (name descriptor : List ℕ) (flags : ℕ) → Bool
 is_wrong_root class name descriptor flags =
     (is_class_init_name name && (not (is_static flags) || not (bytes_eq descriptor (codes "()V"))))

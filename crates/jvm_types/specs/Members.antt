@@ -153,8 +153,7 @@ pub data Call : Type 0 where
   Static : Call
 
 -- Whether a call has the kind of its method (JVMS 4.9.1, 6.5). `invokespecial` is for an `<init>` and for a private instance
--- method of the own class; the standard's calls of a superclass's methods by it do not come up here. Nothing calls a
--- `<clinit>`.
+-- method of the own class; the standard's calls of a superclass's methods by it are refused. Nothing calls a `<clinit>`.
 abbrev pub fits_call : Call → Site → (class : ℕ) (name : List ℕ) (flags : ℕ) → Bool
 fits_call Virtual site class name flags = not (is_static flags || is_init_name name || is_class_init_name name)
 fits_call Special site class name flags = not (is_static flags || is_class_init_name name) && (is_init_name name || (is_private flags && (class == site.class)))

@@ -1,5 +1,5 @@
 -- The numbers of a class file: unsigned, the high byte first (JVMS 4, "u1, u2, u4").
-use Rattle.std.specs.Prelude.{ℕ, ℤ, ◌/◌, ◌%◌, ◌==◌, Bool, not, List, [], ◌∷◌, ◌++◌, bit_and}
+use Rattle.std.specs.Prelude.{ℕ, ℤ, ◌/◌, ◌%◌, ◌==◌, ◌||◌, Bool, false, not, List, [], ◌∷◌, ◌++◌, bit_and}
 use Rattle.std.specs.Int.{w32, cast_unsigned}
 
 abbrev pub u1 : ℕ → List ℕ
@@ -22,3 +22,8 @@ s4 n = u4 (cast_unsigned w32 n)
 -- whether a word of flags has a flag, which is a power of two
 abbrev pub has_flag : ℕ → ℕ → Bool
 has_flag flag flags = not (bit_and flags flag == 0)
+
+-- whether a number is one of these
+abbrev pub has_number : List ℕ → ℕ → Bool
+has_number [] n = false
+has_number (m ∷ ms) n = m == n || has_number ms n

@@ -7,9 +7,9 @@ use Rattle.jvm_types.specs.declared.class_file.Constant.TheVariants.{Utf8, Class
 abbrev pub IsTextAt : List Constant → ℕ → List ℕ → Type 0
 IsTextAt pool i text = slice_get pool i ≡ Some (Utf8 text)
 
--- some text, some class, some name and type, as the kind of an index
-abbrev pub NamesText : List Constant → ℕ → Type 0
-NamesText pool i = (text : List ℕ) × IsTextAt pool i text
+-- the index names a text; a class; a name and type
+abbrev pub NamesUtf8 : List Constant → ℕ → Type 0
+NamesUtf8 pool i = (text : List ℕ) × IsTextAt pool i text
 
 abbrev pub NamesClass : List Constant → ℕ → Type 0
 NamesClass pool i = (name : ℕ) × (slice_get pool i ≡ Some (Class name))

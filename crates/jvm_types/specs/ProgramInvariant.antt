@@ -140,7 +140,7 @@ is_same_method e m = (e.class == m.class) && (bytes_eq e.name m.name && bytes_eq
 -- a method of the program, behind those before it
 pub record IsMethodOf (p : Program) (before : List MethodInfo) (m : MethodInfo) : Type 0 where
   pub class : IsFileClass p m.class
-  -- methods stand in order of their classes
+  -- methods stand in order of their classes, which is the order in which `<clinit>`s run and marks are listed
   pub ordered : AllByRecursion (λ e. e.class ≤ m.class) before
   pub distinct : AllByRecursion (λ e. is_same_method e m ≡ false) before
   pub described : method_signature p.names m.descriptor ≡ Some (record { args = m.args; result = m.result })

@@ -1,14 +1,15 @@
 -- Reading a class file (JVMS 4.1): the class that the bytes spell, or the first condition that stands.
---   C1   the first four bytes are not 0xCAFEBABE
---   C2   the major version is below 45 or above 50
---   C3   an item is cut
---   C4   the tag of a constant is none
---   C5   an index names nothing, or an entry of another kind
---   C6   a byte of a text is 0 or from 0xF0 on
---   C7   the length of a Code or a ConstantValue disagrees with its parts
---   C8   bytes are left over
---   C9   a method has not one Code, or is NATIVE or ABSTRACT
---   C10  the file is longer than 1048576 bytes
+--   C1   the first four bytes are not 0xCAFEBABE: at 0
+--   C2   the major version is below 45 or above 50: at 6
+--   C3   an item is cut: where it begins
+--   C4   the tag of a constant is not 1 or 3 to 12: at the tag
+--   C5   an index names nothing, or an entry of another kind: at the index; or a Long or a Double has the last index: at
+--        its tag
+--   C6   a byte of a text is 0 or from 0xF0 on: at the byte
+--   C7   the length of a Code or a ConstantValue disagrees with its parts: at the length
+--   C8   bytes stand behind the last attribute: at the first of them
+--   C9   a method has not one Code, or is NATIVE or ABSTRACT: at its flags
+--   C10  the file is longer than 1048576 bytes: at 1048576
 use Rattle.std.specs.Prelude.{ℕ, ◌+◌, ◌-◌, ◌==◌, Bool, not, ◌&&◌, List, length, Option, Some, None, Result, Ok, Err, nat_lt, nat_le, if◌then◌else◌, slice_get, codes}
 use Rattle.jvm_types.specs.declared.refusal.CRule.{CRule}
 use Rattle.jvm_types.specs.declared.refusal.CRule.TheVariants.{C1, C2, C9, C10}
@@ -31,7 +32,7 @@ use Rattle.jvm_types.specs.ReadingPool.{is_text, index_at, pool_at}
 -- an attribute: its name, its length, and the body that is cut out by it
 unfoldable pub attr_at : List Constant → List ℕ → Result (Attr × List ℕ) Fault
 attr_at pool bytes = do
-  name ← index_at kinds.Text pool bytes
+  name ← index_at kinds.Utf8 pool bytes
   n ← u4_at name.1
   body ← run_at n.0 n.1
   Ok (record { name = name.0; body = body.0 }, body.1)
@@ -87,8 +88,8 @@ method_attr_at pool bytes = do
 unfoldable pub member_at : (List ℕ → Result (MemberAttr × List ℕ) Fault) → List Constant → List ℕ → Result (Member × List ℕ) Fault
 member_at member_attr_at pool bytes = do
   flags ← u2_at bytes
-  name ← index_at kinds.Text pool flags.1
-  descriptor ← index_at kinds.Text pool name.1
+  name ← index_at kinds.Utf8 pool flags.1
+  descriptor ← index_at kinds.Utf8 pool name.1
   attrs ← counted_at member_attr_at descriptor.1
   Ok (record { flags = flags.0; name = name.0; descriptor = descriptor.0; attrs = attrs.0 }, attrs.1)
 

@@ -14,7 +14,7 @@ use Rattle.jvm_types.specs.ReadingSteps.{Fault, fault, ◌>>=◌, wanted, u1_at,
 
 -- whether an entry is of a kind
 abbrev pub is_of : IndexKind → Option Constant → Bool
-is_of kinds.Text (Some (Utf8 text)) = true
+is_of kinds.Utf8 (Some (Utf8 text)) = true
 is_of kinds.Class (Some (Class name)) = true
 is_of kinds.NameAndType (Some (NameAndType name descriptor)) = true
 is_of kinds.Value (Some (Integer n)) = true
@@ -125,15 +125,15 @@ both_wanted kind other pool i j left = do
 
 -- C5 at an index of the entry; and at its tag, where the last entry is a Long or a Double
 unfoldable pub entry_wanted : List Constant → Constant → Bool → ℕ → Result (Unit {0}) Fault
-entry_wanted pool (Class name) last left = wanted (names kinds.Text pool name) C5 (left - 1)
-entry_wanted pool (Text string) last left = wanted (names kinds.Text pool string) C5 (left - 1)
+entry_wanted pool (Class name) last left = wanted (names kinds.Utf8 pool name) C5 (left - 1)
+entry_wanted pool (Text string) last left = wanted (names kinds.Utf8 pool string) C5 (left - 1)
 entry_wanted pool (Field class member) last left = both_wanted kinds.Class kinds.NameAndType pool class member left
 entry_wanted pool (Method class member) last left = both_wanted kinds.Class kinds.NameAndType pool class member left
 entry_wanted pool (InterfaceMethod class member) last left = both_wanted kinds.Class kinds.NameAndType pool class member left
-entry_wanted pool (NameAndType name descriptor) last left = both_wanted kinds.Text kinds.Text pool name descriptor left
+entry_wanted pool (NameAndType name descriptor) last left = both_wanted kinds.Utf8 kinds.Utf8 pool name descriptor left
 entry_wanted pool c last left = wanted (not (is_wide c && last)) C5 left
 
--- the same of the entries one after another; from the tag of the first on there are so many bytes
+-- the same of the entries one after another; from the first of them on there are so many bytes
 unfoldable pub entries_wanted : List Constant → List Constant → ℕ → Result (Unit {0}) Fault
 entries_wanted pool [] left = Ok tt
 entries_wanted pool (c ∷ cs) left = do

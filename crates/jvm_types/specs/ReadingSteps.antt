@@ -1,5 +1,5 @@
 -- Reading bytes from left to right, with the first condition that stands.
--- A step answers a value and the bytes after it, or a fault.
+-- A step (`.._at`) answers a value and the bytes after it, or a fault; a test (`..wanted`) answers only whether it is met.
 use Rattle.std.specs.Prelude.{ℕ, zero, suc, ◌+◌, ◌*◌, Bool, true, false, List, [], ◌∷◌, length, take, drop, Result, Ok, Err, nat_lt, if◌then◌else◌}
 use Rattle.jvm_types.specs.declared.refusal.CRule.{CRule}
 use Rattle.jvm_types.specs.declared.refusal.CRule.TheVariants.{C3, C7, C8}

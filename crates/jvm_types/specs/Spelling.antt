@@ -1,4 +1,4 @@
--- The bytes of a class, field by field in the order of the class-file chapter (JVMS 4, SE 6).
+-- The bytes of a class, field by field in the order of the class-file chapter (JVMS 4).
 use Rattle.std.specs.Prelude.{ℕ, List, [], ◌++◌, length}
 use Rattle.std.specs.List.{flat_map}
 use Rattle.jvm_types.specs.Numbers.{u1, u2, u4, u8, s4}

@@ -1,6 +1,6 @@
--- The types of verification by inference, their order, and frames of them (JVMS 4.10.2.2, of the second edition
--- and SE 7). The types of one place: int, null, references to a class, `this` and what `new` made before they
--- are initialised, and none. There is no long, float, double and returnAddress.
+-- The types of verification by inference, their order, and frames of them (JVMS 4.10.2.2). The types of one
+-- place: int, null, references to a class, `this` and what `new` made before they are initialised, and none.
+-- There is no long, float, double and returnAddress.
 use Rattle.std.specs.Prelude.{ℕ, ◌-◌, Bool, true, false, not, ◌&&◌, ◌||◌, ◌==◌, if◌then◌else◌, List, [], ◌∷◌, ◌++◌, length, map, reverse, replicate, Option}
 use Rattle.std.specs.Option.{option_map}
 use Rattle.jvm_types.specs.Numbers.{has_flag}

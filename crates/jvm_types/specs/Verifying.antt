@@ -1,9 +1,10 @@
 -- Verification by inference of types (JVMS 4.10.2): the rules at one instruction, its edges, and the visits.
 -- The instruction that is visited next is the waiting one of least pc; the standard leaves this open.
-use Rattle.std.specs.Prelude.{◌≡◌, ◌≢◌, IsTrue, IsSomeAnd, ℕ, suc, ◌+◌, ◌-◌, Bool, true, false, not, ◌&&◌, ◌||◌, ◌==◌, nat_lt, nat_le, if◌then◌else◌, List, [], ◌∷◌, ◌++◌, length, map, Option, Some, None, Result, Ok, Err, slice_get, slice_set}
+use Rattle.std.specs.Prelude.{◌≡◌, ◌≢◌, ◌≤◌, IsTrue, IsSomeAnd, ℕ, suc, ◌+◌, ◌-◌, Bool, true, false, not, ◌&&◌, ◌||◌, ◌==◌, nat_lt, nat_le, if◌then◌else◌, List, [], ◌∷◌, ◌++◌, length, map, Option, Some, None, Result, Ok, Err, slice_get, slice_set}
 use Rattle.std.specs.List.{list_any, filter, AllByRecursion, AllZip}
-use Rattle.jvm_types.specs.ClassTree.{object_class, throwable_class, is_subclass, has_number}
-use Rattle.jvm_types.specs.CodeTable.{OpRow, Want, AnyValue, AnInt, AnObject, AnyReference, AHolder, ToStart, row, branches_to, falls_through, stack_after, locals_after}
+use Rattle.jvm_types.specs.Numbers.{has_number}
+use Rattle.jvm_types.specs.ClassTree.{object_class, throwable_class, is_subclass}
+use Rattle.jvm_types.specs.CodeTable.{OpRow, Want, AnyValue, AnInt, AnObject, AnyReference, AHolder, ToStart, row, branches_to, falls_through, stack_after, locals_after, is_init}
 use Rattle.jvm_types.specs.CodeGrammar.{IsCode}
 use Rattle.jvm_types.specs.declared.class_file.Handler.{Handler}
 use Rattle.jvm_types.specs.Types.{Shape, is_below, is_uninitialised, is_new, same_type, same_shape, shape_below, meet_shapes, entry_shape, shapes_of}
@@ -106,9 +107,9 @@ is_return ops.Areturn = true
 is_return ops.Return = true
 is_return op = false
 
--- V7, its five cases: a misused value; one that is uninitialised at a branch to a pc at or before it; one that
--- is uninitialised by `new` in a local where a handler row covers; an `<init>` that returns before `this` is
--- initialised. The standard forbids `this` too in such a local.
+-- V7, its cases: a misused value; one that is uninitialised at a branch to a pc at or before it; one that is
+-- uninitialised by `new` in a local where a handler row covers, where the standard forbids `this` too; an
+-- `<init>` that returns before `this` is initialised.
 abbrev pub misuses_object : MethodInfo → Insn → OpRow → Shape → Bool
 misuses_object m insn r f =
     some_operand (misuses m) r f
@@ -180,8 +181,8 @@ abbrev pub shape_at_handler : Row → Shape → Shape
 shape_at_handler handler f = record { stack = Ref (caught_class handler) ∷ []; locals = f.locals; ready = f.ready }
 
 -- the rules of a covering row but V5: V2 at the instruction, V4 at the handler
-abbrev pub row_fault : MethodInfo → ℕ → Row → Option (VRule × ℕ)
-row_fault m pc handler =
+abbrev pub catch_fault : MethodInfo → ℕ → Row → Option (VRule × ℕ)
+catch_fault m pc handler =
     if m.max_stack == 0 then Some (V2, pc) else
     if not (is_subclass (caught_class handler) throwable_class) then Some (V4, handler.handler) else
     None
@@ -207,15 +208,15 @@ first_nodes m [] = []
 first_nodes m (insn ∷ insns) = record { frame = Some (entry_shape m); waits = true } ∷ map (λ other. record { frame = None; waits = false }) insns
 
 -- an edge brings a frame
-abbrev pub joined : Node → Option Shape → Shape → Node
-joined node None f = record { frame = Some f; waits = true }
-joined node (Some g) f = with_frame (meet_shapes g f)
+abbrev pub node_joined : Node → Option Shape → Shape → Node
+node_joined node None f = record { frame = Some f; waits = true }
+node_joined node (Some g) f = with_frame (meet_shapes g f)
   where
     with_frame : Shape → Node
     with_frame h = record { frame = Some h; waits = node.waits || not (same_shape g h) }
 
 abbrev pub brought : List Insn → ℕ → Shape → List Node → List Node
-brought (insn ∷ insns) to f (node ∷ nodes) = if insn.pc == to then joined node node.frame f ∷ nodes else node ∷ brought insns to f nodes
+brought (insn ∷ insns) to f (node ∷ nodes) = if insn.pc == to then node_joined node node.frame f ∷ nodes else node ∷ brought insns to f nodes
 brought insns to f nodes = nodes
 
 abbrev pub all_brought : List Insn → List ℕ → Shape → List Node → List Node
@@ -240,7 +241,7 @@ unless_caught None None more = more
 abbrev pub handled : MethodInfo → ℕ → Shape → List Row → List Node → Result (List Node) (VRule × ℕ)
 handled m pc f [] nodes = Ok nodes
 handled m pc f (handler ∷ handlers) nodes =
-    unless_caught (row_fault m pc handler) (clash m.code (handler.handler ∷ []) 1 nodes)
+    unless_caught (catch_fault m pc handler) (clash m.code (handler.handler ∷ []) 1 nodes)
     (handled m pc f handlers (brought m.code handler.handler (shape_at_handler handler f) nodes))
 
 -- one visit of an instruction with its frame: its rules, its normal edges, then those to handlers
@@ -328,7 +329,7 @@ pub record IsSound (m : MethodInfo) (insn : Insn) (r : OpRow) (frames : List (Op
   pub before : broken_before m insn r f ≡ None
   pub after : broken_after m insn ≡ None
   pub edges_fit : AllByRecursion (Fits m.code frames (shape_after m r f)) (edges insn)
-  pub rows_hold : AllByRecursion (λ handler. row_fault m insn.pc handler ≡ None) (covering m insn.pc)
+  pub rows_hold : AllByRecursion (λ handler. catch_fault m insn.pc handler ≡ None) (covering m insn.pc)
   pub handlers_fit : AllByRecursion (λ handler. Fits m.code frames (shape_at_handler handler f) handler.handler) (covering m insn.pc)
 
 -- an assignment of frames that meets all rows and edges, and under which no instruction breaks a rule
@@ -358,6 +359,12 @@ pub record IsLaidOut (m : MethodInfo) : Type 0 where
 -- the local law: a typing is such an assignment
 abbrev pub LocalLaw : Type 0
 LocalLaw = (p : Program) (m : MethodInfo) (frames : List (Option Shape)) → IsLaidOut m → HasTyping p m frames → IsAssignment p m frames
+
+-- the frame law: each frame of a typing has max_locals locals and at most max_stack values on its stack, and outside an
+-- `<init>` its `this` is initialised
+abbrev pub FrameLaw : Type 0
+FrameLaw = (p : Program) (m : MethodInfo) (frames : List (Option Shape)) → IsLaidOut m → HasTyping p m frames → (i : ℕ) (f : Shape) → slice_get frames i ≡ Some (Some f)
+    → (length f.locals ≡ m.max_locals) × (length f.stack ≤ m.max_stack) × (is_init m ≡ false → f.ready ≡ true)
 
 -- the least law: a typing is at or below every assignment; and a refusal by a rule other than V7 comes only
 -- where there is none. An uninitialised value that met another is of no known type, and V7 asks nothing of

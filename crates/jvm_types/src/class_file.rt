@@ -1,8 +1,8 @@
-//! A class file as data: the structures of the class-file chapter (JVMS, SE 6, chapter 4).
+//! A class file as data: the structures of the class-file chapter (JVMS 4).
 
 use crate::rows::{Bytes, Rows};
 
-/// An entry of the constant pool (JVMS 4.4). Numbers named `u16` are indices of the pool.
+/// An entry of the constant pool (JVMS 4.4). Each `u16` here is an index of the pool.
 #[derive(Debug, Drop)]
 pub enum Constant {
     /// Index 0, and the second index of a `Long` or `Double`: no entry stands there.

@@ -1,23 +1,34 @@
 //! Laws of the class grammar: `Spells bytes c` says that the bytes are a spelling of the class `c`.
 
-ghost use Rattle.jvm_types.specs.ClassLaws.{HasOneSpelling, SpellsOneClass, IsSpelledOrFaulty, FaultsLieInside};
+ghost use Rattle.jvm_types.specs.ClassLaws.{HasAtMostOneSpelling, SpellsAtMostOneClass, IsSpelledOrFaulty, ReadsWhatIsSpelled, ClassesFit, FaultsLieInside};
 
 /// No class has two spellings.
 #[tactic(auto, using(crate::proofs::ClassLawProofs::one_spelling))]
 pub fn one_spelling()
-    ensures { HasOneSpelling }
+    ensures { HasAtMostOneSpelling }
 {}
 
 /// No bytes spell two classes.
 #[tactic(auto, using(crate::proofs::ClassLawProofs::one_class))]
 pub fn one_class()
-    ensures { SpellsOneClass }
+    ensures { SpellsAtMostOneClass }
 {}
 
 /// Bytes spell a class exactly where no condition of the reading stands.
 #[tactic(auto, using(crate::proofs::ClassLawProofs::spelled_or_faulty))]
 pub fn spelled_or_faulty()
     ensures { IsSpelledOrFaulty }
+{}
+
+/// Reading gives a class exactly where the bytes spell that class.
+pub fn read_what_is_spelled()
+    ensures { ReadsWhatIsSpelled }
+{}
+
+/// Each list, text, body and code of a class is of a length that fits the field of that length.
+#[tactic(auto, using(crate::proofs::CountLaws::classes_fit))]
+pub fn counts_fit()
+    ensures { ClassesFit }
 {}
 
 /// The place of a fault lies in the bytes, or at their end.

@@ -1,4 +1,4 @@
-//! The instructions of a method (JVMS, SE 6, chapter 6), with the targets of branches as pcs.
+//! The instructions of a method (JVMS 6), with the targets of branches as pcs.
 
 use crate::rows::Rows;
 

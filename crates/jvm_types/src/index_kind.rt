@@ -2,7 +2,7 @@
 #[derive(Clone, Copy, Debug, PartialEq, Eq)]
 pub enum IndexKind {
     /// A `CONSTANT_Utf8`.
-    Text,
+    Utf8,
     /// A `CONSTANT_Class`.
     Class,
     /// A `CONSTANT_NameAndType`.

@@ -17,7 +17,9 @@ pub mod rows;
 pub mod typing;
 
 pub use class_file::{Attr, ClassFile, Code, Constant, Handler, Member, MemberAttr};
-pub use class_laws::{faults_inside, one_class, one_spelling, spelled_or_faulty};
+pub use class_laws::{
+    counts_fit, faults_inside, one_class, one_spelling, read_what_is_spelled, spelled_or_faulty,
+};
 pub use code::{Case, Cmp, Insn, Op};
 pub use first::FirstOp;
 pub use gate::{Gate, OpenGate};

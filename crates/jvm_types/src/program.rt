@@ -11,7 +11,7 @@ use crate::rows::{Bytes, Rows};
 pub enum Kind {
     Int,
     Bool,
-    /// A reference to an object of this class.
+    /// A reference to an object of this class or of one below it, or null.
     Ref(u16),
 }
 

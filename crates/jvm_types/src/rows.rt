@@ -6,7 +6,7 @@ use std::marker::Model;
 
 /// A list of items, which contracts see as that list and as nothing else.
 ///
-/// Each method but `push` and `from_slice` takes no memory.
+/// Only `push`, `from_slice` and `extend_from_slice` take memory.
 #[derive(Debug, Drop)]
 pub struct Rows<T> {
     items: Vec<T>,

@@ -22,7 +22,7 @@ pub enum VType {
 pub struct TypeFrame {
     pub stack: Rows<VType>,
     pub locals: Rows<VType>,
-    /// Whether `this` is initialised. It is so in every method but an `<init>`.
+    /// Whether `this` is initialised; outside an `<init>` always true.
     pub this_ready: bool,
 }
 
