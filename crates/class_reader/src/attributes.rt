@@ -19,7 +19,7 @@ fn cut_attr<'a>(pool: &Rows<Constant>, bytes: &'a [u8]) -> Result<(u16, &'a [u8]
     ensures gives { Gives (λ x. (attr_of x.0 x.1.now, x.2.now)) result (attr_at pool.now bytes.now) }
     ensures room { IfOk result (λ x. length x.1.now + length x.2.now < 2 ^ 63) }
 {
-    let (name, rest) = read_index(IndexKind::Text, pool, bytes)?;
+    let (name, rest) = read_index(IndexKind::Utf8, pool, bytes)?;
     let (len, rest) = read_u4(rest)?;
     let (body, rest) = read_run(len as usize, rest)?;
     Ok((name, body, rest))

@@ -13,7 +13,7 @@ pub fn is_kind(kind: IndexKind, pool: &Rows<Constant>, index: u16) -> bool
 {
     match (kind, pool.get(usize::from(index))) {
         (IndexKind::CatchType, _) if index == 0 => true,
-        (IndexKind::Text, Some(Constant::Utf8(_))) => true,
+        (IndexKind::Utf8, Some(Constant::Utf8(_))) => true,
         (IndexKind::Class | IndexKind::CatchType, Some(Constant::Class(_))) => true,
         (IndexKind::NameAndType, Some(Constant::NameAndType(_, _))) => true,
         (

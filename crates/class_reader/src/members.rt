@@ -26,8 +26,8 @@ fn read_member<'a, S: Step<Item = MemberAttr>>(
     ensures { Gives (λ x. (x.0, x.1.now)) result (member_at (S.item_at pool.now) pool.now bytes.now) }
 {
     let (flags, rest) = read_u2(bytes)?;
-    let (name, rest) = read_index(IndexKind::Text, pool, rest)?;
-    let (descriptor, rest) = read_index(IndexKind::Text, pool, rest)?;
+    let (name, rest) = read_index(IndexKind::Utf8, pool, rest)?;
+    let (descriptor, rest) = read_index(IndexKind::Utf8, pool, rest)?;
     let (attrs, rest) = read_list::<S>(alloc, pool, rest)?;
     let member = Member {
         flags,

@@ -64,7 +64,7 @@ fn check_entry(
 {
     match entry {
         Constant::Class(index) | Constant::Text(index) => {
-            let is_met = is_kind(IndexKind::Text, pool, *index);
+            let is_met = is_kind(IndexKind::Utf8, pool, *index);
             check(is_met, CRule::C5, left.saturating_sub(1))
         }
         Constant::Field(class, member)
@@ -74,7 +74,7 @@ fn check_entry(
             check_both(kinds, pool, (*class, *member), left)
         }
         Constant::NameAndType(name, descriptor) => {
-            let kinds = (IndexKind::Text, IndexKind::Text);
+            let kinds = (IndexKind::Utf8, IndexKind::Utf8);
             check_both(kinds, pool, (*name, *descriptor), left)
         }
         _ => check(!(takes_two(entry) && is_last), CRule::C5, left),
