@@ -8,3 +8,7 @@ pub mod Returns
 pub mod Entries
 pub mod Spelled
 pub mod Joined
+pub mod StepLoops
+pub mod PlacesInside
+pub mod CodeCount
+pub mod Refusals

@@ -1,3 +1,4 @@
 pub mod Reading
 pub mod Testing
 pub mod Finding
+pub mod Giving
