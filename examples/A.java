@@ -1,6 +1,5 @@
-// The source of A.class, for reading. A compiler would fold 2 + 3 into 5: the class file was written
-// with the addition kept, so that there is something to run. It has no constructor, since no object of
-// the class is made.
+// A.class beside this file was written with the addition kept: `iconst_2; iconst_3; iadd`.
+// A Java compiler folds `2 + 3` into one constant, so what it makes of this source has no `iadd`.
 public class A {
     public static void init() {
         System.out.println(2 + 3);

@@ -62,6 +62,7 @@ pub fn load_first(alloc: Global, bytes: &Bytes) -> Result<Rows<FirstOp>, FileErr
 #[cfg(test)]
 mod tests {
     use super::*;
+    use std::test::*;
 
     #[test]
     fn errors_are_shown(rt: HostRuntime) -> Result<(), std::alloc::AllocError> {
@@ -73,6 +74,36 @@ mod tests {
         let error = FileError::Refused(Rule::L(LRule::L2), place);
         let text = format!(in rt.alloc(); "{error}")?;
         assert_eq!(rt; text.as_str(), "refused L2 file 2 method 1 at 7");
+        Ok(())
+    }
+
+    /// Class A, whose `init` prints 2 + 3.
+    const ADDS: [u8; 223] = [
+        202, 254, 186, 190, 0, 0, 0, 50, 0, 20, 1, 0, 1, 65, 7, 0, 1, 1, 0, 16, 106, 97, 118, 97,
+        47, 108, 97, 110, 103, 47, 79, 98, 106, 101, 99, 116, 7, 0, 3, 1, 0, 4, 105, 110, 105, 116,
+        1, 0, 3, 40, 41, 86, 1, 0, 4, 67, 111, 100, 101, 1, 0, 16, 106, 97, 118, 97, 47, 108, 97,
+        110, 103, 47, 83, 121, 115, 116, 101, 109, 7, 0, 8, 1, 0, 3, 111, 117, 116, 1, 0, 21, 76,
+        106, 97, 118, 97, 47, 105, 111, 47, 80, 114, 105, 110, 116, 83, 116, 114, 101, 97, 109, 59,
+        12, 0, 10, 0, 11, 9, 0, 9, 0, 12, 1, 0, 19, 106, 97, 118, 97, 47, 105, 111, 47, 80, 114,
+        105, 110, 116, 83, 116, 114, 101, 97, 109, 7, 0, 14, 1, 0, 7, 112, 114, 105, 110, 116, 108,
+        110, 1, 0, 4, 40, 73, 41, 86, 12, 0, 16, 0, 17, 10, 0, 15, 0, 18, 0, 33, 0, 2, 0, 4, 0, 0,
+        0, 0, 0, 1, 0, 9, 0, 5, 0, 6, 0, 1, 0, 7, 0, 0, 0, 22, 0, 3, 0, 0, 0, 0, 0, 10, 178, 0, 13,
+        5, 6, 96, 182, 0, 19, 177, 0, 0, 0, 0, 0, 0,
+    ];
+
+    #[test]
+    fn loads_a_class_that_adds_and_prints(rt: HostRuntime) -> Result<(), Fail> {
+        let bytes = Bytes::from_slice(rt.alloc(), &ADDS)?;
+        let ops = load_first(rt.alloc(), &bytes)?;
+        let wanted = [
+            FirstOp::Out,
+            FirstOp::Const(2),
+            FirstOp::Const(3),
+            FirstOp::Add,
+            FirstOp::Print,
+            FirstOp::Return,
+        ];
+        assert_eq!(rt; ops.as_slice(), wanted.as_slice());
         Ok(())
     }
 }

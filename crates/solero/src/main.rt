@@ -1,6 +1,8 @@
 //! The program `solero`: runs class files, and writes what came of it.
 #![tactic(auto)]
 
+ghost use Rattle.std.specs.Prelude.{◌≡◌, ◌≢◌};
+
 mod adapters;
 mod answer;
 mod command;
@@ -8,10 +10,13 @@ mod delivery;
 mod program;
 mod shelf;
 mod sink;
+#[cfg(test)]
+mod tests;
 
 use adapters::{FileShelf, OutputSink};
 use answer::Due;
 use jvm_types::OpenGate;
+use std::io::ErrorKind;
 use std::process::ExitCode;
 use std::rt::Env;
 use std::{env, io};
@@ -21,7 +26,7 @@ fn main(rt: HostRuntime) -> ExitCode {
     let mut sink = OutputSink::new(&rt);
     let status = match words(&rt) {
         Ok(words) => program::top(rt.alloc(), &words, &mut shelf, &mut sink, &OpenGate),
-        Err(error) => delivery::deliver(&mut sink, &without_words(&error)),
+        Err(error) => delivery::deliver(&mut sink, &without_words(error.kind())),
     };
     ExitCode::from(status)
 }
@@ -33,8 +38,11 @@ fn words<R: Env + AllocGlobal>(rt: &R) -> io::Result<Vec<String>> {
 }
 
 // What is due where the words cannot be had: those that are no text are not read.
-fn without_words(error: &io::Error) -> Due {
-    if error.kind() == io::ErrorKind::OutOfMemory {
+fn without_words(kind: ErrorKind) -> Due
+    ensures memory { kind ≡ ErrorKind.OutOfMemory → result ≡ Due.OutOfMemory }
+    ensures other { kind ≢ ErrorKind.OutOfMemory → result ≡ Due.Usage }
+{
+    if kind == ErrorKind::OutOfMemory {
         Due::OutOfMemory
     } else {
         Due::Usage

@@ -1,0 +1,270 @@
+//! Runs over files and sinks in memory, and the edge of the system once.
+
+use crate::adapters::{FileShelf, OutputSink};
+use crate::program::top;
+use crate::shelf::{CalmShelf, ListShelf, NamedFile, Shelf, ShelfError};
+use crate::sink::{CalmSink, ListSink, Sink, SinkFailed};
+use jvm_types::{Bytes, OpenGate, Rows};
+use std::alloc::{AllocError, Global};
+use std::process::Abort;
+use std::test::Fail;
+use std::{fmt, io};
+
+// A class whose `init` prints 2 + 3.
+fn adds() -> &'static str {
+    "\
+    cafebabe000000320014010001410700010100106a6176612f6c616e672f4f626a656374070003010004696e\
+    6974010003282956010004436f64650100106a6176612f6c616e672f53797374656d0700080100036f757401\
+    00154c6a6176612f696f2f5072696e7453747265616d3b0c000a000b090009000c0100136a6176612f696f2f\
+    5072696e7453747265616d07000e0100077072696e746c6e010004284929560c001000110a000f0012002100\
+    0200040000000000010009000500060001000700000016000300000000000ab2000d050660b60013b1000000\
+    000000"
+}
+
+// A class with fields, synchronized sections and further methods.
+fn locks() -> &'static str {
+    "\
+    cafebabe00000032002a010001500700010100106a6176612f6c616e672f4f626a6563740700030100016101\
+    00014901000162010001700100034c503b0100063c696e69743e010003282956010004436f64650100037365\
+    740100042849295601000373756d010003282949010004696e69740c000a000b0a000400120a000200120c00\
+    05000609000200150c0007000609000200170c0008000909000200190c000d000e0a0002001b0c000f00100a\
+    0002001d0100106a6176612f6c616e672f53797374656d07001f0100036f75740100154c6a6176612f696f2f\
+    5072696e7453747265616d3b0c0021002209002000230100136a6176612f696f2f5072696e7453747265616d\
+    0700250100077072696e746c6e0c0027000e0a00260028002000020004000000030002000500060000000200\
+    0700060000000800080009000000040000000a000b0001000c0000001100010001000000052ab70013b10000\
+    00000020000d000e0001000c00000017000200020000000b2a1bb500162a1bb50018b1000000000000000f00\
+    100001000c0000003100020003000000152a594cc22ab400162ab40018602bc3ac4d2bc32cbf00020004000f\
+    001000000010001300100000000000080011000b0001000c000000420002000000000036bb000259b70014b3\
+    001ab2001a07b6001cb20024b2001ab6001eb60029b20024b2001ab6001eb60029b20024b2001ab6001eb600\
+    29b1000000000000"
+}
+
+const REPORT: &str = "5\ninit returned\ndone returned\n\
+    counts 0 instructions 6 elided 0 failed 0 locked 0 inflated 0\n";
+
+const REFUSED: &str = "refused L0 file 0 at 0\n";
+
+const USAGE: &str = "usage: solero [options] FILE...\n";
+
+const CANNOT_READ: &str = "cannot read file 0\n";
+
+fn digit(code: u8) -> u8 {
+    match code {
+        b'0'..=b'9' => code - b'0',
+        b'a'..=b'f' => code - b'a' + 10,
+        _ => 0,
+    }
+}
+
+// The bytes of a text of two digits each.
+fn bytes_of(alloc: Global, hex: &str) -> Result<Bytes, AllocError> {
+    let mut bytes = Bytes::new(alloc);
+    for pair in hex.as_bytes().chunks(2) {
+        if let [high, low] = pair {
+            bytes.push(digit(*high).wrapping_mul(16).wrapping_add(digit(*low)))?;
+        }
+    }
+    Ok(bytes)
+}
+
+fn zeros(alloc: Global, count: usize) -> Result<Bytes, AllocError> {
+    let zeros = vec![in alloc; 0u8; count]?;
+    Bytes::from_slice(alloc, &zeros)
+}
+
+// One file of the name `A.class`.
+fn one_file(alloc: Global, content: Bytes) -> Result<Rows<NamedFile>, AllocError> {
+    let name = Bytes::from_slice(alloc, "A.class".as_bytes())?;
+    let mut files = Rows::new(alloc);
+    files.push(NamedFile { name, content })?;
+    Ok(files)
+}
+
+fn shelf_of(alloc: Global, content: &str, failing: &[u64]) -> Result<ListShelf, AllocError> {
+    let files = one_file(alloc, bytes_of(alloc, content)?)?;
+    Ok(ListShelf::new(files, Rows::from_slice(alloc, failing)?))
+}
+
+// Runs the program of these words, before which its name stands.
+fn run<S: Shelf, K: Sink>(
+    alloc: Global,
+    words: &[&str],
+    shelf: &mut S,
+    sink: &mut K,
+) -> Result<u8, AllocError> {
+    let mut all = Vec::new(alloc);
+    all.push(String::from_str(alloc, "solero")?)?;
+    for word in words {
+        all.push(String::from_str(alloc, word)?)?;
+    }
+    Ok(top(alloc, &all, shelf, sink, &OpenGate))
+}
+
+// A run over one file `A.class`, with what it has to come to.
+#[derive(Clone, Copy)]
+struct Case<'a> {
+    words: &'a [&'a str],
+    content: &'a str,
+    failing: &'a [u64],
+    status: u8,
+    text: &'a str,
+}
+
+impl<'a> Case<'a> {
+    fn new(
+        words: &'a [&'a str],
+        content: &'a str,
+        failing: &'a [u64],
+        status: u8,
+        text: &'a str,
+    ) -> Self {
+        Case {
+            words,
+            content,
+            failing,
+            status,
+            text,
+        }
+    }
+}
+
+// Runs the case over a sink, and compares.
+fn check(
+    rt: &(impl Abort + AllocGlobal),
+    mut sink: ListSink,
+    case: Case<'_>,
+) -> Result<(), AllocError> {
+    let mut shelf = shelf_of(rt.alloc(), case.content, case.failing)?;
+    let status = run(rt.alloc(), case.words, &mut shelf, &mut sink)?;
+    assert_eq!(rt; sink.text().as_slice(), case.text.as_bytes());
+    assert_eq!(rt; status, case.status);
+    Ok(())
+}
+
+fn check_all(rt: &(impl Abort + AllocGlobal), cases: &[Case<'_>]) -> Result<(), AllocError> {
+    for case in cases {
+        check(rt, ListSink::new(rt.alloc(), None, 4096), *case)?;
+    }
+    Ok(())
+}
+
+#[test]
+fn words_that_are_not_read_and_faults_of_the_shelf(rt: HostRuntime) -> Result<(), Fail> {
+    let cases = [
+        Case::new(&[], adds(), &[], 2, USAGE),
+        Case::new(&["A.class", "A.class"], adds(), &[], 2, USAGE),
+        Case::new(&["-x"], adds(), &[], 2, USAGE),
+        Case::new(&["A.class"], adds(), &[1], 4, CANNOT_READ),
+        Case::new(&["B.class"], adds(), &[], 4, CANNOT_READ),
+    ];
+    check_all(&rt, &cases)?;
+    Ok(())
+}
+
+#[test]
+fn files_that_are_run_and_refused(rt: HostRuntime) -> Result<(), Fail> {
+    let cases = [
+        Case::new(&["A.class"], adds(), &[2], 0, REPORT),
+        Case::new(&["A.class"], locks(), &[], 3, REFUSED),
+        Case::new(&["A.class"], "", &[], 3, REFUSED),
+    ];
+    check_all(&rt, &cases)?;
+    Ok(())
+}
+
+#[test]
+fn a_file_that_is_too_long_is_refused(rt: HostRuntime) -> Result<(), Fail> {
+    let alloc = rt.alloc();
+    let mut shelf = CalmShelf::new(one_file(alloc, zeros(alloc, 1_048_577)?)?);
+    let mut sink = ListSink::new(alloc, None, 4096);
+    assert_eq!(rt; run(alloc, &["A.class"], &mut shelf, &mut sink)?, 3);
+    assert_eq!(rt; sink.text().as_slice(), REFUSED.as_bytes());
+    Ok(())
+}
+
+#[test]
+fn a_sink_may_take_any_part(rt: HostRuntime) -> Result<(), Fail> {
+    let slow = ListSink::new(rt.alloc(), None, 1);
+    check(&rt, slow, Case::new(&["A.class"], adds(), &[], 0, REPORT))?;
+    let short = ListSink::new(rt.alloc(), Some(7), 4096);
+    check(
+        &rt,
+        short,
+        Case::new(&["A.class"], adds(), &[], 5, "5\ninit "),
+    )?;
+    Ok(())
+}
+
+fn is_content(answer: &Result<Bytes, ShelfError>, content: &[u8]) -> bool {
+    match answer {
+        Ok(found) => found.as_slice() == content,
+        Err(_) => false,
+    }
+}
+
+#[test]
+fn shelves_give_their_files(rt: HostRuntime) -> Result<(), Fail> {
+    let alloc = rt.alloc();
+    let bytes = [0xca, 0xfe];
+    let mut list = shelf_of(alloc, "cafe", &[2])?;
+    assert!(rt; is_content(&list.read_file(alloc, "A.class", 2), &bytes));
+    assert!(rt;
+        matches!(
+            &list.read_file(alloc, "A.class", 2),
+            Err(ShelfError::Failed)
+        )
+    );
+    assert!(rt;
+        matches!(
+            &list.read_file(alloc, "A.class", 1),
+            Err(ShelfError::TooLong)
+        )
+    );
+    let mut calm = CalmShelf::new(one_file(alloc, bytes_of(alloc, "cafe")?)?);
+    assert!(rt; is_content(&calm.read_file(alloc, "A.class", 2), &bytes));
+    assert!(rt; is_content(&calm.read_file(alloc, "B.class", 2), &[]));
+    Ok(())
+}
+
+// An output that takes nothing.
+struct Stuck;
+
+impl Print for Stuck {
+    fn print<D: fmt::Display + Drop>(&self, _value: D) -> io::Result<()> {
+        Ok(())
+    }
+
+    fn println<D: fmt::Display + Drop>(&self, _value: D) -> io::Result<()> {
+        Ok(())
+    }
+
+    fn write_all(&self, _bytes: &[u8]) -> io::Result<()> {
+        Ok(())
+    }
+
+    fn write_some(&self, _bytes: &[u8]) -> io::Result<usize> {
+        Ok(0)
+    }
+}
+
+#[test]
+fn the_edge_of_the_system(rt: HostRuntime) -> Result<(), Fail> {
+    let alloc = rt.alloc();
+    let mut files = FileShelf::new(&rt);
+    assert!(rt; is_content(&files.read_file(alloc, "/dev/null", 0), &[]));
+    assert!(rt;
+        matches!(
+            &files.read_file(alloc, "/dev/zero", 5000),
+            Err(ShelfError::TooLong)
+        )
+    );
+    assert!(rt;
+        matches!(
+            &files.read_file(alloc, "/dev/null/A.class", 5000),
+            Err(ShelfError::Failed)
+        )
+    );
+    assert!(rt; matches!(&OutputSink::new(&Stuck).write_some(&[53]), Err(SinkFailed)));
+    assert!(rt; matches!(&CalmSink::new().write_some(&[53]), Ok(1)));
+    Ok(())
+}
