@@ -3,7 +3,7 @@
 use crate::rows::{Bytes, Rows};
 
 /// An entry of the constant pool (JVMS 4.4). Each `u16` here is an index of the pool.
-#[derive(Debug, Drop)]
+#[derive(Debug, PartialEq, Drop)]
 pub enum Constant {
     /// Index 0, and the second index of a `Long` or `Double`: no entry stands there.
     Gap,

@@ -108,3 +108,16 @@ impl<T: Copy> Rows<T> {
         self.items.extend_from_slice(items)
     }
 }
+
+impl<T: PartialEq> PartialEq for Rows<T> {
+    ghost use Rattle.std.specs.Prelude.{◌≡◌};
+    ghost use Rattle.std.specs.Cmp.Lexicographic.{pointwise, lists_per};
+
+    ghost eq = { λ v w. pointwise T.eq v w };
+
+    ghost laws = { lists_per T.laws };
+
+    fn eq(&self, other: &Self) -> bool {
+        self.items.as_slice() == other.items.as_slice()
+    }
+}

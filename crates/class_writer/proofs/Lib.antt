@@ -1,0 +1,3 @@
+pub mod LawProofs
+pub mod PartProofs
+pub mod TestProofs

@@ -1,0 +1,4 @@
+pub mod Writing
+pub mod Testing
+pub mod Building
+pub mod Laws
