@@ -1,5 +1,5 @@
 -- What the public clauses say of a reader that gives what reading gives.
-use Rattle.std.proofs.Common.{◌≡◌, ℕ, ◌-◌, ◌^◌, ◌<◌, ◌≤◌, Bool, true, false, cond, ltb, List, length, get_or, Some, Result, Ok, Err, refl, ap, arith}
+use Rattle.std.proofs.Common.{◌≡◌, ℕ, ◌-◌, ◌^◌, ◌<◌, ◌≤◌, Bool, true, false, cond, ltb, List, length, get_or, Some, None, Result, Ok, Err, refl, ap, arith}
 use Rattle.std.proofs.lemmas.Bool.{ltb-true, ltb-false}
 use Rattle.jvm_types.specs.declared.refusal.CRule.{CRule}
 use Rattle.jvm_types.specs.declared.refusal.CRule.TheVariants.{C10}
@@ -46,3 +46,8 @@ by_length false n read f short e = let le : n ≤ 1048576 = ltb-false 1048576 n 
 pub offset_fits : (bytes : List ℕ) (rule : CRule) (left : ℕ) → read_class bytes ≡ fault rule left → length bytes - left < 2 ^ 32
 unfolding read_class
 offset_fits bytes rule left read = by_length (ltb 1048576 (length bytes)) (length bytes) (whole (class_at bytes)) (record { rule = rule; left = left }) refl read
+
+-- no condition stands in bytes that give a class
+pub is_faultless : (bytes : List ℕ) (c : ClassFile) → read_class bytes ≡ Ok c → class_fault bytes ≡ None
+unfolding class_fault
+is_faultless bytes c e = rw e refl

@@ -1,9 +1,9 @@
 //! Class files (JVMS 4.1, SE 6).
 
-ghost use Rattle.std.specs.Prelude.{◌≡◌, ℕ, List, length, IfOk, IfErr};
+ghost use Rattle.std.specs.Prelude.{◌≡◌, ℕ, List, None, length, IfOk, IfErr, OnOk};
 ghost use Rattle.jvm_types.specs.ClassGrammar.{Spells};
 ghost use Rattle.jvm_types.specs.ReadingPool.{index_at};
-ghost use Rattle.jvm_types.specs.ReadingClass.{class_at, read_class};
+ghost use Rattle.jvm_types.specs.ReadingClass.{class_at, class_fault, read_class};
 ghost use Rattle.jvm_types.specs.declared.index_kind.IndexKind.TheVariants.{Class as OfClass};
 ghost use Rattle.jvm_types.specs.declared.class_file.ClassFile.{ClassFile as Class};
 ghost use Rattle.class_reader.specs.Giving.{Gives, IsFirstFault, IsMemory, class_index_at};
@@ -94,6 +94,7 @@ fn read_bytes(alloc: Global, bytes: &[u8]) -> Result<ClassFile, ReadError>
     ensures only { (c : Class) → Spells bytes.now c → IfOk result (λ found. found ≡ c) }
     ensures spelled { (c : Class) → Spells bytes.now c → IfErr result (λ e. IsMemory e) }
     ensures refused { IfErr result (λ e. IsFirstFault bytes.now e) }
+    ensures faultless { OnOk result (class_fault bytes.now ≡ None) }
 {
     match read_whole(alloc, bytes) {
         Ok(class) => Ok(class),
@@ -112,6 +113,8 @@ pub fn read_class(alloc: Global, bytes: &Bytes) -> Result<ClassFile, ReadError>
     ensures spelled { (c : Class) → Spells bytes.now c → IfErr result (λ e. IsMemory e) }
     // A refusal names the first condition that stands, and its place.
     ensures refused { IfErr result (λ e. IsFirstFault bytes.now e) }
+    // No condition stands where a class is answered.
+    ensures faultless { OnOk result (class_fault bytes.now ≡ None) }
 {
     read_bytes(alloc, bytes.as_slice())
 }

@@ -1,5 +1,5 @@
 use Rattle.std.proofs.Common.{arith}
-use Rattle.class_reader.proofs.Refusals.{is_spelled, is_only, none_spelled, is_first, is_inside, offset_fits}
+use Rattle.class_reader.proofs.Refusals.{is_spelled, is_only, none_spelled, is_first, is_inside, offset_fits, is_faultless}
 use Rattle.class_reader.proofs.reading.read_bytes.Goals as goal
 
 pub overflow_sub-result : goal.overflow_sub-result
@@ -19,3 +19,6 @@ returns-in-Err-At-clause-spelled c = none_spelled c.args.bytes.now c.in-Err-At.r
 
 pub returns-in-Err-At-clause-refused : goal.returns-in-Err-At-clause-refused
 returns-in-Err-At-clause-refused c = is_first c.args.bytes.now c.in-Err-At.rule c.in-Err-At.left (rw c.in-Err-At.field-0-is at c.in-Err-At.ensures)
+
+pub returns-in-Ok-clause-faultless : goal.returns-in-Ok-clause-faultless
+returns-in-Ok-clause-faultless c = is_faultless c.args.bytes.now c.in-Ok.class c.in-Ok.ensures
