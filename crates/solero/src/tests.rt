@@ -166,7 +166,14 @@ fn files_that_are_run_and_refused(rt: HostRuntime) -> Result<(), Fail> {
     let cases = [
         Case::new(&["A.class"], adds(), &[2], 0, REPORT),
         Case::new(&["A.class"], locks(), &[], 3, REFUSED),
-        Case::new(&["A.class"], "", &[], 3, REFUSED),
+        Case::new(&["A.class"], "", &[], 3, "refused C3 file 0 at 0\n"),
+        Case::new(
+            &["A.class"],
+            "cafebabe00000033",
+            &[],
+            3,
+            "refused C2 file 0 at 6\n",
+        ),
     ];
     check_all(&rt, &cases)?;
     Ok(())
@@ -178,7 +185,8 @@ fn a_file_that_is_too_long_is_refused(rt: HostRuntime) -> Result<(), Fail> {
     let mut shelf = CalmShelf::new(one_file(alloc, zeros(alloc, 1_048_577)?)?);
     let mut sink = ListSink::new(alloc, None, 4096);
     assert_eq!(rt; run(alloc, &["A.class"], &mut shelf, &mut sink)?, 3);
-    assert_eq!(rt; sink.text().as_slice(), REFUSED.as_bytes());
+    let refused = "refused C10 file 0 at 1048576\n";
+    assert_eq!(rt; sink.text().as_slice(), refused.as_bytes());
     Ok(())
 }
 
