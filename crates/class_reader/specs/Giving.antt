@@ -52,6 +52,7 @@ abbrev pub IsFirstFault : List ℕ → ReadError → Type 0
 IsFirstFault bytes errors.Memory = Unit {0}
 IsFirstFault bytes (errors.Refused rule at) = class_fault bytes ≡ Some (rule, at)
 
+-- an attribute of this name and body
 abbrev pub attr_of : ℕ → List ℕ → Attr
 attr_of name body = record { name = name; body = body }
 
@@ -60,6 +61,7 @@ abbrev pub HasPlace : ℕ → Stop → Type 0
 HasPlace behind stops.Memory = Unit {0}
 HasPlace behind (stops.At rule left) = left + behind < 2 ^ 64
 
+-- a Code
 abbrev pub is_code : MemberAttr → Bool
 is_code (member_attrs.Code c) = true
 is_code attr = false
@@ -68,6 +70,7 @@ is_code attr = false
 abbrev pub class_index_at : List Constant → List ℕ → Result (ℕ × List ℕ) Fault
 class_index_at pool bytes = index_at kinds.Class pool bytes
 
+-- memory ran out
 abbrev pub IsMemory : ReadError → Type 0
 IsMemory errors.Memory = Unit {0}
 IsMemory (errors.Refused rule at) = ⊥

@@ -27,4 +27,8 @@ pub use read_error::ReadError;
 pub use reading::read_class;
 
 #[cfg(test)]
+mod reading_tests;
+#[cfg(test)]
+mod test_files;
+#[cfg(test)]
 mod tests;

@@ -1,4 +1,4 @@
-//! The constant pool with its own indices looked at (JVMS 4.4).
+//! Reading the constant pool, whose own indices are looked at once all of it was read (JVMS 4.4).
 
 ghost use Rattle.std.specs.Prelude.{◌≡◌, length};
 ghost use Rattle.jvm_types.specs.Spelling.{constant};
@@ -29,7 +29,8 @@ fn spelled_len(entry: &Constant) -> usize
     }
 }
 
-/// Looks at the two indices of an entry. From its tag on `left` bytes are left.
+/// Looks at the two indices of an entry, which stand one and three bytes behind its tag. From the tag on
+/// `left` bytes are left, which are more than that.
 #[tactic(auto, unfolding(jvm_types::specs::ReadingPool::both_wanted))]
 fn check_both(
     kinds: (IndexKind, IndexKind),
@@ -52,7 +53,7 @@ fn check_both(
 }
 
 /// Looks at the indices of an entry, and that no Long or Double is last. From its tag on `left` bytes
-/// are left.
+/// are left, the entry's own among them.
 #[tactic(auto, unfolding(jvm_types::specs::ReadingPool::entry_wanted))]
 fn check_entry(
     pool: &Rows<Constant>,
