@@ -18,44 +18,44 @@ each f (x ∷ xs) all = (f x all.0, each f xs all.1)
 counted : {A : Type 0} {P Q : A → Type 0} → ((x : A) → P x → Q x) → (xs : List A) → IsCounted P xs → IsCounted Q xs
 counted f xs is = record { count = is.count; each = each f xs is.each }
 
-text : (c : Constant) → FieldsFit c → TextFits c
-text (Utf8 bytes) fits = fits.0
-text Gap fits = tt
-text (Integer n) fits = tt
-text (Float n) fits = tt
-text (Long n) fits = tt
-text (Double n) fits = tt
-text (Class name) fits = tt
-text (Text string) fits = tt
-text (Field class member) fits = tt
-text (Method class member) fits = tt
-text (InterfaceMethod class member) fits = tt
-text (NameAndType name descriptor) fits = tt
+text_fits : (c : Constant) → FieldsFit c → TextFits c
+text_fits (Utf8 bytes) fits = fits.0
+text_fits Gap fits = tt
+text_fits (Integer n) fits = tt
+text_fits (Float n) fits = tt
+text_fits (Long n) fits = tt
+text_fits (Double n) fits = tt
+text_fits (Class name) fits = tt
+text_fits (Text string) fits = tt
+text_fits (Field class member) fits = tt
+text_fits (Method class member) fits = tt
+text_fits (InterfaceMethod class member) fits = tt
+text_fits (NameAndType name descriptor) fits = tt
 
-code : (pool : List Constant) (c : Code) → IsCode pool c → CodeFits c
-code pool c is = record { body = is.size; bytes = is.count; rows = is.rows.count; attrs = counted (λ a attr. attr.count) c.attrs is.attrs }
+code_fits : (pool : List Constant) (c : Code) → IsCode pool c → CodeFits c
+code_fits pool c is = record { body = is.size; bytes = is.count; rows = is.rows.count; attrs = counted (λ a attr. attr.count) c.attrs is.attrs }
 
-field_attr : (pool : List Constant) (a : MemberAttr) → IsFieldAttr pool a → MemberAttrFits a
-field_attr pool (member_attrs.Code c) is = absurd is
-field_attr pool (member_attrs.ConstantValue name value) is = tt
-field_attr pool (member_attrs.Other a) is = is.0.count
+field_attr_fits : (pool : List Constant) (a : MemberAttr) → IsFieldAttr pool a → MemberAttrFits a
+field_attr_fits pool (member_attrs.Code c) is = absurd is
+field_attr_fits pool (member_attrs.ConstantValue name value) is = tt
+field_attr_fits pool (member_attrs.Other a) is = is.0.count
 
-method_attr : (pool : List Constant) (a : MemberAttr) → IsMethodAttr pool a → MemberAttrFits a
-method_attr pool (member_attrs.Code c) is = code pool c is
-method_attr pool (member_attrs.ConstantValue name value) is = absurd is
-method_attr pool (member_attrs.Other a) is = is.0.count
+method_attr_fits : (pool : List Constant) (a : MemberAttr) → IsMethodAttr pool a → MemberAttrFits a
+method_attr_fits pool (member_attrs.Code c) is = code_fits pool c is
+method_attr_fits pool (member_attrs.ConstantValue name value) is = absurd is
+method_attr_fits pool (member_attrs.Other a) is = is.0.count
 
-field : (pool : List Constant) (m : Member) → IsField pool m → MemberFits m
-field pool m is = counted (field_attr pool) m.attrs is.attrs
+field_fits : (pool : List Constant) (m : Member) → IsField pool m → MemberFits m
+field_fits pool m is = counted (field_attr_fits pool) m.attrs is.attrs
 
-method : (pool : List Constant) (m : Member) → IsMethod pool m → MemberFits m
-method pool m is = counted (method_attr pool) m.attrs is.member.attrs
+method_fits : (pool : List Constant) (m : Member) → IsMethod pool m → MemberFits m
+method_fits pool m is = counted (method_attr_fits pool) m.attrs is.member.attrs
 
 pub classes_fit : ClassesFit
 classes_fit c is = record {
-  constants = record { count = is.pool.count; each = each text c.constants is.pool.fields };
+  constants = record { count = is.pool.count; each = each text_fits c.constants is.pool.fields };
   interfaces = is.interfaces.count;
-  fields = counted (field c.constants) c.fields is.fields;
-  methods = counted (method c.constants) c.methods is.methods;
+  fields = counted (field_fits c.constants) c.fields is.fields;
+  methods = counted (method_fits c.constants) c.methods is.methods;
   attrs = counted (λ a attr. attr.count) c.attrs is.attrs;
 }

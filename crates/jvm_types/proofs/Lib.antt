@@ -31,3 +31,4 @@ pub mod FirstIsClass
 pub mod CodeWhole
 pub mod CodeExact
 pub mod TypeOrder
+pub mod ShapeOrder

@@ -34,13 +34,14 @@ ancestors class = line class (super_class class)
     line c d = c ∷ d ∷ super_class d ∷ super_class (super_class d) ∷ super_class (super_class (super_class d)) ∷ []
 
 -- a class is below itself and below each of its ancestors
-abbrev pub is_subclass : ℕ → ℕ → Bool
+unfoldable pub is_subclass : ℕ → ℕ → Bool
 is_subclass class other = has_number (ancestors class) other
 
--- the nearest common ancestor of two classes
-abbrev pub first_common : List ℕ → List ℕ → ℕ
-first_common [] ds = object_class
-first_common (c ∷ cs) ds = if has_number ds c then c else first_common cs ds
+-- the first of some classes that another is below
+abbrev pub first_above : ℕ → List ℕ → ℕ
+first_above other [] = object_class
+first_above other (c ∷ cs) = if is_subclass other c then c else first_above other cs
 
-abbrev pub common_ancestor : ℕ → ℕ → ℕ
-common_ancestor class other = first_common (ancestors class) (ancestors other)
+-- the nearest common ancestor of two classes
+unfoldable pub common_ancestor : ℕ → ℕ → ℕ
+common_ancestor class other = first_above other (ancestors class)

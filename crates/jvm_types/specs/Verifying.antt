@@ -107,9 +107,9 @@ is_return ops.Areturn = true
 is_return ops.Return = true
 is_return op = false
 
--- V7, its five cases: a misused value; one that is uninitialised at a branch to a pc at or before it; one that
--- is uninitialised by `new` in a local where a handler row covers; an `<init>` that returns before `this` is
--- initialised. The standard forbids `this` too in such a local.
+-- V7, its cases: a misused value; one that is uninitialised at a branch to a pc at or before it; one that is
+-- uninitialised by `new` in a local where a handler row covers, where the standard forbids `this` too; an
+-- `<init>` that returns before `this` is initialised.
 abbrev pub misuses_object : MethodInfo → Insn → OpRow → Shape → Bool
 misuses_object m insn r f =
     some_operand (misuses m) r f

@@ -1,0 +1,120 @@
+-- The order of frames: it is one, and where two are of one depth their meet is the least that both are below.
+use Rattle.std.proofs.Common.{◌≡◌, suc, Bool, true, false, List, [], ◌∷◌, length, refl, ap, arith}
+use Rattle.std.specs.Prelude.{◌||◌, ◌&&◌, not}
+use Rattle.jvm_types.specs.Types.{Shape, is_below, meet, all_pairs, meets, shape_below, meet_shapes}
+use Rattle.jvm_types.specs.declared.typing.VType.{VType}
+use Rattle.jvm_types.proofs.TypeOrder.{below_self, below_trans, meet_left, meet_right, meet_least}
+
+-- ---- tests
+
+both_hold : (a b : Bool) → a ≡ true → b ≡ true → (a && b) ≡ true
+both_hold a b e f = rw e f
+
+first_holds : (a b : Bool) → (a && b) ≡ true → a ≡ true
+first_holds true b e = refl
+first_holds false b e = absurd (cc)
+
+second_holds : (a b : Bool) → (a && b) ≡ true → b ≡ true
+second_holds true b e = e
+second_holds false b e = absurd (cc)
+
+-- ---- places
+
+pub pairs_self : (ts : List VType) → all_pairs is_below ts ts ≡ true
+pairs_self [] = refl
+pairs_self (t ∷ ts) = both_hold (is_below t t) (all_pairs is_below ts ts) (below_self t) (pairs_self ts)
+
+pub pairs_length : (ts us : List VType) → all_pairs is_below ts us ≡ true → length ts ≡ length us
+pairs_length [] [] h = refl
+pairs_length [] (u ∷ us) h = absurd (cc)
+pairs_length (t ∷ ts) [] h = absurd (cc)
+pairs_length (t ∷ ts) (u ∷ us) h = ap suc (pairs_length ts us (second_holds (is_below t u) (all_pairs is_below ts us) h))
+
+pub pairs_trans : (ts us vs : List VType) → all_pairs is_below ts us ≡ true → all_pairs is_below us vs ≡ true → all_pairs is_below ts vs ≡ true
+pairs_trans [] [] [] h k = refl
+pairs_trans [] [] (v ∷ vs) h k = k
+pairs_trans [] (u ∷ us) vs h k = absurd (cc)
+pairs_trans (t ∷ ts) [] vs h k = absurd (cc)
+pairs_trans (t ∷ ts) (u ∷ us) [] h k = absurd (cc)
+pairs_trans (t ∷ ts) (u ∷ us) (v ∷ vs) h k = both_hold (is_below t v) (all_pairs is_below ts vs)
+    (below_trans t u v (first_holds (is_below t u) (all_pairs is_below ts us) h) (first_holds (is_below u v) (all_pairs is_below us vs) k))
+    (pairs_trans ts us vs (second_holds (is_below t u) (all_pairs is_below ts us) h) (second_holds (is_below u v) (all_pairs is_below us vs) k))
+
+pub meets_left : (ts us : List VType) → length ts ≡ length us → all_pairs is_below ts (meets ts us) ≡ true
+meets_left [] us e = refl
+meets_left (t ∷ ts) [] e = absurd (omega (arith, e))
+meets_left (t ∷ ts) (u ∷ us) e = both_hold (is_below t (meet t u)) (all_pairs is_below ts (meets ts us)) (meet_left t u) (meets_left ts us (omega (arith, e)))
+
+pub meets_right : (ts us : List VType) → length ts ≡ length us → all_pairs is_below us (meets ts us) ≡ true
+meets_right [] [] e = refl
+meets_right [] (u ∷ us) e = absurd (omega (arith, e))
+meets_right (t ∷ ts) [] e = absurd (omega (arith, e))
+meets_right (t ∷ ts) (u ∷ us) e = both_hold (is_below u (meet t u)) (all_pairs is_below us (meets ts us)) (meet_right t u) (meets_right ts us (omega (arith, e)))
+
+pub meets_least : (ts us vs : List VType) → all_pairs is_below ts vs ≡ true → all_pairs is_below us vs ≡ true → all_pairs is_below (meets ts us) vs ≡ true
+meets_least [] us [] h k = refl
+meets_least [] us (v ∷ vs) h k = absurd (cc)
+meets_least (t ∷ ts) us [] h k = absurd (cc)
+meets_least (t ∷ ts) [] (v ∷ vs) h k = absurd (cc)
+meets_least (t ∷ ts) (u ∷ us) (v ∷ vs) h k = both_hold (is_below (meet t u) v) (all_pairs is_below (meets ts us) vs)
+    (meet_least t u v (first_holds (is_below t v) (all_pairs is_below ts vs) h) (first_holds (is_below u v) (all_pairs is_below us vs) k))
+    (meets_least ts us vs (second_holds (is_below t v) (all_pairs is_below ts vs) h) (second_holds (is_below u v) (all_pairs is_below us vs) k))
+
+-- ---- whether `this` is initialised
+
+ready_self : (a : Bool) → (a || not a) ≡ true
+ready_self true = refl
+ready_self false = refl
+
+ready_trans : (a b c : Bool) → (a || not b) ≡ true → (b || not c) ≡ true → (a || not c) ≡ true
+ready_trans true b c h k = refl
+ready_trans false true c h k = absurd (cc)
+ready_trans false false c h k = k
+
+ready_left : (a b : Bool) → (a || not (a && b)) ≡ true
+ready_left true b = refl
+ready_left false b = refl
+
+ready_right : (a b : Bool) → (b || not (a && b)) ≡ true
+ready_right true b = ready_self b
+ready_right false true = refl
+ready_right false false = refl
+
+ready_least : (a b c : Bool) → (a || not c) ≡ true → (b || not c) ≡ true → ((a && b) || not c) ≡ true
+ready_least true b c h k = k
+ready_least false b c h k = h
+
+-- ---- frames
+
+-- a frame is below another by its three parts
+pub parts_below : (f g : Shape) → all_pairs is_below f.stack g.stack ≡ true → all_pairs is_below f.locals g.locals ≡ true → (f.ready || not g.ready) ≡ true → shape_below f g ≡ true
+parts_below f g s l r = both_hold (all_pairs is_below f.stack g.stack && all_pairs is_below f.locals g.locals) (f.ready || not g.ready)
+    (both_hold (all_pairs is_below f.stack g.stack) (all_pairs is_below f.locals g.locals) s l) r
+
+pub stack_below : (f g : Shape) → shape_below f g ≡ true → all_pairs is_below f.stack g.stack ≡ true
+stack_below f g h = first_holds (all_pairs is_below f.stack g.stack) (all_pairs is_below f.locals g.locals)
+    (first_holds (all_pairs is_below f.stack g.stack && all_pairs is_below f.locals g.locals) (f.ready || not g.ready) h)
+
+pub locals_below : (f g : Shape) → shape_below f g ≡ true → all_pairs is_below f.locals g.locals ≡ true
+locals_below f g h = second_holds (all_pairs is_below f.stack g.stack) (all_pairs is_below f.locals g.locals)
+    (first_holds (all_pairs is_below f.stack g.stack && all_pairs is_below f.locals g.locals) (f.ready || not g.ready) h)
+
+pub ready_below : (f g : Shape) → shape_below f g ≡ true → (f.ready || not g.ready) ≡ true
+ready_below f g h = second_holds (all_pairs is_below f.stack g.stack && all_pairs is_below f.locals g.locals) (f.ready || not g.ready) h
+
+pub shape_self : (f : Shape) → shape_below f f ≡ true
+shape_self f = parts_below f f (pairs_self f.stack) (pairs_self f.locals) (ready_self f.ready)
+
+pub shape_trans : (f g h : Shape) → shape_below f g ≡ true → shape_below g h ≡ true → shape_below f h ≡ true
+shape_trans f g h a b = parts_below f h (pairs_trans f.stack g.stack h.stack (stack_below f g a) (stack_below g h b))
+    (pairs_trans f.locals g.locals h.locals (locals_below f g a) (locals_below g h b)) (ready_trans f.ready g.ready h.ready (ready_below f g a) (ready_below g h b))
+
+pub shape_meet_left : (f g : Shape) → length f.stack ≡ length g.stack → length f.locals ≡ length g.locals → shape_below f (meet_shapes f g) ≡ true
+shape_meet_left f g s l = parts_below f (meet_shapes f g) (meets_left f.stack g.stack s) (meets_left f.locals g.locals l) (ready_left f.ready g.ready)
+
+pub shape_meet_right : (f g : Shape) → length f.stack ≡ length g.stack → length f.locals ≡ length g.locals → shape_below g (meet_shapes f g) ≡ true
+shape_meet_right f g s l = parts_below g (meet_shapes f g) (meets_right f.stack g.stack s) (meets_right f.locals g.locals l) (ready_right f.ready g.ready)
+
+pub shape_meet_least : (f g h : Shape) → shape_below f h ≡ true → shape_below g h ≡ true → shape_below (meet_shapes f g) h ≡ true
+shape_meet_least f g h a b = parts_below (meet_shapes f g) h (meets_least f.stack g.stack h.stack (stack_below f h a) (stack_below g h b))
+    (meets_least f.locals g.locals h.locals (locals_below f h a) (locals_below g h b)) (ready_least f.ready g.ready h.ready (ready_below f h a) (ready_below g h b))
