@@ -1,10 +1,22 @@
 -- Reading and writing undo each other.
-use Rattle.std.proofs.Common.{◌≡◌, sym, ◌∙◌}
+use Rattle.std.proofs.Common.{◌≡◌, ◌⊎◌, inl, inr, ℕ, List, Result, Ok, Err, refl, sym, ap, ◌∙◌}
+use Rattle.jvm_types.specs.ClassGrammar.{Spells}
+use Rattle.jvm_types.specs.declared.class_file.ClassFile.{ClassFile}
 use Rattle.jvm_types.proofs.ClassLawProofs.{spelled_if_read, read_if_spelled}
+use Rattle.jvm_types.proofs.CountLaws.{classes_fit}
+use Rattle.class_writer.specs.declared.error.WriteError.{WriteError}
+use Rattle.class_writer.specs.declared.error.WriteError.TheVariants.{Memory, TooLarge, NoSpelling}
+use Rattle.class_writer.specs.Writing.{Answers}
 use Rattle.class_writer.specs.Laws.{ReadsWhatWasWritten, WritesWhatWasRead}
 
 pub reads_back : ReadsWhatWasWritten
-reads_back written c spells = read_if_spelled written c spells
+reads_back bytes c spells = read_if_spelled bytes c spells
+
+writes_spelled : (bytes : List ℕ) (c : ClassFile) (answer : Result (List ℕ) WriteError) → Spells bytes c → Answers c answer → (answer ≡ Ok bytes) ⊎ (answer ≡ Err Memory)
+writes_spelled bytes c (Ok written) is spells = inl (ap (λ (x : List ℕ). Ok x) (spells.spelled ∙ sym is.spelled))
+writes_spelled bytes c (Err Memory) is free = inr refl
+writes_spelled bytes c (Err TooLarge) is large = absurd (large (classes_fit c is.is))
+writes_spelled bytes c (Err NoSpelling) is none = absurd (none.1 bytes is)
 
 pub writes_back : WritesWhatWasRead
-writes_back bytes written c fits e spells = spells.spelled ∙ sym (spelled_if_read bytes c fits e).spelled
+writes_back bytes c answer fits e answers = writes_spelled bytes c answer (spelled_if_read bytes c fits e) answers

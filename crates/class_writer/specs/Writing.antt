@@ -49,8 +49,10 @@ pub record IsWritten (c : ClassFile) : Type 0 where
   pub methods : IsCounted MemberFits c.methods
   pub attrs : IsCounted BodyFits c.attrs
 
--- want of memory is a free answer; a length does not fit its field; or all fit, and no bytes spell the class
-abbrev pub IsRefused : ClassFile → WriteError → Type 0
-IsRefused c Memory = Unit {0}
-IsRefused c TooLarge = CountsFit c → ⊥
-IsRefused c NoSpelling = CountsFit c × ((bytes : List ℕ) → Spells bytes c → ⊥)
+-- what writing a class answers: the bytes that spell it; want of memory, which is free; that a length does not fit its field;
+-- or that all fit, and no bytes spell the class
+abbrev pub Answers : ClassFile → Result (List ℕ) WriteError → Type 0
+Answers c (Ok bytes) = Spells bytes c
+Answers c (Err Memory) = Unit {0}
+Answers c (Err TooLarge) = CountsFit c → ⊥
+Answers c (Err NoSpelling) = CountsFit c × ((bytes : List ℕ) → Spells bytes c → ⊥)

@@ -104,9 +104,7 @@ impl Builder {
         if MAX_ENTRIES < index + entries_of(&c) {
             return Err(BuildError::Full);
         }
-        match append(&mut self.parts.constants, c) {
-            Ok(()) => Ok(index as u16),
-            Err(_) => Err(BuildError::Memory),
-        }
+        append(&mut self.parts.constants, c)?;
+        Ok(index as u16)
     }
 }

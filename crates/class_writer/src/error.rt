@@ -32,3 +32,14 @@ pub enum BuildError {
     /// The constant isn't there, and its last index would be above 65,534.
     Full,
 }
+
+impl From<AllocError> for BuildError {
+    ghost use Rattle.std.specs.Prelude.{◌≡◌};
+    ghost use Rattle.class_writer.specs.declared.error.BuildError.TheVariants.{Memory};
+
+    ghost from_gives = { λ _ e. e ≡ Memory };
+
+    fn from(_error: AllocError) -> BuildError {
+        BuildError::Memory
+    }
+}

@@ -1,14 +1,13 @@
-//! Reading and writing undo each other.
+//! Reading and writing undo each other: `Answers c r` says that `r` is what writing `c` answers.
 
 ghost use Rattle.class_writer.specs.Laws.{ReadsWhatWasWritten, WritesWhatWasRead};
 
-/// Reading the bytes that spell a class gives that class.
-#[tactic(auto, using(crate::proofs::LawProofs::reads_back))]
+/// Reading the bytes that were written gives the class again.
 pub fn reads_what_was_written()
     ensures { ReadsWhatWasWritten }
 {}
 
-/// The bytes that spell a class that was read are the bytes that were read.
+/// Writing a class that was read gives its bytes again, unless memory runs out.
 pub fn writes_what_was_read()
     ensures { WritesWhatWasRead }
 {}

@@ -1,9 +1,9 @@
 //! Writing a class file (JVMS 4.1).
 
-ghost use Rattle.std.specs.Prelude.{◌≡◌, MatchResult, Decides};
+ghost use Rattle.std.specs.Prelude.{◌≡◌, Decides};
 ghost use Rattle.jvm_types.specs.Spelling.{class_file};
-ghost use Rattle.jvm_types.specs.ClassGrammar.{IsClass, Spells};
-ghost use Rattle.class_writer.specs.Writing.{IsWritten, IsRefused};
+ghost use Rattle.jvm_types.specs.ClassGrammar.{IsClass};
+ghost use Rattle.class_writer.specs.Writing.{IsWritten, Answers};
 
 use crate::error::WriteError;
 use crate::parts::write_parts;
@@ -29,7 +29,7 @@ fn is_class(bytes: &[u8], c: &ClassFile) -> bool
 /// all fit and no bytes spell `c`, because `c` breaks a rule of the class grammar or its bytes would be
 /// more than 1,048,576; `Memory` where memory runs out.
 pub fn write_class(alloc: Global, c: &ClassFile) -> Result<Bytes, WriteError>
-    ensures { MatchResult result (λ bytes. Spells bytes c.now) (IsRefused c.now) }
+    ensures { Answers c.now result }
 {
     let mut bytes = Bytes::new(alloc);
     write_parts(alloc, c, &mut bytes)?;
