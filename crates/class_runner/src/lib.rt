@@ -6,3 +6,6 @@ pub mod texts;
 
 pub use loading::{FileError, load_first};
 pub use texts::{refusal, report};
+
+#[cfg(test)]
+mod compiled;
