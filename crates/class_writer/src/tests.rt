@@ -70,39 +70,78 @@ fn add_named(
     add(builder, Constant::NameAndType(name, descriptor))
 }
 
-/// The class of `ADDS`, as a builder makes it.
-fn adds(alloc: Global) -> Result<ClassFile, BuildError> {
-    let mut builder = new_builder(alloc)?;
-    let b = &mut builder;
-    b.parts.this_class = add_class(alloc, b, b"A")?;
-    b.parts.super_class = add_class(alloc, b, b"java/lang/Object")?;
-    let name = add_text(alloc, b, b"init")?;
-    let descriptor = add_text(alloc, b, b"()V")?;
-    let code_name = add_text(alloc, b, b"Code")?;
-    let system = add_class(alloc, b, b"java/lang/System")?;
-    let out = add_named(alloc, b, b"out", b"Ljava/io/PrintStream;")?;
-    add(b, Constant::Field(system, out))?;
-    let stream = add_class(alloc, b, b"java/io/PrintStream")?;
-    let println = add_named(alloc, b, b"println", b"(I)V")?;
-    add(b, Constant::Method(stream, println))?;
-    let code = Code {
+/// A class of version 50.0 with these constants, whose other lists are empty.
+fn class_of(alloc: Global, builder: Builder) -> ClassFile {
+    ClassFile {
+        minor: 0,
+        major: 50,
+        constants: builder.parts.constants,
+        flags: 33,
+        this_class: 2,
+        super_class: 2,
+        interfaces: Rows::new(alloc),
+        fields: Rows::new(alloc),
+        methods: Rows::new(alloc),
+        attrs: Rows::new(alloc),
+    }
+}
+
+fn one<T: Drop>(alloc: Global, item: T) -> Result<Rows<T>, AllocError> {
+    let mut items = Rows::new(alloc);
+    items.push(item)?;
+    Ok(items)
+}
+
+fn attr(alloc: Global, name: u16, body: &[u8]) -> Result<Attr, AllocError> {
+    let body = Bytes::from_slice(alloc, body)?;
+    Ok(Attr { name, body })
+}
+
+fn add_front_of_adds(alloc: Global, builder: &mut Builder) -> Result<u16, BuildError> {
+    add_class(alloc, builder, b"A")?;
+    add_class(alloc, builder, b"java/lang/Object")?;
+    add_text(alloc, builder, b"init")?;
+    add_text(alloc, builder, b"()V")?;
+    add_text(alloc, builder, b"Code")
+}
+
+fn add_members_of_adds(alloc: Global, builder: &mut Builder) -> Result<u16, BuildError> {
+    let system = add_class(alloc, builder, b"java/lang/System")?;
+    let out = add_named(alloc, builder, b"out", b"Ljava/io/PrintStream;")?;
+    add(builder, Constant::Field(system, out))?;
+    let stream = add_class(alloc, builder, b"java/io/PrintStream")?;
+    let println = add_named(alloc, builder, b"println", b"(I)V")?;
+    add(builder, Constant::Method(stream, println))
+}
+
+fn code_of_adds(alloc: Global) -> Result<Code, AllocError> {
+    Ok(Code {
         max_stack: 3,
         max_locals: 0,
         bytes: Bytes::from_slice(alloc, &[178, 0, 13, 5, 6, 96, 182, 0, 19, 177])?,
         rows: Rows::new(alloc),
         attrs: Rows::new(alloc),
-        name: code_name,
-    };
-    let mut attrs = Rows::new(alloc);
-    attrs.push(MemberAttr::Code(code))?;
-    b.parts.flags = 33;
-    b.parts.methods.push(Member {
+        name: 7,
+    })
+}
+
+/// The class of `ADDS`, with a pool that a builder makes.
+fn adds(alloc: Global) -> Result<ClassFile, BuildError> {
+    let mut builder = new_builder(alloc)?;
+    add_front_of_adds(alloc, &mut builder)?;
+    add_members_of_adds(alloc, &mut builder)?;
+    let init = Member {
         flags: 9,
-        name,
-        descriptor,
-        attrs,
-    })?;
-    Ok(builder.parts)
+        name: 5,
+        descriptor: 6,
+        attrs: one(alloc, MemberAttr::Code(code_of_adds(alloc)?))?,
+    };
+    let class = class_of(alloc, builder);
+    Ok(ClassFile {
+        super_class: 4,
+        methods: one(alloc, init)?,
+        ..class
+    })
 }
 
 #[test]
@@ -113,83 +152,87 @@ fn writes_what_a_builder_makes(rt: HostRuntime) -> Result<(), Fail> {
     Ok(())
 }
 
-fn attr(alloc: Global, name: u16, body: &[u8]) -> Result<Attr, AllocError> {
-    Ok(Attr {
-        name,
-        body: Bytes::from_slice(alloc, body)?,
+fn add_values(alloc: Global, builder: &mut Builder) -> Result<u16, BuildError> {
+    add_class(alloc, builder, b"A")?;
+    add_text(alloc, builder, b"ConstantValue")?;
+    add_text(alloc, builder, b"Code")?;
+    add(builder, Constant::Integer(-2))?;
+    add(builder, Constant::Float(0x3F80_0000))?;
+    add(builder, Constant::Long(0x1_0000_0002))?;
+    add(builder, Constant::Double(0x3FF0_0000_0000_0000))
+}
+
+fn add_members(alloc: Global, builder: &mut Builder) -> Result<u16, BuildError> {
+    let text = add_text(alloc, builder, b"A")?;
+    add(builder, Constant::Text(text))?;
+    add_named(alloc, builder, b"A", b"A")?;
+    add(builder, Constant::Field(2, 12))?;
+    add(builder, Constant::Method(2, 12))?;
+    add(builder, Constant::InterfaceMethod(2, 12))
+}
+
+fn add_names(alloc: Global, builder: &mut Builder) -> Result<u16, BuildError> {
+    add_text(alloc, builder, b"B")?;
+    add_text(alloc, builder, b"C")?;
+    add_text(alloc, builder, b"D")?;
+    add_text(alloc, builder, b"E")?;
+    add_text(alloc, builder, b"F")
+}
+
+fn field_of_kinds(alloc: Global) -> Result<Member, AllocError> {
+    let value = MemberAttr::ConstantValue {
+        name: 3,
+        constant: 7,
+    };
+    let mut attrs = one(alloc, value)?;
+    attrs.push(MemberAttr::Other(attr(alloc, 18, &[9])?))?;
+    Ok(Member {
+        flags: 8,
+        name: 16,
+        descriptor: 17,
+        attrs,
     })
 }
 
-fn one<T: Drop>(alloc: Global, item: T) -> Result<Rows<T>, AllocError> {
-    let mut items = Rows::new(alloc);
-    items.push(item)?;
-    Ok(items)
-}
-
-/// The class of `KINDS`, as a builder makes it.
-fn kinds(alloc: Global) -> Result<ClassFile, BuildError> {
-    let mut builder = new_builder(alloc)?;
-    let b = &mut builder;
-    let class = add_class(alloc, b, b"A")?;
-    let value_name = add_text(alloc, b, b"ConstantValue")?;
-    let code_name = add_text(alloc, b, b"Code")?;
-    add(b, Constant::Integer(-2))?;
-    add(b, Constant::Float(0x3F80_0000))?;
-    let value = add(b, Constant::Long(0x1_0000_0002))?;
-    add(b, Constant::Double(0x3FF0_0000_0000_0000))?;
-    let text = add_text(alloc, b, b"A")?;
-    add(b, Constant::Text(text))?;
-    let member = add_named(alloc, b, b"A", b"A")?;
-    add(b, Constant::Field(class, member))?;
-    add(b, Constant::Method(class, member))?;
-    add(b, Constant::InterfaceMethod(class, member))?;
-    let field_name = add_text(alloc, b, b"B")?;
-    let field_type = add_text(alloc, b, b"C")?;
-    let unread = add_text(alloc, b, b"D")?;
-    let method_name = add_text(alloc, b, b"E")?;
-    let method_type = add_text(alloc, b, b"F")?;
-    let mut attrs = one(
-        alloc,
-        MemberAttr::ConstantValue {
-            name: value_name,
-            constant: value,
-        },
-    )?;
-    attrs.push(MemberAttr::Other(attr(alloc, unread, &[9])?))?;
-    b.parts.fields.push(Member {
-        flags: 8,
-        name: field_name,
-        descriptor: field_type,
-        attrs,
-    })?;
+fn method_of_kinds(alloc: Global) -> Result<Member, AllocError> {
     let row = Handler {
         start: 0,
         end: 1,
         handler: 0,
-        catch_type: class,
+        catch_type: 2,
     };
     let code = Code {
         max_stack: 1,
         max_locals: 2,
         bytes: Bytes::from_slice(alloc, &[177])?,
         rows: one(alloc, row)?,
-        attrs: one(alloc, attr(alloc, unread, &[7])?)?,
-        name: code_name,
+        attrs: one(alloc, attr(alloc, 18, &[7])?)?,
+        name: 4,
     };
-    b.parts.methods.push(Member {
+    Ok(Member {
         flags: 1,
-        name: method_name,
-        descriptor: method_type,
+        name: 19,
+        descriptor: 20,
         attrs: one(alloc, MemberAttr::Code(code))?,
-    })?;
-    b.parts.attrs.push(attr(alloc, unread, &[])?)?;
-    b.parts.interfaces.push(class)?;
-    b.parts.minor = 3;
-    b.parts.major = 45;
-    b.parts.flags = 33;
-    b.parts.this_class = class;
-    b.parts.super_class = class;
-    Ok(builder.parts)
+    })
+}
+
+/// The class of `KINDS`, with a pool that a builder makes.
+fn kinds(alloc: Global) -> Result<ClassFile, BuildError> {
+    let mut builder = new_builder(alloc)?;
+    add_values(alloc, &mut builder)?;
+    add_members(alloc, &mut builder)?;
+    add_names(alloc, &mut builder)?;
+    let class = class_of(alloc, builder);
+    Ok(ClassFile {
+        minor: 3,
+        major: 45,
+        interfaces: one(alloc, 2)?,
+        fields: one(alloc, field_of_kinds(alloc)?)?,
+        methods: one(alloc, method_of_kinds(alloc)?)?,
+        attrs: one(alloc, attr(alloc, 18, &[])?)?,
+        ..class
+    })
 }
 
 #[test]
