@@ -1,6 +1,6 @@
 -- The tests of the rules are met exactly by the classes of the class grammar. That numbers fit their fields is told by the
 -- bytes that spell them: the first byte of a number is one.
-use Rattle.std.proofs.Common.{◌≡◌, ℕ, suc, ◌+◌, ◌/◌, ◌<◌, ◌≤◌, ◌^◌, Bool, true, false, not, ◌&&◌, ◌==◌, List, [], ◌∷◌, ◌++◌, length, codes, refl, sym, ap, subst, ◌∙◌, arith, get_or, nat_lt, nat_le, cond}
+use Rattle.std.proofs.Common.{◌≡◌, ℕ, suc, ◌+◌, ◌/◌, ◌<◌, ◌≤◌, ◌^◌, Bool, true, false, not, ◌&&◌, ◌==◌, List, [], ◌∷◌, ◌++◌, length, codes, refl, sym, subst, ◌∙◌, arith, get_or, nat_lt, nat_le, cond}
 use Rattle.std.specs.Prelude.{Decides, count_by}
 use Rattle.std.specs.List.{AllByRecursion, flat_map, list_all}
 use Rattle.std.proofs.lemmas.Bool.{leb-true, ltb-true}
