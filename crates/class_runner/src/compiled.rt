@@ -1,4 +1,4 @@
-//! A class that a Java compiler wrote is read, and written back to the same bytes.
+//! Classes, one of them as a Java compiler wrote it, are read and written back to the same bytes.
 
 use class_reader::{ReadError, read_class};
 use class_writer::{WriteError, write_class};
@@ -28,6 +28,25 @@ fn tally() -> &'static str {
     001b0000000a000524110f0f4e07001c0000"
 }
 
+// Class P: two private fields under a lock, a synchronized setter, a block that reads both, and an `init`
+// that prints their sum three times.
+fn pair() -> &'static str {
+    "\
+    cafebabe00000032002a010001500700010100106a6176612f6c616e672f4f626a6563740700030100016101\
+    00014901000162010001700100034c503b0100063c696e69743e010003282956010004436f64650100037365\
+    740100042849295601000373756d010003282949010004696e69740c000a000b0a000400120a000200120c00\
+    05000609000200150c0007000609000200170c0008000909000200190c000d000e0a0002001b0c000f00100a\
+    0002001d0100106a6176612f6c616e672f53797374656d07001f0100036f75740100154c6a6176612f696f2f\
+    5072696e7453747265616d3b0c0021002209002000230100136a6176612f696f2f5072696e7453747265616d\
+    0700250100077072696e746c6e0c0027000e0a00260028002000020004000000030002000500060000000200\
+    0700060000000800080009000000040000000a000b0001000c0000001100010001000000052ab70013b10000\
+    00000020000d000e0001000c00000017000200020000000b2a1bb500162a1bb50018b1000000000000000f00\
+    100001000c0000003100020003000000152a594cc22ab400162ab40018602bc3ac4d2bc32cbf00020004000f\
+    001000000010001300100000000000080011000b0001000c000000420002000000000036bb000259b70014b3\
+    001ab2001a07b6001cb20024b2001ab6001eb60029b20024b2001ab6001eb60029b20024b2001ab6001eb600\
+    29b1000000000000"
+}
+
 fn digit(code: u8) -> u8 {
     match code {
         b'0'..=b'9' => code - b'0',
@@ -55,13 +74,17 @@ fn written(alloc: Global, class: &ClassFile) -> Result<Bytes, WriteError> {
     write_class(alloc, class)
 }
 
+// Whether the bytes are read as a class of so many methods, and written back as they are.
+fn is_written_back(alloc: Global, hex: &str, methods: usize) -> Result<bool, Fail> {
+    let bytes = bytes_of(alloc, hex)?;
+    let class = read(alloc, &bytes)?;
+    let again = written(alloc, &class)?;
+    Ok(class.major == 50 && class.methods.len() == methods && again.as_slice() == bytes.as_slice())
+}
+
 #[test]
-fn a_compiled_class_is_written_back(rt: HostRuntime) -> Result<(), Fail> {
-    let bytes = bytes_of(rt.alloc(), tally())?;
-    let class = read(rt.alloc(), &bytes)?;
-    assert_eq!(rt; class.major, 50);
-    assert_eq!(rt; class.methods.len(), 4);
-    let again = written(rt.alloc(), &class)?;
-    assert!(rt; again.as_slice() == bytes.as_slice());
+fn classes_are_written_back(rt: HostRuntime) -> Result<(), Fail> {
+    assert!(rt; is_written_back(rt.alloc(), tally(), 4)?);
+    assert!(rt; is_written_back(rt.alloc(), pair(), 4)?);
     Ok(())
 }
