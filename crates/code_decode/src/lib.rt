@@ -1,0 +1,13 @@
+//! Decodes the code of methods (JVMS 6).
+#![tactic(auto)]
+
+mod error;
+//mod marks;
+mod numbers;
+mod opcodes;
+mod operands;
+//mod sweep;
+mod switches;
+
+pub use error::CodeError;
+
