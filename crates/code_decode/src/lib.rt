@@ -6,7 +6,7 @@ mod error;
 mod numbers;
 mod opcodes;
 mod operands;
-//mod sweep;
+mod sweep;
 mod switches;
 
 pub use error::CodeError;
