@@ -211,3 +211,7 @@ visited code pc b found s at h so_far =
       marked = marked_more s.starts s.branchings pc found.targets so_far.length_is so_far.marked;
       length_is = length_more s.starts true pc so_far.length_is;
     }
+
+-- the operands end inside the code
+pub inside : (code rest : List ℕ) (pc n size : ℕ) → n ≡ pc → rest ≡ drop (n + 1) code → pc < length code → size ≤ length rest → pc + 1 + size ≤ length code
+inside code rest pc n size e f h k = omega (arith, ap length f, length-drop (n + 1) code)
