@@ -13,3 +13,6 @@ mod switches;
 pub use decoding::decode;
 pub use error::CodeError;
 
+
+#[cfg(test)]
+mod tests;
