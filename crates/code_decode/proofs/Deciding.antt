@@ -1,18 +1,17 @@
 -- The first fault by marks is the first fault of the code.
-use Rattle.std.proofs.Common.{◌≡◌, ℕ, zero, suc, ◌+◌, ◌<◌, ◌≤◌, ◌^◌, ℤ, pos, Bool, true, false, List, [], ◌∷◌, length, map, Option, Some, None, Result, Ok, Err, refl, sym, ap, subst, ◌∙◌, arith}
-use Rattle.std.specs.Prelude.{slice_index_or, nat_lt, int_lt, nat_abs, not, IfOk, IfErr, ◌&&◌, ◌==◌, ◌||◌, if◌then◌else◌}
+use Rattle.std.proofs.Common.{◌≡◌, ℕ, suc, ◌+◌, ◌<◌, ◌≤◌, ◌^◌, ℤ, Bool, true, false, List, [], ◌∷◌, length, map, Some, None, Result, Ok, Err, refl, sym, ap, subst, arith}
+use Rattle.std.specs.Prelude.{slice_index_or, nat_lt, nat_abs, IfOk, IfErr, ◌==◌, ◌||◌}
 use Rattle.std.specs.List.{AllByRecursion}
 use Rattle.std.proofs.lemmas.Bool.Decides.{nat_tests}
-use Rattle.jvm_types.specs.Numbers.{has_number}
-use Rattle.jvm_types.specs.CodeFault.{Outline, outlines, is_at, all_at, branch_fault, row_fits, handler_fault, or_else, outline_fault, code_fault}
+use Rattle.jvm_types.specs.CodeFault.{Outline, outlines, all_at, branch_fault, row_fits, handler_fault, or_else, code_fault}
 use Rattle.jvm_types.specs.CodeGrammar.{IsCode}
 use Rattle.jvm_types.specs.declared.code.Insn.{Insn}
 use Rattle.jvm_types.specs.declared.class_file.Handler.{Handler}
 use Rattle.jvm_types.specs.declared.refusal.KRule.{KRule}
-use Rattle.jvm_types.specs.declared.refusal.KRule.TheVariants.{K3, K4, K5}
+use Rattle.jvm_types.specs.declared.refusal.KRule.TheVariants.{K5}
 use Rattle.code_decode.specs.declared.sweep.Branching.{Branching}
-use Rattle.code_decode.specs.Decoding.{Read, outline, AreMarks, starts_in}
-use Rattle.code_decode.specs.Marking.{mark, mark_at, all_marked, unmarked_branch, marked_row, unmarked_row, IsDecoded, IsMemory}
+use Rattle.code_decode.specs.Decoding.{outline, AreMarks, starts_in}
+use Rattle.code_decode.specs.Marking.{all_marked, unmarked_branch, marked_row, unmarked_row, IsDecoded, IsMemory}
 use Rattle.code_decode.specs.declared.error.CodeError.{CodeError}
 use Rattle.code_decode.specs.declared.error.CodeError.TheVariants.{Memory, Refused}
 use Rattle.jvm_types.proofs.CodeOnce.{insns_of, once}

@@ -5,12 +5,12 @@ use Rattle.std.proofs.lemmas.Bool.Decides.{nat_tests}
 use Rattle.jvm_types.specs.Numbers.{has_number}
 use Rattle.jvm_types.specs.CodeTable.{Form, Plain, Byte, Short, SignedByte, SignedShort, Branch, WideBranch, LocalAndStep, IntArray, Table, Lookup, form_of}
 use Rattle.jvm_types.specs.CodeGrammar.{padding_size}
-use Rattle.jvm_types.specs.CodeFault.{Extent, Outline, s2_of, s4_of, landing, sized, offsets, case_offsets, ascend, array_extent, table_of, table_extent, lookup_of, lookup_extent, extent_of, known_extent, followed, with_rest, outlines}
+use Rattle.jvm_types.specs.CodeFault.{Extent, Outline, s4_of, landing, sized, case_offsets, ascend, array_extent, table_of, table_extent, lookup_of, lookup_extent, extent_of, known_extent, followed, outlines}
 use Rattle.jvm_types.specs.declared.code.Insn.{Insn}
 use Rattle.jvm_types.specs.declared.code.Op.{Op}
 use Rattle.jvm_types.specs.declared.refusal.KRule.{KRule}
 use Rattle.jvm_types.specs.declared.refusal.KRule.TheVariants.{K1, K2, K6}
-use Rattle.jvm_types.proofs.CodeOnce.{op_of, with_insn, insns_of}
+use Rattle.jvm_types.proofs.CodeOnce.{with_insn, insns_of}
 use Rattle.code_decode.specs.declared.sweep.Sweep.{Sweep}
 use Rattle.code_decode.specs.declared.sweep.Branching.{Branching}
 use Rattle.code_decode.specs.declared.operands.Found.{Found}

@@ -1,13 +1,9 @@
 -- The loops over the offsets and pairs of a switch: what was read, and what is still to be read, are the whole.
-use Rattle.std.proofs.Common.{◌≡◌, ℕ, suc, ◌+◌, ◌-◌, ◌*◌, ◌<◌, ◌≤◌, ℤ, pos, Bool, true, false, List, [], ◌∷◌, ◌++◌, length, map, drop, nat_abs, Result, Ok, Err, refl, sym, ap, ◌∙◌, arith, append_assoc, length-drop}
-use Rattle.std.specs.Prelude.{int_lt, nat_lt, not, ◌&&◌, ◌<ℤ◌, ◌≤ℤ◌, ◌-ℤ◌, ◌+ℤ◌}
-use Rattle.std.proofs.lemmas.Bool.Decides.{nat_tests}
-use Rattle.jvm_types.specs.CodeFault.{Extent, s4_of, landing, offsets, case_offsets, ascend, table_extent, lookup_extent}
+use Rattle.std.proofs.Common.{◌≡◌, ℕ, suc, ◌+◌, ◌-◌, ◌*◌, ◌<◌, ◌≤◌, ℤ, Bool, true, List, [], ◌∷◌, ◌++◌, length, map, drop, nat_abs, refl, sym, ap, ◌∙◌, arith, append_assoc, length-drop}
+use Rattle.std.specs.Prelude.{int_lt, ◌&&◌}
+use Rattle.jvm_types.specs.CodeFault.{s4_of, landing, offsets, case_offsets, ascend}
 use Rattle.jvm_types.specs.declared.code.Case.{Case}
-use Rattle.jvm_types.specs.declared.refusal.KRule.{KRule}
-use Rattle.jvm_types.specs.declared.refusal.KRule.TheVariants.{K2, K6}
 use Rattle.jvm_types.proofs.CodeOnce.{cases_of}
-use Rattle.jvm_types.proofs.CodeReading.{not_less}
 
 one_more : {A : Type 0} (front : List A) (x : A) (more all : List A) → front ++ x ∷ more ≡ all → (front ++ x ∷ []) ++ more ≡ all
 one_more front x more all h = append_assoc front (x ∷ []) more ∙ h

@@ -2,9 +2,7 @@
 use Rattle.std.specs.Prelude.{◌≡◌, ℕ, ℤ, ◌≤◌, ◌<◌, List, [], ◌∷◌, length, map, drop, nat_abs, ◌+◌, ◌++◌, Bool, false, slice_index_or, Option, Some, None, Result, Ok, Err}
 use Rattle.jvm_types.specs.Numbers.{has_number}
 use Rattle.jvm_types.specs.CodeTable.{Form}
-use Rattle.jvm_types.specs.CodeFault.{Extent, Outline, s4_of, landing, offsets, table_of, table_extent, lookup_extent, known_extent, extent_of, outlines, code_fault}
-use Rattle.jvm_types.specs.declared.class_file.Handler.{Handler}
-use Rattle.jvm_types.specs.declared.code.Insn.{Insn}
+use Rattle.jvm_types.specs.CodeFault.{Extent, Outline, s4_of, landing, offsets, table_of, table_extent, lookup_extent, known_extent, extent_of, outlines}
 use Rattle.jvm_types.specs.declared.code.Case.{Case}
 use Rattle.jvm_types.specs.declared.code.Op.{Op}
 use Rattle.jvm_types.specs.declared.code.Op.TheVariants.{Tableswitch}

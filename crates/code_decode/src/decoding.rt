@@ -27,11 +27,7 @@ fn place_fault(swept: &Sweep, size: usize, rows: &[Handler]) -> Option<(KRule, u
     }
 }
 
-fn decode_slice(
-    alloc: Global,
-    code: &[u8],
-    rows: &[Handler],
-) -> Result<Rows<Insn>, CodeError>
+fn decode_slice(alloc: Global, code: &[u8], rows: &[Handler]) -> Result<Rows<Insn>, CodeError>
     requires { length rows.now ≤ 65535 }
     ensures is { IsDecoded code.now rows.now result }
     ensures code { IfOk result (λ insns. IsCode code.now rows.now insns) }
@@ -50,11 +46,7 @@ fn decode_slice(
 /// The instructions of the code of a method with these handler rows, of which there are at most 65,535
 /// (JVMS 4.7.3, 4.9, 6.5). The first rule that the code breaks refuses it: K5 goes first, then K1, K2 and
 /// K6 in one pass by pc, then K3 by pc, then K4 by rows. The code takes time in proportion to its length.
-pub fn decode(
-    alloc: Global,
-    code: &Bytes,
-    rows: &Rows<Handler>,
-) -> Result<Rows<Insn>, CodeError>
+pub fn decode(alloc: Global, code: &Bytes, rows: &Rows<Handler>) -> Result<Rows<Insn>, CodeError>
     requires { length rows.now ≤ 65535 }
     ensures ok { IfOk result (λ insns. IsCode code.now rows.now insns) }
     ensures only { (insns : List Instruction) → IsCode code.now rows.now insns → IfOk result (λ found. found ≡ insns) }

@@ -13,6 +13,5 @@ mod switches;
 pub use decoding::decode;
 pub use error::CodeError;
 
-
 #[cfg(test)]
 mod tests;

@@ -26,7 +26,11 @@ fn constants(alloc: Global, opcode: u8, pc: u16, rest: &[u8]) -> Result<Found, S
         0x00 => plain(alloc, Op::Nop),
         0x01 => plain(alloc, Op::AconstNull),
         0x02..=0x08 => plain(alloc, Op::Iconst(i32::from(opcode) - 3)),
-        0x10 => sized(alloc, Op::Bipush(i32::from(read_u1(rest)?.cast_signed())), 1),
+        0x10 => sized(
+            alloc,
+            Op::Bipush(i32::from(read_u1(rest)?.cast_signed())),
+            1,
+        ),
         0x11 => sized(alloc, Op::Sipush(i32::from(read_s2(rest)?)), 2),
         0x12 => sized(alloc, Op::Ldc(u16::from(read_u1(rest)?)), 1),
         0x13 => sized(alloc, Op::LdcW(read_u2(rest)?), 2),

@@ -157,7 +157,13 @@ fn ascend(count: usize, bytes: &[u8]) -> bool
 }
 
 /// `count` pairs of a key and an offset, behind the default, which leads to `otherwise`.
-fn read_pairs(alloc: Global, pc: u16, otherwise: i64, count: usize, bytes: &[u8]) -> Result<Pairs, AllocError>
+fn read_pairs(
+    alloc: Global,
+    pc: u16,
+    otherwise: i64,
+    count: usize,
+    bytes: &[u8],
+) -> Result<Pairs, AllocError>
     requires { 8 * count ≤ length bytes.now }
     ensures to { IfOk result (λ p. p.to ≡ otherwise ∷ case_offsets pc count bytes.now) }
     ensures cases { IfOk result (λ p. p.cases ≡ cases_of pc count bytes.now) }

@@ -1,11 +1,8 @@
+ghost use Rattle.std.specs.Prelude.{◌≤◌, length};
+
 use super::*;
 use jvm_types::{Bytes, Handler, KRule, Rows};
 use std::test::*;
-
-/// The handler rows of a code.
-fn rows(rt: &HostRuntime, handlers: &[Handler]) -> Result<Rows<Handler>, Fail> {
-    Ok(Rows::from_slice(rt.alloc(), handlers)?)
-}
 
 /// Whether the code with these rows is refused by this rule at this place.
 fn is_refused(
@@ -14,12 +11,11 @@ fn is_refused(
     handlers: &[Handler],
     rule: KRule,
     at: u32,
-) -> Result<bool, Fail> {
+) -> Result<bool, Fail>
+    requires { length handlers.now ≤ 65535 }
+{
     let bytes = Bytes::from_slice(rt.alloc(), code)?;
-    if handlers.len() > 1 {
-        return Ok(false);
-    }
-    let rows = rows(rt, handlers)?;
+    let rows = Rows::from_slice(rt.alloc(), handlers)?;
     Ok(match decode(rt.alloc(), &bytes, &rows) {
         Ok(_) => false,
         Err(error) => error == CodeError::Refused(rule, at),
