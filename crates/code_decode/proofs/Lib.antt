@@ -1,0 +1,3 @@
+pub mod Switching
+pub mod Sweeping
+pub mod Deciding
