@@ -1,0 +1,8 @@
+//! What instructions and handler rows name, and the first rule that refuses some files (JVMS 4, 5.3, 5.4).
+#![tactic(auto)]
+
+pub mod passes;
+pub mod targets;
+
+pub use passes::find_fault;
+pub use targets::{Site, catch_class, target_of};

@@ -1,0 +1,48 @@
+-- What the calls of a scope answer, in terms of the files that it is made of.
+use Rattle.std.specs.Prelude.{◌≡◌, ℕ, Bool, false, List, [], take, Option, Some, None, slice_get}
+use Rattle.std.specs.Option.{option_map}
+use Rattle.jvm_types.specs.ClassNames.{text_at, class_name, class_names}
+use Rattle.jvm_types.specs.Members.{Entry, look_up}
+use Rattle.jvm_types.specs.Targets.{Scope}
+use Rattle.jvm_types.specs.Linked.{scope_of}
+use Rattle.jvm_types.specs.LinkFaults.{is_repeated, is_taken}
+use Rattle.jvm_types.specs.declared.class_file.Constant.{Constant}
+use Rattle.jvm_types.specs.declared.class_file.Member.{Member as ClassMember}
+use Rattle.jvm_types.specs.declared.class_file.ClassFile.{ClassFile}
+use Rattle.link_scope.specs.declared.scope.Found.{Found}
+
+-- the pool of a file, by its number
+abbrev pub pool_of : Option ClassFile → List Constant
+pool_of None = []
+pool_of (Some c) = c.constants
+
+abbrev pub pool_at : List ClassFile → ℕ → List Constant
+pool_at files file = pool_of (slice_get files file)
+
+-- the text of an index of the pool of a file
+abbrev pub file_text : List ClassFile → ℕ → ℕ → List ℕ
+file_text files file i = text_at (pool_at files file) i
+
+-- what was found is the member of this name
+abbrev pub IsFound : List ℕ → Option Found → Option Entry → Type 0
+IsFound name None None = Unit {0}
+IsFound name (Some f) (Some e) = (f.class ≡ e.class) × (f.flags ≡ e.flags) × (f.target ≡ e.target) × (e.name ≡ name)
+IsFound name found entry = ⊥
+
+-- whether the field, or the method, of this number in its class has the name and the descriptor of one before it
+abbrev pub repeats : List Constant → List ClassMember → ℕ → Option ClassMember → Bool
+repeats pool members number None = false
+repeats pool members number (Some m) = is_repeated pool (take number members) m
+
+abbrev pub repeats_field : Option ClassFile → ℕ → Bool
+repeats_field None number = false
+repeats_field (Some c) number = repeats c.constants c.fields number (slice_get c.fields number)
+
+abbrev pub repeats_method : Option ClassFile → ℕ → Bool
+repeats_method None number = false
+repeats_method (Some c) number = repeats c.constants c.methods number (slice_get c.methods number)
+
+-- whether the name of a file's class is that of an earlier file or of a built-in class
+abbrev pub takes_name : List ClassFile → ℕ → Option ClassFile → Bool
+takes_name files file None = false
+takes_name files file (Some c) = is_taken (take file (class_names files)) (class_name c)

@@ -1,0 +1,6 @@
+//! What the names of some class files name: classes, types and members (JVMS 4.4, 5.4.3).
+#![tactic(auto)]
+
+pub mod scope;
+
+pub use scope::{Found, Scope};
