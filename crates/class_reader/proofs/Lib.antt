@@ -1,13 +1,3 @@
-pub mod Loop
-pub mod Numbers
-pub mod Operands
-pub mod Naming
-pub mod Instructions
-pub mod Decoding
-pub mod Returns
-pub mod Entries
-pub mod Spelled
-pub mod Joined
 pub mod StepLoops
 pub mod PlacesInside
 pub mod CodeCount

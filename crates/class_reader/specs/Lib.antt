@@ -1,4 +1,1 @@
-pub mod Reading
-pub mod Testing
-pub mod Finding
 pub mod Giving

@@ -1,6 +1,5 @@
 use super::*;
-use crate::test_files::{CONSTANTS, LOCKS};
-use crate::tests::ADDS;
+use crate::test_files::{ADDS, CONSTANTS, LOCKS};
 use jvm_types::{Bytes, CRule, Code, Constant, Handler, Member, MemberAttr};
 use std::test::*;
 

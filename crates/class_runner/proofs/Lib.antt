@@ -1,2 +1,1 @@
 pub mod ByTicket
-pub mod FirstIsFaultless

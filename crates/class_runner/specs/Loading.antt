@@ -1,30 +1,113 @@
--- Why one file is refused.
-use Rattle.std.specs.Prelude.{◌≡◌, ℕ, List, Some, None}
+-- What files are loaded to, and why files are refused: first as classes, file by file; then their methods as code; then their names,
+-- in linking; then their methods, in verifying; and last what is not built yet.
+use Rattle.std.specs.Prelude.{◌≡◌, ◌⊎◌, ℕ, ◌+◌, List, [], ◌∷◌, Option, Some, None}
+use Rattle.std.specs.List.{AllZip}
+use Rattle.std.specs.Option.{option_map, option_or}
+use Rattle.jvm_types.specs.ClassGrammar.{Spells}
 use Rattle.jvm_types.specs.ReadingClass.{class_fault}
+use Rattle.jvm_types.specs.CodeFault.{code_fault}
+use Rattle.jvm_types.specs.Members.{Declared, declared_methods}
+use Rattle.jvm_types.specs.Linked.{code_of}
+use Rattle.jvm_types.specs.Linkable.{IsDecoded}
+use Rattle.jvm_types.specs.LinkFaults.{link_fault, in_file, in_method, IsLinked}
+use Rattle.jvm_types.specs.Verifying.{IsTypingOf, IsRefused}
+use Rattle.jvm_types.specs.CheckedProgram.{CheckedProgram, AreTypings}
 use Rattle.jvm_types.specs.FirstForm.{IsFirstForm}
+use Rattle.jvm_types.specs.declared.class_file.ClassFile.{ClassFile}
+use Rattle.jvm_types.specs.declared.code.Insn.{Insn}
 use Rattle.jvm_types.specs.declared.first.FirstOp.{FirstOp}
+use Rattle.jvm_types.specs.declared.program.MethodInfo.{MethodInfo}
+use Rattle.jvm_types.specs.declared.program.Program.{Program}
+use Rattle.jvm_types.specs.declared.typing.Typing.{Typing}
 use Rattle.jvm_types.specs.declared.refusal.Rule.{Rule}
 use Rattle.jvm_types.specs.declared.refusal.Rule.TheVariants as rules
+use Rattle.jvm_types.specs.declared.refusal.LRule.{LRule}
 use Rattle.jvm_types.specs.declared.refusal.LRule.TheVariants.{L0}
+use Rattle.jvm_types.specs.declared.refusal.VRule.{VRule}
 use Rattle.jvm_types.specs.declared.refusal.Place.{Place}
 use Rattle.class_runner.specs.declared.loading.FileError.{FileError}
 use Rattle.class_runner.specs.declared.loading.FileError.TheVariants as errors
 
--- in file 0, in no method
-abbrev pub in_first_file : ℕ → Place
-in_first_file at = record { file = 0; method = 65535; at = at }
+-- ---- what is loaded
 
-abbrev pub IsNoFirstForm : List ℕ → Type 0
-IsNoFirstForm bytes = (ops : List FirstOp) → IsFirstForm bytes ops → ⊥
+-- the bytes of some files spell these classes, whose methods have these instructions, in order of files and methods
+pub record AreRead (files : List (List ℕ)) (classes : List ClassFile) (code : List (List Insn)) : Type 0 where
+  pub spelled : AllZip Spells files classes
+  pub decoded : AllZip IsDecoded (declared_methods classes) code
 
--- The rule and the place that refuse the bytes: the first fault of a class file, at its offset; or L0 at 0, where
--- they spell a class that is of no first form.
-abbrev pub IsRefusedBy : List ℕ → Rule → Place → Type 0
-IsRefusedBy bytes (rules.C rule) place = (class_fault bytes ≡ Some (rule, place.at)) × (place ≡ in_first_file place.at)
-IsRefusedBy bytes (rules.L rule) place = (class_fault bytes ≡ None) × IsNoFirstForm bytes × (rule ≡ L0) × (place ≡ in_first_file 0)
-IsRefusedBy bytes rule place = ⊥
+-- they are linked to a program, and each method of that has its typing
+pub record AreChecked (classes : List ClassFile) (code : List (List Insn)) (heap workers : ℕ) (c : CheckedProgram) : Type 0 where
+  pub linked : IsLinked classes code heap workers c.program
+  pub typed : AreTypings c.program c.program.methods c.typings
 
--- memory ran out, or this refuses the bytes
-abbrev pub IsNotLoaded : List ℕ → FileError → Type 0
-IsNotLoaded bytes errors.Memory = Unit {0}
-IsNotLoaded bytes (errors.Refused rule place) = IsRefusedBy bytes rule place
+-- what some files are loaded to
+pub record IsLoaded (files : List (List ℕ)) (heap workers : ℕ) (c : CheckedProgram) : Type 0 where
+  pub classes : List ClassFile
+  pub code : List (List Insn)
+  pub read : AreRead files classes code
+  pub checked : AreChecked classes code heap workers c
+
+-- the same, of the first form, with these instructions
+pub record IsFirstLoaded (files : List (List ℕ)) (heap workers : ℕ) (c : CheckedProgram) (ops : List FirstOp) : Type 0 where
+  pub classes : List ClassFile
+  pub code : List (List Insn)
+  pub read : AreRead files classes code
+  pub checked : AreChecked classes code heap workers c
+  pub first : IsFirstForm classes c.program ops
+
+-- ---- why files are refused
+
+-- the first file that spells no class: its first fault, and the file, counted from a number on
+abbrev pub read_fault : ℕ → List (List ℕ) → Option (Rule × Place)
+read_fault file [] = None
+read_fault file (bytes ∷ files) = option_or (option_map (λ f. (rules.C f.0, in_file file f.1)) (class_fault bytes)) (read_fault (file + 1) files)
+
+-- the first method that has no code: its first fault
+abbrev pub decode_fault : List Declared → Option (Rule × Place)
+decode_fault [] = None
+decode_fault (d ∷ ds) = option_or (option_map (λ f. (rules.K f.0, in_method d.file d.place f.1)) (code_fault (code_of d.member.attrs).bytes (code_of d.member.attrs).rows)) (decode_fault ds)
+
+-- the first method that has no typing: the rule that a visit breaks, and the pc
+abbrev pub IsFirstUntyped : Program → List Declared → List MethodInfo → VRule → Place → Type 0
+IsFirstUntyped p (d ∷ ds) (m ∷ ms) rule place = (IsRefused p m rule place.at × (place ≡ in_method d.file d.place place.at))
+    ⊎ ((t : Typing) × IsTypingOf p m t × IsFirstUntyped p ds ms rule place)
+IsFirstUntyped p ds ms rule place = ⊥
+
+-- all rules that are built let the files pass, and they are of no first form
+pub record IsUnbuilt (files : List (List ℕ)) (heap workers : ℕ) : Type 0 where
+  pub classes : List ClassFile
+  pub code : List (List Insn)
+  pub checked_program : CheckedProgram
+  pub read : AreRead files classes code
+  pub checked : AreChecked classes code heap workers checked_program
+  pub other : (ops : List FirstOp) → IsFirstForm classes checked_program.program ops → ⊥
+
+-- linking refuses them
+pub record IsUnlinked (files : List (List ℕ)) (heap workers : ℕ) (rule : LRule) (place : Place) : Type 0 where
+  pub classes : List ClassFile
+  pub code : List (List Insn)
+  pub read : AreRead files classes code
+  pub fault : link_fault classes code heap workers ≡ Some (rule, place)
+
+-- the methods of their program are not all typed
+pub record IsUntyped (files : List (List ℕ)) (heap workers : ℕ) (rule : VRule) (place : Place) : Type 0 where
+  pub classes : List ClassFile
+  pub code : List (List Insn)
+  pub program : Program
+  pub read : AreRead files classes code
+  pub linked : IsLinked classes code heap workers program
+  pub first : IsFirstUntyped program (declared_methods classes) program.methods rule place
+
+-- The rule that refuses some files, and the place that it names. Each stage is looked at only where those before it let the files
+-- pass.
+abbrev pub IsRefusedBy : List (List ℕ) → (heap workers : ℕ) → Rule → Place → Type 0
+IsRefusedBy files heap workers (rules.C rule) place = read_fault 0 files ≡ Some (rules.C rule, place)
+IsRefusedBy files heap workers (rules.K rule) place = (classes : List ClassFile) × AllZip Spells files classes × (decode_fault (declared_methods classes) ≡ Some (rules.K rule, place))
+IsRefusedBy files heap workers (rules.L rule) place = IsUnlinked files heap workers rule place ⊎ (IsUnbuilt files heap workers × (rule ≡ L0) × (place ≡ in_file 0 0))
+IsRefusedBy files heap workers (rules.V rule) place = IsUntyped files heap workers rule place
+IsRefusedBy files heap workers rule place = ⊥
+
+-- memory ran out, or this refuses the files
+abbrev pub IsNotLoaded : List (List ℕ) → (heap workers : ℕ) → FileError → Type 0
+IsNotLoaded files heap workers errors.Memory = Unit {0}
+IsNotLoaded files heap workers (errors.Refused rule place) = IsRefusedBy files heap workers rule place

@@ -4,7 +4,7 @@
 pub mod loading;
 pub mod texts;
 
-pub use loading::{FileError, load_first};
+pub use loading::{FileError, first_ops, load_program};
 pub use texts::{refusal, report};
 
 #[cfg(test)]

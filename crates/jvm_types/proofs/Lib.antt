@@ -27,7 +27,6 @@ pub mod CountLaws
 pub mod WorkedFiles
 pub mod FaultPlaces
 pub mod LoopLaws
-pub mod FirstIsClass
 pub mod CodeWhole
 pub mod CodeExact
 pub mod TypeOrder

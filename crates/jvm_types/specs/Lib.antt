@@ -1,7 +1,6 @@
 pub mod Numbers
 pub mod Spelling
 pub mod Pool
-pub mod FirstForm
 pub mod ClassTree
 pub mod CodeTable
 pub mod ClassNames
@@ -26,3 +25,4 @@ pub mod ClassLaws
 pub mod Types
 pub mod Verifying
 pub mod CheckedProgram
+pub mod FirstForm
