@@ -1,0 +1,5 @@
+pub mod MonoTypes
+pub mod MonoShapes
+pub mod MonoRules
+pub mod LeastFrames
+pub mod LeastVisits
