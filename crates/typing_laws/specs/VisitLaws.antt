@@ -1,0 +1,20 @@
+-- Laws of the visits of a method (JVMS 4.10.2): the order of visits is fixed, and so their
+-- answer is one.
+use Rattle.std.specs.Prelude.{◌≡◌, ℕ, List, Option}
+use Rattle.jvm_types.specs.Types.{Shape}
+use Rattle.jvm_types.specs.Verifying.{HasTyping, IsRefused}
+use Rattle.jvm_types.specs.declared.program.MethodInfo.{MethodInfo}
+use Rattle.jvm_types.specs.declared.program.Program.{Program}
+use Rattle.jvm_types.specs.declared.refusal.VRule.{VRule}
+
+-- a method has at most one typing
+abbrev pub OneTyping : Type 0
+OneTyping = (p : Program) (m : MethodInfo) (frames others : List (Option Shape)) → HasTyping p m frames → HasTyping p m others → frames ≡ others
+
+-- no method that has a typing is refused
+abbrev pub TypedNotRefused : Type 0
+TypedNotRefused = (p : Program) (m : MethodInfo) (frames : List (Option Shape)) (rule : VRule) (pc : ℕ) → HasTyping p m frames → IsRefused p m rule pc → ⊥
+
+-- a method is refused by at most one rule, at one pc
+abbrev pub OneRefusal : Type 0
+OneRefusal = (p : Program) (m : MethodInfo) (rule other : VRule) (pc at : ℕ) → IsRefused p m rule pc → IsRefused p m other at → (rule ≡ other) × (pc ≡ at)
