@@ -1,1 +1,3 @@
 pub mod OneTyping
+pub mod VisitsEnd
+mod VisitsEndRanks
