@@ -1,8 +1,8 @@
--- Laws of the visits of a method (JVMS 4.10.2): the order of visits is fixed, and so their
--- answer is one.
-use Rattle.std.specs.Prelude.{◌≡◌, ℕ, List, Option}
+-- Laws of the visits of a method (JVMS 4.10.2): the answer is one, and there is one. The order of visits is fixed,
+-- so that a typing and a refusal are known by the method alone.
+use Rattle.std.specs.Prelude.{◌≡◌, ℕ, ◌⊎◌, List, Option}
 use Rattle.jvm_types.specs.Types.{Shape}
-use Rattle.jvm_types.specs.Verifying.{HasTyping, IsRefused}
+use Rattle.jvm_types.specs.Verifying.{HasTyping, IsRefused, IsLaidOut}
 use Rattle.jvm_types.specs.declared.program.MethodInfo.{MethodInfo}
 use Rattle.jvm_types.specs.declared.program.Program.{Program}
 use Rattle.jvm_types.specs.declared.refusal.VRule.{VRule}
@@ -18,3 +18,7 @@ TypedNotRefused = (p : Program) (m : MethodInfo) (frames : List (Option Shape)) 
 -- a method is refused by at most one rule, at one pc
 abbrev pub OneRefusal : Type 0
 OneRefusal = (p : Program) (m : MethodInfo) (rule other : VRule) (pc at : ℕ) → IsRefused p m rule pc → IsRefused p m other at → (rule ≡ other) × (pc ≡ at)
+
+-- the visits end: a method as linking leaves it has a typing, or it is refused
+abbrev pub TypedOrRefused : Type 0
+TypedOrRefused = (p : Program) (m : MethodInfo) → IsLaidOut m → ((frames : List (Option Shape)) × HasTyping p m frames) ⊎ ((rule : VRule) × (pc : ℕ) × IsRefused p m rule pc)

@@ -1,6 +1,6 @@
 //! Laws of the visits of a method, for all programs: each function only states one.
 
-ghost use Rattle.typing_laws.specs.VisitLaws.{OneRefusal, OneTyping, TypedNotRefused};
+ghost use Rattle.typing_laws.specs.VisitLaws.{OneRefusal, OneTyping, TypedNotRefused, TypedOrRefused};
 
 /// A method has at most one typing.
 pub fn one_typing()
@@ -15,4 +15,9 @@ pub fn typed_is_not_refused()
 /// A method is refused by at most one rule, at one pc.
 pub fn one_refusal()
     ensures { OneRefusal }
+{}
+
+/// A method whose instructions follow one another, each with a target, has a typing or is refused.
+pub fn typed_or_refused()
+    ensures { TypedOrRefused }
 {}
