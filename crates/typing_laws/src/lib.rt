@@ -2,3 +2,4 @@
 #![tactic(auto)]
 
 pub mod least_laws;
+pub mod visit_laws;
