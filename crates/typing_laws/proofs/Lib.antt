@@ -1,0 +1,5 @@
+pub mod FrameBounds
+pub mod LocalRisen
+pub mod LocalBrought
+pub mod LocalEdges
+pub mod LocalVisit
