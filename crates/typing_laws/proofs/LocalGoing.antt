@@ -23,7 +23,7 @@ use Rattle.typing_laws.proofs.LocalVisit.{Leads, sound_risen, cleared, cleared_f
 
 -- ---- a method that is laid out
 
-at_index : {A : Type 0} (P : A → Type 0) (xs : List A) (i : ℕ) (x : A) → AllByRecursion P xs → slice_get xs i ≡ Some x → P x
+pub at_index : {A : Type 0} (P : A → Type 0) (xs : List A) (i : ℕ) (x : A) → AllByRecursion P xs → slice_get xs i ≡ Some x → P x
 at_index P [] i x h e = absurd (cc)
 at_index {A = A} P (y ∷ xs) zero x h e = let same : y ≡ x = cc in subst P same h.0
 at_index P (y ∷ xs) (suc i) x h e = at_index P xs i x h.1 e
