@@ -1,14 +1,14 @@
 -- What every frame has in the course of the visits: as many locals as the entry frame, a stack within max_stack,
 -- and outside an `<init>` its `this` initialised.
-use Rattle.std.proofs.Common.{◌≡◌, ℕ, suc, ◌+◌, ◌-◌, ◌≤◌, Bool, true, false, cond, not, ◌&&◌, ◌||◌, List, [], ◌∷◌, ◌++◌, map, length, drop, Option, Some, None, refl, ap, ◌∙◌, arith, length-append, length-drop, length-set}
-use Rattle.std.specs.Prelude.{nat_lt, ◌==◌}
+use Rattle.std.proofs.Common.{◌≡◌, ℕ, suc, ◌+◌, ◌-◌, ◌≤◌, Bool, true, false, cond, not, ◌&&◌, ◌||◌, List, [], ◌∷◌, length, Option, Some, None, refl, ap, ◌∙◌, arith, length-append, length-drop, length-set}
+use Rattle.std.specs.Prelude.{◌==◌}
 use Rattle.std.proofs.lemmas.List.{length-map}
 use Rattle.std.proofs.lemmas.Bool.{ltb-false}
 use Rattle.std.proofs.lemmas.Bool.Decides.{nat_tests}
 use Rattle.jvm_types.specs.ClassTree.{throwable_class, is_subclass}
-use Rattle.jvm_types.specs.CodeTable.{OpRow, Given, value_of, stack_after, locals_after, is_init}
+use Rattle.jvm_types.specs.CodeTable.{OpRow, Given, stack_after, locals_after, is_init}
 use Rattle.jvm_types.specs.Types.{Shape, meets, meet_shapes, entry_shape, same_type}
-use Rattle.jvm_types.specs.Verifying.{first_broken, takes_too_many, gives_too_many, lacks_locals, misuses_object, mistypes, broken_before, started, initialised, after_start, shape_after, catch_fault, caught_class, shape_at_handler}
+use Rattle.jvm_types.specs.Verifying.{first_broken, takes_too_many, gives_too_many, lacks_locals, misuses_object, mistypes, broken_before, started, after_start, shape_after, catch_fault, caught_class, shape_at_handler}
 use Rattle.jvm_types.specs.declared.code.Insn.{Insn}
 use Rattle.jvm_types.specs.declared.typing.VType.{VType}
 use Rattle.jvm_types.specs.declared.typing.VType.TheVariants.{This, Top}

@@ -5,12 +5,12 @@ use Rattle.std.specs.List.{AllByRecursion}
 use Rattle.std.proofs.lemmas.Bool.{or_parts}
 use Rattle.jvm_types.specs.CodeGrammar.{is_start}
 use Rattle.jvm_types.specs.Types.{Shape, meet_shapes, same_shape}
-use Rattle.jvm_types.specs.Verifying.{Node, node_joined, brought, all_brought, frame_at, Fits, IsFrameBelow}
+use Rattle.jvm_types.specs.Verifying.{Node, node_joined, brought, frame_at, Fits, IsFrameBelow}
 use Rattle.jvm_types.specs.declared.code.Insn.{Insn}
 use Rattle.jvm_types.specs.declared.program.MethodInfo.{MethodInfo}
 use Rattle.jvm_types.proofs.ShapeOrder.{shape_self, shape_meet_left, shape_meet_right}
 use Rattle.typing_laws.proofs.FrameBounds.{IsBounded, meets_length, meet_bounded}
-use Rattle.typing_laws.proofs.LocalRisen.{IsRisen, AreRisen, all_risen_self, all_risen_trans, risen_length, frames_of, fits_risen, same_shapes}
+use Rattle.typing_laws.proofs.LocalRisen.{IsRisen, AreRisen, all_risen_self, frames_of, same_shapes}
 
 abbrev pub IsFrameBounded : MethodInfo → Option Shape → Type 0
 IsFrameBounded m None = Unit {0}

@@ -8,16 +8,16 @@ use Rattle.std.proofs.lemmas.Bool.Decides.{nat_tests}
 use Rattle.jvm_types.specs.CodeTable.{row, branches_to}
 use Rattle.jvm_types.specs.CodeGrammar.{is_start, IsStart, SpellsInsns, RowFits}
 use Rattle.jvm_types.specs.Types.{Shape, entry_shape}
-use Rattle.jvm_types.specs.Verifying.{Node, node_at, covers, first_nodes, visited, waiting_from, next_visit, Visits, HasTyping, frame_at, Fits, IsFrameBelow, IsSound, IsAssignment, IsLaidOut, LocalLaw}
+use Rattle.jvm_types.specs.Verifying.{Node, node_at, covers, first_nodes, visited, waiting_from, next_visit, Visits, frame_at, Fits, IsFrameBelow, IsSound, IsAssignment, IsLaidOut, LocalLaw}
 use Rattle.jvm_types.specs.declared.class_file.Handler.{Handler}
 use Rattle.jvm_types.specs.declared.code.Insn.{Insn}
 use Rattle.jvm_types.specs.declared.program.MethodInfo.{MethodInfo}
 use Rattle.jvm_types.specs.declared.program.Program.{Program}
 use Rattle.jvm_types.specs.declared.program.Row.{Row}
 use Rattle.jvm_types.specs.declared.program.Target.{Target}
-use Rattle.typing_laws.proofs.FrameBounds.{IsBounded, entry_bounded}
-use Rattle.typing_laws.proofs.LocalRisen.{frame_self, AreRisen, IsRisen, risen_at, risen_length, frames_of, fits_risen}
-use Rattle.typing_laws.proofs.LocalBrought.{IsFrameBounded, AreBounded}
+use Rattle.typing_laws.proofs.FrameBounds.{entry_bounded}
+use Rattle.typing_laws.proofs.LocalRisen.{frame_self, IsRisen, risen_at, risen_length, frames_of, fits_risen}
+use Rattle.typing_laws.proofs.LocalBrought.{AreBounded}
 use Rattle.typing_laws.proofs.LocalEdges.{Carries}
 use Rattle.typing_laws.proofs.LocalVisit.{Leads, sound_risen, cleared, cleared_frames, visit_carries, visit_sound}
 

@@ -1,15 +1,15 @@
 -- In the course of the visits frames only rise, and one that has changed waits.
-use Rattle.std.proofs.Common.{◌≡◌, ℕ, zero, suc, Bool, true, false, cond, not, ◌&&◌, ◌||◌, List, [], ◌∷◌, map, length, Option, Some, None, refl, sym, ap, ◌∙◌, subst, arith}
+use Rattle.std.proofs.Common.{◌≡◌, ℕ, zero, suc, Bool, true, false, cond, ◌&&◌, List, [], ◌∷◌, map, length, Option, Some, None, refl, ap, ◌∙◌, subst, arith}
 use Rattle.std.specs.Prelude.{◌==◌, slice_get}
 use Rattle.std.specs.List.{AllZip}
-use Rattle.std.proofs.lemmas.Bool.{and_parts, or_parts}
+use Rattle.std.proofs.lemmas.Bool.{and_parts}
 use Rattle.std.proofs.lemmas.Bool.Decides.{nat_tests}
-use Rattle.jvm_types.specs.Types.{Shape, same_type, all_pairs, same_ready, same_shape, shape_below, meet_shapes}
-use Rattle.jvm_types.specs.Verifying.{Node, node_joined, frame_at, Fits, IsFrameBelow}
+use Rattle.jvm_types.specs.Types.{Shape, same_type, all_pairs, same_ready, same_shape}
+use Rattle.jvm_types.specs.Verifying.{Node, frame_at, Fits, IsFrameBelow}
 use Rattle.jvm_types.specs.declared.code.Insn.{Insn}
 use Rattle.jvm_types.specs.declared.typing.VType.{VType}
 use Rattle.jvm_types.specs.declared.typing.VType.TheVariants.{Int, Null, Ref, This, New, Top}
-use Rattle.jvm_types.proofs.ShapeOrder.{shape_self, shape_trans, shape_meet_left, shape_meet_right}
+use Rattle.jvm_types.proofs.ShapeOrder.{shape_self, shape_trans}
 
 -- ---- frames
 

@@ -1,11 +1,11 @@
 -- One visit: no rule is broken at the instruction, and what it brings fits.
-use Rattle.std.proofs.Common.{◌≡◌, ℕ, zero, suc, Bool, true, false, cond, not, ◌&&◌, ◌||◌, List, [], ◌∷◌, ◌++◌, length, Option, Some, None, Result, Ok, Err, refl, sym, ap, ◌∙◌, subst, length-set}
+use Rattle.std.proofs.Common.{◌≡◌, ℕ, zero, suc, Bool, true, false, cond, not, ◌&&◌, ◌||◌, List, [], ◌∷◌, length, Option, Some, None, Result, Ok, refl, sym, ap, ◌∙◌, subst, length-set}
 use Rattle.std.specs.Prelude.{◌==◌, slice_get, slice_set}
 use Rattle.std.specs.List.{AllByRecursion, list_any}
 use Rattle.jvm_types.specs.CodeTable.{OpRow, row, branches_to, falls_through}
 use Rattle.jvm_types.specs.CodeGrammar.{is_start}
 use Rattle.jvm_types.specs.Types.{Shape}
-use Rattle.jvm_types.specs.Verifying.{Node, node_at, first_broken, broken_before, broken_after, returns_wrongly, falls_off, edges, shape_after, all_brought, clash, covering, handled, unless_broken, unless_clash, gone_on, visited_row, visited_insn, visited, catch_fault, shape_at_handler, Fits, IsSound}
+use Rattle.jvm_types.specs.Verifying.{Node, node_at, broken_before, broken_after, returns_wrongly, falls_off, edges, shape_after, all_brought, clash, covering, handled, unless_broken, unless_clash, gone_on, visited_row, visited_insn, visited, shape_at_handler, Fits, IsSound}
 use Rattle.jvm_types.specs.declared.code.Insn.{Insn}
 use Rattle.jvm_types.specs.declared.program.MethodInfo.{MethodInfo}
 use Rattle.jvm_types.specs.declared.program.Program.{Program}
@@ -81,8 +81,7 @@ module _ (m : MethodInfo) (insn : Insn) (r : OpRow) (f : Shape) (leads : Leads m
       let carries : Carries m nodes next = all_carried m after bound m.code (edges insn) nodes c deep in
       let fit : AllByRecursion (Fits m.code (frames_of next) after) (edges insn) = all_fit m after bound m.code (edges insn) nodes c l (edges_start m insn leads (falls_on m insn later.0)) deep in
       let more : Handles m insn.pc f (covering m insn.pc) next mid =
-      handles m insn.pc f b (covering m insn.pc) next mid carries.bounded (sym (risen_length nodes next carries.risen) ∙ l) leads.handlers later.1 in
-      (
+      handles m insn.pc f b (covering m insn.pc) next mid carries.bounded (sym (risen_length nodes next carries.risen) ∙ l) leads.handlers later.1 in (
         record { risen = all_risen_trans nodes next mid carries.risen more.carries.risen; bounded = more.carries.bounded },
         record {
           before = before.0;
