@@ -7,3 +7,10 @@ pub mod OneTyping
 pub mod VisitsEnd
 mod VisitsEndRanks
 mod VisitsEndAnswer
+pub mod FrameBounds
+pub mod LocalRisen
+pub mod LocalBrought
+pub mod LocalEdges
+pub mod LocalVisit
+pub mod LocalGoing
+pub mod FrameLast

@@ -3,3 +3,4 @@
 
 pub mod least_laws;
 pub mod visit_laws;
+pub mod local_laws;
