@@ -1,6 +1,9 @@
 -- What the program owes to its words and files: a text, and a status with it.
-use Rattle.std.specs.Prelude.{◌≡◌, ℕ, ◌<◌, ◌≤◌, List, length, codes, Option, Some, None, IfSome, ◌⊎◌}
-use Rattle.jvm_types.specs.FirstForm.{IsFirstForm}
+use Rattle.std.specs.Prelude.{◌≡◌, ℕ, ◌+◌, ◌<◌, ◌≤◌, nat_lt, List, [], ◌∷◌, ◌++◌, length, map, codes, Option, Some, None, IfSome, if◌then◌else◌}
+use Rattle.std.specs.Fmt.{decimal}
+use Rattle.std.specs.List.{AllByRecursion}
+use Rattle.jvm_types.specs.CheckedProgram.{CheckedProgram}
+use Rattle.jvm_types.specs.LinkFaults.{in_file}
 use Rattle.jvm_types.specs.declared.first.FirstOp.{FirstOp}
 use Rattle.jvm_types.specs.declared.outcome.Outcome.{Outcome}
 use Rattle.jvm_types.specs.declared.refusal.Rule.TheVariants as rules
@@ -10,9 +13,9 @@ use Rattle.jvm_types.specs.declared.refusal.Place.{Place}
 use Rattle.step_core.specs.PlainRun.{IsPlainOutcome}
 use Rattle.class_runner.specs.Report.{line, report_text}
 use Rattle.class_runner.specs.Refusal.{refusal_text}
-use Rattle.class_runner.specs.Loading.{in_first_file, IsRefusedBy}
+use Rattle.class_runner.specs.Loading.{IsFirstLoaded, IsRefusedBy}
 use Rattle.solero.specs.Faults.{CountsFault}
-use Rattle.solero.specs.Shelf.{content_of, IsContentOf}
+use Rattle.solero.specs.Shelf.{content_of}
 use Rattle.solero.specs.declared.shelf.NamedFile.{NamedFile}
 use Rattle.solero.specs.declared.answer.Due.{Due}
 use Rattle.solero.specs.declared.answer.Due.TheVariants.{Report, Usage, Refusal, CannotRead, OutOfMemory}
@@ -21,65 +24,89 @@ abbrev pub status_of : Due → ℕ
 status_of (Report text) = 0
 status_of Usage = 2
 status_of (Refusal text) = 3
-status_of CannotRead = 4
+status_of (CannotRead text) = 4
 status_of OutOfMemory = 6
 
 abbrev pub text_of : Due → List ℕ
 text_of (Report text) = text
 text_of Usage = line (codes "usage: solero [options] FILE...")
 text_of (Refusal text) = text
-text_of CannotRead = line (codes "cannot read file 0")
+text_of (CannotRead text) = text
 text_of OutOfMemory = line (codes "out of memory")
+
+-- ---- files
 
 -- a file that is longer is refused
 abbrev pub longest_file : ℕ
 longest_file = 1048576
 
--- the text reports a plain run of the instructions that the content spells
-pub record Reports (content text : List ℕ) : Type 0 where
+-- the number of heap words and of workers, which no word sets yet
+abbrev pub heap_words : ℕ
+heap_words = 65536
+
+abbrev pub workers : ℕ
+workers = 0
+
+-- the first of some files that is too long, counted from a number on
+abbrev pub first_long : ℕ → List (List ℕ) → Option ℕ
+first_long file [] = None
+first_long file (content ∷ contents) = if nat_lt longest_file (length content) then Some file else first_long (file + 1) contents
+
+-- ---- what is due to the contents of the files
+
+-- the text reports a plain run of the instructions of the program that the files are loaded to
+pub record Reports (contents : List (List ℕ)) (text : List ℕ) : Type 0 where
+  pub checked : CheckedProgram
   pub ops : List FirstOp
-  pub form : IsFirstForm content ops
+  pub loaded : IsFirstLoaded contents heap_words workers checked ops
   pub outcome : Outcome
   pub run : IsPlainOutcome ops outcome
   pub report : text ≡ report_text outcome
 
--- the text is the line of a rule and a place that refuse the content
-pub record Refuses (content text : List ℕ) : Type 0 where
+-- A rule and a place refuse the files. A file that is too long is refused when it is read from the shelf, before any is read as a
+-- class.
+abbrev pub IsRefusal : Option ℕ → List (List ℕ) → Rule → Place → Type 0
+IsRefusal (Some file) contents rule place = (rule ≡ rules.C C10) × (place ≡ in_file file longest_file)
+IsRefusal None contents rule place = IsRefusedBy contents heap_words workers rule place
+
+-- the text is the line of a rule and a place that refuse the files
+pub record Refuses (contents : List (List ℕ)) (text : List ℕ) : Type 0 where
   pub rule : Rule
   pub place : Place
-  pub refused : IsRefusedBy content rule place
+  pub refused : IsRefusal (first_long 0 contents) contents rule place
   pub is_line : text ≡ refusal_text rule place
 
--- the same of the content of a file; where the shelf does not tell its files, the text is some line of a refusal
-pub record RefusesFile (files : Option (List NamedFile)) (name text : List ℕ) : Type 0 where
+-- ---- what is due to the words and the shelf
+
+-- the files of these names, where the shelf tells its files
+abbrev pub contents_of : List NamedFile → List (List ℕ) → List (List ℕ)
+contents_of files names = map (content_of files) names
+
+-- a report of the files of these names; where the shelf does not tell its files, of some of which there are as many
+pub record ReportsFiles (files : Option (List NamedFile)) (names : List (List ℕ)) (text : List ℕ) : Type 0 where
+  pub contents : List (List ℕ)
+  pub are : IfSome files (λ fs. contents ≡ contents_of fs names)
+  pub many : length contents ≡ length names
+  pub short : AllByRecursion (λ content. length content ≤ longest_file) contents
+  pub reports : Reports contents text
+
+-- the line of a refusal of the files of these names; where the shelf does not tell its files, of some refusal
+pub record RefusesFiles (files : Option (List NamedFile)) (names : List (List ℕ)) (text : List ℕ) : Type 0 where
   pub rule : Rule
   pub place : Place
-  pub refused : IfSome files (λ fs. IsRefusedBy (content_of fs name) rule place)
+  pub refused : IfSome files (λ fs. IsRefusal (first_long 0 (contents_of fs names)) (contents_of fs names) rule place)
   pub is_line : text ≡ refusal_text rule place
+
+-- the line that one of so many files can't be read
+abbrev pub SaysUnread : ℕ → List ℕ → Type 0
+SaysUnread many text = (file : ℕ) × (file < many) × (text ≡ line (codes "cannot read file " ++ decimal file))
 
 -- What is due to a command, None where the words are not read, and to the files, None where the shelf does not tell
 -- them. The shelf's count of faults goes from before to after. Want of memory may come to any command.
-abbrev pub IsDue : Option (List ℕ) → Option (List NamedFile) → ℕ → ℕ → Due → Type 0
+abbrev pub IsDue : Option (List (List ℕ)) → Option (List NamedFile) → ℕ → ℕ → Due → Type 0
 IsDue None files before after due = (due ≡ Usage) × (after ≡ before)
-IsDue (Some name) files before after Usage = ⊥
-IsDue (Some name) files before after CannotRead = CountsFault before after
-IsDue (Some name) files before after OutOfMemory = before ≤ after
-IsDue (Some name) files before after (Refusal text) = (after ≡ before) × RefusesFile files name text
-IsDue (Some name) files before after (Report text) = (after ≡ before) × ((content : List ℕ) × IsContentOf files name content × (length content ≤ longest_file) × Reports content text)
-
--- what is due to the content of a file that is not too long
-abbrev pub IsRun : List ℕ → Due → Type 0
-IsRun content (Report text) = Reports content text
-IsRun content (Refusal text) = Refuses content text
-IsRun content OutOfMemory = Unit {0}
-IsRun content due = ⊥
-
--- the line of a file that is too long
-abbrev pub too_long_line : List ℕ
-too_long_line = refusal_text (rules.C C10) (in_first_file longest_file)
-
--- the refusal with this text, unless memory ran out
-abbrev pub IsRefusal : List ℕ → Due → Type 0
-IsRefusal line (Refusal text) = text ≡ line
-IsRefusal line OutOfMemory = Unit {0}
-IsRefusal line due = ⊥
+IsDue (Some names) files before after Usage = ⊥
+IsDue (Some names) files before after (CannotRead text) = CountsFault before after × SaysUnread (length names) text
+IsDue (Some names) files before after OutOfMemory = before ≤ after
+IsDue (Some names) files before after (Refusal text) = (after ≡ before) × RefusesFiles files names text
+IsDue (Some names) files before after (Report text) = (after ≡ before) × ReportsFiles files names text
