@@ -31,6 +31,16 @@ pub fn text(pool: &Rows<Constant>, index: u16) -> &[u8]
     }
 }
 
+/// The name of the class that an entry names, and no bytes where it names none.
+pub fn class_name(pool: &Rows<Constant>, index: u16) -> &[u8]
+    ensures { result.now ≡ class_text_at pool.now index }
+{
+    match pool.get(usize::from(index)) {
+        Some(Constant::Class(name)) => text(pool, *name),
+        _ => &[],
+    }
+}
+
 /// The indices of the texts by which a constant names a member.
 #[derive(Clone, Copy)]
 pub struct MemberTexts {
