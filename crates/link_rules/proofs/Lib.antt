@@ -1,2 +1,3 @@
 pub mod Nameless
 pub mod Files
+pub mod MethodUses

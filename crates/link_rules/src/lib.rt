@@ -9,6 +9,7 @@ pub mod passes;
 mod places;
 pub mod targets;
 mod texts;
+mod uses;
 
 pub use passes::find_fault;
 pub use targets::{Site, catch_class, target_of};
