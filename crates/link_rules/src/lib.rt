@@ -7,9 +7,11 @@ mod member_rules;
 mod members;
 pub mod passes;
 mod places;
+mod roots;
 pub mod targets;
 mod texts;
 mod uses;
+mod words;
 
 pub use passes::find_fault;
 pub use targets::{Site, catch_class, target_of};
