@@ -1,15 +1,14 @@
 -- The first refusal among methods, and those that follow them.
-use Rattle.std.proofs.Common.{◌≡◌, ℕ, zero, suc, ◌+◌, Bool, true, false, List, [], ◌∷◌, ◌++◌, map, drop, length, Option, Some, None, is_some, Result, refl, sym, ap, ◌∙◌, subst, arith}
+use Rattle.std.proofs.Common.{◌≡◌, ℕ, zero, suc, ◌+◌, true, false, List, [], ◌∷◌, ◌++◌, drop, length, Option, Some, None, is_some, Result, refl, sym, ap, ◌∙◌, arith}
 use Rattle.std.proofs.Math.Seq.{drop-nil}
 use Rattle.std.proofs.lemmas.List.{drop-drop}
 use Rattle.std.specs.Prelude.{slice_get}
 use Rattle.std.specs.Option.{option_or}
 use Rattle.std.specs.Result.{result_err}
-use Rattle.std.specs.List.{zip}
 use Rattle.jvm_types.specs.Members.{Declared, Site, declared_from, declared_by}
 use Rattle.jvm_types.specs.Targets.{Scope, target_of}
 use Rattle.jvm_types.specs.Linked.{site_of}
-use Rattle.jvm_types.specs.LinkFaults.{LinkFault, first_fault, at_place, in_method, insn_fault, uses_fault}
+use Rattle.jvm_types.specs.LinkFaults.{LinkFault, at_place, in_method, insn_fault, uses_fault}
 use Rattle.jvm_types.specs.declared.class_file.Constant.{Constant}
 use Rattle.jvm_types.specs.declared.class_file.Member.{Member as ClassMember}
 use Rattle.jvm_types.specs.declared.class_file.ClassFile.{ClassFile}
@@ -72,8 +71,8 @@ found_behind (Some fault) here behind whole t e f = absurd cc
 -- a method stands in front of those that follow it
 pub method_turn : (s : Scope) (file number first : ℕ) (pool : List Constant) (ms rest : List ClassMember) (m : ClassMember) (code : List (List Insn)) → ms ≡ m ∷ rest
     → option_or (first_use s (record { file = file; place = number; pool = pool; member = m } ∷ []) (drop (first + number) code))
-        (first_use s (declared_from file pool (number + 1) rest) (drop (first + (number + 1)) code))
-      ≡ first_use s (declared_from file pool number ms) (drop (first + number) code)
+    (first_use s (declared_from file pool (number + 1) rest) (drop (first + (number + 1)) code))
+    ≡ first_use s (declared_from file pool number ms) (drop (first + number) code)
 method_turn s file number first pool ms rest m code e =
     let d : Declared = record { file = file; place = number; pool = pool; member = m } in
     let next : first + (number + 1) ≡ first + number + 1 = omega arith in
@@ -86,8 +85,8 @@ length-declared_from file pool number (m ∷ ms) = ap suc (length-declared_from 
 -- the methods of a file stand in front of those of the files that follow it
 pub file_turn : (s : Scope) (file first : ℕ) (files rest : List ClassFile) (c : ClassFile) (code : List (List Insn)) → files ≡ c ∷ rest
     → option_or (first_use s (declared_from file c.constants 0 c.methods) (drop first code))
-        (first_use s (declared_by (λ d. d.methods) (file + 1) rest) (drop (first + length c.methods) code))
-      ≡ first_use s (declared_by (λ d. d.methods) file files) (drop first code)
+    (first_use s (declared_by (λ d. d.methods) (file + 1) rest) (drop (first + length c.methods) code))
+    ≡ first_use s (declared_by (λ d. d.methods) file files) (drop first code)
 file_turn s file first files rest c code e =
     rw (e, ← drop-drop (length c.methods) first code, ← length-declared_from file c.constants 0 c.methods)
-        (sym (uses_of_both s (declared_from file c.constants 0 c.methods) (declared_by (λ d. d.methods) (file + 1) rest) (drop first code)))
+    (sym (uses_of_both s (declared_from file c.constants 0 c.methods) (declared_by (λ d. d.methods) (file + 1) rest) (drop first code)))

@@ -1,5 +1,5 @@
 -- Methods of the files of a scope, as the definitions see them.
-use Rattle.std.specs.Prelude.{ℕ, List, Option, map}
+use Rattle.std.specs.Prelude.{List, Option, map}
 use Rattle.std.specs.List.{zip}
 use Rattle.jvm_types.specs.Members.{Declared}
 use Rattle.jvm_types.specs.Targets.{Scope}

@@ -14,8 +14,10 @@ use link_scope::Scope;
 fn is_outside(class: &ClassFile) -> bool
     ensures { result ≡ is_outside class.now }
 {
-    !is_same_text(class_name(&class.constants, class.super_class), b"java/lang/Object")
-        || class.interfaces.len() > 0
+    !is_same_text(
+        class_name(&class.constants, class.super_class),
+        b"java/lang/Object",
+    ) || class.interfaces.len() > 0
         || has_flag(INTERFACE, class.flags)
         || has_flag(ABSTRACT, class.flags)
 }

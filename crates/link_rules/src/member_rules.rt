@@ -10,11 +10,33 @@ use crate::texts::{is_class_init_name, is_init_name};
 use jvm_types::LRule;
 use link_scope::Found;
 
-/// How an instruction uses a field.
+/// How an instruction uses a field: whether a static one, and whether it writes.
 #[derive(Clone, Copy)]
 pub struct FieldUse {
     pub of_class: bool,
     pub writes: bool,
+}
+
+impl FieldUse {
+    pub const GETSTATIC: FieldUse = FieldUse {
+        of_class: true,
+        writes: false,
+    };
+
+    pub const PUTSTATIC: FieldUse = FieldUse {
+        of_class: true,
+        writes: true,
+    };
+
+    pub const GETFIELD: FieldUse = FieldUse {
+        of_class: false,
+        writes: false,
+    };
+
+    pub const PUTFIELD: FieldUse = FieldUse {
+        of_class: false,
+        writes: true,
+    };
 }
 
 /// The three instructions that call a method.

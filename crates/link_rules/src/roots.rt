@@ -33,8 +33,8 @@ fn is_wrong_root(class: u16, name: &[u8], descriptor: &[u8], flags: u16) -> bool
     ensures { result ≡ is_wrong_root class name.now descriptor.now flags }
 {
     let is_instance = !is_static(flags);
-    let is_wrong_init =
-        is_class_init_name(name) && (is_instance || !is_same_text(descriptor, b"()V"));
+    let is_wrong_init = is_class_init_name(name)
+        && (is_instance || !is_same_text(descriptor, b"()V"));
     is_wrong_init || class == FIRST_CLASS && is_entry(name, descriptor) && is_instance
 }
 

@@ -23,18 +23,15 @@ pub struct Site<'a> {
 
 const OBJECT: u16 = 1;
 
-/// The first and the last of the throwables.
-const THROWABLES: (u16, u16) = (4, 15);
+const FIRST_THROWABLE: u16 = 4;
+
+const LAST_THROWABLE: u16 = 15;
 
 /// The class of the first file.
 pub const FIRST_CLASS: u16 = 17;
 
 /// What a field that was found is to an instruction.
-fn allowed_field(
-    site: &Site<'_>,
-    usage: FieldUse,
-    found: Option<Found>,
-) -> Result<Target, LRule>
+fn allowed_field(site: &Site<'_>, usage: FieldUse, found: Option<Found>) -> Result<Target, LRule>
     ensures { (name : List ℕ) (entry : Option Entry) → IsFound name found entry
         → result ≡ found_target (λ e. field_rule usage.of_class usage.writes (standing site.now) e.class e.flags) entry }
 {
@@ -181,8 +178,7 @@ fn loaded_target(pool: &Rows<Constant>, constant: u16) -> Result<Target, LRule>
 fn can_be_made(class: u16) -> bool
     ensures { result ≡ can_be_made class }
 {
-    let (first, last) = THROWABLES;
-    class == OBJECT || first <= class && class <= last || FIRST_CLASS <= class
+    class == OBJECT || FIRST_THROWABLE <= class && class <= LAST_THROWABLE || FIRST_CLASS <= class
 }
 
 /// What a constant is to `new`.
@@ -204,22 +200,16 @@ fn new_target(scope: &Scope<'_>, file: usize, constant: u16) -> Result<Target, L
 }
 
 /// What the constant of an instruction of a file names, or the first rule of L1, L2, L3 and L7 that refuses it.
-pub fn target_of(
-    scope: &Scope<'_>,
-    file: usize,
-    site: &Site<'_>,
-    op: &Op,
-) -> Result<Target, LRule>
+pub fn target_of(scope: &Scope<'_>, file: usize, site: &Site<'_>, op: &Op) -> Result<Target, LRule>
     requires { file < length scope.now }
     ensures { result ≡ named_target (scope_of scope.now) (standing site.now) (pool_at scope.now file) op.now }
 {
-    let used = |of_class: bool, writes: bool| FieldUse { of_class, writes };
     match op {
         Op::Ldc(index) | Op::LdcW(index) => loaded_target(pool_of(scope, file), *index),
-        Op::Getstatic(index) => field_target(scope, file, site, used(true, false), *index),
-        Op::Putstatic(index) => field_target(scope, file, site, used(true, true), *index),
-        Op::Getfield(index) => field_target(scope, file, site, used(false, false), *index),
-        Op::Putfield(index) => field_target(scope, file, site, used(false, true), *index),
+        Op::Getstatic(index) => field_target(scope, file, site, FieldUse::GETSTATIC, *index),
+        Op::Putstatic(index) => field_target(scope, file, site, FieldUse::PUTSTATIC, *index),
+        Op::Getfield(index) => field_target(scope, file, site, FieldUse::GETFIELD, *index),
+        Op::Putfield(index) => field_target(scope, file, site, FieldUse::PUTFIELD, *index),
         Op::Invokevirtual(index) => method_target(scope, file, site, Call::Virtual, *index),
         Op::Invokespecial(index) => method_target(scope, file, site, Call::Special, *index),
         Op::Invokestatic(index) => method_target(scope, file, site, Call::Static, *index),
@@ -228,7 +218,7 @@ pub fn target_of(
     }
 }
 
-/// The number of the class without a name, which the first class is where its own constant names no class.
+/// The number of the class with the empty name; it is the first class where its own constant names no class.
 #[tactic(auto, using(crate::proofs::Nameless::first_is_nameless))]
 fn nameless_class(scope: &Scope<'_>) -> Option<u16>
     requires { 0 < length scope.now }

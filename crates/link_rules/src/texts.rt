@@ -62,12 +62,7 @@ fn class_text(pool: &Rows<Constant>, class: u16, nameless: u16) -> u16
 
 /// The texts of the member that a class and a name and type name; `nameless`, which has no text, where one of them
 /// is an entry of another kind.
-pub fn member_texts(
-    pool: &Rows<Constant>,
-    class: u16,
-    member: u16,
-    nameless: u16,
-) -> MemberTexts
+pub fn member_texts(pool: &Rows<Constant>, class: u16, member: u16, nameless: u16) -> MemberTexts
     requires { text_at pool.now nameless ≡ [] }
     ensures class { text_at pool.now result.class ≡ class_text_at pool.now class }
     ensures name { text_at pool.now result.name ≡ member_name pool.now (slice_get pool.now member) }

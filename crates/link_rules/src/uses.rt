@@ -62,11 +62,7 @@ fn insn_fault(scope: &Scope<'_>, method: &Method<'_>, insn: &Insn) -> Option<Fau
 }
 
 /// The first refusal of an instruction of a method.
-fn first_insn_fault(
-    scope: &Scope<'_>,
-    method: &Method<'_>,
-    insns: &[Insn],
-) -> Option<Fault>
+fn first_insn_fault(scope: &Scope<'_>, method: &Method<'_>, insns: &[Insn]) -> Option<Fault>
     requires few { length scope.now ≤ 64 }
     requires file { method.now.file < length scope.now }
     requires number { method.now.number < 65536 }
@@ -98,11 +94,7 @@ fn row_fault(scope: &Scope<'_>, method: &Method<'_>, row: &Handler) -> Option<Fa
 }
 
 /// The first refusal of a handler row of a method.
-fn first_row_fault(
-    scope: &Scope<'_>,
-    method: &Method<'_>,
-    rows: &[Handler],
-) -> Option<Fault>
+fn first_row_fault(scope: &Scope<'_>, method: &Method<'_>, rows: &[Handler]) -> Option<Fault>
     requires few { length scope.now ≤ 64 }
     requires file { method.now.file < length scope.now }
     requires number { method.now.number < 65536 }

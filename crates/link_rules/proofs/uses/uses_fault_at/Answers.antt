@@ -9,9 +9,9 @@ pub returns-in-Some : goal.returns-in-Some
 returns-in-Some c =
     c.uses_fault.ensures
     ∙ use_at (scope_of c.args.scope.now) (declared_in c.args.scope.now c.args.method.now) c.args.code.now c.args.at c.in-Some.insns.now
-        (sym c.get.ensures.value ∙ ap option_copied c.in-Some.is)
+    (sym c.get.ensures.value ∙ ap option_copied c.in-Some.is)
 
 pub returns-in-None : goal.returns-in-None
 returns-in-None c =
     sym (no_use_at (scope_of c.args.scope.now) (declared_in c.args.scope.now c.args.method.now) c.args.code.now c.args.at
-        (sym c.get.ensures.value ∙ ap option_copied c.in-None.is))
+    (sym c.get.ensures.value ∙ ap option_copied c.in-None.is))
