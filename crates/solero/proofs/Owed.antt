@@ -20,19 +20,19 @@ use Rattle.solero.specs.declared.answer.Due.TheVariants.{Report, Usage, Refusal,
 -- a report of the program that the files are loaded to is one of the files
 pub reported : (contents : List (List ℕ)) (checked : CheckedProgram) (text : List ℕ) → (ops : List FirstOp) × IsFirstLoaded contents heap_words workers checked ops → ReportsProgram checked.program text → Reports contents text
 reported contents checked text (ops, loaded) r = record {
-    checked = checked;
-    ops = r.ops;
-    loaded = record {
-      classes = loaded.classes;
-      code = loaded.code;
-      read = loaded.read;
-      checked = loaded.checked;
-      first = record { class = loaded.first.class; only = loaded.first.only; file = loaded.first.file; program = r.first };
-    };
-    outcome = r.outcome;
-    run = r.run;
-    report = r.report;
-  }
+  checked = checked;
+  ops = r.ops;
+  loaded = record {
+    classes = loaded.classes;
+    code = loaded.code;
+    read = loaded.read;
+    checked = loaded.checked;
+    first = record { class = loaded.first.class; only = loaded.first.only; file = loaded.first.file; program = r.first };
+  };
+  outcome = r.outcome;
+  run = r.run;
+  report = r.report;
+}
 
 -- ---- a file that was not read
 
@@ -52,4 +52,3 @@ unread_due files names before after file TooLong OutOfMemory unread line = omega
 unread_due files names before after file Failed OutOfMemory unread line = at_least before after unread.0
 unread_due files names before after file Memory OutOfMemory unread line = unread
 unread_due files names before after file error due unread line = absurd line
-

@@ -31,4 +31,3 @@ long_first file content contents long = rw (lt-ltb longest_file (length content)
 pub none_long : (file : ℕ) (contents : List (List ℕ)) → AllByRecursion (λ content. length content ≤ longest_file) contents → first_long file contents ≡ None
 none_long file [] short = refl
 none_long file (content ∷ contents) short = short_first file content contents short.0 ∙ none_long (file + 1) contents short.1
-
