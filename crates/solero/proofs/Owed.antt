@@ -1,5 +1,5 @@
 -- What is owed to files that were read, and where one was not.
-use Rattle.std.proofs.Common.{◌≡◌, ℕ, ◌<◌, ◌≤◌, List, length, Option, Some, None, refl, ◌⊎◌, inl, inr, arith}
+use Rattle.std.proofs.Common.{◌≡◌, ℕ, ◌≤◌, List, Option, Some, None, refl, inl, inr, arith}
 use Rattle.std.specs.Prelude.{IfSome}
 use Rattle.jvm_types.specs.LinkFaults.{in_file}
 use Rattle.jvm_types.specs.declared.refusal.Rule.TheVariants as rules
@@ -15,7 +15,7 @@ use Rattle.solero.specs.declared.shelf.NamedFile.{NamedFile}
 use Rattle.solero.specs.declared.shelf.ShelfError.{ShelfError}
 use Rattle.solero.specs.declared.shelf.ShelfError.TheVariants.{Memory, Failed, TooLong}
 use Rattle.solero.specs.declared.answer.Due.{Due}
-use Rattle.solero.specs.declared.answer.Due.TheVariants.{Report, Usage, Refusal, CannotRead, OutOfMemory}
+use Rattle.solero.specs.declared.answer.Due.TheVariants.{Refusal, CannotRead, OutOfMemory}
 
 -- a report of the program that the files are loaded to is one of the files
 pub reported : (contents : List (List ℕ)) (checked : CheckedProgram) (text : List ℕ) → (ops : List FirstOp) × IsFirstLoaded contents heap_words workers checked ops → ReportsProgram checked.program text → Reports contents text

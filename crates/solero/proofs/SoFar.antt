@@ -1,17 +1,10 @@
 -- Files that are read from a shelf, name by name.
-use Rattle.std.proofs.Common.{◌≡◌, ℕ, suc, ◌+◌, ◌<◌, ◌≤◌, List, [], ◌∷◌, ◌++◌, length, Option, Some, None, Ok, Err, String, string_bytes, get_or, drop, refl, sym, ap, subst, ◌∙◌, append_assoc, length-append, add-one, drop-cons, arith}
-use Rattle.std.proofs.lemmas.List.{append-nil}
-use Rattle.std.proofs.lemmas.Bool.{lt-ltb, le-ltb}
-use Rattle.std.specs.Global.{Global}
+use Rattle.std.proofs.Common.{◌≡◌, ℕ, ◌+◌, ◌≤◌, List, [], ◌∷◌, ◌++◌, length, Option, None, refl, ◌∙◌}
+use Rattle.std.proofs.lemmas.Bool.{le-ltb}
 use Rattle.std.specs.Prelude.{IfSome}
 use Rattle.std.specs.List.{AllByRecursion}
-use Rattle.solero.specs.Command.{texts}
-use Rattle.solero.specs.Shelf.{content_of, IsContentOf, IsRead}
 use Rattle.solero.specs.Answer.{longest_file, first_long, contents_of}
-use Rattle.solero.specs.Reading.{AreRead, IsUnread, IsNextRead}
 use Rattle.solero.specs.declared.shelf.NamedFile.{NamedFile}
-use Rattle.solero.specs.declared.shelf.ShelfError.{ShelfError}
-use Rattle.solero.specs.declared.shelf.ShelfError.TheVariants.{Memory, Failed, TooLong}
 
 -- so many files are read, and these are their contents; these names are left of all
 pub record SoFar (files : Option (List NamedFile)) (all left : List (List ℕ)) (before after file : ℕ) (contents : List (List ℕ)) : Type 0 where
@@ -22,11 +15,8 @@ pub record SoFar (files : Option (List NamedFile)) (all left : List (List ℕ)) 
   pub first : IfSome files (λ fs. first_long 0 (contents_of fs all) ≡ first_long file (contents_of fs left))
 
 -- a content that is not too long is passed over
-pub short_first : (file : ℕ) (content : List ℕ) (contents : List (List ℕ)) → length content ≤ longest_file → first_long file (content ∷ contents) ≡ first_long (file + 1) contents
+short_first : (file : ℕ) (content : List ℕ) (contents : List (List ℕ)) → length content ≤ longest_file → first_long file (content ∷ contents) ≡ first_long (file + 1) contents
 short_first file content contents short = rw (le-ltb longest_file (length content) short)
-
-long_first : (file : ℕ) (content : List ℕ) (contents : List (List ℕ)) → longest_file < length content → first_long file (content ∷ contents) ≡ Some file
-long_first file content contents long = rw (lt-ltb longest_file (length content) long)
 
 pub none_long : (file : ℕ) (contents : List (List ℕ)) → AllByRecursion (λ content. length content ≤ longest_file) contents → first_long file contents ≡ None
 none_long file [] short = refl

@@ -13,9 +13,9 @@ use Rattle.class_runner.specs.Report.{line, report_text}
 use Rattle.class_runner.specs.Refusal.{refusal_text}
 use Rattle.solero.specs.Answer.{longest_file, Reports, Refuses}
 use Rattle.solero.specs.declared.shelf.ShelfError.{ShelfError}
-use Rattle.solero.specs.declared.shelf.ShelfError.TheVariants.{Memory, Failed, TooLong}
+use Rattle.solero.specs.declared.shelf.ShelfError.TheVariants.{Failed, TooLong}
 use Rattle.solero.specs.declared.answer.Due.{Due}
-use Rattle.solero.specs.declared.answer.Due.TheVariants.{Report, Usage, Refusal, CannotRead, OutOfMemory}
+use Rattle.solero.specs.declared.answer.Due.TheVariants.{Report, Refusal, CannotRead, OutOfMemory}
 
 -- the line of a refusal, or want of memory
 abbrev pub IsLine : List ℕ → Due → Type 0

@@ -163,13 +163,17 @@ fn words_that_are_not_read(rt: HostRuntime) -> Result<(), Fail> {
 
 #[test]
 fn faults_of_the_shelf(rt: HostRuntime) -> Result<(), Fail> {
-    let two = ["A.class", "A.class"];
-    let most = ["A.class"; 64];
     let cases = [
         Case::new(&["A.class"], adds(), &[1], 4, "cannot read file 0\n"),
         Case::new(&["B.class"], adds(), &[], 4, "cannot read file 0\n"),
-        Case::new(&two, adds(), &[2], 4, "cannot read file 1\n"),
-        Case::new(&most, adds(), &[64], 4, "cannot read file 63\n"),
+        Case::new(
+            &["A.class", "A.class"],
+            adds(),
+            &[2],
+            4,
+            "cannot read file 1\n",
+        ),
+        Case::new(&["A.class"; 64], adds(), &[64], 4, "cannot read file 63\n"),
     ];
     check_all(&rt, &cases)?;
     Ok(())
@@ -177,11 +181,16 @@ fn faults_of_the_shelf(rt: HostRuntime) -> Result<(), Fail> {
 
 #[test]
 fn files_that_are_run_and_refused(rt: HostRuntime) -> Result<(), Fail> {
-    let two = ["A.class", "A.class"];
     let cases = [
         Case::new(&["A.class"], adds(), &[2], 0, REPORT),
         Case::new(&["A.class"], locks(), &[], 3, "refused L0 file 0 at 0\n"),
-        Case::new(&two, adds(), &[], 3, "refused L5 file 1 at 0\n"),
+        Case::new(
+            &["A.class", "A.class"],
+            adds(),
+            &[],
+            3,
+            "refused L5 file 1 at 0\n",
+        ),
         Case::new(&["A.class"], "", &[], 3, "refused C3 file 0 at 0\n"),
         Case::new(
             &["A.class"],
