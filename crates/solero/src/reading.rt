@@ -8,10 +8,12 @@ use crate::shelf::{Shelf, ShelfError};
 use jvm_types::{Bytes, Rows};
 use std::alloc::Global;
 
-/// The first file that was not read, by its number, and why.
+/// The first file that was not read.
 #[derive(Clone, Copy, Debug)]
 pub struct Unread {
+    /// Its number, counted from 0.
     pub file: u16,
+    /// Why it was not read.
     pub error: ShelfError,
 }
 
