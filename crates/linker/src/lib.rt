@@ -5,6 +5,7 @@ mod copies;
 pub mod error;
 mod layout;
 pub mod linking;
+mod methods;
 mod texts;
 
 pub use error::LinkError;
