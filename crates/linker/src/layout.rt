@@ -7,12 +7,10 @@ ghost use Rattle.jvm_types.specs.Members.{is_static};
 ghost use Rattle.jvm_types.specs.Layout.{first_constant, kept_int, static_start, kind_of, field_info, fields_of, static_count, laid_out_fields};
 ghost use Rattle.linker.specs.Linking.{HasFewFields};
 
+use crate::texts::file_class;
 use jvm_types::{ClassFile, Constant, FieldInfo, Kind, Member, MemberAttr, Rows};
 use link_scope::Scope;
 use std::alloc::{AllocError, Global};
-
-/// The class of the first file.
-const FIRST_FILE: u16 = 17;
 
 /// The word at which the words of the classes begin.
 const FIRST_CLASS_WORD: u32 = 2068;
@@ -103,7 +101,7 @@ fn field_info(
         0
     };
     FieldInfo {
-        class: FIRST_FILE + file as u16,
+        class: file_class(file),
         flags: field.flags,
         kind,
         index,

@@ -10,3 +10,6 @@ mod texts;
 
 pub use error::LinkError;
 pub use linking::link;
+
+#[cfg(test)]
+mod tests;

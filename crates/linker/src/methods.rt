@@ -11,7 +11,7 @@ ghost use Rattle.link_rules.specs.Sites.{standing};
 ghost use Rattle.linker.specs.Linking.{IsBodyOf, declared_in, coded_method};
 
 use crate::copies::copy_insns;
-use crate::texts::text_at;
+use crate::texts::{file_class, text_at};
 use descriptors::Signature;
 use jvm_types::{
     Bytes, ClassFile, Code, Handler, Insn, Member, MemberAttr, MethodInfo, Row, Rows, Target,
@@ -19,9 +19,6 @@ use jvm_types::{
 use link_rules::{Site, catch_class, target_of};
 use link_scope::Scope;
 use std::alloc::{AllocError, Global};
-
-/// The class of the first file.
-const FIRST_FILE: u16 = 17;
 
 /// What the code of a method states beside its instructions, with the catch types resolved.
 #[derive(Drop)]
@@ -183,15 +180,16 @@ fn linked_method(
 {
     let name = text_at(&class.constants, method.name);
     let descriptor = text_at(&class.constants, method.descriptor);
+    let number = file_class(file);
     let site = Site {
-        class: FIRST_FILE + file as u16,
+        class: number,
         name,
     };
     let types = signature_of(alloc, scope, file, class, method)?;
     let body = body_of(alloc, scope, file, class, method)?;
     let targets = resolve_targets(alloc, scope, file, class, &site, insns)?;
     Ok(MethodInfo {
-        class: FIRST_FILE + file as u16,
+        class: number,
         flags: method.flags,
         name: Bytes::from_slice(alloc, name)?,
         descriptor: Bytes::from_slice(alloc, descriptor)?,

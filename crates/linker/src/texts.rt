@@ -1,10 +1,21 @@
-//! Texts of the constant pool, and the names of classes (JVMS 4.1, 4.4).
+//! Texts of the constant pool, and the names and numbers of classes (JVMS 4.1, 4.4).
 
-ghost use Rattle.std.specs.Prelude.{◌≡◌, IfOk};
-ghost use Rattle.jvm_types.specs.ClassNames.{text_at, class_name, class_names};
+ghost use Rattle.std.specs.Prelude.{◌≡◌, ◌<◌, IfOk};
+ghost use Rattle.jvm_types.specs.ClassNames.{text_at, class_name, class_names, file_class};
 
 use jvm_types::{Bytes, ClassFile, Constant, Rows};
 use std::alloc::{AllocError, Global};
+
+/// The number of the class of the first file.
+const FIRST_FILE: u16 = 17;
+
+/// The number of the class of a file.
+pub fn file_class(file: usize) -> u16
+    requires { file < 64 }
+    ensures { result ≡ file_class file }
+{
+    FIRST_FILE + file as u16
+}
 
 /// The text of an entry of the pool, and no bytes where it has none (JVMS 4.4.7).
 pub fn text_at(pool: &Rows<Constant>, index: u16) -> &[u8]
