@@ -106,7 +106,8 @@ fn read_kind<'a>(classes: &ClassNumbers, text: &'a [u8]) -> Option<Front<'a>>
     }
 }
 
-/// The type that a field descriptor names (JVMS 4.3.2), or `None` where it names none of this machine's.
+/// The type that a field descriptor names (JVMS 4.3.2), or `None` where it names none of this machine's. The text
+/// is read once, and a class in it is looked up once.
 pub fn field_kind(classes: &ClassNumbers, text: &[u8]) -> Option<Kind>
     ensures { result ≡ kind_named classes.now text.now }
 {
@@ -167,7 +168,8 @@ fn read_args<'a>(
     Ok(Some(Args { kinds, rest }))
 }
 
-/// What a method descriptor says (JVMS 4.3.3), or `None` where it says nothing to this machine.
+/// What a method descriptor says (JVMS 4.3.3), or `None` where it says nothing to this machine. The text is read
+/// once, and each class in it is looked up once.
 pub fn method_signature(
     alloc: Global,
     classes: &ClassNumbers,

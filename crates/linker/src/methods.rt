@@ -22,10 +22,10 @@ use std::alloc::{AllocError, Global};
 
 /// What the code of a method states beside its instructions, with the catch types resolved.
 #[derive(Drop)]
-pub struct Body {
-    pub max_stack: u16,
-    pub max_locals: u16,
-    pub rows: Rows<Row>,
+struct Body {
+    max_stack: u16,
+    max_locals: u16,
+    rows: Rows<Row>,
 }
 
 /// The Code attribute of a method (JVMS 4.7.3).
