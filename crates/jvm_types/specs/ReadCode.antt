@@ -1,5 +1,5 @@
 -- The instructions read off the bytes of code, one after another (JVMS 6.5). Where the bytes are code, they spell just these.
-use Rattle.std.specs.Prelude.{ℕ, zero, suc, ◌+◌, ℤ, pos, ◌-ℤ◌, ◌+ℤ◌, nat_abs, List, [], ◌∷◌, take, drop, map, Option, Some, None, Result, Ok}
+use Rattle.std.specs.Prelude.{ℕ, zero, suc, ◌+◌, pos, ◌-ℤ◌, ◌+ℤ◌, nat_abs, List, [], ◌∷◌, take, drop, map, Option, Some, Result, Ok}
 use Rattle.std.specs.Int.{w8, w16, cast_signed, from_be_bytes}
 use Rattle.jvm_types.specs.CodeTable.{Form, Plain, Byte, Short, SignedByte, SignedShort, Branch, WideBranch, LocalAndStep, IntArray, Table, Lookup, form_of}
 use Rattle.jvm_types.specs.CodeGrammar.{padding_size}
