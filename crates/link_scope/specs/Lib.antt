@@ -1,1 +1,2 @@
 pub mod Scoping
+pub mod TextNumbers

@@ -2,5 +2,6 @@
 #![tactic(auto)]
 
 pub mod scope;
+mod texts;
 
 pub use scope::{Found, Scope};
