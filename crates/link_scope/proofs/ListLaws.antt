@@ -1,7 +1,8 @@
 -- Lists by index.
-use Rattle.std.proofs.Common.{◌≡◌, ℕ, zero, suc, ◌<◌, List, [], ◌∷◌, ◌++◌, length, Option, Some, None, IsSomeAnd, refl, sym, subst, arith}
+use Rattle.std.proofs.Common.{◌≡◌, ℕ, zero, suc, ◌+◌, ◌<◌, List, [], ◌∷◌, ◌++◌, length, take, get_or, Option, Some, None, IsSomeAnd, refl, sym, ap, ◌∙◌, subst, arith}
 use Rattle.std.specs.Prelude.{slice_get}
 use Rattle.std.specs.Option.{option_copied}
+use Rattle.std.proofs.lemmas.List.{take_more, length-append}
 use denote.Ref.{Bor}
 
 module _ {X : Type 0} where
@@ -17,6 +18,9 @@ module _ {X : Type 0} where
   pub got_last : (xs : List X) (x : X) → slice_get (xs ++ x ∷ []) (length xs) ≡ Some x
   got_last [] x = refl
   got_last (y ∷ xs) x = got_last xs x
+
+  pub got_at : (xs : List X) (x : X) (i : ℕ) → i ≡ length xs → slice_get (xs ++ x ∷ []) i ≡ Some x
+  got_at xs x i e = ap (slice_get (xs ++ x ∷ [])) e ∙ got_last xs x
 
   pub some_and : (o : Option X) (P : X → Type 0) (x : X) → o ≡ Some x → P x → IsSomeAnd o P
   some_and None P x e p = absurd cc
@@ -35,3 +39,18 @@ through None None P e p = p
 through None (Some x) P e p = absurd cc
 through (Some r) None P e p = absurd p
 through (Some r) (Some x) P e p = subst P (some_same (sym e)) p
+
+module _ {X : Type 0} where
+  -- what stands elsewhere than at the end stood there before
+  pub got_other : (xs : List X) (x : X) (i : ℕ) → (i ≡ length xs → ⊥) → slice_get (xs ++ x ∷ []) i ≡ slice_get xs i
+  got_other [] x zero ne = absurd (ne refl)
+  got_other [] x (suc i) ne = refl
+  got_other (y ∷ xs) x zero ne = refl
+  got_other (y ∷ xs) x (suc i) ne = got_other xs x i (λ e. ne (ap suc e))
+
+  pub length_push : (xs : List X) (x : X) (i : ℕ) → length xs ≡ i → length (xs ++ x ∷ []) ≡ i + 1
+  length_push xs x i e = omega (arith, length-append xs (x ∷ []))
+
+  -- a loop over a list has passed one item more
+  pub take_next : (xs : List X) (i : ℕ) (x : X) → i < length xs → x ≡ get_or xs i x → take (i + 1) xs ≡ take i xs ++ x ∷ []
+  take_next xs i x l e = take_more xs i x l ∙ ap (λ (y : X). take i xs ++ y ∷ []) (sym e)

@@ -1,2 +1,3 @@
 pub mod Scoping
 pub mod TextNumbers
+pub mod FileTexts

@@ -2,6 +2,8 @@
 #![tactic(auto)]
 
 pub mod scope;
+mod file_texts;
+mod pool_texts;
 mod texts;
 
 pub use scope::{Found, Scope};

@@ -1,6 +1,6 @@
 //! Texts by numbers, with what each means, so that a text is compared and read once, however many constants name it.
 
-ghost use Rattle.std.specs.Prelude.{◌≡◌, ℕ, ◌≤◌, ◌<◌, ◌+◌, ◌^◌, List, None, IfOk, OnOk, IsSomeAnd};
+ghost use Rattle.std.specs.Prelude.{◌≡◌, ℕ, ◌≤◌, ◌<◌, ◌+◌, ◌^◌, List, [], None, IfOk, OnOk, IsSomeAnd};
 ghost use Rattle.link_scope.specs.TextNumbers.{IsMeaning};
 
 use descriptors::{ClassNumbers, Signature, field_kind, method_signature};
@@ -66,6 +66,7 @@ impl<'a> Texts<'a> {
     /// The empty text alone, among these classes.
     pub fn new(alloc: Global, classes: ClassNumbers) -> Result<Self, AllocError>
         ensures names { IfOk result (λ t. t.names ≡ classes) }
+        ensures empty { IfOk result (λ t. IsNumbered t.numbers [] EMPTY) }
         ensures count { IfOk result (λ t. t.count ≡ 1) }
     {
         let empty = read_meaning(alloc, &classes, b"")?;
