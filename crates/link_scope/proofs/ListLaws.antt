@@ -2,6 +2,7 @@
 use Rattle.std.proofs.Common.{◌≡◌, ℕ, zero, suc, ◌+◌, ◌<◌, List, [], ◌∷◌, ◌++◌, length, take, get_or, Option, Some, None, IsSomeAnd, refl, sym, ap, ◌∙◌, subst, arith}
 use Rattle.std.specs.Prelude.{slice_get}
 use Rattle.std.specs.Option.{option_copied}
+use Rattle.std.specs.List.{AllByRecursion}
 use Rattle.std.proofs.lemmas.List.{take_more, length-append}
 use denote.Ref.{Bor}
 
@@ -54,3 +55,9 @@ module _ {X : Type 0} where
   -- a loop over a list has passed one item more
   pub take_next : (xs : List X) (i : ℕ) (x : X) → i < length xs → x ≡ get_or xs i x → take (i + 1) xs ≡ take i xs ++ x ∷ []
   take_next xs i x l e = take_more xs i x l ∙ ap (λ (y : X). take i xs ++ y ∷ []) (sym e)
+
+  -- what holds of each item holds of the one at an index
+  pub all_at : (P : X → Type 0) (xs : List X) (i : ℕ) (x : X) → AllByRecursion P xs → i < length xs → x ≡ get_or xs i x → P x
+  all_at P [] i x h l e = absurd (omega arith)
+  all_at P (y ∷ xs) zero x h l e = subst P (sym e) h.0
+  all_at P (y ∷ xs) (suc i) x h l e = all_at P xs i x h.1 (omega arith) e

@@ -4,8 +4,9 @@ ghost use Rattle.std.specs.Prelude.{◌≡◌, ℕ, ◌+◌, ◌*◌, ◌<◌, �
 ghost use Rattle.std.specs.List.{AllByRecursion};
 ghost use Rattle.jvm_types.specs.ClassGrammar.{IsClass};
 ghost use Rattle.jvm_types.specs.ClassNames.{class_names as names_of};
-ghost use Rattle.link_scope.specs.TextNumbers.{IsNumbered, Keeps};
-ghost use Rattle.link_scope.specs.FileTexts.{IsRow};
+ghost use Rattle.link_scope.specs.TextNumbers.{number_of, IsNumbered, AreApart, Keeps, IsMeaning};
+ghost use Rattle.link_scope.specs.Scoping.{file_text};
+ghost use Rattle.link_scope.specs.FileTexts.{IsRow, AreRows};
 
 use crate::pool_texts::{class_names, text_of};
 use crate::texts::{EMPTY, Meaning, Texts};
@@ -51,4 +52,70 @@ fn number_pool<'a>(
         row.push(texts.add(alloc, text_of(entry))?)?;
     }
     Ok(row)
+}
+
+/// Gives numbers to the texts of all pools, and answers the rows of the files.
+fn number_files<'a>(
+    alloc: Global,
+    texts: &mut Texts<'a>,
+    files: &'a Rows<ClassFile>,
+) -> Result<Rows<Rows<u32>>, AllocError>
+    requires few { length files.now ≤ 64 }
+    requires classes { AllByRecursion IsClass files.now }
+    requires fits { texts.old.count ≤ 1 }
+    requires empty { IsNumbered texts.old.numbers [] EMPTY }
+    ensures rows { IfOk result (AreRows texts.new.numbers files.now) }
+    ensures names { OnOk result (texts.new.names ≡ texts.old.names) }
+{
+    let mut rows = Rows::new(alloc);
+    for class in files.as_slice() {
+        rows.push(number_pool(alloc, texts, &class.constants)?)?;
+    }
+    Ok(rows)
+}
+
+impl<'a> FileTexts<'a> {
+    /// Gives each text of the files a number.
+    pub fn of(alloc: Global, files: &'a Rows<ClassFile>) -> Result<Self, AllocError>
+        requires few { length files.now ≤ 64 }
+        requires classes { AllByRecursion IsClass files.now }
+        ensures { IfOk result (λ t. t.files ≡ files.now) }
+    {
+        let classes = ClassNumbers::of(alloc, &class_names(alloc, files)?)?;
+        let mut texts = Texts::new(alloc, classes)?;
+        let rows = number_files(alloc, &mut texts, files)?;
+        Ok(FileTexts { files, texts, rows })
+    }
+
+    /// The files.
+    pub fn files(&self) -> &'a Rows<ClassFile>
+        ensures { result.now ≡ self.now.files }
+    {
+        self.files
+    }
+
+    /// The number of the text at an index of the pool of a file.
+    pub fn number(&self, file: usize, index: u16) -> u32
+        ensures { IsNumbered self.now.numbers (file_text self.now.files file index) result }
+    {
+        let row = self.rows.get(file);
+        row.and_then(|row| row.get(usize::from(index)))
+            .copied()
+            .unwrap_or(EMPTY)
+    }
+
+    /// The number of a text that one of the files has.
+    pub fn number_of(&self, text: &[u8]) -> Option<u32>
+        ensures number { result ≡ number_of self.now.numbers text.now }
+        ensures apart { AreApart self.now.numbers }
+    {
+        self.texts.number(text)
+    }
+
+    /// What the text at an index of the pool of a file says.
+    pub fn meaning(&self, file: usize, index: u16) -> Option<&Meaning>
+        ensures { IsSomeAnd result (λ m. IsMeaning (names_of self.now.files) (file_text self.now.files file index) m.now) }
+    {
+        self.texts.meaning(self.number(file, index))
+    }
 }
