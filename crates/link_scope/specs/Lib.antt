@@ -1,3 +1,4 @@
 pub mod Scoping
 pub mod TextNumbers
 pub mod FileTexts
+pub mod Keys

@@ -4,6 +4,7 @@
 pub mod scope;
 mod file_texts;
 mod pool_texts;
+mod table;
 mod texts;
 
 pub use scope::{Found, Scope};
