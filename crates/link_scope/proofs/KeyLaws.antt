@@ -48,7 +48,8 @@ none_of : {A : Type 0} (o : Option A) → is_some o ≡ false → o ≡ None
 none_of None e = refl
 none_of (Some x) e = absurd cc
 
-or_none : {A : Type 0} (o : Option A) → o ≡ option_or o None
+-- an answer stands where there is no other
+pub or_none : {A : Type 0} (o : Option A) → o ≡ option_or o None
 or_none None = refl
 or_none (Some x) = refl
 

@@ -1,4 +1,5 @@
 pub mod KeyLaws
 pub mod ListLaws
 pub mod RowLaws
+pub mod TableLaws
 pub mod TextLaws

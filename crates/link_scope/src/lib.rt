@@ -2,7 +2,9 @@
 #![tactic(auto)]
 
 pub mod scope;
+mod built_in;
 mod file_texts;
+mod members;
 mod pool_texts;
 mod table;
 mod texts;
