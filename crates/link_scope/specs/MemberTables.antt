@@ -1,16 +1,20 @@
 -- Members by the numbers of their names and descriptors.
-use Rattle.std.specs.Prelude.{◌≡◌, ℕ, Bool, false, List, [], ◌++◌, Option, Some, None, slice_get}
+use Rattle.std.specs.Prelude.{◌≡◌, ℕ, ◌<◌, Bool, false, List, [], ◌++◌, Option, Some, None, slice_get}
 use Rattle.std.specs.Option.{unwrap_or}
-use Rattle.jvm_types.specs.Members.{Entry, built_in_fields, built_in_methods, declared_by, entries_from, member_in}
+use Rattle.std.specs.List.{AllByRecursion}
+use Rattle.jvm_types.specs.ClassNames.{text_at, file_class}
+use Rattle.jvm_types.specs.Members.{Entry, built_in_fields, built_in_methods, declared_from, declared_by, entries_from, member_in}
+use Rattle.jvm_types.specs.declared.class_file.Constant.{Constant}
 use Rattle.jvm_types.specs.declared.class_file.Member.{Member as ClassMember}
 use Rattle.jvm_types.specs.declared.class_file.ClassFile.{ClassFile}
 use Rattle.jvm_types.specs.declared.program.Target.{Target}
 use Rattle.jvm_types.specs.declared.program.Target.TheVariants as targets
-use Rattle.link_scope.specs.Scoping.{IsFound, repeats_field, repeats_method}
+use Rattle.link_scope.specs.Scoping.{IsFound, repeats, repeats_field, repeats_method}
 use Rattle.link_scope.specs.TextNumbers.{IsNumbered}
 use Rattle.link_scope.specs.Keys.{found_at}
 use Rattle.link_scope.specs.declared.table.Key.{Key}
 use Rattle.link_scope.specs.declared.scope.Found.{Found}
+use Rattle.link_scope.specs.declared.members.Members.{Members}
 use Rattle.link_scope.specs.declared.members.Sort.{Sort}
 use Rattle.link_scope.specs.declared.members.Sort.TheVariants.{Fields, Methods}
 
@@ -55,3 +59,28 @@ in_flags row i = unwrap_or (slice_get row i) false
 
 abbrev pub in_flag_rows : List (List Bool) → ℕ → ℕ → Bool
 in_flag_rows rows file i = in_flags (unwrap_or (slice_get rows file) []) i
+
+-- whether each member of a class has the name and the descriptor of one before it
+abbrev pub AreRepeats : List Constant → List ClassMember → List Bool → Type 0
+AreRepeats pool members flags = (i : ℕ) → in_flags flags i ≡ repeats pool members i (slice_get members i)
+
+-- ---- the members of a class
+
+-- a member of the class of a file, as an entry
+abbrev pub member_entry : List Constant → ℕ → ClassMember → Target → Entry
+member_entry pool file m target = record { class = file_class file; name = text_at pool m.name; descriptor = text_at pool m.descriptor; flags = m.flags; target = target }
+
+-- the members of the class of a file, numbered from one on
+abbrev pub class_entries : Sort → ℕ → ClassFile → ℕ → List Entry
+class_entries sort file c first = entries_from (target_of sort) first (declared_from file c.constants 0 (members_of sort c))
+
+-- every entry is of a class with a lower number
+abbrev pub AreBelow : ℕ → List Entry → Type 0
+AreBelow class entries = AllByRecursion (λ e. e.class < class) entries
+
+-- ---- all members of a sort
+
+-- the table has the members of the files and the built-in ones, and each class its row of answers
+pub record AreMembers (sort : Sort) (files : List ClassFile) (numbers : List (List ℕ × ℕ)) (members : Members) : Type 0 where
+  pub shown : Shows numbers (entries_of sort files) members.table
+  pub repeated : (file number : ℕ) → in_flag_rows members.repeated file number ≡ repeats_of sort (slice_get files file) number

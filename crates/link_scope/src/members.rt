@@ -1,5 +1,6 @@
 //! The fields or the methods of some files and the built-in ones, by the numbers of their names.
 
+use crate::table::Table;
 use jvm_types::{ClassFile, Member, Rows, Target};
 
 /// Fields, or methods.
@@ -33,4 +34,12 @@ impl Sort {
             Sort::Methods => Target::Method(number),
         }
     }
+}
+
+/// The members of one sort, with a row for each file: whether each of its members has the name and the descriptor
+/// of one before it.
+#[derive(Drop)]
+pub struct Members {
+    table: Table,
+    repeated: Rows<Rows<bool>>,
 }
