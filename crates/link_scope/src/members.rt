@@ -1,7 +1,23 @@
 //! The fields or the methods of some files and the built-in ones, by the numbers of their names.
 
-use crate::table::Table;
+ghost use Rattle.std.specs.Prelude.{◌≡◌, ◌+◌, ◌<◌, ◌≤◌, ◌^◌, List, [], ◌∷◌, length, is_some, slice_get, Some, IfOk, OnOk};
+ghost use Rattle.std.specs.List.{AllByRecursion};
+ghost use Rattle.jvm_types.specs.ClassGrammar.{IsClass};
+ghost use Rattle.jvm_types.specs.ClassNames.{file_class as class_of_file};
+ghost use Rattle.jvm_types.specs.Members.{Entry, member_in};
+ghost use Rattle.link_scope.specs.Scoping.{file_text, pool_at};
+ghost use Rattle.link_scope.specs.TextNumbers.{AreApart};
+ghost use Rattle.link_scope.specs.MemberTables.{members_of, target_of, built_in, Shows, Adds, AreRepeats, member_entry, class_entries, AreBelow, AreMembers};
+
+use crate::built_in;
+use crate::file_texts::FileTexts;
+use crate::scope::Found;
+use crate::table::{Key, Table};
 use jvm_types::{ClassFile, Member, Rows, Target};
+use std::alloc::{AllocError, Global};
+
+/// The number of the class of the first file.
+pub const FIRST_FILE_CLASS: u16 = 17;
 
 /// Fields, or methods.
 #[derive(Clone, Copy, Debug, PartialEq, Eq)]
@@ -10,11 +26,15 @@ pub enum Sort {
     Methods,
 }
 
-ghost use Rattle.std.specs.Prelude.{◌≡◌};
+/// The members of one sort, with a row for each file: whether each of its members has the name and the descriptor
+/// of one before it.
+#[derive(Drop)]
+pub struct Members {
+    table: Table,
+    repeated: Rows<Rows<bool>>,
+}
 
 impl Sort {
-    ghost use Rattle.link_scope.specs.MemberTables.{members_of, target_of};
-
     /// The fields of a class, or its methods.
     fn members(self, class: &ClassFile) -> &Rows<Member>
         ensures { result.now ≡ members_of self class.now }
@@ -34,12 +54,73 @@ impl Sort {
             Sort::Methods => Target::Method(number),
         }
     }
+
+    /// Adds the members of the built-in classes.
+    fn add_built_in(self, table: &mut Table, texts: &FileTexts) -> Result<(), AllocError>
+        ensures { OnOk result (Adds texts.now.numbers table.old table.new (built_in self)) }
+    {
+        match self {
+            Sort::Fields => built_in::add_fields(table, texts),
+            Sort::Methods => built_in::add_methods(table, texts),
+        }
+    }
 }
 
-/// The members of one sort, with a row for each file: whether each of its members has the name and the descriptor
-/// of one before it.
-#[derive(Drop)]
-pub struct Members {
-    table: Table,
-    repeated: Rows<Rows<bool>>,
+/// Adds a member of the class of a file, and answers whether the table had one of this class with its name and
+/// descriptor.
+fn add_member(
+    table: &mut Table,
+    texts: &FileTexts,
+    file: u16,
+    member: &Member,
+    target: Target,
+) -> Result<bool, AllocError>
+    requires few { file < 64 }
+    requires apart { AreApart texts.now.numbers }
+    ensures added { OnOk result (Adds texts.now.numbers table.old table.new (member_entry (pool_at texts.now.files file) file member.now target ∷ [])) }
+    ensures had { IfOk result (λ had. (entries : List Entry) → Shows texts.now.numbers entries table.old
+        → had ≡ is_some (member_in entries (class_of_file file) (file_text texts.now.files file member.now.name) (file_text texts.now.files file member.now.descriptor))) }
+{
+    let class = FIRST_FILE_CLASS + file;
+    let key = Key {
+        class,
+        name: texts.number(usize::from(file), member.name),
+        descriptor: texts.number(usize::from(file), member.descriptor),
+    };
+    let found = Found {
+        class,
+        flags: member.flags,
+        target,
+    };
+    let had = table.add(key, found)?;
+    Ok(had)
+}
+
+/// Adds the members of the class of a file, numbered from one on, and answers for each whether it has the name and
+/// the descriptor of one before it.
+fn add_members(
+    alloc: Global,
+    table: &mut Table,
+    texts: &FileTexts,
+    sort: Sort,
+    file: u16,
+    class: &ClassFile,
+    first: u32,
+) -> Result<Rows<bool>, AllocError>
+    requires file { slice_get texts.now.files file ≡ Some class.now }
+    requires few { file < 64 }
+    requires fits { first + length (members_of sort class.now) < 2 ^ 32 }
+    requires apart { AreApart texts.now.numbers }
+    ensures added { OnOk result (Adds texts.now.numbers table.old table.new (class_entries sort file class.now first)) }
+    ensures repeats { IfOk result (λ flags. (entries : List Entry) → Shows texts.now.numbers entries table.old → AreBelow (class_of_file file) entries
+        → AreRepeats class.now.constants (members_of sort class.now) flags) }
+{
+    let mut flags = Rows::new(alloc);
+    let mut number = first;
+    for member in sort.members(class).as_slice() {
+        let repeats = add_member(table, texts, file, member, sort.target(number))?;
+        flags.push(repeats)?;
+        number += 1;
+    }
+    Ok(flags)
 }
