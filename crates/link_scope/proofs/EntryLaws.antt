@@ -1,11 +1,12 @@
 -- The members of files as entries, as they are passed one by one.
-use Rattle.std.proofs.Common.{◌≡◌, ℕ, suc, ◌+◌, ◌<◌, ◌≤◌, lit<, Bool, true, false, cond, List, [], ◌∷◌, ◌++◌, length, take, get_or, Option, Some, None, is_some, refl, sym, ap, ◌∙◌, subst, append_assoc, append-nil, arith, ⊎_elim}
+use Rattle.std.proofs.Common.{◌≡◌, ℕ, suc, ◌+◌, ◌<◌, ◌≤◌, ◌^◌, lit<, Bool, true, false, cond, List, [], ◌∷◌, ◌++◌, length, take, get_or, Option, Some, None, is_some, refl, sym, ap, ◌∙◌, subst, append_assoc, append-nil, arith, ⊎_elim}
 use Rattle.std.specs.Prelude.{bytes_eq, ◌==◌, ◌&&◌, ◌||◌, slice_get}
 use Rattle.std.specs.Option.{option_or}
 use Rattle.std.specs.List.{find, list_any, AllByRecursion}
 use Rattle.std.proofs.lemmas.Bool.{cases_eq, eq-eqb, ne_eqb}
 use Rattle.std.proofs.lemmas.List.{length-append, length-take-le}
 use Rattle.std.proofs.lemmas.List.Folds.{find-append}
+use Rattle.jvm_types.specs.ClassGrammar.{IsClass}
 use Rattle.jvm_types.specs.ClassNames.{text_at, file_class}
 use Rattle.jvm_types.specs.Members.{Entry, member_in, Declared, class_of, name_of, descriptor_of, declared_from, declared_by, entries_from}
 use Rattle.jvm_types.specs.LinkFaults.{is_repeated}
@@ -15,7 +16,7 @@ use Rattle.jvm_types.specs.declared.class_file.Member.{Member as ClassMember}
 use Rattle.jvm_types.specs.declared.class_file.ClassFile.{ClassFile}
 use Rattle.jvm_types.specs.declared.program.Target.{Target}
 use Rattle.link_scope.specs.Scoping.{repeats}
-use Rattle.link_scope.specs.MemberTables.{members_of, target_of, built_in, entries_of, class_entries, member_entry, AreBelow, in_flags}
+use Rattle.link_scope.specs.MemberTables.{members_of, target_of, built_in, entries_of, class_entries, member_entry, AreBelow, in_flags, in_flag_rows, repeats_of, AreRepeats}
 use Rattle.link_scope.specs.declared.members.Sort.{Sort}
 use Rattle.link_scope.specs.declared.members.Sort.TheVariants.{Fields, Methods}
 use Rattle.link_scope.proofs.ListLaws.{got_at, got_other, take_next}
@@ -149,3 +150,29 @@ module _ (sort : Sort) (files : List ClassFile) (k : ℕ) where
       ap (λ (ds : List Declared). built_in sort ++ entries_from (target_of sort) 0 ds) all
       ∙ ap (λ (es : List Entry). built_in sort ++ es) (entries_append (target_of sort) 0 front own ∙ ap (λ (n : ℕ). entries_from (target_of sort) 0 front ++ entries_from (target_of sort) n own) (let z : 0 + length front ≡ length front = omega arith in z))
       ∙ sym (append_assoc (built_in sort) (entries_from (target_of sort) 0 front) (entries_from (target_of sort) (length front) own))
+
+-- ---- rows of answers for all files
+
+pub repeats_none : (sort : Sort) (i : ℕ) → repeats_of sort None i ≡ false
+repeats_none Fields i = refl
+repeats_none Methods i = refl
+
+repeats_some : (sort : Sort) (c : ClassFile) (i : ℕ) → repeats c.constants (members_of sort c) i (slice_get (members_of sort c) i) ≡ repeats_of sort (Some c) i
+repeats_some Fields c i = refl
+repeats_some Methods c i = refl
+
+-- the row of the next file
+pub flag_rows_next : (sort : Sort) (files : List ClassFile) (j : ℕ) (c : ClassFile) (rows : List (List Bool)) (flags : List Bool) → j < length files → c ≡ get_or files j c → length rows ≡ j
+    → ((k i : ℕ) → in_flag_rows rows k i ≡ repeats_of sort (slice_get (take j files) k) i) → AreRepeats c.constants (members_of sort c) flags
+    → (k i : ℕ) → in_flag_rows (rows ++ flags ∷ []) k i ≡ repeats_of sort (slice_get (take (j + 1) files) k) i
+flag_rows_next sort files j c rows flags l e long so_far are k i =
+    let count : length (take j files) ≡ j = length-take-le j files (omega arith) in
+    ⊎_elim
+      (λ same. rw (take_next files j c l e, got_at rows flags k (same ∙ sym long), got_at (take j files) c k (same ∙ sym count)) (are i ∙ repeats_some sort c i))
+      (λ ne. rw (take_next files j c l e, got_other rows flags k (λ h. ne (h ∙ long)), got_other (take j files) c k (λ h. ne (h ∙ count))) (so_far k i))
+      (cases_eq k j)
+
+-- a class has few members
+pub few_members : (sort : Sort) (c : ClassFile) → IsClass c → length (members_of sort c) < 2 ^ 16
+few_members Fields c h = h.fields.count
+few_members Methods c h = h.methods.count

@@ -124,3 +124,24 @@ fn add_members(
     }
     Ok(flags)
 }
+
+impl Members {
+    /// The members of the files and of the built-in classes.
+    pub fn of(alloc: Global, texts: &FileTexts, sort: Sort) -> Result<Self, AllocError>
+        requires few { length texts.now.files ≤ 64 }
+        requires classes { AllByRecursion IsClass texts.now.files }
+        requires apart { AreApart texts.now.numbers }
+        ensures { IfOk result (AreMembers sort texts.now.files texts.now.numbers) }
+    {
+        let mut table = Table::new(alloc);
+        sort.add_built_in(&mut table, texts)?;
+        let mut repeated = Rows::new(alloc);
+        let mut number = 0;
+        for (file, class) in texts.files().as_slice().iter().enumerate() {
+            let flags = add_members(alloc, &mut table, texts, sort, file as u16, class, number)?;
+            repeated.push(flags)?;
+            number += sort.members(class).len() as u32;
+        }
+        Ok(Members { table, repeated })
+    }
+}
