@@ -3,4 +3,5 @@ pub mod KeyLaws
 pub mod ListLaws
 pub mod RowLaws
 pub mod TableLaws
+pub mod TakenLaws
 pub mod TextLaws

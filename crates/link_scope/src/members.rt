@@ -6,18 +6,14 @@ ghost use Rattle.jvm_types.specs.ClassGrammar.{IsClass};
 ghost use Rattle.jvm_types.specs.ClassNames.{file_class as class_of_file};
 ghost use Rattle.jvm_types.specs.Members.{Entry, member_in};
 ghost use Rattle.link_scope.specs.Scoping.{file_text, pool_at};
-ghost use Rattle.link_scope.specs.TextNumbers.{AreApart};
-ghost use Rattle.link_scope.specs.MemberTables.{members_of, target_of, built_in, Shows, Adds, AreRepeats, member_entry, class_entries, AreBelow, AreMembers};
+ghost use Rattle.link_scope.specs.MemberTables.{members_of, target_of, built_in, Shows, Adds, AreRepeats, member_entry, class_entries, AreBelow, AreMembers, found_in, in_flag_rows};
 
-use crate::built_in;
-use crate::file_texts::FileTexts;
+use crate::built_in::{self, OBJECT};
+use crate::file_texts::{FIRST_FILE_CLASS, FileTexts};
 use crate::scope::Found;
 use crate::table::{Key, Table};
 use jvm_types::{ClassFile, Member, Rows, Target};
 use std::alloc::{AllocError, Global};
-
-/// The number of the class of the first file.
-pub const FIRST_FILE_CLASS: u16 = 17;
 
 /// Fields, or methods.
 #[derive(Clone, Copy, Debug, PartialEq, Eq)]
@@ -75,8 +71,7 @@ fn add_member(
     member: &Member,
     target: Target,
 ) -> Result<bool, AllocError>
-    requires few { file < 64 }
-    requires apart { AreApart texts.now.numbers }
+    requires { file < 64 }
     ensures added { OnOk result (Adds texts.now.numbers table.old table.new (member_entry (pool_at texts.now.files file) file member.now target ∷ [])) }
     ensures had { IfOk result (λ had. (entries : List Entry) → Shows texts.now.numbers entries table.old
         → had ≡ is_some (member_in entries (class_of_file file) (file_text texts.now.files file member.now.name) (file_text texts.now.files file member.now.descriptor))) }
@@ -110,7 +105,6 @@ fn add_members(
     requires file { slice_get texts.now.files file ≡ Some class.now }
     requires few { file < 64 }
     requires fits { first + length (members_of sort class.now) < 2 ^ 32 }
-    requires apart { AreApart texts.now.numbers }
     ensures added { OnOk result (Adds texts.now.numbers table.old table.new (class_entries sort file class.now first)) }
     ensures repeats { IfOk result (λ flags. (entries : List Entry) → Shows texts.now.numbers entries table.old → AreBelow (class_of_file file) entries
         → AreRepeats class.now.constants (members_of sort class.now) flags) }
@@ -130,8 +124,7 @@ impl Members {
     pub fn of(alloc: Global, texts: &FileTexts, sort: Sort) -> Result<Self, AllocError>
         requires few { length texts.now.files ≤ 64 }
         requires classes { AllByRecursion IsClass texts.now.files }
-        requires apart { AreApart texts.now.numbers }
-        ensures { IfOk result (AreMembers sort texts.now.files texts.now.numbers) }
+            ensures { IfOk result (AreMembers sort texts.now.files texts.now.numbers) }
     {
         let mut table = Table::new(alloc);
         sort.add_built_in(&mut table, texts)?;
@@ -143,5 +136,27 @@ impl Members {
             number += sort.members(class).len() as u32;
         }
         Ok(Members { table, repeated })
+    }
+
+    /// The member with a key, or else that of `Object` with its name and descriptor, which no `<init>` is looked for in.
+    pub fn find(&self, key: Key, is_init: bool) -> Option<Found>
+        ensures { result ≡ found_in self.now.table key is_init }
+    {
+        match self.table.get(key) {
+            Some(found) => Some(found),
+            None if is_init => None,
+            None => self.table.get(Key {
+                class: OBJECT,
+                ..key
+            }),
+        }
+    }
+
+    /// Whether the member of a file with a number has the name and the descriptor of one before it.
+    pub fn repeats(&self, file: usize, number: usize) -> bool
+        ensures { result ≡ in_flag_rows self.now.repeated file number }
+    {
+        let row = self.repeated.get(file);
+        row.and_then(|row| row.get(number)).copied().unwrap_or(false)
     }
 }

@@ -1,6 +1,7 @@
 //! Texts by numbers, with what each means, so that a text is compared and read once, however many constants name it.
 
 ghost use Rattle.std.specs.Prelude.{◌≡◌, ℕ, ◌≤◌, ◌<◌, ◌+◌, ◌^◌, List, [], None, IfOk, OnOk, IsSomeAnd};
+ghost use Rattle.jvm_types.specs.ClassNames.{named_class};
 ghost use Rattle.link_scope.specs.TextNumbers.{IsMeaning};
 
 use descriptors::{ClassNumbers, Signature, field_kind, method_signature};
@@ -117,6 +118,13 @@ impl<'a> Texts<'a> {
         ensures apart { AreApart self.now.numbers }
     {
         self.numbers.get(text).copied()
+    }
+
+    /// The number of the class that a text names, where 0 stands for `java/lang/System`.
+    pub fn named_class(&self, text: &[u8]) -> Option<u16>
+        ensures { result ≡ named_class self.now.names text.now }
+    {
+        self.classes.named(text)
     }
 
     /// What the text with a number means; `None` only where no text has the number.

@@ -10,7 +10,6 @@ use Rattle.link_scope.proofs.ListLaws.{length_push, all_at}
 use Rattle.link_scope.proofs.EntryLaws.{length_next, of_below, of_next, repeats_none, flag_rows_next, few_members}
 use Rattle.jvm_types.specs.declared.class_file.Member.{Member as ClassMember}
 use Rattle.link_scope.proofs.members.Members.of.Goals as goal
-use Rattle.link_scope.proofs.members.Members.of.Goals.{After-table-in-loop-file-1}
 
 pub loop-file-init : goal.loop-file-init
 loop-file-init c = record {
@@ -22,15 +21,12 @@ loop-file-init c = record {
   repeated = λ k i. ap (λ (rows : List (List Bool)). in_flag_rows rows k i) c.new-repeated.ensures ∙ sym (repeats_none c.args.sort i);
 }
 
--- the class of this turn stands among the files
-within : (c : After-table-in-loop-file-1) → c.loop-file.file < length c.args.texts.now.files
-within c = rw (← c.files.ensures, ← c.as_slice-class-items.ensures) c.loop-file-test.true
-
-stands : (c : After-table-in-loop-file-1) → c.class-item.result ≡ get_or c.args.texts.now.files c.loop-file.file c.class-item.result
-stands c = rw (← c.files.ensures, ← c.as_slice-class-items.ensures) c.class-item.is
-
 pub add_members-requires-clause-file : goal.add_members-requires-clause-file
-add_members-requires-clause-file c = slice_get_read c.args.texts.now.files (length c.args.texts.now.files) c.loop-file.file c.class-item.result refl (within c) (stands c)
+add_members-requires-clause-file c =
+    let files : List ClassFile = c.args.texts.now.files in
+    let l : c.loop-file.file < length files = rw (← c.files.ensures, ← c.as_slice-class-items.ensures) c.loop-file-test.true in
+    let is : c.class-item.result ≡ get_or files c.loop-file.file c.class-item.result = rw (← c.files.ensures, ← c.as_slice-class-items.ensures) c.class-item.is in
+    slice_get_read files (length files) c.loop-file.file c.class-item.result refl l is
 
 pub loop-file-preserved : goal.loop-file-preserved
 loop-file-preserved c =
