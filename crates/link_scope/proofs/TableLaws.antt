@@ -7,12 +7,12 @@ use Rattle.std.proofs.lemmas.List.FromFn.{map-range_with_len_more}
 use Rattle.std.proofs.lemmas.Bool.{and_parts, eqb-true, eq-eqb, false_from_ne_true}
 use Rattle.std.proofs.lemmas.List.Folds.{find-append}
 use Rattle.std.proofs.lemmas.Slice.Eq.{bytes_eq-Decides}
-use Rattle.jvm_types.specs.Members.{Entry, member_in, init_of}
+use Rattle.jvm_types.specs.Members.{Entry, member_in, init_of, is_init_name, look_up}
 use Rattle.link_scope.specs.Scoping.{IsFound}
 use Rattle.link_scope.specs.TextNumbers.{number_of, IsNumbered, AreApart}
 use Rattle.link_scope.specs.Keys.{is_key, found_at}
 use Rattle.link_scope.specs.BuiltIn.{first_methods}
-use Rattle.link_scope.specs.MemberTables.{Shows, Adds}
+use Rattle.link_scope.specs.MemberTables.{Shows, Adds, found_in}
 use Rattle.link_scope.specs.declared.table.Key.{Key}
 use Rattle.link_scope.specs.declared.scope.Found.{Found}
 use Rattle.link_scope.proofs.ListLaws.{some_same}
@@ -100,3 +100,15 @@ inits_next class l =
     let n : class + 1 - 4 ≡ (class - 4) + 1 = omega arith in
     append_assoc first_methods (map init_of (range_with_len 4 (class - 4))) (init_of class ∷ [])
     ∙ ap (λ (xs : List Entry). first_methods ++ xs) (sym (map-range_with_len_more init_of 4 (class - 4) class (omega arith)) ∙ ap (λ (k : ℕ). map init_of (range_with_len 4 k)) (sym n))
+
+-- ---- look-up
+
+unless : (name : List ℕ) (b : Bool) (a : Option Found) (x : Option Entry) → IsFound name a x → IsFound name (cond b None a) (cond b None x)
+unless name true a x h = tt
+unless name false a x h = h
+
+-- what a table answers for a key is what look-up finds
+pub looked_up : (numbers : List (List ℕ × ℕ)) (entries : List Entry) (table : List (Key × Found)) (class : ℕ) (name descriptor : List ℕ) (n d : ℕ) (b : Bool) → Shows numbers entries table → IsNumbered numbers name n → IsNumbered numbers descriptor d
+    → b ≡ is_init_name name → IsFound name (found_in table (record { class = class; name = n; descriptor = d }) b) (look_up entries class name descriptor)
+looked_up numbers entries table class name descriptor n d b shows is_n is_d is =
+    rw is (found_or name _ _ _ _ (shows class name descriptor n d is_n is_d) (unless name (is_init_name name) _ _ (shows 1 name descriptor n d is_n is_d)))

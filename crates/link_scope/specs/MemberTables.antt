@@ -89,3 +89,8 @@ pub record AreMembers (sort : Sort) (files : List ClassFile) (numbers : List (Li
 -- the member with a key, or else that of Object with its name and descriptor, which no `<init>` is looked for in
 abbrev pub found_in : List (Key × Found) → Key → Bool → Option Found
 found_in table key is_init = option_or (found_at table key) (if is_init then None else found_at table (record key { class = object_class }))
+
+-- the fields and the methods of the files stand in their tables
+pub record AreScoped (files : List ClassFile) (numbers : List (List ℕ × ℕ)) (field_table method_table : Members) : Type 0 where
+  pub fields : AreMembers Fields files numbers field_table
+  pub methods : AreMembers Methods files numbers method_table
