@@ -1,11 +1,9 @@
 -- The members of files as entries, as they are passed one by one.
-use Rattle.std.proofs.Common.{◌≡◌, ℕ, suc, ◌+◌, ◌<◌, ◌≤◌, ◌^◌, lit<, Bool, true, false, cond, List, [], ◌∷◌, ◌++◌, length, take, get_or, Option, Some, None, is_some, refl, sym, ap, ◌∙◌, subst, append_assoc, append-nil, arith, ⊎_elim}
+use Rattle.std.proofs.Common.{◌≡◌, ℕ, suc, ◌+◌, ◌<◌, ◌≤◌, ◌^◌, lit<, Bool, true, false, cond, List, [], ◌∷◌, ◌++◌, length, take, get_or, Option, Some, None, is_some, refl, sym, ap, ◌∙◌, append_assoc, append-nil, arith, ⊎_elim}
 use Rattle.std.specs.Prelude.{bytes_eq, ◌==◌, ◌&&◌, ◌||◌, slice_get}
-use Rattle.std.specs.Option.{option_or}
-use Rattle.std.specs.List.{find, list_any, AllByRecursion}
+use Rattle.std.specs.List.{list_any, AllByRecursion}
 use Rattle.std.proofs.lemmas.Bool.{cases_eq, eq-eqb, ne_eqb}
 use Rattle.std.proofs.lemmas.List.{length-append, length-take-le}
-use Rattle.std.proofs.lemmas.List.Folds.{find-append}
 use Rattle.jvm_types.specs.ClassGrammar.{IsClass}
 use Rattle.jvm_types.specs.ClassNames.{text_at, file_class}
 use Rattle.jvm_types.specs.Members.{Entry, member_in, Declared, class_of, name_of, descriptor_of, declared_from, declared_by, entries_from}
@@ -75,9 +73,9 @@ pub flags_next : (pool : List Constant) (members : List ClassMember) (j : ℕ) (
 flags_next pool members j m flags b l e long is so_far i =
     let count : length (take j members) ≡ j = length-take-le j members (omega arith) in
     ⊎_elim
-      (λ same. rw (take_next members j m l e, got_at flags b i (same ∙ sym long), got_at (take j members) m i (same ∙ sym count)) (is ∙ ap (λ (k : ℕ). is_repeated pool (take k members) m) (sym same)))
-      (λ ne. rw (take_next members j m l e, got_other flags b i (λ h. ne (h ∙ long)), got_other (take j members) m i (λ h. ne (h ∙ count))) (so_far i))
-      (cases_eq i j)
+    (λ same. rw (take_next members j m l e, got_at flags b i (same ∙ sym long), got_at (take j members) m i (same ∙ sym count)) (is ∙ ap (λ (k : ℕ). is_repeated pool (take k members) m) (sym same)))
+    (λ ne. rw (take_next members j m l e, got_other flags b i (λ h. ne (h ∙ long)), got_other (take j members) m i (λ h. ne (h ∙ count))) (so_far i))
+    (cases_eq i j)
 
 -- ---- the members of all files
 
@@ -135,8 +133,8 @@ module _ (sort : Sort) (files : List ClassFile) (k : ℕ) where
   of_below l =
       let n : file_class (0 + length (take k files)) ≤ file_class k = omega (arith, length-take-le k files) in
       all_append (λ (e : Entry). e.class < file_class k) (built_in sort) (entries_from (target_of sort) 0 (declared_by (members_of sort) 0 (take k files)))
-          (all_weaker (λ (e : Entry). e.class < 17) (λ (e : Entry). e.class < file_class k) (λ e h. omega (arith, h)) (built_in sort) (built_in_below sort))
-          (entries_below (target_of sort) (file_class k) 0 (declared_by (members_of sort) 0 (take k files)) (all_below (members_of sort) 0 (file_class k) (take k files) n))
+      (all_weaker (λ (e : Entry). e.class < 17) (λ (e : Entry). e.class < file_class k) (λ e h. omega (arith, h)) (built_in sort) (built_in_below sort))
+      (entries_below (target_of sort) (file_class k) 0 (declared_by (members_of sort) 0 (take k files)) (all_below (members_of sort) 0 (file_class k) (take k files) n))
 
   -- the entries of the files so far and of the next one
   pub of_next : (c : ClassFile) → k < length files → c ≡ get_or files k c
@@ -146,7 +144,7 @@ module _ (sort : Sort) (files : List ClassFile) (k : ℕ) where
       let count : 0 + length (take k files) ≡ k = omega (arith, length-take-le k files) in
       let own : List Declared = declared_from k c.constants 0 (members_of sort c) in
       let all : declared_by (members_of sort) 0 (take (k + 1) files) ≡ front ++ own
-          = ap (declared_by (members_of sort) 0) (take_next files k c l e) ∙ declared_push (members_of sort) 0 (take k files) c ∙ ap (λ (n : ℕ). front ++ declared_from n c.constants 0 (members_of sort c)) count in
+      = ap (declared_by (members_of sort) 0) (take_next files k c l e) ∙ declared_push (members_of sort) 0 (take k files) c ∙ ap (λ (n : ℕ). front ++ declared_from n c.constants 0 (members_of sort c)) count in
       ap (λ (ds : List Declared). built_in sort ++ entries_from (target_of sort) 0 ds) all
       ∙ ap (λ (es : List Entry). built_in sort ++ es) (entries_append (target_of sort) 0 front own ∙ ap (λ (n : ℕ). entries_from (target_of sort) 0 front ++ entries_from (target_of sort) n own) (let z : 0 + length front ≡ length front = omega arith in z))
       ∙ sym (append_assoc (built_in sort) (entries_from (target_of sort) 0 front) (entries_from (target_of sort) (length front) own))
@@ -168,9 +166,9 @@ pub flag_rows_next : (sort : Sort) (files : List ClassFile) (j : ℕ) (c : Class
 flag_rows_next sort files j c rows flags l e long so_far are k i =
     let count : length (take j files) ≡ j = length-take-le j files (omega arith) in
     ⊎_elim
-      (λ same. rw (take_next files j c l e, got_at rows flags k (same ∙ sym long), got_at (take j files) c k (same ∙ sym count)) (are i ∙ repeats_some sort c i))
-      (λ ne. rw (take_next files j c l e, got_other rows flags k (λ h. ne (h ∙ long)), got_other (take j files) c k (λ h. ne (h ∙ count))) (so_far k i))
-      (cases_eq k j)
+    (λ same. rw (take_next files j c l e, got_at rows flags k (same ∙ sym long), got_at (take j files) c k (same ∙ sym count)) (are i ∙ repeats_some sort c i))
+    (λ ne. rw (take_next files j c l e, got_other rows flags k (λ h. ne (h ∙ long)), got_other (take j files) c k (λ h. ne (h ∙ count))) (so_far k i))
+    (cases_eq k j)
 
 -- a class has few members
 pub few_members : (sort : Sort) (c : ClassFile) → IsClass c → length (members_of sort c) < 2 ^ 16

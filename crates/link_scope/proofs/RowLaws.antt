@@ -1,15 +1,12 @@
 -- Rows of numbers, as they grow.
-use Rattle.std.proofs.Common.{◌≡◌, ℕ, ◌+◌, ◌<◌, List, [], ◌∷◌, ◌++◌, length, take, get_or, Option, Some, None, refl, sym, ◌∙◌, ap, ⊎_elim, arith}
-use Rattle.std.specs.Prelude.{slice_get}
-use Rattle.std.specs.Option.{unwrap_or}
+use Rattle.std.proofs.Common.{◌≡◌, ℕ, ◌+◌, ◌<◌, List, [], ◌∷◌, ◌++◌, length, take, get_or, Some, sym, ◌∙◌, ⊎_elim, arith}
 use Rattle.std.proofs.lemmas.Bool.{cases_eq}
 use Rattle.std.proofs.lemmas.List.{length-take-le}
-use Rattle.jvm_types.specs.ClassNames.{text_of, text_at}
+use Rattle.jvm_types.specs.ClassNames.{text_of}
 use Rattle.jvm_types.specs.declared.class_file.Constant.{Constant}
 use Rattle.jvm_types.specs.declared.class_file.ClassFile.{ClassFile}
-use Rattle.link_scope.specs.Scoping.{pool_of}
 use Rattle.link_scope.specs.TextNumbers.{IsNumbered, Keeps}
-use Rattle.link_scope.specs.FileTexts.{in_row, IsRow, AreRows}
+use Rattle.link_scope.specs.FileTexts.{IsRow, AreRows}
 use Rattle.link_scope.proofs.ListLaws.{got_at, got_other, take_next}
 
 long_to : {X Y : Type 0} (xs : List X) (ys : List Y) (i : ℕ) → i < length xs → length ys ≡ i → length ys ≡ length (take i xs)

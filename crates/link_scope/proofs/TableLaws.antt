@@ -2,7 +2,7 @@
 use Rattle.std.proofs.Common.{◌≡◌, ℕ, Bool, true, false, cond, List, [], ◌∷◌, ◌++◌, Option, Some, None, is_some, refl, sym, ap, ◌∙◌, subst, append_assoc, append-nil, ◌+◌, ◌-◌, ◌≤◌, map, arith}
 use Rattle.std.specs.Prelude.{bytes_eq, ◌==◌, ◌&&◌}
 use Rattle.std.specs.Option.{option_or}
-use Rattle.std.specs.List.{find, range_with_len}
+use Rattle.std.specs.List.{range_with_len}
 use Rattle.std.proofs.lemmas.List.FromFn.{map-range_with_len_more}
 use Rattle.std.proofs.lemmas.Bool.{and_parts, eqb-true, eq-eqb, false_from_ne_true}
 use Rattle.std.proofs.lemmas.List.Folds.{find-append}
@@ -72,16 +72,16 @@ module _ (numbers : List (List ℕ × ℕ)) where
   adds_one apart e f n d is_n is_d is old new added entries shows class name descriptor m k is_m is_k =
       let q : Key = record { class = class; name = m; descriptor = k } in
       let test : is_key (record { class = e.class; name = n; descriptor = d }) q ≡ is_named class name descriptor e
-          = λ i. ((e.class == class) && same_number numbers apart e.name name n m is_n is_m i) && same_number numbers apart e.descriptor descriptor d k is_d is_k i in
+      = λ i. ((e.class == class) && same_number numbers apart e.name name n m is_n is_m i) && same_number numbers apart e.descriptor descriptor d k is_d is_k i in
       rw (added q, test, find-append (is_named class name descriptor) entries (e ∷ []))
-          (found_or name (found_at old q) _ (member_in entries class name descriptor) _ (shows class name descriptor m k is_m is_k) (found_if name f e (is_named class name descriptor e) is (λ h. (named_so class name descriptor e h).0)))
+      (found_or name (found_at old q) _ (member_in entries class name descriptor) _ (shows class name descriptor m k is_m is_k) (found_if name f e (is_named class name descriptor e) is (λ h. (named_so class name descriptor e h).0)))
 
   -- an entry whose name or descriptor no file has
   pub adds_unnamed : (e : Entry) (table : List (Key × Found)) → ((n d : ℕ) → IsNumbered numbers e.name n → IsNumbered numbers e.descriptor d → ⊥) → Adds numbers table table (e ∷ [])
   adds_unnamed e table not entries shows class name descriptor m k is_m is_k =
       let other : is_named class name descriptor e ≡ false = false_from_ne_true (is_named class name descriptor e) (λ h.
-          let so : (e.name ≡ name) × (e.descriptor ≡ descriptor) = named_so class name descriptor e h in
-          not m k (ap (number_of numbers) so.0 ∙ is_m) (ap (number_of numbers) so.1 ∙ is_k)) in
+      let so : (e.name ≡ name) × (e.descriptor ≡ descriptor) = named_so class name descriptor e h in
+      not m k (ap (number_of numbers) so.0 ∙ is_m) (ap (number_of numbers) so.1 ∙ is_k)) in
       rw (find-append (is_named class name descriptor) entries (e ∷ []), other) (subst (λ (o : Option Entry). IsFound name (found_at table (record { class = class; name = m; descriptor = k })) o) (or_none (member_in entries class name descriptor)) (shows class name descriptor m k is_m is_k))
 
   pub adds_none : (table : List (Key × Found)) → Adds numbers table table []

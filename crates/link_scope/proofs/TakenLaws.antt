@@ -1,13 +1,11 @@
 -- Which names are taken, by the numbers of classes.
-use Rattle.std.proofs.Common.{◌≡◌, ℕ, zero, suc, ◌+◌, ◌<◌, ◌≤◌, Bool, true, false, cond, List, [], ◌∷◌, length, take, Option, Some, None, is_some, refl, sym, ap, ◌∙◌, subst, arith}
-use Rattle.std.specs.Prelude.{bytes_eq, nat_lt, ◌||◌, slice_get}
+use Rattle.std.proofs.Common.{◌≡◌, ℕ, zero, suc, ◌+◌, ◌<◌, ◌≤◌, Bool, true, false, cond, List, [], ◌∷◌, take, Option, Some, None, is_some, refl, ap, ◌∙◌, arith}
+use Rattle.std.specs.Prelude.{bytes_eq, nat_lt, ◌||◌}
 use Rattle.std.specs.Option.{option_or}
 use Rattle.std.specs.List.{list_any, position_from}
 use Rattle.std.proofs.lemmas.Bool.{lt-ltb, le-ltb}
-use Rattle.jvm_types.specs.ClassNames.{numbered_names, system_name, file_class, named_class, class_names, class_name}
+use Rattle.jvm_types.specs.ClassNames.{numbered_names, system_name, named_class}
 use Rattle.jvm_types.specs.LinkFaults.{is_taken}
-use Rattle.jvm_types.specs.declared.class_file.ClassFile.{ClassFile}
-use Rattle.link_scope.specs.Scoping.{takes_name}
 use Rattle.link_scope.specs.FileTexts.{is_before}
 use Rattle.jvm_types.proofs.KindLaws.{place_in}
 
@@ -75,4 +73,4 @@ module _ (names : List (List ℕ)) (name : List ℕ) (file : ℕ) where
   unfolding test
   taken = before_is_below (named_class names name) file ∙ by_system (bytes_eq name system_name) (list_any (bytes_eq name) numbered_names) (list_any (bytes_eq name) (take file names)) _
       (by_numbered (position_from (bytes_eq name) 1 numbered_names) (λ n e. omega (arith, (place_in (bytes_eq name) 1 numbered_names n e).1))
-          ∙ ap (λ (b : Bool). b || list_any (bytes_eq name) (take file names)) (any_some (bytes_eq name) 1 numbered_names))
+      ∙ ap (λ (b : Bool). b || list_any (bytes_eq name) (take file names)) (any_some (bytes_eq name) 1 numbered_names))

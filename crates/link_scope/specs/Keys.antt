@@ -1,5 +1,5 @@
 -- Members by keys of numbers.
-use Rattle.std.specs.Prelude.{ℕ, ◌==◌, Bool, ◌&&◌, List, Option}
+use Rattle.std.specs.Prelude.{◌==◌, Bool, ◌&&◌, List, Option}
 use Rattle.std.specs.Map.{lookup}
 use Rattle.link_scope.specs.declared.table.Key.{Key}
 use Rattle.link_scope.specs.declared.scope.Found.{Found}

@@ -1,5 +1,5 @@
 -- Members by the numbers of their names and descriptors.
-use Rattle.std.specs.Prelude.{◌≡◌, ℕ, ◌<◌, Bool, false, List, [], ◌++◌, Option, Some, None, slice_get, if◌then◌else◌}
+use Rattle.std.specs.Prelude.{◌≡◌, ℕ, ◌<◌, Bool, false, List, [], ◌++◌, Option, None, slice_get, if◌then◌else◌}
 use Rattle.std.specs.Option.{unwrap_or, option_or}
 use Rattle.jvm_types.specs.ClassTree.{object_class}
 use Rattle.std.specs.List.{AllByRecursion}

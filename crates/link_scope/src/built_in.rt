@@ -13,15 +13,19 @@ use std::alloc::AllocError;
 
 /// The numbers of classes that have built-in members.
 const SYSTEM: u16 = 0;
+
 pub const OBJECT: u16 = 1;
+
 const PRINT_STREAM: u16 = 3;
 
 /// The throwables have the numbers from this one on, up to the second.
 const FIRST_THROWABLE: u16 = 4;
+
 const BEHIND_THROWABLES: u16 = 16;
 
 /// PUBLIC, STATIC and FINAL.
 const CONSTANT_FLAGS: u16 = 25;
+
 const PUBLIC: u16 = 1;
 
 /// A field or method of a built-in class.
@@ -100,10 +104,26 @@ fn add_first_methods(table: &mut Table, texts: &FileTexts) -> Result<(), AllocEr
     ensures { OnOk result (Adds texts.now.numbers table.old table.new first_methods) }
 {
     add(table, texts, &init_of(OBJECT))?;
-    add(table, texts, &public_method(OBJECT, b"wait", b"()V", Target::Wait))?;
-    add(table, texts, &public_method(OBJECT, b"notify", b"()V", Target::Notify))?;
-    add(table, texts, &public_method(OBJECT, b"notifyAll", b"()V", Target::NotifyAll))?;
-    add(table, texts, &public_method(PRINT_STREAM, b"println", b"(I)V", Target::Println))?;
+    add(
+        table,
+        texts,
+        &public_method(OBJECT, b"wait", b"()V", Target::Wait),
+    )?;
+    add(
+        table,
+        texts,
+        &public_method(OBJECT, b"notify", b"()V", Target::Notify),
+    )?;
+    add(
+        table,
+        texts,
+        &public_method(OBJECT, b"notifyAll", b"()V", Target::NotifyAll),
+    )?;
+    add(
+        table,
+        texts,
+        &public_method(PRINT_STREAM, b"println", b"(I)V", Target::Println),
+    )?;
     Ok(())
 }
 

@@ -124,7 +124,7 @@ impl Members {
     pub fn of(alloc: Global, texts: &FileTexts, sort: Sort) -> Result<Self, AllocError>
         requires few { length texts.now.files ≤ 64 }
         requires classes { AllByRecursion IsClass texts.now.files }
-            ensures { IfOk result (AreMembers sort texts.now.files texts.now.numbers) }
+        ensures { IfOk result (AreMembers sort texts.now.files texts.now.numbers) }
     {
         let mut table = Table::new(alloc);
         sort.add_built_in(&mut table, texts)?;
@@ -157,6 +157,8 @@ impl Members {
         ensures { result ≡ in_flag_rows self.now.repeated file number }
     {
         let row = self.repeated.get(file);
-        row.and_then(|row| row.get(number)).copied().unwrap_or(false)
+        row.and_then(|row| row.get(number))
+            .copied()
+            .unwrap_or(false)
     }
 }

@@ -132,13 +132,7 @@ impl<'a> Scope<'a> {
 
     /// The field of a class, or of `Object`, with this name and descriptor (JVMS 5.4.3.2); the class is 0 for
     /// `java/lang/System`.
-    pub fn find_field(
-        &self,
-        file: usize,
-        class: u16,
-        name: u16,
-        descriptor: u16,
-    ) -> Option<Found>
+    pub fn find_field(&self, file: usize, class: u16, name: u16, descriptor: u16) -> Option<Found>
         requires { file < length self.now }
         ensures { IsFound (file_text self.now file name) result
             (look_up (scope_of self.now).fields class (file_text self.now file name) (file_text self.now file descriptor)) }
@@ -147,13 +141,7 @@ impl<'a> Scope<'a> {
     }
 
     /// The method of a class, or but for `<init>` of `Object`, with this name and descriptor (JVMS 5.4.3.3).
-    pub fn find_method(
-        &self,
-        file: usize,
-        class: u16,
-        name: u16,
-        descriptor: u16,
-    ) -> Option<Found>
+    pub fn find_method(&self, file: usize, class: u16, name: u16, descriptor: u16) -> Option<Found>
         requires { file < length self.now }
         ensures { IsFound (file_text self.now file name) result
             (look_up (scope_of self.now).methods class (file_text self.now file name) (file_text self.now file descriptor)) }

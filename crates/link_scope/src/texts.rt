@@ -45,11 +45,7 @@ impl<'a> Model for Texts<'a> {
 }
 
 /// What a text says, among these classes.
-fn read_meaning(
-    alloc: Global,
-    classes: &ClassNumbers,
-    text: &[u8],
-) -> Result<Meaning, AllocError>
+fn read_meaning(alloc: Global, classes: &ClassNumbers, text: &[u8]) -> Result<Meaning, AllocError>
     ensures { IfOk result (IsMeaning classes.now text.now) }
 {
     let signature = method_signature(alloc, classes, text)?;

@@ -1,4 +1,4 @@
-use Rattle.std.proofs.Common.{◌≡◌, ℕ, Bool, ◌+◌, List, [], ◌∷◌, ◌++◌, Option, take, is_some, sym, ◌∙◌, ap, subst, refl, arith}
+use Rattle.std.proofs.Common.{◌≡◌, ℕ, ◌+◌, List, ◌++◌, Option, take, is_some, sym, ◌∙◌, ap, subst, refl, arith}
 use Rattle.jvm_types.specs.ClassNames.{text_at, file_class}
 use Rattle.jvm_types.specs.Members.{Entry, declared_from, entries_from, member_in}
 use Rattle.jvm_types.specs.LinkFaults.{is_repeated}
@@ -36,7 +36,7 @@ had c entries shows below =
     let name : List ℕ = text_at constants c.member-item.result.name in
     let descriptor : List ℕ = text_at constants c.member-item.result.descriptor in
     let here : c.in_ok-repeats.repeats ≡ is_some (member_in (entries ++ so_far c) (file_class c.args.file) name descriptor)
-        = rw (pool c) at c.in_ok-repeats.ensures.had (entries ++ so_far c) (c.loop-member.invariant.added entries shows) in
+    = rw (pool c) at c.in_ok-repeats.ensures.had (entries ++ so_far c) (c.loop-member.invariant.added entries shows) in
     here ∙ ap (λ (o : Option Entry). is_some o) (past_below (file_class c.args.file) name descriptor entries (so_far c) below)
     ∙ some_member (target_of c.args.sort) c.args.file constants name descriptor c.args.first 0 (take c.loop-member.member-index c.as_slice-member-items.result.now)
 

@@ -1,4 +1,3 @@
-use Rattle.std.proofs.Common.{◌∙◌}
 use Rattle.link_scope.proofs.TableLaws.{looked_up}
 use Rattle.link_scope.proofs.scope.look_up.Goals as goal
 

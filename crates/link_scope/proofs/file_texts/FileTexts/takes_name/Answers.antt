@@ -7,5 +7,5 @@ use Rattle.link_scope.proofs.file_texts.FileTexts.takes_name.Goals as goal
 pub returns-in-Some : goal.returns-in-Some
 returns-in-Some c = rw (← c.self.view_is, ← c.in-Some.ensures.value)
     (c.is_before.ensures
-        ∙ ap (λ (o : Option ℕ). is_before o c.args.file) (c.named_class.ensures ∙ (λ i. named_class (c.self.invariant.names i) (c.class_name.ensures i)))
-        ∙ taken (class_names c.self.inside.files.now) (class_name c.in-Some.class.now) c.args.file)
+    ∙ ap (λ (o : Option ℕ). is_before o c.args.file) (c.named_class.ensures ∙ (λ i. named_class (c.self.invariant.names i) (c.class_name.ensures i)))
+    ∙ taken (class_names c.self.inside.files.now) (class_name c.in-Some.class.now) c.args.file)

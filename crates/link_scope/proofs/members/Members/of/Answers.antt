@@ -1,9 +1,9 @@
-use Rattle.std.proofs.Common.{◌≡◌, ℕ, Bool, ◌<◌, ◌^◌, ◌+◌, List, [], ◌++◌, length, take, get_or, slice_get, Some, sym, ap, ◌∙◌, subst, append-nil, refl, arith}
+use Rattle.std.proofs.Common.{◌≡◌, Bool, ◌<◌, ◌^◌, ◌+◌, List, [], length, take, get_or, sym, ap, ◌∙◌, subst, append-nil, refl, arith}
 use Rattle.std.proofs.lemmas.Option.{slice_get_read}
 use Rattle.jvm_types.specs.ClassGrammar.{IsClass}
 use Rattle.jvm_types.specs.Members.{Entry, declared_by}
 use Rattle.jvm_types.specs.declared.class_file.ClassFile.{ClassFile}
-use Rattle.link_scope.specs.MemberTables.{members_of, built_in, entries_of, class_entries, Shows, in_flag_rows, repeats_of}
+use Rattle.link_scope.specs.MemberTables.{members_of, built_in, entries_of, Shows, in_flag_rows}
 use Rattle.link_scope.specs.declared.table.Key.{Key}
 use Rattle.link_scope.specs.declared.scope.Found.{Found}
 use Rattle.link_scope.proofs.ListLaws.{length_push, all_at}

@@ -1,6 +1,6 @@
-use Rattle.std.proofs.Common.{◌≡◌, None, sym, ◌∙◌, ap, ℕ, List, Option}
+use Rattle.std.proofs.Common.{◌≡◌, None, ◌∙◌, ap}
 use Rattle.link_scope.proofs.TextLaws.{inserted, is_given, keeps, are_texts, unchanged, Gives}
-use Rattle.link_scope.specs.TextNumbers.{by_bytes, number_of, Numbered, AreTexts}
+use Rattle.link_scope.specs.TextNumbers.{by_bytes, number_of, Numbered}
 use Rattle.link_scope.proofs.texts.Texts.give.Goals as goal
 use Rattle.link_scope.proofs.texts.Texts.give.Goals.{In_ok-insert}
 
