@@ -10,3 +10,6 @@ mod table;
 mod texts;
 
 pub use scope::{Found, Scope};
+
+#[cfg(test)]
+mod tests;
