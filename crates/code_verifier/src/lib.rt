@@ -4,6 +4,9 @@
 mod classes;
 mod error;
 mod frame;
+mod member_rows;
+mod op_row;
+mod op_rows;
 mod stack;
 mod type_lists;
 mod types;
