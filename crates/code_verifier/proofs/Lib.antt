@@ -1,3 +1,4 @@
 pub mod TypeLists
 pub mod Tops
 pub mod OpRows
+pub mod PlaceLaws

@@ -7,6 +7,7 @@ mod frame;
 mod member_rows;
 mod op_row;
 mod op_rows;
+mod places;
 mod stack;
 mod type_lists;
 mod types;
