@@ -2,3 +2,5 @@ pub mod TypeLists
 pub mod Tops
 pub mod OpRows
 pub mod PlaceLaws
+pub mod ClassOfNew
+pub mod TakenLaws

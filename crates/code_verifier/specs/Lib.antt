@@ -1,3 +1,4 @@
 pub mod Frames
 pub mod OpRows
 pub mod Placing
+pub mod Faults

@@ -6,6 +6,7 @@ mod error;
 mod frame;
 mod member_rows;
 mod op_row;
+mod operands;
 mod op_rows;
 mod places;
 mod stack;
