@@ -1,7 +1,7 @@
 -- Numbers of instructions by their pcs.
 use Rattle.std.proofs.Common.{◌≡◌, ◌≢◌, ℕ, zero, suc, ◌+◌, ◌-◌, ◌<◌, ◌≤◌, ◌⊎◌, inl, inr, Bool, true, false, List, [], ◌∷◌, length, take, drop, replicate, Option, Some, None, refl, sym, ap, ◌∙◌, subst, arith}
 use Rattle.std.specs.Prelude.{◌==◌, ◌||◌, not, if◌then◌else◌, slice_get, slice_set, slice_index_or}
-use Rattle.std.specs.Option.{option_map}
+use Rattle.std.specs.Option.{option_map, is_some}
 use Rattle.std.specs.List.{list_any, AllByRecursion}
 use Rattle.std.proofs.lemmas.Bool.{cases_eq}
 use Rattle.std.proofs.lemmas.Bool.Decides.{nat_tests}
@@ -73,3 +73,12 @@ none_known n pc numbers e = rw e (all_none n pc)
     all_none zero pc = refl
     all_none (suc n) zero = refl
     all_none (suc n) (suc pc) = all_none n pc
+
+pub place_some : (code : List Insn) (pc : ℕ) → is_some (place_of code pc) ≡ list_any (λ other. other.pc == pc) code
+place_some [] pc = refl
+place_some (x ∷ xs) pc = by_test (x.pc == pc) (place_of xs pc) (place_some xs pc)
+  where
+    by_test : (t : Bool) (o : Option ℕ) → is_some o ≡ list_any (λ other. other.pc == pc) xs → is_some (if t then Some 0 else option_map suc o) ≡ (t || list_any (λ other. other.pc == pc) xs)
+    by_test true o h = refl
+    by_test false None h = h
+    by_test false (Some i) h = h

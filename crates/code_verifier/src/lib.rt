@@ -9,8 +9,10 @@ mod op_row;
 mod operands;
 mod op_rows;
 mod places;
+mod rules;
 mod stack;
 mod type_lists;
 mod types;
+mod ways;
 
 pub use error::VerifyError;
