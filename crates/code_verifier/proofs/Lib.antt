@@ -4,3 +4,4 @@ pub mod OpRows
 pub mod PlaceLaws
 pub mod ClassOfNew
 pub mod TakenLaws
+pub mod StartedLaws

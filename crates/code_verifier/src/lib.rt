@@ -1,6 +1,7 @@
 //! Verifies methods by inferred types (JVMS 4.10.2).
 #![tactic(auto)]
 
+mod after;
 mod classes;
 mod error;
 mod frame;
