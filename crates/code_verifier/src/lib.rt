@@ -3,6 +3,7 @@
 
 mod after;
 mod classes;
+mod entry;
 mod error;
 mod frame;
 mod member_rows;
