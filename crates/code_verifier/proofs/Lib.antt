@@ -5,3 +5,4 @@ pub mod PlaceLaws
 pub mod ClassOfNew
 pub mod TakenLaws
 pub mod StartedLaws
+pub mod WaitingLaws

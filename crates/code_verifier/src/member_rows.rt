@@ -40,7 +40,11 @@ pub fn is_init(method: &MethodInfo) -> bool
 fn asked_reversed(alloc: Global, kinds: &[Kind]) -> Result<Vec<Asked>, AllocError>
     ensures { IfOk result (λ v. v.items ≡ map asked_of (reverse kinds.now)) }
 {
-    kinds.iter().rev().map(|kind| asked_of(*kind)).collect(alloc)
+    kinds
+        .iter()
+        .rev()
+        .map(|kind| asked_of(*kind))
+        .collect(alloc)
 }
 
 /// What is asked of the arguments, of which the last is on top.

@@ -39,7 +39,9 @@ pub fn branches_to(alloc: Global, op: &Op) -> Result<Vec<u32>, AllocError>
         | Op::Goto(to)
         | Op::GotoW(to) => Vec::from_slice(alloc, &[*to]),
         Op::Tableswitch {
-            otherwise, targets, ..
+            otherwise,
+            targets,
+            ..
         } => switch_ways(alloc, *otherwise, targets.as_slice()),
         Op::Lookupswitch { otherwise, cases } => lookup_ways(alloc, *otherwise, cases.as_slice()),
         _ => Ok(Vec::new(alloc)),
