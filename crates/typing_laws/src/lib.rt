@@ -1,2 +1,4 @@
 //! Laws of verification by inferred types (JVMS 4.10.2), each the contract of a function that does nothing.
 #![tactic(auto)]
+
+pub mod visit_laws;

@@ -1,0 +1,4 @@
+pub mod OneTyping
+pub mod VisitsEnd
+mod VisitsEndRanks
+mod VisitsEndAnswer

@@ -1,0 +1,24 @@
+-- Laws of the visits of a method (JVMS 4.10.2): the answer is one, and there is one. The order of visits is fixed,
+-- so that a typing and a refusal are known by the method alone.
+use Rattle.std.specs.Prelude.{◌≡◌, ℕ, ◌⊎◌, List, Option}
+use Rattle.jvm_types.specs.Types.{Shape}
+use Rattle.jvm_types.specs.Verifying.{HasTyping, IsRefused, IsLaidOut}
+use Rattle.jvm_types.specs.declared.program.MethodInfo.{MethodInfo}
+use Rattle.jvm_types.specs.declared.program.Program.{Program}
+use Rattle.jvm_types.specs.declared.refusal.VRule.{VRule}
+
+-- a method has at most one typing
+abbrev pub OneTyping : Type 0
+OneTyping = (p : Program) (m : MethodInfo) (frames others : List (Option Shape)) → HasTyping p m frames → HasTyping p m others → frames ≡ others
+
+-- no method that has a typing is refused
+abbrev pub TypedNotRefused : Type 0
+TypedNotRefused = (p : Program) (m : MethodInfo) (frames : List (Option Shape)) (rule : VRule) (pc : ℕ) → HasTyping p m frames → IsRefused p m rule pc → ⊥
+
+-- a method is refused by at most one rule, at one pc
+abbrev pub OneRefusal : Type 0
+OneRefusal = (p : Program) (m : MethodInfo) (rule other : VRule) (pc at : ℕ) → IsRefused p m rule pc → IsRefused p m other at → (rule ≡ other) × (pc ≡ at)
+
+-- the visits end: a method as linking leaves it has a typing, or it is refused
+abbrev pub TypedOrRefused : Type 0
+TypedOrRefused = (p : Program) (m : MethodInfo) → IsLaidOut m → ((frames : List (Option Shape)) × HasTyping p m frames) ⊎ ((rule : VRule) × (pc : ℕ) × IsRefused p m rule pc)

@@ -1,0 +1,23 @@
+//! Laws of the visits of a method, for all programs: each function only states one.
+
+ghost use Rattle.typing_laws.specs.VisitLaws.{OneRefusal, OneTyping, TypedNotRefused, TypedOrRefused};
+
+/// A method has at most one typing.
+pub fn one_typing()
+    ensures { OneTyping }
+{}
+
+/// No method that has a typing is refused.
+pub fn typed_is_not_refused()
+    ensures { TypedNotRefused }
+{}
+
+/// A method is refused by at most one rule, at one pc.
+pub fn one_refusal()
+    ensures { OneRefusal }
+{}
+
+/// A method whose instructions follow one another, each with a target, has a typing or is refused.
+pub fn typed_or_refused()
+    ensures { TypedOrRefused }
+{}
