@@ -1,9 +1,8 @@
 //! The rules at one instruction (JVMS 4.10.2).
 
-ghost use Rattle.std.specs.Prelude.{◌≡◌, ◌==◌, nat_le};
+ghost use Rattle.std.specs.Prelude.{◌≡◌, ◌==◌};
 ghost use Rattle.std.specs.Option.{option_map};
 ghost use Rattle.std.specs.List.{list_any};
-ghost use Rattle.jvm_types.specs.CodeTable.{branches_to};
 ghost use Rattle.jvm_types.specs.Verifying.{takes_too_many, gives_too_many, names_no_local, lacks_locals, covers, is_return, misuses_object, mistypes, returns_wrongly, falls_off, broken_before, broken_after};
 ghost use Rattle.code_verifier.specs.Placing.{Ascend, ArePlaces};
 ghost use Rattle.code_verifier.specs.OpRows.{read_is, write_is, row_is};
@@ -12,7 +11,7 @@ use crate::frame::Frame;
 use crate::op_row::{Asked, Left, StoredRow};
 use crate::operands::{Fault, some_operand};
 use crate::places::Places;
-use crate::ways::falls_through;
+use crate::ways::{falls_through, goes_back};
 use jvm_types::{Insn, Kind, MethodInfo, Op, Row, VRule};
 
 /// V1: the stack has too few values.
@@ -70,12 +69,6 @@ fn is_covered(pc: u32, rows: &[Row]) -> bool
     rows.iter().any(|row| covers(pc, row))
 }
 
-fn goes_back(pc: u32, branches: &[u32]) -> bool
-    ensures { result ≡ list_any (λ to. nat_le to pc) branches.now }
-{
-    branches.iter().any(|to| *to <= pc)
-}
-
 fn is_return(op: &Op) -> bool
     ensures { result ≡ is_return op.now }
 {
@@ -87,17 +80,15 @@ fn misuses_object(
     m: &MethodInfo,
     places: &Places,
     insn: &Insn,
-    branches: &[u32],
     row: &StoredRow,
     f: &Frame,
 ) -> bool
     requires places { ArePlaces m.now.code places.now }
     requires ascend { Ascend 0 m.now.code }
-    requires branches { branches.now ≡ branches_to insn.now.op }
     ensures { result ≡ misuses_object m.now insn.now (row_is row.now) f.now }
 {
     some_operand(m, places, Fault::Misuse, row, f)
-        || (goes_back(insn.pc, branches) && f.has_uninitialised())
+        || (goes_back(insn.pc, &insn.op) && f.has_uninitialised())
         || (is_covered(insn.pc, m.rows.as_slice()) && f.has_new_local())
         || (is_return(&insn.op) && !f.is_ready())
 }
@@ -144,13 +135,11 @@ pub fn broken_before(
     m: &MethodInfo,
     places: &Places,
     insn: &Insn,
-    branches: &[u32],
     row: &StoredRow,
     f: &Frame,
 ) -> Option<VRule>
     requires places { ArePlaces m.now.code places.now }
     requires ascend { Ascend 0 m.now.code }
-    requires branches { branches.now ≡ branches_to insn.now.op }
     ensures { result ≡ broken_before m.now insn.now (row_is row.now) f.now }
 {
     if takes_too_many(row, f) {
@@ -159,7 +148,7 @@ pub fn broken_before(
         Some(VRule::V2)
     } else if lacks_locals(m, row, f) {
         Some(VRule::V3)
-    } else if misuses_object(m, places, insn, branches, row, f) {
+    } else if misuses_object(m, places, insn, row, f) {
         Some(VRule::V7)
     } else if mistypes(m, places, row, f) {
         Some(VRule::V4)
