@@ -6,3 +6,5 @@ pub mod ClassOfNew
 pub mod TakenLaws
 pub mod StartedLaws
 pub mod WaitingLaws
+pub mod BroughtLaws
+pub mod ClashLaws

@@ -3,3 +3,4 @@ pub mod OpRows
 pub mod Placing
 pub mod Faults
 pub mod Waiting
+pub mod Visiting
