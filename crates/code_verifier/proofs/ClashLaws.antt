@@ -13,7 +13,7 @@ use Rattle.jvm_types.specs.declared.typing.VType.{VType}
 use Rattle.jvm_types.specs.declared.program.MethodInfo.{MethodInfo}
 use Rattle.code_verifier.specs.Placing.{place_of, Ascend}
 use Rattle.code_verifier.specs.Waiting.{Fits}
-use Rattle.code_verifier.specs.Visiting.{HasLocals, AreLevel, lesser}
+use Rattle.code_verifier.specs.Visiting.{HasLocals, AreLevel, lesser, clash_place}
 use Rattle.code_verifier.proofs.PlaceLaws.{same_number, other_number}
 use Rattle.code_verifier.proofs.BroughtLaws.{meets_length}
 
@@ -91,10 +91,6 @@ right_none (Some x) None e = refl
 right_none (Some x) (Some y) e = absurd (cc)
 
 -- ---- of one edge
-
-abbrev pub clash_place : Option ℕ → ℕ → ℕ → List Node → Option ℕ
-clash_place None to depth nodes = None
-clash_place (Some i) to depth nodes = if has_other_depth (node_at nodes i).frame depth then Some to else None
 
 one_on : (o : Option ℕ) (to depth : ℕ) (node : Node) (nodes : List Node) → clash_place o to depth nodes ≡ clash_place (option_map suc o) to depth (node ∷ nodes)
 one_on None to depth node nodes = refl

@@ -1,9 +1,9 @@
 -- What the visits keep of the nodes of a method, and what one of them answers.
-use Rattle.std.specs.Prelude.{◌≡◌, ℕ, min, List, length, Option, Some, None, Result, Ok, Err}
+use Rattle.std.specs.Prelude.{◌≡◌, ℕ, min, if◌then◌else◌, List, length, Option, Some, None, Result, Ok, Err}
 use Rattle.std.specs.Option.{IfSome}
 use Rattle.std.specs.List.{AllByRecursion}
 use Rattle.jvm_types.specs.Types.{Shape, entry_shape}
-use Rattle.jvm_types.specs.Verifying.{Node}
+use Rattle.jvm_types.specs.Verifying.{Node, node_at, has_other_depth}
 use Rattle.jvm_types.specs.declared.program.MethodInfo.{MethodInfo}
 use Rattle.jvm_types.specs.declared.refusal.VRule.{VRule}
 use Rattle.code_verifier.specs.declared.error.VerifyError.{VerifyError}
@@ -23,6 +23,11 @@ abbrev pub lesser : Option ℕ → Option ℕ → Option ℕ
 lesser None other = other
 lesser (Some pc) None = Some pc
 lesser (Some pc) (Some at) = Some (min pc at)
+
+-- the pc that an edge leads to, where the instruction of this number is there and has a frame of another depth
+abbrev pub clash_place : Option ℕ → ℕ → ℕ → List Node → Option ℕ
+clash_place None to depth nodes = None
+clash_place (Some i) to depth nodes = if has_other_depth (node_at nodes i).frame depth then Some to else None
 
 -- what a visit, or a part of one, leaves of the nodes; or the rule that it breaks; or memory ran out
 abbrev pub Leaves : {A : Type 0} → Result (List Node) (VRule × ℕ) → List Node → Result A VerifyError → Type 0

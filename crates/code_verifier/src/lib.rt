@@ -3,6 +3,7 @@
 
 mod after;
 mod classes;
+mod edges;
 mod entry;
 mod error;
 mod frame;
