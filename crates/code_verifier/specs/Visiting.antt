@@ -1,9 +1,10 @@
 -- What the visits keep of the nodes of a method, and what one of them answers.
-use Rattle.std.specs.Prelude.{◌≡◌, ℕ, min, if◌then◌else◌, List, length, Option, Some, None, Result, Ok, Err}
+use Rattle.std.specs.Prelude.{◌≡◌, ℕ, min, if◌then◌else◌, List, [], ◌∷◌, length, Option, Some, None, Result, Ok, Err}
 use Rattle.std.specs.Option.{IfSome}
 use Rattle.std.specs.List.{AllByRecursion}
 use Rattle.jvm_types.specs.Types.{Shape, entry_shape}
-use Rattle.jvm_types.specs.Verifying.{Node, node_at, has_other_depth}
+use Rattle.jvm_types.specs.Verifying.{Node, node_at, has_other_depth, brought, clash, shape_at_handler, catch_fault, unless_caught}
+use Rattle.jvm_types.specs.declared.program.Row.{Row}
 use Rattle.jvm_types.specs.declared.program.MethodInfo.{MethodInfo}
 use Rattle.jvm_types.specs.declared.refusal.VRule.{VRule}
 use Rattle.code_verifier.specs.declared.error.VerifyError.{VerifyError}
@@ -34,3 +35,7 @@ abbrev pub Leaves : {A : Type 0} → Result (List Node) (VRule × ℕ) → List 
 Leaves visit nodes (Ok done) = visit ≡ Ok nodes
 Leaves visit nodes (Err Memory) = Unit {0}
 Leaves visit nodes (Err (Refused rule pc)) = visit ≡ Err (rule, pc)
+
+-- the edge to the handler of one covering row
+abbrev pub caught : MethodInfo → ℕ → Shape → Row → List Node → Result (List Node) (VRule × ℕ)
+caught m pc f handler nodes = unless_caught (catch_fault m pc handler) (clash m.code (handler.handler ∷ []) 1 nodes) (Ok (brought m.code handler.handler (shape_at_handler handler f) nodes))

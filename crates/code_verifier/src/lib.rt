@@ -7,6 +7,7 @@ mod edges;
 mod entry;
 mod error;
 mod frame;
+mod handlers;
 mod member_rows;
 mod nodes;
 mod op_row;
