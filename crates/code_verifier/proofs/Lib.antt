@@ -8,3 +8,4 @@ pub mod StartedLaws
 pub mod WaitingLaws
 pub mod BroughtLaws
 pub mod ClashLaws
+pub mod LaidOut

@@ -4,3 +4,4 @@ pub mod Placing
 pub mod Faults
 pub mod Waiting
 pub mod Visiting
+pub mod Settling
