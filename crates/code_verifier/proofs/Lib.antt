@@ -9,3 +9,4 @@ pub mod WaitingLaws
 pub mod BroughtLaws
 pub mod ClashLaws
 pub mod LaidOut
+pub mod SettlingLaws

@@ -18,6 +18,7 @@ mod rules;
 mod stack;
 mod type_lists;
 mod types;
+mod verifying;
 mod visit;
 mod ways;
 
