@@ -10,3 +10,4 @@ pub mod BroughtLaws
 pub mod ClashLaws
 pub mod LaidOut
 pub mod SettlingLaws
+pub mod OneAnswer

@@ -23,3 +23,4 @@ mod visit;
 mod ways;
 
 pub use error::VerifyError;
+pub use verifying::verify;

@@ -7,7 +7,8 @@ ghost use Rattle.jvm_types.specs.declared.typing.Typing.{Typing as MethodTyping}
 ghost use Rattle.typing_laws.proofs.VisitsEnd.{IsKept};
 ghost use Rattle.code_verifier.specs.Placing.{Ascend, ArePlaces};
 ghost use Rattle.code_verifier.specs.Visiting.{AreLevel};
-ghost use Rattle.code_verifier.specs.Settling.{Settle, IsBreak, IsRefusal, IsMemory};
+ghost use Rattle.code_verifier.specs.Settling.{Settle, IsBreak, IsRefusal};
+ghost use Rattle.code_verifier.specs.declared.error.VerifyError.TheVariants.{Memory};
 
 use crate::entry::entry_frame;
 use crate::error::VerifyError;
@@ -52,6 +53,7 @@ fn settle(
     Ok(())
 }
 
+/// Verifies a method whose instructions follow one another, each with a target.
 fn verify_method(alloc: Global, p: &Program, m: &MethodInfo) -> Result<Typing, VerifyError>
     requires { IsLaidOut m.now }
     ensures ok { IfOk result (IsTypingOf p.now m.now) }
@@ -61,4 +63,21 @@ fn verify_method(alloc: Global, p: &Program, m: &MethodInfo) -> Result<Typing, V
     let mut nodes = first_nodes(alloc, m)?;
     settle(alloc, p, m, &places, &mut nodes)?;
     Ok(nodes.into_typing(alloc)?)
+}
+
+/// The typing of the method of this number (JVMS 4.10.2): types are inferred, and the instruction that is visited
+/// next is always the waiting one of least pc. Where the method has no typing, the rule and the pc of the first
+/// visit that breaks one.
+pub fn verify(alloc: Global, p: &Program, method: u32) -> Result<Typing, VerifyError>
+    requires program { IsProgram p.now }
+    requires method { method < length p.now.methods }
+    ensures ok { IsSomeAnd (slice_get p.now.methods method) (λ m. IfOk result (λ t. IsTypingOf p.now m t)) }
+    ensures only { IsSomeAnd (slice_get p.now.methods method) (λ m. (t : MethodTyping) → IsTypingOf p.now m t → IfOk result (λ found. found ≡ t)) }
+    ensures typed { IsSomeAnd (slice_get p.now.methods method) (λ m. (t : MethodTyping) → IsTypingOf p.now m t → IfErr result (λ e. e ≡ Memory)) }
+    ensures refused { IsSomeAnd (slice_get p.now.methods method) (λ m. IfErr result (λ e. IsRefusal p.now m e)) }
+{
+    match p.methods.get(method as usize) {
+        Some(m) => verify_method(alloc, p, m),
+        None => unreachable!(),
+    }
 }
