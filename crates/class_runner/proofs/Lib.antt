@@ -1,1 +1,2 @@
 pub mod ByTicket
+pub mod FilesRead

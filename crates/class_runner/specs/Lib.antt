@@ -1,3 +1,4 @@
 pub mod Report
 pub mod Refusal
 pub mod Loading
+pub mod Stages

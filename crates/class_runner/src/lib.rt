@@ -2,6 +2,8 @@
 #![tactic(auto)]
 
 pub mod loading;
+mod places;
+mod reading;
 pub mod texts;
 
 pub use loading::{FileError, first_ops, load_program};

@@ -1,0 +1,31 @@
+-- The stages of loading: what each of them answers, and how far its loops are.
+use Rattle.std.specs.Prelude.{◌≡◌, ℕ, ◌+◌, List, [], ◌∷◌, ◌++◌, length, drop, Option, Some, None}
+use Rattle.std.specs.List.{AllZip}
+use Rattle.std.specs.Option.{option_map}
+use Rattle.jvm_types.specs.ClassGrammar.{Spells}
+use Rattle.jvm_types.specs.ReadingClass.{class_fault}
+use Rattle.jvm_types.specs.LinkFaults.{in_file}
+use Rattle.jvm_types.specs.declared.class_file.ClassFile.{ClassFile}
+use Rattle.jvm_types.specs.declared.refusal.Rule.{Rule}
+use Rattle.jvm_types.specs.declared.refusal.Rule.TheVariants as rules
+use Rattle.jvm_types.specs.declared.refusal.Place.{Place}
+use Rattle.class_runner.specs.Loading.{read_fault}
+use Rattle.class_runner.specs.declared.loading.FileError.{FileError}
+use Rattle.class_runner.specs.declared.loading.FileError.TheVariants as errors
+
+-- ---- C: reading
+
+-- the fault of one file
+abbrev pub file_fault : ℕ → List ℕ → Option (Rule × Place)
+file_fault file bytes = option_map (λ f. (rules.C f.0, in_file file f.1)) (class_fault bytes)
+
+-- memory ran out, or this is the fault
+abbrev pub IsUnread : Option (Rule × Place) → FileError → Type 0
+IsUnread fault errors.Memory = Unit {0}
+IsUnread fault (errors.Refused (rules.C rule) place) = fault ≡ Some (rules.C rule, place)
+IsUnread fault e = ⊥
+
+-- the files before this one spell these classes
+pub record AreReadSoFar (files : List (List ℕ)) (file : ℕ) (classes : List ClassFile) : Type 0 where
+  pub whole : (rest : List ClassFile) → AllZip Spells (drop file files) rest → AllZip Spells files (classes ++ rest)
+  pub fault : read_fault file (drop file files) ≡ read_fault 0 files
