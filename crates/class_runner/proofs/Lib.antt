@@ -1,2 +1,3 @@
 pub mod ByTicket
 pub mod FilesRead
+pub mod MethodsDecoded

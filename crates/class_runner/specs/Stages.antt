@@ -2,14 +2,20 @@
 use Rattle.std.specs.Prelude.{◌≡◌, ℕ, ◌+◌, List, [], ◌∷◌, ◌++◌, length, drop, Option, Some, None}
 use Rattle.std.specs.List.{AllZip}
 use Rattle.std.specs.Option.{option_map}
-use Rattle.jvm_types.specs.ClassGrammar.{Spells}
 use Rattle.jvm_types.specs.ReadingClass.{class_fault}
-use Rattle.jvm_types.specs.LinkFaults.{in_file}
+use Rattle.jvm_types.specs.ClassGrammar.{Spells}
+use Rattle.jvm_types.specs.CodeFault.{code_fault}
+use Rattle.jvm_types.specs.Members.{Declared, declared_from}
+use Rattle.jvm_types.specs.Linked.{code_of}
+use Rattle.jvm_types.specs.Linkable.{IsDecoded}
+use Rattle.jvm_types.specs.LinkFaults.{in_file, in_method}
+use Rattle.jvm_types.specs.declared.class_file.Code.{Code}
 use Rattle.jvm_types.specs.declared.class_file.ClassFile.{ClassFile}
+use Rattle.jvm_types.specs.declared.code.Insn.{Insn}
 use Rattle.jvm_types.specs.declared.refusal.Rule.{Rule}
 use Rattle.jvm_types.specs.declared.refusal.Rule.TheVariants as rules
 use Rattle.jvm_types.specs.declared.refusal.Place.{Place}
-use Rattle.class_runner.specs.Loading.{read_fault}
+use Rattle.class_runner.specs.Loading.{read_fault, decode_fault}
 use Rattle.class_runner.specs.declared.loading.FileError.{FileError}
 use Rattle.class_runner.specs.declared.loading.FileError.TheVariants as errors
 
@@ -29,3 +35,24 @@ IsUnread fault e = ⊥
 pub record AreReadSoFar (files : List (List ℕ)) (file : ℕ) (classes : List ClassFile) : Type 0 where
   pub whole : (rest : List ClassFile) → AllZip Spells (drop file files) rest → AllZip Spells files (classes ++ rest)
   pub fault : read_fault file (drop file files) ≡ read_fault 0 files
+
+-- ---- K: decoding
+
+-- the methods of one class
+abbrev pub own_methods : ℕ → ClassFile → List Declared
+own_methods file c = declared_from file c.constants 0 c.methods
+
+-- the fault of one method's code
+abbrev pub method_fault : (file place : ℕ) → Code → Option (Rule × Place)
+method_fault file place code = option_map (λ f. (rules.K f.0, in_method file place f.1)) (code_fault code.bytes code.rows)
+
+-- memory ran out, or this is the fault
+abbrev pub IsUndecoded : Option (Rule × Place) → FileError → Type 0
+IsUndecoded fault errors.Memory = Unit {0}
+IsUndecoded fault (errors.Refused (rules.K rule) place) = fault ≡ Some (rules.K rule, place)
+IsUndecoded fault e = ⊥
+
+-- of all methods those behind which these are left have these instructions
+pub record AreDecodedSoFar (left all : List Declared) (code : List (List Insn)) : Type 0 where
+  pub whole : (rest : List (List Insn)) → AllZip IsDecoded left rest → AllZip IsDecoded all (code ++ rest)
+  pub fault : decode_fault left ≡ decode_fault all

@@ -1,6 +1,7 @@
 //! Loads the files of a program, and writes what a run came to.
 #![tactic(auto)]
 
+mod decoding;
 pub mod loading;
 mod places;
 mod reading;
