@@ -1,3 +1,4 @@
 pub mod ByTicket
 pub mod FilesRead
 pub mod MethodsDecoded
+pub mod MethodsTyped

@@ -9,13 +9,19 @@ use Rattle.jvm_types.specs.Members.{Declared, declared_from}
 use Rattle.jvm_types.specs.Linked.{code_of}
 use Rattle.jvm_types.specs.Linkable.{IsDecoded}
 use Rattle.jvm_types.specs.LinkFaults.{in_file, in_method}
+use Rattle.jvm_types.specs.Verifying.{IsRefused}
+use Rattle.jvm_types.specs.CheckedProgram.{AreTypings}
 use Rattle.jvm_types.specs.declared.class_file.Code.{Code}
 use Rattle.jvm_types.specs.declared.class_file.ClassFile.{ClassFile}
 use Rattle.jvm_types.specs.declared.code.Insn.{Insn}
+use Rattle.jvm_types.specs.declared.program.MethodInfo.{MethodInfo}
+use Rattle.jvm_types.specs.declared.program.Program.{Program}
+use Rattle.jvm_types.specs.declared.typing.Typing.{Typing}
 use Rattle.jvm_types.specs.declared.refusal.Rule.{Rule}
 use Rattle.jvm_types.specs.declared.refusal.Rule.TheVariants as rules
+use Rattle.jvm_types.specs.declared.refusal.VRule.{VRule}
 use Rattle.jvm_types.specs.declared.refusal.Place.{Place}
-use Rattle.class_runner.specs.Loading.{read_fault, decode_fault}
+use Rattle.class_runner.specs.Loading.{read_fault, decode_fault, IsFirstUntyped}
 use Rattle.class_runner.specs.declared.loading.FileError.{FileError}
 use Rattle.class_runner.specs.declared.loading.FileError.TheVariants as errors
 
@@ -56,3 +62,23 @@ IsUndecoded fault e = ⊥
 pub record AreDecodedSoFar (left all : List Declared) (code : List (List Insn)) : Type 0 where
   pub whole : (rest : List (List Insn)) → AllZip IsDecoded left rest → AllZip IsDecoded all (code ++ rest)
   pub fault : decode_fault left ≡ decode_fault all
+
+-- ---- V: verifying
+
+-- memory ran out, or the method of this file and number has no typing
+abbrev pub IsUntypedAt : Program → Option MethodInfo → (file number : ℕ) → FileError → Type 0
+IsUntypedAt p m file number errors.Memory = Unit {0}
+IsUntypedAt p (Some m) file number (errors.Refused (rules.V rule) place) = IsRefused p m rule place.at × (place ≡ in_method file number place.at)
+IsUntypedAt p m file number e = ⊥
+
+-- memory ran out, or this is the first of these methods that has no typing
+abbrev pub IsUnverified : Program → List Declared → List MethodInfo → FileError → Type 0
+IsUnverified p ds ms errors.Memory = Unit {0}
+IsUnverified p ds ms (errors.Refused (rules.V rule) place) = IsFirstUntyped p ds ms rule place
+IsUnverified p ds ms e = ⊥
+
+-- of all methods of a program those behind which these are left have these typings
+pub record AreTypedSoFar (p : Program) (left all : List Declared) (typings : List Typing) : Type 0 where
+  pub whole : (rest : List Typing) → AreTypings p (drop (length typings) p.methods) rest → AreTypings p p.methods (typings ++ rest)
+  pub untyped : (rule : VRule) (place : Place) → IsFirstUntyped p left (drop (length typings) p.methods) rule place → IsFirstUntyped p all p.methods rule place
+  pub long : length typings + length left ≡ length p.methods

@@ -6,6 +6,7 @@ pub mod loading;
 mod places;
 mod reading;
 pub mod texts;
+mod verifying;
 
 pub use loading::{FileError, first_ops, load_program};
 pub use texts::{refusal, report};
