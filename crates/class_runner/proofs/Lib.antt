@@ -2,3 +2,4 @@ pub mod ByTicket
 pub mod FilesRead
 pub mod MethodsDecoded
 pub mod MethodsTyped
+pub mod StackTops

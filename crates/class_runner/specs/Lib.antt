@@ -2,3 +2,4 @@ pub mod Report
 pub mod Refusal
 pub mod Loading
 pub mod Stages
+pub mod Operands

@@ -3,6 +3,7 @@
 
 mod decoding;
 pub mod loading;
+mod operands;
 mod places;
 mod reading;
 pub mod texts;
