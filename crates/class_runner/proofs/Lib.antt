@@ -3,3 +3,4 @@ pub mod FilesRead
 pub mod MethodsDecoded
 pub mod MethodsTyped
 pub mod StackTops
+pub mod FirstOps

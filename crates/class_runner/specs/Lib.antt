@@ -3,3 +3,4 @@ pub mod Refusal
 pub mod Loading
 pub mod Stages
 pub mod Operands
+pub mod FirstTests

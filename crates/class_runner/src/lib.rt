@@ -2,6 +2,7 @@
 #![tactic(auto)]
 
 mod decoding;
+mod first_form;
 pub mod loading;
 mod operands;
 mod places;
