@@ -1,5 +1,5 @@
 -- The instructions of a method as those of a program of the first form.
-use Rattle.std.proofs.Common.{◌≡◌, ◌≢◌, ℕ, zero, suc, ◌+◌, ◌<◌, ◌≤◌, Bool, true, false, Decides, List, [], ◌∷◌, ◌++◌, length, get_or, drop, Option, Some, None, refl, sym, ap, subst, ◌∙◌, append_assoc, append-nil, length-append, arith}
+use Rattle.std.proofs.Common.{◌≡◌, ℕ, suc, ◌+◌, ◌<◌, ◌≤◌, Bool, true, false, Decides, List, [], ◌∷◌, ◌++◌, length, get_or, drop, Some, None, refl, sym, ap, subst, ◌∙◌, append_assoc, append-nil, length-append, arith}
 use Rattle.std.specs.Prelude.{bytes_eq, codes, nat_le, ◌&&◌}
 use Rattle.std.proofs.lemmas.Bool.{eqb-true, leb-true}
 use Rattle.std.proofs.lemmas.List.{drop_more, drop_all}
@@ -9,9 +9,8 @@ use Rattle.std.proofs.lemmas.Slice.Eq.{bytes_eq-Decides}
 use Rattle.jvm_types.specs.Members.{is_static}
 use Rattle.jvm_types.specs.CodeGrammar.{SpellsInsns}
 use Rattle.jvm_types.specs.ProgramInvariant.{IsProgram}
-use Rattle.jvm_types.specs.FirstForm.{first_op, AreFirstOps, EndsInReturn, RunsWithin, IsFirstMethod}
+use Rattle.jvm_types.specs.FirstForm.{first_op, AreFirstOps, EndsInReturn, RunsWithin, IsFirstMethod, IsFirstProgram}
 use Rattle.jvm_types.specs.declared.code.Insn.{Insn}
-use Rattle.jvm_types.specs.declared.code.Op.{Op}
 use Rattle.jvm_types.specs.declared.first.FirstOp.{FirstOp}
 use Rattle.jvm_types.specs.declared.first.FirstOp.TheVariants.{Return}
 use Rattle.jvm_types.specs.declared.program.MethodInfo.{MethodInfo}
@@ -155,3 +154,17 @@ pub never_runs : (m : MethodInfo) (ops : List FirstOp) → AreFirstOps m.code m.
 never_runs m ops are never others first =
     let same : others ≡ ops = ops_once m.code m.targets others ops first.are are in
     never (subst (λ (xs : List FirstOp). EndsInReturn xs × RunsWithin m.max_stack [] xs) same (first.ends, first.within))
+
+-- ---- the program
+
+first_method : (p : Program) (ops : List FirstOp) (m : MethodInfo) → m ≡ get_or p.methods 0 m → (first : IsFirstProgram p ops) → m ≡ first.method
+first_method p ops m is first = is ∙ ap (λ (ms : List MethodInfo). get_or ms 0 m) first.only
+
+pub first_targets : (p : Program) (ops : List FirstOp) (m : MethodInfo) → m ≡ get_or p.methods 0 m → IsFirstProgram p ops → length m.targets ≡ length m.code
+first_targets p ops m is first =
+    subst (λ (x : MethodInfo). length x.targets ≡ length x.code) (sym (first_method p ops m is first)) (ops_long first.method.code first.method.targets ops first.first.are).0
+
+pub first_found : (p : Program) (ops found : List FirstOp) (m : MethodInfo) → m ≡ get_or p.methods 0 m → AreFirstOps m.code m.targets found → IsFirstProgram p ops → IsFirstProgram p found
+first_found p ops found m is are first =
+    let here : AreFirstOps first.method.code first.method.targets found = subst (λ (x : MethodInfo). AreFirstOps x.code x.targets found) (first_method p ops m is first) are in
+    subst (IsFirstProgram p) (ops_once first.method.code first.method.targets ops found first.first.are here) first

@@ -4,3 +4,4 @@ pub mod MethodsDecoded
 pub mod MethodsTyped
 pub mod StackTops
 pub mod FirstOps
+pub mod LoadedOnce

@@ -1,15 +1,14 @@
 -- Decoding goes over the methods in order of files and methods.
-use Rattle.std.proofs.Common.{◌≡◌, ℕ, zero, suc, ◌+◌, ◌<◌, ◌≤◌, ◌^◌, List, [], ◌∷◌, ◌++◌, length, get_or, drop, Option, Some, None, refl, sym, subst, ap, ◌∙◌, append_assoc, append-nil, arith}
+use Rattle.std.proofs.Common.{◌≡◌, ℕ, zero, suc, ◌+◌, ◌<◌, ◌≤◌, List, [], ◌∷◌, ◌++◌, length, get_or, drop, Option, None, refl, sym, subst, ap, ◌∙◌, append_assoc, append-nil, arith}
 use Rattle.std.specs.List.{AllZip, AllByRecursion}
 use Rattle.std.specs.Option.{option_map, option_or}
 use Rattle.std.proofs.lemmas.List.{drop_more, drop_all}
-use Rattle.jvm_types.specs.ClassGrammar.{IsClass, IsMethod, IsMethodAttr, HasBody}
+use Rattle.jvm_types.specs.ClassGrammar.{IsClass, IsMethod, IsMethodAttr}
 use Rattle.jvm_types.specs.CodeFault.{code_fault}
 use Rattle.jvm_types.specs.CodeGrammar.{IsCode}
-use Rattle.jvm_types.specs.Members.{Declared, declared_from, declared_by, declared_methods}
+use Rattle.jvm_types.specs.Members.{Declared, declared_from, declared_by}
 use Rattle.jvm_types.specs.Linked.{code_of}
 use Rattle.jvm_types.specs.Linkable.{IsDecoded}
-use Rattle.jvm_types.specs.declared.class_file.Code.{Code}
 use Rattle.jvm_types.specs.declared.class_file.Constant.{Constant}
 use Rattle.jvm_types.specs.declared.class_file.ClassFile.{ClassFile}
 use Rattle.jvm_types.specs.declared.class_file.Member.{Member}

@@ -1,11 +1,9 @@
 -- Verifying goes over the methods in order of files and methods, and over those of the program in step.
-use Rattle.std.proofs.Common.{◌≡◌, ℕ, zero, suc, ◌⊎◌, inl, inr, ◌+◌, ◌*◌, ◌<◌, ◌≤◌, List, [], ◌∷◌, ◌++◌, length, get_or, drop, Option, Some, None, refl, sym, subst, ap, ◌∙◌, append_assoc, append-nil, length-append, add-one, arith, slice_get}
+use Rattle.std.proofs.Common.{◌≡◌, ℕ, zero, suc, inl, inr, ◌+◌, ◌*◌, ◌<◌, ◌≤◌, List, [], ◌∷◌, ◌++◌, length, get_or, drop, Option, Some, None, refl, subst, ap, append_assoc, append-nil, length-append, add-one, arith, slice_get}
 use Rattle.std.specs.List.{AllByRecursion}
-use Rattle.std.proofs.lemmas.List.{drop_more, drop_all, length_push}
+use Rattle.std.proofs.lemmas.List.{drop_all, length_push}
 use Rattle.jvm_types.specs.ClassGrammar.{IsClass}
-use Rattle.jvm_types.specs.Members.{Declared, declared_from, declared_by, declared_methods}
-use Rattle.jvm_types.specs.LinkFaults.{in_method}
-use Rattle.jvm_types.specs.Verifying.{IsTypingOf, IsRefused}
+use Rattle.jvm_types.specs.Members.{Declared, declared_from, declared_by}
 use Rattle.jvm_types.specs.CheckedProgram.{AreTypings}
 use Rattle.jvm_types.specs.declared.class_file.Constant.{Constant}
 use Rattle.jvm_types.specs.declared.class_file.ClassFile.{ClassFile}
@@ -13,16 +11,12 @@ use Rattle.jvm_types.specs.declared.class_file.Member.{Member}
 use Rattle.jvm_types.specs.declared.program.MethodInfo.{MethodInfo}
 use Rattle.jvm_types.specs.declared.program.Program.{Program}
 use Rattle.jvm_types.specs.declared.typing.Typing.{Typing}
-use Rattle.jvm_types.specs.declared.refusal.Rule.{Rule}
 use Rattle.jvm_types.specs.declared.refusal.Rule.TheVariants.{C, K, L, V, S}
-use Rattle.jvm_types.specs.declared.refusal.VRule.{VRule}
-use Rattle.jvm_types.specs.declared.refusal.Place.{Place}
 use Rattle.code_verifier.specs.Answers.{IsTyped}
-use Rattle.class_runner.specs.Loading.{IsFirstUntyped}
 use Rattle.class_runner.specs.Stages.{own_methods, IsUntypedAt, IsUnverified, AreTypedSoFar}
 use Rattle.class_runner.specs.declared.loading.FileError.{FileError}
 use Rattle.class_runner.specs.declared.loading.FileError.TheVariants.{Memory, Refused}
-use Rattle.class_runner.proofs.MethodsDecoded.{declared, own_at, files_at}
+use Rattle.class_runner.proofs.MethodsDecoded.{declared, files_at}
 
 -- ---- the method of a number
 

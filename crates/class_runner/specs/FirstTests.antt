@@ -1,5 +1,5 @@
 -- The tests for a program of the first form.
-use Rattle.std.specs.Prelude.{◌≡◌, ℕ, ◌+◌, nat_le, Bool, ◌&&◌, ◌==◌, bytes_eq, false, List, [], ◌∷◌, length, Option, Some, None, codes}
+use Rattle.std.specs.Prelude.{◌+◌, nat_le, Bool, ◌&&◌, ◌==◌, bytes_eq, false, List, [], ◌∷◌, length, Option, Some, None, codes}
 use Rattle.jvm_types.specs.Members.{is_static}
 use Rattle.jvm_types.specs.declared.first.FirstOp.{FirstOp}
 use Rattle.jvm_types.specs.declared.first.FirstOp.TheVariants.{Return}

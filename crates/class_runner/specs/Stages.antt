@@ -1,14 +1,13 @@
 -- The stages of loading: what each of them answers, and how far its loops are.
-use Rattle.std.specs.Prelude.{◌≡◌, ℕ, ◌+◌, List, [], ◌∷◌, ◌++◌, length, drop, Option, Some, None}
+use Rattle.std.specs.Prelude.{◌≡◌, ℕ, ◌+◌, List, ◌++◌, length, drop, Option, Some}
 use Rattle.std.specs.List.{AllZip}
 use Rattle.std.specs.Option.{option_map}
 use Rattle.jvm_types.specs.ReadingClass.{class_fault}
 use Rattle.jvm_types.specs.ClassGrammar.{Spells}
 use Rattle.jvm_types.specs.CodeFault.{code_fault}
-use Rattle.jvm_types.specs.Members.{Declared, declared_from}
-use Rattle.jvm_types.specs.Linked.{code_of}
+use Rattle.jvm_types.specs.Members.{Declared, declared_from, declared_methods}
 use Rattle.jvm_types.specs.Linkable.{IsDecoded}
-use Rattle.jvm_types.specs.LinkFaults.{in_file, in_method}
+use Rattle.jvm_types.specs.LinkFaults.{in_file, in_method, link_fault, IsLinked}
 use Rattle.jvm_types.specs.Verifying.{IsRefused}
 use Rattle.jvm_types.specs.CheckedProgram.{AreTypings}
 use Rattle.jvm_types.specs.declared.class_file.Code.{Code}
@@ -19,6 +18,7 @@ use Rattle.jvm_types.specs.declared.program.Program.{Program}
 use Rattle.jvm_types.specs.declared.typing.Typing.{Typing}
 use Rattle.jvm_types.specs.declared.refusal.Rule.{Rule}
 use Rattle.jvm_types.specs.declared.refusal.Rule.TheVariants as rules
+use Rattle.jvm_types.specs.declared.refusal.LRule.{LRule}
 use Rattle.jvm_types.specs.declared.refusal.VRule.{VRule}
 use Rattle.jvm_types.specs.declared.refusal.Place.{Place}
 use Rattle.class_runner.specs.Loading.{read_fault, decode_fault, IsFirstUntyped}
@@ -62,6 +62,27 @@ IsUndecoded fault e = ⊥
 pub record AreDecodedSoFar (left all : List Declared) (code : List (List Insn)) : Type 0 where
   pub whole : (rest : List (List Insn)) → AllZip IsDecoded left rest → AllZip IsDecoded all (code ++ rest)
   pub fault : decode_fault left ≡ decode_fault all
+
+-- ---- L: linking
+
+-- the classes have code, and are linked to a program
+pub record IsLinkedFrom (classes : List ClassFile) (heap workers : ℕ) (p : Program) : Type 0 where
+  pub code : List (List Insn)
+  pub decoded : AllZip IsDecoded (declared_methods classes) code
+  pub linked : IsLinked classes code heap workers p
+
+-- they have code, and linking refuses them
+pub record IsRefusedLink (classes : List ClassFile) (heap workers : ℕ) (rule : LRule) (place : Place) : Type 0 where
+  pub code : List (List Insn)
+  pub decoded : AllZip IsDecoded (declared_methods classes) code
+  pub fault : link_fault classes code heap workers ≡ Some (rule, place)
+
+-- memory ran out, or the classes have no code, or linking refuses them
+abbrev pub IsUnlinkedFrom : List ClassFile → (heap workers : ℕ) → FileError → Type 0
+IsUnlinkedFrom classes heap workers errors.Memory = Unit {0}
+IsUnlinkedFrom classes heap workers (errors.Refused (rules.K rule) place) = decode_fault (declared_methods classes) ≡ Some (rules.K rule, place)
+IsUnlinkedFrom classes heap workers (errors.Refused (rules.L rule) place) = IsRefusedLink classes heap workers rule place
+IsUnlinkedFrom classes heap workers e = ⊥
 
 -- ---- V: verifying
 

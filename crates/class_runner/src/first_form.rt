@@ -88,7 +88,7 @@ fn first_op(op: &Op, target: Target) -> Option<FirstOp>
 }
 
 /// The instructions of a program of the first form, one for each of a method's, where all are such.
-fn find_ops(
+pub fn find_ops(
     alloc: Global,
     code: &[Insn],
     targets: &[Target],

@@ -3,6 +3,7 @@
 
 mod decoding;
 mod first_form;
+mod linking;
 pub mod loading;
 mod operands;
 mod places;

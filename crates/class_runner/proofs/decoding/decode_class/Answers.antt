@@ -1,7 +1,4 @@
-use Rattle.std.proofs.Common.{List, ◌+◌, ◌++◌, length, drop, get_or, arith, sym, subst, ◌∙◌, ap}
 use Rattle.std.proofs.lemmas.Result.{err_from_is_err_and}
-use Rattle.jvm_types.specs.Members.{Declared, declared_from}
-use Rattle.class_runner.specs.Stages.{AreDecodedSoFar}
 use Rattle.class_runner.proofs.MethodsDecoded.{method_rows_few, method_next, method_stops, class_ends}
 use Rattle.class_runner.proofs.decoding.decode_class.Goals as goal
 

@@ -1,5 +1,4 @@
 use Rattle.std.proofs.Common.{◌≡◌, true, sym, ◌∙◌}
-use Rattle.jvm_types.specs.FirstForm.{AreFirstOps}
 use Rattle.class_runner.specs.FirstTests.{is_init}
 use Rattle.class_runner.proofs.FirstOps.{runs, never_runs}
 use Rattle.class_runner.proofs.first_form.find_init_ops.Goals as goal

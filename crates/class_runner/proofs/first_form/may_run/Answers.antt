@@ -1,5 +1,4 @@
-use Rattle.std.proofs.Common.{◌≡◌, Bool, true, false, Result, Ok, Err, IfOk, sym, ◌∙◌, refl}
-use Rattle.jvm_types.specs.FirstForm.{EndsInReturn, RunsWithin}
+use Rattle.std.proofs.Common.{Bool, true, false, Result, Ok, Err, IfOk, sym, ◌∙◌}
 use Rattle.class_runner.specs.Operands.{Tells}
 use Rattle.class_runner.proofs.FirstOps.{ends_in_return-Decides}
 use Rattle.class_runner.proofs.first_form.may_run.Goals as goal

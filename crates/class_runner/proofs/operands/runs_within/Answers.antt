@@ -1,4 +1,4 @@
-use Rattle.std.proofs.Common.{length, ◌<◌, ◌≤◌, arith, ◌∙◌}
+use Rattle.std.proofs.Common.{length, ◌<◌, ◌≤◌, arith}
 use Rattle.class_runner.specs.Operands.{tops}
 use Rattle.class_runner.proofs.StackTops.{begins, steps, lacks, too_high, length-tops}
 use Rattle.class_runner.proofs.operands.runs_within.Goals as goal

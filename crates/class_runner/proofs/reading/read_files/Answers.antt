@@ -1,5 +1,3 @@
-use Rattle.std.proofs.Common.{arith, refl, sym, subst, ap, ◌∙◌}
-use Rattle.class_runner.specs.Stages.{AreReadSoFar}
 use Rattle.class_runner.proofs.FilesRead.{ends, goes_on}
 use Rattle.class_runner.proofs.reading.read_files.Goals as goal
 

@@ -1,9 +1,6 @@
-use Rattle.std.proofs.Common.{List, ◌+◌, ◌++◌, length, drop, slice_get, arith, sym, subst, ◌∙◌, ap}
+use Rattle.std.proofs.Common.{arith}
 use Rattle.std.proofs.lemmas.List.{length_push}
 use Rattle.std.proofs.lemmas.Result.{err_from_is_err_and}
-use Rattle.jvm_types.specs.Members.{Declared, declared_from}
-use Rattle.code_verifier.specs.Answers.{IsTyped}
-use Rattle.class_runner.specs.Stages.{AreTypedSoFar, IsUntypedAt}
 use Rattle.class_runner.proofs.MethodsTyped.{method_next, method_stops, class_ends}
 use Rattle.class_runner.proofs.verifying.verify_class.Goals as goal
 
