@@ -94,8 +94,8 @@ goes_on code targets i ops insn op long within is e so_far =
     record {
       whole = λ rest h. rw append_assoc (so_far.whole (op ∷ rest) (rw (here, there) (e, h)));
       left = λ all h.
-        let r = so_far.left all h in
-        behind insn (drop (i + 1) code) (get_or targets i Nothing) (drop (i + 1) targets) r.0 (rw (here, there) at r.1);
+          let r = so_far.left all h in
+          behind insn (drop (i + 1) code) (get_or targets i Nothing) (drop (i + 1) targets) r.0 (rw (here, there) at r.1);
     }
 
 pub stops : (code : List Insn) (targets : List Target) (i : ℕ) (ops : List FirstOp) (insn : Insn) → length targets ≡ length code → i < length code → insn ≡ get_or code i insn

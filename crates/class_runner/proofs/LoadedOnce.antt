@@ -127,7 +127,7 @@ none_untyped p [] ms ts rule place h k = absurd k
 none_untyped p (d ∷ ds) [] ts rule place h k = absurd k
 none_untyped p (d ∷ ds) (m ∷ ms) [] rule place h k = absurd h
 none_untyped p (d ∷ ds) (m ∷ ms) (t ∷ ts) rule place h k = elim k [
-  inl refused ↦ no_refusal p m (shapes_of t) rule place.at h.0 refused.0
+  | inl refused ↦ no_refusal p m (shapes_of t) rule place.at h.0 refused.0
   | inr (u, typed, later) ↦ none_untyped p ds ms ts rule place h.1 later
 ]
 
@@ -157,7 +157,7 @@ never_refused files heap workers c ops (K rule) place l (classes, spelled, fault
     let same : l.classes ≡ classes = classes_once files l.classes classes l.read.spelled spelled in
     never_both (decode_fault (declared_methods l.classes)) (K rule, place) (no_decode_fault (declared_methods l.classes) l.code l.read.decoded) (ap (λ (cs : List ClassFile). decode_fault (declared_methods cs)) same ∙ fault)
 never_refused files heap workers c ops (L rule) place l r = elim r [
-  inl u ↦ never_linked files heap workers c (loaded files heap workers c ops l) u.classes u.code (rule, place) u.read u.fault
+  | inl u ↦ never_linked files heap workers c (loaded files heap workers c ops l) u.classes u.code (rule, place) u.read u.fault
   | inr (u, is, at) ↦ never_unbuilt files heap workers c ops l u
 ]
 never_refused files heap workers c ops (V rule) place l r = never_untyped files heap workers c rule place (loaded files heap workers c ops l) r
@@ -193,13 +193,16 @@ checked p ts = record { program = p; typings = ts }
 
 pub first_loaded : (files : List (List ℕ)) (heap workers : ℕ) (cs : List ClassFile) (p : Program) (ts : List Typing) → AllZip Spells files cs → IsLinkedFrom cs heap workers p → AreTypings p p.methods ts
     → (ops : List FirstOp) × IsFirstForm cs p ops → (ops : List FirstOp) × IsFirstLoaded files heap workers (checked p ts) ops
-first_loaded files heap workers cs p ts spelled linked typed (ops, first) = (ops, record {
-  classes = cs;
-  code = linked.code;
-  read = record { spelled = spelled; decoded = linked.decoded };
-  checked = record { linked = linked.linked; typed = typed };
-  first = first;
-})
+first_loaded files heap workers cs p ts spelled linked typed (ops, first) = (
+  ops,
+  record {
+    classes = cs;
+    code = linked.code;
+    read = record { spelled = spelled; decoded = linked.decoded };
+    checked = record { linked = linked.linked; typed = typed };
+    first = first;
+  },
+)
 
 pub unbuilt : (files : List (List ℕ)) (heap workers : ℕ) (cs : List ClassFile) (p : Program) (ts : List Typing) → AllZip Spells files cs → IsLinkedFrom cs heap workers p → AreTypings p p.methods ts
     → ((ops : List FirstOp) × IsFirstForm cs p ops → ⊥) → IsUnbuilt files heap workers

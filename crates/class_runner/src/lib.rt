@@ -16,3 +16,7 @@ pub use texts::{refusal, report};
 
 #[cfg(test)]
 mod compiled;
+#[cfg(test)]
+mod test_files;
+#[cfg(test)]
+mod tests;

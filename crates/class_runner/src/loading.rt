@@ -82,12 +82,7 @@ pub fn load_program(
 
 /// The checked program of some files, which is of the first form, or the first rule that refuses
 /// them.
-fn load_files(
-    alloc: Global,
-    files: &[Bytes],
-    heap: u32,
-    workers: u8,
-) -> Result<Checked, FileError>
+fn load_files(alloc: Global, files: &[Bytes], heap: u32, workers: u8) -> Result<Checked, FileError>
     requires some_file { 0 < length files.now }
     requires few_files { length files.now ≤ 64 }
     requires heap_from { 4096 ≤ heap }

@@ -12,14 +12,14 @@ pub returns-in_err-decode_method-clause-refused : goal.returns-in_err-decode_met
 returns-in_err-decode_method-clause-refused c =
     let p = err_from_is_err_and c.from_residual.result c.from_residual.ensures.1 in
     rw (p.1, p.2) (λ left all start.
-      method_stops c.args.file c.args.class.now.constants c.loop-number.number c.as_slice-method-items.result.now c.method-item.result left all c.loop-number.code c.in_err-decode_method.field-0.0
-      c.loop-number-test.true c.method-item.is c.in_err-decode_method.ensures.refused (c.loop-number.invariant left all start))
+    method_stops c.args.file c.args.class.now.constants c.loop-number.number c.as_slice-method-items.result.now c.method-item.result left all c.loop-number.code c.in_err-decode_method.field-0.0
+    c.loop-number-test.true c.method-item.is c.in_err-decode_method.ensures.refused (c.loop-number.invariant left all start))
 
 pub loop-number-preserved : goal.loop-number-preserved
 loop-number-preserved c =
     rw c.in_ok-push.ensures.ok (λ left all start.
-      method_next c.args.file c.args.class.now.constants c.loop-number.number c.as_slice-method-items.result.now c.method-item.result c.in_ok-decode_method.field-0 left all c.loop-number.code
-      c.loop-number-test.true c.method-item.is c.in_ok-decode_method.ensures.ok (c.loop-number.invariant left all start))
+    method_next c.args.file c.args.class.now.constants c.loop-number.number c.as_slice-method-items.result.now c.method-item.result c.in_ok-decode_method.field-0 left all c.loop-number.code
+    c.loop-number-test.true c.method-item.is c.in_ok-decode_method.ensures.ok (c.loop-number.invariant left all start))
 
 pub returns-clause-ok : goal.returns-clause-ok
 returns-clause-ok c = λ left all start.

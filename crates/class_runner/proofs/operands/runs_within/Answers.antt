@@ -9,11 +9,11 @@ loop-op-init c = rw c.new-stack.ensures (begins c.args.most c.args.ops.now)
 
 pub returns-then-not-branch : goal.returns-then-not-branch
 returns-then-not-branch c = elim c.then-not-branch.branch [
-  then-not-branch-via-then-not-branch w ↦
-    lacks c.args.most (tops c.loop-op.stack) c.args.ops.now c.loop-op.op-index c.loop-op-test.true (rw w.if-not-branch.true at c.in_ok-step.ensures) c.loop-op.invariant
+  | then-not-branch-via-then-not-branch w ↦
+      lacks c.args.most (tops c.loop-op.stack) c.args.ops.now c.loop-op.op-index c.loop-op-test.true (rw w.if-not-branch.true at c.in_ok-step.ensures) c.loop-op.invariant
   | then-not-branch-via-else-not-branch+then-len-from w ↦
-    let high : c.args.most < length (tops c.step.new.stack) = omega (arith, length-tops c.step.new.stack, w.len.ensures, w.from.ensures) in
-    too_high c.args.most (tops c.loop-op.stack) (tops c.step.new.stack) c.args.ops.now c.loop-op.op-index c.loop-op-test.true (rw w.if-not-branch.false at c.in_ok-step.ensures) high c.loop-op.invariant
+      let high : c.args.most < length (tops c.step.new.stack) = omega (arith, length-tops c.step.new.stack, w.len.ensures, w.from.ensures) in
+      too_high c.args.most (tops c.loop-op.stack) (tops c.step.new.stack) c.args.ops.now c.loop-op.op-index c.loop-op-test.true (rw w.if-not-branch.false at c.in_ok-step.ensures) high c.loop-op.invariant
 ]
 
 pub loop-op-preserved : goal.loop-op-preserved

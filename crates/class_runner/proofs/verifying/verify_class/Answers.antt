@@ -9,8 +9,8 @@ returns-in_err-verify_method-clause-refused c =
     let p = err_from_is_err_and c.from_residual.result c.from_residual.ensures.1 in
     let untyped = rw c.len-method.ensures at c.in_err-verify_method.ensures.refused in
     rw (p.1, p.2) (λ left all start.
-      method_stops c.args.program.now c.args.file c.args.class.now.constants c.loop-number.number c.args.class.now.methods left all c.loop-number.typings c.in_err-verify_method.field-0.0
-      (omega (arith, c.loop-number-test.true, c.len-number-end.ensures)) untyped (c.loop-number.invariant.so_far left all start))
+    method_stops c.args.program.now c.args.file c.args.class.now.constants c.loop-number.number c.args.class.now.methods left all c.loop-number.typings c.in_err-verify_method.field-0.0
+    (omega (arith, c.loop-number-test.true, c.len-number-end.ensures)) untyped (c.loop-number.invariant.so_far left all start))
 
 pub loop-number-preserved : goal.loop-number-preserved
 loop-number-preserved c =
@@ -19,8 +19,8 @@ loop-number-preserved c =
     rw c.in_ok-push.ensures.ok (record {
       count = omega (arith, one, c.loop-number.invariant.count);
       so_far = λ left all start.
-        method_next c.args.program.now c.args.file c.args.class.now.constants c.loop-number.number c.args.class.now.methods left all c.loop-number.typings c.in_ok-verify_method.field-0
-        (omega (arith, c.loop-number-test.true, c.len-number-end.ensures)) typed (c.loop-number.invariant.so_far left all start);
+          method_next c.args.program.now c.args.file c.args.class.now.constants c.loop-number.number c.args.class.now.methods left all c.loop-number.typings c.in_ok-verify_method.field-0
+          (omega (arith, c.loop-number-test.true, c.len-number-end.ensures)) typed (c.loop-number.invariant.so_far left all start);
     })
 
 pub returns-clause-ok : goal.returns-clause-ok

@@ -18,7 +18,7 @@ returns-in_err-verify_class-clause-refused c =
     let cs = c.args.classes.now in
     let i = c.loop-file.file in
     rw (p.1, p.2) (c.in_err-verify_class.ensures.refused (declared_by (λ x. x.methods) (i + 1) (drop (i + 1) cs)) (declared_methods cs)
-      (subst (λ (ds : List Declared). AreTypedSoFar c.args.program.now ds (declared_methods cs) c.loop-file.typings) (files_at i cs c.index-classes-file.result c.loop-file-test.true c.index-classes-file.is) c.loop-file.invariant))
+    (subst (λ (ds : List Declared). AreTypedSoFar c.args.program.now ds (declared_methods cs) c.loop-file.typings) (files_at i cs c.index-classes-file.result c.loop-file-test.true c.index-classes-file.is) c.loop-file.invariant))
 
 pub loop-file-preserved : goal.loop-file-preserved
 loop-file-preserved c =
