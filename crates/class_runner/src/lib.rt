@@ -1,11 +1,22 @@
 //! Loads the files of a program, and writes what a run came to.
 #![tactic(auto)]
 
+mod decoding;
+mod first_form;
+mod linking;
 pub mod loading;
+mod operands;
+mod places;
+mod reading;
 pub mod texts;
+mod verifying;
 
 pub use loading::{FileError, first_ops, load_program};
 pub use texts::{refusal, report};
 
 #[cfg(test)]
 mod compiled;
+#[cfg(test)]
+mod test_files;
+#[cfg(test)]
+mod tests;

@@ -6,8 +6,13 @@ ghost use Rattle.jvm_types.specs.FirstForm.{IsFirstProgram};
 ghost use Rattle.class_runner.specs.Loading.{IsLoaded, IsFirstLoaded, IsNotLoaded};
 ghost use Rattle.jvm_types.specs.declared.first.FirstOp.{FirstOp as Op};
 
+use crate::first_form::{find_ops, is_first_form};
+use crate::linking::link_files;
+use crate::places::in_file;
+use crate::reading::read_files;
 use crate::texts::RuleText;
-use jvm_types::{Bytes, Checked, FirstOp, NO_METHOD, Place, Rows, Rule};
+use crate::verifying::verify_files;
+use jvm_types::{Bytes, Checked, FirstOp, LRule, NO_METHOD, Place, Rows, Rule};
 use std::alloc::{AllocError, Global};
 use std::fmt;
 use thiserror::Error;
@@ -19,6 +24,17 @@ pub enum FileError {
     Memory,
     /// The first rule that refuses the files, and where.
     Refused(Rule, Place),
+}
+
+impl From<AllocError> for FileError {
+    ghost use Rattle.std.specs.Prelude.{◌≡◌};
+    ghost use Rattle.class_runner.specs.declared.loading.FileError.TheVariants.{Memory};
+
+    ghost from_gives = { λ _ e. e ≡ Memory };
+
+    fn from(_error: AllocError) -> FileError {
+        FileError::Memory
+    }
 }
 
 impl fmt::Display for FileError {
@@ -43,7 +59,7 @@ impl fmt::Display for FileError {
 /// order of files and methods; then the files are linked (L); then each method is verified (V). What passes all that and
 /// isn't of the first form is not built yet (L0).
 pub fn load_program(
-    _alloc: Global,
+    alloc: Global,
     files: &Rows<Bytes>,
     heap: u32,
     workers: u8,
@@ -61,13 +77,39 @@ pub fn load_program(
     ensures accepted { (c : CheckedProgram) (ops : List Op) → IsFirstLoaded files.now heap workers c ops → IfErr result (λ e. e ≡ FileError.Memory) }
     ensures refused { IfErr result (λ e. IsNotLoaded files.now heap workers e) }
 {
-    Err(FileError::Memory)
+    load_files(alloc, files.as_slice(), heap, workers)
+}
+
+/// The checked program of some files, which is of the first form, or the first rule that refuses
+/// them.
+fn load_files(alloc: Global, files: &[Bytes], heap: u32, workers: u8) -> Result<Checked, FileError>
+    requires some_file { 0 < length files.now }
+    requires few_files { length files.now ≤ 64 }
+    requires heap_from { 4096 ≤ heap }
+    requires heap_to { heap ≤ 1048576 }
+    requires workers { workers ≤ 8 }
+    ensures first { IfOk result (λ c. (ops : List Op) × IsFirstLoaded files.now heap workers c ops) }
+    ensures refused { IfErr result (λ e. IsNotLoaded files.now heap workers e) }
+{
+    let classes = read_files(alloc, files)?;
+    let program = link_files(alloc, &classes, heap, workers)?;
+    let typings = verify_files(alloc, classes.as_slice(), &program)?;
+    if !is_first_form(alloc, classes.as_slice(), &program)? {
+        return Err(FileError::Refused(Rule::L(LRule::L0), in_file(0, 0)));
+    }
+    Ok(Checked::of(program, typings))
 }
 
 /// The instructions of a program of the first form.
-pub fn first_ops(_alloc: Global, p: &Checked) -> Result<Rows<FirstOp>, AllocError>
+pub fn first_ops(alloc: Global, p: &Checked) -> Result<Rows<FirstOp>, AllocError>
     requires { (ops : List Op) × IsFirstProgram p.now.program ops }
     ensures { IfOk result (λ ops. IsFirstProgram p.now.program ops) }
 {
-    Err(AllocError)
+    let [method] = p.program().methods.as_slice() else {
+        unreachable!()
+    };
+    match find_ops(alloc, method.code.as_slice(), method.targets.as_slice())? {
+        Some(ops) => Ok(ops),
+        None => unreachable!(),
+    }
 }

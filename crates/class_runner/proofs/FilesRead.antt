@@ -1,0 +1,51 @@
+-- Reading goes over the files in order.
+use Rattle.std.proofs.Common.{◌≡◌, ℕ, ◌+◌, ◌<◌, ◌≤◌, List, [], ◌∷◌, ◌++◌, length, get_or, drop, Option, None, refl, sym, subst, ap, ◌∙◌, append_assoc, append-nil}
+use Rattle.std.specs.List.{AllZip}
+use Rattle.std.specs.Option.{option_map, option_or}
+use Rattle.std.proofs.lemmas.List.{drop_more, drop_all}
+use Rattle.jvm_types.specs.ClassGrammar.{Spells}
+use Rattle.jvm_types.specs.ReadingClass.{class_fault}
+use Rattle.jvm_types.specs.declared.class_file.ClassFile.{ClassFile}
+use Rattle.jvm_types.specs.declared.refusal.CRule.{CRule}
+use Rattle.jvm_types.specs.declared.refusal.Rule.{Rule}
+use Rattle.jvm_types.specs.declared.refusal.Rule.TheVariants.{C, K, L, V, S}
+use Rattle.jvm_types.specs.declared.refusal.Place.{Place}
+use Rattle.class_runner.specs.Loading.{read_fault}
+use Rattle.class_runner.specs.Stages.{file_fault, IsUnread, AreReadSoFar}
+use Rattle.class_runner.specs.declared.loading.FileError.{FileError}
+use Rattle.class_runner.specs.declared.loading.FileError.TheVariants.{Memory, Refused}
+
+pub begins : (files : List (List ℕ)) → AreReadSoFar files 0 []
+begins files = record { whole = λ rest h. h; fault = refl }
+
+pub ends : (files : List (List ℕ)) (i : ℕ) (classes : List ClassFile) → length files ≤ i → AreReadSoFar files i classes → AllZip Spells files classes
+ends files i classes past so_far =
+    let none : drop i files ≡ [] = drop_all i files past in
+    subst (AllZip Spells files) (append-nil classes) (so_far.whole [] (rw none tt))
+
+-- the file of this number, and those behind it
+faulted : (files : List (List ℕ)) (i : ℕ) (bytes : List ℕ) → i < length files → bytes ≡ get_or files i bytes → read_fault i (drop i files) ≡ option_or (file_fault i bytes) (read_fault (i + 1) (drop (i + 1) files))
+faulted files i bytes within is = ap (read_fault i) (drop_more files i bytes within) ∙ ap (λ (b : List ℕ). option_or (file_fault i b) (read_fault (i + 1) (drop (i + 1) files))) (sym is)
+
+passes : (o : Option (CRule × ℕ)) (f : CRule × ℕ → Rule × Place) (other : Option (Rule × Place)) → o ≡ None → option_or (option_map f o) other ≡ other
+passes o f other e = rw e refl
+
+pub goes_on : (files : List (List ℕ)) (i : ℕ) (classes : List ClassFile) (bytes : List ℕ) (c : ClassFile) → i < length files → bytes ≡ get_or files i bytes → Spells bytes c → class_fault bytes ≡ None
+    → AreReadSoFar files i classes → AreReadSoFar files (i + 1) (classes ++ c ∷ [])
+goes_on files i classes bytes c within is spelled faultless so_far = record {
+  whole = λ rest h. rw append_assoc (so_far.whole (c ∷ rest) (rw (drop_more files i bytes within) (subst (λ (b : List ℕ). Spells b c) is spelled, h)));
+  fault = sym (faulted files i bytes within is ∙ passes (class_fault bytes) _ (read_fault (i + 1) (drop (i + 1) files)) faultless) ∙ so_far.fault;
+}
+
+found_first : (o other : Option (Rule × Place)) (e : FileError) → IsUnread o e → IsUnread (option_or o other) e
+found_first o other Memory h = tt
+found_first o other (Refused (C rule) place) h = rw h refl
+found_first o other (Refused (K rule) place) h = h
+found_first o other (Refused (L rule) place) h = h
+found_first o other (Refused (V rule) place) h = h
+found_first o other (Refused (S rule) place) h = h
+
+pub stops : (files : List (List ℕ)) (i : ℕ) (classes : List ClassFile) (bytes : List ℕ) (e : FileError) → i < length files → bytes ≡ get_or files i bytes → IsUnread (file_fault i bytes) e
+    → AreReadSoFar files i classes → IsUnread (read_fault 0 files) e
+stops files i classes bytes e within is unread so_far =
+    subst (λ (o : Option (Rule × Place)). IsUnread o e) (sym (faulted files i bytes within is) ∙ so_far.fault) (found_first (file_fault i bytes) (read_fault (i + 1) (drop (i + 1) files)) e unread)

@@ -1,0 +1,25 @@
+use Rattle.std.proofs.Common.{refl, inr, arith}
+use Rattle.class_runner.proofs.LoadedOnce.{spelled_long, spelled_classes, unbuilt, first_loaded}
+use Rattle.class_runner.proofs.loading.load_files.Goals as goal
+
+pub link_files-requires-clause-some_file : goal.link_files-requires-clause-some_file
+link_files-requires-clause-some_file c = omega (arith, spelled_long c.args.files.now c.in_ok-classes.classes c.in_ok-classes.ensures.ok, c.requires.some_file)
+
+pub link_files-requires-clause-few_files : goal.link_files-requires-clause-few_files
+link_files-requires-clause-few_files c = omega (arith, spelled_long c.args.files.now c.in_ok-classes.classes c.in_ok-classes.ensures.ok, c.requires.few_files)
+
+pub link_files-requires-clause-classes : goal.link_files-requires-clause-classes
+link_files-requires-clause-classes c = spelled_classes c.args.files.now c.in_ok-classes.classes c.in_ok-classes.ensures.ok
+
+pub verify_files-requires-clause-classes : goal.verify_files-requires-clause-classes
+verify_files-requires-clause-classes c = rw c.as_slice.ensures (spelled_classes c.args.files.now c.in_ok-classes.classes c.in_ok-classes.ensures.ok)
+
+pub returns-then-not-branch-clause-refused : goal.returns-then-not-branch-clause-refused
+returns-then-not-branch-clause-refused c =
+    let other = rw (c.if-not-branch.true, c.as_slice-2.ensures) at c.in_ok-is_first_form.ensures in
+    inr (unbuilt c.args.files.now c.args.heap c.args.workers c.in_ok-classes.classes c.in_ok-program.program c.in_ok-typings.typings c.in_ok-classes.ensures.ok c.in_ok-program.ensures.ok c.in_ok-typings.ensures.ok other, refl, c.in_file.ensures)
+
+pub returns-clause-first : goal.returns-clause-first
+returns-clause-first c =
+    let first = rw (c.if-not-branch.false, c.as_slice-2.ensures) at c.in_ok-is_first_form.ensures in
+    rw c.of.ensures (first_loaded c.args.files.now c.args.heap c.args.workers c.in_ok-classes.classes c.in_ok-program.program c.in_ok-typings.typings c.in_ok-classes.ensures.ok c.in_ok-program.ensures.ok c.in_ok-typings.ensures.ok first)

@@ -1,0 +1,105 @@
+-- The stages of loading: what each of them answers, and how far its loops are.
+use Rattle.std.specs.Prelude.{◌≡◌, ℕ, ◌+◌, List, ◌++◌, length, drop, Option, Some}
+use Rattle.std.specs.List.{AllZip}
+use Rattle.std.specs.Option.{option_map}
+use Rattle.jvm_types.specs.ReadingClass.{class_fault}
+use Rattle.jvm_types.specs.ClassGrammar.{Spells}
+use Rattle.jvm_types.specs.CodeFault.{code_fault}
+use Rattle.jvm_types.specs.Members.{Declared, declared_from, declared_methods}
+use Rattle.jvm_types.specs.Linkable.{IsDecoded}
+use Rattle.jvm_types.specs.LinkFaults.{in_file, in_method, link_fault, IsLinked}
+use Rattle.jvm_types.specs.Verifying.{IsRefused}
+use Rattle.jvm_types.specs.CheckedProgram.{AreTypings}
+use Rattle.jvm_types.specs.declared.class_file.Code.{Code}
+use Rattle.jvm_types.specs.declared.class_file.ClassFile.{ClassFile}
+use Rattle.jvm_types.specs.declared.code.Insn.{Insn}
+use Rattle.jvm_types.specs.declared.program.MethodInfo.{MethodInfo}
+use Rattle.jvm_types.specs.declared.program.Program.{Program}
+use Rattle.jvm_types.specs.declared.typing.Typing.{Typing}
+use Rattle.jvm_types.specs.declared.refusal.Rule.{Rule}
+use Rattle.jvm_types.specs.declared.refusal.Rule.TheVariants as rules
+use Rattle.jvm_types.specs.declared.refusal.LRule.{LRule}
+use Rattle.jvm_types.specs.declared.refusal.VRule.{VRule}
+use Rattle.jvm_types.specs.declared.refusal.Place.{Place}
+use Rattle.class_runner.specs.Loading.{read_fault, decode_fault, IsFirstUntyped}
+use Rattle.class_runner.specs.declared.loading.FileError.{FileError}
+use Rattle.class_runner.specs.declared.loading.FileError.TheVariants as errors
+
+-- ---- C: reading
+
+-- the fault of one file
+abbrev pub file_fault : ℕ → List ℕ → Option (Rule × Place)
+file_fault file bytes = option_map (λ f. (rules.C f.0, in_file file f.1)) (class_fault bytes)
+
+-- memory ran out, or this is the fault
+abbrev pub IsUnread : Option (Rule × Place) → FileError → Type 0
+IsUnread fault errors.Memory = Unit {0}
+IsUnread fault (errors.Refused (rules.C rule) place) = fault ≡ Some (rules.C rule, place)
+IsUnread fault e = ⊥
+
+-- the files before this one spell these classes
+pub record AreReadSoFar (files : List (List ℕ)) (file : ℕ) (classes : List ClassFile) : Type 0 where
+  pub whole : (rest : List ClassFile) → AllZip Spells (drop file files) rest → AllZip Spells files (classes ++ rest)
+  pub fault : read_fault file (drop file files) ≡ read_fault 0 files
+
+-- ---- K: decoding
+
+-- the methods of one class
+abbrev pub own_methods : ℕ → ClassFile → List Declared
+own_methods file c = declared_from file c.constants 0 c.methods
+
+-- the fault of one method's code
+abbrev pub method_fault : (file place : ℕ) → Code → Option (Rule × Place)
+method_fault file place code = option_map (λ f. (rules.K f.0, in_method file place f.1)) (code_fault code.bytes code.rows)
+
+-- memory ran out, or this is the fault
+abbrev pub IsUndecoded : Option (Rule × Place) → FileError → Type 0
+IsUndecoded fault errors.Memory = Unit {0}
+IsUndecoded fault (errors.Refused (rules.K rule) place) = fault ≡ Some (rules.K rule, place)
+IsUndecoded fault e = ⊥
+
+-- of all methods those behind which these are left have these instructions
+pub record AreDecodedSoFar (left all : List Declared) (code : List (List Insn)) : Type 0 where
+  pub whole : (rest : List (List Insn)) → AllZip IsDecoded left rest → AllZip IsDecoded all (code ++ rest)
+  pub fault : decode_fault left ≡ decode_fault all
+
+-- ---- L: linking
+
+-- the classes have code, and are linked to a program
+pub record IsLinkedFrom (classes : List ClassFile) (heap workers : ℕ) (p : Program) : Type 0 where
+  pub code : List (List Insn)
+  pub decoded : AllZip IsDecoded (declared_methods classes) code
+  pub linked : IsLinked classes code heap workers p
+
+-- they have code, and linking refuses them
+pub record IsRefusedLink (classes : List ClassFile) (heap workers : ℕ) (rule : LRule) (place : Place) : Type 0 where
+  pub code : List (List Insn)
+  pub decoded : AllZip IsDecoded (declared_methods classes) code
+  pub fault : link_fault classes code heap workers ≡ Some (rule, place)
+
+-- memory ran out, or the classes have no code, or linking refuses them
+abbrev pub IsUnlinkedFrom : List ClassFile → (heap workers : ℕ) → FileError → Type 0
+IsUnlinkedFrom classes heap workers errors.Memory = Unit {0}
+IsUnlinkedFrom classes heap workers (errors.Refused (rules.K rule) place) = decode_fault (declared_methods classes) ≡ Some (rules.K rule, place)
+IsUnlinkedFrom classes heap workers (errors.Refused (rules.L rule) place) = IsRefusedLink classes heap workers rule place
+IsUnlinkedFrom classes heap workers e = ⊥
+
+-- ---- V: verifying
+
+-- memory ran out, or the method of this file and number has no typing
+abbrev pub IsUntypedAt : Program → Option MethodInfo → (file number : ℕ) → FileError → Type 0
+IsUntypedAt p m file number errors.Memory = Unit {0}
+IsUntypedAt p (Some m) file number (errors.Refused (rules.V rule) place) = IsRefused p m rule place.at × (place ≡ in_method file number place.at)
+IsUntypedAt p m file number e = ⊥
+
+-- memory ran out, or this is the first of these methods that has no typing
+abbrev pub IsUnverified : Program → List Declared → List MethodInfo → FileError → Type 0
+IsUnverified p ds ms errors.Memory = Unit {0}
+IsUnverified p ds ms (errors.Refused (rules.V rule) place) = IsFirstUntyped p ds ms rule place
+IsUnverified p ds ms e = ⊥
+
+-- of all methods of a program those behind which these are left have these typings
+pub record AreTypedSoFar (p : Program) (left all : List Declared) (typings : List Typing) : Type 0 where
+  pub whole : (rest : List Typing) → AreTypings p (drop (length typings) p.methods) rest → AreTypings p p.methods (typings ++ rest)
+  pub untyped : (rule : VRule) (place : Place) → IsFirstUntyped p left (drop (length typings) p.methods) rule place → IsFirstUntyped p all p.methods rule place
+  pub long : length typings + length left ≡ length p.methods

@@ -1,0 +1,85 @@
+//! The methods of classes to instructions.
+
+ghost use Rattle.std.specs.Prelude.{◌≡◌, ◌≤◌, ◌++◌, None, List, length, IfOk, IfErr, OnOk};
+ghost use Rattle.std.specs.List.{AllByRecursion, AllZip};
+ghost use Rattle.jvm_types.specs.ClassGrammar.{IsClass, HasBody};
+ghost use Rattle.jvm_types.specs.CodeGrammar.{IsCode};
+ghost use Rattle.jvm_types.specs.Members.{Declared, declared_methods};
+ghost use Rattle.jvm_types.specs.Linked.{code_of as the_code};
+ghost use Rattle.jvm_types.specs.Linkable.{IsDecoded};
+ghost use Rattle.class_runner.specs.Loading.{decode_fault};
+ghost use Rattle.class_runner.specs.Stages.{own_methods, method_fault, IsUndecoded, AreDecodedSoFar};
+
+use crate::loading::FileError;
+use crate::places::in_method;
+use code_decode::{CodeError, decode};
+use jvm_types::{ClassFile, Code, Insn, Member, MemberAttr, Rows, Rule};
+use std::alloc::Global;
+
+/// The code of a method, which has a body.
+fn code_of(method: &Member) -> &Code
+    requires { HasBody method.now }
+    ensures { result.now ≡ the_code method.now.attrs }
+{
+    for attr in method.attrs.as_slice() {
+        if let MemberAttr::Code(code) = attr {
+            return code;
+        }
+    }
+    unreachable!()
+}
+
+/// The instructions of a method, by its file and its number in its class.
+fn decode_method(
+    alloc: Global,
+    file: u16,
+    number: u16,
+    method: &Member,
+) -> Result<Rows<Insn>, FileError>
+    requires body { HasBody method.now }
+    requires rows { length (the_code method.now.attrs).rows ≤ 65535 }
+    ensures ok { IfOk result (λ insns. IsCode (the_code method.now.attrs).bytes (the_code method.now.attrs).rows insns) }
+    ensures refused { IfErr result (λ e. IsUndecoded (method_fault file number (the_code method.now.attrs)) e) }
+{
+    let code = code_of(method);
+    match decode(alloc, &code.bytes, &code.rows) {
+        Ok(insns) => Ok(insns),
+        Err(CodeError::Memory) => Err(FileError::Memory),
+        Err(CodeError::Refused(rule, at)) => Err(FileError::Refused(
+            Rule::K(rule),
+            in_method(file, number, at),
+        )),
+    }
+}
+
+/// Adds the instructions of each method of a class, in order.
+fn decode_class(
+    alloc: Global,
+    file: u16,
+    class: &ClassFile,
+    code: &mut Rows<Rows<Insn>>,
+) -> Result<(), FileError>
+    requires { IsClass class.now }
+    ensures ok { OnOk result ((left all : List Declared) → AreDecodedSoFar (own_methods file class.now ++ left) all code.old → AreDecodedSoFar left all code.new) }
+    ensures refused { IfErr result (λ e. (left all : List Declared) → AreDecodedSoFar (own_methods file class.now ++ left) all code.old → IsUndecoded (decode_fault all) e) }
+{
+    for (number, method) in class.methods.as_slice().iter().enumerate() {
+        code.push(decode_method(alloc, file, number as u16, method)?)?;
+    }
+    Ok(())
+}
+
+/// The instructions of each method, in order of files and methods. The first method whose code has a
+/// fault refuses the files.
+pub fn decode_files(alloc: Global, classes: &[ClassFile]) -> Result<Rows<Rows<Insn>>, FileError>
+    requires few { length classes.now ≤ 64 }
+    requires classes { AllByRecursion IsClass classes.now }
+    ensures ok { IfOk result (λ code. AllZip IsDecoded (declared_methods classes.now) code) }
+    ensures refused { IfErr result (λ e. IsUndecoded (decode_fault (declared_methods classes.now)) e) }
+{
+    let mut code = Rows::new(alloc);
+    for (file, class) in classes.iter().enumerate() {
+        decode_class(alloc, file as u16, class, &mut code)?;
+    }
+    Ok(code)
+}

@@ -1,0 +1,82 @@
+//! The methods of a linked program to typings.
+
+ghost use Rattle.std.specs.Prelude.{◌≡◌, ◌<◌, ◌≤◌, ◌+◌, ◌++◌, List, length, slice_get, IfOk, IfErr, OnOk};
+ghost use Rattle.std.specs.List.{AllByRecursion};
+ghost use Rattle.jvm_types.specs.ClassGrammar.{IsClass};
+ghost use Rattle.jvm_types.specs.Members.{Declared, declared_methods};
+ghost use Rattle.jvm_types.specs.ProgramInvariant.{IsProgram};
+ghost use Rattle.jvm_types.specs.CheckedProgram.{AreTypings};
+ghost use Rattle.code_verifier.specs.Answers.{IsTyped};
+ghost use Rattle.class_runner.specs.Stages.{own_methods, IsUntypedAt, IsUnverified, AreTypedSoFar};
+
+use crate::loading::FileError;
+use crate::places::in_method;
+use code_verifier::{VerifyError, verify};
+use jvm_types::{ClassFile, Program, Rows, Rule, Typing};
+use std::alloc::Global;
+
+/// The typing of a method of the program, which is the one of this number in its class in a file.
+fn verify_method(
+    alloc: Global,
+    program: &Program,
+    method: u32,
+    file: u16,
+    number: u16,
+) -> Result<Typing, FileError>
+    requires program { IsProgram program.now }
+    requires method { method < length program.now.methods }
+    ensures ok { IfOk result (λ t. IsTyped program.now (slice_get program.now.methods method) t) }
+    ensures refused { IfErr result (λ e. IsUntypedAt program.now (slice_get program.now.methods method) file number e) }
+{
+    match verify(alloc, program, method) {
+        Ok(typing) => Ok(typing),
+        Err(VerifyError::Memory) => Err(FileError::Memory),
+        Err(VerifyError::Refused(rule, pc)) => Err(FileError::Refused(
+            Rule::V(rule),
+            in_method(file, number, pc),
+        )),
+    }
+}
+
+/// Adds the typing of each method of a class, in order. Those of the methods before it are there.
+fn verify_class(
+    alloc: Global,
+    program: &Program,
+    file: u16,
+    class: &ClassFile,
+    typings: &mut Rows<Typing>,
+) -> Result<(), FileError>
+    requires program { IsProgram program.now }
+    requires class { IsClass class.now }
+    requires all { length typings.old + length class.now.methods ≤ length program.now.methods }
+    requires few { length program.now.methods ≤ 4194240 }
+    ensures ok { OnOk result ((left all : List Declared) → AreTypedSoFar program.now (own_methods file class.now ++ left) all typings.old → AreTypedSoFar program.now left all typings.new) }
+    ensures refused { IfErr result (λ e. (left all : List Declared) → AreTypedSoFar program.now (own_methods file class.now ++ left) all typings.old → IsUnverified program.now all program.now.methods e) }
+{
+    for number in 0..class.methods.len() {
+        let method = typings.len() as u32;
+        typings.push(verify_method(alloc, program, method, file, number as u16)?)?;
+    }
+    Ok(())
+}
+
+/// The typing of each method of the program that the classes are linked to, in order. The first
+/// method that has none refuses the files.
+pub fn verify_files(
+    alloc: Global,
+    classes: &[ClassFile],
+    program: &Program,
+) -> Result<Rows<Typing>, FileError>
+    requires few { length classes.now ≤ 64 }
+    requires classes { AllByRecursion IsClass classes.now }
+    requires program { IsProgram program.now }
+    requires methods { length program.now.methods ≡ length (declared_methods classes.now) }
+    ensures ok { IfOk result (λ typings. AreTypings program.now program.now.methods typings) }
+    ensures refused { IfErr result (λ e. IsUnverified program.now (declared_methods classes.now) program.now.methods e) }
+{
+    let mut typings = Rows::new(alloc);
+    for (file, class) in classes.iter().enumerate() {
+        verify_class(alloc, program, file as u16, class, &mut typings)?;
+    }
+    Ok(typings)
+}
