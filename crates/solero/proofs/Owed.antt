@@ -27,7 +27,7 @@ reported contents checked text (ops, loaded) r = record {
     code = loaded.code;
     read = loaded.read;
     checked = loaded.checked;
-    first = record { class = loaded.first.class; only = loaded.first.only; file = loaded.first.file; program = r.first };
+    first = record { class = loaded.first.class; only = loaded.first.only; file = loaded.first.file; init = loaded.first.init; program = r.first };
   };
   outcome = r.outcome;
   run = r.run;
