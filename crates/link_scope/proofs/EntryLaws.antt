@@ -41,10 +41,6 @@ module _ (target : ℕ → Target) (file : ℕ) (pool : List Constant) where
 
 -- ---- look-up in a class
 
--- whether an entry is the member that a class, a name and a descriptor name
-abbrev pub is_named : ℕ → List ℕ → List ℕ → Entry → Bool
-is_named class name descriptor e = (e.class == class) && bytes_eq e.name name && bytes_eq e.descriptor descriptor
-
 -- no entry of another class is found
 pub past_below : (class : ℕ) (name descriptor : List ℕ) (entries more : List Entry) → AreBelow class entries → member_in (entries ++ more) class name descriptor ≡ member_in more class name descriptor
 past_below class name descriptor [] more h = refl

@@ -20,11 +20,6 @@ unfolding below
 none_below None m h = refl
 none_below (Some n) m h = le-ltb n m (h n refl)
 
-some_below : (o : Option ℕ) (m : ℕ) → ((n : ℕ) → o ≡ Some n → n < m) → below o m ≡ is_some o
-unfolding below
-some_below None m h = refl
-some_below (Some n) m h = lt-ltb n m (h n refl)
-
 module _ {X : Type 0} (p : X → Bool) where
   any_by : (b : Bool) (k : ℕ) (o : Option ℕ) (c : Bool) → is_some o ≡ c → is_some (cond b (Some k) o) ≡ (b || c)
   any_by true k o c e = refl

@@ -1,10 +1,9 @@
 -- The classes of the tests keep the class grammar.
-use Rattle.std.proofs.Common.{◌≡◌, ℕ, ◌<◌, ◌≤◌, ◌^◌, Bool, true, false, ◌&&◌, ltb, List, [], ◌∷◌, codes, lit<, lit≤, refl}
+use Rattle.std.proofs.Common.{◌≡◌, ℕ, ◌<◌, ◌^◌, Bool, true, ◌&&◌, ltb, List, [], ◌∷◌, codes, lit<, lit≤, refl}
 use Rattle.std.specs.List.{AllByRecursion, list_all}
 use Rattle.std.proofs.lemmas.Bool.{and_parts, ltb-true}
-use Rattle.jvm_types.specs.ClassGrammar.{IsClass, IsPool, IsUtf8Byte, IsIndex, IsField, IsMethod, IsMethodAttr, IsMember, IsCode, IsCounted}
+use Rattle.jvm_types.specs.ClassGrammar.{IsClass, IsPool, IsUtf8Byte, IsField, IsMethod}
 use Rattle.jvm_types.specs.Pool.{NamesClass}
-use Rattle.jvm_types.specs.declared.index_kind.IndexKind.TheVariants as kinds
 use Rattle.link_scope.specs.TestClasses.{test_pool, test_field, test_method, test_class}
 
 abbrev is_utf8_byte : ℕ → Bool

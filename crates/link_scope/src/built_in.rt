@@ -11,21 +11,25 @@ use crate::table::{Key, Table};
 use jvm_types::Target;
 use std::alloc::AllocError;
 
-/// The numbers of classes that have built-in members.
+/// What stands for `java/lang/System`, which has no number.
 const SYSTEM: u16 = 0;
 
+/// The number of `java/lang/Object`.
 pub const OBJECT: u16 = 1;
 
+/// The number of `java/io/PrintStream`.
 const PRINT_STREAM: u16 = 3;
 
-/// The throwables have the numbers from this one on, up to the second.
+/// The throwables have the numbers from this one on.
 const FIRST_THROWABLE: u16 = 4;
 
+/// The first number behind those of the throwables.
 const BEHIND_THROWABLES: u16 = 16;
 
-/// PUBLIC, STATIC and FINAL.
+/// PUBLIC, STATIC and FINAL (JVMS 4.5).
 const CONSTANT_FLAGS: u16 = 25;
 
+/// PUBLIC (JVMS 4.6).
 const PUBLIC: u16 = 1;
 
 /// A field or method of a built-in class.
@@ -38,6 +42,7 @@ struct BuiltIn {
     target: Target,
 }
 
+/// A public instance method.
 fn public_method(
     class: u16,
     name: &'static [u8],
@@ -55,6 +60,7 @@ fn public_method(
     }
 }
 
+/// The `<init>()V` of a class.
 fn init_of(class: u16) -> BuiltIn
     ensures { entry_of result ≡ init_of_class class }
 {
