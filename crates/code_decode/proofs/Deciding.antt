@@ -14,7 +14,8 @@ use Rattle.code_decode.specs.Decoding.{outline, AreMarks, starts_in}
 use Rattle.code_decode.specs.Marking.{all_marked, unmarked_branch, marked_row, unmarked_row, IsDecoded, IsMemory}
 use Rattle.code_decode.specs.declared.error.CodeError.{CodeError}
 use Rattle.code_decode.specs.declared.error.CodeError.TheVariants.{Memory, Refused}
-use Rattle.jvm_types.proofs.CodeOnce.{insns_of, once}
+use Rattle.jvm_types.specs.ReadCode.{insns_of}
+use Rattle.jvm_types.proofs.CodeOnce.{once}
 use Rattle.jvm_types.proofs.CodeExact.{read_is_code}
 use Rattle.jvm_types.proofs.CodeLaws.{faultless}
 

@@ -10,7 +10,7 @@ use Rattle.jvm_types.specs.declared.code.Insn.{Insn}
 use Rattle.jvm_types.specs.declared.code.Op.{Op}
 use Rattle.jvm_types.specs.declared.refusal.KRule.{KRule}
 use Rattle.jvm_types.specs.declared.refusal.KRule.TheVariants.{K1, K2, K6}
-use Rattle.jvm_types.proofs.CodeOnce.{with_insn, insns_of}
+use Rattle.jvm_types.specs.ReadCode.{with_insn, insns_of}
 use Rattle.code_decode.specs.declared.sweep.Sweep.{Sweep}
 use Rattle.code_decode.specs.declared.sweep.Branching.{Branching}
 use Rattle.code_decode.specs.declared.operands.Found.{Found}

@@ -3,7 +3,7 @@ use Rattle.std.proofs.Common.{◌≡◌, ℕ, suc, ◌+◌, ◌-◌, ◌*◌, �
 use Rattle.std.specs.Prelude.{int_lt, ◌&&◌}
 use Rattle.jvm_types.specs.CodeFault.{s4_of, landing, offsets, case_offsets, ascend}
 use Rattle.jvm_types.specs.declared.code.Case.{Case}
-use Rattle.jvm_types.proofs.CodeOnce.{cases_of}
+use Rattle.jvm_types.specs.ReadCode.{cases_of}
 
 one_more : {A : Type 0} (front : List A) (x : A) (more all : List A) → front ++ x ∷ more ≡ all → (front ++ x ∷ []) ++ more ≡ all
 one_more front x more all h = append_assoc front (x ∷ []) more ∙ h

@@ -8,7 +8,7 @@ use Rattle.jvm_types.specs.declared.code.Op.{Op}
 use Rattle.jvm_types.specs.declared.code.Op.TheVariants.{Tableswitch}
 use Rattle.jvm_types.specs.declared.refusal.KRule.{KRule}
 use Rattle.jvm_types.specs.declared.refusal.KRule.TheVariants.{K2}
-use Rattle.jvm_types.proofs.CodeOnce.{op_of, table_op, lookup_op, insns_of}
+use Rattle.jvm_types.specs.ReadCode.{op_of, table_op, lookup_op, insns_of}
 use Rattle.code_decode.specs.declared.operands.Found.{Found}
 use Rattle.code_decode.specs.declared.sweep.Sweep.{Sweep}
 use Rattle.code_decode.specs.declared.sweep.Branching.{Branching}

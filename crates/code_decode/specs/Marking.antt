@@ -8,7 +8,7 @@ use Rattle.jvm_types.specs.declared.refusal.KRule.TheVariants.{K3, K4}
 use Rattle.code_decode.specs.declared.sweep.Branching.{Branching}
 use Rattle.code_decode.specs.declared.error.CodeError.{CodeError}
 use Rattle.code_decode.specs.declared.error.CodeError.TheVariants as errors
-use Rattle.jvm_types.proofs.CodeOnce.{insns_of}
+use Rattle.jvm_types.specs.ReadCode.{insns_of}
 
 abbrev pub mark : List Bool → ℕ → Bool
 mark marks i = slice_index_or marks i false

@@ -2,7 +2,7 @@
 
 ghost use Rattle.std.specs.Prelude.{◌≡◌, ◌≤◌, ◌≤ℤ◌, ◌-ℤ◌, ◌+ℤ◌, ◌^◌, ◌+◌, ◌*◌, [], ◌∷◌, ◌++◌, pos, map, drop, nat_abs, int_lt, length, IfOk, OnOk};
 ghost use Rattle.jvm_types.specs.CodeFault.{s4_of, landing, offsets, case_offsets, ascend};
-ghost use Rattle.jvm_types.proofs.CodeOnce.{cases_of};
+ghost use Rattle.jvm_types.specs.ReadCode.{cases_of};
 ghost use Rattle.code_decode.specs.Decoding.{IsTable, IsTableOf, IsLookup, case_of};
 
 use crate::numbers::{behind, landing, pc_of, s4_of};

@@ -1,1 +1,7 @@
-pub mod Answers
+pub mod Frames
+pub mod OpRows
+pub mod Placing
+pub mod Faults
+pub mod Waiting
+pub mod Visiting
+pub mod Settling

@@ -3,12 +3,12 @@
 use jvm_types::VRule;
 use std::alloc::AllocError;
 
-/// Why a method was not verified.
+/// Why a method has no typing.
 #[derive(Clone, Copy, Debug, PartialEq, Eq)]
 pub enum VerifyError {
     /// Memory ran out.
     Memory,
-    /// The rule that the method breaks, and the pc.
+    /// The rule that refuses the method, and the pc that the rule names.
     Refused(VRule, u32),
 }
 

@@ -1,23 +1,83 @@
-//! The typing of a method.
+//! Verification of a method by inferred types (JVMS 4.10.2).
 
-ghost use Rattle.std.specs.Prelude.{◌≡◌, ◌<◌, length, slice_get, IfOk, IfErr};
+ghost use Rattle.std.specs.Prelude.{◌≡◌, ◌<◌, length, slice_get, IfOk, IfErr, OnOk, IsSomeAnd};
 ghost use Rattle.jvm_types.specs.ProgramInvariant.{IsProgram};
-ghost use Rattle.jvm_types.specs.declared.typing.Typing.{Typing as TheTyping};
-ghost use Rattle.code_verifier.specs.Answers.{IsTyped, IsUntyped, IsMemory};
+ghost use Rattle.jvm_types.specs.Verifying.{first_nodes, IsLaidOut, IsTypingOf};
+ghost use Rattle.jvm_types.specs.declared.typing.Typing.{Typing as MethodTyping};
+ghost use Rattle.typing_laws.proofs.VisitsEnd.{IsKept};
+ghost use Rattle.code_verifier.specs.Placing.{Ascend, ArePlaces};
+ghost use Rattle.code_verifier.specs.Visiting.{AreLevel};
+ghost use Rattle.code_verifier.specs.Settling.{Settle, IsBreak, IsRefusal};
+ghost use Rattle.code_verifier.specs.declared.error.VerifyError.TheVariants.{Memory};
 
+use crate::entry::entry_frame;
 use crate::error::VerifyError;
-use jvm_types::{Program, Typing};
-use std::alloc::Global;
+use crate::nodes::Nodes;
+use crate::places::Places;
+use crate::visit::visit;
+use jvm_types::{MethodInfo, Program, Typing};
+use std::alloc::{AllocError, Global};
 
-/// The typing of a method, by its number (JVMS 4.10.2): instructions are visited, the waiting one of least pc first, until none
-/// waits. The first visit that breaks a rule refuses the method, by that rule and a pc.
-pub fn verify(_alloc: Global, p: &Program, method: u32) -> Result<Typing, VerifyError>
+/// At the start pc 0 waits with the entry frame.
+fn first_nodes(alloc: Global, m: &MethodInfo) -> Result<Nodes, AllocError>
+    ensures { IfOk result (λ nodes. nodes ≡ first_nodes m.now m.now.code) }
+{
+    let mut nodes = Nodes::unreached(alloc, m.code.len())?;
+    if m.code.is_empty() {
+        return Ok(nodes);
+    }
+    let entry = entry_frame(alloc, m)?;
+    nodes.bring(alloc, 0, &entry)?;
+    Ok(nodes)
+}
+
+/// Visits until nothing waits, or to the first visit that breaks a rule.
+fn settle(
+    alloc: Global,
+    p: &Program,
+    m: &MethodInfo,
+    places: &Places,
+    nodes: &mut Nodes,
+) -> Result<(), VerifyError>
+    requires laid { IsLaidOut m.now }
+    requires places { ArePlaces m.now.code places.now }
+    requires ascend { Ascend 0 m.now.code }
+    requires level { AreLevel m.now nodes.old }
+    requires kept { IsKept m.now nodes.old }
+    ensures settled { OnOk result (Settle p.now m.now nodes.old nodes.new) }
+    ensures broken { IfErr result (IsBreak p.now m.now nodes.old) }
+{
+    while let Some(i) = nodes.take_next() {
+        visit(alloc, p, m, places, nodes, i)?;
+    }
+    Ok(())
+}
+
+/// Verifies a method whose instructions follow one another, each with a target.
+fn verify_method(alloc: Global, p: &Program, m: &MethodInfo) -> Result<Typing, VerifyError>
+    requires { IsLaidOut m.now }
+    ensures ok { IfOk result (IsTypingOf p.now m.now) }
+    ensures refused { IfErr result (IsRefusal p.now m.now) }
+{
+    let places = Places::of(alloc, m.code.as_slice())?;
+    let mut nodes = first_nodes(alloc, m)?;
+    settle(alloc, p, m, &places, &mut nodes)?;
+    Ok(nodes.into_typing(alloc)?)
+}
+
+/// The typing of the method of this number (JVMS 4.10.2): types are inferred, and the instruction that is visited
+/// next is always the waiting one of least pc. Where the method has no typing, the rule and the pc of the first
+/// visit that breaks one.
+pub fn verify(alloc: Global, p: &Program, method: u32) -> Result<Typing, VerifyError>
     requires program { IsProgram p.now }
     requires method { method < length p.now.methods }
-    ensures ok { IfOk result (λ t. IsTyped p.now (slice_get p.now.methods method) t) }
-    ensures only { (t : TheTyping) → IsTyped p.now (slice_get p.now.methods method) t → IfOk result (λ found. found ≡ t) }
-    ensures typed { (t : TheTyping) → IsTyped p.now (slice_get p.now.methods method) t → IfErr result (λ e. IsMemory e) }
-    ensures refused { IfErr result (λ e. IsUntyped p.now (slice_get p.now.methods method) e) }
+    ensures ok { IsSomeAnd (slice_get p.now.methods method) (λ m. IfOk result (λ t. IsTypingOf p.now m t)) }
+    ensures only { IsSomeAnd (slice_get p.now.methods method) (λ m. (t : MethodTyping) → IsTypingOf p.now m t → IfOk result (λ found. found ≡ t)) }
+    ensures typed { IsSomeAnd (slice_get p.now.methods method) (λ m. (t : MethodTyping) → IsTypingOf p.now m t → IfErr result (λ e. e ≡ Memory)) }
+    ensures refused { IsSomeAnd (slice_get p.now.methods method) (λ m. IfErr result (λ e. IsRefusal p.now m e)) }
 {
-    Err(VerifyError::Memory)
+    match p.methods.get(method as usize) {
+        Some(m) => verify_method(alloc, p, m),
+        None => unreachable!(),
+    }
 }

@@ -2,7 +2,11 @@
 #![tactic(auto)]
 
 pub mod class_numbers;
+mod name_table;
 pub mod reading;
 
 pub use class_numbers::ClassNumbers;
 pub use reading::{Signature, field_kind, method_signature};
+
+#[cfg(test)]
+mod tests;

@@ -13,7 +13,7 @@ use Rattle.jvm_types.specs.declared.code.Insn.{Insn}
 use Rattle.jvm_types.specs.declared.refusal.KRule.{KRule}
 use Rattle.jvm_types.specs.declared.refusal.KRule.TheVariants.{K3, K4, K5}
 use Rattle.jvm_types.proofs.CodeLaws.{outline_of, outlines_back, starts_of}
-use Rattle.jvm_types.proofs.CodeOnce.{op_of, with_insn, insns_of}
+use Rattle.jvm_types.specs.ReadCode.{op_of, with_insn, insns_of}
 use Rattle.jvm_types.proofs.CodeWhole.{Lands, AreBytes, IsWhole, whole, both_are, count_is_whole}
 
 -- ---- the instructions

@@ -1,51 +1,22 @@
 -- The instructions that bytes spell, read off them: so code spells one list.
-use Rattle.std.proofs.Common.{◌≡◌, ℕ, zero, suc, ◌+◌, ℤ, pos, List, [], ◌∷◌, ◌++◌, length, map, Option, Some, None, Result, Ok, refl, ap, sym, ◌∙◌, arith}
-use Rattle.std.specs.Prelude.{take, drop, nat_abs, IsSomeAnd, ◌-ℤ◌, ◌+ℤ◌, FitsSigned}
+use Rattle.std.proofs.Common.{◌≡◌, ℕ, ◌+◌, ℤ, pos, List, [], ◌∷◌, ◌++◌, length, map, Option, Some, None, refl, ap, sym, ◌∙◌, arith}
+use Rattle.std.specs.Prelude.{drop, nat_abs, IsSomeAnd, ◌-ℤ◌, ◌+ℤ◌, FitsSigned}
 use Rattle.std.specs.List.{AllByRecursion, flat_map}
-use Rattle.std.specs.Int.{w8, w16, w32, cast_signed, from_be_bytes}
+use Rattle.std.specs.Int.{w8, w32}
 use Rattle.std.proofs.lemmas.Int.{to_z-of_z}
 use Rattle.jvm_types.specs.Numbers.{s4}
 use Rattle.jvm_types.specs.CodeTable.{Form, Plain, Byte, Short, SignedByte, SignedShort, Branch, WideBranch, LocalAndStep, IntArray, Table, Lookup, form_of}
 use Rattle.jvm_types.specs.CodeGrammar.{offset, padding_size, spelled_case, SpellsTable, SpellsLookup, SpellsOperands, SpellsInsns}
-use Rattle.jvm_types.specs.CodeFault.{Extent, s2_of, s4_of, landing, offsets, known_extent, SpellsOnce}
+use Rattle.jvm_types.specs.CodeFault.{s4_of, landing, offsets, known_extent, SpellsOnce}
 use Rattle.jvm_types.specs.declared.code.Case.{Case}
 use Rattle.jvm_types.specs.declared.code.Insn.{Insn}
 use Rattle.jvm_types.specs.declared.code.Op.{Op}
 use Rattle.jvm_types.specs.declared.code.Op.TheVariants.{Tableswitch, Lookupswitch}
-use Rattle.jvm_types.specs.declared.refusal.KRule.{KRule}
+use Rattle.jvm_types.specs.ReadCode.{table_op, cases_of, lookup_op, op_of, with_insn, insns_of}
 use Rattle.jvm_types.proofs.CodeReading.{u2_back, s2_back, s4_back, landed_near, landed_at, offsets_back, body_back, same_cons, fits_signed, count_is}
 use Rattle.jvm_types.proofs.CodeLaws.{FormHolds, form_holds, known_back}
 
 -- ---- one instruction
-
-abbrev pub first : List ℕ → ℕ
-first [] = 0
-first (b ∷ bytes) = b
-
-abbrev pub table_op : ℕ → List ℕ → Op
-table_op pc body = Tableswitch (nat_abs (landing pc (s4_of body))) (s4_of (drop 4 body))
-    (map nat_abs (offsets pc (nat_abs (s4_of (drop 8 body) -ℤ s4_of (drop 4 body) +ℤ pos 1)) (drop 12 body)))
-
-abbrev pub cases_of : ℕ → ℕ → List ℕ → List Case
-cases_of pc zero bytes = []
-cases_of pc (suc n) bytes = record { key = s4_of bytes; target = nat_abs (landing pc (s4_of (drop 4 bytes))) } ∷ cases_of pc n (drop 8 bytes)
-
-abbrev pub lookup_op : ℕ → List ℕ → Op
-lookup_op pc body = Lookupswitch (nat_abs (landing pc (s4_of body))) (cases_of pc (nat_abs (s4_of (drop 4 body))) (drop 8 body))
-
--- what the bytes behind an opcode make of its form
-abbrev pub op_of : ℕ → Form → List ℕ → Op
-op_of pc (Plain op) rest = op
-op_of pc (Byte make) rest = make (first rest)
-op_of pc (Short make) rest = make (from_be_bytes w16 (take 2 rest))
-op_of pc (SignedByte make) rest = make (cast_signed w8 (first rest))
-op_of pc (SignedShort make) rest = make (s2_of rest)
-op_of pc (Branch make) rest = make (nat_abs (landing pc (s2_of rest)))
-op_of pc (WideBranch make) rest = make (nat_abs (landing pc (s4_of rest)))
-op_of pc (LocalAndStep make) rest = make (first rest) (cast_signed w8 (first (drop 1 rest)))
-op_of pc (IntArray op) rest = op
-op_of pc Table rest = table_op pc (drop (padding_size pc) rest)
-op_of pc Lookup rest = lookup_op pc (drop (padding_size pc) rest)
 
 abs_back : (tos : List ℕ) → map nat_abs (map pos tos) ≡ tos
 abs_back [] = refl
@@ -100,16 +71,6 @@ op_back pc Table op operands rest h = table_op_back pc op operands rest h
 op_back pc Lookup op operands rest h = lookup_op_back pc op operands rest h
 
 -- ---- all instructions
-
-abbrev pub with_insn : ℕ → Option Form → Result Extent KRule → List ℕ → (ℕ → List Insn) → List Insn
-with_insn pc (Some f) (Ok e) rest more = record { pc = pc; next = pc + 1 + e.size; op = op_of pc f rest } ∷ more e.size
-with_insn pc f e rest more = []
-
--- from a pc on, where the first few bytes still belong to the instruction before
-abbrev pub insns_of : ℕ → ℕ → List ℕ → List Insn
-insns_of skip pc [] = []
-insns_of (suc skip) pc (b ∷ rest) = insns_of skip (pc + 1) rest
-insns_of zero pc (b ∷ rest) = with_insn pc (form_of b) (known_extent pc (form_of b) rest) rest (λ size. insns_of size (pc + 1) rest)
 
 passed : (front rest : List ℕ) (pc next : ℕ) → next ≡ pc + length front → insns_of (length front) pc (front ++ rest) ≡ insns_of 0 next rest
 passed [] rest pc next e = ap (λ n. insns_of 0 n rest) (omega (arith, e))

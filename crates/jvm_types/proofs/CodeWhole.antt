@@ -17,7 +17,7 @@ use Rattle.jvm_types.specs.declared.code.Op.{Op}
 use Rattle.jvm_types.specs.declared.refusal.KRule.{KRule}
 use Rattle.jvm_types.specs.declared.refusal.KRule.TheVariants.{K1, K2, K6}
 use Rattle.jvm_types.proofs.CodeReading.{same_cons}
-use Rattle.jvm_types.proofs.CodeOnce.{op_of, table_op, lookup_op, cases_of}
+use Rattle.jvm_types.specs.ReadCode.{op_of, table_op, lookup_op, cases_of}
 
 -- ---- numbers
 

@@ -1,4 +1,5 @@
 mod NameTries
+mod FirstTries
 mod LinkTries
 pub mod KindLaws
 pub mod EachAfter

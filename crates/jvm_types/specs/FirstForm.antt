@@ -6,7 +6,6 @@ use Rattle.jvm_types.specs.Members.{is_static}
 use Rattle.jvm_types.specs.declared.class_file.Attr.{Attr}
 use Rattle.jvm_types.specs.declared.class_file.Constant.{Constant}
 use Rattle.jvm_types.specs.declared.class_file.Constant.TheVariants as constants
-use Rattle.jvm_types.specs.declared.class_file.Code.{Code}
 use Rattle.jvm_types.specs.declared.class_file.Handler.{Handler}
 use Rattle.jvm_types.specs.declared.class_file.MemberAttr.{MemberAttr}
 use Rattle.jvm_types.specs.declared.class_file.MemberAttr.TheVariants as member_attrs
@@ -110,26 +109,31 @@ pub record IsFirstRun (ops : List FirstOp) : Type 0 where
 
 -- ---- the program
 
--- `static void init()` with these instructions, which one thread has room for
-pub record IsFirstMethod (m : MethodInfo) (ops : List FirstOp) : Type 0 where
-  pub named : m.name ≡ codes "init"
-  pub described : m.descriptor ≡ codes "()V"
-  pub static : is_static m.flags ≡ true
+-- code of these instructions, which one thread has room for
+pub record IsFirstCode (m : MethodInfo) (ops : List FirstOp) : Type 0 where
   pub slots : m.max_stack + m.max_locals ≤ 16384
   pub short : length ops ≤ 65535
   pub are : AreFirstOps m.code m.targets ops
   pub ends : EndsInReturn ops
   pub within : RunsWithin m.max_stack [] ops
 
--- one method, and these are its instructions
+-- one method, with such code
 pub record IsFirstProgram (p : Program) (ops : List FirstOp) : Type 0 where
   pub method : MethodInfo
   pub only : p.methods ≡ method ∷ []
-  pub first : IsFirstMethod method ops
+  pub code : IsFirstCode method ops
 
--- the classes of some files, which are linked to a program, are one of the first form, whose instructions are these
+-- `static void init()`
+pub record IsInit (m : MethodInfo) : Type 0 where
+  pub named : m.name ≡ codes "init"
+  pub described : m.descriptor ≡ codes "()V"
+  pub static : is_static m.flags ≡ true
+
+-- Classes that are linked to a program are one of the first form, whose instructions are these. It is asked of classes that no
+-- other rule refuses, and what those rules ask is not said again.
 pub record IsFirstForm (classes : List ClassFile) (p : Program) (ops : List FirstOp) : Type 0 where
   pub class : ClassFile
   pub only : classes ≡ class ∷ []
   pub file : is_first_file class ≡ true
+  pub init : AllByRecursion IsInit p.methods
   pub program : IsFirstProgram p ops

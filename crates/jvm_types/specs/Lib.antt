@@ -16,6 +16,7 @@ pub mod Linkable
 pub mod LinkLaws
 pub mod CodeGrammar
 pub mod CodeFault
+pub mod ReadCode
 pub mod ClassGrammar
 pub mod Counts
 pub mod ReadingSteps

@@ -4,6 +4,11 @@ ghost use Rattle.std.specs.Prelude.{◌≡◌};
 ghost use Rattle.jvm_types.specs.LinkFaults.{link_fault};
 ghost use Rattle.jvm_types.specs.Linkable.{IsLinkable};
 
+use crate::classes::class_pass;
+use crate::members::member_pass;
+use crate::roots::root_pass;
+use crate::uses::use_pass;
+use crate::words::word_pass;
 use jvm_types::{Insn, LRule, Place, Rows};
 use link_scope::Scope;
 
@@ -13,13 +18,28 @@ use link_scope::Scope;
 /// words (L8).
 pub fn find_fault(
     scope: &Scope<'_>,
-    _code: &Rows<Rows<Insn>>,
-    _heap: u32,
-    _workers: u8,
+    code: &Rows<Rows<Insn>>,
+    heap: u32,
+    workers: u8,
 ) -> Option<(LRule, Place)>
-    requires { IsLinkable scope.now _code.now _heap _workers }
-    ensures { result ≡ link_fault scope.now _code.now _heap _workers }
+    requires { IsLinkable scope.now code.now heap workers }
+    ensures { result ≡ link_fault scope.now code.now heap workers }
 {
-    scope.never();
-    unreachable!()
+    let fault = class_pass(scope);
+    if fault.is_some() {
+        return fault;
+    }
+    let fault = member_pass(scope);
+    if fault.is_some() {
+        return fault;
+    }
+    let fault = use_pass(scope, code);
+    if fault.is_some() {
+        return fault;
+    }
+    let fault = root_pass(scope, workers);
+    if fault.is_some() {
+        return fault;
+    }
+    word_pass(scope, heap)
 }

@@ -1,10 +1,7 @@
 -- What the calls of a scope answer, in terms of the files that it is made of.
 use Rattle.std.specs.Prelude.{◌≡◌, ℕ, Bool, false, List, [], take, Option, Some, None, slice_get}
-use Rattle.std.specs.Option.{option_map}
 use Rattle.jvm_types.specs.ClassNames.{text_at, class_name, class_names}
-use Rattle.jvm_types.specs.Members.{Entry, look_up}
-use Rattle.jvm_types.specs.Targets.{Scope}
-use Rattle.jvm_types.specs.Linked.{scope_of}
+use Rattle.jvm_types.specs.Members.{Entry}
 use Rattle.jvm_types.specs.LinkFaults.{is_repeated, is_taken}
 use Rattle.jvm_types.specs.declared.class_file.Constant.{Constant}
 use Rattle.jvm_types.specs.declared.class_file.Member.{Member as ClassMember}

@@ -1,6 +1,15 @@
 //! What the names of some class files name: classes, types and members (JVMS 4.4, 5.4.3).
 #![tactic(auto)]
 
+mod built_in;
+mod file_texts;
+mod members;
+mod pool_texts;
 pub mod scope;
+mod table;
+mod texts;
 
 pub use scope::{Found, Scope};
+
+#[cfg(test)]
+mod tests;

@@ -1,2 +1,4 @@
+pub mod Options
 pub mod Owed
+pub mod SoFar
 pub mod Writing

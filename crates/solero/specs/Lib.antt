@@ -6,3 +6,5 @@ pub mod ListSink
 pub mod Delivery
 pub mod Command
 pub mod Answer
+pub mod Reading
+pub mod Parts

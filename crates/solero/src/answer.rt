@@ -1,11 +1,17 @@
-ghost use Rattle.std.specs.Prelude.{◌≡◌};
+ghost use Rattle.std.specs.Prelude.{◌≡◌, IfOk};
+ghost use Rattle.class_runner.specs.Refusal.{refusal_text};
 ghost use Rattle.solero.specs.Answer.{status_of, text_of};
+ghost use Rattle.solero.specs.Parts.{IsLine, IsUnreadDue, unread_line};
+ghost use Rattle.solero.specs.declared.shelf.ShelfError.TheVariants.{Failed, TooLong};
 
-use jvm_types::Bytes;
+use class_runner::refusal;
+use jvm_types::{Bytes, CRule, NO_METHOD, Place, Rule};
+use std::alloc::{AllocError, Global};
+
+/// A file that is longer, in bytes, is refused.
+pub const LONGEST_FILE: u64 = 1_048_576;
 
 const USAGE: &str = "usage: solero [options] FILE...\n";
-
-const CANNOT_READ: &str = "cannot read file 0\n";
 
 const OUT_OF_MEMORY: &str = "out of memory\n";
 
@@ -16,10 +22,10 @@ pub enum Due {
     Report(Bytes),
     /// The words are not read.
     Usage,
-    /// The line of a refused file.
+    /// The line of the rule that refuses the files.
     Refusal(Bytes),
-    /// The shelf failed.
-    CannotRead,
+    /// The shelf failed: the line of the file that can't be read.
+    CannotRead(Bytes),
     /// Memory ran out.
     OutOfMemory,
 }
@@ -33,7 +39,7 @@ impl Due {
             Due::Report(_) => 0,
             Due::Usage => 2,
             Due::Refusal(_) => 3,
-            Due::CannotRead => 4,
+            Due::CannotRead(_) => 4,
             Due::OutOfMemory => 6,
         }
     }
@@ -43,10 +49,49 @@ impl Due {
         ensures { result.now ≡ text_of self.now }
     {
         match self {
-            Due::Report(text) | Due::Refusal(text) => text.as_slice(),
+            Due::Report(text) | Due::Refusal(text) | Due::CannotRead(text) => text.as_slice(),
             Due::Usage => USAGE.as_bytes(),
-            Due::CannotRead => CANNOT_READ.as_bytes(),
             Due::OutOfMemory => OUT_OF_MEMORY.as_bytes(),
         }
     }
+}
+
+/// The line of a refusal is due, or want of memory.
+pub fn refused(alloc: Global, rule: Rule, place: Place) -> Due
+    ensures { IsLine (refusal_text rule place) result }
+{
+    match refusal(alloc, rule, place) {
+        Ok(line) => Due::Refusal(line),
+        Err(AllocError) => Due::OutOfMemory,
+    }
+}
+
+/// The file of that number is too long to be a class file.
+pub fn too_long(alloc: Global, file: u16) -> Due
+    ensures { IsUnreadDue file TooLong result }
+{
+    let place = Place {
+        file,
+        method: NO_METHOD,
+        at: LONGEST_FILE as u32,
+    };
+    refused(alloc, Rule::C(CRule::C10), place)
+}
+
+/// The file of that number can't be read.
+pub fn cannot_read(alloc: Global, file: u16) -> Due
+    ensures { IsUnreadDue file Failed result }
+{
+    match unread_line(alloc, file) {
+        Ok(line) => Due::CannotRead(line),
+        Err(AllocError) => Due::OutOfMemory,
+    }
+}
+
+fn unread_line(alloc: Global, file: u16) -> Result<Bytes, AllocError>
+    ensures { IfOk result (λ text. text ≡ unread_line file) }
+{
+    let mut line = String::new(alloc);
+    writeln!(line, "cannot read file {file}")?;
+    Bytes::from_slice(alloc, line.as_bytes())
 }

@@ -8,6 +8,7 @@ mod answer;
 mod command;
 mod delivery;
 mod program;
+mod reading;
 mod shelf;
 mod sink;
 #[cfg(test)]

@@ -1,30 +1,32 @@
-ghost use Rattle.std.specs.Prelude.{◌≡◌, ◌<◌, ◌≤◌, ◌≢◌, ◌⊎◌, IfOk, Some, None};
-ghost use Rattle.jvm_types.specs.FirstForm.{IsFirstRun};
-ghost use Rattle.step_core.specs.PlainRun.{IsPlainOutcome};
-ghost use Rattle.class_runner.specs.Report.{report_text};
+ghost use Rattle.std.specs.Prelude.{◌≡◌, ◌<◌, ◌≤◌, ◌≢◌, ◌⊎◌, List, IfOk, Some, None, length};
+ghost use Rattle.jvm_types.specs.FirstForm.{IsFirstProgram};
+ghost use Rattle.jvm_types.specs.declared.first.FirstOp.{FirstOp as Op};
 ghost use Rattle.solero.specs.Faults.{CountsFault};
 ghost use Rattle.solero.specs.Command.{texts, command};
-ghost use Rattle.class_runner.specs.Refusal.{refusal_text};
-ghost use Rattle.jvm_types.specs.declared.outcome.Outcome.{Outcome};
-ghost use Rattle.solero.specs.Answer.{IsDue, IsRun, IsRefusal, too_long_line};
+ghost use Rattle.solero.specs.Answer.{IsDue, first_long};
 ghost use Rattle.solero.specs.Delivery.{Delivers};
+ghost use Rattle.solero.specs.Parts.{IsRun, IsUnreadDue, ReportsProgram};
 ghost use Rattle.solero.specs.declared.answer.Due.{Due as TheDue};
 
-use crate::answer::Due;
-use crate::command::file_name;
+use crate::answer::{Due, cannot_read, refused, too_long};
+use crate::command::file_names;
 use crate::delivery::deliver;
+use crate::reading::{Unread, read_files};
 use crate::shelf::{Shelf, ShelfError};
 use crate::sink::Sink;
-use class_runner::{FileError, load_first, refusal, report};
-use jvm_types::{Bytes, CRule, FirstOp, Gate, NO_METHOD, Place, Rows, Rule};
+use class_runner::{FileError, first_ops, load_program, report};
+use jvm_types::{Bytes, Checked, Gate, Rows};
 use std::alloc::{AllocError, Global};
 use step_core::run_first;
 
-/// A file that is longer, in bytes, is refused.
-pub const LONGEST_FILE: u64 = 1_048_576;
+/// The heap words of the machine that runs the program.
+const HEAP_WORDS: u32 = 65_536;
 
-/// Runs the program of the words: reads the file from the shelf, runs it, and writes what came of it
-/// to the sink. It answers the status that the process ends with.
+/// The worker threads that run parts of it.
+const WORKERS: u8 = 0;
+
+/// Runs the program of the words: reads its files from the shelf, in order, then loads and runs them, and
+/// writes what came of it to the sink. It answers the status that the process ends with.
 ///
 /// No part runs on a worker yet, so nobody passes the gate.
 pub fn top<S: Shelf, K: Sink, G: Gate + Sync>(
@@ -60,32 +62,46 @@ fn work<S: Shelf>(alloc: Global, words: &Vec<String>, shelf: &mut S) -> Due
         (S.faults shelf.old) (S.faults shelf.new) result }
     ensures files { S.files shelf.new ≡ S.files shelf.old }
 {
-    match file_name(words) {
-        Some(name) => work_on(alloc, name, shelf),
+    match file_names(words) {
+        Some(names) => work_on(alloc, names, shelf),
         None => Due::Usage,
     }
 }
 
-// What is due to the file of that name.
-fn work_on<S: Shelf>(alloc: Global, name: &str, shelf: &mut S) -> Due
-    ensures due { IsDue (Some name.now) (S.files shelf.old)
+// What is due to the files of these names.
+fn work_on<S: Shelf>(alloc: Global, names: &[String], shelf: &mut S) -> Due
+    requires some { 0 < length names.now }
+    requires few { length names.now ≤ 64 }
+    ensures due { IsDue (Some (texts names.now)) (S.files shelf.old)
         (S.faults shelf.old) (S.faults shelf.new) result }
     ensures files { S.files shelf.new ≡ S.files shelf.old }
 {
-    match shelf.read_file(alloc, name, LONGEST_FILE) {
-        Ok(content) => run_file(alloc, &content),
-        Err(ShelfError::TooLong) => too_long(alloc),
-        Err(ShelfError::Failed) => Due::CannotRead,
-        Err(ShelfError::Memory) => Due::OutOfMemory,
+    match read_files(alloc, names, shelf) {
+        Ok(contents) => run_files(alloc, &contents),
+        Err(unread) => not_read(alloc, unread),
     }
 }
 
-// What is due to the content of the file.
-fn run_file(alloc: Global, content: &Bytes) -> Due
-    ensures { IsRun content.now result }
+// What is due where a file was not read.
+fn not_read(alloc: Global, unread: Unread) -> Due
+    ensures { IsUnreadDue unread.file unread.error result }
 {
-    match load_first(alloc, content) {
-        Ok(ops) => match report_of(alloc, &ops) {
+    match unread.error {
+        ShelfError::TooLong => too_long(alloc, unread.file),
+        ShelfError::Failed => cannot_read(alloc, unread.file),
+        ShelfError::Memory => Due::OutOfMemory,
+    }
+}
+
+// What is due to the contents of the files, none of which is too long.
+fn run_files(alloc: Global, contents: &Rows<Bytes>) -> Due
+    requires some { 0 < length contents.now }
+    requires few { length contents.now ≤ 64 }
+    requires short { first_long 0 contents.now ≡ None }
+    ensures { IsRun contents.now result }
+{
+    match load_program(alloc, contents, HEAP_WORDS, WORKERS) {
+        Ok(checked) => match report_of(alloc, &checked) {
             Ok(text) => Due::Report(text),
             Err(AllocError) => Due::OutOfMemory,
         },
@@ -94,34 +110,12 @@ fn run_file(alloc: Global, content: &Bytes) -> Due
     }
 }
 
-// The report of a run of the instructions.
-fn report_of(alloc: Global, ops: &Rows<FirstOp>) -> Result<Bytes, AllocError>
-    requires { IsFirstRun ops.now }
-    ensures { IfOk result (λ text. (outcome : Outcome)
-        × IsPlainOutcome ops.now outcome × (text ≡ report_text outcome)) }
+// The report of a run of the program.
+fn report_of(alloc: Global, checked: &Checked) -> Result<Bytes, AllocError>
+    requires { (ops : List Op) × IsFirstProgram checked.now.program ops }
+    ensures { IfOk result (λ text. ReportsProgram checked.now.program text) }
 {
-    let outcome = run_first(alloc, ops)?;
+    let ops = first_ops(alloc, checked)?;
+    let outcome = run_first(alloc, &ops)?;
     report(alloc, &outcome)
-}
-
-// The file is too long to be a class file.
-fn too_long(alloc: Global) -> Due
-    ensures { IsRefusal too_long_line result }
-{
-    let place = Place {
-        file: 0,
-        method: NO_METHOD,
-        at: LONGEST_FILE as u32,
-    };
-    refused(alloc, Rule::C(CRule::C10), place)
-}
-
-// The line of a refusal.
-fn refused(alloc: Global, rule: Rule, place: Place) -> Due
-    ensures { IsRefusal (refusal_text rule place) result }
-{
-    match refusal(alloc, rule, place) {
-        Ok(line) => Due::Refusal(line),
-        Err(AllocError) => Due::OutOfMemory,
-    }
 }

@@ -42,11 +42,7 @@ fn locks() -> &'static str {
 const REPORT: &str = "5\ninit returned\ndone returned\n\
     counts 0 instructions 6 elided 0 failed 0 locked 0 inflated 0\n";
 
-const REFUSED: &str = "refused L0 file 0 at 0\n";
-
 const USAGE: &str = "usage: solero [options] FILE...\n";
-
-const CANNOT_READ: &str = "cannot read file 0\n";
 
 fn digit(code: u8) -> u8 {
     match code {
@@ -72,11 +68,16 @@ fn zeros(alloc: Global, count: usize) -> Result<Bytes, AllocError> {
     Bytes::from_slice(alloc, &zeros)
 }
 
+// A file with its name.
+fn named(alloc: Global, name: &str, content: Bytes) -> Result<NamedFile, AllocError> {
+    let name = Bytes::from_slice(alloc, name.as_bytes())?;
+    Ok(NamedFile { name, content })
+}
+
 // One file of the name `A.class`.
 fn one_file(alloc: Global, content: Bytes) -> Result<Rows<NamedFile>, AllocError> {
-    let name = Bytes::from_slice(alloc, "A.class".as_bytes())?;
     let mut files = Rows::new(alloc);
-    files.push(NamedFile { name, content })?;
+    files.push(named(alloc, "A.class", content)?)?;
     Ok(files)
 }
 
@@ -149,13 +150,30 @@ fn check_all(rt: &(impl Abort + AllocGlobal), cases: &[Case<'_>]) -> Result<(), 
 }
 
 #[test]
-fn words_that_are_not_read_and_faults_of_the_shelf(rt: HostRuntime) -> Result<(), Fail> {
+fn words_that_are_not_read(rt: HostRuntime) -> Result<(), Fail> {
     let cases = [
         Case::new(&[], adds(), &[], 2, USAGE),
-        Case::new(&["A.class", "A.class"], adds(), &[], 2, USAGE),
         Case::new(&["-x"], adds(), &[], 2, USAGE),
-        Case::new(&["A.class"], adds(), &[1], 4, CANNOT_READ),
-        Case::new(&["B.class"], adds(), &[], 4, CANNOT_READ),
+        Case::new(&["A.class", "-x"], adds(), &[], 2, USAGE),
+        Case::new(&["A.class"; 65], adds(), &[], 2, USAGE),
+    ];
+    check_all(&rt, &cases)?;
+    Ok(())
+}
+
+#[test]
+fn faults_of_the_shelf(rt: HostRuntime) -> Result<(), Fail> {
+    let cases = [
+        Case::new(&["A.class"], adds(), &[1], 4, "cannot read file 0\n"),
+        Case::new(&["B.class"], adds(), &[], 4, "cannot read file 0\n"),
+        Case::new(
+            &["A.class", "A.class"],
+            adds(),
+            &[2],
+            4,
+            "cannot read file 1\n",
+        ),
+        Case::new(&["A.class"; 64], adds(), &[64], 4, "cannot read file 63\n"),
     ];
     check_all(&rt, &cases)?;
     Ok(())
@@ -165,7 +183,14 @@ fn words_that_are_not_read_and_faults_of_the_shelf(rt: HostRuntime) -> Result<()
 fn files_that_are_run_and_refused(rt: HostRuntime) -> Result<(), Fail> {
     let cases = [
         Case::new(&["A.class"], adds(), &[2], 0, REPORT),
-        Case::new(&["A.class"], locks(), &[], 3, REFUSED),
+        Case::new(&["A.class"], locks(), &[], 3, "refused L0 file 0 at 0\n"),
+        Case::new(
+            &["A.class", "A.class"],
+            adds(),
+            &[],
+            3,
+            "refused L5 file 1 at 0\n",
+        ),
         Case::new(&["A.class"], "", &[], 3, "refused C3 file 0 at 0\n"),
         Case::new(
             &["A.class"],
@@ -179,12 +204,31 @@ fn files_that_are_run_and_refused(rt: HostRuntime) -> Result<(), Fail> {
     Ok(())
 }
 
+// A class, and a file that is one byte too long.
+fn one_too_long(alloc: Global) -> Result<Rows<NamedFile>, AllocError> {
+    let mut files = one_file(alloc, bytes_of(alloc, adds())?)?;
+    files.push(named(alloc, "long", zeros(alloc, 1_048_577)?)?)?;
+    Ok(files)
+}
+
 #[test]
 fn a_file_that_is_too_long_is_refused(rt: HostRuntime) -> Result<(), Fail> {
     let alloc = rt.alloc();
-    let mut shelf = CalmShelf::new(one_file(alloc, zeros(alloc, 1_048_577)?)?);
+    let mut calm = CalmShelf::new(one_too_long(alloc)?);
     let mut sink = ListSink::new(alloc, None, 4096);
-    assert_eq!(rt; run(alloc, &["A.class"], &mut shelf, &mut sink)?, 3);
+    assert_eq!(rt; run(alloc, &["A.class", "long"], &mut calm, &mut sink)?, 3);
+    let refused = "refused C10 file 1 at 1048576\n";
+    assert_eq!(rt; sink.text().as_slice(), refused.as_bytes());
+    Ok(())
+}
+
+#[test]
+fn no_file_is_read_behind_one_that_is_too_long(rt: HostRuntime) -> Result<(), Fail> {
+    let alloc = rt.alloc();
+    let failing = Rows::from_slice(alloc, &[2])?;
+    let mut list = ListShelf::new(one_too_long(alloc)?, failing);
+    let mut sink = ListSink::new(alloc, None, 4096);
+    assert_eq!(rt; run(alloc, &["long", "A.class"], &mut list, &mut sink)?, 3);
     let refused = "refused C10 file 0 at 1048576\n";
     assert_eq!(rt; sink.text().as_slice(), refused.as_bytes());
     Ok(())

@@ -1,6 +1,6 @@
 use Rattle.std.proofs.Common.{◌≡◌, ◌≤◌, ◌-◌, ◌*◌, ◌∷◌, ◌++◌, length}
 use Rattle.jvm_types.specs.CodeFault.{case_offsets}
-use Rattle.jvm_types.proofs.CodeOnce.{cases_of}
+use Rattle.jvm_types.specs.ReadCode.{cases_of}
 use Rattle.code_decode.proofs.switches.read_pairs.Given as goal
 
 abbrev pub invariant-loop : goal.invariant-loop

@@ -1,12 +1,9 @@
-use Rattle.solero.proofs.Owed.{run_due, too_long_due}
+use Rattle.solero.proofs.Owed.{unread_due}
+use Rattle.solero.proofs.SoFar.{none_long}
 use Rattle.solero.proofs.program.work_on.Goals as goal
 
-pub returns-in-Ok-clause-due : goal.returns-in-Ok-clause-due
-returns-in-Ok-clause-due g c =
-    let read = c.in-Ok.ensures.answer in
-    run_due _ _ _ _ _ _ read.0 read.1 read.2 c.run_file.ensures
+pub run_files-requires-clause-short : goal.run_files-requires-clause-short
+run_files-requires-clause-short g c = none_long 0 _ c.in-Ok.ensures.ok.short
 
-pub returns-in-Err-TooLong-clause-due : goal.returns-in-Err-TooLong-clause-due
-returns-in-Err-TooLong-clause-due g c =
-    let read = rw c.in-Err-TooLong.field-0-is at c.in-Err-TooLong.ensures.answer in
-    too_long_due _ _ _ _ _ read.0 read.1 c.too_long.ensures
+pub returns-in-Err-clause-due : goal.returns-in-Err-clause-due
+returns-in-Err-clause-due g c = unread_due _ _ _ _ _ _ _ c.in-Err.ensures.err c.not_read.ensures

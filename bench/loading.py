@@ -1,0 +1,208 @@
+#!/usr/bin/env python3
+"""Measures how fast the built program decodes, links and verifies, and how the time grows where the input
+doubles.
+
+Run it by hand from the top of the repository, after `./run --proved examples/A.class`:
+
+    python3 bench/loading.py
+
+Each program is made so that the stage that is measured is the last to be done: its last instruction, or its
+first class, breaks a rule of that stage, and the line of the refusal is printed beside the time. The time of a
+run on a file of one byte, which is that of starting the program, is taken off.
+"""
+import os
+import subprocess
+import tempfile
+import time
+
+TOP = os.path.dirname(os.path.dirname(os.path.abspath(__file__)))
+PROGRAM = os.path.join(TOP, "crates", "solero", "out", "solero")
+RUNS = 3
+
+
+def u1(n):
+    return n.to_bytes(1, "big")
+
+
+def u2(n):
+    return n.to_bytes(2, "big")
+
+
+def u4(n):
+    return n.to_bytes(4, "big")
+
+
+class ClassFile:
+    """A class file whose constants are added as they are needed."""
+
+    def __init__(self, name, constants=()):
+        self.entries = list(constants)
+        self.places = {}
+        self.fields = []
+        self.methods = []
+        self.this = self.of_class(name)
+        self.super = self.of_class("java/lang/Object")
+        self.code_name = self.text("Code")
+
+    def add(self, entry):
+        if entry not in self.places:
+            self.entries.append(entry)
+            self.places[entry] = len(self.entries)
+        return self.places[entry]
+
+    def text(self, text):
+        data = text.encode()
+        return self.add(u1(1) + u2(len(data)) + data)
+
+    def of_class(self, name):
+        return self.add(u1(7) + u2(self.text(name)))
+
+    def member(self, tag, owner, name, descriptor):
+        pair = self.add(u1(12) + u2(self.text(name)) + u2(self.text(descriptor)))
+        return self.add(u1(tag) + u2(self.of_class(owner)) + u2(pair))
+
+    def field(self, flags, name, descriptor):
+        self.fields.append(u2(flags) + u2(self.text(name)) + u2(self.text(descriptor)) + u2(0))
+
+    def method(self, flags, name, descriptor, code, stack=2, local=1):
+        body = u2(stack) + u2(local) + u4(len(code)) + code + u2(0) + u2(0)
+        attribute = u2(self.code_name) + u4(len(body)) + body
+        self.methods.append(u2(flags) + u2(self.text(name)) + u2(self.text(descriptor)) + u2(1) + attribute)
+
+    def content(self):
+        return (
+            b"\xca\xfe\xba\xbe" + u2(0) + u2(50) + u2(len(self.entries) + 1) + b"".join(self.entries)
+            + u2(0x21) + u2(self.this) + u2(self.super) + u2(0)
+            + u2(len(self.fields)) + b"".join(self.fields)
+            + u2(len(self.methods)) + b"".join(self.methods) + u2(0)
+        )
+
+
+STATIC = 8
+
+
+def one_method(code, stack=2, local=1):
+    file = ClassFile("A")
+    file.method(STATIC, "init", "()V", code, stack, local)
+    return [file.content()]
+
+
+def decoding(size):
+    """`iconst_0, pop` over and over, and an unknown opcode at the end."""
+    return one_method((b"\x03\x57" * size)[: size - 1] + b"\xfe")
+
+
+def straight(size):
+    """The same without a return at the end, where it falls off its end."""
+    return one_method((b"\x03\x57" * size)[: size - 2] + b"\x03\x57")
+
+
+def branches(size):
+    """`iconst_0, ifeq` to the start, of four bytes each, then off the end."""
+    code = bytearray()
+    while len(code) + 6 <= size:
+        way = -(len(code) + 1)
+        if way < -32768:
+            way = 4 - 1
+        code += b"\x03\x99" + (way & 0xFFFF).to_bytes(2, "big")
+    return one_method(bytes(code) + b"\x03\x57")
+
+
+def joins(size):
+    """Locals that are null on one way and an int on the other, so that each join changes its frame."""
+    code = bytearray()
+    local = 0
+    while len(code) + 12 <= size:
+        # iconst_0, ifeq +6; aconst_null, astore; nop
+        code += b"\x03\x99\x00\x06\x01\x3a" + u1(local % 200)
+        local += 1
+    return one_method(bytes(code) + b"\x03\x57", 2, 200)
+
+
+def member_names(count):
+    return [f"member{i}" for i in range(count)]
+
+
+def linking(files):
+    """Files of nearly 1 MiB with many members, which use one another's; the first one's `init` is not static."""
+    contents = []
+    for number in range(files):
+        file = ClassFile(f"pack/Class{number}")
+        other = f"pack/Class{(number + 1) % files}"
+        names = member_names(8500)
+        for name in names:
+            file.field(STATIC, name, "I")
+        fields = [file.member(9, other, name, "I") for name in names]
+        methods = [file.member(10, other, name, "()V") for name in names]
+        for start in range(8500):
+            code = b"".join(b"\xb2" + u2(fields[(start + k) % 8500]) + b"\x57" for k in range(12))
+            file.method(STATIC, names[start], "()V", code + b"\xb8" + u2(methods[start]) + b"\xb1")
+        if number == 0:
+            file.method(0, "init", "()V", b"\xb1")
+        contents.append(file.content())
+    return contents
+
+
+def shared(constants):
+    """One file whose constants all have one name of 65,535 bytes, each used by an instruction."""
+    file = ClassFile("A")
+    name = "n" * 65535
+    file.field(STATIC, name, "I")
+    file.member(9, "A", name, "I")
+    pair = file.add(u1(12) + u2(file.text(name)) + u2(file.text("I")))
+    first = len(file.entries) + 1
+    for _ in range(constants):
+        file.entries.append(u1(9) + u2(file.this) + u2(pair))
+    done = 0
+    while done < constants:
+        part = range(done, min(done + 12000, constants))
+        code = b"".join(b"\xb2" + u2(first + k) + b"\x57" for k in part) + b"\xb1"
+        file.method(STATIC, f"m{done}", "()V", code)
+        done = part.stop
+    file.method(0, "init", "()V", b"\xb1")
+    return [file.content()]
+
+
+def seconds(paths, runs=RUNS):
+    best = None
+    for _ in range(runs):
+        start = time.perf_counter()
+        done = subprocess.run([PROGRAM, *paths], stdout=subprocess.PIPE, check=False)
+        took = time.perf_counter() - start
+        best = took if best is None else min(best, took)
+    return best, done.stdout.decode().strip()
+
+
+def main():
+    if not os.access(PROGRAM, os.X_OK):
+        raise SystemExit("no built program: run ./run --proved examples/A.class first")
+    with tempfile.TemporaryDirectory() as folder:
+
+        def written(contents):
+            paths = []
+            for number, content in enumerate(contents):
+                paths.append(os.path.join(folder, f"{number}.class"))
+                with open(paths[-1], "wb") as out:
+                    out.write(content)
+            return paths
+
+        start, _ = seconds(written([b"\xca"]), 15)
+        print(f"start of the program: {start * 1000:.2f} ms")
+        for shape, sizes in (
+            (decoding, (16384, 32768, 65535)),
+            (straight, (16384, 32768, 65534)),
+            (branches, (10000, 20000, 40000)),
+            (joins, (10000, 20000, 40000)),
+            (linking, (8, 16, 32, 64)),
+            (shared, (15000, 30000, 60000)),
+        ):
+            for size in sizes:
+                contents = shape(size)
+                took, answer = seconds(written(contents))
+                whole = sum(len(content) for content in contents)
+                net = max(took - start, 1e-6)
+                print(f"{shape.__name__:>9} {size:>6}: {whole:>9} bytes {net * 1000:9.2f} ms  ({answer})", flush=True)
+
+
+if __name__ == "__main__":
+    main()

@@ -1,0 +1,13 @@
+pub mod TypeLists
+pub mod Tops
+pub mod OpRows
+pub mod PlaceLaws
+pub mod ClassOfNew
+pub mod TakenLaws
+pub mod StartedLaws
+pub mod WaitingLaws
+pub mod BroughtLaws
+pub mod ClashLaws
+pub mod LaidOut
+pub mod SettlingLaws
+pub mod OneAnswer

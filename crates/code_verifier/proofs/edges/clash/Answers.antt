@@ -1,0 +1,28 @@
+use Rattle.std.proofs.Common.{◌≡◌, ℕ, ◌+◌, ◌<◌, ◌≤◌, List, [], ◌∷◌, length, drop, Option, None, sym, ap, ◌∙◌}
+use Rattle.std.specs.Prelude.{slice_index_or}
+use Rattle.std.proofs.lemmas.List.{drop_more, drop_all}
+use Rattle.jvm_types.specs.Verifying.{Node, clash}
+use Rattle.jvm_types.specs.declared.code.Insn.{Insn}
+use Rattle.code_verifier.specs.Placing.{Ascend}
+use Rattle.code_verifier.specs.Visiting.{lesser}
+use Rattle.code_verifier.proofs.ClashLaws.{clash_none, clash_more, lesser_assoc, lesser_none}
+use Rattle.code_verifier.proofs.edges.clash.Goals as goal
+
+least_more : (code : List Insn) (tos : List ℕ) (k depth : ℕ) (nodes : List Node) (least one next whole : Option ℕ) → Ascend 0 code → k < length tos
+    → one ≡ clash code (slice_index_or tos k 0 ∷ []) depth nodes → next ≡ lesser least one → lesser least (clash code (drop k tos) depth nodes) ≡ whole → lesser next (clash code (drop (k + 1) tos) depth nodes) ≡ whole
+least_more code tos k depth nodes least one next whole a h o n inv =
+    ap (λ x. lesser x (clash code (drop (k + 1) tos) depth nodes)) (n ∙ ap (λ x. lesser least x) o)
+    ∙ lesser_assoc least (clash code (slice_index_or tos k 0 ∷ []) depth nodes) (clash code (drop (k + 1) tos) depth nodes)
+    ∙ ap (λ x. lesser least x) (sym (ap (λ l. clash code l depth nodes) (drop_more tos k 0 h) ∙ clash_more 0 code (slice_index_or tos k 0) (drop (k + 1) tos) depth nodes a))
+    ∙ inv
+
+least_all : (code : List Insn) (tos : List ℕ) (k depth : ℕ) (nodes : List Node) (least whole : Option ℕ) → length tos ≤ k → lesser least (clash code (drop k tos) depth nodes) ≡ whole → least ≡ whole
+least_all code tos k depth nodes least whole h inv =
+    sym (ap (λ l. lesser least (clash code l depth nodes)) (drop_all k tos h) ∙ ap (λ x. lesser least x) (clash_none code depth nodes) ∙ lesser_none least) ∙ inv
+
+pub loop-to-preserved : goal.loop-to-preserved
+loop-to-preserved c = least_more c.args.m.now.code c.args.tos.now c.loop-to.to-index c.args.depth c.args.nodes.now c.loop-to.least c.clash_at.result c.lesser-least.result _
+    c.requires.ascend c.loop-to-test.true c.clash_at.ensures c.lesser-least.ensures c.loop-to.invariant
+
+pub returns : goal.returns
+returns c = least_all c.args.m.now.code c.args.tos.now c.loop-to.to-index c.args.depth c.args.nodes.now c.loop-to.least _ c.loop-to-test.false c.loop-to.invariant

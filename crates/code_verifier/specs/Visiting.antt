@@ -1,0 +1,41 @@
+-- What the visits keep of the nodes of a method, and what one of them answers.
+use Rattle.std.specs.Prelude.{◌≡◌, ℕ, min, if◌then◌else◌, List, [], ◌∷◌, length, Option, Some, None, Result, Ok, Err}
+use Rattle.std.specs.Option.{IfSome}
+use Rattle.std.specs.List.{AllByRecursion}
+use Rattle.jvm_types.specs.Types.{Shape, entry_shape}
+use Rattle.jvm_types.specs.Verifying.{Node, node_at, has_other_depth, brought, clash, shape_at_handler, catch_fault, unless_caught}
+use Rattle.jvm_types.specs.declared.program.Row.{Row}
+use Rattle.jvm_types.specs.declared.program.MethodInfo.{MethodInfo}
+use Rattle.jvm_types.specs.declared.refusal.VRule.{VRule}
+use Rattle.code_verifier.specs.declared.error.VerifyError.{VerifyError}
+use Rattle.code_verifier.specs.declared.error.VerifyError.TheVariants.{Memory, Refused}
+
+-- as many locals as the frame at pc 0 has
+abbrev pub HasLocals : MethodInfo → Shape → Type 0
+HasLocals m f = length f.locals ≡ length (entry_shape m).locals
+
+-- one node for each instruction, and each frame has these locals
+pub record AreLevel (m : MethodInfo) (nodes : List Node) : Type 0 where
+  pub long : length nodes ≡ length m.code
+  pub wide : AllByRecursion (λ (node : Node). IfSome node.frame (HasLocals m)) nodes
+
+-- the lesser of two pcs, where they are there
+abbrev pub lesser : Option ℕ → Option ℕ → Option ℕ
+lesser None other = other
+lesser (Some pc) None = Some pc
+lesser (Some pc) (Some at) = Some (min pc at)
+
+-- the pc that an edge leads to, where the instruction of this number is there and has a frame of another depth
+abbrev pub clash_place : Option ℕ → ℕ → ℕ → List Node → Option ℕ
+clash_place None to depth nodes = None
+clash_place (Some i) to depth nodes = if has_other_depth (node_at nodes i).frame depth then Some to else None
+
+-- what a visit, or a part of one, leaves of the nodes; or the rule that it breaks; or memory ran out
+abbrev pub Leaves : {A : Type 0} → Result (List Node) (VRule × ℕ) → List Node → Result A VerifyError → Type 0
+Leaves visit nodes (Ok done) = visit ≡ Ok nodes
+Leaves visit nodes (Err Memory) = Unit {0}
+Leaves visit nodes (Err (Refused rule pc)) = visit ≡ Err (rule, pc)
+
+-- the edge to the handler of one covering row
+abbrev pub caught : MethodInfo → ℕ → Shape → Row → List Node → Result (List Node) (VRule × ℕ)
+caught m pc f handler nodes = unless_caught (catch_fault m pc handler) (clash m.code (handler.handler ∷ []) 1 nodes) (Ok (brought m.code handler.handler (shape_at_handler handler f) nodes))

@@ -1,0 +1,228 @@
+//! Rows of instructions that hang on what a constant names.
+
+ghost use Rattle.std.specs.Prelude.{◌≡◌, ◌∷◌, [], map, reverse, Some, None, IfOk};
+ghost use Rattle.std.specs.Option.{option_copied};
+ghost use Rattle.jvm_types.specs.CodeTable.{Fresh, stack_row, type_of, want_of, arguments, result_of, is_init, no_row, get_static_row, get_row, put_row, put_static_row, virtual_row, special_row, static_row, returned, constant_row};
+ghost use Rattle.jvm_types.specs.declared.program.Target.TheVariants as targets;
+ghost use Rattle.code_verifier.specs.OpRows.{want_is, given_is, row_is, asked_of};
+
+use crate::classes::{OBJECT, PRINT_STREAM};
+use crate::op_row::{AN_INT, Asked, Left, StoredRow, stack_row};
+use jvm_types::{FieldInfo, Kind, MethodInfo, Op, Program, Target, VType};
+use std::alloc::{AllocError, Global};
+
+pub fn type_of(kind: Kind) -> VType
+    ensures { result ≡ type_of kind }
+{
+    match kind {
+        Kind::Int | Kind::Bool => VType::Int,
+        Kind::Ref(class) => VType::Ref(class),
+    }
+}
+
+fn asked_of(kind: Kind) -> Asked
+    ensures same { result ≡ asked_of kind }
+    ensures want { want_is result ≡ want_of kind }
+{
+    match kind {
+        Kind::Int | Kind::Bool => Asked::AnInt,
+        Kind::Ref(class) => Asked::AnObject(class),
+    }
+}
+
+/// Whether a method is an `<init>`.
+pub fn is_init(method: &MethodInfo) -> bool
+    ensures { result ≡ is_init method.now }
+{
+    method.name.as_slice() == b"<init>".as_slice()
+}
+
+fn asked_reversed(alloc: Global, kinds: &[Kind]) -> Result<Vec<Asked>, AllocError>
+    ensures { IfOk result (λ v. v.items ≡ map asked_of (reverse kinds.now)) }
+{
+    kinds
+        .iter()
+        .rev()
+        .map(|kind| asked_of(*kind))
+        .collect(alloc)
+}
+
+/// What is asked of the arguments, of which the last is on top.
+fn arguments(alloc: Global, called: &MethodInfo) -> Result<Vec<Asked>, AllocError>
+    ensures { IfOk result (λ v. map want_is v.items ≡ arguments called.now) }
+{
+    asked_reversed(alloc, called.args.as_slice())
+}
+
+/// The result of a method, where it has one.
+fn result_of(alloc: Global, called: &MethodInfo) -> Result<Vec<Left>, AllocError>
+    ensures { IfOk result (λ v. map given_is v.items ≡ result_of called.now) }
+{
+    let mut left = Vec::new(alloc);
+    if let Some(kind) = called.result {
+        left.push(Left::Fresh(type_of(kind)))?;
+    }
+    Ok(left)
+}
+
+fn no_row(alloc: Global) -> StoredRow
+    ensures { row_is result ≡ no_row }
+{
+    StoredRow {
+        takes: Vec::new(alloc),
+        gives: Vec::new(alloc),
+        reads: None,
+        writes: None,
+    }
+}
+
+fn get_static_row(alloc: Global, field: Option<&FieldInfo>) -> Result<StoredRow, AllocError>
+    ensures { IfOk result (λ r. row_is r ≡ get_static_row (option_copied field.entry)) }
+{
+    match field {
+        None => Ok(no_row(alloc)),
+        Some(field) => stack_row(alloc, &[], &[Left::Fresh(type_of(field.kind))]),
+    }
+}
+
+fn get_row(alloc: Global, field: Option<&FieldInfo>) -> Result<StoredRow, AllocError>
+    ensures { IfOk result (λ r. row_is r ≡ get_row (option_copied field.entry)) }
+{
+    match field {
+        None => Ok(no_row(alloc)),
+        Some(field) => stack_row(
+            alloc,
+            &[Asked::AnObject(field.class)],
+            &[Left::Fresh(type_of(field.kind))],
+        ),
+    }
+}
+
+fn put_row(alloc: Global, field: Option<&FieldInfo>) -> Result<StoredRow, AllocError>
+    ensures { IfOk result (λ r. row_is r ≡ put_row (option_copied field.entry)) }
+{
+    match field {
+        None => Ok(no_row(alloc)),
+        Some(field) => stack_row(
+            alloc,
+            &[asked_of(field.kind), Asked::AHolder(field.class)],
+            &[],
+        ),
+    }
+}
+
+fn put_static_row(alloc: Global, field: Option<&FieldInfo>) -> Result<StoredRow, AllocError>
+    ensures { IfOk result (λ r. row_is r ≡ put_static_row (option_copied field.entry)) }
+{
+    match field {
+        None => Ok(no_row(alloc)),
+        Some(field) => stack_row(alloc, &[asked_of(field.kind)], &[]),
+    }
+}
+
+fn call_row(takes: Vec<Asked>, gives: Vec<Left>) -> StoredRow
+    ensures { row_is result ≡ stack_row (map want_is takes.items) (map given_is gives.items) }
+{
+    StoredRow {
+        takes,
+        gives,
+        reads: None,
+        writes: None,
+    }
+}
+
+fn virtual_row(alloc: Global, called: Option<&MethodInfo>) -> Result<StoredRow, AllocError>
+    ensures { IfOk result (λ r. row_is r ≡ virtual_row (option_copied called.entry)) }
+{
+    let Some(called) = called else {
+        return Ok(no_row(alloc));
+    };
+    let mut takes = arguments(alloc, called)?;
+    takes.push(Asked::AnObject(called.class))?;
+    Ok(call_row(takes, result_of(alloc, called)?))
+}
+
+/// A call of an `<init>`, or of a private method of the own class.
+fn special_row(alloc: Global, called: Option<&MethodInfo>) -> Result<StoredRow, AllocError>
+    ensures { IfOk result (λ r. row_is r ≡ special_row (option_copied called.entry)) }
+{
+    let Some(called) = called else {
+        return Ok(no_row(alloc));
+    };
+    let mut takes = arguments(alloc, called)?;
+    takes.push(if is_init(called) {
+        Asked::ToStart(called.class)
+    } else {
+        Asked::AnObject(called.class)
+    })?;
+    Ok(call_row(takes, result_of(alloc, called)?))
+}
+
+fn static_row(alloc: Global, called: Option<&MethodInfo>) -> Result<StoredRow, AllocError>
+    ensures { IfOk result (λ r. row_is r ≡ static_row (option_copied called.entry)) }
+{
+    let Some(called) = called else {
+        return Ok(no_row(alloc));
+    };
+    Ok(call_row(arguments(alloc, called)?, result_of(alloc, called)?))
+}
+
+/// `areturn` asks for the class of the descriptor, where that names one.
+pub fn returned(result_kind: Option<Kind>) -> Asked
+    ensures { want_is result ≡ returned result_kind }
+{
+    match result_kind {
+        Some(Kind::Ref(class)) => Asked::AnObject(class),
+        _ => Asked::AnObject(OBJECT),
+    }
+}
+
+fn field_row(alloc: Global, p: &Program, pc: u32, f: u32, op: &Op) -> Result<StoredRow, AllocError>
+    ensures { IfOk result (λ r. row_is r ≡ constant_row p.now pc (targets.Field f) op.now) }
+{
+    let field = p.fields.get(f as usize);
+    match op {
+        Op::Getstatic(_) => get_static_row(alloc, field),
+        Op::Putstatic(_) => put_static_row(alloc, field),
+        Op::Getfield(_) => get_row(alloc, field),
+        Op::Putfield(_) => put_row(alloc, field),
+        _ => Ok(no_row(alloc)),
+    }
+}
+
+fn method_row(alloc: Global, p: &Program, pc: u32, f: u32, op: &Op) -> Result<StoredRow, AllocError>
+    ensures { IfOk result (λ r. row_is r ≡ constant_row p.now pc (targets.Method f) op.now) }
+{
+    let called = p.methods.get(f as usize);
+    match op {
+        Op::Invokevirtual(_) => virtual_row(alloc, called),
+        Op::Invokespecial(_) => special_row(alloc, called),
+        Op::Invokestatic(_) => static_row(alloc, called),
+        _ => Ok(no_row(alloc)),
+    }
+}
+
+/// The row of an instruction with a constant, by what that names.
+pub fn constant_row(
+    alloc: Global,
+    p: &Program,
+    pc: u32,
+    target: Target,
+    op: &Op,
+) -> Result<StoredRow, AllocError>
+    ensures { IfOk result (λ r. row_is r ≡ constant_row p.now pc target op.now) }
+{
+    match target {
+        Target::Nothing => Ok(no_row(alloc)),
+        Target::Value(_) => stack_row(alloc, &[], &[AN_INT]),
+        Target::Class(_) => stack_row(alloc, &[], &[Left::Fresh(VType::New(pc))]),
+        Target::Field(f) => field_row(alloc, p, pc, f, op),
+        Target::Method(f) => method_row(alloc, p, pc, f, op),
+        Target::Init(class) => stack_row(alloc, &[Asked::ToStart(class)], &[]),
+        Target::Out => stack_row(alloc, &[], &[Left::Fresh(VType::Ref(PRINT_STREAM))]),
+        Target::Println => stack_row(alloc, &[Asked::AnInt, Asked::AnObject(PRINT_STREAM)], &[]),
+        Target::Wait | Target::Notify | Target::NotifyAll => {
+            stack_row(alloc, &[Asked::AnObject(OBJECT)], &[])
+        }
+    }
+}

@@ -1,0 +1,140 @@
+//! What is known of each instruction in the course of the visits.
+
+ghost use Rattle.std.specs.Prelude.{◌≡◌, ◌<◌, ◌||◌, [], length, map, replicate, slice_set, true, false, Some, None, IfOk, OnOk, OnSome};
+ghost use Rattle.std.specs.Option.{option_copied, IfSome, IfNone};
+ghost use Rattle.jvm_types.specs.Types.{shapes_of};
+ghost use Rattle.jvm_types.specs.Verifying.{node_at, node_joined, next_visit, has_other_depth};
+ghost use Rattle.code_verifier.specs.Waiting.{joined, changes, Fits, unreached};
+
+use crate::frame::Frame;
+use jvm_types::{Rows, Typing};
+use std::alloc::{AllocError, Global};
+use std::collections::BTreeSet;
+use std::marker::Model;
+
+/// What is known of an instruction: the frame that its edges met in, and whether that has changed since it was
+/// visited.
+#[derive(Debug, Drop)]
+struct StoredNode {
+    frame: Option<Frame>,
+    waits: bool,
+}
+
+/// The nodes of the instructions in order, and the numbers of those that wait.
+#[derive(Debug, Drop)]
+pub struct Nodes {
+    nodes: Vec<StoredNode>,
+    waiting: BTreeSet<usize>,
+}
+
+impl Model for Nodes {
+    ghost use Rattle.std.specs.Prelude.{◌≡◌, List, map};
+    ghost use Rattle.jvm_types.specs.Verifying.{Node};
+    ghost use Rattle.code_verifier.specs.Waiting.{node_is, waiting_numbers};
+
+    ghost Value = { List Node };
+
+    ghost view = { λ n. map node_is n.nodes.items };
+
+    ghost invariant = { λ n. n.waiting.keys ≡ waiting_numbers 0 (map node_is n.nodes.items) };
+}
+
+/// An edge brings a frame; answers whether that changes the one that is there.
+fn join(alloc: Global, frame: &mut Option<Frame>, f: &Frame) -> Result<bool, AllocError>
+    requires { Fits frame.old f.now }
+    ensures frame { OnOk result (frame.new ≡ Some (joined frame.old f.now)) }
+    ensures changed { IfOk result (λ changed. changed ≡ changes frame.old f.now) }
+{
+    match frame {
+        Some(g) => Ok(g.join(f)),
+        None => {
+            *frame = Some(f.copy(alloc)?);
+            Ok(true)
+        }
+    }
+}
+
+impl Nodes {
+    /// So many nodes that no edge reaches yet.
+    pub fn unreached(alloc: Global, count: usize) -> Result<Nodes, AllocError>
+        ensures { IfOk result (λ nodes. nodes ≡ replicate count unreached) }
+    {
+        let mut nodes = Vec::new(alloc);
+        for _i in 0..count {
+            nodes.push(StoredNode {
+                frame: None,
+                waits: false,
+            })?;
+        }
+        Ok(Nodes {
+            nodes,
+            waiting: BTreeSet::new(alloc),
+        })
+    }
+
+    /// The frame of the instruction of this number.
+    pub fn frame(&self, i: usize) -> Option<&Frame>
+        ensures { option_copied result ≡ (node_at self.now i).frame }
+    {
+        match self.nodes.get(i) {
+            Some(node) => node.frame.as_ref(),
+            None => None,
+        }
+    }
+
+    /// Takes the waiting instruction of least number, which then waits no more.
+    pub fn take_next(&mut self) -> Option<usize>
+        ensures next { result ≡ next_visit self.old }
+        ensures inside { IfSome result (λ i. i < length self.old) }
+        ensures none { IfNone result (self.new ≡ self.old) }
+        ensures some { IfSome result (λ i. self.new ≡ slice_set self.old i (record (node_at self.old i) { waits = false })) }
+    {
+        let i = self.waiting.pop_first()?;
+        self.nodes[i].waits = false;
+        Some(i)
+    }
+
+    /// The frame of the instruction of this number becomes that where it and another meet; answers whether that
+    /// changes it.
+    fn meet(&mut self, alloc: Global, i: usize, f: &Frame) -> Result<bool, AllocError>
+        requires inside { i < length self.old }
+        requires fits { Fits (node_at self.old i).frame f.now }
+        ensures met { OnOk result (self.new ≡ slice_set self.old i (record (node_at self.old i) { frame = Some (joined (node_at self.old i).frame f.now) })) }
+        ensures changed { IfOk result (λ changed. changed ≡ changes (node_at self.old i).frame f.now) }
+    {
+        join(alloc, &mut self.nodes[i].frame, f)
+    }
+
+    /// The instruction of this number waits.
+    fn wait(&mut self, i: usize) -> Result<(), AllocError>
+        requires { i < length self.old }
+        ensures { OnOk result (self.new ≡ slice_set self.old i (record (node_at self.old i) { waits = true })) }
+    {
+        self.waiting.insert(i)?;
+        self.nodes[i].waits = true;
+        Ok(())
+    }
+
+    /// An edge brings a frame to the instruction of this number.
+    pub fn bring(&mut self, alloc: Global, i: usize, f: &Frame) -> Result<(), AllocError>
+        requires inside { i < length self.old }
+        requires fits { Fits (node_at self.old i).frame f.now }
+        ensures { OnOk result (self.new ≡ slice_set self.old i (node_joined (node_at self.old i) (node_at self.old i).frame f.now)) }
+    {
+        if self.meet(alloc, i, f)? {
+            self.wait(i)?;
+        }
+        Ok(())
+    }
+
+    /// The last frames, as the typing of the method.
+    pub fn into_typing(self, alloc: Global) -> Result<Typing, AllocError>
+        ensures { IfOk result (λ t. shapes_of t ≡ map (λ node. node.frame) self) }
+    {
+        let mut frames = Rows::new(alloc);
+        for node in self.nodes {
+            frames.push(node.frame.map(Frame::into_types))?;
+        }
+        Ok(Typing { frames })
+    }
+}

@@ -1,0 +1,96 @@
+//! The table of instructions: the row of each.
+
+ghost use Rattle.std.specs.Prelude.{◌≡◌, IfOk};
+ghost use Rattle.jvm_types.specs.CodeTable.{row};
+ghost use Rattle.code_verifier.specs.OpRows.{row_is};
+
+use crate::classes::{INT_ARRAY, OBJECT, THROWABLE};
+use crate::member_rows::{constant_row, returned};
+use crate::op_row::{AN_INT, Asked, Left, StoredRow, load_row, stack_row, store_row};
+use jvm_types::{MethodInfo, Op, Program, Target, VType};
+use std::alloc::{AllocError, Global};
+
+const ANY: Asked = Asked::AnyValue;
+
+const INT: Asked = Asked::AnInt;
+
+const AN_OBJECT: Asked = Asked::AnObject(OBJECT);
+
+const AN_ARRAY: Asked = Asked::AnObject(INT_ARRAY);
+
+const TOP: Left = Left::Taken(0);
+
+const SECOND: Left = Left::Taken(1);
+
+const THIRD: Left = Left::Taken(2);
+
+/// The row of an instruction of a method at a pc, with what its constant names.
+pub fn row(
+    alloc: Global,
+    p: &Program,
+    m: &MethodInfo,
+    pc: u32,
+    target: Target,
+    op: &Op,
+) -> Result<StoredRow, AllocError>
+    ensures { IfOk result (λ r. row_is r ≡ row p.now m.now pc target op.now) }
+{
+    match op {
+        Op::Nop | Op::Goto(_) | Op::GotoW(_) | Op::Return => stack_row(alloc, &[], &[]),
+        Op::AconstNull => stack_row(alloc, &[], &[Left::Fresh(VType::Null)]),
+        Op::Iconst(_) | Op::Bipush(_) | Op::Sipush(_) => stack_row(alloc, &[], &[AN_INT]),
+        Op::Iload(i) => load_row(alloc, *i, INT),
+        Op::Aload(i) => load_row(alloc, *i, Asked::AnyReference),
+        Op::Istore(i) => store_row(alloc, *i, INT),
+        Op::Astore(i) => store_row(alloc, *i, Asked::AnyReference),
+        Op::Iaload => stack_row(alloc, &[INT, AN_ARRAY], &[AN_INT]),
+        Op::Iastore => stack_row(alloc, &[INT, INT, AN_ARRAY], &[]),
+        Op::Pop => stack_row(alloc, &[ANY], &[]),
+        Op::Pop2 => stack_row(alloc, &[ANY, ANY], &[]),
+        Op::Dup => stack_row(alloc, &[ANY], &[TOP, TOP]),
+        Op::DupX1 => stack_row(alloc, &[ANY, ANY], &[TOP, SECOND, TOP]),
+        Op::DupX2 => stack_row(alloc, &[ANY, ANY, ANY], &[TOP, SECOND, THIRD, TOP]),
+        Op::Dup2 => stack_row(alloc, &[ANY, ANY], &[TOP, SECOND, TOP, SECOND]),
+        Op::Swap => stack_row(alloc, &[ANY, ANY], &[SECOND, TOP]),
+        Op::Ineg | Op::I2b | Op::I2c | Op::I2s => stack_row(alloc, &[INT], &[AN_INT]),
+        Op::Iadd
+        | Op::Isub
+        | Op::Imul
+        | Op::Idiv
+        | Op::Irem
+        | Op::Ishl
+        | Op::Ishr
+        | Op::Iushr
+        | Op::Iand
+        | Op::Ior
+        | Op::Ixor => stack_row(alloc, &[INT, INT], &[AN_INT]),
+        Op::Iinc(i, _) => Ok(StoredRow {
+            takes: Vec::new(alloc),
+            gives: Vec::new(alloc),
+            reads: Some((*i, INT)),
+            writes: Some((*i, AN_INT)),
+        }),
+        Op::If(_, _) | Op::Tableswitch { .. } | Op::Lookupswitch { .. } | Op::Ireturn => {
+            stack_row(alloc, &[INT], &[])
+        }
+        Op::IfIcmp(_, _) => stack_row(alloc, &[INT, INT], &[]),
+        Op::IfAcmpeq(_) | Op::IfAcmpne(_) => stack_row(alloc, &[AN_OBJECT, AN_OBJECT], &[]),
+        Op::Ifnull(_) | Op::Ifnonnull(_) | Op::Monitorenter | Op::Monitorexit => {
+            stack_row(alloc, &[AN_OBJECT], &[])
+        }
+        Op::Areturn => stack_row(alloc, &[returned(m.result)], &[]),
+        Op::Newarray => stack_row(alloc, &[INT], &[Left::Fresh(VType::Ref(INT_ARRAY))]),
+        Op::Arraylength => stack_row(alloc, &[AN_ARRAY], &[AN_INT]),
+        Op::Athrow => stack_row(alloc, &[Asked::AnObject(THROWABLE)], &[]),
+        Op::Ldc(_)
+        | Op::LdcW(_)
+        | Op::Getstatic(_)
+        | Op::Putstatic(_)
+        | Op::Getfield(_)
+        | Op::Putfield(_)
+        | Op::Invokevirtual(_)
+        | Op::Invokespecial(_)
+        | Op::Invokestatic(_)
+        | Op::New(_) => constant_row(alloc, p, pc, target, op),
+    }
+}

@@ -1,0 +1,172 @@
+//! The rules at one instruction (JVMS 4.10.2).
+
+ghost use Rattle.std.specs.Prelude.{◌≡◌, ◌==◌};
+ghost use Rattle.std.specs.Option.{option_map};
+ghost use Rattle.std.specs.List.{list_any};
+ghost use Rattle.jvm_types.specs.Verifying.{takes_too_many, gives_too_many, names_no_local, lacks_locals, covers, is_return, misuses_object, mistypes, returns_wrongly, falls_off, broken_before, broken_after};
+ghost use Rattle.code_verifier.specs.Placing.{Ascend, ArePlaces};
+ghost use Rattle.code_verifier.specs.OpRows.{read_is, write_is, row_is};
+
+use crate::frame::Frame;
+use crate::op_row::{Asked, Left, StoredRow};
+use crate::operands::{Fault, some_operand};
+use crate::places::Places;
+use crate::ways::{falls_through, goes_back};
+use jvm_types::{Insn, Kind, MethodInfo, Op, Row, VRule};
+
+/// V1: the stack has too few values.
+fn takes_too_many(row: &StoredRow, f: &Frame) -> bool
+    ensures { result ≡ takes_too_many (row_is row.now) f.now }
+{
+    f.depth() < row.takes.len()
+}
+
+/// V2: the stack would pass `max_stack`.
+fn gives_too_many(m: &MethodInfo, row: &StoredRow, f: &Frame) -> bool
+    ensures { result ≡ gives_too_many m.now (row_is row.now) f.now }
+{
+    let left = f.depth().saturating_sub(row.takes.len());
+    usize::from(m.max_stack) < left.saturating_add(row.gives.len())
+}
+
+fn reads_no_local(m: &MethodInfo, reads: Option<(u16, Asked)>) -> bool
+    ensures { result ≡ names_no_local m.now (option_map read_is reads) }
+{
+    match reads {
+        Some((i, _)) => m.max_locals <= i,
+        None => false,
+    }
+}
+
+fn writes_no_local(m: &MethodInfo, writes: Option<(u16, Left)>) -> bool
+    ensures { result ≡ names_no_local m.now (option_map write_is writes) }
+{
+    match writes {
+        Some((i, _)) => m.max_locals <= i,
+        None => false,
+    }
+}
+
+/// V3: a local at or above `max_locals`, or arguments that do not fit there.
+fn lacks_locals(m: &MethodInfo, row: &StoredRow, f: &Frame) -> bool
+    ensures { result ≡ lacks_locals m.now (row_is row.now) f.now }
+{
+    reads_no_local(m, row.reads)
+        || writes_no_local(m, row.writes)
+        || usize::from(m.max_locals) < f.local_count()
+}
+
+/// Whether a handler row covers a pc (JVMS 2.10).
+pub fn covers(pc: u32, row: &Row) -> bool
+    ensures { result ≡ covers pc row.now }
+{
+    row.start <= pc && pc < row.end
+}
+
+fn is_covered(pc: u32, rows: &[Row]) -> bool
+    ensures { result ≡ list_any (covers pc) rows.now }
+{
+    rows.iter().any(|row| covers(pc, row))
+}
+
+fn is_return(op: &Op) -> bool
+    ensures { result ≡ is_return op.now }
+{
+    matches!(op, Op::Ireturn | Op::Areturn | Op::Return)
+}
+
+/// V7: an uninitialised object is misused.
+fn misuses_object(
+    m: &MethodInfo,
+    places: &Places,
+    insn: &Insn,
+    row: &StoredRow,
+    f: &Frame,
+) -> bool
+    requires places { ArePlaces m.now.code places.now }
+    requires ascend { Ascend 0 m.now.code }
+    ensures { result ≡ misuses_object m.now insn.now (row_is row.now) f.now }
+{
+    some_operand(m, places, Fault::Misuse, row, f)
+        || (goes_back(insn.pc, &insn.op) && f.has_uninitialised())
+        || (is_covered(insn.pc, m.rows.as_slice()) && f.has_new_local())
+        || (is_return(&insn.op) && !f.is_ready())
+}
+
+/// V4: a value of another type.
+fn mistypes(m: &MethodInfo, places: &Places, row: &StoredRow, f: &Frame) -> bool
+    requires places { ArePlaces m.now.code places.now }
+    requires ascend { Ascend 0 m.now.code }
+    ensures { result ≡ mistypes m.now (row_is row.now) f.now }
+{
+    some_operand(m, places, Fault::Mistype, row, f)
+}
+
+/// V8: a return instruction that does not fit the descriptor.
+fn returns_wrongly(op: &Op, kind: Option<Kind>) -> bool
+    ensures { result ≡ returns_wrongly op.now kind }
+{
+    match op {
+        Op::Return => kind.is_some(),
+        Op::Ireturn => !matches!(kind, Some(Kind::Int | Kind::Bool)),
+        Op::Areturn => !matches!(kind, Some(Kind::Ref(_))),
+        _ => false,
+    }
+}
+
+/// Whether an instruction begins at a pc.
+fn begins_at(m: &MethodInfo, places: &Places, pc: u32) -> bool
+    requires { ArePlaces m.now.code places.now }
+    ensures { result ≡ list_any (λ other. other.pc == pc) m.now.code }
+{
+    places.find(pc).is_some()
+}
+
+/// V6: the code falls off its end.
+fn falls_off(m: &MethodInfo, places: &Places, insn: &Insn) -> bool
+    requires { ArePlaces m.now.code places.now }
+    ensures { result ≡ falls_off m.now.code insn.now }
+{
+    falls_through(&insn.op) && !begins_at(m, places, insn.next)
+}
+
+/// The first rule that is broken before an edge is brought.
+pub fn broken_before(
+    m: &MethodInfo,
+    places: &Places,
+    insn: &Insn,
+    row: &StoredRow,
+    f: &Frame,
+) -> Option<VRule>
+    requires places { ArePlaces m.now.code places.now }
+    requires ascend { Ascend 0 m.now.code }
+    ensures { result ≡ broken_before m.now insn.now (row_is row.now) f.now }
+{
+    if takes_too_many(row, f) {
+        Some(VRule::V1)
+    } else if gives_too_many(m, row, f) {
+        Some(VRule::V2)
+    } else if lacks_locals(m, row, f) {
+        Some(VRule::V3)
+    } else if misuses_object(m, places, insn, row, f) {
+        Some(VRule::V7)
+    } else if mistypes(m, places, row, f) {
+        Some(VRule::V4)
+    } else {
+        None
+    }
+}
+
+/// The first rule that is broken after the normal edges were brought.
+pub fn broken_after(m: &MethodInfo, places: &Places, insn: &Insn) -> Option<VRule>
+    requires { ArePlaces m.now.code places.now }
+    ensures { result ≡ broken_after m.now insn.now }
+{
+    if returns_wrongly(&insn.op, m.result) {
+        Some(VRule::V8)
+    } else if falls_off(m, places, insn) {
+        Some(VRule::V6)
+    } else {
+        None
+    }
+}

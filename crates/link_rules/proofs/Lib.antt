@@ -1,0 +1,4 @@
+pub mod Nameless
+pub mod Files
+pub mod MethodUses
+pub mod FirstRun

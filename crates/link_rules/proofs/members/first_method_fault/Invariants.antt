@@ -1,0 +1,8 @@
+use Rattle.std.proofs.Common.{◌≡◌, drop}
+use Rattle.jvm_types.specs.ClassNames.{class_names}
+use Rattle.jvm_types.specs.LinkFaults.{first_from, method_fault}
+use Rattle.link_rules.proofs.members.first_method_fault.Given as goal
+
+abbrev pub invariant-loop-number : goal.invariant-loop-number
+invariant-loop-number l = first_from (method_fault (class_names l.scope) l.file l.class) l.number (drop l.number l.methods)
+    ≡ first_from (method_fault (class_names l.scope) l.file l.class) 0 l.methods

@@ -1,0 +1,10 @@
+use Rattle.std.proofs.Common.{◌≡◌, drop}
+use Rattle.std.specs.List.{list_any}
+use Rattle.jvm_types.specs.Members.{declared_from}
+use Rattle.jvm_types.specs.LinkFaults.{is_wrong_method}
+use Rattle.link_rules.proofs.roots.has_wrong_method.Given as goal
+
+abbrev pub invariant-loop-method : goal.invariant-loop-method
+invariant-loop-method l =
+    list_any is_wrong_method (declared_from l.file l.class.constants l.method-index (drop l.method-index l.class.methods))
+    ≡ list_any is_wrong_method (declared_from l.file l.class.constants 0 l.class.methods)

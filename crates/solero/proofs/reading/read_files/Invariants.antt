@@ -1,0 +1,11 @@
+use Rattle.std.proofs.Common.{◌≡◌, drop}
+use Rattle.solero.specs.Command.{texts}
+use Rattle.solero.proofs.SoFar.{SoFar}
+use Rattle.solero.proofs.reading.read_files.Given as goal
+
+-- what was read so far are the contents of the names so far; no file is too long, and the shelf has not failed
+abbrev pub invariant-loop-file : goal.invariant-loop-file
+invariant-loop-file g l = record {
+  files : g.S.Shelf.files l.shelf ≡ g.S.Shelf.files l.fn.shelf;
+  read : SoFar (g.S.Shelf.files l.fn.shelf) (texts l.names) (texts (drop l.file l.names)) (g.S.Shelf.faults l.fn.shelf) (g.S.Shelf.faults l.shelf) l.file l.contents;
+}

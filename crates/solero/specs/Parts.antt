@@ -1,0 +1,49 @@
+-- What the parts of the work find due.
+use Rattle.std.specs.Prelude.{◌≡◌, ℕ, List, ◌++◌, codes}
+use Rattle.std.specs.Fmt.{decimal}
+use Rattle.jvm_types.specs.LinkFaults.{in_file}
+use Rattle.jvm_types.specs.FirstForm.{IsFirstProgram}
+use Rattle.jvm_types.specs.declared.first.FirstOp.{FirstOp}
+use Rattle.jvm_types.specs.declared.outcome.Outcome.{Outcome}
+use Rattle.jvm_types.specs.declared.program.Program.{Program}
+use Rattle.jvm_types.specs.declared.refusal.Rule.TheVariants as rules
+use Rattle.jvm_types.specs.declared.refusal.CRule.TheVariants.{C10}
+use Rattle.step_core.specs.PlainRun.{IsPlainOutcome}
+use Rattle.class_runner.specs.Report.{line, report_text}
+use Rattle.class_runner.specs.Refusal.{refusal_text}
+use Rattle.solero.specs.Answer.{longest_file, Reports, Refuses}
+use Rattle.solero.specs.declared.shelf.ShelfError.{ShelfError}
+use Rattle.solero.specs.declared.shelf.ShelfError.TheVariants.{Failed, TooLong}
+use Rattle.solero.specs.declared.answer.Due.{Due}
+use Rattle.solero.specs.declared.answer.Due.TheVariants.{Report, Refusal, CannotRead, OutOfMemory}
+
+-- the line of a refusal, or want of memory
+abbrev pub IsLine : List ℕ → Due → Type 0
+IsLine refusal (Refusal text) = text ≡ refusal
+IsLine refusal OutOfMemory = Unit {0}
+IsLine refusal due = ⊥
+
+abbrev pub unread_line : ℕ → List ℕ
+unread_line file = line (codes "cannot read file " ++ decimal file)
+
+-- what is due where the file of this number is not read
+abbrev pub IsUnreadDue : ℕ → ShelfError → Due → Type 0
+IsUnreadDue file TooLong due = IsLine (refusal_text (rules.C C10) (in_file file longest_file)) due
+IsUnreadDue file Failed (CannotRead text) = text ≡ unread_line file
+IsUnreadDue file error OutOfMemory = Unit {0}
+IsUnreadDue file error due = ⊥
+
+-- what is due to the contents of the files, none of which is too long
+abbrev pub IsRun : List (List ℕ) → Due → Type 0
+IsRun contents (Report text) = Reports contents text
+IsRun contents (Refusal text) = Refuses contents text
+IsRun contents OutOfMemory = Unit {0}
+IsRun contents due = ⊥
+
+-- the text reports a plain run of a program of the first form
+pub record ReportsProgram (p : Program) (text : List ℕ) : Type 0 where
+  pub ops : List FirstOp
+  pub first : IsFirstProgram p ops
+  pub outcome : Outcome
+  pub run : IsPlainOutcome ops outcome
+  pub report : text ≡ report_text outcome

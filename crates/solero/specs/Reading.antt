@@ -1,0 +1,28 @@
+-- Files that are read from a shelf by their names, in order, until one is not read.
+use Rattle.std.specs.Prelude.{◌≡◌, ℕ, ◌<◌, ◌≤◌, List, [], ◌∷◌, ◌++◌, length, Option, Some, IfSome, Result, Ok, Err}
+use Rattle.std.specs.List.{AllByRecursion}
+use Rattle.solero.specs.Faults.{CountsFault}
+use Rattle.solero.specs.Shelf.{IsRead}
+use Rattle.solero.specs.Answer.{longest_file, first_long, contents_of}
+use Rattle.solero.specs.declared.shelf.NamedFile.{NamedFile}
+use Rattle.solero.specs.declared.shelf.ShelfError.{ShelfError}
+use Rattle.solero.specs.declared.shelf.ShelfError.TheVariants.{Memory, Failed, TooLong}
+
+-- All are read, and these are their contents. The shelf tells its files, or tells none at None, and its count of faults goes
+-- from before to after.
+pub record AreRead (files : Option (List NamedFile)) (names : List (List ℕ)) (before after : ℕ) (contents : List (List ℕ)) : Type 0 where
+  pub calm : after ≡ before
+  pub many : length contents ≡ length names
+  pub short : AllByRecursion (λ content. length content ≤ longest_file) contents
+  pub are : IfSome files (λ fs. contents ≡ contents_of fs names)
+
+-- the file of this number is the first that is not read, for this reason
+abbrev pub IsUnread : Option (List NamedFile) → List (List ℕ) → (before after file : ℕ) → ShelfError → Type 0
+IsUnread files names before after file TooLong = (after ≡ before) × IfSome files (λ fs. first_long 0 (contents_of fs names) ≡ Some file)
+IsUnread files names before after file Failed = CountsFault before after × (file < length names)
+IsUnread files names before after file Memory = before ≤ after
+
+-- one more file is read: its content stands behind the contents so far
+abbrev pub IsNextRead : {A : Type 0} → Option (List NamedFile) → (name : List ℕ) → (before after : ℕ) → (contents more : List (List ℕ)) → Result A ShelfError → Type 0
+IsNextRead files name before after contents more (Ok done) = (content : List ℕ) × (more ≡ contents ++ content ∷ []) × IsRead files name longest_file before after (Ok content)
+IsNextRead files name before after contents more (Err e) = IsRead files name longest_file before after (Err e)
