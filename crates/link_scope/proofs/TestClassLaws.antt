@@ -21,8 +21,31 @@ is_pool : IsPool test_pool
 is_pool = record {
   count = lit< tt;
   gaps = (refl, (refl, (refl, (refl, (refl, (refl, (refl, (refl, (refl, (refl, (refl, (refl, (refl, refl)))))))))))));
-  fields = (tt, ((lit< tt, bytes (codes "A") refl), (lit< tt, ((lit< tt, bytes (codes "B") refl), (lit< tt, ((lit< tt, bytes (codes "x") refl), ((lit< tt, bytes (codes "I") refl), ((lit< tt, bytes (codes "m") refl),
-      ((lit< tt, bytes (codes "()V") refl), ((lit< tt, bytes (codes "Code") refl), ((lit< tt, bytes (codes "notify") refl), ((lit< tt, bytes (codes "<init>") refl), ((lit< tt, bytes (codes "java/lang/System") refl), tt)))))))))))));
+  fields = (
+    tt,
+    (
+      (lit< tt, bytes (codes "A") refl),
+      (
+        lit< tt,
+        (
+          (lit< tt, bytes (codes "B") refl),
+          (
+            lit< tt,
+            (
+              (lit< tt, bytes (codes "x") refl),
+              (
+                (lit< tt, bytes (codes "I") refl),
+                (
+                  (lit< tt, bytes (codes "m") refl),
+                  ((lit< tt, bytes (codes "()V") refl), ((lit< tt, bytes (codes "Code") refl), ((lit< tt, bytes (codes "notify") refl), ((lit< tt, bytes (codes "<init>") refl), ((lit< tt, bytes (codes "java/lang/System") refl), tt))))),
+                ),
+              ),
+            ),
+          ),
+        ),
+      ),
+    ),
+  );
   indices = (tt, (tt, ((codes "A", refl), (tt, ((codes "B", refl), (tt, (tt, (tt, (tt, (tt, (tt, (tt, (tt, tt)))))))))))));
 }
 
@@ -42,16 +65,19 @@ is_method = record {
     descriptor = record { number = lit< tt; names = (codes "()V", refl) };
     attrs = record {
       count = lit< tt;
-      each = (record {
-        name = record { number = lit< tt; named = refl };
-        size = lit< tt;
-        max_stack = lit< tt;
-        max_locals = lit< tt;
-        count = lit< tt;
-        bytes = tt;
-        rows = record { count = lit< tt; each = tt };
-        attrs = record { count = lit< tt; each = tt };
-      }, tt);
+      each = (
+        record {
+          name = record { number = lit< tt; named = refl };
+          size = lit< tt;
+          max_stack = lit< tt;
+          max_locals = lit< tt;
+          count = lit< tt;
+          bytes = tt;
+          rows = record { count = lit< tt; each = tt };
+          attrs = record { count = lit< tt; each = tt };
+        },
+        tt,
+      );
     };
   };
   body = record { one = refl; not_native = refl; not_abstract = refl };

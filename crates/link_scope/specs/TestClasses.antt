@@ -18,6 +18,14 @@ test_method = record { flags = 0; name = 7; descriptor = 8; attrs = member_attrs
 
 abbrev pub test_class : ℕ → ClassFile
 test_class this_class = record {
-  minor = 0; major = 50; constants = test_pool; flags = 0; this_class = this_class; super_class = 2;
-  interfaces = []; fields = test_field ∷ test_field ∷ []; methods = test_method ∷ []; attrs = [];
+  minor = 0;
+  major = 50;
+  constants = test_pool;
+  flags = 0;
+  this_class = this_class;
+  super_class = 2;
+  interfaces = [];
+  fields = test_field ∷ test_field ∷ [];
+  methods = test_method ∷ [];
+  attrs = [];
 }

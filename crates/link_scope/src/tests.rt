@@ -11,16 +11,27 @@ use std::test::*;
 
 /// Indices of the pool of the test classes.
 const A: u16 = 1;
+
 const CLASS_A: u16 = 2;
+
 const B: u16 = 3;
+
 const CLASS_B: u16 = 4;
+
 const X: u16 = 5;
+
 const INT: u16 = 6;
+
 const M: u16 = 7;
+
 const NOTHING: u16 = 8;
+
 const CODE: u16 = 9;
+
 const NOTIFY: u16 = 10;
+
 const INIT: u16 = 11;
+
 const SYSTEM: u16 = 12;
 
 fn add_text(alloc: Global, pool: &mut Rows<Constant>, text: &[u8]) -> Result<(), AllocError>

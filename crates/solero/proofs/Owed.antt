@@ -1,6 +1,5 @@
 -- What is owed to files that were read, and where one was not.
-use Rattle.std.proofs.Common.{◌≡◌, ℕ, ◌≤◌, List, Option, Some, None, refl, inl, inr, arith}
-use Rattle.std.specs.Prelude.{IfSome}
+use Rattle.std.proofs.Common.{◌≡◌, ℕ, ◌≤◌, List, Option, Some, refl, inl, inr, arith}
 use Rattle.jvm_types.specs.LinkFaults.{in_file}
 use Rattle.jvm_types.specs.declared.refusal.Rule.TheVariants as rules
 use Rattle.jvm_types.specs.declared.refusal.CRule.TheVariants.{C10}
@@ -8,7 +7,8 @@ use Rattle.solero.specs.Faults.{CountsFault}
 use Rattle.jvm_types.specs.CheckedProgram.{CheckedProgram}
 use Rattle.jvm_types.specs.declared.first.FirstOp.{FirstOp}
 use Rattle.class_runner.specs.Loading.{IsFirstLoaded}
-use Rattle.solero.specs.Answer.{IsDue, IsRefusal, Reports, heap_words, workers, longest_file, first_long, contents_of}
+use Rattle.class_runner.specs.Refusal.{refusal_text}
+use Rattle.solero.specs.Answer.{IsDue, Reports, Refuses, heap_words, workers, longest_file, first_long}
 use Rattle.solero.specs.Reading.{IsUnread}
 use Rattle.solero.specs.Parts.{IsUnreadDue, ReportsProgram}
 use Rattle.solero.specs.declared.shelf.NamedFile.{NamedFile}
@@ -27,7 +27,7 @@ reported contents checked text (ops, loaded) r = record {
     code = loaded.code;
     read = loaded.read;
     checked = loaded.checked;
-    first = record { class = loaded.first.class; only = loaded.first.only; file = loaded.first.file; program = r.first };
+    first = record { class = loaded.first.class; only = loaded.first.only; file = loaded.first.file; init = loaded.first.init; program = r.first };
   };
   outcome = r.outcome;
   run = r.run;
@@ -36,9 +36,14 @@ reported contents checked text (ops, loaded) r = record {
 
 -- ---- a file that was not read
 
-refused : (files : Option (List NamedFile)) (names : List (List ℕ)) (file : ℕ) → IfSome files (λ fs. first_long 0 (contents_of fs names) ≡ Some file) → IfSome files (λ fs. IsRefusal (first_long 0 (contents_of fs names)) (contents_of fs names) (rules.C C10) (in_file file longest_file))
-refused None names file long = tt
-refused (Some fs) names file long = rw long (refl, refl)
+-- the line of a file that is too long refuses contents of which it is the first
+long_refused : (contents : List (List ℕ)) (file : ℕ) (text : List ℕ) → first_long 0 contents ≡ Some file → text ≡ refusal_text (rules.C C10) (in_file file longest_file) → Refuses contents text
+long_refused contents file text long line = record {
+  rule = rules.C C10;
+  place = in_file file longest_file;
+  refused = rw long (refl, refl);
+  is_line = line;
+}
 
 at_least : (before after : ℕ) → CountsFault before after → before ≤ after
 at_least before after (inl rose) = omega arith
@@ -46,8 +51,8 @@ at_least before after (inr full) = omega arith
 
 -- what is due where a file was not read is due to the names
 pub unread_due : (files : Option (List NamedFile)) (names : List (List ℕ)) (before after file : ℕ) (error : ShelfError) (due : Due) → IsUnread files names before after file error → IsUnreadDue file error due → IsDue (Some names) files before after due
-unread_due files names before after file TooLong (Refusal text) unread line = (unread.0, record { rule = rules.C C10; place = in_file file longest_file; refused = refused files names file unread.1; is_line = line })
-unread_due files names before after file Failed (CannotRead text) unread line = (unread.0, (file, unread.1, line))
+unread_due files names before after file TooLong (Refusal text) unread line = (unread.0, record { contents = unread.1.contents; are = unread.1.are; many = unread.1.many; refuses = long_refused unread.1.contents file text unread.1.first line })
+unread_due files names before after file Failed (CannotRead text) unread line = (unread.0, record { file = file; among = unread.1; before = unread.2; is_line = line })
 unread_due files names before after file TooLong OutOfMemory unread line = omega arith
 unread_due files names before after file Failed OutOfMemory unread line = at_least before after unread.0
 unread_due files names before after file Memory OutOfMemory unread line = unread

@@ -1,5 +1,5 @@
 -- What the program owes to its words and files: a text, and a status with it.
-use Rattle.std.specs.Prelude.{◌≡◌, ℕ, ◌+◌, ◌<◌, ◌≤◌, nat_lt, List, [], ◌∷◌, ◌++◌, length, map, codes, Option, Some, None, IfSome, if◌then◌else◌}
+use Rattle.std.specs.Prelude.{◌≡◌, ℕ, ◌+◌, ◌<◌, ◌≤◌, nat_lt, List, [], ◌∷◌, ◌++◌, length, map, take, codes, Option, Some, None, IfSome, if◌then◌else◌}
 use Rattle.std.specs.Fmt.{decimal}
 use Rattle.std.specs.List.{AllByRecursion}
 use Rattle.jvm_types.specs.CheckedProgram.{CheckedProgram}
@@ -90,23 +90,27 @@ pub record ReportsFiles (files : Option (List NamedFile)) (names : List (List �
   pub short : AllByRecursion (λ content. length content ≤ longest_file) contents
   pub reports : Reports contents text
 
--- the line of a refusal of the files of these names; where the shelf does not tell its files, of some refusal
+-- the line of a refusal of the files of these names; where the shelf does not tell its files, of some of which there are as many
 pub record RefusesFiles (files : Option (List NamedFile)) (names : List (List ℕ)) (text : List ℕ) : Type 0 where
-  pub rule : Rule
-  pub place : Place
-  pub refused : IfSome files (λ fs. IsRefusal (first_long 0 (contents_of fs names)) (contents_of fs names) rule place)
-  pub is_line : text ≡ refusal_text rule place
+  pub contents : List (List ℕ)
+  pub are : IfSome files (λ fs. contents ≡ contents_of fs names)
+  pub many : length contents ≡ length names
+  pub refuses : Refuses contents text
 
--- the line that one of so many files can't be read
-abbrev pub SaysUnread : ℕ → List ℕ → Type 0
-SaysUnread many text = (file : ℕ) × (file < many) × (text ≡ line (codes "cannot read file " ++ decimal file))
+-- The line that one of the files of these names can't be read. None before it is too long, since such a file is refused when it is
+-- read.
+pub record SaysUnread (files : Option (List NamedFile)) (names : List (List ℕ)) (text : List ℕ) : Type 0 where
+  pub file : ℕ
+  pub among : file < length names
+  pub before : IfSome files (λ fs. first_long 0 (take file (contents_of fs names)) ≡ None)
+  pub is_line : text ≡ line (codes "cannot read file " ++ decimal file)
 
 -- What is due to a command, None where the words are not read, and to the files, None where the shelf does not tell
 -- them. The shelf's count of faults goes from before to after. Want of memory may come to any command.
 abbrev pub IsDue : Option (List (List ℕ)) → Option (List NamedFile) → ℕ → ℕ → Due → Type 0
 IsDue None files before after due = (due ≡ Usage) × (after ≡ before)
 IsDue (Some names) files before after Usage = ⊥
-IsDue (Some names) files before after (CannotRead text) = CountsFault before after × SaysUnread (length names) text
+IsDue (Some names) files before after (CannotRead text) = CountsFault before after × SaysUnread files names text
 IsDue (Some names) files before after OutOfMemory = before ≤ after
 IsDue (Some names) files before after (Refusal text) = (after ≡ before) × RefusesFiles files names text
 IsDue (Some names) files before after (Report text) = (after ≡ before) × ReportsFiles files names text

@@ -1,5 +1,5 @@
 -- Files that are read from a shelf by their names, in order, until one is not read.
-use Rattle.std.specs.Prelude.{◌≡◌, ℕ, ◌<◌, ◌≤◌, List, [], ◌∷◌, ◌++◌, length, Option, Some, IfSome, Result, Ok, Err}
+use Rattle.std.specs.Prelude.{◌≡◌, ℕ, ◌<◌, ◌≤◌, List, [], ◌∷◌, ◌++◌, length, take, Option, Some, None, IfSome, Result, Ok, Err}
 use Rattle.std.specs.List.{AllByRecursion}
 use Rattle.solero.specs.Faults.{CountsFault}
 use Rattle.solero.specs.Shelf.{IsRead}
@@ -16,10 +16,18 @@ pub record AreRead (files : Option (List NamedFile)) (names : List (List ℕ)) (
   pub short : AllByRecursion (λ content. length content ≤ longest_file) contents
   pub are : IfSome files (λ fs. contents ≡ contents_of fs names)
 
+-- The file of this number is the first that is too long of some contents: those of the files of these names or, where the shelf
+-- does not tell its files, some of which there are as many.
+pub record IsLong (files : Option (List NamedFile)) (names : List (List ℕ)) (file : ℕ) : Type 0 where
+  pub contents : List (List ℕ)
+  pub are : IfSome files (λ fs. contents ≡ contents_of fs names)
+  pub many : length contents ≡ length names
+  pub first : first_long 0 contents ≡ Some file
+
 -- the file of this number is the first that is not read, for this reason
 abbrev pub IsUnread : Option (List NamedFile) → List (List ℕ) → (before after file : ℕ) → ShelfError → Type 0
-IsUnread files names before after file TooLong = (after ≡ before) × IfSome files (λ fs. first_long 0 (contents_of fs names) ≡ Some file)
-IsUnread files names before after file Failed = CountsFault before after × (file < length names)
+IsUnread files names before after file TooLong = (after ≡ before) × IsLong files names file
+IsUnread files names before after file Failed = CountsFault before after × (file < length names) × IfSome files (λ fs. first_long 0 (take file (contents_of fs names)) ≡ None)
 IsUnread files names before after file Memory = before ≤ after
 
 -- one more file is read: its content stands behind the contents so far

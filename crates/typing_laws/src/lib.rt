@@ -2,5 +2,5 @@
 #![tactic(auto)]
 
 pub mod least_laws;
-pub mod visit_laws;
 pub mod local_laws;
+pub mod visit_laws;

@@ -1,0 +1,19 @@
+use Rattle.std.proofs.Common.{◌≡◌, ◌+◌, ◌∷◌, drop, Err, sym, ap, subst, ◌∙◌}
+use Rattle.std.proofs.lemmas.List.{drop_more}
+use Rattle.std.specs.Prelude.{string_bytes}
+use Rattle.solero.specs.Command.{texts}
+use Rattle.solero.specs.Shelf.{IsRead}
+use Rattle.solero.specs.Answer.{longest_file}
+use Rattle.solero.proofs.SoFar.{next_unread}
+use Rattle.solero.proofs.reading.read_files.Goals as goal
+
+pub returns-in-Err-clause-err : goal.returns-in-Err-clause-err
+returns-in-Err-clause-err g c =
+    let names = c.args.names.now in
+    let file = c.loop-file.file in
+    let left = texts (drop (file + 1) names) in
+    let named = ap string_bytes (sym c.index-names-file.is) ∙ sym c.as_str.ensures.value in
+    let next : texts (drop file names) ≡ c.as_str.result.now ∷ left = ap texts (drop_more names file c.index-names-file.result c.loop-file-test.true) ∙ ap (λ n. n ∷ left) named in
+    let read = c.loop-file.invariant.read in
+    let answer = subst (λ files. IsRead files c.as_str.result.now longest_file (g.S.Shelf.faults c.loop-file.shelf) (g.S.Shelf.faults c.read_next.new.shelf) (Err c.in-Err.error)) c.loop-file.invariant.files c.in-Err.ensures.answer in
+    next_unread _ (texts names) left c.as_str.result.now _ _ _ file _ _ (rw next at read) answer
