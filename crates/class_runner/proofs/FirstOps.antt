@@ -1,7 +1,7 @@
 -- The instructions of a method as those of a program of the first form.
-use Rattle.std.proofs.Common.{◌≡◌, ℕ, suc, ◌+◌, ◌<◌, ◌≤◌, Bool, true, false, Decides, List, [], ◌∷◌, ◌++◌, length, get_or, drop, Some, None, refl, sym, ap, subst, ◌∙◌, append_assoc, append-nil, length-append, arith}
+use Rattle.std.proofs.Common.{◌≡◌, ℕ, suc, ◌+◌, ◌<◌, ◌≤◌, true, Decides, List, [], ◌∷◌, ◌++◌, length, get_or, drop, Option, Some, None, refl, sym, ap, subst, ◌∙◌, append_assoc, append-nil, length-append, arith}
 use Rattle.std.specs.Prelude.{bytes_eq, codes, nat_le, ◌&&◌}
-use Rattle.std.proofs.lemmas.Bool.{eqb-true, leb-true}
+use Rattle.std.proofs.lemmas.Bool.{eqb-true, leb-true, and_parts, and_from}
 use Rattle.std.proofs.lemmas.List.{drop_more, drop_all}
 use Rattle.std.proofs.lemmas.Option.{slice_get_read}
 use Rattle.std.proofs.lemmas.Slice.Zip.{AllZip-long}
@@ -9,7 +9,7 @@ use Rattle.std.proofs.lemmas.Slice.Eq.{bytes_eq-Decides}
 use Rattle.jvm_types.specs.Members.{is_static}
 use Rattle.jvm_types.specs.CodeGrammar.{SpellsInsns}
 use Rattle.jvm_types.specs.ProgramInvariant.{IsProgram}
-use Rattle.jvm_types.specs.FirstForm.{first_op, AreFirstOps, EndsInReturn, RunsWithin, IsFirstMethod, IsFirstProgram}
+use Rattle.jvm_types.specs.FirstForm.{first_op, AreFirstOps, EndsInReturn, RunsWithin, is_first_file, IsFirstCode, IsInit, IsFirstProgram, IsFirstForm}
 use Rattle.jvm_types.specs.declared.code.Insn.{Insn}
 use Rattle.jvm_types.specs.declared.first.FirstOp.{FirstOp}
 use Rattle.jvm_types.specs.declared.first.FirstOp.TheVariants.{Return}
@@ -17,7 +17,11 @@ use Rattle.jvm_types.specs.declared.program.MethodInfo.{MethodInfo}
 use Rattle.jvm_types.specs.declared.program.Program.{Program}
 use Rattle.jvm_types.specs.declared.program.Target.{Target}
 use Rattle.jvm_types.specs.declared.program.Target.TheVariants.{Nothing}
-use Rattle.class_runner.specs.FirstTests.{is_init, ends_in_return}
+use Rattle.class_runner.specs.FirstTests.{Finds, is_init, ends_in_return}
+use Rattle.class_runner.specs.Operands.{Tells}
+use Rattle.std.specs.Option.{is_some}
+use Rattle.std.specs.List.{AllByRecursion}
+use Rattle.jvm_types.specs.declared.class_file.ClassFile.{ClassFile}
 
 -- ---- the return
 
@@ -128,29 +132,31 @@ method_targets p i m is within at =
     let fits = is.methods i m (slice_get_read p.methods (length p.methods) i m refl within at) in
     AllZip-long _ m.code m.targets fits.targets
 
-and_parts : (a b : Bool) → (a && b) ≡ true → (a ≡ true) × (b ≡ true)
-and_parts true true e = (refl, refl)
-and_parts true false e = absurd cc
-and_parts false b e = absurd cc
+pub is_init-Decides : (m : MethodInfo) → Decides (is_init m) (IsInit m)
+is_init-Decides m = (
+  λ e.
+      let both = and_parts (bytes_eq m.name (codes "init") && bytes_eq m.descriptor (codes "()V")) (is_static m.flags) e in
+      let names = and_parts (bytes_eq m.name (codes "init")) (bytes_eq m.descriptor (codes "()V")) both.0 in
+      record {
+        named = (bytes_eq-Decides m.name (codes "init")).0 names.0;
+        described = (bytes_eq-Decides m.descriptor (codes "()V")).0 names.1;
+        static = both.1;
+      },
+  λ h. and_from _ (is_static m.flags) (and_from _ (bytes_eq m.descriptor (codes "()V")) ((bytes_eq-Decides m.name (codes "init")).1 h.named) ((bytes_eq-Decides m.descriptor (codes "()V")).1 h.described)) h.static,
+)
 
-pub runs : (m : MethodInfo) (ops : List FirstOp) → length m.code ≤ 65535 → is_init m ≡ true → AreFirstOps m.code m.targets ops → EndsInReturn ops × RunsWithin m.max_stack [] ops → IsFirstMethod m ops
-runs m ops short init are may =
-    let more = and_parts _ (nat_le (m.max_stack + m.max_locals) 16384) init in
-    let names = and_parts _ (is_static m.flags) more.0 in
-    let both = and_parts (bytes_eq m.name (codes "init")) (bytes_eq m.descriptor (codes "()V")) names.0 in
+pub runs : (m : MethodInfo) (ops : List FirstOp) → length m.code ≤ 65535 → nat_le (m.max_stack + m.max_locals) 16384 ≡ true → AreFirstOps m.code m.targets ops → EndsInReturn ops × RunsWithin m.max_stack [] ops → IsFirstCode m ops
+runs m ops short room are may =
     let long : length ops ≡ length m.code = (ops_long m.code m.targets ops are).1 in
     record {
-      named = (bytes_eq-Decides m.name (codes "init")).0 both.0;
-      described = (bytes_eq-Decides m.descriptor (codes "()V")).0 both.1;
-      static = names.1;
-      slots = leb-true (m.max_stack + m.max_locals) 16384 more.1;
+      slots = leb-true (m.max_stack + m.max_locals) 16384 room;
       short = omega arith;
       are = are;
       ends = may.0;
       within = may.1;
     }
 
-pub never_runs : (m : MethodInfo) (ops : List FirstOp) → AreFirstOps m.code m.targets ops → (EndsInReturn ops × RunsWithin m.max_stack [] ops → ⊥) → (others : List FirstOp) → IsFirstMethod m others → ⊥
+pub never_runs : (m : MethodInfo) (ops : List FirstOp) → AreFirstOps m.code m.targets ops → (EndsInReturn ops × RunsWithin m.max_stack [] ops → ⊥) → (others : List FirstOp) → IsFirstCode m others → ⊥
 never_runs m ops are never others first =
     let same : others ≡ ops = ops_once m.code m.targets others ops first.are are in
     never (subst (λ (xs : List FirstOp). EndsInReturn xs × RunsWithin m.max_stack [] xs) same (first.ends, first.within))
@@ -162,9 +168,34 @@ first_method p ops m is first = is ∙ ap (λ (ms : List MethodInfo). get_or ms 
 
 pub first_targets : (p : Program) (ops : List FirstOp) (m : MethodInfo) → m ≡ get_or p.methods 0 m → IsFirstProgram p ops → length m.targets ≡ length m.code
 first_targets p ops m is first =
-    subst (λ (x : MethodInfo). length x.targets ≡ length x.code) (sym (first_method p ops m is first)) (ops_long first.method.code first.method.targets ops first.first.are).0
+    subst (λ (x : MethodInfo). length x.targets ≡ length x.code) (sym (first_method p ops m is first)) (ops_long first.method.code first.method.targets ops first.code.are).0
 
 pub first_found : (p : Program) (ops found : List FirstOp) (m : MethodInfo) → m ≡ get_or p.methods 0 m → AreFirstOps m.code m.targets found → IsFirstProgram p ops → IsFirstProgram p found
 first_found p ops found m is are first =
     let here : AreFirstOps first.method.code first.method.targets found = subst (λ (x : MethodInfo). AreFirstOps x.code x.targets found) (first_method p ops m is first) are in
-    subst (IsFirstProgram p) (ops_once first.method.code first.method.targets ops found first.first.are here) first
+    subst (IsFirstProgram p) (ops_once first.method.code first.method.targets ops found first.code.are here) first
+
+-- ---- the classes
+
+only_item : {X : Type 0} (xs : List X) (x : X) → 1 ≤ length xs → length xs < 2 → x ≡ get_or xs 0 x → xs ≡ x ∷ []
+only_item [] x some few is = absurd (omega arith)
+only_item (y ∷ []) x some few is = ap (λ (z : _). z ∷ []) (sym is)
+only_item (y ∷ z ∷ xs) x some few is = absurd (omega arith)
+
+-- one class and one method, which are of the first form where the code of the method is
+pub first_form : (classes : List ClassFile) (p : Program) (c : ClassFile) (m : MethodInfo) (found : Option (List FirstOp)) → 1 ≤ length classes → length classes < 2 → c ≡ get_or classes 0 c
+    → 1 ≤ length p.methods → length p.methods < 2 → m ≡ get_or p.methods 0 m → is_first_file c ≡ true → is_init m ≡ true → Finds (IsFirstCode m) found
+    → Tells (is_some found) ((ops : List FirstOp) × IsFirstForm classes p ops)
+first_form classes p c m (Some ops) some_class few_classes class some_method few_methods method file init code =
+    let one : p.methods ≡ m ∷ [] = only_item p.methods m some_method few_methods method in (
+      ops,
+      record {
+        class = c;
+        only = only_item classes c some_class few_classes class;
+        file = file;
+        init = subst (AllByRecursion IsInit) (sym one) ((is_init-Decides m).0 init, tt);
+        program = record { method = m; only = one; code = code };
+      },
+    )
+first_form classes p c m None some_class few_classes class some_method few_methods method file init none = λ h.
+    none h.0 (subst (λ (x : MethodInfo). IsFirstCode x h.0) (sym (first_method p h.0 m method h.1.program)) h.1.program.code)

@@ -12,8 +12,7 @@ use Rattle.jvm_types.specs.declared.program.MethodInfo.{MethodInfo}
 use Rattle.jvm_types.specs.declared.program.Program.{Program}
 use Rattle.jvm_types.specs.declared.typing.Typing.{Typing}
 use Rattle.jvm_types.specs.declared.refusal.Rule.TheVariants.{C, K, L, V, S}
-use Rattle.code_verifier.specs.Answers.{IsTyped}
-use Rattle.class_runner.specs.Stages.{own_methods, IsUntypedAt, IsUnverified, AreTypedSoFar}
+use Rattle.class_runner.specs.Stages.{own_methods, IsTypedAt, IsUntypedAt, IsUnverified, AreTypedSoFar}
 use Rattle.class_runner.specs.declared.loading.FileError.{FileError}
 use Rattle.class_runner.specs.declared.loading.FileError.TheVariants.{Memory, Refused}
 use Rattle.class_runner.proofs.MethodsDecoded.{declared, files_at}
@@ -37,7 +36,7 @@ some_first (x ∷ xs) (suc i) within = some_first xs i (omega arith)
 some_left : {X : Type 0} (xs : List X) (i : ℕ) → i < length xs → (x : X) × (drop i xs ≡ x ∷ drop (i + 1) xs)
 some_left xs i within = rw add-one (some_first xs i within)
 
-next_typed : (p : Program) (d : Declared) (left all : List Declared) (typings : List Typing) (t : Typing) (o : Option MethodInfo) → slice_get p.methods (length typings) ≡ o → IsTyped p o t
+next_typed : (p : Program) (d : Declared) (left all : List Declared) (typings : List Typing) (t : Typing) (o : Option MethodInfo) → slice_get p.methods (length typings) ≡ o → IsTypedAt p o t
     → AreTypedSoFar p (d ∷ left) all typings → AreTypedSoFar p left all (typings ++ t ∷ [])
 next_typed p d left all typings t None e typed so_far = absurd typed
 next_typed p d left all typings t (Some m) e typed so_far =
@@ -55,18 +54,14 @@ next_untyped p d left all typings Memory o got untyped so_far = tt
 next_untyped p d left all typings (Refused (V rule) place) (Some m) got untyped so_far =
     let here : drop (length typings) p.methods ≡ m ∷ drop (length typings + 1) p.methods = left_at p.methods (length typings) m got in
     so_far.untyped rule place (rw here (inl untyped))
-next_untyped p d left all typings (Refused (V rule) place) None got untyped so_far = absurd untyped
-next_untyped p d left all typings (Refused (C rule) place) None got untyped so_far = absurd untyped
-next_untyped p d left all typings (Refused (K rule) place) None got untyped so_far = absurd untyped
-next_untyped p d left all typings (Refused (L rule) place) None got untyped so_far = absurd untyped
-next_untyped p d left all typings (Refused (S rule) place) None got untyped so_far = absurd untyped
-next_untyped p d left all typings (Refused (C rule) place) (Some m) got untyped so_far = absurd untyped
-next_untyped p d left all typings (Refused (K rule) place) (Some m) got untyped so_far = absurd untyped
-next_untyped p d left all typings (Refused (L rule) place) (Some m) got untyped so_far = absurd untyped
-next_untyped p d left all typings (Refused (S rule) place) (Some m) got untyped so_far = absurd untyped
+next_untyped p d left all typings (Refused (V rule) place) None got untyped so_far = absurd untyped.0
+next_untyped p d left all typings (Refused (C rule) place) o got untyped so_far = absurd untyped
+next_untyped p d left all typings (Refused (K rule) place) o got untyped so_far = absurd untyped
+next_untyped p d left all typings (Refused (L rule) place) o got untyped so_far = absurd untyped
+next_untyped p d left all typings (Refused (S rule) place) o got untyped so_far = absurd untyped
 
 pub method_next : (p : Program) (file : ℕ) (pool : List Constant) (i : ℕ) (ms : List Member) (left all : List Declared) (typings : List Typing) (t : Typing) → i < length ms
-    → IsTyped p (slice_get p.methods (length typings)) t → AreTypedSoFar p (declared_from file pool i (drop i ms) ++ left) all typings
+    → IsTypedAt p (slice_get p.methods (length typings)) t → AreTypedSoFar p (declared_from file pool i (drop i ms) ++ left) all typings
     → AreTypedSoFar p (declared_from file pool (i + 1) (drop (i + 1) ms) ++ left) all (typings ++ t ∷ [])
 method_next p file pool i ms left all typings t within typed so_far =
     let first = some_left ms i within in

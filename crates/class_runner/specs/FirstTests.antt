@@ -1,5 +1,5 @@
 -- The tests for a program of the first form.
-use Rattle.std.specs.Prelude.{◌+◌, nat_le, Bool, ◌&&◌, ◌==◌, bytes_eq, false, List, [], ◌∷◌, length, Option, Some, None, codes}
+use Rattle.std.specs.Prelude.{Bool, ◌&&◌, ◌==◌, bytes_eq, false, List, [], ◌∷◌, length, Option, Some, None, codes}
 use Rattle.jvm_types.specs.Members.{is_static}
 use Rattle.jvm_types.specs.declared.first.FirstOp.{FirstOp}
 use Rattle.jvm_types.specs.declared.first.FirstOp.TheVariants.{Return}
@@ -10,9 +10,9 @@ abbrev pub Finds : {X : Type 0} → (X → Type 0) → Option X → Type 0
 Finds {X = X} P (Some x) = P x
 Finds {X = X} P None = (x : X) → P x → ⊥
 
--- `static void init()`, which one thread has room for
+-- `static void init()`
 abbrev pub is_init : MethodInfo → Bool
-is_init m = bytes_eq m.name (codes "init") && bytes_eq m.descriptor (codes "()V") && is_static m.flags && nat_le (m.max_stack + m.max_locals) 16384
+is_init m = bytes_eq m.name (codes "init") && bytes_eq m.descriptor (codes "()V") && is_static m.flags
 
 -- the first return is last
 abbrev pub ends_in_return : List FirstOp → Bool

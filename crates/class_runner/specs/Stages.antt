@@ -1,5 +1,5 @@
 -- The stages of loading: what each of them answers, and how far its loops are.
-use Rattle.std.specs.Prelude.{◌≡◌, ℕ, ◌+◌, List, ◌++◌, length, drop, Option, Some}
+use Rattle.std.specs.Prelude.{◌≡◌, ℕ, ◌+◌, List, ◌++◌, length, drop, Option, Some, IsSomeAnd}
 use Rattle.std.specs.List.{AllZip}
 use Rattle.std.specs.Option.{option_map}
 use Rattle.jvm_types.specs.ReadingClass.{class_fault}
@@ -8,7 +8,7 @@ use Rattle.jvm_types.specs.CodeFault.{code_fault}
 use Rattle.jvm_types.specs.Members.{Declared, declared_from, declared_methods}
 use Rattle.jvm_types.specs.Linkable.{IsDecoded}
 use Rattle.jvm_types.specs.LinkFaults.{in_file, in_method, link_fault, IsLinked}
-use Rattle.jvm_types.specs.Verifying.{IsRefused}
+use Rattle.jvm_types.specs.Verifying.{IsTypingOf, IsRefused}
 use Rattle.jvm_types.specs.CheckedProgram.{AreTypings}
 use Rattle.jvm_types.specs.declared.class_file.Code.{Code}
 use Rattle.jvm_types.specs.declared.class_file.ClassFile.{ClassFile}
@@ -58,7 +58,7 @@ IsUndecoded fault errors.Memory = Unit {0}
 IsUndecoded fault (errors.Refused (rules.K rule) place) = fault ≡ Some (rules.K rule, place)
 IsUndecoded fault e = ⊥
 
--- of all methods those behind which these are left have these instructions
+-- the methods before those that are left have these instructions
 pub record AreDecodedSoFar (left all : List Declared) (code : List (List Insn)) : Type 0 where
   pub whole : (rest : List (List Insn)) → AllZip IsDecoded left rest → AllZip IsDecoded all (code ++ rest)
   pub fault : decode_fault left ≡ decode_fault all
@@ -86,10 +86,14 @@ IsUnlinkedFrom classes heap workers e = ⊥
 
 -- ---- V: verifying
 
--- memory ran out, or the method of this file and number has no typing
+-- the typing of a method that is there
+abbrev pub IsTypedAt : Program → Option MethodInfo → Typing → Type 0
+IsTypedAt p m t = IsSomeAnd m (λ x. IsTypingOf p x t)
+
+-- memory ran out, or the method, which has this number in its class in this file, has no typing
 abbrev pub IsUntypedAt : Program → Option MethodInfo → (file number : ℕ) → FileError → Type 0
 IsUntypedAt p m file number errors.Memory = Unit {0}
-IsUntypedAt p (Some m) file number (errors.Refused (rules.V rule) place) = IsRefused p m rule place.at × (place ≡ in_method file number place.at)
+IsUntypedAt p m file number (errors.Refused (rules.V rule) place) = IsSomeAnd m (λ x. IsRefused p x rule place.at) × (place ≡ in_method file number place.at)
 IsUntypedAt p m file number e = ⊥
 
 -- memory ran out, or this is the first of these methods that has no typing
@@ -98,7 +102,7 @@ IsUnverified p ds ms errors.Memory = Unit {0}
 IsUnverified p ds ms (errors.Refused (rules.V rule) place) = IsFirstUntyped p ds ms rule place
 IsUnverified p ds ms e = ⊥
 
--- of all methods of a program those behind which these are left have these typings
+-- the methods before those that are left have these typings
 pub record AreTypedSoFar (p : Program) (left all : List Declared) (typings : List Typing) : Type 0 where
   pub whole : (rest : List Typing) → AreTypings p (drop (length typings) p.methods) rest → AreTypings p p.methods (typings ++ rest)
   pub untyped : (rule : VRule) (place : Place) → IsFirstUntyped p left (drop (length typings) p.methods) rule place → IsFirstUntyped p all p.methods rule place

@@ -1,8 +1,8 @@
 //! Programs of the first form: one class file whose static `init` adds and prints.
 
-ghost use Rattle.std.specs.Prelude.{◌≡◌, ◌≤◌, List, [], length, IfOk};
+ghost use Rattle.std.specs.Prelude.{◌≡◌, ◌≤◌, ◌+◌, nat_le, List, [], length, IfOk};
 ghost use Rattle.std.specs.List.{list_all};
-ghost use Rattle.jvm_types.specs.FirstForm.{is_first_constant as is_constant, is_first_pool as is_pool, has_first_attrs as has_attrs, is_first_file as is_file, first_op as the_op, AreFirstOps, EndsInReturn, RunsWithin, IsFirstMethod, IsFirstForm};
+ghost use Rattle.jvm_types.specs.FirstForm.{is_first_constant as is_constant, is_first_pool as is_pool, has_first_attrs as has_attrs, is_first_file as is_file, first_op as the_op, AreFirstOps, EndsInReturn, RunsWithin, IsFirstCode, IsFirstForm};
 ghost use Rattle.jvm_types.specs.ProgramInvariant.{IsProgram};
 ghost use Rattle.jvm_types.specs.declared.first.FirstOp.{FirstOp as TheOp};
 ghost use Rattle.class_runner.specs.FirstTests.{Finds, is_init as is_the_init, ends_in_return as ends};
@@ -118,14 +118,20 @@ fn ends_in_return(ops: &[FirstOp]) -> bool
     false
 }
 
-/// Whether a method is `static void init()`, and one thread has room for it.
+/// Whether a method is `static void init()`.
 fn is_init(method: &MethodInfo) -> bool
     ensures { result ≡ is_the_init method.now }
 {
     method.name.as_slice() == b"init".as_slice()
         && method.descriptor.as_slice() == b"()V".as_slice()
         && method.flags & STATIC != 0
-        && u32::from(method.max_stack) + u32::from(method.max_locals) <= MOST_SLOTS
+}
+
+/// Whether one thread has room for a method.
+fn has_room(method: &MethodInfo) -> bool
+    ensures { result ≡ nat_le (method.now.max_stack + method.now.max_locals) 16384 }
+{
+    u32::from(method.max_stack) + u32::from(method.max_locals) <= MOST_SLOTS
 }
 
 /// Whether the instructions end in their one return, and find their operands on a stack of at most
@@ -139,13 +145,13 @@ fn may_run(alloc: Global, most: u16, ops: &[FirstOp]) -> Result<bool, AllocError
     runs_within(alloc, most, ops)
 }
 
-/// The instructions of a method, where it is an `init` of the first form.
-fn find_init_ops(alloc: Global, method: &MethodInfo) -> Result<Option<Rows<FirstOp>>, AllocError>
+/// The instructions of a method, where its code is of the first form.
+fn find_code(alloc: Global, method: &MethodInfo) -> Result<Option<Rows<FirstOp>>, AllocError>
     requires short { length method.now.code ≤ 65535 }
     requires targets { length method.now.targets ≡ length method.now.code }
-    ensures { IfOk result (λ found. Finds (IsFirstMethod method.now) found) }
+    ensures { IfOk result (λ found. Finds (IsFirstCode method.now) found) }
 {
-    if !is_init(method) {
+    if !has_room(method) {
         return Ok(None);
     }
     let Some(ops) = find_ops(alloc, method.code.as_slice(), method.targets.as_slice())? else {
@@ -172,8 +178,8 @@ pub fn is_first_form(
     let [method] = program.methods.as_slice() else {
         return Ok(false);
     };
-    if !is_first_file(class) {
+    if !is_first_file(class) || !is_init(method) {
         return Ok(false);
     }
-    Ok(find_init_ops(alloc, method)?.is_some())
+    Ok(find_code(alloc, method)?.is_some())
 }

@@ -1,5 +1,7 @@
 //! Small programs, and the rule that refuses each of them.
 
+ghost use Rattle.std.specs.Prelude.{◌≡◌, ◌<◌, ◌≤◌, length, IfOk};
+
 use crate::loading::{FileError, first_ops, load_program};
 use crate::places::{in_file, in_method};
 use crate::test_files::{adds, below_exception, changed, pair, peeks, tally, with_statics, work};
@@ -47,23 +49,27 @@ const LOADS_FLOAT: [(usize, u8); 11] = [
 /// In the class with two private fields, the first of them is final.
 const FINAL_FIELD: (usize, u8) = (298, 0x12);
 
-fn one(alloc: Global, file: Bytes) -> Result<Rows<Bytes>, AllocError> {
+fn one(alloc: Global, file: Bytes) -> Result<Rows<Bytes>, AllocError>
+    ensures { IfOk result (λ files. length files ≡ 1) }
+{
     let mut files = Rows::new(alloc);
     files.push(file)?;
     Ok(files)
 }
 
-fn two(alloc: Global, first: Bytes, second: Bytes) -> Result<Rows<Bytes>, AllocError> {
+fn two(alloc: Global, first: Bytes, second: Bytes) -> Result<Rows<Bytes>, AllocError>
+    ensures { IfOk result (λ files. length files ≡ 2) }
+{
     let mut files = one(alloc, first)?;
     files.push(second)?;
     Ok(files)
 }
 
 /// Whether the files are refused by this rule at this place, with no workers or with one.
-fn is_refused(alloc: Global, files: &Rows<Bytes>, worker: bool, rule: Rule, place: Place) -> bool {
-    if files.is_empty() || files.len() > 64 {
-        return false;
-    }
+fn is_refused(alloc: Global, files: &Rows<Bytes>, worker: bool, rule: Rule, place: Place) -> bool
+    requires some { 0 < length files.now }
+    requires few { length files.now ≤ 64 }
+{
     match load_program(alloc, files, HEAP, u8::from(worker)) {
         Err(FileError::Refused(found, at)) => found == rule && at == place,
         _ => false,
@@ -99,9 +105,6 @@ fn refuses_both(
 #[test]
 fn loads_a_class_that_adds_and_prints(rt: HostRuntime) -> Result<(), Fail> {
     let files = one(rt.alloc(), changed(rt.alloc(), adds(), &[])?)?;
-    if files.is_empty() || files.len() > 64 {
-        return Ok(());
-    }
     let program = load_program(rt.alloc(), &files, HEAP, 0)?;
     let ops = first_ops(rt.alloc(), &program)?;
     let wanted = [

@@ -6,8 +6,7 @@ ghost use Rattle.jvm_types.specs.ClassGrammar.{IsClass};
 ghost use Rattle.jvm_types.specs.Members.{Declared, declared_methods};
 ghost use Rattle.jvm_types.specs.ProgramInvariant.{IsProgram};
 ghost use Rattle.jvm_types.specs.CheckedProgram.{AreTypings};
-ghost use Rattle.code_verifier.specs.Answers.{IsTyped};
-ghost use Rattle.class_runner.specs.Stages.{own_methods, IsUntypedAt, IsUnverified, AreTypedSoFar};
+ghost use Rattle.class_runner.specs.Stages.{own_methods, IsTypedAt, IsUntypedAt, IsUnverified, AreTypedSoFar};
 
 use crate::loading::FileError;
 use crate::places::in_method;
@@ -25,7 +24,7 @@ fn verify_method(
 ) -> Result<Typing, FileError>
     requires program { IsProgram program.now }
     requires method { method < length program.now.methods }
-    ensures ok { IfOk result (λ t. IsTyped program.now (slice_get program.now.methods method) t) }
+    ensures ok { IfOk result (λ t. IsTypedAt program.now (slice_get program.now.methods method) t) }
     ensures refused { IfErr result (λ e. IsUntypedAt program.now (slice_get program.now.methods method) file number e) }
 {
     match verify(alloc, program, method) {

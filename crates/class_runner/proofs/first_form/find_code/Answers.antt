@@ -1,7 +1,6 @@
-use Rattle.std.proofs.Common.{◌≡◌, true, sym, ◌∙◌}
-use Rattle.class_runner.specs.FirstTests.{is_init}
+use Rattle.std.proofs.Common.{◌≡◌, ◌+◌, nat_le, true, sym, ◌∙◌}
 use Rattle.class_runner.proofs.FirstOps.{runs, never_runs}
-use Rattle.class_runner.proofs.first_form.find_init_ops.Goals as goal
+use Rattle.class_runner.proofs.first_form.find_code.Goals as goal
 
 pub returns-then-not-branch : goal.returns-then-not-branch
 returns-then-not-branch c =
@@ -13,5 +12,5 @@ pub returns : goal.returns
 returns c =
     let are = rw (c.in-Some.is, c.as_slice.ensures, c.as_slice-2.ensures) at c.in_ok-ops.ensures in
     let may = rw (c.if-not-branch.false, c.as_slice-3.ensures) at c.in_ok-may_run.ensures in
-    let init : is_init c.args.method.now ≡ true = sym c.is_init.ensures ∙ c.if-not-is_init.false in
-    runs c.args.method.now c.in-Some.ops c.requires.short init are may
+    let room : nat_le (c.args.method.now.max_stack + c.args.method.now.max_locals) 16384 ≡ true = sym c.has_room.ensures ∙ c.if-not-has_room.false in
+    runs c.args.method.now c.in-Some.ops c.requires.short room are may
