@@ -11,3 +11,4 @@ pub mod ClashLaws
 pub mod LaidOut
 pub mod SettlingLaws
 pub mod OneAnswer
+pub mod Laid
