@@ -28,12 +28,15 @@ small_bytes (b ∷ bytes) e = by_test (nat_lt b 256) refl e (small_bytes bytes)
     by_test true f e more = (below f, more e)
     by_test false f e more = absurd (cc)
 
+pub spelled : (bytes : List ℕ) (handlers : List Handler) → are_small bytes ≡ true → code_fault bytes handlers ≡ None → IsCode bytes handlers (insns_of 0 0 bytes)
+spelled bytes handlers b e = read_is_code bytes handlers (small_bytes bytes b) e
+
 pub laid : (bytes : List ℕ) (handlers : List Handler) (targets : List Target) (rows : List Row) → are_small bytes ≡ true → code_fault bytes handlers ≡ None
     → AllZip (λ (r : Row) (h : Handler). (r.start ≡ h.start) × (r.end ≡ h.end) × (r.handler ≡ h.handler)) rows handlers → length targets ≡ length (insns_of 0 0 bytes) → AreLaid (insns_of 0 0 bytes) targets rows
 laid bytes handlers targets rows b e r t = record {
   bytes = bytes;
   handlers = handlers;
-  code = read_is_code bytes handlers (small_bytes bytes b) e;
+  code = spelled bytes handlers b e;
   rows_fit = r;
   targets_fit = t;
 }

@@ -12,3 +12,4 @@ pub mod LaidOut
 pub mod SettlingLaws
 pub mod OneAnswer
 pub mod Laid
+pub mod SmallProgram

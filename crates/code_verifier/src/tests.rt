@@ -1,4 +1,5 @@
-ghost use Rattle.std.specs.Prelude.{◌≡◌, ◌++◌, ◌∷◌, [], IfOk};
+ghost use Rattle.std.specs.Prelude.{◌≡◌, ◌<◌, ◌++◌, ◌∷◌, [], length, codes, pos, None, IfOk};
+ghost use Rattle.jvm_types.specs.ProgramInvariant.{IsProgram};
 ghost use Rattle.jvm_types.specs.Verifying.{IsLaidOut};
 ghost use Rattle.code_verifier.specs.Laying.{AreLaid};
 
@@ -74,7 +75,8 @@ fn method_of(
     rows: &[Row],
 ) -> Result<MethodInfo, AllocError>
     requires { AreLaid code targets.now rows.now }
-    ensures { IfOk result IsLaidOut }
+    ensures laid { IfOk result IsLaidOut }
+    ensures is { IfOk result (λ m. m ≡ record { class = 17; flags = head.now.flags; name = head.now.name.now; descriptor = codes "()V"; args = []; result = None; max_stack = head.now.max_stack; max_locals = head.now.max_locals; code = code; targets = targets.now; rows = rows.now }) }
 {
     Ok(MethodInfo {
         class: 17,
@@ -89,6 +91,35 @@ fn method_of(
         targets: Rows::from_slice(alloc, targets)?,
         rows: Rows::from_slice(alloc, rows)?,
     })
+}
+
+/// A program of one class, whose one method does nothing.
+fn small_program(alloc: Global) -> Result<Program, AllocError>
+    ensures program { IfOk result (λ p. IsProgram p) }
+    ensures method { IfOk result (λ p. 0 < length p.methods) }
+{
+    let code = then(Rows::new(alloc), 0, 1, Op::Nop)?;
+    let code = then(code, 1, 2, Op::Return)?;
+    let mut names = Rows::new(alloc);
+    names.push(Bytes::from_slice(alloc, b"P")?)?;
+    let mut methods = Rows::new(alloc);
+    methods.push(method_of(alloc, &SMALL, code, &[Target::Nothing; 2], &[])?)?;
+    Ok(Program {
+        names,
+        fields: Rows::new(alloc),
+        methods,
+        heap: 4096,
+        workers: 0,
+    })
+}
+
+#[test]
+fn verifies_a_method(rt: HostRuntime) -> Result<(), Fail> {
+    let p = small_program(rt.alloc())?;
+    let typing = verify(rt.alloc(), &p, 0).ok().expect(&rt, "typed");
+    assert!(rt; typing.frames.len() == 2);
+    assert!(rt; stack_at(&typing, 1).expect(&rt, "reached").is_empty());
+    Ok(())
 }
 
 /// A program of one class without members.
