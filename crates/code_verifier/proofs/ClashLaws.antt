@@ -60,7 +60,7 @@ clash_more low (insn ∷ insns) to tos depth (node ∷ nodes) a =
   where
     by_tests : (s t other : Bool) (left right : Option ℕ) → IsFrom (suc insn.pc) left → IsFrom (suc insn.pc) right → clash insns (to ∷ tos) depth nodes ≡ lesser left right
         → (if (s || t) && other then Some insn.pc else clash insns (to ∷ tos) depth nodes)
-          ≡ lesser (if (s || false) && other then Some insn.pc else left) (if t && other then Some insn.pc else right)
+        ≡ lesser (if (s || false) && other then Some insn.pc else left) (if t && other then Some insn.pc else right)
     by_tests true true true left right h k e = sym (lesser_same insn.pc)
     by_tests true true false left right h k e = e
     by_tests true false true left right h k e = sym (lesser_left insn.pc right k)

@@ -11,3 +11,5 @@ pub mod ClashLaws
 pub mod LaidOut
 pub mod SettlingLaws
 pub mod OneAnswer
+pub mod Laid
+pub mod SmallProgram

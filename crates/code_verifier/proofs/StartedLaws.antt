@@ -6,7 +6,7 @@ use Rattle.jvm_types.specs.CodeTable.{Want, AnyValue, AnInt, AnObject, AnyRefere
 use Rattle.jvm_types.specs.Verifying.{started}
 use Rattle.jvm_types.specs.declared.typing.VType.{VType}
 use Rattle.jvm_types.specs.declared.typing.VType.TheVariants.{Int, Null, Ref, This, New, Top}
-use Rattle.code_verifier.specs.declared.op_row.Asked.{Asked}
+use Rattle.code_verifier.specs.declared.op_row.Want.{Want as StoredWant}
 use Rattle.code_verifier.specs.OpRows.{want_is}
 
 started_first : (own : ℕ) (want : Want) (t : VType) (wants : List Want) (ts : List VType) → started own (want ∷ wants) (t ∷ ts) ≡ or_else (started own (want ∷ []) (t ∷ [])) (started own wants ts)
@@ -14,7 +14,7 @@ started_first own (ToStart class) This wants ts = refl
 started_first own (ToStart class) t wants ts = refl
 started_first own want t wants ts = refl
 
-started_at : (own : ℕ) (takes : List Asked) (stack : List VType) (i : ℕ) (d : Asked) (t : VType) → i < length takes → slice_get stack i ≡ Some t
+started_at : (own : ℕ) (takes : List StoredWant) (stack : List VType) (i : ℕ) (d : StoredWant) (t : VType) → i < length takes → slice_get stack i ≡ Some t
     → started own (map want_is (drop i takes)) (drop i stack) ≡ or_else (started own (want_is (slice_index_or takes i d) ∷ []) (t ∷ [])) (started own (map want_is (drop (suc i) takes)) (drop (suc i) stack))
 started_at own [] stack i d t h e = absurd (omega (arith, h))
 started_at own (a ∷ takes) [] i d t h e = absurd (cc)
@@ -26,7 +26,7 @@ none_started own [] = refl
 none_started own (ToStart class ∷ wants) = refl
 none_started own (want ∷ wants) = refl
 
-pub started_past : (own : ℕ) (takes : List Asked) (stack : List VType) (i : ℕ) → slice_get stack i ≡ None → started own (map want_is (drop i takes)) (drop i stack) ≡ None
+pub started_past : (own : ℕ) (takes : List StoredWant) (stack : List VType) (i : ℕ) → slice_get stack i ≡ None → started own (map want_is (drop i takes)) (drop i stack) ≡ None
 started_past own [] stack zero e = refl
 started_past own [] stack (suc i) e = refl
 started_past own (a ∷ takes) [] zero e = none_started own (want_is a ∷ map want_is takes)
@@ -34,11 +34,11 @@ started_past own (a ∷ takes) [] (suc i) e = none_started own (map want_is (dro
 started_past own (a ∷ takes) (u ∷ us) zero e = absurd (cc)
 started_past own (a ∷ takes) (u ∷ us) (suc i) e = started_past own takes us i e
 
-pub started_found : (own : ℕ) (takes : List Asked) (stack : List VType) (i : ℕ) (d : Asked) (t : VType) (found : VType × ℕ) (whole : Option (VType × ℕ)) → i < length takes → slice_get stack i ≡ Some t
+pub started_found : (own : ℕ) (takes : List StoredWant) (stack : List VType) (i : ℕ) (d : StoredWant) (t : VType) (found : VType × ℕ) (whole : Option (VType × ℕ)) → i < length takes → slice_get stack i ≡ Some t
     → Some found ≡ started own (want_is (slice_index_or takes i d) ∷ []) (t ∷ []) → started own (map want_is (drop i takes)) (drop i stack) ≡ whole → Some found ≡ whole
 started_found own takes stack i d t found whole h e f inv = ap (λ o. or_else o (started own (map want_is (drop (suc i) takes)) (drop (suc i) stack))) f ∙ sym (started_at own takes stack i d t h e) ∙ inv
 
-pub started_more : (own : ℕ) (takes : List Asked) (stack : List VType) (i : ℕ) (d : Asked) (t : VType) (whole : Option (VType × ℕ)) → i < length takes → slice_get stack i ≡ Some t
+pub started_more : (own : ℕ) (takes : List StoredWant) (stack : List VType) (i : ℕ) (d : StoredWant) (t : VType) (whole : Option (VType × ℕ)) → i < length takes → slice_get stack i ≡ Some t
     → None ≡ started own (want_is (slice_index_or takes i d) ∷ []) (t ∷ []) → started own (map want_is (drop i takes)) (drop i stack) ≡ whole
     → started own (map want_is (drop (suc i) takes)) (drop (suc i) stack) ≡ whole
 started_more own takes stack i d t whole h e f inv = ap (λ o. or_else o (started own (map want_is (drop (suc i) takes)) (drop (suc i) stack))) f ∙ sym (started_at own takes stack i d t h e) ∙ inv

@@ -5,3 +5,4 @@ pub mod Faults
 pub mod Waiting
 pub mod Visiting
 pub mod Settling
+pub mod Laying

@@ -8,51 +8,51 @@ ghost use Rattle.jvm_types.specs.declared.typing.VType.TheVariants.{Top};
 ghost use Rattle.code_verifier.specs.OpRows.{want_is, given_is, write_is, row_is};
 
 use crate::frame::Frame;
-use crate::op_row::{Asked, Left, StoredRow};
+use crate::op_row::{Given, OpRow, Want};
 use jvm_types::{MethodInfo, VType};
 use std::alloc::{AllocError, Global};
 
 /// The type of a value that is pushed, or written to a local.
-fn type_left(left: Left, f: &Frame) -> VType
+fn type_given(left: Given, f: &Frame) -> VType
     ensures { result ≡ value_of Top (λ t. t) f.now.stack f.now.locals (given_is left) }
 {
     match left {
-        Left::Fresh(t) => t,
-        Left::Taken(place) => f.value(usize::from(place)).unwrap_or(VType::Top),
-        Left::Local(i) => f.local(usize::from(i)).unwrap_or(VType::Top),
+        Given::Fresh(t) => t,
+        Given::Taken(place) => f.value(usize::from(place)).unwrap_or(VType::Top),
+        Given::Local(i) => f.local(usize::from(i)).unwrap_or(VType::Top),
     }
 }
 
 /// Pushes what an instruction leaves, the last first.
-fn push_all(after: &mut Frame, gives: &[Left], f: &Frame) -> Result<(), AllocError>
+fn push_all(after: &mut Frame, gives: &[Given], f: &Frame) -> Result<(), AllocError>
     ensures { OnOk result (after.new ≡ record after.old { stack = map (λ left. value_of Top (λ t. t) f.now.stack f.now.locals (given_is left)) gives.now ++ after.old.stack }) }
 {
     for i in (0..gives.len()).rev() {
-        after.push(type_left(gives[i], f))?;
+        after.push(type_given(gives[i], f))?;
     }
     Ok(())
 }
 
 /// The value, where an `<init>` is called on it, and its class. `own` is the class of the method.
-fn started_here(own: u16, asked: Asked, t: VType) -> Option<(VType, u16)>
-    ensures { result ≡ started own (want_is asked ∷ []) (t ∷ []) }
+fn started_here(own: u16, want: Want, t: VType) -> Option<(VType, u16)>
+    ensures { result ≡ started own (want_is want ∷ []) (t ∷ []) }
 {
-    match (asked, t) {
-        (Asked::ToStart(_), VType::This) => Some((t, own)),
-        (Asked::ToStart(class), _) => Some((t, class)),
+    match (want, t) {
+        (Want::ToStart(_), VType::This) => Some((t, own)),
+        (Want::ToStart(class), _) => Some((t, class)),
         _ => None,
     }
 }
 
 /// The object that an `<init>` is called on, and its class.
-fn started(own: u16, takes: &[Asked], f: &Frame) -> Option<(VType, u16)>
+fn started(own: u16, takes: &[Want], f: &Frame) -> Option<(VType, u16)>
     ensures { result ≡ started own (map want_is takes.now) f.now.stack }
 {
-    for (place, asked) in takes.iter().enumerate() {
+    for (place, want) in takes.iter().enumerate() {
         let Some(t) = f.value(place) else {
             return None;
         };
-        if let Some(object) = started_here(own, *asked, t) {
+        if let Some(object) = started_here(own, *want, t) {
             return Some(object);
         }
     }
@@ -60,12 +60,12 @@ fn started(own: u16, takes: &[Asked], f: &Frame) -> Option<(VType, u16)>
 }
 
 /// Writes the local of a row.
-fn write_local(after: &mut Frame, writes: Option<(u16, Left)>, f: &Frame)
+fn write_local(after: &mut Frame, writes: Option<(u16, Given)>, f: &Frame)
     requires { after.old.locals ≡ f.now.locals }
     ensures { after.new ≡ record after.old { locals = locals_after Top (λ t. t) (option_map write_is writes) f.now.stack f.now.locals } }
 {
     if let Some((i, left)) = writes {
-        after.set_local(usize::from(i), type_left(left, f));
+        after.set_local(usize::from(i), type_given(left, f));
     }
 }
 
@@ -81,7 +81,7 @@ fn start_object(after: &mut Frame, object: Option<(VType, u16)>)
 pub fn shape_after(
     alloc: Global,
     m: &MethodInfo,
-    row: &StoredRow,
+    row: &OpRow,
     f: &Frame,
 ) -> Result<Frame, AllocError>
     ensures { IfOk result (λ after. after ≡ shape_after m.now (row_is row.now) f.now) }

@@ -24,3 +24,6 @@ mod ways;
 
 pub use error::VerifyError;
 pub use verifying::verify;
+
+#[cfg(test)]
+mod tests;

@@ -4,10 +4,10 @@ ghost use Rattle.std.specs.Prelude.{◌≡◌, ◌∷◌, [], map, reverse, Some
 ghost use Rattle.std.specs.Option.{option_copied};
 ghost use Rattle.jvm_types.specs.CodeTable.{Fresh, stack_row, type_of, want_of, arguments, result_of, is_init, no_row, get_static_row, get_row, put_row, put_static_row, virtual_row, special_row, static_row, returned, constant_row};
 ghost use Rattle.jvm_types.specs.declared.program.Target.TheVariants as targets;
-ghost use Rattle.code_verifier.specs.OpRows.{want_is, given_is, row_is, asked_of};
+ghost use Rattle.code_verifier.specs.OpRows.{want_is, given_is, row_is, stored_want};
 
 use crate::classes::{OBJECT, PRINT_STREAM};
-use crate::op_row::{AN_INT, Asked, Left, StoredRow, stack_row};
+use crate::op_row::{AN_INT, Given, OpRow, Want, stack_row};
 use jvm_types::{FieldInfo, Kind, MethodInfo, Op, Program, Target, VType};
 use std::alloc::{AllocError, Global};
 
@@ -20,13 +20,13 @@ pub fn type_of(kind: Kind) -> VType
     }
 }
 
-fn asked_of(kind: Kind) -> Asked
-    ensures same { result ≡ asked_of kind }
+fn want_of(kind: Kind) -> Want
+    ensures same { result ≡ stored_want kind }
     ensures want { want_is result ≡ want_of kind }
 {
     match kind {
-        Kind::Int | Kind::Bool => Asked::AnInt,
-        Kind::Ref(class) => Asked::AnObject(class),
+        Kind::Int | Kind::Bool => Want::AnInt,
+        Kind::Ref(class) => Want::AnObject(class),
     }
 }
 
@@ -37,38 +37,34 @@ pub fn is_init(method: &MethodInfo) -> bool
     method.name.as_slice() == b"<init>".as_slice()
 }
 
-fn asked_reversed(alloc: Global, kinds: &[Kind]) -> Result<Vec<Asked>, AllocError>
-    ensures { IfOk result (λ v. v.items ≡ map asked_of (reverse kinds.now)) }
+fn reversed_wants(alloc: Global, kinds: &[Kind]) -> Result<Vec<Want>, AllocError>
+    ensures { IfOk result (λ v. v.items ≡ map stored_want (reverse kinds.now)) }
 {
-    kinds
-        .iter()
-        .rev()
-        .map(|kind| asked_of(*kind))
-        .collect(alloc)
+    kinds.iter().rev().map(|kind| want_of(*kind)).collect(alloc)
 }
 
-/// What is asked of the arguments, of which the last is on top.
-fn arguments(alloc: Global, called: &MethodInfo) -> Result<Vec<Asked>, AllocError>
+/// What is want of the arguments, of which the last is on top.
+fn arguments(alloc: Global, called: &MethodInfo) -> Result<Vec<Want>, AllocError>
     ensures { IfOk result (λ v. map want_is v.items ≡ arguments called.now) }
 {
-    asked_reversed(alloc, called.args.as_slice())
+    reversed_wants(alloc, called.args.as_slice())
 }
 
 /// The result of a method, where it has one.
-fn result_of(alloc: Global, called: &MethodInfo) -> Result<Vec<Left>, AllocError>
+fn result_of(alloc: Global, called: &MethodInfo) -> Result<Vec<Given>, AllocError>
     ensures { IfOk result (λ v. map given_is v.items ≡ result_of called.now) }
 {
     let mut left = Vec::new(alloc);
     if let Some(kind) = called.result {
-        left.push(Left::Fresh(type_of(kind)))?;
+        left.push(Given::Fresh(type_of(kind)))?;
     }
     Ok(left)
 }
 
-fn no_row(alloc: Global) -> StoredRow
+fn no_row(alloc: Global) -> OpRow
     ensures { row_is result ≡ no_row }
 {
-    StoredRow {
+    OpRow {
         takes: Vec::new(alloc),
         gives: Vec::new(alloc),
         reads: None,
@@ -76,54 +72,54 @@ fn no_row(alloc: Global) -> StoredRow
     }
 }
 
-fn get_static_row(alloc: Global, field: Option<&FieldInfo>) -> Result<StoredRow, AllocError>
+fn get_static_row(alloc: Global, field: Option<&FieldInfo>) -> Result<OpRow, AllocError>
     ensures { IfOk result (λ r. row_is r ≡ get_static_row (option_copied field.entry)) }
 {
     match field {
         None => Ok(no_row(alloc)),
-        Some(field) => stack_row(alloc, &[], &[Left::Fresh(type_of(field.kind))]),
+        Some(field) => stack_row(alloc, &[], &[Given::Fresh(type_of(field.kind))]),
     }
 }
 
-fn get_row(alloc: Global, field: Option<&FieldInfo>) -> Result<StoredRow, AllocError>
+fn get_row(alloc: Global, field: Option<&FieldInfo>) -> Result<OpRow, AllocError>
     ensures { IfOk result (λ r. row_is r ≡ get_row (option_copied field.entry)) }
 {
     match field {
         None => Ok(no_row(alloc)),
         Some(field) => stack_row(
             alloc,
-            &[Asked::AnObject(field.class)],
-            &[Left::Fresh(type_of(field.kind))],
+            &[Want::AnObject(field.class)],
+            &[Given::Fresh(type_of(field.kind))],
         ),
     }
 }
 
-fn put_row(alloc: Global, field: Option<&FieldInfo>) -> Result<StoredRow, AllocError>
+fn put_row(alloc: Global, field: Option<&FieldInfo>) -> Result<OpRow, AllocError>
     ensures { IfOk result (λ r. row_is r ≡ put_row (option_copied field.entry)) }
 {
     match field {
         None => Ok(no_row(alloc)),
         Some(field) => stack_row(
             alloc,
-            &[asked_of(field.kind), Asked::AHolder(field.class)],
+            &[want_of(field.kind), Want::AHolder(field.class)],
             &[],
         ),
     }
 }
 
-fn put_static_row(alloc: Global, field: Option<&FieldInfo>) -> Result<StoredRow, AllocError>
+fn put_static_row(alloc: Global, field: Option<&FieldInfo>) -> Result<OpRow, AllocError>
     ensures { IfOk result (λ r. row_is r ≡ put_static_row (option_copied field.entry)) }
 {
     match field {
         None => Ok(no_row(alloc)),
-        Some(field) => stack_row(alloc, &[asked_of(field.kind)], &[]),
+        Some(field) => stack_row(alloc, &[want_of(field.kind)], &[]),
     }
 }
 
-fn call_row(takes: Vec<Asked>, gives: Vec<Left>) -> StoredRow
+fn call_row(takes: Vec<Want>, gives: Vec<Given>) -> OpRow
     ensures { row_is result ≡ stack_row (map want_is takes.items) (map given_is gives.items) }
 {
-    StoredRow {
+    OpRow {
         takes,
         gives,
         reads: None,
@@ -131,19 +127,19 @@ fn call_row(takes: Vec<Asked>, gives: Vec<Left>) -> StoredRow
     }
 }
 
-fn virtual_row(alloc: Global, called: Option<&MethodInfo>) -> Result<StoredRow, AllocError>
+fn virtual_row(alloc: Global, called: Option<&MethodInfo>) -> Result<OpRow, AllocError>
     ensures { IfOk result (λ r. row_is r ≡ virtual_row (option_copied called.entry)) }
 {
     let Some(called) = called else {
         return Ok(no_row(alloc));
     };
     let mut takes = arguments(alloc, called)?;
-    takes.push(Asked::AnObject(called.class))?;
+    takes.push(Want::AnObject(called.class))?;
     Ok(call_row(takes, result_of(alloc, called)?))
 }
 
 /// A call of an `<init>`, or of a private method of the own class.
-fn special_row(alloc: Global, called: Option<&MethodInfo>) -> Result<StoredRow, AllocError>
+fn special_row(alloc: Global, called: Option<&MethodInfo>) -> Result<OpRow, AllocError>
     ensures { IfOk result (λ r. row_is r ≡ special_row (option_copied called.entry)) }
 {
     let Some(called) = called else {
@@ -151,14 +147,14 @@ fn special_row(alloc: Global, called: Option<&MethodInfo>) -> Result<StoredRow, 
     };
     let mut takes = arguments(alloc, called)?;
     takes.push(if is_init(called) {
-        Asked::ToStart(called.class)
+        Want::ToStart(called.class)
     } else {
-        Asked::AnObject(called.class)
+        Want::AnObject(called.class)
     })?;
     Ok(call_row(takes, result_of(alloc, called)?))
 }
 
-fn static_row(alloc: Global, called: Option<&MethodInfo>) -> Result<StoredRow, AllocError>
+fn static_row(alloc: Global, called: Option<&MethodInfo>) -> Result<OpRow, AllocError>
     ensures { IfOk result (λ r. row_is r ≡ static_row (option_copied called.entry)) }
 {
     let Some(called) = called else {
@@ -168,16 +164,16 @@ fn static_row(alloc: Global, called: Option<&MethodInfo>) -> Result<StoredRow, A
 }
 
 /// `areturn` asks for the class of the descriptor, where that names one.
-pub fn returned(result_kind: Option<Kind>) -> Asked
+pub fn returned(result_kind: Option<Kind>) -> Want
     ensures { want_is result ≡ returned result_kind }
 {
     match result_kind {
-        Some(Kind::Ref(class)) => Asked::AnObject(class),
-        _ => Asked::AnObject(OBJECT),
+        Some(Kind::Ref(class)) => Want::AnObject(class),
+        _ => Want::AnObject(OBJECT),
     }
 }
 
-fn field_row(alloc: Global, p: &Program, pc: u32, f: u32, op: &Op) -> Result<StoredRow, AllocError>
+fn field_row(alloc: Global, p: &Program, pc: u32, f: u32, op: &Op) -> Result<OpRow, AllocError>
     ensures { IfOk result (λ r. row_is r ≡ constant_row p.now pc (targets.Field f) op.now) }
 {
     let field = p.fields.get(f as usize);
@@ -190,7 +186,7 @@ fn field_row(alloc: Global, p: &Program, pc: u32, f: u32, op: &Op) -> Result<Sto
     }
 }
 
-fn method_row(alloc: Global, p: &Program, pc: u32, f: u32, op: &Op) -> Result<StoredRow, AllocError>
+fn method_row(alloc: Global, p: &Program, pc: u32, f: u32, op: &Op) -> Result<OpRow, AllocError>
     ensures { IfOk result (λ r. row_is r ≡ constant_row p.now pc (targets.Method f) op.now) }
 {
     let called = p.methods.get(f as usize);
@@ -209,20 +205,20 @@ pub fn constant_row(
     pc: u32,
     target: Target,
     op: &Op,
-) -> Result<StoredRow, AllocError>
+) -> Result<OpRow, AllocError>
     ensures { IfOk result (λ r. row_is r ≡ constant_row p.now pc target op.now) }
 {
     match target {
         Target::Nothing => Ok(no_row(alloc)),
         Target::Value(_) => stack_row(alloc, &[], &[AN_INT]),
-        Target::Class(_) => stack_row(alloc, &[], &[Left::Fresh(VType::New(pc))]),
+        Target::Class(_) => stack_row(alloc, &[], &[Given::Fresh(VType::New(pc))]),
         Target::Field(f) => field_row(alloc, p, pc, f, op),
         Target::Method(f) => method_row(alloc, p, pc, f, op),
-        Target::Init(class) => stack_row(alloc, &[Asked::ToStart(class)], &[]),
-        Target::Out => stack_row(alloc, &[], &[Left::Fresh(VType::Ref(PRINT_STREAM))]),
-        Target::Println => stack_row(alloc, &[Asked::AnInt, Asked::AnObject(PRINT_STREAM)], &[]),
+        Target::Init(class) => stack_row(alloc, &[Want::ToStart(class)], &[]),
+        Target::Out => stack_row(alloc, &[], &[Given::Fresh(VType::Ref(PRINT_STREAM))]),
+        Target::Println => stack_row(alloc, &[Want::AnInt, Want::AnObject(PRINT_STREAM)], &[]),
         Target::Wait | Target::Notify | Target::NotifyAll => {
-            stack_row(alloc, &[Asked::AnObject(OBJECT)], &[])
+            stack_row(alloc, &[Want::AnObject(OBJECT)], &[])
         }
     }
 }

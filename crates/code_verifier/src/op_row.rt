@@ -7,9 +7,9 @@ ghost use Rattle.code_verifier.specs.OpRows.{want_is, given_is, row_is};
 use jvm_types::VType;
 use std::alloc::{AllocError, Global};
 
-/// What is asked of a value that is taken or read.
+/// What is want of a value that is taken or read.
 #[derive(Clone, Copy, Debug, PartialEq, Eq)]
-pub enum Asked {
+pub enum Want {
     AnyValue,
     AnInt,
     /// null, or a reference to an initialised object of the class or below it.
@@ -25,7 +25,7 @@ pub enum Asked {
 
 /// A value that is pushed, or written to a local.
 #[derive(Clone, Copy, Debug, PartialEq, Eq)]
-pub enum Left {
+pub enum Given {
     /// A value of its own, of this type.
     Fresh(VType),
     /// The value that was taken at this place, counted from the top.
@@ -35,22 +35,22 @@ pub enum Left {
 }
 
 /// An int that an instruction makes.
-pub const AN_INT: Left = Left::Fresh(VType::Int);
+pub const AN_INT: Given = Given::Fresh(VType::Int);
 
 /// What an instruction takes from the stack and leaves there, with the top first, and the locals that it reads and
 /// writes.
 #[derive(Debug, Drop)]
-pub struct StoredRow {
-    pub takes: Vec<Asked>,
-    pub gives: Vec<Left>,
-    pub reads: Option<(u16, Asked)>,
-    pub writes: Option<(u16, Left)>,
+pub struct OpRow {
+    pub takes: Vec<Want>,
+    pub gives: Vec<Given>,
+    pub reads: Option<(u16, Want)>,
+    pub writes: Option<(u16, Given)>,
 }
 
-pub fn stack_row(alloc: Global, takes: &[Asked], gives: &[Left]) -> Result<StoredRow, AllocError>
+pub fn stack_row(alloc: Global, takes: &[Want], gives: &[Given]) -> Result<OpRow, AllocError>
     ensures { IfOk result (λ r. row_is r ≡ stack_row (map want_is takes.now) (map given_is gives.now)) }
 {
-    Ok(StoredRow {
+    Ok(OpRow {
         takes: Vec::from_slice(alloc, takes)?,
         gives: Vec::from_slice(alloc, gives)?,
         reads: None,
@@ -59,25 +59,25 @@ pub fn stack_row(alloc: Global, takes: &[Asked], gives: &[Left]) -> Result<Store
 }
 
 /// The row of a load of a local.
-pub fn load_row(alloc: Global, i: u16, asked: Asked) -> Result<StoredRow, AllocError>
-    ensures { IfOk result (λ r. row_is r ≡ load_row i (want_is asked)) }
+pub fn load_row(alloc: Global, i: u16, want: Want) -> Result<OpRow, AllocError>
+    ensures { IfOk result (λ r. row_is r ≡ load_row i (want_is want)) }
 {
-    Ok(StoredRow {
+    Ok(OpRow {
         takes: Vec::new(alloc),
-        gives: Vec::from_slice(alloc, &[Left::Local(i)])?,
-        reads: Some((i, asked)),
+        gives: Vec::from_slice(alloc, &[Given::Local(i)])?,
+        reads: Some((i, want)),
         writes: None,
     })
 }
 
 /// The row of a store to a local.
-pub fn store_row(alloc: Global, i: u16, asked: Asked) -> Result<StoredRow, AllocError>
-    ensures { IfOk result (λ r. row_is r ≡ store_row i (want_is asked)) }
+pub fn store_row(alloc: Global, i: u16, want: Want) -> Result<OpRow, AllocError>
+    ensures { IfOk result (λ r. row_is r ≡ store_row i (want_is want)) }
 {
-    Ok(StoredRow {
-        takes: Vec::from_slice(alloc, &[asked])?,
+    Ok(OpRow {
+        takes: Vec::from_slice(alloc, &[want])?,
         gives: Vec::new(alloc),
         reads: None,
-        writes: Some((i, Left::Taken(0))),
+        writes: Some((i, Given::Taken(0))),
     })
 }

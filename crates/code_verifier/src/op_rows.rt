@@ -6,23 +6,23 @@ ghost use Rattle.code_verifier.specs.OpRows.{row_is};
 
 use crate::classes::{INT_ARRAY, OBJECT, THROWABLE};
 use crate::member_rows::{constant_row, returned};
-use crate::op_row::{AN_INT, Asked, Left, StoredRow, load_row, stack_row, store_row};
+use crate::op_row::{AN_INT, Given, OpRow, Want, load_row, stack_row, store_row};
 use jvm_types::{MethodInfo, Op, Program, Target, VType};
 use std::alloc::{AllocError, Global};
 
-const ANY: Asked = Asked::AnyValue;
+const ANY: Want = Want::AnyValue;
 
-const INT: Asked = Asked::AnInt;
+const INT: Want = Want::AnInt;
 
-const AN_OBJECT: Asked = Asked::AnObject(OBJECT);
+const AN_OBJECT: Want = Want::AnObject(OBJECT);
 
-const AN_ARRAY: Asked = Asked::AnObject(INT_ARRAY);
+const AN_ARRAY: Want = Want::AnObject(INT_ARRAY);
 
-const TOP: Left = Left::Taken(0);
+const TOP: Given = Given::Taken(0);
 
-const SECOND: Left = Left::Taken(1);
+const SECOND: Given = Given::Taken(1);
 
-const THIRD: Left = Left::Taken(2);
+const THIRD: Given = Given::Taken(2);
 
 /// The row of an instruction of a method at a pc, with what its constant names.
 pub fn row(
@@ -32,17 +32,17 @@ pub fn row(
     pc: u32,
     target: Target,
     op: &Op,
-) -> Result<StoredRow, AllocError>
+) -> Result<OpRow, AllocError>
     ensures { IfOk result (λ r. row_is r ≡ row p.now m.now pc target op.now) }
 {
     match op {
         Op::Nop | Op::Goto(_) | Op::GotoW(_) | Op::Return => stack_row(alloc, &[], &[]),
-        Op::AconstNull => stack_row(alloc, &[], &[Left::Fresh(VType::Null)]),
+        Op::AconstNull => stack_row(alloc, &[], &[Given::Fresh(VType::Null)]),
         Op::Iconst(_) | Op::Bipush(_) | Op::Sipush(_) => stack_row(alloc, &[], &[AN_INT]),
         Op::Iload(i) => load_row(alloc, *i, INT),
-        Op::Aload(i) => load_row(alloc, *i, Asked::AnyReference),
+        Op::Aload(i) => load_row(alloc, *i, Want::AnyReference),
         Op::Istore(i) => store_row(alloc, *i, INT),
-        Op::Astore(i) => store_row(alloc, *i, Asked::AnyReference),
+        Op::Astore(i) => store_row(alloc, *i, Want::AnyReference),
         Op::Iaload => stack_row(alloc, &[INT, AN_ARRAY], &[AN_INT]),
         Op::Iastore => stack_row(alloc, &[INT, INT, AN_ARRAY], &[]),
         Op::Pop => stack_row(alloc, &[ANY], &[]),
@@ -64,7 +64,7 @@ pub fn row(
         | Op::Iand
         | Op::Ior
         | Op::Ixor => stack_row(alloc, &[INT, INT], &[AN_INT]),
-        Op::Iinc(i, _) => Ok(StoredRow {
+        Op::Iinc(i, _) => Ok(OpRow {
             takes: Vec::new(alloc),
             gives: Vec::new(alloc),
             reads: Some((*i, INT)),
@@ -79,9 +79,9 @@ pub fn row(
             stack_row(alloc, &[AN_OBJECT], &[])
         }
         Op::Areturn => stack_row(alloc, &[returned(m.result)], &[]),
-        Op::Newarray => stack_row(alloc, &[INT], &[Left::Fresh(VType::Ref(INT_ARRAY))]),
+        Op::Newarray => stack_row(alloc, &[INT], &[Given::Fresh(VType::Ref(INT_ARRAY))]),
         Op::Arraylength => stack_row(alloc, &[AN_ARRAY], &[AN_INT]),
-        Op::Athrow => stack_row(alloc, &[Asked::AnObject(THROWABLE)], &[]),
+        Op::Athrow => stack_row(alloc, &[Want::AnObject(THROWABLE)], &[]),
         Op::Ldc(_)
         | Op::LdcW(_)
         | Op::Getstatic(_)

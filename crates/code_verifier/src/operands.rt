@@ -9,7 +9,7 @@ ghost use Rattle.code_verifier.specs.Faults.{has_fault, class_at};
 
 use crate::classes::OBJECT;
 use crate::frame::Frame;
-use crate::op_row::{Asked, StoredRow};
+use crate::op_row::{OpRow, Want};
 use crate::places::Places;
 use crate::types::{is_below, is_uninitialised};
 use jvm_types::{MethodInfo, Target, VType};
@@ -42,54 +42,54 @@ fn new_class(m: &MethodInfo, places: &Places, pc: u32) -> Option<u16>
     class_at(m.targets.as_slice(), places.find(pc))
 }
 
-fn misuses(m: &MethodInfo, asked: Asked, t: VType) -> bool
-    ensures { result ≡ misuses m.now (want_is asked) t }
+fn misuses(m: &MethodInfo, want: Want, t: VType) -> bool
+    ensures { result ≡ misuses m.now (want_is want) t }
 {
-    match (asked, t) {
-        (Asked::AnyValue | Asked::AnyReference, _) => false,
-        (Asked::ToStart(_), _) => matches!(t, VType::Ref(_)),
-        (Asked::AHolder(class), VType::This) => class != m.class,
+    match (want, t) {
+        (Want::AnyValue | Want::AnyReference, _) => false,
+        (Want::ToStart(_), _) => matches!(t, VType::Ref(_)),
+        (Want::AHolder(class), VType::This) => class != m.class,
         (_, _) => is_uninitialised(t),
     }
 }
 
-fn suits(m: &MethodInfo, places: &Places, asked: Asked, t: VType) -> bool
+fn suits(m: &MethodInfo, places: &Places, want: Want, t: VType) -> bool
     requires places { ArePlaces m.now.code places.now }
     requires ascend { Ascend 0 m.now.code }
-    ensures { result ≡ suits m.now (want_is asked) t }
+    ensures { result ≡ suits m.now (want_is want) t }
 {
-    match (asked, t) {
-        (Asked::AnyValue, _) => true,
-        (Asked::AnInt, _) => is_below(t, VType::Int),
-        (Asked::AnyReference, _) => is_uninitialised(t) || is_below(t, VType::Ref(OBJECT)),
-        (Asked::AHolder(class), VType::This) => class == m.class,
-        (Asked::AnObject(class) | Asked::AHolder(class), _) => is_below(t, VType::Ref(class)),
-        (Asked::ToStart(class), VType::This) => class == m.class || class == OBJECT,
-        (Asked::ToStart(class), VType::New(pc)) => new_class(m, places, pc) == Some(class),
-        (Asked::ToStart(_), _) => false,
+    match (want, t) {
+        (Want::AnyValue, _) => true,
+        (Want::AnInt, _) => is_below(t, VType::Int),
+        (Want::AnyReference, _) => is_uninitialised(t) || is_below(t, VType::Ref(OBJECT)),
+        (Want::AHolder(class), VType::This) => class == m.class,
+        (Want::AnObject(class) | Want::AHolder(class), _) => is_below(t, VType::Ref(class)),
+        (Want::ToStart(class), VType::This) => class == m.class || class == OBJECT,
+        (Want::ToStart(class), VType::New(pc)) => new_class(m, places, pc) == Some(class),
+        (Want::ToStart(_), _) => false,
     }
 }
 
-fn has_fault(m: &MethodInfo, places: &Places, fault: Fault, asked: Asked, t: VType) -> bool
+fn has_fault(m: &MethodInfo, places: &Places, fault: Fault, want: Want, t: VType) -> bool
     requires places { ArePlaces m.now.code places.now }
     requires ascend { Ascend 0 m.now.code }
-    ensures { result ≡ has_fault m.now fault (want_is asked) t }
+    ensures { result ≡ has_fault m.now fault (want_is want) t }
 {
     match fault {
-        Fault::Misuse => misuses(m, asked, t),
-        Fault::Mistype => !suits(m, places, asked, t),
+        Fault::Misuse => misuses(m, want, t),
+        Fault::Mistype => !suits(m, places, want, t),
     }
 }
 
-fn some_taken(m: &MethodInfo, places: &Places, fault: Fault, takes: &[Asked], f: &Frame) -> bool
+fn some_taken(m: &MethodInfo, places: &Places, fault: Fault, takes: &[Want], f: &Frame) -> bool
     requires places { ArePlaces m.now.code places.now }
     requires ascend { Ascend 0 m.now.code }
     ensures { result ≡ some_taken (has_fault m.now fault) (map want_is takes.now) f.now.stack }
 {
-    for (place, asked) in takes.iter().enumerate() {
+    for (place, want) in takes.iter().enumerate() {
         match f.value(place) {
             Some(t) => {
-                if has_fault(m, places, fault, *asked, t) {
+                if has_fault(m, places, fault, *want, t) {
                     return true;
                 }
             }
@@ -103,30 +103,24 @@ fn some_read(
     m: &MethodInfo,
     places: &Places,
     fault: Fault,
-    reads: Option<(u16, Asked)>,
+    reads: Option<(u16, Want)>,
     f: &Frame,
 ) -> bool
     requires places { ArePlaces m.now.code places.now }
     requires ascend { Ascend 0 m.now.code }
     ensures { result ≡ some_read (has_fault m.now fault) (option_map read_is reads) f.now.locals }
 {
-    let Some((i, asked)) = reads else {
+    let Some((i, want)) = reads else {
         return false;
     };
     match f.local(usize::from(i)) {
-        Some(t) => has_fault(m, places, fault, asked, t),
+        Some(t) => has_fault(m, places, fault, want, t),
         None => false,
     }
 }
 
 /// Whether some value that is taken, or the local that is read, has the fault.
-pub fn some_operand(
-    m: &MethodInfo,
-    places: &Places,
-    fault: Fault,
-    row: &StoredRow,
-    f: &Frame,
-) -> bool
+pub fn some_operand(m: &MethodInfo, places: &Places, fault: Fault, row: &OpRow, f: &Frame) -> bool
     requires places { ArePlaces m.now.code places.now }
     requires ascend { Ascend 0 m.now.code }
     ensures { result ≡ some_operand (has_fault m.now fault) (row_is row.now) f.now }

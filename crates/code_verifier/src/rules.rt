@@ -8,28 +8,28 @@ ghost use Rattle.code_verifier.specs.Placing.{Ascend, ArePlaces};
 ghost use Rattle.code_verifier.specs.OpRows.{read_is, write_is, row_is};
 
 use crate::frame::Frame;
-use crate::op_row::{Asked, Left, StoredRow};
+use crate::op_row::{Given, OpRow, Want};
 use crate::operands::{Fault, some_operand};
 use crate::places::Places;
 use crate::ways::{falls_through, goes_back};
 use jvm_types::{Insn, Kind, MethodInfo, Op, Row, VRule};
 
 /// V1: the stack has too few values.
-fn takes_too_many(row: &StoredRow, f: &Frame) -> bool
+fn takes_too_many(row: &OpRow, f: &Frame) -> bool
     ensures { result ≡ takes_too_many (row_is row.now) f.now }
 {
     f.depth() < row.takes.len()
 }
 
 /// V2: the stack would pass `max_stack`.
-fn gives_too_many(m: &MethodInfo, row: &StoredRow, f: &Frame) -> bool
+fn gives_too_many(m: &MethodInfo, row: &OpRow, f: &Frame) -> bool
     ensures { result ≡ gives_too_many m.now (row_is row.now) f.now }
 {
     let left = f.depth().saturating_sub(row.takes.len());
     usize::from(m.max_stack) < left.saturating_add(row.gives.len())
 }
 
-fn reads_no_local(m: &MethodInfo, reads: Option<(u16, Asked)>) -> bool
+fn reads_no_local(m: &MethodInfo, reads: Option<(u16, Want)>) -> bool
     ensures { result ≡ names_no_local m.now (option_map read_is reads) }
 {
     match reads {
@@ -38,7 +38,7 @@ fn reads_no_local(m: &MethodInfo, reads: Option<(u16, Asked)>) -> bool
     }
 }
 
-fn writes_no_local(m: &MethodInfo, writes: Option<(u16, Left)>) -> bool
+fn writes_no_local(m: &MethodInfo, writes: Option<(u16, Given)>) -> bool
     ensures { result ≡ names_no_local m.now (option_map write_is writes) }
 {
     match writes {
@@ -48,7 +48,7 @@ fn writes_no_local(m: &MethodInfo, writes: Option<(u16, Left)>) -> bool
 }
 
 /// V3: a local at or above `max_locals`, or arguments that do not fit there.
-fn lacks_locals(m: &MethodInfo, row: &StoredRow, f: &Frame) -> bool
+fn lacks_locals(m: &MethodInfo, row: &OpRow, f: &Frame) -> bool
     ensures { result ≡ lacks_locals m.now (row_is row.now) f.now }
 {
     reads_no_local(m, row.reads)
@@ -76,13 +76,7 @@ fn is_return(op: &Op) -> bool
 }
 
 /// V7: an uninitialised object is misused.
-fn misuses_object(
-    m: &MethodInfo,
-    places: &Places,
-    insn: &Insn,
-    row: &StoredRow,
-    f: &Frame,
-) -> bool
+fn misuses_object(m: &MethodInfo, places: &Places, insn: &Insn, row: &OpRow, f: &Frame) -> bool
     requires places { ArePlaces m.now.code places.now }
     requires ascend { Ascend 0 m.now.code }
     ensures { result ≡ misuses_object m.now insn.now (row_is row.now) f.now }
@@ -94,7 +88,7 @@ fn misuses_object(
 }
 
 /// V4: a value of another type.
-fn mistypes(m: &MethodInfo, places: &Places, row: &StoredRow, f: &Frame) -> bool
+fn mistypes(m: &MethodInfo, places: &Places, row: &OpRow, f: &Frame) -> bool
     requires places { ArePlaces m.now.code places.now }
     requires ascend { Ascend 0 m.now.code }
     ensures { result ≡ mistypes m.now (row_is row.now) f.now }
@@ -135,7 +129,7 @@ pub fn broken_before(
     m: &MethodInfo,
     places: &Places,
     insn: &Insn,
-    row: &StoredRow,
+    row: &OpRow,
     f: &Frame,
 ) -> Option<VRule>
     requires places { ArePlaces m.now.code places.now }

@@ -54,7 +54,11 @@ fn settle(
 }
 
 /// Verifies a method whose instructions follow one another, each with a target.
-fn verify_method(alloc: Global, p: &Program, m: &MethodInfo) -> Result<Typing, VerifyError>
+pub(crate) fn verify_method(
+    alloc: Global,
+    p: &Program,
+    m: &MethodInfo,
+) -> Result<Typing, VerifyError>
     requires { IsLaidOut m.now }
     ensures ok { IfOk result (IsTypingOf p.now m.now) }
     ensures refused { IfErr result (IsRefusal p.now m.now) }

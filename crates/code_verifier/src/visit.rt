@@ -13,7 +13,7 @@ use crate::error::VerifyError;
 use crate::frame::Frame;
 use crate::handlers::handle;
 use crate::nodes::Nodes;
-use crate::op_row::StoredRow;
+use crate::op_row::OpRow;
 use crate::op_rows::row;
 use crate::places::Places;
 use crate::rules::{broken_after, broken_before};
@@ -57,7 +57,7 @@ fn visit_row(
     places: &Places,
     nodes: &mut Nodes,
     insn: &Insn,
-    row: &StoredRow,
+    row: &OpRow,
     f: &Frame,
 ) -> Result<(), VerifyError>
     requires places { ArePlaces m.now.code places.now }

@@ -97,7 +97,9 @@ pub fn goes_back(pc: u32, op: &Op) -> bool
         | Op::Goto(to)
         | Op::GotoW(to) => *to <= pc,
         Op::Tableswitch {
-            otherwise, targets, ..
+            otherwise,
+            targets,
+            ..
         } => *otherwise <= pc || some_back(pc, targets.as_slice()),
         Op::Lookupswitch { otherwise, cases } => {
             *otherwise <= pc || some_case_back(pc, cases.as_slice())

@@ -7,17 +7,17 @@ use Rattle.jvm_types.specs.Verifying.{started, after_start, shape_after}
 use Rattle.jvm_types.specs.declared.typing.VType.{VType}
 use Rattle.jvm_types.specs.declared.typing.VType.TheVariants.{Top}
 use Rattle.jvm_types.specs.declared.program.MethodInfo.{MethodInfo}
-use Rattle.code_verifier.specs.declared.op_row.Asked.{Asked}
-use Rattle.code_verifier.specs.declared.op_row.Left.{Left}
-use Rattle.code_verifier.specs.declared.op_row.StoredRow.{StoredRow}
+use Rattle.code_verifier.specs.declared.op_row.Want.{Want as StoredWant}
+use Rattle.code_verifier.specs.declared.op_row.Given.{Given as StoredGiven}
+use Rattle.code_verifier.specs.declared.op_row.OpRow.{OpRow as StoredRow}
 use Rattle.code_verifier.specs.OpRows.{want_is, given_is, write_is, row_is}
 use Rattle.code_verifier.proofs.after.shape_after.Goals as goal
 
-map_twice : (v : Given → VType) (gives : List Left) → map v (map given_is gives) ≡ map (λ left. v (given_is left)) gives
+map_twice : (v : Given → VType) (gives : List StoredGiven) → map v (map given_is gives) ≡ map (λ left. v (given_is left)) gives
 map_twice v [] = refl
 map_twice v (left ∷ gives) = ap (λ l. v (given_is left) ∷ l) (map_twice v gives)
 
-after_steps : (m : MethodInfo) (row : StoredRow) (f f1 f2 f3 f4 : Shape) (n : ℕ) (gives : List Left) (takes : List Asked) (object : Option (VType × ℕ))
+after_steps : (m : MethodInfo) (row : StoredRow) (f f1 f2 f3 f4 : Shape) (n : ℕ) (gives : List StoredGiven) (takes : List StoredWant) (object : Option (VType × ℕ))
     → n ≡ length row.takes.items
     → f1 ≡ record { stack = drop n f.stack; locals = f.locals; ready = f.ready }
     → gives ≡ row.gives.items

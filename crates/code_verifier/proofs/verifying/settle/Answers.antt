@@ -39,4 +39,4 @@ pub returns-in_err-visit-clause-broken : goal.returns-in_err-visit-clause-broken
 returns-in_err-visit-clause-broken c =
     let e = err_from_is_err_and c.from_residual.result c.from_residual.ensures.1 in
     rw (e.1, e.2) (break_of c.args.p.now c.args.m.now c.args.nodes.now c.loop-i.nodes c.take_next.new.self c.visit.new.nodes c.in-Some.i c.in_err-visit.field-0.0 (sym c.in-Some.ensures.next) c.in-Some.ensures.some
-        c.loop-i.invariant.continues c.in_err-visit.ensures.left)
+    c.loop-i.invariant.continues c.in_err-visit.ensures.left)

@@ -1,6 +1,6 @@
 use Rattle.std.proofs.lemmas.Option.{unwrap_or-slice_get}
 use Rattle.jvm_types.specs.declared.typing.VType.TheVariants.{Top}
-use Rattle.code_verifier.proofs.after.type_left.Goals as goal
+use Rattle.code_verifier.proofs.after.type_given.Goals as goal
 
 pub returns-in-Taken : goal.returns-in-Taken
 returns-in-Taken c = rw (c.in-Taken.is, c.unwrap_or.ensures, c.value.ensures, c.from.ensures) (unwrap_or-slice_get c.args.f.now.stack c.in-Taken.place Top)
