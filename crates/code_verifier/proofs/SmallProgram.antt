@@ -30,18 +30,18 @@ small = record { names = codes "P" ∷ []; fields = []; methods = small_method �
 
 method_fits : IsMethodOf small [] small_method
 method_fits = record {
-      class = (omega arith, omega arith);
-      ordered = tt;
-      distinct = tt;
-      described = refl;
-      args = tt;
-      result = tt;
-      coded = record { bytes = 0 ∷ 0xb1 ∷ []; handlers = []; code = spelled (0 ∷ 0xb1 ∷ []) [] refl refl; rows = tt };
-      targets = (refl, (refl, tt));
-      caught = tt;
-      root = refl;
-      unsynchronized = refl;
-    }
+  class = (omega arith, omega arith);
+  ordered = tt;
+  distinct = tt;
+  described = refl;
+  args = tt;
+  result = tt;
+  coded = record { bytes = 0 ∷ 0xb1 ∷ []; handlers = []; code = spelled (0 ∷ 0xb1 ∷ []) [] refl refl; rows = tt };
+  targets = (refl, (refl, tt));
+  caught = tt;
+  root = refl;
+  unsynchronized = refl;
+}
 
 name_free : (number : ℕ) (name : List ℕ) → slice_get small.names number ≡ Some name → is_taken (take number small.names) name ≡ false
 name_free zero name e = let same : codes "P" ≡ name = cc in subst (λ (x : List ℕ). is_taken [] x ≡ false) same refl
