@@ -1,11 +1,10 @@
 -- A small program, which a test verifies, is one that linking may leave.
-use Rattle.std.proofs.Common.{◌≡◌, ℕ, zero, suc, false, List, [], ◌∷◌, Some, None, refl, ap, ◌∙◌, subst, arith}
-use Rattle.std.specs.Prelude.{codes, take, pos, slice_get}
+use Rattle.std.proofs.Common.{◌≡◌, ℕ, zero, suc, false, List, [], ◌∷◌, Some, None, refl, subst, arith}
+use Rattle.std.specs.Prelude.{codes, take, slice_get}
 use Rattle.jvm_types.specs.LinkFaults.{is_taken}
-use Rattle.jvm_types.specs.ProgramInvariant.{IsProgram, IsFieldOf, IsMethodOf}
+use Rattle.jvm_types.specs.ProgramInvariant.{IsProgram, IsMethodOf}
 use Rattle.jvm_types.specs.declared.code.Op.TheVariants.{Nop, Return}
 use Rattle.jvm_types.specs.declared.program.Target.TheVariants.{Nothing}
-use Rattle.jvm_types.specs.declared.program.FieldInfo.{FieldInfo}
 use Rattle.jvm_types.specs.declared.program.MethodInfo.{MethodInfo}
 use Rattle.jvm_types.specs.declared.program.Program.{Program}
 use Rattle.code_verifier.proofs.Laid.{spelled}
@@ -30,18 +29,18 @@ small = record { names = codes "P" ∷ []; fields = []; methods = small_method �
 
 method_fits : IsMethodOf small [] small_method
 method_fits = record {
-      class = (omega arith, omega arith);
-      ordered = tt;
-      distinct = tt;
-      described = refl;
-      args = tt;
-      result = tt;
-      coded = record { bytes = 0 ∷ 0xb1 ∷ []; handlers = []; code = spelled (0 ∷ 0xb1 ∷ []) [] refl refl; rows = tt };
-      targets = (refl, (refl, tt));
-      caught = tt;
-      root = refl;
-      unsynchronized = refl;
-    }
+  class = (omega arith, omega arith);
+  ordered = tt;
+  distinct = tt;
+  described = refl;
+  args = tt;
+  result = tt;
+  coded = record { bytes = 0 ∷ 0xb1 ∷ []; handlers = []; code = spelled (0 ∷ 0xb1 ∷ []) [] refl refl; rows = tt };
+  targets = (refl, (refl, tt));
+  caught = tt;
+  root = refl;
+  unsynchronized = refl;
+}
 
 name_free : (number : ℕ) (name : List ℕ) → slice_get small.names number ≡ Some name → is_taken (take number small.names) name ≡ false
 name_free zero name e = let same : codes "P" ≡ name = cc in subst (λ (x : List ℕ). is_taken [] x ≡ false) same refl
