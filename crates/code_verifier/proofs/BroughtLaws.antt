@@ -1,19 +1,15 @@
 -- Edges: what one leaves of the nodes, by the number of the instruction that it leads to, and which clash.
-use Rattle.std.proofs.Common.{◌≡◌, ◌≢◌, ℕ, zero, suc, ◌<◌, ◌≤◌, min, Bool, true, false, not, List, [], ◌∷◌, ◌++◌, length, Option, Some, None, refl, sym, ap, ◌∙◌, subst, arith}
-use Rattle.std.specs.Prelude.{◌==◌, ◌||◌, ◌&&◌, if◌then◌else◌, slice_get, slice_set}
+use Rattle.std.proofs.Common.{◌≡◌, ℕ, suc, ◌<◌, Bool, true, false, List, [], ◌∷◌, length, Option, Some, None, refl, sym, ap, ◌∙◌, arith}
+use Rattle.std.specs.Prelude.{◌==◌, if◌then◌else◌, slice_set}
 use Rattle.std.specs.Option.{option_map, IfSome}
 use Rattle.std.specs.List.{AllByRecursion}
-use Rattle.std.proofs.lemmas.Bool.Decides.{nat_tests}
-use Rattle.jvm_types.specs.Numbers.{has_number}
-use Rattle.jvm_types.specs.Types.{Shape, meets, meet, meet_shapes, same_shape}
-use Rattle.jvm_types.specs.Verifying.{Node, node_at, node_joined, brought, all_brought, has_other_depth, clash}
+use Rattle.jvm_types.specs.Types.{Shape, meets}
+use Rattle.jvm_types.specs.Verifying.{Node, node_at, node_joined, brought}
 use Rattle.jvm_types.specs.declared.code.Insn.{Insn}
 use Rattle.jvm_types.specs.declared.typing.VType.{VType}
 use Rattle.jvm_types.specs.declared.program.MethodInfo.{MethodInfo}
-use Rattle.code_verifier.specs.Placing.{place_of, Ascend}
-use Rattle.code_verifier.specs.Waiting.{Fits}
-use Rattle.code_verifier.specs.Visiting.{HasLocals, AreLevel, lesser}
-use Rattle.code_verifier.proofs.PlaceLaws.{same_number, other_number}
+use Rattle.code_verifier.specs.Placing.{place_of}
+use Rattle.code_verifier.specs.Visiting.{HasLocals, AreLevel}
 
 -- ---- an edge, by the number of the instruction
 

@@ -1,14 +1,14 @@
 -- What linking leaves of a method: its pcs ascend, and its nodes at the start have the locals of the entry frame.
-use Rattle.std.proofs.Common.{◌≡◌, ℕ, zero, suc, ◌+◌, ◌<◌, ◌≤◌, Bool, true, false, List, [], ◌∷◌, ◌++◌, length, map, replicate, Option, Some, None, refl, sym, ap, ◌∙◌, subst, arith}
+use Rattle.std.proofs.Common.{◌≡◌, ℕ, zero, suc, ◌<◌, ◌≤◌, true, false, List, [], ◌∷◌, length, map, replicate, Some, refl, sym, ap, ◌∙◌, arith}
 use Rattle.std.specs.Prelude.{slice_get, slice_set}
 use Rattle.std.specs.Option.{IfSome}
 use Rattle.std.specs.List.{AllByRecursion, AllZip}
 use Rattle.std.proofs.lemmas.Slice.Zip.{AllZip-long}
 use Rattle.std.proofs.lemmas.List.{length-set}
 use Rattle.jvm_types.specs.CodeGrammar.{SpellsInsns, SpellsOp}
-use Rattle.jvm_types.specs.ProgramInvariant.{IsProgram, IsMethodOf, IsRowOf, IsTargetOf, site_in}
-use Rattle.jvm_types.specs.Types.{Shape, entry_shape}
-use Rattle.jvm_types.specs.Verifying.{Node, node_at, first_nodes, node_joined, next_visit, visited, visited_insn, Visits, Breaks, IsLaidOut}
+use Rattle.jvm_types.specs.ProgramInvariant.{IsMethodOf, IsRowOf, IsTargetOf, site_in}
+use Rattle.jvm_types.specs.Types.{entry_shape}
+use Rattle.jvm_types.specs.Verifying.{Node, node_at, first_nodes, node_joined, visited, visited_insn, IsLaidOut}
 use Rattle.jvm_types.specs.declared.class_file.Handler.{Handler}
 use Rattle.jvm_types.specs.declared.code.Insn.{Insn}
 use Rattle.jvm_types.specs.declared.program.Row.{Row}

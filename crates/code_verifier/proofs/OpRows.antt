@@ -1,5 +1,5 @@
 -- Rows as they are stored, and the rows that they are.
-use Rattle.std.proofs.Common.{◌≡◌, List, [], ◌∷◌, map, refl, ap}
+use Rattle.std.proofs.Common.{◌≡◌, List, [], ◌∷◌, map, refl}
 use Rattle.jvm_types.specs.CodeTable.{want_of}
 use Rattle.jvm_types.specs.declared.program.Kind.{Kind}
 use Rattle.jvm_types.specs.declared.program.Kind.TheVariants.{Int, Bool, Ref}

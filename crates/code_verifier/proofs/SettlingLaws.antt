@@ -1,8 +1,6 @@
 -- Where visits lead, one visit on.
-use Rattle.std.proofs.Common.{◌≡◌, ℕ, List, [], ◌∷◌, Option, Some, None, Result, Ok, Err, refl, sym, ap, ◌∙◌}
-use Rattle.jvm_types.specs.Types.{Shape, shapes_of}
-use Rattle.jvm_types.specs.Verifying.{Node, first_nodes, next_visit, visited, Visits, Breaks, HasTyping, IsTypingOf, IsRefused}
-use Rattle.jvm_types.specs.declared.typing.Typing.{Typing}
+use Rattle.std.proofs.Common.{◌≡◌, ℕ, List, [], ◌∷◌, Some, None, Ok, Err, sym}
+use Rattle.jvm_types.specs.Verifying.{Node, next_visit, visited, Breaks}
 use Rattle.jvm_types.specs.declared.program.MethodInfo.{MethodInfo}
 use Rattle.jvm_types.specs.declared.program.Program.{Program}
 use Rattle.jvm_types.specs.declared.refusal.VRule.{VRule}

@@ -1,11 +1,10 @@
 -- A small program, which a test verifies, is one that linking may leave.
-use Rattle.std.proofs.Common.{◌≡◌, ℕ, zero, suc, false, List, [], ◌∷◌, Some, None, refl, ap, ◌∙◌, subst, arith}
-use Rattle.std.specs.Prelude.{codes, take, pos, slice_get}
+use Rattle.std.proofs.Common.{◌≡◌, ℕ, zero, suc, false, List, [], ◌∷◌, Some, None, refl, subst, arith}
+use Rattle.std.specs.Prelude.{codes, take, slice_get}
 use Rattle.jvm_types.specs.LinkFaults.{is_taken}
-use Rattle.jvm_types.specs.ProgramInvariant.{IsProgram, IsFieldOf, IsMethodOf}
+use Rattle.jvm_types.specs.ProgramInvariant.{IsProgram, IsMethodOf}
 use Rattle.jvm_types.specs.declared.code.Op.TheVariants.{Nop, Return}
 use Rattle.jvm_types.specs.declared.program.Target.TheVariants.{Nothing}
-use Rattle.jvm_types.specs.declared.program.FieldInfo.{FieldInfo}
 use Rattle.jvm_types.specs.declared.program.MethodInfo.{MethodInfo}
 use Rattle.jvm_types.specs.declared.program.Program.{Program}
 use Rattle.code_verifier.proofs.Laid.{spelled}

@@ -1,11 +1,11 @@
 -- The object that an `<init>` is called on, looked for among the values that are taken.
-use Rattle.std.proofs.Common.{◌≡◌, ℕ, zero, suc, ◌<◌, Bool, true, false, List, [], ◌∷◌, length, map, drop, Option, Some, None, refl, sym, ap, ◌∙◌, arith}
+use Rattle.std.proofs.Common.{◌≡◌, ℕ, zero, suc, ◌<◌, List, [], ◌∷◌, length, map, drop, Option, Some, None, refl, sym, ap, ◌∙◌, arith}
 use Rattle.std.specs.Prelude.{slice_get, slice_index_or}
 use Rattle.jvm_types.specs.CodeFault.{or_else}
-use Rattle.jvm_types.specs.CodeTable.{Want, AnyValue, AnInt, AnObject, AnyReference, AHolder, ToStart}
+use Rattle.jvm_types.specs.CodeTable.{Want, ToStart}
 use Rattle.jvm_types.specs.Verifying.{started}
 use Rattle.jvm_types.specs.declared.typing.VType.{VType}
-use Rattle.jvm_types.specs.declared.typing.VType.TheVariants.{Int, Null, Ref, This, New, Top}
+use Rattle.jvm_types.specs.declared.typing.VType.TheVariants.{This}
 use Rattle.code_verifier.specs.declared.op_row.Want.{Want as StoredWant}
 use Rattle.code_verifier.specs.OpRows.{want_is}
 

@@ -1,11 +1,10 @@
 -- The numbers of the nodes that wait, when one of them changes.
-use Rattle.std.proofs.Common.{◌≡◌, ℕ, zero, suc, ◌+◌, ◌-◌, ◌<◌, ◌≤◌, ◌⊎◌, inl, inr, Bool, true, false, not, List, [], ◌∷◌, length, map, Option, Some, None, refl, sym, ap, ◌∙◌, subst, add-zero, arith}
+use Rattle.std.proofs.Common.{◌≡◌, ℕ, zero, suc, ◌+◌, ◌<◌, Bool, true, false, List, [], ◌∷◌, length, map, Some, None, refl, sym, ap, ◌∙◌, add-zero, arith}
 use Rattle.std.specs.Cmp.{nat_cmp_is}
-use Rattle.std.specs.Prelude.{◌||◌, if◌then◌else◌, replicate, slice_get, slice_set, slice_index_or}
+use Rattle.std.specs.Prelude.{if◌then◌else◌, replicate, slice_get, slice_set, slice_index_or}
 use Rattle.std.proofs.lemmas.List.{length-map, map-set}
 use Rattle.std.specs.Ordering.{nat_cmp}
 use Rattle.std.specs.BTreeSet.{insert_key}
-use Rattle.std.specs.declared.cmp.Ordering.{Ordering}
 use Rattle.std.specs.declared.cmp.Ordering.TheVariants.{Less, Equal, Greater}
 use Rattle.jvm_types.specs.Verifying.{Node, node_at, waiting_from, next_visit}
 use Rattle.code_verifier.specs.declared.nodes.StoredNode.{StoredNode}

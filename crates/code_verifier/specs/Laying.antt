@@ -1,5 +1,5 @@
 -- Methods that tests make: their code, by its bytes and handler rows.
-use Rattle.std.specs.Prelude.{◌≡◌, ℕ, List, [], length}
+use Rattle.std.specs.Prelude.{◌≡◌, ℕ, List, length}
 use Rattle.std.specs.List.{AllZip}
 use Rattle.jvm_types.specs.CodeGrammar.{IsCode}
 use Rattle.jvm_types.specs.declared.class_file.Handler.{Handler}

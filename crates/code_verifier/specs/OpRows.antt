@@ -1,5 +1,5 @@
 -- Rows of instructions as this crate stores them, and the rows that they are.
-use Rattle.std.specs.Prelude.{ℕ, List, map, Option}
+use Rattle.std.specs.Prelude.{ℕ, map}
 use Rattle.std.specs.Option.{option_map}
 use Rattle.jvm_types.specs.CodeTable.{Want, AnyValue, AnInt, AnObject, AnyReference, AHolder, ToStart, Given, Fresh, Taken, Local, OpRow}
 use Rattle.jvm_types.specs.declared.program.Kind.{Kind}

@@ -1,7 +1,6 @@
 -- Where the visits of a method lead, and what its verifier answers.
-use Rattle.std.specs.Prelude.{◌≡◌, ℕ, List, Option, Result, Ok, Err}
-use Rattle.jvm_types.specs.Types.{Shape}
-use Rattle.jvm_types.specs.Verifying.{Node, Visits, Breaks, IsTypingOf, IsRefused}
+use Rattle.std.specs.Prelude.{ℕ, List}
+use Rattle.jvm_types.specs.Verifying.{Node, Visits, Breaks, IsRefused}
 use Rattle.jvm_types.specs.declared.program.MethodInfo.{MethodInfo}
 use Rattle.jvm_types.specs.declared.program.Program.{Program}
 use Rattle.jvm_types.specs.declared.refusal.VRule.{VRule}
@@ -25,8 +24,3 @@ IsBreak p m nodes (Refused rule pc) = Break p m nodes (rule, pc)
 abbrev pub IsRefusal : Program → MethodInfo → VerifyError → Type 0
 IsRefusal p m Memory = Unit {0}
 IsRefusal p m (Refused rule pc) = IsRefused p m rule pc
-
--- memory ran out
-abbrev pub IsMemory : VerifyError → Type 0
-IsMemory Memory = Unit {0}
-IsMemory (Refused rule pc) = ⊥

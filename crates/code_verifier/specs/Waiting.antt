@@ -1,5 +1,5 @@
 -- Nodes as this crate stores them, the numbers of those that wait, and what an edge does to one.
-use Rattle.std.specs.Prelude.{◌≡◌, ℕ, suc, Bool, true, false, not, if◌then◌else◌, List, [], ◌∷◌, length, map, Option, Some, None}
+use Rattle.std.specs.Prelude.{◌≡◌, ℕ, suc, Bool, true, false, not, if◌then◌else◌, List, [], ◌∷◌, length, Option, Some, None}
 use Rattle.jvm_types.specs.Types.{Shape, same_shape, meet_shapes}
 use Rattle.jvm_types.specs.Verifying.{Node}
 use Rattle.code_verifier.specs.declared.nodes.StoredNode.{StoredNode}

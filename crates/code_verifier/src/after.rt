@@ -13,10 +13,10 @@ use jvm_types::{MethodInfo, VType};
 use std::alloc::{AllocError, Global};
 
 /// The type of a value that is pushed, or written to a local.
-fn type_given(left: Given, f: &Frame) -> VType
-    ensures { result ≡ value_of Top (λ t. t) f.now.stack f.now.locals (given_is left) }
+fn type_given(given: Given, f: &Frame) -> VType
+    ensures { result ≡ value_of Top (λ t. t) f.now.stack f.now.locals (given_is given) }
 {
-    match left {
+    match given {
         Given::Fresh(t) => t,
         Given::Taken(place) => f.value(usize::from(place)).unwrap_or(VType::Top),
         Given::Local(i) => f.local(usize::from(i)).unwrap_or(VType::Top),
@@ -25,7 +25,7 @@ fn type_given(left: Given, f: &Frame) -> VType
 
 /// Pushes what an instruction leaves, the last first.
 fn push_all(after: &mut Frame, gives: &[Given], f: &Frame) -> Result<(), AllocError>
-    ensures { OnOk result (after.new ≡ record after.old { stack = map (λ left. value_of Top (λ t. t) f.now.stack f.now.locals (given_is left)) gives.now ++ after.old.stack }) }
+    ensures { OnOk result (after.new ≡ record after.old { stack = map (λ given. value_of Top (λ t. t) f.now.stack f.now.locals (given_is given)) gives.now ++ after.old.stack }) }
 {
     for i in (0..gives.len()).rev() {
         after.push(type_given(gives[i], f))?;
@@ -64,8 +64,8 @@ fn write_local(after: &mut Frame, writes: Option<(u16, Given)>, f: &Frame)
     requires { after.old.locals ≡ f.now.locals }
     ensures { after.new ≡ record after.old { locals = locals_after Top (λ t. t) (option_map write_is writes) f.now.stack f.now.locals } }
 {
-    if let Some((i, left)) = writes {
-        after.set_local(usize::from(i), type_given(left, f));
+    if let Some((i, given)) = writes {
+        after.set_local(usize::from(i), type_given(given, f));
     }
 }
 

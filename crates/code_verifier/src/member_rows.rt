@@ -54,11 +54,11 @@ fn arguments(alloc: Global, called: &MethodInfo) -> Result<Vec<Want>, AllocError
 fn result_of(alloc: Global, called: &MethodInfo) -> Result<Vec<Given>, AllocError>
     ensures { IfOk result (λ v. map given_is v.items ≡ result_of called.now) }
 {
-    let mut left = Vec::new(alloc);
+    let mut given = Vec::new(alloc);
     if let Some(kind) = called.result {
-        left.push(Given::Fresh(type_of(kind)))?;
+        given.push(Given::Fresh(type_of(kind)))?;
     }
-    Ok(left)
+    Ok(given)
 }
 
 fn no_row(alloc: Global) -> OpRow

@@ -7,7 +7,7 @@ ghost use Rattle.code_verifier.specs.OpRows.{want_is, given_is, row_is};
 use jvm_types::VType;
 use std::alloc::{AllocError, Global};
 
-/// What is want of a value that is taken or read.
+/// What is asked of a value that is taken or read.
 #[derive(Clone, Copy, Debug, PartialEq, Eq)]
 pub enum Want {
     AnyValue,

@@ -4,9 +4,7 @@ use Rattle.std.proofs.lemmas.List.{drop_more}
 use Rattle.jvm_types.specs.Types.{Shape}
 use Rattle.jvm_types.specs.Verifying.{Node, brought, all_brought, clash}
 use Rattle.jvm_types.specs.declared.code.Insn.{Insn}
-use Rattle.jvm_types.specs.declared.program.MethodInfo.{MethodInfo}
 use Rattle.code_verifier.specs.Placing.{Ascend}
-use Rattle.code_verifier.specs.Visiting.{HasLocals, AreLevel}
 use Rattle.code_verifier.proofs.BroughtLaws.{level_brought}
 use Rattle.code_verifier.proofs.ClashLaws.{clash_more, left_none, right_none, still_none}
 use Rattle.code_verifier.proofs.edges.bring_all.Goals as goal

@@ -1,5 +1,4 @@
-use Rattle.std.proofs.Common.{◌∙◌, sym, ap}
-use Rattle.code_verifier.specs.Faults.{class_at}
+use Rattle.std.proofs.Common.{sym}
 use Rattle.code_verifier.proofs.ClassOfNew.{new_class_at}
 use Rattle.code_verifier.proofs.operands.new_class.Goals as goal
 

@@ -1,4 +1,4 @@
-use Rattle.std.proofs.Common.{◌∙◌, add-one, arith}
+use Rattle.std.proofs.Common.{◌∙◌, add-one}
 use Rattle.std.proofs.lemmas.List.{length-set}
 use Rattle.code_verifier.proofs.TypeLists.{initialise_more}
 use Rattle.code_verifier.proofs.type_lists.initialise.Goals as goal

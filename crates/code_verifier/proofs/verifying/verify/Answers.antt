@@ -1,4 +1,4 @@
-use Rattle.std.proofs.Common.{◌≡◌, ℕ, zero, suc, ◌<◌, List, [], ◌∷◌, length, take, Option, Some, None, refl, sym, subst, arith}
+use Rattle.std.proofs.Common.{◌≡◌, ℕ, zero, suc, ◌<◌, List, [], ◌∷◌, length, take, Option, Some, None, sym, subst, arith}
 use Rattle.std.specs.Prelude.{slice_get, IfOk, IfErr, IsSomeAnd}
 use Rattle.jvm_types.specs.Verifying.{IsTypingOf}
 use Rattle.jvm_types.specs.declared.typing.Typing.{Typing}

@@ -1,4 +1,4 @@
-use Rattle.std.proofs.Common.{◌≡◌, ℕ, List, Option, Some, Result, sym, ◌∙◌}
+use Rattle.std.proofs.Common.{◌≡◌, List, Option, Some, Result}
 use Rattle.jvm_types.specs.CodeTable.{OpRow, row}
 use Rattle.jvm_types.specs.Types.{Shape}
 use Rattle.jvm_types.specs.Verifying.{Node, visited_row, visited_insn}

@@ -1,5 +1,4 @@
-use Rattle.std.proofs.Common.{◌≡◌, List, [], ◌∷◌, map, Option, refl, ap, ◌∙◌}
-use Rattle.jvm_types.specs.Types.{Shape}
+use Rattle.std.proofs.Common.{◌≡◌, List, [], ◌∷◌, map, refl, ap, ◌∙◌}
 use Rattle.jvm_types.specs.Verifying.{Node}
 use Rattle.code_verifier.specs.declared.nodes.StoredNode.{StoredNode}
 use Rattle.code_verifier.specs.Waiting.{node_is}

@@ -1,10 +1,10 @@
-use Rattle.std.proofs.Common.{◌≡◌, ◌<◌, ℕ, List, length, Option, Some, refl, sym, ap, ◌∙◌}
+use Rattle.std.proofs.Common.{◌≡◌, ℕ, List, Option, Some, refl, sym, ap, ◌∙◌}
 use Rattle.std.specs.Prelude.{slice_get, slice_set}
-use Rattle.std.proofs.lemmas.Result.{IfOk-weaker, on_ok_weaker}
+use Rattle.std.proofs.lemmas.Result.{on_ok_weaker}
 use Rattle.jvm_types.specs.Types.{Shape}
 use Rattle.jvm_types.specs.Verifying.{Node, node_at}
 use Rattle.code_verifier.specs.declared.nodes.StoredNode.{StoredNode}
-use Rattle.code_verifier.specs.Waiting.{node_is, waiting_numbers, joined, changes}
+use Rattle.code_verifier.specs.Waiting.{node_is, waiting_numbers, joined}
 use Rattle.code_verifier.proofs.WaitingLaws.{node_at_get, numbers_same, at_stored, set_stored}
 use Rattle.code_verifier.proofs.nodes.Nodes.meet.Goals as goal
 
