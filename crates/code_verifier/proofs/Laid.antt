@@ -8,7 +8,7 @@ use Rattle.jvm_types.specs.CodeGrammar.{IsCode}
 use Rattle.jvm_types.specs.declared.class_file.Handler.{Handler}
 use Rattle.jvm_types.specs.declared.program.Row.{Row}
 use Rattle.jvm_types.specs.declared.program.Target.{Target}
-use Rattle.jvm_types.proofs.CodeOnce.{insns_of}
+use Rattle.jvm_types.specs.ReadCode.{insns_of}
 use Rattle.jvm_types.proofs.CodeExact.{read_is_code}
 use Rattle.code_verifier.specs.Laying.{AreLaid}
 
