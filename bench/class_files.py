@@ -6,8 +6,8 @@ Run it by hand from the top of the repository, after `./run --proved examples/A.
 
     python3 bench/class_files.py
 
-The program refuses these files as not built yet (L0) once it has read them whole. The time of a run on a file
-of a few bytes, which is that of starting the program, is taken off.
+A byte stands behind each class, so that the program refuses the file (C8) once it has read it whole, and does
+nothing else with it. The time of a run on a file of one byte, which is that of starting the program, is taken off.
 """
 import os
 import subprocess
@@ -94,7 +94,7 @@ def main():
         print(f"memcpy of 64 MiB: {copy_speed():.0f} MB/s")
         for shape in (constants, attributes, members):
             for size in SIZES:
-                content = shape(size)
+                content = shape(size) + b"\0"
                 with open(path, "wb") as out:
                     out.write(content)
                 took, answer = seconds(path)
