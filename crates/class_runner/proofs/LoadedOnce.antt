@@ -13,7 +13,7 @@ use Rattle.jvm_types.specs.Linkable.{IsDecoded}
 use Rattle.jvm_types.specs.LinkFaults.{LinkFault, link_fault, IsLinked}
 use Rattle.jvm_types.specs.Types.{Shape, shape_of, shapes_of}
 use Rattle.jvm_types.specs.Verifying.{IsTypingOf}
-use Rattle.jvm_types.specs.CheckedProgram.{CheckedProgram, AreTypings}
+use Rattle.checked_program.specs.CheckedProgram.{CheckedProgram, AreTypings}
 use Rattle.jvm_types.specs.FirstForm.{IsFirstForm}
 use Rattle.jvm_types.specs.declared.class_file.ClassFile.{ClassFile}
 use Rattle.jvm_types.specs.declared.code.Insn.{Insn}

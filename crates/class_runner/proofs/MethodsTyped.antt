@@ -4,7 +4,7 @@ use Rattle.std.specs.List.{AllByRecursion}
 use Rattle.std.proofs.lemmas.List.{drop_all, length_push}
 use Rattle.jvm_types.specs.ClassGrammar.{IsClass}
 use Rattle.jvm_types.specs.Members.{Declared, declared_from, declared_by}
-use Rattle.jvm_types.specs.CheckedProgram.{AreTypings}
+use Rattle.checked_program.specs.CheckedProgram.{AreTypings}
 use Rattle.jvm_types.specs.declared.class_file.Constant.{Constant}
 use Rattle.jvm_types.specs.declared.class_file.ClassFile.{ClassFile}
 use Rattle.jvm_types.specs.declared.class_file.Member.{Member}

@@ -11,7 +11,7 @@ use Rattle.jvm_types.specs.Linked.{code_of}
 use Rattle.jvm_types.specs.Linkable.{IsDecoded}
 use Rattle.jvm_types.specs.LinkFaults.{link_fault, in_file, in_method, IsLinked}
 use Rattle.jvm_types.specs.Verifying.{IsTypingOf, IsRefused}
-use Rattle.jvm_types.specs.CheckedProgram.{CheckedProgram, AreTypings}
+use Rattle.checked_program.specs.CheckedProgram.{CheckedProgram, AreTypings}
 use Rattle.jvm_types.specs.FirstForm.{IsFirstForm}
 use Rattle.jvm_types.specs.declared.class_file.ClassFile.{ClassFile}
 use Rattle.jvm_types.specs.declared.code.Insn.{Insn}

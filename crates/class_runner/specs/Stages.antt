@@ -9,7 +9,7 @@ use Rattle.jvm_types.specs.Members.{Declared, declared_from, declared_methods}
 use Rattle.jvm_types.specs.Linkable.{IsDecoded}
 use Rattle.jvm_types.specs.LinkFaults.{in_file, in_method, link_fault, IsLinked}
 use Rattle.jvm_types.specs.Verifying.{IsTypingOf, IsRefused}
-use Rattle.jvm_types.specs.CheckedProgram.{AreTypings}
+use Rattle.checked_program.specs.CheckedProgram.{AreTypings}
 use Rattle.jvm_types.specs.declared.class_file.Code.{Code}
 use Rattle.jvm_types.specs.declared.class_file.ClassFile.{ClassFile}
 use Rattle.jvm_types.specs.declared.code.Insn.{Insn}

@@ -1,7 +1,7 @@
 //! Files to a checked program, or the first rule that refuses them.
 
 ghost use Rattle.std.specs.Prelude.{◌≡◌, ◌<◌, ◌≤◌, List, length, IfOk, IfErr};
-ghost use Rattle.jvm_types.specs.CheckedProgram.{CheckedProgram};
+ghost use Rattle.checked_program.specs.CheckedProgram.{CheckedProgram};
 ghost use Rattle.jvm_types.specs.FirstForm.{IsFirstProgram};
 ghost use Rattle.class_runner.specs.Loading.{IsLoaded, IsFirstLoaded, IsNotLoaded};
 ghost use Rattle.jvm_types.specs.declared.first.FirstOp.{FirstOp as Op};
@@ -12,7 +12,8 @@ use crate::places::in_file;
 use crate::reading::read_files;
 use crate::texts::RuleText;
 use crate::verifying::verify_files;
-use jvm_types::{Bytes, Checked, FirstOp, LRule, NO_METHOD, Place, Rows, Rule};
+use checked_program::Checked;
+use jvm_types::{Bytes, FirstOp, LRule, NO_METHOD, Place, Rows, Rule};
 use std::alloc::{AllocError, Global};
 use std::fmt;
 use thiserror::Error;

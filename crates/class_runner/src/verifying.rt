@@ -5,7 +5,7 @@ ghost use Rattle.std.specs.List.{AllByRecursion};
 ghost use Rattle.jvm_types.specs.ClassGrammar.{IsClass};
 ghost use Rattle.jvm_types.specs.Members.{Declared, declared_methods};
 ghost use Rattle.jvm_types.specs.ProgramInvariant.{IsProgram};
-ghost use Rattle.jvm_types.specs.CheckedProgram.{AreTypings};
+ghost use Rattle.checked_program.specs.CheckedProgram.{AreTypings};
 ghost use Rattle.class_runner.specs.Stages.{own_methods, IsTypedAt, IsUntypedAt, IsUnverified, AreTypedSoFar};
 
 use crate::loading::FileError;

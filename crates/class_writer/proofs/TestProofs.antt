@@ -8,7 +8,7 @@ use Rattle.std.proofs.lemmas.Bool.Decides.{nat_tests, Decides-eqb}
 use Rattle.jvm_types.specs.Numbers.{u2, u4, has_flag}
 use Rattle.jvm_types.specs.Spelling.{counted, constant, handler, attr, code_body, member_attr, member, class_file}
 use Rattle.jvm_types.specs.Counts.{BodyFits, CodeFits, MemberAttrFits, MemberFits}
-use Rattle.jvm_types.specs.ClassGrammar.{IsCounted, Names, IsIndex, is_wide, is_gap, GapsFit, IsUtf8Byte, FieldsFit, IndicesFit, IsPool, IsAttr, IsNamed, IsHandler, IsCode, IsFieldAttr, IsMethodAttr, IsMember, IsField, codes_of, HasBody, IsMethod, IsClass}
+use Rattle.jvm_types.specs.ClassGrammar.{IsCounted, Names, IsIndex, is_wide, is_gap, GapsFit, IsUtf8Byte, FieldsFit, IndicesFit, IsPool, IsAttr, IsNamed, IsHandler, IsCodeAttr, IsFieldAttr, IsMethodAttr, IsMember, IsField, codes_of, HasBody, IsMethod, IsClass}
 use Rattle.jvm_types.specs.ReadingPool.{names}
 use Rattle.jvm_types.specs.declared.index_kind.IndexKind.{IndexKind}
 use Rattle.jvm_types.specs.declared.index_kind.IndexKind.TheVariants as kinds
@@ -208,7 +208,7 @@ test_from_handler pool r is = test_from_Names kinds.CatchType pool r.catch_type 
 named_from_test : (text : List ℕ) (pool : List Constant) (i : ℕ) → is_named text pool i ≡ true → i / 256 < 256 → IsNamed pool i text
 named_from_test text pool i t h = record { number = u2_fits i h; named = IsTextAt-from_test text pool i t }
 
-code_from_test : (pool : List Constant) (c : Code) → is_code pool c ≡ true → CodeFits c → IsBytes (member_attr (member_attrs.Code c)) → IsCode pool c
+code_from_test : (pool : List Constant) (c : Code) → is_code pool c ≡ true → CodeFits c → IsBytes (member_attr (member_attrs.Code c)) → IsCodeAttr pool c
 code_from_test pool c t f h =
     let p = both_true (is_named (codes "Code") pool c.name && list_all (is_handler pool) c.rows) (list_all (is_attr pool) c.attrs) t in
     let q = both_true (is_named (codes "Code") pool c.name) (list_all (is_handler pool) c.rows) p.0 in
@@ -226,7 +226,7 @@ code_from_test pool c t f h =
       attrs = counted_from_test (is_attr pool) BodyFits attr (IsAttr pool) (attr_from_test pool) c.attrs p.1 f.attrs behind.1;
     }
 
-test_from_code : (pool : List Constant) (c : Code) → IsCode pool c → is_code pool c ≡ true
+test_from_code : (pool : List Constant) (c : Code) → IsCodeAttr pool c → is_code pool c ≡ true
 test_from_code pool c is =
     true_both (is_named (codes "Code") pool c.name && list_all (is_handler pool) c.rows) (list_all (is_attr pool) c.attrs)
     (true_both (is_named (codes "Code") pool c.name) (list_all (is_handler pool) c.rows) (test_from_IsTextAt (codes "Code") pool c.name is.name.named) (test_from_each (is_handler pool) (IsHandler pool) (test_from_handler pool) c.rows is.rows.each))

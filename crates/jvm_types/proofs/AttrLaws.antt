@@ -12,7 +12,7 @@ use Rattle.jvm_types.specs.declared.class_file.Handler.{Handler}
 use Rattle.jvm_types.specs.declared.class_file.Code.{Code}
 use Rattle.jvm_types.specs.declared.class_file.MemberAttr.{MemberAttr}
 use Rattle.jvm_types.specs.declared.class_file.MemberAttr.TheVariants as member_attrs
-use Rattle.jvm_types.specs.ClassGrammar.{IsCounted, IsIndex, IsAttr, IsNamed, IsHandler, IsCode, IsFieldAttr, IsMethodAttr}
+use Rattle.jvm_types.specs.ClassGrammar.{IsCounted, IsIndex, IsAttr, IsNamed, IsHandler, IsCodeAttr, IsFieldAttr, IsMethodAttr}
 use Rattle.jvm_types.specs.ReadingSteps.{Fault, ended, whole, in_body}
 use Rattle.jvm_types.specs.ReadingPool.{is_text, index_at}
 use Rattle.jvm_types.specs.ReadingClass.{attr_at, handler_at, code_at, code_of, value_of, field_attr_at, method_attr_at}
@@ -229,7 +229,7 @@ method_attr_takes pool bytes fits =
 named_index : (pool : List Constant) (name : ℕ) (text : List ℕ) → IsNamed pool name text → IsIndex kinds.Utf8 pool name
 named_index pool name text is = record { number = is.number; names = (text, is.named) }
 
-code_stands : (pool : List Constant) (c : Code) (behind : ℕ) → IsCode pool c → code_of pool (record { name = c.name; body = code_body c }) behind ≡ Ok (member_attrs.Code c)
+code_stands : (pool : List Constant) (c : Code) (behind : ℕ) → IsCodeAttr pool c → code_of pool (record { name = c.name; body = code_body c }) behind ≡ Ok (member_attrs.Code c)
 unfolding code_of
 code_stands pool c behind is =
     rw (inside_again code_body (AreParts pool c.name) (code_at pool c.name) (code_reads pool c.name) (4 + length (code_body c) + behind) behind c

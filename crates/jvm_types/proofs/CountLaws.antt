@@ -1,7 +1,7 @@
 -- The lengths of a class that keeps the grammar fit their fields.
 use Rattle.std.proofs.Common.{List, [], ◌∷◌}
 use Rattle.std.specs.List.{AllByRecursion}
-use Rattle.jvm_types.specs.ClassGrammar.{IsCounted, FieldsFit, IsCode, IsFieldAttr, IsMethodAttr, IsField, IsMethod}
+use Rattle.jvm_types.specs.ClassGrammar.{IsCounted, FieldsFit, IsCodeAttr, IsFieldAttr, IsMethodAttr, IsField, IsMethod}
 use Rattle.jvm_types.specs.Counts.{TextFits, CodeFits, MemberAttrFits, MemberFits}
 use Rattle.jvm_types.specs.ClassLaws.{ClassesFit}
 use Rattle.jvm_types.specs.declared.class_file.Constant.{Constant}
@@ -32,7 +32,7 @@ text_fits (Method class member) fits = tt
 text_fits (InterfaceMethod class member) fits = tt
 text_fits (NameAndType name descriptor) fits = tt
 
-code_fits : (pool : List Constant) (c : Code) → IsCode pool c → CodeFits c
+code_fits : (pool : List Constant) (c : Code) → IsCodeAttr pool c → CodeFits c
 code_fits pool c is = record { body = is.size; bytes = is.count; rows = is.rows.count; attrs = counted (λ a attr. attr.count) c.attrs is.attrs }
 
 field_attr_fits : (pool : List Constant) (a : MemberAttr) → IsFieldAttr pool a → MemberAttrFits a

@@ -9,7 +9,7 @@ use Rattle.jvm_types.proofs.EachAfter.{EachAfter, each_append, all_append, all_w
 use Rattle.jvm_types.specs.ClassNames.{text_at, class_name, class_names, file_class}
 use Rattle.jvm_types.specs.Descriptors.{method_signature}
 use Rattle.jvm_types.specs.Members.{is_static, is_synchronized, Declared, class_of, name_of, descriptor_of, declared_from, declared_by, declared_methods, first_rule}
-use Rattle.jvm_types.specs.LinkFaults.{LinkFault, first_fault, first_from, at_place, in_file, in_method, is_outside, is_taken, class_fault, class_pass, is_repeated, field_fault, method_fault, members_fault, member_pass}
+use Rattle.jvm_types.specs.LinkFaults.{LinkFault, first_fault, first_from, at_place, in_file, in_method, is_outside, is_taken, class_link_fault, class_pass, is_repeated, field_fault, method_fault, members_fault, member_pass}
 use Rattle.jvm_types.specs.declared.class_file.Constant.{Constant}
 use Rattle.jvm_types.specs.declared.class_file.Member.{Member as ClassMember}
 use Rattle.jvm_types.specs.declared.class_file.ClassFile.{ClassFile}
@@ -69,7 +69,7 @@ numbered_one P number (y ∷ xs) (suc k) x h e = subst (λ (n : ℕ). P n x) (om
 
 -- ---- names of classes
 
-named_freely : (names : List (List ℕ)) (file : ℕ) (c : ClassFile) → class_fault names file c ≡ None → is_taken (take file names) (class_name c) ≡ false
+named_freely : (names : List (List ℕ)) (file : ℕ) (c : ClassFile) → class_link_fault names file c ≡ None → is_taken (take file names) (class_name c) ≡ false
 named_freely names file c e =
     (two_untested (is_outside c) (is_taken (take file names) (class_name c)) L6 L5 (no_rule (in_file file 0) _ e)).1
 
@@ -87,7 +87,7 @@ got_map f (x ∷ xs) (suc k) = got_map f xs k
 pub names_distinct : (files : List ClassFile) → class_pass files ≡ None → (k : ℕ) (name : List ℕ) → slice_get (class_names files) k ≡ Some name → is_taken (take k (class_names files)) name ≡ false
 names_distinct files e k name at =
     class_at (class_names files) files (slice_get files k) k name
-    (λ c got. named_freely (class_names files) k c (subst (λ (n : ℕ). class_fault (class_names files) n c ≡ None) (omega arith) (numbered_one (λ n x. class_fault (class_names files) n x ≡ None) 0 files k c (nowhere_from (class_fault (class_names files)) 0 files e) got)))
+    (λ c got. named_freely (class_names files) k c (subst (λ (n : ℕ). class_link_fault (class_names files) n c ≡ None) (omega arith) (numbered_one (λ n x. class_link_fault (class_names files) n x ≡ None) 0 files k c (nowhere_from (class_link_fault (class_names files)) 0 files e) got)))
     (sym (got_map class_name files k) ∙ at)
 
 -- ---- methods that files declare

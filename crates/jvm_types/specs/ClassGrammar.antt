@@ -127,7 +127,7 @@ pub record IsHandler (pool : List Constant) (h : Handler) : Type 0 where
   pub catch_type : IsIndex kinds.CatchType pool h.catch_type
 
 -- a Code attribute (JVMS 4.7.3); here a code of no byte or of more than 65535 is refused where it is decoded
-pub record IsCode (pool : List Constant) (c : Code) : Type 0 where
+pub record IsCodeAttr (pool : List Constant) (c : Code) : Type 0 where
   pub name : IsNamed pool c.name (codes "Code")
   pub size : length (code_body c) < 2 ^ 32
   pub max_stack : c.max_stack < 2 ^ 16
@@ -146,7 +146,7 @@ IsFieldAttr pool (member_attrs.Other a) = IsAttr pool a × (IsTextAt pool a.name
 
 -- an attribute of a method: a Code exactly where it is named so
 abbrev pub IsMethodAttr : List Constant → MemberAttr → Type 0
-IsMethodAttr pool (member_attrs.Code c) = IsCode pool c
+IsMethodAttr pool (member_attrs.Code c) = IsCodeAttr pool c
 IsMethodAttr pool (member_attrs.ConstantValue name value) = ⊥
 IsMethodAttr pool (member_attrs.Other a) = IsAttr pool a × (IsTextAt pool a.name (codes "Code") → ⊥)
 

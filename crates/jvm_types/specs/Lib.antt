@@ -25,5 +25,4 @@ pub mod ReadingClass
 pub mod ClassLaws
 pub mod Types
 pub mod Verifying
-pub mod CheckedProgram
 pub mod FirstForm

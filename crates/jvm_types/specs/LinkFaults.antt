@@ -61,13 +61,13 @@ is_outside c = not (bytes_eq (class_text_at c.constants c.super_class) (codes "j
 abbrev pub is_taken : List (List ℕ) → List ℕ → Bool
 is_taken earlier name = is_built_in_name name || list_any (bytes_eq name) earlier
 
-abbrev pub class_fault : List (List ℕ) → (file : ℕ) → ClassFile → Option LinkFault
-class_fault names file c = at_place (in_file file 0) (first_rule (
+abbrev pub class_link_fault : List (List ℕ) → (file : ℕ) → ClassFile → Option LinkFault
+class_link_fault names file c = at_place (in_file file 0) (first_rule (
     (is_outside c, L6)
     ∷ (is_taken (take file names) (class_name c), L5) ∷ []))
 
 abbrev pub class_pass : List ClassFile → Option LinkFault
-class_pass files = first_from (class_fault (class_names files)) 0 files
+class_pass files = first_from (class_link_fault (class_names files)) 0 files
 
 -- ---- second pass, file by file: its fields, then its methods (JVMS 4.3, 4.5, 4.6)
 

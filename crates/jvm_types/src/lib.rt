@@ -2,7 +2,6 @@
 //! that their contracts cite.
 #![tactic(auto)]
 
-pub mod checked;
 pub mod class_file;
 pub mod class_laws;
 pub mod code;
@@ -17,7 +16,6 @@ pub mod refusal;
 pub mod rows;
 pub mod typing;
 
-pub use checked::Checked;
 pub use class_file::{Attr, ClassFile, Code, Constant, Handler, Member, MemberAttr};
 pub use class_laws::{
     counts_fit, faults_inside, one_class, one_spelling, read_what_is_spelled, spelled_or_faulty,

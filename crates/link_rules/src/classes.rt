@@ -2,7 +2,7 @@
 
 ghost use Rattle.std.specs.Prelude.{◌≡◌, ◌≤◌, Some, length, slice_get};
 ghost use Rattle.jvm_types.specs.ClassNames.{class_names};
-ghost use Rattle.jvm_types.specs.LinkFaults.{is_outside, class_fault, class_pass as first_pass};
+ghost use Rattle.jvm_types.specs.LinkFaults.{is_outside, class_link_fault, class_pass as first_pass};
 
 use crate::flags::{ABSTRACT, INTERFACE, has_flag};
 use crate::places::{Fault, in_file};
@@ -23,10 +23,10 @@ fn is_outside(class: &ClassFile) -> bool
 }
 
 /// The first rule that refuses the class of a file.
-fn class_fault(scope: &Scope<'_>, file: usize, class: &ClassFile) -> Option<Fault>
+fn class_link_fault(scope: &Scope<'_>, file: usize, class: &ClassFile) -> Option<Fault>
     requires class { slice_get scope.now file ≡ Some class.now }
     requires few { length scope.now ≤ 64 }
-    ensures { result ≡ class_fault (class_names scope.now) file class.now }
+    ensures { result ≡ class_link_fault (class_names scope.now) file class.now }
 {
     let rule = if is_outside(class) {
         LRule::L6
@@ -45,7 +45,7 @@ pub fn class_pass(scope: &Scope<'_>) -> Option<Fault>
 {
     let files = scope.files().as_slice();
     for (file, class) in files.iter().enumerate() {
-        let fault = class_fault(scope, file, class);
+        let fault = class_link_fault(scope, file, class);
         if fault.is_some() {
             return fault;
         }

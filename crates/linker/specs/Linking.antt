@@ -15,9 +15,9 @@ use Rattle.linker.specs.declared.error.LinkError.TheVariants.{Memory, Refused}
 use Rattle.linker.specs.declared.methods.Body.{Body}
 
 -- memory ran out, or this is the first refusal
-abbrev pub IsUnlinked : Option LinkFault → LinkError → Type 0
-IsUnlinked fault Memory = Unit {0}
-IsUnlinked fault (Refused rule place) = fault ≡ Some (rule, place)
+abbrev pub IsLinkErrorOf : Option LinkFault → LinkError → Type 0
+IsLinkErrorOf fault Memory = Unit {0}
+IsLinkErrorOf fault (Refused rule place) = fault ≡ Some (rule, place)
 
 -- the fields of a class are counted in two bytes
 abbrev pub HasFewFields : ClassFile → Type 0

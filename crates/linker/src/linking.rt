@@ -6,7 +6,7 @@ ghost use Rattle.jvm_types.specs.Linked.{program_of};
 ghost use Rattle.jvm_types.specs.LinkFaults.{IsLinked, link_fault};
 ghost use Rattle.jvm_types.specs.Linkable.{IsLinkable};
 ghost use Rattle.jvm_types.specs.ProgramInvariant.{IsProgram};
-ghost use Rattle.linker.specs.Linking.{IsUnlinked, HasFewFields};
+ghost use Rattle.linker.specs.Linking.{IsLinkErrorOf, HasFewFields};
 
 use crate::error::LinkError;
 use crate::layout::lay_out;
@@ -53,7 +53,7 @@ fn link_scoped(
     requires { IsLinkable scope.now code.now heap workers }
     ensures ok { IfOk result (λ p. IsLinked scope.now code.now heap workers p) }
     ensures program { IfOk result (λ p. IsProgram p) }
-    ensures refused { IfErr result (λ e. IsUnlinked (link_fault scope.now code.now heap workers) e) }
+    ensures refused { IfErr result (λ e. IsLinkErrorOf (link_fault scope.now code.now heap workers) e) }
 {
     if let Some((rule, place)) = find_fault(scope, code, heap, workers) {
         return Err(LinkError::Refused(rule, place));
@@ -76,7 +76,7 @@ pub fn link(
     requires { IsLinkable files.now code.now heap workers }
     ensures ok { IfOk result (λ p. IsLinked files.now code.now heap workers p) }
     ensures program { IfOk result (λ p. IsProgram p) }
-    ensures refused { IfErr result (λ e. IsUnlinked (link_fault files.now code.now heap workers) e) }
+    ensures refused { IfErr result (λ e. IsLinkErrorOf (link_fault files.now code.now heap workers) e) }
 {
     let scope = Scope::of(alloc, files)?;
     link_scoped(alloc, &scope, code, heap, workers)

@@ -4,7 +4,7 @@ use Rattle.jvm_types.specs.LinkFaults.{in_file}
 use Rattle.jvm_types.specs.declared.refusal.Rule.TheVariants as rules
 use Rattle.jvm_types.specs.declared.refusal.CRule.TheVariants.{C10}
 use Rattle.solero.specs.Faults.{CountsFault}
-use Rattle.jvm_types.specs.CheckedProgram.{CheckedProgram}
+use Rattle.checked_program.specs.CheckedProgram.{CheckedProgram}
 use Rattle.jvm_types.specs.declared.first.FirstOp.{FirstOp}
 use Rattle.class_runner.specs.Loading.{IsFirstLoaded}
 use Rattle.class_runner.specs.Refusal.{refusal_text}

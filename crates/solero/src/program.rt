@@ -15,7 +15,8 @@ use crate::reading::{Unread, read_files};
 use crate::shelf::{Shelf, ShelfError};
 use crate::sink::Sink;
 use class_runner::{FileError, first_ops, load_program, report};
-use jvm_types::{Bytes, Checked, Gate, Rows};
+use checked_program::Checked;
+use jvm_types::{Bytes, Gate, Rows};
 use std::alloc::{AllocError, Global};
 use step_core::run_first;
 

@@ -1,7 +1,7 @@
 use Rattle.std.proofs.Common.{◌≡◌, drop}
 use Rattle.jvm_types.specs.ClassNames.{class_names}
-use Rattle.jvm_types.specs.LinkFaults.{first_from, class_fault, class_pass}
+use Rattle.jvm_types.specs.LinkFaults.{first_from, class_link_fault, class_pass}
 use Rattle.link_rules.proofs.classes.class_pass.Given as goal
 
 abbrev pub invariant-loop-file : goal.invariant-loop-file
-invariant-loop-file l = first_from (class_fault (class_names l.scope)) l.file (drop l.file l.scope) ≡ class_pass l.scope
+invariant-loop-file l = first_from (class_link_fault (class_names l.scope)) l.file (drop l.file l.scope) ≡ class_pass l.scope

@@ -1,9 +1,7 @@
 ghost use Rattle.std.specs.Prelude.{◌≡◌};
-ghost use Rattle.jvm_types.specs.CheckedProgram.{IsChecked};
+ghost use Rattle.checked_program.specs.CheckedProgram.{IsChecked};
 
-use crate::program::Program;
-use crate::rows::Rows;
-use crate::typing::Typing;
+use jvm_types::{Program, Rows, Typing};
 use std::marker::Model;
 
 /// A linked program whose methods were verified: a program beside the typing of each of its methods, in
@@ -15,7 +13,7 @@ pub struct Checked {
 }
 
 impl Model for Checked {
-    ghost use Rattle.jvm_types.specs.CheckedProgram.{CheckedProgram, IsChecked};
+    ghost use Rattle.checked_program.specs.CheckedProgram.{CheckedProgram, IsChecked};
 
     ghost Value = { CheckedProgram };
 
