@@ -1,0 +1,82 @@
+-- The tree of classes, class by class.
+use Rattle.std.proofs.Common.{◌≡◌, ℕ, zero, suc, ◌≤◌, Bool, true, false, ◌&&◌, ◌||◌, List, [], ◌∷◌, refl, sym, subst, arith}
+use Rattle.std.specs.Prelude.{◌==◌, nat_le, nat_lt}
+use Rattle.std.specs.List.{AllByRecursion}
+use Rattle.std.proofs.lemmas.Bool.Decides.{nat_tests}
+use Rattle.jvm_types.specs.Numbers.{has_number}
+use Rattle.jvm_types.specs.ClassTree.{super_class, ancestors, is_subclass, built_in_supers}
+use Rattle.program_laws.specs.ClassLaws.{LeavesStandAlone, FileClassesStandAlone, ThrowablesAreBelow}
+
+-- ---- classes that are just above none
+
+super_in : (c : ℕ) → has_number built_in_supers (super_class c) ≡ true
+super_in zero = refl
+super_in (suc zero) = refl
+super_in (suc (suc zero)) = refl
+super_in (suc (suc (suc zero))) = refl
+super_in (suc (suc (suc (suc zero)))) = refl
+super_in (suc (suc (suc (suc (suc zero))))) = refl
+super_in (suc (suc (suc (suc (suc (suc zero)))))) = refl
+super_in (suc (suc (suc (suc (suc (suc (suc zero))))))) = refl
+super_in (suc (suc (suc (suc (suc (suc (suc (suc zero)))))))) = refl
+super_in (suc (suc (suc (suc (suc (suc (suc (suc (suc zero))))))))) = refl
+super_in (suc (suc (suc (suc (suc (suc (suc (suc (suc (suc zero)))))))))) = refl
+super_in (suc (suc (suc (suc (suc (suc (suc (suc (suc (suc (suc zero))))))))))) = refl
+super_in (suc (suc (suc (suc (suc (suc (suc (suc (suc (suc (suc (suc zero)))))))))))) = refl
+super_in (suc (suc (suc (suc (suc (suc (suc (suc (suc (suc (suc (suc (suc zero))))))))))))) = refl
+super_in (suc (suc (suc (suc (suc (suc (suc (suc (suc (suc (suc (suc (suc (suc zero)))))))))))))) = refl
+super_in (suc (suc (suc (suc (suc (suc (suc (suc (suc (suc (suc (suc (suc (suc (suc zero))))))))))))))) = refl
+super_in (suc (suc (suc (suc (suc (suc (suc (suc (suc (suc (suc (suc (suc (suc (suc (suc c)))))))))))))))) = refl
+
+pick : {P : Type 0} (xs : List ℕ) (y : ℕ) → has_number xs y ≡ true → AllByRecursion (λ x. x ≡ y → P) xs → P
+pick [] y h f = absurd (cc)
+pick (x ∷ xs) y h f = by_first (x == y) refl h f.0 (λ g. pick xs y g f.1)
+  where
+    by_first : {P : Type 0} (t : Bool) → (x == y) ≡ t → (t || has_number xs y) ≡ true → (x ≡ y → P) → (has_number xs y ≡ true → P) → P
+    by_first true e h f more = f (grind (arith, nat_tests, e))
+    by_first false e h f more = more h
+
+no_super : (c d : ℕ) → has_number built_in_supers d ≡ false → super_class c ≡ d → ⊥
+no_super c d n e = let is : has_number built_in_supers d ≡ true = subst (λ (x : ℕ). has_number built_in_supers x ≡ true) e (super_in c) in absurd (cc)
+
+pub leaves_alone : LeavesStandAlone
+unfolding is_subclass
+leaves_alone c d n h = pick (ancestors c) d h (λ e. e, (λ e. absurd (no_super c d n e), (λ e. absurd (no_super (super_class c) d n e), (λ e. absurd (no_super (super_class (super_class c)) d n e), (λ e. absurd (no_super (super_class (super_class (super_class c))) d n e), tt)))))
+
+-- no class of a file is just above another
+past_supers : (c : ℕ) → 17 ≤ c → has_number built_in_supers c ≡ false
+past_supers c h = grind (arith, nat_tests, h)
+
+pub files_alone : FileClassesStandAlone
+files_alone c d n h = leaves_alone c d (past_supers d n) h
+
+-- ---- throwables
+
+-- a class behind the built-in ones
+past : (c : ℕ) → 16 ≤ c → (c == 4) || false ≡ (nat_le 4 c && nat_lt c 16)
+past c h = both (c == 4) (nat_le 4 c) (nat_lt c 16) (grind (arith, nat_tests, h)) (grind (arith, nat_tests, h))
+  where
+    both : (t u v : Bool) → t ≡ false → v ≡ false → t || false ≡ (u && v)
+    both true u v e f = absurd (cc)
+    both false true v e f = sym f
+    both false false v e f = refl
+
+pub throwables_below : ThrowablesAreBelow
+unfolding is_subclass
+throwables_below zero = refl
+throwables_below (suc zero) = refl
+throwables_below (suc (suc zero)) = refl
+throwables_below (suc (suc (suc zero))) = refl
+throwables_below (suc (suc (suc (suc zero)))) = refl
+throwables_below (suc (suc (suc (suc (suc zero))))) = refl
+throwables_below (suc (suc (suc (suc (suc (suc zero)))))) = refl
+throwables_below (suc (suc (suc (suc (suc (suc (suc zero))))))) = refl
+throwables_below (suc (suc (suc (suc (suc (suc (suc (suc zero)))))))) = refl
+throwables_below (suc (suc (suc (suc (suc (suc (suc (suc (suc zero))))))))) = refl
+throwables_below (suc (suc (suc (suc (suc (suc (suc (suc (suc (suc zero)))))))))) = refl
+throwables_below (suc (suc (suc (suc (suc (suc (suc (suc (suc (suc (suc zero))))))))))) = refl
+throwables_below (suc (suc (suc (suc (suc (suc (suc (suc (suc (suc (suc (suc zero)))))))))))) = refl
+throwables_below (suc (suc (suc (suc (suc (suc (suc (suc (suc (suc (suc (suc (suc zero))))))))))))) = refl
+throwables_below (suc (suc (suc (suc (suc (suc (suc (suc (suc (suc (suc (suc (suc (suc zero)))))))))))))) = refl
+throwables_below (suc (suc (suc (suc (suc (suc (suc (suc (suc (suc (suc (suc (suc (suc (suc zero))))))))))))))) = refl
+throwables_below (suc (suc (suc (suc (suc (suc (suc (suc (suc (suc (suc (suc (suc (suc (suc (suc c)))))))))))))))) = past (suc (suc (suc (suc (suc (suc (suc (suc (suc (suc (suc (suc (suc (suc (suc (suc c)))))))))))))))) (omega arith)

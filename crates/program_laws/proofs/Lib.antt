@@ -1,0 +1,2 @@
+pub mod ClassTreeLaws
+pub mod FieldOrder
