@@ -1,1 +1,11 @@
+pub mod Visits
+pub mod LockTags
+pub mod Tagging
+pub mod TagLaws
+pub mod TaggedCode
+pub mod FrozenPlaces
+pub mod Sections
+pub mod Marks
+pub mod Reach
 pub mod CheckedProgram
+pub mod MarkedProgram

@@ -2,5 +2,9 @@
 #![tactic(auto)]
 
 pub mod checked;
+pub mod section;
+pub mod tag;
 
 pub use checked::Checked;
+pub use section::{FieldUse, Mode, SectionMark, Spot};
+pub use tag::{Tag, TagFrame, Tags};

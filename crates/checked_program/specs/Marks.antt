@@ -1,0 +1,202 @@
+-- The mark of each synchronized section: whether it may run without its lock, or which rule forbids that.
+use Rattle.std.specs.Prelude.{◌≡◌, ◌<◌, ℕ, zero, suc, Bool, true, false, ◌==◌, if◌then◌else◌, List, [], ◌∷◌, length, Option, Some, None, slice_get, slice_index_or}
+use Rattle.std.specs.List.{AllZip}
+use Rattle.jvm_types.specs.declared.code.Insn.{Insn}
+use Rattle.jvm_types.specs.declared.code.Op.{Op}
+use Rattle.jvm_types.specs.declared.code.Op.TheVariants as ops
+use Rattle.jvm_types.specs.declared.program.Target.{Target}
+use Rattle.jvm_types.specs.declared.program.Target.TheVariants as targets
+use Rattle.jvm_types.specs.declared.program.MethodInfo.{MethodInfo}
+use Rattle.jvm_types.specs.declared.program.Program.{Program}
+use Rattle.checked_program.specs.LockTags.{TagShape, is_this}
+use Rattle.checked_program.specs.TaggedCode.{Tagged, IsAt}
+use Rattle.checked_program.specs.FrozenPlaces.{locks_this, AreUses}
+use Rattle.checked_program.specs.Sections.{Section, sections, BeginsAt, IsOwn}
+use Rattle.checked_program.specs.declared.tag.Tag.{Tag}
+use Rattle.checked_program.specs.declared.tag.Tag.TheVariants.{Untagged, This}
+use Rattle.checked_program.specs.declared.section.Spot.{Spot}
+use Rattle.checked_program.specs.declared.section.Spot.TheVariants.{Method, Block}
+use Rattle.checked_program.specs.declared.section.SectionMark.{SectionMark}
+use Rattle.checked_program.specs.declared.section.Mode.{Mode}
+use Rattle.checked_program.specs.declared.section.Mode.TheVariants.{OnThis, OffThis}
+use Rattle.checked_program.specs.declared.section.FieldUse.{FieldUse}
+use Rattle.checked_program.specs.declared.section.FieldUse.TheVariants.{Frozen, Guarded, Open}
+
+-- ---- calls
+
+-- the method of the program that an instruction calls
+abbrev pub called_method : Op → Target → Option ℕ
+called_method (ops.Invokevirtual i) (targets.Method u) = Some u
+called_method (ops.Invokespecial i) (targets.Method u) = Some u
+called_method (ops.Invokestatic i) (targets.Method u) = Some u
+called_method op target = None
+
+abbrev pub args_of : Option MethodInfo → ℕ
+args_of None = 0
+args_of (Some called) = length called.args
+
+-- the tag of the receiver of a call; a static method has none
+abbrev pub receiver_tag : Program → Op → Target → List Tag → Tag
+receiver_tag p (ops.Invokevirtual i) (targets.Method u) stack = slice_index_or stack (args_of (slice_get p.methods u)) Untagged
+receiver_tag p (ops.Invokespecial i) (targets.Method u) stack = slice_index_or stack (args_of (slice_get p.methods u)) Untagged
+receiver_tag p op target stack = Untagged
+
+-- a value is the object of the section's monitor: `this`, in a method that is called on that object
+abbrev pub is_own_object : Mode → Tag → Bool
+is_own_object OnThis t = is_this t
+is_own_object OffThis t = false
+
+abbrev pub mode_if : Bool → Mode
+mode_if true = OnThis
+mode_if false = OffThis
+
+-- a method as a section calls it
+pub record Callee : Type 0 where
+  pub method : ℕ
+  pub mode : Mode
+
+abbrev pub callee : ℕ → Mode → Callee
+callee u mode = record { method = u; mode = mode }
+
+-- the reached instruction i of a method calls another
+pub record Calls (p : Program) (tags : Tagged) (a : Callee) (i : ℕ) (b : Callee) : Type 0 where
+  pub m : MethodInfo
+  pub insn : Insn
+  pub target : Target
+  pub f : TagShape
+  pub at : IsAt p tags a.method i m insn target f
+  pub called : called_method insn.op target ≡ Some b.method
+  pub mode_is : b.mode ≡ mode_if (is_own_object a.mode (receiver_tag p insn.op target f.stack))
+
+-- by some instruction
+abbrev pub Invokes : Program → Tagged → Callee → Callee → Type 0
+Invokes p tags a b = (i : ℕ) × Calls p tags a i b
+
+-- through calls, over these; none is a way too
+abbrev pub CallsThrough : Program → Tagged → Callee → List Callee → Callee → Type 0
+CallsThrough p tags a [] b = a ≡ b
+CallsThrough p tags a (c ∷ cs) b = Invokes p tags a c × CallsThrough p tags c cs b
+
+-- a chain of calls leads to a method from an own instruction of a section
+pub record IsCalledBy (p : Program) (tags : Tagged) (s : Section) (b : Callee) : Type 0 where
+  pub i : ℕ
+  pub first : Callee
+  pub own : IsOwn p tags s.method s.spot i
+  pub calls : Calls p tags (callee s.method OnThis) i first
+  pub over : List Callee
+  pub through : CallsThrough p tags first over b
+
+-- a method calls itself, directly or through calls
+pub record CallsItself (p : Program) (tags : Tagged) (u : ℕ) : Type 0 where
+  pub first : Callee
+  pub calls : Invokes p tags (callee u OffThis) first
+  pub over : List Callee
+  pub mode : Mode
+  pub through : CallsThrough p tags first over (callee u mode)
+
+-- ---- what one instruction breaks
+
+abbrev pub enter_fault : Bool → ℕ
+enter_fault true = 0
+enter_fault false = 3
+
+abbrev pub is_locking : Option MethodInfo → Bool
+is_locking None = false
+is_locking (Some called) = locks_this called
+
+abbrev pub call_fault : Bool → Bool → ℕ
+call_fault true own = enter_fault own
+call_fault false own = 0
+
+abbrev pub read_fault : FieldUse → Bool → ℕ
+read_fault Frozen own = 0
+read_fault Guarded true = 0
+read_fault Guarded false = 5
+read_fault Open own = 5
+
+-- The rule that an instruction breaks, in a method called on this or off it; 0 for none. M1: it writes a field, a static or
+-- an element. M2: it allocates. M3: it enters a monitor that is not the section's. M4: it prints, waits or notifies. M5: it
+-- reads a place that is neither frozen nor a guarded one of the section's own object.
+abbrev pub fault : Program → List FieldUse → Mode → Op → Target → List Tag → ℕ
+fault p uses mode (ops.Putfield i) target stack = 1
+fault p uses mode (ops.Putstatic i) target stack = 1
+fault p uses mode ops.Iastore target stack = 1
+fault p uses mode (ops.New i) target stack = 2
+fault p uses mode ops.Newarray target stack = 2
+fault p uses mode ops.Monitorenter target stack = enter_fault (is_own_object mode (slice_index_or stack 0 Untagged))
+fault p uses mode (ops.Invokevirtual i) (targets.Method u) stack = call_fault (is_locking (slice_get p.methods u)) (is_own_object mode (receiver_tag p (ops.Invokevirtual i) (targets.Method u) stack))
+fault p uses mode (ops.Invokespecial i) (targets.Method u) stack = call_fault (is_locking (slice_get p.methods u)) (is_own_object mode (receiver_tag p (ops.Invokespecial i) (targets.Method u) stack))
+fault p uses mode (ops.Invokevirtual i) targets.Println stack = 4
+fault p uses mode (ops.Invokevirtual i) targets.Wait stack = 4
+fault p uses mode (ops.Invokevirtual i) targets.Notify stack = 4
+fault p uses mode (ops.Invokevirtual i) targets.NotifyAll stack = 4
+fault p uses mode (ops.Getstatic i) (targets.Field fi) stack = 5
+fault p uses mode ops.Iaload target stack = 5
+fault p uses mode (ops.Getfield i) (targets.Field fi) stack = read_fault (slice_index_or uses fi Open) (is_own_object mode (slice_index_or stack 0 Untagged))
+fault p uses mode op target stack = 0
+
+-- the instruction i of a method breaks a rule
+pub record BreaksAt (p : Program) (tags : Tagged) (uses : List FieldUse) (a : Callee) (i n : ℕ) : Type 0 where
+  pub m : MethodInfo
+  pub insn : Insn
+  pub target : Target
+  pub f : TagShape
+  pub at : IsAt p tags a.method i m insn target f
+  pub fault_is : fault p uses a.mode insn.op target f.stack ≡ n
+  pub some : 0 < n
+
+-- ---- the rules of a section
+
+-- M8: a section is not on `this`
+abbrev pub IsOnThis : Program → Tagged → ℕ → Spot → Type 0
+IsOnThis p tags mi Method = Unit {0}
+IsOnThis p tags mi (Block pc) = (enter : ℕ) × (f : TagShape) × (BeginsAt p tags mi pc enter f) × (slice_index_or f.stack 0 Untagged ≡ This)
+
+-- M1 to M5: an own instruction breaks it
+pub record OwnBreaks (p : Program) (tags : Tagged) (uses : List FieldUse) (s : Section) (n : ℕ) : Type 0 where
+  pub i : ℕ
+  pub own : IsOwn p tags s.method s.spot i
+  pub breaks : BreaksAt p tags uses (callee s.method OnThis) i n
+
+-- M6: a method that it calls breaks one of these
+pub record CalleeBreaks (p : Program) (tags : Tagged) (uses : List FieldUse) (s : Section) : Type 0 where
+  pub called : Callee
+  pub is_called : IsCalledBy p tags s called
+  pub i : ℕ
+  pub n : ℕ
+  pub breaks : BreaksAt p tags uses called i n
+
+-- M7: a method that it calls calls itself
+pub record CalleeRecurs (p : Program) (tags : Tagged) (s : Section) : Type 0 where
+  pub called : Callee
+  pub is_called : IsCalledBy p tags s called
+  pub recurs : CallsItself p tags called.method
+
+-- the rule n forbids that the section runs without its lock
+pub data Applies (p : Program) (tags : Tagged) (uses : List FieldUse) (s : Section) (n : ℕ) : Type 0 where
+  elsewhere : n ≡ 8 → (IsOnThis p tags s.method s.spot → ⊥) → Applies p tags uses s n
+  itself : OwnBreaks p tags uses s n → Applies p tags uses s n
+  called : n ≡ 6 → CalleeBreaks p tags uses s → Applies p tags uses s n
+  recurring : n ≡ 7 → CalleeRecurs p tags s → Applies p tags uses s n
+
+-- ---- marks
+
+-- the rules are tested in the order M8, M1 to M7
+abbrev pub turn : ℕ → ℕ
+turn n = if n == 8 then 0 else n
+
+-- a section's mark: the first rule that applies, or 0 where none does
+abbrev pub HasMark : Program → Tagged → List FieldUse → Section → ℕ → Type 0
+HasMark p tags uses s zero = (k : ℕ) → Applies p tags uses s k → ⊥
+HasMark p tags uses s (suc n) = Applies p tags uses s (suc n) × ((k : ℕ) → turn k < turn (suc n) → Applies p tags uses s k → ⊥)
+
+pub record IsMarkOf (p : Program) (tags : Tagged) (uses : List FieldUse) (s : Section) (mark : SectionMark) : Type 0 where
+  pub method : mark.method ≡ s.method
+  pub spot : mark.spot ≡ s.spot
+  pub mark_is : HasMark p tags uses s mark.mark
+
+-- the marks of all sections of a program, in their order
+pub record AreMarks (p : Program) (tags : Tagged) (marks : List SectionMark) : Type 0 where
+  pub uses : List FieldUse
+  pub are_uses : AreUses p tags uses
+  pub each : AllZip (IsMarkOf p tags uses) (sections p) marks
