@@ -28,7 +28,7 @@ more_than f [] i x e = absurd (cc)
 more_than f (y ∷ xs) zero x e = let same : y ≡ x = cc in omega (arith, sum_first f y xs, ap f same)
 more_than f (y ∷ xs) (suc i) x e = omega (arith, more_than f xs i x e, sum_first f y (take i xs), sum_first f y xs)
 
-before_at : {X : Type 0} (P : X → Type 0) (xs : List X) (i j : ℕ) (x : X) → AllByRecursion P (take j xs) → slice_get xs i ≡ Some x → i < j → P x
+pub before_at : {X : Type 0} (P : X → Type 0) (xs : List X) (i j : ℕ) (x : X) → AllByRecursion P (take j xs) → slice_get xs i ≡ Some x → i < j → P x
 before_at P [] i j x all e h = absurd (cc)
 before_at P (y ∷ xs) i zero x all e h = absurd (omega (arith, h))
 before_at P (y ∷ xs) zero (suc j) x all e h = let same : y ≡ x = cc in subst P same all.0

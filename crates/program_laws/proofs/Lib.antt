@@ -1,2 +1,5 @@
 pub mod ClassTreeLaws
 pub mod FieldOrder
+pub mod CodeOrder
+pub mod RootMethods
+pub mod TargetRows

@@ -1,2 +1,5 @@
 pub mod ClassLaws
 pub mod FieldLaws
+pub mod CodeLaws
+pub mod RootLaws
+pub mod TargetLaws
