@@ -9,7 +9,7 @@ use Rattle.program_laws.specs.ClassLaws.{LeavesStandAlone, FileClassesStandAlone
 
 -- ---- classes that are just above none
 
-super_in : (c : ℕ) → has_number built_in_supers (super_class c) ≡ true
+pub super_in : (c : ℕ) → has_number built_in_supers (super_class c) ≡ true
 super_in zero = refl
 super_in (suc zero) = refl
 super_in (suc (suc zero)) = refl
@@ -28,7 +28,7 @@ super_in (suc (suc (suc (suc (suc (suc (suc (suc (suc (suc (suc (suc (suc (suc z
 super_in (suc (suc (suc (suc (suc (suc (suc (suc (suc (suc (suc (suc (suc (suc (suc zero))))))))))))))) = refl
 super_in (suc (suc (suc (suc (suc (suc (suc (suc (suc (suc (suc (suc (suc (suc (suc (suc c)))))))))))))))) = refl
 
-pick : {P : Type 0} (xs : List ℕ) (y : ℕ) → has_number xs y ≡ true → AllByRecursion (λ x. x ≡ y → P) xs → P
+pub pick : {P : Type 0} (xs : List ℕ) (y : ℕ) → has_number xs y ≡ true → AllByRecursion (λ x. x ≡ y → P) xs → P
 pick [] y h f = absurd (cc)
 pick (x ∷ xs) y h f = by_first (x == y) refl h f.0 (λ g. pick xs y g f.1)
   where

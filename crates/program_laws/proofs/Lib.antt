@@ -3,3 +3,4 @@ pub mod FieldOrder
 pub mod CodeOrder
 pub mod RootMethods
 pub mod TargetRows
+pub mod Orders

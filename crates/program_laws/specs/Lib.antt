@@ -3,3 +3,4 @@ pub mod FieldLaws
 pub mod CodeLaws
 pub mod RootLaws
 pub mod TargetLaws
+pub mod OrderLaws

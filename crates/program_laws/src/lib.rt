@@ -1,9 +1,11 @@
-//! Laws of linked programs: what a machine that runs one may rely on, each the contract of a function that does nothing.
+//! Laws of linked programs and of the order of types: what a machine that runs a program may rely on, each the contract of
+//! a function that does nothing.
 #![tactic(auto)]
 
 pub mod class_laws;
 pub mod code_laws;
 pub mod field_laws;
+pub mod order_laws;
 pub mod root_laws;
 pub mod target_laws;
 
@@ -15,6 +17,10 @@ pub use code_laws::{
 pub use field_laws::{
     instances_are_apart, instances_lie_inside, one_instance, one_static, statics_are_apart,
     statics_lie_inside,
+};
+pub use order_laws::{
+    classes_are_ordered, common_ancestor_is_least, frames_are_ordered, frames_meet, meet_is_least,
+    types_are_ordered,
 };
 pub use root_laws::{
     class_inits_are_roots, entries_are_roots, one_method, run_is_root, run_stands,
