@@ -1,3 +1,4 @@
+pub mod StackLaws
 mod NameTries
 mod FirstTries
 mod LinkTries

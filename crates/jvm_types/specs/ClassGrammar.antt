@@ -19,6 +19,8 @@ use Rattle.jvm_types.specs.declared.class_file.MemberAttr.{MemberAttr}
 use Rattle.jvm_types.specs.declared.class_file.MemberAttr.TheVariants as member_attrs
 use Rattle.jvm_types.specs.declared.class_file.Member.{Member}
 use Rattle.jvm_types.specs.declared.class_file.ClassFile.{ClassFile}
+use Rattle.jvm_types.specs.declared.limits.TheConstants.{MOST_FILE_BYTES, FIRST_VERSION, LAST_VERSION}
+use Rattle.jvm_types.specs.declared.flags.TheConstants.{NATIVE, ABSTRACT}
 
 abbrev pub IsByte : ℕ → Type 0
 IsByte b = b < 256
@@ -173,8 +175,8 @@ codes_of (member_attrs.Other a ∷ attrs) = codes_of attrs
 -- one Code, and neither NATIVE nor ABSTRACT (JVMS 4.7.3); here no method is without a body
 pub record HasBody (m : Member) : Type 0 where
   pub one : length (codes_of m.attrs) ≡ 1
-  pub not_native : has_flag 256 m.flags ≡ false
-  pub not_abstract : has_flag 1024 m.flags ≡ false
+  pub not_native : has_flag NATIVE m.flags ≡ false
+  pub not_abstract : has_flag ABSTRACT m.flags ≡ false
 
 pub record IsMethod (pool : List Constant) (m : Member) : Type 0 where
   pub member : IsMember (IsMethodAttr pool) pool m
@@ -183,12 +185,12 @@ pub record IsMethod (pool : List Constant) (m : Member) : Type 0 where
 -- ---- classes (JVMS 4.1)
 
 -- here the versions are those of SE 6 and before with any minor, each class has a superclass,
--- the flags may be any, and a file has at most 1048576 bytes
+-- the flags may be any, and the bytes of a file are limited
 pub record IsClass (c : ClassFile) : Type 0 where
-  pub short : length (class_file c) ≤ 1048576
+  pub short : length (class_file c) ≤ MOST_FILE_BYTES
   pub minor : c.minor < 2 ^ 16
-  pub from_45 : 45 ≤ c.major
-  pub to_50 : c.major ≤ 50
+  pub from_45 : FIRST_VERSION ≤ c.major
+  pub to_50 : c.major ≤ LAST_VERSION
   pub pool : IsPool c.constants
   pub flags : c.flags < 2 ^ 16
   pub this_class : IsIndex kinds.Class c.constants c.this_class

@@ -6,6 +6,7 @@ use Rattle.jvm_types.specs.ClassTree.{object_class, throwable_class}
 use Rattle.jvm_types.specs.declared.class_file.Constant.{Constant}
 use Rattle.jvm_types.specs.declared.class_file.Constant.TheVariants.{Utf8, Class}
 use Rattle.jvm_types.specs.declared.class_file.ClassFile.{ClassFile}
+use Rattle.jvm_types.specs.declared.class_numbers.TheConstants.{SYSTEM_CLASS, CLASS_ITSELF, FIRST_FILE_CLASS}
 
 -- ---- texts, which are compared byte by byte
 
@@ -52,11 +53,11 @@ system_name = codes "java/lang/System"
 
 -- the header of a class itself names this class
 abbrev pub class_itself : ℕ
-class_itself = 16
+class_itself = CLASS_ITSELF
 
 -- the class of a file, by the number of the file from 0
 abbrev pub file_class : ℕ → ℕ
-file_class file = 17 + file
+file_class file = FIRST_FILE_CLASS + file
 
 -- the number of a class by its name, among the built-in classes and those of the files
 abbrev pub class_number : List (List ℕ) → List ℕ → Option ℕ
@@ -64,7 +65,7 @@ class_number names text = option_or (position_from (bytes_eq text) 1 numbered_na
 
 -- where a constant names a class, 0 stands for `java/lang/System`
 abbrev pub system_class : ℕ
-system_class = 0
+system_class = SYSTEM_CLASS
 
 abbrev pub named_class : List (List ℕ) → List ℕ → Option ℕ
 named_class names text = if bytes_eq text system_name then Some system_class else class_number names text

@@ -3,18 +3,19 @@
 -- them stand here, without IndexOutOfBoundsException and VirtualMachineError between them.
 use Rattle.std.specs.Prelude.{ℕ, slice_index_or, Bool, if◌then◌else◌, List, [], ◌∷◌}
 use Rattle.jvm_types.specs.Numbers.{has_number}
+use Rattle.jvm_types.specs.declared.class_numbers.TheConstants.{OBJECT_CLASS, INT_ARRAY_CLASS, PRINT_STREAM_CLASS, THROWABLE_CLASS}
 
 abbrev pub object_class : ℕ
-object_class = 1
+object_class = OBJECT_CLASS
 
 abbrev pub int_array_class : ℕ
-int_array_class = 2
+int_array_class = INT_ARRAY_CLASS
 
 abbrev pub print_stream_class : ℕ
-print_stream_class = 3
+print_stream_class = PRINT_STREAM_CLASS
 
 abbrev pub throwable_class : ℕ
-throwable_class = 4
+throwable_class = THROWABLE_CLASS
 
 -- the class just above each built-in one, by its number: Exception 5 and Error 6 are below Throwable,
 -- RuntimeException 7 and InterruptedException 8 below Exception, 9 to 13 below RuntimeException, and 14 and 15

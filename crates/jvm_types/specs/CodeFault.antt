@@ -11,6 +11,7 @@ use Rattle.jvm_types.specs.declared.class_file.Handler.{Handler}
 use Rattle.jvm_types.specs.declared.code.Insn.{Insn}
 use Rattle.jvm_types.specs.declared.refusal.KRule.{KRule}
 use Rattle.jvm_types.specs.declared.refusal.KRule.TheVariants.{K1, K2, K3, K4, K5, K6}
+use Rattle.jvm_types.specs.declared.limits.TheConstants.{MOST_CODE_BYTES}
 
 -- ---- one instruction
 
@@ -157,7 +158,7 @@ outline_fault (Ok rs) size rows = with_starts (map (λ r. r.pc) rs)
 
 -- the first fault of the bytes and rows, with its pc or the number of its row; None where they are code
 abbrev pub code_fault : List ℕ → List Handler → Option (KRule × ℕ)
-code_fault bytes rows = if length bytes == 0 || nat_lt 65535 (length bytes) then Some (K5, 0) else outline_fault (outlines 0 0 bytes) (length bytes) rows
+code_fault bytes rows = if length bytes == 0 || nat_lt MOST_CODE_BYTES (length bytes) then Some (K5, 0) else outline_fault (outlines 0 0 bytes) (length bytes) rows
 
 -- ---- laws
 

@@ -10,6 +10,7 @@ use Rattle.jvm_types.specs.declared.code.Case.{Case}
 use Rattle.jvm_types.specs.declared.code.Insn.{Insn}
 use Rattle.jvm_types.specs.declared.code.Op.{Op}
 use Rattle.jvm_types.specs.declared.code.Op.TheVariants.{Tableswitch, Lookupswitch}
+use Rattle.jvm_types.specs.declared.limits.TheConstants.{MOST_CODE_BYTES}
 
 -- ---- the operands of an instruction
 
@@ -114,7 +115,7 @@ pub record RowFits (insns : List Insn) (size : ℕ) (h : Handler) : Type 0 where
 -- the bytes are the code of these instructions, and the rows are handler rows of it
 pub record IsCode (bytes : List ℕ) (rows : List Handler) (insns : List Insn) : Type 0 where
   pub some : 0 < length bytes
-  pub short : length bytes ≤ 65535
+  pub short : length bytes ≤ MOST_CODE_BYTES
   pub spelled : SpellsInsns 0 insns bytes
   pub targets : AllByRecursion (λ insn. AllByRecursion (IsStart insns) (branches_to insn.op)) insns
   pub rows_fit : AllByRecursion (RowFits insns (length bytes)) rows

@@ -20,6 +20,7 @@ use Rattle.jvm_types.specs.declared.program.Target.{Target}
 use Rattle.jvm_types.specs.declared.program.Target.TheVariants as targets
 use Rattle.jvm_types.specs.declared.program.MethodInfo.{MethodInfo}
 use Rattle.jvm_types.specs.declared.program.Program.{Program}
+use Rattle.jvm_types.specs.declared.limits.TheConstants.{MOST_SLOTS, MOST_CODE_BYTES}
 
 -- ---- the file
 
@@ -102,8 +103,8 @@ EndsInReturn (op ∷ next ∷ ops) = (op ≢ Return) × EndsInReturn (next ∷ o
 -- what running them needs: they find their operands within the slots of a thread, and the one return is last
 pub record IsFirstRun (ops : List FirstOp) : Type 0 where
   pub most : ℕ
-  pub room : most ≤ 16384
-  pub short : length ops ≤ 65535
+  pub room : most ≤ MOST_SLOTS
+  pub short : length ops ≤ MOST_CODE_BYTES
   pub ends : EndsInReturn ops
   pub within : RunsWithin most [] ops
 
@@ -111,8 +112,8 @@ pub record IsFirstRun (ops : List FirstOp) : Type 0 where
 
 -- code of these instructions, which one thread has room for
 pub record IsFirstCode (m : MethodInfo) (ops : List FirstOp) : Type 0 where
-  pub slots : m.max_stack + m.max_locals ≤ 16384
-  pub short : length ops ≤ 65535
+  pub slots : m.max_stack + m.max_locals ≤ MOST_SLOTS
+  pub short : length ops ≤ MOST_CODE_BYTES
   pub are : AreFirstOps m.code m.targets ops
   pub ends : EndsInReturn ops
   pub within : RunsWithin m.max_stack [] ops

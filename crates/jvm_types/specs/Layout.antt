@@ -16,19 +16,20 @@ use Rattle.jvm_types.specs.declared.class_file.ClassFile.{ClassFile}
 use Rattle.jvm_types.specs.declared.program.Kind.{Kind}
 use Rattle.jvm_types.specs.declared.program.Kind.TheVariants as kinds
 use Rattle.jvm_types.specs.declared.program.FieldInfo.{FieldInfo}
+use Rattle.jvm_types.specs.declared.fixed_words.TheConstants.{FIRST_CLASS_WORD, OBJECT_HEAD_WORDS}
 
 -- ---- words
 
 -- the words before it: null's, the next free word, ticket and record, 1,024 monitor records and 8 ready objects of two each
 abbrev pub first_class_word : ℕ
-first_class_word = 2068
+first_class_word = FIRST_CLASS_WORD
 
 abbrev pub static_count : List ClassMember → ℕ
 static_count fields = count_by (λ m. is_static m.flags) fields
 
 -- a class has a lock word and a header of its own, and its static fields
 abbrev pub class_words : ClassFile → ℕ
-class_words c = 2 + static_count c.fields
+class_words c = OBJECT_HEAD_WORDS + static_count c.fields
 
 -- the words that a program has from the start on; objects and arrays follow
 abbrev pub fixed_words : List ClassFile → ℕ
@@ -77,7 +78,7 @@ fields_of names file pool place word (m ∷ ms) =
 -- those of the classes from a file on, whose words begin at a word
 abbrev pub fields_from : List (List ℕ) → (file word : ℕ) → List ClassFile → List FieldInfo
 fields_from names file word [] = []
-fields_from names file word (c ∷ cs) = fields_of names file c.constants 0 (word + 2) c.fields ++ fields_from names (file + 1) (word + class_words c) cs
+fields_from names file word (c ∷ cs) = fields_of names file c.constants 0 (word + OBJECT_HEAD_WORDS) c.fields ++ fields_from names (file + 1) (word + class_words c) cs
 
 abbrev pub laid_out_fields : List (List ℕ) → List ClassFile → List FieldInfo
 laid_out_fields names files = fields_from names 0 first_class_word files

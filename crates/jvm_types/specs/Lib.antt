@@ -1,3 +1,5 @@
+pub mod Stacks
+pub mod Stock
 pub mod Numbers
 pub mod Spelling
 pub mod Pool

@@ -22,6 +22,8 @@ use Rattle.jvm_types.specs.declared.program.Program.{Program}
 use Rattle.jvm_types.specs.declared.refusal.LRule.{LRule}
 use Rattle.jvm_types.specs.declared.refusal.LRule.TheVariants.{L1, L4, L5, L6, L8, L9}
 use Rattle.jvm_types.specs.declared.refusal.Place.{Place}
+use Rattle.jvm_types.specs.declared.refusal.TheConstants.{NO_METHOD}
+use Rattle.jvm_types.specs.declared.flags.TheConstants.{INTERFACE, ABSTRACT}
 
 -- ---- faults
 
@@ -42,9 +44,9 @@ first_from check number (x ∷ xs) = option_or (check number x) (first_from chec
 abbrev pub at_place : Place → Option LRule → Option LinkFault
 at_place place rule = option_map (λ r. (r, place)) rule
 
--- a place in no method has the method number 65,535
+-- a place in no method
 abbrev pub in_file : (file at : ℕ) → Place
-in_file file at = record { file = file; method = 65535; at = at }
+in_file file at = record { file = file; method = NO_METHOD; at = at }
 
 abbrev pub in_method : (file method at : ℕ) → Place
 in_method file method at = record { file = file; method = method; at = at }
@@ -55,7 +57,7 @@ in_method file method at = record { file = file; method = method; at = at }
 -- standard has all of these.
 abbrev pub is_outside : ClassFile → Bool
 is_outside c = not (bytes_eq (class_text_at c.constants c.super_class) (codes "java/lang/Object"))
-    || nat_lt 0 (length c.interfaces) || has_flag 512 c.flags || has_flag 1024 c.flags
+    || nat_lt 0 (length c.interfaces) || has_flag INTERFACE c.flags || has_flag ABSTRACT c.flags
 
 -- a name of an earlier file or of a built-in class
 abbrev pub is_taken : List (List ℕ) → List ℕ → Bool

@@ -13,20 +13,22 @@ use Rattle.jvm_types.specs.declared.program.Target.{Target}
 use Rattle.jvm_types.specs.declared.program.Target.TheVariants as targets
 use Rattle.jvm_types.specs.declared.refusal.LRule.{LRule}
 use Rattle.jvm_types.specs.declared.refusal.LRule.TheVariants.{L2, L3, L7}
+use Rattle.jvm_types.specs.declared.flags.TheConstants.{PUBLIC, PRIVATE, STATIC, FINAL, SYNCHRONIZED}
+use Rattle.jvm_types.specs.declared.class_numbers.TheConstants.{THROWABLES}
 
 -- ---- flags (JVMS 4.5, 4.6); every other flag has no effect
 
 abbrev pub is_private : ℕ → Bool
-is_private flags = has_flag 2 flags
+is_private flags = has_flag PRIVATE flags
 
 abbrev pub is_static : ℕ → Bool
-is_static flags = has_flag 8 flags
+is_static flags = has_flag STATIC flags
 
 abbrev pub is_final : ℕ → Bool
-is_final flags = has_flag 16 flags
+is_final flags = has_flag FINAL flags
 
 abbrev pub is_synchronized : ℕ → Bool
-is_synchronized flags = has_flag 32 flags
+is_synchronized flags = has_flag SYNCHRONIZED flags
 
 -- ---- names with a meaning of their own (JVMS 2.9)
 
@@ -48,11 +50,11 @@ pub record Entry : Type 0 where
 
 -- `java/lang/System.out`: public, static and final
 abbrev pub built_in_fields : List Entry
-built_in_fields = record { class = system_class; name = codes "out"; descriptor = codes "Ljava/io/PrintStream;"; flags = 25; target = targets.Out } ∷ []
+built_in_fields = record { class = system_class; name = codes "out"; descriptor = codes "Ljava/io/PrintStream;"; flags = PUBLIC + STATIC + FINAL; target = targets.Out } ∷ []
 
 -- a public instance method of a built-in class
 abbrev pub public_method : ℕ → List ℕ → List ℕ → Target → Entry
-public_method class name descriptor target = record { class = class; name = name; descriptor = descriptor; flags = 1; target = target }
+public_method class name descriptor target = record { class = class; name = name; descriptor = descriptor; flags = PUBLIC; target = target }
 
 abbrev pub init_of : ℕ → Entry
 init_of class = public_method class (codes "<init>") (codes "()V") (targets.Init class)
@@ -64,7 +66,7 @@ built_in_methods = init_of object_class
     ∷ public_method object_class (codes "notify") (codes "()V") targets.Notify
     ∷ public_method object_class (codes "notifyAll") (codes "()V") targets.NotifyAll
     ∷ public_method print_stream_class (codes "println") (codes "(I)V") targets.Println
-    ∷ map init_of (range_with_len throwable_class 12)
+    ∷ map init_of (range_with_len throwable_class THROWABLES)
 
 -- a field or method that a file declares: the number of the file, its own number among those of its class, and the pool of
 -- the file

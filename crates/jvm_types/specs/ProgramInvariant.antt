@@ -20,6 +20,8 @@ use Rattle.jvm_types.specs.declared.program.Target.TheVariants as targets
 use Rattle.jvm_types.specs.declared.program.Row.{Row}
 use Rattle.jvm_types.specs.declared.program.MethodInfo.{MethodInfo}
 use Rattle.jvm_types.specs.declared.program.Program.{Program}
+use Rattle.jvm_types.specs.declared.fixed_words.TheConstants.{OBJECT_HEAD_WORDS}
+use Rattle.jvm_types.specs.declared.limits.TheConstants.{MOST_COUNTED, MOST_FILES, MOST_INSTRUCTIONS, MOST_WORKERS, LEAST_HEAP, MOST_HEAP}
 
 -- ---- classes and types
 
@@ -49,12 +51,12 @@ instances_among class fields = count_by (λ f. (f.class == class) && not (is_sta
 -- before that have two words of their own; an instance field has the next place of its class's objects.
 abbrev pub index_after : List FieldInfo → FieldInfo → ℕ
 index_after earlier f =
-    if is_static f.flags then first_class_word + 2 * (f.class - file_class 0 + 1) + statics_among earlier
+    if is_static f.flags then first_class_word + OBJECT_HEAD_WORDS * (f.class - file_class 0 + 1) + statics_among earlier
     else instances_among f.class earlier
 
 -- the words that the program has from the start on
 abbrev pub words_of : Program → ℕ
-words_of p = first_class_word + 2 * length p.names + statics_among p.fields
+words_of p = first_class_word + OBJECT_HEAD_WORDS * length p.names + statics_among p.fields
 
 -- a field of the program, behind those before it
 pub record IsFieldOf (p : Program) (before : List FieldInfo) (f : FieldInfo) : Type 0 where
@@ -63,8 +65,8 @@ pub record IsFieldOf (p : Program) (before : List FieldInfo) (f : FieldInfo) : T
   pub ordered : AllByRecursion (λ e. e.class ≤ f.class) before
   pub kind : IsKindOf p f.kind
   pub index : f.index ≡ index_after before f
-  -- a class has at most 65,535 fields, which its file counts in two bytes
-  pub few : instances_among f.class before < 65535
+  -- a class has so many fields at most, since its file counts them in two bytes
+  pub few : instances_among f.class before < MOST_COUNTED
   -- an int, of which the field keeps all; 0 where it is of a reference type or no static field
   pub start_fits : FitsSigned w32 f.start
   pub start_kept : f.start ≡ (if is_static f.flags then kept_int f.kind f.start else pos 0)
@@ -155,20 +157,20 @@ pub record IsMethodOf (p : Program) (before : List MethodInfo) (m : MethodInfo) 
 -- ---- the whole
 
 abbrev pub most_files : ℕ
-most_files = 64
+most_files = MOST_FILES
 
 abbrev pub most_workers : ℕ
-most_workers = 8
+most_workers = MOST_WORKERS
 
 abbrev pub least_heap : ℕ
-least_heap = 4096
+least_heap = LEAST_HEAP
 
 abbrev pub most_heap : ℕ
-most_heap = 1048576
+most_heap = MOST_HEAP
 
 -- 64 files of 1,048,576 bytes have no more instructions
 abbrev pub most_instructions : ℕ
-most_instructions = 67108864
+most_instructions = MOST_INSTRUCTIONS
 
 pub record IsProgram (p : Program) : Type 0 where
   pub some_file : 0 < length p.names

@@ -26,6 +26,9 @@ use Rattle.jvm_types.specs.Numbers.{has_flag}
 use Rattle.jvm_types.specs.ClassGrammar.{codes_of}
 use Rattle.jvm_types.specs.ReadingSteps.{Fault, fault, ◌>>=◌, wanted, u2_at, u4_at, run_at, counted_at, whole, in_body}
 use Rattle.jvm_types.specs.ReadingPool.{is_text, index_at, pool_at}
+use Rattle.jvm_types.specs.declared.limits.TheConstants.{MOST_FILE_BYTES, FIRST_VERSION, LAST_VERSION}
+use Rattle.jvm_types.specs.declared.flags.TheConstants.{NATIVE, ABSTRACT}
+use Rattle.jvm_types.specs.declared.class_file.TheConstants.{MAGIC}
 
 -- ---- attributes
 
@@ -98,7 +101,7 @@ field_at pool bytes = member_at (field_attr_at pool) pool bytes
 
 -- one Code, and neither NATIVE nor ABSTRACT
 abbrev pub has_body : Member → Bool
-has_body m = (length (codes_of m.attrs) == 1) && not (has_flag 256 m.flags) && not (has_flag 1024 m.flags)
+has_body m = (length (codes_of m.attrs) == 1) && not (has_flag NATIVE m.flags) && not (has_flag ABSTRACT m.flags)
 
 -- a method, with C9 at its flags once its attributes were read
 unfoldable pub method_at : List Constant → List ℕ → Result (Member × List ℕ) Fault
@@ -112,10 +115,10 @@ method_at pool bytes = do
 unfoldable pub class_at : List ℕ → Result (ClassFile × List ℕ) Fault
 class_at bytes = do
   magic ← u4_at bytes
-  ok ← wanted (magic.0 == 3405691582) C1 (length bytes)
+  ok ← wanted (magic.0 == MAGIC) C1 (length bytes)
   minor ← u2_at magic.1
   major ← u2_at minor.1
-  ok ← wanted (nat_le 45 major.0 && nat_le major.0 50) C2 (length minor.1)
+  ok ← wanted (nat_le FIRST_VERSION major.0 && nat_le major.0 LAST_VERSION) C2 (length minor.1)
   pool ← pool_at major.1
   flags ← u2_at pool.1
   this ← index_at kinds.Class pool.0 flags.1
@@ -142,7 +145,7 @@ class_at bytes = do
 
 -- the class that the bytes spell; C10 goes before all else
 unfoldable pub read_class : List ℕ → Result ClassFile Fault
-read_class bytes = if nat_lt 1048576 (length bytes) then fault C10 (length bytes - 1048576) else whole (class_at bytes)
+read_class bytes = if nat_lt MOST_FILE_BYTES (length bytes) then fault C10 (length bytes - MOST_FILE_BYTES) else whole (class_at bytes)
 
 -- the rule and the offset of a fault in so many bytes
 abbrev pub fault_of : {A : Type 0} → ℕ → Result A Fault → Option (CRule × ℕ)

@@ -3,7 +3,7 @@
 -- There is no long, float, double and returnAddress.
 use Rattle.std.specs.Prelude.{ℕ, ◌-◌, Bool, true, false, not, ◌&&◌, ◌||◌, ◌==◌, if◌then◌else◌, List, [], ◌∷◌, ◌++◌, length, map, reverse, replicate, Option}
 use Rattle.std.specs.Option.{option_map}
-use Rattle.jvm_types.specs.Numbers.{has_flag}
+use Rattle.jvm_types.specs.Members.{is_static}
 use Rattle.jvm_types.specs.ClassTree.{is_subclass, common_ancestor}
 use Rattle.jvm_types.specs.CodeTable.{type_of, is_init}
 use Rattle.jvm_types.specs.declared.typing.VType.{VType}
@@ -110,7 +110,7 @@ filled n ts = ts ++ replicate (n - length ts) Top
 
 -- `this` in local 0 of an instance method
 abbrev pub receiver_types : MethodInfo → List VType
-receiver_types m = if has_flag 8 m.flags then [] else (if is_init m then This else Ref m.class) ∷ []
+receiver_types m = if is_static m.flags then [] else (if is_init m then This else Ref m.class) ∷ []
 
 -- the frame at pc 0; it has more locals than max_locals where the arguments do not fit
 abbrev pub entry_shape : MethodInfo → Shape

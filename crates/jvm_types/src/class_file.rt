@@ -2,6 +2,9 @@
 
 use crate::rows::{Bytes, Rows};
 
+/// The first four bytes of a class file.
+pub const MAGIC: u32 = 0xCAFE_BABE;
+
 /// An entry of the constant pool (JVMS 4.4). Each `u16` here is an index of the pool.
 #[derive(Debug, PartialEq, Drop)]
 pub enum Constant {

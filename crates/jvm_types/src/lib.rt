@@ -4,16 +4,24 @@
 
 pub mod class_file;
 pub mod class_laws;
+pub mod class_numbers;
 pub mod code;
+pub mod code_attribute;
 pub mod code_laws;
 pub mod first;
+pub mod fixed_words;
+pub mod flags;
 pub mod gate;
 pub mod index_kind;
+pub mod limits;
 pub mod link_laws;
 pub mod outcome;
+pub mod pool_texts;
 pub mod program;
 pub mod refusal;
+pub mod room;
 pub mod rows;
+pub mod stack;
 pub mod typing;
 
 pub use class_file::{Attr, ClassFile, Code, Constant, Handler, Member, MemberAttr};
@@ -26,6 +34,11 @@ pub use gate::{Gate, OpenGate};
 pub use index_kind::IndexKind;
 pub use outcome::{Counts, End, Outcome, Print, ThreadReport, Thrown};
 pub use program::{FieldInfo, Kind, MethodInfo, Program, Row, Target};
-pub use refusal::{CRule, KRule, LRule, NO_METHOD, Place, Rule, SRule, VRule};
+pub use refusal::{CRule, KRule, LRule, NO_METHOD, Place, Rule, SRule, VRule, in_file, in_method};
+pub use room::Room;
 pub use rows::{Bytes, Rows};
+pub use stack::Stack;
 pub use typing::{TypeFrame, Typing, VType};
+
+#[cfg(test)]
+mod tests;

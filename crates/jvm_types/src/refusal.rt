@@ -1,5 +1,8 @@
 //! The rules by which files are refused, and the place that a refusal names.
 
+ghost use Rattle.std.specs.Prelude.{◌≡◌};
+ghost use Rattle.jvm_types.specs.LinkFaults.{in_file, in_method};
+
 /// Reading a class file.
 #[derive(Clone, Copy, Debug, PartialEq, Eq)]
 pub enum CRule {
@@ -128,4 +131,22 @@ pub struct Place {
     /// The method in its class, or `NO_METHOD`.
     pub method: u16,
     pub at: u32,
+}
+
+/// A place in a file, in none of its methods.
+pub fn in_file(file: u16, at: u32) -> Place
+    ensures { result ≡ in_file file at }
+{
+    Place {
+        file,
+        method: NO_METHOD,
+        at,
+    }
+}
+
+/// A place in a method of a file, by its number in its class.
+pub fn in_method(file: u16, method: u16, at: u32) -> Place
+    ensures { result ≡ in_method file method at }
+{
+    Place { file, method, at }
 }

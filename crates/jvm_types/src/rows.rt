@@ -1,4 +1,4 @@
-ghost use Rattle.std.specs.Prelude.{◌≡◌, [], ◌∷◌, ◌++◌, ◌<◌, ◌↔◌, length, slice_get, slice_set, IsTrue, IfOk, MatchOption, OnOk, OnErr, OnSome};
+ghost use Rattle.std.specs.Prelude.{◌≡◌, [], ◌∷◌, ◌++◌, ◌<◌, ◌↔◌, length, take, slice_get, slice_set, IsTrue, IfOk, MatchOption, OnOk, OnErr, OnSome};
 ghost use Rattle.std.specs.Option.{option_copied};
 
 use std::alloc::{AllocError, Global};
@@ -34,6 +34,13 @@ impl<T> Rows<T> {
         Rows {
             items: Vec::new(alloc),
         }
+    }
+
+    /// The items of a vector.
+    pub fn from_vec(items: Vec<T>) -> Self
+        ensures { result ≡ items.items }
+    {
+        Rows { items }
     }
 
     /// How many items there are.
@@ -79,6 +86,13 @@ impl<T: Drop> Rows<T> {
         ensures { self.new ≡ slice_set self.old i item }
     {
         self.items[i] = item;
+    }
+
+    /// Drops the items from `len` on, where there are so many.
+    pub fn truncate(&mut self, len: usize)
+        ensures { self.new ≡ take len self.old }
+    {
+        self.items.truncate(len);
     }
 
     /// Adds `item` at the end. Where memory is refused nothing changes, and `item` is dropped.

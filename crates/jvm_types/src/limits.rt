@@ -1,0 +1,34 @@
+//! The limits of the machine and of the files that it takes.
+
+/// The most bytes of a class file.
+pub const MOST_FILE_BYTES: usize = 1_048_576;
+
+/// The first major version that a class file may have (JVMS 4.1).
+pub const FIRST_VERSION: u16 = 45;
+
+/// The last one: that of SE 6.
+pub const LAST_VERSION: u16 = 50;
+
+/// The most items of a list that a class file counts in two bytes (JVMS 4).
+pub const MOST_COUNTED: usize = 65_535;
+
+/// The most bytes of the code of a method (JVMS 4.7.3).
+pub const MOST_CODE_BYTES: usize = 65_535;
+
+/// The most files of a program.
+pub const MOST_FILES: usize = 64;
+
+/// The most instructions of a program: so many files have no more bytes.
+pub const MOST_INSTRUCTIONS: usize = MOST_FILES * MOST_FILE_BYTES;
+
+/// The most worker threads.
+pub const MOST_WORKERS: u8 = 8;
+
+/// The fewest heap words.
+pub const LEAST_HEAP: u32 = 4096;
+
+/// The most heap words.
+pub const MOST_HEAP: u32 = 1_048_576;
+
+/// The most slots of the frames of one thread, their locals and their stacks.
+pub const MOST_SLOTS: u32 = 16_384;
