@@ -6,6 +6,8 @@ pub mod TaggedCode
 pub mod FrozenPlaces
 pub mod Sections
 pub mod Marks
+pub mod SectionLaws
+pub mod ObjectLaws
 pub mod Reach
 pub mod CheckedProgram
 pub mod MarkedProgram

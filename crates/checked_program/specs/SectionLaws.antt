@@ -1,0 +1,120 @@
+-- Laws of sections that run without their lock, and of the fields that they read, over every program and its tags. The running
+-- machine rests on these and not on how marks are found.
+use Rattle.std.specs.Prelude.{◌≡◌, ◌≢◌, ◌⊎◌, ℕ, suc, true, List, [], ◌∷◌, length, slice_get, slice_index, slice_index_or}
+use Rattle.std.specs.List.{list_any}
+use Rattle.jvm_types.specs.CodeTable.{is_init}
+use Rattle.jvm_types.specs.declared.code.Insn.{Insn}
+use Rattle.jvm_types.specs.declared.code.Op.{Op}
+use Rattle.jvm_types.specs.declared.code.Op.TheVariants as ops
+use Rattle.jvm_types.specs.declared.program.Target.{Target}
+use Rattle.jvm_types.specs.declared.program.Target.TheVariants as targets
+use Rattle.jvm_types.specs.declared.program.MethodInfo.{MethodInfo}
+use Rattle.jvm_types.specs.declared.program.Program.{Program}
+use Rattle.checked_program.specs.LockTags.{TagShape, is_this}
+use Rattle.checked_program.specs.TaggedCode.{Tagged, IsAt, Goes}
+use Rattle.checked_program.specs.FrozenPlaces.{AreUses, IsFrozenField, IsGuardedField, locks_this}
+use Rattle.checked_program.specs.Sections.{Section, BeginsAt, IsOwn}
+use Rattle.checked_program.specs.Marks.{callee, Calls, args_of, is_locking, HasMark}
+use Rattle.checked_program.specs.declared.tag.Tag.{Tag}
+use Rattle.checked_program.specs.declared.tag.Tag.TheVariants.{Untagged, This}
+use Rattle.checked_program.specs.declared.section.Spot.{Spot}
+use Rattle.checked_program.specs.declared.section.Spot.TheVariants.{Method, Block}
+use Rattle.checked_program.specs.declared.section.Mode.{Mode}
+use Rattle.checked_program.specs.declared.section.Mode.TheVariants.{OnThis}
+use Rattle.checked_program.specs.declared.section.FieldUse.{FieldUse}
+
+-- ---- the frames of a section
+
+-- a frame as marks see it: its method, the number of its instruction, and its receiver
+pub record Part : Type 0 where
+  pub method : ℕ
+  pub at : ℕ
+  pub receiver : ℕ
+
+-- the frame of the section's own method, at one of the section's own instructions
+pub record IsSectionPart (p : Program) (tags : Tagged) (s : Section) (o : ℕ) (a : Part) (mode : Mode) : Type 0 where
+  pub method : a.method ≡ s.method
+  pub receiver : a.receiver ≡ o
+  pub own : IsOwn p tags s.method s.spot a.at
+  pub mode_is : mode ≡ OnThis
+
+-- The frames of a section on the object o, from the top one down to that of the section; mode says how the top one's method
+-- is called. Each frame above the last is of a method that the one below calls; where it is called on this, on the same object.
+abbrev pub AreParts : Program → Tagged → Section → ℕ → List Part → Mode → Type 0
+AreParts p tags s o [] mode = ⊥
+AreParts p tags s o (a ∷ []) mode = IsSectionPart p tags s o a mode
+AreParts p tags s o (a ∷ b ∷ parts) mode = (was : Mode) × (AreParts p tags s o (b ∷ parts) was) × (Calls p tags (callee b.method was) b.at (callee a.method mode)) × (mode ≡ OnThis → a.receiver ≡ o)
+
+-- ---- the own law: an edge from an own instruction leads to one, or is the exit of the block
+
+-- the number of held tags at the start of a block
+abbrev pub HasEntryDepth : Program → Tagged → ℕ → Spot → ℕ → Type 0
+HasEntryDepth p tags mi Method depth = ⊥
+HasEntryDepth p tags mi (Block pc) depth = (enter : ℕ) × (f : TagShape) × (BeginsAt p tags mi pc enter f) × (depth ≡ length f.held)
+
+-- the `monitorexit` that takes the block's own entry from the held list
+pub record IsExit (p : Program) (tags : Tagged) (mi : ℕ) (spot : Spot) (insn : Insn) (f : TagShape) : Type 0 where
+  pub exits : insn.op ≡ ops.Monitorexit
+  pub depth : ℕ
+  pub of_entry : HasEntryDepth p tags mi spot depth
+  pub last : length f.held ≡ suc depth
+
+abbrev pub OwnLaw : Type 0
+OwnLaw = (p : Program) (tags : Tagged) (mi i j : ℕ) (spot : Spot) (m : MethodInfo) (insn other : Insn) (target next : Target) (f g h : TagShape) → IsOwn p tags mi spot i
+    → IsAt p tags mi i m insn target f → IsAt p tags mi j m other next g → Goes p m insn target f other h → h.held ≡ g.held → IsOwn p tags mi spot j ⊎ IsExit p tags mi spot insn f
+
+-- so the frames of a section stay such as its top one moves, but at the exit
+abbrev pub MoveLaw : Type 0
+MoveLaw = (p : Program) (tags : Tagged) (s : Section) (o j : ℕ) (a : Part) (parts : List Part) (mode : Mode) (m : MethodInfo) (insn other : Insn) (target next : Target) (f g h : TagShape) → AreParts p tags s o (a ∷ parts) mode
+    → IsAt p tags a.method a.at m insn target f → IsAt p tags a.method j m other next g → Goes p m insn target f other h → h.held ≡ g.held
+    → AreParts p tags s o (record a { at = j } ∷ parts) mode ⊎ ((parts ≡ []) × IsExit p tags s.method s.spot insn f)
+
+-- ---- the apart law: no method is twice among the frames of a marked section
+
+abbrev pub HasNone : ℕ → List Part → Type 0
+HasNone mi [] = Unit {0}
+HasNone mi (a ∷ parts) = (a.method ≢ mi) × HasNone mi parts
+
+abbrev pub AreApart : List Part → Type 0
+AreApart [] = Unit {0}
+AreApart (a ∷ parts) = HasNone a.method parts × AreApart parts
+
+abbrev pub ApartLaw : Type 0
+ApartLaw = (p : Program) (tags : Tagged) (uses : List FieldUse) (s : Section) (o : ℕ) (parts : List Part) (mode : Mode) → HasMark p tags uses s 0 → AreParts p tags s o parts mode → AreApart parts
+
+-- ---- the read law
+
+-- every place with the tag of `this` has the receiver
+abbrev pub HasThis : ℕ → List Tag → List ℕ → Type 0
+HasThis receiver tags values = (k : ℕ) → slice_index_or tags k Untagged ≡ This → slice_index values k ≡ receiver
+
+-- What an instruction of a marked section on the object o may do. It writes no place, allocates nothing, prints nothing, neither
+-- waits nor notifies; it enters no monitor but that of o, and reads no place but a frozen one, or a guarded one of o.
+abbrev pub ReadsOnly : Program → Tagged → ℕ → Op → Target → List ℕ → Type 0
+ReadsOnly p tags o (ops.Putfield i) target stack = ⊥
+ReadsOnly p tags o (ops.Putstatic i) target stack = ⊥
+ReadsOnly p tags o ops.Iastore target stack = ⊥
+ReadsOnly p tags o (ops.New i) target stack = ⊥
+ReadsOnly p tags o ops.Newarray target stack = ⊥
+ReadsOnly p tags o ops.Iaload target stack = ⊥
+ReadsOnly p tags o (ops.Invokevirtual i) targets.Println stack = ⊥
+ReadsOnly p tags o (ops.Invokevirtual i) targets.Wait stack = ⊥
+ReadsOnly p tags o (ops.Invokevirtual i) targets.Notify stack = ⊥
+ReadsOnly p tags o (ops.Invokevirtual i) targets.NotifyAll stack = ⊥
+ReadsOnly p tags o (ops.Getstatic i) (targets.Field fi) stack = ⊥
+ReadsOnly p tags o ops.Monitorenter target stack = slice_index stack 0 ≡ o
+ReadsOnly p tags o (ops.Invokevirtual i) (targets.Method u) stack = is_locking (slice_get p.methods u) ≡ true → slice_index stack (args_of (slice_get p.methods u)) ≡ o
+ReadsOnly p tags o (ops.Invokespecial i) (targets.Method u) stack = is_locking (slice_get p.methods u) ≡ true → slice_index stack (args_of (slice_get p.methods u)) ≡ o
+ReadsOnly p tags o (ops.Getfield i) (targets.Field fi) stack = IsFrozenField p tags fi ⊎ (IsGuardedField p tags fi × (slice_index stack 0 ≡ o))
+ReadsOnly p tags o op target stack = Unit {0}
+
+abbrev pub ReadLaw : Type 0
+ReadLaw = (p : Program) (tags : Tagged) (uses : List FieldUse) (s : Section) (o : ℕ) (a : Part) (parts : List Part) (mode : Mode) (m : MethodInfo) (insn : Insn) (target : Target) (f : TagShape) (stack : List ℕ)
+    → AreUses p tags uses → HasMark p tags uses s 0 → AreParts p tags s o (a ∷ parts) mode → IsAt p tags a.method a.at m insn target f → HasThis a.receiver f.stack stack → ReadsOnly p tags o insn.op target stack
+
+-- ---- the write law: a guarded field is written on the receiver, in an `<init>` or where its monitor is entered
+
+abbrev pub WriteLaw : Type 0
+WriteLaw = (p : Program) (tags : Tagged) (fi mi i index receiver : ℕ) (m : MethodInfo) (insn : Insn) (target : Target) (f : TagShape) (stack : List ℕ) → IsGuardedField p tags fi → IsAt p tags mi i m insn target f
+    → insn.op ≡ ops.Putfield index → target ≡ targets.Field fi → HasThis receiver f.stack stack
+    → (slice_index stack 1 ≡ receiver) × ((is_init m ≡ true) ⊎ (list_any is_this f.held ≡ true) ⊎ (locks_this m ≡ true))
