@@ -1,0 +1,5 @@
+mod TriedPrograms
+mod TagTries
+mod EachReached
+mod MarkChecks
+mod MarkTries

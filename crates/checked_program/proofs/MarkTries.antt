@@ -1,0 +1,120 @@
+-- Marks of small programs: each mark, with the rules that go before it refuted.
+use Rattle.std.proofs.Common.{◌≡◌, ◌<◌, ℕ, Bool, true, List, [], ◌∷◌, Some, refl, sym, subst, arith}
+use Rattle.std.proofs.lemmas.Bool.{eqb-true}
+use Rattle.std.specs.Prelude.{◌==◌}
+use Rattle.jvm_types.specs.declared.code.Insn.{Insn}
+use Rattle.jvm_types.specs.declared.program.Target.{Target}
+use Rattle.jvm_types.specs.declared.program.MethodInfo.{MethodInfo}
+use Rattle.checked_program.specs.LockTags.{TagShape}
+use Rattle.checked_program.specs.TaggedCode.{Tagged, IsAt}
+use Rattle.checked_program.specs.Sections.{Section, sections}
+use Rattle.checked_program.specs.Marks.{Callee, callee, called_method, receiver_tag, is_own_object, mode_if, fault, IsCalledBy, Applies, itself, called, recurring, HasMark}
+use Rattle.checked_program.specs.declared.section.Spot.{Spot}
+use Rattle.checked_program.specs.declared.section.Spot.TheVariants.{Method, Block}
+use Rattle.checked_program.specs.declared.section.Mode.{Mode}
+use Rattle.checked_program.specs.declared.section.Mode.TheVariants.{OnThis, OffThis}
+use Rattle.checked_program.specs.declared.section.FieldUse.{FieldUse}
+use Rattle.checked_program.specs.declared.section.FieldUse.TheVariants.{Frozen, Guarded, Open}
+use Rattle.checked_program.proofs.EachReached.{all_in}
+use Rattle.checked_program.proofs.MarkChecks.{first_is, none_broken, not_beyond, called_is_ok, IsClosed, calls_to, breaks_from}
+use Rattle.checked_program.proofs.TriedPrograms.{many, tags_of}
+
+abbrev tags : Tagged
+tags = tags_of many
+
+-- the two ints are guarded and the final field frozen
+abbrev uses : List FieldUse
+uses = Guarded ∷ Guarded ∷ Open ∷ Frozen ∷ []
+
+abbrev section : ℕ → Spot → Section
+section mi spot = record { method = mi; spot = spot }
+
+all_sections : sections many ≡ section 1 Method ∷ section 2 (Block 3) ∷ section 3 Method ∷ section 4 Method ∷ section 5 Method ∷ section 6 Method ∷ section 8 Method ∷ section 10 Method
+    ∷ section 11 (Block 6) ∷ section 12 Method ∷ section 13 Method ∷ []
+all_sections = refl
+
+-- a method's own section breaks a rule at its instruction of a number
+abbrev OfMethod : ℕ → ℕ → Type 0
+OfMethod mi n = HasMark many tags uses (section mi Method) n
+
+breaks_own : (mi i n : ℕ) (m : MethodInfo) (insn : Insn) (target : Target) (f : TagShape) → IsAt many tags mi i m insn target f → fault many uses OnThis insn.op target f.stack ≡ n → 0 < n → Applies many tags uses (section mi Method) n
+breaks_own mi i n m insn target f at e some = itself (record { i = i; own = record { m = m; insn = insn; target = target; f = f; at = at }; breaks = record { m = m; insn = insn; target = target; f = f; at = at; fault_is = e; some = some } })
+
+writes : OfMethod 1 1
+writes = (breaks_own 1 2 1 _ _ _ _ (record { in_program = refl; in_code = refl; names = refl; frames = _; of_method = refl; frame = refl }) refl (omega arith), first_is many tags uses (section 1 Method) 1 (omega arith) tt refl (λ lt c. not_beyond 1 (omega arith) lt))
+
+allocates : OfMethod 3 2
+allocates = (breaks_own 3 0 2 _ _ _ _ (record { in_program = refl; in_code = refl; names = refl; frames = _; of_method = refl; frame = refl }) refl (omega arith), first_is many tags uses (section 3 Method) 2 (omega arith) tt refl (λ lt c. not_beyond 2 (omega arith) lt))
+
+enters_another : OfMethod 4 3
+enters_another = (breaks_own 4 2 3 _ _ _ _ (record { in_program = refl; in_code = refl; names = refl; frames = _; of_method = refl; frame = refl }) refl (omega arith), first_is many tags uses (section 4 Method) 3 (omega arith) tt refl (λ lt c. not_beyond 3 (omega arith) lt))
+
+notifies : OfMethod 5 4
+notifies = (breaks_own 5 1 4 _ _ _ _ (record { in_program = refl; in_code = refl; names = refl; frames = _; of_method = refl; frame = refl }) refl (omega arith), first_is many tags uses (section 5 Method) 4 (omega arith) tt refl (λ lt c. not_beyond 4 (omega arith) lt))
+
+reads_static : OfMethod 6 5
+reads_static = (breaks_own 6 0 5 _ _ _ _ (record { in_program = refl; in_code = refl; names = refl; frames = _; of_method = refl; frame = refl }) refl (omega arith), first_is many tags uses (section 6 Method) 5 (omega arith) tt refl (λ lt c. not_beyond 5 (omega arith) lt))
+
+-- ---- through calls
+
+called_by : (mi i : ℕ) (first : Callee) (m : MethodInfo) (insn : Insn) (target : Target) (f : TagShape) → IsAt many tags mi i m insn target f → called_method insn.op target ≡ Some first.method
+    → first.mode ≡ mode_if (is_own_object OnThis (receiver_tag many insn.op target f.stack)) → IsCalledBy many tags (section mi Method) first
+called_by mi i first m insn target f at e mode = record {
+  i = i;
+  first = first;
+  own = record { m = m; insn = insn; target = target; f = f; at = at };
+  calls = record { m = m; insn = insn; target = target; f = f; at = at; called = e; mode_is = mode };
+  over = [];
+  through = refl;
+}
+
+-- a method on this that prints
+calls_a_printer : OfMethod 8 6
+calls_a_printer = (
+  called refl (record {
+    called = callee 7 OnThis;
+    is_called = called_by 8 1 (callee 7 OnThis) _ _ _ _ (record { in_program = refl; in_code = refl; names = refl; frames = _; of_method = refl; frame = refl }) refl refl;
+    i = 2;
+    n = 4;
+    breaks = record { m = _; insn = _; target = _; f = _; at = (record { in_program = refl; in_code = refl; names = refl; frames = _; of_method = refl; frame = refl }); fault_is = refl; some = omega arith };
+  }),
+  first_is many tags uses (section 8 Method) 6 (omega arith) tt refl (λ lt c. not_beyond 6 (omega arith) lt),
+)
+
+-- the block of another object, off this: there its monitor is another
+sums_another : OfMethod 13 6
+sums_another = (
+  called refl (record {
+    called = callee 2 OffThis;
+    is_called = called_by 13 1 (callee 2 OffThis) _ _ _ _ (record { in_program = refl; in_code = refl; names = refl; frames = _; of_method = refl; frame = refl }) refl refl;
+    i = 3;
+    n = 3;
+    breaks = record { m = _; insn = _; target = _; f = _; at = (record { in_program = refl; in_code = refl; names = refl; frames = _; of_method = refl; frame = refl }); fault_is = refl; some = omega arith };
+  }),
+  first_is many tags uses (section 13 Method) 6 (omega arith) tt refl (λ lt c. not_beyond 6 (omega arith) lt),
+)
+
+-- a method that calls itself, and breaks no rule
+abbrev is_again : Callee → Bool
+is_again a = a.method == 9
+
+again_in_modes : (mode : Mode) → (all_in (calls_to is_again many mode) many tags 9 ≡ true) × (all_in (breaks_from 8 many uses mode) many tags 9 ≡ true)
+again_in_modes OnThis = (refl, refl)
+again_in_modes OffThis = (refl, refl)
+
+again_is_closed : IsClosed many tags is_again
+again_is_closed a e = subst (λ (u : ℕ). all_in (calls_to is_again many a.mode) many tags u ≡ true) (sym (eqb-true a.method 9 e)) (again_in_modes a.mode).0
+
+again_breaks_none : (a : Callee) → is_again a ≡ true → all_in (breaks_from 8 many uses a.mode) many tags a.method ≡ true
+again_breaks_none a e = subst (λ (u : ℕ). all_in (breaks_from 8 many uses a.mode) many tags u ≡ true) (sym (eqb-true a.method 9 e)) (again_in_modes a.mode).1
+
+calls_again : OfMethod 10 7
+calls_again = (
+  recurring refl (record {
+    called = callee 9 OnThis;
+    is_called = called_by 10 1 (callee 9 OnThis) _ _ _ _ (record { in_program = refl; in_code = refl; names = refl; frames = _; of_method = refl; frame = refl }) refl refl;
+    recurs = record { first = callee 9 OffThis; calls = (1, record { m = _; insn = _; target = _; f = _; at = (record { in_program = refl; in_code = refl; names = refl; frames = _; of_method = refl; frame = refl }); called = refl; mode_is = refl }); over = []; mode = OffThis; through = refl };
+  }),
+  first_is many tags uses (section 10 Method) 7 (omega arith) tt refl (λ lt c. none_broken many tags uses c.called c.i c.n
+      (again_breaks_none c.called (called_is_ok many tags (section 10 Method) is_again c.called again_is_closed refl c.is_called)) c.breaks),
+)
