@@ -47,7 +47,7 @@ module _ (p : Program) (m : MethodInfo) (frames : List (Option Shape)) (laid : I
   bounded_at : (i : ℕ) (f : Shape) → slice_get frames i ≡ Some (Some f) → IsBounded m f
   bounded_at i f e = at_index (IsFrameBounded m) frames i (Some f) bounded e
 
-  entry_locals : length (entry_shape m).locals ≡ m.max_locals
+  pub entry_locals : length (entry_shape m).locals ≡ m.max_locals
   entry_locals = counted (local_law p m frames laid typed) (begins m laid)
     where
       counted : IsAssignment p m frames → ((insn : Insn) × (code : List Insn) × (m.code ≡ insn ∷ code) × (insn.pc ≡ 0)) → length (entry_shape m).locals ≡ m.max_locals

@@ -14,3 +14,6 @@ pub mod LocalEdges
 pub mod LocalVisit
 pub mod LocalGoing
 pub mod FrameLast
+pub mod EdgeTargets
+pub mod RuleUses
+pub mod EntryFrame

@@ -1,1 +1,4 @@
 pub mod VisitLaws
+pub mod EdgeLaws
+pub mod RuleLaws
+pub mod EntryLaws
