@@ -1,16 +1,11 @@
--- Laws of objects that are not finished yet: what an `<init>` of a frozen class does with `this`, and where the types of what
--- a `new` made may stand.
-use Rattle.std.specs.Prelude.{◌≡◌, ◌≢◌, ◌<◌, ◌≤◌, ℕ, true, List, Option, Some, slice_get, slice_index_or}
-use Rattle.std.specs.List.{AllByRecursion}
+-- The law of objects that are not finished yet: what an `<init>` of a frozen class does with `this`. Where the types of what
+-- a `new` made may stand is a law of typings (`new_is_behind`).
+use Rattle.std.specs.Prelude.{◌≡◌, ◌≢◌, ◌<◌, ◌≤◌, ℕ, true, List, slice_get, slice_index_or}
 use Rattle.jvm_types.specs.CodeTable.{is_init}
-use Rattle.jvm_types.specs.Types.{Shape}
 use Rattle.jvm_types.specs.ProgramInvariant.{IsProgram}
-use Rattle.jvm_types.specs.Verifying.{HasTyping, IsLaidOut}
 use Rattle.jvm_types.specs.declared.code.Insn.{Insn}
 use Rattle.jvm_types.specs.declared.code.Op.{Op}
 use Rattle.jvm_types.specs.declared.code.Op.TheVariants as ops
-use Rattle.jvm_types.specs.declared.typing.VType.{VType}
-use Rattle.jvm_types.specs.declared.typing.VType.TheVariants.{New}
 use Rattle.jvm_types.specs.declared.program.Target.{Target}
 use Rattle.jvm_types.specs.declared.program.Target.TheVariants as targets
 use Rattle.jvm_types.specs.declared.program.MethodInfo.{MethodInfo}
@@ -21,8 +16,6 @@ use Rattle.checked_program.specs.FrozenPlaces.{IsFrozenClass}
 use Rattle.checked_program.specs.Marks.{args_of}
 use Rattle.checked_program.specs.declared.tag.Tag.{Tag}
 use Rattle.checked_program.specs.declared.tag.Tag.TheVariants.{Untagged, This}
-
--- ---- the frozen law
 
 abbrev pub IsOther : List Tag → ℕ → Type 0
 IsOther stack k = slice_index_or stack k Untagged ≢ This
@@ -49,17 +42,3 @@ HidesThis p op target stack = Unit {0}
 abbrev pub FrozenLaw : Type 0
 FrozenLaw = (p : Program) (tags : Tagged) (mi i : ℕ) (m : MethodInfo) (insn : Insn) (target : Target) (f : TagShape) → IsProgram p → IsAt p tags mi i m insn target f → is_init m ≡ true → IsFrozenClass p tags m.class
     → HidesThis p insn.op target f.stack
-
--- ---- the law of `new`: a value that is uninitialised by a `new` stands behind it alone, so a `new` finds none of its own
-
-abbrev pub IsBehind : ℕ → VType → Type 0
-IsBehind pc (New q) = q < pc
-IsBehind pc t = Unit {0}
-
-pub record AreBehind (pc : ℕ) (f : Shape) : Type 0 where
-  pub stack : AllByRecursion (IsBehind pc) f.stack
-  pub locals : AllByRecursion (IsBehind pc) f.locals
-
-abbrev pub NewLaw : Type 0
-NewLaw = (p : Program) (m : MethodInfo) (frames : List (Option Shape)) → IsLaidOut m → HasTyping p m frames → (i : ℕ) (insn : Insn) (f : Shape) → slice_get m.code i ≡ Some insn → slice_get frames i ≡ Some (Some f)
-    → AreBehind insn.pc f

@@ -17,3 +17,6 @@ pub mod FrameLast
 pub mod EdgeTargets
 pub mod RuleUses
 pub mod EntryFrame
+pub mod RowsKeep
+pub mod NewEdges
+pub mod NewVisits

@@ -102,7 +102,7 @@ pub record Handles (m : MethodInfo) (pc : ℕ) (f : Shape) (handlers : List Row)
   pub hold : AllByRecursion (λ handler. catch_fault m pc handler ≡ None) handlers
   pub fit : AllByRecursion (λ handler. Fits m.code (frames_of mid) (shape_at_handler handler f) handler.handler) handlers
 
-uncaught : (fault : Option (VRule × ℕ)) (at : Option ℕ) (more : Result (List Node) (VRule × ℕ)) (mid : List Node) → unless_caught fault at more ≡ Ok mid → (fault ≡ None) × (at ≡ None) × (more ≡ Ok mid)
+pub uncaught : (fault : Option (VRule × ℕ)) (at : Option ℕ) (more : Result (List Node) (VRule × ℕ)) (mid : List Node) → unless_caught fault at more ≡ Ok mid → (fault ≡ None) × (at ≡ None) × (more ≡ Ok mid)
 uncaught (Some fault) at more mid e = absurd (cc)
 uncaught None (Some at) more mid e = absurd (cc)
 uncaught None None more mid e = (refl, refl, e)

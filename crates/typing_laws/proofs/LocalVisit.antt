@@ -57,11 +57,11 @@ sound_risen m insn r f xs ys h s = record {
 
 -- ---- a visit that breaks no rule
 
-held : (pc : ℕ) (rule : Option VRule) (more : Result (List Node) (VRule × ℕ)) (mid : List Node) → unless_broken pc rule more ≡ Ok mid → (rule ≡ None) × (more ≡ Ok mid)
+pub held : (pc : ℕ) (rule : Option VRule) (more : Result (List Node) (VRule × ℕ)) (mid : List Node) → unless_broken pc rule more ≡ Ok mid → (rule ≡ None) × (more ≡ Ok mid)
 held pc (Some rule) more mid e = absurd (cc)
 held pc None more mid e = (refl, e)
 
-unclashed : (at : Option ℕ) (more : Result (List Node) (VRule × ℕ)) (mid : List Node) → unless_clash at more ≡ Ok mid → (at ≡ None) × (more ≡ Ok mid)
+pub unclashed : (at : Option ℕ) (more : Result (List Node) (VRule × ℕ)) (mid : List Node) → unless_clash at more ≡ Ok mid → (at ≡ None) × (more ≡ Ok mid)
 unclashed (Some at) more mid e = absurd (cc)
 unclashed None more mid e = (refl, e)
 

@@ -2,3 +2,4 @@ pub mod VisitLaws
 pub mod EdgeLaws
 pub mod RuleLaws
 pub mod EntryLaws
+pub mod NewLaws

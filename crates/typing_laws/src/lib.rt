@@ -5,6 +5,7 @@ pub mod edge_laws;
 pub mod entry_laws;
 pub mod least_laws;
 pub mod local_laws;
+pub mod new_laws;
 pub mod rule_laws;
 pub mod visit_laws;
 
@@ -14,6 +15,7 @@ pub use entry_laws::{
 };
 pub use least_laws::{refusals_are_due, typing_is_least};
 pub use local_laws::{frames_fit, typing_is_local};
+pub use new_laws::{behind_rises, new_is_behind, new_stays_behind};
 pub use rule_laws::{
     arguments_suit, read_is_good, receiver_is_good, returns_suit, taken_are_good, unbroken_hold,
 };
