@@ -1,4 +1,3 @@
-pub mod StackLaws
 mod NameTries
 mod FirstTries
 mod LinkTries

@@ -1,5 +1,3 @@
-pub mod Stacks
-pub mod Stock
 pub mod Numbers
 pub mod Spelling
 pub mod Pool

@@ -1,6 +1,6 @@
 //! A class file as data: the structures of the class-file chapter (JVMS 4).
 
-use crate::rows::{Bytes, Rows};
+use lists::{Bytes, Rows};
 
 /// The first four bytes of a class file.
 pub const MAGIC: u32 = 0xCAFE_BABE;

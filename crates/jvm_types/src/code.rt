@@ -1,6 +1,6 @@
 //! The instructions of a method (JVMS 6), with the targets of branches as pcs.
 
-use crate::rows::Rows;
+use lists::Rows;
 
 /// How the ints of a conditional branch are compared.
 #[derive(Clone, Copy, Debug, PartialEq, Eq)]

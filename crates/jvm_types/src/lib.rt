@@ -19,9 +19,6 @@ pub mod outcome;
 pub mod pool_texts;
 pub mod program;
 pub mod refusal;
-pub mod room;
-pub mod rows;
-pub mod stack;
 pub mod typing;
 
 pub use class_file::{Attr, ClassFile, Code, Constant, Handler, Member, MemberAttr};
@@ -32,13 +29,8 @@ pub use code::{Case, Cmp, Insn, Op};
 pub use first::FirstOp;
 pub use gate::{Gate, OpenGate};
 pub use index_kind::IndexKind;
+pub use lists::{Bytes, Room, Rows, Stack};
 pub use outcome::{Counts, End, Outcome, Print, ThreadReport, Thrown};
 pub use program::{FieldInfo, Kind, MethodInfo, Program, Row, Target};
 pub use refusal::{CRule, KRule, LRule, NO_METHOD, Place, Rule, SRule, VRule, in_file, in_method};
-pub use room::Room;
-pub use rows::{Bytes, Rows};
-pub use stack::Stack;
 pub use typing::{TypeFrame, Typing, VType};
-
-#[cfg(test)]
-mod tests;

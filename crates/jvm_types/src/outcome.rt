@@ -1,4 +1,4 @@
-use crate::rows::Rows;
+use lists::Rows;
 
 /// The built-in throwables of `java/lang`.
 #[derive(Clone, Copy, Debug, PartialEq, Eq)]

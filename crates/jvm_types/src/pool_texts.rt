@@ -4,7 +4,7 @@ ghost use Rattle.std.specs.Prelude.{◌≡◌, slice_get, IfOk, Some};
 ghost use Rattle.jvm_types.specs.ClassNames.{text_of, text_at, class_text_at, class_name, class_names};
 
 use crate::class_file::{ClassFile, Constant};
-use crate::rows::{Bytes, Rows};
+use lists::{Bytes, Rows};
 use std::alloc::{AllocError, Global};
 
 /// The text of an entry, and no bytes where it has none.

@@ -4,7 +4,7 @@
 //! order of `Thrown`, 16 a class itself, and 17 and up the classes of the files in order.
 
 use crate::code::Insn;
-use crate::rows::{Bytes, Rows};
+use lists::{Bytes, Rows};
 
 /// The type of a field, an argument or a result.
 #[derive(Clone, Copy, Debug, PartialEq, Eq)]

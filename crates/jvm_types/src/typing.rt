@@ -1,6 +1,6 @@
 //! The types that verification gives to the stack and the locals at each instruction (JVMS 4.10.2).
 
-use crate::rows::Rows;
+use lists::Rows;
 
 /// The type of one place of the stack or of the locals. Classes are given by their numbers.
 #[derive(Clone, Copy, Debug, PartialEq, Eq)]

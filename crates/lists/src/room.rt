@@ -18,7 +18,7 @@ pub struct Room<T> {
 impl<T> Model for Room<T> {
     ghost use Rattle.std.specs.Prelude.{◌-◌};
     ghost use Rattle.std.specs.Vec.{vec_len, vec_capacity};
-    ghost use Rattle.jvm_types.specs.Stock.{Stock, stock_code};
+    ghost use Rattle.lists.specs.Stock.{Stock, stock_code};
 
     ghost Value = { Stock T };
 

@@ -18,7 +18,7 @@ pub struct Stack<T> {
 impl<T> Model for Stack<T> {
     ghost use Rattle.std.specs.Prelude.{List};
     ghost use Rattle.std.specs.Coded.{coded_list};
-    ghost use Rattle.jvm_types.specs.Stacks.{top_first};
+    ghost use Rattle.lists.specs.Stacks.{top_first};
 
     ghost Value = { List T };
 
