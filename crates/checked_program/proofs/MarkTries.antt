@@ -1,22 +1,25 @@
 -- Marks of small programs: each mark, with the rules that go before it refuted.
-use Rattle.std.proofs.Common.{◌≡◌, ◌<◌, ℕ, Bool, true, List, [], ◌∷◌, Some, refl, sym, subst, arith}
+use Rattle.std.proofs.Common.{◌≡◌, ◌<◌, ℕ, Bool, true, false, List, [], ◌∷◌, Some, refl, sym, subst, arith}
 use Rattle.std.proofs.lemmas.Bool.{eqb-true}
-use Rattle.std.specs.Prelude.{◌==◌}
+use Rattle.std.proofs.lemmas.Bool.Decides.{nat_tests}
+use Rattle.std.specs.Prelude.{◌==◌, ◌&&◌, ◌||◌, not, slice_index_or}
 use Rattle.jvm_types.specs.declared.code.Insn.{Insn}
 use Rattle.jvm_types.specs.declared.program.Target.{Target}
 use Rattle.jvm_types.specs.declared.program.MethodInfo.{MethodInfo}
-use Rattle.checked_program.specs.LockTags.{TagShape}
+use Rattle.checked_program.specs.LockTags.{TagShape, is_this}
 use Rattle.checked_program.specs.TaggedCode.{Tagged, IsAt}
 use Rattle.checked_program.specs.Sections.{Section, sections}
-use Rattle.checked_program.specs.Marks.{Callee, callee, called_method, receiver_tag, is_own_object, mode_if, fault, IsCalledBy, Applies, itself, called, recurring, HasMark}
+use Rattle.checked_program.specs.Marks.{Callee, callee, called_method, receiver_tag, is_own_object, mode_if, fault, IsCalledBy, CallsItself, Applies, elsewhere, itself, called, recurring, IsOnThis, turn, HasMark}
+use Rattle.checked_program.specs.declared.tag.Tag.{Tag}
+use Rattle.checked_program.specs.declared.tag.Tag.TheVariants.{Untagged, This, At}
 use Rattle.checked_program.specs.declared.section.Spot.{Spot}
 use Rattle.checked_program.specs.declared.section.Spot.TheVariants.{Method, Block}
 use Rattle.checked_program.specs.declared.section.Mode.{Mode}
 use Rattle.checked_program.specs.declared.section.Mode.TheVariants.{OnThis, OffThis}
 use Rattle.checked_program.specs.declared.section.FieldUse.{FieldUse}
 use Rattle.checked_program.specs.declared.section.FieldUse.TheVariants.{Frozen, Guarded, Open}
-use Rattle.checked_program.proofs.EachReached.{all_in}
-use Rattle.checked_program.proofs.MarkChecks.{first_is, none_broken, not_beyond, called_is_ok, IsClosed, calls_to, breaks_from}
+use Rattle.checked_program.proofs.EachReached.{both, Test, all_in, in_method}
+use Rattle.checked_program.proofs.MarkChecks.{first_is, none_applies, none_broken, not_beyond, call_is_ok, called_is_ok, none_ok, none_is_called, IsClosed, calls_to, breaks_from}
 use Rattle.checked_program.proofs.TriedPrograms.{many, tags_of}
 
 abbrev tags : Tagged
@@ -118,3 +121,65 @@ calls_again = (
   first_is many tags uses (section 10 Method) 7 (omega arith) tt refl (λ lt c. none_broken many tags uses c.called c.i c.n
       (again_breaks_none c.called (called_is_ok many tags (section 10 Method) is_again c.called again_is_closed refl c.is_called)) c.breaks),
 )
+
+-- ---- blocks
+
+-- a block on another value than `this`
+abbrev other_at_six : Test
+other_at_six m insn target f = not (insn.pc == 6) || not (is_this (slice_index_or f.stack 0 Untagged))
+
+is_not_this : (pc : ℕ) (t : Tag) → not (pc == 6) || not (is_this t) ≡ true → pc ≡ 6 → t ≡ This → ⊥
+is_not_this pc This e h k = grind (arith, nat_tests)
+is_not_this pc Untagged e h k = cc
+is_not_this pc (At at) e h k = cc
+
+none_before_eight : (k : ℕ) → turn k < 0 → ⊥
+none_before_eight k lt = grind arith
+
+locks_a_field : HasMark many tags uses (section 11 (Block 6)) 8
+locks_a_field = (elsewhere refl (λ on. is_not_this _ _ (in_method other_at_six many tags 11 refl on.0 on.2.m on.2.insn on.2.target on.1 on.2.at) on.2.pc_is on.3), λ k lt a. none_before_eight k lt)
+
+sums_on_this : IsOnThis many tags 2 (Block 3)
+sums_on_this = (3, _, record { m = _; insn = _; target = _; at = record { in_program = refl; in_code = refl; names = refl; frames = _; of_method = refl; frame = refl }; pc_is = refl; enters = refl }, refl)
+
+sums : HasMark many tags uses (section 2 (Block 3)) 0
+sums = none_applies many tags uses (section 2 (Block 3)) sums_on_this refl (λ c. none_is_called many tags (section 2 (Block 3)) c.called refl c.is_called) (λ c. none_is_called many tags (section 2 (Block 3)) c.called refl c.is_called)
+
+-- ---- a section that calls the block on this
+
+abbrev is_on : Mode → Bool
+is_on OnThis = true
+is_on OffThis = false
+
+abbrev is_sum : Callee → Bool
+is_sum a = (a.method == 2) && is_on a.mode
+
+is_sum_method : (a : Callee) → is_sum a ≡ true → a.method ≡ 2
+is_sum_method a e = eqb-true a.method 2 (both (a.method == 2) (is_on a.mode) e).0
+
+sum_calls_none : (mode : Mode) → (all_in (calls_to is_sum many mode) many tags 2 ≡ true) × (all_in (calls_to none_ok many mode) many tags 2 ≡ true)
+sum_calls_none OnThis = (refl, refl)
+sum_calls_none OffThis = (refl, refl)
+
+sum_keeps : (mode : Mode) → is_on mode ≡ true → all_in (breaks_from 8 many uses mode) many tags 2 ≡ true
+sum_keeps OnThis e = refl
+sum_keeps OffThis e = cc
+
+sum_is_closed : IsClosed many tags is_sum
+sum_is_closed a e = subst (λ (u : ℕ). all_in (calls_to is_sum many a.mode) many tags u ≡ true) (sym (is_sum_method a e)) (sum_calls_none a.mode).0
+
+sum_breaks_none : (a : Callee) → is_sum a ≡ true → all_in (breaks_from 8 many uses a.mode) many tags a.method ≡ true
+sum_breaks_none a e = subst (λ (u : ℕ). all_in (breaks_from 8 many uses a.mode) many tags u ≡ true) (sym (is_sum_method a e)) (sum_keeps a.mode (both (a.method == 2) (is_on a.mode) e).1)
+
+twice_calls_sum : (b : Callee) → IsCalledBy many tags (section 12 Method) b → is_sum b ≡ true
+twice_calls_sum b c = called_is_ok many tags (section 12 Method) is_sum b sum_is_closed refl c
+
+none_itself : (u : ℕ) → u ≡ 2 → CallsItself many tags u → ⊥
+none_itself u e c =
+    let all : all_in (calls_to none_ok many OffThis) many tags u ≡ true = subst (λ (v : ℕ). all_in (calls_to none_ok many OffThis) many tags v ≡ true) (sym e) (sum_calls_none OffThis).1 in
+    let h : false ≡ true = call_is_ok many tags none_ok (callee u OffThis) c.first c.calls.0 all c.calls.1 in cc
+
+twice_is_marked : OfMethod 12 0
+twice_is_marked = none_applies many tags uses (section 12 Method) tt refl
+    (λ c. none_broken many tags uses c.called c.i c.n (sum_breaks_none c.called (twice_calls_sum c.called c.is_called)) c.breaks)
+    (λ c. none_itself c.called.method (is_sum_method c.called (twice_calls_sum c.called c.is_called)) c.recurs)
