@@ -1,5 +1,7 @@
 mod TriedPrograms
 mod TagTries
 mod EachReached
+mod FrozenChecks
 mod MarkChecks
+mod UseTries
 mod MarkTries

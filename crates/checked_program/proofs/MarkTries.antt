@@ -9,17 +9,19 @@ use Rattle.jvm_types.specs.declared.program.MethodInfo.{MethodInfo}
 use Rattle.checked_program.specs.LockTags.{TagShape, is_this}
 use Rattle.checked_program.specs.TaggedCode.{Tagged, IsAt}
 use Rattle.checked_program.specs.Sections.{Section, sections}
-use Rattle.checked_program.specs.Marks.{Callee, callee, called_method, receiver_tag, is_own_object, mode_if, fault, IsCalledBy, CallsItself, Applies, elsewhere, itself, called, recurring, IsOnThis, turn, HasMark}
+use Rattle.checked_program.specs.Marks.{Callee, callee, called_method, receiver_tag, is_own_object, mode_if, fault, IsCalledBy, CallsItself, Applies, elsewhere, itself, called, recurring, IsOnThis, turn, HasMark, IsMarkOf, AreMarks}
 use Rattle.checked_program.specs.declared.tag.Tag.{Tag}
 use Rattle.checked_program.specs.declared.tag.Tag.TheVariants.{Untagged, This, At}
 use Rattle.checked_program.specs.declared.section.Spot.{Spot}
 use Rattle.checked_program.specs.declared.section.Spot.TheVariants.{Method, Block}
+use Rattle.checked_program.specs.declared.section.SectionMark.{SectionMark}
 use Rattle.checked_program.specs.declared.section.Mode.{Mode}
 use Rattle.checked_program.specs.declared.section.Mode.TheVariants.{OnThis, OffThis}
 use Rattle.checked_program.specs.declared.section.FieldUse.{FieldUse}
 use Rattle.checked_program.specs.declared.section.FieldUse.TheVariants.{Frozen, Guarded, Open}
 use Rattle.checked_program.proofs.EachReached.{both, Test, all_in, in_method}
 use Rattle.checked_program.proofs.MarkChecks.{first_is, none_applies, none_broken, not_beyond, call_is_ok, called_is_ok, none_ok, none_is_called, IsClosed, calls_to, breaks_from}
+use Rattle.checked_program.proofs.UseTries.{uses_of_many}
 use Rattle.checked_program.proofs.TriedPrograms.{many, tags_of}
 
 abbrev tags : Tagged
@@ -183,3 +185,38 @@ twice_is_marked : OfMethod 12 0
 twice_is_marked = none_applies many tags uses (section 12 Method) tt refl
     (λ c. none_broken many tags uses c.called c.i c.n (sum_breaks_none c.called (twice_calls_sum c.called c.is_called)) c.breaks)
     (λ c. none_itself c.called.method (is_sum_method c.called (twice_calls_sum c.called c.is_called)) c.recurs)
+
+-- ---- all of the program's sections
+
+abbrev mark : ℕ → Spot → ℕ → SectionMark
+mark mi spot n = record { method = mi; spot = spot; mark = n }
+
+-- the mark of a section of the program
+is_mark : (s : Section) (n : ℕ) → HasMark many tags uses s n → IsMarkOf many tags uses s (mark s.method s.spot n)
+is_mark s n h = record { method = refl; spot = refl; mark_is = h }
+
+all_marks : AreMarks many tags (mark 1 Method 1 ∷ mark 2 (Block 3) 0 ∷ mark 3 Method 2 ∷ mark 4 Method 3 ∷ mark 5 Method 4 ∷ mark 6 Method 5 ∷ mark 8 Method 6 ∷ mark 10 Method 7
+    ∷ mark 11 (Block 6) 8 ∷ mark 12 Method 0 ∷ mark 13 Method 6 ∷ [])
+all_marks = record {
+  uses = uses;
+  are_uses = uses_of_many;
+  each = (
+    is_mark _ 1 writes,
+    (
+      is_mark _ 0 sums,
+      (
+        is_mark _ 2 allocates,
+        (
+          is_mark _ 3 enters_another,
+          (
+            is_mark _ 4 notifies,
+            (
+              is_mark _ 5 reads_static,
+              (is_mark _ 6 calls_a_printer, (is_mark _ 7 calls_again, (is_mark _ 8 locks_a_field, (is_mark _ 0 twice_is_marked, (is_mark _ 6 sums_another, tt))))),
+            ),
+          ),
+        ),
+      ),
+    ),
+  );
+}

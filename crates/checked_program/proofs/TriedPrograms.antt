@@ -177,3 +177,34 @@ sums_other = method 32 (codes "sums_other") (kinds.Ref 17 ∷ []) None 1 2 (op 0
 abbrev pub many : Program
 many = program many_fields (constructor ∷ set ∷ sum ∷ makes ∷ sets_other ∷ notifies ∷ reads_static ∷ prints ∷ calls_on_this (codes "calls_printer") 7
     ∷ again ∷ calls_on_this (codes "calls_again") 9 ∷ locks_field ∷ twice ∷ sums_other ∷ [])
+
+-- ---- classes whose field is neither frozen nor guarded
+
+-- the constructor stores its object in a static field
+abbrev pub leaking_constructor : MethodInfo
+leaking_constructor = method 0 (codes "<init>") [] None 2 1
+    (op 0 1 (ops.Aload 0) ∷ names 1 4 (ops.Invokespecial 19) (targets.Init 1) ∷ op 4 5 (ops.Aload 0) ∷ names 5 8 (ops.Putstatic 26) (targets.Field 1)
+    ∷ op 8 9 (ops.Aload 0) ∷ op 9 10 (ops.Iconst (pos 1)) ∷ names 10 13 (ops.Putfield 22) (targets.Field 0) ∷ op 13 14 ops.Return ∷ []) []
+
+abbrev pub get : MethodInfo
+get = method 32 (codes "get") [] (an_int) 1 1 (op 0 1 (ops.Aload 0) ∷ names 1 4 (ops.Getfield 22) (targets.Field 0) ∷ op 4 5 ops.Ireturn ∷ []) []
+  where
+    an_int : Option Kind
+    an_int = Some kinds.Int
+
+abbrev pub one_field : List FieldInfo
+one_field = private_int 0 ∷ static_object ∷ []
+
+abbrev pub leaking : Program
+leaking = program one_field (leaking_constructor ∷ get ∷ [])
+
+-- a method that writes the field, and what it writes it on
+abbrev pub writer : ℕ → ℕ → MethodInfo
+writer flags i = method flags (codes "write") (kinds.Ref 17 ∷ []) None 2 2 (op 0 1 (ops.Aload i) ∷ op 1 2 (ops.Iconst (pos 1)) ∷ names 2 5 (ops.Putfield 22) (targets.Field 0) ∷ op 5 6 ops.Return ∷ []) []
+
+-- on `this` without its monitor, and on another object with the monitor of `this`
+abbrev pub unlocked : Program
+unlocked = program one_field (constructor ∷ get ∷ writer 0 0 ∷ [])
+
+abbrev pub on_another : Program
+on_another = program one_field (constructor ∷ get ∷ writer 32 1 ∷ [])
