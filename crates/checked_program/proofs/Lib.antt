@@ -5,3 +5,4 @@ mod FrozenChecks
 mod MarkChecks
 mod UseTries
 mod MarkTries
+pub mod CheckedPlaces

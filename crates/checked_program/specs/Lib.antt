@@ -11,3 +11,4 @@ pub mod ObjectLaws
 pub mod Reach
 pub mod CheckedProgram
 pub mod MarkedProgram
+pub mod CheckedLaws

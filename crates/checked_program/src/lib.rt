@@ -2,9 +2,13 @@
 #![tactic(auto)]
 
 pub mod checked;
+pub mod laws;
 pub mod section;
 pub mod tag;
 
 pub use checked::Checked;
+pub use laws::{
+    called_fit, calls_suit, catchers_are_among, checked_is_sound, frames_have_places, places_hold,
+};
 pub use section::{FieldUse, Mode, SectionMark, Spot};
 pub use tag::{Tag, TagFrame, Tags};

@@ -8,7 +8,7 @@ use Rattle.jvm_types.specs.Types.{Shape, shape_below}
 use Rattle.jvm_types.specs.Verifying.{frame_at, Fits}
 use Rattle.jvm_types.specs.declared.code.Insn.{Insn}
 use Rattle.typing_laws.proofs.LeastFrames.{AreDistinct, distinct}
-use Rattle.typing_laws.specs.EdgeLaws.{EdgesLand, FramesStand}
+use Rattle.typing_laws.specs.EdgeLaws.{EdgesLand, FramesStand, FramesAreFound}
 
 -- ---- an edge
 
@@ -53,3 +53,20 @@ standing (y ∷ code) (frame ∷ frames) (suc i) x o d e f =
 
 pub stand : FramesStand
 stand m frames i insn o laid e f = standing m.code frames i insn o (distinct 0 m.code laid.bytes laid.code.spelled) e f
+
+-- ---- the instruction of a frame
+
+found_at : (code : List Insn) (frames : List (Option Shape)) (pc : ℕ) (f : Shape) → frame_at code frames pc ≡ Some f
+    → (i : ℕ) × (insn : Insn) × (slice_get code i ≡ Some insn) × (insn.pc ≡ pc) × (slice_get frames i ≡ Some (Some f))
+found_at [] frames pc f e = absurd (cc)
+found_at (insn ∷ code) [] pc f e = absurd (cc)
+found_at (insn ∷ code) (frame ∷ frames) pc f e = by_test (insn.pc == pc) refl e (found_at code frames pc f)
+  where
+    by_test : (t : Bool) → (insn.pc == pc) ≡ t → cond t frame (frame_at code frames pc) ≡ Some f
+        → (frame_at code frames pc ≡ Some f → (i : ℕ) × (x : Insn) × (slice_get code i ≡ Some x) × (x.pc ≡ pc) × (slice_get frames i ≡ Some (Some f)))
+        → (i : ℕ) × (x : Insn) × (slice_get (insn ∷ code) i ≡ Some x) × (x.pc ≡ pc) × (slice_get (frame ∷ frames) i ≡ Some (Some f))
+    by_test true h e more = (0, insn, refl, grind (arith, nat_tests, h), ap (λ (o : Option Shape). Some o) e)
+    by_test false h e more = let l = more e in (suc l.0, l.1, l.2, l.3, l.4)
+
+pub found : FramesAreFound
+found m frames pc f e = let l = found_at m.code frames pc f e in record { number = l.0; insn = l.1; there = l.2; starts = l.3; has = l.4 }

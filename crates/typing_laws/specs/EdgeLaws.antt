@@ -22,3 +22,14 @@ EdgesLand = (m : MethodInfo) (frames : List (Option Shape)) (f : Shape) (to : �
 -- the frame at the pc of an instruction is that of its number
 abbrev pub FramesStand : Type 0
 FramesStand = (m : MethodInfo) (frames : List (Option Shape)) (i : ℕ) (insn : Insn) (frame : Option Shape) → IsLaidOut m → slice_get m.code i ≡ Some insn → slice_get frames i ≡ Some frame → frame_at m.code frames insn.pc ≡ frame
+
+-- the frame at a pc is that of an instruction there
+pub record Stands (m : MethodInfo) (frames : List (Option Shape)) (pc : ℕ) (f : Shape) : Type 0 where
+  pub number : ℕ
+  pub insn : Insn
+  pub there : slice_get m.code number ≡ Some insn
+  pub starts : insn.pc ≡ pc
+  pub has : slice_get frames number ≡ Some (Some f)
+
+abbrev pub FramesAreFound : Type 0
+FramesAreFound = (m : MethodInfo) (frames : List (Option Shape)) (pc : ℕ) (f : Shape) → frame_at m.code frames pc ≡ Some f → Stands m frames pc f

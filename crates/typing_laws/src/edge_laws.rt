@@ -1,6 +1,6 @@
 //! Laws of the edges of a method: each function only states one.
 
-ghost use Rattle.typing_laws.specs.EdgeLaws.{EdgesLand, FramesStand};
+ghost use Rattle.typing_laws.specs.EdgeLaws.{EdgesLand, FramesAreFound, FramesStand};
 
 /// An edge that fits leads to an instruction with a frame that the one that is brought is at or below.
 #[tactic(auto, using(crate::proofs::EdgeTargets::lands))]
@@ -12,4 +12,10 @@ pub fn edges_land()
 #[tactic(auto, using(crate::proofs::EdgeTargets::stand))]
 pub fn frames_stand()
     ensures { FramesStand }
+{}
+
+/// The frame at a pc is that of an instruction there.
+#[tactic(auto, using(crate::proofs::EdgeTargets::found))]
+pub fn frames_are_found()
+    ensures { FramesAreFound }
 {}

@@ -9,7 +9,7 @@ pub mod new_laws;
 pub mod rule_laws;
 pub mod visit_laws;
 
-pub use edge_laws::{edges_land, frames_stand};
+pub use edge_laws::{edges_land, frames_are_found, frames_stand};
 pub use entry_laws::{
     arguments_fit, entry_fits, entry_has_arguments, entry_has_no_more, entry_has_receiver,
 };
