@@ -3,7 +3,10 @@ use Rattle.std.proofs.Common.{◌≡◌, ℕ, zero, suc, Bool, true, false, cond
 use Rattle.std.specs.Prelude.{slice_get}
 use Rattle.std.specs.List.{find, filter}
 use Rattle.jvm_types.specs.ClassTree.{is_subclass}
-use Rattle.jvm_types.specs.CodeTable.{Want, AnObject, ToStart, OpRow, arguments, is_init, row, virtual_row, special_row, static_row}
+use Rattle.jvm_types.specs.CodeTable.{arguments, is_init, row, virtual_row, special_row, static_row}
+use Rattle.jvm_types.specs.declared.op_row.Want.{Want}
+use Rattle.jvm_types.specs.declared.op_row.Want.TheVariants.{AnObject, ToStart}
+use Rattle.jvm_types.specs.declared.op_row.OpRow.{OpRow}
 use Rattle.jvm_types.specs.Members.{Site, is_static, is_init_name, is_class_init_name}
 use Rattle.jvm_types.specs.ProgramInvariant.{IsTargetOf, site_in}
 use Rattle.jvm_types.specs.Types.{Shape, shapes_of}

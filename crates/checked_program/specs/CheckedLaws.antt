@@ -2,7 +2,9 @@
 use Rattle.std.specs.Prelude.{◌≡◌, ℕ, ◌+◌, ◌≤◌, Bool, true, false, ◌&&◌, ◌||◌, List, length, map, reverse, take, Option, Some, slice_get}
 use Rattle.std.specs.List.{find}
 use Rattle.jvm_types.specs.ClassTree.{is_subclass}
-use Rattle.jvm_types.specs.CodeTable.{Want, AnObject, ToStart, type_of, is_init, row}
+use Rattle.jvm_types.specs.CodeTable.{type_of, is_init, row}
+use Rattle.jvm_types.specs.declared.op_row.Want.{Want}
+use Rattle.jvm_types.specs.declared.op_row.Want.TheVariants.{AnObject, ToStart}
 use Rattle.jvm_types.specs.Members.{is_static}
 use Rattle.jvm_types.specs.ProgramInvariant.{IsTargetOf, site_in}
 use Rattle.jvm_types.specs.Types.{Shape, is_below, all_pairs, shapes_of}

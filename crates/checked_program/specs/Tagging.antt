@@ -2,7 +2,8 @@
 -- on. It accepts methods whose locking is structured (JVMS 2.11.10, which leaves it open to enforce that).
 use Rattle.std.specs.Prelude.{◌≡◌, ℕ, Bool, true, false, not, ◌&&◌, ◌||◌, ◌==◌, if◌then◌else◌, List, [], ◌∷◌, ◌++◌, length, map, drop, Option, Some, slice_get}
 use Rattle.std.specs.List.{list_any, AllByRecursion}
-use Rattle.jvm_types.specs.CodeTable.{OpRow, row, can_throw, stack_after, locals_after}
+use Rattle.jvm_types.specs.CodeTable.{row, can_throw, stack_after, locals_after}
+use Rattle.jvm_types.specs.declared.op_row.OpRow.{OpRow}
 use Rattle.jvm_types.specs.Verifying.{edges, covering, is_return}
 use Rattle.jvm_types.specs.declared.code.Insn.{Insn}
 use Rattle.jvm_types.specs.declared.code.Op.{Op}

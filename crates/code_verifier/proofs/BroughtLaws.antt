@@ -8,7 +8,7 @@ use Rattle.jvm_types.specs.Verifying.{Node, node_at, node_joined, brought}
 use Rattle.jvm_types.specs.declared.code.Insn.{Insn}
 use Rattle.jvm_types.specs.declared.typing.VType.{VType}
 use Rattle.jvm_types.specs.declared.program.MethodInfo.{MethodInfo}
-use Rattle.code_verifier.specs.Placing.{place_of}
+use Rattle.code_table.specs.PcTables.{number_at}
 use Rattle.code_verifier.specs.Visiting.{HasLocals, AreLevel}
 
 -- ---- an edge, by the number of the instruction
@@ -21,19 +21,19 @@ one_on : (o : Option ℕ) (node : Node) (f : Shape) (nodes : List Node) → node
 one_on None node f nodes = refl
 one_on (Some i) node f nodes = refl
 
-pub brought_at : (code : List Insn) (to : ℕ) (f : Shape) (nodes : List Node) → length nodes ≡ length code → brought code to f nodes ≡ at_place (place_of code to) f nodes
+pub brought_at : (code : List Insn) (to : ℕ) (f : Shape) (nodes : List Node) → length nodes ≡ length code → brought code to f nodes ≡ at_place (number_at code to) f nodes
 brought_at [] to f nodes e = refl
 brought_at (insn ∷ insns) to f [] e = absurd (omega (arith, e))
 brought_at (insn ∷ insns) to f (node ∷ nodes) e = by_test (insn.pc == to) (brought_at insns to f nodes (omega (arith, e)))
   where
-    by_test : (t : Bool) → brought insns to f nodes ≡ at_place (place_of insns to) f nodes
-        → (if t then node_joined node node.frame f ∷ nodes else node ∷ brought insns to f nodes) ≡ at_place (if t then Some 0 else option_map suc (place_of insns to)) f (node ∷ nodes)
+    by_test : (t : Bool) → brought insns to f nodes ≡ at_place (number_at insns to) f nodes
+        → (if t then node_joined node node.frame f ∷ nodes else node ∷ brought insns to f nodes) ≡ at_place (if t then Some 0 else option_map suc (number_at insns to)) f (node ∷ nodes)
     by_test true h = refl
-    by_test false h = ap (λ l. node ∷ l) h ∙ one_on (place_of insns to) node f nodes
+    by_test false h = ap (λ l. node ∷ l) h ∙ one_on (number_at insns to) node f nodes
 
-pub place_inside : (code : List Insn) (pc i : ℕ) → place_of code pc ≡ Some i → i < length code
+pub place_inside : (code : List Insn) (pc i : ℕ) → number_at code pc ≡ Some i → i < length code
 place_inside [] pc i e = absurd (cc)
-place_inside (insn ∷ insns) pc i e = by_test (insn.pc == pc) (place_of insns pc) e (place_inside insns pc)
+place_inside (insn ∷ insns) pc i e = by_test (insn.pc == pc) (number_at insns pc) e (place_inside insns pc)
   where
     by_test : (t : Bool) (o : Option ℕ) → (if t then Some 0 else option_map suc o) ≡ Some i → ((j : ℕ) → o ≡ Some j → j < length insns) → i < suc (length insns)
     by_test true o e h = let same : 0 ≡ i = cc in omega (arith, same)

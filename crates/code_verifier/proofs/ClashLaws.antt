@@ -9,10 +9,10 @@ use Rattle.jvm_types.specs.Types.{Shape, meets}
 use Rattle.jvm_types.specs.Verifying.{Node, node_at, node_joined, brought, has_other_depth, clash}
 use Rattle.jvm_types.specs.declared.code.Insn.{Insn}
 use Rattle.jvm_types.specs.declared.program.MethodInfo.{MethodInfo}
-use Rattle.code_verifier.specs.Placing.{place_of, Ascend}
+use Rattle.code_table.specs.PcTables.{number_at, Ascend}
 use Rattle.code_verifier.specs.Waiting.{Fits}
 use Rattle.code_verifier.specs.Visiting.{HasLocals, AreLevel, lesser, clash_place}
-use Rattle.code_verifier.proofs.PlaceLaws.{same_number, other_number}
+use Rattle.code_table.proofs.PcLaws.{same_number, other_number}
 use Rattle.code_verifier.proofs.BroughtLaws.{meets_length}
 
 -- ---- the least pc of several
@@ -103,19 +103,19 @@ no_node : (o : Option ℕ) (to depth : ℕ) → None ≡ clash_place o to depth 
 no_node None to depth = refl
 no_node (Some i) to depth = refl
 
-pub clash_at : (low : ℕ) (code : List Insn) (to depth : ℕ) (nodes : List Node) → Ascend low code → clash code (to ∷ []) depth nodes ≡ clash_place (place_of code to) to depth nodes
+pub clash_at : (low : ℕ) (code : List Insn) (to depth : ℕ) (nodes : List Node) → Ascend low code → clash code (to ∷ []) depth nodes ≡ clash_place (number_at code to) to depth nodes
 clash_at low [] to depth nodes a = refl
-clash_at low (insn ∷ insns) to depth [] a = no_node (place_of (insn ∷ insns) to) to depth
+clash_at low (insn ∷ insns) to depth [] a = no_node (number_at (insn ∷ insns) to) to depth
 clash_at low (insn ∷ insns) to depth (node ∷ nodes) a = by_pc (cases_eq insn.pc to) (clash_at (suc insn.pc) insns to depth nodes a.1)
   where
     by_depth : insn.pc ≡ to → (t : Bool) → clash insns (to ∷ []) depth nodes ≡ None → (if t then Some insn.pc else clash insns (to ∷ []) depth nodes) ≡ (if t then Some to else None)
     by_depth e true h = ap Some e
     by_depth e false h = h
 
-    by_pc : (insn.pc ≡ to) ⊎ (insn.pc ≢ to) → clash insns (to ∷ []) depth nodes ≡ clash_place (place_of insns to) to depth nodes
-        → clash (insn ∷ insns) (to ∷ []) depth (node ∷ nodes) ≡ clash_place (place_of (insn ∷ insns) to) to depth (node ∷ nodes)
+    by_pc : (insn.pc ≡ to) ⊎ (insn.pc ≢ to) → clash insns (to ∷ []) depth nodes ≡ clash_place (number_at insns to) to depth nodes
+        → clash (insn ∷ insns) (to ∷ []) depth (node ∷ nodes) ≡ clash_place (number_at (insn ∷ insns) to) to depth (node ∷ nodes)
     by_pc (inl e) h = rw (same_number to insn.pc (sym e), same_number insn.pc to e) (by_depth e (has_other_depth node.frame depth) (no_clash_behind (suc insn.pc) insns to depth nodes a.1 (omega (arith, e))))
-    by_pc (inr e) h = rw (other_number to insn.pc (λ f. e (sym f)), other_number insn.pc to e) (h ∙ one_on (place_of insns to) to depth node nodes)
+    by_pc (inr e) h = rw (other_number to insn.pc (λ f. e (sym f)), other_number insn.pc to e) (h ∙ one_on (number_at insns to) to depth node nodes)
 
 -- ---- where none clashes
 
@@ -133,7 +133,7 @@ fits_frame m (Some g) f to e h k = by_depth (cases_eq (length g.stack) (length f
     by_depth (inl d) e = (d, h ∙ sym k)
     by_depth (inr d) e = let wrong : Some to ≡ None = rw (other_number (length g.stack) (length f.stack) d) at e in absurd (cc)
 
-pub fits_at : (m : MethodInfo) (nodes : List Node) (to i : ℕ) (f : Shape) → Ascend 0 m.code → AreLevel m nodes → HasLocals m f → clash m.code (to ∷ []) (length f.stack) nodes ≡ None → place_of m.code to ≡ Some i
+pub fits_at : (m : MethodInfo) (nodes : List Node) (to i : ℕ) (f : Shape) → Ascend 0 m.code → AreLevel m nodes → HasLocals m f → clash m.code (to ∷ []) (length f.stack) nodes ≡ None → number_at m.code to ≡ Some i
     → Fits (node_at nodes i).frame f
 fits_at m nodes to i f a level k e p = fits_frame m (node_at nodes i).frame f to
     (ap (λ o. clash_place o to (length f.stack) nodes) (sym p) ∙ sym (clash_at 0 m.code to (length f.stack) nodes a) ∙ e) (wide_at m nodes i level.wide) k

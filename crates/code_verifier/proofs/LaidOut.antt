@@ -14,22 +14,11 @@ use Rattle.jvm_types.specs.declared.code.Insn.{Insn}
 use Rattle.jvm_types.specs.declared.program.Row.{Row}
 use Rattle.jvm_types.specs.declared.program.MethodInfo.{MethodInfo}
 use Rattle.jvm_types.specs.declared.program.Program.{Program}
-use Rattle.code_verifier.specs.Placing.{Ascend}
+use Rattle.code_table.specs.PcTables.{Ascend}
 use Rattle.code_verifier.specs.Waiting.{unreached}
 use Rattle.code_verifier.specs.Visiting.{HasLocals, AreLevel}
 
 -- ---- the code
-
-front_some : (pc : ℕ) (insn : Insn) (front : List ℕ) → SpellsOp pc insn.op front → 0 < length front
-front_some pc insn front s = omega (arith, ap length s.is)
-
-spelled_ascend : (low pc : ℕ) (insns : List Insn) (bytes : List ℕ) → low ≤ pc → SpellsInsns pc insns bytes → Ascend low insns
-spelled_ascend low pc [] bytes h s = tt
-spelled_ascend low pc (insn ∷ insns) bytes h (front, rest, e, at, next, op, more) =
-    (omega (arith, h, at), spelled_ascend (suc insn.pc) insn.next insns rest (omega (arith, at, next, front_some pc insn front op)) more)
-
-pub ascend : (m : MethodInfo) → IsLaidOut m → Ascend 0 m.code
-ascend m laid = spelled_ascend 0 0 m.code laid.bytes (omega arith) laid.code.spelled
 
 rows_turned : (handlers : List Handler) (rows : List Row) → AllZip IsRowOf handlers rows → AllZip (λ (r : Row) (h : Handler). (r.start ≡ h.start) × (r.end ≡ h.end) × (r.handler ≡ h.handler)) rows handlers
 rows_turned [] [] all = all

@@ -1,6 +1,6 @@
 -- The two faults of a value that is taken or read.
 use Rattle.std.specs.Prelude.{ℕ, Bool, not, List, Option, Some, None, slice_get}
-use Rattle.jvm_types.specs.CodeTable.{Want}
+use Rattle.jvm_types.specs.declared.op_row.Want.{Want}
 use Rattle.jvm_types.specs.Verifying.{misuses, suits}
 use Rattle.jvm_types.specs.declared.typing.VType.{VType}
 use Rattle.jvm_types.specs.declared.program.Target.{Target}
@@ -12,12 +12,3 @@ use Rattle.code_verifier.specs.declared.operands.Fault.TheVariants.{Misuse, Mist
 abbrev pub has_fault : MethodInfo → Fault → Want → VType → Bool
 has_fault m Misuse want t = misuses m want t
 has_fault m Mistype want t = not (suits m want t)
-
--- the class that a target names, and one that the target of this number names
-abbrev pub class_named : Option Target → Option ℕ
-class_named (Some (Class class)) = Some class
-class_named target = None
-
-abbrev pub class_at : List Target → Option ℕ → Option ℕ
-class_at targets None = None
-class_at targets (Some i) = class_named (slice_get targets i)

@@ -1,6 +1,4 @@
 pub mod Frames
-pub mod OpRows
-pub mod Placing
 pub mod Faults
 pub mod Waiting
 pub mod Visiting

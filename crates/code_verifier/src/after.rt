@@ -1,20 +1,17 @@
 //! The frame after an instruction.
 
 ghost use Rattle.std.specs.Prelude.{◌≡◌, [], ◌∷◌, ◌++◌, map, drop, length, IfOk, OnOk};
-ghost use Rattle.std.specs.Option.{option_map};
 ghost use Rattle.jvm_types.specs.CodeTable.{value_of, stack_after, locals_after};
 ghost use Rattle.jvm_types.specs.Verifying.{started, after_start, shape_after};
 ghost use Rattle.jvm_types.specs.declared.typing.VType.TheVariants.{Top};
-ghost use Rattle.code_verifier.specs.OpRows.{want_is, given_is, write_is, row_is};
 
 use crate::frame::Frame;
-use crate::op_row::{Given, OpRow, Want};
-use jvm_types::{MethodInfo, VType};
+use jvm_types::{Given, MethodInfo, OpRow, VType, Want};
 use std::alloc::{AllocError, Global};
 
 /// The type of a value that is pushed, or written to a local.
 fn type_given(given: Given, f: &Frame) -> VType
-    ensures { result ≡ value_of Top (λ t. t) f.now.stack f.now.locals (given_is given) }
+    ensures { result ≡ value_of Top (λ t. t) f.now.stack f.now.locals given }
 {
     match given {
         Given::Fresh(t) => t,
@@ -25,7 +22,7 @@ fn type_given(given: Given, f: &Frame) -> VType
 
 /// Pushes what an instruction leaves, the last first.
 fn push_all(after: &mut Frame, gives: &[Given], f: &Frame) -> Result<(), AllocError>
-    ensures { OnOk result (after.new ≡ record after.old { stack = map (λ given. value_of Top (λ t. t) f.now.stack f.now.locals (given_is given)) gives.now ++ after.old.stack }) }
+    ensures { OnOk result (after.new ≡ record after.old { stack = map (λ given. value_of Top (λ t. t) f.now.stack f.now.locals given) gives.now ++ after.old.stack }) }
 {
     for i in (0..gives.len()).rev() {
         after.push(type_given(gives[i], f))?;
@@ -35,7 +32,7 @@ fn push_all(after: &mut Frame, gives: &[Given], f: &Frame) -> Result<(), AllocEr
 
 /// The value, where an `<init>` is called on it, and its class. `own` is the class of the method.
 fn started_here(own: u16, want: Want, t: VType) -> Option<(VType, u16)>
-    ensures { result ≡ started own (want_is want ∷ []) (t ∷ []) }
+    ensures { result ≡ started own (want ∷ []) (t ∷ []) }
 {
     match (want, t) {
         (Want::ToStart(_), VType::This) => Some((t, own)),
@@ -46,7 +43,7 @@ fn started_here(own: u16, want: Want, t: VType) -> Option<(VType, u16)>
 
 /// The object that an `<init>` is called on, and its class.
 fn started(own: u16, takes: &[Want], f: &Frame) -> Option<(VType, u16)>
-    ensures { result ≡ started own (map want_is takes.now) f.now.stack }
+    ensures { result ≡ started own takes.now f.now.stack }
 {
     for (place, want) in takes.iter().enumerate() {
         let Some(t) = f.value(place) else {
@@ -62,7 +59,7 @@ fn started(own: u16, takes: &[Want], f: &Frame) -> Option<(VType, u16)>
 /// Writes the local of a row.
 fn write_local(after: &mut Frame, writes: Option<(u16, Given)>, f: &Frame)
     requires { after.old.locals ≡ f.now.locals }
-    ensures { after.new ≡ record after.old { locals = locals_after Top (λ t. t) (option_map write_is writes) f.now.stack f.now.locals } }
+    ensures { after.new ≡ record after.old { locals = locals_after Top (λ t. t) writes f.now.stack f.now.locals } }
 {
     if let Some((i, given)) = writes {
         after.set_local(usize::from(i), type_given(given, f));
@@ -84,11 +81,11 @@ pub fn shape_after(
     row: &OpRow,
     f: &Frame,
 ) -> Result<Frame, AllocError>
-    ensures { IfOk result (λ after. after ≡ shape_after m.now (row_is row.now) f.now) }
+    ensures { IfOk result (λ after. after ≡ shape_after m.now row.now f.now) }
 {
     let mut after = f.without(alloc, row.takes.len())?;
-    push_all(&mut after, &row.gives, f)?;
+    push_all(&mut after, row.gives.as_slice(), f)?;
     write_local(&mut after, row.writes, f);
-    start_object(&mut after, started(m.class, &row.takes, f));
+    start_object(&mut after, started(m.class, row.takes.as_slice(), f));
     Ok(after)
 }

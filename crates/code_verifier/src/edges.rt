@@ -2,13 +2,11 @@
 
 ghost use Rattle.std.specs.Prelude.{◌≡◌, [], ◌∷◌, length, None, Option, ℕ, OnOk};
 ghost use Rattle.jvm_types.specs.Verifying.{node_at, brought, all_brought, has_other_depth, clash};
-ghost use Rattle.code_verifier.specs.Placing.{Ascend, ArePlaces};
 ghost use Rattle.code_verifier.specs.Visiting.{HasLocals, AreLevel, lesser, clash_place};
 
 use crate::frame::Frame;
 use crate::nodes::Nodes;
-use crate::places::Places;
-use jvm_types::MethodInfo;
+use code_table::IndexedMethod;
 use std::alloc::{AllocError, Global};
 
 fn lesser(pc: Option<u32>, other: Option<u32>) -> Option<u32>
@@ -48,29 +46,26 @@ fn clash_place(nodes: &Nodes, number: Option<usize>, to: u32, depth: usize) -> O
 }
 
 /// The pc that an edge leads to, where the frame there is of another depth.
-fn clash_at(m: &MethodInfo, places: &Places, nodes: &Nodes, to: u32, depth: usize) -> Option<u32>
-    requires places { ArePlaces m.now.code places.now }
-    requires ascend { Ascend 0 m.now.code }
+fn clash_at(m: &IndexedMethod<'_>, nodes: &Nodes, to: u32, depth: usize) -> Option<u32>
     ensures { result ≡ clash m.now.code (to ∷ []) depth nodes.now }
 {
-    clash_place(nodes, places.find(to), to, depth)
+    m.laid_out();
+    clash_place(nodes, m.find(to), to, depth)
 }
 
 /// The first of the instructions that edges lead to whose frame is of another depth.
 pub fn clash(
-    m: &MethodInfo,
-    places: &Places,
+    m: &IndexedMethod<'_>,
     nodes: &Nodes,
     tos: &[u32],
     depth: usize,
 ) -> Option<u32>
-    requires places { ArePlaces m.now.code places.now }
-    requires ascend { Ascend 0 m.now.code }
     ensures { result ≡ clash m.now.code tos.now depth nodes.now }
 {
+    m.laid_out();
     let mut least = None;
     for to in tos {
-        least = lesser(least, clash_at(m, places, nodes, *to, depth));
+        least = lesser(least, clash_at(m, nodes, *to, depth));
     }
     least
 }
@@ -78,20 +73,18 @@ pub fn clash(
 /// An edge brings a frame to the instruction at a pc.
 pub fn bring(
     alloc: Global,
-    m: &MethodInfo,
-    places: &Places,
+    m: &IndexedMethod<'_>,
     nodes: &mut Nodes,
     to: u32,
     f: &Frame,
 ) -> Result<(), AllocError>
-    requires places { ArePlaces m.now.code places.now }
-    requires ascend { Ascend 0 m.now.code }
     requires level { AreLevel m.now nodes.old }
     requires locals { HasLocals m.now f.now }
     requires depth { clash m.now.code (to ∷ []) (length f.now.stack) nodes.old ≡ None }
     ensures { OnOk result (nodes.new ≡ brought m.now.code to f.now nodes.old) }
 {
-    match places.find(to) {
+    m.laid_out();
+    match m.find(to) {
         Some(i) => nodes.bring(alloc, i, f),
         None => Ok(()),
     }
@@ -100,22 +93,20 @@ pub fn bring(
 /// Edges bring a frame to the instructions at these pcs.
 pub fn bring_all(
     alloc: Global,
-    m: &MethodInfo,
-    places: &Places,
+    m: &IndexedMethod<'_>,
     nodes: &mut Nodes,
     tos: &[u32],
     f: &Frame,
 ) -> Result<(), AllocError>
-    requires places { ArePlaces m.now.code places.now }
-    requires ascend { Ascend 0 m.now.code }
     requires level { AreLevel m.now nodes.old }
     requires locals { HasLocals m.now f.now }
     requires depth { clash m.now.code tos.now (length f.now.stack) nodes.old ≡ None }
     ensures brought { OnOk result (nodes.new ≡ all_brought m.now.code tos.now f.now nodes.old) }
     ensures level { OnOk result (AreLevel m.now nodes.new) }
 {
+    m.laid_out();
     for to in tos {
-        bring(alloc, m, places, nodes, *to, f)?;
+        bring(alloc, m, nodes, *to, f)?;
     }
     Ok(())
 }

@@ -6,8 +6,8 @@ ghost use Rattle.jvm_types.specs.CodeTable.{type_of};
 ghost use Rattle.jvm_types.specs.Types.{filled, receiver_types, entry_shape};
 
 use crate::frame::Frame;
-use crate::member_rows::{is_init, type_of};
 use crate::stack::Stack;
+use code_table::{is_init, type_of};
 use jvm_types::{Kind, MethodInfo, Rows, VType};
 use std::alloc::{AllocError, Global};
 

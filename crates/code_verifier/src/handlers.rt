@@ -2,16 +2,15 @@
 
 ghost use Rattle.std.specs.Prelude.{◌≡◌, ◌∷◌, [], OnOk};
 ghost use Rattle.jvm_types.specs.Verifying.{caught_class, catch_fault, covering, handled};
-ghost use Rattle.code_verifier.specs.Placing.{Ascend, ArePlaces};
 ghost use Rattle.code_verifier.specs.Visiting.{HasLocals, AreLevel, Leaves, caught};
 
-use crate::classes::{THROWABLE, is_subclass};
 use crate::edges::{bring, clash};
 use crate::error::VerifyError;
 use crate::frame::Frame;
 use crate::nodes::Nodes;
-use crate::places::Places;
 use crate::rules::covers;
+use code_table::{IndexedMethod, is_subclass};
+use jvm_types::class_numbers::THROWABLE_CLASS;
 use jvm_types::{MethodInfo, Row, VRule};
 use std::alloc::Global;
 
@@ -20,7 +19,7 @@ fn caught_class(row: &Row) -> u16
     ensures { result ≡ caught_class row.now }
 {
     if row.catch_class == 0 {
-        THROWABLE
+        THROWABLE_CLASS
     } else {
         row.catch_class
     }
@@ -32,7 +31,7 @@ fn catch_fault(m: &MethodInfo, pc: u32, row: &Row) -> Option<(VRule, u32)>
 {
     if m.max_stack == 0 {
         Some((VRule::V2, pc))
-    } else if !is_subclass(caught_class(row), THROWABLE) {
+    } else if !is_subclass(caught_class(row), THROWABLE_CLASS) {
         Some((VRule::V4, row.handler))
     } else {
         None
@@ -42,50 +41,44 @@ fn catch_fault(m: &MethodInfo, pc: u32, row: &Row) -> Option<(VRule, u32)>
 /// The edge to the handler of a row that covers a pc.
 fn catch_row(
     alloc: Global,
-    m: &MethodInfo,
-    places: &Places,
+    m: &IndexedMethod<'_>,
     nodes: &mut Nodes,
     pc: u32,
     f: &Frame,
     row: &Row,
 ) -> Result<(), VerifyError>
-    requires places { ArePlaces m.now.code places.now }
-    requires ascend { Ascend 0 m.now.code }
     requires level { AreLevel m.now nodes.old }
     requires locals { HasLocals m.now f.now }
     ensures left { Leaves (caught m.now pc f.now row.now nodes.old) nodes.new result }
     ensures level { OnOk result (AreLevel m.now nodes.new) }
 {
-    if let Some((rule, at)) = catch_fault(m, pc, row) {
+    if let Some((rule, at)) = catch_fault(m.method(), pc, row) {
         return Err(VerifyError::Refused(rule, at));
     }
-    if let Some(at) = clash(m, places, nodes, &[row.handler], 1) {
+    if let Some(at) = clash(m, nodes, &[row.handler], 1) {
         return Err(VerifyError::Refused(VRule::V5, at));
     }
     let at_handler = f.with_object(alloc, caught_class(row))?;
-    bring(alloc, m, places, nodes, row.handler, &at_handler)?;
+    bring(alloc, m, nodes, row.handler, &at_handler)?;
     Ok(())
 }
 
 /// The edges to the handlers of the rows that cover a pc, row by row.
 pub fn handle(
     alloc: Global,
-    m: &MethodInfo,
-    places: &Places,
+    m: &IndexedMethod<'_>,
     nodes: &mut Nodes,
     pc: u32,
     f: &Frame,
 ) -> Result<(), VerifyError>
-    requires places { ArePlaces m.now.code places.now }
-    requires ascend { Ascend 0 m.now.code }
     requires level { AreLevel m.now nodes.old }
     requires locals { HasLocals m.now f.now }
     ensures left { Leaves (handled m.now pc f.now (covering m.now pc) nodes.old) nodes.new result }
     ensures level { OnOk result (AreLevel m.now nodes.new) }
 {
-    for row in m.rows.as_slice() {
+    for row in m.method().rows.as_slice() {
         if covers(pc, row) {
-            catch_row(alloc, m, places, nodes, pc, f, row)?;
+            catch_row(alloc, m, nodes, pc, f, row)?;
         }
     }
     Ok(())

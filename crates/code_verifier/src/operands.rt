@@ -1,18 +1,14 @@
 //! The values that an instruction takes and reads: whether they are misused, and whether their types fit.
 
-ghost use Rattle.std.specs.Prelude.{◌≡◌, not, map};
-ghost use Rattle.std.specs.Option.{option_map};
-ghost use Rattle.jvm_types.specs.Verifying.{new_class, misuses, suits, some_taken, some_read, some_operand};
-ghost use Rattle.code_verifier.specs.Placing.{Ascend, ArePlaces};
-ghost use Rattle.code_verifier.specs.OpRows.{want_is, read_is, row_is};
-ghost use Rattle.code_verifier.specs.Faults.{has_fault, class_at};
+ghost use Rattle.std.specs.Prelude.{◌≡◌, not};
+ghost use Rattle.jvm_types.specs.Verifying.{misuses, suits, some_taken, some_read, some_operand};
+ghost use Rattle.code_verifier.specs.Faults.{has_fault};
 
-use crate::classes::OBJECT;
 use crate::frame::Frame;
-use crate::op_row::{OpRow, Want};
-use crate::places::Places;
 use crate::types::{is_below, is_uninitialised};
-use jvm_types::{MethodInfo, Target, VType};
+use code_table::IndexedMethod;
+use jvm_types::class_numbers::OBJECT_CLASS;
+use jvm_types::{MethodInfo, OpRow, VType, Want};
 
 /// What can be wrong with a value.
 #[derive(Clone, Copy, Debug, PartialEq, Eq)]
@@ -23,27 +19,8 @@ pub enum Fault {
     Mistype,
 }
 
-/// The class that the target of this number names.
-fn class_at(targets: &[Target], number: Option<usize>) -> Option<u16>
-    ensures { result ≡ class_at targets.now number }
-{
-    match targets.get(number?) {
-        Some(Target::Class(class)) => Some(*class),
-        _ => None,
-    }
-}
-
-/// The class that the `new` at a pc names.
-fn new_class(m: &MethodInfo, places: &Places, pc: u32) -> Option<u16>
-    requires places { ArePlaces m.now.code places.now }
-    requires ascend { Ascend 0 m.now.code }
-    ensures { result ≡ new_class m.now.code m.now.targets pc }
-{
-    class_at(m.targets.as_slice(), places.find(pc))
-}
-
 fn misuses(m: &MethodInfo, want: Want, t: VType) -> bool
-    ensures { result ≡ misuses m.now (want_is want) t }
+    ensures { result ≡ misuses m.now want t }
 {
     match (want, t) {
         (Want::AnyValue | Want::AnyReference, _) => false,
@@ -53,43 +30,37 @@ fn misuses(m: &MethodInfo, want: Want, t: VType) -> bool
     }
 }
 
-fn suits(m: &MethodInfo, places: &Places, want: Want, t: VType) -> bool
-    requires places { ArePlaces m.now.code places.now }
-    requires ascend { Ascend 0 m.now.code }
-    ensures { result ≡ suits m.now (want_is want) t }
+fn suits(m: &IndexedMethod<'_>, want: Want, t: VType) -> bool
+    ensures { result ≡ suits m.now want t }
 {
     match (want, t) {
         (Want::AnyValue, _) => true,
         (Want::AnInt, _) => is_below(t, VType::Int),
-        (Want::AnyReference, _) => is_uninitialised(t) || is_below(t, VType::Ref(OBJECT)),
-        (Want::AHolder(class), VType::This) => class == m.class,
+        (Want::AnyReference, _) => is_uninitialised(t) || is_below(t, VType::Ref(OBJECT_CLASS)),
+        (Want::AHolder(class), VType::This) => class == m.method().class,
         (Want::AnObject(class) | Want::AHolder(class), _) => is_below(t, VType::Ref(class)),
-        (Want::ToStart(class), VType::This) => class == m.class || class == OBJECT,
-        (Want::ToStart(class), VType::New(pc)) => new_class(m, places, pc) == Some(class),
+        (Want::ToStart(class), VType::This) => class == m.method().class || class == OBJECT_CLASS,
+        (Want::ToStart(class), VType::New(pc)) => m.new_class(pc) == Some(class),
         (Want::ToStart(_), _) => false,
     }
 }
 
-fn has_fault(m: &MethodInfo, places: &Places, fault: Fault, want: Want, t: VType) -> bool
-    requires places { ArePlaces m.now.code places.now }
-    requires ascend { Ascend 0 m.now.code }
-    ensures { result ≡ has_fault m.now fault (want_is want) t }
+fn has_fault(m: &IndexedMethod<'_>, fault: Fault, want: Want, t: VType) -> bool
+    ensures { result ≡ has_fault m.now fault want t }
 {
     match fault {
-        Fault::Misuse => misuses(m, want, t),
-        Fault::Mistype => !suits(m, places, want, t),
+        Fault::Misuse => misuses(m.method(), want, t),
+        Fault::Mistype => !suits(m, want, t),
     }
 }
 
-fn some_taken(m: &MethodInfo, places: &Places, fault: Fault, takes: &[Want], f: &Frame) -> bool
-    requires places { ArePlaces m.now.code places.now }
-    requires ascend { Ascend 0 m.now.code }
-    ensures { result ≡ some_taken (has_fault m.now fault) (map want_is takes.now) f.now.stack }
+fn some_taken(m: &IndexedMethod<'_>, fault: Fault, takes: &[Want], f: &Frame) -> bool
+    ensures { result ≡ some_taken (has_fault m.now fault) takes.now f.now.stack }
 {
     for (place, want) in takes.iter().enumerate() {
         match f.value(place) {
             Some(t) => {
-                if has_fault(m, places, fault, *want, t) {
+                if has_fault(m, fault, *want, t) {
                     return true;
                 }
             }
@@ -100,30 +71,25 @@ fn some_taken(m: &MethodInfo, places: &Places, fault: Fault, takes: &[Want], f: 
 }
 
 fn some_read(
-    m: &MethodInfo,
-    places: &Places,
+    m: &IndexedMethod<'_>,
     fault: Fault,
     reads: Option<(u16, Want)>,
     f: &Frame,
 ) -> bool
-    requires places { ArePlaces m.now.code places.now }
-    requires ascend { Ascend 0 m.now.code }
-    ensures { result ≡ some_read (has_fault m.now fault) (option_map read_is reads) f.now.locals }
+    ensures { result ≡ some_read (has_fault m.now fault) reads f.now.locals }
 {
     let Some((i, want)) = reads else {
         return false;
     };
     match f.local(usize::from(i)) {
-        Some(t) => has_fault(m, places, fault, want, t),
+        Some(t) => has_fault(m, fault, want, t),
         None => false,
     }
 }
 
 /// Whether some value that is taken, or the local that is read, has the fault.
-pub fn some_operand(m: &MethodInfo, places: &Places, fault: Fault, row: &OpRow, f: &Frame) -> bool
-    requires places { ArePlaces m.now.code places.now }
-    requires ascend { Ascend 0 m.now.code }
-    ensures { result ≡ some_operand (has_fault m.now fault) (row_is row.now) f.now }
+pub fn some_operand(m: &IndexedMethod<'_>, fault: Fault, row: &OpRow, f: &Frame) -> bool
+    ensures { result ≡ some_operand (has_fault m.now fault) row.now f.now }
 {
-    some_taken(m, places, fault, &row.takes, f) || some_read(m, places, fault, row.reads, f)
+    some_taken(m, fault, row.takes.as_slice(), f) || some_read(m, fault, row.reads, f)
 }

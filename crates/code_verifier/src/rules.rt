@@ -1,36 +1,31 @@
 //! The rules at one instruction (JVMS 4.10.2).
 
 ghost use Rattle.std.specs.Prelude.{◌≡◌, ◌==◌};
-ghost use Rattle.std.specs.Option.{option_map};
 ghost use Rattle.std.specs.List.{list_any};
 ghost use Rattle.jvm_types.specs.Verifying.{takes_too_many, gives_too_many, names_no_local, lacks_locals, covers, is_return, misuses_object, mistypes, returns_wrongly, falls_off, broken_before, broken_after};
-ghost use Rattle.code_verifier.specs.Placing.{Ascend, ArePlaces};
-ghost use Rattle.code_verifier.specs.OpRows.{read_is, write_is, row_is};
 
 use crate::frame::Frame;
-use crate::op_row::{Given, OpRow, Want};
 use crate::operands::{Fault, some_operand};
-use crate::places::Places;
-use crate::ways::{falls_through, goes_back};
-use jvm_types::{Insn, Kind, MethodInfo, Op, Row, VRule};
+use code_table::{IndexedMethod, falls_through, goes_back};
+use jvm_types::{Given, Insn, Kind, MethodInfo, Op, OpRow, Row, VRule, Want};
 
 /// V1: the stack has too few values.
 fn takes_too_many(row: &OpRow, f: &Frame) -> bool
-    ensures { result ≡ takes_too_many (row_is row.now) f.now }
+    ensures { result ≡ takes_too_many row.now f.now }
 {
     f.depth() < row.takes.len()
 }
 
 /// V2: the stack would pass `max_stack`.
 fn gives_too_many(m: &MethodInfo, row: &OpRow, f: &Frame) -> bool
-    ensures { result ≡ gives_too_many m.now (row_is row.now) f.now }
+    ensures { result ≡ gives_too_many m.now row.now f.now }
 {
     let left = f.depth().saturating_sub(row.takes.len());
     usize::from(m.max_stack) < left.saturating_add(row.gives.len())
 }
 
 fn reads_no_local(m: &MethodInfo, reads: Option<(u16, Want)>) -> bool
-    ensures { result ≡ names_no_local m.now (option_map read_is reads) }
+    ensures { result ≡ names_no_local m.now reads }
 {
     match reads {
         Some((i, _)) => m.max_locals <= i,
@@ -39,7 +34,7 @@ fn reads_no_local(m: &MethodInfo, reads: Option<(u16, Want)>) -> bool
 }
 
 fn writes_no_local(m: &MethodInfo, writes: Option<(u16, Given)>) -> bool
-    ensures { result ≡ names_no_local m.now (option_map write_is writes) }
+    ensures { result ≡ names_no_local m.now writes }
 {
     match writes {
         Some((i, _)) => m.max_locals <= i,
@@ -49,7 +44,7 @@ fn writes_no_local(m: &MethodInfo, writes: Option<(u16, Given)>) -> bool
 
 /// V3: a local at or above `max_locals`, or arguments that do not fit there.
 fn lacks_locals(m: &MethodInfo, row: &OpRow, f: &Frame) -> bool
-    ensures { result ≡ lacks_locals m.now (row_is row.now) f.now }
+    ensures { result ≡ lacks_locals m.now row.now f.now }
 {
     reads_no_local(m, row.reads)
         || writes_no_local(m, row.writes)
@@ -76,24 +71,20 @@ fn is_return(op: &Op) -> bool
 }
 
 /// V7: an uninitialised object is misused.
-fn misuses_object(m: &MethodInfo, places: &Places, insn: &Insn, row: &OpRow, f: &Frame) -> bool
-    requires places { ArePlaces m.now.code places.now }
-    requires ascend { Ascend 0 m.now.code }
-    ensures { result ≡ misuses_object m.now insn.now (row_is row.now) f.now }
+fn misuses_object(m: &IndexedMethod<'_>, insn: &Insn, row: &OpRow, f: &Frame) -> bool
+    ensures { result ≡ misuses_object m.now insn.now row.now f.now }
 {
-    some_operand(m, places, Fault::Misuse, row, f)
+    some_operand(m, Fault::Misuse, row, f)
         || (goes_back(insn.pc, &insn.op) && f.has_uninitialised())
-        || (is_covered(insn.pc, m.rows.as_slice()) && f.has_new_local())
+        || (is_covered(insn.pc, m.method().rows.as_slice()) && f.has_new_local())
         || (is_return(&insn.op) && !f.is_ready())
 }
 
 /// V4: a value of another type.
-fn mistypes(m: &MethodInfo, places: &Places, row: &OpRow, f: &Frame) -> bool
-    requires places { ArePlaces m.now.code places.now }
-    requires ascend { Ascend 0 m.now.code }
-    ensures { result ≡ mistypes m.now (row_is row.now) f.now }
+fn mistypes(m: &IndexedMethod<'_>, row: &OpRow, f: &Frame) -> bool
+    ensures { result ≡ mistypes m.now row.now f.now }
 {
-    some_operand(m, places, Fault::Mistype, row, f)
+    some_operand(m, Fault::Mistype, row, f)
 }
 
 /// V8: a return instruction that does not fit the descriptor.
@@ -109,42 +100,37 @@ fn returns_wrongly(op: &Op, kind: Option<Kind>) -> bool
 }
 
 /// Whether an instruction begins at a pc.
-fn begins_at(m: &MethodInfo, places: &Places, pc: u32) -> bool
-    requires { ArePlaces m.now.code places.now }
+fn begins_at(m: &IndexedMethod<'_>, pc: u32) -> bool
     ensures { result ≡ list_any (λ other. other.pc == pc) m.now.code }
 {
-    places.find(pc).is_some()
+    m.find(pc).is_some()
 }
 
 /// V6: the code falls off its end.
-fn falls_off(m: &MethodInfo, places: &Places, insn: &Insn) -> bool
-    requires { ArePlaces m.now.code places.now }
+fn falls_off(m: &IndexedMethod<'_>, insn: &Insn) -> bool
     ensures { result ≡ falls_off m.now.code insn.now }
 {
-    falls_through(&insn.op) && !begins_at(m, places, insn.next)
+    falls_through(&insn.op) && !begins_at(m, insn.next)
 }
 
 /// The first rule that is broken before an edge is brought.
 pub fn broken_before(
-    m: &MethodInfo,
-    places: &Places,
+    m: &IndexedMethod<'_>,
     insn: &Insn,
     row: &OpRow,
     f: &Frame,
 ) -> Option<VRule>
-    requires places { ArePlaces m.now.code places.now }
-    requires ascend { Ascend 0 m.now.code }
-    ensures { result ≡ broken_before m.now insn.now (row_is row.now) f.now }
+    ensures { result ≡ broken_before m.now insn.now row.now f.now }
 {
     if takes_too_many(row, f) {
         Some(VRule::V1)
-    } else if gives_too_many(m, row, f) {
+    } else if gives_too_many(m.method(), row, f) {
         Some(VRule::V2)
-    } else if lacks_locals(m, row, f) {
+    } else if lacks_locals(m.method(), row, f) {
         Some(VRule::V3)
-    } else if misuses_object(m, places, insn, row, f) {
+    } else if misuses_object(m, insn, row, f) {
         Some(VRule::V7)
-    } else if mistypes(m, places, row, f) {
+    } else if mistypes(m, row, f) {
         Some(VRule::V4)
     } else {
         None
@@ -152,13 +138,12 @@ pub fn broken_before(
 }
 
 /// The first rule that is broken after the normal edges were brought.
-pub fn broken_after(m: &MethodInfo, places: &Places, insn: &Insn) -> Option<VRule>
-    requires { ArePlaces m.now.code places.now }
+pub fn broken_after(m: &IndexedMethod<'_>, insn: &Insn) -> Option<VRule>
     ensures { result ≡ broken_after m.now insn.now }
 {
-    if returns_wrongly(&insn.op, m.result) {
+    if returns_wrongly(&insn.op, m.method().result) {
         Some(VRule::V8)
-    } else if falls_off(m, places, insn) {
+    } else if falls_off(m, insn) {
         Some(VRule::V6)
     } else {
         None

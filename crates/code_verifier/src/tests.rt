@@ -4,7 +4,6 @@ ghost use Rattle.jvm_types.specs.Verifying.{IsLaidOut};
 ghost use Rattle.code_verifier.specs.Laying.{AreLaid};
 
 use super::*;
-use crate::classes::{common_ancestor, is_subclass};
 use crate::verifying::verify_method;
 use jvm_types::{
     Bytes, Cmp, Insn, MethodInfo, Op, Program, Row, Rows, Target, Typing, VRule, VType,
@@ -342,32 +341,5 @@ fn types_a_switch(rt: HostRuntime) -> Result<(), Fail> {
 fn types_a_handler(rt: HostRuntime) -> Result<(), Fail> {
     let typing = nested_rows(&rt)?.expect(&rt, "typed");
     assert!(rt; stack_at(&typing, 2).expect(&rt, "reached") == [VType::Ref(7)].as_slice());
-    Ok(())
-}
-
-/// `Throwable` is below `Object`, and so on, as in the platform's API.
-#[test]
-fn throwables_have_their_ancestors(rt: HostRuntime) -> Result<(), Fail> {
-    let supers = [
-        (4, 1),
-        (5, 4),
-        (6, 4),
-        (7, 5),
-        (8, 5),
-        (9, 7),
-        (10, 7),
-        (11, 7),
-        (12, 7),
-        (13, 7),
-        (14, 6),
-        (15, 6),
-    ];
-    for (class, above) in supers {
-        assert!(rt; is_subclass(class, above) && !is_subclass(above, class));
-        assert!(rt; common_ancestor(class, above) == above);
-    }
-    assert!(rt; common_ancestor(9, 8) == 5);
-    assert!(rt; common_ancestor(9, 14) == 4);
-    assert!(rt; common_ancestor(9, 17) == 1);
     Ok(())
 }

@@ -3,7 +3,7 @@
 ghost use Rattle.std.specs.Prelude.{◌≡◌};
 ghost use Rattle.jvm_types.specs.Types.{is_below, meet, same_type, is_uninitialised, is_new};
 
-use crate::classes::{common_ancestor, is_subclass};
+use code_table::{common_ancestor, is_subclass};
 use jvm_types::VType;
 
 /// Whether a type says what another says, or more.

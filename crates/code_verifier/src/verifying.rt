@@ -5,7 +5,6 @@ ghost use Rattle.jvm_types.specs.ProgramInvariant.{IsProgram};
 ghost use Rattle.jvm_types.specs.Verifying.{first_nodes, IsLaidOut, IsTypingOf};
 ghost use Rattle.jvm_types.specs.declared.typing.Typing.{Typing as MethodTyping};
 ghost use Rattle.typing_laws.proofs.VisitsEnd.{IsKept};
-ghost use Rattle.code_verifier.specs.Placing.{Ascend, ArePlaces};
 ghost use Rattle.code_verifier.specs.Visiting.{AreLevel};
 ghost use Rattle.code_verifier.specs.Settling.{Settle, IsBreak, IsRefusal};
 ghost use Rattle.code_verifier.specs.declared.error.VerifyError.TheVariants.{Memory};
@@ -13,8 +12,8 @@ ghost use Rattle.code_verifier.specs.declared.error.VerifyError.TheVariants.{Mem
 use crate::entry::entry_frame;
 use crate::error::VerifyError;
 use crate::nodes::Nodes;
-use crate::places::Places;
 use crate::visit::visit;
+use code_table::IndexedMethod;
 use jvm_types::{MethodInfo, Program, Typing};
 use std::alloc::{AllocError, Global};
 
@@ -35,20 +34,17 @@ fn first_nodes(alloc: Global, m: &MethodInfo) -> Result<Nodes, AllocError>
 fn settle(
     alloc: Global,
     p: &Program,
-    m: &MethodInfo,
-    places: &Places,
+    m: &IndexedMethod<'_>,
     nodes: &mut Nodes,
 ) -> Result<(), VerifyError>
-    requires laid { IsLaidOut m.now }
-    requires places { ArePlaces m.now.code places.now }
-    requires ascend { Ascend 0 m.now.code }
     requires level { AreLevel m.now nodes.old }
     requires kept { IsKept m.now nodes.old }
     ensures settled { OnOk result (Settle p.now m.now nodes.old nodes.new) }
     ensures broken { IfErr result (IsBreak p.now m.now nodes.old) }
 {
+    m.laid_out();
     while let Some(i) = nodes.take_next() {
-        visit(alloc, p, m, places, nodes, i)?;
+        visit(alloc, p, m, nodes, i)?;
     }
     Ok(())
 }
@@ -63,9 +59,9 @@ pub(crate) fn verify_method(
     ensures ok { IfOk result (IsTypingOf p.now m.now) }
     ensures refused { IfErr result (IsRefusal p.now m.now) }
 {
-    let places = Places::of(alloc, m.code.as_slice())?;
+    let indexed = IndexedMethod::of(alloc, m)?;
     let mut nodes = first_nodes(alloc, m)?;
-    settle(alloc, p, m, &places, &mut nodes)?;
+    settle(alloc, p, &indexed, &mut nodes)?;
     Ok(nodes.into_typing(alloc)?)
 }
 

@@ -3,7 +3,8 @@ use Rattle.std.proofs.Common.{◌≡◌, ℕ, pos, negsuc, true, false, List, []
 use Rattle.std.specs.Prelude.{replicate, codes}
 use Rattle.jvm_types.specs.ClassNames.{class_number, named_class, can_be_made}
 use Rattle.jvm_types.specs.Descriptors.{field_kind, method_signature}
-use Rattle.jvm_types.specs.Members.{built_in_methods, look_up, field_rule, call_rule, Virtual, Special, Static}
+use Rattle.jvm_types.specs.Members.{built_in_methods, look_up, field_rule, call_rule}
+use Rattle.jvm_types.specs.declared.call.Call.TheVariants.{Virtual, Special, Static}
 use Rattle.jvm_types.specs.Layout.{fixed_words, laid_out_fields}
 use Rattle.jvm_types.specs.declared.class_file.Constant.{Constant}
 use Rattle.jvm_types.specs.declared.class_file.Constant.TheVariants.{Gap, Utf8, Integer, Float, Class}

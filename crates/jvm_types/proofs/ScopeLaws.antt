@@ -6,7 +6,8 @@ use Rattle.std.proofs.lemmas.Bool.{ne_eqb}
 use Rattle.jvm_types.proofs.EachAfter.{all_append}
 use Rattle.jvm_types.proofs.TargetLaws.{FieldFits, MethodFits, ScopeFits}
 use Rattle.jvm_types.specs.ClassNames.{class_names, has_built_in_init}
-use Rattle.jvm_types.specs.Members.{Site, is_class_init_name, field_rule, Virtual, Special, Static, call_rule, built_in_methods, init_of, Declared, class_of, name_of, descriptor_of, declared_from, declared_by, declared_fields, declared_methods, entries_from, is_static}
+use Rattle.jvm_types.specs.Members.{Site, is_class_init_name, field_rule, call_rule, built_in_methods, init_of, Declared, class_of, name_of, descriptor_of, declared_from, declared_by, declared_fields, declared_methods, entries_from, is_static}
+use Rattle.jvm_types.specs.declared.call.Call.TheVariants.{Virtual, Special, Static}
 use Rattle.jvm_types.specs.Targets.{Scope}
 use Rattle.jvm_types.specs.Layout.{fields_of, fields_from, laid_out_fields, first_class_word, class_words}
 use Rattle.jvm_types.specs.Linked.{scope_of, coded_methods, linked_methods, program_of}

@@ -12,7 +12,9 @@ use Rattle.jvm_types.proofs.LayoutLaws.{entry_fits}
 use Rattle.jvm_types.specs.ClassNames.{class_number, named_class, class_text_at, text_at, is_class, can_be_made, system_name}
 use Rattle.jvm_types.specs.ClassTree.{object_class}
 use Rattle.jvm_types.specs.ClassGrammar.{FieldsFit}
-use Rattle.jvm_types.specs.Members.{Entry, Site, member_in, look_up, is_init_name, field_rule, Call, Virtual, Special, Static, call_rule}
+use Rattle.jvm_types.specs.Members.{Entry, Site, member_in, look_up, is_init_name, field_rule, call_rule}
+use Rattle.jvm_types.specs.declared.call.Call.{Call}
+use Rattle.jvm_types.specs.declared.call.Call.TheVariants.{Virtual, Special, Static}
 use Rattle.jvm_types.specs.Targets.{Scope, unless_refused, found_target, member_target, class_at, field_target, method_target, loaded_target, made_target, new_target, target_of, caught, catch_class}
 use Rattle.jvm_types.specs.ProgramInvariant.{IsClassOf, IsFieldTarget, IsMethodTarget, IsValueTarget, IsNewTarget, IsTargetOf, IsCaught}
 use Rattle.jvm_types.specs.declared.class_file.Constant.{Constant}

@@ -6,6 +6,8 @@ use Rattle.std.specs.List.{find, range_with_len}
 use Rattle.jvm_types.specs.Numbers.{has_flag}
 use Rattle.jvm_types.specs.ClassNames.{text_at, file_class, system_class}
 use Rattle.jvm_types.specs.ClassTree.{object_class, print_stream_class, throwable_class}
+use Rattle.jvm_types.specs.declared.call.Call.{Call}
+use Rattle.jvm_types.specs.declared.call.Call.TheVariants.{Virtual, Special, Static}
 use Rattle.jvm_types.specs.declared.class_file.Constant.{Constant}
 use Rattle.jvm_types.specs.declared.class_file.Member.{Member as ClassMember}
 use Rattle.jvm_types.specs.declared.class_file.ClassFile.{ClassFile}
@@ -147,12 +149,6 @@ field_rule static writes site class flags = first_rule (
     (is_other_sort static flags, L2)
     ∷ (is_hidden site class flags, L3)
     ∷ (writes && is_final flags && not (initializes site static class), L7) ∷ [])
-
--- the three instructions that call a method
-pub data Call : Type 0 where
-  Virtual : Call
-  Special : Call
-  Static : Call
 
 -- Whether a call has the kind of its method (JVMS 4.9.1, 6.5). `invokespecial` is for an `<init>` and for a private instance
 -- method of the own class; the standard's calls of a superclass's methods by it are refused. Nothing calls a `<clinit>`.

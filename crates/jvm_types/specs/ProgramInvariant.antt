@@ -5,7 +5,9 @@ use Rattle.std.specs.List.{AllByRecursion, AllZip, count_by, sum_by, list_any}
 use Rattle.std.specs.Int.{w32}
 use Rattle.jvm_types.specs.ClassNames.{file_class, is_class, can_be_made, has_built_in_init}
 use Rattle.jvm_types.specs.Descriptors.{method_signature}
-use Rattle.jvm_types.specs.Members.{is_static, is_synchronized, Site, field_rule, Call, Virtual, Special, Static, call_rule}
+use Rattle.jvm_types.specs.Members.{is_static, is_synchronized, Site, field_rule, call_rule}
+use Rattle.jvm_types.specs.declared.call.Call.{Call}
+use Rattle.jvm_types.specs.declared.call.Call.TheVariants.{Virtual, Special, Static}
 use Rattle.jvm_types.specs.Layout.{first_class_word, kept_int}
 use Rattle.jvm_types.specs.LinkFaults.{is_taken, is_run, is_wrong_root}
 use Rattle.jvm_types.specs.CodeGrammar.{IsCode}

@@ -5,7 +5,9 @@ use Rattle.std.specs.declared.result.Result.{Result}
 use Rattle.std.specs.declared.result.Result.TheVariants.{Ok, Err}
 use Rattle.jvm_types.specs.ClassNames.{text_at, class_text_at, named_class, class_number, can_be_made}
 use Rattle.jvm_types.specs.Descriptors.{field_kind, method_signature}
-use Rattle.jvm_types.specs.Members.{Entry, Site, look_up, field_rule, Call, Virtual, Special, Static, call_rule}
+use Rattle.jvm_types.specs.Members.{Entry, Site, look_up, field_rule, call_rule}
+use Rattle.jvm_types.specs.declared.call.Call.{Call}
+use Rattle.jvm_types.specs.declared.call.Call.TheVariants.{Virtual, Special, Static}
 use Rattle.jvm_types.specs.declared.class_file.Constant.{Constant}
 use Rattle.jvm_types.specs.declared.class_file.Constant.TheVariants as constants
 use Rattle.jvm_types.specs.declared.code.Op.{Op}

@@ -4,7 +4,10 @@ use Rattle.std.specs.Prelude.{◌≡◌, ◌≢◌, ◌≤◌, IsTrue, IsSomeAnd
 use Rattle.std.specs.List.{list_any, filter, AllByRecursion, AllZip}
 use Rattle.jvm_types.specs.Numbers.{has_number}
 use Rattle.jvm_types.specs.ClassTree.{object_class, throwable_class, is_subclass}
-use Rattle.jvm_types.specs.CodeTable.{OpRow, Want, AnyValue, AnInt, AnObject, AnyReference, AHolder, ToStart, row, branches_to, falls_through, stack_after, locals_after, is_init}
+use Rattle.jvm_types.specs.CodeTable.{row, branches_to, falls_through, stack_after, locals_after, is_init}
+use Rattle.jvm_types.specs.declared.op_row.Want.{Want}
+use Rattle.jvm_types.specs.declared.op_row.Want.TheVariants.{AnyValue, AnInt, AnObject, AnyReference, AHolder, ToStart}
+use Rattle.jvm_types.specs.declared.op_row.OpRow.{OpRow}
 use Rattle.jvm_types.specs.CodeGrammar.{IsCode}
 use Rattle.jvm_types.specs.declared.class_file.Handler.{Handler}
 use Rattle.jvm_types.specs.Types.{Shape, is_below, is_uninitialised, is_new, same_type, same_shape, shape_below, meet_shapes, entry_shape, shapes_of}

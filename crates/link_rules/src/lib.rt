@@ -14,4 +14,4 @@ mod uses;
 mod words;
 
 pub use passes::find_fault;
-pub use targets::{Site, catch_class, target_of};
+pub use targets::{catch_class, target_of};

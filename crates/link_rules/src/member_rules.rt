@@ -2,12 +2,10 @@
 
 ghost use Rattle.std.specs.Prelude.{◌≡◌};
 ghost use Rattle.jvm_types.specs.Members.{is_hidden, initializes, field_rule, fits_call, call_rule};
-ghost use Rattle.link_rules.specs.Sites.{standing, named_call};
 
 use crate::flags::{is_final, is_private, is_static};
-use crate::targets::Site;
 use crate::texts::{is_class_init_name, is_init_name};
-use jvm_types::LRule;
+use jvm_types::{Call, LRule, Site};
 use link_scope::Found;
 
 /// How an instruction uses a field: whether a static one, and whether it writes.
@@ -39,24 +37,16 @@ impl FieldUse {
     };
 }
 
-/// The three instructions that call a method.
-#[derive(Clone, Copy)]
-pub enum Call {
-    Virtual,
-    Special,
-    Static,
-}
-
 /// Whether a member is a private one of another class.
 fn is_hidden(site: &Site<'_>, found: Found) -> bool
-    ensures { result ≡ is_hidden (standing site.now) found.class found.flags }
+    ensures { result ≡ is_hidden site.now found.class found.flags }
 {
     is_private(found.flags) && found.class != site.class
 }
 
 /// Whether a site may write final fields of a class: static ones in its `<clinit>`, others in its `<init>`.
 fn initializes(site: &Site<'_>, of_class: bool, class: u16) -> bool
-    ensures { result ≡ initializes (standing site.now) of_class class }
+    ensures { result ≡ initializes site.now of_class class }
 {
     let begins = if of_class {
         is_class_init_name(site.name)
@@ -68,7 +58,7 @@ fn initializes(site: &Site<'_>, of_class: bool, class: u16) -> bool
 
 /// The rule that refuses the use of a field at a site.
 pub fn field_rule(site: &Site<'_>, usage: FieldUse, found: Found) -> Option<LRule>
-    ensures { result ≡ field_rule usage.of_class usage.writes (standing site.now) found.class found.flags }
+    ensures { result ≡ field_rule usage.of_class usage.writes site.now found.class found.flags }
 {
     if is_static(found.flags) != usage.of_class {
         return Some(LRule::L2);
@@ -85,7 +75,7 @@ pub fn field_rule(site: &Site<'_>, usage: FieldUse, found: Found) -> Option<LRul
 
 /// Whether a call has the kind of its method.
 fn fits_call(call: Call, site: &Site<'_>, name: &[u8], found: Found) -> bool
-    ensures { result ≡ fits_call (named_call call) (standing site.now) found.class name.now found.flags }
+    ensures { result ≡ fits_call call site.now found.class name.now found.flags }
 {
     let is_init = is_init_name(name);
     let is_class_init = is_class_init_name(name);
@@ -102,7 +92,7 @@ fn fits_call(call: Call, site: &Site<'_>, name: &[u8], found: Found) -> bool
 
 /// The rule that refuses a call of a method of this name at a site.
 pub fn call_rule(call: Call, site: &Site<'_>, name: &[u8], found: Found) -> Option<LRule>
-    ensures { result ≡ call_rule (named_call call) (standing site.now) found.class name.now found.flags }
+    ensures { result ≡ call_rule call site.now found.class name.now found.flags }
 {
     if !fits_call(call, site, name, found) {
         return Some(LRule::L2);

@@ -7,19 +7,11 @@ ghost use Rattle.jvm_types.specs.Members.{Entry, field_rule, call_rule};
 ghost use Rattle.jvm_types.specs.Linked.{scope_of};
 ghost use Rattle.jvm_types.specs.Targets.{target_of as named_target, catch_class as caught_class, found_target, member_target, field_target, method_target, loaded_target, new_target};
 ghost use Rattle.link_scope.specs.Scoping.{pool_at, file_text, IsFound};
-ghost use Rattle.link_rules.specs.Sites.{standing, named_call};
 
-use crate::member_rules::{Call, FieldUse, call_rule, field_rule};
+use crate::member_rules::{FieldUse, call_rule, field_rule};
 use crate::texts::{MemberTexts, member_texts, pool_of, text};
-use jvm_types::{Constant, LRule, Op, Rows, Target};
+use jvm_types::{Call, Constant, LRule, Op, Rows, Site, Target};
 use link_scope::{Found, Scope};
-
-/// The method in which an instruction stands: its class, and its name.
-#[derive(Clone, Copy)]
-pub struct Site<'a> {
-    pub class: u16,
-    pub name: &'a [u8],
-}
 
 const OBJECT: u16 = 1;
 
@@ -33,7 +25,7 @@ pub const FIRST_CLASS: u16 = 17;
 /// What a field that was found is to an instruction.
 fn allowed_field(site: &Site<'_>, usage: FieldUse, found: Option<Found>) -> Result<Target, LRule>
     ensures { (name : List ℕ) (entry : Option Entry) → IsFound name found entry
-        → result ≡ found_target (λ e. field_rule usage.of_class usage.writes (standing site.now) e.class e.flags) entry }
+        → result ≡ found_target (λ e. field_rule usage.of_class usage.writes site.now e.class e.flags) entry }
 {
     match found {
         None => Err(LRule::L2),
@@ -52,7 +44,7 @@ fn allowed_method(
     found: Option<Found>,
 ) -> Result<Target, LRule>
     ensures { (entry : Option Entry) → IsFound name.now found entry
-        → result ≡ found_target (λ e. call_rule (named_call call) (standing site.now) e.class e.name e.flags) entry }
+        → result ≡ found_target (λ e. call_rule call site.now e.class e.name e.flags) entry }
 {
     match found {
         None => Err(LRule::L2),
@@ -72,7 +64,7 @@ fn named_field(
     texts: MemberTexts,
 ) -> Result<Target, LRule>
     requires { file < length scope.now }
-    ensures { result ≡ member_target (λ e. field_rule usage.of_class usage.writes (standing site.now) e.class e.flags)
+    ensures { result ≡ member_target (λ e. field_rule usage.of_class usage.writes site.now e.class e.flags)
         (scope_of scope.now).fields
         (named_class (class_names scope.now) (file_text scope.now file texts.class))
         (is_some (field_kind (class_names scope.now) (file_text scope.now file texts.descriptor)))
@@ -98,7 +90,7 @@ fn named_method(
     texts: MemberTexts,
 ) -> Result<Target, LRule>
     requires { file < length scope.now }
-    ensures { result ≡ member_target (λ e. call_rule (named_call call) (standing site.now) e.class e.name e.flags)
+    ensures { result ≡ member_target (λ e. call_rule call site.now e.class e.name e.flags)
         (scope_of scope.now).methods
         (named_class (class_names scope.now) (file_text scope.now file texts.class))
         (is_some (method_signature (class_names scope.now) (file_text scope.now file texts.descriptor)))
@@ -124,7 +116,7 @@ fn field_target(
     constant: u16,
 ) -> Result<Target, LRule>
     requires { file < length scope.now }
-    ensures { result ≡ field_target (scope_of scope.now) (standing site.now) (pool_at scope.now file) usage.of_class usage.writes (slice_get (pool_at scope.now file) constant) }
+    ensures { result ≡ field_target (scope_of scope.now) site.now (pool_at scope.now file) usage.of_class usage.writes (slice_get (pool_at scope.now file) constant) }
 {
     let pool = pool_of(scope, file);
     match pool.get(usize::from(constant)) {
@@ -145,7 +137,7 @@ fn method_target(
     constant: u16,
 ) -> Result<Target, LRule>
     requires { file < length scope.now }
-    ensures { result ≡ method_target (scope_of scope.now) (standing site.now) (pool_at scope.now file) (named_call call) (slice_get (pool_at scope.now file) constant) }
+    ensures { result ≡ method_target (scope_of scope.now) site.now (pool_at scope.now file) call (slice_get (pool_at scope.now file) constant) }
 {
     let pool = pool_of(scope, file);
     match pool.get(usize::from(constant)) {
@@ -202,7 +194,7 @@ fn new_target(scope: &Scope<'_>, file: usize, constant: u16) -> Result<Target, L
 /// What the constant of an instruction of a file names, or the first rule of L1, L2, L3 and L7 that refuses it.
 pub fn target_of(scope: &Scope<'_>, file: usize, site: &Site<'_>, op: &Op) -> Result<Target, LRule>
     requires { file < length scope.now }
-    ensures { result ≡ named_target (scope_of scope.now) (standing site.now) (pool_at scope.now file) op.now }
+    ensures { result ≡ named_target (scope_of scope.now) site.now (pool_at scope.now file) op.now }
 {
     match op {
         Op::Ldc(index) | Op::LdcW(index) => loaded_target(pool_of(scope, file), *index),

@@ -6,13 +6,12 @@ ghost use Rattle.jvm_types.specs.ClassGrammar.{IsClass};
 ghost use Rattle.jvm_types.specs.Members.{declared_from};
 ghost use Rattle.jvm_types.specs.Linked.{scope_of, code_of, site_of};
 ghost use Rattle.jvm_types.specs.LinkFaults.{first_fault, insn_fault, row_fault, uses_fault, use_pass as third_pass};
-ghost use Rattle.link_rules.specs.Sites.{standing};
 ghost use Rattle.link_rules.specs.Methods.{declared_in, first_use};
 
 use crate::places::{Fault, in_method};
-use crate::targets::{FIRST_CLASS, Site, catch_class, target_of};
+use crate::targets::{FIRST_CLASS, catch_class, target_of};
 use crate::texts::{pool_of, text};
-use jvm_types::{ClassFile, Handler, Insn, Member, MemberAttr, Rows};
+use jvm_types::{ClassFile, Handler, Insn, Member, MemberAttr, Rows, Site};
 use link_scope::Scope;
 
 /// A method, with the number of its file, and its own number in its class.
@@ -39,7 +38,7 @@ fn handler_rows(attrs: &[MemberAttr]) -> &[Handler]
 fn site_of<'a>(scope: &'a Scope<'_>, method: &Method<'_>) -> Site<'a>
     requires few { length scope.now ≤ 64 }
     requires file { method.now.file < length scope.now }
-    ensures { standing result ≡ site_of (declared_in scope.now method.now) }
+    ensures { result ≡ site_of (declared_in scope.now method.now) }
 {
     Site {
         class: FIRST_CLASS + method.file as u16,

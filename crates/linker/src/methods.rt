@@ -7,16 +7,15 @@ ghost use Rattle.jvm_types.specs.ClassNames.{text_at};
 ghost use Rattle.jvm_types.specs.Members.{declared_from};
 ghost use Rattle.jvm_types.specs.Linked.{scope_of, no_code, code_of, resolved_target, resolved_row, resolved_signature, linked_method, linked_methods, coded_methods};
 ghost use Rattle.descriptors.specs.Signatures.{meaning};
-ghost use Rattle.link_rules.specs.Sites.{standing};
 ghost use Rattle.linker.specs.Linking.{IsBodyOf, declared_in, coded_method};
 
 use crate::copies::copy_insns;
 use crate::texts::{file_class, text_at};
 use descriptors::Signature;
 use jvm_types::{
-    Bytes, ClassFile, Code, Handler, Insn, Member, MemberAttr, MethodInfo, Row, Rows, Target,
+    Bytes, ClassFile, Code, Handler, Insn, Member, MemberAttr, MethodInfo, Row, Rows, Site, Target,
 };
-use link_rules::{Site, catch_class, target_of};
+use link_rules::{catch_class, target_of};
 use link_scope::Scope;
 use std::alloc::{AllocError, Global};
 
@@ -50,7 +49,7 @@ fn resolved_target(
 ) -> Target
     requires within { file < length scope.now }
     requires here { slice_get scope.now file ≡ Some class.now }
-    ensures { result ≡ resolved_target (scope_of scope.now) (standing site.now) class.now.constants insn.now }
+    ensures { result ≡ resolved_target (scope_of scope.now) site.now class.now.constants insn.now }
 {
     match target_of(scope, file, site, &insn.op) {
         Ok(target) => target,
@@ -69,7 +68,7 @@ fn resolve_targets(
 ) -> Result<Rows<Target>, AllocError>
     requires within { file < length scope.now }
     requires here { slice_get scope.now file ≡ Some class.now }
-    ensures { IfOk result (λ targets. targets ≡ map (resolved_target (scope_of scope.now) (standing site.now) class.now.constants) insns.now) }
+    ensures { IfOk result (λ targets. targets ≡ map (resolved_target (scope_of scope.now) site.now class.now.constants) insns.now) }
 {
     let mut targets = Rows::new(alloc);
     for insn in insns {

@@ -1,8 +1,11 @@
 -- The row of an instruction with a constant, target by target.
 use Rattle.std.proofs.Common.{◌≡◌, ℕ, Bool, true, false, cond, not, ◌&&◌, ◌||◌, List, [], ◌∷◌, Option, Some, None, refl}
 use Rattle.std.specs.Prelude.{IsSomeAnd, slice_get}
-use Rattle.jvm_types.specs.CodeTable.{OpRow, row}
-use Rattle.jvm_types.specs.Members.{is_static, is_init_name, is_class_init_name, is_final, is_other_sort, is_hidden, initializes, first_rule, Site, field_rule, Call, Virtual, Special, Static, call_rule, fits_call}
+use Rattle.jvm_types.specs.CodeTable.{row}
+use Rattle.jvm_types.specs.declared.op_row.OpRow.{OpRow}
+use Rattle.jvm_types.specs.Members.{is_static, is_init_name, is_class_init_name, is_final, is_other_sort, is_hidden, initializes, first_rule, Site, field_rule, call_rule, fits_call}
+use Rattle.jvm_types.specs.declared.call.Call.{Call}
+use Rattle.jvm_types.specs.declared.call.Call.TheVariants.{Virtual, Special, Static}
 use Rattle.jvm_types.specs.ProgramInvariant.{IsTargetOf, site_in}
 use Rattle.jvm_types.specs.declared.code.Op.{Op}
 use Rattle.jvm_types.specs.declared.code.Op.TheVariants as ops

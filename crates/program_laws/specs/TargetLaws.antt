@@ -3,8 +3,13 @@
 use Rattle.std.specs.Prelude.{◌≡◌, ℕ, Bool, true, false, [], ◌∷◌, Option, Some, slice_get}
 use Rattle.jvm_types.specs.ClassTree.{object_class, print_stream_class}
 use Rattle.jvm_types.specs.ClassNames.{can_be_made, has_built_in_init}
-use Rattle.jvm_types.specs.CodeTable.{OpRow, AnInt, AnObject, ToStart, Fresh, an_int, stack_row, get_static_row, put_static_row, get_row, put_row, virtual_row, special_row, static_row, row}
-use Rattle.jvm_types.specs.Members.{is_static, Site, Call, Virtual, Special, Static, fits_call}
+use Rattle.jvm_types.specs.CodeTable.{an_int, stack_row, get_static_row, put_static_row, get_row, put_row, virtual_row, special_row, static_row, row}
+use Rattle.jvm_types.specs.declared.op_row.Want.TheVariants.{AnInt, AnObject, ToStart}
+use Rattle.jvm_types.specs.declared.op_row.Given.TheVariants.{Fresh}
+use Rattle.jvm_types.specs.declared.op_row.OpRow.{OpRow}
+use Rattle.jvm_types.specs.Members.{is_static, Site, fits_call}
+use Rattle.jvm_types.specs.declared.call.Call.{Call}
+use Rattle.jvm_types.specs.declared.call.Call.TheVariants.{Virtual, Special, Static}
 use Rattle.jvm_types.specs.ProgramInvariant.{IsClassOf, IsTargetOf, site_in}
 use Rattle.jvm_types.specs.declared.code.Op.{Op}
 use Rattle.jvm_types.specs.declared.code.Op.TheVariants.{Ldc, LdcW, Getstatic, Putstatic, Getfield, Putfield, Invokevirtual, Invokespecial, Invokestatic, New}

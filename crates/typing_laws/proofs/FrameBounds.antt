@@ -6,7 +6,9 @@ use Rattle.std.proofs.lemmas.List.{length-map}
 use Rattle.std.proofs.lemmas.Bool.{ltb-false}
 use Rattle.std.proofs.lemmas.Bool.Decides.{nat_tests}
 use Rattle.jvm_types.specs.ClassTree.{throwable_class, is_subclass}
-use Rattle.jvm_types.specs.CodeTable.{OpRow, Given, stack_after, locals_after, is_init}
+use Rattle.jvm_types.specs.CodeTable.{stack_after, locals_after, is_init}
+use Rattle.jvm_types.specs.declared.op_row.Given.{Given}
+use Rattle.jvm_types.specs.declared.op_row.OpRow.{OpRow}
 use Rattle.jvm_types.specs.Types.{Shape, meets, meet_shapes, entry_shape, same_type}
 use Rattle.jvm_types.specs.Verifying.{first_broken, takes_too_many, gives_too_many, lacks_locals, misuses_object, mistypes, broken_before, started, after_start, shape_after, catch_fault, caught_class, shape_at_handler}
 use Rattle.jvm_types.specs.declared.code.Insn.{Insn}

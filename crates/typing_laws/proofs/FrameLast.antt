@@ -5,7 +5,8 @@ use Rattle.std.specs.List.{AllByRecursion}
 use Rattle.std.proofs.lemmas.List.{length-replicate}
 use Rattle.std.proofs.lemmas.Bool.{or_parts, ltb-false}
 use Rattle.std.proofs.lemmas.Bool.Decides.{nat_tests}
-use Rattle.jvm_types.specs.CodeTable.{OpRow, row}
+use Rattle.jvm_types.specs.CodeTable.{row}
+use Rattle.jvm_types.specs.declared.op_row.OpRow.{OpRow}
 use Rattle.jvm_types.specs.Types.{Shape, filled, entry_shape}
 use Rattle.jvm_types.specs.Verifying.{names_no_local, lacks_locals, first_nodes, frame_at, Fits, IsFrameBelow, HasTyping, IsAssignment, IsLaidOut, FrameLaw}
 use Rattle.jvm_types.specs.declared.code.Insn.{Insn}

@@ -2,7 +2,8 @@
 use Rattle.std.proofs.Common.{◌≡◌, ℕ, true, false, List, [], ◌∷◌, length, map, Option, Some, None, Result, Ok, Err, refl, sym, subst, arith}
 use Rattle.std.specs.Prelude.{slice_get, slice_set}
 use Rattle.std.specs.List.{AllByRecursion}
-use Rattle.jvm_types.specs.CodeTable.{OpRow, row}
+use Rattle.jvm_types.specs.CodeTable.{row}
+use Rattle.jvm_types.specs.declared.op_row.OpRow.{OpRow}
 use Rattle.jvm_types.specs.CodeGrammar.{SpellsInsns}
 use Rattle.jvm_types.specs.Types.{Shape, shape_below, entry_shape}
 use Rattle.jvm_types.specs.Verifying.{Node, node_at, first_nodes, broken_before, shape_after, edges, shape_at_handler, catch_fault, brought, all_brought, clash, handled, unless_broken, covering, gone_on, visited_row, visited_insn, visited, Visits, Breaks, frame_at, Fits, IsSound, IsAssignment, IsLaidOut, LeastLaw, RefusalLaw}

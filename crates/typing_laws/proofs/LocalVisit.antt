@@ -2,7 +2,8 @@
 use Rattle.std.proofs.Common.{◌≡◌, ℕ, zero, suc, Bool, true, false, cond, not, ◌&&◌, ◌||◌, List, [], ◌∷◌, length, Option, Some, None, Result, Ok, refl, sym, ap, ◌∙◌, subst, length-set}
 use Rattle.std.specs.Prelude.{◌==◌, slice_get, slice_set}
 use Rattle.std.specs.List.{AllByRecursion, list_any}
-use Rattle.jvm_types.specs.CodeTable.{OpRow, row, branches_to, falls_through}
+use Rattle.jvm_types.specs.CodeTable.{row, branches_to, falls_through}
+use Rattle.jvm_types.specs.declared.op_row.OpRow.{OpRow}
 use Rattle.jvm_types.specs.CodeGrammar.{is_start}
 use Rattle.jvm_types.specs.Types.{Shape}
 use Rattle.jvm_types.specs.Verifying.{Node, node_at, broken_before, broken_after, returns_wrongly, falls_off, edges, shape_after, all_brought, clash, covering, handled, unless_broken, unless_clash, gone_on, visited_row, visited_insn, visited, shape_at_handler, Fits, IsSound}

@@ -2,7 +2,8 @@
 use Rattle.std.proofs.Common.{◌≡◌, ℕ, zero, suc, ◌-◌, ◌+◌, Bool, true, false, not, ◌||◌, List, [], ◌∷◌, length, Option, Some, None, refl, ap, ◌∙◌}
 use Rattle.std.specs.Prelude.{nat_lt, slice_get}
 use Rattle.std.proofs.lemmas.Bool.{or_parts, or_from}
-use Rattle.jvm_types.specs.CodeTable.{OpRow, Want}
+use Rattle.jvm_types.specs.declared.op_row.Want.{Want}
+use Rattle.jvm_types.specs.declared.op_row.OpRow.{OpRow}
 use Rattle.jvm_types.specs.Types.{Shape, is_below, all_pairs, shape_below}
 use Rattle.jvm_types.specs.Verifying.{suits, some_taken, at_local, some_read, first_broken, takes_too_many, gives_too_many, names_no_local, lacks_locals, misuses_object, mistypes, broken_before}
 use Rattle.jvm_types.specs.declared.code.Insn.{Insn}

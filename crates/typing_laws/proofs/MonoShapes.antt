@@ -2,7 +2,12 @@
 use Rattle.std.proofs.Common.{◌≡◌, ℕ, zero, suc, Bool, true, false, not, ◌||◌, List, [], ◌∷◌, ◌++◌, length, map, drop, Option, Some, None, refl, ap, sym, subst, ◌∙◌}
 use Rattle.std.specs.Prelude.{slice_set, slice_index_or, if◌then◌else◌}
 use Rattle.std.proofs.lemmas.Bool.{and_parts, and_from, or_parts}
-use Rattle.jvm_types.specs.CodeTable.{OpRow, Given, Fresh, Taken, Local, Want, AnyValue, AnInt, AnObject, AnyReference, AHolder, ToStart, value_of, stack_after, locals_after}
+use Rattle.jvm_types.specs.CodeTable.{value_of, stack_after, locals_after}
+use Rattle.jvm_types.specs.declared.op_row.Want.{Want}
+use Rattle.jvm_types.specs.declared.op_row.Want.TheVariants.{AnyValue, AnInt, AnObject, AnyReference, AHolder, ToStart}
+use Rattle.jvm_types.specs.declared.op_row.Given.{Given}
+use Rattle.jvm_types.specs.declared.op_row.Given.TheVariants.{Fresh, Taken, Local}
+use Rattle.jvm_types.specs.declared.op_row.OpRow.{OpRow}
 use Rattle.jvm_types.specs.Types.{Shape, is_below, is_uninitialised, same_type, all_pairs, shape_below}
 use Rattle.jvm_types.specs.Verifying.{suits, some_taken, started, initialised, after_start, shape_after}
 use Rattle.jvm_types.specs.declared.program.MethodInfo.{MethodInfo}

@@ -4,7 +4,8 @@ use Rattle.std.specs.Prelude.{if◌then◌else◌}
 use Rattle.std.proofs.lemmas.Bool.{or_cases, or_left, or_right}
 use Rattle.std.proofs.lemmas.Bool.Decides.{nat_tests}
 use Rattle.jvm_types.specs.ClassTree.{object_class}
-use Rattle.jvm_types.specs.CodeTable.{Want, AnyValue, AnInt, AnObject, AnyReference, AHolder, ToStart}
+use Rattle.jvm_types.specs.declared.op_row.Want.{Want}
+use Rattle.jvm_types.specs.declared.op_row.Want.TheVariants.{AnyValue, AnInt, AnObject, AnyReference, AHolder, ToStart}
 use Rattle.jvm_types.specs.Types.{is_below, is_uninitialised, same_type}
 use Rattle.jvm_types.specs.Verifying.{suits}
 use Rattle.jvm_types.specs.declared.program.MethodInfo.{MethodInfo}

@@ -4,7 +4,8 @@ use Rattle.std.specs.Prelude.{◌==◌, slice_get}
 use Rattle.std.specs.List.{AllByRecursion}
 use Rattle.std.proofs.lemmas.Bool.Decides.{nat_tests}
 use Rattle.jvm_types.specs.CodeGrammar.{SpellsInsns, SpellsOp}
-use Rattle.jvm_types.specs.CodeTable.{OpRow, row, type_of, is_init}
+use Rattle.jvm_types.specs.CodeTable.{row, type_of, is_init}
+use Rattle.jvm_types.specs.declared.op_row.OpRow.{OpRow}
 use Rattle.jvm_types.specs.Members.{is_static}
 use Rattle.jvm_types.specs.Types.{Shape, if_same_place, meet, meets, receiver_types, entry_shape}
 use Rattle.jvm_types.specs.Verifying.{Node, node_at, first_nodes, node_joined, brought, all_brought, handled, covering, shape_at_handler, shape_after, edges, clash, catch_fault, broken_before, broken_after, gone_on, visited_row, visited_insn, visited, Visits}

@@ -4,7 +4,10 @@ use Rattle.std.specs.Prelude.{if◌then◌else◌, slice_get, slice_set, slice_i
 use Rattle.std.specs.List.{AllByRecursion}
 use Rattle.std.specs.Option.{option_map, option_to_list}
 use Rattle.jvm_types.specs.ClassTree.{int_array_class, print_stream_class}
-use Rattle.jvm_types.specs.CodeTable.{type_of, OpRow, Given, Fresh, Taken, Local, row, constant_row, get_static_row, get_row, put_row, put_static_row, virtual_row, special_row, static_row, value_of, stack_after, locals_after}
+use Rattle.jvm_types.specs.CodeTable.{type_of, row, constant_row, get_static_row, get_row, put_row, put_static_row, virtual_row, special_row, static_row, value_of, stack_after, locals_after}
+use Rattle.jvm_types.specs.declared.op_row.Given.{Given}
+use Rattle.jvm_types.specs.declared.op_row.Given.TheVariants.{Fresh, Taken, Local}
+use Rattle.jvm_types.specs.declared.op_row.OpRow.{OpRow}
 use Rattle.jvm_types.specs.Types.{Shape, same_type}
 use Rattle.jvm_types.specs.Verifying.{shape_after, after_start, started, initialised}
 use Rattle.jvm_types.specs.declared.code.Op.{Op}

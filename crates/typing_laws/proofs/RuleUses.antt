@@ -4,7 +4,10 @@ use Rattle.std.specs.Prelude.{nat_lt, nat_le, slice_get}
 use Rattle.std.proofs.lemmas.Bool.{or_parts}
 use Rattle.std.proofs.lemmas.Bool.Decides.{nat_tests}
 use Rattle.std.proofs.lemmas.List.{length-map, length-reverse}
-use Rattle.jvm_types.specs.CodeTable.{OpRow, Want, AnInt, type_of, want_of, arguments, returned, row}
+use Rattle.jvm_types.specs.CodeTable.{type_of, want_of, arguments, returned, row}
+use Rattle.jvm_types.specs.declared.op_row.Want.{Want}
+use Rattle.jvm_types.specs.declared.op_row.Want.TheVariants.{AnInt}
+use Rattle.jvm_types.specs.declared.op_row.OpRow.{OpRow}
 use Rattle.jvm_types.specs.Types.{Shape, is_below, all_pairs}
 use Rattle.jvm_types.specs.Verifying.{takes_too_many, gives_too_many, lacks_locals, misuses_object, mistypes, misuses, suits, some_taken, some_read, at_local, some_operand, names_no_local, returns_wrongly, falls_off}
 use Rattle.jvm_types.specs.declared.code.Insn.{Insn}

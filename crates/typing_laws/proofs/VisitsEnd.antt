@@ -5,7 +5,9 @@ use Rattle.std.specs.Prelude.{◌||◌, not, ◌==◌, if◌then◌else◌, slic
 use Rattle.std.specs.List.{AllByRecursion}
 use Rattle.std.proofs.lemmas.Bool.Decides.{nat_tests}
 use Rattle.std.proofs.lemmas.List.{length-append, length-drop, length-map, length-set}
-use Rattle.jvm_types.specs.CodeTable.{OpRow, Given, value_of, row, stack_after, locals_after}
+use Rattle.jvm_types.specs.CodeTable.{value_of, row, stack_after, locals_after}
+use Rattle.jvm_types.specs.declared.op_row.Given.{Given}
+use Rattle.jvm_types.specs.declared.op_row.OpRow.{OpRow}
 use Rattle.jvm_types.specs.Types.{Shape, meet_shapes, same_shape, entry_shape}
 use Rattle.jvm_types.specs.Verifying.{Node, node_at, first_nodes, node_joined, brought, all_brought, clash, shape_at_handler, catch_fault, unless_caught, handled, unless_broken, unless_clash, covering, edges, takes_too_many, gives_too_many, broken_before, broken_after, started, initialised, after_start, shape_after, gone_on, visited_row, visited_insn, visited, waiting_from, next_visit, IsLaidOut}
 use Rattle.jvm_types.specs.declared.code.Insn.{Insn}

@@ -1,7 +1,9 @@
 -- What holds at an instruction where no rule is broken: of the values that it takes and reads, of the arguments of a call,
 -- and of what a method returns.
 use Rattle.std.specs.Prelude.{◌≡◌, ℕ, true, false, List, [], ◌∷◌, ◌++◌, length, map, reverse, take, Some, None, slice_get}
-use Rattle.jvm_types.specs.CodeTable.{OpRow, Want, type_of, arguments, row}
+use Rattle.jvm_types.specs.CodeTable.{type_of, arguments, row}
+use Rattle.jvm_types.specs.declared.op_row.Want.{Want}
+use Rattle.jvm_types.specs.declared.op_row.OpRow.{OpRow}
 use Rattle.jvm_types.specs.Types.{Shape, is_below, all_pairs}
 use Rattle.jvm_types.specs.Verifying.{takes_too_many, gives_too_many, lacks_locals, misuses_object, mistypes, misuses, suits, broken_before, broken_after}
 use Rattle.jvm_types.specs.declared.code.Insn.{Insn}

@@ -1,7 +1,6 @@
 use Rattle.std.proofs.Common.{◌≡◌, map, drop}
 use Rattle.jvm_types.specs.Verifying.{started}
-use Rattle.code_verifier.specs.OpRows.{want_is}
 use Rattle.code_verifier.proofs.after.started.Given as goal
 
 abbrev pub invariant-loop-place : goal.invariant-loop-place
-invariant-loop-place l = started l.own (map want_is (drop l.place l.takes)) (drop l.place l.f.stack) ≡ started l.own (map want_is l.takes) l.f.stack
+invariant-loop-place l = started l.own (drop l.place l.takes) (drop l.place l.f.stack) ≡ started l.own l.takes l.f.stack

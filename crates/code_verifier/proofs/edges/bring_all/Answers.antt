@@ -4,7 +4,7 @@ use Rattle.std.proofs.lemmas.List.{drop_more}
 use Rattle.jvm_types.specs.Types.{Shape}
 use Rattle.jvm_types.specs.Verifying.{Node, brought, all_brought, clash}
 use Rattle.jvm_types.specs.declared.code.Insn.{Insn}
-use Rattle.code_verifier.specs.Placing.{Ascend}
+use Rattle.code_table.specs.PcTables.{Ascend}
 use Rattle.code_verifier.proofs.BroughtLaws.{level_brought}
 use Rattle.code_verifier.proofs.ClashLaws.{clash_more, left_none, right_none, still_none}
 use Rattle.code_verifier.proofs.edges.bring_all.Goals as goal
@@ -23,12 +23,12 @@ brought_more : (code : List Insn) (tos : List ℕ) (k : ℕ) (f : Shape) (nodes 
 brought_more code tos k f nodes mid whole h e inv = ap (λ l. all_brought code (drop (k + 1) tos) f l) e ∙ ap (λ l. all_brought code l f nodes) (sym (drop_more tos k 0 h)) ∙ inv
 
 pub bring-requires-clause-depth : goal.bring-requires-clause-depth
-bring-requires-clause-depth c = first_fits c.args.m.now.code c.args.tos.now c.loop-to.to-index (length c.args.f.now.stack) c.loop-to.nodes c.requires.ascend c.loop-to-test.true c.loop-to.invariant.depth
+bring-requires-clause-depth c = first_fits c.args.m.now.code c.args.tos.now c.loop-to.to-index (length c.args.f.now.stack) c.loop-to.nodes c.laid_out.ensures.ascend c.loop-to-test.true c.loop-to.invariant.depth
 
 pub loop-to-preserved : goal.loop-to-preserved
 loop-to-preserved c = record {
   brought = brought_more c.args.m.now.code c.args.tos.now c.loop-to.to-index c.args.f.now c.loop-to.nodes c.bring.new.nodes _ c.loop-to-test.true c.in_ok-bring.ensures c.loop-to.invariant.brought;
   level = rw c.in_ok-bring.ensures (level_brought c.args.m.now (slice_index_or c.args.tos.now c.loop-to.to-index 0) c.args.f.now c.loop-to.nodes c.requires.locals c.loop-to.invariant.level);
   depth = rw c.in_ok-bring.ensures (still_none c.args.m.now.code (drop (c.loop-to.to-index + 1) c.args.tos.now) (slice_index_or c.args.tos.now c.loop-to.to-index 0) c.args.f.now (length c.args.f.now.stack) c.loop-to.nodes refl
-      (others_fit c.args.m.now.code c.args.tos.now c.loop-to.to-index (length c.args.f.now.stack) c.loop-to.nodes c.requires.ascend c.loop-to-test.true c.loop-to.invariant.depth));
+      (others_fit c.args.m.now.code c.args.tos.now c.loop-to.to-index (length c.args.f.now.stack) c.loop-to.nodes c.laid_out.ensures.ascend c.loop-to-test.true c.loop-to.invariant.depth));
 }

@@ -3,7 +3,7 @@ use Rattle.std.specs.Prelude.{slice_index_or}
 use Rattle.std.proofs.lemmas.List.{drop_more, drop_all}
 use Rattle.jvm_types.specs.Verifying.{Node, clash}
 use Rattle.jvm_types.specs.declared.code.Insn.{Insn}
-use Rattle.code_verifier.specs.Placing.{Ascend}
+use Rattle.code_table.specs.PcTables.{Ascend}
 use Rattle.code_verifier.specs.Visiting.{lesser}
 use Rattle.code_verifier.proofs.ClashLaws.{clash_none, clash_more, lesser_assoc, lesser_none}
 use Rattle.code_verifier.proofs.edges.clash.Goals as goal
@@ -22,7 +22,7 @@ least_all code tos k depth nodes least whole h inv =
 
 pub loop-to-preserved : goal.loop-to-preserved
 loop-to-preserved c = least_more c.args.m.now.code c.args.tos.now c.loop-to.to-index c.args.depth c.args.nodes.now c.loop-to.least c.clash_at.result c.lesser-least.result _
-    c.requires.ascend c.loop-to-test.true c.clash_at.ensures c.lesser-least.ensures c.loop-to.invariant
+    c.laid_out.ensures.ascend c.loop-to-test.true c.clash_at.ensures c.lesser-least.ensures c.loop-to.invariant
 
 pub returns : goal.returns
 returns c = least_all c.args.m.now.code c.args.tos.now c.loop-to.to-index c.args.depth c.args.nodes.now c.loop-to.least _ c.loop-to-test.false c.loop-to.invariant

@@ -3,4 +3,4 @@ use Rattle.code_verifier.proofs.ClashLaws.{clash_at}
 use Rattle.code_verifier.proofs.edges.clash_at.Goals as goal
 
 pub returns : goal.returns
-returns c = rw (c.clash_place.ensures, c.find.ensures, c.requires.places c.args.to) (sym (clash_at 0 c.args.m.now.code c.args.to c.args.depth c.args.nodes.now c.requires.ascend))
+returns c = rw (c.clash_place.ensures, c.find.ensures) (sym (clash_at 0 c.args.m.now.code c.args.to c.args.depth c.args.nodes.now c.laid_out.ensures.ascend))

@@ -1,8 +1,7 @@
 use Rattle.std.proofs.Common.{◌≡◌, map, drop}
 use Rattle.jvm_types.specs.Verifying.{some_taken}
-use Rattle.code_verifier.specs.OpRows.{want_is}
 use Rattle.code_verifier.specs.Faults.{has_fault}
 use Rattle.code_verifier.proofs.operands.some_taken.Given as goal
 
 abbrev pub invariant-loop-place : goal.invariant-loop-place
-invariant-loop-place l = some_taken (has_fault l.m l.fault) (map want_is (drop l.place l.takes)) (drop l.place l.f.stack) ≡ some_taken (has_fault l.m l.fault) (map want_is l.takes) l.f.stack
+invariant-loop-place l = some_taken (has_fault l.m l.fault) (drop l.place l.takes) (drop l.place l.f.stack) ≡ some_taken (has_fault l.m l.fault) l.takes l.f.stack

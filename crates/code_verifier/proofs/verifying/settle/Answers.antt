@@ -23,13 +23,13 @@ break_of p m start now taken mid i Memory n t c h = tt
 break_of p m start now taken mid i (Refused rule pc) n t c h = broken p m start now i (rule, pc) n (sym (taken_visit p m now taken i t) ∙ h) c
 
 pub loop-i-smaller : goal.loop-i-smaller
-loop-i-smaller c = visit_works c.args.p.now c.args.m.now c.loop-i.nodes c.visit.new.nodes c.in-Some.i c.requires.laid c.loop-i.invariant.kept (sym c.in-Some.ensures.next)
+loop-i-smaller c = visit_works c.args.p.now c.args.m.now c.loop-i.nodes c.visit.new.nodes c.in-Some.i c.laid_out.ensures.laid c.loop-i.invariant.kept (sym c.in-Some.ensures.next)
     (done c.args.p.now c.args.m.now c.loop-i.nodes c.take_next.new.self c.visit.new.nodes c.in-Some.i c.in-Some.ensures.some c.in_ok-visit.ensures.left)
 
 pub loop-i-preserved : goal.loop-i-preserved
 loop-i-preserved c = record {
   level = c.in_ok-visit.ensures.level;
-  kept = visit_keeps c.args.p.now c.args.m.now c.loop-i.nodes c.visit.new.nodes c.in-Some.i c.requires.laid c.loop-i.invariant.kept
+  kept = visit_keeps c.args.p.now c.args.m.now c.loop-i.nodes c.visit.new.nodes c.in-Some.i c.laid_out.ensures.laid c.loop-i.invariant.kept
       (done c.args.p.now c.args.m.now c.loop-i.nodes c.take_next.new.self c.visit.new.nodes c.in-Some.i c.in-Some.ensures.some c.in_ok-visit.ensures.left);
   continues = continues_more c.args.p.now c.args.m.now c.args.nodes.now c.loop-i.nodes c.visit.new.nodes c.in-Some.i (sym c.in-Some.ensures.next)
       (done c.args.p.now c.args.m.now c.loop-i.nodes c.take_next.new.self c.visit.new.nodes c.in-Some.i c.in-Some.ensures.some c.in_ok-visit.ensures.left) c.loop-i.invariant.continues;

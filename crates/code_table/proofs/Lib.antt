@@ -1,0 +1,3 @@
+pub mod PcLaws
+pub mod ClassOfNew
+pub mod LaidOut

@@ -1,0 +1,3 @@
+pub mod PcTables
+pub mod Ways
+pub mod NewClasses

@@ -1,0 +1,21 @@
+//! The code table in Rust: the row of each instruction, where it goes on, which class is below which, and the
+//! number of the instruction at each pc. Verifying, tagging, marking and running go over it.
+#![tactic(auto)]
+
+mod class_tree;
+mod constant_rows;
+mod indexed_method;
+mod op_rows;
+mod pc_table;
+mod row_forms;
+mod ways;
+
+pub use class_tree::{common_ancestor, is_subclass};
+pub use constant_rows::{is_init, type_of};
+pub use indexed_method::IndexedMethod;
+pub use op_rows::row;
+pub use pc_table::PcTable;
+pub use ways::{branches_to, can_throw, edges, falls_through, goes_back};
+
+#[cfg(test)]
+mod tests;

@@ -1,7 +1,0 @@
-use Rattle.std.proofs.Common.{◌≡◌, map, drop}
-use Rattle.std.specs.Prelude.{nat_le}
-use Rattle.std.specs.List.{list_any}
-use Rattle.code_verifier.proofs.ways.some_case_back.Given as goal
-
-abbrev pub invariant-loop-case : goal.invariant-loop-case
-invariant-loop-case l = list_any (λ to. nat_le to l.pc) (map (λ c. c.target) (drop l.case-index l.cases)) ≡ list_any (λ to. nat_le to l.pc) (map (λ c. c.target) l.cases)

@@ -1,0 +1,7 @@
+/// The three instructions that call a method.
+#[derive(Clone, Copy, Debug, PartialEq, Eq)]
+pub enum Call {
+    Virtual,
+    Special,
+    Static,
+}
