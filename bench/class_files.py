@@ -1,23 +1,22 @@
 #!/usr/bin/env python3
-"""Measures how fast the built program reads class files of three shapes: many constants, many attributes,
-many members. Each is read at 256 KiB, 512 KiB and 1 MiB, so that one sees how the time grows.
+"""Measures how fast the built program reads class files of three shapes: many constants, many attributes, many members.
+4, 16 and 64 files of 1 MiB each are read, which is as much as a program may have, so that one sees how the time grows.
 
 Run it by hand from the top of the repository, after `./run --proved examples/A.class`:
 
     python3 bench/class_files.py
 
-A byte stands behind each class, so that the program refuses the file (C8) once it has read it whole, and does
-nothing else with it. The time of a run on a file of one byte, which is that of starting the program, is taken off.
+A byte stands behind the last class, so that the program refuses that file (C8) once it has read all files whole, and does
+nothing else with them. Each line has the median of the runs, less the start of the program, and the quartiles,
+between which half of the runs lie.
 """
 import os
-import subprocess
-import tempfile
-import time
 
-TOP = os.path.dirname(os.path.dirname(os.path.abspath(__file__)))
-PROGRAM = os.path.join(TOP, "crates", "solero", "out", "solero")
-RUNS = 15
-SIZES = (256 * 1024, 512 * 1024, 1024 * 1024)
+import measure
+
+RUNS = 9
+FILES = (4, 16, 64)
+SIZE = 1024 * 1024
 
 
 def u2(n):
@@ -61,46 +60,20 @@ def members(size):
     return class_file([], [u2(2) + u2(5) + u2(6) + u2(1) + u2(5) + u4(2) + b"01"] * many(size), [])
 
 
-def seconds(path):
-    best = None
-    for _ in range(RUNS):
-        start = time.perf_counter()
-        done = subprocess.run([PROGRAM, path], stdout=subprocess.PIPE, check=False)
-        took = time.perf_counter() - start
-        best = took if best is None else min(best, took)
-    return best, done.stdout.decode().strip()
-
-
-def copy_speed():
+def copying():
     source = bytearray(os.urandom(64 * 1024 * 1024))
-    best = None
-    for _ in range(5):
-        start = time.perf_counter()
-        bytes(source)
-        took = time.perf_counter() - start
-        best = took if best is None else min(best, took)
-    return len(source) / best / 1e6
+    median, first, third = measure.repeated(lambda: bytes(source), 15)
+    speed = len(source) / median / 1e6
+    print(f"copying 64 MiB: {median * 1000:.1f} ms, from {first * 1000:.1f} to {third * 1000:.1f} {speed:8.1f} MB/s")
 
 
-def main():
-    if not os.access(PROGRAM, os.X_OK):
-        raise SystemExit("no built program: run ./run --proved examples/A.class first")
-    with tempfile.TemporaryDirectory() as folder:
-        path = os.path.join(folder, "file.class")
-        with open(path, "wb") as out:
-            out.write(b"\xca")
-        start, _ = seconds(path)
-        print(f"start of the program: {start * 1000:.2f} ms")
-        print(f"memcpy of 64 MiB: {copy_speed():.0f} MB/s")
-        for shape in (constants, attributes, members):
-            for size in SIZES:
-                content = shape(size) + b"\0"
-                with open(path, "wb") as out:
-                    out.write(content)
-                took, answer = seconds(path)
-                net = max(took - start, 1e-6)
-                print(f"{shape.__name__:>10} {len(content):>8} bytes: {net * 1000:7.2f} ms {len(content) / net / 1e6:7.1f} MB/s  ({answer})")
+def lines(over):
+    copying()
+    for shape in (constants, attributes, members):
+        content = shape(SIZE)
+        for files in FILES:
+            print(over.line(f"{shape.__name__} {files} files", [content] * (files - 1) + [content + b"\0"]), flush=True)
 
 
 if __name__ == "__main__":
-    main()
+    measure.measured(RUNS, lines)

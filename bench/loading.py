@@ -1,23 +1,17 @@
 #!/usr/bin/env python3
-"""Measures how fast the built program decodes, links and verifies, and how the time grows where the input
-doubles.
+"""Measures how fast the built program decodes, links and verifies, and how the time grows where the input doubles.
 
 Run it by hand from the top of the repository, after `./run --proved examples/A.class`:
 
     python3 bench/loading.py
 
-Each program is made so that the stage that is measured is the last to be done: its last instruction, or its
-first class, breaks a rule of that stage, and the line of the refusal is printed beside the time. The time of a
-run on a file of one byte, which is that of starting the program, is taken off.
+Each program is made so that the stage that is measured is the last to be done: its last method, or its first class, breaks
+a rule of that stage, and the line of the refusal is printed beside the time. Each line has the median of the runs, less the
+start of the program, and the quartiles, between which half of the runs lie.
 """
-import os
-import subprocess
-import tempfile
-import time
+import measure
 
-TOP = os.path.dirname(os.path.dirname(os.path.abspath(__file__)))
-PROGRAM = os.path.join(TOP, "crates", "solero", "out", "solero")
-RUNS = 3
+RUNS = 5
 
 
 def u1(n):
@@ -81,42 +75,61 @@ class ClassFile:
 STATIC = 8
 
 
-def one_method(code, stack=2, local=1):
-    file = ClassFile("A")
-    file.method(STATIC, "init", "()V", code, stack, local)
-    return [file.content()]
+def files_of(codes, stack=2, local=1):
+    """Files with a static method of each code, 15 a file."""
+    contents = []
+    for first in range(0, len(codes), 15):
+        file = ClassFile(f"A{first // 15}")
+        for number, code in enumerate(codes[first : first + 15]):
+            file.method(STATIC, f"m{number}", "()V", code, stack, local)
+        contents.append(file.content())
+    return contents
 
 
-def decoding(size):
-    """`iconst_0, pop` over and over, and an unknown opcode at the end."""
-    return one_method((b"\x03\x57" * size)[: size - 1] + b"\xfe")
+def decoding(methods):
+    """Methods of 65,535 bytes, `iconst_0, pop` over and over; the last has an unknown opcode at its end."""
+    code = b"\x03\x57" * 32767
+    return files_of([code + b"\xb1"] * (methods - 1) + [code + b"\xfe"])
 
 
-def straight(size):
-    """The same without a return at the end, where it falls off its end."""
-    return one_method((b"\x03\x57" * size)[: size - 2] + b"\x03\x57")
+def straight(methods):
+    """The same, of which the last falls off its end."""
+    code = b"\x03\x57" * 32767
+    return files_of([code + b"\xb1"] * (methods - 1) + [code])
 
 
-def branches(size):
-    """`iconst_0, ifeq` to the start, of four bytes each, then off the end."""
+def branching():
+    """`iconst_0, ifeq` to the start, of four bytes each, 10,000 of them."""
     code = bytearray()
-    while len(code) + 6 <= size:
+    while len(code) + 6 <= 40000:
         way = -(len(code) + 1)
         if way < -32768:
             way = 4 - 1
         code += b"\x03\x99" + (way & 0xFFFF).to_bytes(2, "big")
-    return one_method(bytes(code) + b"\x03\x57")
+    return bytes(code)
 
 
-def joins(size):
+def branches(methods):
+    """Methods of 10,000 branches, of which the last falls off its end."""
+    code = branching()
+    return files_of([code + b"\xb1"] * (methods - 1) + [code + b"\x03\x57"])
+
+
+def joining():
     """Locals that are null on one way and an int on the other, so that each join changes its frame."""
     code = bytearray()
     local = 0
-    while len(code) + 12 <= size:
+    while len(code) + 12 <= 40000:
         # iconst_0, ifeq +6; aconst_null, astore; nop
         code += b"\x03\x99\x00\x06\x01\x3a" + u1(local % 200)
         local += 1
-    return one_method(bytes(code) + b"\x03\x57", 2, 200)
+    return bytes(code)
+
+
+def joins(methods):
+    """Methods of such joins over 200 locals, of which the last falls off its end."""
+    code = joining()
+    return files_of([code + b"\xb1"] * (methods - 1) + [code + b"\x03\x57"], 2, 200)
 
 
 def member_names(count):
@@ -163,46 +176,21 @@ def shared(constants):
     return [file.content()]
 
 
-def seconds(paths, runs=RUNS):
-    best = None
-    for _ in range(runs):
-        start = time.perf_counter()
-        done = subprocess.run([PROGRAM, *paths], stdout=subprocess.PIPE, check=False)
-        took = time.perf_counter() - start
-        best = took if best is None else min(best, took)
-    return best, done.stdout.decode().strip()
+SHAPES = (
+    (decoding, "methods", (60, 120, 240, 480)),
+    (straight, "methods", (8, 16, 32)),
+    (branches, "methods", (15, 30, 60)),
+    (joins, "methods", (8, 16, 32)),
+    (linking, "files", (16, 32, 64)),
+    (shared, "constants", (15000, 30000, 60000)),
+)
 
 
-def main():
-    if not os.access(PROGRAM, os.X_OK):
-        raise SystemExit("no built program: run ./run --proved examples/A.class first")
-    with tempfile.TemporaryDirectory() as folder:
-
-        def written(contents):
-            paths = []
-            for number, content in enumerate(contents):
-                paths.append(os.path.join(folder, f"{number}.class"))
-                with open(paths[-1], "wb") as out:
-                    out.write(content)
-            return paths
-
-        start, _ = seconds(written([b"\xca"]), 15)
-        print(f"start of the program: {start * 1000:.2f} ms")
-        for shape, sizes in (
-            (decoding, (16384, 32768, 65535)),
-            (straight, (16384, 32768, 65534)),
-            (branches, (10000, 20000, 40000)),
-            (joins, (10000, 20000, 40000)),
-            (linking, (8, 16, 32, 64)),
-            (shared, (15000, 30000, 60000)),
-        ):
-            for size in sizes:
-                contents = shape(size)
-                took, answer = seconds(written(contents))
-                whole = sum(len(content) for content in contents)
-                net = max(took - start, 1e-6)
-                print(f"{shape.__name__:>9} {size:>6}: {whole:>9} bytes {net * 1000:9.2f} ms  ({answer})", flush=True)
+def lines(over):
+    for shape, of, sizes in SHAPES:
+        for size in sizes:
+            print(over.line(f"{shape.__name__} {size} {of}", shape(size)), flush=True)
 
 
 if __name__ == "__main__":
-    main()
+    measure.measured(RUNS, lines)

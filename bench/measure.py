@@ -1,0 +1,74 @@
+"""Times runs of the built program: medians of repeated runs, with their spread, less the time that starting takes."""
+import os
+import statistics
+import subprocess
+import tempfile
+import time
+
+TOP = os.path.dirname(os.path.dirname(os.path.abspath(__file__)))
+PROGRAM = os.path.join(TOP, "crates", "solero", "out", "solero")
+
+
+def median_and_spread(times):
+    """The median, and the quartiles: half of the times lie between them."""
+    first, median, third = statistics.quantiles(times, n=4, method="inclusive")
+    return median, first, third
+
+
+def repeated(work, runs):
+    times = []
+    for _ in range(runs):
+        start = time.perf_counter()
+        work()
+        times.append(time.perf_counter() - start)
+    return median_and_spread(times)
+
+
+class Runs:
+    """Runs over files in a folder of their own. Each is repeated, and the start of the program, as measured on a file of
+    one byte, is taken off."""
+
+    def __init__(self, folder, runs):
+        self.folder = folder
+        self.runs = runs
+        self.answer = ""
+        self.start = self.times([b"\xca"], 3 * runs)
+
+    def times(self, contents, runs):
+        paths = []
+        for number, content in enumerate(contents):
+            paths.append(os.path.join(self.folder, f"{number}.class"))
+            with open(paths[-1], "wb") as out:
+                out.write(content)
+
+        def run():
+            done = subprocess.run([PROGRAM, *paths], stdout=subprocess.PIPE, check=False)
+            self.answer = done.stdout.decode().strip()
+
+        run()
+        return repeated(run, runs)
+
+    def line(self, name, contents):
+        """A line for these files, and how long they took, or None where that drowns in the start's spread."""
+        size = sum(len(content) for content in contents)
+        median, first, third = self.times(contents, self.runs)
+        start, start_first, start_third = self.start
+        net = median - start
+        told = f"{name:<22} {size:>10} bytes"
+        if net < 5 * (start_third - start_first):
+            return f"{told}   too short to tell from the start of the program  ({self.answer})"
+        return (
+            f"{told} {net * 1000:9.1f} ms, from {(first - start) * 1000:.1f} to {(third - start) * 1000:.1f}"
+            f" {size / net / 1e6:8.1f} MB/s  ({self.answer})"
+        )
+
+
+def measured(runs, measure):
+    """Calls `measure` with runs over the built program, and tells the start of the program first."""
+    if not os.access(PROGRAM, os.X_OK):
+        raise SystemExit("no built program: run ./run --proved examples/A.class first")
+    with tempfile.TemporaryDirectory() as folder:
+        over = Runs(folder, runs)
+        median, first, third = over.start
+        print(f"start of the program: {median * 1000:.2f} ms, from {first * 1000:.2f} to {third * 1000:.2f}", flush=True)
+        measure(over)
