@@ -4,7 +4,7 @@ use Rattle.jvm_types.specs.ClassTree.{is_subclass}
 use Rattle.jvm_types.specs.declared.outcome.End.TheVariants as ends
 use Rattle.machine_types.proofs.Writing.{usual, report, printed, shown}
 use Rattle.machine_types.proofs.Playing.{over, played}
-use Rattle.machine_types.proofs.WorkedAlone.{init_only, add_and_print}
+use Rattle.machine_types.proofs.WorkedAlone.{init_only, add_and_print, all_parts, low_bit}
 use Rattle.machine_types.proofs.WorkedPairs.{unlocked, alone, twice}
 
 -- 2 and 3 are added and printed.
@@ -48,3 +48,15 @@ pub twice_elides : played twice usual []
     ≡ over (report ends.Returned (printed 0 (pos 16) ∷ []) 52 1 0 1 0 ∷ []) ends.Returned (shown 0 (pos 16) ∷ []) 66 61
 unfolding is_subclass
 twice_elides = refl
+
+-- Three roots, in two parts.
+pub all_parts_run : played all_parts usual []
+    ≡ over (report ends.Returned (printed 0 (pos 1) ∷ printed 1 (pos 2) ∷ printed 2 (pos 3) ∷ []) 12 0 0 0 0 ∷ []) ends.Returned (shown 0 (pos 1) ∷ shown 0 (pos 2) ∷ shown 0 (pos 3) ∷ []) 19 15
+unfolding is_subclass
+all_parts_run = refl
+
+-- A field of type Z keeps the low bit.
+pub low_bit_is_kept : played low_bit usual []
+    ≡ over (report ends.Returned (printed 0 (pos 1) ∷ []) 6 0 0 0 0 ∷ []) ends.Returned (shown 0 (pos 1) ∷ []) 10 7
+unfolding is_subclass
+low_bit_is_kept = refl

@@ -1,11 +1,11 @@
 -- Runs with exceptions, caught and not.
-use Rattle.std.proofs.Common.{◌≡◌, pos, [], ◌∷◌, refl}
+use Rattle.std.proofs.Common.{◌≡◌, pos, false, [], ◌∷◌, refl}
 use Rattle.jvm_types.specs.ClassTree.{is_subclass}
 use Rattle.jvm_types.specs.declared.outcome.End.TheVariants as ends
 use Rattle.jvm_types.specs.declared.outcome.Thrown.TheVariants as thrown
 use Rattle.machine_types.proofs.Writing.{usual, report, printed, shown, row}
 use Rattle.machine_types.proofs.Playing.{over, played, raced}
-use Rattle.machine_types.proofs.WorkedAlone.{init_only, divide_by_zero, call_itself, return_only, index_and_throw}
+use Rattle.machine_types.proofs.WorkedAlone.{init_only, divide_by_zero, call_itself, return_only, index_and_throw, measure_null, catch_by_class, leaves_by_exception}
 use Rattle.machine_types.proofs.WorkedPairs.{divides, make_shared}
 
 -- A division by 0 that nothing catches.
@@ -37,3 +37,27 @@ pub root_overflows : raced (init_only 0 16385 return_only []) usual []
     ≡ over (report (ends.Uncaught thrown.StackOverflowError) [] 0 0 0 0 0 ∷ []) ends.NotRun [] 2 1
 unfolding is_subclass
 root_overflows = refl
+
+-- The length of null.
+pub null_throws : played (init_only 1 0 measure_null []) usual []
+    ≡ over (report (ends.Uncaught thrown.NullPointerException) [] 2 0 0 0 0 ∷ []) ends.NotRun [] 5 4
+unfolding is_subclass
+null_throws = refl
+
+-- The first row is for another class.
+pub second_row_catches : played (init_only 2 0 catch_by_class (row 0 4 4 14 ∷ row 0 4 5 5 ∷ [])) usual []
+    ≡ over (report ends.Returned (printed 0 (pos 4) ∷ []) 8 0 0 0 0 ∷ []) ends.Returned (shown 0 (pos 4) ∷ []) 13 10
+unfolding is_subclass
+second_row_catches = refl
+
+-- An exception leaves a section that has no lock.
+pub section_is_left_elided : played leaves_by_exception usual []
+    ≡ over (report (ends.Uncaught thrown.ArithmeticException) [] 10 1 0 0 0 ∷ []) ends.NotRun [] 17 15
+unfolding is_subclass
+section_is_left_elided = refl
+
+-- The same with the lock.
+pub section_is_left_locked : played leaves_by_exception (record usual { elide = false }) []
+    ≡ over (report (ends.Uncaught thrown.ArithmeticException) [] 10 0 0 1 0 ∷ []) ends.NotRun [] 18 15
+unfolding is_subclass
+section_is_left_locked = refl

@@ -30,3 +30,15 @@ pub last_record_to_wait : played_from_record 1023 (waits 2) (record usual { turn
     ≡ over (report ends.Returned [] 8 0 0 0 0 ∷ report ends.Turns [] 8 0 0 1 1 ∷ report ends.Turns [] 8 0 0 1 0 ∷ []) ends.NotRun [] 103 31
 unfolding is_subclass
 last_record_to_wait = refl
+
+-- The second notification finds no thread that waits.
+pub nobody_left_to_notify : played (waits 3) (record usual { turns = 30 }) (times 40 1 ++ times 40 3 ++ times 40 2)
+    ≡ over (report ends.Returned [] 8 0 0 0 0 ∷ report ends.Returned (printed 0 (pos 1) ∷ []) 13 0 0 1 1 ∷ report ends.Turns [] 8 0 0 1 0 ∷ report ends.Returned [] 14 0 0 2 0 ∷ []) ends.NotRun (shown 1 (pos 1) ∷ []) 130 59
+unfolding is_subclass
+nobody_left_to_notify = refl
+
+-- On a flat lock nobody waits yet.
+pub flat_notifications : played waits_deep (record usual { turns = 30 }) (times 60 3 ++ times 40 1 ++ times 40 2)
+    ≡ over (report ends.Returned [] 8 0 0 0 0 ∷ report ends.Turns [] 11 0 0 1 1 ∷ report ends.Turns [] 11 0 0 1 0 ∷ report ends.Returned [] 13 0 0 1 0 ∷ []) ends.NotRun [] 129 58
+unfolding is_subclass
+flat_notifications = refl

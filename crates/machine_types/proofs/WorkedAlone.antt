@@ -6,7 +6,9 @@ use Rattle.jvm_types.specs.declared.program.Kind.TheVariants as kinds
 use Rattle.jvm_types.specs.declared.program.Target.TheVariants as targets
 use Rattle.machine_types.specs.Sections.{Loaded}
 use Rattle.jvm_types.specs.declared.program.Row.{Row}
-use Rattle.machine_types.proofs.Writing.{Line, line, line_to, method, loaded}
+use Rattle.machine_types.specs.declared.section.Spot.TheVariants as spots
+use Rattle.machine_types.proofs.Writing.{Line, line, line_to, method, static_field, row, mark, loaded}
+use Rattle.machine_types.proofs.WorkedPairs.{constructor}
 
 abbrev pub init_only : (max_stack max_locals : ℕ) → List Line → List Row → Loaded
 init_only max_stack max_locals lines rows = loaded (codes "A") 0 [] (method 9 (codes "init") (codes "()V") [] None max_stack max_locals lines rows ∷ []) []
@@ -23,7 +25,48 @@ add_and_print_twice = line_to 0 3 (ops.Getstatic 10) targets.Out ∷ line 3 4 (o
     ∷ line 12 13 (ops.Iconst (pos 2)) ∷ line 13 14 (ops.Iconst (pos 3)) ∷ line 14 15 ops.Iadd
     ∷ line_to 15 18 (ops.Invokevirtual 16) targets.Println ∷ line 18 19 ops.Return ∷ []
 
+abbrev pub print_one : (n : ℤ) → List Line
+print_one n = line_to 0 3 (ops.Getstatic 10) targets.Out ∷ line 3 4 (ops.Iconst n) ∷ line_to 4 7 (ops.Invokevirtual 17) targets.Println ∷ line 7 8 ops.Return ∷ []
+
+-- `<clinit>` prints 1, `init` 2 and `done` 3
+abbrev pub all_parts : Loaded
+all_parts = loaded (codes "A") 0 []
+    (method 8 (codes "<clinit>") (codes "()V") [] None 2 0 (print_one (pos 1)) []
+    ∷ method 9 (codes "init") (codes "()V") [] None 2 0 (print_one (pos 2)) []
+    ∷ method 9 (codes "done") (codes "()V") [] None 2 0 (print_one (pos 3)) [] ∷ [])
+    []
+
+-- 3 is stored in a static field of type Z, which is printed
+abbrev pub keep_low_bit : List Line
+keep_low_bit = line 0 1 (ops.Iconst (pos 3)) ∷ line_to 1 4 (ops.Putstatic 12) (targets.Field 0) ∷ line_to 4 7 (ops.Getstatic 10) targets.Out
+    ∷ line_to 7 10 (ops.Getstatic 12) (targets.Field 0) ∷ line_to 10 13 (ops.Invokevirtual 17) targets.Println ∷ line 13 14 ops.Return ∷ []
+
+abbrev pub low_bit : Loaded
+low_bit = loaded (codes "A") 0 (static_field kinds.Bool 2070 ∷ []) (method 9 (codes "init") (codes "()V") [] None 2 0 keep_low_bit [] ∷ []) []
+
 -- ---- exceptions
+
+abbrev pub measure_null : List Line
+measure_null = line 0 1 ops.AconstNull ∷ line 1 2 ops.Arraylength ∷ line 2 3 ops.Pop ∷ line 3 4 ops.Return ∷ []
+
+-- a division by 0 that the second row catches, which prints 4
+abbrev pub catch_by_class : List Line
+catch_by_class = line 0 1 (ops.Iconst (pos 1)) ∷ line 1 2 (ops.Iconst (pos 0)) ∷ line 2 3 ops.Idiv ∷ line 3 4 ops.Pop ∷ line 4 5 ops.Return
+    ∷ line 5 6 ops.Pop ∷ line_to 6 9 (ops.Getstatic 10) targets.Out ∷ line 9 10 (ops.Iconst (pos 4))
+    ∷ line_to 10 13 (ops.Invokevirtual 17) targets.Println ∷ line 13 14 ops.Return ∷ []
+
+-- an exception leaves a synchronized method, whose section is marked
+abbrev pub call_and_divide : List Line
+call_and_divide = line_to 0 3 (ops.New 2) (targets.Class 17) ∷ line 3 4 ops.Dup ∷ line_to 4 7 (ops.Invokespecial 5) (targets.Method 0)
+    ∷ line_to 7 10 (ops.Invokevirtual 7) (targets.Method 1) ∷ line 10 11 ops.Pop ∷ line 11 12 ops.Return ∷ []
+
+abbrev pub divide_and_return : List Line
+divide_and_return = line 0 1 (ops.Iconst (pos 1)) ∷ line 1 2 (ops.Iconst (pos 0)) ∷ line 2 3 ops.Idiv ∷ line 3 4 ops.Ireturn ∷ []
+
+abbrev pub leaves_by_exception : Loaded
+leaves_by_exception = loaded (codes "T") 0 []
+    (constructor ∷ method 32 (codes "get") (codes "()I") [] (Some kinds.Int) 2 1 divide_and_return [] ∷ method 9 (codes "init") (codes "()V") [] None 2 0 call_and_divide [] ∷ [])
+    (mark 1 spots.Method 0 ∷ [])
 
 abbrev pub divide_by_zero : List Line
 divide_by_zero = line 0 1 (ops.Iconst (pos 1)) ∷ line 1 2 (ops.Iconst (pos 0)) ∷ line 2 3 ops.Idiv ∷ line 3 4 ops.Pop
