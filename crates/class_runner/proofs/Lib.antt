@@ -2,6 +2,6 @@ pub mod ByTicket
 pub mod FilesRead
 pub mod MethodsDecoded
 pub mod MethodsTyped
-pub mod StackTops
+pub mod OperandRuns
 pub mod FirstOps
 pub mod LoadedOnce

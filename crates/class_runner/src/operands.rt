@@ -1,44 +1,25 @@
 //! The operand stack of a method of the first form (JVMS 2.6.2), with what kind of value stands at each
 //! place.
 
-ghost use Rattle.std.specs.Prelude.{◌≡◌, ◌≤◌, [], ◌∷◌, length, Some, None, OnOk, IfOk, MatchOption};
+ghost use Rattle.std.specs.Prelude.{[], IfOk};
 ghost use Rattle.jvm_types.specs.FirstForm.{typed, RunsWithin};
-ghost use Rattle.class_runner.specs.Operands.{operand, tops, IsStep, Tells};
+ghost use Rattle.class_runner.specs.Operands.{IsStep, Tells};
 
-use jvm_types::{FirstOp, Rows};
+use jvm_types::{FirstOp, Operand, Stack};
 use std::alloc::{AllocError, Global};
 
-/// What a place of the stack holds.
-#[derive(Clone, Copy, Debug, PartialEq, Eq)]
-pub enum Operand {
-    Number,
-    Stream,
-}
-
-fn push(stack: &mut Rows<Operand>, item: Operand) -> Result<(), AllocError>
-    ensures { OnOk result (tops stack.new ≡ operand item ∷ tops stack.old) }
-{
-    stack.push(item)
-}
-
-fn pop(stack: &mut Rows<Operand>) -> Option<Operand>
-    ensures { MatchOption result (tops stack.old ≡ []) (λ item. tops stack.old ≡ operand item ∷ tops stack.new) }
-{
-    stack.pop()
-}
-
 /// Runs one instruction on the kinds of its operands (JVMS 6.5). Whether it finds its operands.
-fn step(stack: &mut Rows<Operand>, op: FirstOp) -> Result<bool, AllocError>
-    ensures { IfOk result (λ found. IsStep (typed op (tops stack.old)) (tops stack.new) found) }
+fn step(stack: &mut Stack<Operand>, op: FirstOp) -> Result<bool, AllocError>
+    ensures { IfOk result (λ found. IsStep (typed op stack.old) stack.new found) }
 {
     match op {
-        FirstOp::Out => push(stack, Operand::Stream)?,
-        FirstOp::Const(_) => push(stack, Operand::Number)?,
-        FirstOp::Add => match (pop(stack), pop(stack)) {
-            (Some(Operand::Number), Some(Operand::Number)) => push(stack, Operand::Number)?,
+        FirstOp::Out => stack.push(Operand::Stream)?,
+        FirstOp::Const(_) => stack.push(Operand::Number)?,
+        FirstOp::Add => match (stack.pop(), stack.pop()) {
+            (Some(Operand::Number), Some(Operand::Number)) => stack.push(Operand::Number)?,
             _ => return Ok(false),
         },
-        FirstOp::Print => match (pop(stack), pop(stack)) {
+        FirstOp::Print => match (stack.pop(), stack.pop()) {
             (Some(Operand::Number), Some(Operand::Stream)) => {}
             _ => return Ok(false),
         },
@@ -51,7 +32,7 @@ fn step(stack: &mut Rows<Operand>, op: FirstOp) -> Result<bool, AllocError>
 pub fn runs_within(alloc: Global, most: u16, ops: &[FirstOp]) -> Result<bool, AllocError>
     ensures { IfOk result (λ answer. Tells answer (RunsWithin most [] ops.now)) }
 {
-    let mut stack = Rows::new(alloc);
+    let mut stack = Stack::new(alloc);
     for op in ops {
         if !step(&mut stack, *op)? || stack.len() > usize::from(most) {
             return Ok(false);

@@ -16,6 +16,8 @@ use Rattle.jvm_types.specs.declared.code.Op.{Op}
 use Rattle.jvm_types.specs.declared.code.Op.TheVariants as ops
 use Rattle.jvm_types.specs.declared.first.FirstOp.{FirstOp}
 use Rattle.jvm_types.specs.declared.first.FirstOp.TheVariants.{Out, Const, Add, Print, Return}
+use Rattle.jvm_types.specs.declared.first.Operand.{Operand}
+use Rattle.jvm_types.specs.declared.first.Operand.TheVariants.{Number, Stream}
 use Rattle.jvm_types.specs.declared.program.Target.{Target}
 use Rattle.jvm_types.specs.declared.program.Target.TheVariants as targets
 use Rattle.jvm_types.specs.declared.program.MethodInfo.{MethodInfo}
@@ -74,11 +76,6 @@ AreFirstOps (insn ∷ insns) (target ∷ targets) (op ∷ ops) = (first_op insn.
 AreFirstOps insns targets ops = ⊥
 
 -- ---- what may be run
-
--- what a place of the stack holds
-pub data Operand : Type 0 where
-  Number : Operand
-  Stream : Operand
 
 -- the stack after an instruction, the top first; None where it finds other operands (JVMS 6.5)
 abbrev pub typed : FirstOp → List Operand → Option (List Operand)

@@ -1,3 +1,5 @@
+//! Programs of the first form: a class whose `init` adds and prints.
+
 /// One instruction of a file of the first form: a class whose `init` adds and prints.
 #[derive(Clone, Copy, Debug, PartialEq, Eq)]
 pub enum FirstOp {
@@ -11,4 +13,12 @@ pub enum FirstOp {
     Print,
     /// `return`.
     Return,
+}
+
+/// What a place of the operand stack holds while such a program runs.
+#[derive(Clone, Copy)]
+pub enum Operand {
+    Number,
+    /// The reference to `System.out`.
+    Stream,
 }

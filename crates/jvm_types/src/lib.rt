@@ -30,7 +30,7 @@ pub use class_laws::{
     counts_fit, faults_inside, one_class, one_spelling, read_what_is_spelled, spelled_or_faulty,
 };
 pub use code::{Case, Cmp, Insn, Op};
-pub use first::FirstOp;
+pub use first::{FirstOp, Operand};
 pub use gate::{Gate, OpenGate};
 pub use index_kind::IndexKind;
 pub use lists::{Bytes, Room, Rows, Stack};

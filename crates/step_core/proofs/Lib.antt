@@ -1,4 +1,3 @@
-pub mod Tops
 pub mod Tickets
 pub mod Runs
 pub mod Goes

@@ -5,8 +5,8 @@ ghost use Rattle.jvm_types.specs.declared.first.FirstOp.{FirstOp as Op};
 ghost use Rattle.step_core.specs.PlainRun.{effect, gone_on, outcome_of, IsPlainOutcome};
 ghost use Rattle.step_core.specs.Progress.{top_frame, shown, acts_until, returned, IsTicketed, IsReached};
 
-use crate::frame::{Frame, Stack};
-use jvm_types::{Counts, End, FirstOp, Outcome, Print, Rows, ThreadReport};
+use crate::frame::Frame;
+use jvm_types::{Counts, End, FirstOp, Outcome, Print, Rows, Stack, ThreadReport};
 use std::alloc::{AllocError, Global};
 
 /// Thread 0 in its one frame, with the word of print tickets, which no other thread uses.

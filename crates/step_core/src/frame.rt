@@ -1,69 +1,29 @@
-ghost use Rattle.std.specs.Prelude.{◌≡◌, ◌+◌, ◌<◌, [], ◌∷◌, IfOk, OnOk, IsSome, MatchOption};
-ghost use Rattle.std.specs.Option.{option_to_list};
-ghost use Rattle.step_core.specs.PlainRun.{effect, Number};
-ghost use Rattle.step_core.specs.Operands.{value_of, IsNumberFirst};
+//! Frames.
 
-use jvm_types::{FirstOp, Rows};
-use std::alloc::{AllocError, Global};
-use std::marker::Model;
+ghost use Rattle.std.specs.Prelude.{◌≡◌, ◌+◌, ◌<◌, ◌∷◌, IfOk, OnOk, IsSome};
+ghost use Rattle.std.specs.Option.{option_to_list};
+ghost use Rattle.step_core.specs.PlainRun.{effect};
+ghost use Rattle.step_core.specs.Operands.{IsNumberFirst};
+
+use jvm_types::{FirstOp, Stack};
+use std::alloc::AllocError;
 
 /// A value on an operand stack.
 #[derive(Clone, Copy, Debug, PartialEq, Eq)]
-pub enum Operand {
-    Int(i32),
+pub enum Value {
+    Number(i32),
     /// The reference to `System.out`.
     Stream,
 }
 
-/// An operand stack, the top last, which contracts see as the list of its values with the top first.
-#[derive(Debug, Drop)]
-pub struct Stack {
-    items: Rows<Operand>,
-}
-
-impl Model for Stack {
-    ghost use Rattle.std.specs.Prelude.{List};
-    ghost use Rattle.step_core.specs.PlainRun.{Value as PlainValue};
-    ghost use Rattle.step_core.specs.Operands.{tops};
-
-    ghost Value = { List PlainValue };
-
-    ghost view = { λ s. tops s.items };
-}
-
-impl Stack {
-    #[tactic(auto, unfolding(crate::specs::Operands::tops))]
-    pub fn new(alloc: Global) -> Self
-        ensures { result ≡ [] }
-    {
-        Stack {
-            items: Rows::new(alloc),
-        }
-    }
-
-    #[tactic(auto, using(crate::proofs::Tops::tops_push))]
-    fn push(&mut self, operand: Operand) -> Result<(), AllocError>
-        ensures { OnOk result (self.new ≡ value_of operand ∷ self.old) }
-    {
-        self.items.push(operand)
-    }
-
-    #[tactic(auto, using(crate::proofs::Tops::tops_push))]
-    fn pop(&mut self) -> Option<Operand>
-        ensures { MatchOption result (self.old ≡ []) (λ top. self.old ≡ value_of top ∷ self.new) }
-    {
-        self.items.pop()
-    }
-
-    /// Takes the int on the top.
-    fn pop_int(&mut self) -> i32
-        requires { IsNumberFirst self.old }
-        ensures { self.old ≡ Number result ∷ self.new }
-    {
-        match self.pop() {
-            Some(Operand::Int(n)) => n,
-            _ => unreachable!(),
-        }
+/// Takes the int on the top.
+fn pop_number(stack: &mut Stack<Value>) -> i32
+    requires { IsNumberFirst stack.old }
+    ensures { stack.old ≡ Value.Number result ∷ stack.new }
+{
+    match stack.pop() {
+        Some(Value::Number(n)) => n,
+        _ => unreachable!(),
     }
 }
 
@@ -71,7 +31,7 @@ impl Stack {
 #[derive(Debug, Drop)]
 pub struct Frame {
     pub pc: usize,
-    pub stack: Stack,
+    pub stack: Stack<Value>,
 }
 
 impl Frame {
@@ -84,15 +44,15 @@ impl Frame {
     {
         let mut number = None;
         match op {
-            FirstOp::Out => self.stack.push(Operand::Stream)?,
-            FirstOp::Const(n) => self.stack.push(Operand::Int(n))?,
+            FirstOp::Out => self.stack.push(Value::Stream)?,
+            FirstOp::Const(n) => self.stack.push(Value::Number(n))?,
             FirstOp::Add => {
-                let b = self.stack.pop_int();
-                let a = self.stack.pop_int();
-                self.stack.push(Operand::Int(a.wrapping_add(b)))?;
+                let b = pop_number(&mut self.stack);
+                let a = pop_number(&mut self.stack);
+                self.stack.push(Value::Number(a.wrapping_add(b)))?;
             }
             FirstOp::Print => {
-                number = Some(self.stack.pop_int());
+                number = Some(pop_number(&mut self.stack));
                 let _stream = self.stack.pop();
             }
             FirstOp::Return => unreachable!(),

@@ -1,40 +1,18 @@
--- The stack with its top first, and running instructions on it.
-use Rattle.std.proofs.Common.{◌≡◌, ℕ, ◌+◌, ◌<◌, ◌≤◌, List, [], ◌∷◌, ◌++◌, length, get_or, drop, Option, Some, None, Result, Ok, Err, MatchOption, refl, sym, ap, subst, ◌∙◌, arith}
-use Rattle.std.specs.Prelude.{OnOk, IsSomeAnd}
-use Rattle.std.proofs.lemmas.List.{reverse-append, length-reverse, length-map, drop_more, drop_all}
-use Rattle.jvm_types.specs.FirstForm.{Operand, typed, RunsWithin}
+-- Running instructions on a stack of operands.
+use Rattle.std.proofs.Common.{◌≡◌, ℕ, ◌+◌, ◌<◌, ◌≤◌, List, [], ◌∷◌, length, get_or, drop, Option, Some, None, sym, subst, arith}
+use Rattle.std.specs.Prelude.{IsSomeAnd}
+use Rattle.std.proofs.lemmas.List.{drop_more, drop_all}
+use Rattle.jvm_types.specs.FirstForm.{typed, RunsWithin}
+use Rattle.jvm_types.specs.declared.first.Operand.{Operand}
 use Rattle.jvm_types.specs.declared.first.FirstOp.{FirstOp}
 use Rattle.jvm_types.specs.declared.first.FirstOp.TheVariants.{Out}
-use Rattle.class_runner.specs.declared.operands.Operand.{Operand as Place}
-use Rattle.class_runner.specs.Operands.{operand, tops}
-
-pub on_ok : {X E P Q : Type 0} (r : Result X E) → (P → Q) → OnOk r P → OnOk r Q
-on_ok (Ok x) f h = f h
-on_ok (Err e) f h = tt
-
-tops_push : (old : List Place) (x : Place) → tops (old ++ x ∷ []) ≡ operand x ∷ tops old
-unfolding tops
-tops_push old x = rw reverse-append refl
-
-pub pushed : {X E : Type 0} (r : Result X E) (old new : List Place) (x : Place) → OnOk r (new ≡ old ++ x ∷ []) → OnOk r (tops new ≡ operand x ∷ tops old)
-pushed r old new x h = on_ok r (λ e. ap tops e ∙ tops_push old x) h
-
-pub popped : (r : Option Place) (old new : List Place) → MatchOption r ((old ≡ []) × (new ≡ [])) (λ last. old ≡ new ++ last ∷ []) → MatchOption r (tops old ≡ []) (λ item. tops old ≡ operand item ∷ tops new)
-unfolding tops
-popped None old new h = ap tops h.0
-popped (Some x) old new h = ap tops h ∙ tops_push new x
-
-pub length-tops : (stack : List Place) → length (tops stack) ≡ length stack
-unfolding tops
-length-tops stack = rw (length-map, length-reverse) refl
 
 -- what is left runs from this stack exactly where all of it runs from the empty one
 pub record GoesOn (most : ℕ) (stack : List Operand) (left all : List FirstOp) : Type 0 where
   pub whole : RunsWithin most stack left → RunsWithin most [] all
   pub rest : RunsWithin most [] all → RunsWithin most stack left
 
-pub begins : (most : ℕ) (ops : List FirstOp) → GoesOn most (tops []) ops ops
-unfolding tops
+pub begins : (most : ℕ) (ops : List FirstOp) → GoesOn most [] ops ops
 begins most ops = record { whole = λ h. h; rest = λ h. h }
 
 -- the instruction of this number, and those behind it
