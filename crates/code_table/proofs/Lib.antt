@@ -1,3 +1,4 @@
 pub mod PcLaws
 pub mod ClassOfNew
 pub mod LaidOut
+pub mod NumbersExact

@@ -1,3 +1,4 @@
 pub mod PcTables
 pub mod Ways
 pub mod NewClasses
+pub mod NumberLaws

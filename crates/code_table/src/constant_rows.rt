@@ -48,10 +48,7 @@ fn reversed_wants(alloc: Global, kinds: &[Kind]) -> Result<Vec<Want>, AllocError
 fn arguments(alloc: Global, called: &MethodInfo) -> Result<Rows<Want>, AllocError>
     ensures { IfOk result (λ wants. wants ≡ arguments called.now) }
 {
-    Ok(Rows::from_vec(reversed_wants(
-        alloc,
-        called.args.as_slice(),
-    )?))
+    Ok(Rows::from_vec(reversed_wants(alloc, called.args.as_slice())?))
 }
 
 /// The result of a method, where it has one.
@@ -209,7 +206,11 @@ pub fn constant_row(
         Target::Method(f) => method_row(alloc, p, pc, f, op),
         Target::Init(class) => stack_row(alloc, &[Want::ToStart(class)], &[]),
         Target::Out => stack_row(alloc, &[], &[Given::Fresh(VType::Ref(PRINT_STREAM_CLASS))]),
-        Target::Println => stack_row(alloc, &[Want::AnInt, Want::AnObject(PRINT_STREAM_CLASS)], &[]),
+        Target::Println => stack_row(
+            alloc,
+            &[Want::AnInt, Want::AnObject(PRINT_STREAM_CLASS)],
+            &[],
+        ),
         Target::Wait | Target::Notify | Target::NotifyAll => {
             stack_row(alloc, &[Want::AnObject(OBJECT_CLASS)], &[])
         }

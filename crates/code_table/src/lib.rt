@@ -5,6 +5,7 @@
 mod class_tree;
 mod constant_rows;
 mod indexed_method;
+mod number_laws;
 mod op_rows;
 mod pc_table;
 mod row_forms;
@@ -13,6 +14,7 @@ mod ways;
 pub use class_tree::{common_ancestor, is_subclass};
 pub use constant_rows::{is_init, type_of};
 pub use indexed_method::IndexedMethod;
+pub use number_laws::numbers_are_exact;
 pub use op_rows::row;
 pub use pc_table::PcTable;
 pub use ways::{branches_to, can_throw, edges, falls_through, goes_back};

@@ -63,7 +63,14 @@ fn takes_the_last_argument_first(rt: HostRuntime) -> Result<(), Fail> {
     let mut p = no_program(rt.alloc());
     p.methods.push(two_to_one(rt.alloc())?)?;
     let m = two_to_one(rt.alloc())?;
-    let call = row(rt.alloc(), &p, &m, 0, Target::Method(0), &Op::Invokestatic(1))?;
+    let call = row(
+        rt.alloc(),
+        &p,
+        &m,
+        0,
+        Target::Method(0),
+        &Op::Invokestatic(1),
+    )?;
     assert!(rt; call.takes.as_slice() == [Want::AnObject(18), Want::AnInt].as_slice());
     assert!(rt; call.gives.as_slice() == [Given::Fresh(VType::Int)].as_slice());
     let store = row(rt.alloc(), &p, &m, 0, Target::Nothing, &Op::Istore(1))?;
@@ -73,10 +80,7 @@ fn takes_the_last_argument_first(rt: HostRuntime) -> Result<(), Fail> {
 
 #[test]
 fn a_switch_goes_on_at_its_cases(rt: HostRuntime) -> Result<(), Fail> {
-    let cases = [Case {
-        key: 3,
-        target: 20,
-    }];
+    let cases = [Case { key: 3, target: 20 }];
     let op = Op::Lookupswitch {
         otherwise: 30,
         cases: Rows::from_slice(rt.alloc(), &cases)?,
@@ -84,7 +88,11 @@ fn a_switch_goes_on_at_its_cases(rt: HostRuntime) -> Result<(), Fail> {
     assert!(rt; branches_to(rt.alloc(), &op)?.as_slice() == [30, 20].as_slice());
     assert!(rt; goes_back(20, &op) && !goes_back(19, &op));
     assert!(rt; !falls_through(&op) && !can_throw(&op));
-    let insn = Insn { pc: 0, next: 3, op: Op::Ifnull(9) };
+    let insn = Insn {
+        pc: 0,
+        next: 3,
+        op: Op::Ifnull(9),
+    };
     assert!(rt; edges(rt.alloc(), &insn)?.as_slice() == [9, 3].as_slice());
     Ok(())
 }
@@ -92,8 +100,16 @@ fn a_switch_goes_on_at_its_cases(rt: HostRuntime) -> Result<(), Fail> {
 #[test]
 fn finds_instructions_by_their_pcs(rt: HostRuntime) -> Result<(), Fail> {
     let code = [
-        Insn { pc: 0, next: 3, op: Op::Goto(3) },
-        Insn { pc: 3, next: 4, op: Op::Return },
+        Insn {
+            pc: 0,
+            next: 3,
+            op: Op::Goto(3),
+        },
+        Insn {
+            pc: 3,
+            next: 4,
+            op: Op::Return,
+        },
     ];
     let table = PcTable::of(rt.alloc(), &code)?;
     assert!(rt; table.find(0) == Some(0) && table.find(3) == Some(1));
