@@ -1,4 +1,4 @@
--- What linking leaves of a method: its pcs ascend, and its nodes at the start have the locals of the entry frame.
+-- The nodes of a method at the start have the locals of the entry frame.
 use Rattle.std.proofs.Common.{◌≡◌, ℕ, zero, suc, ◌<◌, ◌≤◌, true, false, List, [], ◌∷◌, length, map, replicate, Some, refl, sym, ap, ◌∙◌, arith}
 use Rattle.std.specs.Prelude.{slice_get, slice_set}
 use Rattle.std.specs.Option.{IfSome}
@@ -17,23 +17,6 @@ use Rattle.jvm_types.specs.declared.program.Program.{Program}
 use Rattle.code_table.specs.PcTables.{Ascend}
 use Rattle.code_verifier.specs.Waiting.{unreached}
 use Rattle.code_verifier.specs.Visiting.{HasLocals, AreLevel}
-
--- ---- the code
-
-rows_turned : (handlers : List Handler) (rows : List Row) → AllZip IsRowOf handlers rows → AllZip (λ (r : Row) (h : Handler). (r.start ≡ h.start) × (r.end ≡ h.end) × (r.handler ≡ h.handler)) rows handlers
-rows_turned [] [] all = all
-rows_turned [] (r ∷ rows) all = absurd all
-rows_turned (h ∷ handlers) [] all = absurd all
-rows_turned (h ∷ handlers) (r ∷ rows) all = ((all.0.start, all.0.end, all.0.handler), rows_turned handlers rows all.1)
-
-pub laid_out : (p : Program) (before : List MethodInfo) (m : MethodInfo) → IsMethodOf p before m → IsLaidOut m
-laid_out p before m is = record {
-  bytes = is.coded.bytes;
-  handlers = is.coded.handlers;
-  code = is.coded.code;
-  rows = rows_turned is.coded.handlers m.rows is.coded.rows;
-  targets = AllZip-long (λ (insn : Insn) target. IsTargetOf p (site_in m) insn.op target) m.code m.targets is.targets;
-}
 
 -- ---- the nodes at the start
 

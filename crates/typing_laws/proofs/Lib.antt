@@ -20,3 +20,4 @@ pub mod EntryFrame
 pub mod RowsKeep
 pub mod NewEdges
 pub mod NewVisits
+pub mod KnownTyping

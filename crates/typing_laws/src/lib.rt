@@ -19,4 +19,7 @@ pub use new_laws::{behind_rises, new_is_behind, new_stays_behind};
 pub use rule_laws::{
     arguments_suit, read_is_good, receiver_is_good, returns_suit, taken_are_good, unbroken_hold,
 };
-pub use visit_laws::{one_refusal, one_typing, typed_is_not_refused, typed_or_refused};
+pub use visit_laws::{
+    frames_say_typing, one_refusal, one_typing, one_typing_of, typed_is_not_refused,
+    typed_or_refused,
+};
