@@ -1,20 +1,14 @@
 -- The nodes of a method at the start have the locals of the entry frame.
-use Rattle.std.proofs.Common.{◌≡◌, ℕ, zero, suc, ◌<◌, ◌≤◌, true, false, List, [], ◌∷◌, length, map, replicate, Some, refl, sym, ap, ◌∙◌, arith}
+use Rattle.std.proofs.Common.{◌≡◌, ℕ, zero, suc, ◌<◌, true, false, List, [], ◌∷◌, length, map, replicate, Some, refl, sym, ap, ◌∙◌, arith}
 use Rattle.std.specs.Prelude.{slice_get, slice_set}
 use Rattle.std.specs.Option.{IfSome}
-use Rattle.std.specs.List.{AllByRecursion, AllZip}
-use Rattle.std.proofs.lemmas.Slice.Zip.{AllZip-long}
+use Rattle.std.specs.List.{AllByRecursion}
 use Rattle.std.proofs.lemmas.List.{length-set}
-use Rattle.jvm_types.specs.CodeGrammar.{SpellsInsns, SpellsOp}
-use Rattle.jvm_types.specs.ProgramInvariant.{IsMethodOf, IsRowOf, IsTargetOf, site_in}
 use Rattle.jvm_types.specs.Types.{entry_shape}
-use Rattle.jvm_types.specs.Verifying.{Node, node_at, first_nodes, node_joined, visited, visited_insn, IsLaidOut}
-use Rattle.jvm_types.specs.declared.class_file.Handler.{Handler}
+use Rattle.jvm_types.specs.Verifying.{Node, node_at, first_nodes, node_joined, visited, visited_insn}
 use Rattle.jvm_types.specs.declared.code.Insn.{Insn}
-use Rattle.jvm_types.specs.declared.program.Row.{Row}
 use Rattle.jvm_types.specs.declared.program.MethodInfo.{MethodInfo}
 use Rattle.jvm_types.specs.declared.program.Program.{Program}
-use Rattle.code_table.specs.PcTables.{Ascend}
 use Rattle.code_verifier.specs.Waiting.{unreached}
 use Rattle.code_verifier.specs.Visiting.{HasLocals, AreLevel}
 

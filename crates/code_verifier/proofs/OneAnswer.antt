@@ -1,12 +1,9 @@
 -- A method has one answer.
-use Rattle.std.proofs.Common.{◌≡◌, List, [], ◌∷◌, map, reverse, Option, Some, None, Result, refl, sym, ap, ◌∙◌}
+use Rattle.std.proofs.Common.{◌≡◌, Result, refl}
 use Rattle.std.specs.Prelude.{IfOk, IfErr}
-use Rattle.std.specs.Option.{option_map}
-use Rattle.std.proofs.lemmas.List.{reverse-reverse}
 use Rattle.std.proofs.lemmas.Result.{IfOk-weaker, IfErr-weaker}
-use Rattle.jvm_types.specs.Types.{Shape, shape_of, shapes_of}
+use Rattle.jvm_types.specs.Types.{shapes_of}
 use Rattle.jvm_types.specs.Verifying.{IsTypingOf}
-use Rattle.jvm_types.specs.declared.typing.TypeFrame.{TypeFrame}
 use Rattle.jvm_types.specs.declared.typing.Typing.{Typing}
 use Rattle.jvm_types.specs.declared.program.MethodInfo.{MethodInfo}
 use Rattle.jvm_types.specs.declared.program.Program.{Program}

@@ -1,10 +1,8 @@
 -- The two faults of a value that is taken or read.
-use Rattle.std.specs.Prelude.{ℕ, Bool, not, List, Option, Some, None, slice_get}
+use Rattle.std.specs.Prelude.{Bool, not}
 use Rattle.jvm_types.specs.declared.op_row.Want.{Want}
 use Rattle.jvm_types.specs.Verifying.{misuses, suits}
 use Rattle.jvm_types.specs.declared.typing.VType.{VType}
-use Rattle.jvm_types.specs.declared.program.Target.{Target}
-use Rattle.jvm_types.specs.declared.program.Target.TheVariants.{Class}
 use Rattle.jvm_types.specs.declared.program.MethodInfo.{MethodInfo}
 use Rattle.code_verifier.specs.declared.operands.Fault.{Fault}
 use Rattle.code_verifier.specs.declared.operands.Fault.TheVariants.{Misuse, Mistype}

@@ -1,6 +1,4 @@
-use Rattle.std.proofs.Common.{◌≡◌, ℕ, List, [], ◌∷◌, ◌++◌, length, map, drop, Option, refl, ap, arith}
-use Rattle.std.specs.Option.{option_map}
-use Rattle.std.proofs.lemmas.List.{length-map}
+use Rattle.std.proofs.Common.{◌≡◌, ℕ, List, ◌++◌, length, map, drop, Option, refl}
 use Rattle.jvm_types.specs.Types.{Shape}
 use Rattle.jvm_types.specs.CodeTable.{value_of, locals_after}
 use Rattle.jvm_types.specs.declared.op_row.Want.{Want}

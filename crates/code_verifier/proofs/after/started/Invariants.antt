@@ -1,4 +1,4 @@
-use Rattle.std.proofs.Common.{◌≡◌, map, drop}
+use Rattle.std.proofs.Common.{◌≡◌, drop}
 use Rattle.jvm_types.specs.Verifying.{started}
 use Rattle.code_verifier.proofs.after.started.Given as goal
 

@@ -1,4 +1,4 @@
-use Rattle.std.proofs.Common.{◌≡◌, map, drop}
+use Rattle.std.proofs.Common.{◌≡◌, drop}
 use Rattle.jvm_types.specs.Verifying.{some_taken}
 use Rattle.code_verifier.specs.Faults.{has_fault}
 use Rattle.code_verifier.proofs.operands.some_taken.Given as goal
