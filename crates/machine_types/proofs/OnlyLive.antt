@@ -5,7 +5,7 @@ use Rattle.machine_types.specs.Accesses.{found_by}
 use Rattle.machine_types.specs.Core.{Core, accessed_by, event_of, is_live, is_live_thread}
 use Rattle.machine_types.specs.EventLaws.{OnlyLiveChange}
 use Rattle.machine_types.specs.Events.{wanted, moved}
-use Rattle.machine_types.specs.Sections.{Loaded}
+use Rattle.checked_program.specs.MarkedProgram.{MarkedProgram}
 use Rattle.machine_types.specs.Threads.{Thread, Phase}
 use Rattle.machine_types.specs.declared.phase.Phase.TheVariants as phases
 use Rattle.machine_types.proofs.Lists.{set_as_it_is}
@@ -13,13 +13,13 @@ use Rattle.machine_types.proofs.Lists.{set_as_it_is}
 at_rest : (s : Core) (t : ℕ) (x : Thread) → slice_get s.threads t ≡ Some x → accessed_by s t None x ≡ s
 at_rest s t x e = ap (λ threads. record s { threads = threads }) (set_as_it_is s.threads t x e)
 
-by_phase : (c : Loaded) (s : Core) (t : ℕ) (x : Thread) (phase : Phase) → slice_get s.threads t ≡ Some x → is_live phase ≡ false
+by_phase : (c : MarkedProgram) (s : Core) (t : ℕ) (x : Thread) (phase : Phase) → slice_get s.threads t ≡ Some x → is_live phase ≡ false
     → accessed_by s t (wanted c x phase) (moved c x phase (found_by s.words (wanted c x phase))) ≡ s
 by_phase c s t x phases.Idle e d = at_rest s t x e
 by_phase c s t x (phases.Ended how) e d = at_rest s t x e
 by_phase c s t x phase e d = cc
 
-by_thread : (c : Loaded) (s : Core) (t : ℕ) (x : Option Thread) → slice_get s.threads t ≡ x → is_live_thread x ≡ false → event_of c s t x ≡ s
+by_thread : (c : MarkedProgram) (s : Core) (t : ℕ) (x : Option Thread) → slice_get s.threads t ≡ x → is_live_thread x ≡ false → event_of c s t x ≡ s
 by_thread c s t None e d = refl
 by_thread c s t (Some x) e d = by_phase c s t x x.phase e d
 

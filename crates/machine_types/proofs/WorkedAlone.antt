@@ -4,13 +4,13 @@ use Rattle.std.specs.Prelude.{codes}
 use Rattle.jvm_types.specs.declared.code.Op.TheVariants as ops
 use Rattle.jvm_types.specs.declared.program.Kind.TheVariants as kinds
 use Rattle.jvm_types.specs.declared.program.Target.TheVariants as targets
-use Rattle.machine_types.specs.Sections.{Loaded}
+use Rattle.checked_program.specs.MarkedProgram.{MarkedProgram}
 use Rattle.jvm_types.specs.declared.program.Row.{Row}
-use Rattle.machine_types.specs.declared.section.Spot.TheVariants as spots
-use Rattle.machine_types.proofs.Writing.{Line, line, line_to, method, static_field, row, mark, loaded}
+use Rattle.checked_program.specs.declared.section.Spot.TheVariants as spots
+use Rattle.machine_types.proofs.Writing.{Line, line, line_to, method, static_field, mark, loaded}
 use Rattle.machine_types.proofs.WorkedPairs.{constructor}
 
-abbrev pub init_only : (max_stack max_locals : ℕ) → List Line → List Row → Loaded
+abbrev pub init_only : (max_stack max_locals : ℕ) → List Line → List Row → MarkedProgram
 init_only max_stack max_locals lines rows = loaded (codes "A") 0 [] (method 9 (codes "init") (codes "()V") [] None max_stack max_locals lines rows ∷ []) []
 
 -- ---- prints
@@ -29,7 +29,7 @@ abbrev pub print_one : (n : ℤ) → List Line
 print_one n = line_to 0 3 (ops.Getstatic 10) targets.Out ∷ line 3 4 (ops.Iconst n) ∷ line_to 4 7 (ops.Invokevirtual 17) targets.Println ∷ line 7 8 ops.Return ∷ []
 
 -- `<clinit>` prints 1, `init` 2 and `done` 3
-abbrev pub all_parts : Loaded
+abbrev pub all_parts : MarkedProgram
 all_parts = loaded (codes "A") 0 []
     (method 8 (codes "<clinit>") (codes "()V") [] None 2 0 (print_one (pos 1)) []
     ∷ method 9 (codes "init") (codes "()V") [] None 2 0 (print_one (pos 2)) []
@@ -41,7 +41,7 @@ abbrev pub keep_low_bit : List Line
 keep_low_bit = line 0 1 (ops.Iconst (pos 3)) ∷ line_to 1 4 (ops.Putstatic 12) (targets.Field 0) ∷ line_to 4 7 (ops.Getstatic 10) targets.Out
     ∷ line_to 7 10 (ops.Getstatic 12) (targets.Field 0) ∷ line_to 10 13 (ops.Invokevirtual 17) targets.Println ∷ line 13 14 ops.Return ∷ []
 
-abbrev pub low_bit : Loaded
+abbrev pub low_bit : MarkedProgram
 low_bit = loaded (codes "A") 0 (static_field kinds.Bool 2070 ∷ []) (method 9 (codes "init") (codes "()V") [] None 2 0 keep_low_bit [] ∷ []) []
 
 -- ---- exceptions
@@ -63,7 +63,7 @@ call_and_divide = line_to 0 3 (ops.New 2) (targets.Class 17) ∷ line 3 4 ops.Du
 abbrev pub divide_and_return : List Line
 divide_and_return = line 0 1 (ops.Iconst (pos 1)) ∷ line 1 2 (ops.Iconst (pos 0)) ∷ line 2 3 ops.Idiv ∷ line 3 4 ops.Ireturn ∷ []
 
-abbrev pub leaves_by_exception : Loaded
+abbrev pub leaves_by_exception : MarkedProgram
 leaves_by_exception = loaded (codes "T") 0 []
     (constructor ∷ method 32 (codes "get") (codes "()I") [] (Some kinds.Int) 2 1 divide_and_return [] ∷ method 9 (codes "init") (codes "()V") [] None 2 0 call_and_divide [] ∷ [])
     (mark 1 spots.Method 0 ∷ [])
@@ -166,7 +166,7 @@ move_and_branch = line 0 1 (ops.Iconst (pos 1)) ∷ line 1 2 (ops.Iconst (pos 2)
     ∷ line 204 205 (ops.Istore 0) ∷ line_to 205 208 (ops.Getstatic 13) targets.Out ∷ line 208 209 (ops.Iload 0)
     ∷ line_to 209 212 (ops.Invokevirtual 19) targets.Println ∷ line 212 213 ops.Return ∷ []
 
-abbrev pub moves : Loaded
+abbrev pub moves : MarkedProgram
 moves = loaded (codes "A") 0 []
     (method 9 (codes "same") (codes "([I)[I") (kinds.Ref 2 ∷ []) (Some (kinds.Ref 2)) 1 1 give_back []
     ∷ method 9 (codes "init") (codes "()V") [] None 6 2 move_and_branch [] ∷ [])

@@ -7,9 +7,9 @@ use Rattle.jvm_types.specs.declared.program.Kind.TheVariants as kinds
 use Rattle.jvm_types.specs.declared.program.Target.TheVariants as targets
 use Rattle.jvm_types.specs.declared.program.FieldInfo.{FieldInfo}
 use Rattle.jvm_types.specs.declared.program.MethodInfo.{MethodInfo}
-use Rattle.machine_types.specs.Sections.{Loaded}
-use Rattle.machine_types.specs.declared.section.Spot.TheVariants as spots
-use Rattle.machine_types.specs.declared.section.SectionMark.{SectionMark}
+use Rattle.checked_program.specs.MarkedProgram.{MarkedProgram}
+use Rattle.checked_program.specs.declared.section.Spot.TheVariants as spots
+use Rattle.checked_program.specs.declared.section.SectionMark.{SectionMark}
 use Rattle.machine_types.proofs.Writing.{Line, line, line_to, row, method, private_field, static_field, mark, loaded}
 
 abbrev pub fields : List FieldInfo
@@ -143,38 +143,38 @@ done lines = method 9 (codes "done") (codes "()V") [] None 4 0 lines []
 -- ---- programs
 
 -- one thread sets both fields without a lock, and prints their sum three times
-abbrev pub unlocked : Loaded
+abbrev pub unlocked : MarkedProgram
 unlocked = loaded (codes "P") 0 fields
     (constructor ∷ method 0 (codes "set") (codes "(I)V") (kinds.Int ∷ []) None 2 2 set_both []
     ∷ method 0 (codes "sum") (codes "()I") [] (Some kinds.Int) 2 1 sum_fields [] ∷ init set_and_print ∷ []) []
 
 -- the same with synchronized methods and a section
-abbrev pub alone : Loaded
+abbrev pub alone : MarkedProgram
 alone = loaded (codes "P") 0 fields (constructor ∷ synchronized_set 2 set_both ∷ sum ∷ init set_and_print ∷ []) marks
 
 -- a synchronized method whose section reads the sum twice
-abbrev pub twice : Loaded
+abbrev pub twice : MarkedProgram
 twice = loaded (codes "P") 0 fields
     (constructor ∷ synchronized_set 2 set_both ∷ sum ∷ method 32 (codes "twice") (codes "()I") [] (Some kinds.Int) 2 1 sum_twice [] ∷ init set_and_print_twice ∷ [])
     (marks ++ mark 3 spots.Method 0 ∷ [])
 
 -- thread 1 reads and prints the sum, the others set both fields
-abbrev pub shared : (workers : ℕ) → Loaded
+abbrev pub shared : (workers : ℕ) → MarkedProgram
 shared workers = loaded (codes "Q") workers fields (constructor ∷ synchronized_set 2 set_both ∷ sum ∷ init make_shared ∷ run read_or_set ∷ []) marks
 
 -- and `done` prints the sum again
-abbrev pub shared_and_done : Loaded
+abbrev pub shared_and_done : MarkedProgram
 shared_and_done = loaded (codes "Q") 2 fields (constructor ∷ synchronized_set 2 set_both ∷ sum ∷ init make_shared ∷ run read_or_set ∷ done print_sum ∷ []) marks
 
 -- the reader divides by the difference of the fields, which is 0 where they are not set yet, or where one alone is
-abbrev pub divides : (workers : ℕ) → (init_lines : List Line) → Loaded
+abbrev pub divides : (workers : ℕ) → (init_lines : List Line) → MarkedProgram
 divides workers init_lines = loaded (codes "D") workers fields
     (constructor ∷ synchronized_set 3 set_apart ∷ method 0 (codes "q") (codes "()I") [] (Some kinds.Int) 4 3 divide_in_block (row 4 18 19 0 ∷ row 19 22 19 0 ∷ [])
     ∷ init init_lines ∷ run read_or_set_apart ∷ [])
     marks
 
 -- the reader counts from one field to the other, without end where only one is set
-abbrev pub counts_up : Loaded
+abbrev pub counts_up : MarkedProgram
 counts_up = loaded (codes "L") 2 fields
     (constructor ∷ synchronized_set 3 set_apart ∷ method 0 (codes "q") (codes "()I") [] (Some kinds.Int) 3 4 count_in_block (row 4 26 27 0 ∷ row 27 30 27 0 ∷ [])
     ∷ init make_and_set ∷ run read_or_set_ten ∷ [])

@@ -7,8 +7,8 @@ use Rattle.jvm_types.specs.declared.program.Kind.TheVariants as kinds
 use Rattle.jvm_types.specs.declared.program.Target.TheVariants as targets
 use Rattle.jvm_types.specs.declared.program.FieldInfo.{FieldInfo}
 use Rattle.jvm_types.specs.declared.program.MethodInfo.{MethodInfo}
-use Rattle.machine_types.specs.Sections.{Loaded}
-use Rattle.machine_types.specs.declared.section.Spot.TheVariants as spots
+use Rattle.checked_program.specs.MarkedProgram.{MarkedProgram}
+use Rattle.checked_program.specs.declared.section.Spot.TheVariants as spots
 use Rattle.machine_types.proofs.Writing.{Line, line, line_to, row, method, static_field, mark, loaded}
 use Rattle.machine_types.proofs.WorkedPairs.{constructor}
 
@@ -53,7 +53,7 @@ abbrev pub notify_unheld : List Line
 notify_unheld = line_to 0 3 (ops.Getstatic 14) (targets.Field 0) ∷ line_to 3 6 (ops.Invokevirtual 34) targets.Notify
     ∷ line 6 7 ops.Return ∷ []
 
-abbrev pub waits : (workers : ℕ) → Loaded
+abbrev pub waits : (workers : ℕ) → MarkedProgram
 waits workers = loaded (codes "W") workers fields
     (constructor ∷ init make_shared_waiter ∷ waiter (codes "w") wait_and_print ∷ notifier notify ∷ run wait_or_notify ∷ method 9 (codes "done") (codes "()V") [] None 1 0 notify_unheld [] ∷ [])
     (mark 2 spots.Method 4 ∷ mark 3 spots.Method 4 ∷ [])
@@ -75,7 +75,7 @@ wait_or_notify_all = line 0 1 (ops.Iload 0) ∷ line 1 2 (ops.Iconst (pos 3)) �
     ∷ line 11 12 ops.Return ∷ line_to 12 15 (ops.Getstatic 14) (targets.Field 0) ∷ line 15 16 (ops.Iload 0)
     ∷ line_to 16 19 (ops.Invokevirtual 45) (targets.Method 2) ∷ line 19 20 ops.Return ∷ []
 
-abbrev pub waits_deep : Loaded
+abbrev pub waits_deep : MarkedProgram
 waits_deep = loaded (codes "N") 3 fields
     (constructor ∷ init make_shared_waiter ∷ waiter (codes "w") wait_inside ∷ waiter (codes "v") wait_and_print ∷ notifier notify_twice_and_all ∷ run wait_or_notify_all ∷ [])
     (mark 2 spots.Method 6 ∷ mark 3 spots.Method 4 ∷ mark 4 spots.Method 4 ∷ [])
@@ -105,7 +105,7 @@ enter_two = line 0 1 (ops.Iload 0) ∷ line 1 2 (ops.Iconst (pos 1)) ∷ line 2 
     ∷ line 64 67 (ops.Goto 74) ∷ line 67 69 (ops.Astore 4) ∷ line 69 70 (ops.Aload 1) ∷ line 70 71 ops.Monitorexit
     ∷ line 71 73 (ops.Aload 4) ∷ line 73 74 ops.Athrow ∷ line 74 75 ops.Return ∷ []
 
-abbrev pub locks_out : Loaded
+abbrev pub locks_out : MarkedProgram
 locks_out = loaded (codes "X") 2 (static_field (kinds.Ref 1) 2070 ∷ static_field (kinds.Ref 1) 2071 ∷ [])
     (constructor ∷ method 9 (codes "init") (codes "()V") [] None 2 0 make_two []
     ∷ method 9 (codes "run") (codes "(I)V") (kinds.Int ∷ []) None 2 5 enter_two
@@ -121,5 +121,5 @@ spin = line 0 1 (ops.Iload 0) ∷ line 1 2 (ops.Iconst (pos 1)) ∷ line 2 5 (op
     ∷ line_to 16 19 (ops.Getstatic 14) (targets.Field 0) ∷ line 19 22 (ops.If cmps.Eq 16) ∷ line 22 23 (ops.Iconst (pos 1))
     ∷ line_to 23 26 (ops.Putstatic 16) (targets.Field 1) ∷ line 26 27 ops.Return ∷ []
 
-abbrev pub spins : Loaded
+abbrev pub spins : MarkedProgram
 spins = loaded (codes "H") 2 (static_field kinds.Int 2070 ∷ static_field kinds.Int 2071 ∷ []) (constructor ∷ run spin ∷ []) []

@@ -13,10 +13,10 @@ use Rattle.jvm_types.specs.declared.program.Target.{Target}
 use Rattle.jvm_types.specs.declared.program.Target.TheVariants as targets
 use Rattle.jvm_types.specs.declared.program.MethodInfo.{MethodInfo}
 use Rattle.machine_types.specs.PlainState.{Printed}
-use Rattle.machine_types.specs.Sections.{Loaded}
+use Rattle.checked_program.specs.MarkedProgram.{MarkedProgram}
 use Rattle.machine_types.specs.Threads.{Config}
-use Rattle.machine_types.specs.declared.section.Spot.{Spot}
-use Rattle.machine_types.specs.declared.section.SectionMark.{SectionMark}
+use Rattle.checked_program.specs.declared.section.Spot.{Spot}
+use Rattle.checked_program.specs.declared.section.SectionMark.{SectionMark}
 
 -- ---- code
 
@@ -60,9 +60,11 @@ static_field kind word = record { class = 17; flags = 8; kind = kind; index = wo
 abbrev pub mark : (method : ℕ) → Spot → (n : ℕ) → SectionMark
 mark method spot n = record { method = method; spot = spot; mark = n }
 
-abbrev pub loaded : (name : List ℕ) → (workers : ℕ) → List FieldInfo → List MethodInfo → List SectionMark → Loaded
+abbrev pub loaded : (name : List ℕ) → (workers : ℕ) → List FieldInfo → List MethodInfo → List SectionMark → MarkedProgram
 loaded name workers fields methods marks = record {
   program = record { names = name ∷ []; heap = 4096; workers = workers; fields = fields; methods = methods };
+  typings = [];
+  tags = [];
   marks = marks;
 }
 

@@ -14,7 +14,7 @@ use Rattle.machine_types.specs.LockWords.{LockWord, lock_of, is_lock_word}
 use Rattle.machine_types.specs.LockWords as locks
 use Rattle.machine_types.specs.Monitors.{Claim, Has, claim}
 use Rattle.machine_types.specs.ReadyObjects.{thrown_of}
-use Rattle.machine_types.specs.Sections.{Loaded}
+use Rattle.checked_program.specs.MarkedProgram.{MarkedProgram}
 use Rattle.machine_types.specs.Threads.{Thread, Phase}
 use Rattle.machine_types.specs.Words.{header_class, header_length}
 use Rattle.machine_types.specs.declared.lock.Kept.{Kept}
@@ -98,7 +98,7 @@ leave_content (Has h) = by_kept h.kept
     by_kept (keeps.Fat r) = Owner
 leave_content claim = Lock
 
-abbrev pub content_at : Loaded → Thread → Phase → Content
+abbrev pub content_at : MarkedProgram → Thread → Phase → Content
 content_at c s phases.Run = run_content c.program (top_of c.program s.frames)
 content_at c s (phases.Element word stored) = IntPlace
 content_at c s (phases.Throw x class) = Lock
@@ -121,5 +121,5 @@ content_at c s (phases.NotifyAll m r) = Bits
 content_at c s phase = Any
 
 -- the word that the next event of a thread finds fits what it accesses
-abbrev pub Fits : Loaded → Thread → (got : ℕ) → Type 0
+abbrev pub Fits : MarkedProgram → Thread → (got : ℕ) → Type 0
 Fits c s got = WordFits c.program (content_at c s s.phase) got

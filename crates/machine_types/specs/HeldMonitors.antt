@@ -1,5 +1,9 @@
 -- The monitors that a thread holds: a list with one entry for each.
-use Rattle.std.specs.Prelude.{ℕ, ◌+◌, ◌-◌, ◌==◌, List, [], ◌∷◌, Option, Some, None, option_map, if◌then◌else◌}
+use Rattle.std.specs.Prelude.{ℕ, ◌+◌, ◌-◌, ◌*◌, ◌==◌, max, List, [], ◌∷◌, length, Option, Some, None, option_map, if◌then◌else◌}
+use Rattle.checked_program.specs.MarkedProgram.{MarkedProgram}
+use Rattle.checked_program.specs.declared.tag.TagFrame.{TagFrame}
+use Rattle.checked_program.specs.declared.tag.Tags.{Tags}
+use Rattle.machine_types.specs.Frames.{most_frames}
 use Rattle.machine_types.specs.declared.lock.Held.{Held}
 
 abbrev pub held_at : List Held → (m : ℕ) → Option Held
@@ -24,3 +28,20 @@ deeper h = record h { depth = h.depth + 1 }
 
 abbrev pub shallower : Held → Held
 shallower h = record h { depth = h.depth - 1 }
+
+-- ---- how many a thread may hold: each frame shows the monitor of its method and those of its tags
+
+abbrev pub held_in_frame : Option TagFrame → ℕ
+held_in_frame None = 0
+held_in_frame (Some f) = length f.held
+
+abbrev pub most_in : List (Option TagFrame) → ℕ
+most_in [] = 0
+most_in (f ∷ fs) = max (held_in_frame f) (most_in fs)
+
+abbrev pub most_held : List Tags → ℕ
+most_held [] = 0
+most_held (t ∷ ts) = max (most_in t.frames) (most_held ts)
+
+abbrev pub places_of : MarkedProgram → ℕ
+places_of c = most_frames * (1 + most_held c.tags)

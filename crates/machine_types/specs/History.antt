@@ -13,7 +13,7 @@ use Rattle.machine_types.specs.Ints.{low}
 use Rattle.machine_types.specs.LockWords.{word_of_lock}
 use Rattle.machine_types.specs.LockWords as locks
 use Rattle.machine_types.specs.Monitors.{Claim, Has, Tries, HasNot, claim}
-use Rattle.machine_types.specs.Sections.{Loaded}
+use Rattle.checked_program.specs.MarkedProgram.{MarkedProgram}
 use Rattle.machine_types.specs.Threads.{Attempt, Thread, Phase, Config, Held}
 use Rattle.machine_types.specs.Words.{header_length}
 use Rattle.machine_types.specs.declared.lock.Kept.{Kept}
@@ -47,7 +47,7 @@ instruction_acts s (NotifiesAll m) got = notified (held_at s.held m) NotifyAll
 instruction_acts s Stuck got = []
 instruction_acts s e got = Do ∷ []
 
-abbrev pub run_acts : Loaded → Thread → Option Top → (got : ℕ) → List Act
+abbrev pub run_acts : MarkedProgram → Thread → Option Top → (got : ℕ) → List Act
 run_acts c s None got = []
 run_acts c s (Some at) got = instruction_acts s (effect_at c.program at) got
 
@@ -64,7 +64,7 @@ leave_acts s (Has h) got = if nat_lt 1 h.depth then Exit ∷ [] else release_act
 leave_acts s (Tries a) got = if_so (nat_lt 0 a.inner) Exit
 leave_acts s HasNot got = []
 
-abbrev pub acts_of : Loaded → Thread → Phase → (got : ℕ) → List Act
+abbrev pub acts_of : MarkedProgram → Thread → Phase → (got : ℕ) → List Act
 acts_of c s phases.Start got = Begin ∷ []
 acts_of c s phases.Run got = run_acts c s (top_of c.program s.frames) got
 acts_of c s (phases.Element word stored) got = Do ∷ []
@@ -92,7 +92,7 @@ abbrev pub fate_by : (same : Bool) → Fate → Fate
 fate_by true fate = fate
 fate_by false fate = Fails
 
-abbrev pub run_fate : Loaded → Attempt → Option Top → (got : ℕ) → Fate
+abbrev pub run_fate : MarkedProgram → Attempt → Option Top → (got : ℕ) → Fate
 run_fate c a None got = GoesOn
 run_fate c a (Some at) got = if is_checked at.frame.pc (effect_at c.program at) then fate_by (is_same a got) GoesOn else GoesOn
 
@@ -100,7 +100,7 @@ abbrev pub leave_fate : Claim → (got : ℕ) → Fate
 leave_fate (Tries a) got = if nat_lt 0 a.inner then GoesOn else fate_by (is_same a got) Finishes
 leave_fate claim got = GoesOn
 
-abbrev pub fate : Loaded → Thread → Attempt → Phase → (got : ℕ) → Fate
+abbrev pub fate : MarkedProgram → Thread → Attempt → Phase → (got : ℕ) → Fate
 fate c s a phases.Run got = run_fate c a (top_of c.program s.frames) got
 fate c s a (phases.Throw x class) got = fate_by (is_same a got) GoesOn
 fate c s a (phases.Leave m b) got = leave_fate (claim s m) got
@@ -129,7 +129,7 @@ past_by d phase acts GoesOn = record d { due = d.due ++ acts; pending = with_beg
 past_by d phase acts Fails = record { due = []; pending = 0; wasted = d.wasted + with_begun d.pending phase }
 past_by d phase acts Finishes = record d { due = []; pending = 0 }
 
-abbrev pub past_after : Loaded → Thread → Option Attempt → (got : ℕ) → Past → Past
+abbrev pub past_after : MarkedProgram → Thread → Option Attempt → (got : ℕ) → Past → Past
 past_after c s None got d = d
 past_after c s (Some a) got d = past_by d s.phase (acts_of c s s.phase got) (fate c s a s.phase got)
 
@@ -140,7 +140,7 @@ abbrev pub shown_by : Fate → Past → List Act
 shown_by Finishes d = Enter ∷ d.due ++ Exit ∷ []
 shown_by fate d = []
 
-abbrev pub shown_at : Loaded → Thread → Option Attempt → (got : ℕ) → Past → List Act
+abbrev pub shown_at : MarkedProgram → Thread → Option Attempt → (got : ℕ) → Past → List Act
 shown_at c s None got d = acts_of c s s.phase got
 shown_at c s (Some a) got d = shown_by (fate c s a s.phase got) d
 
@@ -151,51 +151,51 @@ pub record Told : Type 0 where
   pub core : Core
   pub pasts : List Past
 
-abbrev pub told_start : Loaded → Config → Told
+abbrev pub told_start : MarkedProgram → Config → Told
 told_start c cfg = record { core = start c cfg; pasts = replicate (c.program.workers + 1) no_past }
 
 abbrev pub past_at : Told → (t : ℕ) → Past
 past_at w t = slice_index_or w.pasts t no_past
 
 -- the word that a thread's event finds
-abbrev pub found_at : Loaded → Told → Thread → ℕ
+abbrev pub found_at : MarkedProgram → Told → Thread → ℕ
 found_at c w s = found_by w.core.words (wanted c s s.phase)
 
-abbrev pub pasts_after : Loaded → Told → (t : ℕ) → Option Thread → List Past
+abbrev pub pasts_after : MarkedProgram → Told → (t : ℕ) → Option Thread → List Past
 pasts_after c w t None = w.pasts
 pasts_after c w t (Some s) = slice_set w.pasts t (past_after c s s.attempt (found_at c w s) (past_at w t))
 
-abbrev pub pasts_of : Loaded → Told → Happening → List Past
+abbrev pub pasts_of : MarkedProgram → Told → Happening → List Past
 pasts_of c w (Of t) = pasts_after c w t (slice_get w.core.threads t)
 pasts_of c w NextPart = w.pasts
 
-abbrev pub told : Loaded → Told → Happening → Told
+abbrev pub told : MarkedProgram → Told → Happening → Told
 told c w h = record { core = happened c w.core h; pasts = pasts_of c w h }
 
-abbrev pub all_told : Loaded → Told → List Happening → Told
+abbrev pub all_told : MarkedProgram → Told → List Happening → Told
 all_told c w [] = w
 all_told c w (h ∷ hs) = all_told c (told c w h) hs
 
 abbrev pub steps_of : (t : ℕ) → List Act → List PlainStep
 steps_of t acts = map (λ act. record { thread = t; act = act }) acts
 
-abbrev pub shown_of : Loaded → Told → (t : ℕ) → Option Thread → List PlainStep
+abbrev pub shown_of : MarkedProgram → Told → (t : ℕ) → Option Thread → List PlainStep
 shown_of c w t None = []
 shown_of c w t (Some s) = steps_of t (shown_at c s s.attempt (found_at c w s) (past_at w t))
 
 -- the plain steps of one event
-abbrev pub shown : Loaded → Told → Happening → List PlainStep
+abbrev pub shown : MarkedProgram → Told → Happening → List PlainStep
 shown c w (Of t) = shown_of c w t (slice_get w.core.threads t)
 shown c w NextPart = []
 
-abbrev pub shadow_from : Loaded → Told → List Happening → List PlainStep
+abbrev pub shadow_from : MarkedProgram → Told → List Happening → List PlainStep
 shadow_from c w [] = []
 shadow_from c w (h ∷ hs) = shown c w h ++ shadow_from c (told c w h) hs
 
 -- the plain steps of a list of events from the start
-unfoldable pub shadow : Loaded → Config → List Happening → List PlainStep
+unfoldable pub shadow : MarkedProgram → Config → List Happening → List PlainStep
 shadow c cfg hs = shadow_from c (told_start c cfg) hs
 
 -- the pasts after it
-unfoldable pub past : Loaded → Config → List Happening → (t : ℕ) → Past
+unfoldable pub past : MarkedProgram → Config → List Happening → (t : ℕ) → Past
 past c cfg hs t = past_at (all_told c (told_start c cfg) hs) t
