@@ -5,3 +5,6 @@ pub mod MethodsTyped
 pub mod OperandRuns
 pub mod FirstOps
 pub mod LoadedOnce
+pub mod RefusedOnce
+pub mod LoadedOrRefused
+pub mod FirstFormed

@@ -45,7 +45,7 @@ each_once R one (x ∷ xs) [] zs h k = absurd h
 each_once R one (x ∷ xs) (y ∷ ys) [] h k = absurd k
 each_once R one (x ∷ xs) (y ∷ ys) (z ∷ zs) h k = λ i. one x y z h.0 k.0 i ∷ each_once R one xs ys zs h.1 k.1 i
 
-classes_once : (files : List (List ℕ)) (cs ds : List ClassFile) → AllZip Spells files cs → AllZip Spells files ds → cs ≡ ds
+pub classes_once : (files : List (List ℕ)) (cs ds : List ClassFile) → AllZip Spells files cs → AllZip Spells files ds → cs ≡ ds
 classes_once files cs ds h k = each_once Spells one_class files cs ds h k
 
 code_once : (ds : List Declared) (code others : List (List Insn)) → AllZip IsDecoded ds code → AllZip IsDecoded ds others → code ≡ others
@@ -85,12 +85,12 @@ typings_once p (m ∷ ms) (t ∷ ts) (u ∷ us) h k = λ i. same_typing p m t u 
 -- ---- the same files are loaded to the same
 
 -- two ways to read them are one
-read_once : (files : List (List ℕ)) (cs ds : List ClassFile) (code others : List (List Insn)) → AreRead files cs code → AreRead files ds others → (cs ≡ ds) × (code ≡ others)
+pub read_once : (files : List (List ℕ)) (cs ds : List ClassFile) (code others : List (List Insn)) → AreRead files cs code → AreRead files ds others → (cs ≡ ds) × (code ≡ others)
 read_once files cs ds code others a b =
     let same : ds ≡ cs = classes_once files ds cs b.spelled a.spelled in
     (sym same, code_once (declared_methods cs) code others a.decoded (subst (λ (xs : List ClassFile). AllZip IsDecoded (declared_methods xs) others) same b.decoded))
 
-same_program : (cs ds : List ClassFile) (code others : List (List Insn)) (heap workers : ℕ) (p q : Program) → cs ≡ ds → code ≡ others → IsLinked cs code heap workers p → IsLinked ds others heap workers q → p ≡ q
+pub same_program : (cs ds : List ClassFile) (code others : List (List Insn)) (heap workers : ℕ) (p q : Program) → cs ≡ ds → code ≡ others → IsLinked cs code heap workers p → IsLinked ds others heap workers q → p ≡ q
 same_program cs ds code others heap workers p q e f a b = a.is ∙ (λ i. program_of (e i) (f i) heap workers) ∙ sym b.is
 
 same_checked : (c d : CheckedProgram) → c.program ≡ d.program → AreTypings c.program c.program.methods c.typings → AreTypings d.program d.program.methods d.typings → c ≡ d
@@ -105,24 +105,24 @@ loaded_once files heap workers c d a b =
 
 -- ---- files that are loaded are not refused
 
-never_both : {X : Type 0} (o : Option X) (x : X) → o ≡ None → o ≡ Some x → ⊥
+pub never_both : {X : Type 0} (o : Option X) (x : X) → o ≡ None → o ≡ Some x → ⊥
 never_both o x e h = absurd cc
 
 is_faultless : (bytes : List ℕ) (c : ClassFile) → Spells bytes c → class_fault bytes ≡ None
 unfolding class_fault
 is_faultless bytes c h = ap (fault_of (length bytes)) (read_if_spelled bytes c h)
 
-no_read_fault : (file : ℕ) (files : List (List ℕ)) (cs : List ClassFile) → AllZip Spells files cs → read_fault file files ≡ None
+pub no_read_fault : (file : ℕ) (files : List (List ℕ)) (cs : List ClassFile) → AllZip Spells files cs → read_fault file files ≡ None
 no_read_fault file [] cs h = refl
 no_read_fault file (bytes ∷ files) [] h = absurd h
 no_read_fault file (bytes ∷ files) (c ∷ cs) h = rw (is_faultless bytes c h.0) (no_read_fault (file + 1) files cs h.1)
 
-no_decode_fault : (ds : List Declared) (code : List (List Insn)) → AllZip IsDecoded ds code → decode_fault ds ≡ None
+pub no_decode_fault : (ds : List Declared) (code : List (List Insn)) → AllZip IsDecoded ds code → decode_fault ds ≡ None
 no_decode_fault [] code h = refl
 no_decode_fault (d ∷ ds) [] h = absurd h
 no_decode_fault (d ∷ ds) (insns ∷ code) h = rw (faultless (code_of d.member.attrs).bytes (code_of d.member.attrs).rows insns h.0) (no_decode_fault ds code h.1)
 
-none_untyped : (p : Program) (ds : List Declared) (ms : List MethodInfo) (ts : List Typing) (rule : VRule) (place : Place) → AreTypings p ms ts → IsFirstUntyped p ds ms rule place → ⊥
+pub none_untyped : (p : Program) (ds : List Declared) (ms : List MethodInfo) (ts : List Typing) (rule : VRule) (place : Place) → AreTypings p ms ts → IsFirstUntyped p ds ms rule place → ⊥
 none_untyped p [] ms ts rule place h k = absurd k
 none_untyped p (d ∷ ds) [] ts rule place h k = absurd k
 none_untyped p (d ∷ ds) (m ∷ ms) [] rule place h k = absurd h
@@ -151,7 +151,7 @@ never_untyped files heap workers c rule place l u =
 abbrev pub loaded : (files : List (List ℕ)) (heap workers : ℕ) (c : CheckedProgram) (ops : List FirstOp) → IsFirstLoaded files heap workers c ops → IsLoaded files heap workers c
 loaded files heap workers c ops l = record { classes = l.classes; code = l.code; read = l.read; checked = l.checked }
 
-never_refused : (files : List (List ℕ)) (heap workers : ℕ) (c : CheckedProgram) (ops : List FirstOp) (rule : Rule) (place : Place) → IsFirstLoaded files heap workers c ops → IsRefusedBy files heap workers rule place → ⊥
+pub never_refused : (files : List (List ℕ)) (heap workers : ℕ) (c : CheckedProgram) (ops : List FirstOp) (rule : Rule) (place : Place) → IsFirstLoaded files heap workers c ops → IsRefusedBy files heap workers rule place → ⊥
 never_refused files heap workers c ops (C rule) place l r = never_both (read_fault 0 files) (C rule, place) (no_read_fault 0 files l.classes l.read.spelled) r
 never_refused files heap workers c ops (K rule) place l (classes, spelled, fault) =
     let same : l.classes ≡ classes = classes_once files l.classes classes l.read.spelled spelled in

@@ -1,6 +1,7 @@
 pub mod Report
 pub mod Refusal
 pub mod Loading
+pub mod LoadingLaws
 pub mod Stages
 pub mod Operands
 pub mod FirstTests

@@ -5,6 +5,7 @@ mod decoding;
 mod first_form;
 mod linking;
 pub mod loading;
+pub mod loading_laws;
 mod operands;
 mod places;
 mod reading;
@@ -12,6 +13,7 @@ pub mod texts;
 mod verifying;
 
 pub use loading::{FileError, first_ops, load_program};
+pub use loading_laws::{loaded_is_not_refused, loaded_or_refused, one_loading, one_refusal};
 pub use texts::{refusal, report};
 
 #[cfg(test)]

@@ -6,7 +6,7 @@ pub mod LeastVisits
 pub mod OneTyping
 pub mod VisitsEnd
 mod VisitsEndRanks
-mod VisitsEndAnswer
+pub mod VisitsEndAnswer
 pub mod FrameBounds
 pub mod LocalRisen
 pub mod LocalBrought

@@ -1,0 +1,209 @@
+-- Every list of files is loaded to a program of the first form, or a rule refuses it: stage by stage.
+use Rattle.std.proofs.Common.{◌≡◌, ℕ, suc, ◌+◌, ◌<◌, ◌≤◌, inl, inr, Bool, true, false, Decides, List, [], ◌∷◌, ◌++◌, length, map, take, reverse, Option, Some, None, refl, sym, subst, ap, ◌∙◌, arith}
+use Rattle.std.specs.Prelude.{◌⊎◌, slice_get}
+use Rattle.std.specs.List.{AllZip, AllByRecursion}
+use Rattle.std.specs.Option.{option_map}
+use Rattle.std.proofs.lemmas.List.{reverse-reverse}
+use Rattle.jvm_types.specs.ClassGrammar.{IsByte, IsClass, IsMethod, IsMethodAttr, Spells}
+use Rattle.jvm_types.specs.CodeFault.{code_fault}
+use Rattle.jvm_types.specs.Linkable.{IsDecoded, IsLinkable}
+use Rattle.jvm_types.specs.LinkFaults.{LinkFault, link_fault, in_file, in_method, IsLinked}
+use Rattle.jvm_types.specs.Linked.{code_of, program_of}
+use Rattle.jvm_types.specs.Members.{Declared, declared_from, declared_by, declared_methods}
+use Rattle.jvm_types.specs.ProgramInvariant.{IsProgram}
+use Rattle.jvm_types.specs.ReadingClass.{class_fault}
+use Rattle.jvm_types.specs.Types.{Shape, shape_of, shapes_of}
+use Rattle.jvm_types.specs.Verifying.{IsLaidOut, IsRefused, IsTypingOf, HasTyping}
+use Rattle.checked_program.specs.CheckedProgram.{CheckedProgram, AreTypings}
+use Rattle.jvm_types.specs.FirstForm.{IsFirstForm}
+use Rattle.jvm_types.specs.declared.class_file.Constant.{Constant}
+use Rattle.jvm_types.specs.declared.class_file.ClassFile.{ClassFile}
+use Rattle.jvm_types.specs.declared.class_file.Member.{Member}
+use Rattle.jvm_types.specs.declared.class_file.MemberAttr.{MemberAttr}
+use Rattle.jvm_types.specs.declared.class_file.MemberAttr.TheVariants as member_attrs
+use Rattle.jvm_types.specs.declared.code.Insn.{Insn}
+use Rattle.jvm_types.specs.declared.first.FirstOp.{FirstOp}
+use Rattle.jvm_types.specs.declared.program.MethodInfo.{MethodInfo}
+use Rattle.jvm_types.specs.declared.program.Program.{Program}
+use Rattle.jvm_types.specs.declared.typing.TypeFrame.{TypeFrame}
+use Rattle.jvm_types.specs.declared.typing.Typing.{Typing}
+use Rattle.jvm_types.specs.declared.refusal.CRule.{CRule}
+use Rattle.jvm_types.specs.declared.refusal.KRule.{KRule}
+use Rattle.jvm_types.specs.declared.refusal.LRule.{LRule}
+use Rattle.jvm_types.specs.declared.refusal.LRule.TheVariants.{L0}
+use Rattle.jvm_types.specs.declared.refusal.VRule.{VRule}
+use Rattle.jvm_types.specs.declared.refusal.Rule.{Rule}
+use Rattle.jvm_types.specs.declared.refusal.Rule.TheVariants.{C, K, L, V, S}
+use Rattle.jvm_types.specs.declared.refusal.Place.{Place}
+use Rattle.jvm_types.proofs.ClassLawProofs.{spelled_or_faulty}
+use Rattle.jvm_types.proofs.CodeExact.{exact}
+use Rattle.jvm_types.proofs.LinkedLaws.{linked_is_program}
+use Rattle.typing_laws.proofs.VisitsEndAnswer.{typed_or_refused}
+use Rattle.program_laws.proofs.CodeOrder.{laid_out}
+use Rattle.class_runner.specs.Loading.{AreRead, AreChecked, IsFirstLoaded, IsFirstUntyped, IsUnbuilt, IsUnlinked, IsUntyped, IsRefusedBy, read_fault, decode_fault}
+use Rattle.class_runner.specs.LoadingLaws.{IsLoadable, LoadedOrRefused}
+use Rattle.class_runner.proofs.LoadedOnce.{spelled_long, spelled_classes, linked_long}
+use Rattle.class_runner.proofs.FirstFormed.{Told, IsFormed, formed_or_not}
+
+-- ---- C: reading
+
+abbrev IsRead : ℕ → List (List ℕ) → Type 0
+IsRead file files = ((classes : List ClassFile) × AllZip Spells files classes) ⊎ ((rule : CRule) × (place : Place) × (read_fault file files ≡ Some (C rule, place)))
+
+all_read : (file : ℕ) (files : List (List ℕ)) → AllByRecursion (AllByRecursion IsByte) files → IsRead file files
+all_read file [] h = inl ([], tt)
+all_read file (bytes ∷ files) h = by_fault (class_fault bytes) refl (all_read (file + 1) files h.1)
+  where
+    by_fault : (o : Option (CRule × ℕ)) → class_fault bytes ≡ o → IsRead (file + 1) files → IsRead file (bytes ∷ files)
+    by_fault (Some f) e rest = inr (f.0, in_file file f.1, rw e refl)
+    by_fault None e (inl (classes, spelled)) = let one = (spelled_or_faulty bytes h.0).0 e in inl (one.0 ∷ classes, (one.1, spelled))
+    by_fault None e (inr (rule, place, fault)) = inr (rule, place, rw e fault)
+
+-- ---- K: decoding
+
+abbrev HasBytes : Declared → Type 0
+HasBytes d = AllByRecursion IsByte (code_of d.member.attrs).bytes
+
+attrs_bytes : (pool : List Constant) (attrs : List MemberAttr) → AllByRecursion (IsMethodAttr pool) attrs → AllByRecursion IsByte (code_of attrs).bytes
+attrs_bytes pool [] h = tt
+attrs_bytes pool (member_attrs.Code code ∷ attrs) h = h.0.bytes
+attrs_bytes pool (member_attrs.ConstantValue name value ∷ attrs) h = absurd h.0
+attrs_bytes pool (member_attrs.Other a ∷ attrs) h = attrs_bytes pool attrs h.1
+
+both_parts : {X : Type 0} (P : X → Type 0) (xs ys : List X) → AllByRecursion P xs → AllByRecursion P ys → AllByRecursion P (xs ++ ys)
+both_parts P [] ys h k = k
+both_parts P (x ∷ xs) ys h k = (h.0, both_parts P xs ys h.1 k)
+
+own_bytes : (file : ℕ) (pool : List Constant) (place : ℕ) (ms : List Member) → AllByRecursion (IsMethod pool) ms → AllByRecursion HasBytes (declared_from file pool place ms)
+own_bytes file pool place [] h = tt
+own_bytes file pool place (m ∷ ms) h = (attrs_bytes pool m.attrs h.0.member.attrs.each, own_bytes file pool (place + 1) ms h.1)
+
+methods_bytes : (file : ℕ) (cs : List ClassFile) → AllByRecursion IsClass cs → AllByRecursion HasBytes (declared_by (λ c. c.methods) file cs)
+methods_bytes file [] h = tt
+methods_bytes file (c ∷ cs) h = both_parts HasBytes (declared_from file c.constants 0 c.methods) (declared_by (λ x. x.methods) (file + 1) cs) (own_bytes file c.constants 0 c.methods h.0.methods.each) (methods_bytes (file + 1) cs h.1)
+
+abbrev AreDecoded : List Declared → Type 0
+AreDecoded ds = ((code : List (List Insn)) × AllZip IsDecoded ds code) ⊎ ((rule : KRule) × (place : Place) × (decode_fault ds ≡ Some (K rule, place)))
+
+all_decoded : (ds : List Declared) → AllByRecursion HasBytes ds → AreDecoded ds
+all_decoded [] h = inl ([], tt)
+all_decoded (d ∷ ds) h = by_fault (code_fault (code_of d.member.attrs).bytes (code_of d.member.attrs).rows) refl (all_decoded ds h.1)
+  where
+    by_fault : (o : Option (KRule × ℕ)) → code_fault (code_of d.member.attrs).bytes (code_of d.member.attrs).rows ≡ o → AreDecoded ds → AreDecoded (d ∷ ds)
+    by_fault (Some f) e rest = inr (f.0, in_method d.file d.place f.1, rw e refl)
+    by_fault None e (inl (code, decoded)) = let one = exact (code_of d.member.attrs).bytes (code_of d.member.attrs).rows h.0 e in inl (one.0 ∷ code, (one.1, decoded))
+    by_fault None e (inr (rule, place, fault)) = inr (rule, place, rw e fault)
+
+-- ---- V: verifying
+
+abbrev frame_of : Shape → TypeFrame
+frame_of s = record { stack = reverse s.stack; locals = s.locals; this_ready = s.ready }
+
+abbrev typing_of : List (Option Shape) → Typing
+typing_of frames = record { frames = map (option_map frame_of) frames }
+
+shape_back : (s : Shape) → shape_of (frame_of s) ≡ s
+shape_back s = λ i. record { stack = reverse-reverse s.stack i; locals = s.locals; ready = s.ready }
+
+shapes_back : (frames : List (Option Shape)) → map (option_map shape_of) (map (option_map frame_of) frames) ≡ frames
+shapes_back [] = refl
+shapes_back (None ∷ frames) = λ i. None ∷ shapes_back frames i
+shapes_back (Some s ∷ frames) = λ i. Some (shape_back s i) ∷ shapes_back frames i
+
+each : {X : Type 0} (P : X → Type 0) (xs : List X) → ((i : ℕ) (x : X) → slice_get xs i ≡ Some x → P x) → AllByRecursion P xs
+each P [] h = tt
+each P (x ∷ xs) h = (h 0 x refl, each P xs (λ i y e. h (suc i) y e))
+
+methods_laid : (p : Program) → IsProgram p → AllByRecursion IsLaidOut p.methods
+methods_laid p is = each IsLaidOut p.methods (λ i m e. laid_out p (take i p.methods) m (is.methods i m e))
+
+abbrev AreTyped : Program → List Declared → List MethodInfo → Type 0
+AreTyped p ds ms = ((ts : List Typing) × AreTypings p ms ts) ⊎ ((rule : VRule) × (place : Place) × IsFirstUntyped p ds ms rule place)
+
+one_typed : (p : Program) (m : MethodInfo) → IsLaidOut m → ((t : Typing) × IsTypingOf p m t) ⊎ ((rule : VRule) × (pc : ℕ) × IsRefused p m rule pc)
+one_typed p m laid = elim (typed_or_refused p m laid) [
+  | inl (frames, typed) ↦ inl (typing_of frames, subst (HasTyping p m) (sym (shapes_back frames)) typed)
+  | inr refused ↦ inr refused
+]
+
+all_typed : (p : Program) (ds : List Declared) (ms : List MethodInfo) → length ms ≡ length ds → AllByRecursion IsLaidOut ms → AreTyped p ds ms
+all_typed p [] [] long h = inl ([], tt)
+all_typed p [] (m ∷ ms) long h = absurd (omega arith)
+all_typed p (d ∷ ds) [] long h = absurd (omega arith)
+all_typed p (d ∷ ds) (m ∷ ms) long h = by_typing (one_typed p m h.0) (all_typed p ds ms (omega (arith, long)) h.1)
+  where
+    by_typing : ((t : Typing) × IsTypingOf p m t) ⊎ ((rule : VRule) × (pc : ℕ) × IsRefused p m rule pc) → AreTyped p ds ms → AreTyped p (d ∷ ds) (m ∷ ms)
+    by_typing (inr (rule, pc, refused)) rest = inr (rule, in_method d.file d.place pc, inl (refused, refl))
+    by_typing (inl (t, typed)) (inl (ts, are)) = inl (t ∷ ts, (typed, are))
+    by_typing (inl (t, typed)) (inr (rule, place, later)) = inr (rule, place, inr (t, typed, later))
+
+-- ---- the whole
+
+abbrev IsAnswered : List (List ℕ) → (heap workers : ℕ) → Type 0
+IsAnswered files heap workers =
+    ((c : CheckedProgram) × (ops : List FirstOp) × IsFirstLoaded files heap workers c ops) ⊎ ((rule : Rule) × (place : Place) × IsRefusedBy files heap workers rule place)
+
+-- files that are linked are typed and of the first form, or refused
+linked_answered : (files : List (List ℕ)) (heap workers : ℕ) (cs : List ClassFile) (code : List (List Insn)) (p : Program) → AreRead files cs code → IsLinked cs code heap workers p → IsProgram p → IsAnswered files heap workers
+linked_answered files heap workers cs code p read linked is =
+    by_types (all_typed p (declared_methods cs) p.methods (linked_long cs code heap workers p read.decoded linked) (methods_laid p is))
+  where
+    by_form : (ts : List Typing) → AreTypings p p.methods ts → Told (IsFormed cs p) → IsAnswered files heap workers
+    by_form ts typed (inl (ops, first)) = inl (
+      record { program = p; typings = ts },
+      ops,
+      record { classes = cs; code = code; read = read; checked = record { linked = linked; typed = typed }; first = first },
+    )
+    by_form ts typed (inr never) = inr (
+      L L0,
+      in_file 0 0,
+      inr (
+        record {
+          classes = cs;
+          code = code;
+          checked_program = record { program = p; typings = ts };
+          read = read;
+          checked = record { linked = linked; typed = typed };
+          other = λ ops first. never (ops, first);
+        },
+        refl,
+        refl,
+      ),
+    )
+
+    by_types : AreTyped p (declared_methods cs) p.methods → IsAnswered files heap workers
+    by_types (inr (rule, place, untyped)) = inr (V rule, place, record { classes = cs; code = code; program = p; read = read; linked = linked; first = untyped })
+    by_types (inl (ts, typed)) = by_form ts typed (formed_or_not cs p is)
+
+-- files whose methods are decoded are linked, or refused
+decoded_answered : (files : List (List ℕ)) (heap workers : ℕ) (cs : List ClassFile) (code : List (List Insn)) → IsLoadable files heap workers → AreRead files cs code → IsAnswered files heap workers
+decoded_answered files heap workers cs code able read = by_fault (link_fault cs code heap workers) refl
+  where
+    many : length cs ≡ length files
+    many = spelled_long files cs read.spelled
+
+    by_fault : (o : Option LinkFault) → link_fault cs code heap workers ≡ o → IsAnswered files heap workers
+    by_fault (Some fault) e = inr (L fault.0, fault.1, inl (record { classes = cs; code = code; read = read; fault = e }))
+    by_fault None e =
+        let linked : IsLinked cs code heap workers (program_of cs code heap workers) = record { unrefused = e; is = refl } in
+        let linkable : IsLinkable cs code heap workers = record {
+          some_file = omega (arith, many, able.some_file);
+          few_files = omega (arith, many, able.few_files);
+          classes = spelled_classes files cs read.spelled;
+          decoded = read.decoded;
+          few_workers = able.few_workers;
+          heap_from = able.heap_from;
+          heap_to = able.heap_to;
+        } in
+        linked_answered files heap workers cs code (program_of cs code heap workers) read linked (linked_is_program cs code heap workers (program_of cs code heap workers) linkable linked)
+
+pub loaded_or_refused : LoadedOrRefused
+loaded_or_refused files heap workers able = by_classes (all_read 0 files able.bytes)
+  where
+    by_code : (cs : List ClassFile) → AllZip Spells files cs → AreDecoded (declared_methods cs) → IsAnswered files heap workers
+    by_code cs spelled (inr (rule, place, fault)) = inr (K rule, place, (cs, spelled, fault))
+    by_code cs spelled (inl (code, decoded)) = decoded_answered files heap workers cs code able (record { spelled = spelled; decoded = decoded })
+
+    by_classes : IsRead 0 files → IsAnswered files heap workers
+    by_classes (inr (rule, place, fault)) = inr (C rule, place, fault)
+    by_classes (inl (cs, spelled)) = by_code cs spelled (all_decoded (declared_methods cs) (methods_bytes 0 cs (spelled_classes files cs spelled)))

@@ -1,0 +1,158 @@
+-- One rule refuses some files, at one place.
+use Rattle.std.proofs.Common.{◌≡◌, ℕ, inl, inr, List, [], ◌∷◌, Option, Some, None, refl, sym, subst, ap, ◌∙◌}
+use Rattle.std.specs.List.{AllZip}
+use Rattle.jvm_types.specs.ClassGrammar.{Spells}
+use Rattle.jvm_types.specs.Members.{Declared, declared_methods}
+use Rattle.jvm_types.specs.LinkFaults.{LinkFault, link_fault, in_file, in_method, IsLinked}
+use Rattle.jvm_types.specs.Types.{shapes_of}
+use Rattle.jvm_types.specs.Verifying.{IsTypingOf}
+use Rattle.jvm_types.specs.declared.class_file.ClassFile.{ClassFile}
+use Rattle.jvm_types.specs.declared.code.Insn.{Insn}
+use Rattle.jvm_types.specs.declared.program.MethodInfo.{MethodInfo}
+use Rattle.jvm_types.specs.declared.program.Program.{Program}
+use Rattle.jvm_types.specs.declared.typing.Typing.{Typing}
+use Rattle.jvm_types.specs.declared.refusal.CRule.{CRule}
+use Rattle.jvm_types.specs.declared.refusal.KRule.{KRule}
+use Rattle.jvm_types.specs.declared.refusal.LRule.{LRule}
+use Rattle.jvm_types.specs.declared.refusal.VRule.{VRule}
+use Rattle.jvm_types.specs.declared.refusal.Rule.{Rule}
+use Rattle.jvm_types.specs.declared.refusal.Rule.TheVariants.{C, K, L, V, S}
+use Rattle.jvm_types.specs.declared.refusal.Place.{Place}
+use Rattle.typing_laws.proofs.OneTyping.{no_refusal, one_refusal}
+use Rattle.class_runner.specs.Loading.{AreRead, IsFirstUntyped, IsUnbuilt, IsUnlinked, IsUntyped, IsRefusedBy, read_fault, decode_fault}
+use Rattle.class_runner.specs.LoadingLaws.{OneRefusal}
+use Rattle.class_runner.proofs.LoadedOnce.{classes_once, read_once, same_program, never_both, no_read_fault, no_decode_fault, none_untyped}
+
+abbrev Same : Rule → Rule → Place → Place → Type 0
+Same rule other place at = (rule ≡ other) × (place ≡ at)
+
+abbrev fault : Rule → Place → Rule × Place
+fault rule place = (rule, place)
+
+abbrev link_fault_of : LRule → Place → LinkFault
+link_fault_of rule place = (rule, place)
+
+same_fault : (o : Option (Rule × Place)) (rule other : Rule) (place at : Place) → o ≡ Some (rule, place) → o ≡ Some (other, at) → Same rule other place at
+same_fault o rule other place at e f =
+    let both : fault rule place ≡ fault other at = cc in
+    (ap (λ x. x.0) both, ap (λ x. x.1) both)
+
+same_link_fault : (o : Option LinkFault) (rule other : LRule) (place at : Place) → o ≡ Some (rule, place) → o ≡ Some (other, at) → Same (L rule) (L other) place at
+same_link_fault o rule other place at e f =
+    let both : link_fault_of rule place ≡ link_fault_of other at = cc in
+    (ap (λ x. L x.0) both, ap (λ x. x.1) both)
+
+-- ---- what is refused later was let pass by the stages before
+
+-- files that are linked or refused in linking were read
+pub record WereRead (files : List (List ℕ)) : Type 0 where
+  pub classes : List ClassFile
+  pub code : List (List Insn)
+  pub read : AreRead files classes code
+
+read_at_l : (files : List (List ℕ)) (heap workers : ℕ) (rule : LRule) (place : Place) → IsRefusedBy files heap workers (L rule) place → WereRead files
+read_at_l files heap workers rule place r = elim r [
+  | inl u ↦ record { classes = u.classes; code = u.code; read = u.read }
+  | inr (u, is, at) ↦ record { classes = u.classes; code = u.code; read = u.read }
+]
+
+read_at_v : (files : List (List ℕ)) (heap workers : ℕ) (rule : VRule) (place : Place) → IsRefusedBy files heap workers (V rule) place → WereRead files
+read_at_v files heap workers rule place u = record { classes = u.classes; code = u.code; read = u.read }
+
+never_c : (files classes : _) (rule : CRule) (place : Place) → AllZip Spells files classes → read_fault 0 files ≡ Some (C rule, place) → ⊥
+never_c files classes rule place spelled r = never_both (read_fault 0 files) (C rule, place) (no_read_fault 0 files classes spelled) r
+
+never_k : (files : List (List ℕ)) (heap workers : ℕ) (rule : KRule) (place : Place) → WereRead files → IsRefusedBy files heap workers (K rule) place → ⊥
+never_k files heap workers rule place w (classes, spelled, found) =
+    let same : w.classes ≡ classes = classes_once files w.classes classes w.read.spelled spelled in
+    never_both (decode_fault (declared_methods w.classes)) (K rule, place) (no_decode_fault (declared_methods w.classes) w.code w.read.decoded) (ap (λ (cs : List ClassFile). decode_fault (declared_methods cs)) same ∙ found)
+
+-- files that are linked are not refused in linking
+never_unlinked : (files : List (List ℕ)) (heap workers : ℕ) (rule : LRule) (place : Place) (cs : List ClassFile) (code : List (List Insn)) (p : Program) → AreRead files cs code → IsLinked cs code heap workers p → IsUnlinked files heap workers rule place → ⊥
+never_unlinked files heap workers rule place cs code p read linked u =
+    let same = read_once files cs u.classes code u.code read u.read in
+    never_both (link_fault cs code heap workers) (rule, place) linked.unrefused ((λ i. link_fault (same.0 i) (same.1 i) heap workers) ∙ u.fault)
+
+never_untyped : (files : List (List ℕ)) (heap workers : ℕ) (rule : VRule) (place : Place) → IsUnbuilt files heap workers → IsUntyped files heap workers rule place → ⊥
+never_untyped files heap workers rule place b u =
+    let same = read_once files b.classes u.classes b.code u.code b.read u.read in
+    let program : u.program ≡ b.checked_program.program = sym (same_program b.classes u.classes b.code u.code heap workers b.checked_program.program u.program same.0 same.1 b.checked.linked u.linked) in
+    none_untyped b.checked_program.program (declared_methods u.classes) b.checked_program.program.methods b.checked_program.typings rule place b.checked.typed
+    (subst (λ (p : Program). IsFirstUntyped p (declared_methods u.classes) p.methods rule place) program u.first)
+
+never_v : (files : List (List ℕ)) (heap workers : ℕ) (rule : LRule) (other : VRule) (place at : Place) → IsRefusedBy files heap workers (L rule) place → IsUntyped files heap workers other at → ⊥
+never_v files heap workers rule other place at r u = elim r [
+  | inl unlinked ↦ never_unlinked files heap workers rule place u.classes u.code u.program u.read u.linked unlinked
+  | inr (b, is, here) ↦ never_untyped files heap workers other at b u
+]
+
+-- ---- each stage refuses once
+
+once_k : (files : List (List ℕ)) (heap workers : ℕ) (rule other : KRule) (place at : Place) → IsRefusedBy files heap workers (K rule) place → IsRefusedBy files heap workers (K other) at → Same (K rule) (K other) place at
+once_k files heap workers rule other place at (cs, spelled, here) (ds, spells, there) =
+    let same : cs ≡ ds = classes_once files cs ds spelled spells in
+    same_fault (decode_fault (declared_methods cs)) (K rule) (K other) place at here (ap (λ (xs : List ClassFile). decode_fault (declared_methods xs)) same ∙ there)
+
+once_l : (files : List (List ℕ)) (heap workers : ℕ) (rule other : LRule) (place at : Place) → IsRefusedBy files heap workers (L rule) place → IsRefusedBy files heap workers (L other) at → Same (L rule) (L other) place at
+once_l files heap workers rule other place at r s = elim r [
+  | inl u ↦ elim s [
+    | inl w ↦
+        let same = read_once files u.classes w.classes u.code w.code u.read w.read in
+        same_link_fault (link_fault u.classes u.code heap workers) rule other place at u.fault ((λ i. link_fault (same.0 i) (same.1 i) heap workers) ∙ w.fault)
+    | inr (b, is, here) ↦ absurd (never_unlinked files heap workers rule place b.classes b.code b.checked_program.program b.read b.checked.linked u)
+  ]
+  | inr (b, is, here) ↦ elim s [
+    | inl w ↦ absurd (never_unlinked files heap workers other at b.classes b.code b.checked_program.program b.read b.checked.linked w)
+    | inr (d, are, there) ↦ (ap L (is ∙ sym are), here ∙ sym there)
+  ]
+]
+
+-- the first method that has no typing is one
+untyped_once : (p : Program) (ds : List Declared) (ms : List MethodInfo) (rule other : VRule) (place at : Place) → IsFirstUntyped p ds ms rule place → IsFirstUntyped p ds ms other at → Same (V rule) (V other) place at
+untyped_once p [] ms rule other place at h k = absurd h
+untyped_once p (d ∷ ds) [] rule other place at h k = absurd h
+untyped_once p (d ∷ ds) (m ∷ ms) rule other place at h k = elim h [
+  | inl refused ↦ elim k [
+    | inl again ↦
+        let same = one_refusal p m rule other place.at at.at refused.0 again.0 in
+        (ap V same.0, refused.1 ∙ ap (in_method d.file d.place) same.1 ∙ sym again.1)
+    | inr (t, typed, later) ↦ absurd (no_refusal p m (shapes_of t) rule place.at typed refused.0)
+  ]
+  | inr (t, typed, later) ↦ elim k [
+    | inl again ↦ absurd (no_refusal p m (shapes_of t) other at.at typed again.0)
+    | inr (u, also, after) ↦ untyped_once p ds ms rule other place at later after
+  ]
+]
+
+once_v : (files : List (List ℕ)) (heap workers : ℕ) (rule other : VRule) (place at : Place) → IsUntyped files heap workers rule place → IsUntyped files heap workers other at → Same (V rule) (V other) place at
+once_v files heap workers rule other place at u w =
+    let same = read_once files w.classes u.classes w.code u.code w.read u.read in
+    let program : w.program ≡ u.program = same_program w.classes u.classes w.code u.code heap workers w.program u.program same.0 same.1 w.linked u.linked in
+    untyped_once u.program (declared_methods u.classes) u.program.methods rule other place at u.first
+    (subst (λ (p : Program). IsFirstUntyped p (declared_methods u.classes) p.methods other at) program
+    (subst (λ (cs : List ClassFile). IsFirstUntyped w.program (declared_methods cs) w.program.methods other at) same.0 w.first))
+
+-- ---- the whole
+
+pub refused_once : OneRefusal
+refused_once files heap workers (C rule) (C other) place at r s = same_fault (read_fault 0 files) (C rule) (C other) place at r s
+refused_once files heap workers (C rule) (K other) place at r s = absurd (never_c files s.0 rule place s.1 r)
+refused_once files heap workers (C rule) (L other) place at r s = let w = read_at_l files heap workers other at s in absurd (never_c files w.classes rule place w.read.spelled r)
+refused_once files heap workers (C rule) (V other) place at r s = absurd (never_c files s.classes rule place s.read.spelled r)
+refused_once files heap workers (K rule) (C other) place at r s = absurd (never_c files r.0 other at r.1 s)
+refused_once files heap workers (K rule) (K other) place at r s = once_k files heap workers rule other place at r s
+refused_once files heap workers (K rule) (L other) place at r s = absurd (never_k files heap workers rule place (read_at_l files heap workers other at s) r)
+refused_once files heap workers (K rule) (V other) place at r s = absurd (never_k files heap workers rule place (read_at_v files heap workers other at s) r)
+refused_once files heap workers (L rule) (C other) place at r s = let w = read_at_l files heap workers rule place r in absurd (never_c files w.classes other at w.read.spelled s)
+refused_once files heap workers (L rule) (K other) place at r s = absurd (never_k files heap workers other at (read_at_l files heap workers rule place r) s)
+refused_once files heap workers (L rule) (L other) place at r s = once_l files heap workers rule other place at r s
+refused_once files heap workers (L rule) (V other) place at r s = absurd (never_v files heap workers rule other place at r s)
+refused_once files heap workers (V rule) (C other) place at r s = absurd (never_c files r.classes other at r.read.spelled s)
+refused_once files heap workers (V rule) (K other) place at r s = absurd (never_k files heap workers other at (read_at_v files heap workers rule place r) s)
+refused_once files heap workers (V rule) (L other) place at r s = absurd (never_v files heap workers other rule at place s r)
+refused_once files heap workers (V rule) (V other) place at r s = once_v files heap workers rule other place at r s
+refused_once files heap workers (S rule) other place at r s = absurd r
+refused_once files heap workers (C rule) (S other) place at r s = absurd s
+refused_once files heap workers (K rule) (S other) place at r s = absurd s
+refused_once files heap workers (L rule) (S other) place at r s = absurd s
+refused_once files heap workers (V rule) (S other) place at r s = absurd s
