@@ -2,7 +2,7 @@
 use Rattle.std.proofs.Common.{◌≡◌, ℕ, zero, suc, ◌+◌, ◌<◌, ◌≤◌, ◌⊎◌, inl, inr, ⊎_elim, Bool, true, false, cond, ◌||◌, List, [], ◌∷◌, length, take, Some, refl, sym, ap, ◌∙◌, subst, arith, length-append}
 use Rattle.std.specs.Prelude.{◌==◌, slice_get}
 use Rattle.std.specs.List.{AllByRecursion, AllZip}
-use Rattle.std.proofs.lemmas.Bool.{cases_lt}
+use Rattle.std.proofs.lemmas.Bool.{cases_order, eq-eqb, ne_eqb}
 use Rattle.std.proofs.lemmas.Bool.Decides.{nat_tests}
 use Rattle.std.proofs.lemmas.Slice.Zip.{AllZip-long}
 use Rattle.jvm_types.specs.CodeTable.{branches_to}
@@ -63,9 +63,11 @@ ascend m i j insn other laid e f h = ascending 0 m.code laid.bytes i j insn othe
 
 pub one_number : OneInsn
 one_number m i j insn other laid e f same = ⊎_elim
-    (λ (h : i < j). absurd (omega (arith, same, ascend m i j insn other laid e f h)))
-    (λ (h : j ≤ i). ⊎_elim (λ (k : j < i). absurd (omega (arith, same, ascend m j i other insn laid f e k))) (λ (k : i ≤ j). omega (arith, h, k)) (cases_lt j i))
-    (cases_lt i j)
+    (λ (h : i ≡ j). h)
+    (λ (h : (i < j) ⊎ (j < i)). ⊎_elim
+    (λ (k : i < j). absurd (omega (arith, same, ascend m i j insn other laid e f k)))
+    (λ (k : j < i). absurd (omega (arith, same, ascend m j i other insn laid f e k))) h)
+    (cases_order i j)
 
 inside : (pc : ℕ) (insns : List Insn) (bytes : List ℕ) (i : ℕ) (insn : Insn) → SpellsInsns pc insns bytes → slice_get insns i ≡ Some insn → insn.pc < pc + length bytes
 inside pc [] bytes i insn s e = absurd (cc)
@@ -157,12 +159,6 @@ have_targets p number i m insn is e f = target_at (λ (x : Insn) t. IsTargetOf p
 
 -- ---- the class of a `new`
 
-other_pc : (m n : ℕ) → m < n → (m == n) ≡ false
-other_pc m n h = grind (arith, nat_tests, h)
-
-same_pc : (m n : ℕ) → m ≡ n → (m == n) ≡ true
-same_pc m n h = grind (arith, nat_tests, h)
-
 -- the target at a place decides, whatever stands before it
 skipped : (x : Insn) (insns : List Insn) (t : Target) (ts : List Target) (pc : ℕ) → (x.pc == pc) ≡ false → new_class (x ∷ insns) (t ∷ ts) pc ≡ new_class insns ts pc
 skipped x insns (targets.Class class) ts pc e = ap (λ b. cond b (Some class) (new_class insns ts pc)) e
@@ -176,10 +172,10 @@ new_in from (x ∷ insns) bytes (t ∷ ts) zero insn class s e f =
     let same : x ≡ insn = cc in
     let is : targets.Class class ≡ t = cc in
     subst (λ (u : Target). new_class (x ∷ insns) (u ∷ ts) insn.pc ≡ Some class) is
-    (ap (λ b. cond b (Some class) (new_class insns ts insn.pc)) (same_pc x.pc insn.pc (ap (λ (y : Insn). y.pc) same)))
+    (ap (λ b. cond b (Some class) (new_class insns ts insn.pc)) (eq-eqb x.pc insn.pc (ap (λ (y : Insn). y.pc) same)))
 new_in from (x ∷ insns) bytes (t ∷ ts) (suc i) insn class s e f =
     let behind = later x.next insns s.1 i insn s.6 e in
-    skipped x insns t ts insn.pc (other_pc x.pc insn.pc (omega (arith, behind, s.3, s.4, some_front from x.op s.0 s.5))) ∙ new_in x.next insns s.1 ts i insn class s.6 e f
+    skipped x insns t ts insn.pc (ne_eqb x.pc insn.pc (λ same. omega (arith, same, behind, s.3, s.4, some_front from x.op s.0 s.5))) ∙ new_in x.next insns s.1 ts i insn class s.6 e f
 
 pub class_of_the_new : ClassOfNew
 class_of_the_new m i insn class laid e f = new_in 0 m.code laid.bytes m.targets i insn class laid.code.spelled e f

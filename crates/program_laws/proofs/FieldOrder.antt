@@ -1,8 +1,8 @@
 -- The places of fields: each field is behind those before it.
-use Rattle.std.proofs.Common.{◌≡◌, ℕ, zero, suc, ◌+◌, ◌-◌, ◌*◌, ◌<◌, ◌≤◌, ⊎_elim, Bool, true, false, cond, not, ◌&&◌, List, [], ◌∷◌, take, Some, refl, sym, ap, ◌∙◌, subst, arith}
+use Rattle.std.proofs.Common.{◌≡◌, ℕ, zero, suc, ◌+◌, ◌-◌, ◌*◌, ◌<◌, ◌≤◌, ◌⊎◌, ⊎_elim, Bool, true, false, cond, not, ◌&&◌, List, [], ◌∷◌, take, Some, refl, sym, ap, ◌∙◌, subst, arith}
 use Rattle.std.specs.Prelude.{◌==◌, slice_get}
 use Rattle.std.specs.List.{AllByRecursion, sum_by}
-use Rattle.std.proofs.lemmas.Bool.{cases_lt}
+use Rattle.std.proofs.lemmas.Bool.{cases_order}
 use Rattle.std.proofs.lemmas.Bool.Decides.{nat_tests}
 use Rattle.jvm_types.specs.ClassNames.{file_class}
 use Rattle.jvm_types.specs.Members.{is_static}
@@ -88,9 +88,9 @@ instances_apart p i j f g is e d h same s t =
 
 one_number : (i j a b : ℕ) → (i < j → a < b) → (j < i → b < a) → a ≡ b → i ≡ j
 one_number i j a b up down e = ⊎_elim
-    (λ (h : i < j). absurd (omega (arith, e, up h)))
-    (λ (h : j ≤ i). ⊎_elim (λ (k : j < i). absurd (omega (arith, e, down k))) (λ (k : i ≤ j). omega (arith, h, k)) (cases_lt j i))
-    (cases_lt i j)
+    (λ (h : i ≡ j). h)
+    (λ (h : (i < j) ⊎ (j < i)). ⊎_elim (λ (k : i < j). absurd (omega (arith, e, up k))) (λ (k : j < i). absurd (omega (arith, e, down k))) h)
+    (cases_order i j)
 
 pub one_static_field : OneStatic
 one_static_field p i j f g is e d s t = one_number i j f.index g.index (λ h. statics_apart p i j f g is e d h s t) (λ h. statics_apart p j i g f is d e h t s)

@@ -2,6 +2,7 @@
 use Rattle.std.proofs.Common.{◌≡◌, ℕ, ◌⊎◌, inl, inr, Bool, true, false, not, ◌&&◌, ◌||◌, List, [], ◌∷◌, refl, sym, ap, subst, arith}
 use Rattle.std.specs.Prelude.{◌==◌}
 use Rattle.std.specs.List.{AllByRecursion}
+use Rattle.std.proofs.lemmas.Bool.{and_from, and_parts, eqb-true}
 use Rattle.std.proofs.lemmas.Bool.Decides.{nat_tests}
 use Rattle.jvm_types.specs.Numbers.{has_number}
 use Rattle.jvm_types.specs.ClassTree.{super_class, ancestors, is_subclass, built_in_supers}
@@ -30,11 +31,8 @@ each_number : (test : ℕ → Bool) (xs : List ℕ) (y : ℕ) → AllByRecursion
 each_number test [] y all h = absurd (cc)
 each_number test (x ∷ xs) y all h = by_test (x == y) refl h (each_number test xs y all.1)
   where
-    same : (m n : ℕ) → (m == n) ≡ true → m ≡ n
-    same m n e = grind (arith, nat_tests, e)
-
     by_test : (t : Bool) → (x == y) ≡ t → (t || has_number xs y) ≡ true → (has_number xs y ≡ true → test y ≡ true) → test y ≡ true
-    by_test true e h more = subst (λ (n : ℕ). test n ≡ true) (same x y e) all.0
+    by_test true e h more = subst (λ (n : ℕ). test n ≡ true) (eqb-true x y e) all.0
     by_test false e h more = more h
 
 -- no two are below each other
@@ -59,18 +57,12 @@ apart_all = (
 fewer : (c : ℕ) → has_number built_in_supers c ≡ true → has_number (1 ∷ 4 ∷ 5 ∷ 6 ∷ 7 ∷ []) c ≡ true
 fewer c h = grind (arith, nat_tests, h)
 
-both_true : (a b : Bool) → a ≡ true → b ≡ true → (a && b) ≡ true
-both_true a b e f = rw e f
-
-same_number : (m n : ℕ) → (m == n) ≡ true → m ≡ n
-same_number m n e = grind (arith, nat_tests, e)
-
 subclass_one : (c d : ℕ) → is_subclass c d ≡ true → is_subclass d c ≡ true → c ≡ d
 unfolding is_apart
 subclass_one c d h k = by_cases (self_or_super c d h) (self_or_super d c k)
   where
     apart : is_apart c d ≡ true → c ≡ d
-    apart e = same_number c d (subst (λ (b : Bool). (not b || (c == d)) ≡ true) (both_true (is_subclass c d) (is_subclass d c) h k) e)
+    apart e = eqb-true c d (subst (λ (b : Bool). (not b || (c == d)) ≡ true) (and_from (is_subclass c d) (is_subclass d c) h k) e)
 
     by_cases : IsSelfOrSuper c d → IsSelfOrSuper d c → c ≡ d
     by_cases (inl e) g = e
@@ -98,7 +90,7 @@ one_type Int Int h k = refl
 one_type Null Null h k = refl
 one_type (Ref c) (Ref d) h k = ap (λ n. Ref n) (subclass_one c d h k)
 one_type This This h k = refl
-one_type (New p) (New q) h k = ap (λ n. New n) (same_number p q h)
+one_type (New p) (New q) h k = ap (λ n. New n) (eqb-true p q h)
 one_type Top Top h k = refl
 one_type t u h k = absurd (cc)
 
@@ -110,17 +102,13 @@ meet_is_least = record { first = meet_left; second = meet_right; least = meet_le
 
 -- ---- frames
 
-both : (a b : Bool) → (a && b) ≡ true → (a ≡ true) × (b ≡ true)
-both true b e = (refl, e)
-both false b e = absurd (cc)
-
 one_list : (ts us : List VType) → all_pairs is_below ts us ≡ true → all_pairs is_below us ts ≡ true → ts ≡ us
 one_list [] [] h k = refl
 one_list [] (u ∷ us) h k = absurd (cc)
 one_list (t ∷ ts) [] h k = absurd (cc)
 one_list (t ∷ ts) (u ∷ us) h k =
-    let a = both (is_below t u) (all_pairs is_below ts us) h in
-    let b = both (is_below u t) (all_pairs is_below us ts) k in
+    let a = and_parts (is_below t u) (all_pairs is_below ts us) h in
+    let b = and_parts (is_below u t) (all_pairs is_below us ts) k in
     let first = one_type t u a.0 b.0 in
     let rest = one_list ts us a.1 b.1 in
     λ i. first i ∷ rest i

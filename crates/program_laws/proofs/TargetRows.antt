@@ -1,6 +1,7 @@
 -- The row of an instruction with a constant, target by target.
 use Rattle.std.proofs.Common.{◌≡◌, ℕ, Bool, true, false, cond, not, ◌&&◌, ◌||◌, List, [], ◌∷◌, Option, Some, None, refl}
 use Rattle.std.specs.Prelude.{IsSomeAnd, slice_get}
+use Rattle.std.proofs.lemmas.Bool.{and_parts, not-false}
 use Rattle.jvm_types.specs.CodeTable.{row}
 use Rattle.jvm_types.specs.declared.op_row.OpRow.{OpRow}
 use Rattle.jvm_types.specs.Members.{is_static, is_init_name, is_class_init_name, is_final, is_other_sort, is_hidden, initializes, first_rule, Site, field_rule, call_rule, fits_call}
@@ -29,10 +30,6 @@ of_sort true true e = refl
 of_sort true false e = absurd (cc)
 of_sort false other e = e
 
-holds : (b : Bool) → not b ≡ false → b ≡ true
-holds true e = refl
-holds false e = absurd (cc)
-
 module _ (p : Program) (site : Site) where
   field_named : (static writes : Bool) (number : ℕ) (row_of : Option FieldInfo → OpRow) (o : Option FieldInfo) → slice_get p.fields number ≡ o
       → IsSomeAnd o (λ f. field_rule static writes site f.class f.flags ≡ None) → NamesField p number static row_of (row_of o)
@@ -45,11 +42,7 @@ module _ (p : Program) (site : Site) where
   }
 
   fitting : (call : Call) (class : ℕ) (name : List ℕ) (flags : ℕ) → call_rule call site class name flags ≡ None → fits_call call site class name flags ≡ true
-  fitting call class name flags e = holds (fits_call call site class name flags) (first_holds (not (fits_call call site class name flags)) L2 ((is_hidden site class flags, L3) ∷ []) e)
-
-  no_static : (a b c d : Bool) → not (a || b) && d ≡ true → a ≡ false
-  no_static true b c d e = absurd (cc)
-  no_static false b c d e = refl
+  fitting call class name flags e = not-false (fits_call call site class name flags) (first_holds (not (fits_call call site class name flags)) L2 ((is_hidden site class flags, L3) ∷ []) e)
 
   virtual_sort : (a b c : Bool) → not (a || b || c) ≡ true → a ≡ false
   virtual_sort true b c e = absurd (cc)
@@ -59,10 +52,6 @@ module _ (p : Program) (site : Site) where
   special_sort true b d e = absurd (cc)
   special_sort false b d e = refl
 
-  static_sort : (a d : Bool) → (a && d) ≡ true → a ≡ true
-  static_sort true d e = refl
-  static_sort false d e = absurd (cc)
-
   abbrev is_static_call : Call → Bool
   is_static_call Virtual = false
   is_static_call Special = false
@@ -71,7 +60,7 @@ module _ (p : Program) (site : Site) where
   call_sort : (call : Call) (class : ℕ) (name : List ℕ) (flags : ℕ) → fits_call call site class name flags ≡ true → is_static flags ≡ is_static_call call
   call_sort Virtual class name flags e = virtual_sort (is_static flags) (is_init_name name) (is_class_init_name name) e
   call_sort Special class name flags e = special_sort (is_static flags) (is_class_init_name name) _ e
-  call_sort Static class name flags e = static_sort (is_static flags) _ e
+  call_sort Static class name flags e = (and_parts (is_static flags) _ e).0
 
   method_named : (call : Call) (number : ℕ) (row_of : Option MethodInfo → OpRow) (o : Option MethodInfo) → slice_get p.methods number ≡ o
       → IsSomeAnd o (λ c. call_rule call site c.class c.name c.flags ≡ None) → NamesMethod p site number call (is_static_call call) row_of (row_of o)
