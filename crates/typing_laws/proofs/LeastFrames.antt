@@ -100,7 +100,7 @@ abbrev pub AreDistinct : List Insn → Type 0
 AreDistinct [] = Unit {0}
 AreDistinct (insn ∷ insns) = (is_start insns insn.pc ≡ false) × AreDistinct insns
 
-behind : (pc : ℕ) (op : Op) (bytes : List ℕ) → SpellsOp pc op bytes → 0 < length bytes
+pub behind : (pc : ℕ) (op : Op) (bytes : List ℕ) → SpellsOp pc op bytes → 0 < length bytes
 behind pc op bytes h = rw h.is (omega arith)
 
 starts_later : (pc : ℕ) (insns : List Insn) (bytes : List ℕ) (at : ℕ) → SpellsInsns pc insns bytes → at < pc → is_start insns at ≡ false

@@ -2,8 +2,7 @@
 use Rattle.std.proofs.Common.{◌≡◌, ℕ, suc, ◌<◌, ◌≤◌, Bool, true, false, not, ◌&&◌, ◌||◌, List, [], ◌∷◌, None, refl, arith, ⊎_elim}
 use Rattle.std.specs.Prelude.{◌==◌, nat_le, if◌then◌else◌}
 use Rattle.std.specs.List.{AllByRecursion, list_any, filter}
-use Rattle.std.proofs.lemmas.Bool.{cases_lt, or_parts}
-use Rattle.std.proofs.lemmas.Bool.Decides.{nat_tests}
+use Rattle.std.proofs.lemmas.Bool.{and_parts, cases_lt, eqb-true, le-leb, or_left, or_parts, or_right}
 use Rattle.jvm_types.specs.Numbers.{has_number}
 use Rattle.jvm_types.specs.CodeTable.{row, branches_to, falls_through}
 use Rattle.jvm_types.specs.Types.{Shape, is_below, all_pairs, is_new, is_uninitialised}
@@ -112,18 +111,8 @@ reaches_back pc [] to b l = absurd (let bad : false ≡ true = b in cc)
 reaches_back pc (t ∷ tos) to b l = by_test (t == to) refl b (λ h. reaches_back pc tos to h l)
   where
     by_test : (x : Bool) → (t == to) ≡ x → (x || has_number tos to) ≡ true → (has_number tos to ≡ true → list_any (λ u. nat_le u pc) tos ≡ true) → (nat_le t pc || list_any (λ u. nat_le u pc) tos) ≡ true
-    by_test true e h more = rw (let same : t ≤ pc = le_here t to pc e l in le_true t pc same) refl
-      where
-        le_here : (t to pc : ℕ) → (t == to) ≡ true → to ≤ pc → t ≤ pc
-        le_here t to pc = grind (arith, nat_tests)
-
-        le_true : (t pc : ℕ) → t ≤ pc → nat_le t pc ≡ true
-        le_true t pc = grind (arith, nat_tests)
+    by_test true e h more = or_left (nat_le t pc) (list_any (λ u. nat_le u pc) tos) (le-leb t pc (omega (arith, l, eqb-true t to e)))
     by_test false e h more = or_right (nat_le t pc) (list_any (λ u. nat_le u pc) tos) (more h)
-      where
-        or_right : (x y : Bool) → y ≡ true → (x || y) ≡ true
-        or_right true y h = refl
-        or_right false y h = h
 
 module _ (p : Program) (m : MethodInfo) (insn : Insn) (target : Target) (f : Shape) (ok : broken_before m insn (row p m insn.pc target insn.op) f ≡ None) (a : AreBehind insn.pc f) where
   after_all : AreBehind (suc insn.pc) (shape_after m (row p m insn.pc target insn.op) f)
@@ -154,20 +143,13 @@ next_behind : (pc next : ℕ) (falls : Bool) (f : Shape) → pc < next → AreBe
 next_behind pc next false f h a = tt
 next_behind pc next true f h a = (record { stack = rises (suc pc) next h f.stack a.stack; locals = rises (suc pc) next h f.locals a.locals }, tt)
 
-first_true : (a b : Bool) → a ≡ true → (a || b) ≡ true
-first_true a b e = rw e refl
-
-second_true : (a b : Bool) → b ≡ true → (a || b) ≡ true
-second_true true b e = refl
-second_true false b e = e
-
 -- what holds of each row where some row covers holds of the rows that do
 covering_all : (P : Row → Type 0) (pc : ℕ) (rows : List Row) → ((handler : Row) → list_any (covers pc) rows ≡ true → P handler) → AllByRecursion P (filter (covers pc) rows)
 covering_all P pc [] h = tt
-covering_all P pc (r ∷ rows) h = by_test (covers pc r) refl (covering_all P pc rows (λ handler e. h handler (second_true (covers pc r) (list_any (covers pc) rows) e)))
+covering_all P pc (r ∷ rows) h = by_test (covers pc r) refl (covering_all P pc rows (λ handler e. h handler (or_right (covers pc r) (list_any (covers pc) rows) e)))
   where
     by_test : (t : Bool) → covers pc r ≡ t → AllByRecursion P (filter (covers pc) rows) → AllByRecursion P (if t then r ∷ filter (covers pc) rows else filter (covers pc) rows)
-    by_test true e more = (h r (first_true (covers pc r) (list_any (covers pc) rows) e), more)
+    by_test true e more = (h r (or_left (covers pc r) (list_any (covers pc) rows) e), more)
     by_test false e more = more
 
 pub stays_behind : NewStaysBehind
@@ -182,22 +164,15 @@ stays_behind p m insn target f after ok a =
 
 behind_above : (pc : ℕ) (us vs : List VType) → all_pairs is_below us vs ≡ true → AllByRecursion (IsBehind pc) us → AllByRecursion (IsBehind pc) vs
 behind_above pc [] [] e a = tt
-behind_above pc (u ∷ us) (v ∷ vs) e a = let parts = both (is_below u v) (all_pairs is_below us vs) e in (one u v parts.0 a.0, behind_above pc us vs parts.1 a.1)
+behind_above pc (u ∷ us) (v ∷ vs) e a = let parts = and_parts (is_below u v) (all_pairs is_below us vs) e in (one u v parts.0 a.0, behind_above pc us vs parts.1 a.1)
   where
-    both : (x y : Bool) → (x && y) ≡ true → (x ≡ true) × (y ≡ true)
-    both true y e = (refl, e)
-    both false y e = absurd (cc)
-
     one : (u v : VType) → is_below u v ≡ true → IsBehind pc u → IsBehind pc v
     one u Top b h = tt
     one u Int b h = tt
     one u Null b h = tt
     one u (Ref c) b h = tt
     one u This b h = tt
-    one (New q) (New r) b h = let same : q ≡ r = new_same q r b in omega (arith, h, same)
-      where
-        new_same : (q r : ℕ) → (q == r) ≡ true → q ≡ r
-        new_same q r e = grind (arith, nat_tests)
+    one (New q) (New r) b h = let same : q ≡ r = eqb-true q r b in omega (arith, h, same)
     one u (New r) b h = absurd (cc)
 behind_above pc us vs e a = absurd (cc)
 

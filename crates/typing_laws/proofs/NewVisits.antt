@@ -2,15 +2,14 @@
 use Rattle.std.proofs.Common.{◌≡◌, ℕ, zero, suc, ◌-◌, ◌<◌, Bool, true, false, cond, List, [], ◌∷◌, ◌++◌, length, map, replicate, Option, Some, None, Ok, refl, sym, ap, subst, arith}
 use Rattle.std.specs.Prelude.{◌==◌, slice_get}
 use Rattle.std.specs.List.{AllByRecursion}
-use Rattle.std.proofs.lemmas.Bool.Decides.{nat_tests}
-use Rattle.jvm_types.specs.CodeGrammar.{SpellsInsns, SpellsOp}
+use Rattle.std.proofs.lemmas.Bool.{eqb-true}
+use Rattle.jvm_types.specs.CodeGrammar.{SpellsInsns}
 use Rattle.jvm_types.specs.CodeTable.{row, type_of, is_init}
 use Rattle.jvm_types.specs.declared.op_row.OpRow.{OpRow}
 use Rattle.jvm_types.specs.Members.{is_static}
 use Rattle.jvm_types.specs.Types.{Shape, if_same_place, meet, meets, receiver_types, entry_shape}
 use Rattle.jvm_types.specs.Verifying.{Node, node_at, first_nodes, node_joined, brought, all_brought, handled, covering, shape_at_handler, shape_after, edges, clash, catch_fault, broken_before, broken_after, gone_on, visited_row, visited_insn, visited, Visits}
 use Rattle.jvm_types.specs.declared.code.Insn.{Insn}
-use Rattle.jvm_types.specs.declared.code.Op.{Op}
 use Rattle.jvm_types.specs.declared.program.Kind.{Kind}
 use Rattle.jvm_types.specs.declared.program.Kind.TheVariants as kinds
 use Rattle.jvm_types.specs.declared.program.MethodInfo.{MethodInfo}
@@ -20,6 +19,7 @@ use Rattle.jvm_types.specs.declared.program.Target.{Target}
 use Rattle.jvm_types.specs.declared.typing.VType.{VType}
 use Rattle.jvm_types.specs.declared.typing.VType.TheVariants.{Int, Null, Ref, This, New, Top}
 use Rattle.jvm_types.proofs.EachAfter.{all_append}
+use Rattle.typing_laws.proofs.LeastFrames.{behind}
 use Rattle.typing_laws.proofs.LocalRisen.{frames_of}
 use Rattle.typing_laws.proofs.LocalEdges.{uncaught}
 use Rattle.typing_laws.proofs.LocalVisit.{held, unclashed, cleared, cleared_frames}
@@ -121,12 +121,9 @@ brought_behind [] to f nodes h k = k
 brought_behind (insn ∷ code) to f [] h k = k
 brought_behind (insn ∷ code) to f (node ∷ nodes) h k = by_test (insn.pc == to) refl (brought_behind code to f nodes h k.1)
   where
-    same : (m n : ℕ) → (m == n) ≡ true → n ≡ m
-    same m n e = grind (arith, nat_tests, e)
-
     by_test : (t : Bool) → (insn.pc == to) ≡ t → AllBehind code (frames_of (brought code to f nodes))
         → AllBehind (insn ∷ code) (frames_of (cond t (node_joined node node.frame f ∷ nodes) (node ∷ brought code to f nodes)))
-    by_test true e more = (joined_behind insn.pc node node.frame f (subst (λ (pc : ℕ). AreBehind pc f) (same insn.pc to e) h) k.0, k.1)
+    by_test true e more = (joined_behind insn.pc node node.frame f (subst (λ (pc : ℕ). AreBehind pc f) (sym (eqb-true insn.pc to e)) h) k.0, k.1)
     by_test false e more = (k.0, more)
 
 all_brought_behind : (code : List Insn) (tos : List ℕ) (f : Shape) (nodes : List Node) → AllByRecursion (λ to. AreBehind to f) tos → AllBehind code (frames_of nodes) → AllBehind code (frames_of (all_brought code tos f nodes))
@@ -172,14 +169,11 @@ module _ (p : Program) (m : MethodInfo) where
 
 -- ---- the law
 
-some_front : (pc : ℕ) (op : Op) (front : List ℕ) → SpellsOp pc op front → 0 < length front
-some_front pc op front s = omega (arith, ap length s.is)
-
 goes_on : (pc : ℕ) (insns : List Insn) (bytes : List ℕ) (i : ℕ) (insn : Insn) → SpellsInsns pc insns bytes → slice_get insns i ≡ Some insn → insn.pc < insn.next
 goes_on pc [] bytes i insn s e = absurd (cc)
 goes_on pc (x ∷ insns) bytes zero insn s e =
     let same : x ≡ insn = cc in
-    omega (arith, s.3, s.4, some_front pc x.op s.0 s.5, ap (λ (y : Insn). y.pc) same, ap (λ (y : Insn). y.next) same)
+    omega (arith, s.3, s.4, behind pc x.op s.0 s.5, ap (λ (y : Insn). y.pc) same, ap (λ (y : Insn). y.next) same)
 goes_on pc (x ∷ insns) bytes (suc i) insn s e = goes_on x.next insns s.1 i insn s.6 e
 
 pub new_behind : NewIsBehind

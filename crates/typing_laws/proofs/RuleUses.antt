@@ -1,7 +1,7 @@
 -- What the rules say where none is broken.
-use Rattle.std.proofs.Common.{◌≡◌, ℕ, zero, suc, ◌+◌, ◌<◌, ◌≤◌, Bool, true, false, not, ◌&&◌, ◌||◌, List, [], ◌∷◌, ◌++◌, length, map, reverse, take, Option, Some, None, refl, sym, ap, ◌∙◌, subst, arith, length-append}
+use Rattle.std.proofs.Common.{◌≡◌, ℕ, zero, suc, ◌+◌, ◌<◌, ◌≤◌, Bool, true, false, not, ◌||◌, List, [], ◌∷◌, ◌++◌, length, map, reverse, take, Option, Some, None, refl, sym, ap, ◌∙◌, subst, arith, length-append}
 use Rattle.std.specs.Prelude.{nat_lt, nat_le, slice_get}
-use Rattle.std.proofs.lemmas.Bool.{or_parts}
+use Rattle.std.proofs.lemmas.Bool.{and_from, not-false, or_parts}
 use Rattle.std.proofs.lemmas.Bool.Decides.{nat_tests}
 use Rattle.std.proofs.lemmas.List.{length-map, length-reverse}
 use Rattle.jvm_types.specs.CodeTable.{type_of, want_of, arguments, returned, row}
@@ -42,10 +42,6 @@ operands_free false b c d h = refl
 pub unmisused : (m : MethodInfo) (insn : Insn) (r : OpRow) (f : Shape) → RulesHold m insn r f → some_operand (misuses m) r f ≡ false
 unmisused m insn r f rules = operands_free _ _ _ _ rules.objects
 
-holds : (b : Bool) → not b ≡ false → b ≡ true
-holds true e = refl
-holds false e = absurd (cc)
-
 -- ---- values that are taken
 
 tall : (r : OpRow) (f : Shape) → takes_too_many r f ≡ false → length r.takes ≤ length f.stack
@@ -80,7 +76,7 @@ taken_good m insn r f k want rules e =
       at.0,
       at.1,
       (
-        holds (suits m want at.0) (taken_fine (λ w t. not (suits m w t)) r.takes f.stack k want at.0 (some_taken_free (λ w t. not (suits m w t)) r f rules.types) e at.1),
+        not-false (suits m want at.0) (taken_fine (λ w t. not (suits m w t)) r.takes f.stack k want at.0 (some_taken_free (λ w t. not (suits m w t)) r f rules.types) e at.1),
         taken_fine (misuses m) r.takes f.stack k want at.0 (some_taken_free (misuses m) r f (unmisused m insn r f rules)) e at.1,
       ),
     )
@@ -115,7 +111,7 @@ read_good m insn r f local want rules long e =
       at.0,
       at.1,
       (
-        holds (suits m want at.0) (read_fine (λ w t. not (suits m w t)) r.reads f.locals local want at.0 types e at.1),
+        not-false (suits m want at.0) (read_fine (λ w t. not (suits m w t)) r.reads f.locals local want at.0 types e at.1),
         read_fine (misuses m) r.reads f.locals local want at.0 objects e at.1,
       ),
     )
@@ -127,16 +123,13 @@ kind_suits m kinds.Int t e = e
 kind_suits m kinds.Bool t e = e
 kind_suits m (kinds.Ref class) t e = e
 
-both_true : (a b : Bool) → a ≡ true → b ≡ true → (a && b) ≡ true
-both_true a b e f = rw e f
-
 wanted_suit : (m : MethodInfo) (ks : List Kind) (more : List Want) (ts : List VType) → length ks ≤ length ts → some_taken (λ w t. not (suits m w t)) (map want_of ks ++ more) ts ≡ false
     → all_pairs is_below (take (length ks) ts) (map type_of ks) ≡ true
 wanted_suit m [] more ts h e = refl
 wanted_suit m (kind ∷ ks) more [] h e = absurd (omega (arith, h))
 wanted_suit m (kind ∷ ks) more (t ∷ ts) h e =
     let parts = or_parts (not (suits m (want_of kind) t)) (some_taken (λ w t. not (suits m w t)) (map want_of ks ++ more) ts) e in
-    both_true (is_below t (type_of kind)) (all_pairs is_below (take (length ks) ts) (map type_of ks)) (kind_suits m kind t (holds (suits m (want_of kind) t) parts.0)) (wanted_suit m ks more ts (omega (arith, h)) parts.1)
+    and_from (is_below t (type_of kind)) (all_pairs is_below (take (length ks) ts) (map type_of ks)) (kind_suits m kind t (not-false (suits m (want_of kind) t) parts.0)) (wanted_suit m ks more ts (omega (arith, h)) parts.1)
 
 as_many : (called : MethodInfo) (more : List Want) → length (arguments called ++ more) ≡ length called.args + length more
 as_many called more = length-append (arguments called) more ∙ ap (λ n. n + length more) (length-map (reverse called.args) want_of ∙ length-reverse called.args)
