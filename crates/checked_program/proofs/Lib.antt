@@ -6,3 +6,4 @@ mod MarkChecks
 mod UseTries
 mod MarkTries
 pub mod CheckedPlaces
+mod OwnTries
