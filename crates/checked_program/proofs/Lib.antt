@@ -1,4 +1,4 @@
-mod TriedPrograms
+pub mod TriedPrograms
 mod TagTries
 mod EachReached
 mod FrozenChecks
