@@ -1,6 +1,6 @@
 pub mod TriedPrograms
 mod TagTries
-mod EachReached
+pub mod EachReached
 mod FrozenChecks
 mod MarkChecks
 mod UseTries
