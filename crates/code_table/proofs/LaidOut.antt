@@ -1,5 +1,5 @@
 -- A code that is laid out has pcs that ascend.
-use Rattle.std.proofs.Common.{◌≡◌, ℕ, suc, ◌<◌, ◌≤◌, List, [], ◌∷◌, length, ap, arith}
+use Rattle.std.proofs.Common.{ℕ, suc, ◌<◌, ◌≤◌, List, [], ◌∷◌, length, ap, arith}
 use Rattle.jvm_types.specs.CodeGrammar.{SpellsInsns, SpellsOp}
 use Rattle.jvm_types.specs.Verifying.{IsLaidOut}
 use Rattle.jvm_types.specs.declared.code.Insn.{Insn}
