@@ -16,5 +16,3 @@ pub use reading::read_class;
 
 #[cfg(test)]
 mod reading_tests;
-#[cfg(test)]
-mod test_files;

@@ -1,7 +1,6 @@
 //! Fields and methods (JVMS 4.5, 4.6).
 
 ghost use Rattle.std.specs.Prelude.{◌≡◌, count_by};
-ghost use Rattle.jvm_types.specs.Numbers.{has_flag};
 ghost use Rattle.jvm_types.specs.ReadingClass.{member_at, field_at, has_body, method_at};
 ghost use Rattle.class_reader.specs.Giving.{Gives, is_code};
 
@@ -9,12 +8,9 @@ use crate::attributes::{FieldAttrStep, MethodAttrStep};
 use crate::indices::read_index;
 use crate::items::{Stop, check, read_u2};
 use crate::lists::{Step, read_list};
+use jvm_types::flags::{ABSTRACT, NATIVE, has_flag};
 use jvm_types::{CRule, Constant, IndexKind, Member, MemberAttr, Rows};
 use std::alloc::Global;
-
-const NATIVE: u16 = 0x0100;
-
-const ABSTRACT: u16 = 0x0400;
 
 /// A field or a method, with a step for its attributes.
 #[tactic(auto, unfolding(jvm_types::specs::ReadingClass::member_at))]
@@ -54,12 +50,6 @@ impl Step for FieldStep {
     ) -> Result<(Member, &'a [u8]), Stop> {
         read_member::<FieldAttrStep>(alloc, pool, bytes)
     }
-}
-
-fn has_flag(flag: u16, flags: u16) -> bool
-    ensures { result ≡ has_flag flag flags }
-{
-    flags & flag != 0
 }
 
 /// How many of the attributes are a Code.

@@ -15,13 +15,11 @@ use crate::lists::{Step, read_list};
 use crate::members::{FieldStep, MethodStep};
 use crate::pool_checks::read_constants;
 use crate::read_error::ReadError;
+use jvm_types::limits::{FIRST_VERSION, LAST_VERSION, MOST_FILE_BYTES};
 use jvm_types::{Bytes, CRule, ClassFile, Constant, IndexKind, Rows};
 use std::alloc::Global;
 
 const MAGIC: u32 = 0xCAFE_BABE;
-
-/// The most bytes of a file.
-const MOST_BYTES: usize = 1_048_576;
 
 /// The index of an interface.
 struct InterfaceStep;
@@ -49,7 +47,11 @@ fn read_front(alloc: Global, bytes: &[u8]) -> Result<(ClassFile, &[u8]), Stop>
     check(magic == MAGIC, CRule::C1, bytes.len())?;
     let (minor, at_major) = read_u2(rest)?;
     let (major, rest) = read_u2(at_major)?;
-    check(45 <= major && major <= 50, CRule::C2, at_major.len())?;
+    check(
+        FIRST_VERSION <= major && major <= LAST_VERSION,
+        CRule::C2,
+        at_major.len(),
+    )?;
     let (constants, rest) = read_constants(alloc, rest)?;
     let (flags, rest) = read_u2(rest)?;
     let (this_class, rest) = read_index(IndexKind::Class, &constants, rest)?;
@@ -78,8 +80,8 @@ fn read_front(alloc: Global, bytes: &[u8]) -> Result<(ClassFile, &[u8]), Stop>
 fn read_whole(alloc: Global, bytes: &[u8]) -> Result<ClassFile, Stop>
     ensures { Gives (λ x. x) result (read_class bytes.now) }
 {
-    if bytes.len() > MOST_BYTES {
-        return Err(Stop::At(CRule::C10, bytes.len() - MOST_BYTES));
+    if bytes.len() > MOST_FILE_BYTES {
+        return Err(Stop::At(CRule::C10, bytes.len() - MOST_FILE_BYTES));
     }
     let (class, rest) = read_front(alloc, bytes)?;
     match rest {

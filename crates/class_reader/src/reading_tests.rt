@@ -1,32 +1,33 @@
 use super::*;
-use crate::test_files::{ADDS, CONSTANTS, LOCKS};
 use jvm_types::{Bytes, CRule, Code, Constant, Handler, Member, MemberAttr};
 use std::test::*;
+use test_classes::{adds, changed, constants, pair};
 
-/// The bytes with some of them changed, each by its place.
-fn changed(rt: &HostRuntime, bytes: &[u8], changes: &[(usize, u8)]) -> Result<Bytes, Fail> {
-    let mut file = Bytes::from_slice(rt.alloc(), bytes)?;
-    for (at, byte) in changes {
-        if *at < file.len() {
-            file.set(*at, *byte);
-        }
+/// Whether a file is refused by this rule at this offset.
+fn is_refused(rt: &HostRuntime, file: &Bytes, rule: CRule, at: u32) -> bool {
+    match read_class(rt.alloc(), file) {
+        Ok(_) => false,
+        Err(error) => error == ReadError::Refused(rule, at),
     }
-    Ok(file)
 }
 
-/// Whether the bytes with these changes are refused by this rule at this offset.
-fn is_refused(
+/// Whether a class with these changes is refused so.
+fn refuses(
     rt: &HostRuntime,
-    bytes: &[u8],
+    hex: &str,
     changes: &[(usize, u8)],
     rule: CRule,
     at: u32,
 ) -> Result<bool, Fail> {
-    let file = changed(rt, bytes, changes)?;
-    Ok(match read_class(rt.alloc(), &file) {
-        Ok(_) => false,
-        Err(error) => error == ReadError::Refused(rule, at),
-    })
+    let file = changed(rt.alloc(), hex, changes)?;
+    Ok(is_refused(rt, &file, rule, at))
+}
+
+/// Whether the front of the class that adds is refused so.
+fn refuses_front(rt: &HostRuntime, len: usize, rule: CRule, at: u32) -> Result<bool, Fail> {
+    let mut file = changed(rt.alloc(), adds(), &[])?;
+    file.truncate(len);
+    Ok(is_refused(rt, &file, rule, at))
 }
 
 /// A row that catches every exception.
@@ -55,7 +56,7 @@ fn code_of(member: &Member) -> Option<&Code> {
 
 #[test]
 fn reads_a_class_that_adds_and_prints(rt: HostRuntime) -> Result<(), Fail> {
-    let file = Bytes::from_slice(rt.alloc(), &ADDS)?;
+    let file = changed(rt.alloc(), adds(), &[])?;
     let class = read_class(rt.alloc(), &file).ok().ok_or("a class")?;
     assert_eq!(rt; (class.minor, class.major, class.flags), (0, 50, 33));
     assert_eq!(rt; (class.this_class, class.super_class), (2, 4));
@@ -76,7 +77,7 @@ fn reads_a_class_that_adds_and_prints(rt: HostRuntime) -> Result<(), Fail> {
 
 #[test]
 fn reads_a_class_that_locks(rt: HostRuntime) -> Result<(), Fail> {
-    let file = Bytes::from_slice(rt.alloc(), &LOCKS)?;
+    let file = changed(rt.alloc(), pair(), &[])?;
     let class = read_class(rt.alloc(), &file).ok().ok_or("a class")?;
     assert_eq!(rt;
         (
@@ -101,19 +102,14 @@ fn reads_a_class_that_locks(rt: HostRuntime) -> Result<(), Fail> {
 
 #[test]
 fn reads_what_javac_writes(rt: HostRuntime) -> Result<(), Fail> {
-    let file = Bytes::from_slice(rt.alloc(), &CONSTANTS)?;
+    let file = changed(rt.alloc(), constants(), &[])?;
     let class = read_class(rt.alloc(), &file).ok().ok_or("a class")?;
-    let constants = &class.constants;
-    assert!(rt; matches!(constants.get(14), Some(Constant::Integer(-2))));
-    assert!(rt; matches!(constants.get(17), Some(Constant::Long(5))));
-    assert!(rt; matches!(constants.get(18), Some(Constant::Gap)));
-    assert!(rt;
-        matches!(
-            constants.get(21),
-            Some(Constant::Double(0x3FF8_0000_0000_0000))
-        )
-    );
-    assert!(rt; matches!(constants.get(25), Some(Constant::Text(26))));
+    let pool = &class.constants;
+    assert!(rt; matches!(pool.get(14), Some(Constant::Integer(-2))));
+    assert!(rt; matches!(pool.get(17), Some(Constant::Long(5))));
+    assert!(rt; matches!(pool.get(18), Some(Constant::Gap)));
+    assert!(rt; matches!(pool.get(21), Some(Constant::Double(0x3FF8_0000_0000_0000))));
+    assert!(rt; matches!(pool.get(25), Some(Constant::Text(26))));
     let wide = class.fields.get(1).ok_or("a field")?;
     assert!(rt;
         matches!(
@@ -138,37 +134,37 @@ fn reads_what_javac_writes(rt: HostRuntime) -> Result<(), Fail> {
 
 #[test]
 fn refuses_by_the_first_rule(rt: HostRuntime) -> Result<(), Fail> {
-    assert!(rt; is_refused(&rt, &[], &[], CRule::C3, 0)?);
-    assert!(rt; is_refused(&rt, &ADDS[..222], &[], CRule::C3, 221)?);
-    assert!(rt; is_refused(&rt, &ADDS[..100], &[], CRule::C3, 90)?);
-    assert!(rt; is_refused(&rt, &ADDS, &[(0, 0)], CRule::C1, 0)?);
-    assert!(rt; is_refused(&rt, &ADDS, &[(7, 51)], CRule::C2, 6)?);
-    assert!(rt; is_refused(&rt, &ADDS, &[(7, 44)], CRule::C2, 6)?);
-    assert!(rt; is_refused(&rt, &ADDS, &[(10, 2)], CRule::C4, 10)?);
-    assert!(rt; is_refused(&rt, &ADDS, &[(15, 0), (16, 20)], CRule::C5, 15)?);
-    assert!(rt; is_refused(&rt, &ADDS, &[(13, 0)], CRule::C6, 13)?);
-    assert!(rt; is_refused(&rt, &ADDS, &[(198, 21)], CRule::C7, 195)?);
-    assert!(rt; is_refused(&rt, &ADDS, &[(185, 1), (186, 9)], CRule::C9, 185)?);
+    assert!(rt; refuses_front(&rt, 0, CRule::C3, 0)?);
+    assert!(rt; refuses_front(&rt, 222, CRule::C3, 221)?);
+    assert!(rt; refuses_front(&rt, 100, CRule::C3, 90)?);
+    assert!(rt; refuses(&rt, adds(), &[(0, 0)], CRule::C1, 0)?);
+    assert!(rt; refuses(&rt, adds(), &[(7, 51)], CRule::C2, 6)?);
+    assert!(rt; refuses(&rt, adds(), &[(7, 44)], CRule::C2, 6)?);
+    assert!(rt; refuses(&rt, adds(), &[(10, 2)], CRule::C4, 10)?);
+    assert!(rt; refuses(&rt, adds(), &[(15, 0), (16, 20)], CRule::C5, 15)?);
+    assert!(rt; refuses(&rt, adds(), &[(13, 0)], CRule::C6, 13)?);
+    assert!(rt; refuses(&rt, adds(), &[(198, 21)], CRule::C7, 195)?);
+    assert!(rt; refuses(&rt, adds(), &[(185, 1), (186, 9)], CRule::C9, 185)?);
     Ok(())
 }
 
 #[test]
 fn refuses_wide_constants_and_values(rt: HostRuntime) -> Result<(), Fail> {
     // the Long is last; a field starts with the second index of the Long, or with three bytes
-    assert!(rt; is_refused(&rt, &CONSTANTS, &[(9, 18)], CRule::C5, 136)?);
-    assert!(rt; is_refused(&rt, &CONSTANTS, &[(269, 18)], CRule::C5, 268)?);
-    assert!(rt; is_refused(&rt, &CONSTANTS, &[(267, 3)], CRule::C7, 264)?);
+    assert!(rt; refuses(&rt, constants(), &[(9, 18)], CRule::C5, 136)?);
+    assert!(rt; refuses(&rt, constants(), &[(269, 18)], CRule::C5, 268)?);
+    assert!(rt; refuses(&rt, constants(), &[(267, 3)], CRule::C7, 264)?);
     // the catch type is a text, or that of a row which is not there; the code is longer than its body
-    assert!(rt; is_refused(&rt, &CONSTANTS, &[(375, 8)], CRule::C5, 374)?);
-    assert!(rt; is_refused(&rt, &CONSTANTS, &[(367, 3)], CRule::C5, 382)?);
-    assert!(rt; is_refused(&rt, &CONSTANTS, &[(356, 200)], CRule::C7, 345)?);
+    assert!(rt; refuses(&rt, constants(), &[(375, 8)], CRule::C5, 374)?);
+    assert!(rt; refuses(&rt, constants(), &[(367, 3)], CRule::C5, 382)?);
+    assert!(rt; refuses(&rt, constants(), &[(356, 200)], CRule::C7, 345)?);
     Ok(())
 }
 
 #[test]
 fn accepts_majors_45_to_50(rt: HostRuntime) -> Result<(), Fail> {
     for major in 45..51 {
-        let file = changed(&rt, &ADDS, &[(7, major)])?;
+        let file = changed(rt.alloc(), adds(), &[(7, major)])?;
         let class = read_class(rt.alloc(), &file).ok().ok_or("a class")?;
         assert_eq!(rt; class.major, u16::from(major));
     }
@@ -177,7 +173,8 @@ fn accepts_majors_45_to_50(rt: HostRuntime) -> Result<(), Fail> {
 
 /// The class that adds with one attribute more, of 1,048,347 bytes.
 fn longest(rt: &HostRuntime) -> Result<Bytes, Fail> {
-    let mut file = Bytes::from_slice(rt.alloc(), &ADDS[..221])?;
+    let mut file = changed(rt.alloc(), adds(), &[])?;
+    file.truncate(221);
     // one attribute, whose name is constant 1, and its length
     file.extend_from_slice(&[0, 1, 0, 1, 0, 15, 255, 27])?;
     for _ in 0..1_048_347 {
@@ -194,14 +191,14 @@ fn reads_a_mebibyte_and_no_more(rt: HostRuntime) -> Result<(), Fail> {
     let attr = class.attrs.get(0).ok_or("an attribute")?;
     assert_eq!(rt; (attr.name, attr.body.len()), (1, 1_048_347));
     file.push(0)?;
-    assert!(rt; is_refused(&rt, file.as_slice(), &[], CRule::C10, 1_048_576)?);
+    assert!(rt; is_refused(&rt, &file, CRule::C10, 1_048_576));
     Ok(())
 }
 
 #[test]
 fn refuses_a_byte_that_is_left_over(rt: HostRuntime) -> Result<(), Fail> {
-    let mut file = Bytes::from_slice(rt.alloc(), &ADDS)?;
+    let mut file = changed(rt.alloc(), adds(), &[])?;
     file.push(0)?;
-    assert!(rt; is_refused(&rt, file.as_slice(), &[], CRule::C8, 223)?);
+    assert!(rt; is_refused(&rt, &file, CRule::C8, 223));
     Ok(())
 }

@@ -1,0 +1,11 @@
+//! Class files for the tests of the other crates, each of which stands here once.
+#![tactic(auto)]
+
+mod bytes;
+mod texts;
+
+pub use bytes::{bytes_of, changed};
+pub use texts::{adds, below_exception, constants, kinds, pair, peeks, tally, work};
+
+#[cfg(test)]
+mod tests;
