@@ -14,9 +14,8 @@ use crate::delivery::deliver;
 use crate::reading::{Unread, read_files};
 use crate::shelf::{Shelf, ShelfError};
 use crate::sink::Sink;
-use checked_program::Checked;
 use class_runner::{FileError, first_ops, load_program, report};
-use jvm_types::limits::MOST_FILES;
+use checked_program::Checked;
 use jvm_types::{Bytes, Gate, Rows};
 use std::alloc::{AllocError, Global};
 use step_core::run_first;
@@ -73,7 +72,7 @@ fn work<S: Shelf>(alloc: Global, words: &Vec<String>, shelf: &mut S) -> Due
 // What is due to the files of these names.
 fn work_on<S: Shelf>(alloc: Global, names: &[String], shelf: &mut S) -> Due
     requires some { 0 < length names.now }
-    requires few { length names.now ≤ MOST_FILES }
+    requires few { length names.now ≤ 64 }
     ensures due { IsDue (Some (texts names.now)) (S.files shelf.old)
         (S.faults shelf.old) (S.faults shelf.new) result }
     ensures files { S.files shelf.new ≡ S.files shelf.old }
@@ -98,7 +97,7 @@ fn not_read(alloc: Global, unread: Unread) -> Due
 // What is due to the contents of the files, none of which is too long.
 fn run_files(alloc: Global, contents: &Rows<Bytes>) -> Due
     requires some { 0 < length contents.now }
-    requires few { length contents.now ≤ MOST_FILES }
+    requires few { length contents.now ≤ 64 }
     requires short { first_long 0 contents.now ≡ None }
     ensures { IsRun contents.now result }
 {
