@@ -1,5 +1,5 @@
 pub mod TypeLists
-pub mod Tops
+pub mod FrameLaws
 pub mod TakenLaws
 pub mod StartedLaws
 pub mod WaitingLaws

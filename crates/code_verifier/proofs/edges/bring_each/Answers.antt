@@ -7,7 +7,7 @@ use Rattle.jvm_types.specs.declared.code.Insn.{Insn}
 use Rattle.code_table.specs.PcTables.{Ascend}
 use Rattle.code_verifier.proofs.BroughtLaws.{level_brought}
 use Rattle.code_verifier.proofs.ClashLaws.{clash_more, left_none, right_none, still_none}
-use Rattle.code_verifier.proofs.edges.bring_all.Goals as goal
+use Rattle.code_verifier.proofs.edges.bring_each.Goals as goal
 
 -- the edges that are left: the first clashes with none, and neither do the others
 first_fits : (code : List Insn) (tos : List ℕ) (k depth : ℕ) (nodes : List Node) → Ascend 0 code → k < length tos → clash code (drop k tos) depth nodes ≡ None → clash code (slice_index_or tos k 0 ∷ []) depth nodes ≡ None
@@ -31,4 +31,6 @@ loop-to-preserved c = record {
   level = rw c.in_ok-bring.ensures (level_brought c.args.m.now (slice_index_or c.args.tos.now c.loop-to.to-index 0) c.args.f.now c.loop-to.nodes c.requires.locals c.loop-to.invariant.level);
   depth = rw c.in_ok-bring.ensures (still_none c.args.m.now.code (drop (c.loop-to.to-index + 1) c.args.tos.now) (slice_index_or c.args.tos.now c.loop-to.to-index 0) c.args.f.now (length c.args.f.now.stack) c.loop-to.nodes refl
       (others_fit c.args.m.now.code c.args.tos.now c.loop-to.to-index (length c.args.f.now.stack) c.loop-to.nodes c.laid_out.ensures.ascend c.loop-to-test.true c.loop-to.invariant.depth));
+  others = λ others e. rw c.in_ok-bring.ensures (still_none c.args.m.now.code others (slice_index_or c.args.tos.now c.loop-to.to-index 0) c.args.f.now (length c.args.f.now.stack) c.loop-to.nodes refl
+      (c.loop-to.invariant.others others e));
 }
