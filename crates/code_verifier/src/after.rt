@@ -1,6 +1,6 @@
 //! The frame after an instruction.
 
-ghost use Rattle.std.specs.Prelude.{◌≡◌, ◌≤◌, ℕ, true, false, [], ◌∷◌, ◌++◌, map, drop, length, IfOk, OnOk};
+ghost use Rattle.std.specs.Prelude.{◌≡◌, ◌≤◌, ℕ, Some, true, false, [], ◌∷◌, ◌++◌, map, drop, length, IfOk, OnOk};
 ghost use Rattle.std.specs.Option.{IfSome};
 ghost use Rattle.jvm_types.specs.Types.{filled, is_uninitialised};
 ghost use Rattle.jvm_types.specs.CodeTable.{value_of, stack_after, locals_after};
@@ -112,8 +112,25 @@ fn started(own: u16, takes: &[Want], stack: &Stack<VType>) -> Option<(VType, u16
     None
 }
 
-/// Where an `<init>` is called on an object, it is of the class from then on; answers whether `this` is
-/// initialised then, if it was so before or not.
+/// An `<init>` is called on the object, which is of the class from then on; answers whether `this` is initialised
+/// then.
+fn start(
+    stack: &mut Stack<VType>,
+    locals: &mut Rows<VType>,
+    object: VType,
+    class: u16,
+    ready: bool,
+) -> bool
+    requires { is_uninitialised object ≡ true }
+    ensures { (n : ℕ) → after_start (Some (object, class)) (record { stack = stack.old; locals = filled n locals.old; ready = ready }) ≡ record { stack = stack.new; locals = filled n locals.new; ready = result } }
+{
+    initialise_stack(stack, object, class);
+    initialise(locals, object, class);
+    ready | same_type(object, VType::This)
+}
+
+/// Where an `<init>` is called on an object, it is of the class from then on; answers whether `this` is initialised
+/// then.
 fn start_object(
     stack: &mut Stack<VType>,
     locals: &mut Rows<VType>,
@@ -124,11 +141,7 @@ fn start_object(
     ensures { (n : ℕ) → after_start object (record { stack = stack.old; locals = filled n locals.old; ready = ready }) ≡ record { stack = stack.new; locals = filled n locals.new; ready = result } }
 {
     match object {
-        Some((object, class)) => {
-            initialise_stack(stack, object, class);
-            initialise(locals, object, class);
-            ready || same_type(object, VType::This)
-        }
+        Some((object, class)) => start(stack, locals, object, class, ready),
         None => ready,
     }
 }

@@ -1,28 +1,20 @@
 //! The frame at the start of a method.
 
 ghost use Rattle.std.specs.Prelude.{◌≡◌, ◌++◌, map, not, IfOk, OnOk};
-ghost use Rattle.jvm_types.specs.Numbers.{has_flag};
 ghost use Rattle.jvm_types.specs.CodeTable.{type_of};
 ghost use Rattle.jvm_types.specs.Types.{receiver_types, entry_shape};
 
 use code_table::{is_init, type_of};
+use jvm_types::flags::is_static;
 use jvm_types::{Kind, MethodInfo, Rows, Stack, TypeFrame, VType};
 use std::alloc::{AllocError, Global};
-
-const STATIC: u16 = 0x0008;
-
-fn is_static(m: &MethodInfo) -> bool
-    ensures { result ≡ has_flag 8 m.now.flags }
-{
-    m.flags & STATIC != 0
-}
 
 /// `this` in local 0 of an instance method.
 fn receiver_types(alloc: Global, m: &MethodInfo) -> Result<Rows<VType>, AllocError>
     ensures { IfOk result (λ types. types ≡ receiver_types m.now) }
 {
     let mut types = Rows::new(alloc);
-    if !is_static(m) {
+    if !is_static(m.flags) {
         types.push(if is_init(m) {
             VType::This
         } else {
