@@ -3,7 +3,7 @@ use Rattle.std.proofs.Common.{◌≡◌, ℕ, zero, suc, ◌+◌, ◌-◌, ◌<�
 use Rattle.std.specs.Prelude.{◌||◌, ◌&&◌, if◌then◌else◌, slice_get, slice_set}
 use Rattle.std.specs.List.{list_any}
 use Rattle.std.specs.Option.{IfSome}
-use Rattle.std.proofs.lemmas.List.{reverse-append, map-append, length-map, length-set, set-append_left, length-append, length-replicate}
+use Rattle.std.proofs.lemmas.List.{reverse-append, map-append, length-map, length-set, set-append_left, replicate-append-replicate}
 use Rattle.jvm_types.specs.Types.{Shape, filled, is_uninitialised, is_new, same_type, same_shape, all_pairs, meet, meets, meet_shapes}
 use Rattle.jvm_types.specs.Verifying.{initialised, after_start}
 use Rattle.jvm_types.specs.declared.typing.VType.{VType}
@@ -137,10 +137,6 @@ object_started object class stack locals stack' locals' ready after u es el ea n
 pub set_filled : (n : ℕ) (ts : List VType) (i : ℕ) (t : VType) → i < length ts → slice_set (filled n ts) i t ≡ filled n (slice_set ts i t)
 set_filled n ts i t h = set-append_left ts (replicate (n - length ts) Top) i t h ∙ ap (λ k. slice_set ts i t ++ replicate (n - k) Top) (sym (length-set ts i t))
 
-unknown_append : (j k : ℕ) → replicate j Top ++ replicate k Top ≡ replicate (j + k) Top
-unknown_append zero k = ap (λ n. replicate n Top) (omega arith)
-unknown_append (suc j) k = ap (λ l. Top ∷ l) (unknown_append j k) ∙ ap (λ n. replicate n Top) (omega arith)
-
 append_assoc : (xs ys zs : List VType) → (xs ++ ys) ++ zs ≡ xs ++ (ys ++ zs)
 append_assoc [] ys zs = refl
 append_assoc (x ∷ xs) ys zs = ap (λ l. x ∷ l) (append_assoc xs ys zs)
@@ -149,7 +145,7 @@ pub filled_more : (n count : ℕ) (ts : List VType) → count ≤ n → filled n
 filled_more n count ts h =
     let all : (count - length ts) + (n - length (filled count ts)) ≡ n - length ts = omega (arith, h, length_filled count ts) in
     append_assoc ts (replicate (count - length ts) Top) (replicate (n - length (filled count ts)) Top)
-    ∙ ap (λ l. ts ++ l) (unknown_append (count - length ts) (n - length (filled count ts))) ∙ ap (λ k. ts ++ replicate k Top) all
+    ∙ ap (λ l. ts ++ l) (replicate-append-replicate (count - length ts) (n - length (filled count ts)) Top) ∙ ap (λ k. ts ++ replicate k Top) all
 
 pub set_past : (ts : List VType) (i : ℕ) (t : VType) → length ts ≤ i → slice_set ts i t ≡ ts
 set_past [] i t h = refl

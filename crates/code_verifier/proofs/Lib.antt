@@ -10,3 +10,4 @@ pub mod SettlingLaws
 pub mod OneAnswer
 pub mod Laid
 pub mod SmallProgram
+pub mod VisitLaws

@@ -5,13 +5,13 @@ use Rattle.code_verifier.proofs.BroughtLaws.{at_place, brought_at, place_inside}
 use Rattle.code_verifier.proofs.ClashLaws.{fits_at}
 use Rattle.code_verifier.proofs.edges.bring_last.Goals as goal
 
-pub bring-requires-clause-inside : goal.bring-requires-clause-inside
-bring-requires-clause-inside c =
+pub bring_last-requires-clause-inside : goal.bring_last-requires-clause-inside
+bring_last-requires-clause-inside c =
     let place : number_at c.args.m.now.code c.args.to ≡ Some c.in-Some.i = sym c.in-Some.ensures in
     omega (arith, place_inside c.args.m.now.code c.args.to c.in-Some.i place, c.requires.level.long)
 
-pub bring-requires-clause-fits : goal.bring-requires-clause-fits
-bring-requires-clause-fits c =
+pub bring_last-requires-clause-fits : goal.bring_last-requires-clause-fits
+bring_last-requires-clause-fits c =
     let place : number_at c.args.m.now.code c.args.to ≡ Some c.in-Some.i = sym c.in-Some.ensures in
     fits_at c.args.m.now c.args.nodes.now c.args.to c.in-Some.i c.args.f c.laid_out.ensures.ascend c.requires.level c.requires.locals c.requires.depth place
 
