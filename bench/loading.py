@@ -58,8 +58,9 @@ class ClassFile:
     def field(self, flags, name, descriptor):
         self.fields.append(u2(flags) + u2(self.text(name)) + u2(self.text(descriptor)) + u2(0))
 
-    def method(self, flags, name, descriptor, code, stack=2, local=1):
-        body = u2(stack) + u2(local) + u4(len(code)) + code + u2(0) + u2(0)
+    def method(self, flags, name, descriptor, code, stack=2, local=1, rows=()):
+        table = u2(len(rows)) + b"".join(rows)
+        body = u2(stack) + u2(local) + u4(len(code)) + code + table + u2(0)
         attribute = u2(self.code_name) + u4(len(body)) + body
         self.methods.append(u2(flags) + u2(self.text(name)) + u2(self.text(descriptor)) + u2(1) + attribute)
 

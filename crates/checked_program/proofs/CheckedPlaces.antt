@@ -9,7 +9,7 @@ use Rattle.jvm_types.specs.declared.op_row.Want.TheVariants.{AnObject, ToStart}
 use Rattle.jvm_types.specs.declared.op_row.OpRow.{OpRow}
 use Rattle.jvm_types.specs.Members.{Site, is_static, is_init_name, is_class_init_name}
 use Rattle.jvm_types.specs.ProgramInvariant.{IsTargetOf, site_in}
-use Rattle.jvm_types.specs.Types.{Shape, shapes_of}
+use Rattle.jvm_types.specs.Types.{Shape}
 use Rattle.jvm_types.specs.Verifying.{IsLaidOut, IsTypingOf, covers}
 use Rattle.jvm_types.specs.declared.code.Insn.{Insn}
 use Rattle.jvm_types.specs.declared.code.Op.{Op}
@@ -47,12 +47,12 @@ pub checked_sound : CheckedIsSound
 checked_sound c number m is e =
     let there = typing_at c.program c.program.methods c.typings number m is.typings e in
     let laid : IsLaidOut m = laid_out c.program (take number c.program.methods) m (is.program.methods number m e) in
-    (there.0, there.1, record { laid = laid; typed = there.2; sound = local_law c.program m (shapes_of there.0) laid there.2 })
+    (there.0, there.1, record { laid = laid; typed = there.2; sound = local_law c.program m there.0.frames laid there.2 })
 
 pub called_fit_all : CalledFit
 called_fit_all c number m is e =
     let s = checked_sound c number m is e in
-    arguments_fit_all c.program m (shapes_of s.0) s.2.laid s.2.typed
+    arguments_fit_all c.program m s.0.frames s.2.laid s.2.typed
 
 -- ---- places
 
@@ -66,7 +66,7 @@ frames_of_typing c number m typing is e t =
 
 pub have_places : FramesHavePlaces
 have_places c method pc m typing f is e t d =
-    let at : Stands m (shapes_of typing) pc f = found m (shapes_of typing) pc f d in
+    let at : Stands m typing.frames pc f = found m typing.frames pc f d in
     let target = have_targets c.program method at.number m at.insn is.program e at.there in (
       at.number,
       at.insn,
@@ -75,14 +75,14 @@ have_places c method pc m typing f is e t d =
       record { method = method; typing = typing; in_program = e; its_typing = t; its_frames = refl; in_code = at.there; its_target = target.1; has = at.has },
     )
 
-held_at : (c : CheckedProgram) (m : MethodInfo) (frames : List (Option Shape)) (i : ℕ) (insn : Insn) (target : Target) (f : Shape) → IsChecked c → (at : IsPlace c m frames i insn target f) → Holds c.program m (shapes_of at.typing) insn target f
+held_at : (c : CheckedProgram) (m : MethodInfo) (frames : List (Option Shape)) (i : ℕ) (insn : Insn) (target : Target) (f : Shape) → IsChecked c → (at : IsPlace c m frames i insn target f) → Holds c.program m at.typing.frames insn target f
 held_at c m frames i insn target f is at =
     let of = frames_of_typing c at.method m at.typing is at.in_program at.its_typing in
-    let has : slice_get (shapes_of at.typing) i ≡ Some (Some f) = subst (λ (fs : List (Option Shape)). slice_get fs i ≡ Some (Some f)) at.its_frames at.has in
+    let has : slice_get at.typing.frames i ≡ Some (Some f) = subst (λ (fs : List (Option Shape)). slice_get fs i ≡ Some (Some f)) at.its_frames at.has in
     let there = have_targets c.program at.method i m insn is.program at.in_program at.in_code in
     let names = subst (λ (t : Target). IsTargetOf c.program (site_in m) insn.op t) (some_same (sym there.1 ∙ at.its_target)) there.2 in
     let sound = of.sound.sound i insn target f at.in_code at.its_target has in
-    let bounds = frame_law c.program m (shapes_of at.typing) of.laid of.typed i f has in
+    let bounds = frame_law c.program m at.typing.frames of.laid of.typed i f has in
     record {
       names = names;
       has_row = rows_stand c.program m insn.pc target insn.op names;
@@ -91,7 +91,7 @@ held_at c m frames i insn target f is at =
       locals = bounds.0;
       stack = bounds.1;
       ready = bounds.2;
-      behind = new_behind c.program m (shapes_of at.typing) i insn f of.laid of.typed at.in_code has;
+      behind = new_behind c.program m at.typing.frames i insn f of.laid of.typed at.in_code has;
     }
 
 pub places_hold_all : PlacesHold

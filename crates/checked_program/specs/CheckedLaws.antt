@@ -7,7 +7,7 @@ use Rattle.jvm_types.specs.declared.op_row.Want.{Want}
 use Rattle.jvm_types.specs.declared.op_row.Want.TheVariants.{AnObject, ToStart}
 use Rattle.jvm_types.specs.Members.{is_static}
 use Rattle.jvm_types.specs.ProgramInvariant.{IsTargetOf, site_in}
-use Rattle.jvm_types.specs.Types.{Shape, is_below, all_pairs, shapes_of}
+use Rattle.jvm_types.specs.Types.{Shape, is_below, all_pairs}
 use Rattle.jvm_types.specs.Verifying.{HasTyping, IsAssignment, IsLaidOut, IsSound, covers, covering, frame_at}
 use Rattle.jvm_types.specs.declared.code.Insn.{Insn}
 use Rattle.jvm_types.specs.declared.program.MethodInfo.{MethodInfo}
@@ -29,8 +29,8 @@ use Rattle.checked_program.specs.Tagging.{catches_all, until_all}
 -- the frames of a method of a checked program are those of its typing, which is sound at each instruction
 pub record AreFramesOf (p : Program) (m : MethodInfo) (typing : Typing) : Type 0 where
   pub laid : IsLaidOut m
-  pub typed : HasTyping p m (shapes_of typing)
-  pub sound : IsAssignment p m (shapes_of typing)
+  pub typed : HasTyping p m typing.frames
+  pub sound : IsAssignment p m typing.frames
 
 -- each method has its typing, at its number
 abbrev pub CheckedIsSound : Type 0
@@ -49,7 +49,7 @@ pub record IsPlace (c : CheckedProgram) (m : MethodInfo) (frames : List (Option 
   pub typing : Typing
   pub in_program : slice_get c.program.methods method ≡ Some m
   pub its_typing : slice_get c.typings method ≡ Some typing
-  pub its_frames : frames ≡ shapes_of typing
+  pub its_frames : frames ≡ typing.frames
   pub in_code : slice_get m.code i ≡ Some insn
   pub its_target : slice_get m.targets i ≡ Some target
   pub has : slice_get frames i ≡ Some (Some f)
@@ -57,7 +57,7 @@ pub record IsPlace (c : CheckedProgram) (m : MethodInfo) (frames : List (Option 
 -- there is one where there is a frame
 abbrev pub FramesHavePlaces : Type 0
 FramesHavePlaces = (c : CheckedProgram) (method pc : ℕ) (m : MethodInfo) (typing : Typing) (f : Shape) → IsChecked c → slice_get c.program.methods method ≡ Some m → slice_get c.typings method ≡ Some typing
-    → frame_at m.code (shapes_of typing) pc ≡ Some f → (i : ℕ) × (insn : Insn) × (target : Target) × (insn.pc ≡ pc) × IsPlace c m (shapes_of typing) i insn target f
+    → frame_at m.code typing.frames pc ≡ Some f → (i : ℕ) × (insn : Insn) × (target : Target) × (insn.pc ≡ pc) × IsPlace c m typing.frames i insn target f
 
 -- what holds there: the target fits and has its row, no rule is broken and each edge fits, and the frame is within its bounds
 pub record Holds (p : Program) (m : MethodInfo) (frames : List (Option Shape)) (insn : Insn) (target : Target) (f : Shape) : Type 0 where

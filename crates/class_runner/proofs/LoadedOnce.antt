@@ -2,7 +2,6 @@
 use Rattle.std.proofs.Common.{◌≡◌, ℕ, suc, ◌+◌, inl, inr, List, [], ◌∷◌, length, map, reverse, Option, Some, None, Result, Ok, Err, IfOk, IfErr, refl, sym, subst, ap, ◌∙◌}
 use Rattle.std.specs.List.{AllZip, AllByRecursion, zip}
 use Rattle.std.specs.Option.{option_map}
-use Rattle.std.proofs.lemmas.List.{reverse-reverse}
 use Rattle.std.proofs.lemmas.Slice.Zip.{AllZip-long}
 use Rattle.jvm_types.specs.ClassGrammar.{IsClass, Spells}
 use Rattle.jvm_types.specs.ReadingClass.{fault_of, class_fault}
@@ -11,7 +10,6 @@ use Rattle.jvm_types.specs.Targets.{Scope}
 use Rattle.jvm_types.specs.Linked.{code_of, scope_of, linked_methods, program_of}
 use Rattle.jvm_types.specs.Linkable.{IsDecoded}
 use Rattle.jvm_types.specs.LinkFaults.{LinkFault, link_fault, IsLinked}
-use Rattle.jvm_types.specs.Types.{Shape, shape_of, shapes_of}
 use Rattle.jvm_types.specs.Verifying.{IsTypingOf}
 use Rattle.checked_program.specs.CheckedProgram.{CheckedProgram, AreTypings}
 use Rattle.jvm_types.specs.FirstForm.{IsFirstForm}
@@ -20,7 +18,6 @@ use Rattle.jvm_types.specs.declared.code.Insn.{Insn}
 use Rattle.jvm_types.specs.declared.first.FirstOp.{FirstOp}
 use Rattle.jvm_types.specs.declared.program.MethodInfo.{MethodInfo}
 use Rattle.jvm_types.specs.declared.program.Program.{Program}
-use Rattle.jvm_types.specs.declared.typing.TypeFrame.{TypeFrame}
 use Rattle.jvm_types.specs.declared.typing.Typing.{Typing}
 use Rattle.jvm_types.specs.declared.refusal.Rule.{Rule}
 use Rattle.jvm_types.specs.declared.refusal.Rule.TheVariants.{C, K, L, V, S}
@@ -51,27 +48,9 @@ classes_once files cs ds h k = each_once Spells one_class files cs ds h k
 code_once : (ds : List Declared) (code others : List (List Insn)) → AllZip IsDecoded ds code → AllZip IsDecoded ds others → code ≡ others
 code_once ds code others h k = each_once IsDecoded (λ d i j p q. once (code_of d.member.attrs).bytes (code_of d.member.attrs).rows (code_of d.member.attrs).rows i j p q) ds code others h k
 
-same_frame : (f g : TypeFrame) → shape_of f ≡ shape_of g → f ≡ g
-same_frame f g e =
-    let stack : f.stack ≡ g.stack = sym (reverse-reverse f.stack) ∙ ap (λ (s : Shape). reverse s.stack) e ∙ reverse-reverse g.stack in
-    λ i. record { stack = stack i; locals = (e i).locals; this_ready = (e i).ready }
-
-same_frames : (fs gs : List (Option TypeFrame)) → map (option_map shape_of) fs ≡ map (option_map shape_of) gs → fs ≡ gs
-same_frames [] [] e = refl
-same_frames [] (g ∷ gs) e = absurd cc
-same_frames (f ∷ fs) [] e = absurd cc
-same_frames (None ∷ fs) (None ∷ gs) e =
-    let rest : map (option_map shape_of) fs ≡ map (option_map shape_of) gs = cc in λ i. None ∷ same_frames fs gs rest i
-same_frames (None ∷ fs) (Some g ∷ gs) e = absurd cc
-same_frames (Some f ∷ fs) (None ∷ gs) e = absurd cc
-same_frames (Some f ∷ fs) (Some g ∷ gs) e =
-    let first : shape_of f ≡ shape_of g = cc in
-    let rest : map (option_map shape_of) fs ≡ map (option_map shape_of) gs = cc in
-    λ i. Some (same_frame f g first i) ∷ same_frames fs gs rest i
-
 same_typing : (p : Program) (m : MethodInfo) (t u : Typing) → IsTypingOf p m t → IsTypingOf p m u → t ≡ u
 same_typing p m t u h k =
-    let frames : t.frames ≡ u.frames = same_frames t.frames u.frames (one_typing p m (shapes_of t) (shapes_of u) h k) in
+    let frames : t.frames ≡ u.frames = one_typing p m t.frames u.frames h k in
     λ i. record { frames = frames i }
 
 typings_once : (p : Program) (ms : List MethodInfo) (ts us : List Typing) → AreTypings p ms ts → AreTypings p ms us → ts ≡ us
@@ -127,7 +106,7 @@ none_untyped p [] ms ts rule place h k = absurd k
 none_untyped p (d ∷ ds) [] ts rule place h k = absurd k
 none_untyped p (d ∷ ds) (m ∷ ms) [] rule place h k = absurd h
 none_untyped p (d ∷ ds) (m ∷ ms) (t ∷ ts) rule place h k = elim k [
-  | inl refused ↦ no_refusal p m (shapes_of t) rule place.at h.0 refused.0
+  | inl refused ↦ no_refusal p m t.frames rule place.at h.0 refused.0
   | inr (u, typed, later) ↦ none_untyped p ds ms ts rule place h.1 later
 ]
 

@@ -1,9 +1,7 @@
 -- Every list of files is loaded to a program of the first form, or a rule refuses it: stage by stage.
-use Rattle.std.proofs.Common.{◌≡◌, ℕ, suc, ◌+◌, ◌<◌, ◌≤◌, inl, inr, Bool, true, false, Decides, List, [], ◌∷◌, ◌++◌, length, map, take, reverse, Option, Some, None, refl, sym, subst, ap, ◌∙◌, arith}
+use Rattle.std.proofs.Common.{◌≡◌, ℕ, suc, ◌+◌, ◌<◌, ◌≤◌, inl, inr, Bool, true, false, Decides, List, [], ◌∷◌, ◌++◌, length, map, take, Option, Some, None, refl, sym, subst, ap, ◌∙◌, arith}
 use Rattle.std.specs.Prelude.{◌⊎◌, slice_get}
 use Rattle.std.specs.List.{AllZip, AllByRecursion}
-use Rattle.std.specs.Option.{option_map}
-use Rattle.std.proofs.lemmas.List.{reverse-reverse}
 use Rattle.jvm_types.specs.ClassGrammar.{IsByte, IsClass, IsMethod, IsMethodAttr, Spells}
 use Rattle.jvm_types.specs.CodeFault.{code_fault}
 use Rattle.jvm_types.specs.Linkable.{IsDecoded, IsLinkable}
@@ -12,7 +10,7 @@ use Rattle.jvm_types.specs.Linked.{code_of, program_of}
 use Rattle.jvm_types.specs.Members.{Declared, declared_from, declared_by, declared_methods}
 use Rattle.jvm_types.specs.ProgramInvariant.{IsProgram}
 use Rattle.jvm_types.specs.ReadingClass.{class_fault}
-use Rattle.jvm_types.specs.Types.{Shape, shape_of, shapes_of}
+use Rattle.jvm_types.specs.Types.{Shape}
 use Rattle.jvm_types.specs.Verifying.{IsLaidOut, IsRefused, IsTypingOf, HasTyping}
 use Rattle.checked_program.specs.CheckedProgram.{CheckedProgram, AreTypings}
 use Rattle.jvm_types.specs.FirstForm.{IsFirstForm}
@@ -25,7 +23,6 @@ use Rattle.jvm_types.specs.declared.code.Insn.{Insn}
 use Rattle.jvm_types.specs.declared.first.FirstOp.{FirstOp}
 use Rattle.jvm_types.specs.declared.program.MethodInfo.{MethodInfo}
 use Rattle.jvm_types.specs.declared.program.Program.{Program}
-use Rattle.jvm_types.specs.declared.typing.TypeFrame.{TypeFrame}
 use Rattle.jvm_types.specs.declared.typing.Typing.{Typing}
 use Rattle.jvm_types.specs.declared.refusal.CRule.{CRule}
 use Rattle.jvm_types.specs.declared.refusal.KRule.{KRule}
@@ -96,19 +93,8 @@ all_decoded (d ∷ ds) h = by_fault (code_fault (code_of d.member.attrs).bytes (
 
 -- ---- V: verifying
 
-abbrev frame_of : Shape → TypeFrame
-frame_of s = record { stack = reverse s.stack; locals = s.locals; this_ready = s.ready }
-
 abbrev typing_of : List (Option Shape) → Typing
-typing_of frames = record { frames = map (option_map frame_of) frames }
-
-shape_back : (s : Shape) → shape_of (frame_of s) ≡ s
-shape_back s = λ i. record { stack = reverse-reverse s.stack i; locals = s.locals; ready = s.ready }
-
-shapes_back : (frames : List (Option Shape)) → map (option_map shape_of) (map (option_map frame_of) frames) ≡ frames
-shapes_back [] = refl
-shapes_back (None ∷ frames) = λ i. None ∷ shapes_back frames i
-shapes_back (Some s ∷ frames) = λ i. Some (shape_back s i) ∷ shapes_back frames i
+typing_of frames = record { frames = frames }
 
 each : {X : Type 0} (P : X → Type 0) (xs : List X) → ((i : ℕ) (x : X) → slice_get xs i ≡ Some x → P x) → AllByRecursion P xs
 each P [] h = tt
@@ -122,7 +108,7 @@ AreTyped p ds ms = ((ts : List Typing) × AreTypings p ms ts) ⊎ ((rule : VRule
 
 one_typed : (p : Program) (m : MethodInfo) → IsLaidOut m → ((t : Typing) × IsTypingOf p m t) ⊎ ((rule : VRule) × (pc : ℕ) × IsRefused p m rule pc)
 one_typed p m laid = elim (typed_or_refused p m laid) [
-  | inl (frames, typed) ↦ inl (typing_of frames, subst (HasTyping p m) (sym (shapes_back frames)) typed)
+  | inl (frames, typed) ↦ inl (typing_of frames, typed)
   | inr refused ↦ inr refused
 ]
 

@@ -4,7 +4,6 @@ use Rattle.std.specs.List.{AllZip}
 use Rattle.jvm_types.specs.ClassGrammar.{Spells}
 use Rattle.jvm_types.specs.Members.{Declared, declared_methods}
 use Rattle.jvm_types.specs.LinkFaults.{LinkFault, link_fault, in_file, in_method, IsLinked}
-use Rattle.jvm_types.specs.Types.{shapes_of}
 use Rattle.jvm_types.specs.Verifying.{IsTypingOf}
 use Rattle.jvm_types.specs.declared.class_file.ClassFile.{ClassFile}
 use Rattle.jvm_types.specs.declared.code.Insn.{Insn}
@@ -116,10 +115,10 @@ untyped_once p (d ∷ ds) (m ∷ ms) rule other place at h k = elim h [
     | inl again ↦
         let same = one_refusal p m rule other place.at at.at refused.0 again.0 in
         (ap V same.0, refused.1 ∙ ap (in_method d.file d.place) same.1 ∙ sym again.1)
-    | inr (t, typed, later) ↦ absurd (no_refusal p m (shapes_of t) rule place.at typed refused.0)
+    | inr (t, typed, later) ↦ absurd (no_refusal p m t.frames rule place.at typed refused.0)
   ]
   | inr (t, typed, later) ↦ elim k [
-    | inl again ↦ absurd (no_refusal p m (shapes_of t) other at.at typed again.0)
+    | inl again ↦ absurd (no_refusal p m t.frames other at.at typed again.0)
     | inr (u, also, after) ↦ untyped_once p ds ms rule other place at later after
   ]
 ]

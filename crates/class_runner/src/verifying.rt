@@ -10,7 +10,7 @@ ghost use Rattle.class_runner.specs.Stages.{own_methods, IsTypedAt, IsUntypedAt,
 
 use crate::loading::FileError;
 use crate::places::in_method;
-use code_verifier::{VerifyError, verify};
+use code_verifier::{Budget, MOST_KEPT, VerifyError, verify_within};
 use jvm_types::{ClassFile, Program, Rows, Rule, Typing};
 use std::alloc::Global;
 
@@ -21,13 +21,14 @@ fn verify_method(
     method: u32,
     file: u16,
     number: u16,
+    budget: &mut Budget,
 ) -> Result<Typing, FileError>
     requires program { IsProgram program.now }
     requires method { method < length program.now.methods }
     ensures ok { IfOk result (λ t. IsTypedAt program.now (slice_get program.now.methods method) t) }
     ensures refused { IfErr result (λ e. IsUntypedAt program.now (slice_get program.now.methods method) file number e) }
 {
-    match verify(alloc, program, method) {
+    match verify_within(alloc, program, method, budget) {
         Ok(typing) => Ok(typing),
         Err(VerifyError::Memory) => Err(FileError::Memory),
         Err(VerifyError::Refused(rule, pc)) => Err(FileError::Refused(
@@ -44,6 +45,7 @@ fn verify_class(
     file: u16,
     class: &ClassFile,
     typings: &mut Rows<Typing>,
+    budget: &mut Budget,
 ) -> Result<(), FileError>
     requires program { IsProgram program.now }
     requires class { IsClass class.now }
@@ -54,13 +56,17 @@ fn verify_class(
 {
     for number in 0..class.methods.len() {
         let method = typings.len() as u32;
-        typings.push(verify_method(alloc, program, method, file, number as u16)?)?;
+        let number = number as u16;
+        typings.push(verify_method(
+            alloc, program, method, file, number, budget,
+        )?)?;
     }
     Ok(())
 }
 
 /// The typing of each method of the program that the classes are linked to, in order. The first
-/// method that has none refuses the files.
+/// method that has none refuses the files. All typings together keep at most `MOST_KEPT` bytes;
+/// where they would keep more, memory is wanting.
 pub fn verify_files(
     alloc: Global,
     classes: &[ClassFile],
@@ -73,9 +79,17 @@ pub fn verify_files(
     ensures ok { IfOk result (λ typings. AreTypings program.now program.now.methods typings) }
     ensures refused { IfErr result (λ e. IsUnverified program.now (declared_methods classes.now) program.now.methods e) }
 {
+    let mut budget = Budget::of(MOST_KEPT);
     let mut typings = Rows::new(alloc);
     for (file, class) in classes.iter().enumerate() {
-        verify_class(alloc, program, file as u16, class, &mut typings)?;
+        verify_class(
+            alloc,
+            program,
+            file as u16,
+            class,
+            &mut typings,
+            &mut budget,
+        )?;
     }
     Ok(typings)
 }

@@ -1,10 +1,10 @@
 -- Edges: what one leaves of the nodes, by the number of the instruction that it leads to, and which clash.
-use Rattle.std.proofs.Common.{◌≡◌, ℕ, suc, ◌<◌, Bool, true, false, List, [], ◌∷◌, length, Option, Some, None, refl, sym, ap, ◌∙◌, arith}
+use Rattle.std.proofs.Common.{◌≡◌, ℕ, suc, ◌<◌, Bool, true, false, List, [], ◌∷◌, ◌++◌, length, Option, Some, None, refl, sym, ap, ◌∙◌, arith}
 use Rattle.std.specs.Prelude.{◌==◌, if◌then◌else◌, slice_set}
 use Rattle.std.specs.Option.{option_map, IfSome}
 use Rattle.std.specs.List.{AllByRecursion}
 use Rattle.jvm_types.specs.Types.{Shape, meets}
-use Rattle.jvm_types.specs.Verifying.{Node, node_at, node_joined, brought}
+use Rattle.jvm_types.specs.Verifying.{Node, node_at, node_joined, brought, all_brought}
 use Rattle.jvm_types.specs.declared.code.Insn.{Insn}
 use Rattle.jvm_types.specs.declared.typing.VType.{VType}
 use Rattle.jvm_types.specs.declared.program.MethodInfo.{MethodInfo}
@@ -77,3 +77,7 @@ level_brought m to f nodes k level = record {
   long = length_brought m.code to f nodes ∙ level.long;
   wide = wide_brought m m.code to f nodes k level.wide;
 }
+
+pub brought_last : (code : List Insn) (tos : List ℕ) (last : ℕ) (f : Shape) (nodes : List Node) → all_brought code (tos ++ last ∷ []) f nodes ≡ brought code last f (all_brought code tos f nodes)
+brought_last code [] last f nodes = refl
+brought_last code (to ∷ tos) last f nodes = brought_last code tos last f (brought code to f nodes)

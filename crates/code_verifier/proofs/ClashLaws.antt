@@ -1,5 +1,5 @@
 -- Which edges bring a frame of another depth, edge by edge.
-use Rattle.std.proofs.Common.{◌≡◌, ◌≢◌, ℕ, zero, suc, ◌<◌, ◌≤◌, ◌⊎◌, inl, inr, min, Bool, true, false, not, List, [], ◌∷◌, length, Option, Some, None, refl, sym, ap, ◌∙◌, arith}
+use Rattle.std.proofs.Common.{◌≡◌, ◌≢◌, ℕ, zero, suc, ◌<◌, ◌≤◌, ◌⊎◌, inl, inr, min, Bool, true, false, not, List, [], ◌∷◌, ◌++◌, length, Option, Some, None, refl, sym, ap, ◌∙◌, arith}
 use Rattle.std.specs.Prelude.{◌==◌, ◌||◌, ◌&&◌, if◌then◌else◌}
 use Rattle.std.specs.Option.{option_map, IfSome}
 use Rattle.std.specs.List.{AllByRecursion}
@@ -119,7 +119,7 @@ clash_at low (insn ∷ insns) to depth (node ∷ nodes) a = by_pc (cases_eq insn
 
 -- ---- where none clashes
 
-wide_at : (m : MethodInfo) (nodes : List Node) (i : ℕ) → AllByRecursion (λ (node : Node). IfSome node.frame (HasLocals m)) nodes → IfSome (node_at nodes i).frame (HasLocals m)
+pub wide_at : (m : MethodInfo) (nodes : List Node) (i : ℕ) → AllByRecursion (λ (node : Node). IfSome node.frame (HasLocals m)) nodes → IfSome (node_at nodes i).frame (HasLocals m)
 wide_at m [] i all = tt
 wide_at m (node ∷ nodes) zero all = all.0
 wide_at m (node ∷ nodes) (suc i) all = wide_at m nodes i all.1
@@ -160,3 +160,13 @@ still_none (insn ∷ insns) tos to f depth (node ∷ nodes) h e = by_tests (insn
     by_tests true false c a b e more = rw a e
     by_tests false true false a b e more = rw (a, b) (more e)
     by_tests false false c a b e more = rw a (more e)
+
+-- the edges but the last, and the last, where none of all clashes
+pub parts_none : (code : List Insn) (tos : List ℕ) (last depth : ℕ) (nodes : List Node) → Ascend 0 code → clash code (tos ++ last ∷ []) depth nodes ≡ None
+    → (clash code tos depth nodes ≡ None) × (clash code (last ∷ []) depth nodes ≡ None)
+parts_none code [] last depth nodes a e = (clash_none code depth nodes, e)
+parts_none code (to ∷ tos) last depth nodes a e =
+    let whole : lesser (clash code (to ∷ []) depth nodes) (clash code (tos ++ last ∷ []) depth nodes) ≡ None = sym (clash_more 0 code to (tos ++ last ∷ []) depth nodes a) ∙ e in
+    let rest = parts_none code tos last depth nodes a (right_none (clash code (to ∷ []) depth nodes) (clash code (tos ++ last ∷ []) depth nodes) whole) in
+    let first : clash code (to ∷ []) depth nodes ≡ None = left_none (clash code (to ∷ []) depth nodes) (clash code (tos ++ last ∷ []) depth nodes) whole in
+    (clash_more 0 code to tos depth nodes a ∙ ap (λ o. lesser o (clash code tos depth nodes)) first ∙ rest.0, rest.1)

@@ -1,5 +1,5 @@
 pub mod TypeLists
-pub mod Tops
+pub mod FrameLaws
 pub mod TakenLaws
 pub mod StartedLaws
 pub mod WaitingLaws
@@ -10,3 +10,4 @@ pub mod SettlingLaws
 pub mod OneAnswer
 pub mod Laid
 pub mod SmallProgram
+pub mod VisitLaws

@@ -2,7 +2,6 @@
 use Rattle.std.proofs.Common.{◌≡◌, Result, refl}
 use Rattle.std.specs.Prelude.{IfOk, IfErr}
 use Rattle.std.proofs.lemmas.Result.{IfOk-weaker, IfErr-weaker}
-use Rattle.jvm_types.specs.Types.{shapes_of}
 use Rattle.jvm_types.specs.Verifying.{IsTypingOf}
 use Rattle.jvm_types.specs.declared.typing.Typing.{Typing}
 use Rattle.jvm_types.specs.declared.program.MethodInfo.{MethodInfo}
@@ -18,7 +17,7 @@ only_by p m result ok t is = IfOk-weaker result (IsTypingOf p m) (λ found. foun
 
 not_refused : (p : Program) (m : MethodInfo) (t : Typing) (e : VerifyError) → IsTypingOf p m t → IsRefusal p m e → e ≡ Memory
 not_refused p m t Memory is h = refl
-not_refused p m t (Refused rule pc) is h = absurd (no_refusal p m (shapes_of t) rule pc is h)
+not_refused p m t (Refused rule pc) is h = absurd (no_refusal p m t.frames rule pc is h)
 
 pub typed_by : (p : Program) (m : MethodInfo) (result : Result Typing VerifyError) → IfErr result (IsRefusal p m) → (t : Typing) → IsTypingOf p m t → IfErr result (λ e. e ≡ Memory)
 typed_by p m result refused t is = IfErr-weaker result (IsRefusal p m) (λ e. e ≡ Memory) (λ e h. not_refused p m t e is h) refused

@@ -1,12 +1,17 @@
 -- The object that an `<init>` is called on, looked for among the values that are taken.
-use Rattle.std.proofs.Common.{◌≡◌, ℕ, zero, suc, ◌<◌, List, [], ◌∷◌, length, drop, Option, Some, None, refl, sym, ap, ◌∙◌, arith}
-use Rattle.std.specs.Prelude.{slice_get, slice_index_or}
+use Rattle.std.proofs.Common.{◌≡◌, ℕ, zero, suc, ◌<◌, Bool, true, false, not, List, [], ◌∷◌, length, map, drop, Option, Some, None, refl, sym, ap, ◌∙◌, arith}
+use Rattle.std.specs.Prelude.{◌||◌, slice_get, slice_index_or}
 use Rattle.jvm_types.specs.CodeFault.{or_else}
 use Rattle.jvm_types.specs.declared.op_row.Want.{Want}
 use Rattle.jvm_types.specs.declared.op_row.Want.TheVariants.{ToStart}
-use Rattle.jvm_types.specs.Verifying.{started}
+use Rattle.jvm_types.specs.CodeTable.{stack_after, locals_after}
+use Rattle.jvm_types.specs.Types.{Shape, filled, is_uninitialised}
+use Rattle.jvm_types.specs.Verifying.{started, suits, some_taken, some_read, mistypes, after_start, shape_after}
+use Rattle.jvm_types.specs.declared.op_row.OpRow.{OpRow}
+use Rattle.jvm_types.specs.declared.program.MethodInfo.{MethodInfo}
+use Rattle.std.specs.Option.{IfSome}
 use Rattle.jvm_types.specs.declared.typing.VType.{VType}
-use Rattle.jvm_types.specs.declared.typing.VType.TheVariants.{This}
+use Rattle.jvm_types.specs.declared.typing.VType.TheVariants.{Int, Null, Ref, This, New, Top}
 
 started_first : (own : ℕ) (want : Want) (t : VType) (wants : List Want) (ts : List VType) → started own (want ∷ wants) (t ∷ ts) ≡ or_else (started own (want ∷ []) (t ∷ [])) (started own wants ts)
 started_first own (ToStart class) This wants ts = refl
@@ -41,3 +46,35 @@ pub started_more : (own : ℕ) (takes : List Want) (stack : List VType) (i : ℕ
     → None ≡ started own (slice_index_or takes i d ∷ []) (t ∷ []) → started own (drop i takes) (drop i stack) ≡ whole
     → started own (drop (suc i) takes) (drop (suc i) stack) ≡ whole
 started_more own takes stack i d t whole h e f inv = ap (λ o. or_else o (started own (drop (suc i) takes) (drop (suc i) stack))) f ∙ sym (started_at own takes stack i d t h e) ∙ inv
+
+-- ---- where the values that are taken are of the types that are asked for, it is uninitialised
+
+second : (a b : Bool) → (a || b) ≡ false → b ≡ false
+second true b e = absurd (cc)
+second false b e = e
+
+first : (a b : Bool) → (a || b) ≡ false → a ≡ false
+first true b e = absurd (cc)
+first false b e = refl
+
+taken_known : (m : MethodInfo) (wants : List Want) (ts : List VType) → some_taken (λ want t. not (suits m want t)) wants ts ≡ false → IfSome (started m.class wants ts) (λ o. is_uninitialised o.0 ≡ true)
+taken_known m [] ts e = tt
+taken_known m (ToStart class ∷ wants) [] e = tt
+taken_known m (ToStart class ∷ wants) (This ∷ ts) e = refl
+taken_known m (ToStart class ∷ wants) (New pc ∷ ts) e = refl
+taken_known m (ToStart class ∷ wants) (t ∷ ts) e = absurd (cc)
+taken_known m (want ∷ wants) [] e = tt
+taken_known m (want ∷ wants) (t ∷ ts) e = taken_known m wants ts (second (not (suits m want t)) (some_taken (λ want t. not (suits m want t)) wants ts) e)
+
+pub object_known : (m : MethodInfo) (r : OpRow) (f : Shape) → mistypes m r f ≡ false → IfSome (started m.class r.takes f.stack) (λ o. is_uninitialised o.0 ≡ true)
+object_known m r f e = taken_known m r.takes f.stack (first (some_taken (λ want t. not (suits m want t)) r.takes f.stack) (some_read (λ want t. not (suits m want t)) r.reads f.locals) e)
+
+-- ---- the frame after an instruction, made of its stack and first locals
+
+pub after_made : (m : MethodInfo) (r : OpRow) (f : Shape) (object : Option (VType × ℕ)) (takes : List Want) (stack locals stack' locals' : List VType) (ready after : Bool) (n : ℕ)
+    → object ≡ started m.class takes f.stack → takes ≡ r.takes → stack ≡ stack_after Top (λ t. t) r f.stack f.locals
+    → filled (length f.locals) locals ≡ locals_after Top (λ t. t) r.writes f.stack f.locals → ready ≡ f.ready → n ≡ length f.locals
+    → ((k : ℕ) → after_start object (record { stack = stack; locals = filled k locals; ready = ready }) ≡ record { stack = stack'; locals = filled k locals'; ready = after })
+    → record { stack = stack'; locals = filled n locals'; ready = after } ≡ shape_after m r f
+after_made m r f object takes stack locals stack' locals' ready after n eo et es el er en h =
+    rw en (sym (h (length f.locals)) ∙ rw (eo, et, es, el, er) refl)

@@ -2,6 +2,8 @@
 use Rattle.std.proofs.Common.{◌≡◌, ℕ, zero, suc, ◌<◌, Bool, true, false, not, List, [], ◌∷◌, ◌++◌, length, take, drop, Some, refl, ap, arith}
 use Rattle.std.specs.Prelude.{◌||◌, ◌&&◌, if◌then◌else◌, slice_get, slice_set, slice_index_or}
 use Rattle.jvm_types.specs.Types.{same_type, meet, all_pairs, meets}
+use Rattle.jvm_types.specs.ClassTree.{is_subclass, common_ancestor}
+use Rattle.jvm_types.proofs.TypeOrder.{subclass_self}
 use Rattle.jvm_types.specs.Verifying.{initialised}
 use Rattle.jvm_types.specs.declared.typing.VType.{VType}
 use Rattle.jvm_types.specs.declared.typing.VType.TheVariants.{Ref}
@@ -13,23 +15,35 @@ initialise_more object class [] i t e = absurd (cc)
 initialise_more object class (x ∷ xs) zero t e = let same : x ≡ t = cc in rw same refl
 initialise_more object class (x ∷ xs) (suc i) t e = ap (λ l. x ∷ l) (initialise_more object class xs i t e)
 
-pub meets_more : (ts us : List VType) (i : ℕ) (t d : VType) → slice_get ts i ≡ Some t → i < length us
-    → take (suc i) (slice_set ts i (meet t (slice_index_or us i d))) ++ meets (drop (suc i) (slice_set ts i (meet t (slice_index_or us i d)))) (drop (suc i) us)
+pub meets_more : (ts us : List VType) (i : ℕ) (t u : VType) → slice_get ts i ≡ Some t → slice_get us i ≡ Some u
+    → take (suc i) (slice_set ts i (meet t u)) ++ meets (drop (suc i) (slice_set ts i (meet t u))) (drop (suc i) us)
     ≡ take i ts ++ meets (drop i ts) (drop i us)
-meets_more [] us i t d e h = absurd (cc)
-meets_more (x ∷ xs) [] i t d e h = absurd (omega (arith, h))
-meets_more (x ∷ xs) (u ∷ us) zero t d e h = let same : x ≡ t = cc in rw same refl
-meets_more (x ∷ xs) (u ∷ us) (suc i) t d e h = ap (λ l. x ∷ l) (meets_more xs us i t d e (omega (arith, h)))
+meets_more [] us i t u e f = absurd (cc)
+meets_more (x ∷ xs) [] i t u e f = absurd (cc)
+meets_more (x ∷ xs) (y ∷ ys) zero t u e f =
+    let same : x ≡ t = cc in
+    let other : y ≡ u = cc in
+    rw (same, other) refl
+meets_more (x ∷ xs) (y ∷ ys) (suc i) t u e f = ap (λ l. x ∷ l) (meets_more xs ys i t u e f)
 
 change_more : (changed a b : Bool) → ((changed || not a) || not b) ≡ (changed || not (a && b))
 change_more true a b = refl
 change_more false true b = refl
 change_more false false b = refl
 
-pub changes_more : (changed : Bool) (ts us : List VType) (i : ℕ) (t d : VType) → slice_get ts i ≡ Some t → i < length us
-    → ((changed || not (same_type t (meet t (slice_index_or us i d)))) || not (all_pairs same_type (drop (suc i) (slice_set ts i (meet t (slice_index_or us i d)))) (meets (drop (suc i) (slice_set ts i (meet t (slice_index_or us i d)))) (drop (suc i) us))))
+pub changes_more : (changed : Bool) (ts us : List VType) (i : ℕ) (t u : VType) → slice_get ts i ≡ Some t → slice_get us i ≡ Some u
+    → ((changed || not (same_type t (meet t u))) || not (all_pairs same_type (drop (suc i) (slice_set ts i (meet t u))) (meets (drop (suc i) (slice_set ts i (meet t u))) (drop (suc i) us))))
     ≡ (changed || not (all_pairs same_type (drop i ts) (meets (drop i ts) (drop i us))))
-changes_more changed [] us i t d e h = absurd (cc)
-changes_more changed (x ∷ xs) [] i t d e h = absurd (omega (arith, h))
-changes_more changed (x ∷ xs) (u ∷ us) zero t d e h = let same : x ≡ t = cc in rw same (change_more changed (same_type t (meet t u)) (all_pairs same_type xs (meets xs us)))
-changes_more changed (x ∷ xs) (u ∷ us) (suc i) t d e h = changes_more changed xs us i t d e (omega (arith, h))
+changes_more changed [] us i t u e f = absurd (cc)
+changes_more changed (x ∷ xs) [] i t u e f = absurd (cc)
+changes_more changed (x ∷ xs) (y ∷ ys) zero t u e f =
+    let same : x ≡ t = cc in
+    let other : y ≡ u = cc in
+    rw (same, other) (change_more changed (same_type t (meet t u)) (all_pairs same_type xs (meets xs ys)))
+changes_more changed (x ∷ xs) (y ∷ ys) (suc i) t u e f = changes_more changed xs ys i t u e f
+
+-- ---- types that meet themselves
+
+pub meet_same_class : (class : ℕ) → common_ancestor class class ≡ class
+unfolding common_ancestor
+meet_same_class class = rw (subclass_self class) refl

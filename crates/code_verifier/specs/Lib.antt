@@ -1,4 +1,3 @@
-pub mod Frames
 pub mod Faults
 pub mod Waiting
 pub mod Visiting

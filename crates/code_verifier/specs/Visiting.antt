@@ -3,7 +3,9 @@ use Rattle.std.specs.Prelude.{◌≡◌, ℕ, min, if◌then◌else◌, List, []
 use Rattle.std.specs.Option.{IfSome}
 use Rattle.std.specs.List.{AllByRecursion}
 use Rattle.jvm_types.specs.Types.{Shape, entry_shape}
-use Rattle.jvm_types.specs.Verifying.{Node, node_at, has_other_depth, brought, clash, shape_at_handler, catch_fault, unless_caught}
+use Rattle.jvm_types.specs.Verifying.{Node, node_at, has_other_depth, brought, clash, shape_at_handler, catch_fault, unless_caught, covering, broken_before, shape_after}
+use Rattle.jvm_types.specs.declared.code.Insn.{Insn}
+use Rattle.jvm_types.specs.declared.op_row.OpRow.{OpRow}
 use Rattle.jvm_types.specs.declared.program.Row.{Row}
 use Rattle.jvm_types.specs.declared.program.MethodInfo.{MethodInfo}
 use Rattle.jvm_types.specs.declared.refusal.VRule.{VRule}
@@ -39,3 +41,20 @@ Leaves visit nodes (Err (Refused rule pc)) = visit ≡ Err (rule, pc)
 -- the edge to the handler of one covering row
 abbrev pub caught : MethodInfo → ℕ → Shape → Row → List Node → Result (List Node) (VRule × ℕ)
 caught m pc f handler nodes = unless_caught (catch_fault m pc handler) (clash m.code (handler.handler ∷ []) 1 nodes) (Ok (brought m.code handler.handler (shape_at_handler handler f) nodes))
+
+-- what is kept of a frame for the handlers of the rows that cover a pc: all but the stack, where there are some
+abbrev pub Keeps : MethodInfo → ℕ → Shape → Option Shape → Type 0
+Keeps m pc f None = covering m pc ≡ []
+Keeps m pc f (Some g) = g ≡ record { stack = []; locals = f.locals; ready = f.ready }
+
+-- a frame breaks no rule at an instruction, and these are the frame after it and what is kept for handlers
+pub record IsPrepared (m : MethodInfo) (insn : Insn) (r : OpRow) (f after : Shape) (kept : Option Shape) : Type 0 where
+  pub unbroken : broken_before m insn r f ≡ None
+  pub after_is : after ≡ shape_after m r f
+  pub keeps : Keeps m insn.pc f kept
+
+-- these; or the rule that is broken there; or memory ran out
+abbrev pub Prepares : MethodInfo → Insn → OpRow → Shape → Result (Shape × Option Shape) VerifyError → Type 0
+Prepares m insn r f (Ok made) = IsPrepared m insn r f made.0 made.1
+Prepares m insn r f (Err Memory) = Unit {0}
+Prepares m insn r f (Err (Refused rule pc)) = (broken_before m insn r f ≡ Some rule) × (pc ≡ insn.pc)

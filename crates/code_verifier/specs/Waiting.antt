@@ -13,9 +13,9 @@ waiting_numbers i [] = []
 waiting_numbers i (node ∷ nodes) = if node.waits then i ∷ waiting_numbers (suc i) nodes else waiting_numbers (suc i) nodes
 
 -- the frame of a node when an edge brought one, and whether that changes it
-abbrev pub joined : Option Shape → Shape → Shape
-joined None f = f
-joined (Some g) f = meet_shapes g f
+abbrev pub met : Option Shape → Shape → Shape
+met None f = f
+met (Some g) f = meet_shapes g f
 
 abbrev pub changes : Option Shape → Shape → Bool
 changes None f = true

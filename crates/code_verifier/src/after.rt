@@ -1,33 +1,89 @@
 //! The frame after an instruction.
 
-ghost use Rattle.std.specs.Prelude.{◌≡◌, [], ◌∷◌, ◌++◌, map, drop, length, IfOk, OnOk};
+ghost use Rattle.std.specs.Prelude.{◌≡◌, ◌≤◌, ℕ, Some, true, false, [], ◌∷◌, ◌++◌, map, drop, length, IfOk, OnOk};
+ghost use Rattle.std.specs.Option.{IfSome};
+ghost use Rattle.jvm_types.specs.Types.{filled, is_uninitialised};
 ghost use Rattle.jvm_types.specs.CodeTable.{value_of, stack_after, locals_after};
-ghost use Rattle.jvm_types.specs.Verifying.{started, after_start, shape_after};
+ghost use Rattle.jvm_types.specs.Verifying.{started, after_start, mistypes, shape_after};
 ghost use Rattle.jvm_types.specs.declared.typing.VType.TheVariants.{Top};
 
-use crate::frame::Frame;
-use jvm_types::{Given, MethodInfo, OpRow, VType, Want};
+use crate::frames::value;
+use crate::type_lists::{fill, initialise, initialise_stack};
+use crate::types::same_type;
+use jvm_types::{Given, MethodInfo, OpRow, Rows, Stack, TypeFrame, VType, Want};
 use std::alloc::{AllocError, Global};
 
 /// The type of a value that is pushed, or written to a local.
-fn type_given(given: Given, f: &Frame) -> VType
+fn type_given(given: Given, f: &TypeFrame) -> VType
     ensures { result ≡ value_of Top (λ t. t) f.now.stack f.now.locals given }
 {
     match given {
         Given::Fresh(t) => t,
-        Given::Taken(place) => f.value(usize::from(place)).unwrap_or(VType::Top),
+        Given::Taken(place) => value(f.stack(), usize::from(place)).unwrap_or(VType::Top),
         Given::Local(i) => f.local(usize::from(i)).unwrap_or(VType::Top),
     }
 }
 
 /// Pushes what an instruction leaves, the last first.
-fn push_all(after: &mut Frame, gives: &[Given], f: &Frame) -> Result<(), AllocError>
-    ensures { OnOk result (after.new ≡ record after.old { stack = map (λ given. value_of Top (λ t. t) f.now.stack f.now.locals given) gives.now ++ after.old.stack }) }
+fn push_all(
+    stack: &mut Stack<VType>,
+    gives: &[Given],
+    f: &TypeFrame,
+) -> Result<(), AllocError>
+    ensures { OnOk result (stack.new ≡ map (λ given. value_of Top (λ t. t) f.now.stack f.now.locals given) gives.now ++ stack.old) }
 {
     for i in (0..gives.len()).rev() {
-        after.push(type_given(gives[i], f))?;
+        stack.push(type_given(gives[i], f))?;
     }
     Ok(())
+}
+
+/// The stack after an instruction that has this row, as it is before an `<init>` is called.
+fn stack_after(alloc: Global, row: &OpRow, f: &TypeFrame) -> Result<Stack<VType>, AllocError>
+    ensures { IfOk result (λ stack. stack ≡ stack_after Top (λ t. t) row.now f.now.stack f.now.locals) }
+{
+    let mut stack = f
+        .stack()
+        .without_for(alloc, row.takes.len(), row.gives.len())?;
+    push_all(&mut stack, row.gives.as_slice(), f)?;
+    Ok(stack)
+}
+
+/// A copy of the first locals, and at least so many of them.
+fn first_locals(
+    alloc: Global,
+    f: &TypeFrame,
+    count: usize,
+) -> Result<Rows<VType>, AllocError>
+    requires { count ≤ length f.now.locals }
+    ensures locals { IfOk result (λ locals. filled (length f.now.locals) locals ≡ f.now.locals) }
+    ensures count { IfOk result (λ locals. count ≤ length locals) }
+{
+    let kept = f.first_locals();
+    let mut locals = Rows::from_vec(Vec::with_capacity(alloc, kept.len().max(count))?);
+    locals.extend_from_slice(kept)?;
+    fill(&mut locals, count)?;
+    Ok(locals)
+}
+
+/// The first locals after an instruction that writes so, as they are before an `<init>` is called.
+fn locals_after(
+    alloc: Global,
+    writes: Option<(u16, Given)>,
+    f: &TypeFrame,
+) -> Result<Rows<VType>, AllocError>
+    ensures { IfOk result (λ locals. filled (length f.now.locals) locals ≡ locals_after Top (λ t. t) writes f.now.stack f.now.locals) }
+{
+    let Some((i, given)) = writes else {
+        return first_locals(alloc, f, 0);
+    };
+    let i = usize::from(i);
+    if f.local_count() <= i {
+        return first_locals(alloc, f, 0);
+    }
+    let mut locals = first_locals(alloc, f, i + 1)?;
+    locals.set(i, type_given(given, f));
+    Ok(locals)
 }
 
 /// The value, where an `<init>` is called on it, and its class. `own` is the class of the method.
@@ -42,11 +98,11 @@ fn started_here(own: u16, want: Want, t: VType) -> Option<(VType, u16)>
 }
 
 /// The object that an `<init>` is called on, and its class.
-fn started(own: u16, takes: &[Want], f: &Frame) -> Option<(VType, u16)>
-    ensures { result ≡ started own takes.now f.now.stack }
+fn started(own: u16, takes: &[Want], stack: &Stack<VType>) -> Option<(VType, u16)>
+    ensures { result ≡ started own takes.now stack.now }
 {
     for (place, want) in takes.iter().enumerate() {
-        let Some(t) = f.value(place) else {
+        let Some(t) = value(stack, place) else {
             return None;
         };
         if let Some(object) = started_here(own, *want, t) {
@@ -56,36 +112,54 @@ fn started(own: u16, takes: &[Want], f: &Frame) -> Option<(VType, u16)>
     None
 }
 
-/// Writes the local of a row.
-fn write_local(after: &mut Frame, writes: Option<(u16, Given)>, f: &Frame)
-    requires { after.old.locals ≡ f.now.locals }
-    ensures { after.new ≡ record after.old { locals = locals_after Top (λ t. t) writes f.now.stack f.now.locals } }
+/// An `<init>` is called on the object, which is of the class from then on; answers whether `this` is initialised
+/// then.
+fn start(
+    stack: &mut Stack<VType>,
+    locals: &mut Rows<VType>,
+    object: VType,
+    class: u16,
+    ready: bool,
+) -> bool
+    requires { is_uninitialised object ≡ true }
+    ensures { (n : ℕ) → after_start (Some (object, class)) (record { stack = stack.old; locals = filled n locals.old; ready = ready }) ≡ record { stack = stack.new; locals = filled n locals.new; ready = result } }
 {
-    if let Some((i, given)) = writes {
-        after.set_local(usize::from(i), type_given(given, f));
+    initialise_stack(stack, object, class);
+    initialise(locals, object, class);
+    ready | same_type(object, VType::This)
+}
+
+/// Where an `<init>` is called on an object, it is of the class from then on; answers whether `this` is initialised
+/// then.
+fn start_object(
+    stack: &mut Stack<VType>,
+    locals: &mut Rows<VType>,
+    object: Option<(VType, u16)>,
+    ready: bool,
+) -> bool
+    requires { IfSome object (λ o. is_uninitialised o.0 ≡ true) }
+    ensures { (n : ℕ) → after_start object (record { stack = stack.old; locals = filled n locals.old; ready = ready }) ≡ record { stack = stack.new; locals = filled n locals.new; ready = result } }
+{
+    match object {
+        Some((object, class)) => start(stack, locals, object, class, ready),
+        None => ready,
     }
 }
 
-fn start_object(after: &mut Frame, object: Option<(VType, u16)>)
-    ensures { after.new ≡ after_start object after.old }
-{
-    if let Some((object, class)) = object {
-        after.start(object, class);
-    }
-}
-
-/// The frame after an instruction of the method that has this row and finds this frame.
-pub fn shape_after(
+/// The frame after an instruction of the method that has this row and finds this frame, with values of the types
+/// that are asked for.
+pub fn frame_after(
     alloc: Global,
     m: &MethodInfo,
     row: &OpRow,
-    f: &Frame,
-) -> Result<Frame, AllocError>
+    f: &TypeFrame,
+) -> Result<TypeFrame, AllocError>
+    requires { mistypes m.now row.now f.now ≡ false }
     ensures { IfOk result (λ after. after ≡ shape_after m.now row.now f.now) }
 {
-    let mut after = f.without(alloc, row.takes.len())?;
-    push_all(&mut after, row.gives.as_slice(), f)?;
-    write_local(&mut after, row.writes, f);
-    start_object(&mut after, started(m.class, row.takes.as_slice(), f));
-    Ok(after)
+    let mut stack = stack_after(alloc, row, f)?;
+    let mut locals = locals_after(alloc, row.writes, f)?;
+    let object = started(m.class, row.takes.as_slice(), f.stack());
+    let ready = start_object(&mut stack, &mut locals, object, f.is_ready());
+    Ok(TypeFrame::new(stack, locals, f.local_count(), ready))
 }

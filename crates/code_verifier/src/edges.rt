@@ -1,12 +1,12 @@
 //! Edges: the frames that an instruction brings to others.
 
-ghost use Rattle.std.specs.Prelude.{◌≡◌, [], ◌∷◌, length, None, Option, ℕ, OnOk};
+ghost use Rattle.std.specs.Prelude.{◌≡◌, [], ◌∷◌, length, None, Option, List, ℕ, OnOk};
 ghost use Rattle.jvm_types.specs.Verifying.{node_at, brought, all_brought, has_other_depth, clash};
 ghost use Rattle.code_verifier.specs.Visiting.{HasLocals, AreLevel, lesser, clash_place};
 
-use crate::frame::Frame;
 use crate::nodes::Nodes;
 use code_table::IndexedMethod;
+use jvm_types::TypeFrame;
 use std::alloc::{AllocError, Global};
 
 fn lesser(pc: Option<u32>, other: Option<u32>) -> Option<u32>
@@ -24,7 +24,7 @@ fn has_other_depth(nodes: &Nodes, i: usize, depth: usize) -> bool
     ensures { result ≡ has_other_depth (node_at nodes.now i).frame depth }
 {
     match nodes.frame(i) {
-        Some(f) => f.depth() != depth,
+        Some(f) => f.stack().len() != depth,
         None => false,
     }
 }
@@ -76,7 +76,7 @@ pub fn bring(
     m: &IndexedMethod<'_>,
     nodes: &mut Nodes,
     to: u32,
-    f: &Frame,
+    f: &TypeFrame,
 ) -> Result<(), AllocError>
     requires level { AreLevel m.now nodes.old }
     requires locals { HasLocals m.now f.now }
@@ -90,23 +90,67 @@ pub fn bring(
     }
 }
 
-/// Edges bring a frame to the instructions at these pcs.
-pub fn bring_all(
+/// The last edge of a visit brings a frame to the instruction at a pc.
+pub fn bring_last(
+    alloc: Global,
+    m: &IndexedMethod<'_>,
+    nodes: &mut Nodes,
+    to: u32,
+    f: TypeFrame,
+) -> Result<(), AllocError>
+    requires level { AreLevel m.now nodes.old }
+    requires locals { HasLocals m.now f }
+    requires depth { clash m.now.code (to ∷ []) (length f.stack) nodes.old ≡ None }
+    ensures { OnOk result (nodes.new ≡ brought m.now.code to f nodes.old) }
+{
+    m.laid_out();
+    match m.find(to) {
+        Some(i) => nodes.bring_last(alloc, i, f),
+        None => Ok(()),
+    }
+}
+
+/// Edges bring a frame to the instructions at these pcs. Where some others bring one of this depth too, they still
+/// clash with none.
+fn bring_each(
     alloc: Global,
     m: &IndexedMethod<'_>,
     nodes: &mut Nodes,
     tos: &[u32],
-    f: &Frame,
+    f: &TypeFrame,
 ) -> Result<(), AllocError>
     requires level { AreLevel m.now nodes.old }
     requires locals { HasLocals m.now f.now }
     requires depth { clash m.now.code tos.now (length f.now.stack) nodes.old ≡ None }
     ensures brought { OnOk result (nodes.new ≡ all_brought m.now.code tos.now f.now nodes.old) }
     ensures level { OnOk result (AreLevel m.now nodes.new) }
+    ensures depth { OnOk result ((others : List ℕ) → clash m.now.code others (length f.now.stack) nodes.old ≡ None → clash m.now.code others (length f.now.stack) nodes.new ≡ None) }
 {
     m.laid_out();
     for to in tos {
         bring(alloc, m, nodes, *to, f)?;
     }
     Ok(())
+}
+
+/// Edges bring a frame to the instructions at these pcs; the frame itself is kept where the last finds none.
+pub fn bring_all(
+    alloc: Global,
+    m: &IndexedMethod<'_>,
+    nodes: &mut Nodes,
+    tos: &[u32],
+    f: TypeFrame,
+) -> Result<(), AllocError>
+    requires level { AreLevel m.now nodes.old }
+    requires locals { HasLocals m.now f }
+    requires depth { clash m.now.code tos.now (length f.stack) nodes.old ≡ None }
+    ensures brought { OnOk result (nodes.new ≡ all_brought m.now.code tos.now f nodes.old) }
+    ensures level { OnOk result (AreLevel m.now nodes.new) }
+{
+    m.laid_out();
+    let Some((last, others)) = tos.split_last() else {
+        return Ok(());
+    };
+    bring_each(alloc, m, nodes, others, &f)?;
+    bring_last(alloc, m, nodes, *last, f)
 }

@@ -1,30 +1,20 @@
 //! The frame at the start of a method.
 
 ghost use Rattle.std.specs.Prelude.{◌≡◌, ◌++◌, map, not, IfOk, OnOk};
-ghost use Rattle.jvm_types.specs.Numbers.{has_flag};
 ghost use Rattle.jvm_types.specs.CodeTable.{type_of};
-ghost use Rattle.jvm_types.specs.Types.{filled, receiver_types, entry_shape};
+ghost use Rattle.jvm_types.specs.Types.{receiver_types, entry_shape};
 
-use crate::frame::Frame;
-use crate::stack::Stack;
 use code_table::{is_init, type_of};
-use jvm_types::{Kind, MethodInfo, Rows, VType};
+use jvm_types::flags::is_static;
+use jvm_types::{Kind, MethodInfo, Rows, Stack, TypeFrame, VType};
 use std::alloc::{AllocError, Global};
-
-const STATIC: u16 = 0x0008;
-
-fn is_static(m: &MethodInfo) -> bool
-    ensures { result ≡ has_flag 8 m.now.flags }
-{
-    m.flags & STATIC != 0
-}
 
 /// `this` in local 0 of an instance method.
 fn receiver_types(alloc: Global, m: &MethodInfo) -> Result<Rows<VType>, AllocError>
     ensures { IfOk result (λ types. types ≡ receiver_types m.now) }
 {
     let mut types = Rows::new(alloc);
-    if !is_static(m) {
+    if !is_static(m.flags) {
         types.push(if is_init(m) {
             VType::This
         } else {
@@ -43,22 +33,16 @@ fn push_arguments(types: &mut Rows<VType>, args: &[Kind]) -> Result<(), AllocErr
     Ok(())
 }
 
-/// Nothing is known of the places that are added up to this count.
-fn fill(types: &mut Rows<VType>, count: usize) -> Result<(), AllocError>
-    ensures { OnOk result (types.new ≡ filled count types.old) }
-{
-    for _place in types.len()..count {
-        types.push(VType::Top)?;
-    }
-    Ok(())
-}
-
 /// The frame at pc 0. It has more locals than `max_locals` where the arguments do not fit.
-pub fn entry_frame(alloc: Global, m: &MethodInfo) -> Result<Frame, AllocError>
+pub fn entry_frame(alloc: Global, m: &MethodInfo) -> Result<TypeFrame, AllocError>
     ensures { IfOk result (λ f. f ≡ entry_shape m.now) }
 {
     let mut locals = receiver_types(alloc, m)?;
     push_arguments(&mut locals, m.args.as_slice())?;
-    fill(&mut locals, usize::from(m.max_locals))?;
-    Ok(Frame::new(Stack::new(alloc), locals, !is_init(m)))
+    Ok(TypeFrame::new(
+        Stack::new(alloc),
+        locals,
+        usize::from(m.max_locals),
+        !is_init(m),
+    ))
 }

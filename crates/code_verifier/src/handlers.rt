@@ -1,18 +1,20 @@
 //! Edges to the handlers of the rows that cover an instruction.
 
-ghost use Rattle.std.specs.Prelude.{◌≡◌, ◌∷◌, [], OnOk};
+ghost use Rattle.std.specs.Prelude.{◌≡◌, ◌∷◌, [], IfOk, OnOk};
+ghost use Rattle.std.specs.Option.{IfSome};
+ghost use Rattle.jvm_types.specs.Types.{Shape};
 ghost use Rattle.jvm_types.specs.Verifying.{caught_class, catch_fault, covering, handled};
-ghost use Rattle.code_verifier.specs.Visiting.{HasLocals, AreLevel, Leaves, caught};
+ghost use Rattle.code_verifier.specs.Visiting.{HasLocals, AreLevel, Leaves, Keeps, caught};
 
-use crate::edges::{bring, clash};
+use crate::edges::{bring_last, clash};
 use crate::error::VerifyError;
-use crate::frame::Frame;
+use crate::frames::{with_object, without_stack};
 use crate::nodes::Nodes;
-use crate::rules::covers;
+use crate::rules::{covers, is_covered};
 use code_table::{IndexedMethod, is_subclass};
 use jvm_types::class_numbers::THROWABLE_CLASS;
-use jvm_types::{MethodInfo, Row, VRule};
-use std::alloc::Global;
+use jvm_types::{MethodInfo, Row, TypeFrame, VRule};
+use std::alloc::{AllocError, Global};
 
 /// The class that a handler row catches.
 fn caught_class(row: &Row) -> u16
@@ -44,7 +46,7 @@ fn catch_row(
     m: &IndexedMethod<'_>,
     nodes: &mut Nodes,
     pc: u32,
-    f: &Frame,
+    f: &TypeFrame,
     row: &Row,
 ) -> Result<(), VerifyError>
     requires level { AreLevel m.now nodes.old }
@@ -58,18 +60,18 @@ fn catch_row(
     if let Some(at) = clash(m, nodes, &[row.handler], 1) {
         return Err(VerifyError::Refused(VRule::V5, at));
     }
-    let at_handler = f.with_object(alloc, caught_class(row))?;
-    bring(alloc, m, nodes, row.handler, &at_handler)?;
+    let at_handler = with_object(alloc, f, caught_class(row))?;
+    bring_last(alloc, m, nodes, row.handler, at_handler)?;
     Ok(())
 }
 
 /// The edges to the handlers of the rows that cover a pc, row by row.
-pub fn handle(
+fn handle(
     alloc: Global,
     m: &IndexedMethod<'_>,
     nodes: &mut Nodes,
     pc: u32,
-    f: &Frame,
+    f: &TypeFrame,
 ) -> Result<(), VerifyError>
     requires level { AreLevel m.now nodes.old }
     requires locals { HasLocals m.now f.now }
@@ -82,4 +84,39 @@ pub fn handle(
         }
     }
     Ok(())
+}
+
+/// What is kept of a frame for the handlers of the rows that cover a pc, where there are some: all but the stack.
+pub fn keep_for_handlers(
+    alloc: Global,
+    m: &MethodInfo,
+    pc: u32,
+    f: &TypeFrame,
+) -> Result<Option<TypeFrame>, AllocError>
+    ensures { IfOk result (Keeps m.now pc f.now) }
+{
+    if is_covered(pc, m.rows.as_slice()) {
+        Ok(Some(without_stack(alloc, f)?))
+    } else {
+        Ok(None)
+    }
+}
+
+/// The edges to the handlers of the rows that cover a pc, with what was kept of the frame there.
+pub fn handle_kept(
+    alloc: Global,
+    m: &IndexedMethod<'_>,
+    nodes: &mut Nodes,
+    pc: u32,
+    kept: &Option<TypeFrame>,
+) -> Result<(), VerifyError>
+    requires level { AreLevel m.now nodes.old }
+    requires locals { IfSome kept.now (HasLocals m.now) }
+    ensures left { (f : Shape) → Keeps m.now pc f kept.now → Leaves (handled m.now pc f (covering m.now pc) nodes.old) nodes.new result }
+    ensures level { OnOk result (AreLevel m.now nodes.new) }
+{
+    match kept {
+        Some(f) => handle(alloc, m, nodes, pc, f),
+        None => Ok(()),
+    }
 }

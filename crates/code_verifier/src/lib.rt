@@ -2,22 +2,24 @@
 #![tactic(auto)]
 
 mod after;
+mod budget;
 mod edges;
 mod entry;
 mod error;
-mod frame;
+mod frames;
 mod handlers;
+mod meeting;
 mod nodes;
 mod operands;
 mod rules;
-mod stack;
 mod type_lists;
 mod types;
 mod verifying;
 mod visit;
 
+pub use budget::{Budget, MOST_KEPT};
 pub use error::VerifyError;
-pub use verifying::verify;
+pub use verifying::{verify, verify_within};
 
 #[cfg(test)]
 mod tests;

@@ -2,12 +2,13 @@
 
 ghost use Rattle.std.specs.Prelude.{◌≡◌, ◌<◌, ◌||◌, [], length, map, replicate, slice_set, true, false, Some, None, IfOk, OnOk, OnSome};
 ghost use Rattle.std.specs.Option.{option_copied, IfSome, IfNone};
-ghost use Rattle.jvm_types.specs.Types.{shapes_of};
 ghost use Rattle.jvm_types.specs.Verifying.{node_at, node_joined, next_visit, has_other_depth};
-ghost use Rattle.code_verifier.specs.Waiting.{joined, changes, Fits, unreached};
+ghost use Rattle.code_verifier.specs.Waiting.{met, changes, Fits, unreached};
 
-use crate::frame::Frame;
-use jvm_types::{Rows, Typing};
+use crate::budget::{Budget, NODE_BYTES, bytes_of};
+use crate::frames::copy;
+use crate::meeting::meet_frames;
+use jvm_types::{Rows, TypeFrame, Typing};
 use std::alloc::{AllocError, Global};
 use std::collections::BTreeSet;
 use std::marker::Model;
@@ -16,7 +17,7 @@ use std::marker::Model;
 /// visited.
 #[derive(Debug, Drop)]
 struct StoredNode {
-    frame: Option<Frame>,
+    frame: Option<TypeFrame>,
     waits: bool,
 }
 
@@ -25,6 +26,7 @@ struct StoredNode {
 pub struct Nodes {
     nodes: Vec<StoredNode>,
     waiting: BTreeSet<usize>,
+    budget: Budget,
 }
 
 impl Model for Nodes {
@@ -40,26 +42,41 @@ impl Model for Nodes {
 }
 
 /// An edge brings a frame; answers whether that changes the one that is there.
-fn join(alloc: Global, frame: &mut Option<Frame>, f: &Frame) -> Result<bool, AllocError>
+fn bring_frame(
+    alloc: Global,
+    budget: &mut Budget,
+    frame: &mut Option<TypeFrame>,
+    f: &TypeFrame,
+) -> Result<bool, AllocError>
     requires { Fits frame.old f.now }
-    ensures frame { OnOk result (frame.new ≡ Some (joined frame.old f.now)) }
+    ensures frame { OnOk result (frame.new ≡ Some (met frame.old f.now)) }
     ensures changed { IfOk result (λ changed. changed ≡ changes frame.old f.now) }
 {
-    match frame {
-        Some(g) => Ok(g.join(f)),
+    match frame.take() {
+        Some(g) => {
+            let (met, changed) = meet_frames(g, f);
+            *frame = Some(met);
+            Ok(changed)
+        }
         None => {
-            *frame = Some(f.copy(alloc)?);
+            budget.take(bytes_of(f))?;
+            *frame = Some(copy(alloc, f)?);
             Ok(true)
         }
     }
 }
 
 impl Nodes {
-    /// So many nodes that no edge reaches yet.
-    pub fn unreached(alloc: Global, count: usize) -> Result<Nodes, AllocError>
+    /// So many nodes that no edge reaches yet, which keep no more bytes than the budget has.
+    pub fn unreached(
+        alloc: Global,
+        count: usize,
+        mut budget: Budget,
+    ) -> Result<Nodes, AllocError>
         ensures { IfOk result (λ nodes. nodes ≡ replicate count unreached) }
     {
-        let mut nodes = Vec::new(alloc);
+        budget.take(count.saturating_mul(NODE_BYTES))?;
+        let mut nodes = Vec::with_capacity(alloc, count)?;
         for _i in 0..count {
             nodes.push(StoredNode {
                 frame: None,
@@ -69,11 +86,17 @@ impl Nodes {
         Ok(Nodes {
             nodes,
             waiting: BTreeSet::new(alloc),
+            budget,
         })
     }
 
+    /// How many bytes may still be kept.
+    pub fn bytes_left(&self) -> usize {
+        self.budget.left()
+    }
+
     /// The frame of the instruction of this number.
-    pub fn frame(&self, i: usize) -> Option<&Frame>
+    pub fn frame(&self, i: usize) -> Option<&TypeFrame>
         ensures { option_copied result ≡ (node_at self.now i).frame }
     {
         match self.nodes.get(i) {
@@ -96,13 +119,13 @@ impl Nodes {
 
     /// The frame of the instruction of this number becomes that where it and another meet; answers whether that
     /// changes it.
-    fn meet(&mut self, alloc: Global, i: usize, f: &Frame) -> Result<bool, AllocError>
+    fn meet(&mut self, alloc: Global, i: usize, f: &TypeFrame) -> Result<bool, AllocError>
         requires inside { i < length self.old }
         requires fits { Fits (node_at self.old i).frame f.now }
-        ensures met { OnOk result (self.new ≡ slice_set self.old i (record (node_at self.old i) { frame = Some (joined (node_at self.old i).frame f.now) })) }
+        ensures met { OnOk result (self.new ≡ slice_set self.old i (record (node_at self.old i) { frame = Some (met (node_at self.old i).frame f.now) })) }
         ensures changed { IfOk result (λ changed. changed ≡ changes (node_at self.old i).frame f.now) }
     {
-        join(alloc, &mut self.nodes[i].frame, f)
+        bring_frame(alloc, &mut self.budget, &mut self.nodes[i].frame, f)
     }
 
     /// The instruction of this number waits.
@@ -116,7 +139,7 @@ impl Nodes {
     }
 
     /// An edge brings a frame to the instruction of this number.
-    pub fn bring(&mut self, alloc: Global, i: usize, f: &Frame) -> Result<(), AllocError>
+    pub fn bring(&mut self, alloc: Global, i: usize, f: &TypeFrame) -> Result<(), AllocError>
         requires inside { i < length self.old }
         requires fits { Fits (node_at self.old i).frame f.now }
         ensures { OnOk result (self.new ≡ slice_set self.old i (node_joined (node_at self.old i) (node_at self.old i).frame f.now)) }
@@ -127,13 +150,41 @@ impl Nodes {
         Ok(())
     }
 
+    /// A frame, which is kept, is brought to the instruction of this number, which no edge reached before.
+    fn enter(&mut self, i: usize, f: TypeFrame) -> Result<(), AllocError>
+        requires { i < length self.old }
+        ensures { OnOk result (self.new ≡ slice_set self.old i (record { frame = Some f; waits = true })) }
+    {
+        self.budget.take(bytes_of(&f))?;
+        self.waiting.insert(i)?;
+        self.nodes[i] = StoredNode {
+            frame: Some(f),
+            waits: true,
+        };
+        Ok(())
+    }
+
+    /// The last edge of a visit brings a frame to the instruction of this number; the frame itself is kept where
+    /// none is there.
+    pub fn bring_last(&mut self, alloc: Global, i: usize, f: TypeFrame) -> Result<(), AllocError>
+        requires inside { i < length self.old }
+        requires fits { Fits (node_at self.old i).frame f }
+        ensures { OnOk result (self.new ≡ slice_set self.old i (node_joined (node_at self.old i) (node_at self.old i).frame f)) }
+    {
+        if self.frame(i).is_none() {
+            self.enter(i, f)
+        } else {
+            self.bring(alloc, i, &f)
+        }
+    }
+
     /// The last frames, as the typing of the method.
     pub fn into_typing(self, alloc: Global) -> Result<Typing, AllocError>
-        ensures { IfOk result (λ t. shapes_of t ≡ map (λ node. node.frame) self) }
+        ensures { IfOk result (λ t. t.frames ≡ map (λ node. node.frame) self) }
     {
         let mut frames = Rows::new(alloc);
         for node in self.nodes {
-            frames.push(node.frame.map(Frame::into_types))?;
+            frames.push(node.frame)?;
         }
         Ok(Typing { frames })
     }

@@ -4,11 +4,11 @@ ghost use Rattle.std.specs.Prelude.{◌≡◌, not};
 ghost use Rattle.jvm_types.specs.Verifying.{misuses, suits, some_taken, some_read, some_operand};
 ghost use Rattle.code_verifier.specs.Faults.{has_fault};
 
-use crate::frame::Frame;
+use crate::frames::value;
 use crate::types::{is_below, is_uninitialised};
 use code_table::IndexedMethod;
 use jvm_types::class_numbers::OBJECT_CLASS;
-use jvm_types::{MethodInfo, OpRow, VType, Want};
+use jvm_types::{MethodInfo, OpRow, Stack, TypeFrame, VType, Want};
 
 /// What can be wrong with a value.
 #[derive(Clone, Copy, Debug, PartialEq, Eq)]
@@ -54,11 +54,16 @@ fn has_fault(m: &IndexedMethod<'_>, fault: Fault, want: Want, t: VType) -> bool
     }
 }
 
-fn some_taken(m: &IndexedMethod<'_>, fault: Fault, takes: &[Want], f: &Frame) -> bool
-    ensures { result ≡ some_taken (has_fault m.now fault) takes.now f.now.stack }
+fn some_taken(
+    m: &IndexedMethod<'_>,
+    fault: Fault,
+    takes: &[Want],
+    stack: &Stack<VType>,
+) -> bool
+    ensures { result ≡ some_taken (has_fault m.now fault) takes.now stack.now }
 {
     for (place, want) in takes.iter().enumerate() {
-        match f.value(place) {
+        match value(stack, place) {
             Some(t) => {
                 if has_fault(m, fault, *want, t) {
                     return true;
@@ -74,7 +79,7 @@ fn some_read(
     m: &IndexedMethod<'_>,
     fault: Fault,
     reads: Option<(u16, Want)>,
-    f: &Frame,
+    f: &TypeFrame,
 ) -> bool
     ensures { result ≡ some_read (has_fault m.now fault) reads f.now.locals }
 {
@@ -88,8 +93,8 @@ fn some_read(
 }
 
 /// Whether some value that is taken, or the local that is read, has the fault.
-pub fn some_operand(m: &IndexedMethod<'_>, fault: Fault, row: &OpRow, f: &Frame) -> bool
+pub fn some_operand(m: &IndexedMethod<'_>, fault: Fault, row: &OpRow, f: &TypeFrame) -> bool
     ensures { result ≡ some_operand (has_fault m.now fault) row.now f.now }
 {
-    some_taken(m, fault, row.takes.as_slice(), f) || some_read(m, fault, row.reads, f)
+    some_taken(m, fault, row.takes.as_slice(), f.stack()) || some_read(m, fault, row.reads, f)
 }

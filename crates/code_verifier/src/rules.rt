@@ -4,23 +4,23 @@ ghost use Rattle.std.specs.Prelude.{◌≡◌, ◌==◌};
 ghost use Rattle.std.specs.List.{list_any};
 ghost use Rattle.jvm_types.specs.Verifying.{takes_too_many, gives_too_many, names_no_local, lacks_locals, covers, is_return, misuses_object, mistypes, returns_wrongly, falls_off, broken_before, broken_after};
 
-use crate::frame::Frame;
+use crate::frames::{has_new_local, has_uninitialised};
 use crate::operands::{Fault, some_operand};
 use code_table::{IndexedMethod, falls_through, goes_back};
-use jvm_types::{Given, Insn, Kind, MethodInfo, Op, OpRow, Row, VRule, Want};
+use jvm_types::{Given, Insn, Kind, MethodInfo, Op, OpRow, Row, TypeFrame, VRule, Want};
 
 /// V1: the stack has too few values.
-fn takes_too_many(row: &OpRow, f: &Frame) -> bool
+fn takes_too_many(row: &OpRow, f: &TypeFrame) -> bool
     ensures { result ≡ takes_too_many row.now f.now }
 {
-    f.depth() < row.takes.len()
+    f.stack().len() < row.takes.len()
 }
 
 /// V2: the stack would pass `max_stack`.
-fn gives_too_many(m: &MethodInfo, row: &OpRow, f: &Frame) -> bool
+fn gives_too_many(m: &MethodInfo, row: &OpRow, f: &TypeFrame) -> bool
     ensures { result ≡ gives_too_many m.now row.now f.now }
 {
-    let left = f.depth().saturating_sub(row.takes.len());
+    let left = f.stack().len().saturating_sub(row.takes.len());
     usize::from(m.max_stack) < left.saturating_add(row.gives.len())
 }
 
@@ -43,7 +43,7 @@ fn writes_no_local(m: &MethodInfo, writes: Option<(u16, Given)>) -> bool
 }
 
 /// V3: a local at or above `max_locals`, or arguments that do not fit there.
-fn lacks_locals(m: &MethodInfo, row: &OpRow, f: &Frame) -> bool
+fn lacks_locals(m: &MethodInfo, row: &OpRow, f: &TypeFrame) -> bool
     ensures { result ≡ lacks_locals m.now row.now f.now }
 {
     reads_no_local(m, row.reads)
@@ -58,7 +58,8 @@ pub fn covers(pc: u32, row: &Row) -> bool
     row.start <= pc && pc < row.end
 }
 
-fn is_covered(pc: u32, rows: &[Row]) -> bool
+/// Whether some handler row covers a pc.
+pub fn is_covered(pc: u32, rows: &[Row]) -> bool
     ensures { result ≡ list_any (covers pc) rows.now }
 {
     rows.iter().any(|row| covers(pc, row))
@@ -71,17 +72,17 @@ fn is_return(op: &Op) -> bool
 }
 
 /// V7: an uninitialised object is misused.
-fn misuses_object(m: &IndexedMethod<'_>, insn: &Insn, row: &OpRow, f: &Frame) -> bool
+fn misuses_object(m: &IndexedMethod<'_>, insn: &Insn, row: &OpRow, f: &TypeFrame) -> bool
     ensures { result ≡ misuses_object m.now insn.now row.now f.now }
 {
     some_operand(m, Fault::Misuse, row, f)
-        || (goes_back(insn.pc, &insn.op) && f.has_uninitialised())
-        || (is_covered(insn.pc, m.method().rows.as_slice()) && f.has_new_local())
+        || (goes_back(insn.pc, &insn.op) && has_uninitialised(f))
+        || (is_covered(insn.pc, m.method().rows.as_slice()) && has_new_local(f))
         || (is_return(&insn.op) && !f.is_ready())
 }
 
 /// V4: a value of another type.
-fn mistypes(m: &IndexedMethod<'_>, row: &OpRow, f: &Frame) -> bool
+fn mistypes(m: &IndexedMethod<'_>, row: &OpRow, f: &TypeFrame) -> bool
     ensures { result ≡ mistypes m.now row.now f.now }
 {
     some_operand(m, Fault::Mistype, row, f)
@@ -118,7 +119,7 @@ pub fn broken_before(
     m: &IndexedMethod<'_>,
     insn: &Insn,
     row: &OpRow,
-    f: &Frame,
+    f: &TypeFrame,
 ) -> Option<VRule>
     ensures { result ≡ broken_before m.now insn.now row.now f.now }
 {

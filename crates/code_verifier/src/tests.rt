@@ -146,7 +146,7 @@ fn refusal(
 {
     let p = empty_program(rt.alloc())?;
     let m = method_of(rt.alloc(), head, code, targets, rows)?;
-    Ok(match verify_method(rt.alloc(), &p, &m) {
+    Ok(match verify_method(rt.alloc(), &p, &m, &mut Budget::of(MOST_KEPT)) {
         Err(VerifyError::Refused(rule, pc)) => Some((rule, pc)),
         _ => None,
     })
@@ -164,7 +164,7 @@ fn typing(
 {
     let p = empty_program(rt.alloc())?;
     let m = method_of(rt.alloc(), head, code, targets, rows)?;
-    Ok(verify_method(rt.alloc(), &p, &m).ok())
+    Ok(verify_method(rt.alloc(), &p, &m, &mut Budget::of(MOST_KEPT)).ok())
 }
 
 fn too_few(rt: &HostRuntime) -> Result<Option<(VRule, u32)>, Fail> {
@@ -322,7 +322,7 @@ fn refuses_misused_objects(rt: HostRuntime) -> Result<(), Fail> {
 /// The types of the stack before the instruction of this number, where there is one.
 fn stack_at(typing: &Typing, i: usize) -> Option<&[VType]> {
     match typing.frames.get(i) {
-        Some(Some(frame)) => Some(frame.stack.as_slice()),
+        Some(Some(frame)) => Some(frame.stack().as_slice()),
         _ => None,
     }
 }

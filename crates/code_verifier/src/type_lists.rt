@@ -1,13 +1,14 @@
 //! Lists of types, as the locals of a frame or its stack.
 
-ghost use Rattle.std.specs.Prelude.{◌≡◌, ◌<◌, not, if◌then◌else◌, length, slice_get};
+ghost use Rattle.std.specs.Prelude.{◌≡◌, ◌<◌, ◌≤◌, not, if◌then◌else◌, length, slice_get, Some, OnOk};
 ghost use Rattle.std.specs.List.{list_any};
-ghost use Rattle.jvm_types.specs.Types.{is_uninitialised, is_new, same_type, all_pairs, meets};
+ghost use Rattle.jvm_types.specs.Types.{filled, is_uninitialised, is_new, same_type, all_pairs, meets};
 ghost use Rattle.jvm_types.specs.Verifying.{initialised};
 ghost use Rattle.jvm_types.specs.declared.typing.VType.TheVariants.{Ref};
 
 use crate::types::{is_new, is_uninitialised, meet, same_type};
-use jvm_types::{Rows, VType};
+use jvm_types::{Rows, Stack, TypeFrame, VType};
+use std::alloc::AllocError;
 
 pub fn some_uninitialised(types: &[VType]) -> bool
     ensures { result ≡ list_any is_uninitialised types.now }
@@ -21,12 +22,42 @@ pub fn some_new(types: &[VType]) -> bool
     types.iter().any(|t| is_new(*t))
 }
 
+/// Nothing is known of the places that are added up to this count.
+pub fn fill(types: &mut Rows<VType>, count: usize) -> Result<(), AllocError>
+    ensures { OnOk result (types.new ≡ filled count types.old) }
+{
+    for _place in types.len()..count {
+        types.push(VType::Top)?;
+    }
+    Ok(())
+}
+
 fn type_at(types: &Rows<VType>, i: usize) -> VType
     requires { i < length types.now }
     ensures { slice_get types.now i ≡ Some result }
 {
     match types.get(i) {
         Some(t) => *t,
+        None => unreachable!(),
+    }
+}
+
+fn type_on(stack: &Stack<VType>, place: usize) -> VType
+    requires { place < length stack.now }
+    ensures { slice_get stack.now place ≡ Some result }
+{
+    match stack.get(place) {
+        Some(t) => *t,
+        None => unreachable!(),
+    }
+}
+
+fn type_of_local(f: &TypeFrame, i: usize) -> VType
+    requires { i < length f.now.locals }
+    ensures { slice_get f.now.locals i ≡ Some result }
+{
+    match f.local(i) {
+        Some(t) => t,
         None => unreachable!(),
     }
 }
@@ -52,18 +83,45 @@ pub fn initialise(types: &mut Rows<VType>, object: VType, class: u16)
     }
 }
 
+/// Every place that has the object gets an initialised one of the class.
+pub fn initialise_stack(stack: &mut Stack<VType>, object: VType, class: u16)
+    ensures { stack.new ≡ initialised object class stack.old }
+{
+    for place in 0..stack.len() {
+        let t = type_on(stack, place);
+        stack.set(place, started(object, class, t));
+    }
+}
+
 /// Each place gets what it and its place in `others` have in common; answers whether that changed one.
-pub fn join(types: &mut Rows<VType>, others: &[VType]) -> bool
-    requires { length types.old ≡ length others.now }
-    ensures joined { types.new ≡ meets types.old others.now }
-    ensures told { result ≡ not (all_pairs same_type types.old types.new) }
+pub fn meet_stacks(stack: &mut Stack<VType>, others: &Stack<VType>) -> bool
+    requires { length stack.old ≡ length others.now }
+    ensures met { stack.new ≡ meets stack.old others.now }
+    ensures told { result ≡ not (all_pairs same_type stack.old stack.new) }
 {
     let mut changed = false;
-    for (i, other) in others.iter().enumerate() {
-        let t = type_at(types, i);
-        let least = meet(t, *other);
+    for place in 0..stack.len() {
+        let t = type_on(stack, place);
+        let least = meet(t, type_on(others, place));
         changed |= !same_type(t, least);
-        types.set(i, least);
+        stack.set(place, least);
+    }
+    changed
+}
+
+/// Each of some first locals gets what it and that of another frame have in common; answers whether that changed
+/// one.
+pub fn meet_locals(locals: &mut Rows<VType>, other: &TypeFrame) -> bool
+    requires { length locals.old ≤ length other.now.locals }
+    ensures met { locals.new ≡ meets locals.old other.now.locals }
+    ensures told { result ≡ not (all_pairs same_type locals.old locals.new) }
+{
+    let mut changed = false;
+    for i in 0..locals.len() {
+        let t = type_at(locals, i);
+        let least = meet(t, type_of_local(other, i));
+        changed |= !same_type(t, least);
+        locals.set(i, least);
     }
     changed
 }

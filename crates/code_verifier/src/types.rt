@@ -22,12 +22,14 @@ pub fn is_below(t: VType, u: VType) -> bool
 }
 
 /// The least type that two are below.
+#[tactic(auto, using(crate::proofs::TypeLists::meet_same_class))]
 pub fn meet(t: VType, u: VType) -> VType
     ensures { result ≡ meet t u }
 {
     match (t, u) {
         (VType::Int, VType::Int) | (VType::Null, VType::Null) | (VType::This, VType::This) => t,
         (VType::Null, VType::Ref(class)) | (VType::Ref(class), VType::Null) => VType::Ref(class),
+        (VType::Ref(class), VType::Ref(other)) if class == other => t,
         (VType::Ref(class), VType::Ref(other)) => VType::Ref(common_ancestor(class, other)),
         (VType::New(pc), VType::New(at)) if pc == at => t,
         _ => VType::Top,

@@ -1,6 +1,6 @@
 //! Verification of a method by inferred types (JVMS 4.10.2).
 
-ghost use Rattle.std.specs.Prelude.{◌≡◌, ◌<◌, length, slice_get, IfOk, IfErr, OnOk, IsSomeAnd};
+ghost use Rattle.std.specs.Prelude.{◌≡◌, ◌<◌, ◌≤◌, length, slice_get, IfOk, IfErr, OnOk, IsSomeAnd};
 ghost use Rattle.jvm_types.specs.ProgramInvariant.{IsProgram};
 ghost use Rattle.jvm_types.specs.Verifying.{first_nodes, IsLaidOut, IsTypingOf};
 ghost use Rattle.jvm_types.specs.declared.typing.Typing.{Typing as MethodTyping};
@@ -9,6 +9,7 @@ ghost use Rattle.code_verifier.specs.Visiting.{AreLevel};
 ghost use Rattle.code_verifier.specs.Settling.{Settle, IsBreak, IsRefusal};
 ghost use Rattle.code_verifier.specs.declared.error.VerifyError.TheVariants.{Memory};
 
+use crate::budget::{Budget, MOST_KEPT};
 use crate::entry::entry_frame;
 use crate::error::VerifyError;
 use crate::nodes::Nodes;
@@ -18,15 +19,15 @@ use jvm_types::{MethodInfo, Program, Typing};
 use std::alloc::{AllocError, Global};
 
 /// At the start pc 0 waits with the entry frame.
-fn first_nodes(alloc: Global, m: &MethodInfo) -> Result<Nodes, AllocError>
+fn first_nodes(alloc: Global, m: &MethodInfo, budget: Budget) -> Result<Nodes, AllocError>
     ensures { IfOk result (λ nodes. nodes ≡ first_nodes m.now m.now.code) }
 {
-    let mut nodes = Nodes::unreached(alloc, m.code.len())?;
+    let mut nodes = Nodes::unreached(alloc, m.code.len(), budget)?;
     if m.code.is_empty() {
         return Ok(nodes);
     }
     let entry = entry_frame(alloc, m)?;
-    nodes.bring(alloc, 0, &entry)?;
+    nodes.bring_last(alloc, 0, entry)?;
     Ok(nodes)
 }
 
@@ -54,20 +55,45 @@ pub(crate) fn verify_method(
     alloc: Global,
     p: &Program,
     m: &MethodInfo,
+    budget: &mut Budget,
 ) -> Result<Typing, VerifyError>
     requires { IsLaidOut m.now }
     ensures ok { IfOk result (IsTypingOf p.now m.now) }
     ensures refused { IfErr result (IsRefusal p.now m.now) }
+    ensures spent { budget.new ≤ budget.old }
 {
     let indexed = IndexedMethod::of(alloc, m)?;
-    let mut nodes = first_nodes(alloc, m)?;
+    let mut nodes = first_nodes(alloc, m, Budget::of(budget.left()))?;
     settle(alloc, p, &indexed, &mut nodes)?;
+    budget.lower(nodes.bytes_left());
     Ok(nodes.into_typing(alloc)?)
 }
 
 /// The typing of the method of this number (JVMS 4.10.2): types are inferred, and the instruction that is visited
 /// next is always the waiting one of least pc. Where the method has no typing, the rule and the pc of the first
-/// visit that breaks one.
+/// visit that breaks one. What is kept for the method is taken from the budget; where that is spent, memory is
+/// wanting.
+pub fn verify_within(
+    alloc: Global,
+    p: &Program,
+    method: u32,
+    budget: &mut Budget,
+) -> Result<Typing, VerifyError>
+    requires program { IsProgram p.now }
+    requires method { method < length p.now.methods }
+    ensures ok { IsSomeAnd (slice_get p.now.methods method) (λ m. IfOk result (λ t. IsTypingOf p.now m t)) }
+    ensures only { IsSomeAnd (slice_get p.now.methods method) (λ m. (t : MethodTyping) → IsTypingOf p.now m t → IfOk result (λ found. found ≡ t)) }
+    ensures typed { IsSomeAnd (slice_get p.now.methods method) (λ m. (t : MethodTyping) → IsTypingOf p.now m t → IfErr result (λ e. e ≡ Memory)) }
+    ensures refused { IsSomeAnd (slice_get p.now.methods method) (λ m. IfErr result (λ e. IsRefusal p.now m e)) }
+    ensures spent { budget.new ≤ budget.old }
+{
+    match p.methods.get(method as usize) {
+        Some(m) => verify_method(alloc, p, m, budget),
+        None => unreachable!(),
+    }
+}
+
+/// `verify_within` a budget that has `MOST_KEPT` bytes for this method alone.
 pub fn verify(alloc: Global, p: &Program, method: u32) -> Result<Typing, VerifyError>
     requires program { IsProgram p.now }
     requires method { method < length p.now.methods }
@@ -76,8 +102,6 @@ pub fn verify(alloc: Global, p: &Program, method: u32) -> Result<Typing, VerifyE
     ensures typed { IsSomeAnd (slice_get p.now.methods method) (λ m. (t : MethodTyping) → IsTypingOf p.now m t → IfErr result (λ e. e ≡ Memory)) }
     ensures refused { IsSomeAnd (slice_get p.now.methods method) (λ m. IfErr result (λ e. IsRefusal p.now m e)) }
 {
-    match p.methods.get(method as usize) {
-        Some(m) => verify_method(alloc, p, m),
-        None => unreachable!(),
-    }
+    let mut budget = Budget::of(MOST_KEPT);
+    verify_within(alloc, p, method, &mut budget)
 }

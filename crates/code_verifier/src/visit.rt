@@ -2,65 +2,62 @@
 
 ghost use Rattle.std.specs.Prelude.{◌≡◌, Some, OnOk, slice_get};
 ghost use Rattle.std.specs.Option.{IfSome};
-ghost use Rattle.jvm_types.specs.Verifying.{node_at, gone_on, visited_row, visited_insn};
-ghost use Rattle.code_verifier.specs.Visiting.{HasLocals, AreLevel, Leaves};
+ghost use Rattle.jvm_types.specs.Types.{Shape};
+ghost use Rattle.jvm_types.specs.Verifying.{node_at, gone_on, visited_insn};
+ghost use Rattle.code_verifier.specs.Visiting.{HasLocals, AreLevel, Leaves, Keeps, Prepares};
 
-use crate::after::shape_after;
+use crate::after::frame_after;
 use crate::edges::{bring_all, clash};
 use crate::error::VerifyError;
-use crate::frame::Frame;
-use crate::handlers::handle;
+use crate::handlers::{handle_kept, keep_for_handlers};
 use crate::nodes::Nodes;
 use crate::rules::{broken_after, broken_before};
 use code_table::{IndexedMethod, edges, row};
-use jvm_types::{Insn, OpRow, Program, VRule};
+use jvm_types::{Insn, OpRow, Program, TypeFrame, VRule};
 use std::alloc::Global;
 
-/// The edges of an instruction that finds a frame and leaves another.
+/// The edges of an instruction that leaves a frame, and keeps this of the one that it finds.
 fn go_on(
     alloc: Global,
     m: &IndexedMethod<'_>,
     nodes: &mut Nodes,
     insn: &Insn,
-    f: &Frame,
-    after: &Frame,
+    kept: &Option<TypeFrame>,
+    after: TypeFrame,
 ) -> Result<(), VerifyError>
     requires level { AreLevel m.now nodes.old }
-    requires locals { HasLocals m.now f.now }
-    requires locals_after { HasLocals m.now after.now }
-    ensures left { Leaves (gone_on m.now insn.now f.now after.now nodes.old) nodes.new result }
+    requires locals { IfSome kept.now (HasLocals m.now) }
+    requires locals_after { HasLocals m.now after }
+    ensures left { (f : Shape) → Keeps m.now insn.now.pc f kept.now → Leaves (gone_on m.now insn.now f after nodes.old) nodes.new result }
     ensures level { OnOk result (AreLevel m.now nodes.new) }
 {
     let tos = edges(alloc, insn)?;
-    if let Some(at) = clash(m, nodes, &tos, after.depth()) {
+    if let Some(at) = clash(m, nodes, &tos, after.stack().len()) {
         return Err(VerifyError::Refused(VRule::V5, at));
     }
     bring_all(alloc, m, nodes, &tos, after)?;
     if let Some(rule) = broken_after(m, insn) {
         return Err(VerifyError::Refused(rule, insn.pc));
     }
-    handle(alloc, m, nodes, insn.pc, f)
+    handle_kept(alloc, m, nodes, insn.pc, kept)
 }
 
-/// The visit of an instruction that has this row and finds this frame.
-fn visit_row(
+/// The frame after an instruction that has this row and finds this frame, and what is kept for handlers.
+fn prepare(
     alloc: Global,
     m: &IndexedMethod<'_>,
-    nodes: &mut Nodes,
     insn: &Insn,
     row: &OpRow,
-    f: &Frame,
-) -> Result<(), VerifyError>
-    requires level { AreLevel m.now nodes.old }
-    requires locals { HasLocals m.now f.now }
-    ensures left { Leaves (visited_row m.now insn.now row.now f.now nodes.old) nodes.new result }
-    ensures level { OnOk result (AreLevel m.now nodes.new) }
+    f: &TypeFrame,
+) -> Result<(TypeFrame, Option<TypeFrame>), VerifyError>
+    ensures { Prepares m.now insn.now row.now f.now result }
 {
     if let Some(rule) = broken_before(m, insn, row, f) {
         return Err(VerifyError::Refused(rule, insn.pc));
     }
-    let after = shape_after(alloc, m.method(), row, f)?;
-    go_on(alloc, m, nodes, insn, f, &after)
+    let after = frame_after(alloc, m.method(), row, f)?;
+    let kept = keep_for_handlers(alloc, m.method(), insn.pc, f)?;
+    Ok((after, kept))
 }
 
 /// The visit of the instruction of this number.
@@ -82,7 +79,7 @@ pub fn visit(
     let Some(frame) = nodes.frame(i) else {
         return Ok(());
     };
-    let f = frame.copy(alloc)?;
     let row = row(alloc, p, method, insn.pc, *target, &insn.op)?;
-    visit_row(alloc, m, nodes, insn, &row, &f)
+    let (after, kept) = prepare(alloc, m, insn, &row, frame)?;
+    go_on(alloc, m, nodes, insn, &kept, after)
 }

@@ -1,3 +1,4 @@
+pub mod FilledLaws
 mod NameTries
 mod FirstTries
 mod LinkTries

@@ -1,15 +1,12 @@
 -- The types of verification by inference, their order, and frames of them (JVMS 4.10.2.2). The types of one
 -- place: int, null, references to a class, `this` and what `new` made before they are initialised, and none.
 -- There is no long, float, double and returnAddress.
-use Rattle.std.specs.Prelude.{ℕ, ◌-◌, Bool, true, false, not, ◌&&◌, ◌||◌, ◌==◌, if◌then◌else◌, List, [], ◌∷◌, ◌++◌, length, map, reverse, replicate, Option}
-use Rattle.std.specs.Option.{option_map}
+use Rattle.std.specs.Prelude.{ℕ, ◌-◌, Bool, true, false, not, ◌&&◌, ◌||◌, ◌==◌, if◌then◌else◌, List, [], ◌∷◌, ◌++◌, length, map, replicate}
 use Rattle.jvm_types.specs.Members.{is_static}
 use Rattle.jvm_types.specs.ClassTree.{is_subclass, common_ancestor}
 use Rattle.jvm_types.specs.CodeTable.{type_of, is_init}
 use Rattle.jvm_types.specs.declared.typing.VType.{VType}
 use Rattle.jvm_types.specs.declared.typing.VType.TheVariants.{Int, Null, Ref, This, New, Top}
-use Rattle.jvm_types.specs.declared.typing.TypeFrame.{TypeFrame}
-use Rattle.jvm_types.specs.declared.typing.Typing.{Typing}
 use Rattle.jvm_types.specs.declared.program.MethodInfo.{MethodInfo}
 
 -- ---- the order of types
@@ -69,13 +66,6 @@ pub record Shape : Type 0 where
   pub stack : List VType
   pub locals : List VType
   pub ready : Bool
-
--- what a frame of a typing says: its stack has the top last
-abbrev pub shape_of : TypeFrame → Shape
-shape_of f = record { stack = reverse f.stack; locals = f.locals; ready = f.this_ready }
-
-abbrev pub shapes_of : Typing → List (Option Shape)
-shapes_of t = map (option_map shape_of) t.frames
 
 -- whether r holds place by place, and there are as many
 abbrev pub all_pairs : (VType → VType → Bool) → List VType → List VType → Bool

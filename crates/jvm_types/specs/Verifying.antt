@@ -10,7 +10,7 @@ use Rattle.jvm_types.specs.declared.op_row.Want.TheVariants.{AnyValue, AnInt, An
 use Rattle.jvm_types.specs.declared.op_row.OpRow.{OpRow}
 use Rattle.jvm_types.specs.CodeGrammar.{IsCode}
 use Rattle.jvm_types.specs.declared.class_file.Handler.{Handler}
-use Rattle.jvm_types.specs.Types.{Shape, is_below, is_uninitialised, is_new, same_type, same_shape, shape_below, meet_shapes, entry_shape, shapes_of}
+use Rattle.jvm_types.specs.Types.{Shape, is_below, is_uninitialised, is_new, same_type, same_shape, shape_below, meet_shapes, entry_shape}
 use Rattle.jvm_types.specs.declared.code.Insn.{Insn}
 use Rattle.jvm_types.specs.declared.code.Op.{Op}
 use Rattle.jvm_types.specs.declared.code.Op.TheVariants as ops
@@ -309,7 +309,7 @@ pub record HasTyping (p : Program) (m : MethodInfo) (frames : List (Option Shape
 
 -- the typing of a method
 abbrev pub IsTypingOf : Program → MethodInfo → Typing → Type 0
-IsTypingOf p m t = HasTyping p m (shapes_of t)
+IsTypingOf p m t = HasTyping p m t.frames
 
 -- a method is refused by a rule, at a pc
 pub record IsRefused (p : Program) (m : MethodInfo) (rule : VRule) (pc : ℕ) : Type 0 where

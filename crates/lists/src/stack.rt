@@ -133,4 +133,20 @@ impl<T: Copy> Stack<T> {
             items: Rows::from_slice(alloc, &self.items.as_slice()[..left])?,
         })
     }
+
+    /// A copy without so many of the items on the top, with room for some more.
+    #[tactic(auto, using(crate::proofs::StackLaws::without_top_first))]
+    pub fn without_for(
+        &self,
+        alloc: Global,
+        count: usize,
+        more: usize,
+    ) -> Result<Self, AllocError>
+        ensures { IfOk result (λ s. s ≡ drop count self.now) }
+    {
+        let left = self.items.len().saturating_sub(count);
+        let mut items = Rows::from_vec(Vec::with_capacity(alloc, left.saturating_add(more))?);
+        items.extend_from_slice(&self.items.as_slice()[..left])?;
+        Ok(Stack { items })
+    }
 }

@@ -1,7 +1,7 @@
 -- Laws of the visits of a method (JVMS 4.10.2): the answer is one, and there is one. The order of visits is fixed,
 -- so that a typing and a refusal are known by the method alone.
 use Rattle.std.specs.Prelude.{◌≡◌, ℕ, ◌⊎◌, List, Option}
-use Rattle.jvm_types.specs.Types.{Shape, shapes_of}
+use Rattle.jvm_types.specs.Types.{Shape}
 use Rattle.jvm_types.specs.Verifying.{HasTyping, IsTypingOf, IsRefused, IsLaidOut}
 use Rattle.jvm_types.specs.declared.program.MethodInfo.{MethodInfo}
 use Rattle.jvm_types.specs.declared.program.Program.{Program}
@@ -12,10 +12,7 @@ use Rattle.jvm_types.specs.declared.typing.Typing.{Typing}
 abbrev pub OneTyping : Type 0
 OneTyping = (p : Program) (m : MethodInfo) (frames others : List (Option Shape)) → HasTyping p m frames → HasTyping p m others → frames ≡ others
 
--- a typing is known by what its frames say, so a method has at most one
-abbrev pub FramesSayTyping : Type 0
-FramesSayTyping = (typing other : Typing) → shapes_of typing ≡ shapes_of other → typing ≡ other
-
+-- and so at most one typing
 abbrev pub OneTypingOf : Type 0
 OneTypingOf = (p : Program) (m : MethodInfo) (typing other : Typing) → IsTypingOf p m typing → IsTypingOf p m other → typing ≡ other
 

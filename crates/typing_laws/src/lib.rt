@@ -20,6 +20,5 @@ pub use rule_laws::{
     arguments_suit, read_is_good, receiver_is_good, returns_suit, taken_are_good, unbroken_hold,
 };
 pub use visit_laws::{
-    frames_say_typing, one_refusal, one_typing, one_typing_of, typed_is_not_refused,
-    typed_or_refused,
+    one_refusal, one_typing, one_typing_of, typed_is_not_refused, typed_or_refused,
 };

@@ -1,15 +1,10 @@
 //! Laws of the visits of a method, for all programs: each function only states one.
 
-ghost use Rattle.typing_laws.specs.VisitLaws.{FramesSayTyping, OneRefusal, OneTyping, OneTypingOf, TypedNotRefused, TypedOrRefused};
+ghost use Rattle.typing_laws.specs.VisitLaws.{OneRefusal, OneTyping, OneTypingOf, TypedNotRefused, TypedOrRefused};
 
 /// A method has at most one list of frames.
 pub fn one_typing()
     ensures { OneTyping }
-{}
-
-/// A typing is known by what its frames say.
-pub fn frames_say_typing()
-    ensures { FramesSayTyping }
 {}
 
 /// A method has at most one typing.

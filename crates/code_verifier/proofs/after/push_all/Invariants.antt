@@ -4,9 +4,4 @@ use Rattle.jvm_types.specs.declared.typing.VType.TheVariants.{Top}
 use Rattle.code_verifier.proofs.after.push_all.Given as goal
 
 abbrev pub invariant-loop-i : goal.invariant-loop-i
-invariant-loop-i l =
-    l.after ≡ record {
-      stack = map (λ left. value_of Top (λ t. t) l.f.stack l.f.locals left) (drop l.i l.gives) ++ l.fn.after.stack;
-      locals = l.fn.after.locals;
-      ready = l.fn.after.ready;
-    }
+invariant-loop-i l = l.stack ≡ map (λ left. value_of Top (λ t. t) l.f.stack l.f.locals left) (drop l.i l.gives) ++ l.fn.stack

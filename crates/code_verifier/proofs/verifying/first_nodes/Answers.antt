@@ -12,6 +12,6 @@ some_code [] h = let wrong : false ≡ true = h refl in absurd (cc)
 some_code (insn ∷ insns) h = omega arith
 
 pub returns : goal.returns
-returns c = first_entered c.args.m.now c.args.m.now.code c.in_ok-nodes.nodes c.bring.new.self (some_code c.args.m.now.code c.if-is_empty.ensures.1)
+returns c = first_entered c.args.m.now c.args.m.now.code c.in_ok-nodes.nodes c.bring_last.new.self (some_code c.args.m.now.code c.if-is_empty.ensures.1)
     (c.in_ok-nodes.ensures ∙ ap (λ n. replicate n unreached) c.len.ensures)
-    (c.in_ok-bring.ensures ∙ ap (λ (f : Shape). slice_set c.in_ok-nodes.nodes 0 (node_joined (node_at c.in_ok-nodes.nodes 0) (node_at c.in_ok-nodes.nodes 0).frame f)) c.in_ok-entry.ensures)
+    (c.in_ok-bring_last.ensures ∙ ap (λ (f : Shape). slice_set c.in_ok-nodes.nodes 0 (node_joined (node_at c.in_ok-nodes.nodes 0) (node_at c.in_ok-nodes.nodes 0).frame f)) c.in_ok-entry.ensures)

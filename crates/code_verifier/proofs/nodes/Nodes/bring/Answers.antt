@@ -3,7 +3,7 @@ use Rattle.std.specs.Prelude.{◌||◌, slice_get, slice_set}
 use Rattle.std.proofs.lemmas.List.{set-set}
 use Rattle.jvm_types.specs.Types.{Shape, same_shape, meet_shapes}
 use Rattle.jvm_types.specs.Verifying.{Node, node_at, node_joined}
-use Rattle.code_verifier.specs.Waiting.{joined, changes}
+use Rattle.code_verifier.specs.Waiting.{met, changes}
 use Rattle.code_verifier.proofs.WaitingLaws.{node_at_get, set_here}
 use Rattle.code_verifier.proofs.nodes.Nodes.bring.Goals as goal
 
@@ -16,23 +16,23 @@ or_false true b e = refl
 or_false false b e = e
 
 -- what an edge does, by whether it changes the frame
-changed_node : (node : Node) (frame : Option Shape) (f : Shape) → changes frame f ≡ true → node_joined node frame f ≡ record { frame = Some (joined frame f); waits = true }
+changed_node : (node : Node) (frame : Option Shape) (f : Shape) → changes frame f ≡ true → node_joined node frame f ≡ record { frame = Some (met frame f); waits = true }
 changed_node node None f e = refl
 changed_node node (Some g) f e = ap (λ (w : Bool). record { frame = Some (meet_shapes g f); waits = w }) (or_true node.waits (not (same_shape g (meet_shapes g f))) e)
 
-same_node : (node : Node) (frame : Option Shape) (f : Shape) → changes frame f ≡ false → node_joined node frame f ≡ record { frame = Some (joined frame f); waits = node.waits }
+same_node : (node : Node) (frame : Option Shape) (f : Shape) → changes frame f ≡ false → node_joined node frame f ≡ record { frame = Some (met frame f); waits = node.waits }
 same_node node None f e = absurd (cc)
 same_node node (Some g) f e = ap (λ (w : Bool). record { frame = Some (meet_shapes g f); waits = w }) (or_false node.waits (not (same_shape g (meet_shapes g f))) e)
 
 brought_changed : (nodes mid last : List Node) (i : ℕ) (f : Shape) → i < length nodes
-    → mid ≡ slice_set nodes i (record { frame = Some (joined (node_at nodes i).frame f); waits = (node_at nodes i).waits })
+    → mid ≡ slice_set nodes i (record { frame = Some (met (node_at nodes i).frame f); waits = (node_at nodes i).waits })
     → last ≡ slice_set mid i (record { frame = (node_at mid i).frame; waits = true })
     → changes (node_at nodes i).frame f ≡ true → last ≡ slice_set nodes i (node_joined (node_at nodes i) (node_at nodes i).frame f)
 brought_changed nodes mid last i f h a b e =
-    let met : Node = record { frame = Some (joined (node_at nodes i).frame f); waits = (node_at nodes i).waits } in
-    let there : node_at mid i ≡ met = node_at_get mid i met (ap (λ l. slice_get l i) a ∙ set_here nodes i met h) in
-    b ∙ ap (λ (node : Node). slice_set mid i (record { frame = node.frame; waits = true })) there ∙ ap (λ l. slice_set l i (record { frame = met.frame; waits = true })) a
-    ∙ set-set nodes i met (record { frame = met.frame; waits = true }) ∙ ap (λ node. slice_set nodes i node) (sym (changed_node (node_at nodes i) (node_at nodes i).frame f e))
+    let there_met : Node = record { frame = Some (met (node_at nodes i).frame f); waits = (node_at nodes i).waits } in
+    let there : node_at mid i ≡ there_met = node_at_get mid i there_met (ap (λ l. slice_get l i) a ∙ set_here nodes i there_met h) in
+    b ∙ ap (λ (node : Node). slice_set mid i (record { frame = node.frame; waits = true })) there ∙ ap (λ l. slice_set l i (record { frame = there_met.frame; waits = true })) a
+    ∙ set-set nodes i there_met (record { frame = there_met.frame; waits = true }) ∙ ap (λ node. slice_set nodes i node) (sym (changed_node (node_at nodes i) (node_at nodes i).frame f e))
 
 pub returns-in_ok-wait : goal.returns-in_ok-wait
 returns-in_ok-wait c = brought_changed c.args.self.now c.meet.new.self c.wait.new.self c.args.i c.args.f.now c.requires.inside c.in_ok-meet.ensures.met c.in_ok-wait.ensures (sym c.in_ok-meet.ensures.changed ∙ c.if-branch.true)

@@ -6,7 +6,7 @@ use Rattle.jvm_types.specs.declared.program.MethodInfo.{MethodInfo}
 use Rattle.code_verifier.specs.declared.error.VerifyError.TheVariants.{Memory}
 use Rattle.program_laws.proofs.CodeOrder.{laid_out}
 use Rattle.code_verifier.proofs.OneAnswer.{only_by, typed_by}
-use Rattle.code_verifier.proofs.verifying.verify.Goals as goal
+use Rattle.code_verifier.proofs.verifying.verify_within.Goals as goal
 
 is_there : (methods : List MethodInfo) (i : ℕ) → i < length methods → None ≡ slice_get methods i → ⊥
 is_there [] i h e = absurd (omega (arith, h))

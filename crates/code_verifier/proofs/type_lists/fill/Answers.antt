@@ -3,7 +3,7 @@ use Rattle.std.proofs.lemmas.List.{length_push}
 use Rattle.jvm_types.specs.Types.{filled}
 use Rattle.jvm_types.specs.declared.typing.VType.{VType}
 use Rattle.jvm_types.specs.declared.typing.VType.TheVariants.{Top}
-use Rattle.code_verifier.proofs.entry.fill.Goals as goal
+use Rattle.code_verifier.proofs.type_lists.fill.Goals as goal
 
 fill_more : (n : ℕ) (types : List VType) → length types < n → filled n (types ++ Top ∷ []) ≡ filled n types
 fill_more n types h =

@@ -1,6 +1,6 @@
 use Rattle.std.proofs.Common.{◌≡◌, length}
 use Rattle.jvm_types.specs.Types.{filled}
-use Rattle.code_verifier.proofs.entry.fill.Given as goal
+use Rattle.code_verifier.proofs.type_lists.fill.Given as goal
 
 abbrev pub invariant-loop-place : goal.invariant-loop-place
 invariant-loop-place l = record {

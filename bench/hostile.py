@@ -1,0 +1,162 @@
+#!/usr/bin/env python3
+"""Measures what small files that are made to be dear cost the built program: seconds, peak megabytes and status.
+
+Run it by hand from the top of the repository, after `./run --proved examples/A.class`:
+
+    python3 bench/hostile.py [word..]
+
+With words, only the files whose names have one of them. A run is cut off after LIMIT seconds, or where the system
+refuses it memory beyond MOST bytes (as `ulimit -v` does; the program then answers with status 6).
+
+Most of these files have a program that is refused only after verification (no `init`), so that what is measured is
+reading, linking and verifying; the line that the program wrote stands beside the numbers.
+"""
+import os
+import resource
+import signal
+import sys
+import tempfile
+import time
+
+from loading import PROGRAM, STATIC, ClassFile, one_method, u1, u2, u4
+
+LIMIT = 120
+MOST = 40 * 1024**3
+
+ICONST_0, ACONST_NULL, NOP, POP, RETURN, ATHROW = b"\x03", b"\x01", b"\x00", b"\x57", b"\xb1", b"\xbf"
+
+
+def padded(size):
+    """`iconst_0, pop` over and over, and a return."""
+    return (ICONST_0 + POP) * ((size - 1) // 2) + RETURN
+
+
+def many_locals(size):
+    """Code of this size in a method that has 65,535 locals and uses none."""
+    return one_method(padded(size), 1, 65535)
+
+
+def locals_written(size):
+    """Code of this size in a method that writes its first 256 locals."""
+    writes = b"".join(ICONST_0 + b"\x36" + u1(i) for i in range(256))
+    return one_method(writes + padded(size - len(writes)), 1, 65535)
+
+
+def pushes_and_pops(size):
+    """Pushes to half of the code, and as many pops."""
+    half = (size - 1) // 2
+    return one_method(ICONST_0 * half + POP * half + RETURN, 65535, 0)
+
+
+def mixed_pushes(size):
+    """The same, with ints and nulls in turn."""
+    half = (size - 1) // 4 * 2
+    return one_method((ICONST_0 + ACONST_NULL) * (half // 2) + POP * half + RETURN, 65535, 0)
+
+
+def one_descriptor(methods):
+    """Methods that share one descriptor of 65,003 bytes."""
+    file = ClassFile("A")
+    descriptor = "(" + "I" * 65000 + ")V"
+    for number in range(methods):
+        file.method(STATIC, f"m{number}", descriptor, RETURN, 0, 65000)
+    file.method(STATIC, "init", "()V", RETURN, 0, 0)
+    return [file.content()]
+
+
+def switch_back(arms, instructions=3200):
+    """A switch whose arms lead back over a body, in which each local takes the value of the next one, so that a type
+    goes from local to local by one more with each time that the switch is visited."""
+    file = ClassFile("A")
+    shift = b"\x2a\x3a\xff" + b"".join(b"\x19" + u1(i + 1) + b"\x3a" + u1(i) for i in range(1, 255))
+    start = b"".join(ACONST_NULL + b"\x3a" + u1(i) for i in range(1, 256))
+    body = shift + NOP * (instructions - 512)
+    code = start + body + ICONST_0
+    at = len(code)
+    pad = b"\0" * (-(at + 1) % 4)
+    # the arms lead to places that begin instructions: the shift's loads, then the nops
+    places = [len(start) + 3 + 4 * i for i in range(254)] + list(range(len(start) + len(shift), at - 1))
+    places = places[:arms]
+    ways = [place - at for place in places]
+    code += b"\xaa" + pad + signed(ways[0]) + signed(0) + signed(len(ways) - 1) + b"".join(signed(way) for way in ways)
+    file.method(STATIC, "m", "(LA;)V", code, 1, 256)
+    file.method(STATIC, "init", "()V", RETURN, 0, 0)
+    return [file.content()]
+
+
+def signed(n):
+    return (n & 0xFFFFFFFF).to_bytes(4, "big")
+
+
+def handler_rows(rows, instructions=2000):
+    """Rows that all cover the whole of the code, with the same handler."""
+    file = ClassFile("A")
+    code = NOP * instructions + RETURN + ATHROW
+    handlers = [u2(0) + u2(instructions) + u2(instructions + 1) + u2(0)] * rows
+    file.method(STATIC, "m", "()V", code, 1, 0, handlers)
+    file.method(STATIC, "init", "()V", RETURN, 0, 0)
+    return [file.content()]
+
+
+def measured(paths):
+    """Seconds, peak megabytes, status and the first line that was written."""
+    out_read, out_write = os.pipe()
+    start = time.perf_counter()
+    child = os.fork()
+    if child == 0:
+        os.dup2(out_write, 1)
+        os.dup2(out_write, 2)
+        resource.setrlimit(resource.RLIMIT_CPU, (LIMIT, LIMIT))
+        resource.setrlimit(resource.RLIMIT_AS, (MOST, MOST))
+        resource.setrlimit(resource.RLIMIT_CORE, (0, 0))
+        os.execv(PROGRAM, [PROGRAM, *paths])
+    os.close(out_write)
+    with os.fdopen(out_read, "rb") as out:
+        written = out.read(65536)
+    _, status, usage = os.wait4(child, 0)
+    took = time.perf_counter() - start
+    if os.WIFSIGNALED(status):
+        ended = signal.Signals(os.WTERMSIG(status)).name
+    else:
+        ended = f"status {os.WEXITSTATUS(status)}"
+    first = written.decode(errors="replace").split("\n")[0][:60]
+    return took, usage.ru_maxrss / 1024, ended, first
+
+
+FILES = (
+    (many_locals, 4096),
+    (many_locals, 65535),
+    (locals_written, 65535),
+    (pushes_and_pops, 32768),
+    (pushes_and_pops, 65535),
+    (mixed_pushes, 32768),
+    (one_descriptor, 4000),
+    (switch_back, 400),
+    (switch_back, 800),
+    (handler_rows, 1000),
+    (handler_rows, 4000),
+)
+
+
+def main():
+    if not os.access(PROGRAM, os.X_OK):
+        raise SystemExit("no built program: run ./run --proved examples/A.class first")
+    words = sys.argv[1:]
+    with tempfile.TemporaryDirectory() as folder:
+        for shape, size in FILES:
+            name = f"{shape.__name__} {size}"
+            if words and not any(word in name for word in words):
+                continue
+            contents = shape(size)
+            paths = []
+            for number, content in enumerate(contents):
+                paths.append(os.path.join(folder, f"{number}.class"))
+                with open(paths[-1], "wb") as out:
+                    out.write(content)
+            took, megabytes, ended, first = measured(paths)
+            whole = sum(len(content) for content in contents)
+            print(f"{name:>22}: {whole:>8} bytes {took:8.2f} s {megabytes:8.1f} MB  {ended}  {first}", flush=True)
+
+
+if __name__ == "__main__":
+    main()

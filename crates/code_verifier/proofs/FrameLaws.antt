@@ -1,0 +1,153 @@
+-- Frames by the first of their locals, with nothing known of the others.
+use Rattle.std.proofs.Common.{◌≡◌, ℕ, zero, suc, ◌+◌, ◌-◌, ◌<◌, ◌≤◌, max, Bool, true, false, not, List, [], ◌∷◌, ◌++◌, length, map, reverse, replicate, Option, Some, None, refl, sym, ap, ◌∙◌, arith}
+use Rattle.std.specs.Prelude.{◌||◌, ◌&&◌, if◌then◌else◌, slice_get, slice_set}
+use Rattle.std.specs.List.{list_any}
+use Rattle.std.specs.Option.{IfSome}
+use Rattle.std.proofs.lemmas.List.{reverse-append, map-append, length-map, length-set, set-append_left, replicate-append-replicate}
+use Rattle.jvm_types.specs.Types.{Shape, filled, is_uninitialised, is_new, same_type, same_shape, all_pairs, meet, meets, meet_shapes}
+use Rattle.jvm_types.specs.Verifying.{initialised, after_start}
+use Rattle.jvm_types.specs.declared.typing.VType.{VType}
+use Rattle.jvm_types.specs.declared.typing.VType.TheVariants.{Int, Null, Ref, This, New, Top}
+use Rattle.jvm_types.proofs.FilledLaws.{length_filled}
+
+-- ---- whether some place has a property
+
+or_assoc : (a b c : Bool) → (a || (b || c)) ≡ ((a || b) || c)
+or_assoc true b c = refl
+or_assoc false b c = refl
+
+or_comm : (a b : Bool) → (a || b) ≡ (b || a)
+or_comm true true = refl
+or_comm true false = refl
+or_comm false true = refl
+or_comm false false = refl
+
+or_last : (a : Bool) → (a || false) ≡ a
+or_last true = refl
+or_last false = refl
+
+any_append : (p : VType → Bool) (xs ys : List VType) → list_any p (xs ++ ys) ≡ (list_any p xs || list_any p ys)
+any_append p [] ys = refl
+any_append p (x ∷ xs) ys = rw (any_append p xs ys) (or_assoc (p x) (list_any p xs) (list_any p ys))
+
+pub any_reverse : (p : VType → Bool) (xs : List VType) → list_any p (reverse xs) ≡ list_any p xs
+any_reverse p [] = refl
+any_reverse p (x ∷ xs) = ap (λ l. list_any p l) (reverse-append (x ∷ []) xs) ∙ any_append p (reverse xs) (x ∷ []) ∙ ap (λ b. b || (p x || false)) (any_reverse p xs)
+    ∙ ap (λ b. list_any p xs || b) (or_last (p x)) ∙ or_comm (list_any p xs) (p x)
+
+any_unknown : (p : VType → Bool) → p Top ≡ false → (k : ℕ) → list_any p (replicate k Top) ≡ false
+any_unknown p e zero = refl
+any_unknown p e (suc k) = rw e (any_unknown p e k)
+
+pub any_filled : (p : VType → Bool) → p Top ≡ false → (n : ℕ) (ts : List VType) → list_any p (filled n ts) ≡ list_any p ts
+any_filled p e n ts = any_append p ts (replicate (n - length ts) Top) ∙ ap (λ b. list_any p ts || b) (any_unknown p e (n - length ts)) ∙ or_last (list_any p ts)
+
+-- of a stack, by its slice with the top last, and of locals, by the first of them
+pub any_stack : (p : VType → Bool) (slice stack : List VType) → reverse slice ≡ stack → list_any p slice ≡ list_any p stack
+any_stack p slice stack e = sym (any_reverse p slice) ∙ ap (λ l. list_any p l) e
+
+pub any_locals : (p : VType → Bool) → p Top ≡ false → (slice locals : List VType) → filled (length locals) slice ≡ locals → list_any p slice ≡ list_any p locals
+any_locals p u slice locals e = sym (any_filled p u (length locals) slice) ∙ ap (λ l. list_any p l) e
+
+pub uninitialised_stack : (slice stack : List VType) → reverse slice ≡ stack → list_any is_uninitialised slice ≡ list_any is_uninitialised stack
+uninitialised_stack slice stack e = any_stack is_uninitialised slice stack e
+
+pub uninitialised_locals : (slice locals : List VType) → filled (length locals) slice ≡ locals → list_any is_uninitialised slice ≡ list_any is_uninitialised locals
+uninitialised_locals slice locals e = any_locals is_uninitialised refl slice locals e
+
+pub new_locals : (slice locals : List VType) → filled (length locals) slice ≡ locals → list_any is_new slice ≡ list_any is_new locals
+new_locals slice locals e = any_locals is_new refl slice locals e
+
+-- ---- where two meet
+
+meets_unknown : (k : ℕ) (us : List VType) → length us ≡ k → meets (replicate k Top) us ≡ replicate k Top
+meets_unknown zero us e = refl
+meets_unknown (suc k) [] e = absurd (omega (arith, e))
+meets_unknown (suc k) (u ∷ us) e = ap (λ l. Top ∷ l) (meets_unknown k us (omega (arith, e)))
+
+meets_first : (ts us : List VType) (k : ℕ) → length us ≡ length ts + k → meets (ts ++ replicate k Top) us ≡ meets ts us ++ replicate k Top
+meets_first [] us k e = meets_unknown k us (omega (arith, e))
+meets_first (t ∷ ts) [] k e = absurd (omega (arith, e))
+meets_first (t ∷ ts) (u ∷ us) k e = ap (λ l. meet t u ∷ l) (meets_first ts us k (omega (arith, e)))
+
+pub length_meets : (ts us : List VType) → length ts ≤ length us → length (meets ts us) ≡ length ts
+length_meets [] us e = refl
+length_meets (t ∷ ts) [] e = absurd (omega (arith, e))
+length_meets (t ∷ ts) (u ∷ us) e = ap suc (length_meets ts us (omega (arith, e)))
+
+same_unknown : (k : ℕ) → all_pairs same_type (replicate k Top) (replicate k Top) ≡ true
+same_unknown zero = refl
+same_unknown (suc k) = same_unknown k
+
+same_first : (ts us : List VType) (k : ℕ) → length ts ≡ length us → all_pairs same_type (ts ++ replicate k Top) (us ++ replicate k Top) ≡ all_pairs same_type ts us
+same_first [] [] k e = same_unknown k
+same_first [] (u ∷ us) k e = absurd (omega (arith, e))
+same_first (t ∷ ts) [] k e = absurd (omega (arith, e))
+same_first (t ∷ ts) (u ∷ us) k e = ap (λ b. same_type t u && b) (same_first ts us k (omega (arith, e)))
+
+short : (n : ℕ) (ts us : List VType) → length us ≡ length (filled n ts) → length ts ≤ length us
+short n ts us e = omega (arith, e, length_filled n ts)
+
+pub meets_filled : (n : ℕ) (ts us : List VType) → length us ≡ length (filled n ts) → meets (filled n ts) us ≡ filled n (meets ts us)
+meets_filled n ts us e =
+    let others : length us ≡ length ts + (n - length ts) = omega (arith, e, length_filled n ts) in
+    meets_first ts us (n - length ts) others ∙ ap (λ k. meets ts us ++ replicate (n - k) Top) (sym (length_meets ts us (short n ts us e)))
+
+pub same_filled : (n : ℕ) (ts us : List VType) → length us ≡ length (filled n ts) → all_pairs same_type (filled n ts) (filled n (meets ts us)) ≡ all_pairs same_type ts (meets ts us)
+same_filled n ts us e =
+    let long : length (meets ts us) ≡ length ts = length_meets ts us (short n ts us e) in
+    ap (λ k. all_pairs same_type (filled n ts) (meets ts us ++ replicate (n - k) Top)) long ∙ same_first ts (meets ts us) (n - length ts) (sym long)
+
+-- the frame where two meet, made of the stack and of the first locals
+pub frames_met : (frame other : Shape) (n : ℕ) (first met_locals met_stack : List VType) (ready : Bool) → n ≡ length frame.locals → length frame.locals ≡ length other.locals → filled (length frame.locals) first ≡ frame.locals
+    → met_stack ≡ meets frame.stack other.stack → met_locals ≡ meets first other.locals → ready ≡ (frame.ready && other.ready)
+    → record { stack = met_stack; locals = filled n met_locals; ready = ready } ≡ meet_shapes frame other
+frames_met frame other n first met_locals met_stack ready en long ef es el er =
+    let others : length other.locals ≡ length (filled (length frame.locals) first) = sym long ∙ ap length (sym ef) in
+    let locals : filled (length frame.locals) (meets first other.locals) ≡ meets frame.locals other.locals = sym (meets_filled (length frame.locals) first other.locals others) ∙ ap (λ l. meets l other.locals) ef in
+    rw (en, es, el, er, locals) refl
+
+-- ---- where an `<init>` is called
+
+initialised_unknown : (object : VType) (class : ℕ) → same_type object Top ≡ false → (k : ℕ) → initialised object class (replicate k Top) ≡ replicate k Top
+initialised_unknown object class e zero = refl
+initialised_unknown object class e (suc k) = rw e (ap (λ l. Top ∷ l) (initialised_unknown object class e k))
+
+pub initialised_filled : (object : VType) (class n : ℕ) (ts : List VType) → same_type object Top ≡ false → initialised object class (filled n ts) ≡ filled n (initialised object class ts)
+initialised_filled object class n ts e =
+    map-append (λ u. if same_type object u then Ref class else u) ts (replicate (n - length ts) Top)
+    ∙ ap (λ l. initialised object class ts ++ l) (initialised_unknown object class e (n - length ts))
+    ∙ ap (λ k. initialised object class ts ++ replicate (n - k) Top) (sym (length-map ts (λ u. if same_type object u then Ref class else u)))
+
+known : (object : VType) → is_uninitialised object ≡ true → same_type object Top ≡ false
+known This e = refl
+known (New pc) e = refl
+known Int e = absurd (cc)
+known Null e = absurd (cc)
+known (Ref class) e = absurd (cc)
+known Top e = absurd (cc)
+
+pub object_started : (object : VType) (class : ℕ) (stack locals stack' locals' : List VType) (ready after : Bool) → is_uninitialised object ≡ true
+    → stack' ≡ initialised object class stack → locals' ≡ initialised object class locals → after ≡ (ready || same_type object This)
+    → (n : ℕ) → after_start (Some (object, class)) (record { stack = stack; locals = filled n locals; ready = ready }) ≡ record { stack = stack'; locals = filled n locals'; ready = after }
+object_started object class stack locals stack' locals' ready after u es el ea n = rw (es, el, ea, initialised_filled object class n locals (known object u)) refl
+
+-- ---- where a local is written
+
+pub set_filled : (n : ℕ) (ts : List VType) (i : ℕ) (t : VType) → i < length ts → slice_set (filled n ts) i t ≡ filled n (slice_set ts i t)
+set_filled n ts i t h = set-append_left ts (replicate (n - length ts) Top) i t h ∙ ap (λ k. slice_set ts i t ++ replicate (n - k) Top) (sym (length-set ts i t))
+
+append_assoc : (xs ys zs : List VType) → (xs ++ ys) ++ zs ≡ xs ++ (ys ++ zs)
+append_assoc [] ys zs = refl
+append_assoc (x ∷ xs) ys zs = ap (λ l. x ∷ l) (append_assoc xs ys zs)
+
+pub filled_more : (n count : ℕ) (ts : List VType) → count ≤ n → filled n (filled count ts) ≡ filled n ts
+filled_more n count ts h =
+    let all : (count - length ts) + (n - length (filled count ts)) ≡ n - length ts = omega (arith, h, length_filled count ts) in
+    append_assoc ts (replicate (count - length ts) Top) (replicate (n - length (filled count ts)) Top)
+    ∙ ap (λ l. ts ++ l) (replicate-append-replicate (count - length ts) (n - length (filled count ts)) Top) ∙ ap (λ k. ts ++ replicate k Top) all
+
+pub set_past : (ts : List VType) (i : ℕ) (t : VType) → length ts ≤ i → slice_set ts i t ≡ ts
+set_past [] i t h = refl
+set_past (x ∷ xs) zero t h = absurd (omega (arith, h))
+set_past (x ∷ xs) (suc i) t h = ap (λ l. x ∷ l) (set_past xs i t (omega (arith, h)))
