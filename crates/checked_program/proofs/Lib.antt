@@ -7,3 +7,4 @@ mod UseTries
 mod MarkTries
 pub mod CheckedPlaces
 mod OwnTries
+mod ReachTries

@@ -2,6 +2,8 @@
 use Rattle.std.proofs.Common.{◌≡◌, ℕ, zero, suc, ◌+◌, ◌-◌, ◌*◌, ◌<◌, ◌≤◌, ℤ, pos, Bool, true, false, List, [], ◌∷◌, ◌++◌, length, map, drop, Option, Some, None, Result, Ok, Err, refl, sym, ap, subst, ◌∙◌, arith, append_assoc, add-one, drop-cons, length-drop, length-append}
 use Rattle.std.specs.Prelude.{slice_index_or, int_lt, nat_lt, not, nat_abs, ◌==◌, ◌||◌, if◌then◌else◌, ◌-ℤ◌, ◌+ℤ◌}
 use Rattle.std.proofs.lemmas.Bool.Decides.{nat_tests}
+use Rattle.lists.proofs.ListLaws.{one_more}
+use Rattle.lists.proofs.TestLaws.{or_assoc, or_false}
 use Rattle.jvm_types.specs.Numbers.{has_number}
 use Rattle.jvm_types.specs.CodeTable.{Form, Plain, Byte, Short, SignedByte, SignedShort, Branch, WideBranch, LocalAndStep, IntArray, Table, Lookup, form_of}
 use Rattle.jvm_types.specs.CodeGrammar.{padding_size}
@@ -123,14 +125,6 @@ mark_true (m ∷ marks) (suc i) = mark_true marks i ∙ ap (λ t. slice_index_or
     same_suc : (m n : ℕ) → (m == n) ≡ (suc m == suc n)
     same_suc m n = grind (arith, nat_tests)
 
-or_assoc : (a b c : Bool) → (a || (b || c)) ≡ ((a || b) || c)
-or_assoc true b c = refl
-or_assoc false b c = refl
-
-or_false : (a : Bool) → (a || false) ≡ a
-or_false true = refl
-or_false false = refl
-
 has_more : (ns : List ℕ) (n i : ℕ) → has_number (ns ++ n ∷ []) i ≡ (has_number ns i || n == i)
 has_more [] n i = or_false (n == i)
 has_more (m ∷ ns) n i = ap (λ t. m == i || t) (has_more ns n i) ∙ or_assoc (m == i) (has_number ns i) (n == i)
@@ -179,9 +173,6 @@ insn_is : (pc : ℕ) (o : Option Form) (rest : List ℕ) (found : Found) (more :
     → with_insn pc o (known_extent pc o rest) rest more ≡ insn_at pc (pc + 1 + found.size) found.op ∷ more found.size
 insn_is pc None rest found more h = absurd h
 insn_is pc (Some f) rest found more h = rw h.0 (ap (λ (op : Op). insn_at pc (pc + 1 + found.size) op ∷ more found.size) (sym h.1))
-
-one_more : {A : Type 0} (front : List A) (x : A) (more all : List A) → front ++ x ∷ more ≡ all → (front ++ x ∷ []) ++ more ≡ all
-one_more front x more all h = append_assoc front (x ∷ []) more ∙ h
 
 outlines_step : (pc b : ℕ) (bytes rest : List ℕ) (found : Found) → bytes ≡ b ∷ rest → known_extent pc (form_of b) rest ≡ Ok (extent found)
     → outlines 0 pc bytes ≡ followed (record { pc = pc; targets = found.targets }) (outlines found.size (pc + 1) rest)

@@ -1,9 +1,12 @@
 //! The rules on branches and handler rows, by a mark for each pc at which an instruction begins.
 
 ghost use Rattle.std.specs.Prelude.{◌≡◌, ◌≤◌, length};
+ghost use Rattle.std.specs.Result.{result_err};
 ghost use Rattle.code_decode.specs.Marking.{mark, mark_at, all_marked, unmarked_branch, marked_row, unmarked_row};
 
+use crate::error::Fault;
 use crate::sweep::Branching;
+use jvm_types::limits::MOST_COUNTED;
 use jvm_types::{Handler, KRule};
 
 fn mark(marks: &[bool], pc: usize) -> bool
@@ -33,15 +36,15 @@ fn all_marked(marks: &[bool], targets: &[i64]) -> bool
 }
 
 /// The first branch that leads to no mark: K3 at its pc.
-pub fn branch_fault(marks: &[bool], branchings: &[Branching]) -> Option<(KRule, u32)>
-    ensures { result ≡ unmarked_branch marks.now branchings.now }
+pub fn check_branches(marks: &[bool], branchings: &[Branching]) -> Result<(), Fault>
+    ensures { result_err result ≡ unmarked_branch marks.now branchings.now }
 {
     for branching in branchings {
         if !all_marked(marks, branching.targets.as_slice()) {
-            return Some((KRule::K3, branching.pc));
+            return Err((KRule::K3, branching.pc));
         }
     }
-    None
+    Ok(())
 }
 
 fn row_fits(marks: &[bool], size: usize, row: &Handler) -> bool
@@ -54,14 +57,14 @@ fn row_fits(marks: &[bool], size: usize, row: &Handler) -> bool
 }
 
 /// The first handler row that does not fit: K4 at its number. The code has `size` bytes.
-pub fn handler_fault(marks: &[bool], size: usize, rows: &[Handler]) -> Option<(KRule, u32)>
-    requires { length rows.now ≤ 65535 }
-    ensures { result ≡ unmarked_row marks.now size 0 rows.now }
+pub fn check_handlers(marks: &[bool], size: usize, rows: &[Handler]) -> Result<(), Fault>
+    requires { length rows.now ≤ MOST_COUNTED }
+    ensures { result_err result ≡ unmarked_row marks.now size 0 rows.now }
 {
     for (number, row) in rows.iter().enumerate() {
         if !row_fits(marks, size, row) {
-            return Some((KRule::K4, number as u32));
+            return Err((KRule::K4, number as u32));
         }
     }
-    None
+    Ok(())
 }

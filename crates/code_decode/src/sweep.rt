@@ -7,6 +7,7 @@ use crate::error::CodeError;
 use crate::numbers::behind;
 use crate::opcodes::step;
 use crate::operands::Stop;
+use jvm_types::limits::MOST_CODE_BYTES;
 use jvm_types::{Insn, Rows};
 use std::alloc::Global;
 
@@ -39,7 +40,7 @@ fn visit(
 ) -> Result<usize, CodeError>
     requires so_far { Swept code.now pc 0 swept.old }
     requires here { drop pc code.now ≡ opcode ∷ drop (pc + 1) code.now }
-    requires size { length code.now ≤ 65535 }
+    requires size { length code.now ≤ MOST_CODE_BYTES }
     requires within { pc < length code.now }
     ensures { Advances code.now pc swept.new result }
 {
@@ -77,7 +78,7 @@ fn pass(swept: &mut Sweep, code: &[u8], pc: usize, skip: usize) -> Result<usize,
 
 /// The instructions of the code, of which there are at most 65,535 bytes.
 pub fn sweep_code(alloc: Global, code: &[u8]) -> Result<Sweep, CodeError>
-    requires { length code.now ≤ 65535 }
+    requires { length code.now ≤ MOST_CODE_BYTES }
     ensures { IsSwept code.now result }
 {
     let mut swept = Sweep {

@@ -1,6 +1,7 @@
 ghost use Rattle.std.specs.Prelude.{◌≤◌, length};
 
 use super::*;
+use jvm_types::limits::MOST_COUNTED;
 use jvm_types::{Bytes, Handler, KRule, Rows};
 use std::test::*;
 
@@ -12,7 +13,7 @@ fn is_refused(
     rule: KRule,
     at: u32,
 ) -> Result<bool, Fail>
-    requires { length handlers.now ≤ 65535 }
+    requires { length handlers.now ≤ MOST_COUNTED }
 {
     let bytes = Bytes::from_slice(rt.alloc(), code)?;
     let rows = Rows::from_slice(rt.alloc(), handlers)?;

@@ -1,15 +1,19 @@
 -- A table of numbers by names.
-use Rattle.std.specs.Prelude.{◌≡◌, ℕ, List, Option}
+use Rattle.std.specs.Prelude.{◌≡◌, ℕ, List, Option, map}
 use Rattle.std.specs.Ordering.{nat_cmp}
 use Rattle.std.specs.Cmp.Lexicographic.{slice_cmp}
 use Rattle.std.specs.BTreeMap.{BTreeMap, get_by}
-use Rattle.std.specs.declared.vec.Vec.{Vec}
 use Rattle.jvm_types.specs.ClassNames.{class_number}
+use denote.Ref.{Bor}
 
 -- the number of a name
-abbrev pub find : {A : Type 0} → BTreeMap (Vec ℕ A) ℕ → List ℕ → Option ℕ
-find table name = get_by (λ k. slice_cmp nat_cmp name k.items) table
+abbrev pub find : BTreeMap (Bor (List ℕ)) ℕ → List ℕ → Option ℕ
+find table name = get_by (λ k. slice_cmp nat_cmp name k.now) table
+
+-- names behind references
+abbrev pub names_in : List (Bor (List ℕ)) → List (List ℕ)
+names_in names = map {B = List ℕ} (λ (n : Bor (List ℕ)). n.now) names
 
 -- each class of the files with these names, and each built-in one, has its number
-abbrev pub IsTableOf : {A : Type 0} → List (List ℕ) → BTreeMap (Vec ℕ A) ℕ → Type 0
+abbrev pub IsTableOf : List (List ℕ) → BTreeMap (Bor (List ℕ)) ℕ → Type 0
 IsTableOf names table = (name : List ℕ) → find table name ≡ class_number names name

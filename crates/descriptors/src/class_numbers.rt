@@ -2,9 +2,12 @@
 
 ghost use Rattle.std.specs.Prelude.{◌≡◌, ◌≤◌, length, IfOk};
 ghost use Rattle.jvm_types.specs.ClassNames.{class_number as number_of, named_class};
+ghost use Rattle.descriptors.specs.NameTables.{names_in};
 
 use crate::name_table::{NameTable, put_built_in, put_files};
-use jvm_types::{Bytes, Rows};
+use jvm_types::Rows;
+use jvm_types::class_numbers::SYSTEM_CLASS;
+use jvm_types::limits::MOST_FILES;
 use std::alloc::{AllocError, Global};
 use std::collections::BTreeMap;
 use std::marker::Model;
@@ -12,51 +15,37 @@ use std::marker::Model;
 /// The class that has no objects, and so no number.
 const SYSTEM_NAME: &[u8] = b"java/lang/System";
 
-/// What stands for it where a constant names a class.
-const SYSTEM_CLASS: u16 = 0;
-
 /// The number of each class of a program, by its name. Contracts see it as the names of the classes of
 /// the files, in order.
 #[derive(Drop)]
-pub struct ClassNumbers {
+pub struct ClassNumbers<'a> {
     /// The names of the classes of the files.
-    names: Rows<Bytes>,
+    names: Rows<&'a [u8]>,
     /// The built-in classes too.
-    numbers: NameTable,
+    numbers: NameTable<'a>,
 }
 
-impl Model for ClassNumbers {
+impl<'a> Model for ClassNumbers<'a> {
     ghost use Rattle.std.specs.Prelude.{ℕ, List};
-    ghost use Rattle.descriptors.specs.NameTables.{IsTableOf};
+    ghost use Rattle.descriptors.specs.NameTables.{IsTableOf, names_in};
 
     ghost Value = { List (List ℕ) };
 
-    ghost view = { λ c. c.names };
+    ghost view = { λ c. names_in c.names };
 
-    ghost invariant = { λ c. IsTableOf c.names c.numbers };
+    ghost invariant = { λ c. IsTableOf (names_in c.names) c.numbers };
 }
 
-fn copy_names(alloc: Global, names: &[Bytes]) -> Result<Rows<Bytes>, AllocError>
-    ensures { IfOk result (λ copy. copy ≡ names.now) }
-{
-    let mut copy = Rows::new(alloc);
-    for name in names {
-        copy.push(Bytes::from_slice(alloc, name.as_slice())?)?;
-    }
-    Ok(copy)
-}
-
-impl ClassNumbers {
+impl<'a> ClassNumbers<'a> {
     /// The numbers of the built-in classes, and of the classes of files with these names. Of two files with one
     /// name the first counts.
-    pub fn of(alloc: Global, names: &Rows<Bytes>) -> Result<ClassNumbers, AllocError>
-        requires { length names.now ≤ 64 }
-        ensures { IfOk result (λ c. c ≡ names.now) }
+    pub fn of(alloc: Global, names: Rows<&'a [u8]>) -> Result<Self, AllocError>
+        requires { length names ≤ MOST_FILES }
+        ensures { IfOk result (λ c. c ≡ names_in names.entry) }
     {
         let mut numbers = BTreeMap::new(alloc);
-        put_files(alloc, &mut numbers, names.as_slice())?;
-        put_built_in(alloc, &mut numbers)?;
-        let names = copy_names(alloc, names.as_slice())?;
+        put_files(&mut numbers, names.as_slice())?;
+        put_built_in(&mut numbers)?;
         Ok(ClassNumbers { names, numbers })
     }
 

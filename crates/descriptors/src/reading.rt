@@ -6,11 +6,9 @@ ghost use Rattle.jvm_types.specs.Descriptors.{field_kind as kind_named, method_s
 ghost use Rattle.descriptors.specs.Signatures.{meaning, IsFront, IsCut, IsArgs, ends_args};
 
 use crate::class_numbers::ClassNumbers;
+use jvm_types::class_numbers::INT_ARRAY_CLASS;
 use jvm_types::{Kind, Rows};
 use std::alloc::{AllocError, Global};
-
-/// The class of arrays of int.
-const INT_ARRAY_CLASS: u16 = 2;
 
 /// The types of a method's arguments, without its receiver, and that of its result; `None` stands for V.
 #[derive(Debug, Drop)]
@@ -56,7 +54,7 @@ fn cut_name(text: &[u8]) -> Option<Cut<'_>>
 }
 
 /// The type of a class with this name: `[I` is no class here.
-fn class_kind(classes: &ClassNumbers, name: &[u8]) -> Option<Kind>
+fn class_kind(classes: &ClassNumbers<'_>, name: &[u8]) -> Option<Kind>
     ensures { result ≡ class_kind classes.now name.now }
 {
     if name == b"[I".as_slice() {
@@ -69,7 +67,7 @@ fn class_kind(classes: &ClassNumbers, name: &[u8]) -> Option<Kind>
 }
 
 /// The type that a text begins with behind its `L`.
-fn read_class<'a>(classes: &ClassNumbers, text: &'a [u8]) -> Option<Front<'a>>
+fn read_class<'a>(classes: &ClassNumbers<'_>, text: &'a [u8]) -> Option<Front<'a>>
     ensures { IsFront classes.now (76 ∷ text.now) result }
 {
     match cut_name(text) {
@@ -85,7 +83,7 @@ fn read_class<'a>(classes: &ClassNumbers, text: &'a [u8]) -> Option<Front<'a>>
 }
 
 /// The type that a text begins with.
-fn read_kind<'a>(classes: &ClassNumbers, text: &'a [u8]) -> Option<Front<'a>>
+fn read_kind<'a>(classes: &ClassNumbers<'_>, text: &'a [u8]) -> Option<Front<'a>>
     ensures { IsFront classes.now text.now result }
 {
     match text {
@@ -108,7 +106,7 @@ fn read_kind<'a>(classes: &ClassNumbers, text: &'a [u8]) -> Option<Front<'a>>
 
 /// The type that a field descriptor names (JVMS 4.3.2), or `None` where it names none of this machine's. The text
 /// is read once, and a class in it is looked up once.
-pub fn field_kind(classes: &ClassNumbers, text: &[u8]) -> Option<Kind>
+pub fn field_kind(classes: &ClassNumbers<'_>, text: &[u8]) -> Option<Kind>
     ensures { result ≡ kind_named classes.now text.now }
 {
     match read_kind(classes, text) {
@@ -124,7 +122,7 @@ pub fn field_kind(classes: &ClassNumbers, text: &[u8]) -> Option<Kind>
 }
 
 /// What a return descriptor names: V, or a type.
-fn result_kind(classes: &ClassNumbers, text: &[u8]) -> Option<Option<Kind>>
+fn result_kind(classes: &ClassNumbers<'_>, text: &[u8]) -> Option<Option<Kind>>
     ensures { result ≡ result_kind classes.now text.now }
 {
     if text == b"V".as_slice() {
@@ -149,7 +147,7 @@ fn ends_args(text: &[u8]) -> bool
 /// The types up to the first `)`.
 fn read_args<'a>(
     alloc: Global,
-    classes: &ClassNumbers,
+    classes: &ClassNumbers<'_>,
     text: &'a [u8],
 ) -> Result<Option<Args<'a>>, AllocError>
     ensures { IfOk result (λ found. IsArgs classes.now text.now found) }
@@ -172,7 +170,7 @@ fn read_args<'a>(
 /// once, and each class in it is looked up once.
 pub fn method_signature(
     alloc: Global,
-    classes: &ClassNumbers,
+    classes: &ClassNumbers<'_>,
     text: &[u8],
 ) -> Result<Option<Signature>, AllocError>
     ensures { IfOk result (λ found. option_map meaning found ≡ signature_named classes.now text.now) }

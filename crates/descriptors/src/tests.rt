@@ -1,17 +1,17 @@
 use super::*;
-use jvm_types::{Bytes, Kind, Rows};
+use jvm_types::{Kind, Rows};
 use std::test::*;
 
 /// The numbers of a program of two classes of one name, and a third.
-fn three_files(rt: &HostRuntime) -> Result<Option<ClassNumbers>, Fail> {
+fn three_files(rt: &HostRuntime) -> Result<Option<ClassNumbers<'static>>, Fail> {
     let mut names = Rows::new(rt.alloc());
-    names.push(Bytes::from_slice(rt.alloc(), b"Pair")?)?;
-    names.push(Bytes::from_slice(rt.alloc(), b"Pair")?)?;
-    names.push(Bytes::from_slice(rt.alloc(), b"Other")?)?;
+    names.push(b"Pair".as_slice())?;
+    names.push(b"Pair".as_slice())?;
+    names.push(b"Other".as_slice())?;
     if names.len() > 64 {
         return Ok(None);
     }
-    Ok(Some(ClassNumbers::of(rt.alloc(), &names)?))
+    Ok(Some(ClassNumbers::of(rt.alloc(), names)?))
 }
 
 #[test]

@@ -1,4 +1,2 @@
-pub mod Nameless
 pub mod Files
-pub mod MethodUses
 pub mod FirstRun

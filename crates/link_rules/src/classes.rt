@@ -1,21 +1,23 @@
 //! The first pass: the class of each file (JVMS 4.1, 5.3.5).
 
-ghost use Rattle.std.specs.Prelude.{◌≡◌, ◌≤◌, Some, length, slice_get};
+ghost use Rattle.std.specs.Prelude.{◌≡◌};
+ghost use Rattle.std.specs.Result.{result_err};
 ghost use Rattle.jvm_types.specs.ClassNames.{class_names};
 ghost use Rattle.jvm_types.specs.LinkFaults.{is_outside, class_link_fault, class_pass as first_pass};
 
-use crate::flags::{ABSTRACT, INTERFACE, has_flag};
-use crate::places::{Fault, in_file};
-use crate::texts::{class_name, is_same_text};
-use jvm_types::{ClassFile, LRule};
-use link_scope::Scope;
+use crate::places::Fault;
+use crate::texts::is_same_text;
+use jvm_types::flags::{ABSTRACT, INTERFACE, has_flag};
+use jvm_types::pool_texts::class_text_at;
+use jvm_types::{ClassFile, LRule, in_file};
+use link_scope::{FileScope, Scope};
 
 /// Whether a class is not right below `Object`, implements an interface, or is an interface or abstract.
 fn is_outside(class: &ClassFile) -> bool
     ensures { result ≡ is_outside class.now }
 {
     !is_same_text(
-        class_name(&class.constants, class.super_class),
+        class_text_at(&class.constants, class.super_class),
         b"java/lang/Object",
     ) || class.interfaces.len() > 0
         || has_flag(INTERFACE, class.flags)
@@ -23,32 +25,26 @@ fn is_outside(class: &ClassFile) -> bool
 }
 
 /// The first rule that refuses the class of a file.
-fn class_link_fault(scope: &Scope<'_>, file: usize, class: &ClassFile) -> Option<Fault>
-    requires class { slice_get scope.now file ≡ Some class.now }
-    requires few { length scope.now ≤ 64 }
-    ensures { result ≡ class_link_fault (class_names scope.now) file class.now }
+fn class_fault(file: &FileScope<'_, '_>) -> Result<(), Fault>
+    ensures { result_err result ≡ class_link_fault (class_names file.now.files) file.now.number file.now.class }
 {
-    let rule = if is_outside(class) {
+    let rule = if is_outside(file.class()) {
         LRule::L6
-    } else if scope.takes_name(file) {
+    } else if file.takes_name() {
         LRule::L5
     } else {
-        return None;
+        return Ok(());
     };
-    Some((rule, in_file(file, 0)))
+    Err((rule, in_file(file.number(), 0)))
 }
 
-/// The first refusal of the first pass: L6 and L5 of classes.
-pub fn class_pass(scope: &Scope<'_>) -> Option<Fault>
-    requires { length scope.now ≤ 64 }
-    ensures { result ≡ first_pass scope.now }
+/// The first pass: L6 and L5 of classes.
+pub fn class_pass(scope: &Scope<'_>) -> Result<(), Fault>
+    ensures { result_err result ≡ first_pass scope.now }
 {
     let files = scope.files().as_slice();
-    for (file, class) in files.iter().enumerate() {
-        let fault = class_link_fault(scope, file, class);
-        if fault.is_some() {
-            return fault;
-        }
+    for (number, class) in files.iter().enumerate() {
+        class_fault(&scope.file(number, class))?;
     }
-    None
+    Ok(())
 }

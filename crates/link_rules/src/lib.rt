@@ -1,17 +1,18 @@
 //! What instructions and handler rows name, and the first rule that refuses some files (JVMS 4, 5.3, 5.4).
 #![tactic(auto)]
 
-mod classes;
-mod flags;
+pub mod classes;
 mod member_rules;
-mod members;
-pub mod passes;
-mod places;
-mod roots;
+pub mod members;
+pub mod places;
+pub mod roots;
 pub mod targets;
 mod texts;
-mod uses;
-mod words;
+pub mod words;
 
-pub use passes::find_fault;
+pub use classes::class_pass;
+pub use members::member_pass;
+pub use places::Fault;
+pub use roots::root_pass;
 pub use targets::{catch_class, target_of};
+pub use words::word_pass;

@@ -3,8 +3,8 @@
 ghost use Rattle.std.specs.Prelude.{◌≡◌};
 ghost use Rattle.jvm_types.specs.Members.{is_hidden, initializes, field_rule, fits_call, call_rule};
 
-use crate::flags::{is_final, is_private, is_static};
 use crate::texts::{is_class_init_name, is_init_name};
+use jvm_types::flags::{is_final, is_private, is_static};
 use jvm_types::{Call, LRule, Site};
 use link_scope::Found;
 

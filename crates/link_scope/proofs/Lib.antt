@@ -1,4 +1,5 @@
 pub mod EntryLaws
+pub mod Files
 pub mod KeyLaws
 pub mod ListLaws
 pub mod RowLaws

@@ -1,10 +1,8 @@
 -- Lists by index.
 use Rattle.std.proofs.Common.{◌≡◌, ℕ, zero, suc, ◌+◌, ◌<◌, List, [], ◌∷◌, ◌++◌, length, take, get_or, Option, Some, None, IsSomeAnd, refl, sym, ap, ◌∙◌, subst, arith}
 use Rattle.std.specs.Prelude.{slice_get}
-use Rattle.std.specs.Option.{option_copied}
 use Rattle.std.specs.List.{AllByRecursion}
 use Rattle.std.proofs.lemmas.List.{take_more, length-append}
-use denote.Ref.{Bor}
 
 module _ {X : Type 0} where
   pub some_same : {x y : X} → Some x ≡ Some y → x ≡ y
@@ -33,13 +31,6 @@ module _ {X : Type 0} where
 
   pub some_and_before : (xs ys : List X) (i : ℕ) (P : X → Type 0) → IsSomeAnd (slice_get xs i) P → IsSomeAnd (slice_get (xs ++ ys) i) P
   some_and_before xs ys i P p = let a : (x : X) × (slice_get xs i ≡ Some x) × P x = and_some (slice_get xs i) P p in some_and (slice_get (xs ++ ys) i) P a.0 (got_before xs ys i a.0 a.1) a.2
-
--- what is known of an item, behind the reference that a look-up answers
-pub through : {X : Type 0} (r : Option (Bor X)) (o : Option X) (P : X → Type 0) → option_copied r ≡ o → IsSomeAnd o P → IsSomeAnd r (λ x. P x.now)
-through None None P e p = p
-through None (Some x) P e p = absurd cc
-through (Some r) None P e p = absurd p
-through (Some r) (Some x) P e p = subst P (some_same (sym e)) p
 
 module _ {X : Type 0} where
   -- what stands elsewhere than at the end stood there before

@@ -1,9 +1,8 @@
--- The classes of the tests keep the class grammar.
-use Rattle.std.proofs.Common.{◌≡◌, ℕ, ◌<◌, ◌^◌, Bool, true, ◌&&◌, ltb, List, [], ◌∷◌, codes, lit<, lit≤, refl}
+-- The class of the tests keeps the class grammar.
+use Rattle.std.proofs.Common.{◌≡◌, ℕ, Bool, true, ◌&&◌, ltb, List, [], ◌∷◌, codes, lit<, lit≤, refl}
 use Rattle.std.specs.List.{AllByRecursion, list_all}
 use Rattle.std.proofs.lemmas.Bool.{and_parts, ltb-true}
 use Rattle.jvm_types.specs.ClassGrammar.{IsClass, IsPool, IsUtf8Byte, IsField, IsMethod}
-use Rattle.jvm_types.specs.Pool.{NamesClass}
 use Rattle.link_scope.specs.TestClasses.{test_pool, test_field, test_method, test_class}
 
 abbrev is_utf8_byte : ℕ → Bool
@@ -19,39 +18,15 @@ bytes (b ∷ text) e =
 is_pool : IsPool test_pool
 is_pool = record {
   count = lit< tt;
-  gaps = (refl, (refl, (refl, (refl, (refl, (refl, (refl, (refl, (refl, (refl, (refl, (refl, (refl, refl)))))))))))));
-  fields = (
-    tt,
-    (
-      (lit< tt, bytes (codes "A") refl),
-      (
-        lit< tt,
-        (
-          (lit< tt, bytes (codes "B") refl),
-          (
-            lit< tt,
-            (
-              (lit< tt, bytes (codes "x") refl),
-              (
-                (lit< tt, bytes (codes "I") refl),
-                (
-                  (lit< tt, bytes (codes "m") refl),
-                  ((lit< tt, bytes (codes "()V") refl), ((lit< tt, bytes (codes "Code") refl), ((lit< tt, bytes (codes "notify") refl), ((lit< tt, bytes (codes "<init>") refl), ((lit< tt, bytes (codes "java/lang/System") refl), tt))))),
-                ),
-              ),
-            ),
-          ),
-        ),
-      ),
-    ),
-  );
-  indices = (tt, (tt, ((codes "A", refl), (tt, ((codes "B", refl), (tt, (tt, (tt, (tt, (tt, (tt, (tt, (tt, tt)))))))))))));
+  gaps = (refl, (refl, (refl, (refl, (refl, (refl, refl))))));
+  fields = (tt, ((lit< tt, bytes (codes "A") refl), (lit< tt, ((lit< tt, bytes (codes "I") refl), ((lit< tt, bytes (codes "()V") refl), ((lit< tt, bytes (codes "Code") refl), tt))))));
+  indices = (tt, (tt, ((codes "A", refl), (tt, (tt, (tt, tt))))));
 }
 
 is_field : IsField test_pool test_field
 is_field = record {
   flags = lit< tt;
-  name = record { number = lit< tt; names = (codes "x", refl) };
+  name = record { number = lit< tt; names = (codes "A", refl) };
   descriptor = record { number = lit< tt; names = (codes "I", refl) };
   attrs = record { count = lit< tt; each = tt };
 }
@@ -60,7 +35,7 @@ is_method : IsMethod test_pool test_method
 is_method = record {
   member = record {
     flags = lit< tt;
-    name = record { number = lit< tt; names = (codes "m", refl) };
+    name = record { number = lit< tt; names = (codes "A", refl) };
     descriptor = record { number = lit< tt; names = (codes "()V", refl) };
     attrs = record {
       count = lit< tt;
@@ -82,18 +57,18 @@ is_method = record {
   body = record { one = refl; not_native = refl; not_abstract = refl };
 }
 
-pub is_class : (this_class : ℕ) → this_class < 2 ^ 16 → NamesClass test_pool this_class → IsClass (test_class this_class)
-is_class this_class l names = record {
+pub is_class : IsClass test_class
+is_class = record {
   short = lit≤ tt;
   minor = lit< tt;
   from_45 = lit≤ tt;
   to_50 = lit≤ tt;
   pool = is_pool;
   flags = lit< tt;
-  this_class = record { number = l; names = names };
+  this_class = record { number = lit< tt; names = (1, refl) };
   super_class = record { number = lit< tt; names = (1, refl) };
   interfaces = record { count = lit< tt; each = tt };
-  fields = record { count = lit< tt; each = (is_field, (is_field, tt)) };
+  fields = record { count = lit< tt; each = (is_field, tt) };
   methods = record { count = lit< tt; each = (is_method, tt) };
   attrs = record { count = lit< tt; each = tt };
 }

@@ -1,5 +1,5 @@
 -- Members by the numbers of their names and descriptors.
-use Rattle.std.specs.Prelude.{◌≡◌, ℕ, ◌<◌, Bool, false, List, [], ◌++◌, Option, None, slice_get, if◌then◌else◌}
+use Rattle.std.specs.Prelude.{◌≡◌, ℕ, ◌<◌, Bool, false, List, [], ◌++◌, Option, Some, None, slice_get, if◌then◌else◌}
 use Rattle.std.specs.Option.{unwrap_or, option_or}
 use Rattle.jvm_types.specs.ClassTree.{object_class}
 use Rattle.std.specs.List.{AllByRecursion}
@@ -10,7 +10,7 @@ use Rattle.jvm_types.specs.declared.class_file.Member.{Member as ClassMember}
 use Rattle.jvm_types.specs.declared.class_file.ClassFile.{ClassFile}
 use Rattle.jvm_types.specs.declared.program.Target.{Target}
 use Rattle.jvm_types.specs.declared.program.Target.TheVariants as targets
-use Rattle.link_scope.specs.Scoping.{IsFound, repeats, repeats_field, repeats_method}
+use Rattle.link_scope.specs.Scoping.{IsFound, AreFiles, repeats}
 use Rattle.link_scope.specs.TextNumbers.{IsNumbered}
 use Rattle.link_scope.specs.Keys.{found_at}
 use Rattle.link_scope.specs.declared.table.Key.{Key}
@@ -37,9 +37,10 @@ built_in Methods = built_in_methods
 abbrev pub entries_of : Sort → List ClassFile → List Entry
 entries_of sort files = built_in sort ++ entries_from (target_of sort) 0 (declared_by (members_of sort) 0 files)
 
+-- whether the member of this number of a file has the name and the descriptor of one before it in its class
 abbrev pub repeats_of : Sort → Option ClassFile → ℕ → Bool
-repeats_of Fields = repeats_field
-repeats_of Methods = repeats_method
+repeats_of sort None number = false
+repeats_of sort (Some c) number = repeats c.constants (members_of sort c) number (slice_get (members_of sort c) number)
 
 -- ---- tables
 
@@ -90,7 +91,8 @@ pub record AreMembers (sort : Sort) (files : List ClassFile) (numbers : List (Li
 abbrev pub found_in : List (Key × Found) → Key → Bool → Option Found
 found_in table key is_init = option_or (found_at table key) (if is_init then None else found_at table (record key { class = object_class }))
 
--- the fields and the methods of the files stand in their tables
+-- the files are classes, and their fields and methods stand in their tables
 pub record AreScoped (files : List ClassFile) (numbers : List (List ℕ × ℕ)) (field_table method_table : Members) : Type 0 where
+  pub are_files : AreFiles files
   pub fields : AreMembers Fields files numbers field_table
   pub methods : AreMembers Methods files numbers method_table

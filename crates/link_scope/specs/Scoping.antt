@@ -1,8 +1,11 @@
 -- What the calls of a scope answer, in terms of the files that it is made of.
-use Rattle.std.specs.Prelude.{◌≡◌, ℕ, Bool, false, List, [], take, Option, Some, None, slice_get}
+use Rattle.std.specs.Prelude.{◌≡◌, ℕ, ◌<◌, ◌≤◌, Bool, false, List, [], length, take, Option, Some, None, slice_get}
+use Rattle.std.specs.List.{AllByRecursion}
+use Rattle.jvm_types.specs.ClassGrammar.{IsClass}
 use Rattle.jvm_types.specs.ClassNames.{text_at, class_name, class_names}
 use Rattle.jvm_types.specs.Members.{Entry}
 use Rattle.jvm_types.specs.LinkFaults.{is_repeated, is_taken}
+use Rattle.jvm_types.specs.ProgramInvariant.{most_files}
 use Rattle.jvm_types.specs.declared.class_file.Constant.{Constant}
 use Rattle.jvm_types.specs.declared.class_file.Member.{Member as ClassMember}
 use Rattle.jvm_types.specs.declared.class_file.ClassFile.{ClassFile}
@@ -26,18 +29,26 @@ IsFound name None None = Unit {0}
 IsFound name (Some f) (Some e) = (f.class ≡ e.class) × (f.flags ≡ e.flags) × (f.target ≡ e.target) × (e.name ≡ name)
 IsFound name found entry = ⊥
 
+-- at most 64 classes
+pub record AreFiles (files : List ClassFile) : Type 0 where
+  pub few : length files ≤ most_files
+  pub classes : AllByRecursion IsClass files
+
+-- one of some files: its number and its class
+pub record FileOf : Type 0 where
+  pub files : List ClassFile
+  pub number : ℕ
+  pub class : ClassFile
+
+pub record IsFileOf (f : FileOf) : Type 0 where
+  pub number : f.number < most_files
+  pub here : slice_get f.files f.number ≡ Some f.class
+  pub class : IsClass f.class
+
 -- whether the field, or the method, of this number in its class has the name and the descriptor of one before it
 abbrev pub repeats : List Constant → List ClassMember → ℕ → Option ClassMember → Bool
 repeats pool members number None = false
 repeats pool members number (Some m) = is_repeated pool (take number members) m
-
-abbrev pub repeats_field : Option ClassFile → ℕ → Bool
-repeats_field None number = false
-repeats_field (Some c) number = repeats c.constants c.fields number (slice_get c.fields number)
-
-abbrev pub repeats_method : Option ClassFile → ℕ → Bool
-repeats_method None number = false
-repeats_method (Some c) number = repeats c.constants c.methods number (slice_get c.methods number)
 
 -- whether the name of a file's class is that of an earlier file or of a built-in class
 abbrev pub takes_name : List ClassFile → ℕ → Option ClassFile → Bool

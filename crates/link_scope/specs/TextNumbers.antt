@@ -1,10 +1,8 @@
 -- Texts by numbers: equal texts have one number, and what a text means is known by its number.
-use Rattle.std.specs.Prelude.{◌≡◌, ℕ, bytes_eq, List, [], map, Option, Some, IsSomeAnd, slice_get}
-use Rattle.std.specs.Option.{option_map}
+use Rattle.std.specs.Prelude.{◌≡◌, ℕ, bytes_eq, List, [], map, Option, Some, is_some, IsSomeAnd, slice_get}
 use Rattle.std.specs.Map.{lookup}
 use Rattle.jvm_types.specs.ClassNames.{class_number, named_class}
 use Rattle.jvm_types.specs.Descriptors.{field_kind, method_signature}
-use Rattle.descriptors.specs.Signatures.{meaning}
 use Rattle.link_scope.specs.declared.texts.Meaning.{Meaning}
 use denote.Ref.{Bor}
 
@@ -29,7 +27,7 @@ pub record IsMeaning (names : List (List ℕ)) (text : List ℕ) (m : Meaning) :
   pub class : m.class ≡ class_number names text
   pub named : m.named ≡ named_class names text
   pub kind : m.kind ≡ field_kind names text
-  pub signature : option_map meaning m.signature ≡ method_signature names text
+  pub is_method : m.is_method ≡ is_some (method_signature names text)
 
 -- numbered texts, by the names of the classes that they may name
 pub record Numbered : Type 0 where

@@ -9,28 +9,14 @@ use crate::file_texts::FileTexts;
 use crate::scope::Found;
 use crate::table::{Key, Table};
 use jvm_types::Target;
+use jvm_types::class_numbers::{
+    CLASS_ITSELF, OBJECT_CLASS, PRINT_STREAM_CLASS, SYSTEM_CLASS, THROWABLE_CLASS,
+};
+use jvm_types::flags::{FINAL, PUBLIC, STATIC};
 use std::alloc::AllocError;
 
-/// What stands for `java/lang/System`, which has no number.
-const SYSTEM: u16 = 0;
-
-/// The number of `java/lang/Object`.
-pub const OBJECT: u16 = 1;
-
-/// The number of `java/io/PrintStream`.
-const PRINT_STREAM: u16 = 3;
-
-/// The throwables have the numbers from this one on.
-const FIRST_THROWABLE: u16 = 4;
-
-/// The first number behind those of the throwables.
-const BEHIND_THROWABLES: u16 = 16;
-
 /// PUBLIC, STATIC and FINAL (JVMS 4.5).
-const CONSTANT_FLAGS: u16 = 25;
-
-/// PUBLIC (JVMS 4.6).
-const PUBLIC: u16 = 1;
+const CONSTANT_FLAGS: u16 = PUBLIC | STATIC | FINAL;
 
 /// A field or method of a built-in class.
 #[derive(Drop)]
@@ -96,7 +82,7 @@ pub fn add_fields(table: &mut Table, texts: &FileTexts) -> Result<(), AllocError
     ensures { OnOk result (Adds texts.now.numbers table.old table.new built_in_fields) }
 {
     let out = BuiltIn {
-        class: SYSTEM,
+        class: SYSTEM_CLASS,
         name: b"out",
         descriptor: b"Ljava/io/PrintStream;",
         flags: CONSTANT_FLAGS,
@@ -109,26 +95,26 @@ pub fn add_fields(table: &mut Table, texts: &FileTexts) -> Result<(), AllocError
 fn add_first_methods(table: &mut Table, texts: &FileTexts) -> Result<(), AllocError>
     ensures { OnOk result (Adds texts.now.numbers table.old table.new first_methods) }
 {
-    add(table, texts, &init_of(OBJECT))?;
+    add(table, texts, &init_of(OBJECT_CLASS))?;
     add(
         table,
         texts,
-        &public_method(OBJECT, b"wait", b"()V", Target::Wait),
+        &public_method(OBJECT_CLASS, b"wait", b"()V", Target::Wait),
     )?;
     add(
         table,
         texts,
-        &public_method(OBJECT, b"notify", b"()V", Target::Notify),
+        &public_method(OBJECT_CLASS, b"notify", b"()V", Target::Notify),
     )?;
     add(
         table,
         texts,
-        &public_method(OBJECT, b"notifyAll", b"()V", Target::NotifyAll),
+        &public_method(OBJECT_CLASS, b"notifyAll", b"()V", Target::NotifyAll),
     )?;
     add(
         table,
         texts,
-        &public_method(PRINT_STREAM, b"println", b"(I)V", Target::Println),
+        &public_method(PRINT_STREAM_CLASS, b"println", b"(I)V", Target::Println),
     )?;
     Ok(())
 }
@@ -138,7 +124,7 @@ pub fn add_methods(table: &mut Table, texts: &FileTexts) -> Result<(), AllocErro
     ensures { OnOk result (Adds texts.now.numbers table.old table.new built_in_methods) }
 {
     add_first_methods(table, texts)?;
-    for class in FIRST_THROWABLE..BEHIND_THROWABLES {
+    for class in THROWABLE_CLASS..CLASS_ITSELF {
         add(table, texts, &init_of(class))?;
     }
     Ok(())

@@ -1,23 +1,23 @@
 //! The texts of the constant pools of some files, by numbers.
 
 ghost use Rattle.std.specs.Prelude.{◌≡◌, ℕ, ◌+◌, ◌*◌, ◌<◌, ◌≤◌, ◌^◌, [], length, slice_get, IfOk, OnOk, IsSomeAnd};
-ghost use Rattle.std.specs.List.{AllByRecursion};
-ghost use Rattle.jvm_types.specs.ClassGrammar.{IsClass};
-ghost use Rattle.jvm_types.specs.ClassNames.{class_names as names_of};
+ghost use Rattle.std.specs.Option.{option_map};
+ghost use Rattle.jvm_types.specs.ClassNames.{class_names};
+ghost use Rattle.jvm_types.specs.Descriptors.{method_signature};
+ghost use Rattle.descriptors.specs.Signatures.{meaning};
 ghost use Rattle.link_scope.specs.TextNumbers.{number_of, IsNumbered, AreApart, Keeps, IsMeaning};
 ghost use Rattle.jvm_types.specs.Members.{is_init_name};
-ghost use Rattle.link_scope.specs.Scoping.{file_text, takes_name};
+ghost use Rattle.link_scope.specs.Scoping.{file_text, takes_name, AreFiles};
 ghost use Rattle.link_scope.specs.FileTexts.{IsRow, AreRows, is_before};
 
-use crate::pool_texts::{class_name, class_names, text_of};
+use crate::names::names_of;
 use crate::texts::{EMPTY, Meaning, Texts};
-use descriptors::ClassNumbers;
+use descriptors::{ClassNumbers, Signature};
+use jvm_types::class_numbers::FIRST_FILE_CLASS;
+use jvm_types::pool_texts::{class_name, text_of};
 use jvm_types::{ClassFile, Constant, Rows};
 use std::alloc::{AllocError, Global};
 use std::marker::Model;
-
-/// The number of the class of the first file.
-pub const FIRST_FILE_CLASS: u16 = 17;
 
 /// Some files, with the number of each text of their pools. Contracts see the files and the numbers.
 #[derive(Drop)]
@@ -66,8 +66,7 @@ fn number_files<'a>(
     texts: &mut Texts<'a>,
     files: &'a Rows<ClassFile>,
 ) -> Result<Rows<Rows<u32>>, AllocError>
-    requires few { length files.now ≤ 64 }
-    requires classes { AllByRecursion IsClass files.now }
+    requires files { AreFiles files.now }
     requires fits { texts.old.count ≤ 1 }
     requires empty { IsNumbered texts.old.numbers [] EMPTY }
     ensures rows { IfOk result (AreRows texts.new.numbers files.now) }
@@ -83,11 +82,10 @@ fn number_files<'a>(
 impl<'a> FileTexts<'a> {
     /// Gives each text of the files a number.
     pub fn of(alloc: Global, files: &'a Rows<ClassFile>) -> Result<Self, AllocError>
-        requires few { length files.now ≤ 64 }
-        requires classes { AllByRecursion IsClass files.now }
+        requires { AreFiles files.now }
         ensures { IfOk result (λ t. t.files ≡ files.now) }
     {
-        let classes = ClassNumbers::of(alloc, &class_names(alloc, files)?)?;
+        let classes = ClassNumbers::of(alloc, names_of(alloc, files)?)?;
         let mut texts = Texts::new(alloc, classes)?;
         let rows = number_files(alloc, &mut texts, files)?;
         let init = texts.number(b"<init>");
@@ -133,10 +131,17 @@ impl<'a> FileTexts<'a> {
     }
 
     /// What the text at an index of the pool of a file says.
-    pub fn meaning(&self, file: usize, index: u16) -> Option<&Meaning>
-        ensures { IsSomeAnd result (λ m. IsMeaning (names_of self.now.files) (file_text self.now.files file index) m.now) }
+    pub fn meaning(&self, file: usize, index: u16) -> Option<Meaning>
+        ensures { IsSomeAnd result (IsMeaning (class_names self.now.files) (file_text self.now.files file index)) }
     {
         self.texts.meaning(self.number(file, index))
+    }
+
+    /// What a text says as a method descriptor, read anew.
+    pub fn signature(&self, alloc: Global, text: &[u8]) -> Result<Option<Signature>, AllocError>
+        ensures { IfOk result (λ found. option_map meaning found ≡ method_signature (class_names self.now.files) text.now) }
+    {
+        self.texts.signature(alloc, text)
     }
 
     /// Whether the class of a file has the name of an earlier file's or of a built-in class.

@@ -2,13 +2,15 @@
 #![tactic(auto)]
 
 mod built_in;
+pub mod file_scope;
 mod file_texts;
 mod members;
-mod pool_texts;
+mod names;
 pub mod scope;
 mod table;
 mod texts;
 
+pub use file_scope::FileScope;
 pub use scope::{Found, Scope};
 
 #[cfg(test)]

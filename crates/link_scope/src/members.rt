@@ -1,17 +1,17 @@
 //! The fields or the methods of some files and the built-in ones, by the numbers of their names.
 
-ghost use Rattle.std.specs.Prelude.{◌≡◌, ◌+◌, ◌<◌, ◌≤◌, ◌^◌, List, [], ◌∷◌, length, is_some, slice_get, Some, IfOk, OnOk};
-ghost use Rattle.std.specs.List.{AllByRecursion};
-ghost use Rattle.jvm_types.specs.ClassGrammar.{IsClass};
+ghost use Rattle.std.specs.Prelude.{◌≡◌, ◌+◌, ◌<◌, ◌^◌, List, [], ◌∷◌, length, is_some, slice_get, Some, IfOk, OnOk};
 ghost use Rattle.jvm_types.specs.ClassNames.{file_class as class_of_file};
 ghost use Rattle.jvm_types.specs.Members.{Entry, member_in};
-ghost use Rattle.link_scope.specs.Scoping.{file_text, pool_at};
+ghost use Rattle.link_scope.specs.Scoping.{file_text, pool_at, AreFiles};
 ghost use Rattle.link_scope.specs.MemberTables.{members_of, target_of, built_in, Shows, Adds, AreRepeats, member_entry, class_entries, AreBelow, AreMembers, found_in, in_flag_rows};
 
-use crate::built_in::{self, OBJECT};
-use crate::file_texts::{FIRST_FILE_CLASS, FileTexts};
+use crate::built_in;
+use crate::file_texts::FileTexts;
 use crate::scope::Found;
 use crate::table::{Key, Table};
+use jvm_types::class_numbers::{FIRST_FILE_CLASS, OBJECT_CLASS};
+use jvm_types::limits::MOST_FILES;
 use jvm_types::{ClassFile, Member, Rows, Target};
 use std::alloc::{AllocError, Global};
 
@@ -71,16 +71,17 @@ fn add_member(
     member: &Member,
     target: Target,
 ) -> Result<bool, AllocError>
-    requires { file < 64 }
+    requires { file < MOST_FILES }
     ensures added { OnOk result (Adds texts.now.numbers table.old table.new (member_entry (pool_at texts.now.files file) file member.now target ∷ [])) }
     ensures had { IfOk result (λ had. (entries : List Entry) → Shows texts.now.numbers entries table.old
         → had ≡ is_some (member_in entries (class_of_file file) (file_text texts.now.files file member.now.name) (file_text texts.now.files file member.now.descriptor))) }
 {
+    let at = usize::from(file);
     let class = FIRST_FILE_CLASS + file;
     let key = Key {
         class,
-        name: texts.number(usize::from(file), member.name),
-        descriptor: texts.number(usize::from(file), member.descriptor),
+        name: texts.number(at, member.name),
+        descriptor: texts.number(at, member.descriptor),
     };
     let found = Found {
         class,
@@ -103,7 +104,7 @@ fn add_members(
     first: u32,
 ) -> Result<Rows<bool>, AllocError>
     requires file { slice_get texts.now.files file ≡ Some class.now }
-    requires few { file < 64 }
+    requires few { file < MOST_FILES }
     requires fits { first + length (members_of sort class.now) < 2 ^ 32 }
     ensures added { OnOk result (Adds texts.now.numbers table.old table.new (class_entries sort file class.now first)) }
     ensures repeats { IfOk result (λ flags. (entries : List Entry) → Shows texts.now.numbers entries table.old → AreBelow (class_of_file file) entries
@@ -122,8 +123,7 @@ fn add_members(
 impl Members {
     /// The members of the files and of the built-in classes.
     pub fn of(alloc: Global, texts: &FileTexts, sort: Sort) -> Result<Self, AllocError>
-        requires few { length texts.now.files ≤ 64 }
-        requires classes { AllByRecursion IsClass texts.now.files }
+        requires { AreFiles texts.now.files }
         ensures { IfOk result (AreMembers sort texts.now.files texts.now.numbers) }
     {
         let mut table = Table::new(alloc);
@@ -146,7 +146,7 @@ impl Members {
             Some(found) => Some(found),
             None if is_init => None,
             None => self.table.get(Key {
-                class: OBJECT,
+                class: OBJECT_CLASS,
                 ..key
             }),
         }

@@ -1,44 +1,27 @@
-ghost use Rattle.std.specs.Prelude.{◌≡◌, ◌++◌, ◌∷◌, [], length, IfOk, OnOk};
-ghost use Rattle.std.specs.List.{AllByRecursion};
-ghost use Rattle.jvm_types.specs.ClassGrammar.{IsClass};
+ghost use Rattle.std.specs.Prelude.{◌≡◌, ◌∷◌, [], IfOk};
 ghost use Rattle.jvm_types.specs.declared.class_file.Constant.TheVariants.{Utf8};
-ghost use Rattle.link_scope.specs.TestClasses.{test_pool as test_constants, test_field, test_method, test_class as class_with};
+ghost use Rattle.link_scope.specs.TestClasses.{test_pool as test_constants, test_field, test_method, test_class as class_a};
 
 use super::*;
 use jvm_types::{Bytes, ClassFile, Code, Constant, Kind, Member, MemberAttr, Rows, Target};
 use std::alloc::{AllocError, Global};
 use std::test::*;
 
-/// Indices of the pool of the test classes.
+/// Indices of the pool of the class of the tests.
 const A: u16 = 1;
 
 const CLASS_A: u16 = 2;
 
-const B: u16 = 3;
+const INT: u16 = 3;
 
-const CLASS_B: u16 = 4;
+const NOTHING: u16 = 4;
 
-const X: u16 = 5;
+const CODE: u16 = 5;
 
-const INT: u16 = 6;
-
-const M: u16 = 7;
-
-const NOTHING: u16 = 8;
-
-const CODE: u16 = 9;
-
-const NOTIFY: u16 = 10;
-
-const INIT: u16 = 11;
-
-const SYSTEM: u16 = 12;
-
-fn add_text(alloc: Global, pool: &mut Rows<Constant>, text: &[u8]) -> Result<(), AllocError>
-    ensures { OnOk result (pool.new ≡ pool.old ++ Utf8 text.now ∷ []) }
+fn text(alloc: Global, text: &[u8]) -> Result<Constant, AllocError>
+    ensures { IfOk result (λ c. c ≡ Utf8 text.now) }
 {
-    pool.push(Constant::Utf8(Bytes::from_slice(alloc, text)?))?;
-    Ok(())
+    Ok(Constant::Utf8(Bytes::from_slice(alloc, text)?))
 }
 
 fn test_pool(alloc: Global) -> Result<Rows<Constant>, AllocError>
@@ -46,68 +29,72 @@ fn test_pool(alloc: Global) -> Result<Rows<Constant>, AllocError>
 {
     let mut pool = Rows::new(alloc);
     pool.push(Constant::Gap)?;
-    add_text(alloc, &mut pool, b"A")?;
+    pool.push(text(alloc, b"A")?)?;
     pool.push(Constant::Class(A))?;
-    add_text(alloc, &mut pool, b"B")?;
-    pool.push(Constant::Class(B))?;
-    add_text(alloc, &mut pool, b"x")?;
-    add_text(alloc, &mut pool, b"I")?;
-    add_text(alloc, &mut pool, b"m")?;
-    add_text(alloc, &mut pool, b"()V")?;
-    add_text(alloc, &mut pool, b"Code")?;
-    add_text(alloc, &mut pool, b"notify")?;
-    add_text(alloc, &mut pool, b"<init>")?;
-    add_text(alloc, &mut pool, b"java/lang/System")?;
+    pool.push(text(alloc, b"I")?)?;
+    pool.push(text(alloc, b"()V")?)?;
+    pool.push(text(alloc, b"Code")?)?;
     Ok(pool)
 }
 
-fn field_x(alloc: Global) -> Member
+fn field(alloc: Global) -> Member
     ensures { result ≡ test_field }
 {
     Member {
         flags: 0,
-        name: X,
+        name: A,
         descriptor: INT,
         attrs: Rows::new(alloc),
     }
 }
 
-fn method_m(alloc: Global) -> Result<Member, AllocError>
-    ensures { IfOk result (λ m. m ≡ test_method) }
+fn no_code(alloc: Global) -> Code
+    ensures { result ≡ record { max_stack = 0; max_locals = 0; bytes = []; rows = []; attrs = []; name = 5 } }
 {
-    let code = Code {
+    Code {
         max_stack: 0,
         max_locals: 0,
         bytes: Rows::new(alloc),
         rows: Rows::new(alloc),
         attrs: Rows::new(alloc),
         name: CODE,
-    };
+    }
+}
+
+fn method(alloc: Global) -> Result<Member, AllocError>
+    ensures { IfOk result (λ m. m ≡ test_method) }
+{
     let mut attrs = Rows::new(alloc);
-    attrs.push(MemberAttr::Code(code))?;
+    attrs.push(MemberAttr::Code(no_code(alloc)))?;
     Ok(Member {
         flags: 0,
-        name: M,
+        name: A,
         descriptor: NOTHING,
         attrs,
     })
 }
 
-/// The class A or B, with two fields `x` of type I and a method `m()V`.
-fn test_class(alloc: Global, this_class: u16) -> Result<ClassFile, AllocError>
-    ensures { IfOk result (λ c. c ≡ class_with this_class) }
+fn only(alloc: Global, member: Member) -> Result<Rows<Member>, AllocError>
+    ensures { IfOk result (λ members. members ≡ member ∷ []) }
 {
-    let mut fields = Rows::new(alloc);
-    fields.push(field_x(alloc))?;
-    fields.push(field_x(alloc))?;
-    let mut methods = Rows::new(alloc);
-    methods.push(method_m(alloc)?)?;
+    let mut members = Rows::new(alloc);
+    members.push(member)?;
+    Ok(members)
+}
+
+/// The class A, with a field of type I and a method `()V`, which are named A too.
+fn test_class(alloc: Global) -> Result<ClassFile, AllocError>
+    ensures { IfOk result (λ c. c ≡ class_a) }
+{
+    let constants = test_pool(alloc)?;
+    let fields = only(alloc, field(alloc))?;
+    let methods = only(alloc, method(alloc)?)?;
     Ok(ClassFile {
         minor: 0,
         major: 50,
-        constants: test_pool(alloc)?,
+        constants,
         flags: 0,
-        this_class,
+        this_class: CLASS_A,
         super_class: CLASS_A,
         interfaces: Rows::new(alloc),
         fields,
@@ -116,70 +103,47 @@ fn test_class(alloc: Global, this_class: u16) -> Result<ClassFile, AllocError>
     })
 }
 
-/// The classes A, B and A.
+/// The same class twice.
 fn test_files(alloc: Global) -> Result<Rows<ClassFile>, AllocError>
-    ensures few { IfOk result (λ files. length files ≡ 3) }
-    ensures classes { IfOk result (AllByRecursion IsClass) }
+    ensures { IfOk result (λ files. files ≡ class_a ∷ class_a ∷ []) }
 {
     let mut files = Rows::new(alloc);
-    files.push(test_class(alloc, CLASS_A)?)?;
-    files.push(test_class(alloc, CLASS_B)?)?;
-    files.push(test_class(alloc, CLASS_A)?)?;
+    files.push(test_class(alloc)?)?;
+    files.push(test_class(alloc)?)?;
     Ok(files)
 }
 
-#[test]
-fn names_classes_and_types(rt: HostRuntime) -> Result<(), Fail> {
-    let files = test_files(rt.alloc())?;
-    let scope = Scope::of(rt.alloc(), &files)?;
-    assert_eq!(rt; scope.files().len(), 3);
-    assert_eq!(rt; scope.class_number(1, A), Some(17));
-    assert_eq!(rt; scope.class_number(0, B), Some(18));
-    assert_eq!(rt; scope.class_number(0, SYSTEM), None);
-    assert_eq!(rt; scope.named_class(0, SYSTEM), Some(0));
-    assert_eq!(rt; scope.field_kind(0, INT), Some(Kind::Int));
-    assert_eq!(rt; scope.field_kind(0, NOTHING), None);
-    match scope.signature(0, NOTHING) {
-        Some(signature) => assert!(rt; signature.args.is_empty() && signature.result == None),
-        None => assert!(rt; false),
-    }
-    Ok(())
-}
-
-#[test]
-fn finds_members(rt: HostRuntime) -> Result<(), Fail> {
-    let files = test_files(rt.alloc())?;
-    let scope = Scope::of(rt.alloc(), &files)?;
-    let x = Found {
+/// Whether the names of the second file name what they should.
+fn names_are_found(file: &FileScope<'_, '_>) -> bool {
+    let field = Found {
         class: 18,
         flags: 0,
-        target: Target::Field(2),
+        target: Target::Field(1),
     };
-    let m = Found {
+    let method = Found {
         class: 18,
         flags: 0,
         target: Target::Method(1),
     };
-    let notify = Found {
-        class: 1,
-        flags: 1,
-        target: Target::Notify,
-    };
-    assert_eq!(rt; scope.find_field(0, 18, X, INT), Some(x));
-    assert_eq!(rt; scope.find_method(0, 18, M, NOTHING), Some(m));
-    assert_eq!(rt; scope.find_method(0, 18, NOTIFY, NOTHING), Some(notify));
-    assert_eq!(rt; scope.find_method(0, 18, INIT, NOTHING), None);
-    Ok(())
+    file.class_number(A) == Some(17)
+        && file.field_kind(INT) == Some(Kind::Int)
+        && file.find_field(18, A, INT) == Some(field)
+        && file.find_method(18, A, NOTHING) == Some(method)
+        && file.takes_name()
+        && !file.repeats_method(0)
 }
 
 #[test]
-fn tells_what_is_taken(rt: HostRuntime) -> Result<(), Fail> {
+fn names_the_members_of_files(rt: HostRuntime) -> Result<(), Fail> {
     let files = test_files(rt.alloc())?;
     let scope = Scope::of(rt.alloc(), &files)?;
-    assert!(rt; !scope.repeats_field(1, 0));
-    assert!(rt; scope.repeats_field(1, 1));
-    assert!(rt; !scope.repeats_method(1, 0));
-    assert!(rt; !scope.takes_name(1));
-    assert!(rt; scope.takes_name(2));
+    match files.get(1) {
+        Some(class) => {
+            let file = scope.file(1, class);
+            assert!(rt; names_are_found(&file));
+            assert!(rt; file.signature(rt.alloc(), NOTHING)?.is_some());
+        }
+        None => assert!(rt; false),
+    }
     Ok(())
 }

@@ -1,7 +1,10 @@
 //! Texts by numbers, with what each means, so that a text is compared and read once, however many constants name it.
 
 ghost use Rattle.std.specs.Prelude.{◌≡◌, ℕ, ◌≤◌, ◌<◌, ◌+◌, ◌^◌, List, [], None, IfOk, OnOk, IsSomeAnd};
+ghost use Rattle.std.specs.Option.{option_map};
 ghost use Rattle.jvm_types.specs.ClassNames.{named_class};
+ghost use Rattle.jvm_types.specs.Descriptors.{method_signature as signature_named};
+ghost use Rattle.descriptors.specs.Signatures.{meaning};
 ghost use Rattle.link_scope.specs.TextNumbers.{IsMeaning};
 
 use descriptors::{ClassNumbers, Signature, field_kind, method_signature};
@@ -13,22 +16,22 @@ use std::marker::Model;
 /// The number of the empty text.
 pub const EMPTY: u32 = 0;
 
-/// What a text says where it is the name of a class, a field descriptor or a method descriptor.
-#[derive(Debug, Drop)]
+/// What a text says where it is the name of a class or a field descriptor, and whether it is a method descriptor.
+#[derive(Clone, Copy, Debug)]
 pub struct Meaning {
     /// The number of the class.
     pub class: Option<u16>,
     /// The same, where 0 stands for `java/lang/System`.
     pub named: Option<u16>,
     pub kind: Option<Kind>,
-    pub signature: Option<Signature>,
+    pub is_method: bool,
 }
 
 /// Texts, each with a number. Contracts see the names of the classes that they may name, the number of each text,
 /// and how many numbers were given.
 #[derive(Drop)]
 pub struct Texts<'a> {
-    classes: ClassNumbers,
+    classes: ClassNumbers<'a>,
     numbers: BTreeMap<&'a [u8], u32>,
     meanings: Rows<Meaning>,
 }
@@ -45,7 +48,11 @@ impl<'a> Model for Texts<'a> {
 }
 
 /// What a text says, among these classes.
-fn read_meaning(alloc: Global, classes: &ClassNumbers, text: &[u8]) -> Result<Meaning, AllocError>
+fn read_meaning(
+    alloc: Global,
+    classes: &ClassNumbers<'_>,
+    text: &[u8],
+) -> Result<Meaning, AllocError>
     ensures { IfOk result (IsMeaning classes.now text.now) }
 {
     let signature = method_signature(alloc, classes, text)?;
@@ -53,7 +60,7 @@ fn read_meaning(alloc: Global, classes: &ClassNumbers, text: &[u8]) -> Result<Me
         class: classes.number(text),
         named: classes.named(text),
         kind: field_kind(classes, text),
-        signature,
+        is_method: signature.is_some(),
     })
 }
 
@@ -61,8 +68,8 @@ impl<'a> Texts<'a> {
     ghost use Rattle.link_scope.specs.TextNumbers.{number_of, IsNumbered, AreApart, Keeps};
 
     /// The empty text alone, among these classes.
-    pub fn new(alloc: Global, classes: ClassNumbers) -> Result<Self, AllocError>
-        ensures names { IfOk result (λ t. t.names ≡ classes) }
+    pub fn new(alloc: Global, classes: ClassNumbers<'a>) -> Result<Self, AllocError>
+        ensures names { IfOk result (λ t. t.names ≡ classes.entry) }
         ensures empty { IfOk result (λ t. IsNumbered t.numbers [] EMPTY) }
         ensures count { IfOk result (λ t. t.count ≡ 1) }
     {
@@ -123,10 +130,17 @@ impl<'a> Texts<'a> {
         self.classes.named(text)
     }
 
-    /// What the text with a number means; `None` only where no text has the number.
-    pub fn meaning(&self, number: u32) -> Option<&Meaning>
-        ensures { (text : List ℕ) → IsNumbered self.now.numbers text number → IsSomeAnd result (λ m. IsMeaning self.now.names text m.now) }
+    /// What a text says as a method descriptor, read anew.
+    pub fn signature(&self, alloc: Global, text: &[u8]) -> Result<Option<Signature>, AllocError>
+        ensures { IfOk result (λ found. option_map meaning found ≡ signature_named self.now.names text.now) }
     {
-        self.meanings.get(number as usize)
+        method_signature(alloc, &self.classes, text)
+    }
+
+    /// What the text with a number means; `None` only where no text has the number.
+    pub fn meaning(&self, number: u32) -> Option<Meaning>
+        ensures { (text : List ℕ) → IsNumbered self.now.numbers text number → IsSomeAnd result (IsMeaning self.now.names text) }
+    {
+        self.meanings.get(number as usize).copied()
     }
 }

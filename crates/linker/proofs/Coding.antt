@@ -1,16 +1,65 @@
 -- Methods that take their instructions from one list, one after another.
-use Rattle.std.proofs.Common.{◌≡◌, ℕ, zero, suc, ◌+◌, ◌<◌, List, [], ◌∷◌, ◌++◌, length, get_or, drop, refl, sym, ap, ◌∙◌, append_assoc, length-append}
+use Rattle.std.proofs.Common.{◌≡◌, ℕ, zero, suc, ◌+◌, ◌<◌, ◌^◌, List, [], ◌∷◌, ◌++◌, length, get_or, drop, Option, Some, None, Result, Ok, Err, refl, sym, ap, subst, ◌∙◌, append_assoc, length-append, arith}
+use Rattle.std.proofs.Math.Seq.{drop-nil}
 use Rattle.std.specs.Prelude.{slice_get}
-use Rattle.std.specs.List.{zip}
+use Rattle.std.specs.Option.{option_or}
+use Rattle.std.specs.Result.{result_err, result_unwrap_or}
+use Rattle.std.specs.List.{zip, AllByRecursion}
 use Rattle.std.proofs.lemmas.List.{drop-drop, at_drop_more}
+use Rattle.jvm_types.specs.ClassGrammar.{IsHandler, IsMethod, IsMethodAttr}
 use Rattle.jvm_types.specs.Members.{Declared, declared_from, declared_by}
-use Rattle.jvm_types.specs.Targets.{Scope}
-use Rattle.jvm_types.specs.Linked.{linked_method, linked_methods}
+use Rattle.jvm_types.specs.Targets.{Scope, target_of}
+use Rattle.jvm_types.specs.Linked.{code_of, site_of, resolved_target, linked_method, linked_methods}
+use Rattle.jvm_types.specs.LinkFaults.{LinkFault, at_place, in_method, insn_fault, uses_fault}
+use Rattle.jvm_types.specs.declared.class_file.Constant.{Constant}
+use Rattle.jvm_types.specs.declared.class_file.MemberAttr.{MemberAttr}
+use Rattle.jvm_types.specs.declared.class_file.MemberAttr.TheVariants as member_attrs
 use Rattle.jvm_types.specs.declared.class_file.Member.{Member as ClassMember}
 use Rattle.jvm_types.specs.declared.class_file.ClassFile.{ClassFile}
 use Rattle.jvm_types.specs.declared.code.Insn.{Insn}
 use Rattle.jvm_types.specs.declared.program.MethodInfo.{MethodInfo}
-use Rattle.linker.specs.Linking.{declared_in, coded_method}
+use Rattle.jvm_types.specs.declared.program.Target.{Target}
+use Rattle.jvm_types.specs.declared.program.Target.TheVariants as targets
+use Rattle.jvm_types.specs.declared.refusal.LRule.{LRule}
+use Rattle.link_scope.specs.Scoping.{FileOf, IsFileOf}
+use Rattle.linker.specs.Linking.{IsLinkErrorOf, AreLinked, use_faults, method_of}
+use Rattle.linker.specs.declared.error.LinkError.{LinkError}
+use Rattle.linker.specs.declared.error.LinkError.TheVariants.{Memory, Refused}
+
+-- ---- what is known of a method of a class
+
+handlers_in : (pool : List Constant) (attrs : List MemberAttr) → AllByRecursion (IsMethodAttr pool) attrs → AllByRecursion (IsHandler pool) (code_of attrs).rows
+handlers_in pool [] all = tt
+handlers_in pool (member_attrs.Code code ∷ attrs) all = all.0.rows.each
+handlers_in pool (member_attrs.ConstantValue name value ∷ attrs) all = handlers_in pool attrs all.1
+handlers_in pool (member_attrs.Other a ∷ attrs) all = handlers_in pool attrs all.1
+
+pub handlers_of : (pool : List Constant) (m : ClassMember) → IsMethod pool m → AllByRecursion (IsHandler pool) (code_of m.attrs).rows
+handlers_of pool m is = handlers_in pool m.attrs is.member.attrs.each
+
+all_at : {X : Type 0} (P : X → Type 0) (xs : List X) (i : ℕ) (x : X) → AllByRecursion P xs → i < length xs → x ≡ get_or xs i x → P x
+all_at P [] i x h l e = absurd (omega arith)
+all_at P (y ∷ xs) zero x h l e = subst P (sym e) h.0
+all_at P (y ∷ xs) (suc i) x h l e = all_at P xs i x h.1 (omega arith) e
+
+pub method_at : (f : FileOf) (i : ℕ) (m : ClassMember) → IsFileOf f → i < length f.class.methods → m ≡ get_or f.class.methods i m → IsMethod f.class.constants m
+method_at f i m is l e = all_at (IsMethod f.class.constants) f.class.methods i m is.class.methods.each l e
+
+pub number_at : (f : FileOf) (i : ℕ) → IsFileOf f → i < length f.class.methods → i < 65536
+number_at f i is l = omega (arith, is.class.methods.count)
+
+-- ---- what an instruction names, and what refuses it
+
+pub target_given : (s : Scope) (d : Declared) (insn : Insn) (t : Target) → Ok t ≡ target_of s (site_of d) d.pool insn.op → (insn_fault s d insn ≡ None) × (t ≡ resolved_target s (site_of d) d.pool insn)
+target_given s d insn t e = (
+  ap (λ (r : Result Target LRule). at_place (in_method d.file d.place insn.pc) (result_err r)) (sym e),
+  ap (λ (r : Result Target LRule). result_unwrap_or r targets.Nothing) e,
+)
+
+pub target_refused : (s : Scope) (d : Declared) (insn : Insn) (rule : LRule) → Err rule ≡ target_of s (site_of d) d.pool insn.op → insn_fault s d insn ≡ Some (rule, in_method d.file d.place insn.pc)
+target_refused s d insn rule e = ap (λ (r : Result Target LRule). at_place (in_method d.file d.place insn.pc) (result_err r)) (sym e)
+
+-- ---- what is linked, and what refuses
 
 module _ (s : Scope) where
   abbrev pub linked : List Declared → List (List Insn) → List MethodInfo
@@ -20,59 +69,119 @@ module _ (s : Scope) where
   none_linked [] = refl
   none_linked (d ∷ ds) = refl
 
-  one_linked : (file place : ℕ) (class : ClassFile) (m : ClassMember) (code : List (List Insn)) (n : ℕ)
-      → coded_method s (declared_in file class m) (slice_get code n) ≡ linked (record { file = file; place = place; pool = class.constants; member = m } ∷ []) (drop n code)
-  one_linked file place class m [] zero = refl
-  one_linked file place class m [] (suc n) = refl
-  one_linked file place class m (insns ∷ code) zero = refl
-  one_linked file place class m (insns ∷ code) (suc n) = one_linked file place class m code n
+  no_faults : (ds : List Declared) → use_faults s ds [] ≡ None
+  no_faults [] = refl
+  no_faults (d ∷ ds) = refl
+
+  or_assoc : {X : Type 0} (a b c : Option X) → option_or a (option_or b c) ≡ option_or (option_or a b) c
+  or_assoc None b c = refl
+  or_assoc (Some x) b c = refl
 
   linked_append : (xs ys : List Declared) (code : List (List Insn)) → linked (xs ++ ys) code ≡ linked xs code ++ linked ys (drop (length (linked xs code)) code)
   linked_append [] ys code = refl
   linked_append (x ∷ xs) ys [] = sym (none_linked ys)
   linked_append (x ∷ xs) ys (insns ∷ code) = ap (λ ms. linked_method s x insns ∷ ms) (linked_append xs ys code)
 
+  faults_append : (xs ys : List Declared) (code : List (List Insn))
+      → use_faults s (xs ++ ys) code ≡ option_or (use_faults s xs code) (use_faults s ys (drop (length (linked xs code)) code))
+  faults_append [] ys code = refl
+  faults_append (x ∷ xs) ys [] = sym (no_faults ys)
+  faults_append (x ∷ xs) ys (insns ∷ code) =
+      ap (λ (o : Option LinkFault). option_or (uses_fault s (x, insns)) o) (faults_append xs ys code)
+      ∙ or_assoc (uses_fault s (x, insns)) (use_faults s xs code) (use_faults s ys (drop (length (linked xs code)) code))
+
   behind : (ms ns : List MethodInfo) (code : List (List Insn)) → drop (length (ms ++ ns)) code ≡ drop (length ns) (drop (length ms) code)
   behind ms ns code = ap (λ n. drop n code) (length-append ms ns) ∙ sym (drop-drop (length ns) (length ms) code)
 
-  more : (ms : List MethodInfo) (xs ys : List Declared) (code : List (List Insn))
-      → (ms ++ linked xs (drop (length ms) code)) ++ linked ys (drop (length (ms ++ linked xs (drop (length ms) code))) code) ≡ ms ++ linked (xs ++ ys) (drop (length ms) code)
-  more ms xs ys code =
-      let new : List MethodInfo = linked xs (drop (length ms) code) in
-      append_assoc ms new (linked ys (drop (length (ms ++ new)) code))
-      ∙ ap (λ rest. ms ++ (new ++ linked ys rest)) (behind ms new code)
-      ∙ ap (λ ns. ms ++ ns) (sym (linked_append xs ys (drop (length ms) code)))
+  -- ---- some methods, and those behind them
 
-  one_more : (file place : ℕ) (class : ClassFile) (m : ClassMember) (rest : List Declared) (ms : List MethodInfo) (code : List (List Insn))
-      → (ms ++ coded_method s (declared_in file class m) (slice_get code (length ms))) ++ linked rest (drop (length (ms ++ coded_method s (declared_in file class m) (slice_get code (length ms)))) code)
-      ≡ ms ++ linked (record { file = file; place = place; pool = class.constants; member = m } ∷ rest) (drop (length ms) code)
-  one_more file place class m rest ms code =
-      let d : Declared = record { file = file; place = place; pool = class.constants; member = m } in
-      ap (λ new. (ms ++ new) ++ linked rest (drop (length (ms ++ new)) code)) (one_linked file place class m code (length ms)) ∙ more ms (d ∷ []) rest code
+  module _ (xs ys : List Declared) (code : List (List Insn)) (old new : List MethodInfo) (are : AreLinked s xs code old new) where
+    rest : drop (length new) code ≡ drop (length (linked xs (drop (length old) code))) (drop (length old) code)
+    rest = ap (λ ms. drop (length ms) code) are.added ∙ behind old (linked xs (drop (length old) code)) code
 
-  -- ---- one turn of a loop
+    pub linked_on : new ++ linked ys (drop (length new) code) ≡ old ++ linked (xs ++ ys) (drop (length old) code)
+    linked_on =
+        ap (λ c. new ++ linked ys c) rest
+        ∙ ap (λ ms. ms ++ linked ys (drop (length (linked xs (drop (length old) code))) (drop (length old) code))) are.added
+        ∙ append_assoc old (linked xs (drop (length old) code)) (linked ys (drop (length (linked xs (drop (length old) code))) (drop (length old) code)))
+        ∙ ap (λ ms. old ++ ms) (sym (linked_append xs ys (drop (length old) code)))
 
-  next : {X Y : Type 0} (F : List X → Y) (xs : List X) (i : ℕ) (x : X) → i < length xs → x ≡ get_or xs i x → F (drop i xs) ≡ F (x ∷ drop (i + 1) xs)
-  next F xs i x l e = at_drop_more F xs i x l ∙ ap (λ y. F (y ∷ drop (i + 1) xs)) (sym e)
+    pub faults_on : use_faults s ys (drop (length new) code) ≡ use_faults s (xs ++ ys) (drop (length old) code)
+    faults_on =
+        ap (λ c. use_faults s ys c) rest
+        ∙ ap (λ o. option_or o (use_faults s ys (drop (length (linked xs (drop (length old) code))) (drop (length old) code)))) (sym are.unrefused)
+        ∙ sym (faults_append xs ys (drop (length old) code))
 
-  pub member_turn : (file place : ℕ) (class : ClassFile) (members : List ClassMember) (m : ClassMember) (old new whole : List MethodInfo) (code : List (List Insn))
-      → place < length members → m ≡ get_or members place m → new ≡ old ++ coded_method s (declared_in file class m) (slice_get code (length old))
-      → old ++ linked (declared_from file class.constants place (drop place members)) (drop (length old) code) ≡ whole
-      → new ++ linked (declared_from file class.constants (place + 1) (drop (place + 1) members)) (drop (length new) code) ≡ whole
-  member_turn file place class members m old new whole code l e n h =
-      let rest : List Declared = declared_from file class.constants (place + 1) (drop (place + 1) members) in
-      ap (λ ms. ms ++ linked rest (drop (length ms) code)) n
-      ∙ one_more file place class m rest old code
-      ∙ sym (next (λ ms. old ++ linked (declared_from file class.constants place ms) (drop (length old) code)) members place m l e)
-      ∙ h
+  -- what refuses some methods refuses them with those behind them
+  first_error : (o p : Option LinkFault) (e : LinkError) → IsLinkErrorOf o e → IsLinkErrorOf (option_or o p) e
+  first_error o p Memory h = tt
+  first_error None p (Refused rule place) h = absurd cc
+  first_error (Some fault) p (Refused rule place) h = h
 
-  pub class_turn : (file : ℕ) (classes : List ClassFile) (class : ClassFile) (old new whole : List MethodInfo) (code : List (List Insn))
-      → file < length classes → class ≡ get_or classes file class → new ≡ old ++ linked (declared_from file class.constants 0 class.methods) (drop (length old) code)
-      → old ++ linked (declared_by (λ c. c.methods) file (drop file classes)) (drop (length old) code) ≡ whole
-      → new ++ linked (declared_by (λ c. c.methods) (file + 1) (drop (file + 1) classes)) (drop (length new) code) ≡ whole
-  class_turn file classes class old new whole code l e n h =
-      let rest : List Declared = declared_by (λ c. c.methods) (file + 1) (drop (file + 1) classes) in
-      ap (λ ms. ms ++ linked rest (drop (length ms) code)) n
-      ∙ more old (declared_from file class.constants 0 class.methods) rest code
-      ∙ sym (next (λ cs. old ++ linked (declared_by (λ c. c.methods) file cs) (drop (length old) code)) classes file class l e)
-      ∙ h
+  pub error_on : (xs ys : List Declared) (code : List (List Insn)) (e : LinkError) → IsLinkErrorOf (use_faults s xs code) e → IsLinkErrorOf (use_faults s (xs ++ ys) code) e
+  error_on xs ys code e h = subst (λ (o : Option LinkFault). IsLinkErrorOf o e) (sym (faults_append xs ys code)) (first_error (use_faults s xs code) (use_faults s ys (drop (length (linked xs code)) code)) e h)
+
+  -- ---- a method alone
+
+  or_none : {X : Type 0} (a : Option X) → option_or a None ≡ a
+  or_none None = refl
+  or_none (Some x) = refl
+
+  pub fault_at : (d : Declared) (code : List (List Insn)) (at : ℕ) (insns : List Insn) → slice_get code at ≡ Some insns → use_faults s (d ∷ []) (drop at code) ≡ uses_fault s (d, insns)
+  fault_at d [] at insns e = absurd cc
+  fault_at d (is ∷ code) zero insns e = let same : is ≡ insns = cc in rw same (or_none (uses_fault s (d, insns)))
+  fault_at d (is ∷ code) (suc n) insns e = fault_at d code n insns e
+
+  pub linked_at : (d : Declared) (code : List (List Insn)) (at : ℕ) (insns : List Insn) → slice_get code at ≡ Some insns → linked (d ∷ []) (drop at code) ≡ linked_method s d insns ∷ []
+  linked_at d [] at insns e = absurd cc
+  linked_at d (is ∷ code) zero insns e = let same : is ≡ insns = cc in rw same refl
+  linked_at d (is ∷ code) (suc n) insns e = linked_at d code n insns e
+
+  past : {X : Type 0} (xs : List X) (at : ℕ) → slice_get xs at ≡ None → drop at xs ≡ []
+  past [] at e = drop-nil at
+  past (x ∷ xs) zero e = absurd cc
+  past (x ∷ xs) (suc n) e = past xs n e
+
+  -- where there are no instructions for a method, nothing is added
+  pub none_at : (d : Declared) (code : List (List Insn)) (ms : List MethodInfo) → slice_get code (length ms) ≡ None → AreLinked s (d ∷ []) code ms ms
+  none_at d code ms e = record {
+    unrefused = rw (past code (length ms) e) refl;
+    added = rw (past code (length ms) e) (append_nil ms);
+  }
+    where
+      append_nil : (ms : List MethodInfo) → ms ≡ ms ++ []
+      append_nil [] = refl
+      append_nil (m ∷ ms) = ap (λ ns. m ∷ ns) (append_nil ms)
+
+  pub one_at : (d : Declared) (code : List (List Insn)) (ms new : List MethodInfo) (insns : List Insn) (m : MethodInfo) → slice_get code (length ms) ≡ Some insns
+      → uses_fault s (d, insns) ≡ None → m ≡ linked_method s d insns → new ≡ ms ++ m ∷ [] → AreLinked s (d ∷ []) code ms new
+  one_at d code ms new insns m e u is n = record {
+    unrefused = fault_at d code (length ms) insns e ∙ u;
+    added = n ∙ ap (λ (x : MethodInfo). ms ++ x ∷ []) is ∙ ap (λ (xs : List MethodInfo). ms ++ xs) (sym (linked_at d code (length ms) insns e));
+  }
+
+  -- ---- one turn of a loop: the first of all methods that are left were linked, or refused
+
+  module _ (all xs ys : List Declared) (code : List (List Insn)) (split : all ≡ xs ++ ys) (old : List MethodInfo) where
+    pub turn_left : (new : List MethodInfo) → AreLinked s xs code old new → (whole : Option LinkFault) → use_faults s all (drop (length old) code) ≡ whole → use_faults s ys (drop (length new) code) ≡ whole
+    turn_left new are whole h = faults_on xs ys code old new are ∙ ap (λ (ds : List Declared). use_faults s ds (drop (length old) code)) (sym split) ∙ h
+
+    pub turn_made : (new : List MethodInfo) → AreLinked s xs code old new → (whole : List MethodInfo) → old ++ linked all (drop (length old) code) ≡ whole → new ++ linked ys (drop (length new) code) ≡ whole
+    turn_made new are whole h = linked_on xs ys code old new are ∙ ap (λ (ds : List Declared). old ++ linked ds (drop (length old) code)) (sym split) ∙ h
+
+    pub turn_refused : (e : LinkError) → IsLinkErrorOf (use_faults s xs (drop (length old) code)) e → (whole : Option LinkFault) → use_faults s all (drop (length old) code) ≡ whole → IsLinkErrorOf whole e
+    turn_refused e h whole is = subst (λ (o : Option LinkFault). IsLinkErrorOf o e) (ap (λ (ds : List Declared). use_faults s ds (drop (length old) code)) (sym split) ∙ is) (error_on xs ys (drop (length old) code) e h)
+
+-- ---- the methods that are left at one turn of a loop
+
+next : {X Y : Type 0} (F : List X → Y) (xs : List X) (i : ℕ) (x : X) → i < length xs → x ≡ get_or xs i x → F (drop i xs) ≡ F (x ∷ drop (i + 1) xs)
+next F xs i x l e = at_drop_more F xs i x l ∙ ap (λ y. F (y ∷ drop (i + 1) xs)) (sym e)
+
+pub member_split : (f : FileOf) (members : List ClassMember) (i : ℕ) (m : ClassMember) → i < length members → m ≡ get_or members i m
+    → declared_from f.number f.class.constants i (drop i members) ≡ (method_of f i m ∷ []) ++ declared_from f.number f.class.constants (i + 1) (drop (i + 1) members)
+member_split f members i m l e = next (declared_from f.number f.class.constants i) members i m l e
+
+pub class_split : (files items : List ClassFile) (i : ℕ) (c : ClassFile) → items ≡ files → i < length items → c ≡ get_or items i c
+    → declared_by (λ d. d.methods) i (drop i files) ≡ declared_from i c.constants 0 c.methods ++ declared_by (λ d. d.methods) (i + 1) (drop (i + 1) files)
+class_split files items i c same l e =
+    subst (λ (fs : List ClassFile). declared_by (λ d. d.methods) i (drop i fs) ≡ declared_from i c.constants 0 c.methods ++ declared_by (λ d. d.methods) (i + 1) (drop (i + 1) fs)) same (next (declared_by (λ d. d.methods) i) items i c l e)

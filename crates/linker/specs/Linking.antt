@@ -1,39 +1,49 @@
 -- Why files were not linked, and what the parts of linking ask and answer.
-use Rattle.std.specs.Prelude.{◌≡◌, ℕ, ◌≤◌, List, [], ◌∷◌, length, map, Option, Some, None}
+use Rattle.std.specs.Prelude.{◌≡◌, ℕ, ◌+◌, ◌*◌, List, ◌++◌, length, map, drop, Option, Some, None}
+use Rattle.std.specs.declared.result.Result.{Result}
+use Rattle.std.specs.declared.result.Result.TheVariants.{Ok, Err}
+use Rattle.std.specs.List.{zip}
 use Rattle.jvm_types.specs.Members.{Declared}
 use Rattle.jvm_types.specs.Targets.{Scope}
-use Rattle.jvm_types.specs.Linked.{resolved_row, linked_method}
-use Rattle.jvm_types.specs.LinkFaults.{LinkFault}
-use Rattle.jvm_types.specs.declared.class_file.Constant.{Constant}
-use Rattle.jvm_types.specs.declared.class_file.Code.{Code}
+use Rattle.jvm_types.specs.Linked.{linked_methods}
+use Rattle.jvm_types.specs.LinkFaults.{LinkFault, first_fault, uses_fault}
 use Rattle.jvm_types.specs.declared.class_file.Member.{Member as ClassMember}
-use Rattle.jvm_types.specs.declared.class_file.ClassFile.{ClassFile}
 use Rattle.jvm_types.specs.declared.code.Insn.{Insn}
 use Rattle.jvm_types.specs.declared.program.MethodInfo.{MethodInfo}
+use Rattle.link_scope.specs.Scoping.{FileOf}
 use Rattle.linker.specs.declared.error.LinkError.{LinkError}
 use Rattle.linker.specs.declared.error.LinkError.TheVariants.{Memory, Refused}
-use Rattle.linker.specs.declared.methods.Body.{Body}
 
 -- memory ran out, or this is the first refusal
 abbrev pub IsLinkErrorOf : Option LinkFault → LinkError → Type 0
 IsLinkErrorOf fault Memory = Unit {0}
 IsLinkErrorOf fault (Refused rule place) = fault ≡ Some (rule, place)
 
--- the fields of a class are counted in two bytes
-abbrev pub HasFewFields : ClassFile → Type 0
-HasFewFields c = length c.fields ≤ 65535
+-- what is made where nothing refuses it; or what refuses it
+abbrev pub Gives : {A : Type 0} → Option LinkFault → A → Result A LinkFault → Type 0
+Gives fault made (Ok x) = (fault ≡ None) × (x ≡ made)
+Gives fault made (Err e) = fault ≡ Some e
 
--- what a code states beside its instructions, with the catch types resolved
-pub record IsBodyOf (s : Scope) (pool : List Constant) (code : Code) (body : Body) : Type 0 where
-  pub max_stack : body.max_stack ≡ code.max_stack
-  pub max_locals : body.max_locals ≡ code.max_locals
-  pub rows : body.rows ≡ map (resolved_row s pool) code.rows
+-- the same, but where memory ran out
+abbrev pub Links : {A : Type 0} → Option LinkFault → A → Result A LinkError → Type 0
+Links fault made (Ok x) = (fault ≡ None) × (x ≡ made)
+Links fault made (Err e) = IsLinkErrorOf fault e
 
--- a method of a class, wherever it stands there
-abbrev pub declared_in : ℕ → ClassFile → ClassMember → Declared
-declared_in file class method = record { file = file; place = 0; pool = class.constants; member = method }
+-- ---- methods
 
--- the method, where it has instructions
-abbrev pub coded_method : Scope → Declared → Option (List Insn) → List MethodInfo
-coded_method s d None = []
-coded_method s d (Some insns) = linked_method s d insns ∷ []
+-- a method of a file, with its number in its class
+abbrev pub method_of : FileOf → (number : ℕ) → ClassMember → Declared
+method_of f number m = record { file = f.number; place = number; pool = f.class.constants; member = m }
+
+-- the first refusal of what some methods use, whose instructions are the first of a list
+abbrev pub use_faults : Scope → List Declared → List (List Insn) → Option LinkFault
+use_faults s methods code = first_fault (map (uses_fault s) (zip methods code))
+
+-- nothing refuses some methods, which stand behind those before them, where `code` has the instructions of all
+pub record AreLinked (s : Scope) (methods : List Declared) (code : List (List Insn)) (old new : List MethodInfo) : Type 0 where
+  pub unrefused : use_faults s methods (drop (length old) code) ≡ None
+  pub added : new ≡ old ++ linked_methods s (zip methods (drop (length old) code))
+
+-- the bytes that a method has of its name, its descriptor and the types of its arguments
+abbrev pub copied_bytes : MethodInfo → ℕ
+copied_bytes m = length m.name + length m.descriptor + 4 * length m.args

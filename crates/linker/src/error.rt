@@ -1,6 +1,7 @@
 //! Why files were not linked.
 
 use jvm_types::{LRule, Place};
+use link_rules::Fault;
 use std::alloc::AllocError;
 
 /// Why files were not linked.
@@ -20,5 +21,17 @@ impl From<AllocError> for LinkError {
 
     fn from(_error: AllocError) -> LinkError {
         LinkError::Memory
+    }
+}
+
+impl From<Fault> for LinkError {
+    ghost use Rattle.std.specs.Prelude.{◌≡◌};
+    ghost use Rattle.linker.specs.declared.error.LinkError.TheVariants.{Refused};
+
+    ghost from_gives = { λ fault e. e ≡ Refused fault.0 fault.1 };
+
+    fn from(fault: Fault) -> LinkError {
+        let (rule, place) = fault;
+        LinkError::Refused(rule, place)
     }
 }

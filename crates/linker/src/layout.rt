@@ -1,24 +1,15 @@
 //! Where the fields of the program stand, and what static ones start with (JVMS 2.7, 4.7.2).
 
-ghost use Rattle.std.specs.Prelude.{◌≡◌, ◌+◌, ◌*◌, ◌<◌, ◌≤◌, ◌^◌, ◌++◌, length, slice_get, Some, IfOk, OnOk, if◌then◌else◌};
-ghost use Rattle.std.specs.List.{AllByRecursion};
+ghost use Rattle.std.specs.Prelude.{◌≡◌, ◌+◌, ◌<◌, ◌^◌, ◌++◌, IfOk, OnOk, if◌then◌else◌};
 ghost use Rattle.jvm_types.specs.ClassNames.{class_names};
 ghost use Rattle.jvm_types.specs.Members.{is_static};
 ghost use Rattle.jvm_types.specs.Layout.{first_constant, kept_int, static_start, kind_of, field_info, fields_of, static_count, laid_out_fields};
-ghost use Rattle.linker.specs.Linking.{HasFewFields};
 
-use crate::texts::file_class;
-use jvm_types::{ClassFile, Constant, FieldInfo, Kind, Member, MemberAttr, Rows};
-use link_scope::Scope;
+use jvm_types::fixed_words::{FIRST_CLASS_WORD, OBJECT_HEAD_WORDS};
+use jvm_types::flags::is_static;
+use jvm_types::{Constant, FieldInfo, Kind, Member, MemberAttr, Rows};
+use link_scope::{FileScope, Scope};
 use std::alloc::{AllocError, Global};
-
-/// The word at which the words of the classes begin.
-const FIRST_CLASS_WORD: u32 = 2068;
-
-/// The words that a class has beside its static fields: a lock word and a header.
-const OWN_WORDS: u32 = 2;
-
-const STATIC: u16 = 0x0008;
 
 /// The place of the next instance field of a class, and the word of its next static one.
 #[derive(Drop)]
@@ -63,45 +54,28 @@ fn static_start(pool: &Rows<Constant>, kind: Kind, field: &Member) -> i32
     }
 }
 
-fn is_static(flags: u16) -> bool
-    ensures { result ≡ is_static flags }
-{
-    flags & STATIC != 0
-}
-
 /// The type of a field of a file.
-fn kind_of(scope: &Scope<'_>, file: usize, class: &ClassFile, field: &Member) -> Kind
-    requires within { file < length scope.now }
-    requires here { slice_get scope.now file ≡ Some class.now }
-    ensures { result ≡ kind_of (class_names scope.now) class.now.constants field.now }
+fn kind_of(file: &FileScope<'_, '_>, field: &Member) -> Kind
+    ensures { result ≡ kind_of (class_names file.now.files) file.now.class.constants field.now }
 {
-    match scope.field_kind(file, field.descriptor) {
+    match file.field_kind(field.descriptor) {
         Some(kind) => kind,
         None => Kind::Int,
     }
 }
 
 /// A field of a file at its place.
-fn field_info(
-    scope: &Scope<'_>,
-    file: usize,
-    class: &ClassFile,
-    index: u32,
-    field: &Member,
-) -> FieldInfo
-    requires few { length scope.now ≤ 64 }
-    requires within { file < length scope.now }
-    requires here { slice_get scope.now file ≡ Some class.now }
-    ensures { result ≡ field_info (class_names scope.now) file class.now.constants index field.now }
+fn field_info(file: &FileScope<'_, '_>, index: u32, field: &Member) -> FieldInfo
+    ensures { result ≡ field_info (class_names file.now.files) file.now.number file.now.class.constants index field.now }
 {
-    let kind = kind_of(scope, file, class, field);
+    let kind = kind_of(file, field);
     let start = if is_static(field.flags) {
-        static_start(&class.constants, kind, field)
+        static_start(&file.class().constants, kind, field)
     } else {
         0
     };
     FieldInfo {
-        class: file_class(file),
+        class: file.own_class(),
         flags: field.flags,
         kind,
         index,
@@ -128,40 +102,36 @@ fn take_place(free: &mut Free, flags: u16) -> u32
     }
 }
 
-/// Adds the fields of a class, whose static ones have the words from `word` on. Answers the word behind them.
+/// Adds the fields of a file, whose static ones have the words from `word` on. Answers the word behind them.
 fn lay_out_class(
-    scope: &Scope<'_>,
-    file: usize,
-    class: &ClassFile,
+    file: &FileScope<'_, '_>,
     word: u32,
     fields: &mut Rows<FieldInfo>,
 ) -> Result<u32, AllocError>
-    requires few { length scope.now ≤ 64 }
-    requires within { file < length scope.now }
-    requires here { slice_get scope.now file ≡ Some class.now }
-    requires counted { HasFewFields class.now }
-    requires room { word < 2 ^ 30 }
-    ensures fields { OnOk result (fields.new ≡ fields.old ++ fields_of (class_names scope.now) file class.now.constants 0 word class.now.fields) }
-    ensures word { IfOk result (λ next. next ≡ word + static_count class.now.fields) }
+    requires { word < 2 ^ 30 }
+    ensures fields { OnOk result (fields.new ≡ fields.old ++ fields_of (class_names file.now.files) file.now.number file.now.class.constants 0 word file.now.class.fields) }
+    ensures word { IfOk result (λ next. next ≡ word + static_count file.now.class.fields) }
+    ensures few { IfOk result (λ next. next < word + 2 ^ 16) }
 {
+    let members = file.class().fields.as_slice();
     let mut free = Free { place: 0, word };
-    for field in class.fields.as_slice() {
+    for field in members {
         let index = take_place(&mut free, field.flags);
-        fields.push(field_info(scope, file, class, index, field))?;
+        fields.push(field_info(file, index, field))?;
     }
     Ok(free.word)
 }
 
 /// The fields of all classes, in order of the files.
 pub fn lay_out(alloc: Global, scope: &Scope<'_>) -> Result<Rows<FieldInfo>, AllocError>
-    requires few { length scope.now ≤ 64 }
-    requires counted { AllByRecursion HasFewFields scope.now }
     ensures { IfOk result (λ fields. fields ≡ laid_out_fields (class_names scope.now) scope.now) }
 {
     let mut fields = Rows::new(alloc);
     let mut word = FIRST_CLASS_WORD;
-    for (file, class) in scope.files().as_slice().iter().enumerate() {
-        word = lay_out_class(scope, file, class, word + OWN_WORDS, &mut fields)?;
+    let files = scope.files().as_slice();
+    for (number, class) in files.iter().enumerate() {
+        let file = scope.file(number, class);
+        word = lay_out_class(&file, word + OBJECT_HEAD_WORDS, &mut fields)?;
     }
     Ok(fields)
 }

@@ -1,40 +1,46 @@
 //! The linked program of some files.
 
-ghost use Rattle.std.specs.Prelude.{◌≡◌, ◌≤◌, length, IfOk, IfErr};
-ghost use Rattle.std.specs.List.{AllByRecursion};
-ghost use Rattle.jvm_types.specs.Linked.{program_of};
+ghost use Rattle.std.specs.Prelude.{◌≡◌, ◌≤◌, IfOk, IfErr};
+ghost use Rattle.std.specs.List.{sum_by};
 ghost use Rattle.jvm_types.specs.LinkFaults.{IsLinked, link_fault};
 ghost use Rattle.jvm_types.specs.Linkable.{IsLinkable};
 ghost use Rattle.jvm_types.specs.ProgramInvariant.{IsProgram};
-ghost use Rattle.linker.specs.Linking.{IsLinkErrorOf, HasFewFields};
+ghost use Rattle.linker.specs.Linking.{IsLinkErrorOf, copied_bytes};
 
+use crate::budget::MOST_COPIED;
 use crate::error::LinkError;
 use crate::layout::lay_out;
 use crate::methods::link_methods;
-use crate::texts::class_names;
 use jvm_types::link_laws::linked_is_program;
+use jvm_types::pool_texts::class_names;
 use jvm_types::{ClassFile, Insn, Program, Rows};
-use link_rules::find_fault;
+use link_rules::{class_pass, member_pass, root_pass, word_pass};
 use link_scope::Scope;
-use std::alloc::{AllocError, Global};
+use std::alloc::Global;
 
-/// The program of the files of a scope, where no rule refuses them.
-fn build(
+/// The program of the files of a scope, or the first rule that refuses them. Five passes go over the files: the classes
+/// (L6, L5), their members (L1, L5, L9), what instructions and handler rows name (L1, L2, L3, L7), the methods that the
+/// machine begins with (L4), and the words (L8).
+fn link_passes(
     alloc: Global,
     scope: &Scope<'_>,
     code: &Rows<Rows<Insn>>,
     heap: u32,
     workers: u8,
-) -> Result<Program, AllocError>
-    requires few { length scope.now ≤ 64 }
-    requires counted { AllByRecursion HasFewFields scope.now }
-    ensures { IfOk result (λ p. p ≡ program_of scope.now code.now heap workers) }
+) -> Result<Program, LinkError>
+    requires { IsLinkable scope.now code.now heap workers }
+    ensures ok { IfOk result (λ p. IsLinked scope.now code.now heap workers p) }
+    ensures copied { IfOk result (λ p. sum_by copied_bytes p.methods ≤ MOST_COPIED) }
+    ensures refused { IfErr result (λ e. IsLinkErrorOf (link_fault scope.now code.now heap workers) e) }
 {
-    let names = class_names(alloc, scope.files().as_slice())?;
-    let fields = lay_out(alloc, scope)?;
+    class_pass(scope)?;
+    member_pass(scope)?;
     let methods = link_methods(alloc, scope, code)?;
+    root_pass(scope, workers)?;
+    word_pass(scope, heap)?;
+    let fields = lay_out(alloc, scope)?;
     Ok(Program {
-        names,
+        names: class_names(alloc, scope.files().as_slice())?,
         fields,
         methods,
         heap,
@@ -42,7 +48,7 @@ fn build(
     })
 }
 
-/// The program of the files of a scope, or the first rule that refuses them.
+/// The same program, which keeps the invariant of programs.
 fn link_scoped(
     alloc: Global,
     scope: &Scope<'_>,
@@ -53,12 +59,10 @@ fn link_scoped(
     requires { IsLinkable scope.now code.now heap workers }
     ensures ok { IfOk result (λ p. IsLinked scope.now code.now heap workers p) }
     ensures program { IfOk result (λ p. IsProgram p) }
+    ensures copied { IfOk result (λ p. sum_by copied_bytes p.methods ≤ MOST_COPIED) }
     ensures refused { IfErr result (λ e. IsLinkErrorOf (link_fault scope.now code.now heap workers) e) }
 {
-    if let Some((rule, place)) = find_fault(scope, code, heap, workers) {
-        return Err(LinkError::Refused(rule, place));
-    }
-    let program = build(alloc, scope, code, heap, workers)?;
+    let program = link_passes(alloc, scope, code, heap, workers)?;
     linked_is_program();
     Ok(program)
 }
@@ -76,6 +80,8 @@ pub fn link(
     requires { IsLinkable files.now code.now heap workers }
     ensures ok { IfOk result (λ p. IsLinked files.now code.now heap workers p) }
     ensures program { IfOk result (λ p. IsProgram p) }
+    // What a program copies of texts and types is bounded.
+    ensures copied { IfOk result (λ p. sum_by copied_bytes p.methods ≤ MOST_COPIED) }
     ensures refused { IfErr result (λ e. IsLinkErrorOf (link_fault files.now code.now heap workers) e) }
 {
     let scope = Scope::of(alloc, files)?;

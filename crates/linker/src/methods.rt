@@ -1,161 +1,129 @@
-//! The methods of the program: their names, types and instructions, and what these name (JVMS 4.6, 4.7.3, 5.4.3).
+//! The methods of the program: their names, types and instructions, and what these name (JVMS 4.6, 4.7.3, 5.4.3). This is
+//! the third pass of linking too: it refuses files by what their methods name.
 
-ghost use Rattle.std.specs.Prelude.{◌≡◌, ◌<◌, ◌≤◌, ◌++◌, length, map, drop, slice_get, Some, IfOk, OnOk};
-ghost use Rattle.std.specs.Option.{option_copied, unwrap_or};
-ghost use Rattle.std.specs.List.{zip};
+ghost use Rattle.std.specs.Prelude.{◌≡◌, ◌<◌, ◌≤◌, ◌+◌, ◌∷◌, [], map, drop, length, slice_get, Some, None, IfOk, IfErr, OnOk};
+ghost use Rattle.std.specs.List.{AllByRecursion, sum_by};
+ghost use Rattle.jvm_types.specs.ClassGrammar.{IsHandler, IsIndex, IsMethod, HasBody};
+ghost use Rattle.jvm_types.specs.declared.index_kind.IndexKind.TheVariants as kinds;
 ghost use Rattle.jvm_types.specs.ClassNames.{text_at};
-ghost use Rattle.jvm_types.specs.Members.{declared_from};
-ghost use Rattle.jvm_types.specs.Linked.{scope_of, no_code, code_of, resolved_target, resolved_row, resolved_signature, linked_method, linked_methods, coded_methods};
+ghost use Rattle.jvm_types.specs.Members.{declared_from, declared_methods};
+ghost use Rattle.jvm_types.specs.Linked.{scope_of, code_of, site_of, resolved_target, resolved_row, resolved_signature, linked_method, linked_methods, coded_methods};
+ghost use Rattle.jvm_types.specs.LinkFaults.{first_fault, insn_fault, row_fault, uses_fault, use_pass};
 ghost use Rattle.descriptors.specs.Signatures.{meaning};
-ghost use Rattle.linker.specs.Linking.{IsBodyOf, declared_in, coded_method};
+ghost use Rattle.linker.specs.Linking.{IsLinkErrorOf, Gives, Links, AreLinked, use_faults, method_of, copied_bytes};
 
+use crate::budget::{Budget, MOST_COPIED};
 use crate::copies::copy_insns;
-use crate::texts::{file_class, text_at};
+use crate::error::LinkError;
 use descriptors::Signature;
 use jvm_types::{
-    Bytes, ClassFile, Code, Handler, Insn, Member, MemberAttr, MethodInfo, Row, Rows, Site, Target,
+    Code, Handler, Insn, Member, MethodInfo, Row, Rows, Site, Target, code_attribute, in_method,
 };
-use link_rules::{catch_class, target_of};
-use link_scope::Scope;
+use link_rules::{Fault, catch_class, target_of};
+use link_scope::{FileScope, Scope};
 use std::alloc::{AllocError, Global};
 
-/// What the code of a method states beside its instructions, with the catch types resolved.
-#[derive(Drop)]
-struct Body {
-    max_stack: u16,
-    max_locals: u16,
-    rows: Rows<Row>,
-}
-
 /// The Code attribute of a method (JVMS 4.7.3).
-fn code_of(attrs: &[MemberAttr]) -> Option<&Code>
-    ensures { unwrap_or (option_copied result) no_code ≡ code_of attrs.now }
+fn own_code(method: &Member) -> &Code
+    requires { HasBody method.now }
+    ensures { result.now ≡ code_of method.now.attrs }
 {
-    for attr in attrs {
-        if let MemberAttr::Code(code) = attr {
-            return Some(code);
-        }
+    match code_attribute::code_of(method.attrs.as_slice()) {
+        Some(code) => code,
+        None => unreachable!(),
     }
-    None
 }
 
-/// What the constant of an instruction names.
-fn resolved_target(
-    scope: &Scope<'_>,
-    file: usize,
-    class: &ClassFile,
-    site: &Site<'_>,
+/// What the constant of an instruction names, at a method with this number in its class.
+fn resolve_target(
+    file: &FileScope<'_, '_>,
+    number: u16,
+    method: &Member,
     insn: &Insn,
-) -> Target
-    requires within { file < length scope.now }
-    requires here { slice_get scope.now file ≡ Some class.now }
-    ensures { result ≡ resolved_target (scope_of scope.now) site.now class.now.constants insn.now }
+) -> Result<Target, Fault>
+    ensures { Gives (insn_fault (scope_of file.now.files) (method_of file.now number method.now) insn.now)
+        (resolved_target (scope_of file.now.files) (site_of (method_of file.now number method.now)) file.now.class.constants insn.now) result }
 {
-    match target_of(scope, file, site, &insn.op) {
-        Ok(target) => target,
-        Err(_) => Target::Nothing,
+    let site = Site {
+        class: file.own_class(),
+        name: file.text(method.name),
+    };
+    match target_of(file, &site, &insn.op) {
+        Ok(target) => Ok(target),
+        Err(rule) => Err((rule, in_method(file.number(), number, insn.pc))),
     }
 }
 
-/// What the constants of the instructions name, in order.
+/// What the constants of the instructions of a method name, in order.
 fn resolve_targets(
     alloc: Global,
-    scope: &Scope<'_>,
-    file: usize,
-    class: &ClassFile,
-    site: &Site<'_>,
+    file: &FileScope<'_, '_>,
+    number: u16,
+    method: &Member,
     insns: &[Insn],
-) -> Result<Rows<Target>, AllocError>
-    requires within { file < length scope.now }
-    requires here { slice_get scope.now file ≡ Some class.now }
-    ensures { IfOk result (λ targets. targets ≡ map (resolved_target (scope_of scope.now) site.now class.now.constants) insns.now) }
+) -> Result<Rows<Target>, LinkError>
+    ensures { Links (first_fault (map (insn_fault (scope_of file.now.files) (method_of file.now number method.now)) insns.now))
+        (map (resolved_target (scope_of file.now.files) (site_of (method_of file.now number method.now)) file.now.class.constants) insns.now) result }
 {
     let mut targets = Rows::new(alloc);
     for insn in insns {
-        targets.push(resolved_target(scope, file, class, site, insn))?;
+        targets.push(resolve_target(file, number, method, insn)?)?;
     }
     Ok(targets)
 }
 
-/// A handler row, with what it catches.
-fn resolved_row(scope: &Scope<'_>, file: usize, class: &ClassFile, handler: &Handler) -> Row
-    requires within { file < length scope.now }
-    requires here { slice_get scope.now file ≡ Some class.now }
-    ensures { result ≡ resolved_row (scope_of scope.now) class.now.constants handler.now }
+/// A handler row of a method, with what it catches.
+fn resolve_row(
+    file: &FileScope<'_, '_>,
+    number: u16,
+    method: &Member,
+    handler: &Handler,
+) -> Result<Row, Fault>
+    requires { IsIndex kinds.CatchType file.now.class.constants handler.now.catch_type }
+    ensures { Gives (row_fault (scope_of file.now.files) (method_of file.now number method.now) handler.now)
+        (resolved_row (scope_of file.now.files) file.now.class.constants handler.now) result }
 {
-    let catch_class = match catch_class(scope, file, handler.catch_type) {
-        Ok(class) => class,
-        Err(_) => 0,
-    };
-    Row {
-        start: u32::from(handler.start),
-        end: u32::from(handler.end),
-        handler: u32::from(handler.handler),
-        catch_class,
+    let start = u32::from(handler.start);
+    match catch_class(file, handler.catch_type) {
+        Ok(catch_class) => Ok(Row {
+            start,
+            end: u32::from(handler.end),
+            handler: u32::from(handler.handler),
+            catch_class,
+        }),
+        Err(rule) => Err((rule, in_method(file.number(), number, start))),
     }
 }
 
-/// The handler rows, in order.
+/// The handler rows of a method, in order.
 fn resolve_rows(
     alloc: Global,
-    scope: &Scope<'_>,
-    file: usize,
-    class: &ClassFile,
+    file: &FileScope<'_, '_>,
+    number: u16,
+    method: &Member,
     handlers: &[Handler],
-) -> Result<Rows<Row>, AllocError>
-    requires within { file < length scope.now }
-    requires here { slice_get scope.now file ≡ Some class.now }
-    ensures { IfOk result (λ rows. rows ≡ map (resolved_row (scope_of scope.now) class.now.constants) handlers.now) }
+) -> Result<Rows<Row>, LinkError>
+    requires { AllByRecursion (IsHandler file.now.class.constants) handlers.now }
+    ensures { Links (first_fault (map (row_fault (scope_of file.now.files) (method_of file.now number method.now)) handlers.now))
+        (map (resolved_row (scope_of file.now.files) file.now.class.constants) handlers.now) result }
 {
     let mut rows = Rows::new(alloc);
     for handler in handlers {
-        rows.push(resolved_row(scope, file, class, handler))?;
+        rows.push(resolve_row(file, number, method, handler)?)?;
     }
     Ok(rows)
-}
-
-fn body_of(
-    alloc: Global,
-    scope: &Scope<'_>,
-    file: usize,
-    class: &ClassFile,
-    method: &Member,
-) -> Result<Body, AllocError>
-    requires within { file < length scope.now }
-    requires here { slice_get scope.now file ≡ Some class.now }
-    ensures { IfOk result (λ body. IsBodyOf (scope_of scope.now) class.now.constants (code_of method.now.attrs) body) }
-{
-    match code_of(method.attrs.as_slice()) {
-        Some(code) => Ok(Body {
-            max_stack: code.max_stack,
-            max_locals: code.max_locals,
-            rows: resolve_rows(alloc, scope, file, class, code.rows.as_slice())?,
-        }),
-        None => Ok(Body {
-            max_stack: 0,
-            max_locals: 0,
-            rows: Rows::new(alloc),
-        }),
-    }
 }
 
 /// What the descriptor of a method says.
 fn signature_of(
     alloc: Global,
-    scope: &Scope<'_>,
-    file: usize,
-    class: &ClassFile,
+    file: &FileScope<'_, '_>,
     method: &Member,
 ) -> Result<Signature, AllocError>
-    requires within { file < length scope.now }
-    requires here { slice_get scope.now file ≡ Some class.now }
-    ensures { IfOk result (λ types. meaning types ≡ resolved_signature (scope_of scope.now) (text_at class.now.constants method.now.descriptor)) }
+    ensures { IfOk result (λ types. meaning types ≡ resolved_signature (scope_of file.now.files) (text_at file.now.class.constants method.now.descriptor)) }
 {
-    match scope.signature(file, method.descriptor) {
-        Some(types) => Ok(Signature {
-            args: Rows::from_slice(alloc, types.args.as_slice())?,
-            result: types.result,
-        }),
+    match file.signature(alloc, method.descriptor)? {
+        Some(types) => Ok(types),
         None => Ok(Signature {
             args: Rows::new(alloc),
             result: None,
@@ -164,102 +132,102 @@ fn signature_of(
 }
 
 /// A method of a file with its instructions.
-fn linked_method(
+fn link_method(
     alloc: Global,
-    scope: &Scope<'_>,
-    file: usize,
-    class: &ClassFile,
+    file: &FileScope<'_, '_>,
+    number: u16,
     method: &Member,
     insns: &[Insn],
-) -> Result<MethodInfo, AllocError>
-    requires few { length scope.now ≤ 64 }
-    requires within { file < length scope.now }
-    requires here { slice_get scope.now file ≡ Some class.now }
-    ensures { IfOk result (λ m. m ≡ linked_method (scope_of scope.now) (declared_in file class.now method.now) insns.now) }
+    budget: &mut Budget,
+) -> Result<MethodInfo, LinkError>
+    requires { IsMethod file.now.class.constants method.now }
+    ensures linked { Links (uses_fault (scope_of file.now.files) (method_of file.now number method.now, insns.now))
+        (linked_method (scope_of file.now.files) (method_of file.now number method.now) insns.now) result }
+    ensures copied { IfOk result (λ m. copied_bytes m + budget.new.left ≡ budget.old.left) }
 {
-    let name = text_at(&class.constants, method.name);
-    let descriptor = text_at(&class.constants, method.descriptor);
-    let number = file_class(file);
-    let site = Site {
-        class: number,
-        name,
-    };
-    let types = signature_of(alloc, scope, file, class, method)?;
-    let body = body_of(alloc, scope, file, class, method)?;
-    let targets = resolve_targets(alloc, scope, file, class, &site, insns)?;
+    let code = own_code(method);
+    let targets = resolve_targets(alloc, file, number, method, insns)?;
+    let rows = resolve_rows(alloc, file, number, method, code.rows.as_slice())?;
+    let name = budget.copy_text(alloc, file.text(method.name))?;
+    let descriptor = budget.copy_text(alloc, file.text(method.descriptor))?;
+    let types = signature_of(alloc, file, method)?;
     Ok(MethodInfo {
-        class: number,
+        class: file.own_class(),
         flags: method.flags,
-        name: Bytes::from_slice(alloc, name)?,
-        descriptor: Bytes::from_slice(alloc, descriptor)?,
-        args: types.args,
+        name,
+        descriptor,
+        args: budget.copy_kinds(alloc, types.args.as_slice())?,
         result: types.result,
-        max_stack: body.max_stack,
-        max_locals: body.max_locals,
+        max_stack: code.max_stack,
+        max_locals: code.max_locals,
         code: copy_insns(alloc, insns)?,
         targets,
-        rows: body.rows,
+        rows,
     })
 }
 
-/// Adds a method of a class. `code` has the instructions of all methods, first those of the methods that are there.
+/// Adds a method of a file. `code` has the instructions of all methods, first those of the methods that are there.
 fn link_member(
     alloc: Global,
-    scope: &Scope<'_>,
-    file: usize,
-    class: &ClassFile,
+    file: &FileScope<'_, '_>,
+    number: u16,
     method: &Member,
     code: &Rows<Rows<Insn>>,
     methods: &mut Rows<MethodInfo>,
-) -> Result<(), AllocError>
-    requires few { length scope.now ≤ 64 }
-    requires within { file < length scope.now }
-    requires here { slice_get scope.now file ≡ Some class.now }
-    ensures { OnOk result (methods.new ≡ methods.old
-        ++ coded_method (scope_of scope.now) (declared_in file class.now method.now) (slice_get code.now (length methods.old))) }
+    budget: &mut Budget,
+) -> Result<(), LinkError>
+    requires { IsMethod file.now.class.constants method.now }
+    ensures linked { OnOk result (AreLinked (scope_of file.now.files) (method_of file.now number method.now ∷ []) code.now methods.old methods.new) }
+    ensures refused { IfErr result (IsLinkErrorOf (use_faults (scope_of file.now.files) (method_of file.now number method.now ∷ []) (drop (length methods.old) code.now))) }
+    ensures copied { OnOk result (sum_by copied_bytes methods.new + budget.new.left ≡ sum_by copied_bytes methods.old + budget.old.left) }
 {
     match code.get(methods.len()) {
         Some(insns) => {
-            let linked = linked_method(alloc, scope, file, class, method, insns.as_slice())?;
-            methods.push(linked)
+            let linked = link_method(alloc, file, number, method, insns.as_slice(), budget)?;
+            methods.push(linked)?;
+            Ok(())
         }
         None => Ok(()),
     }
 }
 
-/// Adds the methods of a class.
+/// Adds the methods of a file.
+#[tactic(auto, using(crate::proofs::Coding::method_at, crate::proofs::Coding::number_at))]
 fn link_class(
     alloc: Global,
-    scope: &Scope<'_>,
-    file: usize,
-    class: &ClassFile,
+    file: &FileScope<'_, '_>,
     code: &Rows<Rows<Insn>>,
     methods: &mut Rows<MethodInfo>,
-) -> Result<(), AllocError>
-    requires few { length scope.now ≤ 64 }
-    requires within { file < length scope.now }
-    requires here { slice_get scope.now file ≡ Some class.now }
-    ensures { OnOk result (methods.new ≡ methods.old ++ linked_methods (scope_of scope.now)
-        (zip (declared_from file class.now.constants 0 class.now.methods) (drop (length methods.old) code.now))) }
+    budget: &mut Budget,
+) -> Result<(), LinkError>
+    ensures linked { OnOk result (AreLinked (scope_of file.now.files) (declared_from file.now.number file.now.class.constants 0 file.now.class.methods) code.now methods.old methods.new) }
+    ensures refused { IfErr result (IsLinkErrorOf (use_faults (scope_of file.now.files)
+        (declared_from file.now.number file.now.class.constants 0 file.now.class.methods) (drop (length methods.old) code.now))) }
+    ensures copied { OnOk result (sum_by copied_bytes methods.new + budget.new.left ≡ sum_by copied_bytes methods.old + budget.old.left) }
 {
-    for method in class.methods.as_slice() {
-        link_member(alloc, scope, file, class, method, code, methods)?;
+    let members = file.class().methods.as_slice();
+    for (number, method) in members.iter().enumerate() {
+        link_member(alloc, file, number as u16, method, code, methods, budget)?;
     }
     Ok(())
 }
 
-/// The methods of all classes, in order of the files. `code` has their instructions.
+/// The methods of all classes, in order of the files, with the instructions that `code` has of them. This is the third
+/// pass: the first instruction or handler row that names what it may not refuses the files (L1, L2, L3 and L7).
 pub fn link_methods(
     alloc: Global,
     scope: &Scope<'_>,
     code: &Rows<Rows<Insn>>,
-) -> Result<Rows<MethodInfo>, AllocError>
-    requires few { length scope.now ≤ 64 }
-    ensures { IfOk result (λ methods. methods ≡ linked_methods (scope_of scope.now) (coded_methods scope.now code.now)) }
+) -> Result<Rows<MethodInfo>, LinkError>
+    ensures linked { Links (use_pass scope.now code.now) (linked_methods (scope_of scope.now) (coded_methods scope.now code.now)) result }
+    ensures copied { IfOk result (λ methods. sum_by copied_bytes methods ≤ MOST_COPIED) }
 {
     let mut methods = Rows::new(alloc);
-    for (file, class) in scope.files().as_slice().iter().enumerate() {
-        link_class(alloc, scope, file, class, code, &mut methods)?;
+    let mut budget = Budget { left: MOST_COPIED };
+    let files = scope.files().as_slice();
+    for (number, class) in files.iter().enumerate() {
+        let file = scope.file(number, class);
+        link_class(alloc, &file, code, &mut methods, &mut budget)?;
     }
     Ok(methods)
 }

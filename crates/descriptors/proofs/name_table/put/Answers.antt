@@ -3,4 +3,4 @@ use Rattle.descriptors.proofs.Tables.{put_name}
 use Rattle.descriptors.proofs.name_table.put.Goals as goal
 
 pub returns : goal.returns
-returns c = rw (← c.in_ok-key.ensures.items) (put_name c.in_ok-key.key.items c.args.table.now c.insert.new.self (Some c.args.number) c.in_ok-insert.ensures.updates)
+returns c = put_name c.args.name.now c.args.table.now c.insert.new.self (Some c.args.number) c.in_ok-insert.ensures.updates

@@ -1,8 +1,8 @@
-use Rattle.std.proofs.Common.{◌≡◌, ℕ, ◌+◌, List, map, drop, bytes_eq}
+use Rattle.std.proofs.Common.{◌≡◌, ℕ, ◌+◌, List, drop, bytes_eq}
 use Rattle.std.specs.Option.{option_or}
 use Rattle.std.specs.List.{position_from}
-use Rattle.descriptors.specs.NameTables.{find}
+use Rattle.descriptors.specs.NameTables.{find, names_in}
 use Rattle.descriptors.proofs.name_table.put_names.Given as goal
 
 abbrev pub invariant-loop-place : goal.invariant-loop-place
-invariant-loop-place l = (q : List ℕ) → find l.table q ≡ option_or (position_from (bytes_eq q) (l.first + l.place) (map (λ n. n.now) (drop l.place l.names))) (find l.fn.table q)
+invariant-loop-place l = (q : List ℕ) → find l.table q ≡ option_or (position_from (bytes_eq q) (l.first + l.place) (names_in (drop l.place l.names))) (find l.fn.table q)

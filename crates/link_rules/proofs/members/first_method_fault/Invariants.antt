@@ -4,5 +4,5 @@ use Rattle.jvm_types.specs.LinkFaults.{first_from, method_fault}
 use Rattle.link_rules.proofs.members.first_method_fault.Given as goal
 
 abbrev pub invariant-loop-number : goal.invariant-loop-number
-invariant-loop-number l = first_from (method_fault (class_names l.scope) l.file l.class) l.number (drop l.number l.methods)
-    ≡ first_from (method_fault (class_names l.scope) l.file l.class) 0 l.methods
+invariant-loop-number l = first_from (method_fault (class_names l.file.files) l.file.number l.file.class) l.number (drop l.number l.methods)
+    ≡ first_from (method_fault (class_names l.file.files) l.file.number l.file.class) 0 l.methods

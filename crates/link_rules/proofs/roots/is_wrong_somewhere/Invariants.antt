@@ -4,5 +4,5 @@ use Rattle.jvm_types.specs.Members.{declared_by, declared_methods}
 use Rattle.jvm_types.specs.LinkFaults.{is_wrong_method}
 use Rattle.link_rules.proofs.roots.is_wrong_somewhere.Given as goal
 
-abbrev pub invariant-loop-file : goal.invariant-loop-file
-invariant-loop-file l = list_any is_wrong_method (declared_by (λ c. c.methods) l.file (drop l.file l.files)) ≡ list_any is_wrong_method (declared_methods l.files)
+abbrev pub invariant-loop-number : goal.invariant-loop-number
+invariant-loop-number l = list_any is_wrong_method (declared_by (λ c. c.methods) l.number (drop l.number l.scope)) ≡ list_any is_wrong_method (declared_methods l.scope)

@@ -6,7 +6,7 @@ use Rattle.link_scope.proofs.file_texts.number_files.Goals as goal
 
 pub loop-class-preserved : goal.loop-class-preserved
 loop-class-preserved c =
-    let small : length c.class-item.result.constants < 2 ^ 16 = (all_at IsClass _ _ _ (rw (← c.as_slice-class-items.ensures) at c.requires.classes) c.loop-class-test.true c.class-item.is).pool.count in
+    let small : length c.class-item.result.constants < 2 ^ 16 = (all_at IsClass _ _ _ (rw (← c.as_slice-class-items.ensures) at c.requires.files.classes) c.loop-class-test.true c.class-item.is).pool.count in
     record {
       kept = λ text n e. c.in_ok-number_pool.ensures.kept text n (c.loop-class.invariant.kept text n e);
       names = c.in_ok-number_pool.ensures.names ∙ c.loop-class.invariant.names;

@@ -3,8 +3,8 @@ use Rattle.jvm_types.specs.ClassNames.{class_names}
 use Rattle.jvm_types.specs.Layout.{fields_from, laid_out_fields}
 use Rattle.linker.proofs.layout.lay_out.Given as goal
 
-abbrev pub invariant-loop-file : goal.invariant-loop-file
-invariant-loop-file l = record {
-  fields : l.fields ++ fields_from (class_names l.scope) l.file l.word (drop l.file l.class-items) ≡ laid_out_fields (class_names l.scope) l.scope;
-  word : l.word ≤ 2068 + 65537 * l.file;
+abbrev pub invariant-loop-number : goal.invariant-loop-number
+invariant-loop-number l = record {
+  fields : l.fields ++ fields_from (class_names l.scope) l.number l.word (drop l.number l.scope) ≡ laid_out_fields (class_names l.scope) l.scope;
+  word : l.word ≤ 2068 + 65538 * l.number;
 }

@@ -1,10 +1,15 @@
-use Rattle.std.proofs.Common.{◌≡◌, ◌++◌, length, drop}
-use Rattle.std.specs.List.{zip}
+use Rattle.std.proofs.Common.{◌≡◌, ◌+◌, ◌++◌, length, drop}
+use Rattle.std.specs.List.{zip, sum_by}
 use Rattle.jvm_types.specs.Members.{declared_from}
 use Rattle.jvm_types.specs.Linked.{scope_of, linked_methods}
+use Rattle.linker.specs.Linking.{use_faults, copied_bytes}
 use Rattle.linker.proofs.methods.link_class.Given as goal
 
-abbrev pub invariant-loop-method : goal.invariant-loop-method
-invariant-loop-method l =
-    l.methods ++ linked_methods (scope_of l.scope) (zip (declared_from l.file l.class.constants l.method-index (drop l.method-index l.method-items)) (drop (length l.methods) l.code))
-    ≡ l.fn.methods ++ linked_methods (scope_of l.scope) (zip (declared_from l.file l.class.constants 0 l.class.methods) (drop (length l.fn.methods) l.code))
+abbrev pub invariant-loop-number : goal.invariant-loop-number
+invariant-loop-number l = record {
+  left : use_faults (scope_of l.file.files) (declared_from l.file.number l.file.class.constants l.number (drop l.number l.members)) (drop (length l.methods) l.code)
+      ≡ use_faults (scope_of l.file.files) (declared_from l.file.number l.file.class.constants 0 l.file.class.methods) (drop (length l.fn.methods) l.code);
+  made : l.methods ++ linked_methods (scope_of l.file.files) (zip (declared_from l.file.number l.file.class.constants l.number (drop l.number l.members)) (drop (length l.methods) l.code))
+      ≡ l.fn.methods ++ linked_methods (scope_of l.file.files) (zip (declared_from l.file.number l.file.class.constants 0 l.file.class.methods) (drop (length l.fn.methods) l.code));
+  copied : sum_by copied_bytes l.methods + l.budget.left ≡ sum_by copied_bytes l.fn.methods + l.fn.budget.left;
+}

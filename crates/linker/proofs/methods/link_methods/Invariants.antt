@@ -1,10 +1,15 @@
-use Rattle.std.proofs.Common.{◌≡◌, ◌++◌, length, drop}
-use Rattle.std.specs.List.{zip}
+use Rattle.std.proofs.Common.{◌≡◌, ◌+◌, ◌++◌, length, drop}
+use Rattle.std.specs.List.{zip, sum_by}
 use Rattle.jvm_types.specs.Members.{declared_by}
 use Rattle.jvm_types.specs.Linked.{scope_of, linked_methods, coded_methods}
+use Rattle.jvm_types.specs.LinkFaults.{use_pass}
+use Rattle.linker.specs.Linking.{use_faults, copied_bytes}
 use Rattle.linker.proofs.methods.link_methods.Given as goal
 
-abbrev pub invariant-loop-file : goal.invariant-loop-file
-invariant-loop-file l =
-    l.methods ++ linked_methods (scope_of l.scope) (zip (declared_by (λ c. c.methods) l.file (drop l.file l.class-items)) (drop (length l.methods) l.code))
-    ≡ linked_methods (scope_of l.scope) (coded_methods l.scope l.code)
+abbrev pub invariant-loop-number : goal.invariant-loop-number
+invariant-loop-number l = record {
+  left : use_faults (scope_of l.scope) (declared_by (λ c. c.methods) l.number (drop l.number l.scope)) (drop (length l.methods) l.code) ≡ use_pass l.scope l.code;
+  made : l.methods ++ linked_methods (scope_of l.scope) (zip (declared_by (λ c. c.methods) l.number (drop l.number l.scope)) (drop (length l.methods) l.code))
+      ≡ linked_methods (scope_of l.scope) (coded_methods l.scope l.code);
+  copied : sum_by copied_bytes l.methods + l.budget.left ≡ 134217728;
+}

@@ -1,0 +1,40 @@
+use Rattle.std.proofs.Common.{◌≡◌, ◌+◌, Option, Some, None, List, length, sym, ap, ◌∙◌, subst, arith}
+use Rattle.std.specs.Prelude.{slice_get}
+use Rattle.std.specs.List.{sum_by}
+use Rattle.std.proofs.lemmas.Result.{err_from_is_err_and}
+use Rattle.std.proofs.lemmas.List.Sums.{sum_by_push}
+use Rattle.jvm_types.specs.Linked.{scope_of}
+use Rattle.jvm_types.specs.LinkFaults.{LinkFault}
+use Rattle.jvm_types.specs.declared.code.Insn.{Insn}
+use Rattle.jvm_types.specs.declared.program.MethodInfo.{MethodInfo}
+use Rattle.linker.specs.Linking.{IsLinkErrorOf, method_of, copied_bytes}
+use Rattle.linker.proofs.Coding.{fault_at, one_at, none_at}
+use Rattle.linker.proofs.methods.link_member.Goals as goal
+
+pub returns-in_err-linked-in-Some-clause-refused : goal.returns-in_err-linked-in-Some-clause-refused
+returns-in_err-linked-in-Some-clause-refused c =
+    let insns : slice_get c.args.code.now (length c.args.methods.now) ≡ Some c.as_slice.result.now =
+    ap (slice_get c.args.code.now) (sym c.len.ensures) ∙ sym c.in-Some.ensures.value ∙ ap (λ (x : List Insn). Some x) (sym c.as_slice.ensures) in
+    let p = err_from_is_err_and c.from_residual.result c.from_residual.ensures.1 in
+    rw (p.1, p.2)
+    (subst (λ (o : Option LinkFault). IsLinkErrorOf o c.in_err-linked-in-Some.field-0.0)
+    (sym (fault_at (scope_of c.args.file.now.files) (method_of c.args.file.now c.args.number c.args.method.now) c.args.code.now (length c.args.methods.now) c.as_slice.result.now insns))
+    c.in_err-linked-in-Some.ensures.linked)
+
+pub returns-in_ok-push-in-Some-clause-linked : goal.returns-in_ok-push-in-Some-clause-linked
+returns-in_ok-push-in-Some-clause-linked c =
+    let insns : slice_get c.args.code.now (length c.args.methods.now) ≡ Some c.as_slice.result.now =
+    ap (slice_get c.args.code.now) (sym c.len.ensures) ∙ sym c.in-Some.ensures.value ∙ ap (λ (x : List Insn). Some x) (sym c.as_slice.ensures) in
+    one_at (scope_of c.args.file.now.files) (method_of c.args.file.now c.args.number c.args.method.now) c.args.code.now c.args.methods.now c.push.new.self c.as_slice.result.now c.in_ok-linked-in-Some.linked insns
+    c.in_ok-linked-in-Some.ensures.linked.0 c.in_ok-linked-in-Some.ensures.linked.1 c.in_ok-push-in-Some.ensures.ok
+
+pub returns-in_ok-push-in-Some-clause-copied : goal.returns-in_ok-push-in-Some-clause-copied
+returns-in_ok-push-in-Some-clause-copied c =
+    let grown : sum_by copied_bytes c.push.new.self ≡ sum_by copied_bytes c.args.methods.now + copied_bytes c.in_ok-linked-in-Some.linked =
+    ap (λ (ms : List MethodInfo). sum_by copied_bytes ms) c.in_ok-push-in-Some.ensures.ok ∙ sum_by_push copied_bytes c.args.methods.now c.in_ok-linked-in-Some.linked in
+    omega (arith, grown, c.in_ok-linked-in-Some.ensures.copied)
+
+pub returns-in-None-clause-linked : goal.returns-in-None-clause-linked
+returns-in-None-clause-linked c =
+    none_at (scope_of c.args.file.now.files) (method_of c.args.file.now c.args.number c.args.method.now) c.args.code.now c.args.methods.now
+    (ap (slice_get c.args.code.now) (sym c.len.ensures) ∙ sym c.in-None.ensures.value)

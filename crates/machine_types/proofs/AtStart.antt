@@ -1,0 +1,138 @@
+-- The facts at the start of a run.
+use Rattle.std.proofs.Common.{◌≡◌, ◌<◌, ℕ, zero, suc, ◌+◌, ◌*◌, ◌-◌, Bool, true, false, List, [], ◌∷◌, ◌++◌, Some, refl, sym, ◌∙◌, ap, subst, arith}
+use Rattle.std.specs.Prelude.{map, not, flat_map, replicate, slice_get, slice_index, slice_index_or, Contains, ◌==◌}
+use Rattle.std.specs.Int.Bits.{and_zero_l}
+use Rattle.std.specs.List.{range_with_len}
+use Rattle.jvm_types.specs.Numbers.{has_flag}
+use Rattle.jvm_types.specs.ProgramInvariant.{words_of}
+use Rattle.jvm_types.specs.declared.program.Program.{Program}
+use Rattle.jvm_types.specs.declared.outcome.End.TheVariants as ends
+use Rattle.checked_program.specs.MarkedProgram.{MarkedProgram}
+use Rattle.machine_types.specs.Core.{start, start_thread, part_phase}
+use Rattle.machine_types.specs.History.{Past, no_past, told_start, past_at}
+use Rattle.machine_types.specs.Monitors.{bit_of}
+use Rattle.machine_types.specs.Parts.{init_roots}
+use Rattle.machine_types.specs.PlainMemory.{Object}
+use Rattle.machine_types.specs.ReadyObjects.{ready_classes}
+use Rattle.machine_types.specs.StartWords.{start_words, object_words, class_words, classes_of}
+use Rattle.machine_types.specs.Words.{most_records, bits_word}
+use Rattle.machine_types.specs.Threads.{Thread, fresh}
+use Rattle.machine_types.specs.declared.phase.Phase.{Phase}
+use Rattle.machine_types.specs.declared.config.Config.{Config}
+use Rattle.machine_types.specs.declared.lock.Held.{Held}
+use Rattle.machine_types.specs.declared.phase.Phase.TheVariants as phases
+use Rattle.machine_types.specs.Attempts.{OwesNothing}
+use Rattle.machine_types.specs.Construction.{ThreadKeeps}
+use Rattle.machine_types.specs.StartLaws.{phase_at_start}
+use Rattle.machine_types.specs.Structure.{IsStructured, Structure}
+use Rattle.machine_types.specs.Typed.{Classes, HasClass, ThreadHolds}
+use Rattle.machine_types.specs.Waiting.{is_bit_set, Waits, Waiting}
+use Rattle.machine_types.specs.Worlds.{World, IsOwnOrFinished}
+
+-- ---- each thread is a fresh one
+
+pub thread_in : (f : ℕ → Thread) (from n t : ℕ) (s : Thread) → slice_get (map f (range_with_len from n)) t ≡ Some s → f (from + t) ≡ s
+thread_in f from zero t s e = cc
+thread_in f from (suc n) zero s e = let x : f from ≡ s = cc in let y : from ≡ from + 0 = omega arith in subst (λ (i : ℕ). f i ≡ s) y x
+thread_in f from (suc n) (suc t) s e = let y : (from + 1) + t ≡ from + suc t = omega arith in subst (λ (i : ℕ). f i ≡ s) y (thread_in f (from + 1) n t s e)
+
+pub is_start_thread : (c : MarkedProgram) (cfg : Config) (t : ℕ) (s : Thread) → slice_get (start c cfg).threads t ≡ Some s → start_thread c cfg t ≡ s
+is_start_thread c cfg t s e = let y : 0 + t ≡ t = omega arith in subst (λ (i : ℕ). start_thread c cfg i ≡ s) y (thread_in (start_thread c cfg) 0 (c.program.workers + 1) t s e)
+
+pub data IsFreshPhase : Phase → Type 0 where
+  starts : IsFreshPhase phases.Start
+  idles : IsFreshPhase phases.Idle
+  is_over : IsFreshPhase (phases.Ended ends.Returned)
+
+part_is_fresh : (roots : List ℕ) → IsFreshPhase (part_phase roots)
+part_is_fresh [] = is_over
+part_is_fresh (number ∷ roots) = starts
+
+-- ---- structure
+
+fresh_is_structured : (m c : MarkedProgram) (cfg : Config) (t : ℕ) (phase : Phase) (roots : List ℕ) → IsFreshPhase phase → IsStructured m phase (fresh c cfg t phase roots)
+fresh_is_structured m c cfg t _ roots starts = record { is_as = refl; stands = record { shown = []; show = refl; depths = λ n. refl; once = tt; phase_shows = refl }; attempt = tt }
+fresh_is_structured m c cfg t _ roots idles = record { is_as = refl; stands = record { shown = []; show = refl; depths = λ n. refl; once = tt; phase_shows = refl }; attempt = tt }
+fresh_is_structured m c cfg t _ roots is_over = record { is_as = refl; stands = record { shown = []; show = refl; depths = λ n. refl; once = tt; phase_shows = refl }; attempt = tt }
+
+structured : (m c : MarkedProgram) (cfg : Config) (i : ℕ) → IsStructured m (phase_at_start c cfg i) (start_thread c cfg i)
+structured m c cfg zero = fresh_is_structured m c cfg 0 (part_phase (init_roots c.program)) (init_roots c.program) (part_is_fresh (init_roots c.program))
+structured m c cfg (suc i) = fresh_is_structured m c cfg (suc i) phases.Idle [] idles
+
+pub is_structured : (c : MarkedProgram) (cfg : Config) → Structure c (phase_at_start c cfg) (start c cfg).threads
+is_structured c cfg t s e = subst (λ (x : Thread). IsStructured c (phase_at_start c cfg t) x) (is_start_thread c cfg t s e) (structured c c cfg t)
+
+-- ---- types
+
+fresh_holds : (m : MarkedProgram) (is : Classes) (c : MarkedProgram) (cfg : Config) (t : ℕ) (phase : Phase) (roots : List ℕ) → IsFreshPhase phase → ThreadHolds m is (fresh c cfg t phase roots)
+fresh_holds m is c cfg t _ roots starts = record { phase = tt; attempt = tt }
+fresh_holds m is c cfg t _ roots idles = record { phase = tt; attempt = tt }
+fresh_holds m is c cfg t _ roots is_over = record { phase = tt; attempt = tt }
+
+holds : (m : MarkedProgram) (is : Classes) (c : MarkedProgram) (cfg : Config) (i : ℕ) → ThreadHolds m is (start_thread c cfg i)
+holds m is c cfg zero = fresh_holds m is c cfg 0 (part_phase (init_roots c.program)) (init_roots c.program) (part_is_fresh (init_roots c.program))
+holds m is c cfg (suc i) = fresh_holds m is c cfg (suc i) phases.Idle [] idles
+
+pub is_typed : (c : MarkedProgram) (cfg : Config) (objects : List Object) (t : ℕ) (x : Thread) → slice_get (start c cfg).threads t ≡ Some x → ThreadHolds c (HasClass objects) x
+is_typed c cfg objects t x e = subst (λ (y : Thread). ThreadHolds c (HasClass objects) y) (is_start_thread c cfg t x e) (holds c (HasClass objects) c cfg t)
+
+-- ---- construction
+
+none_held : (w : World) (next t : ℕ) (h : Held) → Contains [] h → IsOwnOrFinished w next t h.monitor
+none_held w next t h k = let lt : k.0 < 0 = k.1 in absurd (grind arith)
+
+fresh_keeps : (m : MarkedProgram) (frozen : ℕ → Bool) (w : World) (next : ℕ) (c : MarkedProgram) (cfg : Config) (t i : ℕ) (phase : Phase) (roots : List ℕ) → IsFreshPhase phase → ThreadKeeps m frozen w next t phase (fresh c cfg i phase roots)
+fresh_keeps m frozen w next c cfg t i _ roots starts = record { frames = tt; phase = tt; held = λ h k. none_held w next t h k; attempt = tt }
+fresh_keeps m frozen w next c cfg t i _ roots idles = record { frames = tt; phase = tt; held = λ h k. none_held w next t h k; attempt = tt }
+fresh_keeps m frozen w next c cfg t i _ roots is_over = record { frames = tt; phase = tt; held = λ h k. none_held w next t h k; attempt = tt }
+
+thread_keeps : (m : MarkedProgram) (frozen : ℕ → Bool) (w : World) (next : ℕ) (c : MarkedProgram) (cfg : Config) (t i : ℕ) → ThreadKeeps m frozen w next t (phase_at_start c cfg i) (start_thread c cfg i)
+thread_keeps m frozen w next c cfg t zero = fresh_keeps m frozen w next c cfg t 0 (part_phase (init_roots c.program)) (init_roots c.program) (part_is_fresh (init_roots c.program))
+thread_keeps m frozen w next c cfg t (suc i) = fresh_keeps m frozen w next c cfg t (suc i) phases.Idle [] idles
+
+pub keeps : (c : MarkedProgram) (cfg : Config) (frozen : ℕ → Bool) (w : World) (next t : ℕ) (x : Thread) → slice_get (start c cfg).threads t ≡ Some x → ThreadKeeps c frozen w next t (phase_at_start c cfg t) x
+keeps c cfg frozen w next t x e = subst (λ (y : Thread). ThreadKeeps c frozen w next t (phase_at_start c cfg t) y) (is_start_thread c cfg t x e) (thread_keeps c frozen w next c cfg t t)
+
+-- ---- attempts
+
+in_replicated : (n t : ℕ) → slice_index_or (replicate n no_past) t no_past ≡ no_past
+in_replicated zero t = refl
+in_replicated (suc n) zero = refl
+in_replicated (suc n) (suc t) = in_replicated n t
+
+pub owes_nothing : (c : MarkedProgram) (cfg : Config) (t : ℕ) → OwesNothing (past_at (told_start c cfg) t)
+owes_nothing c cfg t = subst (λ (d : Past). OwesNothing d) (sym (in_replicated (c.program.workers + 1) t)) (record { due = refl; pending = refl })
+
+-- ---- waiting
+
+none_set : (u : ℕ) → has_flag u 0 ≡ false
+none_set u = ap (λ (n : ℕ). not (n == 0)) (and_zero_l u)
+
+-- behind the first four words the monitor records are 0
+in_zeros : (n k : ℕ) (xs ys zs : List ℕ) → k < n → slice_index (replicate n 0 ++ xs ++ ys ++ zs) k ≡ 0
+in_zeros zero k xs ys zs lt = absurd (grind arith)
+in_zeros (suc n) zero xs ys zs lt = refl
+in_zeros (suc n) (suc k) xs ys zs lt = in_zeros n k xs ys zs (omega arith)
+
+bits_are_zero : (p : Program) (r : ℕ) → r < most_records → slice_index (start_words p) (bits_word r) ≡ 0
+bits_are_zero p r lt =
+    let y : suc (suc (suc (suc (1 + 2 * r)))) ≡ 5 + 2 * r = omega arith in
+    subst (λ (k : ℕ). slice_index (start_words p) k ≡ 0) y (in_zeros (2 * most_records) (1 + 2 * r) (flat_map object_words ready_classes) (flat_map (class_words p.fields) (classes_of p)) (replicate (p.heap - words_of p) 0) (omega arith))
+
+none_is_set : (p : Program) (r u : ℕ) → r < most_records → is_bit_set (start_words p) r u ≡ true → ⊥
+none_is_set p r u lt e = let h : has_flag (bit_of u) 0 ≡ true = subst (λ (n : ℕ). has_flag (bit_of u) n ≡ true) (bits_are_zero p r lt) e in let g : false ≡ true = sym (none_set (bit_of u)) ∙ h in cc
+
+fresh_waits : (words : List ℕ) (t : ℕ) (phase : Phase) → ((r : ℕ) → r < most_records → is_bit_set words r t ≡ true → ⊥) → IsFreshPhase phase → Waits words t phase
+fresh_waits words t _ none starts = record { only = λ r lt e. absurd (none r lt e); must = tt }
+fresh_waits words t _ none idles = record { only = λ r lt e. absurd (none r lt e); must = tt }
+fresh_waits words t _ none is_over = record { only = λ r lt e. absurd (none r lt e); must = tt }
+
+pub phase_is_fresh : (c : MarkedProgram) (cfg : Config) (t : ℕ) → IsFreshPhase (phase_at_start c cfg t)
+phase_is_fresh c cfg zero = part_is_fresh (init_roots c.program)
+phase_is_fresh c cfg (suc t) = idles
+
+pub waits : (c : MarkedProgram) (cfg : Config) → Waiting (phase_at_start c cfg) (start c cfg)
+waits c cfg = record {
+  each = λ t x e. fresh_waits (start_words c.program) t (phase_at_start c cfg t) (λ r lt g. none_is_set c.program r t lt g) (phase_is_fresh c cfg t);
+  others = λ r t lt e. absurd (none_is_set c.program r t lt e);
+}

@@ -1,0 +1,101 @@
+-- Construction, for a thread that is written out: in an `<init>` of a frozen class, which a `new` in the frame below waits for.
+use Rattle.std.proofs.Common.{ℕ, Bool, true, false, List, [], ◌∷◌, Some, None, refl, arith}
+use Rattle.std.specs.Prelude.{map, ◌==◌, if◌then◌else◌}
+use Rattle.jvm_types.specs.declared.typing.Typing.{Typing}
+use Rattle.jvm_types.specs.declared.typing.TypeFrame.{TypeFrame}
+use Rattle.jvm_types.specs.declared.typing.VType.TheVariants.{This, New}
+use Rattle.checked_program.specs.MarkedProgram.{MarkedProgram}
+use Rattle.checked_program.proofs.TriedPrograms.{pair, tags_of}
+use Rattle.machine_types.specs.Construction.{Runs, FramesKeep}
+use Rattle.machine_types.specs.Standing.{Standing}
+use Rattle.machine_types.specs.Threads.{Frame}
+use Rattle.machine_types.specs.Worlds.{Made, Begun, builder, World}
+use Rattle.machine_types.proofs.InSections.{tags_by}
+
+abbrev in_init : TypeFrame
+in_init = record { stack = This ∷ []; locals = This ∷ []; this_ready = false }
+
+abbrev behind_new : TypeFrame
+behind_new = record { stack = New 0 ∷ New 0 ∷ []; locals = []; this_ready = true }
+
+abbrev typings : List Typing
+typings = record { frames = None ∷ Some in_init ∷ [] } ∷ record { frames = [] } ∷ record { frames = [] } ∷ record { frames = None ∷ None ∷ Some behind_new ∷ [] } ∷ []
+
+abbrev c : MarkedProgram
+c = record { program = pair; typings = typings; tags = map tags_by (tags_of pair); marks = [] }
+
+-- `this` on the stack, to call the `<init>` of Object on
+abbrev init_frame : Frame
+init_frame = record { method = 0; pc = 1; receiver = 3000; locals = 3000 ∷ []; stack = 3000 ∷ [] }
+
+-- one of two copies of the new object is taken by the call
+abbrev new_frame : Frame
+new_frame = record { method = 3; pc = 4; receiver = 0; locals = []; stack = 3000 ∷ [] }
+
+abbrev init_stands : Standing c init_frame
+init_stands = record {
+  number = 1;
+  method = _;
+  insn = _;
+  target = _;
+  tags = _;
+  at = record { in_program = refl; in_code = refl; names = refl; frames = _; of_method = refl; frame = refl };
+  shapes = _;
+  types_of_method = refl;
+  types = _;
+  types_are = refl;
+  pc_is = refl;
+}
+
+abbrev new_stands : Standing c new_frame
+new_stands = record {
+  number = 2;
+  method = _;
+  insn = _;
+  target = _;
+  tags = _;
+  at = record { in_program = refl; in_code = refl; names = refl; frames = _; of_method = refl; frame = refl };
+  shapes = _;
+  types_of_method = refl;
+  types = _;
+  types_are = refl;
+  pc_is = refl;
+}
+
+abbrev is_17 : ℕ → Bool
+is_17 class = class == 17
+
+-- the object is begun, by the frame above one other
+abbrev begun : World
+begun v = if v == 3000 then Some (builder 1 1 Begun) else None
+
+keeps_begun : FramesKeep c is_17 begun 4000 1 Runs (init_frame ∷ new_frame ∷ [])
+keeps_begun = (
+  record { stands = init_stands; receiver = refl; stack = (refl, tt); locals = (refl, tt) },
+  (record { begun = Some (New 0, 17); keeps = record { stands = new_stands; receiver = (omega arith, refl); stack = (refl, tt); locals = tt }; calls = refl; begun_is = refl }, tt),
+)
+
+-- before the call it is made
+abbrev before : Frame
+before = record new_frame { stack = 3000 ∷ 3000 ∷ [] }
+
+abbrev before_stands : Standing c before
+before_stands = record {
+  number = 2;
+  method = _;
+  insn = _;
+  target = _;
+  tags = _;
+  at = record { in_program = refl; in_code = refl; names = refl; frames = _; of_method = refl; frame = refl };
+  shapes = _;
+  types_of_method = refl;
+  types = _;
+  types_are = refl;
+  pc_is = refl;
+}
+
+abbrev made : World
+made v = if v == 3000 then Some (builder 1 0 (Made 0)) else None
+
+keeps_made : FramesKeep c is_17 made 4000 1 Runs (before ∷ [])
+keeps_made = (record { stands = before_stands; receiver = (omega arith, refl); stack = (refl, (refl, tt)); locals = tt }, tt)

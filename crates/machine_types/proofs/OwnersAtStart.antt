@@ -1,0 +1,105 @@
+-- Owners at the start of a run, where the lock word of each object is 0.
+use Rattle.std.proofs.Common.{◌≡◌, ℕ, zero, suc, ◌+◌, Bool, true, false, List, [], ◌∷◌, Option, Some, None, refl, ap, subst, arith}
+use Rattle.std.specs.Prelude.{map, slice_index, ◌==◌, ◌&&◌, ◌||◌, if◌then◌else◌}
+use Rattle.std.specs.List.{range_with_len}
+use Rattle.std.proofs.lemmas.Bool.{eqb-true}
+use Rattle.jvm_types.specs.Numbers.{has_number}
+use Rattle.checked_program.proofs.EachReached.{both}
+use Rattle.checked_program.proofs.TriedPrograms.{many}
+use Rattle.checked_program.specs.MarkedProgram.{MarkedProgram}
+use Rattle.machine_types.specs.Core.{start, start_thread}
+use Rattle.machine_types.specs.HeldMonitors.{held_at}
+use Rattle.machine_types.specs.LockWords.{lock_of}
+use Rattle.machine_types.specs.PlainMemory.{start_objects}
+use Rattle.machine_types.specs.StartWords.{start_words}
+use Rattle.machine_types.specs.Parts.{init_roots}
+use Rattle.machine_types.specs.Threads.{Thread, fresh}
+use Rattle.machine_types.specs.declared.lock.Held.{Held}
+use Rattle.machine_types.specs.declared.config.Config.{Config}
+use Rattle.machine_types.specs.declared.lock.LockWord.{LockWord}
+use Rattle.machine_types.specs.declared.lock.LockWord.TheVariants as locks
+use Rattle.machine_types.specs.declared.phase.Phase.{Phase}
+use Rattle.machine_types.specs.declared.phase.Phase.TheVariants as phases
+use Rattle.machine_types.specs.Owners.{Locks, lock_at, locks_in, NotHeld, hold_by_word, hold_by_list, drawn_by, Owns, flat_holders, one_if_flat, references_of, Owners}
+use Rattle.machine_types.proofs.InSections.{marked}
+use Rattle.machine_types.proofs.AtStart.{IsFreshPhase, starts, idles, is_over, is_start_thread, phase_is_fresh}
+use Rattle.machine_types.specs.StartLaws.{phase_at_start}
+
+-- ---- owners, where the lock word of each object is 0
+
+free_at : (references words : List ℕ) → ((m : ℕ) → has_number references m ≡ true → slice_index words m ≡ 0) → (m : ℕ) → lock_at references words m ≡ locks.Free 0
+free_at references words zeros m = by_test (has_number references m) refl
+  where
+    by_test : (b : Bool) → has_number references m ≡ b → (if b then lock_of (slice_index words m) else locks.Free 0) ≡ locks.Free 0
+    by_test true e = ap lock_of (zeros m e)
+    by_test false e = refl
+
+not_fat : (r : ℕ) (lock : LockWord) → lock ≡ locks.Free 0 → lock ≡ locks.Fat r → ⊥
+not_fat r lock e h = cc
+
+count_of_free : (lock : LockWord) (seen : ℕ) → lock ≡ locks.Free 0 → lock ≡ locks.Free seen → seen ≡ 0
+count_of_free lock seen e h = cc
+
+held_at_start : (c : MarkedProgram) (cfg : Config) (t m : ℕ) → held_at (start_thread c cfg t).held m ≡ None
+held_at_start c cfg zero m = refl
+held_at_start c cfg (suc t) m = refl
+
+none_flat : (c : MarkedProgram) (cfg : Config) (m from n : ℕ) → flat_holders m (map (start_thread c cfg) (range_with_len from n)) ≡ 0
+none_flat c cfg m from zero = refl
+none_flat c cfg m from (suc n) =
+    let h : one_if_flat (hold_by_list (held_at (start_thread c cfg from).held m)) ≡ 0 = ap (λ (o : Option Held). one_if_flat (hold_by_list o)) (held_at_start c cfg from m) in
+    let k : flat_holders m (map (start_thread c cfg) (range_with_len (from + 1) n)) ≡ 0 = none_flat c cfg m (from + 1) n in
+    grind arith
+
+none_by_word : (t : ℕ) (lock : LockWord) (owner : ℕ → ℕ) → lock ≡ locks.Free 0 → hold_by_word t lock owner ≡ NotHeld
+none_by_word t lock owner e = ap (λ (l : LockWord). hold_by_word t l owner) e
+
+none_drawn : (phase : Phase) (r : ℕ) → IsFreshPhase phase → drawn_by phase ≡ Some r → ⊥
+none_drawn _ r starts e = cc
+none_drawn _ r idles e = cc
+none_drawn _ r is_over e = cc
+
+fresh_owns : (v : Locks) (c : MarkedProgram) (cfg : Config) (t i : ℕ) (phase : Phase) (roots : List ℕ) → IsFreshPhase phase → ((m : ℕ) → v.lock m ≡ locks.Free 0) → Owns v (λ m. 0) t (fresh c cfg i phase roots)
+fresh_owns v c cfg t i _ roots starts free = record { holds = λ m. none_by_word t (v.lock m) v.owner (free m); knows = tt; keeps_count = λ m. tt; take = tt; attempt = tt }
+fresh_owns v c cfg t i _ roots idles free = record { holds = λ m. none_by_word t (v.lock m) v.owner (free m); knows = tt; keeps_count = λ m. tt; take = tt; attempt = tt }
+fresh_owns v c cfg t i _ roots is_over free = record { holds = λ m. none_by_word t (v.lock m) v.owner (free m); knows = tt; keeps_count = λ m. tt; take = tt; attempt = tt }
+
+start_owns : (v : Locks) (c : MarkedProgram) (cfg : Config) (t : ℕ) → ((m : ℕ) → v.lock m ≡ locks.Free 0) → Owns v (λ m. 0) t (start_thread c cfg t)
+start_owns v c cfg zero free = fresh_owns v c cfg 0 0 (phase_at_start c cfg 0) (init_roots c.program) (phase_is_fresh c cfg 0) free
+start_owns v c cfg (suc t) free = fresh_owns v c cfg (suc t) (suc t) phases.Idle [] idles free
+
+pub owns : (references : List ℕ) (c : MarkedProgram) (cfg : Config) → ((m : ℕ) → has_number references m ≡ true → slice_index (start_words c.program) m ≡ 0) → Owners references (start c cfg)
+owns references c cfg zeros = record {
+  count = λ m. 0;
+  locks_are = record {
+    one = λ m n r e h. absurd (not_fat r (lock_at references (start_words c.program) m) (free m) e);
+    below = λ m r e. absurd (not_fat r (lock_at references (start_words c.program) m) (free m) e);
+    free = λ m seen e. count_of_free (lock_at references (start_words c.program) m) seen (free m) e;
+  };
+  each = λ t x e. subst (λ (y : Thread). Owns (locks_in references (start_words c.program)) (λ m. 0) t y) (is_start_thread c cfg t x e) (start_owns (locks_in references (start_words c.program)) c cfg t free);
+  apart = λ t u x y e h ne r d g. none_drawn x.phase r (subst (λ (z : Thread). IsFreshPhase z.phase) (is_start_thread c cfg t x e) (phase_is_fresh c cfg t)) d;
+  few = λ m. let k : flat_holders m (start c cfg).threads ≡ 0 = none_flat c cfg m 0 (c.program.workers + 1) in grind arith;
+}
+  where
+    free : (m : ℕ) → lock_at references (start_words c.program) m ≡ locks.Free 0
+    free m = free_at references (start_words c.program) zeros m
+
+-- ---- in a program that is written out
+
+abbrev all_zero : (words references : List ℕ) → Bool
+all_zero words [] = true
+all_zero words (x ∷ xs) = (slice_index words x == 0) && all_zero words xs
+
+zero_at : (words references : List ℕ) → all_zero words references ≡ true → (m : ℕ) → has_number references m ≡ true → slice_index words m ≡ 0
+zero_at words [] all m e = cc
+zero_at words (x ∷ xs) all m e = by_test (x == m) refl e (λ h. zero_at words xs (both (slice_index words x == 0) (all_zero words xs) all).1 m h)
+  where
+    here : slice_index words x ≡ 0
+    here = eqb-true (slice_index words x) 0 (both (slice_index words x == 0) (all_zero words xs) all).0
+
+    by_test : (b : Bool) → (x == m) ≡ b → b || has_number xs m ≡ true → (has_number xs m ≡ true → slice_index words m ≡ 0) → slice_index words m ≡ 0
+    by_test true k h more = subst (λ (j : ℕ). slice_index words j ≡ 0) (eqb-true x m k) here
+    by_test false k h more = more h
+
+start_owns_of_many : (cfg : Config) → Owners (references_of (start_objects many)) (start marked cfg)
+start_owns_of_many cfg = owns (references_of (start_objects many)) marked cfg (zero_at (start_words many) (references_of (start_objects many)) refl)

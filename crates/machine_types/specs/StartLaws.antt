@@ -1,0 +1,41 @@
+-- Laws of the facts at the start of a run.
+use Rattle.std.specs.Prelude.{◌≡◌, ℕ, Bool, true, List, Some, slice_get, slice_index}
+use Rattle.jvm_types.specs.Numbers.{has_number}
+use Rattle.checked_program.specs.MarkedProgram.{MarkedProgram}
+use Rattle.machine_types.specs.Core.{start, start_thread}
+use Rattle.machine_types.specs.History.{told_start, past_at}
+use Rattle.machine_types.specs.PlainMemory.{Object}
+use Rattle.machine_types.specs.StartWords.{start_words}
+use Rattle.machine_types.specs.Threads.{Thread}
+use Rattle.machine_types.specs.declared.config.Config.{Config}
+use Rattle.machine_types.specs.declared.phase.Phase.{Phase}
+use Rattle.machine_types.specs.Attempts.{OwesNothing}
+use Rattle.machine_types.specs.Construction.{ThreadKeeps}
+use Rattle.machine_types.specs.Owners.{Owners}
+use Rattle.machine_types.specs.Structure.{Structure}
+use Rattle.machine_types.specs.Typed.{HasClass, ThreadHolds}
+use Rattle.machine_types.specs.Waiting.{Waiting}
+use Rattle.machine_types.specs.Worlds.{World}
+
+-- the phase of each thread, which is the one that counts
+abbrev pub phase_at_start : MarkedProgram → Config → (t : ℕ) → Phase
+phase_at_start c cfg t = (start_thread c cfg t).phase
+
+abbrev pub StartIsStructured : Type 0
+StartIsStructured = (c : MarkedProgram) (cfg : Config) → Structure c (phase_at_start c cfg) (start c cfg).threads
+
+abbrev pub StartWaits : Type 0
+StartWaits = (c : MarkedProgram) (cfg : Config) → Waiting (phase_at_start c cfg) (start c cfg)
+
+abbrev pub StartIsTyped : Type 0
+StartIsTyped = (c : MarkedProgram) (cfg : Config) (objects : List Object) (t : ℕ) (x : Thread) → slice_get (start c cfg).threads t ≡ Some x → ThreadHolds c (HasClass objects) x
+
+abbrev pub StartKeeps : Type 0
+StartKeeps = (c : MarkedProgram) (cfg : Config) (frozen : ℕ → Bool) (w : World) (next t : ℕ) (x : Thread) → slice_get (start c cfg).threads t ≡ Some x → ThreadKeeps c frozen w next t (phase_at_start c cfg t) x
+
+abbrev pub StartOwesNothing : Type 0
+StartOwesNothing = (c : MarkedProgram) (cfg : Config) (t : ℕ) → OwesNothing (past_at (told_start c cfg) t)
+
+-- where the lock word of each of some objects is 0
+abbrev pub StartOwns : Type 0
+StartOwns = (references : List ℕ) (c : MarkedProgram) (cfg : Config) → ((m : ℕ) → has_number references m ≡ true → slice_index (start_words c.program) m ≡ 0) → Owners references (start c cfg)

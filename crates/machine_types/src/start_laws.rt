@@ -1,0 +1,33 @@
+//! Laws of the facts at the start of a run, each the contract of a function that does nothing.
+
+ghost use Rattle.machine_types.specs.StartLaws.{StartIsStructured, StartIsTyped, StartKeeps, StartOwesNothing, StartOwns, StartWaits};
+
+/// No thread has a frame, holds a monitor or is in an attempt.
+pub fn start_is_structured()
+    ensures { StartIsStructured }
+{}
+
+/// No waiting bit is set.
+pub fn start_waits()
+    ensures { StartWaits }
+{}
+
+/// Each thread has values of the types that are asked for.
+pub fn start_is_typed()
+    ensures { StartIsTyped }
+{}
+
+/// No thread has an unfinished object.
+pub fn start_keeps_objects()
+    ensures { StartKeeps }
+{}
+
+/// Nothing is due of an attempt.
+pub fn start_owes_nothing()
+    ensures { StartOwesNothing }
+{}
+
+/// No thread holds a lock, where the lock word of each object is 0.
+pub fn start_owns()
+    ensures { StartOwns }
+{}
