@@ -1,5 +1,5 @@
 -- An item of a list that is set.
-use Rattle.std.proofs.Common.{◌≡◌, ℕ, zero, suc, List, [], ◌∷◌, Some, refl, sym, ap}
+use Rattle.std.proofs.Common.{◌≡◌, ◌≢◌, ℕ, zero, suc, List, [], ◌∷◌, Some, refl, sym, ap}
 use Rattle.std.specs.Prelude.{slice_get, slice_set}
 
 -- to what it is
@@ -12,3 +12,10 @@ pub got_when_set : {A : Type 0} (xs : List A) (i : ℕ) (x y : A) → slice_get 
 got_when_set [] i x y e = cc
 got_when_set (z ∷ zs) zero x y e = refl
 got_when_set (z ∷ zs) (suc i) x y e = got_when_set zs i x y e
+
+pub got_other : {A : Type 0} (xs : List A) (i j : ℕ) (x : A) → j ≢ i → slice_get (slice_set xs i x) j ≡ slice_get xs j
+got_other [] i j x n = refl
+got_other (z ∷ zs) zero zero x n = absurd (n refl)
+got_other (z ∷ zs) zero (suc j) x n = refl
+got_other (z ∷ zs) (suc i) zero x n = refl
+got_other (z ∷ zs) (suc i) (suc j) x n = got_other zs i j x (λ e. n (ap suc e))

@@ -15,31 +15,36 @@ one_prints = refl
 
 -- An object, calls and fields, without a lock.
 pub unlocked_prints : played unlocked usual []
-    ≡ over (report ends.Returned (printed 0 (pos 8) ∷ printed 1 (pos 8) ∷ printed 2 (pos 8) ∷ []) 48 0 0 0 0 ∷ []) ends.Returned (shown 0 (pos 8) ∷ shown 0 (pos 8) ∷ shown 0 (pos 8) ∷ []) 53 49
+    ≡ over (report ends.Returned (printed 0 (pos 8) ∷ printed 1 (pos 8) ∷ printed 2 (pos 8) ∷ []) 48 0 0 0 0 ∷ []) ends.Returned (shown 0 (pos 8)
+    ∷ shown 0 (pos 8) ∷ shown 0 (pos 8) ∷ []) 53 49
 unfolding is_subclass
 unlocked_prints = refl
 
 -- A synchronized method takes the lock once, and three sections are elided.
 pub alone_elides : played alone usual []
-    ≡ over (report ends.Returned (printed 0 (pos 8) ∷ printed 1 (pos 8) ∷ printed 2 (pos 8) ∷ []) 66 3 0 1 0 ∷ []) ends.Returned (shown 0 (pos 8) ∷ shown 0 (pos 8) ∷ shown 0 (pos 8) ∷ []) 80 75
+    ≡ over (report ends.Returned (printed 0 (pos 8) ∷ printed 1 (pos 8) ∷ printed 2 (pos 8) ∷ []) 66 3 0 1 0 ∷ []) ends.Returned (shown 0 (pos 8)
+    ∷ shown 0 (pos 8) ∷ shown 0 (pos 8) ∷ []) 80 75
 unfolding is_subclass
 alone_elides = refl
 
 -- All four take the lock.
 pub alone_locks : played alone (record usual { elide = false }) []
-    ≡ over (report ends.Returned (printed 0 (pos 8) ∷ printed 1 (pos 8) ∷ printed 2 (pos 8) ∷ []) 66 0 0 4 0 ∷ []) ends.Returned (shown 0 (pos 8) ∷ shown 0 (pos 8) ∷ shown 0 (pos 8) ∷ []) 83 75
+    ≡ over (report ends.Returned (printed 0 (pos 8) ∷ printed 1 (pos 8) ∷ printed 2 (pos 8) ∷ []) 66 0 0 4 0 ∷ []) ends.Returned (shown 0 (pos 8)
+    ∷ shown 0 (pos 8) ∷ shown 0 (pos 8) ∷ []) 83 75
 unfolding is_subclass
 alone_locks = refl
 
 -- The first release makes the count the last one.
 pub alone_ends_at_one : played alone (record usual { range = 1 }) []
-    ≡ over (report ends.Returned (printed 0 (pos 8) ∷ printed 1 (pos 8) ∷ printed 2 (pos 8) ∷ []) 66 0 0 4 0 ∷ []) ends.Returned (shown 0 (pos 8) ∷ shown 0 (pos 8) ∷ shown 0 (pos 8) ∷ []) 86 75
+    ≡ over (report ends.Returned (printed 0 (pos 8) ∷ printed 1 (pos 8) ∷ printed 2 (pos 8) ∷ []) 66 0 0 4 0 ∷ []) ends.Returned (shown 0 (pos 8)
+    ∷ shown 0 (pos 8) ∷ shown 0 (pos 8) ∷ []) 86 75
 unfolding is_subclass
 alone_ends_at_one = refl
 
 -- The count is below the last one.
 pub alone_ends_at_two : played alone (record usual { range = 2 }) []
-    ≡ over (report ends.Returned (printed 0 (pos 8) ∷ printed 1 (pos 8) ∷ printed 2 (pos 8) ∷ []) 66 3 0 1 0 ∷ []) ends.Returned (shown 0 (pos 8) ∷ shown 0 (pos 8) ∷ shown 0 (pos 8) ∷ []) 80 75
+    ≡ over (report ends.Returned (printed 0 (pos 8) ∷ printed 1 (pos 8) ∷ printed 2 (pos 8) ∷ []) 66 3 0 1 0 ∷ []) ends.Returned (shown 0 (pos 8)
+    ∷ shown 0 (pos 8) ∷ shown 0 (pos 8) ∷ []) 80 75
 unfolding is_subclass
 alone_ends_at_two = refl
 
@@ -51,7 +56,8 @@ twice_elides = refl
 
 -- Three roots, in two parts.
 pub all_parts_run : played all_parts usual []
-    ≡ over (report ends.Returned (printed 0 (pos 1) ∷ printed 1 (pos 2) ∷ printed 2 (pos 3) ∷ []) 12 0 0 0 0 ∷ []) ends.Returned (shown 0 (pos 1) ∷ shown 0 (pos 2) ∷ shown 0 (pos 3) ∷ []) 19 15
+    ≡ over (report ends.Returned (printed 0 (pos 1) ∷ printed 1 (pos 2) ∷ printed 2 (pos 3) ∷ []) 12 0 0 0 0 ∷ []) ends.Returned (shown 0 (pos 1)
+    ∷ shown 0 (pos 2) ∷ shown 0 (pos 3) ∷ []) 19 15
 unfolding is_subclass
 all_parts_run = refl
 

@@ -22,31 +22,48 @@ six_steps = refl
 
 -- The limit ends an attempt, which stands for nothing.
 pub steps_in_attempt : played (shared 1) (record usual { steps = 12 }) []
-    ≡ over (report ends.Returned [] 8 0 0 0 0 ∷ report ends.Steps [] 12 0 0 0 0 ∷ []) ends.NotRun [] 27 20
+    ≡ over
+    (report ends.Returned [] 8 0 0 0 0
+    ∷ report ends.Steps [] 12 0 0 0 0 ∷ [])
+    ends.NotRun [] 27 20
 unfolding is_subclass
 steps_in_attempt = refl
 
 -- The limit comes behind an elided section.
 pub steps_after_attempt : played (shared 1) (record usual { steps = 17 }) []
-    ≡ over (report ends.Returned [] 8 0 0 0 0 ∷ report ends.Steps [] 17 1 0 0 0 ∷ []) ends.NotRun [] 33 29
+    ≡ over
+    (report ends.Returned [] 8 0 0 0 0
+    ∷ report ends.Steps [] 17 1 0 0 0 ∷ [])
+    ends.NotRun [] 33 29
 unfolding is_subclass
 steps_after_attempt = refl
 
 -- There are just as many instructions.
 pub steps_enough : played (shared 1) (record usual { steps = 20 }) []
-    ≡ over (report ends.Returned [] 8 0 0 0 0 ∷ report ends.Returned (printed 0 (pos 0) ∷ []) 20 1 0 0 0 ∷ []) ends.Returned (shown 1 (pos 0) ∷ []) 37 32
+    ≡ over
+    (report ends.Returned [] 8 0 0 0 0
+    ∷ report ends.Returned (printed 0 (pos 0) ∷ []) 20 1 0 0 0 ∷ [])
+    ends.Returned (shown 1 (pos 0) ∷ []) 37 32
 unfolding is_subclass
 steps_enough = refl
 
 -- The first failed turn is the last one.
 pub one_turn : played (shared 2) (record usual { turns = 1 }) []
-    ≡ over (report ends.Returned [] 8 0 0 0 0 ∷ report ends.Turns [] 10 0 0 0 0 ∷ report ends.Returned [] 14 0 0 1 0 ∷ []) ends.NotRun [] 45 37
+    ≡ over
+    (report ends.Returned [] 8 0 0 0 0
+    ∷ report ends.Turns [] 10 0 0 0 0
+    ∷ report ends.Returned [] 14 0 0 1 0 ∷ [])
+    ends.NotRun [] 45 37
 unfolding is_subclass
 one_turn = refl
 
 -- Each of two threads holds the monitor that the other one wants.
 pub locked_out : raced locks_out (record usual { turns = 100 }) []
-    ≡ over (report ends.Returned [] 9 0 0 0 0 ∷ report ends.Turns [] 11 0 0 1 0 ∷ report ends.Turns [] 11 0 0 1 0 ∷ []) ends.NotRun [] 246 36
+    ≡ over
+    (report ends.Returned [] 9 0 0 0 0
+    ∷ report ends.Turns [] 11 0 0 1 0
+    ∷ report ends.Turns [] 11 0 0 1 0 ∷ [])
+    ends.NotRun [] 246 36
 unfolding is_subclass
 locked_out = refl
 
@@ -58,6 +75,10 @@ one_print = refl
 
 -- Two threads spin until the other one has written.
 pub spinning_ends : raced spins (record usual { steps = 1000 }) []
-    ≡ over (report ends.Returned [] 0 0 0 0 0 ∷ report ends.Returned [] 12 0 0 0 0 ∷ report ends.Returned [] 10 0 0 0 0 ∷ []) ends.Returned [] 28 24
+    ≡ over
+    (report ends.Returned [] 0 0 0 0 0
+    ∷ report ends.Returned [] 12 0 0 0 0
+    ∷ report ends.Returned [] 10 0 0 0 0 ∷ [])
+    ends.Returned [] 28 24
 unfolding is_subclass
 spinning_ends = refl

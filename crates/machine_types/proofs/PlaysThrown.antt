@@ -16,7 +16,10 @@ division_throws = refl
 
 -- A section without its lock that throws in a view that is not torn.
 pub section_throws : played (divides 1 make_shared) usual []
-    ≡ over (report ends.Returned [] 8 0 0 0 0 ∷ report (ends.Uncaught thrown.ArithmeticException) [] 22 1 0 0 0 ∷ []) ends.Returned [] 42 37
+    ≡ over
+    (report ends.Returned [] 8 0 0 0 0
+    ∷ report (ends.Uncaught thrown.ArithmeticException) [] 22 1 0 0 0 ∷ [])
+    ends.Returned [] 42 37
 unfolding is_subclass
 section_throws = refl
 

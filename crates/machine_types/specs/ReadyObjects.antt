@@ -22,7 +22,8 @@ class_of StackOverflowError = 15
 
 -- those that the machine throws by itself
 abbrev pub thrown_by_machine : List Thrown
-thrown_by_machine = ArithmeticException ∷ NullPointerException ∷ ArrayIndexOutOfBoundsException ∷ NegativeArraySizeException ∷ IllegalMonitorStateException ∷ OutOfMemoryError ∷ StackOverflowError ∷ []
+thrown_by_machine = ArithmeticException ∷ NullPointerException ∷ ArrayIndexOutOfBoundsException ∷ NegativeArraySizeException
+    ∷ IllegalMonitorStateException ∷ OutOfMemoryError ∷ StackOverflowError ∷ []
 
 abbrev pub throwables : List Thrown
 throwables = Throwable ∷ Exception ∷ Error ∷ RuntimeException ∷ InterruptedException ∷ thrown_by_machine
