@@ -3,6 +3,7 @@ use Rattle.std.proofs.Common.{◌≡◌, ℕ, Bool, true, ◌&&◌, ltb, List, [
 use Rattle.std.specs.List.{AllByRecursion, list_all}
 use Rattle.std.proofs.lemmas.Bool.{and_parts, ltb-true}
 use Rattle.jvm_types.specs.ClassGrammar.{IsClass, IsPool, IsUtf8Byte, IsField, IsMethod}
+use Rattle.link_scope.specs.Scoping.{AreFiles}
 use Rattle.link_scope.specs.TestClasses.{test_pool, test_field, test_method, test_class}
 
 abbrev is_utf8_byte : ℕ → Bool
@@ -57,7 +58,7 @@ is_method = record {
   body = record { one = refl; not_native = refl; not_abstract = refl };
 }
 
-pub is_class : IsClass test_class
+is_class : IsClass test_class
 is_class = record {
   short = lit≤ tt;
   minor = lit< tt;
@@ -72,3 +73,6 @@ is_class = record {
   methods = record { count = lit< tt; each = (is_method, tt) };
   attrs = record { count = lit< tt; each = tt };
 }
+
+pub are_files : AreFiles (test_class ∷ test_class ∷ [])
+are_files = record { few = lit≤ tt; classes = (is_class, (is_class, tt)) }
