@@ -13,10 +13,10 @@ use Rattle.machine_types.specs.Worlds.{Made, Begun, builder, World}
 use Rattle.machine_types.proofs.InSections.{tags_by}
 
 abbrev in_init : TypeFrame
-in_init = record { stack = This ∷ []; locals = This ∷ []; this_ready = false }
+in_init = record { stack = This ∷ []; locals = This ∷ []; ready = false }
 
 abbrev behind_new : TypeFrame
-behind_new = record { stack = New 0 ∷ New 0 ∷ []; locals = []; this_ready = true }
+behind_new = record { stack = New 0 ∷ New 0 ∷ []; locals = []; ready = true }
 
 abbrev typings : List Typing
 typings = record { frames = None ∷ Some in_init ∷ [] } ∷ record { frames = [] } ∷ record { frames = [] } ∷ record { frames = None ∷ None ∷ Some behind_new ∷ [] } ∷ []

@@ -40,13 +40,13 @@ abbrev types : TypeFrame → Option TypeFrame
 types f = Some f
 
 abbrev in_sum : TypeFrame
-in_sum = record { stack = []; locals = Ref 17 ∷ Ref 17 ∷ Top ∷ []; this_ready = true }
+in_sum = record { stack = []; locals = Ref 17 ∷ Ref 17 ∷ Top ∷ []; ready = true }
 
 abbrev at_call : TypeFrame
-at_call = record { stack = Ref 17 ∷ []; locals = Ref 17 ∷ []; this_ready = true }
+at_call = record { stack = Ref 17 ∷ []; locals = Ref 17 ∷ []; ready = true }
 
 abbrev at_entry : TypeFrame
-at_entry = record { stack = []; locals = Ref 17 ∷ []; this_ready = true }
+at_entry = record { stack = []; locals = Ref 17 ∷ []; ready = true }
 
 abbrev typings : List Typing
 typings = untyped ∷ untyped ∷ record { frames = None ∷ None ∷ None ∷ None ∷ Some in_sum ∷ [] } ∷ untyped ∷ untyped ∷ untyped ∷ untyped ∷ untyped ∷ untyped ∷ untyped ∷ untyped ∷ untyped

@@ -7,7 +7,7 @@ use Rattle.jvm_types.specs.declared.outcome.End.TheVariants as ends
 use Rattle.jvm_types.specs.declared.program.Program.{Program}
 use Rattle.machine_types.specs.Agreement.{depth_for}
 use Rattle.machine_types.specs.Onward.{Onward, After, after}
-use Rattle.machine_types.specs.PlainLaws.{Steps, is_for, NoOtherStep, EntersAlone, RetakesAlone, deeper, EntersDeeper, ExitsShallower, WaitGivesUp, RetakeGivesBack, NobodyWaits, NotifyWakes}
+use Rattle.machine_types.specs.PlainLaws.{Steps, is_for, NoOtherStep, EntersAlone, RetakesAlone, one_deeper, EntersDeeper, ExitsShallower, WaitGivesUp, RetakeGivesBack, NobodyWaits, NotifyWakes}
 use Rattle.machine_types.specs.PlainState.{Plain, PlainThread, Holding, Status, holding_at, with_holding, held_by, let_go, with_thread, with_status, goes_on}
 use Rattle.machine_types.specs.PlainState as plain
 use Rattle.machine_types.specs.PlainSteps.{is_due, begins, entered, left, exited, waited, waits_on, woken, wakes_one, retaken, step_at, step_of}
@@ -89,13 +89,13 @@ pub enters_alone : EntersAlone
 enters_alone p q r t u m x h s n = enters_by q r t u m x (holding_at q.holdings m) (by_status p q r t x acts.Enter (plain.Enter m) h s) n
 
 deeper_by : (q r : Plain) (t m : ℕ) (x : PlainThread) (h : Holding) (b : Bool) → (h.holder == t) ≡ b
-    → (if b then Some (with_thread (held_by q m t (h.depth + 1)) t (with_status x plain.Run)) else None) ≡ Some r → depth_for t (holding_at r.holdings m) ≡ Some (deeper (depth_for t (Some h)))
+    → (if b then Some (with_thread (held_by q m t (h.depth + 1)) t (with_status x plain.Run)) else None) ≡ Some r → depth_for t (holding_at r.holdings m) ≡ Some (one_deeper (depth_for t (Some h)))
 deeper_by q r t m x h true e s =
     let is : with_thread (held_by q m t (h.depth + 1)) t (with_status x plain.Run) ≡ r = cc in
     rw (own_for t h e) (subst (λ (z : Plain). depth_for t (holding_at z.holdings m) ≡ Some (h.depth + 1)) is (held_in q t m (h.depth + 1)))
 deeper_by q r t m x h false e s = cc
 
-deepens_by : (q r : Plain) (t m : ℕ) (x : PlainThread) (h : Option Holding) → entered q t m x h ≡ Some r → depth_for t (holding_at r.holdings m) ≡ Some (deeper (depth_for t h))
+deepens_by : (q r : Plain) (t m : ℕ) (x : PlainThread) (h : Option Holding) → entered q t m x h ≡ Some r → depth_for t (holding_at r.holdings m) ≡ Some (one_deeper (depth_for t h))
 deepens_by q r t m x None e =
     let is : with_thread (held_by q m t 1) t (with_status x plain.Run) ≡ r = cc in
     subst (λ (z : Plain). depth_for t (holding_at z.holdings m) ≡ Some 1) is (held_in q t m 1)
@@ -202,10 +202,14 @@ woken_by : (q r : Plain) (t u n m depth : ℕ) (x y : PlainThread) (b : Bool) �
 woken_by q r t u n m depth x y true e apart g s f =
     let is : with_thread (with_thread q u (with_status y (plain.Woken n depth))) t (with_status x plain.Run) ≡ r = cc in
     let got : slice_get (slice_set (slice_set q.threads u (with_status y (plain.Woken n depth))) t (with_status x plain.Run)) u ≡ Some (with_status y (plain.Woken n depth))
-        = got_other (slice_set q.threads u (with_status y (plain.Woken n depth))) t u (with_status x plain.Run) apart ∙ got_when_set q.threads u y _ g in
-    let same : n ≡ m = are_same n m e in
-    (y, depth, g, subst (λ (k : ℕ). y.status ≡ plain.Waiting k depth) same s,
-        subst (λ (k : ℕ). slice_get r.threads u ≡ Some (with_status y (plain.Woken k depth))) same (subst (λ (z : Plain). slice_get z.threads u ≡ Some (with_status y (plain.Woken n depth))) is got))
+    = got_other (slice_set q.threads u (with_status y (plain.Woken n depth))) t u (with_status x plain.Run) apart ∙ got_when_set q.threads u y _ g in
+    let same : n ≡ m = are_same n m e in (
+      y,
+      depth,
+      g,
+      subst (λ (k : ℕ). y.status ≡ plain.Waiting k depth) same s,
+      subst (λ (k : ℕ). slice_get r.threads u ≡ Some (with_status y (plain.Woken k depth))) same (subst (λ (z : Plain). slice_get z.threads u ≡ Some (with_status y (plain.Woken n depth))) is got),
+    )
 woken_by q r t u n m depth x y false e apart g s f = cc
 
 wakes_by : (q r : Plain) (t u m : ℕ) (x y : PlainThread) (status : Status) → slice_get q.threads t ≡ Some x → x.status ≡ plain.Notify m → slice_get q.threads u ≡ Some y → y.status ≡ status

@@ -5,7 +5,7 @@ use Rattle.jvm_types.specs.ClassTree.{int_array_class}
 use Rattle.jvm_types.specs.ProgramInvariant.{words_of}
 use Rattle.jvm_types.specs.declared.program.Program.{Program}
 use Rattle.machine_types.specs.Core.{Core}
-use Rattle.machine_types.specs.PlainMemory.{Object, end_of}
+use Rattle.machine_types.specs.PlainMemory.{Object, object_end}
 use Rattle.machine_types.specs.Threads.{Thread}
 use Rattle.machine_types.specs.Words.{free_word, header_class, header_length, object_size, array_size}
 use Rattle.machine_types.specs.declared.phase.Phase.TheVariants as phases
@@ -18,7 +18,7 @@ pub record IsNewObject (p : Program) (objects : List Object) (s : Core) (a size 
   pub begins : words_of p ≤ a
   pub below : a + size ≤ slice_index s.words free_word
   pub inside : a + size ≤ p.heap
-  pub beside : (o : Object) → Contains objects o → (end_of o ≤ a) ⊎ (a + size ≤ o.reference)
+  pub beside : (o : Object) → Contains objects o → (object_end o ≤ a) ⊎ (a + size ≤ o.reference)
   pub empty : (x : ℕ) → a ≤ x → x < a + size → slice_index s.words x ≡ 0
 
 pub record NewObjects (p : Program) (objects : List Object) (s : Core) : Type 0 where

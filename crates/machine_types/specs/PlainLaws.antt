@@ -54,12 +54,12 @@ RetakesAlone = (p : Program) (q r : Plain) (t u m depth : ℕ) (x : PlainThread)
 -- ---- what a step does to the depth at which its thread holds the monitor
 
 -- one entry more
-abbrev pub deeper : Option ℕ → ℕ
-deeper None = 1
-deeper (Some depth) = depth + 1
+abbrev pub one_deeper : Option ℕ → ℕ
+one_deeper None = 1
+one_deeper (Some depth) = depth + 1
 
 abbrev pub EntersDeeper : Type 0
-EntersDeeper = (p : Program) (q r : Plain) (t m : ℕ) (x : PlainThread) → Steps p q r t x acts.Enter → x.status ≡ plain.Enter m → depth_in r t m ≡ Some (deeper (depth_in q t m))
+EntersDeeper = (p : Program) (q r : Plain) (t m : ℕ) (x : PlainThread) → Steps p q r t x acts.Enter → x.status ≡ plain.Enter m → depth_in r t m ≡ Some (one_deeper (depth_in q t m))
 
 -- one entry less, where that is not the last one
 abbrev pub ExitsShallower : Type 0

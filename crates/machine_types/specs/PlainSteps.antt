@@ -9,7 +9,7 @@ use Rattle.machine_types.specs.Frames.{top_of}
 use Rattle.machine_types.specs.Onward.{After, after, rooted, dispatched}
 use Rattle.machine_types.specs.PlainInstructions.{instructed}
 use Rattle.machine_types.specs.PlainState.{Plain, PlainThread, Status, Holding, Ready, Run, Throw, Enter, Leave, Wait, Notify, NotifyAll, Waiting, Woken, Ended, holding_at, held_by, let_go, with_thread, with_status, goes_on}
-use Rattle.machine_types.specs.Parts.{done_roots, is_return, is_finish}
+use Rattle.machine_types.specs.Parts.{done_roots, has_returned, has_finished}
 use Rattle.machine_types.specs.declared.plain.Act.{Act}
 use Rattle.machine_types.specs.declared.plain.Act.TheVariants as acts
 use Rattle.machine_types.specs.declared.plain.PlainStep.{PlainStep}
@@ -18,14 +18,14 @@ use Rattle.machine_types.specs.declared.plain.PlainStep.{PlainStep}
 
 abbrev pub first_is_return : List End → Bool
 first_is_return [] = false
-first_is_return (e ∷ es) = is_return e
+first_is_return (e ∷ es) = has_returned e
 
 abbrev pub init_has_returned : List PlainThread → Bool
 init_has_returned [] = false
 init_has_returned (x ∷ workers) = first_is_return x.ended
 
 abbrev pub is_over : Status → Bool
-is_over (Ended e) = is_finish e
+is_over (Ended e) = has_finished e
 is_over status = false
 
 -- `done`, when `init` has returned and each worker is over
@@ -135,8 +135,8 @@ end_at part None = None
 end_at part (Some x) = slice_get x.ended part
 
 -- of `init` for thread 0, and of a worker
-abbrev pub end_of : Plain → (t : ℕ) → Option End
-end_of q t = end_at 0 (slice_get q.threads t)
+abbrev pub first_end : Plain → (t : ℕ) → Option End
+first_end q t = end_at 0 (slice_get q.threads t)
 
 -- where there is no such method, it has returned as soon as it is due
 abbrev pub done_end : Program → Plain → Option End
