@@ -9,7 +9,7 @@ ghost use Rattle.class_reader.specs.Giving.{Gives, attr_of, moved_stop, HasPlace
 
 use crate::indices::{is_named, read_index};
 use crate::items::{Stop, read_run, read_u2, read_u4};
-use crate::lists::{Step, read_list};
+use crate::list_reading::{Step, read_list};
 use jvm_types::{Attr, Bytes, CRule, Code, Constant, Handler, IndexKind, MemberAttr, Rows};
 use std::alloc::Global;
 

@@ -4,7 +4,7 @@
 mod attributes;
 mod indices;
 mod items;
-mod lists;
+mod list_reading;
 mod members;
 mod pool_checks;
 mod pool_entries;

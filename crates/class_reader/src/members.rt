@@ -7,7 +7,7 @@ ghost use Rattle.class_reader.specs.Giving.{Gives, is_code};
 use crate::attributes::{FieldAttrStep, MethodAttrStep};
 use crate::indices::read_index;
 use crate::items::{Stop, check, read_u2};
-use crate::lists::{Step, read_list};
+use crate::list_reading::{Step, read_list};
 use jvm_types::flags::{ABSTRACT, NATIVE, has_flag};
 use jvm_types::{CRule, Constant, IndexKind, Member, MemberAttr, Rows};
 use std::alloc::Global;

@@ -11,7 +11,7 @@ ghost use Rattle.class_reader.specs.Giving.{Gives, IsFirstFault, IsMemory, class
 use crate::attributes::AttrStep;
 use crate::indices::read_index;
 use crate::items::{Stop, check, read_u2, read_u4};
-use crate::lists::{Step, read_list};
+use crate::list_reading::{Step, read_list};
 use crate::members::{FieldStep, MethodStep};
 use crate::pool_checks::read_constants;
 use crate::read_error::ReadError;

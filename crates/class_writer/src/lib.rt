@@ -4,7 +4,7 @@
 pub mod builder;
 pub mod error;
 pub mod laws;
-mod lists;
+mod list_writing;
 mod numbers;
 mod parts;
 mod pool_rules;

@@ -8,7 +8,7 @@ ghost use Rattle.jvm_types.specs.Counts.{TextFits, CodeFits, CountsFit};
 ghost use Rattle.class_writer.specs.Writing.{Writes, IsKnown, PartsFit, IsWritten, head_bytes};
 
 use crate::error::WriteError;
-use crate::lists::{Part, write_list};
+use crate::list_writing::{Part, write_list};
 use crate::numbers::{write_len_u2, write_run, write_s4, write_u1, write_u2, write_u4, write_u8};
 use jvm_types::{Attr, Bytes, ClassFile, Code, Constant, Handler, Member, MemberAttr};
 use std::alloc::{AllocError, Global};

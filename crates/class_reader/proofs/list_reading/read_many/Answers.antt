@@ -2,7 +2,7 @@ use Rattle.std.proofs.lemmas.Result.{err_from_is_err_and}
 use Rattle.jvm_types.specs.ReadingSteps.{many_at}
 use Rattle.jvm_types.proofs.LoopLaws.{many_more, many_done}
 use Rattle.class_reader.proofs.StepLoops.{many_fails}
-use Rattle.class_reader.proofs.lists.read_many.Goals as goal
+use Rattle.class_reader.proofs.list_reading.read_many.Goals as goal
 
 pub returns-in_err-item : goal.returns-in_err-item
 returns-in_err-item g c =
