@@ -3,6 +3,7 @@ use Rattle.std.specs.Prelude.{◌≡◌, ◌≢◌, ◌<◌, ◌≤◌, ◌⊎�
 use Rattle.jvm_types.specs.declared.class_file.Constant.{Constant}
 use Rattle.jvm_types.specs.declared.class_file.Constant.TheVariants.{Gap, Long, Double}
 use Rattle.jvm_types.specs.declared.class_file.ClassFile.{ClassFile}
+use Rattle.jvm_types.specs.declared.limits.TheConstants.{MOST_COUNTED}
 use Rattle.class_writer.specs.declared.error.BuildError.{BuildError}
 use Rattle.class_writer.specs.declared.error.BuildError.TheVariants.{Memory, Full}
 
@@ -32,10 +33,10 @@ IsNew pool c = IsAbsentBelow (length pool) pool c
 abbrev pub length_with : List Constant → Constant → ℕ
 length_with pool c = length pool + length (entries_of c)
 
--- the constant was not there, and is appended; its last index is at most 65534
+-- the constant was not there, and is appended; its last index is at most 65534, as the pool's entries are counted in two bytes
 pub record IsAppended (old new : ClassFile) (c : Constant) (i : ℕ) : Type 0 where
   pub absent : IsNew old.constants c
-  pub room : length_with old.constants c ≤ 65535
+  pub room : length_with old.constants c ≤ MOST_COUNTED
   pub index : i ≡ length old.constants
   pub appended : new ≡ record old { constants = old.constants ++ entries_of c }
 
@@ -43,4 +44,4 @@ pub record IsAppended (old new : ClassFile) (c : Constant) (i : ℕ) : Type 0 wh
 abbrev pub Builds : ClassFile → ClassFile → Constant → Result ℕ BuildError → Type 0
 Builds old new c (Ok i) = (IsFirst old.constants c i × (new ≡ old)) ⊎ IsAppended old new c i
 Builds old new c (Err Memory) = new ≡ old
-Builds old new c (Err Full) = IsNew old.constants c × (65535 < length_with old.constants c) × (new ≡ old)
+Builds old new c (Err Full) = IsNew old.constants c × (MOST_COUNTED < length_with old.constants c) × (new ≡ old)

@@ -6,11 +6,9 @@ ghost use Rattle.class_writer.specs.Building.{empty_class, entries_of, length_wi
 
 use crate::error::BuildError;
 use crate::pool_rules::is_wide;
+use jvm_types::limits::MOST_COUNTED;
 use jvm_types::{ClassFile, Constant, Rows};
 use std::alloc::{AllocError, Global};
-
-/// The most entries of a pool whose last index is 65,534.
-const MAX_ENTRIES: usize = 65_535;
 
 /// A class that is being built. Its parts may be changed at any time.
 #[derive(Debug, Drop)]
@@ -94,14 +92,14 @@ impl Builder {
     /// `Memory` where memory runs out. Nothing changes then.
     pub fn constant(&mut self, c: Constant) -> Result<u16, BuildError>
         requires some { 1 ≤ length self.old.parts.constants }
-        requires few { length self.old.parts.constants ≤ 65535 }
+        requires few { length self.old.parts.constants ≤ MOST_COUNTED }
         ensures { Builds self.old.parts self.new.parts c result }
     {
         if let Some(index) = find(&self.parts.constants, &c) {
             return Ok(index as u16);
         }
         let index = self.parts.constants.len();
-        if MAX_ENTRIES < index + entries_of(&c) {
+        if MOST_COUNTED < index + entries_of(&c) {
             return Err(BuildError::Full);
         }
         append(&mut self.parts.constants, c)?;

@@ -7,11 +7,9 @@ ghost use Rattle.jvm_types.specs.declared.index_kind.IndexKind.TheVariants.{Clas
 ghost use Rattle.class_writer.specs.Testing.{is_attr, is_handler, is_code, is_field_attr, is_method_attr, has_names, is_field, is_code_attr, has_body, is_method, has_version, has_classes, has_members, keeps_rules};
 
 use crate::pool_rules::{is_named, is_pool, names};
+use jvm_types::flags::{ABSTRACT, NATIVE, has_flag};
+use jvm_types::limits::{FIRST_VERSION, LAST_VERSION};
 use jvm_types::{Attr, ClassFile, Code, Constant, Handler, IndexKind, Member, MemberAttr, Rows};
-
-const NATIVE: u16 = 0x0100;
-
-const ABSTRACT: u16 = 0x0400;
 
 fn is_attr(pool: &Rows<Constant>, attr: &Attr) -> bool
     ensures { result ≡ is_attr pool.now attr.now }
@@ -117,7 +115,7 @@ fn has_body(method: &Member) -> bool
         .iter()
         .filter(|attr| is_code_attr(attr))
         .count();
-    codes == 1 && method.flags & NATIVE == 0 && method.flags & ABSTRACT == 0
+    codes == 1 && !has_flag(NATIVE, method.flags) && !has_flag(ABSTRACT, method.flags)
 }
 
 fn is_method(pool: &Rows<Constant>, method: &Member) -> bool
@@ -150,7 +148,7 @@ fn are_classes(pool: &Rows<Constant>, indices: &Rows<u16>) -> bool
 fn has_version(c: &ClassFile) -> bool
     ensures { result ≡ has_version c.now }
 {
-    45 <= c.major && c.major <= 50
+    FIRST_VERSION <= c.major && c.major <= LAST_VERSION
 }
 
 fn has_classes(c: &ClassFile) -> bool

@@ -2,44 +2,7 @@ use super::*;
 use jvm_types::{Attr, Bytes, ClassFile, Code, Constant, Handler, Member, MemberAttr, Rows};
 use std::alloc::{AllocError, Global};
 use std::test::*;
-
-/// Class A, whose `init` prints 2 + 3.
-const ADDS: [u8; 223] = [
-    202, 254, 186, 190, 0, 0, 0, 50, 0, 20, 1, 0, 1, 65, 7, 0, 1, 1, 0, 16, 106, 97, 118, 97, 47,
-    108, 97, 110, 103, 47, 79, 98, 106, 101, 99, 116, 7, 0, 3, 1, 0, 4, 105, 110, 105, 116, 1, 0,
-    3, 40, 41, 86, 1, 0, 4, 67, 111, 100, 101, 1, 0, 16, 106, 97, 118, 97, 47, 108, 97, 110, 103,
-    47, 83, 121, 115, 116, 101, 109, 7, 0, 8, 1, 0, 3, 111, 117, 116, 1, 0, 21, 76, 106, 97, 118,
-    97, 47, 105, 111, 47, 80, 114, 105, 110, 116, 83, 116, 114, 101, 97, 109, 59, 12, 0, 10, 0, 11,
-    9, 0, 9, 0, 12, 1, 0, 19, 106, 97, 118, 97, 47, 105, 111, 47, 80, 114, 105, 110, 116, 83, 116,
-    114, 101, 97, 109, 7, 0, 14, 1, 0, 7, 112, 114, 105, 110, 116, 108, 110, 1, 0, 4, 40, 73, 41,
-    86, 12, 0, 16, 0, 17, 10, 0, 15, 0, 18, 0, 33, 0, 2, 0, 4, 0, 0, 0, 0, 0, 1, 0, 9, 0, 5, 0, 6,
-    0, 1, 0, 7, 0, 0, 0, 22, 0, 3, 0, 0, 0, 0, 0, 10, 178, 0, 13, 5, 6, 96, 182, 0, 19, 177, 0, 0,
-    0, 0, 0, 0,
-];
-
-/// A class with the other kinds of constants and parts, each as the class-file chapter lays it out.
-const KINDS: [u8; 198] = [
-    202, 254, 186, 190, 0, 3, 0, 45, 0, 21, // 20 indices
-    1, 0, 1, 65, 7, 0, 1, // 1: A, 2: its class
-    1, 0, 13, 67, 111, 110, 115, 116, 97, 110, 116, 86, 97, 108, 117, 101, // 3: ConstantValue
-    1, 0, 4, 67, 111, 100, 101, // 4: Code
-    3, 255, 255, 255, 254, // 5: -2
-    4, 63, 128, 0, 0, // 6: 1.0f
-    5, 0, 0, 0, 1, 0, 0, 0, 2, // 7: 2^32 + 2
-    6, 63, 240, 0, 0, 0, 0, 0, 0, // 9: 1.0
-    8, 0, 1, // 11: "A"
-    12, 0, 1, 0, 1, // 12: A of type A
-    9, 0, 2, 0, 12, 10, 0, 2, 0, 12, 11, 0, 2, 0, 12, // 13 to 15: members
-    1, 0, 1, 66, 1, 0, 1, 67, 1, 0, 1, 68, 1, 0, 1, 69, 1, 0, 1, 70, // 16 to 20: B to F
-    0, 33, 0, 2, 0, 2, 0, 1, 0, 2, // flags, this, super, one interface
-    0, 1, 0, 8, 0, 16, 0, 17, 0, 2, // a field with two attributes
-    0, 3, 0, 0, 0, 2, 0, 7, 0, 18, 0, 0, 0, 1, 9, // its value, and one that is unread
-    0, 1, 0, 1, 0, 19, 0, 20, 0, 1, // a method with a code
-    0, 4, 0, 0, 0, 28, 0, 1, 0, 2, 0, 0, 0, 1, 177, // two numbers, one byte
-    0, 1, 0, 0, 0, 1, 0, 0, 0, 2, // a row for class 2
-    0, 1, 0, 18, 0, 0, 0, 1, 7, // an attribute of the code
-    0, 1, 0, 18, 0, 0, 0, 0, // an attribute of the class
-];
+use test_classes::{adds, bytes_of, kinds};
 
 fn add(builder: &mut Builder, constant: Constant) -> Result<u16, BuildError> {
     let len = builder.parts.constants.len();
@@ -125,8 +88,8 @@ fn code_of_adds(alloc: Global) -> Result<Code, AllocError> {
     })
 }
 
-/// The class of `ADDS`, with a pool that a builder makes.
-fn adds(alloc: Global) -> Result<ClassFile, BuildError> {
+/// The class that adds, with a pool that a builder makes.
+fn built_adds(alloc: Global) -> Result<ClassFile, BuildError> {
     let mut builder = new_builder(alloc)?;
     add_front_of_adds(alloc, &mut builder)?;
     add_members_of_adds(alloc, &mut builder)?;
@@ -144,11 +107,16 @@ fn adds(alloc: Global) -> Result<ClassFile, BuildError> {
     })
 }
 
+/// Whether the class is written as these bytes.
+fn is_written(alloc: Global, class: &ClassFile, hex: &str) -> Result<bool, Fail> {
+    let bytes = write_class(alloc, class)?;
+    Ok(bytes.as_slice() == bytes_of(alloc, hex)?.as_slice())
+}
+
 #[test]
 fn writes_what_a_builder_makes(rt: HostRuntime) -> Result<(), Fail> {
-    let class = adds(rt.alloc())?;
-    let bytes = write_class(rt.alloc(), &class)?;
-    assert_eq!(rt; bytes.as_slice(), ADDS.as_slice());
+    let class = built_adds(rt.alloc())?;
+    assert!(rt; is_written(rt.alloc(), &class, adds())?);
     Ok(())
 }
 
@@ -217,8 +185,8 @@ fn method_of_kinds(alloc: Global) -> Result<Member, AllocError> {
     })
 }
 
-/// The class of `KINDS`, with a pool that a builder makes.
-fn kinds(alloc: Global) -> Result<ClassFile, BuildError> {
+/// The class with each kind of part, with a pool that a builder makes.
+fn built_kinds(alloc: Global) -> Result<ClassFile, BuildError> {
     let mut builder = new_builder(alloc)?;
     add_values(alloc, &mut builder)?;
     add_members(alloc, &mut builder)?;
@@ -237,9 +205,8 @@ fn kinds(alloc: Global) -> Result<ClassFile, BuildError> {
 
 #[test]
 fn writes_each_kind_of_part(rt: HostRuntime) -> Result<(), Fail> {
-    let class = kinds(rt.alloc())?;
-    let bytes = write_class(rt.alloc(), &class)?;
-    assert_eq!(rt; bytes.as_slice(), KINDS.as_slice());
+    let class = built_kinds(rt.alloc())?;
+    assert!(rt; is_written(rt.alloc(), &class, kinds())?);
     Ok(())
 }
 
@@ -257,7 +224,7 @@ fn refuses_what_has_no_spelling(rt: HostRuntime) -> Result<(), Fail> {
     let alloc = rt.alloc();
     let class = ClassFile {
         this_class: 1,
-        ..adds(alloc)?
+        ..built_adds(alloc)?
     };
     let refused = write_class(alloc, &class);
     assert!(rt; matches!(refused, Err(WriteError::NoSpelling)));

@@ -8,11 +8,9 @@ ghost use Rattle.class_writer.specs.Writing.{IsWritten, Answers};
 use crate::error::WriteError;
 use crate::parts::write_parts;
 use crate::rules::keeps_rules;
+use jvm_types::limits::MOST_FILE_BYTES;
 use jvm_types::{Bytes, ClassFile};
 use std::alloc::Global;
-
-/// The most bytes that a class file may have.
-const MAX_BYTES: usize = 1_048_576;
 
 /// Whether a class with this spelling is one of the class grammar.
 fn is_class(bytes: &[u8], c: &ClassFile) -> bool
@@ -20,7 +18,7 @@ fn is_class(bytes: &[u8], c: &ClassFile) -> bool
     requires spelled { bytes.now ≡ class_file c.now }
     ensures { Decides result (IsClass c.now) }
 {
-    bytes.len() <= MAX_BYTES && keeps_rules(c)
+    bytes.len() <= MOST_FILE_BYTES && keeps_rules(c)
 }
 
 /// The bytes that spell `c` (JVMS 4.1). Reading them gives `c` again, and they are the only ones.
