@@ -1,7 +1,7 @@
 //! The classes of a program by their numbers.
 
 ghost use Rattle.std.specs.Prelude.{◌≡◌, ◌<◌};
-ghost use Rattle.jvm_types.specs.ClassNames.{file_class, is_throwable, has_built_in_init, can_be_made};
+ghost use Rattle.jvm_types.specs.ClassNames.{file_class};
 
 use crate::limits::MOST_FILES;
 
@@ -35,25 +35,4 @@ pub fn file_class(file: usize) -> u16
     ensures { result ≡ file_class file }
 {
     FIRST_FILE_CLASS + file as u16
-}
-
-/// Whether a class is `java/lang/Throwable` or below it.
-pub fn is_throwable(class: u16) -> bool
-    ensures { result ≡ is_throwable class }
-{
-    THROWABLE_CLASS <= class && class < CLASS_ITSELF
-}
-
-/// Whether a class is a built-in one that has an `<init>`.
-pub fn has_built_in_init(class: u16) -> bool
-    ensures { result ≡ has_built_in_init class }
-{
-    class == OBJECT_CLASS || is_throwable(class)
-}
-
-/// Whether a `new` may name the class: one of the program, `Object` or a throwable (JVMS 6.5).
-pub fn can_be_made(class: u16) -> bool
-    ensures { result ≡ can_be_made class }
-{
-    has_built_in_init(class) || FIRST_FILE_CLASS <= class
 }

@@ -5,7 +5,7 @@ pub trait Gate {
 }
 
 /// A gate that holds nobody back.
-#[derive(Clone, Copy, Debug)]
+#[derive(Clone, Copy)]
 pub struct OpenGate;
 
 impl Gate for OpenGate {

@@ -5,7 +5,7 @@ ghost use Rattle.std.specs.Prelude.{◌≡◌};
 use std::marker::Model;
 
 /// The method in which an instruction stands: its class, and its name.
-#[derive(Debug, Drop)]
+#[derive(Drop)]
 pub struct Site<'a> {
     pub class: u16,
     pub name: &'a [u8],

@@ -1,7 +1,7 @@
 //! What the constant of an instruction or the catch type of a handler row names (JVMS 5.4.3, 6.5).
 
 ghost use Rattle.std.specs.Prelude.{◌≡◌, ℕ, List, Option, is_some, slice_get};
-ghost use Rattle.jvm_types.specs.ClassNames.{class_names, named_class, text_at};
+ghost use Rattle.jvm_types.specs.ClassNames.{can_be_made, class_names, named_class, text_at};
 ghost use Rattle.jvm_types.specs.Descriptors.{field_kind, method_signature};
 ghost use Rattle.jvm_types.specs.Members.{Entry, field_rule, call_rule};
 ghost use Rattle.jvm_types.specs.Linked.{scope_of};
@@ -12,7 +12,7 @@ ghost use Rattle.link_scope.specs.Scoping.{IsFound};
 
 use crate::member_rules::{FieldUse, call_rule, field_rule};
 use crate::texts::{MemberTexts, member_texts};
-use jvm_types::class_numbers::can_be_made;
+use jvm_types::class_numbers::{CLASS_ITSELF, FIRST_FILE_CLASS, OBJECT_CLASS, THROWABLE_CLASS};
 use jvm_types::{Call, Constant, LRule, Op, Rows, Site, Target};
 use link_scope::{FileScope, Found};
 
@@ -152,6 +152,14 @@ fn loaded_target(pool: &Rows<Constant>, constant: u16) -> Result<Target, LRule>
         ) => Err(LRule::L1),
         _ => Err(LRule::L2),
     }
+}
+
+/// Whether a `new` may name the class: one of the program, `Object` or a throwable (JVMS 6.5).
+fn can_be_made(class: u16) -> bool
+    ensures { result ≡ can_be_made class }
+{
+    let is_throwable = THROWABLE_CLASS <= class && class < CLASS_ITSELF;
+    class == OBJECT_CLASS || is_throwable || FIRST_FILE_CLASS <= class
 }
 
 /// What a constant is to `new`.
