@@ -9,7 +9,7 @@ use Rattle.jvm_types.specs.declared.op_row.Want.TheVariants.{AnObject, ToStart}
 use Rattle.jvm_types.specs.declared.op_row.OpRow.{OpRow}
 use Rattle.jvm_types.specs.Members.{Site, is_static, is_init_name, is_class_init_name}
 use Rattle.jvm_types.specs.ProgramInvariant.{IsTargetOf, site_in}
-use Rattle.jvm_types.specs.Types.{Shape}
+use Rattle.jvm_types.specs.Types.{TypeFrame}
 use Rattle.jvm_types.specs.Verifying.{IsLaidOut, IsTypingOf, covers}
 use Rattle.jvm_types.specs.declared.code.Insn.{Insn}
 use Rattle.jvm_types.specs.declared.code.Op.{Op}
@@ -75,10 +75,10 @@ have_places c method pc m typing f is e t d =
       record { method = method; typing = typing; in_program = e; its_typing = t; its_frames = refl; in_code = at.there; its_target = target.1; has = at.has },
     )
 
-held_at : (c : CheckedProgram) (m : MethodInfo) (frames : List (Option Shape)) (i : ℕ) (insn : Insn) (target : Target) (f : Shape) → IsChecked c → (at : IsPlace c m frames i insn target f) → Holds c.program m at.typing.frames insn target f
+held_at : (c : CheckedProgram) (m : MethodInfo) (frames : List (Option TypeFrame)) (i : ℕ) (insn : Insn) (target : Target) (f : TypeFrame) → IsChecked c → (at : IsPlace c m frames i insn target f) → Holds c.program m at.typing.frames insn target f
 held_at c m frames i insn target f is at =
     let of = frames_of_typing c at.method m at.typing is at.in_program at.its_typing in
-    let has : slice_get at.typing.frames i ≡ Some (Some f) = subst (λ (fs : List (Option Shape)). slice_get fs i ≡ Some (Some f)) at.its_frames at.has in
+    let has : slice_get at.typing.frames i ≡ Some (Some f) = subst (λ (fs : List (Option TypeFrame)). slice_get fs i ≡ Some (Some f)) at.its_frames at.has in
     let there = have_targets c.program at.method i m insn is.program at.in_program at.in_code in
     let names = subst (λ (t : Target). IsTargetOf c.program (site_in m) insn.op t) (some_same (sym there.1 ∙ at.its_target)) there.2 in
     let sound = of.sound.sound i insn target f at.in_code at.its_target has in
@@ -95,7 +95,7 @@ held_at c m frames i insn target f is at =
     }
 
 pub places_hold_all : PlacesHold
-places_hold_all c m frames i insn target f is at = subst (λ (fs : List (Option Shape)). Holds c.program m fs insn target f) (sym at.its_frames) (held_at c m frames i insn target f is at)
+places_hold_all c m frames i insn target f is at = subst (λ (fs : List (Option TypeFrame)). Holds c.program m fs insn target f) (sym at.its_frames) (held_at c m frames i insn target f is at)
 
 -- ---- calls
 

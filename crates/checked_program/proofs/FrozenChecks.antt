@@ -73,8 +73,8 @@ keeps_each (t ∷ ts) (u ∷ us) e (suc k) h = keeps_each ts us (both (unless_th
 abbrev pub keeps_this : TagShape → TagShape → Bool
 keeps_this f g = keep_this f.stack g.stack && keep_this f.locals g.locals
 
-pub keeps_shape : (f g : TagShape) → keeps_this f g ≡ true → KeepsThis f g
-keeps_shape f g e = let h : (keep_this f.stack g.stack ≡ true) × (keep_this f.locals g.locals ≡ true) = both (keep_this f.stack g.stack) (keep_this f.locals g.locals) e in
+pub keeps_frame : (f g : TagShape) → keeps_this f g ≡ true → KeepsThis f g
+keeps_frame f g e = let h : (keep_this f.stack g.stack ≡ true) × (keep_this f.locals g.locals ≡ true) = both (keep_this f.stack g.stack) (keep_this f.locals g.locals) e in
     record { stack = keeps_each f.stack g.stack h.0; locals = keeps_each f.locals g.locals h.1 }
 
 -- an edge to each other instruction
@@ -86,9 +86,9 @@ abbrev pub joins_well : Program → Tagged → ℕ → Test
 joins_well p tags mi m insn target f = all_in (λ n other next g. edge_keeps p m insn target f other g) p tags mi
 
 pub edge_is_kept : (p : Program) (m : MethodInfo) (insn : Insn) (target : Target) (f : TagShape) (other : Insn) (g h : TagShape) → edge_keeps p m insn target f other g ≡ true → Goes p m insn target f other h → KeepsThis h g
-edge_is_kept p m insn target f _ g _ e (onward other goes) = keeps_shape _ g (implied (has_number (edges insn) other.pc) _ (both (not (has_number (edges insn) other.pc) || keeps_this (tags_after insn (row_of p m insn target) f) g)
+edge_is_kept p m insn target f _ g _ e (onward other goes) = keeps_frame _ g (implied (has_number (edges insn) other.pc) _ (both (not (has_number (edges insn) other.pc) || keeps_this (tags_after insn (row_of p m insn target) f) g)
     (not (list_any (λ handler. handler.handler == other.pc) (catchers m insn)) || keeps_this (tags_at_handler f) g) e).0 goes)
-edge_is_kept p m insn target f _ g _ e (caught other goes) = keeps_shape _ g (implied (list_any (λ handler. handler.handler == other.pc) (catchers m insn)) _ (both (not (has_number (edges insn) other.pc) || keeps_this (tags_after insn (row_of p m insn target) f) g)
+edge_is_kept p m insn target f _ g _ e (caught other goes) = keeps_frame _ g (implied (list_any (λ handler. handler.handler == other.pc) (catchers m insn)) _ (both (not (has_number (edges insn) other.pc) || keeps_this (tags_after insn (row_of p m insn target) f) g)
     (not (list_any (λ handler. handler.handler == other.pc) (catchers m insn)) || keeps_this (tags_at_handler f) g) e).1 goes)
 
 -- ---- what is put
@@ -142,7 +142,7 @@ first_keeps m frames = true
 pub first_is_kept : (m : MethodInfo) (f : TagShape) (frames : List (Option TagShape)) → slice_get frames 0 ≡ Some (Some f) → first_keeps (Some m) (Some frames) ≡ true → KeepsThis (entry_tags m) f
 first_is_kept m f [] h e = cc
 first_is_kept m f (None ∷ frames) h e = cc
-first_is_kept m f (Some g ∷ frames) h e = let x : g ≡ f = cc in subst (λ (s : TagShape). KeepsThis (entry_tags m) s) x (keeps_shape (entry_tags m) g e)
+first_is_kept m f (Some g ∷ frames) h e = let x : g ≡ f = cc in subst (λ (s : TagShape). KeepsThis (entry_tags m) s) x (keeps_frame (entry_tags m) g e)
 
 pub entry_is_kept : (p : Program) (tags : Tagged) (mi : ℕ) → first_keeps (slice_get p.methods mi) (slice_get tags mi) ≡ true
     → (m : MethodInfo) (insn : Insn) (target : Target) (f : TagShape) → IsAt p tags mi 0 m insn target f → KeepsThis (entry_tags m) f

@@ -7,7 +7,7 @@ use Rattle.jvm_types.specs.declared.op_row.Want.{Want}
 use Rattle.jvm_types.specs.declared.op_row.Want.TheVariants.{AnObject, ToStart}
 use Rattle.jvm_types.specs.Members.{is_static}
 use Rattle.jvm_types.specs.ProgramInvariant.{IsTargetOf, site_in}
-use Rattle.jvm_types.specs.Types.{Shape, is_below, all_pairs}
+use Rattle.jvm_types.specs.Types.{TypeFrame, is_below, all_pairs}
 use Rattle.jvm_types.specs.Verifying.{HasTyping, IsAssignment, IsLaidOut, IsSound, covers, covering, frame_at}
 use Rattle.jvm_types.specs.declared.code.Insn.{Insn}
 use Rattle.jvm_types.specs.declared.program.MethodInfo.{MethodInfo}
@@ -44,7 +44,7 @@ CalledFit = (c : CheckedProgram) (number : ℕ) (m : MethodInfo) → IsChecked c
 -- ---- instructions
 
 -- an instruction of a method, with its target and its frame
-pub record IsPlace (c : CheckedProgram) (m : MethodInfo) (frames : List (Option Shape)) (i : ℕ) (insn : Insn) (target : Target) (f : Shape) : Type 0 where
+pub record IsPlace (c : CheckedProgram) (m : MethodInfo) (frames : List (Option TypeFrame)) (i : ℕ) (insn : Insn) (target : Target) (f : TypeFrame) : Type 0 where
   pub method : ℕ
   pub typing : Typing
   pub in_program : slice_get c.program.methods method ≡ Some m
@@ -56,11 +56,11 @@ pub record IsPlace (c : CheckedProgram) (m : MethodInfo) (frames : List (Option 
 
 -- there is one where there is a frame
 abbrev pub FramesHavePlaces : Type 0
-FramesHavePlaces = (c : CheckedProgram) (method pc : ℕ) (m : MethodInfo) (typing : Typing) (f : Shape) → IsChecked c → slice_get c.program.methods method ≡ Some m → slice_get c.typings method ≡ Some typing
+FramesHavePlaces = (c : CheckedProgram) (method pc : ℕ) (m : MethodInfo) (typing : Typing) (f : TypeFrame) → IsChecked c → slice_get c.program.methods method ≡ Some m → slice_get c.typings method ≡ Some typing
     → frame_at m.code typing.frames pc ≡ Some f → (i : ℕ) × (insn : Insn) × (target : Target) × (insn.pc ≡ pc) × IsPlace c m typing.frames i insn target f
 
 -- what holds there: the target fits and has its row, no rule is broken and each edge fits, and the frame is within its bounds
-pub record Holds (p : Program) (m : MethodInfo) (frames : List (Option Shape)) (insn : Insn) (target : Target) (f : Shape) : Type 0 where
+pub record Holds (p : Program) (m : MethodInfo) (frames : List (Option TypeFrame)) (insn : Insn) (target : Target) (f : TypeFrame) : Type 0 where
   pub names : IsTargetOf p (site_in m) insn.op target
   pub has_row : HasRow p (site_in m) insn.pc target insn.op (row p m insn.pc target insn.op)
   pub rules : RulesHold m insn (row p m insn.pc target insn.op) f
@@ -71,7 +71,7 @@ pub record Holds (p : Program) (m : MethodInfo) (frames : List (Option Shape)) (
   pub behind : AreBehind insn.pc f
 
 abbrev pub PlacesHold : Type 0
-PlacesHold = (c : CheckedProgram) (m : MethodInfo) (frames : List (Option Shape)) (i : ℕ) (insn : Insn) (target : Target) (f : Shape) → IsChecked c → IsPlace c m frames i insn target f → Holds c.program m frames insn target f
+PlacesHold = (c : CheckedProgram) (m : MethodInfo) (frames : List (Option TypeFrame)) (i : ℕ) (insn : Insn) (target : Target) (f : TypeFrame) → IsChecked c → IsPlace c m frames i insn target f → Holds c.program m frames insn target f
 
 -- ---- calls
 
@@ -86,7 +86,7 @@ pub record CallSuits (m called : MethodInfo) (stack : List VType) : Type 0 where
   pub receiver : is_static called.flags ≡ false → (type : VType) × (slice_get stack (length called.args) ≡ Some type) × IsGood m (receiver_want (is_init called) called.class) type
 
 abbrev pub CallsSuit : Type 0
-CallsSuit = (c : CheckedProgram) (m called : MethodInfo) (frames : List (Option Shape)) (i number : ℕ) (insn : Insn) (target : Target) (f : Shape) → IsChecked c → IsPlace c m frames i insn target f
+CallsSuit = (c : CheckedProgram) (m called : MethodInfo) (frames : List (Option TypeFrame)) (i number : ℕ) (insn : Insn) (target : Target) (f : TypeFrame) → IsChecked c → IsPlace c m frames i insn target f
     → called_method insn.op target ≡ Some number → slice_get c.program.methods number ≡ Some called → CallSuits m called f.stack
 
 -- ---- exceptions

@@ -10,7 +10,7 @@ use Rattle.jvm_types.specs.Linked.{code_of, program_of}
 use Rattle.jvm_types.specs.Members.{Declared, declared_from, declared_by, declared_methods}
 use Rattle.jvm_types.specs.ProgramInvariant.{IsProgram}
 use Rattle.jvm_types.specs.ReadingClass.{class_fault}
-use Rattle.jvm_types.specs.Types.{Shape}
+use Rattle.jvm_types.specs.Types.{TypeFrame}
 use Rattle.jvm_types.specs.Verifying.{IsLaidOut, IsRefused, IsTypingOf, HasTyping}
 use Rattle.checked_program.specs.CheckedProgram.{CheckedProgram, AreTypings}
 use Rattle.jvm_types.specs.FirstForm.{IsFirstForm}
@@ -93,7 +93,7 @@ all_decoded (d ∷ ds) h = by_fault (code_fault (code_of d.member.attrs).bytes (
 
 -- ---- V: verifying
 
-abbrev typing_of : List (Option Shape) → Typing
+abbrev typing_of : List (Option TypeFrame) → Typing
 typing_of frames = record { frames = frames }
 
 each : {X : Type 0} (P : X → Type 0) (xs : List X) → ((i : ℕ) (x : X) → slice_get xs i ≡ Some x → P x) → AllByRecursion P xs

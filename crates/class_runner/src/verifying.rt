@@ -57,9 +57,7 @@ fn verify_class(
     for number in 0..class.methods.len() {
         let method = typings.len() as u32;
         let number = number as u16;
-        typings.push(verify_method(
-            alloc, program, method, file, number, budget,
-        )?)?;
+        typings.push(verify_method(alloc, program, method, file, number, budget)?)?;
     }
     Ok(())
 }

@@ -5,8 +5,8 @@ use Rattle.std.specs.Option.{option_map, IfSome}
 use Rattle.std.specs.List.{AllByRecursion}
 use Rattle.std.proofs.lemmas.Bool.{cases_eq}
 use Rattle.jvm_types.specs.Numbers.{has_number}
-use Rattle.jvm_types.specs.Types.{Shape, meets}
-use Rattle.jvm_types.specs.Verifying.{Node, node_at, node_joined, brought, has_other_depth, clash}
+use Rattle.jvm_types.specs.Types.{TypeFrame, meets}
+use Rattle.jvm_types.specs.Verifying.{Node, node_at, node_met, brought, has_other_depth, clash}
 use Rattle.jvm_types.specs.declared.code.Insn.{Insn}
 use Rattle.jvm_types.specs.declared.program.MethodInfo.{MethodInfo}
 use Rattle.code_table.specs.PcTables.{number_at, Ascend}
@@ -124,7 +124,7 @@ wide_at m [] i all = tt
 wide_at m (node ∷ nodes) zero all = all.0
 wide_at m (node ∷ nodes) (suc i) all = wide_at m nodes i all.1
 
-fits_frame : (m : MethodInfo) (frame : Option Shape) (f : Shape) (to : ℕ) → (if has_other_depth frame (length f.stack) then Some to else None) ≡ None → IfSome frame (HasLocals m) → HasLocals m f → Fits frame f
+fits_frame : (m : MethodInfo) (frame : Option TypeFrame) (f : TypeFrame) (to : ℕ) → (if has_other_depth frame (length f.stack) then Some to else None) ≡ None → IfSome frame (HasLocals m) → HasLocals m f → Fits frame f
 fits_frame m None f to e h k = tt
 fits_frame m (Some g) f to e h k = by_depth (cases_eq (length g.stack) (length f.stack)) e
   where
@@ -133,12 +133,12 @@ fits_frame m (Some g) f to e h k = by_depth (cases_eq (length g.stack) (length f
     by_depth (inl d) e = (d, h ∙ sym k)
     by_depth (inr d) e = let wrong : Some to ≡ None = rw (other_number (length g.stack) (length f.stack) d) at e in absurd (cc)
 
-pub fits_at : (m : MethodInfo) (nodes : List Node) (to i : ℕ) (f : Shape) → Ascend 0 m.code → AreLevel m nodes → HasLocals m f → clash m.code (to ∷ []) (length f.stack) nodes ≡ None → number_at m.code to ≡ Some i
+pub fits_at : (m : MethodInfo) (nodes : List Node) (to i : ℕ) (f : TypeFrame) → Ascend 0 m.code → AreLevel m nodes → HasLocals m f → clash m.code (to ∷ []) (length f.stack) nodes ≡ None → number_at m.code to ≡ Some i
     → Fits (node_at nodes i).frame f
 fits_at m nodes to i f a level k e p = fits_frame m (node_at nodes i).frame f to
     (ap (λ o. clash_place o to (length f.stack) nodes) (sym p) ∙ sym (clash_at 0 m.code to (length f.stack) nodes a) ∙ e) (wide_at m nodes i level.wide) k
 
-joined_depth : (node : Node) (frame : Option Shape) (f : Shape) (depth : ℕ) → has_other_depth frame depth ≡ false → length f.stack ≡ depth → has_other_depth (node_joined node frame f).frame depth ≡ false
+joined_depth : (node : Node) (frame : Option TypeFrame) (f : TypeFrame) (depth : ℕ) → has_other_depth frame depth ≡ false → length f.stack ≡ depth → has_other_depth (node_met node frame f).frame depth ≡ false
 joined_depth node None f depth e h = rw (same_number (length f.stack) depth h) refl
 joined_depth node (Some g) f depth e h = by_depth (cases_eq (length g.stack) depth)
   where
@@ -147,14 +147,14 @@ joined_depth node (Some g) f depth e h = by_depth (cases_eq (length g.stack) dep
     by_depth (inr d) = let wrong : not false ≡ false = rw (other_number (length g.stack) depth d) at e in absurd (cc)
 
 -- an edge that brings a frame of the depth leaves none that clashes
-pub still_none : (code : List Insn) (tos : List ℕ) (to : ℕ) (f : Shape) (depth : ℕ) (nodes : List Node) → length f.stack ≡ depth → clash code tos depth nodes ≡ None → clash code tos depth (brought code to f nodes) ≡ None
+pub still_none : (code : List Insn) (tos : List ℕ) (to : ℕ) (f : TypeFrame) (depth : ℕ) (nodes : List Node) → length f.stack ≡ depth → clash code tos depth nodes ≡ None → clash code tos depth (brought code to f nodes) ≡ None
 still_none [] tos to f depth nodes h e = refl
 still_none (insn ∷ insns) tos to f depth [] h e = refl
 still_none (insn ∷ insns) tos to f depth (node ∷ nodes) h e = by_tests (insn.pc == to) (has_number tos insn.pc) (has_other_depth node.frame depth) refl refl e (still_none insns tos to f depth nodes h)
   where
     by_tests : (t s c : Bool) → has_number tos insn.pc ≡ s → has_other_depth node.frame depth ≡ c → (if s && c then Some insn.pc else clash insns tos depth nodes) ≡ None
         → (clash insns tos depth nodes ≡ None → clash insns tos depth (brought insns to f nodes) ≡ None)
-        → clash (insn ∷ insns) tos depth (if t then node_joined node node.frame f ∷ nodes else node ∷ brought insns to f nodes) ≡ None
+        → clash (insn ∷ insns) tos depth (if t then node_met node node.frame f ∷ nodes else node ∷ brought insns to f nodes) ≡ None
     by_tests t true true a b e more = absurd (cc)
     by_tests true true false a b e more = rw (a, joined_depth node node.frame f depth b h) e
     by_tests true false c a b e more = rw a e

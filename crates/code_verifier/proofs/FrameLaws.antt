@@ -4,7 +4,7 @@ use Rattle.std.specs.Prelude.{◌||◌, ◌&&◌, if◌then◌else◌, slice_get
 use Rattle.std.specs.List.{list_any}
 use Rattle.std.specs.Option.{IfSome}
 use Rattle.std.proofs.lemmas.List.{reverse-append, map-append, length-map, length-set, set-append_left, replicate-append-replicate}
-use Rattle.jvm_types.specs.Types.{Shape, filled, is_uninitialised, is_new, same_type, same_shape, all_pairs, meet, meets, meet_shapes}
+use Rattle.jvm_types.specs.Types.{TypeFrame, filled, is_uninitialised, is_new, same_type, same_frame, all_pairs, meet, meets, meet_frames}
 use Rattle.jvm_types.specs.Verifying.{initialised, after_start}
 use Rattle.jvm_types.specs.declared.typing.VType.{VType}
 use Rattle.jvm_types.specs.declared.typing.VType.TheVariants.{Int, Null, Ref, This, New, Top}
@@ -99,9 +99,9 @@ same_filled n ts us e =
     ap (λ k. all_pairs same_type (filled n ts) (meets ts us ++ replicate (n - k) Top)) long ∙ same_first ts (meets ts us) (n - length ts) (sym long)
 
 -- the frame where two meet, made of the stack and of the first locals
-pub frames_met : (frame other : Shape) (n : ℕ) (first met_locals met_stack : List VType) (ready : Bool) → n ≡ length frame.locals → length frame.locals ≡ length other.locals → filled (length frame.locals) first ≡ frame.locals
+pub frames_met : (frame other : TypeFrame) (n : ℕ) (first met_locals met_stack : List VType) (ready : Bool) → n ≡ length frame.locals → length frame.locals ≡ length other.locals → filled (length frame.locals) first ≡ frame.locals
     → met_stack ≡ meets frame.stack other.stack → met_locals ≡ meets first other.locals → ready ≡ (frame.ready && other.ready)
-    → record { stack = met_stack; locals = filled n met_locals; ready = ready } ≡ meet_shapes frame other
+    → record { stack = met_stack; locals = filled n met_locals; ready = ready } ≡ meet_frames frame other
 frames_met frame other n first met_locals met_stack ready en long ef es el er =
     let others : length other.locals ≡ length (filled (length frame.locals) first) = sym long ∙ ap length (sym ef) in
     let locals : filled (length frame.locals) (meets first other.locals) ≡ meets frame.locals other.locals = sym (meets_filled (length frame.locals) first other.locals others) ∙ ap (λ l. meets l other.locals) ef in

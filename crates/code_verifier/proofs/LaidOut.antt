@@ -4,8 +4,8 @@ use Rattle.std.specs.Prelude.{slice_get, slice_set}
 use Rattle.std.specs.Option.{IfSome}
 use Rattle.std.specs.List.{AllByRecursion}
 use Rattle.std.proofs.lemmas.List.{length-set}
-use Rattle.jvm_types.specs.Types.{entry_shape}
-use Rattle.jvm_types.specs.Verifying.{Node, node_at, first_nodes, node_joined, visited, visited_insn}
+use Rattle.jvm_types.specs.Types.{entry_frame}
+use Rattle.jvm_types.specs.Verifying.{Node, node_at, first_nodes, node_met, visited, visited_insn}
 use Rattle.jvm_types.specs.declared.code.Insn.{Insn}
 use Rattle.jvm_types.specs.declared.program.MethodInfo.{MethodInfo}
 use Rattle.jvm_types.specs.declared.program.Program.{Program}
@@ -23,10 +23,10 @@ first_empty m [] e = refl
 first_empty m (insn ∷ insns) e = absurd (cc)
 
 pub first_entered : (m : MethodInfo) (code : List Insn) (nodes mid : List Node) → 0 < length code → nodes ≡ replicate (length code) unreached
-    → mid ≡ slice_set nodes 0 (node_joined (node_at nodes 0) (node_at nodes 0).frame (entry_shape m)) → mid ≡ first_nodes m code
+    → mid ≡ slice_set nodes 0 (node_met (node_at nodes 0) (node_at nodes 0).frame (entry_frame m)) → mid ≡ first_nodes m code
 first_entered m [] nodes mid h e f = absurd (omega (arith, h))
-first_entered m (insn ∷ insns) nodes mid h e f = f ∙ ap (λ (l : List Node). slice_set l 0 (node_joined (node_at l 0) (node_at l 0).frame (entry_shape m))) e
-    ∙ ap (λ (l : List Node). record { frame = Some (entry_shape m); waits = true } ∷ l) (sym (others_unreached insns))
+first_entered m (insn ∷ insns) nodes mid h e f = f ∙ ap (λ (l : List Node). slice_set l 0 (node_met (node_at l 0) (node_at l 0).frame (entry_frame m))) e
+    ∙ ap (λ (l : List Node). record { frame = Some (entry_frame m); waits = true } ∷ l) (sym (others_unreached insns))
 
 others_level : (m : MethodInfo) (insns : List Insn) → AllByRecursion (λ (node : Node). IfSome node.frame (HasLocals m)) (map (λ (other : Insn). unreached) insns)
 others_level m [] = tt

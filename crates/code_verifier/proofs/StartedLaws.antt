@@ -5,8 +5,8 @@ use Rattle.jvm_types.specs.CodeFault.{or_else}
 use Rattle.jvm_types.specs.declared.op_row.Want.{Want}
 use Rattle.jvm_types.specs.declared.op_row.Want.TheVariants.{ToStart}
 use Rattle.jvm_types.specs.CodeTable.{stack_after, locals_after}
-use Rattle.jvm_types.specs.Types.{Shape, filled, is_uninitialised}
-use Rattle.jvm_types.specs.Verifying.{started, suits, some_taken, some_read, mistypes, after_start, shape_after}
+use Rattle.jvm_types.specs.Types.{TypeFrame, filled, is_uninitialised}
+use Rattle.jvm_types.specs.Verifying.{started, suits, some_taken, some_read, mistypes, after_start, frame_after}
 use Rattle.jvm_types.specs.declared.op_row.OpRow.{OpRow}
 use Rattle.jvm_types.specs.declared.program.MethodInfo.{MethodInfo}
 use Rattle.std.specs.Option.{IfSome}
@@ -66,15 +66,15 @@ taken_known m (ToStart class ∷ wants) (t ∷ ts) e = absurd (cc)
 taken_known m (want ∷ wants) [] e = tt
 taken_known m (want ∷ wants) (t ∷ ts) e = taken_known m wants ts (second (not (suits m want t)) (some_taken (λ want t. not (suits m want t)) wants ts) e)
 
-pub object_known : (m : MethodInfo) (r : OpRow) (f : Shape) → mistypes m r f ≡ false → IfSome (started m.class r.takes f.stack) (λ o. is_uninitialised o.0 ≡ true)
+pub object_known : (m : MethodInfo) (r : OpRow) (f : TypeFrame) → mistypes m r f ≡ false → IfSome (started m.class r.takes f.stack) (λ o. is_uninitialised o.0 ≡ true)
 object_known m r f e = taken_known m r.takes f.stack (first (some_taken (λ want t. not (suits m want t)) r.takes f.stack) (some_read (λ want t. not (suits m want t)) r.reads f.locals) e)
 
 -- ---- the frame after an instruction, made of its stack and first locals
 
-pub after_made : (m : MethodInfo) (r : OpRow) (f : Shape) (object : Option (VType × ℕ)) (takes : List Want) (stack locals stack' locals' : List VType) (ready after : Bool) (n : ℕ)
+pub after_made : (m : MethodInfo) (r : OpRow) (f : TypeFrame) (object : Option (VType × ℕ)) (takes : List Want) (stack locals stack' locals' : List VType) (ready after : Bool) (n : ℕ)
     → object ≡ started m.class takes f.stack → takes ≡ r.takes → stack ≡ stack_after Top (λ t. t) r f.stack f.locals
     → filled (length f.locals) locals ≡ locals_after Top (λ t. t) r.writes f.stack f.locals → ready ≡ f.ready → n ≡ length f.locals
     → ((k : ℕ) → after_start object (record { stack = stack; locals = filled k locals; ready = ready }) ≡ record { stack = stack'; locals = filled k locals'; ready = after })
-    → record { stack = stack'; locals = filled n locals'; ready = after } ≡ shape_after m r f
+    → record { stack = stack'; locals = filled n locals'; ready = after } ≡ frame_after m r f
 after_made m r f object takes stack locals stack' locals' ready after n eo et es el er en h =
     rw en (sym (h (length f.locals)) ∙ rw (eo, et, es, el, er) refl)

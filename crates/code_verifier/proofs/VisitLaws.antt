@@ -4,8 +4,8 @@ use Rattle.std.specs.Prelude.{◌||◌, slice_get}
 use Rattle.std.specs.Option.{IfSome}
 use Rattle.std.proofs.lemmas.List.{length-map, length-set}
 use Rattle.jvm_types.specs.CodeTable.{row, locals_after}
-use Rattle.jvm_types.specs.Types.{Shape, same_type}
-use Rattle.jvm_types.specs.Verifying.{Node, node_at, started, after_start, shape_after, mistypes, broken_before, broken_after, unless_broken, unless_clash, clash, edges, all_brought, covering, handled, gone_on, visited_row, visited_insn, takes_too_many, gives_too_many, lacks_locals, misuses_object}
+use Rattle.jvm_types.specs.Types.{TypeFrame, same_type}
+use Rattle.jvm_types.specs.Verifying.{Node, node_at, started, after_start, frame_after, mistypes, broken_before, broken_after, unless_broken, unless_clash, clash, edges, all_brought, covering, handled, gone_on, visited_row, visited_insn, takes_too_many, gives_too_many, lacks_locals, misuses_object}
 use Rattle.jvm_types.specs.declared.code.Insn.{Insn}
 use Rattle.jvm_types.specs.declared.op_row.Given.{Given}
 use Rattle.jvm_types.specs.declared.op_row.OpRow.{OpRow}
@@ -24,7 +24,7 @@ use Rattle.code_verifier.proofs.ClashLaws.{wide_at}
 
 -- ---- before the edges
 
-pub none_mistyped : (m : MethodInfo) (insn : Insn) (r : OpRow) (f : Shape) → broken_before m insn r f ≡ None → mistypes m r f ≡ false
+pub none_mistyped : (m : MethodInfo) (insn : Insn) (r : OpRow) (f : TypeFrame) → broken_before m insn r f ≡ None → mistypes m r f ≡ false
 none_mistyped m insn r f e =
     let one = unbroken (takes_too_many r f) V1 ((gives_too_many m r f, V2) ∷ (lacks_locals m r f, V3) ∷ (misuses_object m insn r f, V7) ∷ (mistypes m r f, V4) ∷ []) e in
     let two = unbroken (gives_too_many m r f) V2 ((lacks_locals m r f, V3) ∷ (misuses_object m insn r f, V7) ∷ (mistypes m r f, V4) ∷ []) one.1 in
@@ -38,22 +38,22 @@ written_length : (writes : Option (ℕ × Given)) (stack locals : List VType) �
 written_length None stack locals = refl
 written_length (Some write) stack locals = length-set locals write.0 _
 
-started_length : (object : Option (VType × ℕ)) (f : Shape) → length (after_start object f).locals ≡ length f.locals
+started_length : (object : Option (VType × ℕ)) (f : TypeFrame) → length (after_start object f).locals ≡ length f.locals
 started_length None f = refl
 started_length (Some object) f = length-map f.locals _
 
-after_length : (m : MethodInfo) (r : OpRow) (f : Shape) → length (shape_after m r f).locals ≡ length f.locals
+after_length : (m : MethodInfo) (r : OpRow) (f : TypeFrame) → length (frame_after m r f).locals ≡ length f.locals
 after_length m r f = started_length (started m.class r.takes f.stack) _ ∙ written_length r.writes f.stack f.locals
 
-pub after_wide : (m : MethodInfo) (insn : Insn) (r : OpRow) (f after : Shape) (kept : Option Shape) → IsPrepared m insn r f after kept → HasLocals m f → HasLocals m after
-after_wide m insn r f after kept p h = ap (λ (s : Shape). length s.locals) p.after_is ∙ after_length m r f ∙ h
+pub after_wide : (m : MethodInfo) (insn : Insn) (r : OpRow) (f after : TypeFrame) (kept : Option TypeFrame) → IsPrepared m insn r f after kept → HasLocals m f → HasLocals m after
+after_wide m insn r f after kept p h = ap (λ (s : TypeFrame). length s.locals) p.after_is ∙ after_length m r f ∙ h
 
-pub kept_wide : (m : MethodInfo) (pc : ℕ) (f : Shape) (kept : Option Shape) → Keeps m pc f kept → HasLocals m f → IfSome kept (HasLocals m)
+pub kept_wide : (m : MethodInfo) (pc : ℕ) (f : TypeFrame) (kept : Option TypeFrame) → Keeps m pc f kept → HasLocals m f → IfSome kept (HasLocals m)
 kept_wide m pc f None k h = tt
-kept_wide m pc f (Some g) k h = ap (λ (s : Shape). length s.locals) k ∙ h
+kept_wide m pc f (Some g) k h = ap (λ (s : TypeFrame). length s.locals) k ∙ h
 
-pub found_wide : (m : MethodInfo) (nodes : List Node) (i : ℕ) (f : Shape) → AreLevel m nodes → Some f ≡ (node_at nodes i).frame → HasLocals m f
-found_wide m nodes i f level e = subst (λ (o : Option Shape). IfSome o (HasLocals m)) (sym e) (wide_at m nodes i level.wide)
+pub found_wide : (m : MethodInfo) (nodes : List Node) (i : ℕ) (f : TypeFrame) → AreLevel m nodes → Some f ≡ (node_at nodes i).frame → HasLocals m f
+found_wide m nodes i f level e = subst (λ (o : Option TypeFrame). IfSome o (HasLocals m)) (sym e) (wide_at m nodes i level.wide)
 
 -- ---- the parts of a visit
 
@@ -61,15 +61,15 @@ pub gone_by : (pc : ℕ) (clashes : Option ℕ) (broken : Option VRule) (more : 
     → clashes ≡ None → broken ≡ None → Leaves more last result → Leaves (unless_clash clashes (unless_broken pc broken more)) last result
 gone_by pc clashes broken more last result c b h = rw (c, b) h
 
-pub unprepared : (m : MethodInfo) (insn : Insn) (r : OpRow) (f : Shape) (e : VerifyError) (nodes last : List Node) → Prepares m insn r f (Err e) → Leaves {A = Unit {0}} (visited_row m insn r f nodes) last (Err e)
+pub unprepared : (m : MethodInfo) (insn : Insn) (r : OpRow) (f : TypeFrame) (e : VerifyError) (nodes last : List Node) → Prepares m insn r f (Err e) → Leaves {A = Unit {0}} (visited_row m insn r f nodes) last (Err e)
 unprepared m insn r f Memory nodes last p = tt
 unprepared m insn r f (Refused rule pc) nodes last p = rw (p.0, p.1) refl
 
-pub prepared : (m : MethodInfo) (insn : Insn) (r : OpRow) (f after : Shape) (kept : Option Shape) (nodes last : List Node) (result : Result (Unit {0}) VerifyError)
+pub prepared : (m : MethodInfo) (insn : Insn) (r : OpRow) (f after : TypeFrame) (kept : Option TypeFrame) (nodes last : List Node) (result : Result (Unit {0}) VerifyError)
     → IsPrepared m insn r f after kept → Leaves (gone_on m insn f after nodes) last result → Leaves (visited_row m insn r f nodes) last result
 prepared m insn r f after kept nodes last result p h = rw (p.unbroken, ← p.after_is) h
 
-pub leaves_at : (p : Program) (m : MethodInfo) (at : Option Insn) (named : Option Target) (found : Option Shape) (nodes mid : List Node) (result : Result (Unit {0}) VerifyError)
-    (insn : Insn) (target : Target) (f : Shape) (r : OpRow) → Some insn ≡ at → Some target ≡ named → Some f ≡ found → r ≡ row p m insn.pc target insn.op
+pub leaves_at : (p : Program) (m : MethodInfo) (at : Option Insn) (named : Option Target) (found : Option TypeFrame) (nodes mid : List Node) (result : Result (Unit {0}) VerifyError)
+    (insn : Insn) (target : Target) (f : TypeFrame) (r : OpRow) → Some insn ≡ at → Some target ≡ named → Some f ≡ found → r ≡ row p m insn.pc target insn.op
     → Leaves (visited_row m insn r f nodes) mid result → Leaves (visited_insn p m at named found nodes) mid result
 leaves_at p m at named found nodes mid result insn target f r a b d e h = rw (← a, ← b, ← d, ← e) h

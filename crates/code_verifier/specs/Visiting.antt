@@ -2,8 +2,8 @@
 use Rattle.std.specs.Prelude.{◌≡◌, ℕ, min, if◌then◌else◌, List, [], ◌∷◌, length, Option, Some, None, Result, Ok, Err}
 use Rattle.std.specs.Option.{IfSome}
 use Rattle.std.specs.List.{AllByRecursion}
-use Rattle.jvm_types.specs.Types.{Shape, entry_shape}
-use Rattle.jvm_types.specs.Verifying.{Node, node_at, has_other_depth, brought, clash, shape_at_handler, catch_fault, unless_caught, covering, broken_before, shape_after}
+use Rattle.jvm_types.specs.Types.{TypeFrame, entry_frame}
+use Rattle.jvm_types.specs.Verifying.{Node, node_at, has_other_depth, brought, clash, frame_at_handler, catch_fault, unless_caught, covering, broken_before, frame_after}
 use Rattle.jvm_types.specs.declared.code.Insn.{Insn}
 use Rattle.jvm_types.specs.declared.op_row.OpRow.{OpRow}
 use Rattle.jvm_types.specs.declared.program.Row.{Row}
@@ -13,8 +13,8 @@ use Rattle.code_verifier.specs.declared.error.VerifyError.{VerifyError}
 use Rattle.code_verifier.specs.declared.error.VerifyError.TheVariants.{Memory, Refused}
 
 -- as many locals as the frame at pc 0 has
-abbrev pub HasLocals : MethodInfo → Shape → Type 0
-HasLocals m f = length f.locals ≡ length (entry_shape m).locals
+abbrev pub HasLocals : MethodInfo → TypeFrame → Type 0
+HasLocals m f = length f.locals ≡ length (entry_frame m).locals
 
 -- one node for each instruction, and each frame has these locals
 pub record AreLevel (m : MethodInfo) (nodes : List Node) : Type 0 where
@@ -39,22 +39,22 @@ Leaves visit nodes (Err Memory) = Unit {0}
 Leaves visit nodes (Err (Refused rule pc)) = visit ≡ Err (rule, pc)
 
 -- the edge to the handler of one covering row
-abbrev pub caught : MethodInfo → ℕ → Shape → Row → List Node → Result (List Node) (VRule × ℕ)
-caught m pc f handler nodes = unless_caught (catch_fault m pc handler) (clash m.code (handler.handler ∷ []) 1 nodes) (Ok (brought m.code handler.handler (shape_at_handler handler f) nodes))
+abbrev pub caught : MethodInfo → ℕ → TypeFrame → Row → List Node → Result (List Node) (VRule × ℕ)
+caught m pc f handler nodes = unless_caught (catch_fault m pc handler) (clash m.code (handler.handler ∷ []) 1 nodes) (Ok (brought m.code handler.handler (frame_at_handler handler f) nodes))
 
 -- what is kept of a frame for the handlers of the rows that cover a pc: all but the stack, where there are some
-abbrev pub Keeps : MethodInfo → ℕ → Shape → Option Shape → Type 0
+abbrev pub Keeps : MethodInfo → ℕ → TypeFrame → Option TypeFrame → Type 0
 Keeps m pc f None = covering m pc ≡ []
 Keeps m pc f (Some g) = g ≡ record { stack = []; locals = f.locals; ready = f.ready }
 
 -- a frame breaks no rule at an instruction, and these are the frame after it and what is kept for handlers
-pub record IsPrepared (m : MethodInfo) (insn : Insn) (r : OpRow) (f after : Shape) (kept : Option Shape) : Type 0 where
+pub record IsPrepared (m : MethodInfo) (insn : Insn) (r : OpRow) (f after : TypeFrame) (kept : Option TypeFrame) : Type 0 where
   pub unbroken : broken_before m insn r f ≡ None
-  pub after_is : after ≡ shape_after m r f
+  pub after_is : after ≡ frame_after m r f
   pub keeps : Keeps m insn.pc f kept
 
 -- these; or the rule that is broken there; or memory ran out
-abbrev pub Prepares : MethodInfo → Insn → OpRow → Shape → Result (Shape × Option Shape) VerifyError → Type 0
+abbrev pub Prepares : MethodInfo → Insn → OpRow → TypeFrame → Result (TypeFrame × Option TypeFrame) VerifyError → Type 0
 Prepares m insn r f (Ok made) = IsPrepared m insn r f made.0 made.1
 Prepares m insn r f (Err Memory) = Unit {0}
 Prepares m insn r f (Err (Refused rule pc)) = (broken_before m insn r f ≡ Some rule) × (pc ≡ insn.pc)

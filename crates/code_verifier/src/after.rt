@@ -4,7 +4,7 @@ ghost use Rattle.std.specs.Prelude.{◌≡◌, ◌≤◌, ℕ, Some, true, false
 ghost use Rattle.std.specs.Option.{IfSome};
 ghost use Rattle.jvm_types.specs.Types.{filled, is_uninitialised};
 ghost use Rattle.jvm_types.specs.CodeTable.{value_of, stack_after, locals_after};
-ghost use Rattle.jvm_types.specs.Verifying.{started, after_start, mistypes, shape_after};
+ghost use Rattle.jvm_types.specs.Verifying.{started, after_start, mistypes, frame_after};
 ghost use Rattle.jvm_types.specs.declared.typing.VType.TheVariants.{Top};
 
 use crate::frames::value;
@@ -25,11 +25,7 @@ fn type_given(given: Given, f: &TypeFrame) -> VType
 }
 
 /// Pushes what an instruction leaves, the last first.
-fn push_all(
-    stack: &mut Stack<VType>,
-    gives: &[Given],
-    f: &TypeFrame,
-) -> Result<(), AllocError>
+fn push_all(stack: &mut Stack<VType>, gives: &[Given], f: &TypeFrame) -> Result<(), AllocError>
     ensures { OnOk result (stack.new ≡ map (λ given. value_of Top (λ t. t) f.now.stack f.now.locals given) gives.now ++ stack.old) }
 {
     for i in (0..gives.len()).rev() {
@@ -50,11 +46,7 @@ fn stack_after(alloc: Global, row: &OpRow, f: &TypeFrame) -> Result<Stack<VType>
 }
 
 /// A copy of the first locals, and at least so many of them.
-fn first_locals(
-    alloc: Global,
-    f: &TypeFrame,
-    count: usize,
-) -> Result<Rows<VType>, AllocError>
+fn first_locals(alloc: Global, f: &TypeFrame, count: usize) -> Result<Rows<VType>, AllocError>
     requires { count ≤ length f.now.locals }
     ensures locals { IfOk result (λ locals. filled (length f.now.locals) locals ≡ f.now.locals) }
     ensures count { IfOk result (λ locals. count ≤ length locals) }
@@ -155,7 +147,7 @@ pub fn frame_after(
     f: &TypeFrame,
 ) -> Result<TypeFrame, AllocError>
     requires { mistypes m.now row.now f.now ≡ false }
-    ensures { IfOk result (λ after. after ≡ shape_after m.now row.now f.now) }
+    ensures { IfOk result (λ after. after ≡ frame_after m.now row.now f.now) }
 {
     let mut stack = stack_after(alloc, row, f)?;
     let mut locals = locals_after(alloc, row.writes, f)?;

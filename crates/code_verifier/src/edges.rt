@@ -54,12 +54,7 @@ fn clash_at(m: &IndexedMethod<'_>, nodes: &Nodes, to: u32, depth: usize) -> Opti
 }
 
 /// The first of the instructions that edges lead to whose frame is of another depth.
-pub fn clash(
-    m: &IndexedMethod<'_>,
-    nodes: &Nodes,
-    tos: &[u32],
-    depth: usize,
-) -> Option<u32>
+pub fn clash(m: &IndexedMethod<'_>, nodes: &Nodes, tos: &[u32], depth: usize) -> Option<u32>
     ensures { result ≡ clash m.now.code tos.now depth nodes.now }
 {
     m.laid_out();

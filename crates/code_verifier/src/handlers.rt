@@ -2,7 +2,7 @@
 
 ghost use Rattle.std.specs.Prelude.{◌≡◌, ◌∷◌, [], IfOk, OnOk};
 ghost use Rattle.std.specs.Option.{IfSome};
-ghost use Rattle.jvm_types.specs.Types.{Shape};
+ghost use Rattle.jvm_types.specs.Types.{TypeFrame};
 ghost use Rattle.jvm_types.specs.Verifying.{caught_class, catch_fault, covering, handled};
 ghost use Rattle.code_verifier.specs.Visiting.{HasLocals, AreLevel, Leaves, Keeps, caught};
 
@@ -112,7 +112,7 @@ pub fn handle_kept(
 ) -> Result<(), VerifyError>
     requires level { AreLevel m.now nodes.old }
     requires locals { IfSome kept.now (HasLocals m.now) }
-    ensures left { (f : Shape) → Keeps m.now pc f kept.now → Leaves (handled m.now pc f (covering m.now pc) nodes.old) nodes.new result }
+    ensures left { (f : TypeFrame) → Keeps m.now pc f kept.now → Leaves (handled m.now pc f (covering m.now pc) nodes.old) nodes.new result }
     ensures level { OnOk result (AreLevel m.now nodes.new) }
 {
     match kept {

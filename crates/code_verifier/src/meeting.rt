@@ -1,7 +1,7 @@
 //! Frames where edges meet.
 
 ghost use Rattle.std.specs.Prelude.{◌≡◌, not, length};
-ghost use Rattle.jvm_types.specs.Types.{meet_shapes, same_shape};
+ghost use Rattle.jvm_types.specs.Types.{meet_frames, same_frame};
 
 use crate::type_lists::{meet_locals, meet_stacks};
 use jvm_types::TypeFrame;
@@ -10,8 +10,8 @@ use jvm_types::TypeFrame;
 pub fn meet_frames(frame: TypeFrame, other: &TypeFrame) -> (TypeFrame, bool)
     requires depth { length frame.stack ≡ length other.now.stack }
     requires locals { length frame.locals ≡ length other.now.locals }
-    ensures met { result.0 ≡ meet_shapes frame other.now }
-    ensures told { result.1 ≡ not (same_shape frame (meet_shapes frame other.now)) }
+    ensures met { result.0 ≡ meet_frames frame other.now }
+    ensures told { result.1 ≡ not (same_frame frame (meet_frames frame other.now)) }
 {
     let local_count = frame.local_count();
     let (mut stack, mut locals, was_ready) = frame.into_parts();

@@ -2,7 +2,7 @@
 
 ghost use Rattle.std.specs.Prelude.{◌≡◌, ◌<◌, ◌||◌, [], length, map, replicate, slice_set, true, false, Some, None, IfOk, OnOk, OnSome};
 ghost use Rattle.std.specs.Option.{option_copied, IfSome, IfNone};
-ghost use Rattle.jvm_types.specs.Verifying.{node_at, node_joined, next_visit, has_other_depth};
+ghost use Rattle.jvm_types.specs.Verifying.{node_at, node_met, next_visit, has_other_depth};
 ghost use Rattle.code_verifier.specs.Waiting.{met, changes, Fits, unreached};
 
 use crate::budget::{Budget, NODE_BYTES, bytes_of};
@@ -68,11 +68,7 @@ fn bring_frame(
 
 impl Nodes {
     /// So many nodes that no edge reaches yet, which keep no more bytes than the budget has.
-    pub fn unreached(
-        alloc: Global,
-        count: usize,
-        mut budget: Budget,
-    ) -> Result<Nodes, AllocError>
+    pub fn unreached(alloc: Global, count: usize, mut budget: Budget) -> Result<Nodes, AllocError>
         ensures { IfOk result (λ nodes. nodes ≡ replicate count unreached) }
     {
         budget.take(count.saturating_mul(NODE_BYTES))?;
@@ -142,7 +138,7 @@ impl Nodes {
     pub fn bring(&mut self, alloc: Global, i: usize, f: &TypeFrame) -> Result<(), AllocError>
         requires inside { i < length self.old }
         requires fits { Fits (node_at self.old i).frame f.now }
-        ensures { OnOk result (self.new ≡ slice_set self.old i (node_joined (node_at self.old i) (node_at self.old i).frame f.now)) }
+        ensures { OnOk result (self.new ≡ slice_set self.old i (node_met (node_at self.old i) (node_at self.old i).frame f.now)) }
     {
         if self.meet(alloc, i, f)? {
             self.wait(i)?;
@@ -169,7 +165,7 @@ impl Nodes {
     pub fn bring_last(&mut self, alloc: Global, i: usize, f: TypeFrame) -> Result<(), AllocError>
         requires inside { i < length self.old }
         requires fits { Fits (node_at self.old i).frame f }
-        ensures { OnOk result (self.new ≡ slice_set self.old i (node_joined (node_at self.old i) (node_at self.old i).frame f)) }
+        ensures { OnOk result (self.new ≡ slice_set self.old i (node_met (node_at self.old i) (node_at self.old i).frame f)) }
     {
         if self.frame(i).is_none() {
             self.enter(i, f)

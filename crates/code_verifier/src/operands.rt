@@ -54,12 +54,7 @@ fn has_fault(m: &IndexedMethod<'_>, fault: Fault, want: Want, t: VType) -> bool
     }
 }
 
-fn some_taken(
-    m: &IndexedMethod<'_>,
-    fault: Fault,
-    takes: &[Want],
-    stack: &Stack<VType>,
-) -> bool
+fn some_taken(m: &IndexedMethod<'_>, fault: Fault, takes: &[Want], stack: &Stack<VType>) -> bool
     ensures { result ≡ some_taken (has_fault m.now fault) takes.now stack.now }
 {
     for (place, want) in takes.iter().enumerate() {
@@ -75,12 +70,7 @@ fn some_taken(
     false
 }
 
-fn some_read(
-    m: &IndexedMethod<'_>,
-    fault: Fault,
-    reads: Option<(u16, Want)>,
-    f: &TypeFrame,
-) -> bool
+fn some_read(m: &IndexedMethod<'_>, fault: Fault, reads: Option<(u16, Want)>, f: &TypeFrame) -> bool
     ensures { result ≡ some_read (has_fault m.now fault) reads f.now.locals }
 {
     let Some((i, want)) = reads else {

@@ -146,10 +146,12 @@ fn refusal(
 {
     let p = empty_program(rt.alloc())?;
     let m = method_of(rt.alloc(), head, code, targets, rows)?;
-    Ok(match verify_method(rt.alloc(), &p, &m, &mut Budget::of(MOST_KEPT)) {
-        Err(VerifyError::Refused(rule, pc)) => Some((rule, pc)),
-        _ => None,
-    })
+    Ok(
+        match verify_method(rt.alloc(), &p, &m, &mut Budget::of(MOST_KEPT)) {
+            Err(VerifyError::Refused(rule, pc)) => Some((rule, pc)),
+            _ => None,
+        },
+    )
 }
 
 /// The typing of the method.

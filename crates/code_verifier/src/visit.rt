@@ -2,7 +2,7 @@
 
 ghost use Rattle.std.specs.Prelude.{◌≡◌, Some, OnOk, slice_get};
 ghost use Rattle.std.specs.Option.{IfSome};
-ghost use Rattle.jvm_types.specs.Types.{Shape};
+ghost use Rattle.jvm_types.specs.Types.{TypeFrame};
 ghost use Rattle.jvm_types.specs.Verifying.{node_at, gone_on, visited_insn};
 ghost use Rattle.code_verifier.specs.Visiting.{HasLocals, AreLevel, Leaves, Keeps, Prepares};
 
@@ -28,7 +28,7 @@ fn go_on(
     requires level { AreLevel m.now nodes.old }
     requires locals { IfSome kept.now (HasLocals m.now) }
     requires locals_after { HasLocals m.now after }
-    ensures left { (f : Shape) → Keeps m.now insn.now.pc f kept.now → Leaves (gone_on m.now insn.now f after nodes.old) nodes.new result }
+    ensures left { (f : TypeFrame) → Keeps m.now insn.now.pc f kept.now → Leaves (gone_on m.now insn.now f after nodes.old) nodes.new result }
     ensures level { OnOk result (AreLevel m.now nodes.new) }
 {
     let tos = edges(alloc, insn)?;

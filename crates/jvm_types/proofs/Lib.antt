@@ -32,4 +32,4 @@ pub mod LoopLaws
 pub mod CodeWhole
 pub mod CodeExact
 pub mod TypeOrder
-pub mod ShapeOrder
+pub mod FrameOrder

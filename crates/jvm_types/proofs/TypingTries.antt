@@ -2,7 +2,7 @@
 use Rattle.std.proofs.Common.{◌≡◌, ℕ, zero, suc, pos, true, false, List, [], ◌∷◌, Option, Some, None, Result, Ok, Err, refl}
 use Rattle.std.specs.Prelude.{map, codes}
 use Rattle.jvm_types.specs.ClassTree.{is_subclass, common_ancestor}
-use Rattle.jvm_types.specs.Types.{Shape, meet}
+use Rattle.jvm_types.specs.Types.{TypeFrame, meet}
 use Rattle.jvm_types.specs.Verifying.{Node, first_nodes, next_visit, visited}
 use Rattle.jvm_types.specs.declared.code.Insn.{Insn}
 use Rattle.jvm_types.specs.declared.code.Op.{Op}
@@ -24,7 +24,7 @@ use Rattle.jvm_types.specs.declared.refusal.VRule.TheVariants.{V1, V2, V3, V4, V
 
 data Answer : Type 0 where
   Running : Answer
-  Typed : (frames : List (Option Shape)) → Answer
+  Typed : (frames : List (Option TypeFrame)) → Answer
   Refused : (rule : VRule) (pc : ℕ) → Answer
 
 abbrev after_visit : Result (List Node) (VRule × ℕ) → (List Node → Answer) → Answer
@@ -190,8 +190,8 @@ the_constructor : verified program constructor ≡ Typed (Some (record { stack =
 unfolding is_subclass common_ancestor
 the_constructor = refl
 
-abbrev shape : List VType → List VType → Option Shape
-shape stack locals = Some (record { stack = stack; locals = locals; ready = true })
+abbrev frame : List VType → List VType → Option TypeFrame
+frame stack locals = Some (record { stack = stack; locals = locals; ready = true })
 
 -- a block on `this` in the shape of javac: both rows lead to 16, where local 2 is of no known type
 abbrev block : MethodInfo
@@ -212,11 +212,11 @@ block = record {
   rows = record { start = 4; end = 15; handler = 16; catch_class = 0 } ∷ record { start = 16; end = 19; handler = 16; catch_class = 0 } ∷ [];
 }
 
-the_block : verified program block ≡ Typed (shape [] (Ref 17 ∷ Top ∷ Top ∷ []) ∷ shape (Ref 17 ∷ []) (Ref 17 ∷ Top ∷ Top ∷ []) ∷ shape (Ref 17 ∷ Ref 17 ∷ []) (Ref 17 ∷ Top ∷ Top ∷ [])
-    ∷ shape (Ref 17 ∷ []) (Ref 17 ∷ Ref 17 ∷ Top ∷ []) ∷ shape [] (Ref 17 ∷ Ref 17 ∷ Top ∷ []) ∷ shape (Ref 17 ∷ []) (Ref 17 ∷ Ref 17 ∷ Top ∷ []) ∷ shape (Int ∷ []) (Ref 17 ∷ Ref 17 ∷ Top ∷ [])
-    ∷ shape (Ref 17 ∷ Int ∷ []) (Ref 17 ∷ Ref 17 ∷ Top ∷ []) ∷ shape (Int ∷ Int ∷ []) (Ref 17 ∷ Ref 17 ∷ Top ∷ []) ∷ shape (Int ∷ []) (Ref 17 ∷ Ref 17 ∷ Top ∷ [])
-    ∷ shape (Ref 17 ∷ Int ∷ []) (Ref 17 ∷ Ref 17 ∷ Top ∷ []) ∷ shape (Int ∷ []) (Ref 17 ∷ Ref 17 ∷ Top ∷ []) ∷ shape (Ref 4 ∷ []) (Ref 17 ∷ Ref 17 ∷ Top ∷ [])
-    ∷ shape [] (Ref 17 ∷ Ref 17 ∷ Ref 4 ∷ []) ∷ shape (Ref 17 ∷ []) (Ref 17 ∷ Ref 17 ∷ Ref 4 ∷ []) ∷ shape [] (Ref 17 ∷ Ref 17 ∷ Ref 4 ∷ []) ∷ shape (Ref 4 ∷ []) (Ref 17 ∷ Ref 17 ∷ Ref 4 ∷ []) ∷ [])
+the_block : verified program block ≡ Typed (frame [] (Ref 17 ∷ Top ∷ Top ∷ []) ∷ frame (Ref 17 ∷ []) (Ref 17 ∷ Top ∷ Top ∷ []) ∷ frame (Ref 17 ∷ Ref 17 ∷ []) (Ref 17 ∷ Top ∷ Top ∷ [])
+    ∷ frame (Ref 17 ∷ []) (Ref 17 ∷ Ref 17 ∷ Top ∷ []) ∷ frame [] (Ref 17 ∷ Ref 17 ∷ Top ∷ []) ∷ frame (Ref 17 ∷ []) (Ref 17 ∷ Ref 17 ∷ Top ∷ []) ∷ frame (Int ∷ []) (Ref 17 ∷ Ref 17 ∷ Top ∷ [])
+    ∷ frame (Ref 17 ∷ Int ∷ []) (Ref 17 ∷ Ref 17 ∷ Top ∷ []) ∷ frame (Int ∷ Int ∷ []) (Ref 17 ∷ Ref 17 ∷ Top ∷ []) ∷ frame (Int ∷ []) (Ref 17 ∷ Ref 17 ∷ Top ∷ [])
+    ∷ frame (Ref 17 ∷ Int ∷ []) (Ref 17 ∷ Ref 17 ∷ Top ∷ []) ∷ frame (Int ∷ []) (Ref 17 ∷ Ref 17 ∷ Top ∷ []) ∷ frame (Ref 4 ∷ []) (Ref 17 ∷ Ref 17 ∷ Top ∷ [])
+    ∷ frame [] (Ref 17 ∷ Ref 17 ∷ Ref 4 ∷ []) ∷ frame (Ref 17 ∷ []) (Ref 17 ∷ Ref 17 ∷ Ref 4 ∷ []) ∷ frame [] (Ref 17 ∷ Ref 17 ∷ Ref 4 ∷ []) ∷ frame (Ref 4 ∷ []) (Ref 17 ∷ Ref 17 ∷ Ref 4 ∷ []) ∷ [])
 unfolding is_subclass common_ancestor
 the_block = refl
 
@@ -224,21 +224,21 @@ the_block = refl
 prints_a_sum : verified program (method 9 (codes "init") 3 0
     (insn 0 3 (ops.Getstatic 13) ∷ insn 3 4 (ops.Iconst (pos 2)) ∷ insn 4 5 (ops.Iconst (pos 3)) ∷ insn 5 6 ops.Iadd ∷ insn 6 9 (ops.Invokevirtual 19) ∷ insn 9 10 ops.Return ∷ [])
     (targets.Out ∷ nothing ∷ nothing ∷ nothing ∷ targets.Println ∷ nothing ∷ []) [])
-    ≡ Typed (shape [] [] ∷ shape (Ref 3 ∷ []) [] ∷ shape (Int ∷ Ref 3 ∷ []) [] ∷ shape (Int ∷ Int ∷ Ref 3 ∷ []) [] ∷ shape (Int ∷ Ref 3 ∷ []) [] ∷ shape [] [] ∷ [])
+    ≡ Typed (frame [] [] ∷ frame (Ref 3 ∷ []) [] ∷ frame (Int ∷ Ref 3 ∷ []) [] ∷ frame (Int ∷ Int ∷ Ref 3 ∷ []) [] ∷ frame (Int ∷ Ref 3 ∷ []) [] ∷ frame [] [] ∷ [])
 unfolding is_subclass common_ancestor
 prints_a_sum = refl
 
 -- `new`, `dup`, `<init>`: both copies are initialised at once
 new_object : verified program (method 8 (codes "init") 2 0 (insn 0 3 (ops.New 2) ∷ insn 3 4 ops.Dup ∷ insn 4 7 (ops.Invokespecial 20) ∷ insn 7 10 (ops.Putstatic 26) ∷ insn 10 11 ops.Return ∷ [])
     (targets.Class 17 ∷ nothing ∷ targets.Method 0 ∷ targets.Field 2 ∷ nothing ∷ []) [])
-    ≡ Typed (shape [] [] ∷ shape (New 0 ∷ []) [] ∷ shape (New 0 ∷ New 0 ∷ []) [] ∷ shape (Ref 17 ∷ []) [] ∷ shape [] [] ∷ [])
+    ≡ Typed (frame [] [] ∷ frame (New 0 ∷ []) [] ∷ frame (New 0 ∷ New 0 ∷ []) [] ∷ frame (Ref 17 ∷ []) [] ∷ frame [] [] ∷ [])
 unfolding is_subclass common_ancestor
 new_object = refl
 
 -- two catch types with one handler: what is caught there is some Throwable
 two_catch_types : verified program (method 8 (codes "m") 1 0 (insn 0 1 ops.Nop ∷ insn 1 2 ops.Return ∷ insn 2 3 ops.Pop ∷ insn 3 4 ops.Return ∷ insn 4 5 ops.Nop ∷ []) (nothing ∷ nothing ∷ nothing ∷ nothing ∷ nothing ∷ [])
     (record { start = 0; end = 1; handler = 2; catch_class = 9 } ∷ record { start = 0; end = 2; handler = 2; catch_class = 14 } ∷ []))
-    ≡ Typed (shape [] [] ∷ shape [] [] ∷ shape (Ref 4 ∷ []) [] ∷ shape [] [] ∷ None ∷ [])
+    ≡ Typed (frame [] [] ∷ frame [] [] ∷ frame (Ref 4 ∷ []) [] ∷ frame [] [] ∷ None ∷ [])
 unfolding is_subclass common_ancestor
 two_catch_types = refl
 
@@ -246,8 +246,8 @@ two_catch_types = refl
 loop : verified program (method 8 (codes "m") 1 1
     (insn 0 1 (ops.Iconst (pos 3)) ∷ insn 1 2 (ops.Istore 0) ∷ insn 2 3 (ops.Iconst (pos 1)) ∷ insn 3 6 (ops.If cmps.Eq 11) ∷ insn 6 7 ops.AconstNull ∷ insn 7 8 (ops.Astore 0) ∷ insn 8 11 (ops.Goto 2) ∷ insn 11 12 ops.Return ∷ [])
     (nothing ∷ nothing ∷ nothing ∷ nothing ∷ nothing ∷ nothing ∷ nothing ∷ nothing ∷ []) [])
-    ≡ Typed (shape [] (Top ∷ []) ∷ shape (Int ∷ []) (Top ∷ []) ∷ shape [] (Top ∷ []) ∷ shape (Int ∷ []) (Top ∷ []) ∷ shape [] (Top ∷ []) ∷ shape (Null ∷ []) (Top ∷ [])
-    ∷ shape [] (Null ∷ []) ∷ shape [] (Top ∷ []) ∷ [])
+    ≡ Typed (frame [] (Top ∷ []) ∷ frame (Int ∷ []) (Top ∷ []) ∷ frame [] (Top ∷ []) ∷ frame (Int ∷ []) (Top ∷ []) ∷ frame [] (Top ∷ []) ∷ frame (Null ∷ []) (Top ∷ [])
+    ∷ frame [] (Null ∷ []) ∷ frame [] (Top ∷ []) ∷ [])
 unfolding is_subclass common_ancestor
 loop = refl
 
@@ -309,7 +309,7 @@ static_init = refl
 -- the handler finds the locals as they are before the `astore`
 new_stored_where_covered : verified program (method 8 (codes "m") 1 1
     (insn 0 3 (ops.New 2) ∷ insn 3 4 (ops.Astore 0) ∷ insn 4 5 ops.Return ∷ insn 5 6 ops.Athrow ∷ []) (targets.Class 17 ∷ nothing ∷ two_nothings) (to_handler 3 4 5 ∷ []))
-    ≡ Typed (shape [] (Top ∷ []) ∷ shape (New 0 ∷ []) (Top ∷ []) ∷ shape [] (New 0 ∷ []) ∷ shape (Ref 4 ∷ []) (Top ∷ []) ∷ [])
+    ≡ Typed (frame [] (Top ∷ []) ∷ frame (New 0 ∷ []) (Top ∷ []) ∷ frame [] (New 0 ∷ []) ∷ frame (Ref 4 ∷ []) (Top ∷ []) ∷ [])
 unfolding is_subclass common_ancestor
 new_stored_where_covered = refl
 
@@ -317,7 +317,7 @@ new_stored_where_covered = refl
 copied_below_three : verified program (method 8 (codes "m") 4 0
     (insn 0 1 (ops.Iconst (pos 0)) ∷ insn 1 2 ops.AconstNull ∷ insn 2 5 (ops.Getstatic 26) ∷ insn 5 6 ops.DupX2 ∷ insn 6 7 ops.Return ∷ [])
     (nothing ∷ nothing ∷ targets.Field 2 ∷ two_nothings) [])
-    ≡ Typed (shape [] [] ∷ shape (Int ∷ []) [] ∷ shape (Null ∷ Int ∷ []) [] ∷ shape (Ref 17 ∷ Null ∷ Int ∷ []) [] ∷ shape (Ref 17 ∷ Null ∷ Int ∷ Ref 17 ∷ []) [] ∷ [])
+    ≡ Typed (frame [] [] ∷ frame (Int ∷ []) [] ∷ frame (Null ∷ Int ∷ []) [] ∷ frame (Ref 17 ∷ Null ∷ Int ∷ []) [] ∷ frame (Ref 17 ∷ Null ∷ Int ∷ Ref 17 ∷ []) [] ∷ [])
 unfolding is_subclass common_ancestor
 copied_below_three = refl
 

@@ -62,7 +62,7 @@ is_new t = false
 
 -- the types before an instruction, with the top of the stack first; in an `<init>` it also says whether `this`
 -- is initialised
-pub record Shape : Type 0 where
+pub record TypeFrame : Type 0 where
   pub stack : List VType
   pub locals : List VType
   pub ready : Bool
@@ -78,19 +78,19 @@ meets (t ∷ ts) (u ∷ us) = meet t u ∷ meets ts us
 meets ts us = []
 
 -- one frame is below another: place by place, and `this` is initialised where the other says so
-abbrev pub shape_below : Shape → Shape → Bool
-shape_below f g = all_pairs is_below f.stack g.stack && all_pairs is_below f.locals g.locals && (f.ready || not g.ready)
+abbrev pub frame_below : TypeFrame → TypeFrame → Bool
+frame_below f g = all_pairs is_below f.stack g.stack && all_pairs is_below f.locals g.locals && (f.ready || not g.ready)
 
 abbrev pub same_ready : Bool → Bool → Bool
 same_ready true other = other
 same_ready false other = not other
 
-abbrev pub same_shape : Shape → Shape → Bool
-same_shape f g = all_pairs same_type f.stack g.stack && all_pairs same_type f.locals g.locals && same_ready f.ready g.ready
+abbrev pub same_frame : TypeFrame → TypeFrame → Bool
+same_frame f g = all_pairs same_type f.stack g.stack && all_pairs same_type f.locals g.locals && same_ready f.ready g.ready
 
 -- the frame where two edges meet, whose stacks are of one depth: `this` is initialised where both say so
-abbrev pub meet_shapes : Shape → Shape → Shape
-meet_shapes f g = record { stack = meets f.stack g.stack; locals = meets f.locals g.locals; ready = f.ready && g.ready }
+abbrev pub meet_frames : TypeFrame → TypeFrame → TypeFrame
+meet_frames f g = record { stack = meets f.stack g.stack; locals = meets f.locals g.locals; ready = f.ready && g.ready }
 
 -- ---- the start of a method
 
@@ -103,5 +103,5 @@ abbrev pub receiver_types : MethodInfo → List VType
 receiver_types m = if is_static m.flags then [] else (if is_init m then This else Ref m.class) ∷ []
 
 -- the frame at pc 0; it has more locals than max_locals where the arguments do not fit
-abbrev pub entry_shape : MethodInfo → Shape
-entry_shape m = record { stack = []; locals = filled m.max_locals (receiver_types m ++ map type_of m.args); ready = not (is_init m) }
+abbrev pub entry_frame : MethodInfo → TypeFrame
+entry_frame m = record { stack = []; locals = filled m.max_locals (receiver_types m ++ map type_of m.args); ready = not (is_init m) }

@@ -10,7 +10,7 @@ use Rattle.jvm_types.specs.declared.op_row.Want.TheVariants.{AnyValue, AnInt, An
 use Rattle.jvm_types.specs.declared.op_row.OpRow.{OpRow}
 use Rattle.jvm_types.specs.CodeGrammar.{IsCode}
 use Rattle.jvm_types.specs.declared.class_file.Handler.{Handler}
-use Rattle.jvm_types.specs.Types.{Shape, is_below, is_uninitialised, is_new, same_type, same_shape, shape_below, meet_shapes, entry_shape}
+use Rattle.jvm_types.specs.Types.{TypeFrame, is_below, is_uninitialised, is_new, same_type, same_frame, frame_below, meet_frames, entry_frame}
 use Rattle.jvm_types.specs.declared.code.Insn.{Insn}
 use Rattle.jvm_types.specs.declared.code.Op.{Op}
 use Rattle.jvm_types.specs.declared.code.Op.TheVariants as ops
@@ -74,7 +74,7 @@ abbrev pub some_read : (Want → VType → Bool) → Option (ℕ × Want) → Li
 some_read fault None locals = false
 some_read fault (Some read) locals = at_local fault read.1 (slice_get locals read.0)
 
-abbrev pub some_operand : (Want → VType → Bool) → OpRow → Shape → Bool
+abbrev pub some_operand : (Want → VType → Bool) → OpRow → TypeFrame → Bool
 some_operand fault r f = some_taken fault r.takes f.stack || some_read fault r.reads f.locals
 
 -- ---- the rules at one instruction
@@ -85,11 +85,11 @@ first_broken [] = None
 first_broken (test ∷ tests) = if test.0 then Some test.1 else first_broken tests
 
 -- V1: the stack has too few values
-abbrev pub takes_too_many : OpRow → Shape → Bool
+abbrev pub takes_too_many : OpRow → TypeFrame → Bool
 takes_too_many r f = nat_lt (length f.stack) (length r.takes)
 
 -- V2: the stack would pass max_stack
-abbrev pub gives_too_many : MethodInfo → OpRow → Shape → Bool
+abbrev pub gives_too_many : MethodInfo → OpRow → TypeFrame → Bool
 gives_too_many m r f = nat_lt m.max_stack (length f.stack - length r.takes + length r.gives)
 
 -- V3: a local at or above max_locals, or arguments that do not fit in max_locals
@@ -97,7 +97,7 @@ abbrev pub names_no_local : {A : Type 0} → MethodInfo → Option (ℕ × A) �
 names_no_local m None = false
 names_no_local m (Some local) = nat_le m.max_locals local.0
 
-abbrev pub lacks_locals : MethodInfo → OpRow → Shape → Bool
+abbrev pub lacks_locals : MethodInfo → OpRow → TypeFrame → Bool
 lacks_locals m r f = names_no_local m r.reads || names_no_local m r.writes || nat_lt m.max_locals (length f.locals)
 
 -- whether a handler row covers a pc (JVMS 2.10)
@@ -113,7 +113,7 @@ is_return op = false
 -- V7, its cases: a misused value; one that is uninitialised at a branch to a pc at or before it; one that is
 -- uninitialised by `new` in a local where a handler row covers, where the standard forbids `this` too; an
 -- `<init>` that returns before `this` is initialised.
-abbrev pub misuses_object : MethodInfo → Insn → OpRow → Shape → Bool
+abbrev pub misuses_object : MethodInfo → Insn → OpRow → TypeFrame → Bool
 misuses_object m insn r f =
     some_operand (misuses m) r f
     || (list_any (λ to. nat_le to insn.pc) (branches_to insn.op) && (list_any is_uninitialised f.stack || list_any is_uninitialised f.locals))
@@ -121,7 +121,7 @@ misuses_object m insn r f =
     || (is_return insn.op && not f.ready)
 
 -- V4: a value of another type
-abbrev pub mistypes : MethodInfo → OpRow → Shape → Bool
+abbrev pub mistypes : MethodInfo → OpRow → TypeFrame → Bool
 mistypes m r f = some_operand (λ want t. not (suits m want t)) r f
 
 -- V8: a return instruction that does not fit the descriptor
@@ -140,7 +140,7 @@ abbrev pub falls_off : List Insn → Insn → Bool
 falls_off code insn = falls_through insn.op && not (list_any (λ other. other.pc == insn.next) code)
 
 -- the rules that are tested before an edge is brought, in their order
-abbrev pub broken_before : MethodInfo → Insn → OpRow → Shape → Option VRule
+abbrev pub broken_before : MethodInfo → Insn → OpRow → TypeFrame → Option VRule
 broken_before m insn r f = first_broken
     ((takes_too_many r f, V1) ∷ (gives_too_many m r f, V2) ∷ (lacks_locals m r f, V3) ∷ (misuses_object m insn r f, V7) ∷ (mistypes m r f, V4) ∷ [])
 
@@ -161,12 +161,12 @@ started own wants ts = None
 abbrev pub initialised : VType → ℕ → List VType → List VType
 initialised t class ts = map (λ u. if same_type t u then Ref class else u) ts
 
-abbrev pub after_start : Option (VType × ℕ) → Shape → Shape
+abbrev pub after_start : Option (VType × ℕ) → TypeFrame → TypeFrame
 after_start None f = f
 after_start (Some object) f = record { stack = initialised object.0 object.1 f.stack; locals = initialised object.0 object.1 f.locals; ready = f.ready || same_type object.0 This }
 
-abbrev pub shape_after : MethodInfo → OpRow → Shape → Shape
-shape_after m r f = after_start (started m.class r.takes f.stack)
+abbrev pub frame_after : MethodInfo → OpRow → TypeFrame → TypeFrame
+frame_after m r f = after_start (started m.class r.takes f.stack)
     (record { stack = stack_after Top (λ t. t) r f.stack f.locals; locals = locals_after Top (λ t. t) r.writes f.stack f.locals; ready = f.ready })
 
 -- ---- edges
@@ -180,8 +180,8 @@ abbrev pub caught_class : Row → ℕ
 caught_class handler = if handler.catch_class == 0 then throwable_class else handler.catch_class
 
 -- the frame at a handler: the locals as they are before the instruction, and the one exception on the stack
-abbrev pub shape_at_handler : Row → Shape → Shape
-shape_at_handler handler f = record { stack = Ref (caught_class handler) ∷ []; locals = f.locals; ready = f.ready }
+abbrev pub frame_at_handler : Row → TypeFrame → TypeFrame
+frame_at_handler handler f = record { stack = Ref (caught_class handler) ∷ []; locals = f.locals; ready = f.ready }
 
 -- the rules of a covering row but V5: V2 at the instruction, V4 at the handler
 abbrev pub catch_fault : MethodInfo → ℕ → Row → Option (VRule × ℕ)
@@ -195,7 +195,7 @@ catch_fault m pc handler =
 -- what is known of an instruction in the course of the visits: the frame that its edges met in, and whether
 -- that has changed since it was visited
 pub record Node : Type 0 where
-  pub frame : Option Shape
+  pub frame : Option TypeFrame
   pub waits : Bool
 
 abbrev pub node_at : List Node → ℕ → Node
@@ -208,26 +208,26 @@ node_at nodes i = unwrapped (slice_get nodes i)
 -- at the start pc 0 waits with the entry frame
 abbrev pub first_nodes : MethodInfo → List Insn → List Node
 first_nodes m [] = []
-first_nodes m (insn ∷ insns) = record { frame = Some (entry_shape m); waits = true } ∷ map (λ other. record { frame = None; waits = false }) insns
+first_nodes m (insn ∷ insns) = record { frame = Some (entry_frame m); waits = true } ∷ map (λ other. record { frame = None; waits = false }) insns
 
 -- an edge brings a frame
-abbrev pub node_joined : Node → Option Shape → Shape → Node
-node_joined node None f = record { frame = Some f; waits = true }
-node_joined node (Some g) f = with_frame (meet_shapes g f)
+abbrev pub node_met : Node → Option TypeFrame → TypeFrame → Node
+node_met node None f = record { frame = Some f; waits = true }
+node_met node (Some g) f = with_frame (meet_frames g f)
   where
-    with_frame : Shape → Node
-    with_frame h = record { frame = Some h; waits = node.waits || not (same_shape g h) }
+    with_frame : TypeFrame → Node
+    with_frame h = record { frame = Some h; waits = node.waits || not (same_frame g h) }
 
-abbrev pub brought : List Insn → ℕ → Shape → List Node → List Node
-brought (insn ∷ insns) to f (node ∷ nodes) = if insn.pc == to then node_joined node node.frame f ∷ nodes else node ∷ brought insns to f nodes
+abbrev pub brought : List Insn → ℕ → TypeFrame → List Node → List Node
+brought (insn ∷ insns) to f (node ∷ nodes) = if insn.pc == to then node_met node node.frame f ∷ nodes else node ∷ brought insns to f nodes
 brought insns to f nodes = nodes
 
-abbrev pub all_brought : List Insn → List ℕ → Shape → List Node → List Node
+abbrev pub all_brought : List Insn → List ℕ → TypeFrame → List Node → List Node
 all_brought code [] f nodes = nodes
 all_brought code (to ∷ tos) f nodes = all_brought code tos f (brought code to f nodes)
 
 -- V5: of the instructions where an edge is brought, the first whose frame has another depth
-abbrev pub has_other_depth : Option Shape → ℕ → Bool
+abbrev pub has_other_depth : Option TypeFrame → ℕ → Bool
 has_other_depth None depth = false
 has_other_depth (Some f) depth = not (length f.stack == depth)
 
@@ -241,11 +241,11 @@ unless_caught (Some fault) at more = Err fault
 unless_caught None (Some at) more = Err (V5, at)
 unless_caught None None more = more
 
-abbrev pub handled : MethodInfo → ℕ → Shape → List Row → List Node → Result (List Node) (VRule × ℕ)
+abbrev pub handled : MethodInfo → ℕ → TypeFrame → List Row → List Node → Result (List Node) (VRule × ℕ)
 handled m pc f [] nodes = Ok nodes
 handled m pc f (handler ∷ handlers) nodes =
     unless_caught (catch_fault m pc handler) (clash m.code (handler.handler ∷ []) 1 nodes)
-    (handled m pc f handlers (brought m.code handler.handler (shape_at_handler handler f) nodes))
+    (handled m pc f handlers (brought m.code handler.handler (frame_at_handler handler f) nodes))
 
 -- one visit of an instruction with its frame: its rules, its normal edges, then those to handlers
 abbrev pub unless_broken : ℕ → Option VRule → Result (List Node) (VRule × ℕ) → Result (List Node) (VRule × ℕ)
@@ -259,16 +259,16 @@ unless_clash None more = more
 abbrev pub covering : MethodInfo → ℕ → List Row
 covering m pc = filter (covers pc) m.rows
 
-abbrev pub gone_on : MethodInfo → Insn → Shape → Shape → List Node → Result (List Node) (VRule × ℕ)
+abbrev pub gone_on : MethodInfo → Insn → TypeFrame → TypeFrame → List Node → Result (List Node) (VRule × ℕ)
 gone_on m insn f after nodes =
     unless_clash (clash m.code (edges insn) (length after.stack) nodes)
     (unless_broken insn.pc (broken_after m insn)
     (handled m insn.pc f (covering m insn.pc) (all_brought m.code (edges insn) after nodes)))
 
-abbrev pub visited_row : MethodInfo → Insn → OpRow → Shape → List Node → Result (List Node) (VRule × ℕ)
-visited_row m insn r f nodes = unless_broken insn.pc (broken_before m insn r f) (gone_on m insn f (shape_after m r f) nodes)
+abbrev pub visited_row : MethodInfo → Insn → OpRow → TypeFrame → List Node → Result (List Node) (VRule × ℕ)
+visited_row m insn r f nodes = unless_broken insn.pc (broken_before m insn r f) (gone_on m insn f (frame_after m r f) nodes)
 
-abbrev pub visited_insn : Program → MethodInfo → Option Insn → Option Target → Option Shape → List Node → Result (List Node) (VRule × ℕ)
+abbrev pub visited_insn : Program → MethodInfo → Option Insn → Option Target → Option TypeFrame → List Node → Result (List Node) (VRule × ℕ)
 visited_insn p m (Some insn) (Some target) (Some f) nodes = visited_row m insn (row p m insn.pc target insn.op) f nodes
 visited_insn p m insn target f nodes = Ok nodes
 
@@ -301,7 +301,7 @@ Breaks p m nodes (i ∷ j ∷ is) fault = (next_visit nodes ≡ Some i) × (mid 
 -- ---- the answer
 
 -- no visit of the method breaks a rule, and these are the last frames; an instruction that no visit reached has none
-pub record HasTyping (p : Program) (m : MethodInfo) (frames : List (Option Shape)) : Type 0 where
+pub record HasTyping (p : Program) (m : MethodInfo) (frames : List (Option TypeFrame)) : Type 0 where
   pub visits : List ℕ
   pub last : List Node
   pub made : Visits p m (first_nodes m m.code) visits last
@@ -319,36 +319,36 @@ pub record IsRefused (p : Program) (m : MethodInfo) (rule : VRule) (pc : ℕ) : 
 -- ---- the laws
 
 -- the frame at a pc
-abbrev pub frame_at : List Insn → List (Option Shape) → ℕ → Option Shape
+abbrev pub frame_at : List Insn → List (Option TypeFrame) → ℕ → Option TypeFrame
 frame_at (insn ∷ insns) (frame ∷ frames) pc = if insn.pc == pc then frame else frame_at insns frames pc
 frame_at insns frames pc = None
 
 -- the frame that an edge brings is at or below the frame at its target
-abbrev pub Fits : List Insn → List (Option Shape) → Shape → ℕ → Type 0
-Fits code frames f to = IsSomeAnd (frame_at code frames to) (λ g. IsTrue (shape_below f g))
+abbrev pub Fits : List Insn → List (Option TypeFrame) → TypeFrame → ℕ → Type 0
+Fits code frames f to = IsSomeAnd (frame_at code frames to) (λ g. IsTrue (frame_below f g))
 
 -- at an instruction with this frame no rule is broken, and each edge fits the frame at its target
-pub record IsSound (m : MethodInfo) (insn : Insn) (r : OpRow) (frames : List (Option Shape)) (f : Shape) : Type 0 where
+pub record IsSound (m : MethodInfo) (insn : Insn) (r : OpRow) (frames : List (Option TypeFrame)) (f : TypeFrame) : Type 0 where
   pub before : broken_before m insn r f ≡ None
   pub after : broken_after m insn ≡ None
-  pub edges_fit : AllByRecursion (Fits m.code frames (shape_after m r f)) (edges insn)
+  pub edges_fit : AllByRecursion (Fits m.code frames (frame_after m r f)) (edges insn)
   pub rows_hold : AllByRecursion (λ handler. catch_fault m insn.pc handler ≡ None) (covering m insn.pc)
-  pub handlers_fit : AllByRecursion (λ handler. Fits m.code frames (shape_at_handler handler f) handler.handler) (covering m insn.pc)
+  pub handlers_fit : AllByRecursion (λ handler. Fits m.code frames (frame_at_handler handler f) handler.handler) (covering m insn.pc)
 
 -- an assignment of frames that meets all rows and edges, and under which no instruction breaks a rule
-pub record IsAssignment (p : Program) (m : MethodInfo) (frames : List (Option Shape)) : Type 0 where
+pub record IsAssignment (p : Program) (m : MethodInfo) (frames : List (Option TypeFrame)) : Type 0 where
   pub long : length frames ≡ length m.code
-  pub entry : Fits m.code frames (entry_shape m) 0
-  pub sound : (i : ℕ) (insn : Insn) (target : Target) (f : Shape) → slice_get m.code i ≡ Some insn → slice_get m.targets i ≡ Some target
+  pub entry : Fits m.code frames (entry_frame m) 0
+  pub sound : (i : ℕ) (insn : Insn) (target : Target) (f : TypeFrame) → slice_get m.code i ≡ Some insn → slice_get m.targets i ≡ Some target
       → slice_get frames i ≡ Some (Some f) → IsSound m insn (row p m insn.pc target insn.op) frames f
 
 -- where one assignment has a frame the other has one, at or above it
-abbrev pub IsFrameBelow : Option Shape → Option Shape → Type 0
+abbrev pub IsFrameBelow : Option TypeFrame → Option TypeFrame → Type 0
 IsFrameBelow None g = Unit {0}
-IsFrameBelow (Some f) g = IsSomeAnd g (λ h. IsTrue (shape_below f h))
+IsFrameBelow (Some f) g = IsSomeAnd g (λ h. IsTrue (frame_below f h))
 
-abbrev pub AreFramesBelow : List (Option Shape) → List (Option Shape) → Type 0
-AreFramesBelow frames others = (i : ℕ) (f g : Option Shape) → slice_get frames i ≡ Some f → slice_get others i ≡ Some g → IsFrameBelow f g
+abbrev pub AreFramesBelow : List (Option TypeFrame) → List (Option TypeFrame) → Type 0
+AreFramesBelow frames others = (i : ℕ) (f g : Option TypeFrame) → slice_get frames i ≡ Some f → slice_get others i ≡ Some g → IsFrameBelow f g
 
 -- what the laws ask of a method: that its instructions follow one another and each has a target, as linking
 -- leaves them
@@ -361,19 +361,19 @@ pub record IsLaidOut (m : MethodInfo) : Type 0 where
 
 -- the local law: a typing is such an assignment
 abbrev pub LocalLaw : Type 0
-LocalLaw = (p : Program) (m : MethodInfo) (frames : List (Option Shape)) → IsLaidOut m → HasTyping p m frames → IsAssignment p m frames
+LocalLaw = (p : Program) (m : MethodInfo) (frames : List (Option TypeFrame)) → IsLaidOut m → HasTyping p m frames → IsAssignment p m frames
 
 -- the frame law: each frame of a typing has max_locals locals and at most max_stack values on its stack, and outside an
 -- `<init>` its `this` is initialised
 abbrev pub FrameLaw : Type 0
-FrameLaw = (p : Program) (m : MethodInfo) (frames : List (Option Shape)) → IsLaidOut m → HasTyping p m frames → (i : ℕ) (f : Shape) → slice_get frames i ≡ Some (Some f)
+FrameLaw = (p : Program) (m : MethodInfo) (frames : List (Option TypeFrame)) → IsLaidOut m → HasTyping p m frames → (i : ℕ) (f : TypeFrame) → slice_get frames i ≡ Some (Some f)
     → (length f.locals ≡ m.max_locals) × (length f.stack ≤ m.max_stack) × (is_init m ≡ false → f.ready ≡ true)
 
 -- the least law: a typing is at or below every assignment; and a refusal by a rule other than V7 comes only
 -- where there is none. An uninitialised value that met another is of no known type, and V7 asks nothing of
 -- that: so V7 is left out.
 abbrev pub LeastLaw : Type 0
-LeastLaw = (p : Program) (m : MethodInfo) (frames others : List (Option Shape)) → IsLaidOut m → IsAssignment p m others → HasTyping p m frames → AreFramesBelow frames others
+LeastLaw = (p : Program) (m : MethodInfo) (frames others : List (Option TypeFrame)) → IsLaidOut m → IsAssignment p m others → HasTyping p m frames → AreFramesBelow frames others
 
 abbrev pub RefusalLaw : Type 0
-RefusalLaw = (p : Program) (m : MethodInfo) (others : List (Option Shape)) (rule : VRule) (pc : ℕ) → IsLaidOut m → IsRefused p m rule pc → rule ≢ V7 → IsAssignment p m others → ⊥
+RefusalLaw = (p : Program) (m : MethodInfo) (others : List (Option TypeFrame)) (rule : VRule) (pc : ℕ) → IsLaidOut m → IsRefused p m rule pc → rule ≢ V7 → IsAssignment p m others → ⊥

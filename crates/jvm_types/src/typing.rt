@@ -35,9 +35,9 @@ pub struct TypeFrame {
 }
 
 impl Model for TypeFrame {
-    ghost use Rattle.jvm_types.specs.Types.{Shape, filled};
+    ghost use Rattle.jvm_types.specs.Types.{TypeFrame, filled};
 
-    ghost Value = { Shape };
+    ghost Value = { TypeFrame };
 
     ghost view = { λ f. record { stack = f.stack; locals = filled f.local_count f.first_locals; ready = f.ready } };
 }

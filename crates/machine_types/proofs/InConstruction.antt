@@ -2,7 +2,7 @@
 use Rattle.std.proofs.Common.{ℕ, Bool, true, false, List, [], ◌∷◌, Some, None, refl, arith}
 use Rattle.std.specs.Prelude.{map, ◌==◌, if◌then◌else◌}
 use Rattle.jvm_types.specs.declared.typing.Typing.{Typing}
-use Rattle.jvm_types.specs.declared.typing.TypeFrame.{TypeFrame}
+use Rattle.jvm_types.specs.Types.{TypeFrame}
 use Rattle.jvm_types.specs.declared.typing.VType.TheVariants.{This, New}
 use Rattle.checked_program.specs.MarkedProgram.{MarkedProgram}
 use Rattle.checked_program.proofs.TriedPrograms.{pair, tags_of}
@@ -40,7 +40,7 @@ init_stands = record {
   target = _;
   tags = _;
   at = record { in_program = refl; in_code = refl; names = refl; frames = _; of_method = refl; frame = refl };
-  shapes = _;
+  frames = _;
   types_of_method = refl;
   types = _;
   types_are = refl;
@@ -55,7 +55,7 @@ new_stands = record {
   target = _;
   tags = _;
   at = record { in_program = refl; in_code = refl; names = refl; frames = _; of_method = refl; frame = refl };
-  shapes = _;
+  frames = _;
   types_of_method = refl;
   types = _;
   types_are = refl;
@@ -87,7 +87,7 @@ before_stands = record {
   target = _;
   tags = _;
   at = record { in_program = refl; in_code = refl; names = refl; frames = _; of_method = refl; frame = refl };
-  shapes = _;
+  frames = _;
   types_of_method = refl;
   types = _;
   types_are = refl;

@@ -4,7 +4,7 @@ use Rattle.std.proofs.Common.{◌≡◌, ◌+◌, Bool, true, false, List, [], �
 use Rattle.std.specs.Prelude.{map, reverse, unwrap_or, ◌==◌, if◌then◌else◌}
 use Rattle.std.specs.Option.{option_map}
 use Rattle.jvm_types.specs.declared.typing.Typing.{Typing}
-use Rattle.jvm_types.specs.declared.typing.TypeFrame.{TypeFrame}
+use Rattle.jvm_types.specs.Types.{TypeFrame}
 use Rattle.jvm_types.specs.declared.typing.VType.TheVariants.{Ref, Top}
 use Rattle.checked_program.specs.FrozenPlaces.{AreUses}
 use Rattle.checked_program.specs.LockTags.{TagShape}
@@ -77,7 +77,7 @@ sum_stands = record {
   target = _;
   tags = _;
   at = record { in_program = refl; in_code = refl; names = refl; frames = _; of_method = refl; frame = refl };
-  shapes = _;
+  frames = _;
   types_of_method = refl;
   types = _;
   types_are = refl;
@@ -92,7 +92,7 @@ twice_stands = record {
   target = _;
   tags = _;
   at = record { in_program = refl; in_code = refl; names = refl; frames = _; of_method = refl; frame = refl };
-  shapes = _;
+  frames = _;
   types_of_method = refl;
   types = _;
   types_are = refl;
@@ -107,7 +107,7 @@ entry_stands = record {
   target = _;
   tags = _;
   at = record { in_program = refl; in_code = refl; names = refl; frames = _; of_method = refl; frame = refl };
-  shapes = _;
+  frames = _;
   types_of_method = refl;
   types = _;
   types_are = refl;

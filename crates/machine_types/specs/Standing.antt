@@ -1,7 +1,7 @@
 -- Where a frame stands: at a reached instruction of its method, with the types and the lock tags that it has there.
 use Rattle.std.specs.Prelude.{◌≡◌, ℕ, List, map, Option, Some, slice_get}
 use Rattle.jvm_types.specs.declared.op_row.OpRow.{OpRow}
-use Rattle.jvm_types.specs.Types.{Shape}
+use Rattle.jvm_types.specs.Types.{TypeFrame}
 use Rattle.jvm_types.specs.declared.code.Insn.{Insn}
 use Rattle.jvm_types.specs.declared.program.Target.{Target}
 use Rattle.jvm_types.specs.declared.program.MethodInfo.{MethodInfo}
@@ -21,10 +21,10 @@ pub record Standing (c : MarkedProgram) (f : Frame) : Type 0 where
   pub target : Target
   pub tags : TagShape
   pub at : IsAt c.program (tags_of c) f.method number method insn target tags
-  pub shapes : List (Option Shape)
-  pub types_of_method : slice_get (map (λ t. t.frames) c.typings) f.method ≡ Some shapes
-  pub types : Shape
-  pub types_are : slice_get shapes number ≡ Some (Some types)
+  pub frames : List (Option TypeFrame)
+  pub types_of_method : slice_get (map (λ t. t.frames) c.typings) f.method ≡ Some frames
+  pub types : TypeFrame
+  pub types_are : slice_get frames number ≡ Some (Some types)
   pub pc_is : insn.pc ≡ f.pc
 
 abbrev pub row_at : (c : MarkedProgram) → (f : Frame) → Standing c f → OpRow

@@ -6,11 +6,11 @@ use Rattle.std.proofs.lemmas.Bool.{and_from, and_parts, eqb-true}
 use Rattle.std.proofs.lemmas.Bool.Decides.{nat_tests}
 use Rattle.jvm_types.specs.Numbers.{has_number}
 use Rattle.jvm_types.specs.ClassTree.{super_class, ancestors, is_subclass, built_in_supers}
-use Rattle.jvm_types.specs.Types.{Shape, is_below, all_pairs, shape_below}
+use Rattle.jvm_types.specs.Types.{TypeFrame, is_below, all_pairs, frame_below}
 use Rattle.jvm_types.specs.declared.typing.VType.{VType}
 use Rattle.jvm_types.specs.declared.typing.VType.TheVariants.{Int, Null, Ref, This, New, Top}
 use Rattle.jvm_types.proofs.TypeOrder.{subclass_self, subclass_trans, common_left, common_right, common_least, below_self, below_trans, meet_left, meet_right, meet_least}
-use Rattle.jvm_types.proofs.ShapeOrder.{stack_below, locals_below, ready_below, shape_self, shape_trans, shape_meet_left, shape_meet_right, shape_meet_least}
+use Rattle.jvm_types.proofs.FrameOrder.{stack_below, locals_below, ready_below, frame_self, frame_trans, frame_meet_left, frame_meet_right, frame_meet_least}
 use Rattle.program_laws.proofs.ClassTreeLaws.{pick, super_in}
 use Rattle.program_laws.specs.OrderLaws.{ClassesAreOrdered, CommonAncestorIsLeast, TypesAreOrdered, MeetIsLeast, FramesAreOrdered, FramesMeet}
 
@@ -119,15 +119,15 @@ one_ready true false h k = absurd (cc)
 one_ready false true h k = absurd (cc)
 one_ready false false h k = refl
 
-one_shape : (f g : Shape) → shape_below f g ≡ true → shape_below g f ≡ true → f ≡ g
-one_shape f g h k =
+one_frame : (f g : TypeFrame) → frame_below f g ≡ true → frame_below g f ≡ true → f ≡ g
+one_frame f g h k =
     let stack = one_list f.stack g.stack (stack_below f g h) (stack_below g f k) in
     let locals = one_list f.locals g.locals (locals_below f g h) (locals_below g f k) in
     let ready = one_ready f.ready g.ready (ready_below f g h) (ready_below g f k) in
     λ i. record { stack = stack i; locals = locals i; ready = ready i }
 
 pub frames_ordered : FramesAreOrdered
-frames_ordered = record { reflexive = shape_self; transitive = shape_trans; antisymmetric = one_shape }
+frames_ordered = record { reflexive = frame_self; transitive = frame_trans; antisymmetric = one_frame }
 
 pub frames_meet_least : FramesMeet
-frames_meet_least f g s l = (shape_meet_left f g s l, shape_meet_right f g s l, λ h a b. shape_meet_least f g h a b)
+frames_meet_least f g s l = (frame_meet_left f g s l, frame_meet_right f g s l, λ h a b. frame_meet_least f g h a b)

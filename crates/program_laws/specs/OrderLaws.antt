@@ -1,7 +1,7 @@
 -- The orders of classes, of types and of frames.
 use Rattle.std.specs.Prelude.{◌≡◌, Bool, true, length}
 use Rattle.jvm_types.specs.ClassTree.{is_subclass, common_ancestor}
-use Rattle.jvm_types.specs.Types.{Shape, is_below, meet, shape_below, meet_shapes}
+use Rattle.jvm_types.specs.Types.{TypeFrame, is_below, meet, frame_below, meet_frames}
 
 -- a test is an order
 pub record IsOrder {A : Type 0} (below : A → A → Bool) : Type 0 where
@@ -30,10 +30,10 @@ MeetIsLeast = IsLeastAbove is_below meet
 
 -- frames, place by place
 abbrev pub FramesAreOrdered : Type 0
-FramesAreOrdered = IsOrder shape_below
+FramesAreOrdered = IsOrder frame_below
 
 -- where two frames have as many values on their stacks and as many locals
 abbrev pub FramesMeet : Type 0
-FramesMeet = (f g : Shape) → length f.stack ≡ length g.stack → length f.locals ≡ length g.locals
-    → (shape_below f (meet_shapes f g) ≡ true) × (shape_below g (meet_shapes f g) ≡ true)
-    × ((h : Shape) → shape_below f h ≡ true → shape_below g h ≡ true → shape_below (meet_shapes f g) h ≡ true)
+FramesMeet = (f g : TypeFrame) → length f.stack ≡ length g.stack → length f.locals ≡ length g.locals
+    → (frame_below f (meet_frames f g) ≡ true) × (frame_below g (meet_frames f g) ≡ true)
+    × ((h : TypeFrame) → frame_below f h ≡ true → frame_below g h ≡ true → frame_below (meet_frames f g) h ≡ true)

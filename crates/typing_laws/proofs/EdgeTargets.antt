@@ -4,7 +4,7 @@ use Rattle.std.specs.Prelude.{◌==◌, slice_get, IsSomeAnd, IsTrue}
 use Rattle.std.proofs.lemmas.Bool.{or_parts}
 use Rattle.std.proofs.lemmas.Bool.Decides.{nat_tests}
 use Rattle.jvm_types.specs.CodeGrammar.{is_start}
-use Rattle.jvm_types.specs.Types.{Shape, shape_below}
+use Rattle.jvm_types.specs.Types.{TypeFrame, frame_below}
 use Rattle.jvm_types.specs.Verifying.{frame_at, Fits}
 use Rattle.jvm_types.specs.declared.code.Insn.{Insn}
 use Rattle.typing_laws.proofs.LeastFrames.{AreDistinct, distinct}
@@ -12,22 +12,22 @@ use Rattle.typing_laws.specs.EdgeLaws.{EdgesLand, FramesStand, FramesAreFound}
 
 -- ---- an edge
 
-landing : (code : List Insn) (frames : List (Option Shape)) (f : Shape) (to : ℕ) → Fits code frames f to
-    → (i : ℕ) × (insn : Insn) × (g : Shape) × (slice_get code i ≡ Some insn) × (insn.pc ≡ to) × (slice_get frames i ≡ Some (Some g)) × (shape_below f g ≡ true)
+landing : (code : List Insn) (frames : List (Option TypeFrame)) (f : TypeFrame) (to : ℕ) → Fits code frames f to
+    → (i : ℕ) × (insn : Insn) × (g : TypeFrame) × (slice_get code i ≡ Some insn) × (insn.pc ≡ to) × (slice_get frames i ≡ Some (Some g)) × (frame_below f g ≡ true)
 landing [] frames f to h = absurd h
 landing (insn ∷ code) [] f to h = absurd h
 landing (insn ∷ code) (frame ∷ frames) f to h = by_test (insn.pc == to) refl (landing code frames f to) h
   where
     Found : Type 0
-    Found = (i : ℕ) × (x : Insn) × (g : Shape) × (slice_get (insn ∷ code) i ≡ Some x) × (x.pc ≡ to) × (slice_get (frame ∷ frames) i ≡ Some (Some g)) × (shape_below f g ≡ true)
+    Found = (i : ℕ) × (x : Insn) × (g : TypeFrame) × (slice_get (insn ∷ code) i ≡ Some x) × (x.pc ≡ to) × (slice_get (frame ∷ frames) i ≡ Some (Some g)) × (frame_below f g ≡ true)
 
-    here : (o : Option Shape) → frame ≡ o → (insn.pc ≡ to) → IsSomeAnd o (λ g. IsTrue (shape_below f g)) → Found
+    here : (o : Option TypeFrame) → frame ≡ o → (insn.pc ≡ to) → IsSomeAnd o (λ g. IsTrue (frame_below f g)) → Found
     here None e same h = absurd h
-    here (Some g) e same h = (0, insn, g, refl, same, ap (λ (o : Option Shape). Some o) e, h)
+    here (Some g) e same h = (0, insn, g, refl, same, ap (λ (o : Option TypeFrame). Some o) e, h)
 
     by_test : (t : Bool) → (insn.pc == to) ≡ t
-        → (Fits code frames f to → (i : ℕ) × (x : Insn) × (g : Shape) × (slice_get code i ≡ Some x) × (x.pc ≡ to) × (slice_get frames i ≡ Some (Some g)) × (shape_below f g ≡ true))
-        → IsSomeAnd (cond t frame (frame_at code frames to)) (λ g. IsTrue (shape_below f g)) → Found
+        → (Fits code frames f to → (i : ℕ) × (x : Insn) × (g : TypeFrame) × (slice_get code i ≡ Some x) × (x.pc ≡ to) × (slice_get frames i ≡ Some (Some g)) × (frame_below f g ≡ true))
+        → IsSomeAnd (cond t frame (frame_at code frames to)) (λ g. IsTrue (frame_below f g)) → Found
     by_test true e more h = here frame refl (grind (arith, nat_tests, e)) h
     by_test false e more h = let l = more h in (suc l.0, l.1, l.2, l.3, l.4, l.5, l.6)
 
@@ -41,7 +41,7 @@ not_first [] i x pc n e = absurd (cc)
 not_first (y ∷ insns) zero x pc n e = let same : y ≡ x = cc in let no : (x.pc == pc) ≡ false = subst (λ (z : Insn). (z.pc == pc) ≡ false) same (or_parts (y.pc == pc) (is_start insns pc) n).0 in grind (arith, nat_tests, no)
 not_first (y ∷ insns) (suc i) x pc n e = not_first insns i x pc (or_parts (y.pc == pc) (is_start insns pc) n).1 e
 
-standing : (code : List Insn) (frames : List (Option Shape)) (i : ℕ) (x : Insn) (o : Option Shape) → AreDistinct code → slice_get code i ≡ Some x → slice_get frames i ≡ Some o → frame_at code frames x.pc ≡ o
+standing : (code : List Insn) (frames : List (Option TypeFrame)) (i : ℕ) (x : Insn) (o : Option TypeFrame) → AreDistinct code → slice_get code i ≡ Some x → slice_get frames i ≡ Some o → frame_at code frames x.pc ≡ o
 standing [] frames i x o d e f = absurd (cc)
 standing (y ∷ code) [] i x o d e f = absurd (cc)
 standing (y ∷ code) (frame ∷ frames) zero x o d e f =
@@ -56,7 +56,7 @@ stand m frames i insn o laid e f = standing m.code frames i insn o (distinct 0 m
 
 -- ---- the instruction of a frame
 
-found_at : (code : List Insn) (frames : List (Option Shape)) (pc : ℕ) (f : Shape) → frame_at code frames pc ≡ Some f
+found_at : (code : List Insn) (frames : List (Option TypeFrame)) (pc : ℕ) (f : TypeFrame) → frame_at code frames pc ≡ Some f
     → (i : ℕ) × (insn : Insn) × (slice_get code i ≡ Some insn) × (insn.pc ≡ pc) × (slice_get frames i ≡ Some (Some f))
 found_at [] frames pc f e = absurd (cc)
 found_at (insn ∷ code) [] pc f e = absurd (cc)
@@ -65,7 +65,7 @@ found_at (insn ∷ code) (frame ∷ frames) pc f e = by_test (insn.pc == pc) ref
     by_test : (t : Bool) → (insn.pc == pc) ≡ t → cond t frame (frame_at code frames pc) ≡ Some f
         → (frame_at code frames pc ≡ Some f → (i : ℕ) × (x : Insn) × (slice_get code i ≡ Some x) × (x.pc ≡ pc) × (slice_get frames i ≡ Some (Some f)))
         → (i : ℕ) × (x : Insn) × (slice_get (insn ∷ code) i ≡ Some x) × (x.pc ≡ pc) × (slice_get (frame ∷ frames) i ≡ Some (Some f))
-    by_test true h e more = (0, insn, refl, grind (arith, nat_tests, h), ap (λ (o : Option Shape). Some o) e)
+    by_test true h e more = (0, insn, refl, grind (arith, nat_tests, h), ap (λ (o : Option TypeFrame). Some o) e)
     by_test false h e more = let l = more e in (suc l.0, l.1, l.2, l.3, l.4)
 
 pub found : FramesAreFound

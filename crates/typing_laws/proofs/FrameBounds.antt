@@ -9,8 +9,8 @@ use Rattle.jvm_types.specs.ClassTree.{throwable_class, is_subclass}
 use Rattle.jvm_types.specs.CodeTable.{stack_after, locals_after, is_init}
 use Rattle.jvm_types.specs.declared.op_row.Given.{Given}
 use Rattle.jvm_types.specs.declared.op_row.OpRow.{OpRow}
-use Rattle.jvm_types.specs.Types.{Shape, meets, meet_shapes, entry_shape, same_type}
-use Rattle.jvm_types.specs.Verifying.{first_broken, takes_too_many, gives_too_many, lacks_locals, misuses_object, mistypes, broken_before, started, after_start, shape_after, catch_fault, caught_class, shape_at_handler}
+use Rattle.jvm_types.specs.Types.{TypeFrame, meets, meet_frames, entry_frame, same_type}
+use Rattle.jvm_types.specs.Verifying.{first_broken, takes_too_many, gives_too_many, lacks_locals, misuses_object, mistypes, broken_before, started, after_start, frame_after, catch_fault, caught_class, frame_at_handler}
 use Rattle.jvm_types.specs.declared.code.Insn.{Insn}
 use Rattle.jvm_types.specs.declared.typing.VType.{VType}
 use Rattle.jvm_types.specs.declared.typing.VType.TheVariants.{This, Top}
@@ -19,12 +19,12 @@ use Rattle.jvm_types.specs.declared.program.Row.{Row}
 use Rattle.jvm_types.specs.declared.refusal.VRule.{VRule}
 use Rattle.jvm_types.specs.declared.refusal.VRule.TheVariants.{V1, V2, V3, V4, V7}
 
-pub record IsBounded (m : MethodInfo) (f : Shape) : Type 0 where
-  pub locals : length f.locals ≡ length (entry_shape m).locals
+pub record IsBounded (m : MethodInfo) (f : TypeFrame) : Type 0 where
+  pub locals : length f.locals ≡ length (entry_frame m).locals
   pub stack : length f.stack ≤ m.max_stack
   pub ready : is_init m ≡ false → f.ready ≡ true
 
-pub entry_bounded : (m : MethodInfo) → IsBounded m (entry_shape m)
+pub entry_bounded : (m : MethodInfo) → IsBounded m (entry_frame m)
 entry_bounded m = record { locals = refl; stack = omega arith; ready = λ e. ap not e }
 
 -- ---- where two edges meet
@@ -42,7 +42,7 @@ meets_short (t ∷ ts) (u ∷ us) = omega (arith, meets_short ts us)
 both_true : (a b : Bool) → a ≡ true → b ≡ true → (a && b) ≡ true
 both_true a b e f = rw e f
 
-pub meet_bounded : (m : MethodInfo) (f g : Shape) → IsBounded m f → IsBounded m g → IsBounded m (meet_shapes f g)
+pub meet_bounded : (m : MethodInfo) (f g : TypeFrame) → IsBounded m f → IsBounded m g → IsBounded m (meet_frames f g)
 meet_bounded m f g b c = record {
   locals = omega (arith, meets_length f.locals g.locals (omega (arith, b.locals, c.locals)), b.locals);
   stack = omega (arith, meets_short f.stack g.stack, b.stack);
@@ -56,12 +56,12 @@ unbroken true rule tests e = absurd (cc)
 unbroken false rule tests e = (refl, e)
 
 -- V2 and V3 hold
-pub within_stack : (m : MethodInfo) (insn : Insn) (r : OpRow) (f : Shape) → broken_before m insn r f ≡ None → gives_too_many m r f ≡ false
+pub within_stack : (m : MethodInfo) (insn : Insn) (r : OpRow) (f : TypeFrame) → broken_before m insn r f ≡ None → gives_too_many m r f ≡ false
 within_stack m insn r f e =
     let one = unbroken (takes_too_many r f) V1 ((gives_too_many m r f, V2) ∷ (lacks_locals m r f, V3) ∷ (misuses_object m insn r f, V7) ∷ (mistypes m r f, V4) ∷ []) e in
     (unbroken (gives_too_many m r f) V2 ((lacks_locals m r f, V3) ∷ (misuses_object m insn r f, V7) ∷ (mistypes m r f, V4) ∷ []) one.1).0
 
-pub within_locals : (m : MethodInfo) (insn : Insn) (r : OpRow) (f : Shape) → broken_before m insn r f ≡ None → lacks_locals m r f ≡ false
+pub within_locals : (m : MethodInfo) (insn : Insn) (r : OpRow) (f : TypeFrame) → broken_before m insn r f ≡ None → lacks_locals m r f ≡ false
 within_locals m insn r f e =
     let one = unbroken (takes_too_many r f) V1 ((gives_too_many m r f, V2) ∷ (lacks_locals m r f, V3) ∷ (misuses_object m insn r f, V7) ∷ (mistypes m r f, V4) ∷ []) e in
     let two = unbroken (gives_too_many m r f) V2 ((lacks_locals m r f, V3) ∷ (misuses_object m insn r f, V7) ∷ (mistypes m r f, V4) ∷ []) one.1 in
@@ -72,7 +72,7 @@ within_locals m insn r f e =
 first_true : (a b : Bool) → a ≡ true → (a || b) ≡ true
 first_true a b e = rw e refl
 
-started_bounded : (m : MethodInfo) (object : Option (VType × ℕ)) (f : Shape) → IsBounded m f → IsBounded m (after_start object f)
+started_bounded : (m : MethodInfo) (object : Option (VType × ℕ)) (f : TypeFrame) → IsBounded m f → IsBounded m (after_start object f)
 started_bounded m None f b = b
 started_bounded m (Some object) f b = record {
   locals = length-map f.locals _ ∙ b.locals;
@@ -84,14 +84,14 @@ locals_kept : (write : Option (ℕ × Given)) (stack locals : List VType) → le
 locals_kept None stack locals = refl
 locals_kept (Some write) stack locals = length-set _ _ _
 
-after_stack : (m : MethodInfo) (r : OpRow) (f : Shape) → gives_too_many m r f ≡ false → length (stack_after Top (λ t. t) r f.stack f.locals) ≤ m.max_stack
+after_stack : (m : MethodInfo) (r : OpRow) (f : TypeFrame) → gives_too_many m r f ≡ false → length (stack_after Top (λ t. t) r f.stack f.locals) ≤ m.max_stack
 after_stack m r f e =
     let fits : length f.stack - length r.takes + length r.gives ≤ m.max_stack = ltb-false m.max_stack (length f.stack - length r.takes + length r.gives) e in
     simp (length-append, length-map, length-drop) (omega (arith, fits))
 
-pub after_bounded : (m : MethodInfo) (insn : Insn) (r : OpRow) (f : Shape) → broken_before m insn r f ≡ None → IsBounded m f → IsBounded m (shape_after m r f)
+pub after_bounded : (m : MethodInfo) (insn : Insn) (r : OpRow) (f : TypeFrame) → broken_before m insn r f ≡ None → IsBounded m f → IsBounded m (frame_after m r f)
 after_bounded m insn r f e b =
-    let next : Shape = record { stack = stack_after Top (λ t. t) r f.stack f.locals; locals = locals_after Top (λ t. t) r.writes f.stack f.locals; ready = f.ready } in
+    let next : TypeFrame = record { stack = stack_after Top (λ t. t) r f.stack f.locals; locals = locals_after Top (λ t. t) r.writes f.stack f.locals; ready = f.ready } in
     started_bounded m (started m.class r.takes f.stack) next
     (record { locals = locals_kept r.writes f.stack f.locals ∙ b.locals; stack = after_stack m r f (within_stack m insn r f e); ready = b.ready })
 
@@ -104,7 +104,7 @@ untaken false b x y e = refl
 some_room : (n : ℕ) → (n == 0) ≡ false → 1 ≤ n
 some_room n e = grind (arith, nat_tests, e)
 
-pub handler_bounded : (m : MethodInfo) (pc : ℕ) (handler : Row) (f : Shape) → catch_fault m pc handler ≡ None → IsBounded m f → IsBounded m (shape_at_handler handler f)
+pub handler_bounded : (m : MethodInfo) (pc : ℕ) (handler : Row) (f : TypeFrame) → catch_fault m pc handler ≡ None → IsBounded m f → IsBounded m (frame_at_handler handler f)
 handler_bounded m pc handler f e b = record {
   locals = b.locals;
   stack = some_room m.max_stack (untaken (m.max_stack == 0) (not (is_subclass (caught_class handler) throwable_class)) (V2, pc) (V4, handler.handler) e);

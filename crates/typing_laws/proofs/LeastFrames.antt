@@ -5,23 +5,23 @@ use Rattle.std.specs.List.{AllByRecursion, AllZip}
 use Rattle.std.proofs.lemmas.Bool.{or_from, or_left, or_right}
 use Rattle.jvm_types.specs.Numbers.{has_number}
 use Rattle.jvm_types.specs.CodeGrammar.{SpellsInsns, SpellsOp, is_start}
-use Rattle.jvm_types.specs.Types.{Shape, shape_below}
-use Rattle.jvm_types.specs.Verifying.{Node, node_at, node_joined, brought, all_brought, has_other_depth, clash, frame_at, Fits, IsFrameBelow}
+use Rattle.jvm_types.specs.Types.{TypeFrame, frame_below}
+use Rattle.jvm_types.specs.Verifying.{Node, node_at, node_met, brought, all_brought, has_other_depth, clash, frame_at, Fits, IsFrameBelow}
 use Rattle.jvm_types.specs.declared.code.Insn.{Insn}
 use Rattle.jvm_types.specs.declared.code.Op.{Op}
-use Rattle.jvm_types.proofs.ShapeOrder.{pairs_length, stack_below, shape_trans, shape_meet_least}
+use Rattle.jvm_types.proofs.FrameOrder.{pairs_length, stack_below, frame_trans, frame_meet_least}
 
 -- ---- frames that may be missing
 
 -- the frame is at or below one that is there
-abbrev pub IsBelowSome : Shape → Option Shape → Type 0
-IsBelowSome f o = IsSomeAnd o (λ g. IsTrue (shape_below f g))
+abbrev pub IsBelowSome : TypeFrame → Option TypeFrame → Type 0
+IsBelowSome f o = IsSomeAnd o (λ g. IsTrue (frame_below f g))
 
-pub below_some : (f g : Shape) (o : Option Shape) → shape_below f g ≡ true → IsBelowSome g o → IsBelowSome f o
+pub below_some : (f g : TypeFrame) (o : Option TypeFrame) → frame_below f g ≡ true → IsBelowSome g o → IsBelowSome f o
 below_some f g None h k = k
-below_some f g (Some other) h k = shape_trans f g other h k
+below_some f g (Some other) h k = frame_trans f g other h k
 
-pub fits_below : (code : List Insn) (others : List (Option Shape)) (f g : Shape) → shape_below f g ≡ true → (tos : List ℕ)
+pub fits_below : (code : List Insn) (others : List (Option TypeFrame)) (f g : TypeFrame) → frame_below f g ≡ true → (tos : List ℕ)
     → AllByRecursion (Fits code others g) tos → AllByRecursion (Fits code others f) tos
 fits_below code others f g h [] k = tt
 fits_below code others f g h (to ∷ tos) k = (below_some f g (frame_at code others to) h k.0, fits_below code others f g h tos k.1)
@@ -29,18 +29,18 @@ fits_below code others f g h (to ∷ tos) k = (below_some f g (frame_at code oth
 -- ---- nodes
 
 -- each frame that is there is at or below the frame of the assignment at the same instruction
-abbrev pub IsNodeBelow : Node → Option Shape → Type 0
+abbrev pub IsNodeBelow : Node → Option TypeFrame → Type 0
 IsNodeBelow node g = IsFrameBelow node.frame g
 
-abbrev pub AreBelow : List Node → List (Option Shape) → Type 0
+abbrev pub AreBelow : List Node → List (Option TypeFrame) → Type 0
 AreBelow nodes others = AllZip IsNodeBelow nodes others
 
-joined_below : (node : Node) (o : Option Shape) (f : Shape) (g : Option Shape) → IsFrameBelow o g → IsBelowSome f g → IsNodeBelow (node_joined node o f) g
+joined_below : (node : Node) (o : Option TypeFrame) (f : TypeFrame) (g : Option TypeFrame) → IsFrameBelow o g → IsBelowSome f g → IsNodeBelow (node_met node o f) g
 joined_below node None f g h k = k
 joined_below node (Some e) f None h k = k
-joined_below node (Some e) f (Some g) h k = shape_meet_least e f g h k
+joined_below node (Some e) f (Some g) h k = frame_meet_least e f g h k
 
-pub brought_below : (code : List Insn) (to : ℕ) (f : Shape) (nodes : List Node) (others : List (Option Shape)) → AreBelow nodes others → Fits code others f to
+pub brought_below : (code : List Insn) (to : ℕ) (f : TypeFrame) (nodes : List Node) (others : List (Option TypeFrame)) → AreBelow nodes others → Fits code others f to
     → AreBelow (brought code to f nodes) others
 brought_below [] to f nodes others below fits = below
 brought_below (insn ∷ insns) to f [] others below fits = below
@@ -48,18 +48,18 @@ brought_below (insn ∷ insns) to f (node ∷ nodes) [] below fits = absurd belo
 brought_below (insn ∷ insns) to f (node ∷ nodes) (g ∷ others) below fits = by_test (insn.pc == to) fits (brought_below insns to f nodes others below.1)
   where
     by_test : (b : Bool) → IsBelowSome f (if b then g else frame_at insns others to) → (IsBelowSome f (frame_at insns others to) → AreBelow (brought insns to f nodes) others)
-        → AreBelow (if b then node_joined node node.frame f ∷ nodes else node ∷ brought insns to f nodes) (g ∷ others)
+        → AreBelow (if b then node_met node node.frame f ∷ nodes else node ∷ brought insns to f nodes) (g ∷ others)
     by_test true fit more = (joined_below node node.frame f g below.0 fit, below.1)
     by_test false fit more = (below.0, more fit)
 
-pub all_brought_below : (code : List Insn) (tos : List ℕ) (f : Shape) (nodes : List Node) (others : List (Option Shape)) → AreBelow nodes others
+pub all_brought_below : (code : List Insn) (tos : List ℕ) (f : TypeFrame) (nodes : List Node) (others : List (Option TypeFrame)) → AreBelow nodes others
     → AllByRecursion (Fits code others f) tos → AreBelow (all_brought code tos f nodes) others
 all_brought_below code [] f nodes others below fits = below
 all_brought_below code (to ∷ tos) f nodes others below fits =
     all_brought_below code tos f (brought code to f nodes) others (brought_below code to f nodes others below fits.0) fits.1
 
 -- a visited node waits no more
-pub quiet_below : (nodes : List Node) (others : List (Option Shape)) (i : ℕ) → AreBelow nodes others
+pub quiet_below : (nodes : List Node) (others : List (Option TypeFrame)) (i : ℕ) → AreBelow nodes others
     → AreBelow (slice_set nodes i (record (node_at nodes i) { waits = false })) others
 quiet_below [] others i below = below
 quiet_below (node ∷ nodes) [] i below = absurd below
@@ -67,31 +67,31 @@ quiet_below (node ∷ nodes) (g ∷ others) zero below = below
 quiet_below (node ∷ nodes) (g ∷ others) (suc i) below = (below.0, quiet_below nodes others i below.1)
 
 -- the frame of the assignment at an instruction that has one
-pub record Above (f : Shape) (others : List (Option Shape)) (i : ℕ) : Type 0 where
-  pub frame : Shape
+pub record Above (f : TypeFrame) (others : List (Option TypeFrame)) (i : ℕ) : Type 0 where
+  pub frame : TypeFrame
   pub is : slice_get others i ≡ Some (Some frame)
-  pub below : shape_below f frame ≡ true
+  pub below : frame_below f frame ≡ true
 
-pub frame_above : (nodes : List Node) (others : List (Option Shape)) (i : ℕ) (f : Shape) → AreBelow nodes others → (node_at nodes i).frame ≡ Some f → Above f others i
+pub frame_above : (nodes : List Node) (others : List (Option TypeFrame)) (i : ℕ) (f : TypeFrame) → AreBelow nodes others → (node_at nodes i).frame ≡ Some f → Above f others i
 frame_above [] others i f below e = absurd (cc)
 frame_above (node ∷ nodes) [] i f below e = absurd below
-frame_above (node ∷ nodes) (g ∷ others) zero f below e = by_frame g (subst (λ (o : Option Shape). IsFrameBelow o g) e below.0)
+frame_above (node ∷ nodes) (g ∷ others) zero f below e = by_frame g (subst (λ (o : Option TypeFrame). IsFrameBelow o g) e below.0)
   where
-    by_frame : (o : Option Shape) → IsBelowSome f o → Above f (o ∷ others) zero
+    by_frame : (o : Option TypeFrame) → IsBelowSome f o → Above f (o ∷ others) zero
     by_frame None h = absurd h
     by_frame (Some h) k = record { frame = h; is = refl; below = k }
 frame_above (node ∷ nodes) (g ∷ others) (suc i) f below e =
     let more = frame_above nodes others i f below.1 e in
     record { frame = more.frame; is = more.is; below = more.below }
 
-pub frames_below : (nodes : List Node) (others : List (Option Shape)) → AreBelow nodes others → (i : ℕ) (f g : Option Shape)
+pub frames_below : (nodes : List Node) (others : List (Option TypeFrame)) → AreBelow nodes others → (i : ℕ) (f g : Option TypeFrame)
     → slice_get (map (λ node. node.frame) nodes) i ≡ Some f → slice_get others i ≡ Some g → IsFrameBelow f g
 frames_below [] others below i f g e d = absurd (cc)
 frames_below (node ∷ nodes) [] below i f g e d = absurd below
 frames_below (node ∷ nodes) (h ∷ others) below zero f g e d =
     let at : node.frame ≡ f = cc in
     let above : h ≡ g = cc in
-    subst (λ (o : Option Shape). IsFrameBelow o g) at (subst (λ (o : Option Shape). IsFrameBelow node.frame o) above below.0)
+    subst (λ (o : Option TypeFrame). IsFrameBelow o g) at (subst (λ (o : Option TypeFrame). IsFrameBelow node.frame o) above below.0)
 frames_below (node ∷ nodes) (h ∷ others) below (suc i) f g e d = frames_below nodes others below.1 i f g e d
 
 -- ---- each pc has one instruction
@@ -117,7 +117,7 @@ distinct pc (insn ∷ insns) bytes h =
 
 -- ---- depths
 
-depth_is : (o g : Option Shape) (f : Shape) → IsFrameBelow o g → IsBelowSome f g → has_other_depth o (length f.stack) ≡ false
+depth_is : (o g : Option TypeFrame) (f : TypeFrame) → IsFrameBelow o g → IsBelowSome f g → has_other_depth o (length f.stack) ≡ false
 depth_is None g f h k = refl
 depth_is (Some e) None f h k = absurd k
 depth_is (Some e) (Some g) f h k =
@@ -125,10 +125,10 @@ depth_is (Some e) (Some g) f h k =
     ap not (eq-eqb (length e.stack) (length f.stack) depth)
 
 -- where the frame fits each target, no target has a frame of another depth
-abbrev FitsEach : List Insn → List (Option Shape) → List ℕ → Shape → Type 0
+abbrev FitsEach : List Insn → List (Option TypeFrame) → List ℕ → TypeFrame → Type 0
 FitsEach code others tos f = (to : ℕ) → has_number tos to ≡ true → is_start code to ≡ true → Fits code others f to
 
-fits_later : (insn : Insn) (insns : List Insn) (g : Option Shape) (others : List (Option Shape)) (tos : List ℕ) (f : Shape) → is_start insns insn.pc ≡ false
+fits_later : (insn : Insn) (insns : List Insn) (g : Option TypeFrame) (others : List (Option TypeFrame)) (tos : List ℕ) (f : TypeFrame) → is_start insns insn.pc ≡ false
     → FitsEach (insn ∷ insns) (g ∷ others) tos f → FitsEach insns others tos f
 fits_later insn insns g others tos f once fits to h k = by_test (insn.pc == to) refl (fits to h (or_right (insn.pc == to) (is_start insns to) k))
   where
@@ -136,13 +136,13 @@ fits_later insn insns g others tos f once fits to h k = by_test (insn.pc == to) 
     by_test true e fit = let other : is_start insns insn.pc ≡ true = subst (λ (n : ℕ). is_start insns n ≡ true) (sym (eqb-true insn.pc to e)) k in absurd (cc)
     by_test false e fit = fit
 
-fits_here : (insn : Insn) (insns : List Insn) (g : Option Shape) (others : List (Option Shape)) (tos : List ℕ) (f : Shape)
+fits_here : (insn : Insn) (insns : List Insn) (g : Option TypeFrame) (others : List (Option TypeFrame)) (tos : List ℕ) (f : TypeFrame)
     → FitsEach (insn ∷ insns) (g ∷ others) tos f → has_number tos insn.pc ≡ true → IsBelowSome f g
 fits_here insn insns g others tos f fits h =
     let same : (insn.pc == insn.pc) ≡ true = eq-eqb insn.pc insn.pc refl in
     subst (λ (b : Bool). IsBelowSome f (if b then g else frame_at insns others insn.pc)) same (fits insn.pc h (or_left (insn.pc == insn.pc) (is_start insns insn.pc) same))
 
-no_clash_each : (code : List Insn) (tos : List ℕ) (f : Shape) (nodes : List Node) (others : List (Option Shape)) → AreDistinct code → AreBelow nodes others
+no_clash_each : (code : List Insn) (tos : List ℕ) (f : TypeFrame) (nodes : List Node) (others : List (Option TypeFrame)) → AreDistinct code → AreBelow nodes others
     → FitsEach code others tos f → clash code tos (length f.stack) nodes ≡ None
 no_clash_each [] tos f nodes others once below fits = refl
 no_clash_each (insn ∷ insns) tos f [] others once below fits = refl
@@ -155,7 +155,7 @@ no_clash_each (insn ∷ insns) tos f (node ∷ nodes) (g ∷ others) once below 
     by_test true e more = rw (depth_is node.frame g f below.0 (fits_here insn insns g others tos f fits e)) more
     by_test false e more = more
 
-fits_each : (code : List Insn) (others : List (Option Shape)) (f : Shape) (tos : List ℕ) → AllByRecursion (Fits code others f) tos → FitsEach code others tos f
+fits_each : (code : List Insn) (others : List (Option TypeFrame)) (f : TypeFrame) (tos : List ℕ) → AllByRecursion (Fits code others f) tos → FitsEach code others tos f
 fits_each code others f [] fits to h k = absurd (cc)
 fits_each code others f (first ∷ tos) fits to h k = by_test (first == to) refl h (λ e. fits_each code others f tos fits.1 to e k)
   where
@@ -163,6 +163,6 @@ fits_each code others f (first ∷ tos) fits to h k = by_test (first == to) refl
     by_test true e h more = subst (Fits code others f) (eqb-true first to e) fits.0
     by_test false e h more = more h
 
-pub no_clash : (code : List Insn) (tos : List ℕ) (f : Shape) (nodes : List Node) (others : List (Option Shape)) → AreDistinct code → AreBelow nodes others
+pub no_clash : (code : List Insn) (tos : List ℕ) (f : TypeFrame) (nodes : List Node) (others : List (Option TypeFrame)) → AreDistinct code → AreBelow nodes others
     → AllByRecursion (Fits code others f) tos → clash code tos (length f.stack) nodes ≡ None
 no_clash code tos f nodes others once below fits = no_clash_each code tos f nodes others once below (fits_each code others f tos fits)

@@ -1,5 +1,5 @@
 pub mod MonoTypes
-pub mod MonoShapes
+pub mod MonoFrames
 pub mod MonoRules
 pub mod LeastFrames
 pub mod LeastVisits

@@ -5,8 +5,8 @@ use Rattle.std.specs.List.{AllByRecursion}
 use Rattle.std.proofs.lemmas.Bool.Decides.{nat_tests}
 use Rattle.jvm_types.specs.Numbers.{has_number}
 use Rattle.jvm_types.specs.CodeGrammar.{is_start}
-use Rattle.jvm_types.specs.Types.{Shape}
-use Rattle.jvm_types.specs.Verifying.{Node, brought, all_brought, has_other_depth, clash, unless_caught, catch_fault, shape_at_handler, handled, frame_at, Fits}
+use Rattle.jvm_types.specs.Types.{TypeFrame}
+use Rattle.jvm_types.specs.Verifying.{Node, brought, all_brought, has_other_depth, clash, unless_caught, catch_fault, frame_at_handler, handled, frame_at, Fits}
 use Rattle.jvm_types.specs.declared.code.Insn.{Insn}
 use Rattle.jvm_types.specs.declared.program.MethodInfo.{MethodInfo}
 use Rattle.jvm_types.specs.declared.program.Row.{Row}
@@ -26,7 +26,7 @@ pub record Carries (m : MethodInfo) (nodes mid : List Node) : Type 0 where
 abbrev AreDeep : List Insn → ℕ → List Node → List ℕ → Type 0
 AreDeep code depth nodes tos = AllByRecursion (λ to. IsDeep depth (frame_at code (frames_of nodes) to)) tos
 
-module _ (m : MethodInfo) (f : Shape) (b : IsBounded m f) (code : List Insn) where
+module _ (m : MethodInfo) (f : TypeFrame) (b : IsBounded m f) (code : List Insn) where
   deep_kept : (to : ℕ) (nodes : List Node) (tos : List ℕ) → AreDeep code (length f.stack) nodes tos → AreDeep code (length f.stack) (brought code to f nodes) tos
   deep_kept to nodes [] d = tt
   deep_kept to nodes (pc ∷ tos) d = (brought_deep m f b to (length f.stack) pc refl code nodes d.0, deep_kept to nodes tos d.1)
@@ -63,7 +63,7 @@ picks P (to ∷ tos) h = (h to (here (to == to) (grind (arith, nat_tests))), pic
     there true u e = refl
     there false u e = e
 
-same_depth : (frame : Option Shape) (depth : ℕ) → has_other_depth frame depth ≡ false → IsDeep depth frame
+same_depth : (frame : Option TypeFrame) (depth : ℕ) → has_other_depth frame depth ≡ false → IsDeep depth frame
 same_depth None depth e = tt
 same_depth (Some g) depth e = equal (length g.stack) e
   where
@@ -97,22 +97,22 @@ edges_deep code tos depth nodes e = picks (λ to. IsDeep depth (frame_at code (f
 
 -- ---- the edges to handlers
 
-pub record Handles (m : MethodInfo) (pc : ℕ) (f : Shape) (handlers : List Row) (nodes mid : List Node) : Type 0 where
+pub record Handles (m : MethodInfo) (pc : ℕ) (f : TypeFrame) (handlers : List Row) (nodes mid : List Node) : Type 0 where
   pub carries : Carries m nodes mid
   pub hold : AllByRecursion (λ handler. catch_fault m pc handler ≡ None) handlers
-  pub fit : AllByRecursion (λ handler. Fits m.code (frames_of mid) (shape_at_handler handler f) handler.handler) handlers
+  pub fit : AllByRecursion (λ handler. Fits m.code (frames_of mid) (frame_at_handler handler f) handler.handler) handlers
 
 pub uncaught : (fault : Option (VRule × ℕ)) (at : Option ℕ) (more : Result (List Node) (VRule × ℕ)) (mid : List Node) → unless_caught fault at more ≡ Ok mid → (fault ≡ None) × (at ≡ None) × (more ≡ Ok mid)
 uncaught (Some fault) at more mid e = absurd (cc)
 uncaught None (Some at) more mid e = absurd (cc)
 uncaught None None more mid e = (refl, refl, e)
 
-pub handles : (m : MethodInfo) (pc : ℕ) (f : Shape) → IsBounded m f → (handlers : List Row) (nodes mid : List Node) → AreBounded m nodes → length nodes ≡ length m.code
+pub handles : (m : MethodInfo) (pc : ℕ) (f : TypeFrame) → IsBounded m f → (handlers : List Row) (nodes mid : List Node) → AreBounded m nodes → length nodes ≡ length m.code
     → AllByRecursion (λ handler. is_start m.code handler.handler ≡ true) handlers → handled m pc f handlers nodes ≡ Ok mid → Handles m pc f handlers nodes mid
 handles m pc f b [] nodes mid c l s e = let same : nodes ≡ mid = cc in
     record { carries = record { risen = subst (λ (ns : List Node). AreRisen nodes ns) same (all_risen_self nodes); bounded = subst (λ (ns : List Node). AreBounded m ns) same c }; hold = tt; fit = tt }
 handles m pc f b (handler ∷ handlers) nodes mid c l s e =
-    let g : Shape = shape_at_handler handler f in
+    let g : TypeFrame = frame_at_handler handler f in
     let to : ℕ = handler.handler in
     let next : List Node = brought m.code to g nodes in
     let parts = uncaught (catch_fault m pc handler) (clash m.code (to ∷ []) 1 nodes) (handled m pc f handlers next) mid e in

@@ -7,7 +7,7 @@ use Rattle.std.proofs.lemmas.Bool.{cond_both}
 use Rattle.std.proofs.lemmas.Bool.Decides.{nat_tests}
 use Rattle.jvm_types.specs.CodeTable.{row, branches_to}
 use Rattle.jvm_types.specs.CodeGrammar.{is_start, IsStart, SpellsInsns, RowFits}
-use Rattle.jvm_types.specs.Types.{Shape, entry_shape}
+use Rattle.jvm_types.specs.Types.{TypeFrame, entry_frame}
 use Rattle.jvm_types.specs.Verifying.{Node, node_at, covers, first_nodes, visited, waiting_from, next_visit, Visits, frame_at, Fits, IsFrameBelow, IsSound, IsAssignment, IsLaidOut, LocalLaw}
 use Rattle.jvm_types.specs.declared.class_file.Handler.{Handler}
 use Rattle.jvm_types.specs.declared.code.Insn.{Insn}
@@ -57,8 +57,8 @@ begins m laid = first m.code laid.code.spelled
 pub record IsGoing (p : Program) (m : MethodInfo) (nodes : List Node) : Type 0 where
   pub long : length nodes ≡ length m.code
   pub bounded : AreBounded m nodes
-  pub entry : Fits m.code (frames_of nodes) (entry_shape m) 0
-  pub sound : (i : ℕ) (node : Node) (insn : Insn) (target : Target) (f : Shape) → slice_get nodes i ≡ Some node → node.waits ≡ false → slice_get m.code i ≡ Some insn → slice_get m.targets i ≡ Some target
+  pub entry : Fits m.code (frames_of nodes) (entry_frame m) 0
+  pub sound : (i : ℕ) (node : Node) (insn : Insn) (target : Target) (f : TypeFrame) → slice_get nodes i ≡ Some node → node.waits ≡ false → slice_get m.code i ≡ Some insn → slice_get m.targets i ≡ Some target
       → node.frame ≡ Some f → IsSound m insn (row p m insn.pc target insn.op) (frames_of nodes) f
 
 first_long : (m : MethodInfo) (code : List Insn) → length (first_nodes m code) ≡ length code
@@ -73,11 +73,11 @@ first_bounded : (m : MethodInfo) (code : List Insn) → AreBounded m (first_node
 first_bounded m [] = tt
 first_bounded m (insn ∷ code) = (entry_bounded m, none_bounded m code)
 
-first_entry : (m : MethodInfo) (insn : Insn) (code : List Insn) → insn.pc ≡ 0 → Fits (insn ∷ code) (frames_of (first_nodes m (insn ∷ code))) (entry_shape m) 0
+first_entry : (m : MethodInfo) (insn : Insn) (code : List Insn) → insn.pc ≡ 0 → Fits (insn ∷ code) (frames_of (first_nodes m (insn ∷ code))) (entry_frame m) 0
 first_entry m insn code e = by_test (insn.pc == 0) (grind (arith, nat_tests, e))
   where
-    by_test : (t : Bool) → t ≡ true → IsFrameBelow (Some (entry_shape m)) (cond t (Some (entry_shape m)) (frame_at code (frames_of (map (λ other. record { frame = None; waits = false }) code)) 0))
-    by_test true e = frame_self (Some (entry_shape m))
+    by_test : (t : Bool) → t ≡ true → IsFrameBelow (Some (entry_frame m)) (cond t (Some (entry_frame m)) (frame_at code (frames_of (map (λ other. record { frame = None; waits = false }) code)) 0))
+    by_test true e = frame_self (Some (entry_frame m))
     by_test false e = absurd (cc)
 
 some_same : {a b : Node} → Some a ≡ Some b → a ≡ b
@@ -101,8 +101,8 @@ first_going p m laid = record {
   sound = λ i node insn target f e w c t g. let none : Some f ≡ None = sym g ∙ first_waits m m.code i node e w in absurd (cc);
 }
   where
-    enters : ((insn : Insn) × (code : List Insn) × (m.code ≡ insn ∷ code) × (insn.pc ≡ 0)) → Fits m.code (frames_of (first_nodes m m.code)) (entry_shape m) 0
-    enters b = subst (λ (code : List Insn). Fits code (frames_of (first_nodes m code)) (entry_shape m) 0) (sym b.2) (first_entry m b.0 b.1 b.3)
+    enters : ((insn : Insn) × (code : List Insn) × (m.code ≡ insn ∷ code) × (insn.pc ≡ 0)) → Fits m.code (frames_of (first_nodes m m.code)) (entry_frame m) 0
+    enters b = subst (λ (code : List Insn). Fits code (frames_of (first_nodes m code)) (entry_frame m) 0) (sym b.2) (first_entry m b.0 b.1 b.3)
 
 -- ---- one visit
 
@@ -121,17 +121,17 @@ visit_goes : (p : Program) (m : MethodInfo) (nodes mid : List Node) (i : ℕ) �
 visit_goes p m nodes mid i laid going made = record {
   long = sym (risen_length (cleared nodes i) mid carries.risen) ∙ length-set _ _ _ ∙ going.long;
   bounded = carries.bounded;
-  entry = fits_risen m.code (cleared nodes i) mid (entry_shape m) 0 carries.risen (as_cleared (λ fs. Fits m.code fs (entry_shape m) 0) going.entry);
+  entry = fits_risen m.code (cleared nodes i) mid (entry_frame m) 0 carries.risen (as_cleared (λ fs. Fits m.code fs (entry_frame m) 0) going.entry);
   sound = λ j b insn target f e w c t g. sound j b insn target f (risen_at (cleared nodes i) mid j b carries.risen e) w c t g;
 }
   where
     carries : Carries m (cleared nodes i) mid
     carries = visit_carries p m nodes mid i (leads m laid i) going.bounded going.long made
 
-    as_cleared : (P : List (Option Shape) → Type 0) → P (frames_of nodes) → P (frames_of (cleared nodes i))
+    as_cleared : (P : List (Option TypeFrame) → Type 0) → P (frames_of nodes) → P (frames_of (cleared nodes i))
     as_cleared P h = subst P (sym (cleared_frames nodes i)) h
 
-    from_either : (j : ℕ) (a : Node) (insn : Insn) (target : Target) (f : Shape) → ((j ≡ i) × (record (node_at nodes i) { waits = false } ≡ a)) ⊎ (slice_get nodes j ≡ Some a) → a.waits ≡ false
+    from_either : (j : ℕ) (a : Node) (insn : Insn) (target : Target) (f : TypeFrame) → ((j ≡ i) × (record (node_at nodes i) { waits = false } ≡ a)) ⊎ (slice_get nodes j ≡ Some a) → a.waits ≡ false
         → slice_get m.code j ≡ Some insn → slice_get m.targets j ≡ Some target → a.frame ≡ Some f → IsSound m insn (row p m insn.pc target insn.op) (frames_of mid) f
     from_either j a insn target f (inl h) w c t g =
         visit_sound p m nodes mid i (leads m laid i) going.bounded going.long made insn target f
@@ -140,7 +140,7 @@ visit_goes p m nodes mid i laid going made = record {
         sound_risen m insn (row p m insn.pc target insn.op) f (cleared nodes i) mid carries.risen
         (as_cleared (λ fs. IsSound m insn (row p m insn.pc target insn.op) fs f) (going.sound j a insn target f h w c t g))
 
-    sound : (j : ℕ) (b : Node) (insn : Insn) (target : Target) (f : Shape) → ((a : Node) × (slice_get (cleared nodes i) j ≡ Some a) × IsRisen a b) → b.waits ≡ false
+    sound : (j : ℕ) (b : Node) (insn : Insn) (target : Target) (f : TypeFrame) → ((a : Node) × (slice_get (cleared nodes i) j ≡ Some a) × IsRisen a b) → b.waits ≡ false
         → slice_get m.code j ≡ Some insn → slice_get m.targets j ≡ Some target → b.frame ≡ Some f → IsSound m insn (row p m insn.pc target insn.op) (frames_of mid) f
     sound j b insn target f a w c t g =
         from_either j a.0 insn target f (got_set nodes i j (record (node_at nodes i) { waits = false }) a.0 a.1) (a.2.kept w).0 c t ((a.2.kept w).1 ∙ g)
@@ -161,7 +161,7 @@ rests k [] i node h e = absurd (cc)
 rests k (a ∷ nodes) zero node h e = ap (λ (n : Node). n.waits) (sym (some_same e)) ∙ (unwaiting a.waits k (waiting_from (suc k) nodes) h).0
 rests k (a ∷ nodes) (suc i) node h e = rests (suc k) nodes i node (unwaiting a.waits k (waiting_from (suc k) nodes) h).1 e
 
-frame_from : (nodes : List Node) (i : ℕ) (frame : Option Shape) → slice_get (frames_of nodes) i ≡ Some frame → (node : Node) × (slice_get nodes i ≡ Some node) × (node.frame ≡ frame)
+frame_from : (nodes : List Node) (i : ℕ) (frame : Option TypeFrame) → slice_get (frames_of nodes) i ≡ Some frame → (node : Node) × (slice_get nodes i ≡ Some node) × (node.frame ≡ frame)
 frame_from [] i frame e = absurd (cc)
 frame_from (a ∷ nodes) zero frame e = (a, refl, cc)
 frame_from (a ∷ nodes) (suc i) frame e = frame_from nodes i frame e
@@ -169,7 +169,7 @@ frame_from (a ∷ nodes) (suc i) frame e = frame_from nodes i frame e
 pub local_law : LocalLaw
 local_law p m frames laid typed =
     let ends = all_go p m laid typed.visits (first_nodes m m.code) typed.last (first_going p m laid) typed.made in
-    subst (λ (fs : List (Option Shape)). IsAssignment p m fs) (sym typed.are) (assigns typed.last ends.0 ends.1)
+    subst (λ (fs : List (Option TypeFrame)). IsAssignment p m fs) (sym typed.are) (assigns typed.last ends.0 ends.1)
   where
     assigns : (last : List Node) → IsGoing p m last → next_visit last ≡ None → IsAssignment p m (frames_of last)
     assigns last going none = record {
@@ -178,6 +178,6 @@ local_law p m frames laid typed =
       sound = λ i insn target f c t e. sound i insn target f c t (frame_from last i (Some f) e);
     }
       where
-        sound : (i : ℕ) (insn : Insn) (target : Target) (f : Shape) → slice_get m.code i ≡ Some insn → slice_get m.targets i ≡ Some target
+        sound : (i : ℕ) (insn : Insn) (target : Target) (f : TypeFrame) → slice_get m.code i ≡ Some insn → slice_get m.targets i ≡ Some target
             → ((node : Node) × (slice_get last i ≡ Some node) × (node.frame ≡ Some f)) → IsSound m insn (row p m insn.pc target insn.op) (frames_of last) f
         sound i insn target f c t n = going.sound i n.0 insn target f n.1 (rests 0 last i n.0 none n.1) c t n.2

@@ -4,24 +4,24 @@ use Rattle.std.specs.Prelude.{◌==◌, slice_get}
 use Rattle.std.specs.List.{AllZip}
 use Rattle.std.proofs.lemmas.Bool.{and_parts}
 use Rattle.std.proofs.lemmas.Bool.Decides.{nat_tests}
-use Rattle.jvm_types.specs.Types.{Shape, same_type, all_pairs, same_ready, same_shape}
+use Rattle.jvm_types.specs.Types.{TypeFrame, same_type, all_pairs, same_ready, same_frame}
 use Rattle.jvm_types.specs.Verifying.{Node, frame_at, Fits, IsFrameBelow}
 use Rattle.jvm_types.specs.declared.code.Insn.{Insn}
 use Rattle.jvm_types.specs.declared.typing.VType.{VType}
 use Rattle.jvm_types.specs.declared.typing.VType.TheVariants.{Int, Null, Ref, This, New, Top}
-use Rattle.jvm_types.proofs.ShapeOrder.{shape_self, shape_trans}
+use Rattle.jvm_types.proofs.FrameOrder.{frame_self, frame_trans}
 
 -- ---- frames
 
-pub frame_self : (f : Option Shape) → IsFrameBelow f f
+pub frame_self : (f : Option TypeFrame) → IsFrameBelow f f
 frame_self None = tt
-frame_self (Some f) = shape_self f
+frame_self (Some f) = frame_self f
 
-pub frame_trans : (f g h : Option Shape) → IsFrameBelow f g → IsFrameBelow g h → IsFrameBelow f h
+pub frame_trans : (f g h : Option TypeFrame) → IsFrameBelow f g → IsFrameBelow g h → IsFrameBelow f h
 frame_trans None g h a b = tt
 frame_trans (Some f) None h a b = absurd a
 frame_trans (Some f) (Some g) None a b = absurd b
-frame_trans (Some f) (Some g) (Some h) a b = shape_trans f g h a b
+frame_trans (Some f) (Some g) (Some h) a b = frame_trans f g h a b
 
 -- ---- nodes
 
@@ -67,7 +67,7 @@ risen_at (x ∷ xs) (y ∷ ys) (suc i) b h e = risen_at xs ys i b h.1 e
 
 -- ---- the frames at their pcs
 
-abbrev pub frames_of : List Node → List (Option Shape)
+abbrev pub frames_of : List Node → List (Option TypeFrame)
 frames_of nodes = map (λ node. node.frame) nodes
 
 frame_at_risen : (code : List Insn) (xs ys : List Node) (pc : ℕ) → AreRisen xs ys → IsFrameBelow (frame_at code (frames_of xs) pc) (frame_at code (frames_of ys) pc)
@@ -82,7 +82,7 @@ frame_at_risen (insn ∷ code) (a ∷ xs) (b ∷ ys) pc h = by_test (insn.pc == 
     by_test false more = more
 
 -- what fits goes on to fit
-pub fits_risen : (code : List Insn) (xs ys : List Node) (f : Shape) (to : ℕ) → AreRisen xs ys → Fits code (frames_of xs) f to → Fits code (frames_of ys) f to
+pub fits_risen : (code : List Insn) (xs ys : List Node) (f : TypeFrame) (to : ℕ) → AreRisen xs ys → Fits code (frames_of xs) f to → Fits code (frames_of ys) f to
 fits_risen code xs ys f to h k = frame_trans (Some f) (frame_at code (frames_of xs) to) (frame_at code (frames_of ys) to) k (frame_at_risen code xs ys to h)
 
 -- ---- equal frames
@@ -112,8 +112,8 @@ same_answers true false e = absurd (cc)
 same_answers false true e = absurd (cc)
 same_answers false false e = refl
 
-pub same_shapes : (f g : Shape) → same_shape f g ≡ true → f ≡ g
-same_shapes f g e =
+pub same_frames : (f g : TypeFrame) → same_frame f g ≡ true → f ≡ g
+same_frames f g e =
     let outer = and_parts (all_pairs same_type f.stack g.stack && all_pairs same_type f.locals g.locals) (same_ready f.ready g.ready) e in
     let inner = and_parts (all_pairs same_type f.stack g.stack) (all_pairs same_type f.locals g.locals) outer.0 in
     λ i. record { stack = same_lists f.stack g.stack inner.0 i; locals = same_lists f.locals g.locals inner.1 i; ready = same_answers f.ready g.ready outer.1 i }

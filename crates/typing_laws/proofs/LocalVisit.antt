@@ -5,8 +5,8 @@ use Rattle.std.specs.List.{AllByRecursion, list_any}
 use Rattle.jvm_types.specs.CodeTable.{row, branches_to, falls_through}
 use Rattle.jvm_types.specs.declared.op_row.OpRow.{OpRow}
 use Rattle.jvm_types.specs.CodeGrammar.{is_start}
-use Rattle.jvm_types.specs.Types.{Shape}
-use Rattle.jvm_types.specs.Verifying.{Node, node_at, broken_before, broken_after, returns_wrongly, falls_off, edges, shape_after, all_brought, clash, covering, handled, unless_broken, unless_clash, gone_on, visited_row, visited_insn, visited, shape_at_handler, Fits, IsSound}
+use Rattle.jvm_types.specs.Types.{TypeFrame}
+use Rattle.jvm_types.specs.Verifying.{Node, node_at, broken_before, broken_after, returns_wrongly, falls_off, edges, frame_after, all_brought, clash, covering, handled, unless_broken, unless_clash, gone_on, visited_row, visited_insn, visited, frame_at_handler, Fits, IsSound}
 use Rattle.jvm_types.specs.declared.code.Insn.{Insn}
 use Rattle.jvm_types.specs.declared.program.MethodInfo.{MethodInfo}
 use Rattle.jvm_types.specs.declared.program.Program.{Program}
@@ -46,14 +46,14 @@ edges_start m insn h e =
 
 -- ---- what fits goes on to fit
 
-pub sound_risen : (m : MethodInfo) (insn : Insn) (r : OpRow) (f : Shape) (xs ys : List Node) → AreRisen xs ys → IsSound m insn r (frames_of xs) f → IsSound m insn r (frames_of ys) f
+pub sound_risen : (m : MethodInfo) (insn : Insn) (r : OpRow) (f : TypeFrame) (xs ys : List Node) → AreRisen xs ys → IsSound m insn r (frames_of xs) f → IsSound m insn r (frames_of ys) f
 sound_risen m insn r f xs ys h s = record {
   before = s.before;
   after = s.after;
-  edges_fit = all_weaker (Fits m.code (frames_of xs) (shape_after m r f)) (Fits m.code (frames_of ys) (shape_after m r f)) (λ to k. fits_risen m.code xs ys (shape_after m r f) to h k) (edges insn) s.edges_fit;
+  edges_fit = all_weaker (Fits m.code (frames_of xs) (frame_after m r f)) (Fits m.code (frames_of ys) (frame_after m r f)) (λ to k. fits_risen m.code xs ys (frame_after m r f) to h k) (edges insn) s.edges_fit;
   rows_hold = s.rows_hold;
-  handlers_fit = all_weaker (λ (handler : Row). Fits m.code (frames_of xs) (shape_at_handler handler f) handler.handler) (λ (handler : Row). Fits m.code (frames_of ys) (shape_at_handler handler f) handler.handler)
-      (λ handler k. fits_risen m.code xs ys (shape_at_handler handler f) handler.handler h k) (covering m insn.pc) s.handlers_fit;
+  handlers_fit = all_weaker (λ (handler : Row). Fits m.code (frames_of xs) (frame_at_handler handler f) handler.handler) (λ (handler : Row). Fits m.code (frames_of ys) (frame_at_handler handler f) handler.handler)
+      (λ handler k. fits_risen m.code xs ys (frame_at_handler handler f) handler.handler h k) (covering m insn.pc) s.handlers_fit;
 }
 
 -- ---- a visit that breaks no rule
@@ -69,10 +69,10 @@ unclashed None more mid e = (refl, e)
 falls_on : (m : MethodInfo) (insn : Insn) → broken_after m insn ≡ None → falls_off m.code insn ≡ false
 falls_on m insn e = (unbroken (falls_off m.code insn) V6 [] (unbroken (returns_wrongly insn.op m.result) V8 ((falls_off m.code insn, V6) ∷ []) e).1).0
 
-module _ (m : MethodInfo) (insn : Insn) (r : OpRow) (f : Shape) (leads : Leads m insn) (b : IsBounded m f) where
+module _ (m : MethodInfo) (insn : Insn) (r : OpRow) (f : TypeFrame) (leads : Leads m insn) (b : IsBounded m f) where
   row_visit : (nodes mid : List Node) → AreBounded m nodes → length nodes ≡ length m.code → visited_row m insn r f nodes ≡ Ok mid → Carries m nodes mid × IsSound m insn r (frames_of mid) f
   row_visit nodes mid c l e =
-      let after : Shape = shape_after m r f in
+      let after : TypeFrame = frame_after m r f in
       let next : List Node = all_brought m.code (edges insn) after nodes in
       let before = held insn.pc (broken_before m insn r f) (gone_on m insn f after nodes) mid e in
       let apart = unclashed (clash m.code (edges insn) (length after.stack) nodes) (unless_broken insn.pc (broken_after m insn) (handled m insn.pc f (covering m insn.pc) next)) mid before.1 in
@@ -93,14 +93,14 @@ module _ (m : MethodInfo) (insn : Insn) (r : OpRow) (f : Shape) (leads : Leads m
         },
       )
 
-insn_carries : (p : Program) (m : MethodInfo) (insn : Option Insn) (target : Option Target) (frame : Option Shape) (nodes mid : List Node) → ((x : Insn) → insn ≡ Some x → Leads m x) → IsFrameBounded m frame
+insn_carries : (p : Program) (m : MethodInfo) (insn : Option Insn) (target : Option Target) (frame : Option TypeFrame) (nodes mid : List Node) → ((x : Insn) → insn ≡ Some x → Leads m x) → IsFrameBounded m frame
     → AreBounded m nodes → length nodes ≡ length m.code → visited_insn p m insn target frame nodes ≡ Ok mid → Carries m nodes mid
 insn_carries p m (Some insn) (Some target) (Some f) nodes mid leads b c l e = (row_visit m insn (row p m insn.pc target insn.op) f (leads insn refl) b nodes mid c l e).0
 insn_carries p m insn target frame nodes mid leads b c l e = let same : nodes ≡ mid = cc in
     record { risen = subst (λ (ns : List Node). AreRisen nodes ns) same (all_risen_self nodes); bounded = subst (λ (ns : List Node). AreBounded m ns) same c }
 
 -- what a visit of an instruction with a frame is
-as_row : (p : Program) (m : MethodInfo) (insn : Option Insn) (target : Option Target) (frame : Option Shape) (nodes mid : List Node) (x : Insn) (t : Target) (f : Shape) → insn ≡ Some x → target ≡ Some t → frame ≡ Some f
+as_row : (p : Program) (m : MethodInfo) (insn : Option Insn) (target : Option Target) (frame : Option TypeFrame) (nodes mid : List Node) (x : Insn) (t : Target) (f : TypeFrame) → insn ≡ Some x → target ≡ Some t → frame ≡ Some f
     → visited_insn p m insn target frame nodes ≡ Ok mid → visited_row m x (row p m x.pc t x.op) f nodes ≡ Ok mid
 as_row p m insn target frame nodes mid x t f c d g e = rw (c, d, g) at e
 
@@ -113,7 +113,7 @@ cleared nodes i = slice_set nodes i (record (node_at nodes i) { waits = false })
 pub cleared_frames : (nodes : List Node) (i : ℕ) → frames_of (cleared nodes i) ≡ frames_of nodes
 cleared_frames [] i = refl
 cleared_frames (node ∷ nodes) zero = refl
-cleared_frames (node ∷ nodes) (suc i) = ap (λ (fs : List (Option Shape)). node.frame ∷ fs) (cleared_frames nodes i)
+cleared_frames (node ∷ nodes) (suc i) = ap (λ (fs : List (Option TypeFrame)). node.frame ∷ fs) (cleared_frames nodes i)
 
 node_bounded : (m : MethodInfo) (nodes : List Node) (i : ℕ) → AreBounded m nodes → IsFrameBounded m (node_at nodes i).frame
 node_bounded m [] i c = tt
@@ -122,7 +122,7 @@ node_bounded m (node ∷ nodes) (suc i) c = node_bounded m nodes i c.1
 
 module _ (p : Program) (m : MethodInfo) (nodes mid : List Node) (i : ℕ) (leads : (x : Insn) → slice_get m.code i ≡ Some x → Leads m x) (bounded : AreBounded m nodes) (long : length nodes ≡ length m.code) (made : visited p m i nodes ≡ Ok mid) where
   still_bounded : AreBounded m (cleared nodes i)
-  still_bounded = subst (λ (fs : List (Option Shape)). AllByRecursion (IsFrameBounded m) fs) (sym (cleared_frames nodes i)) bounded
+  still_bounded = subst (λ (fs : List (Option TypeFrame)). AllByRecursion (IsFrameBounded m) fs) (sym (cleared_frames nodes i)) bounded
 
   still_long : length (cleared nodes i) ≡ length m.code
   still_long = length-set _ _ _ ∙ long
@@ -130,10 +130,10 @@ module _ (p : Program) (m : MethodInfo) (nodes mid : List Node) (i : ℕ) (leads
   pub visit_carries : Carries m (cleared nodes i) mid
   visit_carries = insn_carries p m (slice_get m.code i) (slice_get m.targets i) (node_at nodes i).frame (cleared nodes i) mid leads (node_bounded m nodes i bounded) still_bounded still_long made
 
-  pub visit_sound : (insn : Insn) (target : Target) (f : Shape) → slice_get m.code i ≡ Some insn → slice_get m.targets i ≡ Some target → (node_at nodes i).frame ≡ Some f
+  pub visit_sound : (insn : Insn) (target : Target) (f : TypeFrame) → slice_get m.code i ≡ Some insn → slice_get m.targets i ≡ Some target → (node_at nodes i).frame ≡ Some f
       → IsSound m insn (row p m insn.pc target insn.op) (frames_of mid) f
   visit_sound insn target f c t e =
-      let bound : IsBounded m f = subst (λ (frame : Option Shape). IsFrameBounded m frame) e (node_bounded m nodes i bounded) in
+      let bound : IsBounded m f = subst (λ (frame : Option TypeFrame). IsFrameBounded m frame) e (node_bounded m nodes i bounded) in
       let visit : visited_row m insn (row p m insn.pc target insn.op) f (cleared nodes i) ≡ Ok mid =
       as_row p m (slice_get m.code i) (slice_get m.targets i) (node_at nodes i).frame (cleared nodes i) mid insn target f c t e made in
       (row_visit m insn (row p m insn.pc target insn.op) f (leads insn c) bound (cleared nodes i) mid still_bounded still_long visit).1

@@ -5,8 +5,8 @@ use Rattle.std.specs.List.{AllByRecursion, list_any, filter}
 use Rattle.std.proofs.lemmas.Bool.{and_parts, cases_lt, eqb-true, le-leb, or_left, or_parts, or_right}
 use Rattle.jvm_types.specs.Numbers.{has_number}
 use Rattle.jvm_types.specs.CodeTable.{row, branches_to, falls_through}
-use Rattle.jvm_types.specs.Types.{Shape, is_below, all_pairs, is_new, is_uninitialised}
-use Rattle.jvm_types.specs.Verifying.{broken_before, some_operand, misuses, is_return, shape_after, shape_at_handler, covers}
+use Rattle.jvm_types.specs.Types.{TypeFrame, is_below, all_pairs, is_new, is_uninitialised}
+use Rattle.jvm_types.specs.Verifying.{broken_before, some_operand, misuses, is_return, frame_after, frame_at_handler, covers}
 use Rattle.jvm_types.specs.declared.code.Insn.{Insn}
 use Rattle.jvm_types.specs.declared.code.Op.{Op}
 use Rattle.jvm_types.specs.declared.code.Op.TheVariants as ops
@@ -17,9 +17,9 @@ use Rattle.jvm_types.specs.declared.program.Row.{Row}
 use Rattle.jvm_types.specs.declared.program.MethodInfo.{MethodInfo}
 use Rattle.jvm_types.specs.declared.program.Program.{Program}
 use Rattle.jvm_types.proofs.EachAfter.{all_append}
-use Rattle.jvm_types.proofs.ShapeOrder.{stack_below, locals_below}
+use Rattle.jvm_types.proofs.FrameOrder.{stack_below, locals_below}
 use Rattle.typing_laws.proofs.LocalEdges.{picks}
-use Rattle.typing_laws.proofs.RowsKeep.{IsFine, IsFineWrite, shape_fine, row_fine}
+use Rattle.typing_laws.proofs.RowsKeep.{IsFine, IsFineWrite, frame_fine, row_fine}
 use Rattle.typing_laws.proofs.RuleUses.{hold}
 use Rattle.typing_laws.specs.NewLaws.{IsBehind, AreBehind, NewStaysBehind, BehindRises}
 
@@ -76,11 +76,11 @@ and_false true y e h = e
 and_false false y e h = absurd (let bad : false ≡ true = h in cc)
 
 -- the cases of V7
-record AreSpared (m : MethodInfo) (insn : Insn) (f : Shape) : Type 0 where
+record AreSpared (m : MethodInfo) (insn : Insn) (f : TypeFrame) : Type 0 where
   branches : (list_any (λ to. nat_le to insn.pc) (branches_to insn.op) && (list_any is_uninitialised f.stack || list_any is_uninitialised f.locals)) ≡ false
   handlers : (list_any (covers insn.pc) m.rows && list_any is_new f.locals) ≡ false
 
-spared : (p : Program) (m : MethodInfo) (insn : Insn) (target : Target) (f : Shape) → broken_before m insn (row p m insn.pc target insn.op) f ≡ None → AreSpared m insn f
+spared : (p : Program) (m : MethodInfo) (insn : Insn) (target : Target) (f : TypeFrame) → broken_before m insn (row p m insn.pc target insn.op) f ≡ None → AreSpared m insn f
 spared p m insn target f e =
     let r = row p m insn.pc target insn.op in
     let a = list_any (λ to. nat_le to insn.pc) (branches_to insn.op) && (list_any is_uninitialised f.stack || list_any is_uninitialised f.locals) in
@@ -114,32 +114,32 @@ reaches_back pc (t ∷ tos) to b l = by_test (t == to) refl b (λ h. reaches_bac
     by_test true e h more = or_left (nat_le t pc) (list_any (λ u. nat_le u pc) tos) (le-leb t pc (omega (arith, l, eqb-true t to e)))
     by_test false e h more = or_right (nat_le t pc) (list_any (λ u. nat_le u pc) tos) (more h)
 
-module _ (p : Program) (m : MethodInfo) (insn : Insn) (target : Target) (f : Shape) (ok : broken_before m insn (row p m insn.pc target insn.op) f ≡ None) (a : AreBehind insn.pc f) where
-  after_all : AreBehind (suc insn.pc) (shape_after m (row p m insn.pc target insn.op) f)
+module _ (p : Program) (m : MethodInfo) (insn : Insn) (target : Target) (f : TypeFrame) (ok : broken_before m insn (row p m insn.pc target insn.op) f ≡ None) (a : AreBehind insn.pc f) where
+  after_all : AreBehind (suc insn.pc) (frame_after m (row p m insn.pc target insn.op) f)
   after_all =
       let fine = row_fine (IsBehind (suc insn.pc)) tt tt tt (λ c. tt) p m insn.pc (omega arith) target insn.op in
-      let h = shape_fine (IsBehind (suc insn.pc)) tt (λ c. tt) m (row p m insn.pc target insn.op) f fine.0 fine.1 (rises insn.pc (suc insn.pc) (omega arith) f.stack a.stack) (rises insn.pc (suc insn.pc) (omega arith) f.locals a.locals) in
+      let h = frame_fine (IsBehind (suc insn.pc)) tt (λ c. tt) m (row p m insn.pc target insn.op) f fine.0 fine.1 (rises insn.pc (suc insn.pc) (omega arith) f.stack a.stack) (rises insn.pc (suc insn.pc) (omega arith) f.locals a.locals) in
       record { stack = h.0; locals = h.1 }
 
-  after_branch : (to : ℕ) → has_number (branches_to insn.op) to ≡ true → AreBehind to (shape_after m (row p m insn.pc target insn.op) f)
+  after_branch : (to : ℕ) → has_number (branches_to insn.op) to ≡ true → AreBehind to (frame_after m (row p m insn.pc target insn.op) f)
   after_branch to b = ⊎_elim
-      (λ (l : insn.pc < to). record { stack = rises (suc insn.pc) to l (shape_after m (row p m insn.pc target insn.op) f).stack after_all.stack; locals = rises (suc insn.pc) to l (shape_after m (row p m insn.pc target insn.op) f).locals after_all.locals })
+      (λ (l : insn.pc < to). record { stack = rises (suc insn.pc) to l (frame_after m (row p m insn.pc target insn.op) f).stack after_all.stack; locals = rises (suc insn.pc) to l (frame_after m (row p m insn.pc target insn.op) f).locals after_all.locals })
       (λ (l : to ≤ insn.pc). back (reaches_back insn.pc (branches_to insn.op) to b l))
       (cases_lt insn.pc to)
     where
-      back : list_any (λ t. nat_le t insn.pc) (branches_to insn.op) ≡ true → AreBehind to (shape_after m (row p m insn.pc target insn.op) f)
+      back : list_any (λ t. nat_le t insn.pc) (branches_to insn.op) ≡ true → AreBehind to (frame_after m (row p m insn.pc target insn.op) f)
       back e =
           let none = or_parts (list_any is_uninitialised f.stack) (list_any is_uninitialised f.locals) (and_false (list_any (λ t. nat_le t insn.pc) (branches_to insn.op)) (list_any is_uninitialised f.stack || list_any is_uninitialised f.locals) (spared p m insn target f ok).branches e) in
           let fine = branch_fine IsNoNew refl p m insn.pc target insn.op to b in
-          let h = shape_fine IsNoNew refl (λ c. refl) m (row p m insn.pc target insn.op) f fine.0 fine.1 (weaker f.stack (none_of is_uninitialised f.stack none.0)) (weaker f.locals (none_of is_uninitialised f.locals none.1)) in
-          record { stack = none_behind to (shape_after m (row p m insn.pc target insn.op) f).stack h.0; locals = none_behind to (shape_after m (row p m insn.pc target insn.op) f).locals h.1 }
+          let h = frame_fine IsNoNew refl (λ c. refl) m (row p m insn.pc target insn.op) f fine.0 fine.1 (weaker f.stack (none_of is_uninitialised f.stack none.0)) (weaker f.locals (none_of is_uninitialised f.locals none.1)) in
+          record { stack = none_behind to (frame_after m (row p m insn.pc target insn.op) f).stack h.0; locals = none_behind to (frame_after m (row p m insn.pc target insn.op) f).locals h.1 }
 
-  at_handler : (handler : Row) (to : ℕ) → list_any (covers insn.pc) m.rows ≡ true → AreBehind to (shape_at_handler handler f)
+  at_handler : (handler : Row) (to : ℕ) → list_any (covers insn.pc) m.rows ≡ true → AreBehind to (frame_at_handler handler f)
   at_handler handler to e = record { stack = (tt, tt); locals = none_behind to f.locals (none_of is_new f.locals (and_false (list_any (covers insn.pc) m.rows) (list_any is_new f.locals) (spared p m insn target f ok).handlers e)) }
 
 -- ---- all edges
 
-next_behind : (pc next : ℕ) (falls : Bool) (f : Shape) → pc < next → AreBehind (suc pc) f → AllByRecursion (λ to. AreBehind to f) (if falls then next ∷ [] else [])
+next_behind : (pc next : ℕ) (falls : Bool) (f : TypeFrame) → pc < next → AreBehind (suc pc) f → AllByRecursion (λ to. AreBehind to f) (if falls then next ∷ [] else [])
 next_behind pc next false f h a = tt
 next_behind pc next true f h a = (record { stack = rises (suc pc) next h f.stack a.stack; locals = rises (suc pc) next h f.locals a.locals }, tt)
 
@@ -154,10 +154,10 @@ covering_all P pc (r ∷ rows) h = by_test (covers pc r) refl (covering_all P pc
 
 pub stays_behind : NewStaysBehind
 stays_behind p m insn target f after ok a =
-    let g : Shape = shape_after m (row p m insn.pc target insn.op) f in (
+    let g : TypeFrame = frame_after m (row p m insn.pc target insn.op) f in (
       all_append (λ to. AreBehind to g) (branches_to insn.op) (if falls_through insn.op then insn.next ∷ [] else []) (picks (λ to. AreBehind to g) (branches_to insn.op) (after_branch p m insn target f ok a))
           (next_behind insn.pc insn.next (falls_through insn.op) g after (after_all p m insn target f ok a)),
-      covering_all (λ (handler : Row). AreBehind handler.handler (shape_at_handler handler f)) insn.pc m.rows (λ handler e. at_handler p m insn target f ok a handler handler.handler e),
+      covering_all (λ (handler : Row). AreBehind handler.handler (frame_at_handler handler f)) insn.pc m.rows (λ handler e. at_handler p m insn target f ok a handler handler.handler e),
     )
 
 -- ---- frames that are above

@@ -1,6 +1,6 @@
 -- Visits are determined: from some nodes on they end in one list of nodes, or at one refusal.
 use Rattle.std.proofs.Common.{◌≡◌, ℕ, List, [], ◌∷◌, map, Option, Some, None, Result, Ok, Err, sym, ap, ◌∙◌, subst}
-use Rattle.jvm_types.specs.Types.{Shape}
+use Rattle.jvm_types.specs.Types.{TypeFrame}
 use Rattle.jvm_types.specs.Verifying.{Node, visited, next_visit, Visits, Breaks, HasTyping, IsRefused}
 use Rattle.jvm_types.specs.declared.program.MethodInfo.{MethodInfo}
 use Rattle.jvm_types.specs.declared.program.Program.{Program}
@@ -66,10 +66,10 @@ one_break p m nodes (i ∷ h ∷ is) (j ∷ k ∷ js) fault other a b =
 
 -- ---- the answers
 
-pub one_typing : (p : Program) (m : MethodInfo) (f g : List (Option Shape)) → HasTyping p m f → HasTyping p m g → f ≡ g
+pub one_typing : (p : Program) (m : MethodInfo) (f g : List (Option TypeFrame)) → HasTyping p m f → HasTyping p m g → f ≡ g
 one_typing p m f g v w = v.are ∙ ap (map (λ (node : Node). node.frame)) (one_last p m _ v.last w.last v.visits w.visits v.made w.made) ∙ sym w.are
 
-pub no_refusal : (p : Program) (m : MethodInfo) (f : List (Option Shape)) (rule : VRule) (pc : ℕ) → HasTyping p m f → IsRefused p m rule pc → ⊥
+pub no_refusal : (p : Program) (m : MethodInfo) (f : List (Option TypeFrame)) (rule : VRule) (pc : ℕ) → HasTyping p m f → IsRefused p m rule pc → ⊥
 no_refusal p m f rule pc v b = none_breaks p m _ v.last v.visits b.visits (rule, pc) v.made b.broken
 
 pub one_refusal : (p : Program) (m : MethodInfo) (rule other : VRule) (pc at : ℕ) → IsRefused p m rule pc → IsRefused p m other at → (rule ≡ other) × (pc ≡ at)

@@ -8,8 +8,8 @@ use Rattle.jvm_types.specs.CodeTable.{type_of, row, constant_row, get_static_row
 use Rattle.jvm_types.specs.declared.op_row.Given.{Given}
 use Rattle.jvm_types.specs.declared.op_row.Given.TheVariants.{Fresh, Taken, Local}
 use Rattle.jvm_types.specs.declared.op_row.OpRow.{OpRow}
-use Rattle.jvm_types.specs.Types.{Shape, same_type}
-use Rattle.jvm_types.specs.Verifying.{shape_after, after_start, started, initialised}
+use Rattle.jvm_types.specs.Types.{TypeFrame, same_type}
+use Rattle.jvm_types.specs.Verifying.{frame_after, after_start, started, initialised}
 use Rattle.jvm_types.specs.declared.code.Op.{Op}
 use Rattle.jvm_types.specs.declared.code.Op.TheVariants as ops
 use Rattle.jvm_types.specs.declared.program.FieldInfo.{FieldInfo}
@@ -72,13 +72,13 @@ module _ (P : VType → Type 0) (top : P Top) where
       one true = refs class
       one false = a.0
 
-  after_fine : ((c : ℕ) → P (Ref c)) → (o : Option (VType × ℕ)) (f : Shape) → AllByRecursion P f.stack → AllByRecursion P f.locals → AllByRecursion P (after_start o f).stack × AllByRecursion P (after_start o f).locals
+  after_fine : ((c : ℕ) → P (Ref c)) → (o : Option (VType × ℕ)) (f : TypeFrame) → AllByRecursion P f.stack → AllByRecursion P f.locals → AllByRecursion P (after_start o f).stack × AllByRecursion P (after_start o f).locals
   after_fine refs None f a b = (a, b)
   after_fine refs (Some o) f a b = (all_initialised refs o.0 o.1 f.stack a, all_initialised refs o.0 o.1 f.locals b)
 
-  pub shape_fine : ((c : ℕ) → P (Ref c)) → (m : MethodInfo) (r : OpRow) (f : Shape) → AllByRecursion IsFine r.gives → IsFineWrite r.writes → AllByRecursion P f.stack → AllByRecursion P f.locals
-      → AllByRecursion P (shape_after m r f).stack × AllByRecursion P (shape_after m r f).locals
-  shape_fine refs m r f g w a b = after_fine refs (started m.class r.takes f.stack) (record { stack = stack_after Top (λ t. t) r f.stack f.locals; locals = locals_after Top (λ t. t) r.writes f.stack f.locals; ready = f.ready })
+  pub frame_fine : ((c : ℕ) → P (Ref c)) → (m : MethodInfo) (r : OpRow) (f : TypeFrame) → AllByRecursion IsFine r.gives → IsFineWrite r.writes → AllByRecursion P f.stack → AllByRecursion P f.locals
+      → AllByRecursion P (frame_after m r f).stack × AllByRecursion P (frame_after m r f).locals
+  frame_fine refs m r f g w a b = after_fine refs (started m.class r.takes f.stack) (record { stack = stack_after Top (λ t. t) r f.stack f.locals; locals = locals_after Top (λ t. t) r.writes f.stack f.locals; ready = f.ready })
       (all_append (map (value_of Top (λ t. t) f.stack f.locals) r.gives) (drop (length r.takes) f.stack) (values_fine f.stack f.locals r.gives g a b) (all_drop (length r.takes) f.stack a))
       (locals_fine r.writes f.stack f.locals w a b)
 

@@ -8,7 +8,7 @@ use Rattle.jvm_types.specs.CodeTable.{type_of, want_of, arguments, returned, row
 use Rattle.jvm_types.specs.declared.op_row.Want.{Want}
 use Rattle.jvm_types.specs.declared.op_row.Want.TheVariants.{AnInt}
 use Rattle.jvm_types.specs.declared.op_row.OpRow.{OpRow}
-use Rattle.jvm_types.specs.Types.{Shape, is_below, all_pairs}
+use Rattle.jvm_types.specs.Types.{TypeFrame, is_below, all_pairs}
 use Rattle.jvm_types.specs.Verifying.{takes_too_many, gives_too_many, lacks_locals, misuses_object, mistypes, misuses, suits, some_taken, some_read, at_local, some_operand, names_no_local, returns_wrongly, falls_off}
 use Rattle.jvm_types.specs.declared.code.Insn.{Insn}
 use Rattle.jvm_types.specs.declared.code.Op.{Op}
@@ -39,12 +39,12 @@ operands_free : (a b c d : Bool) → (a || b || c || d) ≡ false → a ≡ fals
 operands_free true b c d h = absurd (cc)
 operands_free false b c d h = refl
 
-pub unmisused : (m : MethodInfo) (insn : Insn) (r : OpRow) (f : Shape) → RulesHold m insn r f → some_operand (misuses m) r f ≡ false
+pub unmisused : (m : MethodInfo) (insn : Insn) (r : OpRow) (f : TypeFrame) → RulesHold m insn r f → some_operand (misuses m) r f ≡ false
 unmisused m insn r f rules = operands_free _ _ _ _ rules.objects
 
 -- ---- values that are taken
 
-tall : (r : OpRow) (f : Shape) → takes_too_many r f ≡ false → length r.takes ≤ length f.stack
+tall : (r : OpRow) (f : TypeFrame) → takes_too_many r f ≡ false → length r.takes ≤ length f.stack
 tall r f e = at_least (length f.stack) (length r.takes) e
   where
     at_least : (m n : ℕ) → nat_lt m n ≡ false → n ≤ m
@@ -67,7 +67,7 @@ taken_fine fault (w ∷ wants) (u ∷ ts) zero want t h e f =
 taken_fine fault (w ∷ wants) (u ∷ ts) (suc k) want t h e f = taken_fine fault wants ts k want t (or_parts (fault w u) (some_taken fault wants ts) h).1 e f
 
 -- the values that are taken are without a fault where the operands are
-some_taken_free : (fault : Want → VType → Bool) (r : OpRow) (f : Shape) → some_operand fault r f ≡ false → some_taken fault r.takes f.stack ≡ false
+some_taken_free : (fault : Want → VType → Bool) (r : OpRow) (f : TypeFrame) → some_operand fault r f ≡ false → some_taken fault r.takes f.stack ≡ false
 some_taken_free fault r f e = (or_parts (some_taken fault r.takes f.stack) (some_read fault r.reads f.locals) e).0
 
 pub taken_good : TakenAreGood
@@ -169,12 +169,12 @@ no_result : (o : Option Kind) → returns_wrongly ops.Return o ≡ false → o �
 no_result None e = refl
 no_result (Some kind) e = absurd (cc)
 
-top_suits : (m : MethodInfo) (insn : Insn) (r : OpRow) (f : Shape) (want : Want) → RulesHold m insn r f → r.takes ≡ want ∷ [] → (kind : Kind) × (m.result ≡ Some kind) × (want_of kind ≡ want) → ReturnsTop m f.stack
+top_suits : (m : MethodInfo) (insn : Insn) (r : OpRow) (f : TypeFrame) (want : Want) → RulesHold m insn r f → r.takes ≡ want ∷ [] → (kind : Kind) × (m.result ≡ Some kind) × (want_of kind ≡ want) → ReturnsTop m f.stack
 top_suits m insn r f want rules e k =
     let at = taken_good m insn r f 0 want rules (ap (λ (ws : List Want). slice_get ws 0) e) in
     record { kind = k.0; type = at.0; described = k.1; top = at.1; fits = kind_suits m k.0 at.0 (ap (λ (w : Want). suits m w at.0) k.2 ∙ at.2.0) }
 
-by_op : (p : Program) (m : MethodInfo) (pc next : ℕ) (target : Target) (f : Shape) (op : Op) → RulesHold m (record { pc = pc; next = next; op = op }) (row p m pc target op) f
+by_op : (p : Program) (m : MethodInfo) (pc next : ℕ) (target : Target) (f : TypeFrame) (op : Op) → RulesHold m (record { pc = pc; next = next; op = op }) (row p m pc target op) f
     → returns_wrongly op m.result ≡ false → ReturnsWell m op f.stack
 by_op p m pc next target f ops.Return rules e = no_result m.result e
 by_op p m pc next target f ops.Ireturn rules e = top_suits m (record { pc = pc; next = next; op = ops.Ireturn }) (row p m pc target ops.Ireturn) f AnInt rules refl (int_result m.result e)

@@ -8,8 +8,8 @@ use Rattle.std.proofs.lemmas.List.{length-append, length-drop, length-map, lengt
 use Rattle.jvm_types.specs.CodeTable.{value_of, row, stack_after, locals_after}
 use Rattle.jvm_types.specs.declared.op_row.Given.{Given}
 use Rattle.jvm_types.specs.declared.op_row.OpRow.{OpRow}
-use Rattle.jvm_types.specs.Types.{Shape, meet_shapes, same_shape, entry_shape}
-use Rattle.jvm_types.specs.Verifying.{Node, node_at, first_nodes, node_joined, brought, all_brought, clash, shape_at_handler, catch_fault, unless_caught, handled, unless_broken, unless_clash, covering, edges, takes_too_many, gives_too_many, broken_before, broken_after, started, initialised, after_start, shape_after, gone_on, visited_row, visited_insn, visited, waiting_from, next_visit, IsLaidOut}
+use Rattle.jvm_types.specs.Types.{TypeFrame, meet_frames, same_frame, entry_frame}
+use Rattle.jvm_types.specs.Verifying.{Node, node_at, first_nodes, node_met, brought, all_brought, clash, frame_at_handler, catch_fault, unless_caught, handled, unless_broken, unless_clash, covering, edges, takes_too_many, gives_too_many, broken_before, broken_after, started, initialised, after_start, frame_after, gone_on, visited_row, visited_insn, visited, waiting_from, next_visit, IsLaidOut}
 use Rattle.jvm_types.specs.declared.code.Insn.{Insn}
 use Rattle.jvm_types.specs.declared.typing.VType.{VType}
 use Rattle.jvm_types.specs.declared.typing.VType.TheVariants.{Top}
@@ -19,16 +19,16 @@ use Rattle.jvm_types.specs.declared.program.MethodInfo.{MethodInfo}
 use Rattle.jvm_types.specs.declared.program.Program.{Program}
 use Rattle.jvm_types.specs.declared.refusal.VRule.{VRule}
 use Rattle.jvm_types.specs.declared.refusal.VRule.TheVariants.{V1, V2}
-use Rattle.typing_laws.proofs.VisitsEndRanks.{Falls, shape_rank, shape_falls, shape_small, meets_short}
+use Rattle.typing_laws.proofs.VisitsEndRanks.{Falls, types_rank, frame_falls, frame_small, meets_short}
 
 -- ---- bounds on the frames
 
 -- a stack of at most max_stack, and no more locals than the entry frame has
-pub record IsWithin (m : MethodInfo) (f : Shape) : Type 0 where
+pub record IsWithin (m : MethodInfo) (f : TypeFrame) : Type 0 where
   pub stack : length f.stack ≤ m.max_stack
-  pub locals : length f.locals ≤ length (entry_shape m).locals
+  pub locals : length f.locals ≤ length (entry_frame m).locals
 
-abbrev pub IsFrameKept : MethodInfo → Option Shape → Type 0
+abbrev pub IsFrameKept : MethodInfo → Option TypeFrame → Type 0
 IsFrameKept m None = Unit {0}
 IsFrameKept m (Some f) = IsWithin m f
 
@@ -38,15 +38,15 @@ pub record IsKept (m : MethodInfo) (nodes : List Node) : Type 0 where
 -- ---- the work that is left
 
 -- what is counted of one instruction: a frame twice, so that it may begin to wait where it goes down
-frame_rank : MethodInfo → Option Shape → ℕ
-frame_rank m None = 7 * (m.max_stack + length (entry_shape m).locals) + 2
-frame_rank m (Some f) = shape_rank f
+frame_rank : MethodInfo → Option TypeFrame → ℕ
+frame_rank m None = 7 * (m.max_stack + length (entry_frame m).locals) + 2
+frame_rank m (Some f) = types_rank f
 
 flag : Bool → ℕ
 flag true = 1
 flag false = 0
 
-weight : MethodInfo → Option Shape → Bool → ℕ
+weight : MethodInfo → Option TypeFrame → Bool → ℕ
 weight m frame waits = 2 * frame_rank m frame + flag waits
 
 pub work : MethodInfo → List Node → ℕ
@@ -60,31 +60,31 @@ record Lowers (m : MethodInfo) (nodes mid : List Node) : Type 0 where
   kept : IsKept m mid
   less : work m mid ≤ work m nodes
 
-meet_within : (m : MethodInfo) (g f : Shape) → IsWithin m g → IsWithin m (meet_shapes g f)
+meet_within : (m : MethodInfo) (g f : TypeFrame) → IsWithin m g → IsWithin m (meet_frames g f)
 meet_within m g f h = record { stack = omega (arith, h.stack, meets_short g.stack f.stack); locals = omega (arith, h.locals, meets_short g.locals f.locals) }
 
-within_rank : (m : MethodInfo) (f : Shape) → IsWithin m f → frame_rank m (Some f) < frame_rank m None
+within_rank : (m : MethodInfo) (f : TypeFrame) → IsWithin m f → frame_rank m (Some f) < frame_rank m None
 unfolding frame_rank
-within_rank m f h = omega (arith, shape_small f (m.max_stack + length (entry_shape m).locals) (omega (arith, h.stack, h.locals)))
+within_rank m f h = omega (arith, frame_small f (m.max_stack + length (entry_frame m).locals) (omega (arith, h.stack, h.locals)))
 
-first_weight : (m : MethodInfo) (f : Shape) (waits : Bool) → IsWithin m f → weight m (Some f) true ≤ weight m None waits
+first_weight : (m : MethodInfo) (f : TypeFrame) (waits : Bool) → IsWithin m f → weight m (Some f) true ≤ weight m None waits
 unfolding weight flag
 first_weight m f waits h = omega (arith, within_rank m f h)
 
-again_weight : (m : MethodInfo) (g h : Shape) (same waits : Bool) → Falls same (shape_rank h) (shape_rank g) → weight m (Some h) (waits || not same) ≤ weight m (Some g) waits
+again_weight : (m : MethodInfo) (g h : TypeFrame) (same waits : Bool) → Falls same (types_rank h) (types_rank g) → weight m (Some h) (waits || not same) ≤ weight m (Some g) waits
 unfolding weight flag frame_rank
 again_weight m g h true true falls = omega (arith, falls)
 again_weight m g h true false falls = omega (arith, falls)
 again_weight m g h false true falls = omega (arith, falls)
 again_weight m g h false false falls = omega (arith, falls)
 
-joined_within : (m : MethodInfo) (node : Node) (o : Option Shape) (f : Shape) → IsFrameKept m o → IsWithin m f → IsFrameKept m (node_joined node o f).frame
+joined_within : (m : MethodInfo) (node : Node) (o : Option TypeFrame) (f : TypeFrame) → IsFrameKept m o → IsWithin m f → IsFrameKept m (node_met node o f).frame
 joined_within m node None f g h = h
 joined_within m node (Some g) f k h = meet_within m g f k
 
-joined_weight : (m : MethodInfo) (node : Node) (o : Option Shape) (f : Shape) → IsWithin m f → weight m (node_joined node o f).frame (node_joined node o f).waits ≤ weight m o node.waits
+joined_weight : (m : MethodInfo) (node : Node) (o : Option TypeFrame) (f : TypeFrame) → IsWithin m f → weight m (node_met node o f).frame (node_met node o f).waits ≤ weight m o node.waits
 joined_weight m node None f h = first_weight m f node.waits h
-joined_weight m node (Some g) f h = again_weight m g (meet_shapes g f) (same_shape g (meet_shapes g f)) node.waits (shape_falls g f)
+joined_weight m node (Some g) f h = again_weight m g (meet_frames g f) (same_frame g (meet_frames g f)) node.waits (frame_falls g f)
 
 -- ---- steps on the nodes
 
@@ -104,16 +104,16 @@ on_others : (m : MethodInfo) (node : Node) (nodes after : List Node) → IsFrame
 unfolding work
 on_others m node nodes after f a = record { kept = record { frames = (f, a.kept.frames) }; less = omega (arith, a.less) }
 
-brought_lowers : (m : MethodInfo) (code : List Insn) (to : ℕ) (f : Shape) (nodes : List Node) → IsWithin m f → IsKept m nodes → Lowers m nodes (brought code to f nodes)
+brought_lowers : (m : MethodInfo) (code : List Insn) (to : ℕ) (f : TypeFrame) (nodes : List Node) → IsWithin m f → IsKept m nodes → Lowers m nodes (brought code to f nodes)
 brought_lowers m [] to f nodes h k = same_nodes m nodes k
 brought_lowers m (insn ∷ insns) to f [] h k = same_nodes m [] k
 brought_lowers m (insn ∷ insns) to f (node ∷ nodes) h k = by_test (insn.pc == to) (brought_lowers m insns to f nodes h (record { frames = k.frames.1 }))
   where
-    by_test : (t : Bool) → Lowers m nodes (brought insns to f nodes) → Lowers m (node ∷ nodes) (if t then node_joined node node.frame f ∷ nodes else node ∷ brought insns to f nodes)
-    by_test true more = on_first m node (node_joined node node.frame f) nodes (joined_within m node node.frame f k.frames.0 h) (joined_weight m node node.frame f h) k
+    by_test : (t : Bool) → Lowers m nodes (brought insns to f nodes) → Lowers m (node ∷ nodes) (if t then node_met node node.frame f ∷ nodes else node ∷ brought insns to f nodes)
+    by_test true more = on_first m node (node_met node node.frame f) nodes (joined_within m node node.frame f k.frames.0 h) (joined_weight m node node.frame f h) k
     by_test false more = on_others m node nodes (brought insns to f nodes) k.frames.0 more
 
-all_brought_lowers : (m : MethodInfo) (code : List Insn) (tos : List ℕ) (f : Shape) (nodes : List Node) → IsWithin m f → IsKept m nodes → Lowers m nodes (all_brought code tos f nodes)
+all_brought_lowers : (m : MethodInfo) (code : List Insn) (tos : List ℕ) (f : TypeFrame) (nodes : List Node) → IsWithin m f → IsKept m nodes → Lowers m nodes (all_brought code tos f nodes)
 all_brought_lowers m code [] f nodes h k = same_nodes m nodes k
 all_brought_lowers m code (to ∷ tos) f nodes h k =
     let first = brought_lowers m code to f nodes h k in
@@ -143,10 +143,10 @@ room_at_handler m pc handler e = by_test (m.max_stack == 0) (V2, pc) _ refl e
     by_test true fault more f g = absurd (cc)
     by_test false fault more f g = grind (arith, nat_tests, f)
 
-handler_within : (m : MethodInfo) (handler : Row) (f : Shape) → 1 ≤ m.max_stack → IsWithin m f → IsWithin m (shape_at_handler handler f)
+handler_within : (m : MethodInfo) (handler : Row) (f : TypeFrame) → 1 ≤ m.max_stack → IsWithin m f → IsWithin m (frame_at_handler handler f)
 handler_within m handler f room h = record { stack = omega (arith, room); locals = h.locals }
 
-room_after : (m : MethodInfo) (insn : Insn) (r : OpRow) (f : Shape) → broken_before m insn r f ≡ None → length f.stack - length r.takes + length r.gives ≤ m.max_stack
+room_after : (m : MethodInfo) (insn : Insn) (r : OpRow) (f : TypeFrame) → broken_before m insn r f ≡ None → length f.stack - length r.takes + length r.gives ≤ m.max_stack
 room_after m insn r f e =
     let fits : gives_too_many m r f ≡ false = second_test (takes_too_many r f) (gives_too_many m r f) _ e in
     grind (arith, nat_tests, fits)
@@ -167,16 +167,16 @@ initialised_length : (t : VType) (class : ℕ) (ts : List VType) → length (ini
 initialised_length t class [] = refl
 initialised_length t class (u ∷ ts) = ap suc (initialised_length t class ts)
 
-started_within : (m : MethodInfo) (object : Option (VType × ℕ)) (f : Shape) → IsWithin m f → IsWithin m (after_start object f)
+started_within : (m : MethodInfo) (object : Option (VType × ℕ)) (f : TypeFrame) → IsWithin m f → IsWithin m (after_start object f)
 started_within m None f h = h
 started_within m (Some object) f h = record {
   stack = omega (arith, h.stack, initialised_length object.0 object.1 f.stack);
   locals = omega (arith, h.locals, initialised_length object.0 object.1 f.locals);
 }
 
-after_within : (m : MethodInfo) (insn : Insn) (r : OpRow) (f : Shape) → broken_before m insn r f ≡ None → IsWithin m f → IsWithin m (shape_after m r f)
+after_within : (m : MethodInfo) (insn : Insn) (r : OpRow) (f : TypeFrame) → broken_before m insn r f ≡ None → IsWithin m f → IsWithin m (frame_after m r f)
 after_within m insn r f e h =
-    let moved : Shape = record { stack = stack_after Top (λ t. t) r f.stack f.locals; locals = locals_after Top (λ t. t) r.writes f.stack f.locals; ready = f.ready } in
+    let moved : TypeFrame = record { stack = stack_after Top (λ t. t) r f.stack f.locals; locals = locals_after Top (λ t. t) r.writes f.stack f.locals; ready = f.ready } in
     started_within m (started m.class r.takes f.stack) moved (record {
       stack = omega (arith, room_after m insn r f e, stack_length r f.stack f.locals);
       locals = omega (arith, h.locals, locals_length r.writes f.stack f.locals);
@@ -184,19 +184,19 @@ after_within m insn r f e h =
 
 -- ---- one visit
 
-handled_lowers : (m : MethodInfo) (pc : ℕ) (f : Shape) (handlers : List Row) (nodes mid : List Node) → IsWithin m f → IsKept m nodes → handled m pc f handlers nodes ≡ Ok mid → Lowers m nodes mid
+handled_lowers : (m : MethodInfo) (pc : ℕ) (f : TypeFrame) (handlers : List Row) (nodes mid : List Node) → IsWithin m f → IsKept m nodes → handled m pc f handlers nodes ≡ Ok mid → Lowers m nodes mid
 handled_lowers m pc f [] nodes mid h k e =
     let same : nodes ≡ mid = cc in
     subst (λ (n : List Node). Lowers m nodes n) same (same_nodes m nodes k)
 handled_lowers m pc f (handler ∷ handlers) nodes mid h k e =
-    let after = brought m.code handler.handler (shape_at_handler handler f) nodes in
+    let after = brought m.code handler.handler (frame_at_handler handler f) nodes in
     let goes_on = unless_caught_ok (catch_fault m pc handler) (clash m.code (handler.handler ∷ []) 1 nodes) (handled m pc f handlers after) mid e in
-    let first = brought_lowers m m.code handler.handler (shape_at_handler handler f) nodes (handler_within m handler f (room_at_handler m pc handler goes_on.0) h) k in
+    let first = brought_lowers m m.code handler.handler (frame_at_handler handler f) nodes (handler_within m handler f (room_at_handler m pc handler goes_on.0) h) k in
     then_lowers m nodes after mid first (handled_lowers m pc f handlers after mid h first.kept goes_on.1)
 
-row_lowers : (m : MethodInfo) (insn : Insn) (r : OpRow) (f : Shape) (nodes mid : List Node) → IsWithin m f → IsKept m nodes → visited_row m insn r f nodes ≡ Ok mid → Lowers m nodes mid
+row_lowers : (m : MethodInfo) (insn : Insn) (r : OpRow) (f : TypeFrame) (nodes mid : List Node) → IsWithin m f → IsKept m nodes → visited_row m insn r f nodes ≡ Ok mid → Lowers m nodes mid
 row_lowers m insn r f nodes mid h k e =
-    let after = shape_after m r f in
+    let after = frame_after m r f in
     let brought_all = all_brought m.code (edges insn) after nodes in
     let before = unless_broken_ok insn.pc (broken_before m insn r f) (gone_on m insn f after nodes) mid e in
     let caught = handled m insn.pc f (covering m insn.pc) brought_all in
@@ -205,7 +205,7 @@ row_lowers m insn r f nodes mid h k e =
     let first = all_brought_lowers m m.code (edges insn) after nodes (after_within m insn r f before.0 h) k in
     then_lowers m nodes brought_all mid first (handled_lowers m insn.pc f (covering m insn.pc) brought_all mid h first.kept rows_go_on.1)
 
-insn_lowers : (p : Program) (m : MethodInfo) (insn : Option Insn) (target : Option Target) (frame : Option Shape) (nodes mid : List Node) → IsFrameKept m frame → IsKept m nodes
+insn_lowers : (p : Program) (m : MethodInfo) (insn : Option Insn) (target : Option Target) (frame : Option TypeFrame) (nodes mid : List Node) → IsFrameKept m frame → IsKept m nodes
     → visited_insn p m insn target frame nodes ≡ Ok mid → Lowers m nodes mid
 insn_lowers p m (Some insn) (Some target) (Some f) nodes mid h k e = row_lowers m insn (row p m insn.pc target insn.op) f nodes mid h k e
 insn_lowers p m insn target frame nodes mid h k e =

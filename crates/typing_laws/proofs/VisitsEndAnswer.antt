@@ -1,7 +1,7 @@
 -- From any nodes whose frames keep to the bounds the visits end, or one of them breaks a rule: by the work that is left.
 use Rattle.std.proofs.Common.{◌≡◌, ℕ, zero, suc, ◌<◌, List, [], ◌∷◌, map, Option, Some, None, Result, Ok, Err, refl, inl, inr, arith}
 use Rattle.std.specs.Prelude.{◌⊎◌}
-use Rattle.jvm_types.specs.Types.{Shape}
+use Rattle.jvm_types.specs.Types.{TypeFrame}
 use Rattle.jvm_types.specs.Verifying.{Node, first_nodes, visited, next_visit, Visits, Breaks, HasTyping, IsRefused, IsLaidOut}
 use Rattle.jvm_types.specs.declared.program.MethodInfo.{MethodInfo}
 use Rattle.jvm_types.specs.declared.program.Program.{Program}
@@ -29,9 +29,9 @@ ends_within (suc n) p m nodes laid k h = by_next (next_visit nodes) refl (λ mid
     by_next None e more = Last [] nodes (e, refl)
     by_next (Some i) e more = by_visit i (visited p m i nodes) e refl more
 
-pub typed_or_refused : (p : Program) (m : MethodInfo) → IsLaidOut m → ((frames : List (Option Shape)) × HasTyping p m frames) ⊎ ((rule : VRule) × (pc : ℕ) × IsRefused p m rule pc)
+pub typed_or_refused : (p : Program) (m : MethodInfo) → IsLaidOut m → ((frames : List (Option TypeFrame)) × HasTyping p m frames) ⊎ ((rule : VRule) × (pc : ℕ) × IsRefused p m rule pc)
 typed_or_refused p m laid = by_end (ends_within (suc (work m (first_nodes m m.code))) p m (first_nodes m m.code) laid (first_kept m laid) (omega arith))
   where
-    by_end : Ends p m (first_nodes m m.code) → ((frames : List (Option Shape)) × HasTyping p m frames) ⊎ ((rule : VRule) × (pc : ℕ) × IsRefused p m rule pc)
+    by_end : Ends p m (first_nodes m m.code) → ((frames : List (Option TypeFrame)) × HasTyping p m frames) ⊎ ((rule : VRule) × (pc : ℕ) × IsRefused p m rule pc)
     by_end (Last visits last made) = inl (map (λ (node : Node). node.frame) last, record { visits = visits; last = last; made = made; are = refl })
     by_end (Broken i visits fault broken) = inr (fault.0, fault.1, record { visits = i ∷ visits; broken = broken })

@@ -5,7 +5,7 @@ use Rattle.std.specs.Prelude.{◌⊎◌, ◌&&◌, ◌==◌, if◌then◌else◌
 use Rattle.std.specs.List.{AllByRecursion}
 use Rattle.std.proofs.lemmas.Bool.Decides.{nat_tests}
 use Rattle.jvm_types.specs.ClassTree.{object_class, super_class, is_subclass, first_above, common_ancestor}
-use Rattle.jvm_types.specs.Types.{Shape, meet, if_same_place, same_type, all_pairs, meets, same_ready, same_shape, meet_shapes}
+use Rattle.jvm_types.specs.Types.{TypeFrame, meet, if_same_place, same_type, all_pairs, meets, same_ready, same_frame, meet_frames}
 use Rattle.jvm_types.specs.declared.typing.VType.{VType}
 use Rattle.jvm_types.specs.declared.typing.VType.TheVariants.{Int, Null, Ref, This, New, Top}
 use Rattle.jvm_types.proofs.TypeOrder.{subclass_object}
@@ -251,12 +251,12 @@ unfolding ready_rank
 ready_small true = omega arith
 ready_small false = omega arith
 
-pub shape_rank : Shape → ℕ
-shape_rank f = ranks f.stack + ranks f.locals + ready_rank f.ready
+pub types_rank : TypeFrame → ℕ
+types_rank f = ranks f.stack + ranks f.locals + ready_rank f.ready
 
-pub shape_falls : (f g : Shape) → Falls (same_shape f (meet_shapes f g)) (shape_rank (meet_shapes f g)) (shape_rank f)
-unfolding shape_rank
-shape_falls f g =
+pub frame_falls : (f g : TypeFrame) → Falls (same_frame f (meet_frames f g)) (types_rank (meet_frames f g)) (types_rank f)
+unfolding types_rank
+frame_falls f g =
     let s = meets f.stack g.stack in
     let l = meets f.locals g.locals in
     let ready = f.ready && g.ready in
@@ -265,9 +265,9 @@ shape_falls f g =
     (ready_falls f.ready g.ready)
 
 -- a frame of few places has no great rank
-pub shape_small : (f : Shape) (places : ℕ) → length f.stack + length f.locals ≤ places → shape_rank f ≤ 7 * places + 1
-unfolding shape_rank
-shape_small f places h = omega (arith, h, ranks_small f.stack, ranks_small f.locals, ready_small f.ready)
+pub frame_small : (f : TypeFrame) (places : ℕ) → length f.stack + length f.locals ≤ places → types_rank f ≤ 7 * places + 1
+unfolding types_rank
+frame_small f places h = omega (arith, h, ranks_small f.stack, ranks_small f.locals, ready_small f.ready)
 
 pub meets_short : (ts us : List VType) → length (meets ts us) ≤ length ts
 meets_short [] us = omega arith

@@ -1,7 +1,7 @@
 -- Laws of the visits of a method (JVMS 4.10.2): the answer is one, and there is one. The order of visits is fixed,
 -- so that a typing and a refusal are known by the method alone.
 use Rattle.std.specs.Prelude.{◌≡◌, ℕ, ◌⊎◌, List, Option}
-use Rattle.jvm_types.specs.Types.{Shape}
+use Rattle.jvm_types.specs.Types.{TypeFrame}
 use Rattle.jvm_types.specs.Verifying.{HasTyping, IsTypingOf, IsRefused, IsLaidOut}
 use Rattle.jvm_types.specs.declared.program.MethodInfo.{MethodInfo}
 use Rattle.jvm_types.specs.declared.program.Program.{Program}
@@ -10,7 +10,7 @@ use Rattle.jvm_types.specs.declared.typing.Typing.{Typing}
 
 -- a method has at most one list of frames
 abbrev pub OneTyping : Type 0
-OneTyping = (p : Program) (m : MethodInfo) (frames others : List (Option Shape)) → HasTyping p m frames → HasTyping p m others → frames ≡ others
+OneTyping = (p : Program) (m : MethodInfo) (frames others : List (Option TypeFrame)) → HasTyping p m frames → HasTyping p m others → frames ≡ others
 
 -- and so at most one typing
 abbrev pub OneTypingOf : Type 0
@@ -18,7 +18,7 @@ OneTypingOf = (p : Program) (m : MethodInfo) (typing other : Typing) → IsTypin
 
 -- no method that has a typing is refused
 abbrev pub TypedNotRefused : Type 0
-TypedNotRefused = (p : Program) (m : MethodInfo) (frames : List (Option Shape)) (rule : VRule) (pc : ℕ) → HasTyping p m frames → IsRefused p m rule pc → ⊥
+TypedNotRefused = (p : Program) (m : MethodInfo) (frames : List (Option TypeFrame)) (rule : VRule) (pc : ℕ) → HasTyping p m frames → IsRefused p m rule pc → ⊥
 
 -- a method is refused by at most one rule, at one pc
 abbrev pub OneRefusal : Type 0
@@ -26,4 +26,4 @@ OneRefusal = (p : Program) (m : MethodInfo) (rule other : VRule) (pc at : ℕ) �
 
 -- the visits end: a method as linking leaves it has a typing, or it is refused
 abbrev pub TypedOrRefused : Type 0
-TypedOrRefused = (p : Program) (m : MethodInfo) → IsLaidOut m → ((frames : List (Option Shape)) × HasTyping p m frames) ⊎ ((rule : VRule) × (pc : ℕ) × IsRefused p m rule pc)
+TypedOrRefused = (p : Program) (m : MethodInfo) → IsLaidOut m → ((frames : List (Option TypeFrame)) × HasTyping p m frames) ⊎ ((rule : VRule) × (pc : ℕ) × IsRefused p m rule pc)

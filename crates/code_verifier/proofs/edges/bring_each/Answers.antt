@@ -1,7 +1,7 @@
 use Rattle.std.proofs.Common.{◌≡◌, ℕ, ◌+◌, ◌<◌, List, [], ◌∷◌, length, drop, None, refl, sym, ap, ◌∙◌}
 use Rattle.std.specs.Prelude.{slice_index_or}
 use Rattle.std.proofs.lemmas.List.{drop_more}
-use Rattle.jvm_types.specs.Types.{Shape}
+use Rattle.jvm_types.specs.Types.{TypeFrame}
 use Rattle.jvm_types.specs.Verifying.{Node, brought, all_brought, clash}
 use Rattle.jvm_types.specs.declared.code.Insn.{Insn}
 use Rattle.code_table.specs.PcTables.{Ascend}
@@ -18,7 +18,7 @@ others_fit : (code : List Insn) (tos : List ℕ) (k depth : ℕ) (nodes : List N
 others_fit code tos k depth nodes a h e = right_none (clash code (slice_index_or tos k 0 ∷ []) depth nodes) (clash code (drop (k + 1) tos) depth nodes)
     (sym (ap (λ l. clash code l depth nodes) (drop_more tos k 0 h) ∙ clash_more 0 code (slice_index_or tos k 0) (drop (k + 1) tos) depth nodes a) ∙ e)
 
-brought_more : (code : List Insn) (tos : List ℕ) (k : ℕ) (f : Shape) (nodes mid whole : List Node) → k < length tos → mid ≡ brought code (slice_index_or tos k 0) f nodes → all_brought code (drop k tos) f nodes ≡ whole
+brought_more : (code : List Insn) (tos : List ℕ) (k : ℕ) (f : TypeFrame) (nodes mid whole : List Node) → k < length tos → mid ≡ brought code (slice_index_or tos k 0) f nodes → all_brought code (drop k tos) f nodes ≡ whole
     → all_brought code (drop (k + 1) tos) f mid ≡ whole
 brought_more code tos k f nodes mid whole h e inv = ap (λ l. all_brought code (drop (k + 1) tos) f l) e ∙ ap (λ l. all_brought code l f nodes) (sym (drop_more tos k 0 h)) ∙ inv
 

@@ -1,8 +1,8 @@
 use Rattle.std.proofs.Common.{◌≡◌, ◌<◌, ℕ, Bool, true, false, not, List, length, Option, Some, None, refl, sym, ap, ◌∙◌}
 use Rattle.std.specs.Prelude.{◌||◌, slice_get, slice_set}
 use Rattle.std.proofs.lemmas.List.{set-set}
-use Rattle.jvm_types.specs.Types.{Shape, same_shape, meet_shapes}
-use Rattle.jvm_types.specs.Verifying.{Node, node_at, node_joined}
+use Rattle.jvm_types.specs.Types.{TypeFrame, same_frame, meet_frames}
+use Rattle.jvm_types.specs.Verifying.{Node, node_at, node_met}
 use Rattle.code_verifier.specs.Waiting.{met, changes}
 use Rattle.code_verifier.proofs.WaitingLaws.{node_at_get, set_here}
 use Rattle.code_verifier.proofs.nodes.Nodes.bring.Goals as goal
@@ -16,18 +16,18 @@ or_false true b e = refl
 or_false false b e = e
 
 -- what an edge does, by whether it changes the frame
-changed_node : (node : Node) (frame : Option Shape) (f : Shape) → changes frame f ≡ true → node_joined node frame f ≡ record { frame = Some (met frame f); waits = true }
+changed_node : (node : Node) (frame : Option TypeFrame) (f : TypeFrame) → changes frame f ≡ true → node_met node frame f ≡ record { frame = Some (met frame f); waits = true }
 changed_node node None f e = refl
-changed_node node (Some g) f e = ap (λ (w : Bool). record { frame = Some (meet_shapes g f); waits = w }) (or_true node.waits (not (same_shape g (meet_shapes g f))) e)
+changed_node node (Some g) f e = ap (λ (w : Bool). record { frame = Some (meet_frames g f); waits = w }) (or_true node.waits (not (same_frame g (meet_frames g f))) e)
 
-same_node : (node : Node) (frame : Option Shape) (f : Shape) → changes frame f ≡ false → node_joined node frame f ≡ record { frame = Some (met frame f); waits = node.waits }
+same_node : (node : Node) (frame : Option TypeFrame) (f : TypeFrame) → changes frame f ≡ false → node_met node frame f ≡ record { frame = Some (met frame f); waits = node.waits }
 same_node node None f e = absurd (cc)
-same_node node (Some g) f e = ap (λ (w : Bool). record { frame = Some (meet_shapes g f); waits = w }) (or_false node.waits (not (same_shape g (meet_shapes g f))) e)
+same_node node (Some g) f e = ap (λ (w : Bool). record { frame = Some (meet_frames g f); waits = w }) (or_false node.waits (not (same_frame g (meet_frames g f))) e)
 
-brought_changed : (nodes mid last : List Node) (i : ℕ) (f : Shape) → i < length nodes
+brought_changed : (nodes mid last : List Node) (i : ℕ) (f : TypeFrame) → i < length nodes
     → mid ≡ slice_set nodes i (record { frame = Some (met (node_at nodes i).frame f); waits = (node_at nodes i).waits })
     → last ≡ slice_set mid i (record { frame = (node_at mid i).frame; waits = true })
-    → changes (node_at nodes i).frame f ≡ true → last ≡ slice_set nodes i (node_joined (node_at nodes i) (node_at nodes i).frame f)
+    → changes (node_at nodes i).frame f ≡ true → last ≡ slice_set nodes i (node_met (node_at nodes i) (node_at nodes i).frame f)
 brought_changed nodes mid last i f h a b e =
     let there_met : Node = record { frame = Some (met (node_at nodes i).frame f); waits = (node_at nodes i).waits } in
     let there : node_at mid i ≡ there_met = node_at_get mid i there_met (ap (λ l. slice_get l i) a ∙ set_here nodes i there_met h) in

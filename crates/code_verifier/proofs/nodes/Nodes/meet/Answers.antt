@@ -1,14 +1,14 @@
 use Rattle.std.proofs.Common.{◌≡◌, ℕ, List, Option, Some, refl, sym, ap, ◌∙◌}
 use Rattle.std.specs.Prelude.{slice_get, slice_set}
 use Rattle.std.proofs.lemmas.Result.{on_ok_weaker}
-use Rattle.jvm_types.specs.Types.{Shape}
+use Rattle.jvm_types.specs.Types.{TypeFrame}
 use Rattle.jvm_types.specs.Verifying.{Node, node_at}
 use Rattle.code_verifier.specs.declared.nodes.StoredNode.{StoredNode}
 use Rattle.code_verifier.specs.Waiting.{node_is, waiting_numbers, met}
 use Rattle.code_verifier.proofs.WaitingLaws.{node_at_get, numbers_same, at_stored, set_stored}
 use Rattle.code_verifier.proofs.nodes.Nodes.meet.Goals as goal
 
-met_node : (nodes : List Node) (i : ℕ) (x : StoredNode) (frame : Option Shape) (f : Shape) → slice_get nodes i ≡ Some (node_is x) → frame ≡ Some (met x.frame f)
+met_node : (nodes : List Node) (i : ℕ) (x : StoredNode) (frame : Option TypeFrame) (f : TypeFrame) → slice_get nodes i ≡ Some (node_is x) → frame ≡ Some (met x.frame f)
     → slice_set nodes i (record { frame = frame; waits = x.waits }) ≡ slice_set nodes i (record { frame = Some (met (node_at nodes i).frame f); waits = (node_at nodes i).waits })
 met_node nodes i x frame f at e = rw (node_at_get nodes i (node_is x) at, e) refl
 

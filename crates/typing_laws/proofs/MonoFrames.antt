@@ -8,8 +8,8 @@ use Rattle.jvm_types.specs.declared.op_row.Want.TheVariants.{AnyValue, AnInt, An
 use Rattle.jvm_types.specs.declared.op_row.Given.{Given}
 use Rattle.jvm_types.specs.declared.op_row.Given.TheVariants.{Fresh, Taken, Local}
 use Rattle.jvm_types.specs.declared.op_row.OpRow.{OpRow}
-use Rattle.jvm_types.specs.Types.{Shape, is_below, is_uninitialised, same_type, all_pairs, shape_below}
-use Rattle.jvm_types.specs.Verifying.{suits, some_taken, started, initialised, after_start, shape_after}
+use Rattle.jvm_types.specs.Types.{TypeFrame, is_below, is_uninitialised, same_type, all_pairs, frame_below}
+use Rattle.jvm_types.specs.Verifying.{suits, some_taken, started, initialised, after_start, frame_after}
 use Rattle.jvm_types.specs.declared.program.MethodInfo.{MethodInfo}
 use Rattle.jvm_types.specs.declared.typing.VType.{VType}
 use Rattle.jvm_types.specs.declared.typing.VType.TheVariants.{Ref, This, Top}
@@ -51,30 +51,30 @@ drop_below (suc n) (t ∷ ts) (u ∷ us) h = drop_below n ts us (tail_below t u 
 
 -- ---- what a row gives
 
-value_below : (f g : Shape) → shape_below f g ≡ true → (given : Given)
+value_below : (f g : TypeFrame) → frame_below f g ≡ true → (given : Given)
     → is_below (value_of Top (λ t. t) f.stack f.locals given) (value_of Top (λ t. t) g.stack g.locals given) ≡ true
 value_below f g h (Fresh type) = below_self type
 value_below f g h (Taken place) = item_below Top f.stack g.stack place (stack_below f g h)
 value_below f g h (Local i) = item_below Top f.locals g.locals i (locals_below f g h)
 
-given_below : (f g : Shape) → shape_below f g ≡ true → (gives : List Given) (ts us : List VType) → all_pairs is_below ts us ≡ true
+given_below : (f g : TypeFrame) → frame_below f g ≡ true → (gives : List Given) (ts us : List VType) → all_pairs is_below ts us ≡ true
     → all_pairs is_below (map (value_of Top (λ t. t) f.stack f.locals) gives ++ ts) (map (value_of Top (λ t. t) g.stack g.locals) gives ++ us) ≡ true
 given_below f g h [] ts us k = k
 given_below f g h (given ∷ gives) ts us k = cons_below (value_of Top (λ t. t) f.stack f.locals given) (value_of Top (λ t. t) g.stack g.locals given)
     (map (value_of Top (λ t. t) f.stack f.locals) gives ++ ts) (map (value_of Top (λ t. t) g.stack g.locals) gives ++ us)
     (value_below f g h given) (given_below f g h gives ts us k)
 
-written_below : (f g : Shape) → shape_below f g ≡ true → (write : Option (ℕ × Given))
+written_below : (f g : TypeFrame) → frame_below f g ≡ true → (write : Option (ℕ × Given))
     → all_pairs is_below (locals_after Top (λ t. t) write f.stack f.locals) (locals_after Top (λ t. t) write g.stack g.locals) ≡ true
 written_below f g h None = locals_below f g h
 written_below f g h (Some write) = set_below (value_of Top (λ t. t) f.stack f.locals write.1) (value_of Top (λ t. t) g.stack g.locals write.1)
     f.locals g.locals write.0 (locals_below f g h) (value_below f g h write.1)
 
 -- the frame that the row makes, before an `<init>` changes its object
-abbrev made : OpRow → Shape → Shape
+abbrev made : OpRow → TypeFrame → TypeFrame
 made r f = record { stack = stack_after Top (λ t. t) r f.stack f.locals; locals = locals_after Top (λ t. t) r.writes f.stack f.locals; ready = f.ready }
 
-made_below : (r : OpRow) (f g : Shape) → shape_below f g ≡ true → shape_below (made r f) (made r g) ≡ true
+made_below : (r : OpRow) (f g : TypeFrame) → frame_below f g ≡ true → frame_below (made r f) (made r g) ≡ true
 made_below r f g h = parts_below (made r f) (made r g)
     (given_below f g h r.gives (drop (length r.takes) f.stack) (drop (length r.takes) g.stack) (drop_below (length r.takes) f.stack g.stack (stack_below f g h)))
     (written_below f g h r.writes) (ready_below f g h)
@@ -145,7 +145,7 @@ ready_both false true c h = absurd (cc)
 ready_both false false true h = refl
 ready_both false false false h = refl
 
-start_below : (o : Option (VType × ℕ)) (f g : Shape) → IsUnstarted o → shape_below f g ≡ true → shape_below (after_start o f) (after_start o g) ≡ true
+start_below : (o : Option (VType × ℕ)) (f g : TypeFrame) → IsUnstarted o → frame_below f g ≡ true → frame_below (after_start o f) (after_start o g) ≡ true
 start_below None f g e h = h
 start_below (Some object) f g e h = parts_below (after_start (Some object) f) (after_start (Some object) g)
     (initialised_below object.0 object.1 e f.stack g.stack (stack_below f g h)) (initialised_below object.0 object.1 e f.locals g.locals (locals_below f g h))
@@ -153,8 +153,8 @@ start_below (Some object) f g e h = parts_below (after_start (Some object) f) (a
 
 -- ---- the frame after an instruction
 
-pub after_below : (m : MethodInfo) (r : OpRow) (f g : Shape) → shape_below f g ≡ true → some_taken (mismatch m) r.takes g.stack ≡ false
-    → shape_below (shape_after m r f) (shape_after m r g) ≡ true
-after_below m r f g h k = subst (λ (o : Option (VType × ℕ)). shape_below (after_start o (made r f)) (after_start (started m.class r.takes g.stack) (made r g)) ≡ true)
+pub after_below : (m : MethodInfo) (r : OpRow) (f g : TypeFrame) → frame_below f g ≡ true → some_taken (mismatch m) r.takes g.stack ≡ false
+    → frame_below (frame_after m r f) (frame_after m r g) ≡ true
+after_below m r f g h k = subst (λ (o : Option (VType × ℕ)). frame_below (after_start o (made r f)) (after_start (started m.class r.takes g.stack) (made r g)) ≡ true)
     (sym (same_started m m.class r.takes f.stack g.stack (stack_below f g h) k))
     (start_below (started m.class r.takes g.stack) (made r f) (made r g) (is_unstarted m m.class r.takes g.stack k) (made_below r f g h))

@@ -1,7 +1,7 @@
 -- The order of frames: it is one, and where two are of one depth their meet is the least that both are below.
 use Rattle.std.proofs.Common.{◌≡◌, suc, Bool, true, false, List, [], ◌∷◌, length, refl, ap, arith}
 use Rattle.std.specs.Prelude.{◌||◌, ◌&&◌, not}
-use Rattle.jvm_types.specs.Types.{Shape, is_below, meet, all_pairs, meets, shape_below, meet_shapes}
+use Rattle.jvm_types.specs.Types.{TypeFrame, is_below, meet, all_pairs, meets, frame_below, meet_frames}
 use Rattle.jvm_types.specs.declared.typing.VType.{VType}
 use Rattle.jvm_types.proofs.TypeOrder.{below_self, below_trans, meet_left, meet_right, meet_least}
 
@@ -87,34 +87,34 @@ ready_least false b c h k = h
 -- ---- frames
 
 -- a frame is below another by its three parts
-pub parts_below : (f g : Shape) → all_pairs is_below f.stack g.stack ≡ true → all_pairs is_below f.locals g.locals ≡ true → (f.ready || not g.ready) ≡ true → shape_below f g ≡ true
+pub parts_below : (f g : TypeFrame) → all_pairs is_below f.stack g.stack ≡ true → all_pairs is_below f.locals g.locals ≡ true → (f.ready || not g.ready) ≡ true → frame_below f g ≡ true
 parts_below f g s l r = both_hold (all_pairs is_below f.stack g.stack && all_pairs is_below f.locals g.locals) (f.ready || not g.ready)
     (both_hold (all_pairs is_below f.stack g.stack) (all_pairs is_below f.locals g.locals) s l) r
 
-pub stack_below : (f g : Shape) → shape_below f g ≡ true → all_pairs is_below f.stack g.stack ≡ true
+pub stack_below : (f g : TypeFrame) → frame_below f g ≡ true → all_pairs is_below f.stack g.stack ≡ true
 stack_below f g h = first_holds (all_pairs is_below f.stack g.stack) (all_pairs is_below f.locals g.locals)
     (first_holds (all_pairs is_below f.stack g.stack && all_pairs is_below f.locals g.locals) (f.ready || not g.ready) h)
 
-pub locals_below : (f g : Shape) → shape_below f g ≡ true → all_pairs is_below f.locals g.locals ≡ true
+pub locals_below : (f g : TypeFrame) → frame_below f g ≡ true → all_pairs is_below f.locals g.locals ≡ true
 locals_below f g h = second_holds (all_pairs is_below f.stack g.stack) (all_pairs is_below f.locals g.locals)
     (first_holds (all_pairs is_below f.stack g.stack && all_pairs is_below f.locals g.locals) (f.ready || not g.ready) h)
 
-pub ready_below : (f g : Shape) → shape_below f g ≡ true → (f.ready || not g.ready) ≡ true
+pub ready_below : (f g : TypeFrame) → frame_below f g ≡ true → (f.ready || not g.ready) ≡ true
 ready_below f g h = second_holds (all_pairs is_below f.stack g.stack && all_pairs is_below f.locals g.locals) (f.ready || not g.ready) h
 
-pub shape_self : (f : Shape) → shape_below f f ≡ true
-shape_self f = parts_below f f (pairs_self f.stack) (pairs_self f.locals) (ready_self f.ready)
+pub frame_self : (f : TypeFrame) → frame_below f f ≡ true
+frame_self f = parts_below f f (pairs_self f.stack) (pairs_self f.locals) (ready_self f.ready)
 
-pub shape_trans : (f g h : Shape) → shape_below f g ≡ true → shape_below g h ≡ true → shape_below f h ≡ true
-shape_trans f g h a b = parts_below f h (pairs_trans f.stack g.stack h.stack (stack_below f g a) (stack_below g h b))
+pub frame_trans : (f g h : TypeFrame) → frame_below f g ≡ true → frame_below g h ≡ true → frame_below f h ≡ true
+frame_trans f g h a b = parts_below f h (pairs_trans f.stack g.stack h.stack (stack_below f g a) (stack_below g h b))
     (pairs_trans f.locals g.locals h.locals (locals_below f g a) (locals_below g h b)) (ready_trans f.ready g.ready h.ready (ready_below f g a) (ready_below g h b))
 
-pub shape_meet_left : (f g : Shape) → length f.stack ≡ length g.stack → length f.locals ≡ length g.locals → shape_below f (meet_shapes f g) ≡ true
-shape_meet_left f g s l = parts_below f (meet_shapes f g) (meets_left f.stack g.stack s) (meets_left f.locals g.locals l) (ready_left f.ready g.ready)
+pub frame_meet_left : (f g : TypeFrame) → length f.stack ≡ length g.stack → length f.locals ≡ length g.locals → frame_below f (meet_frames f g) ≡ true
+frame_meet_left f g s l = parts_below f (meet_frames f g) (meets_left f.stack g.stack s) (meets_left f.locals g.locals l) (ready_left f.ready g.ready)
 
-pub shape_meet_right : (f g : Shape) → length f.stack ≡ length g.stack → length f.locals ≡ length g.locals → shape_below g (meet_shapes f g) ≡ true
-shape_meet_right f g s l = parts_below g (meet_shapes f g) (meets_right f.stack g.stack s) (meets_right f.locals g.locals l) (ready_right f.ready g.ready)
+pub frame_meet_right : (f g : TypeFrame) → length f.stack ≡ length g.stack → length f.locals ≡ length g.locals → frame_below g (meet_frames f g) ≡ true
+frame_meet_right f g s l = parts_below g (meet_frames f g) (meets_right f.stack g.stack s) (meets_right f.locals g.locals l) (ready_right f.ready g.ready)
 
-pub shape_meet_least : (f g h : Shape) → shape_below f h ≡ true → shape_below g h ≡ true → shape_below (meet_shapes f g) h ≡ true
-shape_meet_least f g h a b = parts_below (meet_shapes f g) h (meets_least f.stack g.stack h.stack (stack_below f h a) (stack_below g h b))
+pub frame_meet_least : (f g h : TypeFrame) → frame_below f h ≡ true → frame_below g h ≡ true → frame_below (meet_frames f g) h ≡ true
+frame_meet_least f g h a b = parts_below (meet_frames f g) h (meets_least f.stack g.stack h.stack (stack_below f h a) (stack_below g h b))
     (meets_least f.locals g.locals h.locals (locals_below f h a) (locals_below g h b)) (ready_least f.ready g.ready h.ready (ready_below f h a) (ready_below g h b))
