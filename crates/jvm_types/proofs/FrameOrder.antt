@@ -102,19 +102,19 @@ locals_below f g h = second_holds (all_pairs is_below f.stack g.stack) (all_pair
 pub ready_below : (f g : TypeFrame) → frame_below f g ≡ true → (f.ready || not g.ready) ≡ true
 ready_below f g h = second_holds (all_pairs is_below f.stack g.stack && all_pairs is_below f.locals g.locals) (f.ready || not g.ready) h
 
-pub frame_self : (f : TypeFrame) → frame_below f f ≡ true
-frame_self f = parts_below f f (pairs_self f.stack) (pairs_self f.locals) (ready_self f.ready)
+pub types_self : (f : TypeFrame) → frame_below f f ≡ true
+types_self f = parts_below f f (pairs_self f.stack) (pairs_self f.locals) (ready_self f.ready)
 
-pub frame_trans : (f g h : TypeFrame) → frame_below f g ≡ true → frame_below g h ≡ true → frame_below f h ≡ true
-frame_trans f g h a b = parts_below f h (pairs_trans f.stack g.stack h.stack (stack_below f g a) (stack_below g h b))
+pub types_trans : (f g h : TypeFrame) → frame_below f g ≡ true → frame_below g h ≡ true → frame_below f h ≡ true
+types_trans f g h a b = parts_below f h (pairs_trans f.stack g.stack h.stack (stack_below f g a) (stack_below g h b))
     (pairs_trans f.locals g.locals h.locals (locals_below f g a) (locals_below g h b)) (ready_trans f.ready g.ready h.ready (ready_below f g a) (ready_below g h b))
 
-pub frame_meet_left : (f g : TypeFrame) → length f.stack ≡ length g.stack → length f.locals ≡ length g.locals → frame_below f (meet_frames f g) ≡ true
-frame_meet_left f g s l = parts_below f (meet_frames f g) (meets_left f.stack g.stack s) (meets_left f.locals g.locals l) (ready_left f.ready g.ready)
+pub types_meet_left : (f g : TypeFrame) → length f.stack ≡ length g.stack → length f.locals ≡ length g.locals → frame_below f (meet_frames f g) ≡ true
+types_meet_left f g s l = parts_below f (meet_frames f g) (meets_left f.stack g.stack s) (meets_left f.locals g.locals l) (ready_left f.ready g.ready)
 
-pub frame_meet_right : (f g : TypeFrame) → length f.stack ≡ length g.stack → length f.locals ≡ length g.locals → frame_below g (meet_frames f g) ≡ true
-frame_meet_right f g s l = parts_below g (meet_frames f g) (meets_right f.stack g.stack s) (meets_right f.locals g.locals l) (ready_right f.ready g.ready)
+pub types_meet_right : (f g : TypeFrame) → length f.stack ≡ length g.stack → length f.locals ≡ length g.locals → frame_below g (meet_frames f g) ≡ true
+types_meet_right f g s l = parts_below g (meet_frames f g) (meets_right f.stack g.stack s) (meets_right f.locals g.locals l) (ready_right f.ready g.ready)
 
-pub frame_meet_least : (f g h : TypeFrame) → frame_below f h ≡ true → frame_below g h ≡ true → frame_below (meet_frames f g) h ≡ true
-frame_meet_least f g h a b = parts_below (meet_frames f g) h (meets_least f.stack g.stack h.stack (stack_below f h a) (stack_below g h b))
+pub types_meet_least : (f g h : TypeFrame) → frame_below f h ≡ true → frame_below g h ≡ true → frame_below (meet_frames f g) h ≡ true
+types_meet_least f g h a b = parts_below (meet_frames f g) h (meets_least f.stack g.stack h.stack (stack_below f h a) (stack_below g h b))
     (meets_least f.locals g.locals h.locals (locals_below f h a) (locals_below g h b)) (ready_least f.ready g.ready h.ready (ready_below f h a) (ready_below g h b))

@@ -10,7 +10,7 @@ use Rattle.jvm_types.specs.Types.{TypeFrame, is_below, all_pairs, frame_below}
 use Rattle.jvm_types.specs.declared.typing.VType.{VType}
 use Rattle.jvm_types.specs.declared.typing.VType.TheVariants.{Int, Null, Ref, This, New, Top}
 use Rattle.jvm_types.proofs.TypeOrder.{subclass_self, subclass_trans, common_left, common_right, common_least, below_self, below_trans, meet_left, meet_right, meet_least}
-use Rattle.jvm_types.proofs.FrameOrder.{stack_below, locals_below, ready_below, frame_self, frame_trans, frame_meet_left, frame_meet_right, frame_meet_least}
+use Rattle.jvm_types.proofs.FrameOrder.{stack_below, locals_below, ready_below, types_self, types_trans, types_meet_left, types_meet_right, types_meet_least}
 use Rattle.program_laws.proofs.ClassTreeLaws.{pick, super_in}
 use Rattle.program_laws.specs.OrderLaws.{ClassesAreOrdered, CommonAncestorIsLeast, TypesAreOrdered, MeetIsLeast, FramesAreOrdered, FramesMeet}
 
@@ -127,7 +127,7 @@ one_frame f g h k =
     λ i. record { stack = stack i; locals = locals i; ready = ready i }
 
 pub frames_ordered : FramesAreOrdered
-frames_ordered = record { reflexive = frame_self; transitive = frame_trans; antisymmetric = one_frame }
+frames_ordered = record { reflexive = types_self; transitive = types_trans; antisymmetric = one_frame }
 
 pub frames_meet_least : FramesMeet
-frames_meet_least f g s l = (frame_meet_left f g s l, frame_meet_right f g s l, λ h a b. frame_meet_least f g h a b)
+frames_meet_least f g s l = (types_meet_left f g s l, types_meet_right f g s l, λ h a b. types_meet_least f g h a b)

@@ -9,7 +9,7 @@ use Rattle.jvm_types.specs.Types.{TypeFrame, frame_below}
 use Rattle.jvm_types.specs.Verifying.{Node, node_at, node_met, brought, all_brought, has_other_depth, clash, frame_at, Fits, IsFrameBelow}
 use Rattle.jvm_types.specs.declared.code.Insn.{Insn}
 use Rattle.jvm_types.specs.declared.code.Op.{Op}
-use Rattle.jvm_types.proofs.FrameOrder.{pairs_length, stack_below, frame_trans, frame_meet_least}
+use Rattle.jvm_types.proofs.FrameOrder.{pairs_length, stack_below, types_trans, types_meet_least}
 
 -- ---- frames that may be missing
 
@@ -19,7 +19,7 @@ IsBelowSome f o = IsSomeAnd o (λ g. IsTrue (frame_below f g))
 
 pub below_some : (f g : TypeFrame) (o : Option TypeFrame) → frame_below f g ≡ true → IsBelowSome g o → IsBelowSome f o
 below_some f g None h k = k
-below_some f g (Some other) h k = frame_trans f g other h k
+below_some f g (Some other) h k = types_trans f g other h k
 
 pub fits_below : (code : List Insn) (others : List (Option TypeFrame)) (f g : TypeFrame) → frame_below f g ≡ true → (tos : List ℕ)
     → AllByRecursion (Fits code others g) tos → AllByRecursion (Fits code others f) tos
@@ -38,7 +38,7 @@ AreBelow nodes others = AllZip IsNodeBelow nodes others
 joined_below : (node : Node) (o : Option TypeFrame) (f : TypeFrame) (g : Option TypeFrame) → IsFrameBelow o g → IsBelowSome f g → IsNodeBelow (node_met node o f) g
 joined_below node None f g h k = k
 joined_below node (Some e) f None h k = k
-joined_below node (Some e) f (Some g) h k = frame_meet_least e f g h k
+joined_below node (Some e) f (Some g) h k = types_meet_least e f g h k
 
 pub brought_below : (code : List Insn) (to : ℕ) (f : TypeFrame) (nodes : List Node) (others : List (Option TypeFrame)) → AreBelow nodes others → Fits code others f to
     → AreBelow (brought code to f nodes) others

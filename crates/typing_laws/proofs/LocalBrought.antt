@@ -8,7 +8,7 @@ use Rattle.jvm_types.specs.Types.{TypeFrame, meet_frames, same_frame}
 use Rattle.jvm_types.specs.Verifying.{Node, node_met, brought, frame_at, Fits, IsFrameBelow}
 use Rattle.jvm_types.specs.declared.code.Insn.{Insn}
 use Rattle.jvm_types.specs.declared.program.MethodInfo.{MethodInfo}
-use Rattle.jvm_types.proofs.FrameOrder.{frame_self, frame_meet_left, frame_meet_right}
+use Rattle.jvm_types.proofs.FrameOrder.{types_self, types_meet_left, types_meet_right}
 use Rattle.typing_laws.proofs.FrameBounds.{IsBounded, meets_length, meet_bounded}
 use Rattle.typing_laws.proofs.LocalRisen.{IsRisen, AreRisen, all_risen_self, frames_of, same_frames}
 
@@ -35,7 +35,7 @@ module _ (m : MethodInfo) (f : TypeFrame) (b : IsBounded m f) where
   joined_risen : (waits : Bool) (frame : Option TypeFrame) → IsFrameBounded m frame → IsDeep (length f.stack) frame
       → IsRisen (record { frame = frame; waits = waits }) (node_met (record { frame = frame; waits = waits }) frame f)
   joined_risen waits None c d = record { frame = tt; kept = λ e. absurd (cc) }
-  joined_risen waits (Some g) c d = record { frame = frame_meet_left g f d (omega (arith, c.locals, b.locals)); kept = kept }
+  joined_risen waits (Some g) c d = record { frame = types_meet_left g f d (omega (arith, c.locals, b.locals)); kept = kept }
     where
       same : (t : Bool) → not t ≡ false → t ≡ true
       same true e = refl
@@ -47,8 +47,8 @@ module _ (m : MethodInfo) (f : TypeFrame) (b : IsBounded m f) where
           (parts.0, ap Some (same_frames g (meet_frames g f) (same (same_frame g (meet_frames g f)) parts.1)))
 
   joined_fits : (waits : Bool) (frame : Option TypeFrame) → IsFrameBounded m frame → IsDeep (length f.stack) frame → IsFrameBelow (Some f) (node_met (record { frame = frame; waits = waits }) frame f).frame
-  joined_fits waits None c d = frame_self f
-  joined_fits waits (Some g) c d = frame_meet_right g f d (omega (arith, c.locals, b.locals))
+  joined_fits waits None c d = types_self f
+  joined_fits waits (Some g) c d = types_meet_right g f d (omega (arith, c.locals, b.locals))
 
   joined_bounded : (waits : Bool) (frame : Option TypeFrame) → IsFrameBounded m frame → IsFrameBounded m (node_met (record { frame = frame; waits = waits }) frame f).frame
   joined_bounded waits None c = b

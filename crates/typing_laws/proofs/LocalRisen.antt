@@ -9,19 +9,19 @@ use Rattle.jvm_types.specs.Verifying.{Node, frame_at, Fits, IsFrameBelow}
 use Rattle.jvm_types.specs.declared.code.Insn.{Insn}
 use Rattle.jvm_types.specs.declared.typing.VType.{VType}
 use Rattle.jvm_types.specs.declared.typing.VType.TheVariants.{Int, Null, Ref, This, New, Top}
-use Rattle.jvm_types.proofs.FrameOrder.{frame_self, frame_trans}
+use Rattle.jvm_types.proofs.FrameOrder.{types_self, types_trans}
 
 -- ---- frames
 
 pub frame_self : (f : Option TypeFrame) → IsFrameBelow f f
 frame_self None = tt
-frame_self (Some f) = frame_self f
+frame_self (Some f) = types_self f
 
 pub frame_trans : (f g h : Option TypeFrame) → IsFrameBelow f g → IsFrameBelow g h → IsFrameBelow f h
 frame_trans None g h a b = tt
 frame_trans (Some f) None h a b = absurd a
 frame_trans (Some f) (Some g) None a b = absurd b
-frame_trans (Some f) (Some g) (Some h) a b = frame_trans f g h a b
+frame_trans (Some f) (Some g) (Some h) a b = types_trans f g h a b
 
 -- ---- nodes
 

@@ -14,7 +14,7 @@ use Rattle.jvm_types.specs.declared.program.MethodInfo.{MethodInfo}
 use Rattle.jvm_types.specs.declared.typing.VType.{VType}
 use Rattle.jvm_types.specs.declared.typing.VType.TheVariants.{Ref, This, Top}
 use Rattle.jvm_types.proofs.TypeOrder.{below_self}
-use Rattle.jvm_types.proofs.ShapeOrder.{parts_below, stack_below, locals_below, ready_below}
+use Rattle.jvm_types.proofs.FrameOrder.{parts_below, stack_below, locals_below, ready_below}
 use Rattle.typing_laws.proofs.MonoTypes.{below_object, one_initialised, suits_start}
 
 -- ---- places

@@ -19,7 +19,7 @@ use Rattle.jvm_types.specs.declared.program.Program.{Program}
 use Rattle.jvm_types.proofs.EachAfter.{all_append}
 use Rattle.jvm_types.proofs.FrameOrder.{stack_below, locals_below}
 use Rattle.typing_laws.proofs.LocalEdges.{picks}
-use Rattle.typing_laws.proofs.RowsKeep.{IsFine, IsFineWrite, frame_fine, row_fine}
+use Rattle.typing_laws.proofs.RowsKeep.{IsFine, IsFineWrite, types_fine, row_fine}
 use Rattle.typing_laws.proofs.RuleUses.{hold}
 use Rattle.typing_laws.specs.NewLaws.{IsBehind, AreBehind, NewStaysBehind, BehindRises}
 
@@ -118,7 +118,7 @@ module _ (p : Program) (m : MethodInfo) (insn : Insn) (target : Target) (f : Typ
   after_all : AreBehind (suc insn.pc) (frame_after m (row p m insn.pc target insn.op) f)
   after_all =
       let fine = row_fine (IsBehind (suc insn.pc)) tt tt tt (λ c. tt) p m insn.pc (omega arith) target insn.op in
-      let h = frame_fine (IsBehind (suc insn.pc)) tt (λ c. tt) m (row p m insn.pc target insn.op) f fine.0 fine.1 (rises insn.pc (suc insn.pc) (omega arith) f.stack a.stack) (rises insn.pc (suc insn.pc) (omega arith) f.locals a.locals) in
+      let h = types_fine (IsBehind (suc insn.pc)) tt (λ c. tt) m (row p m insn.pc target insn.op) f fine.0 fine.1 (rises insn.pc (suc insn.pc) (omega arith) f.stack a.stack) (rises insn.pc (suc insn.pc) (omega arith) f.locals a.locals) in
       record { stack = h.0; locals = h.1 }
 
   after_branch : (to : ℕ) → has_number (branches_to insn.op) to ≡ true → AreBehind to (frame_after m (row p m insn.pc target insn.op) f)
@@ -131,7 +131,7 @@ module _ (p : Program) (m : MethodInfo) (insn : Insn) (target : Target) (f : Typ
       back e =
           let none = or_parts (list_any is_uninitialised f.stack) (list_any is_uninitialised f.locals) (and_false (list_any (λ t. nat_le t insn.pc) (branches_to insn.op)) (list_any is_uninitialised f.stack || list_any is_uninitialised f.locals) (spared p m insn target f ok).branches e) in
           let fine = branch_fine IsNoNew refl p m insn.pc target insn.op to b in
-          let h = frame_fine IsNoNew refl (λ c. refl) m (row p m insn.pc target insn.op) f fine.0 fine.1 (weaker f.stack (none_of is_uninitialised f.stack none.0)) (weaker f.locals (none_of is_uninitialised f.locals none.1)) in
+          let h = types_fine IsNoNew refl (λ c. refl) m (row p m insn.pc target insn.op) f fine.0 fine.1 (weaker f.stack (none_of is_uninitialised f.stack none.0)) (weaker f.locals (none_of is_uninitialised f.locals none.1)) in
           record { stack = none_behind to (frame_after m (row p m insn.pc target insn.op) f).stack h.0; locals = none_behind to (frame_after m (row p m insn.pc target insn.op) f).locals h.1 }
 
   at_handler : (handler : Row) (to : ℕ) → list_any (covers insn.pc) m.rows ≡ true → AreBehind to (frame_at_handler handler f)

@@ -76,9 +76,9 @@ module _ (P : VType → Type 0) (top : P Top) where
   after_fine refs None f a b = (a, b)
   after_fine refs (Some o) f a b = (all_initialised refs o.0 o.1 f.stack a, all_initialised refs o.0 o.1 f.locals b)
 
-  pub frame_fine : ((c : ℕ) → P (Ref c)) → (m : MethodInfo) (r : OpRow) (f : TypeFrame) → AllByRecursion IsFine r.gives → IsFineWrite r.writes → AllByRecursion P f.stack → AllByRecursion P f.locals
+  pub types_fine : ((c : ℕ) → P (Ref c)) → (m : MethodInfo) (r : OpRow) (f : TypeFrame) → AllByRecursion IsFine r.gives → IsFineWrite r.writes → AllByRecursion P f.stack → AllByRecursion P f.locals
       → AllByRecursion P (frame_after m r f).stack × AllByRecursion P (frame_after m r f).locals
-  frame_fine refs m r f g w a b = after_fine refs (started m.class r.takes f.stack) (record { stack = stack_after Top (λ t. t) r f.stack f.locals; locals = locals_after Top (λ t. t) r.writes f.stack f.locals; ready = f.ready })
+  types_fine refs m r f g w a b = after_fine refs (started m.class r.takes f.stack) (record { stack = stack_after Top (λ t. t) r f.stack f.locals; locals = locals_after Top (λ t. t) r.writes f.stack f.locals; ready = f.ready })
       (all_append (map (value_of Top (λ t. t) f.stack f.locals) r.gives) (drop (length r.takes) f.stack) (values_fine f.stack f.locals r.gives g a b) (all_drop (length r.takes) f.stack a))
       (locals_fine r.writes f.stack f.locals w a b)
 

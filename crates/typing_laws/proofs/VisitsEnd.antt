@@ -19,7 +19,7 @@ use Rattle.jvm_types.specs.declared.program.MethodInfo.{MethodInfo}
 use Rattle.jvm_types.specs.declared.program.Program.{Program}
 use Rattle.jvm_types.specs.declared.refusal.VRule.{VRule}
 use Rattle.jvm_types.specs.declared.refusal.VRule.TheVariants.{V1, V2}
-use Rattle.typing_laws.proofs.VisitsEndRanks.{Falls, types_rank, frame_falls, frame_small, meets_short}
+use Rattle.typing_laws.proofs.VisitsEndRanks.{Falls, types_rank, types_falls, types_small, meets_short}
 
 -- ---- bounds on the frames
 
@@ -65,7 +65,7 @@ meet_within m g f h = record { stack = omega (arith, h.stack, meets_short g.stac
 
 within_rank : (m : MethodInfo) (f : TypeFrame) → IsWithin m f → frame_rank m (Some f) < frame_rank m None
 unfolding frame_rank
-within_rank m f h = omega (arith, frame_small f (m.max_stack + length (entry_frame m).locals) (omega (arith, h.stack, h.locals)))
+within_rank m f h = omega (arith, types_small f (m.max_stack + length (entry_frame m).locals) (omega (arith, h.stack, h.locals)))
 
 first_weight : (m : MethodInfo) (f : TypeFrame) (waits : Bool) → IsWithin m f → weight m (Some f) true ≤ weight m None waits
 unfolding weight flag
@@ -84,7 +84,7 @@ joined_within m node (Some g) f k h = meet_within m g f k
 
 joined_weight : (m : MethodInfo) (node : Node) (o : Option TypeFrame) (f : TypeFrame) → IsWithin m f → weight m (node_met node o f).frame (node_met node o f).waits ≤ weight m o node.waits
 joined_weight m node None f h = first_weight m f node.waits h
-joined_weight m node (Some g) f h = again_weight m g (meet_frames g f) (same_frame g (meet_frames g f)) node.waits (frame_falls g f)
+joined_weight m node (Some g) f h = again_weight m g (meet_frames g f) (same_frame g (meet_frames g f)) node.waits (types_falls g f)
 
 -- ---- steps on the nodes
 

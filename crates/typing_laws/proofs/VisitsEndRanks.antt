@@ -254,9 +254,9 @@ ready_small false = omega arith
 pub types_rank : TypeFrame → ℕ
 types_rank f = ranks f.stack + ranks f.locals + ready_rank f.ready
 
-pub frame_falls : (f g : TypeFrame) → Falls (same_frame f (meet_frames f g)) (types_rank (meet_frames f g)) (types_rank f)
+pub types_falls : (f g : TypeFrame) → Falls (same_frame f (meet_frames f g)) (types_rank (meet_frames f g)) (types_rank f)
 unfolding types_rank
-frame_falls f g =
+types_falls f g =
     let s = meets f.stack g.stack in
     let l = meets f.locals g.locals in
     let ready = f.ready && g.ready in
@@ -265,9 +265,9 @@ frame_falls f g =
     (ready_falls f.ready g.ready)
 
 -- a frame of few places has no great rank
-pub frame_small : (f : TypeFrame) (places : ℕ) → length f.stack + length f.locals ≤ places → types_rank f ≤ 7 * places + 1
+pub types_small : (f : TypeFrame) (places : ℕ) → length f.stack + length f.locals ≤ places → types_rank f ≤ 7 * places + 1
 unfolding types_rank
-frame_small f places h = omega (arith, h, ranks_small f.stack, ranks_small f.locals, ready_small f.ready)
+types_small f places h = omega (arith, h, ranks_small f.stack, ranks_small f.locals, ready_small f.ready)
 
 pub meets_short : (ts us : List VType) → length (meets ts us) ≤ length ts
 meets_short [] us = omega arith
