@@ -136,12 +136,7 @@ impl<T: Copy> Stack<T> {
 
     /// A copy without so many of the items on the top, with room for some more.
     #[tactic(auto, using(crate::proofs::StackLaws::without_top_first))]
-    pub fn without_for(
-        &self,
-        alloc: Global,
-        count: usize,
-        more: usize,
-    ) -> Result<Self, AllocError>
+    pub fn without_for(&self, alloc: Global, count: usize, more: usize) -> Result<Self, AllocError>
         ensures { IfOk result (λ s. s ≡ drop count self.now) }
     {
         let left = self.items.len().saturating_sub(count);
