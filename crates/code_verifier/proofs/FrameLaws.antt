@@ -4,8 +4,10 @@ use Rattle.std.specs.Prelude.{◌||◌, ◌&&◌, if◌then◌else◌, slice_get
 use Rattle.std.specs.List.{list_any}
 use Rattle.std.specs.Option.{IfSome}
 use Rattle.std.proofs.lemmas.List.{reverse-append, map-append, length-map, length-set, set-append_left, replicate-append-replicate}
-use Rattle.jvm_types.specs.Types.{TypeFrame, filled, is_uninitialised, is_new, same_type, same_frame, all_pairs, meet, meets, meet_frames}
+use Rattle.jvm_types.specs.Types.{TypeFrame, filled, is_uninitialised, is_new, same_type, same_ready, same_frame, all_pairs, meet, meets, meet_frames}
+use Rattle.jvm_types.specs.CodeTable.{value_of, locals_after}
 use Rattle.jvm_types.specs.Verifying.{initialised, after_start}
+use Rattle.jvm_types.specs.declared.op_row.Given.{Given}
 use Rattle.jvm_types.specs.declared.typing.VType.{VType}
 use Rattle.jvm_types.specs.declared.typing.VType.TheVariants.{Int, Null, Ref, This, New, Top}
 use Rattle.jvm_types.proofs.FilledLaws.{length_filled}
@@ -107,6 +109,26 @@ frames_met frame other n first met_locals met_stack ready en long ef es el er =
     let locals : filled (length frame.locals) (meets first other.locals) ≡ meets frame.locals other.locals = sym (meets_filled (length frame.locals) first other.locals others) ∙ ap (λ l. meets l other.locals) ef in
     rw (en, es, el, er, locals) refl
 
+told_by : (s l w o : Bool) → ((not s || not l) || (w && not (w && o))) ≡ not (s && l && same_ready w (w && o))
+told_by true true true true = refl
+told_by true true true false = refl
+told_by true true false o = refl
+told_by true false true o = refl
+told_by true false false o = refl
+told_by false l true o = refl
+told_by false l false o = refl
+
+-- and whether that is another than the first
+pub frames_told : (frame other : TypeFrame) (first : List VType) (a b was both : Bool) → length frame.locals ≡ length other.locals → filled (length frame.locals) first ≡ frame.locals
+    → a ≡ not (all_pairs same_type frame.stack (meets frame.stack other.stack)) → b ≡ not (all_pairs same_type first (meets first other.locals)) → was ≡ frame.ready → both ≡ other.ready
+    → ((a || b) || (was && not (was && both))) ≡ not (same_frame frame (meet_frames frame other))
+frames_told frame other first a b was both long ef ea eb ew eo =
+    let others : length other.locals ≡ length (filled (length frame.locals) first) = sym long ∙ ap length (sym ef) in
+    let locals : all_pairs same_type first (meets first other.locals) ≡ all_pairs same_type frame.locals (meets frame.locals other.locals) =
+      sym (same_filled (length frame.locals) first other.locals others) ∙ ap (λ l. all_pairs same_type (filled (length frame.locals) first) l) (sym (meets_filled (length frame.locals) first other.locals others))
+      ∙ ap (λ l. all_pairs same_type l (meets l other.locals)) ef in
+    rw (ea, eb, ew, eo, locals) (told_by (all_pairs same_type frame.stack (meets frame.stack other.stack)) (all_pairs same_type frame.locals (meets frame.locals other.locals)) frame.ready other.ready)
+
 -- ---- where an `<init>` is called
 
 initialised_unknown : (object : VType) (class : ℕ) → same_type object Top ≡ false → (k : ℕ) → initialised object class (replicate k Top) ≡ replicate k Top
@@ -151,3 +173,8 @@ pub set_past : (ts : List VType) (i : ℕ) (t : VType) → length ts ≤ i → s
 set_past [] i t h = refl
 set_past (x ∷ xs) zero t h = absurd (omega (arith, h))
 set_past (x ∷ xs) (suc i) t h = ap (λ l. x ∷ l) (set_past xs i t (omega (arith, h)))
+
+pub local_written : (n : ℕ) (writes : Option (ℕ × Given)) (stack locals first first' : List VType) (i : ℕ) (given : Given) (t : VType) → writes ≡ Some (i, given) → filled n first ≡ locals → i < length first
+    → t ≡ value_of Top (λ u. u) stack locals given → first' ≡ slice_set first i t → filled n first' ≡ locals_after Top (λ u. u) writes stack locals
+local_written n writes stack locals first first' i given t ew ef h et es =
+    rw (ew, es) (sym (set_filled n first i t h) ∙ ap (λ l. slice_set l i t) ef ∙ ap (λ u. slice_set locals i u) et)

@@ -17,7 +17,7 @@ pub fn meet_frames(frame: TypeFrame, other: &TypeFrame) -> (TypeFrame, bool)
     let (mut stack, mut locals, was_ready) = frame.into_parts();
     let stack_changed = meet_stacks(&mut stack, other.stack());
     let locals_changed = meet_locals(&mut locals, other);
-    let ready = was_ready && other.is_ready();
+    let ready = was_ready & other.is_ready();
     let met = TypeFrame::new(stack, locals, local_count, ready);
-    (met, stack_changed || locals_changed || ready != was_ready)
+    (met, stack_changed | locals_changed | (was_ready & !ready))
 }
