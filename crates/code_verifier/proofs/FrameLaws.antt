@@ -125,8 +125,8 @@ pub frames_told : (frame other : TypeFrame) (first : List VType) (a b was both :
 frames_told frame other first a b was both long ef ea eb ew eo =
     let others : length other.locals ≡ length (filled (length frame.locals) first) = sym long ∙ ap length (sym ef) in
     let locals : all_pairs same_type first (meets first other.locals) ≡ all_pairs same_type frame.locals (meets frame.locals other.locals) =
-      sym (same_filled (length frame.locals) first other.locals others) ∙ ap (λ l. all_pairs same_type (filled (length frame.locals) first) l) (sym (meets_filled (length frame.locals) first other.locals others))
-      ∙ ap (λ l. all_pairs same_type l (meets l other.locals)) ef in
+    sym (same_filled (length frame.locals) first other.locals others) ∙ ap (λ l. all_pairs same_type (filled (length frame.locals) first) l) (sym (meets_filled (length frame.locals) first other.locals others))
+    ∙ ap (λ l. all_pairs same_type l (meets l other.locals)) ef in
     rw (ea, eb, ew, eo, locals) (told_by (all_pairs same_type frame.stack (meets frame.stack other.stack)) (all_pairs same_type frame.locals (meets frame.locals other.locals)) frame.ready other.ready)
 
 -- ---- where an `<init>` is called
