@@ -15,6 +15,9 @@ use Rattle.jvm_types.specs.declared.refusal.VRule.TheVariants.{V1, V2, V3, V4, V
 use Rattle.jvm_types.specs.declared.refusal.SRule.{SRule}
 use Rattle.jvm_types.specs.declared.refusal.SRule.TheVariants.{S1, S2, S3, S4}
 use Rattle.jvm_types.specs.declared.refusal.Place.{Place}
+use Rattle.jvm_types.specs.declared.refusal.TheConstants.{NO_METHOD}
+use Rattle.class_runner.specs.declared.loading.FileError.{FileError}
+use Rattle.class_runner.specs.declared.loading.FileError.TheVariants as errors
 
 abbrev pub c_number : CRule → ℕ
 c_number C1 = 1
@@ -71,9 +74,16 @@ rule_text (rules.L r) = codes "L" ++ decimal (l_number r)
 rule_text (rules.V r) = codes "V" ++ decimal (v_number r)
 rule_text (rules.S r) = codes "S" ++ decimal (s_number r)
 
--- a place in no method has the method number 65,535
 abbrev pub method_text : ℕ → List ℕ
-method_text method = if method == 65535 then codes "" else codes " method " ++ decimal method
+method_text method = if method == NO_METHOD then codes "" else codes " method " ++ decimal method
+
+abbrev pub refusal_words : Rule → Place → List ℕ
+refusal_words rule place = codes "refused " ++ rule_text rule ++ codes " file " ++ decimal place.file ++ method_text place.method ++ codes " at " ++ decimal place.at
 
 abbrev pub refusal_text : Rule → Place → List ℕ
-refusal_text rule place = line (codes "refused " ++ rule_text rule ++ codes " file " ++ decimal place.file ++ method_text place.method ++ codes " at " ++ decimal place.at)
+refusal_text rule place = line (refusal_words rule place)
+
+-- why files were not loaded
+abbrev pub error_text : FileError → List ℕ
+error_text errors.Memory = codes "out of memory"
+error_text (errors.Refused rule place) = refusal_words rule place

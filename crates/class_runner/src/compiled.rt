@@ -1,11 +1,11 @@
 //! Classes, one of them as a Java compiler wrote it, are read and written back to the same bytes.
 
-use crate::test_files::{bytes_of, pair, tally};
 use class_reader::{ReadError, read_class};
 use class_writer::{WriteError, write_class};
 use jvm_types::{Bytes, ClassFile};
 use std::alloc::Global;
 use std::test::Fail;
+use test_classes::{bytes_of, pair, tally};
 
 fn read(alloc: Global, bytes: &Bytes) -> Result<ClassFile, ReadError> {
     read_class(alloc, bytes)

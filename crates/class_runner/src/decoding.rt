@@ -11,23 +11,11 @@ ghost use Rattle.class_runner.specs.Loading.{decode_fault};
 ghost use Rattle.class_runner.specs.Stages.{own_methods, method_fault, IsUndecoded, AreDecodedSoFar};
 
 use crate::loading::FileError;
-use crate::places::in_method;
 use code_decode::{CodeError, decode};
-use jvm_types::{ClassFile, Code, Insn, Member, MemberAttr, Rows, Rule};
+use jvm_types::code_attribute::code_of;
+use jvm_types::limits::{MOST_COUNTED, MOST_FILES};
+use jvm_types::{ClassFile, Insn, Member, Rows, Rule, in_method};
 use std::alloc::Global;
-
-/// The code of a method, which has a body.
-fn code_of(method: &Member) -> &Code
-    requires { HasBody method.now }
-    ensures { result.now ≡ the_code method.now.attrs }
-{
-    for attr in method.attrs.as_slice() {
-        if let MemberAttr::Code(code) = attr {
-            return code;
-        }
-    }
-    unreachable!()
-}
 
 /// The instructions of a method, by its file and its number in its class.
 fn decode_method(
@@ -37,11 +25,13 @@ fn decode_method(
     method: &Member,
 ) -> Result<Rows<Insn>, FileError>
     requires body { HasBody method.now }
-    requires rows { length (the_code method.now.attrs).rows ≤ 65535 }
+    requires rows { length (the_code method.now.attrs).rows ≤ MOST_COUNTED }
     ensures ok { IfOk result (λ insns. IsCode (the_code method.now.attrs).bytes (the_code method.now.attrs).rows insns) }
     ensures refused { IfErr result (λ e. IsUndecoded (method_fault file number (the_code method.now.attrs)) e) }
 {
-    let code = code_of(method);
+    let Some(code) = code_of(method.attrs.as_slice()) else {
+        unreachable!()
+    };
     match decode(alloc, &code.bytes, &code.rows) {
         Ok(insns) => Ok(insns),
         Err(CodeError::Memory) => Err(FileError::Memory),
@@ -72,7 +62,7 @@ fn decode_class(
 /// The instructions of each method, in order of files and methods. The first method whose code has a
 /// fault refuses the files.
 pub fn decode_files(alloc: Global, classes: &[ClassFile]) -> Result<Rows<Rows<Insn>>, FileError>
-    requires few { length classes.now ≤ 64 }
+    requires few { length classes.now ≤ MOST_FILES }
     requires classes { AllByRecursion IsClass classes.now }
     ensures ok { IfOk result (λ code. AllZip IsDecoded (declared_methods classes.now) code) }
     ensures refused { IfErr result (λ e. IsUndecoded (decode_fault (declared_methods classes.now)) e) }

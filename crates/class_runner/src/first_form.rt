@@ -9,15 +9,12 @@ ghost use Rattle.class_runner.specs.FirstTests.{Finds, is_init as is_the_init, e
 ghost use Rattle.class_runner.specs.Operands.{Tells};
 
 use crate::operands::runs_within;
+use jvm_types::flags::is_static;
+use jvm_types::limits::{MOST_CODE_BYTES, MOST_SLOTS};
 use jvm_types::{
     ClassFile, Constant, FirstOp, Insn, MemberAttr, MethodInfo, Op, Program, Rows, Target,
 };
 use std::alloc::{AllocError, Global};
-
-const STATIC: u16 = 0x0008;
-
-/// The most slots of one frame: its locals and its stack.
-const MOST_SLOTS: u32 = 16_384;
 
 /// Whether an entry of the constant pool has one of the tags 1, 7, 9, 10 and 12.
 fn is_first_constant(entry: &Constant) -> bool
@@ -124,12 +121,12 @@ fn is_init(method: &MethodInfo) -> bool
 {
     method.name.as_slice() == b"init".as_slice()
         && method.descriptor.as_slice() == b"()V".as_slice()
-        && method.flags & STATIC != 0
+        && is_static(method.flags)
 }
 
 /// Whether one thread has room for a method.
 fn has_room(method: &MethodInfo) -> bool
-    ensures { result ≡ nat_le (method.now.max_stack + method.now.max_locals) 16384 }
+    ensures { result ≡ nat_le (method.now.max_stack + method.now.max_locals) MOST_SLOTS }
 {
     u32::from(method.max_stack) + u32::from(method.max_locals) <= MOST_SLOTS
 }
@@ -147,7 +144,7 @@ fn may_run(alloc: Global, most: u16, ops: &[FirstOp]) -> Result<bool, AllocError
 
 /// The instructions of a method, where its code is of the first form.
 fn find_code(alloc: Global, method: &MethodInfo) -> Result<Option<Rows<FirstOp>>, AllocError>
-    requires short { length method.now.code ≤ 65535 }
+    requires short { length method.now.code ≤ MOST_CODE_BYTES }
     requires targets { length method.now.targets ≡ length method.now.code }
     ensures { IfOk result (λ found. Finds (IsFirstCode method.now) found) }
 {

@@ -7,7 +7,6 @@ mod linking;
 pub mod loading;
 pub mod loading_laws;
 mod operands;
-mod places;
 mod reading;
 pub mod texts;
 mod verifying;

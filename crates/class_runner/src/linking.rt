@@ -9,6 +9,7 @@ ghost use Rattle.class_runner.specs.Stages.{IsLinkedFrom, IsUnlinkedFrom};
 
 use crate::decoding::decode_files;
 use crate::loading::FileError;
+use jvm_types::limits::{LEAST_HEAP, MOST_FILES, MOST_HEAP, MOST_WORKERS};
 use jvm_types::{ClassFile, Program, Rows, Rule};
 use linker::{LinkError, link};
 use std::alloc::Global;
@@ -21,11 +22,11 @@ pub fn link_files(
     workers: u8,
 ) -> Result<Program, FileError>
     requires some_file { 0 < length classes.now }
-    requires few_files { length classes.now ≤ 64 }
+    requires few_files { length classes.now ≤ MOST_FILES }
     requires classes { AllByRecursion IsClass classes.now }
-    requires heap_from { 4096 ≤ heap }
-    requires heap_to { heap ≤ 1048576 }
-    requires workers { workers ≤ 8 }
+    requires heap_from { LEAST_HEAP ≤ heap }
+    requires heap_to { heap ≤ MOST_HEAP }
+    requires workers { workers ≤ MOST_WORKERS }
     ensures ok { IfOk result (λ p. IsLinkedFrom classes.now heap workers p) }
     ensures program { IfOk result (λ p. IsProgram p) }
     // The program has the methods of the classes.

@@ -8,12 +8,12 @@ ghost use Rattle.jvm_types.specs.declared.first.FirstOp.{FirstOp as Op};
 
 use crate::first_form::{find_ops, is_first_form};
 use crate::linking::link_files;
-use crate::places::in_file;
 use crate::reading::read_files;
-use crate::texts::RuleText;
+use crate::texts::RefusalText;
 use crate::verifying::verify_files;
 use checked_program::Checked;
-use jvm_types::{Bytes, FirstOp, LRule, NO_METHOD, Place, Rows, Rule};
+use jvm_types::limits::{LEAST_HEAP, MOST_FILES, MOST_HEAP, MOST_WORKERS};
+use jvm_types::{Bytes, FirstOp, LRule, Place, Rows, Rule, in_file};
 use std::alloc::{AllocError, Global};
 use std::fmt;
 use thiserror::Error;
@@ -39,17 +39,17 @@ impl From<AllocError> for FileError {
 }
 
 impl fmt::Display for FileError {
+    ghost use Rattle.std.specs.Prelude.{Some};
+    ghost use Rattle.class_runner.specs.Refusal.{error_text};
+
+    ghost output = { λ e. Some (error_text e) };
+
     fn fmt<W: fmt::Write>(&self, f: &mut fmt::Formatter<W>) -> fmt::Result {
         match self {
             FileError::Memory => f.write_str("out of memory"),
             FileError::Refused(rule, place) => {
-                let rule = RuleText(*rule);
-                let Place { file, method, at } = *place;
-                write!(f, "refused {rule} file {file}")?;
-                if method != NO_METHOD {
-                    write!(f, " method {method}")?;
-                }
-                write!(f, " at {at}")
+                let refusal = RefusalText(*rule, *place);
+                write!(f, "{refusal}")
             }
         }
     }
@@ -66,10 +66,10 @@ pub fn load_program(
     workers: u8,
 ) -> Result<Checked, FileError>
     requires some_file { 0 < length files.now }
-    requires few_files { length files.now ≤ 64 }
-    requires heap_from { 4096 ≤ heap }
-    requires heap_to { heap ≤ 1048576 }
-    requires workers { workers ≤ 8 }
+    requires few_files { length files.now ≤ MOST_FILES }
+    requires heap_from { LEAST_HEAP ≤ heap }
+    requires heap_to { heap ≤ MOST_HEAP }
+    requires workers { workers ≤ MOST_WORKERS }
     // What is answered is the program of the files, with its typings, and of the first form.
     ensures ok { IfOk result (λ c. IsLoaded files.now heap workers c) }
     ensures first { IfOk result (λ c. (ops : List Op) × IsFirstLoaded files.now heap workers c ops) }
@@ -85,10 +85,10 @@ pub fn load_program(
 /// them.
 fn load_files(alloc: Global, files: &[Bytes], heap: u32, workers: u8) -> Result<Checked, FileError>
     requires some_file { 0 < length files.now }
-    requires few_files { length files.now ≤ 64 }
-    requires heap_from { 4096 ≤ heap }
-    requires heap_to { heap ≤ 1048576 }
-    requires workers { workers ≤ 8 }
+    requires few_files { length files.now ≤ MOST_FILES }
+    requires heap_from { LEAST_HEAP ≤ heap }
+    requires heap_to { heap ≤ MOST_HEAP }
+    requires workers { workers ≤ MOST_WORKERS }
     ensures first { IfOk result (λ c. (ops : List Op) × IsFirstLoaded files.now heap workers c ops) }
     ensures refused { IfErr result (λ e. IsNotLoaded files.now heap workers e) }
 {

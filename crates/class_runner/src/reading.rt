@@ -8,9 +8,9 @@ ghost use Rattle.class_runner.specs.Loading.{read_fault};
 ghost use Rattle.class_runner.specs.Stages.{file_fault, IsUnread};
 
 use crate::loading::FileError;
-use crate::places::in_file;
 use class_reader::{ReadError, read_class};
-use jvm_types::{Bytes, ClassFile, Rows, Rule};
+use jvm_types::limits::MOST_FILES;
+use jvm_types::{Bytes, ClassFile, Rows, Rule, in_file};
 use std::alloc::Global;
 
 /// The class that a file spells, or the first fault of the file.
@@ -30,7 +30,7 @@ fn read_file(alloc: Global, file: u16, bytes: &Bytes) -> Result<ClassFile, FileE
 
 /// The classes that the files spell, in order. The first file that spells none refuses them.
 pub fn read_files(alloc: Global, files: &[Bytes]) -> Result<Rows<ClassFile>, FileError>
-    requires { length files.now ≤ 64 }
+    requires { length files.now ≤ MOST_FILES }
     ensures ok { IfOk result (λ classes. AllZip Spells files.now classes) }
     ensures refused { IfErr result (λ e. IsUnread (read_fault 0 files.now) e) }
 {

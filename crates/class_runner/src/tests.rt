@@ -3,11 +3,13 @@
 ghost use Rattle.std.specs.Prelude.{◌≡◌, ◌<◌, ◌≤◌, length, IfOk};
 
 use crate::loading::{FileError, first_ops, load_program};
-use crate::places::{in_file, in_method};
-use crate::test_files::{adds, below_exception, changed, pair, peeks, tally, with_statics, work};
-use jvm_types::{Bytes, CRule, FirstOp, KRule, LRule, Place, Rows, Rule, VRule};
+use crate::test_files::with_statics;
+use jvm_types::{
+    Bytes, CRule, FirstOp, KRule, LRule, Place, Rows, Rule, VRule, in_file, in_method,
+};
 use std::alloc::{AllocError, Global};
 use std::test::*;
+use test_classes::{adds, below_exception, changed, pair, peeks, tally, work};
 
 /// The fewest heap words.
 const HEAP: u32 = 4096;

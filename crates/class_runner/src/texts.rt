@@ -1,7 +1,7 @@
 ghost use Rattle.std.specs.Prelude.{◌≡◌, ◌<◌, ◌+◌, ◌++◌, IfOk, OnOk, length, string_bytes};
 ghost use Rattle.std.specs.List.{flat_map};
 ghost use Rattle.class_runner.specs.Report.{report_text, by_ticket, print_lines, class_name, thread_ends, end_lines, counts_line, counts_lines};
-ghost use Rattle.class_runner.specs.Refusal.{refusal_text, method_text, c_number, k_number, l_number, v_number, s_number};
+ghost use Rattle.class_runner.specs.Refusal.{refusal_text, c_number, k_number, l_number, v_number, s_number};
 
 use jvm_types::{
     Bytes, CRule, Counts, End, KRule, LRule, NO_METHOD, Outcome, Place, Print, Rule, SRule,
@@ -28,22 +28,10 @@ pub fn report(alloc: Global, outcome: &Outcome) -> Result<Bytes, AllocError>
 pub fn refusal(alloc: Global, rule: Rule, place: Place) -> Result<Bytes, AllocError>
     ensures { IfOk result (λ text. text ≡ refusal_text rule place) }
 {
-    let rule = RuleText(rule);
-    let Place { file, method, at } = place;
+    let refusal = RefusalText(rule, place);
     let mut line = String::new(alloc);
-    write!(line, "refused {rule} file {file}")?;
-    write_method(&mut line, method)?;
-    writeln!(line, " at {at}")?;
+    writeln!(line, "{refusal}")?;
     Bytes::from_slice(alloc, line.as_bytes())
-}
-
-fn write_method(line: &mut String, method: u16) -> Result<(), AllocError>
-    ensures { OnOk result (string_bytes line.new ≡ string_bytes line.old ++ method_text method) }
-{
-    if method == NO_METHOD {
-        return Ok(());
-    }
-    write!(line, " method {method}")
 }
 
 /// The prints of all threads in order of their tickets. Those with one ticket stay in their order.
@@ -178,9 +166,48 @@ fn name_of(thrown: Thrown) -> &'static str
     }
 }
 
+/// Displays a refusal by its rule and its place.
+#[derive(Clone, Copy)]
+pub(crate) struct RefusalText(pub(crate) Rule, pub(crate) Place);
+
+impl fmt::Display for RefusalText {
+    ghost use Rattle.std.specs.Prelude.{Some};
+    ghost use Rattle.class_runner.specs.Refusal.{refusal_words};
+
+    ghost output = { λ r. Some (refusal_words r.0 r.1) };
+
+    fn fmt<W: fmt::Write>(&self, f: &mut fmt::Formatter<W>) -> fmt::Result {
+        let rule = RuleText(self.0);
+        let method = MethodText(self.1.method);
+        let file = self.1.file;
+        let at = self.1.at;
+        write!(f, "refused {rule} file {file}{method} at {at}")
+    }
+}
+
+/// Displays the method of a place, where it is in one.
+#[derive(Clone, Copy)]
+struct MethodText(u16);
+
+impl fmt::Display for MethodText {
+    ghost use Rattle.std.specs.Prelude.{Some};
+    ghost use Rattle.class_runner.specs.Refusal.{method_text};
+
+    ghost output = { λ m. Some (method_text m.0) };
+
+    fn fmt<W: fmt::Write>(&self, f: &mut fmt::Formatter<W>) -> fmt::Result {
+        let method = self.0;
+        if method == NO_METHOD {
+            f.write_str("")
+        } else {
+            write!(f, " method {method}")
+        }
+    }
+}
+
 /// Displays a rule by its letter and its number.
 #[derive(Clone, Copy)]
-pub(crate) struct RuleText(pub(crate) Rule);
+struct RuleText(Rule);
 
 impl fmt::Display for RuleText {
     ghost use Rattle.std.specs.Prelude.{Some};

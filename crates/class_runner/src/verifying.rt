@@ -9,9 +9,9 @@ ghost use Rattle.checked_program.specs.CheckedProgram.{AreTypings};
 ghost use Rattle.class_runner.specs.Stages.{own_methods, IsTypedAt, IsUntypedAt, IsUnverified, AreTypedSoFar};
 
 use crate::loading::FileError;
-use crate::places::in_method;
 use code_verifier::{Budget, MOST_KEPT, VerifyError, verify_within};
-use jvm_types::{ClassFile, Program, Rows, Rule, Typing};
+use jvm_types::limits::MOST_FILES;
+use jvm_types::{ClassFile, Program, Rows, Rule, Typing, in_method};
 use std::alloc::Global;
 
 /// The typing of a method of the program, which is the one of this number in its class in a file.
@@ -70,7 +70,7 @@ pub fn verify_files(
     classes: &[ClassFile],
     program: &Program,
 ) -> Result<Rows<Typing>, FileError>
-    requires few { length classes.now ≤ 64 }
+    requires few { length classes.now ≤ MOST_FILES }
     requires classes { AllByRecursion IsClass classes.now }
     requires program { IsProgram program.now }
     requires methods { length program.now.methods ≡ length (declared_methods classes.now) }

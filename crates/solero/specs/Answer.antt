@@ -5,6 +5,7 @@ use Rattle.std.specs.List.{AllByRecursion}
 use Rattle.checked_program.specs.CheckedProgram.{CheckedProgram}
 use Rattle.jvm_types.specs.LinkFaults.{in_file}
 use Rattle.jvm_types.specs.declared.first.FirstOp.{FirstOp}
+use Rattle.jvm_types.specs.declared.limits.TheConstants.{MOST_FILE_BYTES}
 use Rattle.jvm_types.specs.declared.outcome.Outcome.{Outcome}
 use Rattle.jvm_types.specs.declared.refusal.Rule.TheVariants as rules
 use Rattle.jvm_types.specs.declared.refusal.CRule.TheVariants.{C10}
@@ -38,7 +39,7 @@ text_of OutOfMemory = line (codes "out of memory")
 
 -- a file that is longer is refused
 abbrev pub longest_file : ℕ
-longest_file = 1048576
+longest_file = MOST_FILE_BYTES
 
 -- the number of heap words and of workers, which no word sets yet
 abbrev pub heap_words : ℕ

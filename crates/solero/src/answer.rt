@@ -5,11 +5,9 @@ ghost use Rattle.solero.specs.Parts.{IsLine, IsUnreadDue, unread_line};
 ghost use Rattle.solero.specs.declared.shelf.ShelfError.TheVariants.{Failed, TooLong};
 
 use class_runner::refusal;
-use jvm_types::{Bytes, CRule, NO_METHOD, Place, Rule};
+use jvm_types::limits::MOST_FILE_BYTES;
+use jvm_types::{Bytes, CRule, Place, Rule, in_file};
 use std::alloc::{AllocError, Global};
-
-/// A file that is longer, in bytes, is refused.
-pub const LONGEST_FILE: u64 = 1_048_576;
 
 const USAGE: &str = "usage: solero [options] FILE...\n";
 
@@ -70,12 +68,11 @@ pub fn refused(alloc: Global, rule: Rule, place: Place) -> Due
 pub fn too_long(alloc: Global, file: u16) -> Due
     ensures { IsUnreadDue file TooLong result }
 {
-    let place = Place {
-        file,
-        method: NO_METHOD,
-        at: LONGEST_FILE as u32,
-    };
-    refused(alloc, Rule::C(CRule::C10), place)
+    refused(
+        alloc,
+        Rule::C(CRule::C10),
+        in_file(file, MOST_FILE_BYTES as u32),
+    )
 }
 
 /// The file of that number can't be read.

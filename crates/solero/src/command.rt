@@ -3,15 +3,14 @@ ghost use Rattle.std.specs.List.{list_any};
 ghost use Rattle.std.specs.Option.{option_map, option_copied};
 ghost use Rattle.solero.specs.Command.{texts, is_option, are_names, command};
 
-/// How many files may be named.
-const MOST_FILES: usize = 64;
+use jvm_types::limits::MOST_FILES;
 
 /// The names of the files to run, where the words are the program's name and from 1 to 64 names, none of
 /// which is an option.
 pub fn file_names(words: &Vec<String>) -> Option<&[String]>
     ensures names { option_map texts (option_copied result) ≡ command (texts words.now.items) }
     ensures some { IfSome (option_copied result) (λ names. 0 < length names) }
-    ensures few { IfSome (option_copied result) (λ names. length names ≤ 64) }
+    ensures few { IfSome (option_copied result) (λ names. length names ≤ MOST_FILES) }
 {
     match words.as_slice() {
         [_, names @ ..] if are_names(names) => Some(names),

@@ -16,6 +16,7 @@ use crate::shelf::{Shelf, ShelfError};
 use crate::sink::Sink;
 use checked_program::Checked;
 use class_runner::{FileError, first_ops, load_program, report};
+use jvm_types::limits::MOST_FILES;
 use jvm_types::{Bytes, Gate, Rows};
 use std::alloc::{AllocError, Global};
 use step_core::run_first;
@@ -72,7 +73,7 @@ fn work<S: Shelf>(alloc: Global, words: &Vec<String>, shelf: &mut S) -> Due
 // What is due to the files of these names.
 fn work_on<S: Shelf>(alloc: Global, names: &[String], shelf: &mut S) -> Due
     requires some { 0 < length names.now }
-    requires few { length names.now ≤ 64 }
+    requires few { length names.now ≤ MOST_FILES }
     ensures due { IsDue (Some (texts names.now)) (S.files shelf.old)
         (S.faults shelf.old) (S.faults shelf.new) result }
     ensures files { S.files shelf.new ≡ S.files shelf.old }
@@ -97,7 +98,7 @@ fn not_read(alloc: Global, unread: Unread) -> Due
 // What is due to the contents of the files, none of which is too long.
 fn run_files(alloc: Global, contents: &Rows<Bytes>) -> Due
     requires some { 0 < length contents.now }
-    requires few { length contents.now ≤ 64 }
+    requires few { length contents.now ≤ MOST_FILES }
     requires short { first_long 0 contents.now ≡ None }
     ensures { IsRun contents.now result }
 {

@@ -3,8 +3,8 @@ ghost use Rattle.std.specs.Prelude.{◌≡◌, ◌≤◌, length, IfOk, IfErr};
 ghost use Rattle.solero.specs.Command.{texts};
 ghost use Rattle.solero.specs.Reading.{AreRead, IsUnread, IsNextRead};
 
-use crate::answer::LONGEST_FILE;
 use crate::shelf::{Shelf, ShelfError};
+use jvm_types::limits::{MOST_FILE_BYTES, MOST_FILES};
 use jvm_types::{Bytes, Rows};
 use std::alloc::Global;
 
@@ -24,7 +24,7 @@ pub fn read_files<S: Shelf>(
     names: &[String],
     shelf: &mut S,
 ) -> Result<Rows<Bytes>, Unread>
-    requires { length names.now ≤ 64 }
+    requires { length names.now ≤ MOST_FILES }
     ensures files { S.files shelf.new ≡ S.files shelf.old }
     ensures ok { IfOk result (λ contents. AreRead (S.files shelf.old) (texts names.now)
         (S.faults shelf.old) (S.faults shelf.new) contents) }
@@ -52,7 +52,7 @@ fn read_next<S: Shelf>(
     ensures answer { IsNextRead (S.files shelf.old) name.now (S.faults shelf.old) (S.faults shelf.new)
         contents.old contents.new result }
 {
-    let content = shelf.read_file(alloc, name, LONGEST_FILE)?;
+    let content = shelf.read_file(alloc, name, MOST_FILE_BYTES as u64)?;
     contents.push(content)?;
     Ok(())
 }

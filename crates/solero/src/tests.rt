@@ -9,59 +9,12 @@ use std::alloc::{AllocError, Global};
 use std::process::Abort;
 use std::test::Fail;
 use std::{fmt, io};
-
-// A class whose `init` prints 2 + 3.
-fn adds() -> &'static str {
-    "\
-    cafebabe000000320014010001410700010100106a6176612f6c616e672f4f626a656374070003010004696e\
-    6974010003282956010004436f64650100106a6176612f6c616e672f53797374656d0700080100036f757401\
-    00154c6a6176612f696f2f5072696e7453747265616d3b0c000a000b090009000c0100136a6176612f696f2f\
-    5072696e7453747265616d07000e0100077072696e746c6e010004284929560c001000110a000f0012002100\
-    0200040000000000010009000500060001000700000016000300000000000ab2000d050660b60013b1000000\
-    000000"
-}
-
-// A class with fields, synchronized sections and further methods.
-fn locks() -> &'static str {
-    "\
-    cafebabe00000032002a010001500700010100106a6176612f6c616e672f4f626a6563740700030100016101\
-    00014901000162010001700100034c503b0100063c696e69743e010003282956010004436f64650100037365\
-    740100042849295601000373756d010003282949010004696e69740c000a000b0a000400120a000200120c00\
-    05000609000200150c0007000609000200170c0008000909000200190c000d000e0a0002001b0c000f00100a\
-    0002001d0100106a6176612f6c616e672f53797374656d07001f0100036f75740100154c6a6176612f696f2f\
-    5072696e7453747265616d3b0c0021002209002000230100136a6176612f696f2f5072696e7453747265616d\
-    0700250100077072696e746c6e0c0027000e0a00260028002000020004000000030002000500060000000200\
-    0700060000000800080009000000040000000a000b0001000c0000001100010001000000052ab70013b10000\
-    00000020000d000e0001000c00000017000200020000000b2a1bb500162a1bb50018b1000000000000000f00\
-    100001000c0000003100020003000000152a594cc22ab400162ab40018602bc3ac4d2bc32cbf00020004000f\
-    001000000010001300100000000000080011000b0001000c000000420002000000000036bb000259b70014b3\
-    001ab2001a07b6001cb20024b2001ab6001eb60029b20024b2001ab6001eb60029b20024b2001ab6001eb600\
-    29b1000000000000"
-}
+use test_classes::{adds, bytes_of, pair};
 
 const REPORT: &str = "5\ninit returned\ndone returned\n\
     counts 0 instructions 6 elided 0 failed 0 locked 0 inflated 0\n";
 
 const USAGE: &str = "usage: solero [options] FILE...\n";
-
-fn digit(code: u8) -> u8 {
-    match code {
-        b'0'..=b'9' => code - b'0',
-        b'a'..=b'f' => code - b'a' + 10,
-        _ => 0,
-    }
-}
-
-// The bytes of a text of two digits each.
-fn bytes_of(alloc: Global, hex: &str) -> Result<Bytes, AllocError> {
-    let mut bytes = Bytes::new(alloc);
-    for pair in hex.as_bytes().chunks(2) {
-        if let [high, low] = pair {
-            bytes.push(digit(*high).wrapping_mul(16).wrapping_add(digit(*low)))?;
-        }
-    }
-    Ok(bytes)
-}
 
 fn zeros(alloc: Global, count: usize) -> Result<Bytes, AllocError> {
     let zeros = vec![in alloc; 0u8; count]?;
@@ -183,7 +136,7 @@ fn faults_of_the_shelf(rt: HostRuntime) -> Result<(), Fail> {
 fn files_that_are_run_and_refused(rt: HostRuntime) -> Result<(), Fail> {
     let cases = [
         Case::new(&["A.class"], adds(), &[2], 0, REPORT),
-        Case::new(&["A.class"], locks(), &[], 3, "refused L0 file 0 at 0\n"),
+        Case::new(&["A.class"], pair(), &[], 3, "refused L0 file 0 at 0\n"),
         Case::new(
             &["A.class", "A.class"],
             adds(),
