@@ -34,7 +34,7 @@ pub data Content : Type 0 where
   IntPlace : Content
   -- a place of a reference type
   ReferencePlace : Content
-  -- a word that is counted up, word 0, or one that is stored without a look
+  -- a word that is counted up, word 0, or the header of a new object, which is stored for the first time
   Any : Content
 
 -- counts stay far below what a word holds

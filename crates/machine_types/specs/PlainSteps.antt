@@ -28,7 +28,7 @@ abbrev pub is_over : Status → Bool
 is_over (Ended e) = has_finished e
 is_over status = false
 
--- `done`, when `init` has returned and each worker is over
+-- `done`, when `init` has returned and each worker has returned or was ended by an exception
 abbrev pub is_done_due : List PlainThread → Bool
 is_done_due threads = init_has_returned threads && list_all (λ w. is_over w.status) (drop 1 threads)
 

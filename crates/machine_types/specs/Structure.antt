@@ -1,5 +1,5 @@
 -- How what a thread holds, its phase and its attempt agree with what its frames show: its locking is structured (JVMS 2.11.10).
-use Rattle.std.specs.Prelude.{◌≡◌, ℕ, ◌⊎◌, ◌+◌, ◌-◌, ◌<◌, ◌==◌, Bool, true, false, List, [], ◌∷◌, length, take, unwrap_or, slice_get, Option, Some, None, if◌then◌else◌}
+use Rattle.std.specs.Prelude.{◌≡◌, ◌≢◌, ℕ, ◌⊎◌, ◌+◌, ◌-◌, ◌<◌, ◌==◌, Bool, true, false, List, [], ◌∷◌, length, take, unwrap_or, slice_get, Option, Some, None, if◌then◌else◌}
 use Rattle.std.specs.List.{AllZip, Contains}
 use Rattle.jvm_types.specs.CodeTable.{can_throw}
 use Rattle.jvm_types.specs.Members.{is_synchronized}
@@ -142,7 +142,7 @@ IsBehindEntry code pc = (insn : Insn) × (Contains code insn) × (insn.op ≡ op
 -- at pc 0 of a synchronized method whose monitor is m, or right behind a `monitorenter`
 abbrev pub TopEnters : MarkedProgram → (m : ℕ) → List Frame → Type 0
 TopEnters c m [] = ⊥
-TopEnters c m (f ∷ fs) = (k : Standing c f) × (((f.pc ≡ 0) × (is_synchronized k.method.flags ≡ true) × (monitor_of k.method f ≡ m)) ⊎ IsBehindEntry k.method.code f.pc)
+TopEnters c m (f ∷ fs) = (k : Standing c f) × (((f.pc ≡ 0) × (is_synchronized k.method.flags ≡ true) × (monitor_of k.method f ≡ m)) ⊎ (IsBehindEntry k.method.code f.pc × (k.tags.held ≢ [])))
 
 -- ---- how the monitor of the phase is held
 
@@ -224,15 +224,15 @@ pub record Stands (c : MarkedProgram) (phase : Phase) (fs : List Frame) (held : 
 
 -- ---- inside an attempt
 
-abbrev pub IsPhaseInside : Phase → Type 0
-IsPhaseInside phases.Run = Unit {0}
-IsPhaseInside (phases.Element word stored) = Unit {0}
-IsPhaseInside (phases.Throw x class) = Unit {0}
-IsPhaseInside (phases.Enter m tried) = Unit {0}
-IsPhaseInside (phases.Leave m a) = Unit {0}
-IsPhaseInside (phases.Ending e) = Unit {0}
-IsPhaseInside (phases.Ended e) = Unit {0}
-IsPhaseInside phase = ⊥
+abbrev pub IsPhaseInside : (m : ℕ) → Phase → Type 0
+IsPhaseInside m phases.Run = Unit {0}
+IsPhaseInside m (phases.Element word stored) = Unit {0}
+IsPhaseInside m (phases.Throw x class) = Unit {0}
+IsPhaseInside m (phases.Enter n tried) = n ≡ m
+IsPhaseInside m (phases.Leave n a) = n ≡ m
+IsPhaseInside m (phases.Ending e) = Unit {0}
+IsPhaseInside m (phases.Ended e) = Unit {0}
+IsPhaseInside m phase = ⊥
 
 -- the section that an attempt runs
 abbrev pub section_of : Attempt → Section
@@ -259,7 +259,7 @@ pub record Finishes (a : Attempt) (phase : Phase) (fs : List Frame) : Type 0 whe
   pub receiver : frame.receiver ≡ a.monitor
 
 pub record AttemptStands (c : MarkedProgram) (phase : Phase) (fs : List Frame) (held : List Held) (a : Attempt) : Type 0 where
-  pub inside : IsPhaseInside phase
+  pub inside : IsPhaseInside a.monitor phase
   pub not_held : held_at held a.monitor ≡ None
   pub based : a.base < length fs
   -- with the frame of the entry put back, the thread stands as it did then
