@@ -1,8 +1,9 @@
 -- Laws of sections that run without their lock, and of the fields that they read, over every program and its tags. The running
 -- machine rests on these and not on how marks are found.
-use Rattle.std.specs.Prelude.{◌≡◌, ◌≢◌, ◌⊎◌, ℕ, suc, true, List, [], ◌∷◌, length, slice_get, slice_index, slice_index_or}
+use Rattle.std.specs.Prelude.{◌≡◌, ◌≢◌, ◌⊎◌, ℕ, suc, true, List, [], ◌∷◌, length, Option, Some, slice_get, slice_index, slice_index_or}
 use Rattle.std.specs.List.{list_any}
 use Rattle.jvm_types.specs.CodeTable.{is_init}
+use Rattle.jvm_types.specs.ProgramInvariant.{IsProgram}
 use Rattle.jvm_types.specs.declared.code.Insn.{Insn}
 use Rattle.jvm_types.specs.declared.code.Op.{Op}
 use Rattle.jvm_types.specs.declared.code.Op.TheVariants as ops
@@ -12,6 +13,7 @@ use Rattle.jvm_types.specs.declared.program.MethodInfo.{MethodInfo}
 use Rattle.jvm_types.specs.declared.program.Program.{Program}
 use Rattle.checked_program.specs.LockTags.{TagShape, is_this}
 use Rattle.checked_program.specs.TaggedCode.{Tagged, IsAt, Goes}
+use Rattle.checked_program.specs.Tagging.{HasTagging}
 use Rattle.checked_program.specs.FrozenPlaces.{AreUses, IsFrozenField, IsGuardedField, locks_this}
 use Rattle.checked_program.specs.Sections.{Section, BeginsAt, IsOwn}
 use Rattle.checked_program.specs.Marks.{callee, Calls, args_of, is_locking, HasMark}
@@ -112,9 +114,26 @@ abbrev pub ReadLaw : Type 0
 ReadLaw = (p : Program) (tags : Tagged) (uses : List FieldUse) (s : Section) (o : ℕ) (a : Part) (parts : List Part) (mode : Mode) (m : MethodInfo) (insn : Insn) (target : Target) (f : TagShape) (stack : List ℕ)
     → AreUses p tags uses → HasMark p tags uses s 0 → AreParts p tags s o (a ∷ parts) mode → IsAt p tags a.method a.at m insn target f → HasThis a.receiver f.stack stack → ReadsOnly p tags o insn.op target stack
 
+-- ---- the exit law: a marked section leaves no monitor but its own, and none where it is called off this
+
+-- each method has a tagging
+abbrev pub AreTagged : Program → Tagged → Type 0
+AreTagged p tags = (mi : ℕ) (m : MethodInfo) → slice_get p.methods mi ≡ Some m → (frames : List (Option TagShape)) × (slice_get tags mi ≡ Some frames) × HasTagging p m frames
+
+abbrev pub ExitLaw : Type 0
+ExitLaw = (p : Program) (tags : Tagged) (uses : List FieldUse) (s : Section) (o : ℕ) (a : Part) (parts : List Part) (mode : Mode) (m : MethodInfo) (insn : Insn) (target : Target) (f : TagShape)
+    → AreUses p tags uses → AreTagged p tags → HasMark p tags uses s 0 → AreParts p tags s o (a ∷ parts) mode → IsAt p tags a.method a.at m insn target f → insn.op ≡ ops.Monitorexit
+    → (mode ≡ OnThis) × (slice_index_or f.stack 0 Untagged ≡ This)
+
 -- ---- the write law: a guarded field is written on the receiver, in an `<init>` or where its monitor is entered
 
 abbrev pub WriteLaw : Type 0
 WriteLaw = (p : Program) (tags : Tagged) (fi mi i index receiver : ℕ) (m : MethodInfo) (insn : Insn) (target : Target) (f : TagShape) (stack : List ℕ) → IsGuardedField p tags fi → IsAt p tags mi i m insn target f
     → insn.op ≡ ops.Putfield index → target ≡ targets.Field fi → HasThis receiver f.stack stack
     → (slice_index stack 1 ≡ receiver) × ((is_init m ≡ true) ⊎ (list_any is_this f.held ≡ true) ⊎ (locks_this m ≡ true))
+
+-- ---- the final law: a final field of a frozen class is written on the receiver of an `<init>`
+
+abbrev pub FinalLaw : Type 0
+FinalLaw = (p : Program) (tags : Tagged) (fi mi i index receiver : ℕ) (m : MethodInfo) (insn : Insn) (target : Target) (f : TagShape) (stack : List ℕ) → IsProgram p → IsFrozenField p tags fi → IsAt p tags mi i m insn target f
+    → insn.op ≡ ops.Putfield index → target ≡ targets.Field fi → HasThis receiver f.stack stack → (is_init m ≡ true) × (slice_index stack 1 ≡ receiver)

@@ -1,15 +1,17 @@
 -- Laws of lock tagging, over every program and method.
 use Rattle.std.specs.Prelude.{◌≡◌, ℕ, ◌⊎◌, List, Option}
-use Rattle.jvm_types.specs.Verifying.{IsLaidOut}
+use Rattle.jvm_types.specs.Types.{TypeFrame}
+use Rattle.jvm_types.specs.Verifying.{HasTyping, IsLaidOut}
 use Rattle.jvm_types.specs.declared.program.MethodInfo.{MethodInfo}
 use Rattle.jvm_types.specs.declared.program.Program.{Program}
 use Rattle.jvm_types.specs.declared.refusal.SRule.{SRule}
 use Rattle.checked_program.specs.LockTags.{TagShape}
 use Rattle.checked_program.specs.Tagging.{HasTagging, IsTagRefused, IsTagAssignment}
 
--- the local law: no instruction breaks a rule, and each edge brings the held list and the tags of its target
+-- The local law: no instruction breaks a rule, and each edge brings the held list and the tags of its target. Tagging has no
+-- rule against falling off the end of the code; so the method has a typing.
 abbrev pub TagLocalLaw : Type 0
-TagLocalLaw = (p : Program) (m : MethodInfo) (frames : List (Option TagShape)) → IsLaidOut m → HasTagging p m frames → IsTagAssignment p m frames
+TagLocalLaw = (p : Program) (m : MethodInfo) (types : List (Option TypeFrame)) (frames : List (Option TagShape)) → IsLaidOut m → HasTyping p m types → HasTagging p m frames → IsTagAssignment p m frames
 
 -- a method has at most one tagging
 abbrev pub OneTagging : Type 0
