@@ -71,3 +71,15 @@ pub flat_notifications : played waits_deep (record usual { turns = 30 }) (times 
     ends.NotRun [] 129 58
 unfolding is_subclass
 flat_notifications = refl
+
+-- Turns begin anew with each entry and each wait: none of them fails five in a row, and two together would.
+pub turns_begin_anew : played (waits 3) (record usual { turns = 5 })
+    (times 9 1 ++ times 9 3 ++ times 7 1 ++ times 2 3 ++ times 11 2 ++ times 6 3 ++ times 8 2 ++ times 2 1 ++ times 6 3 ++ times 7 1 ++ times 9 3 ++ times 9 2)
+    ≡ over
+    (report ends.Returned [] 10 0 0 0 0
+    ∷ report ends.Returned (printed 0 (pos 1) ∷ []) 13 0 0 1 1
+    ∷ report ends.Returned (printed 1 (pos 2) ∷ []) 13 0 0 1 0
+    ∷ report ends.Returned [] 14 0 0 2 0 ∷ [])
+    (ends.Uncaught thrown.IllegalMonitorStateException) (shown 1 (pos 1) ∷ shown 2 (pos 2) ∷ []) 103 70
+unfolding is_subclass
+turns_begin_anew = refl
