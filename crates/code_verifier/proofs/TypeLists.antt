@@ -2,8 +2,6 @@
 use Rattle.std.proofs.Common.{◌≡◌, ℕ, zero, suc, ◌<◌, Bool, true, false, not, List, [], ◌∷◌, ◌++◌, length, take, drop, Some, refl, ap, arith}
 use Rattle.std.specs.Prelude.{◌||◌, ◌&&◌, if◌then◌else◌, slice_get, slice_set, slice_index_or}
 use Rattle.jvm_types.specs.Types.{same_type, meet, all_pairs, meets}
-use Rattle.jvm_types.specs.ClassTree.{is_subclass, common_ancestor}
-use Rattle.jvm_types.proofs.TypeOrder.{subclass_self}
 use Rattle.jvm_types.specs.Verifying.{initialised}
 use Rattle.jvm_types.specs.declared.typing.VType.{VType}
 use Rattle.jvm_types.specs.declared.typing.VType.TheVariants.{Ref}
@@ -41,9 +39,3 @@ changes_more changed (x ∷ xs) (y ∷ ys) zero t u e f =
     let other : y ≡ u = cc in
     rw (same, other) (change_more changed (same_type t (meet t u)) (all_pairs same_type xs (meets xs ys)))
 changes_more changed (x ∷ xs) (y ∷ ys) (suc i) t u e f = changes_more changed xs ys i t u e f
-
--- ---- types that meet themselves
-
-pub meet_same_class : (class : ℕ) → common_ancestor class class ≡ class
-unfolding common_ancestor
-meet_same_class class = rw (subclass_self class) refl

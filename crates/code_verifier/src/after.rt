@@ -9,7 +9,7 @@ ghost use Rattle.jvm_types.specs.declared.typing.VType.TheVariants.{Top};
 
 use crate::frames::value;
 use crate::type_lists::{fill, initialise, initialise_stack};
-use crate::types::same_type;
+use code_table::same_type;
 use jvm_types::{Given, MethodInfo, OpRow, Rows, Stack, TypeFrame, VType, Want};
 use std::alloc::{AllocError, Global};
 

@@ -13,7 +13,6 @@ mod nodes;
 mod operands;
 mod rules;
 mod type_lists;
-mod types;
 mod verifying;
 mod visit;
 

@@ -5,8 +5,7 @@ ghost use Rattle.jvm_types.specs.Verifying.{misuses, suits, some_taken, some_rea
 ghost use Rattle.code_verifier.specs.Faults.{has_fault};
 
 use crate::frames::value;
-use crate::types::{is_below, is_uninitialised};
-use code_table::IndexedMethod;
+use code_table::{IndexedMethod, is_below, is_uninitialised};
 use jvm_types::class_numbers::OBJECT_CLASS;
 use jvm_types::{MethodInfo, OpRow, Stack, TypeFrame, VType, Want};
 

@@ -6,7 +6,7 @@ ghost use Rattle.jvm_types.specs.Types.{filled, is_uninitialised, is_new, same_t
 ghost use Rattle.jvm_types.specs.Verifying.{initialised};
 ghost use Rattle.jvm_types.specs.declared.typing.VType.TheVariants.{Ref};
 
-use crate::types::{is_new, is_uninitialised, meet, same_type};
+use code_table::{is_new, is_uninitialised, meet, same_type};
 use jvm_types::{Rows, Stack, TypeFrame, VType};
 use std::alloc::AllocError;
 

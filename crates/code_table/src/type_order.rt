@@ -3,7 +3,7 @@
 ghost use Rattle.std.specs.Prelude.{◌≡◌};
 ghost use Rattle.jvm_types.specs.Types.{is_below, meet, same_type, is_uninitialised, is_new};
 
-use code_table::{common_ancestor, is_subclass};
+use crate::class_tree::{common_ancestor, is_subclass};
 use jvm_types::VType;
 
 /// Whether a type says what another says, or more.
@@ -22,7 +22,7 @@ pub fn is_below(t: VType, u: VType) -> bool
 }
 
 /// The least type that two are below.
-#[tactic(auto, using(crate::proofs::TypeLists::meet_same_class))]
+#[tactic(auto, using(crate::proofs::MeetLaws::meet_same_class))]
 pub fn meet(t: VType, u: VType) -> VType
     ensures { result ≡ meet t u }
 {
