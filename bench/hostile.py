@@ -8,8 +8,8 @@ Run it by hand from the top of the repository, after `./run --proved examples/A.
 With words, only the files whose names have one of them. A run is cut off after LIMIT seconds, or where the system
 refuses it memory beyond MOST bytes (as `ulimit -v` does; the program then answers with status 6).
 
-Most of these files have a program that is refused only after verification (no `init`), so that what is measured is
-reading, linking and verifying; the line that the program wrote stands beside the numbers.
+Each file has an empty `init`, so that what is measured is reading, linking and verifying; the first line that the
+program wrote stands beside the numbers.
 """
 import os
 import resource
@@ -18,12 +18,21 @@ import sys
 import tempfile
 import time
 
-from loading import PROGRAM, STATIC, ClassFile, one_method, u1, u2, u4
+from loading import STATIC, ClassFile, u1, u2
+from measure import PROGRAM
 
 LIMIT = 120
 MOST = 40 * 1024**3
 
 ICONST_0, ACONST_NULL, NOP, POP, RETURN, ATHROW = b"\x03", b"\x01", b"\x00", b"\x57", b"\xb1", b"\xbf"
+
+
+def one_method(code, stack, local):
+    """A class whose method `m` has this code, and whose `init` is empty."""
+    file = ClassFile("A")
+    file.method(STATIC, "m", "()V", code, stack, local)
+    file.method(STATIC, "init", "()V", RETURN, 0, 0)
+    return [file.content()]
 
 
 def padded(size):
