@@ -1,24 +1,26 @@
--- What is decided of a thread in a play is what agreement says of it, but where a limit has ended it: there a play looks at
--- the waiting bits on the monitors of objects alone.
-use Rattle.std.proofs.Common.{◌≡◌, ℕ, Bool, true, List, [], ◌∷◌, Option, Some, None, refl, sym, ap, ◌∙◌, arith}
-use Rattle.std.specs.Prelude.{◌==◌, ◌&&◌}
+-- What is decided of a thread in a play is what agreement says of it.
+use Rattle.std.proofs.Common.{◌≡◌, ℕ, Bool, true, false, List, [], ◌∷◌, Option, Some, None, refl, sym, ap, ◌∙◌, subst, inl, inr, arith}
+use Rattle.std.specs.Prelude.{◌==◌, not, ◌&&◌, ◌||◌}
+use Rattle.std.specs.List.{list_all, list_any}
 use Rattle.std.proofs.lemmas.Bool.Decides.{nat_tests}
+use Rattle.jvm_types.specs.Numbers.{has_number}
 use Rattle.jvm_types.specs.declared.outcome.End.{End}
 use Rattle.jvm_types.specs.declared.outcome.End.TheVariants as ends
 use Rattle.jvm_types.specs.declared.outcome.Thrown.{Thrown}
 use Rattle.jvm_types.specs.declared.outcome.Thrown.TheVariants as thrown
 use Rattle.jvm_types.specs.declared.program.Program.{Program}
 use Rattle.lists.proofs.TestLaws.{both_are_true}
-use Rattle.machine_types.specs.Agreement.{frames_shown, roots_shown, StatusFits, ThreadFits}
+use Rattle.machine_types.specs.Agreement.{has_wait_bit, LimitFits, IsWaiter, IsTurning, EndingFits, frames_shown, roots_shown, StatusFits, ThreadFits}
 use Rattle.machine_types.specs.Elision.{put_back}
+use Rattle.machine_types.specs.HeldMonitors.{held_at}
 use Rattle.machine_types.specs.PlainState.{Status, PlainThread}
 use Rattle.machine_types.specs.PlainState as plain
 use Rattle.machine_types.specs.ReadyObjects.{class_of, thrown_of}
-use Rattle.machine_types.specs.Threads.{Frame, Attempt, Thread, Phase}
+use Rattle.machine_types.specs.Threads.{Frame, Attempt, Thread, Phase, Held}
 use Rattle.machine_types.specs.declared.phase.After.{After}
 use Rattle.machine_types.specs.declared.phase.After.TheVariants as afters
 use Rattle.machine_types.specs.declared.phase.Phase.TheVariants as phases
-use Rattle.machine_types.proofs.Agreeing.{same_list, same_frame, same_frames, same_after, same_end, same, status_fits, thread_fits}
+use Rattle.machine_types.proofs.Agreeing.{same_list, same_frame, same_frames, same_after, same_end, same, waits_on, is_held, waits, turns, limit_fits, ending_fits, status_fits, thread_fits}
 
 -- ---- what is the same is equal
 
@@ -115,37 +117,87 @@ equal (plain.Woken m d) (plain.Woken n f) e =
 equal (plain.Ended x) (plain.Ended y) e = ap plain.Ended (equal_end x y e)
 equal x y e = cc
 
+-- ---- a thread that a limit has ended; its bit is set on no monitor outside some references
+
+waits_there : (bit : ℕ → Bool) (references : List ℕ) (status : Status) → list_all (λ m. not (bit m) || waits_on status m) references ≡ true → (m : ℕ) → has_number references m ≡ true → bit m ≡ true → waits_on status m ≡ true
+waits_there bit [] status all m is set = cc
+waits_there bit (n ∷ ns) status all m is set = by_test (n == m) refl is (λ h. waits_there bit ns status parts.1 m h set)
+  where
+    parts : ((not (bit n) || waits_on status n) ≡ true) × (list_all (λ k. not (bit k) || waits_on status k) ns ≡ true)
+    parts = both_are_true (not (bit n) || waits_on status n) (list_all (λ k. not (bit k) || waits_on status k) ns) all
+
+    here : (not (bit m) || waits_on status m) ≡ true → waits_on status m ≡ true
+    here e = subst (λ (b : Bool). (not b || waits_on status m) ≡ true) set e
+
+    by_test : (b : Bool) → (n == m) ≡ b → b || has_number ns m ≡ true → (has_number ns m ≡ true → waits_on status m ≡ true) → waits_on status m ≡ true
+    by_test true k h more = here (subst (λ (j : ℕ). (not (bit j) || waits_on status j) ≡ true) (same_number n m k) parts.0)
+    by_test false k h more = more h
+
+waiting : (status : Status) (m : ℕ) → waits_on status m ≡ true → (depth : ℕ) × (status ≡ plain.Waiting m depth)
+waiting (plain.Waiting n d) m e = (d, ap (λ (k : ℕ). plain.Waiting k d) (same_number n m e))
+waiting status m e = cc
+
+none_set : (bit : ℕ → Bool) (references : List ℕ) → ((m : ℕ) → bit m ≡ false) → list_any bit references ≡ false
+none_set bit [] none = refl
+none_set bit (m ∷ ms) none = rw (none m) (none_set bit ms none)
+
+limit_agrees : (bit : ℕ → Bool) (references : List ℕ) (status : Status) (awake : Bool) (Awake : Type 0) → ((m : ℕ) → has_number references m ≡ false → bit m ≡ false) → (awake ≡ true → Awake)
+    → limit_fits bit references status awake ≡ true → LimitFits bit status Awake
+limit_agrees bit references status awake Awake outside fits e = record {
+  waits = λ m set. waiting status m (waits_there bit references status parts.0 m (among m set (has_number references m) refl) set);
+  awake = λ none. fits (subst (λ (b : Bool). (b || awake) ≡ true) (none_set bit references none) parts.1);
+}
+  where
+    parts : (list_all (λ m. not (bit m) || waits_on status m) references ≡ true) × ((list_any bit references || awake) ≡ true)
+    parts = both_are_true _ _ e
+
+    among : (m : ℕ) → bit m ≡ true → (b : Bool) → has_number references m ≡ b → has_number references m ≡ true
+    among m set true h = h
+    among m set false h = let g : false ≡ true = sym (outside m h) ∙ set in cc
+
+has_holding : (held : Option Held) → is_held held ≡ true → (h : Held) × (held ≡ Some h)
+has_holding (Some h) e = (h, refl)
+has_holding None e = cc
+
+is_waiter : (held : List Held) (status : Status) → waits held status ≡ true → IsWaiter held status
+is_waiter held (plain.Wait m) e = (m, refl, has_holding (held_at held m) e)
+is_waiter held status e = cc
+
+is_turning : (status : Status) → turns status ≡ true → IsTurning status
+is_turning (plain.Enter m) e = inl (m, refl)
+is_turning (plain.Woken m d) e = inr (m, d, refl)
+is_turning status e = cc
+
 -- ---- a thread
 
-abbrev NoLimit : End → Type 0
-NoLimit ends.Steps = ⊥
-NoLimit ends.Turns = ⊥
-NoLimit ends.Records = ⊥
-NoLimit ends.Prints = ⊥
-NoLimit e = Unit {0}
+ending_agrees : (bit : ℕ → Bool) (references : List ℕ) (held : List Held) (end : End) (status : Status) → ((m : ℕ) → has_number references m ≡ false → bit m ≡ false)
+    → ending_fits bit references held end status ≡ true → EndingFits bit held end status
+ending_agrees bit references held ends.Steps status outside e = limit_agrees bit references status (same status plain.Run) (status ≡ plain.Run) outside (equal status plain.Run) e
+ending_agrees bit references held ends.Prints status outside e = limit_agrees bit references status (same status plain.Run) (status ≡ plain.Run) outside (equal status plain.Run) e
+ending_agrees bit references held ends.Records status outside e = limit_agrees bit references status (waits held status) (IsWaiter held status) outside (is_waiter held status) e
+ending_agrees bit references held ends.Turns status outside e = limit_agrees bit references status (turns status) (IsTurning status) outside (is_turning status) e
+ending_agrees bit references held end status outside e = equal status _ e
 
-abbrev IsUnlimited : Phase → Type 0
-IsUnlimited (phases.Ending e) = NoLimit e
-IsUnlimited (phases.Ended e) = NoLimit e
-IsUnlimited phase = Unit {0}
+status_agrees : (bit : ℕ → Bool) (references : List ℕ) (s : Thread) (phase : Phase) (status : Status) → ((m : ℕ) → has_number references m ≡ false → bit m ≡ false)
+    → status_fits bit references s phase status ≡ true → StatusFits bit s phase status
+status_agrees bit references s (phases.Ending end) status outside e = ending_agrees bit references s.held end status outside e
+status_agrees bit references s (phases.Ended end) status outside e = ending_agrees bit references s.held end status outside e
+status_agrees bit references s phase status outside e = equal status _ e
 
-pub status_agrees : (bit : ℕ → Bool) (some : Bool) (s : Thread) (phase : Phase) (status : Status) → IsUnlimited phase → status_fits bit some s phase status ≡ true → StatusFits bit s phase status
-status_agrees bit some s (phases.Ending ends.Steps) status n e = absurd n
-status_agrees bit some s (phases.Ending ends.Turns) status n e = absurd n
-status_agrees bit some s (phases.Ending ends.Records) status n e = absurd n
-status_agrees bit some s (phases.Ending ends.Prints) status n e = absurd n
-status_agrees bit some s (phases.Ended ends.Steps) status n e = absurd n
-status_agrees bit some s (phases.Ended ends.Turns) status n e = absurd n
-status_agrees bit some s (phases.Ended ends.Records) status n e = absurd n
-status_agrees bit some s (phases.Ended ends.Prints) status n e = absurd n
-status_agrees bit some s phase status n e = equal status _ e
-
-pub thread_agrees : (p : Program) (bit : ℕ → Bool) (some : Bool) (s : Thread) (a : Option Attempt) (x : PlainThread) → IsUnlimited s.phase → thread_fits p bit some s a x ≡ true → ThreadFits p bit s a x
-thread_agrees p bit some s None x n e =
-    let a : (same_frames x.frames (frames_shown s.phase s.frames) ≡ true) × ((status_fits bit some s s.phase x.status && same_list x.roots (roots_shown p s.part s.phase s.roots)) ≡ true) = both_are_true _ _ e in
-    let b : (status_fits bit some s s.phase x.status ≡ true) × (same_list x.roots (roots_shown p s.part s.phase s.roots) ≡ true) = both_are_true _ _ a.1 in
-    record { frames = equal_frames x.frames (frames_shown s.phase s.frames) a.0; status = status_agrees bit some s s.phase x.status n b.0; roots = equal_lists x.roots (roots_shown p s.part s.phase s.roots) b.1 }
-thread_agrees p bit some s (Some t) x n e =
+fits : (p : Program) (bit : ℕ → Bool) (references : List ℕ) (s : Thread) (a : Option Attempt) (x : PlainThread) → ((m : ℕ) → has_number references m ≡ false → bit m ≡ false)
+    → thread_fits p bit references s a x ≡ true → ThreadFits p bit s a x
+fits p bit references s None x outside e =
+    let a : (same_frames x.frames (frames_shown s.phase s.frames) ≡ true) × ((status_fits bit references s s.phase x.status && same_list x.roots (roots_shown p s.part s.phase s.roots)) ≡ true) = both_are_true _ _ e in
+    let b : (status_fits bit references s s.phase x.status ≡ true) × (same_list x.roots (roots_shown p s.part s.phase s.roots) ≡ true) = both_are_true _ _ a.1 in
+    record { frames = equal_frames x.frames (frames_shown s.phase s.frames) a.0; status = status_agrees bit references s s.phase x.status outside b.0; roots = equal_lists x.roots (roots_shown p s.part s.phase s.roots) b.1 }
+fits p bit references s (Some t) x outside e =
     let a : (same_frames x.frames (put_back t s.frames) ≡ true) × ((same x.status (plain.Enter t.monitor) && same_list x.roots s.roots) ≡ true) = both_are_true _ _ e in
     let b : (same x.status (plain.Enter t.monitor) ≡ true) × (same_list x.roots s.roots ≡ true) = both_are_true _ _ a.1 in
     record { frames = equal_frames x.frames (put_back t s.frames) a.0; status = equal x.status (plain.Enter t.monitor) b.0; roots = equal_lists x.roots s.roots b.1 }
+
+no_wait_bit : (references words : List ℕ) (t m : ℕ) → has_number references m ≡ false → has_wait_bit references words t m ≡ false
+no_wait_bit references words t m e = rw e refl
+
+pub thread_agrees : (p : Program) (references words : List ℕ) (t : ℕ) (s : Thread) (a : Option Attempt) (x : PlainThread) → thread_fits p (has_wait_bit references words t) references s a x ≡ true
+    → ThreadFits p (has_wait_bit references words t) s a x
+thread_agrees p references words t s a x e = fits p (has_wait_bit references words t) references s a x (no_wait_bit references words t) e

@@ -59,16 +59,16 @@ none_drawn _ r starts e = cc
 none_drawn _ r idles e = cc
 none_drawn _ r is_over e = cc
 
-fresh_owns : (v : Locks) (c : MarkedProgram) (cfg : Config) (t i : ℕ) (phase : Phase) (roots : List ℕ) → IsFreshPhase phase → ((m : ℕ) → v.lock m ≡ locks.Free 0) → Owns v (λ m. 0) t (fresh c cfg i phase roots)
+fresh_owns : (v : Locks) (c : MarkedProgram) (cfg : Config) (t i : ℕ) (phase : Phase) (roots : List ℕ) → IsFreshPhase phase → ((m : ℕ) → v.lock m ≡ locks.Free 0) → Owns v (λ m. 0) t phase (fresh c cfg i phase roots)
 fresh_owns v c cfg t i _ roots starts free = record { holds = λ m. none_by_word t (v.lock m) v.owner (free m); knows = tt; keeps_count = λ m. tt; take = tt; attempt = tt }
 fresh_owns v c cfg t i _ roots idles free = record { holds = λ m. none_by_word t (v.lock m) v.owner (free m); knows = tt; keeps_count = λ m. tt; take = tt; attempt = tt }
 fresh_owns v c cfg t i _ roots is_over free = record { holds = λ m. none_by_word t (v.lock m) v.owner (free m); knows = tt; keeps_count = λ m. tt; take = tt; attempt = tt }
 
-start_owns : (v : Locks) (c : MarkedProgram) (cfg : Config) (t : ℕ) → ((m : ℕ) → v.lock m ≡ locks.Free 0) → Owns v (λ m. 0) t (start_thread c cfg t)
+start_owns : (v : Locks) (c : MarkedProgram) (cfg : Config) (t : ℕ) → ((m : ℕ) → v.lock m ≡ locks.Free 0) → Owns v (λ m. 0) t (phase_at_start c cfg t) (start_thread c cfg t)
 start_owns v c cfg zero free = fresh_owns v c cfg 0 0 (phase_at_start c cfg 0) (init_roots c.program) (phase_is_fresh c cfg 0) free
 start_owns v c cfg (suc t) free = fresh_owns v c cfg (suc t) (suc t) phases.Idle [] idles free
 
-pub owns : (references : List ℕ) (c : MarkedProgram) (cfg : Config) → ((m : ℕ) → has_number references m ≡ true → slice_index (start_words c.program) m ≡ 0) → Owners references (start c cfg)
+pub owns : (references : List ℕ) (c : MarkedProgram) (cfg : Config) → ((m : ℕ) → has_number references m ≡ true → slice_index (start_words c.program) m ≡ 0) → Owners references (phase_at_start c cfg) (start c cfg)
 owns references c cfg zeros = record {
   count = λ m. 0;
   locks_are = record {
@@ -76,8 +76,9 @@ owns references c cfg zeros = record {
     below = λ m r e. absurd (not_fat r (lock_at references (start_words c.program) m) (free m) e);
     free = λ m seen e. count_of_free (lock_at references (start_words c.program) m) seen (free m) e;
   };
-  each = λ t x e. subst (λ (y : Thread). Owns (locks_in references (start_words c.program)) (λ m. 0) t y) (is_start_thread c cfg t x e) (start_owns (locks_in references (start_words c.program)) c cfg t free);
+  each = λ t x e. subst (λ (y : Thread). Owns (locks_in references (start_words c.program)) (λ m. 0) t (phase_at_start c cfg t) y) (is_start_thread c cfg t x e) (start_owns (locks_in references (start_words c.program)) c cfg t free);
   apart = λ t u x y e h ne r d g. none_drawn x.phase r (subst (λ (z : Thread). IsFreshPhase z.phase) (is_start_thread c cfg t x e) (phase_is_fresh c cfg t)) d;
+  within = λ m t x e. grind arith;
   few = λ m. let k : flat_holders m (start c cfg).threads ≡ 0 = none_flat c cfg m 0 (c.program.workers + 1) in grind arith;
 }
   where
@@ -101,5 +102,5 @@ zero_at words (x ∷ xs) all m e = by_test (x == m) refl e (λ h. zero_at words 
     by_test true k h more = subst (λ (j : ℕ). slice_index words j ≡ 0) (eqb-true x m k) here
     by_test false k h more = more h
 
-start_owns_of_many : (cfg : Config) → Owners (references_of (start_objects many)) (start marked cfg)
+start_owns_of_many : (cfg : Config) → Owners (references_of (start_objects many)) (phase_at_start marked cfg) (start marked cfg)
 start_owns_of_many cfg = owns (references_of (start_objects many)) marked cfg (zero_at (start_words many) (references_of (start_objects many)) refl)

@@ -22,7 +22,7 @@ pub record Facts (c : MarkedProgram) (told : Told) : Type 0 where
   pub world : World
   pub frozen : ℕ → Bool
   pub structure : Structure c was told.core.threads
-  pub owners : Owners (references_of objects) told.core
+  pub owners : Owners (references_of objects) was told.core
   pub waiting : Waiting was told.core
   pub typed : Typed c objects told.core
   pub new_objects : NewObjects c.program objects told.core

@@ -26,9 +26,9 @@ pub record EndsFit (p : Program) (o : Outcome) (q : Plain) : Type 0 where
   pub threads : (t : ℕ) (r : ThreadReport) → slice_get o.threads t ≡ Some r → EndFits r.end (first_end q t)
   pub done : EndFits o.done (done_end p q)
 
--- the ticket of a print is its place among all prints
+-- the ticket of a print, in the report of its thread, is its place among all prints
 pub record PrintsFit (o : Outcome) (q : Plain) : Type 0 where
-  pub each : (i : ℕ) (x : Printed) (r : ThreadReport) → slice_get q.prints i ≡ Some x → slice_get o.threads x.thread ≡ Some r → Contains r.prints (record { ticket = i; value = x.value })
+  pub each : (i : ℕ) (x : Printed) → slice_get q.prints i ≡ Some x → (r : ThreadReport) × (slice_get o.threads x.thread ≡ Some r) × Contains r.prints (record { ticket = i; value = x.value })
   pub no_more : sum_by (λ r. length r.prints) o.threads ≡ length q.prints
 
 -- ---- a list of events

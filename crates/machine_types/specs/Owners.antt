@@ -109,11 +109,12 @@ IsKeptIn (Some h) count = IsKeptCount h.kept count
 
 -- ---- one thread, the words, and all
 
-pub record Owns (v : Locks) (count : ℕ → ℕ) (t : ℕ) (s : Thread) : Type 0 where
+-- was: the phase that counts
+pub record Owns (v : Locks) (count : ℕ → ℕ) (t : ℕ) (was : Phase) (s : Thread) : Type 0 where
   pub holds : (m : ℕ) → hold_by_word t (v.lock m) v.owner ≡ hold_by_list (held_at s.held m)
-  pub knows : Knows v t s.phase
+  pub knows : Knows v t was
   pub keeps_count : (m : ℕ) → IsKeptIn (held_at s.held m) (count m)
-  pub take : PhaseSaw v count s.phase
+  pub take : PhaseSaw v count was
   pub attempt : AttemptSawIn v count s.cfg s.attempt
 
 pub record AreLocks (v : Locks) (count : ℕ → ℕ) : Type 0 where
@@ -138,11 +139,13 @@ abbrev pub flat_holders : (m : ℕ) → List Thread → ℕ
 flat_holders m threads = sum_by (λ x. one_if_flat (hold_by_list (held_at x.held m))) threads
 
 -- of a state with these objects
-pub record Owners (references : List ℕ) (s : Core) : Type 0 where
+pub record Owners (references : List ℕ) (was : ℕ → Phase) (s : Core) : Type 0 where
   pub count : ℕ → ℕ
   pub locks_are : AreLocks (locks_in references s.words) count
-  pub each : (t : ℕ) (x : Thread) → slice_get s.threads t ≡ Some x → Owns (locks_in references s.words) count t x
+  pub each : (t : ℕ) (x : Thread) → slice_get s.threads t ≡ Some x → Owns (locks_in references s.words) count t (was t) x
   pub apart : (t u : ℕ) (x y : Thread) → slice_get s.threads t ≡ Some x → slice_get s.threads u ≡ Some y → t ≢ u → DrewApart x y
+  -- no release leaves more than the last count
+  pub within : (m t : ℕ) (x : Thread) → slice_get s.threads t ≡ Some x → count m ≤ x.cfg.range
   -- a count is a number of releases, each of a lock that was taken
   pub few : (m : ℕ) → count m + flat_holders m s.threads ≤ sum_by (λ x. x.counts.locked) s.threads
 

@@ -38,4 +38,4 @@ StartOwesNothing = (c : MarkedProgram) (cfg : Config) (t : ℕ) → OwesNothing 
 
 -- where the lock word of each of some objects is 0
 abbrev pub StartOwns : Type 0
-StartOwns = (references : List ℕ) (c : MarkedProgram) (cfg : Config) → ((m : ℕ) → has_number references m ≡ true → slice_index (start_words c.program) m ≡ 0) → Owners references (start c cfg)
+StartOwns = (references : List ℕ) (c : MarkedProgram) (cfg : Config) → ((m : ℕ) → has_number references m ≡ true → slice_index (start_words c.program) m ≡ 0) → Owners references (phase_at_start c cfg) (start c cfg)

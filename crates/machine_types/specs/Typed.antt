@@ -105,6 +105,23 @@ abbrev pub ElementStands : (word : ℕ) → Option ℕ → List Frame → Type 0
 ElementStands word stored [] = ⊥
 ElementStands word stored (f ∷ fs) = IsElementOn word stored f.stack
 
+-- an array that is there has the element
+pub record HasElement (objects : List Object) (array i : ℕ) : Type 0 where
+  pub object : Object
+  pub there : Contains objects object
+  pub is : object.reference ≡ array
+  pub below : i < length object.values
+
+-- the array and the index are those on the stack
+abbrev pub HasElementOn : List Object → Option ℕ → List ℕ → Type 0
+HasElementOn objects None (i ∷ a ∷ s) = HasElement objects a i
+HasElementOn objects (Some v) (w ∷ i ∷ a ∷ s) = HasElement objects a i
+HasElementOn objects stored s = ⊥
+
+abbrev pub HasElementIn : List Object → Option ℕ → List Frame → Type 0
+HasElementIn objects stored [] = ⊥
+HasElementIn objects stored (f ∷ fs) = HasElementOn objects stored f.stack
+
 abbrev pub AfterHolds : MarkedProgram → Classes → After → List Frame → Type 0
 AfterHolds c is (afters.Unwind x class) fs = IsException is x class × FramesThrown c is fs
 AfterHolds c is a fs = FramesHold c is fs
@@ -155,4 +172,6 @@ pub record PlacesHold (p : Program) (objects : List Object) (words : List ℕ) :
 -- of a state with these objects
 pub record Typed (c : MarkedProgram) (objects : List Object) (s : Core) : Type 0 where
   pub threads : (t : ℕ) (x : Thread) → slice_get s.threads t ≡ Some x → ThreadHolds c (HasClass objects) x
+  -- no element is read or written behind the last one
+  pub elements : (t : ℕ) (x : Thread) (word : ℕ) (stored : Option ℕ) → slice_get s.threads t ≡ Some x → x.phase ≡ phases.Element word stored → HasElementIn objects stored x.frames
   pub places : PlacesHold c.program objects s.words
