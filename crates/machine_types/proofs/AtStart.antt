@@ -1,5 +1,5 @@
 -- The facts at the start of a run.
-use Rattle.std.proofs.Common.{◌≡◌, ◌<◌, ℕ, zero, suc, ◌+◌, ◌*◌, ◌-◌, Bool, true, false, List, [], ◌∷◌, ◌++◌, Some, refl, sym, ◌∙◌, ap, subst, arith}
+use Rattle.std.proofs.Common.{◌≡◌, ◌<◌, ℕ, zero, suc, ◌+◌, ◌*◌, ◌-◌, Bool, true, false, List, [], ◌∷◌, ◌++◌, Some, None, refl, sym, ◌∙◌, ap, subst, arith}
 use Rattle.std.specs.Prelude.{map, not, flat_map, replicate, slice_get, slice_index, slice_index_or, Contains, ◌==◌}
 use Rattle.std.specs.Int.Bits.{and_zero_l}
 use Rattle.std.specs.List.{range_with_len}
@@ -27,7 +27,7 @@ use Rattle.machine_types.specs.StartLaws.{phase_at_start}
 use Rattle.machine_types.specs.Structure.{IsStructured, Structure}
 use Rattle.machine_types.specs.Typed.{Classes, HasClass, ThreadHolds}
 use Rattle.machine_types.specs.Waiting.{is_bit_set, Waits, Waiting}
-use Rattle.machine_types.specs.Worlds.{World, IsOwnOrFinished}
+use Rattle.machine_types.specs.Worlds.{Builder, World, IsOwnOrFinished, IsViewOf}
 
 -- ---- each thread is a fresh one
 
@@ -81,10 +81,18 @@ is_typed c cfg objects t x e = subst (λ (y : Thread). ThreadHolds c (HasClass o
 none_held : (w : World) (next t : ℕ) (h : Held) → Contains [] h → IsOwnOrFinished w next t h.monitor
 none_held w next t h k = let lt : k.0 < 0 = k.1 in absurd (grind arith)
 
+-- outside an attempt a thread sees the world as it is
+sees_all : (w : World) (t : ℕ) → IsViewOf w w t None
+sees_all w t = record {
+  same = λ e v. refl;
+  others = λ v f. refl;
+  own = λ v b d e k h. let g : Some b ≡ Some d = sym e ∙ h in let i : b ≡ d = cc in subst (λ (x : Builder). x.thread ≡ t) i k;
+}
+
 fresh_keeps : (m : MarkedProgram) (frozen : ℕ → Bool) (w : World) (next : ℕ) (c : MarkedProgram) (cfg : Config) (t i : ℕ) (phase : Phase) (roots : List ℕ) → IsFreshPhase phase → ThreadKeeps m frozen w next t phase (fresh c cfg i phase roots)
-fresh_keeps m frozen w next c cfg t i _ roots starts = record { frames = tt; phase = tt; held = λ h k. none_held w next t h k; attempt = tt }
-fresh_keeps m frozen w next c cfg t i _ roots idles = record { frames = tt; phase = tt; held = λ h k. none_held w next t h k; attempt = tt }
-fresh_keeps m frozen w next c cfg t i _ roots is_over = record { frames = tt; phase = tt; held = λ h k. none_held w next t h k; attempt = tt }
+fresh_keeps m frozen w next c cfg t i _ roots starts = record { now = w; now_is = sees_all w t; now_world = λ k. k; frames = tt; phase = tt; held = λ h k. none_held w next t h k; attempt = tt }
+fresh_keeps m frozen w next c cfg t i _ roots idles = record { now = w; now_is = sees_all w t; now_world = λ k. k; frames = tt; phase = tt; held = λ h k. none_held w next t h k; attempt = tt }
+fresh_keeps m frozen w next c cfg t i _ roots is_over = record { now = w; now_is = sees_all w t; now_world = λ k. k; frames = tt; phase = tt; held = λ h k. none_held w next t h k; attempt = tt }
 
 thread_keeps : (m : MarkedProgram) (frozen : ℕ → Bool) (w : World) (next : ℕ) (c : MarkedProgram) (cfg : Config) (t i : ℕ) → ThreadKeeps m frozen w next t (phase_at_start c cfg i) (start_thread c cfg i)
 thread_keeps m frozen w next c cfg t zero = fresh_keeps m frozen w next c cfg t 0 (part_phase (init_roots c.program)) (init_roots c.program) (part_is_fresh (init_roots c.program))

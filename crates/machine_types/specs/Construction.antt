@@ -30,7 +30,7 @@ use Rattle.machine_types.specs.declared.phase.Toward.TheVariants as towards
 use Rattle.machine_types.specs.declared.phase.Phase.TheVariants as phases
 use Rattle.machine_types.specs.Standing.{Standing, Operands, Thrown, row_at, tags_of}
 use Rattle.machine_types.specs.Structure.{operands_in}
-use Rattle.machine_types.specs.Worlds.{Header, Made, Begun, Builder, builder, World, IsFinished, IsOwnOrFinished, IsWorld, finished, with_builder}
+use Rattle.machine_types.specs.Worlds.{Header, Made, Begun, Builder, builder, World, IsFinished, IsOwnOrFinished, IsWorld, IsViewOf, finished, with_builder}
 
 -- ---- some frozen classes, as a test: those with a frozen or a guarded field are among them
 
@@ -187,7 +187,7 @@ PhaseKeeps w next t (phases.NotifyOne m r u) = IsOwnOrFinished w next t m
 PhaseKeeps w next t (phases.NotifyAll m r) = IsOwnOrFinished w next t m
 PhaseKeeps w next t phase = Unit {0}
 
--- and the frames with that of the entry put back
+-- and the frames with that of the entry put back, as the world is if the attempt fails
 pub record AttemptKeeps (c : MarkedProgram) (frozen : ℕ → Bool) (w : World) (next t : ℕ) (fs : List Frame) (a : Attempt) : Type 0 where
   pub monitor : IsOwnOrFinished w next t a.monitor
   pub goes_back : FramesKeep c frozen w next t Runs (put_back a fs)
@@ -196,10 +196,14 @@ abbrev pub AttemptKeepsIn : MarkedProgram → (frozen : ℕ → Bool) → World 
 AttemptKeepsIn c frozen w next t fs None = Unit {0}
 AttemptKeepsIn c frozen w next t fs (Some a) = AttemptKeeps c frozen w next t fs a
 
--- was: the phase that counts
+-- was: the phase that counts. The frames and the phase are of the world as the thread sees it.
 pub record ThreadKeeps (c : MarkedProgram) (frozen : ℕ → Bool) (w : World) (next t : ℕ) (was : Phase) (s : Thread) : Type 0 where
-  pub frames : PhaseKeepsFrames c frozen w next t was s.frames
-  pub phase : PhaseKeeps w next t was
+  pub now : World
+  pub now_is : IsViewOf now w t s.attempt
+  -- what it sees is a world, as w is
+  pub now_world : IsWorld w (words_of c.program) next → IsWorld now (words_of c.program) next
+  pub frames : PhaseKeepsFrames c frozen now next t was s.frames
+  pub phase : PhaseKeeps now next t was
   pub held : (h : Held) → Contains s.held h → IsOwnOrFinished w next t h.monitor
   pub attempt : AttemptKeepsIn c frozen w next t s.frames s.attempt
 
