@@ -1,9 +1,10 @@
 -- The facts at the start of a run.
 use Rattle.std.proofs.Common.{◌≡◌, ◌<◌, ℕ, zero, suc, ◌+◌, ◌*◌, ◌-◌, Bool, true, false, List, [], ◌∷◌, ◌++◌, Some, None, refl, sym, ◌∙◌, ap, subst, arith}
-use Rattle.std.specs.Prelude.{map, not, flat_map, replicate, slice_get, slice_index, slice_index_or, Contains, ◌==◌}
+use Rattle.std.specs.Prelude.{map, not, flat_map, replicate, slice_get, slice_index, slice_index_or, Contains, IsTrue, ◌==◌}
 use Rattle.std.specs.Int.Bits.{and_zero_l}
-use Rattle.std.specs.List.{range_with_len}
-use Rattle.jvm_types.specs.Numbers.{has_flag}
+use Rattle.std.specs.List.{AllByRecursion, range_with_len}
+use Rattle.lists.proofs.TestLaws.{first_true, second_true, same_number}
+use Rattle.jvm_types.specs.Numbers.{has_flag, has_number}
 use Rattle.jvm_types.specs.ProgramInvariant.{words_of}
 use Rattle.jvm_types.specs.declared.program.Program.{Program}
 use Rattle.jvm_types.specs.declared.outcome.End.TheVariants as ends
@@ -22,6 +23,8 @@ use Rattle.machine_types.specs.declared.config.Config.{Config}
 use Rattle.machine_types.specs.declared.lock.Held.{Held}
 use Rattle.machine_types.specs.declared.phase.Phase.TheVariants as phases
 use Rattle.machine_types.specs.Attempts.{OwesNothing}
+use Rattle.machine_types.specs.Bounds.{FramesFit}
+use Rattle.machine_types.specs.Facts.{IsThread}
 use Rattle.machine_types.specs.Construction.{ThreadKeeps}
 use Rattle.machine_types.specs.StartLaws.{phase_at_start}
 use Rattle.machine_types.specs.Structure.{IsStructured, Structure}
@@ -47,6 +50,32 @@ pub data IsFreshPhase : Phase → Type 0 where
 part_is_fresh : (roots : List ℕ) → IsFreshPhase (part_phase roots)
 part_is_fresh [] = is_over
 part_is_fresh (number ∷ roots) = starts
+
+-- ---- what each thread was given
+
+has_itself : (n : ℕ) → (n == n) ≡ true
+has_itself n = same_number n n refl
+
+all_among : (ys xs : List ℕ) → ((n : ℕ) → has_number xs n ≡ true → has_number ys n ≡ true) → AllByRecursion (λ n. IsTrue (has_number ys n)) xs
+all_among ys [] among = tt
+all_among ys (x ∷ xs) among = (among x (first_true (x == x) (has_number xs x) (has_itself x)), all_among ys xs (λ n e. among n (second_true (x == n) (has_number xs n) e)))
+
+part_frames : (roots : List ℕ) → FramesFit (part_phase roots) [] roots
+part_frames [] = tt
+part_frames (number ∷ roots) = refl
+
+is_thread : (c : MarkedProgram) (cfg : Config) (t : ℕ) → IsThread c cfg t (start_thread c cfg t)
+is_thread c cfg zero = record {
+  number = refl;
+  program = refl;
+  settings = refl;
+  rooted = record { roots = all_among (init_roots c.program) (init_roots c.program) (λ n e. e); frames = part_frames (init_roots c.program) };
+  part = λ n. refl;
+}
+is_thread c cfg (suc t) = record { number = refl; program = refl; settings = refl; rooted = record { roots = tt; frames = tt }; part = λ n. refl }
+
+pub has_threads : (c : MarkedProgram) (cfg : Config) (t : ℕ) (x : Thread) → slice_get (start c cfg).threads t ≡ Some x → IsThread c cfg t x
+has_threads c cfg t x e = subst (λ (y : Thread). IsThread c cfg t y) (is_start_thread c cfg t x e) (is_thread c cfg t)
 
 -- ---- structure
 

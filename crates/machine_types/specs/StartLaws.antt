@@ -11,6 +11,7 @@ use Rattle.machine_types.specs.declared.config.Config.{Config}
 use Rattle.machine_types.specs.declared.phase.Phase.{Phase}
 use Rattle.machine_types.specs.Attempts.{OwesNothing}
 use Rattle.machine_types.specs.Construction.{ThreadKeeps}
+use Rattle.machine_types.specs.Facts.{IsThread}
 use Rattle.machine_types.specs.Owners.{Owners}
 use Rattle.machine_types.specs.Structure.{Structure}
 use Rattle.machine_types.specs.Typed.{HasClass, ThreadHolds}
@@ -20,6 +21,9 @@ use Rattle.machine_types.specs.Worlds.{World}
 -- the phase of each thread, which is the one that counts
 abbrev pub phase_at_start : MarkedProgram → Config → (t : ℕ) → Phase
 phase_at_start c cfg t = (start_thread c cfg t).phase
+
+abbrev pub StartHasThreads : Type 0
+StartHasThreads = (c : MarkedProgram) (cfg : Config) (t : ℕ) (x : Thread) → slice_get (start c cfg).threads t ≡ Some x → IsThread c cfg t x
 
 abbrev pub StartIsStructured : Type 0
 StartIsStructured = (c : MarkedProgram) (cfg : Config) → Structure c (phase_at_start c cfg) (start c cfg).threads

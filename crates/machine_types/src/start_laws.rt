@@ -1,6 +1,11 @@
 //! Laws of the facts at the start of a run, each the contract of a function that does nothing.
 
-ghost use Rattle.machine_types.specs.StartLaws.{StartIsStructured, StartIsTyped, StartKeeps, StartOwesNothing, StartOwns, StartWaits};
+ghost use Rattle.machine_types.specs.StartLaws.{StartHasThreads, StartIsStructured, StartIsTyped, StartKeeps, StartOwesNothing, StartOwns, StartWaits};
+
+/// Each thread has its number and settings, and the roots of its part.
+pub fn start_has_threads()
+    ensures { StartHasThreads }
+{}
 
 /// No thread has a frame, holds a monitor or is in an attempt.
 pub fn start_is_structured()
