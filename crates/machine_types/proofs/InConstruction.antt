@@ -1,6 +1,7 @@
 -- Construction, for a thread that is written out: in an `<init>` of a frozen class, which a `new` in the frame below waits for.
-use Rattle.std.proofs.Common.{ℕ, Bool, true, false, List, [], ◌∷◌, Some, None, refl, arith}
+use Rattle.std.proofs.Common.{◌≡◌, ◌≢◌, ℕ, Bool, true, false, List, [], ◌∷◌, Some, None, refl, sym, ap, subst, ◌∙◌, arith}
 use Rattle.std.specs.Prelude.{map, ◌==◌, if◌then◌else◌}
+use Rattle.std.proofs.lemmas.Bool.{eqb-true}
 use Rattle.jvm_types.specs.declared.typing.Typing.{Typing}
 use Rattle.jvm_types.specs.Types.{TypeFrame}
 use Rattle.jvm_types.specs.declared.typing.VType.TheVariants.{This, New}
@@ -8,8 +9,8 @@ use Rattle.checked_program.specs.MarkedProgram.{MarkedProgram}
 use Rattle.checked_program.proofs.TriedPrograms.{pair, tags_of}
 use Rattle.machine_types.specs.Construction.{Runs, FramesKeep}
 use Rattle.machine_types.specs.Standing.{Standing}
-use Rattle.machine_types.specs.Threads.{Frame}
-use Rattle.machine_types.specs.Worlds.{Made, Begun, builder, World}
+use Rattle.machine_types.specs.Threads.{Frame, Attempt}
+use Rattle.machine_types.specs.Worlds.{Made, Begun, Builder, builder, World, IsViewOf, finished}
 use Rattle.machine_types.proofs.InSections.{tags_by}
 
 abbrev in_init : TypeFrame
@@ -99,3 +100,23 @@ made v = if v == 3000 then Some (builder 1 0 (Made 0)) else None
 
 keeps_made : FramesKeep c is_17 made 4000 1 Runs (before ∷ [])
 keeps_made = (record { stands = before_stands; receiver = (omega arith, refl); stack = (refl, (refl, tt)); locals = tt }, tt)
+
+-- ---- an attempt may finish an object that its thread builds, which all others see as it was
+
+finishes_own : (w : World) (t a : ℕ) (builder : Builder) (attempt : Attempt) → w a ≡ Some builder → builder.thread ≡ t → IsViewOf (finished w a) w t (Some attempt)
+finishes_own w t a builder attempt is own = record {
+  same = λ none v. absurd (has_attempt none);
+  others = λ v other. unchanged v other (v == a) refl;
+  own = λ v b d e k h. still v b d e k (v == a) refl h;
+}
+  where
+    has_attempt : Some attempt ≡ None → ⊥
+    has_attempt none = cc
+
+    unchanged : (v : ℕ) → ((b : Builder) → w v ≡ Some b → b.thread ≢ t) → (test : Bool) → (v == a) ≡ test → (if test then None else w v) ≡ w v
+    unchanged v other true e = absurd (other builder (ap w (eqb-true v a e) ∙ is) own)
+    unchanged v other false e = refl
+
+    still : (v : ℕ) (b d : Builder) → w v ≡ Some b → b.thread ≡ t → (test : Bool) → (v == a) ≡ test → (if test then None else w v) ≡ Some d → d.thread ≡ t
+    still v b d e k true g h = cc
+    still v b d e k false g h = let s : Some b ≡ Some d = sym e ∙ h in let i : b ≡ d = cc in subst (λ (x : Builder). x.thread ≡ t) i k
