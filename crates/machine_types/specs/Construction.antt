@@ -11,7 +11,6 @@ use Rattle.jvm_types.specs.declared.program.MethodInfo.{MethodInfo}
 use Rattle.jvm_types.specs.declared.typing.VType.{VType}
 use Rattle.jvm_types.specs.declared.typing.VType.TheVariants as types
 use Rattle.checked_program.specs.FrozenPlaces.{IsFrozenClass, IsFrozenField, IsGuardedField}
-use Rattle.checked_program.specs.Marks.{called_method}
 use Rattle.checked_program.specs.MarkedProgram.{MarkedProgram}
 use Rattle.checked_program.specs.declared.tag.Tag.{Tag}
 use Rattle.checked_program.specs.declared.tag.Tag.TheVariants.{This}
@@ -28,7 +27,7 @@ use Rattle.machine_types.specs.declared.phase.After.TheVariants as afters
 use Rattle.machine_types.specs.declared.phase.Toward.{Toward}
 use Rattle.machine_types.specs.declared.phase.Toward.TheVariants as towards
 use Rattle.machine_types.specs.declared.phase.Phase.TheVariants as phases
-use Rattle.machine_types.specs.Standing.{Standing, Operands, Thrown, row_at, tags_of}
+use Rattle.machine_types.specs.Standing.{Standing, CallsMethod, Operands, Thrown, row_at, tags_of}
 use Rattle.machine_types.specs.Structure.{operands_in}
 use Rattle.machine_types.specs.Worlds.{Header, Made, Begun, Builder, builder, World, IsFinished, IsOwnOrFinished, IsWorld, IsViewOf, finished, with_builder}
 
@@ -123,7 +122,7 @@ pub record FrameKeeps (c : MarkedProgram) (frozen : ℕ → Bool) (w : World) (n
 pub record WaitKeeps (c : MarkedProgram) (frozen : ℕ → Bool) (w : World) (next t height callee receiver : ℕ) (f : Frame) : Type 0 where
   pub begun : Option (VType × ℕ)
   pub keeps : FrameKeeps c frozen w next t height (WaitsFor receiver begun) f
-  pub calls : called_method keeps.stands.insn.op keeps.stands.target ≡ Some callee
+  pub calls : CallsMethod c f keeps.stands callee
   pub begun_is : begun ≡ started keeps.stands.method.class (row_at c f keeps.stands).takes keeps.stands.types.stack
 
 abbrev pub KeepBelow : MarkedProgram → (frozen : ℕ → Bool) → World → (next t : ℕ) → Frame → List Frame → Type 0

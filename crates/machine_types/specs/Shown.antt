@@ -6,12 +6,11 @@ use Rattle.jvm_types.specs.declared.code.Insn.{Insn}
 use Rattle.jvm_types.specs.declared.program.MethodInfo.{MethodInfo}
 use Rattle.checked_program.specs.Visits.{frame_at}
 use Rattle.checked_program.specs.LockTags.{TagShape, same_tag}
-use Rattle.checked_program.specs.Marks.{called_method}
 use Rattle.checked_program.specs.MarkedProgram.{MarkedProgram}
 use Rattle.checked_program.specs.declared.tag.Tag.{Tag}
 use Rattle.checked_program.specs.declared.tag.Tag.TheVariants.{Untagged, This, At}
 use Rattle.machine_types.specs.Frames.{monitor_of}
-use Rattle.machine_types.specs.Standing.{Standing, Operands, Whole, Lacking, Taken, Thrown, row_at}
+use Rattle.machine_types.specs.Standing.{Standing, CallsMethod, Operands, Whole, Lacking, Taken, Thrown, row_at}
 use Rattle.machine_types.specs.Threads.{Frame}
 
 -- ---- the values of tags
@@ -80,7 +79,7 @@ pub record Shows (c : MarkedProgram) (operands : Operands) (f : Frame) (shown : 
 pub record ShowsAtCall (c : MarkedProgram) (callee : ℕ) (f : Frame) (shown : List ℕ) : Type 0 where
   pub count : ℕ
   pub shows : Shows c (Taken count) f shown
-  pub calls : called_method shows.stands.insn.op shows.stands.target ≡ Some callee
+  pub calls : CallsMethod c f shows.stands callee
   pub taken : count ≡ length (row_at c f shows.stands).takes
 
 -- the frames below one of a method

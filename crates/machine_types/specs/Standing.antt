@@ -8,6 +8,7 @@ use Rattle.jvm_types.specs.declared.program.MethodInfo.{MethodInfo}
 use Rattle.checked_program.specs.LockTags.{TagShape}
 use Rattle.checked_program.specs.TaggedCode.{Tagged, tagged_by, IsAt, row_of}
 use Rattle.checked_program.specs.MarkedProgram.{MarkedProgram}
+use Rattle.checked_program.specs.Marks.{called_method}
 use Rattle.machine_types.specs.Threads.{Frame}
 
 abbrev pub tags_of : MarkedProgram → Tagged
@@ -29,6 +30,10 @@ pub record Standing (c : MarkedProgram) (f : Frame) : Type 0 where
 
 abbrev pub row_at : (c : MarkedProgram) → (f : Frame) → Standing c f → OpRow
 row_at c f k = row_of c.program k.method k.insn k.target
+
+-- it stands at a call of a method
+abbrev pub CallsMethod : (c : MarkedProgram) → (f : Frame) → Standing c f → (callee : ℕ) → Type 0
+CallsMethod c f k callee = called_method k.insn.op k.target ≡ Some callee
 
 -- ---- what a frame has of its operands: all; all but one that is still to be pushed; all but so many that its call has taken;
 -- or what an exception leaves, of which no instruction takes any

@@ -12,7 +12,6 @@ use Rattle.jvm_types.specs.declared.program.MethodInfo.{MethodInfo}
 use Rattle.jvm_types.specs.declared.program.Program.{Program}
 use Rattle.jvm_types.specs.declared.typing.VType.{VType}
 use Rattle.jvm_types.specs.declared.typing.VType.TheVariants.{Int, Null, Ref, This, New, Top}
-use Rattle.checked_program.specs.Marks.{called_method}
 use Rattle.checked_program.specs.MarkedProgram.{MarkedProgram}
 use Rattle.machine_types.specs.Core.{Core}
 use Rattle.machine_types.specs.Elision.{put_back}
@@ -27,7 +26,7 @@ use Rattle.machine_types.specs.declared.phase.After.TheVariants as afters
 use Rattle.machine_types.specs.declared.phase.Toward.{Toward}
 use Rattle.machine_types.specs.declared.phase.Toward.TheVariants as towards
 use Rattle.machine_types.specs.declared.phase.Phase.TheVariants as phases
-use Rattle.machine_types.specs.Standing.{Standing, row_at}
+use Rattle.machine_types.specs.Standing.{Standing, CallsMethod, row_at}
 
 -- ---- values
 
@@ -69,7 +68,7 @@ pub record FrameHolds (c : MarkedProgram) (is : Classes) (count : ℕ) (f : Fram
 pub record WaitHolds (c : MarkedProgram) (is : Classes) (callee : ℕ) (f : Frame) : Type 0 where
   pub count : ℕ
   pub holds : FrameHolds c is count f
-  pub calls : called_method holds.stands.insn.op holds.stands.target ≡ Some callee
+  pub calls : CallsMethod c f holds.stands callee
   pub taken : count ≡ length (row_at c f holds.stands).takes
 
 abbrev pub HoldBelow : MarkedProgram → Classes → (callee : ℕ) → List Frame → Type 0
