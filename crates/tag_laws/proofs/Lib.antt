@@ -1,0 +1,2 @@
+pub mod VisitAnswers
+pub mod TagAnswers

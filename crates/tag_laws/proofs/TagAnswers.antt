@@ -1,0 +1,13 @@
+-- A method has one answer of tagging.
+use Rattle.checked_program.specs.TagLaws.{OneTagging, OneTagRefusal, TaggedNotRefused}
+use Rattle.checked_program.specs.Tagging.{tag_plan}
+use Rattle.tag_laws.proofs.VisitAnswers.{one_frames, framed_not_broken, one_breach}
+
+pub one_tagging_all : OneTagging
+one_tagging_all p m frames others v w = one_frames (tag_plan p m) frames others v w
+
+pub no_refusal : TaggedNotRefused
+no_refusal p m frames rule pc v b = framed_not_broken (tag_plan p m) frames rule pc v b
+
+pub one_refusal_all : OneTagRefusal
+one_refusal_all p m rule other pc at a b = one_breach (tag_plan p m) rule other pc at a b
