@@ -1,0 +1,4 @@
+pub mod MarkedReads
+pub mod FieldWrites
+pub mod SectionMoves
+pub mod SectionCalls
