@@ -2,3 +2,4 @@ pub mod MarkedReads
 pub mod FieldWrites
 pub mod SectionMoves
 pub mod SectionCalls
+pub mod OneMarks

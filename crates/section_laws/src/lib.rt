@@ -3,9 +3,11 @@
 
 pub mod field_laws;
 pub mod frame_laws;
+pub mod mark_laws;
 
 pub use field_laws::{finals_written_inside, guarded_written_locked};
 pub use frame_laws::{
     blocks_begin, callers_go_on, frames_invoke, frames_move, frames_return, methods_are_apart,
     own_goes_on, sections_read,
 };
+pub use mark_laws::{one_mark, one_use};
