@@ -4,4 +4,4 @@
 
 pub mod visit_laws;
 
-pub use visit_laws::{one_tag_refusal, one_tagging, tagged_is_not_refused};
+pub use visit_laws::{one_tag_refusal, one_tagging, tagged_is_not_refused, tagged_or_refused};
