@@ -3,3 +3,4 @@ pub mod FieldWrites
 pub mod SectionMoves
 pub mod SectionCalls
 pub mod OneMarks
+pub mod HiddenThis

@@ -4,6 +4,7 @@
 pub mod field_laws;
 pub mod frame_laws;
 pub mod mark_laws;
+pub mod object_laws;
 
 pub use field_laws::{finals_written_inside, guarded_written_locked};
 pub use frame_laws::{
@@ -11,3 +12,4 @@ pub use frame_laws::{
     own_goes_on, sections_read,
 };
 pub use mark_laws::{one_mark, one_use};
+pub use object_laws::frozen_hides_this;
