@@ -1,3 +1,4 @@
+pub mod FilledTags
 pub mod TriedPrograms
 mod TagTries
 pub mod EachReached

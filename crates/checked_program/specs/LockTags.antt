@@ -1,12 +1,9 @@
 -- Lock tags, frames of them, and their order. Two places with the same tag, other than none, hold the same value.
-use Rattle.std.specs.Prelude.{◌≡◌, ℕ, ◌-◌, Bool, true, false, ◌&&◌, ◌==◌, if◌then◌else◌, List, [], ◌∷◌, map, reverse, replicate, Option}
-use Rattle.std.specs.Option.{option_map}
+use Rattle.std.specs.Prelude.{◌≡◌, ℕ, ◌-◌, Bool, true, false, ◌&&◌, ◌==◌, if◌then◌else◌, List, [], ◌∷◌, ◌++◌, length, map, replicate}
 use Rattle.jvm_types.specs.Members.{is_static}
 use Rattle.jvm_types.specs.declared.program.MethodInfo.{MethodInfo}
 use Rattle.checked_program.specs.declared.tag.Tag.{Tag}
 use Rattle.checked_program.specs.declared.tag.Tag.TheVariants.{Untagged, This, At}
-use Rattle.checked_program.specs.declared.tag.TagFrame.{TagFrame}
-use Rattle.checked_program.specs.declared.tag.Tags.{Tags}
 
 -- ---- tags
 
@@ -34,6 +31,10 @@ meet_tags ts us = []
 abbrev pub without : ℕ → List Tag → List Tag
 without pc ts = map (λ t. if same_tag t (At pc) then Untagged else t) ts
 
+-- places of which the first have these tags, and the others up to a count none
+abbrev pub filled_tags : ℕ → List Tag → List Tag
+filled_tags n ts = ts ++ replicate (n - length ts) Untagged
+
 -- ---- frames
 
 -- the tags before an instruction, with the top of the stack and the innermost held tag first
@@ -42,13 +43,6 @@ pub record TagShape : Type 0 where
   pub locals : List Tag
   -- of the monitors that the method has entered and not left; that of a synchronized method is not among them
   pub held : List Tag
-
--- what a frame of tags says: its lists have the top, and the innermost, last
-abbrev pub tag_shape_of : TagFrame → TagShape
-tag_shape_of f = record { stack = reverse f.stack; locals = f.locals; held = reverse f.held }
-
-abbrev pub tag_shapes_of : Tags → List (Option TagShape)
-tag_shapes_of t = map (option_map tag_shape_of) t.frames
 
 -- at the start of a method `this` is in local 0 of an instance method
 abbrev pub entry_tags : MethodInfo → TagShape

@@ -9,7 +9,7 @@ use Rattle.jvm_types.specs.declared.code.Insn.{Insn}
 use Rattle.jvm_types.specs.declared.program.Target.{Target}
 use Rattle.jvm_types.specs.declared.program.MethodInfo.{MethodInfo}
 use Rattle.jvm_types.specs.declared.program.Program.{Program}
-use Rattle.checked_program.specs.LockTags.{TagShape, tag_shapes_of}
+use Rattle.checked_program.specs.LockTags.{TagShape}
 use Rattle.checked_program.specs.Tagging.{tags_after, catchers, tags_at_handler}
 use Rattle.checked_program.specs.declared.tag.Tags.{Tags}
 
@@ -18,7 +18,7 @@ abbrev pub Tagged : Type 0
 Tagged = List (List (Option TagShape))
 
 abbrev pub tagged_by : List Tags → Tagged
-tagged_by tags = map tag_shapes_of tags
+tagged_by tags = map (λ (t : Tags). t.frames) tags
 
 -- the instruction i of the method mi is reached, with what its constant names and its tags
 pub record IsAt (p : Program) (tags : Tagged) (mi i : ℕ) (m : MethodInfo) (insn : Insn) (target : Target) (f : TagShape) : Type 0 where

@@ -15,7 +15,7 @@ use Rattle.jvm_types.specs.declared.program.Program.{Program}
 use Rattle.jvm_types.specs.declared.refusal.SRule.{SRule}
 use Rattle.jvm_types.specs.declared.refusal.SRule.TheVariants.{S1, S2, S3, S4}
 use Rattle.checked_program.specs.Visits.{Meeting, Act, Break, Bring, Plan, HasFrames, IsBroken, Fits}
-use Rattle.checked_program.specs.LockTags.{TagShape, tag_shapes_of, same_tag, same_tags, meet_tags, without, entry_tags, IsShapeBelow}
+use Rattle.checked_program.specs.LockTags.{TagShape, same_tag, same_tags, meet_tags, without, entry_tags, IsShapeBelow}
 use Rattle.checked_program.specs.declared.tag.Tag.{Tag}
 use Rattle.checked_program.specs.declared.tag.Tag.TheVariants.{Untagged, This, At}
 use Rattle.checked_program.specs.declared.tag.Tags.{Tags}
@@ -118,7 +118,7 @@ abbrev pub HasTagging : Program → MethodInfo → List (Option TagShape) → Ty
 HasTagging p m frames = HasFrames (tag_plan p m) frames
 
 abbrev pub IsTaggingOf : Program → MethodInfo → Tags → Type 0
-IsTaggingOf p m t = HasTagging p m (tag_shapes_of t)
+IsTaggingOf p m t = HasTagging p m t.frames
 
 -- a method is refused by a rule, at a pc
 abbrev pub IsTagRefused : Program → MethodInfo → SRule → ℕ → Type 0

@@ -5,6 +5,8 @@ pub mod checked;
 pub mod laws;
 pub mod section;
 pub mod tag;
+pub mod tag_locals;
+pub mod tag_order;
 
 pub use checked::Checked;
 pub use laws::{
@@ -12,3 +14,5 @@ pub use laws::{
 };
 pub use section::{FieldUse, Mode, SectionMark, Spot};
 pub use tag::{Tag, TagFrame, Tags};
+pub use tag_locals::TagLocals;
+pub use tag_order::{meet_tag, same_tag, without_tag};

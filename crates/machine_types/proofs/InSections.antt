@@ -1,7 +1,7 @@
 -- The facts on one thread, for threads that are written out: inside a block that a synchronized method calls, with the lock and
 -- in an attempt.
 use Rattle.std.proofs.Common.{◌≡◌, ◌+◌, Bool, true, false, List, [], ◌∷◌, Option, Some, None, refl, inl, inr, arith}
-use Rattle.std.specs.Prelude.{map, reverse, unwrap_or, ◌==◌, if◌then◌else◌}
+use Rattle.std.specs.Prelude.{map, unwrap_or, ◌==◌, if◌then◌else◌}
 use Rattle.std.specs.Option.{option_map}
 use Rattle.jvm_types.specs.declared.typing.Typing.{Typing}
 use Rattle.jvm_types.specs.Types.{TypeFrame}
@@ -15,7 +15,6 @@ use Rattle.checked_program.specs.MarkedProgram.{MarkedProgram}
 use Rattle.checked_program.specs.declared.section.FieldUse.{FieldUse}
 use Rattle.checked_program.specs.declared.section.Mode.TheVariants.{OnThis}
 use Rattle.checked_program.specs.declared.tag.Tags.{Tags}
-use Rattle.checked_program.specs.declared.tag.TagFrame.{TagFrame}
 use Rattle.checked_program.proofs.TriedPrograms.{many, tags_of}
 use Rattle.machine_types.specs.Threads.{Frame, Attempt}
 use Rattle.machine_types.specs.declared.lock.Held.{Held}
@@ -27,11 +26,8 @@ use Rattle.machine_types.specs.Typed.{Classes, IsNullOr, FramesHold}
 
 -- ---- the program with its tags and, where they are needed, its types
 
-abbrev tag_frame : TagShape → TagFrame
-tag_frame f = record { stack = reverse f.stack; locals = f.locals; held = reverse f.held }
-
 abbrev pub tags_by : List (Option TagShape) → Tags
-tags_by frames = record { frames = map (option_map tag_frame) frames }
+tags_by frames = record { frames = frames }
 
 abbrev untyped : Typing
 untyped = record { frames = [] }

@@ -1,7 +1,7 @@
 -- The monitors that a thread holds: a list with one entry for each.
 use Rattle.std.specs.Prelude.{ℕ, ◌+◌, ◌-◌, ◌*◌, ◌==◌, max, List, [], ◌∷◌, length, Option, Some, None, option_map, if◌then◌else◌}
 use Rattle.checked_program.specs.MarkedProgram.{MarkedProgram}
-use Rattle.checked_program.specs.declared.tag.TagFrame.{TagFrame}
+use Rattle.checked_program.specs.LockTags.{TagShape}
 use Rattle.checked_program.specs.declared.tag.Tags.{Tags}
 use Rattle.machine_types.specs.Frames.{most_frames}
 use Rattle.machine_types.specs.declared.lock.Held.{Held}
@@ -31,11 +31,11 @@ shallower h = record h { depth = h.depth - 1 }
 
 -- ---- how many a thread may hold: each frame shows the monitor of its method and those of its tags
 
-abbrev pub held_in_frame : Option TagFrame → ℕ
+abbrev pub held_in_frame : Option TagShape → ℕ
 held_in_frame None = 0
 held_in_frame (Some f) = length f.held
 
-abbrev pub most_in : List (Option TagFrame) → ℕ
+abbrev pub most_in : List (Option TagShape) → ℕ
 most_in [] = 0
 most_in (f ∷ fs) = max (held_in_frame f) (most_in fs)
 
