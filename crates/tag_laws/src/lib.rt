@@ -2,6 +2,8 @@
 //! nothing. Most come from laws of visits for frames of any kind.
 #![tactic(auto)]
 
+pub mod local_laws;
 pub mod visit_laws;
 
+pub use local_laws::tagging_is_local;
 pub use visit_laws::{one_tag_refusal, one_tagging, tagged_is_not_refused, tagged_or_refused};

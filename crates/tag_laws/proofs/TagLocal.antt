@@ -1,0 +1,159 @@
+-- The local law of tags, from that of visits. Tagging reaches only what typing reaches; so its edges lead to instructions.
+use Rattle.std.proofs.Common.{◌≡◌, ℕ, zero, suc, Bool, true, false, List, [], ◌∷◌, ◌++◌, map, Option, Some, None, refl, sym, ap, ◌∙◌, subst}
+use Rattle.std.specs.Prelude.{◌==◌, if◌then◌else◌, slice_get}
+use Rattle.std.specs.List.{AllByRecursion}
+use Rattle.std.proofs.lemmas.Bool.{or_left, or_right, eq-eqb}
+use Rattle.jvm_types.specs.CodeGrammar.{is_start}
+use Rattle.jvm_types.specs.CodeTable.{row, can_throw}
+use Rattle.jvm_types.specs.declared.op_row.OpRow.{OpRow}
+use Rattle.jvm_types.specs.Types.{TypeFrame, entry_frame}
+use Rattle.jvm_types.specs.Verifying.{edges, covering, frame_after, frame_at_handler, HasTyping, IsLaidOut}
+use Rattle.jvm_types.specs.Verifying as types
+use Rattle.jvm_types.specs.declared.code.Insn.{Insn}
+use Rattle.jvm_types.specs.declared.program.MethodInfo.{MethodInfo}
+use Rattle.jvm_types.specs.declared.program.Program.{Program}
+use Rattle.jvm_types.specs.declared.program.Row.{Row}
+use Rattle.jvm_types.specs.declared.program.Target.{Target}
+use Rattle.jvm_types.specs.declared.refusal.SRule.{SRule}
+use Rattle.jvm_types.specs.declared.refusal.SRule.TheVariants.{S1, S2, S3, S4}
+use Rattle.jvm_types.proofs.EachAfter.{all_append, all_weaker}
+use Rattle.program_laws.proofs.CodeOrder.{one_number}
+use Rattle.typing_laws.proofs.EdgeTargets.{lands}
+use Rattle.typing_laws.proofs.LeastFrames.{distinct}
+use Rattle.typing_laws.proofs.LocalGoing.{begins, local_law}
+use Rattle.checked_program.specs.LockTags.{TagShape, entry_tags, IsShapeBelow}
+use Rattle.checked_program.specs.Tagging.{tags_after, catches_all, until_all, catchers, tags_at_handler, enters_untagged, exits_other, leaves_held, break_if, tag_acts, acts_at, tag_plan, HasTagging, IsSound}
+use Rattle.checked_program.specs.TagLaws.{TagLocalLaw}
+use Rattle.checked_program.specs.Visits.{Act, Bring, Fits}
+use Rattle.tag_laws.proofs.TagOrder.{tag_order}
+use Rattle.tag_laws.proofs.VisitsLocal.{Lands, ActLands, IsClosed, IsActSound, IsLocal, local}
+
+-- ---- the parts of what an instruction does
+
+all_parts : {X : Type 0} (P : X → Type 0) (xs ys : List X) → AllByRecursion P (xs ++ ys) → AllByRecursion P xs × AllByRecursion P ys
+all_parts P [] ys h = (tt, h)
+all_parts P (x ∷ xs) ys h = let more = all_parts P xs ys h.1 in ((h.0, more.0), more.1)
+
+abbrev to_handler : TagShape → Row → Act TagShape SRule
+to_handler f handler = Bring S3 (handler.handler ∷ []) (tags_at_handler f)
+
+of_handlers : (P : Act TagShape SRule → Type 0) (f : TagShape) (rows : List Row) → AllByRecursion P (map (to_handler f) rows) → AllByRecursion (λ handler. P (to_handler f handler)) rows
+of_handlers P f [] h = tt
+of_handlers P f (handler ∷ rows) h = (h.0, of_handlers P f rows h.1)
+
+to_handlers : (P : Act TagShape SRule → Type 0) (f : TagShape) (rows : List Row) → AllByRecursion (λ handler. P (to_handler f handler)) rows → AllByRecursion P (map (to_handler f) rows)
+to_handlers P f [] h = tt
+to_handlers P f (handler ∷ rows) h = (h.0, to_handlers P f rows h.1)
+
+-- ---- what is sound by acts is sound by rules
+
+unbroken : (code : List Insn) (frames : List (Option TagShape)) (b : Bool) (rule : SRule) (pc : ℕ) → AllByRecursion (IsActSound IsShapeBelow code frames) (break_if b rule pc) → b ≡ false
+unbroken code frames true rule pc h = absurd h.0
+unbroken code frames false rule pc h = refl
+
+acts_sound : (m : MethodInfo) (insn : Insn) (r : OpRow) (frames : List (Option TagShape)) (f : TagShape) → AllByRecursion (IsActSound IsShapeBelow m.code frames) (tag_acts m insn r f) → IsSound m insn r frames f
+acts_sound m insn r frames f h =
+    let P : Act TagShape SRule → Type 0 = IsActSound IsShapeBelow m.code frames in
+    let enters = break_if (enters_untagged insn.op f.stack) S1 insn.pc in
+    let exits = break_if (exits_other insn.op f.stack f.held) S2 insn.pc in
+    let brings : List (Act TagShape SRule) = Bring S3 (edges insn) (tags_after insn r f) ∷ map (to_handler f) (catchers m insn) in
+    let leaves = break_if (leaves_held m insn f.held) S4 insn.pc in
+    let outer = all_parts P (enters ++ exits ++ brings) leaves h in
+    let inner = all_parts P (enters ++ exits) brings outer.0 in
+    let tests = all_parts P enters exits inner.0 in
+    record {
+      enters = unbroken m.code frames (enters_untagged insn.op f.stack) S1 insn.pc tests.0;
+      exits = unbroken m.code frames (exits_other insn.op f.stack f.held) S2 insn.pc tests.1;
+      leaves = unbroken m.code frames (leaves_held m insn f.held) S4 insn.pc outer.1;
+      edges_fit = inner.1.0;
+      handlers_fit = all_weaker (λ handler. P (to_handler f handler)) (λ handler. Fits IsShapeBelow m.code frames (tags_at_handler f) handler.handler) (λ handler k. k.0) (catchers m insn) (of_handlers P f (catchers m insn) inner.1.1);
+    }
+
+-- ---- what typing reaches
+
+start_at : (code : List Insn) (i : ℕ) (insn : Insn) → slice_get code i ≡ Some insn → is_start code insn.pc ≡ true
+start_at [] i insn e = absurd (cc)
+start_at (x ∷ code) zero insn e = let same : x ≡ insn = cc in or_left (x.pc == insn.pc) (is_start code insn.pc) (eq-eqb x.pc insn.pc (ap (λ (y : Insn). y.pc) same))
+start_at (x ∷ code) (suc i) insn e = or_right (x.pc == insn.pc) (is_start code insn.pc) (start_at code i insn e)
+
+module _ (p : Program) (m : MethodInfo) (frames : List (Option TypeFrame)) (laid : IsLaidOut m) (typing : types.IsAssignment p m frames) where
+  -- the typing has a frame there
+  abbrev IsTyped : ℕ → TagShape → Type 0
+  IsTyped i f = (g : TypeFrame) × (slice_get frames i ≡ Some (Some g))
+
+  typed_lands : (g : TypeFrame) (f : TagShape) (to : ℕ) → types.Fits m.code frames g to → Lands IsTyped m.code f to
+  typed_lands g f to h =
+      let l = lands m frames g to h in
+      record {
+        starts = subst (λ (pc : ℕ). is_start m.code pc ≡ true) l.starts (start_at m.code l.number l.insn l.there);
+        live = λ j insn e k. (l.frame, ap (slice_get frames) (one_number m j l.number insn l.insn laid e l.there (k ∙ sym l.starts)) ∙ l.has);
+      }
+
+  rows_land : (g : TypeFrame) (f : TagShape) (rows : List Row) → AllByRecursion (λ handler. types.Fits m.code frames (frame_at_handler handler g) handler.handler) rows
+      → AllByRecursion (λ handler. ActLands IsTyped m.code (to_handler f handler)) (until_all rows)
+  rows_land g f [] h = tt
+  rows_land g f (handler ∷ rows) h = by_test (catches_all handler) (typed_lands (frame_at_handler handler g) (tags_at_handler f) handler.handler h.0) (rows_land g f rows h.1)
+    where
+      by_test : (b : Bool) → Lands IsTyped m.code (tags_at_handler f) handler.handler → AllByRecursion (λ handler. ActLands IsTyped m.code (to_handler f handler)) (until_all rows)
+          → AllByRecursion (λ handler. ActLands IsTyped m.code (to_handler f handler)) (if b then handler ∷ [] else handler ∷ until_all rows)
+      by_test true one more = ((one, tt), tt)
+      by_test false one more = ((one, tt), more)
+
+  catchers_land : (insn : Insn) (g : TypeFrame) (f : TagShape) → AllByRecursion (λ handler. types.Fits m.code frames (frame_at_handler handler g) handler.handler) (covering m insn.pc)
+      → AllByRecursion (λ handler. ActLands IsTyped m.code (to_handler f handler)) (catchers m insn)
+  catchers_land insn g f h = by_test (can_throw insn.op)
+    where
+      by_test : (b : Bool) → AllByRecursion (λ handler. ActLands IsTyped m.code (to_handler f handler)) (if b then until_all (covering m insn.pc) else [])
+      by_test true = rows_land g f (covering m insn.pc) h
+      by_test false = tt
+
+  break_lands : (b : Bool) (rule : SRule) (pc : ℕ) → AllByRecursion (ActLands IsTyped m.code) (break_if b rule pc)
+  break_lands true rule pc = (tt, tt)
+  break_lands false rule pc = tt
+
+  acts_land : (insn : Insn) (r : OpRow) (g : TypeFrame) (f : TagShape) → types.IsSound m insn r frames g → AllByRecursion (ActLands IsTyped m.code) (tag_acts m insn r f)
+  acts_land insn r g f s =
+      let P : Act TagShape SRule → Type 0 = ActLands IsTyped m.code in
+      let enters = break_if (enters_untagged insn.op f.stack) S1 insn.pc in
+      let exits = break_if (exits_other insn.op f.stack f.held) S2 insn.pc in
+      let brings : List (Act TagShape SRule) = Bring S3 (edges insn) (tags_after insn r f) ∷ map (to_handler f) (catchers m insn) in
+      let leaves = break_if (leaves_held m insn f.held) S4 insn.pc in
+      let edges_land = all_weaker (types.Fits m.code frames (frame_after m r g)) (Lands IsTyped m.code (tags_after insn r f)) (typed_lands (frame_after m r g) (tags_after insn r f)) (edges insn) s.edges_fit in
+      all_append P (enters ++ exits ++ brings) leaves
+      (all_append P (enters ++ exits) brings
+      (all_append P enters exits (break_lands (enters_untagged insn.op f.stack) S1 insn.pc) (break_lands (exits_other insn.op f.stack f.held) S2 insn.pc))
+      (edges_land, to_handlers P f (catchers m insn) (catchers_land insn g f s.handlers_fit)))
+      (break_lands (leaves_held m insn f.held) S4 insn.pc)
+
+  plan_lands : (i : ℕ) (f : TagShape) → IsTyped i f → AllByRecursion (ActLands IsTyped m.code) ((tag_plan p m).acts i f)
+  plan_lands i f typed = by_both (slice_get m.code i) refl (slice_get m.targets i) refl
+    where
+      by_both : (o : Option Insn) → slice_get m.code i ≡ o → (q : Option Target) → slice_get m.targets i ≡ q → AllByRecursion (ActLands IsTyped m.code) (acts_at p m o q f)
+      by_both None c q t = tt
+      by_both (Some insn) c None t = tt
+      by_both (Some insn) c (Some target) t = acts_land insn (row p m insn.pc target insn.op) typed.0 f (typing.sound i insn target typed.0 c t typed.1)
+
+  first_typed : IsTyped 0 (entry_tags m)
+  first_typed =
+      let l = lands m frames (entry_frame m) 0 typing.entry in
+      let b = begins m laid in
+      (l.frame, ap (slice_get frames) (one_number m 0 l.number b.0 l.insn laid (ap (λ (code : List Insn). slice_get code 0) b.2) l.there (b.3 ∙ sym l.starts)) ∙ l.has)
+
+  pub tag_closed : IsClosed (tag_plan p m) IsTyped
+  tag_closed = record { first = first_typed; meets = λ i g f a b. a; lands = plan_lands }
+
+  pub tag_local : (tags : List (Option TagShape)) → HasTagging p m tags → IsLocal (tag_plan p m) IsShapeBelow IsTyped tags
+  tag_local tags h = local (tag_plan p m) IsShapeBelow tag_order (distinct 0 m.code laid.bytes laid.code.spelled) IsTyped tag_closed (begins m laid) tags h
+
+-- ---- the law
+
+pub tag_local_law : TagLocalLaw
+tag_local_law p m types frames laid typed tagged =
+    let all = tag_local p m types laid (local_law p m types laid typed) frames tagged in
+    record {
+      long = all.long;
+      entry = all.entry;
+      sound = λ i insn target f c t e. acts_sound m insn (row p m insn.pc target insn.op) frames f
+          (subst (λ (o : Option Insn). AllByRecursion (IsActSound IsShapeBelow m.code frames) (acts_at p m o (Some target) f)) c
+          (subst (λ (q : Option Target). AllByRecursion (IsActSound IsShapeBelow m.code frames) (acts_at p m (slice_get m.code i) q f)) t (all.sound i f e)));
+    }
