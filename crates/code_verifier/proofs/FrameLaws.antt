@@ -1,13 +1,15 @@
 -- Frames by the first of their locals, with nothing known of the others.
-use Rattle.std.proofs.Common.{◌≡◌, ℕ, zero, suc, ◌+◌, ◌-◌, ◌<◌, ◌≤◌, max, Bool, true, false, not, List, [], ◌∷◌, ◌++◌, length, map, reverse, replicate, Option, Some, None, refl, sym, ap, ◌∙◌, arith}
-use Rattle.std.specs.Prelude.{◌||◌, ◌&&◌, if◌then◌else◌, slice_get, slice_set}
+use Rattle.std.proofs.Common.{◌≡◌, ℕ, zero, suc, ◌+◌, ◌-◌, ◌≤◌, min, Bool, true, false, not, List, [], ◌∷◌, ◌++◌, length, map, reverse, drop, replicate, Option, Some, None, refl, sym, ap, ◌∙◌, arith}
+use Rattle.std.specs.Prelude.{◌||◌, ◌&&◌, if◌then◌else◌, slice_set, slice_index_or}
 use Rattle.std.specs.List.{list_any}
 use Rattle.std.specs.Option.{IfSome}
-use Rattle.std.proofs.lemmas.List.{reverse-append, map-append, length-map, length-set, set-append_left, replicate-append-replicate}
+use Rattle.std.proofs.lemmas.List.{reverse-append, map-append, length-map, length-set, replicate-append-replicate}
 use Rattle.jvm_types.specs.Types.{TypeFrame, filled, is_uninitialised, is_new, same_type, same_ready, same_frame, all_pairs, meet, meets, meet_frames}
-use Rattle.jvm_types.specs.CodeTable.{value_of, locals_after}
+use Rattle.jvm_types.specs.CodeTable.{value_of, stack_after, locals_after}
 use Rattle.jvm_types.specs.Verifying.{initialised, after_start}
 use Rattle.jvm_types.specs.declared.op_row.Given.{Given}
+use Rattle.jvm_types.specs.declared.op_row.Given.TheVariants.{Fresh, Taken, Local}
+use Rattle.jvm_types.specs.declared.op_row.OpRow.{OpRow}
 use Rattle.jvm_types.specs.declared.typing.VType.{VType}
 use Rattle.jvm_types.specs.declared.typing.VType.TheVariants.{Int, Null, Ref, This, New, Top}
 use Rattle.jvm_types.proofs.FilledLaws.{length_filled}
@@ -156,9 +158,6 @@ object_started object class stack locals stack' locals' ready after u es el ea n
 
 -- ---- where a local is written
 
-pub set_filled : (n : ℕ) (ts : List VType) (i : ℕ) (t : VType) → i < length ts → slice_set (filled n ts) i t ≡ filled n (slice_set ts i t)
-set_filled n ts i t h = set-append_left ts (replicate (n - length ts) Top) i t h ∙ ap (λ k. slice_set ts i t ++ replicate (n - k) Top) (sym (length-set ts i t))
-
 append_assoc : (xs ys zs : List VType) → (xs ++ ys) ++ zs ≡ xs ++ (ys ++ zs)
 append_assoc [] ys zs = refl
 append_assoc (x ∷ xs) ys zs = ap (λ l. x ∷ l) (append_assoc xs ys zs)
@@ -169,12 +168,47 @@ filled_more n count ts h =
     append_assoc ts (replicate (count - length ts) Top) (replicate (n - length (filled count ts)) Top)
     ∙ ap (λ l. ts ++ l) (replicate-append-replicate (count - length ts) (n - length (filled count ts)) Top) ∙ ap (λ k. ts ++ replicate k Top) all
 
-pub set_past : (ts : List VType) (i : ℕ) (t : VType) → length ts ≤ i → slice_set ts i t ≡ ts
-set_past [] i t h = refl
-set_past (x ∷ xs) zero t h = absurd (omega (arith, h))
-set_past (x ∷ xs) (suc i) t h = ap (λ l. x ∷ l) (set_past xs i t (omega (arith, h)))
+-- the value of a place that is not among the first locals is that of one of which nothing is known
+index_unknown : (k i : ℕ) → slice_index_or (replicate k Top) i Top ≡ Top
+index_unknown zero i = refl
+index_unknown (suc k) zero = refl
+index_unknown (suc k) (suc i) = index_unknown k i
 
-pub local_written : (n : ℕ) (writes : Option (ℕ × Given)) (stack locals first first' : List VType) (i : ℕ) (given : Given) (t : VType) → writes ≡ Some (i, given) → filled n first ≡ locals → i < length first
-    → t ≡ value_of Top (λ u. u) stack locals given → first' ≡ slice_set first i t → filled n first' ≡ locals_after Top (λ u. u) writes stack locals
-local_written n writes stack locals first first' i given t ew ef h et es =
-    rw (ew, es) (sym (set_filled n first i t h) ∙ ap (λ l. slice_set l i t) ef ∙ ap (λ u. slice_set locals i u) et)
+index_filled : (ts : List VType) (k i : ℕ) → slice_index_or (ts ++ replicate k Top) i Top ≡ slice_index_or ts i Top
+index_filled [] k i = index_unknown k i
+index_filled (t ∷ ts) k zero = refl
+index_filled (t ∷ ts) k (suc i) = index_filled ts k i
+
+value_known : (n : ℕ) (stack first : List VType) (given : Given) → value_of Top (λ t. t) stack first given ≡ value_of Top (λ t. t) stack (filled n first) given
+value_known n stack first (Fresh t) = refl
+value_known n stack first (Taken place) = refl
+value_known n stack first (Local i) = sym (index_filled first (n - length first) i)
+
+values_known : (n : ℕ) (stack first : List VType) (gives : List Given) → map (value_of Top (λ t. t) stack first) gives ≡ map (value_of Top (λ t. t) stack (filled n first)) gives
+values_known n stack first [] = refl
+values_known n stack first (given ∷ gives) =
+    ap (λ t. t ∷ map (value_of Top (λ t. t) stack first) gives) (value_known n stack first given)
+    ∙ ap (λ ts. value_of Top (λ t. t) stack (filled n first) given ∷ ts) (values_known n stack first gives)
+
+pub stack_known : (r : OpRow) (stack first locals : List VType) → filled (length locals) first ≡ locals → stack_after Top (λ t. t) r stack first ≡ stack_after Top (λ t. t) r stack locals
+stack_known r stack first locals e =
+    ap (λ ts. ts ++ drop (length r.takes) stack) (values_known (length locals) stack first r.gives) ∙ ap (λ l. stack_after Top (λ t. t) r stack l) e
+
+set_first : (ts : List VType) (i k : ℕ) (t : VType) → min (suc i) (length ts + k) ≤ length ts → slice_set (ts ++ replicate k Top) i t ≡ slice_set ts i t ++ replicate k Top
+set_first [] i zero t h = refl
+set_first [] i (suc k) t h = absurd (omega (arith, h))
+set_first (x ∷ xs) zero k t h = refl
+set_first (x ∷ xs) (suc i) k t h = ap (λ l. x ∷ l) (set_first xs i k t (omega (arith, h)))
+
+set_filled : (n : ℕ) (ts : List VType) (i : ℕ) (t : VType) → min (suc i) n ≤ length ts → slice_set (filled n ts) i t ≡ filled n (slice_set ts i t)
+set_filled n ts i t h = set_first ts i (n - length ts) t (omega (arith, h)) ∙ ap (λ k. slice_set ts i t ++ replicate (n - k) Top) (sym (length-set ts i t))
+
+-- a local is written among the first of them, or is none of them
+pub local_written : (writes : Option (ℕ × Given)) (stack locals first : List VType) (i : ℕ) (given : Given) → writes ≡ Some (i, given) → filled (length locals) first ≡ locals → min (suc i) (length locals) ≤ length first
+    → filled (length locals) (locals_after Top (λ t. t) writes stack first) ≡ locals_after Top (λ t. t) writes stack locals
+local_written writes stack locals first i given ew ef h =
+    rw ew (
+      sym (set_filled (length locals) first i (value_of Top (λ t. t) stack first given) h)
+      ∙ ap (λ t. slice_set (filled (length locals) first) i t) (value_known (length locals) stack first given)
+      ∙ ap (λ l. slice_set l i (value_of Top (λ t. t) stack l given)) ef
+    )

@@ -1,48 +1,45 @@
 //! The frame after an instruction.
 
-ghost use Rattle.std.specs.Prelude.{◌≡◌, ◌≤◌, ℕ, Some, true, false, [], ◌∷◌, ◌++◌, map, drop, length, IfOk, OnOk};
+ghost use Rattle.std.specs.Prelude.{◌≡◌, ◌≤◌, ℕ, Some, true, false, [], ◌∷◌, length, IfOk};
 ghost use Rattle.std.specs.Option.{IfSome};
 ghost use Rattle.jvm_types.specs.Types.{filled, is_uninitialised};
-ghost use Rattle.jvm_types.specs.CodeTable.{value_of, stack_after, locals_after};
+ghost use Rattle.jvm_types.specs.CodeTable.{stack_after, locals_after};
 ghost use Rattle.jvm_types.specs.Verifying.{started, after_start, mistypes, frame_after};
 ghost use Rattle.jvm_types.specs.declared.typing.VType.TheVariants.{Top};
 
 use crate::frames::value;
 use crate::type_lists::{fill, initialise, initialise_stack};
-use code_table::same_type;
+use code_table::{Making, same_type, write_local};
 use jvm_types::{Given, MethodInfo, OpRow, Rows, Stack, TypeFrame, VType, Want};
 use std::alloc::{AllocError, Global};
 
-/// The type of a value that is pushed, or written to a local.
-fn type_given(given: Given, f: &TypeFrame) -> VType
-    ensures { result ≡ value_of Top (λ t. t) f.now.stack f.now.locals given }
-{
-    match given {
-        Given::Fresh(t) => t,
-        Given::Taken(place) => value(f.stack(), usize::from(place)).unwrap_or(VType::Top),
-        Given::Local(i) => f.local(usize::from(i)).unwrap_or(VType::Top),
-    }
-}
+/// Frames whose places hold types.
+struct Types;
 
-/// Pushes what an instruction leaves, the last first.
-fn push_all(stack: &mut Stack<VType>, gives: &[Given], f: &TypeFrame) -> Result<(), AllocError>
-    ensures { OnOk result (stack.new ≡ map (λ given. value_of Top (λ t. t) f.now.stack f.now.locals given) gives.now ++ stack.old) }
-{
-    for i in (0..gives.len()).rev() {
-        stack.push(type_given(gives[i], f))?;
+impl Making for Types {
+    type Value = VType;
+
+    ghost use Rattle.jvm_types.specs.declared.typing.VType.TheVariants.{Top};
+
+    ghost none = { λ types. Top };
+
+    ghost made = { λ types t. t };
+
+    fn none(&self) -> VType {
+        VType::Top
     }
-    Ok(())
+
+    fn made(&self, t: VType) -> VType {
+        t
+    }
 }
 
 /// The stack after an instruction that has this row, as it is before an `<init>` is called.
+#[tactic(auto, using(crate::proofs::FrameLaws::stack_known))]
 fn stack_after(alloc: Global, row: &OpRow, f: &TypeFrame) -> Result<Stack<VType>, AllocError>
     ensures { IfOk result (λ stack. stack ≡ stack_after Top (λ t. t) row.now f.now.stack f.now.locals) }
 {
-    let mut stack = f
-        .stack()
-        .without_for(alloc, row.takes.len(), row.gives.len())?;
-    push_all(&mut stack, row.gives.as_slice(), f)?;
-    Ok(stack)
+    code_table::stack_after(alloc, &Types, row, f.stack(), f.first_locals())
 }
 
 /// A copy of the first locals, and at least so many of them.
@@ -66,15 +63,12 @@ fn locals_after(
 ) -> Result<Rows<VType>, AllocError>
     ensures { IfOk result (λ locals. filled (length f.now.locals) locals ≡ locals_after Top (λ t. t) writes f.now.stack f.now.locals) }
 {
-    let Some((i, given)) = writes else {
+    let Some((i, _)) = writes else {
         return first_locals(alloc, f, 0);
     };
-    let i = usize::from(i);
-    if f.local_count() <= i {
-        return first_locals(alloc, f, 0);
-    }
-    let mut locals = first_locals(alloc, f, i + 1)?;
-    locals.set(i, type_given(given, f));
+    let count = usize::from(i) + 1;
+    let mut locals = first_locals(alloc, f, count.min(f.local_count()))?;
+    write_local(&Types, writes, f.stack(), &mut locals);
     Ok(locals)
 }
 
