@@ -12,7 +12,7 @@ use Rattle.jvm_types.specs.declared.program.Program.{Program}
 use Rattle.checked_program.specs.LockTags.{TagShape, is_this}
 use Rattle.checked_program.specs.TaggedCode.{Tagged, IsAt}
 use Rattle.checked_program.specs.FrozenPlaces.{AreUses, IsUse, IsFrozenField, IsGuardedField}
-use Rattle.checked_program.specs.Sections.{Section}
+use Rattle.checked_program.specs.Sections.{Section, IsOwn}
 use Rattle.checked_program.specs.Marks.{Callee, callee, Calls, CallsThrough, IsCalledBy, HasMark, fault, call_fault, enter_fault, read_fault, args_of, is_locking, is_own_object, BreaksAt, OwnBreaks, itself, called}
 use Rattle.checked_program.specs.SectionLaws.{Part, IsSectionPart, AreParts, HasThis, ReadsOnly, ReadLaw}
 use Rattle.checked_program.specs.declared.tag.Tag.{Tag}
@@ -106,26 +106,34 @@ pub on_receiver : (p : Program) (tags : Tagged) (s : Section) (o : ℕ) (a : Par
 on_receiver p tags s o a [] mode h e = let last : IsSectionPart p tags s o a mode = h in last.receiver
 on_receiver p tags s o a (b ∷ parts) mode h e = h.3 e
 
--- a marked section breaks no rule, nor does a method that it calls
-pub no_fault : (p : Program) (tags : Tagged) (uses : List FieldUse) (s : Section) (o i : ℕ) (a : Part) (parts : List Part) (mode : Mode) (m : MethodInfo) (insn : Insn) (target : Target) (f : TagShape)
-    → HasMark p tags uses s 0 → AreParts p tags s o (a ∷ parts) mode → ((parts ≡ []) → i ≡ a.at) → IsAt p tags a.method i m insn target f → fault p uses mode insn.op target f.stack ≡ 0
-no_fault p tags uses s o i a [] mode m insn target f k h same at = ⊎_elim (λ q. q)
-    (λ (q : fault p uses mode insn.op target f.stack ≢ 0).
-    let last : IsSectionPart p tags s o a mode = h in
-    let here : IsAt p tags s.method a.at m insn target f = subst (λ n. IsAt p tags s.method n m insn target f) (same refl) (subst (λ x. IsAt p tags x i m insn target f) last.method at) in
-    let is : fault p uses OnThis insn.op target f.stack ≡ fault p uses mode insn.op target f.stack = ap (λ b. fault p uses b insn.op target f.stack) (sym last.mode_is) in
-    let n : ℕ = fault p uses mode insn.op target f.stack in
-    let breaks : BreaksAt p tags uses (callee s.method OnThis) a.at n = record { m = m; insn = insn; target = target; f = f; at = here; fault_is = is; some = omega (arith, q) } in
-    let own : OwnBreaks p tags uses s n = record { i = a.at; own = last.own; breaks = breaks } in
-    absurd (k n (itself own)))
-    (cases_eq (fault p uses mode insn.op target f.stack) 0)
-no_fault p tags uses s o i a (b ∷ parts) mode m insn target f k h same at = ⊎_elim (λ q. q)
+-- a marked section breaks no rule
+pub own_no_fault : (p : Program) (tags : Tagged) (uses : List FieldUse) (s : Section) (i : ℕ) (m : MethodInfo) (insn : Insn) (target : Target) (f : TagShape)
+    → HasMark p tags uses s 0 → IsOwn p tags s.method s.spot i → IsAt p tags s.method i m insn target f → fault p uses OnThis insn.op target f.stack ≡ 0
+own_no_fault p tags uses s i m insn target f k own at = ⊎_elim (λ q. q)
+    (λ (q : fault p uses OnThis insn.op target f.stack ≢ 0).
+    let n : ℕ = fault p uses OnThis insn.op target f.stack in
+    let breaks : BreaksAt p tags uses (callee s.method OnThis) i n = record { m = m; insn = insn; target = target; f = f; at = at; fault_is = refl; some = omega (arith, q) } in
+    let breaks : OwnBreaks p tags uses s n = record { i = i; own = own; breaks = breaks } in
+    absurd (k n (itself breaks)))
+    (cases_eq (fault p uses OnThis insn.op target f.stack) 0)
+
+-- nor does a method that it calls
+pub called_no_fault : (p : Program) (tags : Tagged) (uses : List FieldUse) (s : Section) (o i : ℕ) (a b : Part) (parts : List Part) (mode : Mode) (m : MethodInfo) (insn : Insn) (target : Target) (f : TagShape)
+    → HasMark p tags uses s 0 → AreParts p tags s o (a ∷ b ∷ parts) mode → IsAt p tags a.method i m insn target f → fault p uses mode insn.op target f.stack ≡ 0
+called_no_fault p tags uses s o i a b parts mode m insn target f k h at = ⊎_elim (λ q. q)
     (λ (q : fault p uses mode insn.op target f.stack ≢ 0).
     let n : ℕ = fault p uses mode insn.op target f.stack in
     let breaks : BreaksAt p tags uses (callee a.method mode) i n = record { m = m; insn = insn; target = target; f = f; at = at; fault_is = refl; some = omega (arith, q) } in
     absurd (k 6 (called refl (record { called = callee a.method mode; is_called = part_called p tags s o a b parts mode h; i = i; n = n; breaks = breaks }))))
     (cases_eq (fault p uses mode insn.op target f.stack) 0)
 
+no_fault : (p : Program) (tags : Tagged) (uses : List FieldUse) (s : Section) (o : ℕ) (a : Part) (parts : List Part) (mode : Mode) (m : MethodInfo) (insn : Insn) (target : Target) (f : TagShape)
+    → HasMark p tags uses s 0 → AreParts p tags s o (a ∷ parts) mode → IsAt p tags a.method a.at m insn target f → fault p uses mode insn.op target f.stack ≡ 0
+no_fault p tags uses s o a [] mode m insn target f k h at =
+    let last : IsSectionPart p tags s o a mode = h in
+    subst (λ was. fault p uses was insn.op target f.stack ≡ 0) (sym last.mode_is) (own_no_fault p tags uses s a.at m insn target f k last.own (subst (λ mi. IsAt p tags mi a.at m insn target f) last.method at))
+no_fault p tags uses s o a (b ∷ parts) mode m insn target f k h at = called_no_fault p tags uses s o a.at a b parts mode m insn target f k h at
+
 pub read_law : ReadLaw
 read_law p tags uses s o a parts mode m insn target f stack u k h at names =
-    reads_only p tags uses u o a.receiver mode (on_receiver p tags s o a parts mode h) f.stack stack names insn.op target (no_fault p tags uses s o a.at a parts mode m insn target f k h (λ e. refl) at)
+    reads_only p tags uses u o a.receiver mode (on_receiver p tags s o a parts mode h) f.stack stack names insn.op target (no_fault p tags uses s o a parts mode m insn target f k h at)

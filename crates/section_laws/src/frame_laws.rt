@@ -1,12 +1,17 @@
 //! The frames of a section that may run without its lock, and what they may do.
 
-ghost use Rattle.checked_program.specs.SectionLaws.{ApartLaw, MoveLaw, OwnLaw, ReadLaw};
+ghost use Rattle.checked_program.specs.SectionLaws.{ApartLaw, ExitLaw, MoveLaw, OwnLaw, ReadLaw};
 ghost use Rattle.section_laws.specs.FrameLaws.{BeginLaw, InvokeLaw, ResumeLaw, ReturnLaw};
 
 /// What an instruction of such a section may do: it writes nothing, and reads no place but a frozen one, or a
 /// guarded one of the section's object.
 pub fn sections_read()
     ensures { ReadLaw }
+{}
+
+/// A `monitorexit` of such a section leaves the section's monitor, in a method that is called on its object.
+pub fn own_monitor_is_left()
+    ensures { ExitLaw }
 {}
 
 /// No method is twice among the frames of such a section.
