@@ -1,6 +1,8 @@
--- An item of a list that is set.
-use Rattle.std.proofs.Common.{◌≡◌, ◌≢◌, ℕ, zero, suc, List, [], ◌∷◌, Some, refl, sym, ap}
+-- An item of a list that is set, and each item where all pass a test.
+use Rattle.std.proofs.Common.{◌≡◌, ◌≢◌, ℕ, zero, suc, Bool, true, List, [], ◌∷◌, Some, refl, sym, ap, subst}
 use Rattle.std.specs.Prelude.{slice_get, slice_set}
+use Rattle.std.specs.List.{list_all}
+use Rattle.lists.proofs.TestLaws.{both_are_true}
 
 -- to what it is
 pub set_as_it_is : {A : Type 0} (xs : List A) (i : ℕ) (x : A) → slice_get xs i ≡ Some x → slice_set xs i x ≡ xs
@@ -19,3 +21,8 @@ got_other (z ∷ zs) zero zero x n = absurd (n refl)
 got_other (z ∷ zs) zero (suc j) x n = refl
 got_other (z ∷ zs) (suc i) zero x n = refl
 got_other (z ∷ zs) (suc i) (suc j) x n = got_other zs i j x (λ e. n (ap suc e))
+
+pub every : {X : Type 0} (test : X → Bool) (xs : List X) → list_all test xs ≡ true → (i : ℕ) (x : X) → slice_get xs i ≡ Some x → test x ≡ true
+every test [] all i x e = cc
+every {X} test (y ∷ ys) all zero x e = let g : y ≡ x = cc in subst (λ (z : X). test z ≡ true) g (both_are_true (test y) (list_all test ys) all).0
+every test (y ∷ ys) all (suc i) x e = every test ys (both_are_true (test y) (list_all test ys) all).1 i x e

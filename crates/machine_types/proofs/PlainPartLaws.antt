@@ -1,10 +1,9 @@
 -- Laws of the plain machine's steps: the last exit, the notification of all, the begin of a part, instructions and exceptions.
-use Rattle.std.proofs.Common.{◌≡◌, ◌≢◌, ◌⊎◌, inl, inr, ℕ, zero, suc, ◌+◌, Bool, true, false, List, [], ◌∷◌, filter, map, Option, Some, None, refl, sym, ap, ◌∙◌, subst, arith}
-use Rattle.std.specs.Prelude.{cond, drop, not, ◌==◌, ◌&&◌, nat_lt, nat_le, option_map, option_and_then, slice_get, slice_set}
+use Rattle.std.proofs.Common.{◌≡◌, ◌≢◌, inl, inr, ℕ, zero, suc, ◌+◌, Bool, true, false, List, [], ◌∷◌, map, Option, Some, None, refl, sym, ap, ◌∙◌, subst}
+use Rattle.std.specs.Prelude.{cond, drop, not, ◌==◌, nat_lt, nat_le, option_map, option_and_then, slice_get}
 use Rattle.std.specs.List.{list_all, list_any}
 use Rattle.lists.proofs.TestLaws.{both_are_true}
 use Rattle.lists.proofs.ListLaws.{same_some}
-use Rattle.jvm_types.specs.Members.{is_synchronized}
 use Rattle.jvm_types.specs.declared.code.Insn.{Insn}
 use Rattle.jvm_types.specs.declared.outcome.End.{End}
 use Rattle.jvm_types.specs.declared.outcome.End.TheVariants as ends
@@ -16,15 +15,15 @@ use Rattle.jvm_types.specs.declared.program.Row.{Row}
 use Rattle.jvm_types.specs.declared.program.Target.{Target}
 use Rattle.machine_types.specs.Agreement.{depth_for}
 use Rattle.machine_types.specs.Effects.{Effect, Writes, Indexes, Makes, Prints, Returns, Leaves, Waits, Notifies, NotifiesAll, read_by}
-use Rattle.machine_types.specs.Frames.{Top, top_of, top_at, top_in, at_pc, frames_of, effect_at, entry_frame, has_room, handler_at, monitor_of}
+use Rattle.machine_types.specs.Frames.{Top, top_of, top_at, top_in, at_pc, frames_of, effect_at, entry_frame, handler_at, monitor_of}
 use Rattle.machine_types.specs.Ints.{low}
 use Rattle.machine_types.specs.Onward.{Onward, Running, Leaving, Uncaught, after, root_arguments, rooted, unwound, handed, dispatched, done}
 use Rattle.machine_types.specs.Parts.{done_roots}
-use Rattle.machine_types.specs.PlainInstructions.{did, indexed, indexed_in, instructed, instructed_by, got_by}
-use Rattle.machine_types.specs.PlainLaws.{Steps, step, LastExitFrees, ExitGoesOn, AllAreWoken, NoOtherIsWoken, TakesRoot, BeginTakesRoot, BeginsDone, DoneBegins, InitHasReturned, WorkersBeginBehindInit, HasFinished, DoneBeginsLast, IsOwnStep, DoIsOwn, KeepsMemory, InstructionsChangeMemory, ExceptionGoes, ExceptionsGo}
+use Rattle.machine_types.specs.PlainInstructions.{did, indexed_in, instructed, got_by}
+use Rattle.machine_types.specs.PlainLaws.{Steps, LastExitFrees, ExitGoesOn, AllAreWoken, NoOtherIsWoken, TakesRoot, BeginTakesRoot, BeginsDone, DoneBegins, InitHasReturned, WorkersBeginBehindInit, HasFinished, DoneBeginsLast, IsOwnStep, DoIsOwn, KeepsMemory, InstructionsChangeMemory, ExceptionGoes, ExceptionsGo}
 use Rattle.machine_types.specs.PlainState.{Plain, PlainThread, Holding, Status, value_at, written, holding_at, without_holding, with_thread, with_status, held_by, let_go, goes_on, over}
 use Rattle.machine_types.specs.PlainState as plain
-use Rattle.machine_types.specs.PlainSteps.{first_is_return, init_has_returned, is_over, is_done_due, is_due, begun, may_do_done, begins, entered, left, exited, waited, waits_on, woken, wakes, wakes_one, notified, all_notified, retaken, step_at}
+use Rattle.machine_types.specs.PlainSteps.{first_is_return, init_has_returned, is_over, is_due, begun, may_do_done, begins, entered, left, exited, waited, waits_on, woken, wakes, wakes_one, notified, all_notified, retaken, step_at}
 use Rattle.machine_types.specs.ReadyObjects.{class_of}
 use Rattle.machine_types.specs.Threads.{Frame}
 use Rattle.machine_types.specs.Words.{header_length, value_word, variable_word}
@@ -33,7 +32,7 @@ use Rattle.machine_types.specs.declared.phase.After.TheVariants as afters
 use Rattle.machine_types.specs.declared.plain.Act.{Act}
 use Rattle.machine_types.specs.declared.plain.Act.TheVariants as acts
 use Rattle.machine_types.proofs.Lists.{got_when_set, got_other, every}
-use Rattle.machine_types.proofs.PlainStepLaws.{by_status, is_same, are_same, own_for, depth_is}
+use Rattle.machine_types.proofs.PlainStepLaws.{by_status, is_same, are_same, depth_is}
 
 -- ---- the last exit
 

@@ -43,15 +43,15 @@ no_other_step p q t x act e d = ap (step_of p q t act) e ∙ no_step p q t x act
 
 -- ---- the step of a thread by its status
 
-by_status : (p : Program) (q r : Plain) (t : ℕ) (x : PlainThread) (act : Act) (status : Status) → Steps p q r t x act → x.status ≡ status → step_at p q t x act status ≡ Some r
+pub by_status : (p : Program) (q r : Plain) (t : ℕ) (x : PlainThread) (act : Act) (status : Status) → Steps p q r t x act → x.status ≡ status → step_at p q t x act status ≡ Some r
 by_status p q r t x act status h s = sym (ap (step_of p q t act) h.thread ∙ ap (step_at p q t x act) s) ∙ h.to
 
 -- ---- holders
 
-is_same : (n : ℕ) → (n == n) ≡ true
+pub is_same : (n : ℕ) → (n == n) ≡ true
 is_same n = grind (arith, nat_tests)
 
-are_same : (n k : ℕ) → (n == k) ≡ true → n ≡ k
+pub are_same : (n k : ℕ) → (n == k) ≡ true → n ≡ k
 are_same n k e = grind (arith, nat_tests)
 
 are_apart : (n k : ℕ) → n ≢ k → (n == k) ≡ false
@@ -61,10 +61,10 @@ are_apart n k e = grind (arith, nat_tests)
 none_for : (t u : ℕ) (h : Holding) → (h.holder == t) ≡ true → u ≢ t → depth_for u (Some h) ≡ None
 none_for t u h e n = rw (are_apart h.holder u (λ i. n (sym i ∙ are_same h.holder t e))) refl
 
-own_for : (t : ℕ) (h : Holding) → (h.holder == t) ≡ true → depth_for t (Some h) ≡ Some h.depth
+pub own_for : (t : ℕ) (h : Holding) → (h.holder == t) ≡ true → depth_for t (Some h) ≡ Some h.depth
 own_for t h e = rw e refl
 
-found_when_put : (e : Holding) (hs : List Holding) → holding_at (with_holding e hs) e.monitor ≡ Some e
+pub found_when_put : (e : Holding) (hs : List Holding) → holding_at (with_holding e hs) e.monitor ≡ Some e
 found_when_put e [] = rw (is_same e.monitor) refl
 found_when_put e (h ∷ hs) = by_test (h.monitor == e.monitor) refl (found_when_put e hs)
   where
@@ -117,7 +117,7 @@ shallower_by p q r t m depth a x h true e d s = by_onward (after p x.frames a) (
         subst (λ (z : Plain). depth_for t (holding_at z.holdings m) ≡ Some (suc depth)) is (held_in q t m (suc depth))
 shallower_by p q r t m depth a x h false e d s = cc
 
-depth_is : (t n : ℕ) (h : Holding) (b : Bool) → (h.holder == t) ≡ b → (if b then Some h.depth else None) ≡ Some n → h.depth ≡ n
+pub depth_is : (t n : ℕ) (h : Holding) (b : Bool) → (h.holder == t) ≡ b → (if b then Some h.depth else None) ≡ Some n → h.depth ≡ n
 depth_is t n h true e s = cc
 depth_is t n h false e s = cc
 

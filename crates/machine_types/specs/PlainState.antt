@@ -1,6 +1,6 @@
 -- The state of the plain machine: threads, objects and ordinary monitors (JVMS 2.5, 2.6, 2.11.10), with no words, counts or
 -- attempts; and the state that it starts in.
-use Rattle.std.specs.Prelude.{ℕ, ℤ, zero, ◌+◌, ◌==◌, Bool, false, List, [], ◌∷◌, ◌++◌, map, Option, Some, None, slice_set, if◌then◌else◌}
+use Rattle.std.specs.Prelude.{ℕ, ℤ, zero, ◌+◌, ◌==◌, Bool, false, not, List, [], ◌∷◌, ◌++◌, filter, map, Option, Some, None, slice_set, if◌then◌else◌}
 use Rattle.std.specs.List.{range_with_len}
 use Rattle.std.specs.Option.{option_or}
 use Rattle.jvm_types.specs.ProgramInvariant.{words_of}
@@ -101,8 +101,7 @@ with_holding e [] = e ∷ []
 with_holding e (h ∷ hs) = if h.monitor == e.monitor then e ∷ hs else h ∷ with_holding e hs
 
 abbrev pub without_holding : (m : ℕ) → List Holding → List Holding
-without_holding m [] = []
-without_holding m (h ∷ hs) = if h.monitor == m then hs else h ∷ without_holding m hs
+without_holding m hs = filter (λ h. not (h.monitor == m)) hs
 
 abbrev pub is_holder : (t : ℕ) → Option Holding → Bool
 is_holder t None = false
