@@ -1,16 +1,14 @@
--- Owners at the start of a run, where the lock word of each object is 0.
+-- Owners at the start of a run: the lock word of each object is 0.
 use Rattle.std.proofs.Common.{◌≡◌, ℕ, zero, suc, ◌+◌, Bool, true, false, List, [], ◌∷◌, Option, Some, None, refl, ap, subst, arith}
-use Rattle.std.specs.Prelude.{map, slice_index, ◌==◌, ◌&&◌, ◌||◌, if◌then◌else◌}
+use Rattle.std.specs.Prelude.{map, slice_index, ◌==◌, ◌||◌, if◌then◌else◌, slice_get}
 use Rattle.std.specs.List.{range_with_len}
 use Rattle.std.proofs.lemmas.Bool.{eqb-true}
 use Rattle.jvm_types.specs.Numbers.{has_number}
-use Rattle.checked_program.proofs.EachReached.{both}
-use Rattle.checked_program.proofs.TriedPrograms.{many}
 use Rattle.checked_program.specs.MarkedProgram.{MarkedProgram}
 use Rattle.machine_types.specs.Core.{start, start_thread}
 use Rattle.machine_types.specs.HeldMonitors.{held_at}
 use Rattle.machine_types.specs.LockWords.{lock_of}
-use Rattle.machine_types.specs.PlainMemory.{start_objects}
+use Rattle.machine_types.specs.PlainMemory.{Object, start_objects}
 use Rattle.machine_types.specs.StartWords.{start_words}
 use Rattle.machine_types.specs.Parts.{init_roots}
 use Rattle.machine_types.specs.Threads.{Thread, fresh}
@@ -21,9 +19,9 @@ use Rattle.machine_types.specs.declared.lock.LockWord.TheVariants as locks
 use Rattle.machine_types.specs.declared.phase.Phase.{Phase}
 use Rattle.machine_types.specs.declared.phase.Phase.TheVariants as phases
 use Rattle.machine_types.specs.Owners.{Locks, lock_at, locks_in, NotHeld, hold_by_word, hold_by_list, drawn_by, Owns, flat_holders, one_if_flat, references_of, Owners}
-use Rattle.machine_types.proofs.InSections.{marked}
 use Rattle.machine_types.proofs.AtStart.{IsFreshPhase, starts, idles, is_over, is_start_thread, phase_is_fresh}
-use Rattle.machine_types.specs.StartLaws.{phase_at_start}
+use Rattle.machine_types.specs.StartLaws.{phase_at_start, StartOwns}
+use Rattle.machine_types.proofs.PlacesAtStart.{lock_is_free}
 
 -- ---- owners, where the lock word of each object is 0
 
@@ -68,7 +66,7 @@ start_owns : (v : Locks) (c : MarkedProgram) (cfg : Config) (t : ℕ) → ((m : 
 start_owns v c cfg zero free = fresh_owns v c cfg 0 0 (phase_at_start c cfg 0) (init_roots c.program) (phase_is_fresh c cfg 0) free
 start_owns v c cfg (suc t) free = fresh_owns v c cfg (suc t) (suc t) phases.Idle [] idles free
 
-pub owns : (references : List ℕ) (c : MarkedProgram) (cfg : Config) → ((m : ℕ) → has_number references m ≡ true → slice_index (start_words c.program) m ≡ 0) → Owners references (phase_at_start c cfg) (start c cfg)
+owns : (references : List ℕ) (c : MarkedProgram) (cfg : Config) → ((m : ℕ) → has_number references m ≡ true → slice_index (start_words c.program) m ≡ 0) → Owners references (phase_at_start c cfg) (start c cfg)
 owns references c cfg zeros = record {
   count = λ m. 0;
   locks_are = record {
@@ -85,22 +83,16 @@ owns references c cfg zeros = record {
     free : (m : ℕ) → lock_at references (start_words c.program) m ≡ locks.Free 0
     free m = free_at references (start_words c.program) zeros m
 
--- ---- in a program that is written out
+-- ---- the lock word of each object is 0
 
-abbrev all_zero : (words references : List ℕ) → Bool
-all_zero words [] = true
-all_zero words (x ∷ xs) = (slice_index words x == 0) && all_zero words xs
-
-zero_at : (words references : List ℕ) → all_zero words references ≡ true → (m : ℕ) → has_number references m ≡ true → slice_index words m ≡ 0
-zero_at words [] all m e = cc
-zero_at words (x ∷ xs) all m e = by_test (x == m) refl e (λ h. zero_at words xs (both (slice_index words x == 0) (all_zero words xs) all).1 m h)
+among : (objects : List Object) (m : ℕ) → has_number (references_of objects) m ≡ true → (i : ℕ) × (o : Object) × (slice_get objects i ≡ Some o) × (o.reference ≡ m)
+among [] m e = cc
+among (o ∷ os) m e = by_test (o.reference == m) refl e (among os m)
   where
-    here : slice_index words x ≡ 0
-    here = eqb-true (slice_index words x) 0 (both (slice_index words x == 0) (all_zero words xs) all).0
+    by_test : (b : Bool) → (o.reference == m) ≡ b → b || has_number (references_of os) m ≡ true → (has_number (references_of os) m ≡ true → (i : ℕ) × (x : Object) × (slice_get os i ≡ Some x) × (x.reference ≡ m))
+        → (i : ℕ) × (x : Object) × (slice_get (o ∷ os) i ≡ Some x) × (x.reference ≡ m)
+    by_test true k h more = (0, o, refl, eqb-true o.reference m k)
+    by_test false k h more = let x = more h in (suc x.0, x.1, x.2, x.3)
 
-    by_test : (b : Bool) → (x == m) ≡ b → b || has_number xs m ≡ true → (has_number xs m ≡ true → slice_index words m ≡ 0) → slice_index words m ≡ 0
-    by_test true k h more = subst (λ (j : ℕ). slice_index words j ≡ 0) (eqb-true x m k) here
-    by_test false k h more = more h
-
-start_owns_of_many : (cfg : Config) → Owners (references_of (start_objects many)) (phase_at_start marked cfg) (start marked cfg)
-start_owns_of_many cfg = owns (references_of (start_objects many)) marked cfg (zero_at (start_words many) (references_of (start_objects many)) refl)
+pub start_owns_all : StartOwns
+start_owns_all c cfg is = owns (references_of (start_objects c.program)) c cfg (λ m e. let x = among (start_objects c.program) m e in subst (λ (n : ℕ). slice_index (start_words c.program) n ≡ 0) x.3 (lock_is_free c.program is x.0 x.1 x.2))

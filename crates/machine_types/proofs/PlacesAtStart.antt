@@ -1,49 +1,224 @@
--- Places at the start of a run of a program that is written out: they lie apart, and the rest of the heap is unused.
-use Rattle.std.proofs.Common.{◌≡◌, ◌≢◌, ℕ, zero, suc, ◌<◌, ◌≤◌, Bool, true, false, List, [], ◌∷◌, length, Some, refl, sym, ap, subst, inl, inr, arith}
-use Rattle.std.specs.Prelude.{cond, drop, filter, map, Contains, not, nat_le, nat_lt, ◌==◌, ◌&&◌, ◌||◌, slice_get, slice_index}
-use Rattle.std.specs.List.{list_all}
-use Rattle.std.proofs.lemmas.Bool.{eqb-true}
+-- Places at the start of a run of a linked program: they lie apart, and the rest of the heap is unused.
+use Rattle.std.proofs.Common.{◌≡◌, ◌≢◌, ◌⊎◌, ⊎_elim, inl, inr, ℕ, zero, suc, ◌+◌, ◌-◌, ◌*◌, ◌<◌, ◌≤◌, Bool, true, false, cond, List, [], ◌∷◌, ◌++◌, length, take, Some, refl, sym, ap, subst, ◌∙◌, length-append, append_assoc, arith}
+use Rattle.std.specs.Prelude.{filter, flat_map, map, replicate, Contains, not, nat_le, nat_lt, ◌==◌, ◌&&◌, slice_get, slice_index}
+use Rattle.std.specs.List.{list_all, range_with_len, sum_by}
+use Rattle.std.proofs.lemmas.List.{length-map, length-replicate}
+use Rattle.std.proofs.lemmas.Bool.{cases_order, eqb-true}
 use Rattle.std.proofs.lemmas.Bool.Decides.{nat_tests}
 use Rattle.lists.proofs.TestLaws.{both_are_true}
-use Rattle.jvm_types.specs.ClassTree.{int_array_class}
+use Rattle.lists.proofs.ListLaws.{same_some}
+use Rattle.jvm_types.specs.ClassNames.{class_itself, file_class}
+use Rattle.jvm_types.specs.Layout.{first_class_word}
 use Rattle.jvm_types.specs.Members.{is_static}
-use Rattle.jvm_types.specs.ProgramInvariant.{instances_among, words_of}
+use Rattle.jvm_types.specs.ProgramInvariant.{IsProgram, instances_among, statics_among, words_of}
 use Rattle.jvm_types.specs.declared.program.FieldInfo.{FieldInfo}
-use Rattle.checked_program.proofs.TriedPrograms.{many}
-use Rattle.machine_types.specs.Core.{start}
+use Rattle.jvm_types.specs.declared.program.Program.{Program}
+use Rattle.jvm_types.proofs.EachAfter.{sum_first}
+use Rattle.program_laws.proofs.FieldOrder.{before_at, statics_inside, statics_apart}
 use Rattle.machine_types.specs.Ints.{word_of}
-use Rattle.machine_types.specs.ObjectsApart.{IsBeside, IsOutside, LieApart}
-use Rattle.machine_types.specs.PlainMemory.{Object, StaticValue, object_end, start_objects, start_statics}
-use Rattle.machine_types.specs.ReadyObjects.{first_ready}
-use Rattle.machine_types.specs.UnusedWords.{AreUnused}
-use Rattle.machine_types.specs.declared.config.Config.{Config}
-use Rattle.machine_types.proofs.InSections.{marked}
+use Rattle.machine_types.specs.ObjectsApart.{IsBeside, IsOutside}
+use Rattle.machine_types.specs.PlainMemory.{Object, StaticValue, object_end, objects_from, class_objects, start_objects, start_statics}
+use Rattle.machine_types.specs.ReadyObjects.{ready_classes, first_ready}
+use Rattle.machine_types.specs.StartLaws.{StartLiesApart, StartIsUnused}
+use Rattle.machine_types.specs.StartWords.{object_words, statics_of, class_words, classes_of, start_words}
+use Rattle.machine_types.specs.Words.{most_records}
+use Rattle.machine_types.proofs.Lists.{every}
 
--- ---- elements, and two of them, that pass a test
+-- ---- how many static fields there are, and how many of the classes below one
 
-every : {X : Type 0} (test : X → Bool) (xs : List X) → list_all test xs ≡ true → (i : ℕ) (x : X) → slice_get xs i ≡ Some x → test x ≡ true
-every test [] all i x e = cc
-every {X} test (y ∷ ys) all zero x e = let g : y ≡ x = cc in subst (λ (z : X). test z ≡ true) g (both_are_true (test y) (list_all test ys) all).0
-every test (y ∷ ys) all (suc i) x e = every test ys (both_are_true (test y) (list_all test ys) all).1 i x e
+abbrev one_static : FieldInfo → ℕ
+one_static f = cond (is_static f.flags) 1 0
 
-abbrev each_two : {X : Type 0} → (X → X → Bool) → List X → Bool
-each_two test [] = true
-each_two test (x ∷ xs) = list_all (λ y. test x y) xs && (list_all (λ y. test y x) xs && each_two test xs)
+abbrev one_below : (class : ℕ) → FieldInfo → ℕ
+one_below class f = cond (nat_lt f.class class && is_static f.flags) 1 0
 
-two : {X : Type 0} (test : X → X → Bool) (xs : List X) → each_two test xs ≡ true → (i j : ℕ) (x y : X) → slice_get xs i ≡ Some x → slice_get xs j ≡ Some y → i ≢ j → test x y ≡ true
-two test [] all i j x y e h differ = cc
-two test (z ∷ zs) all zero zero x y e h differ = absurd (differ refl)
-two {X} test (z ∷ zs) all zero (suc j) x y e h differ =
-    let g : z ≡ x = cc in subst (λ (w : X). test w y ≡ true) g (every (λ w. test z w) zs (both_are_true (list_all (λ w. test z w) zs) _ all).0 j y h)
-two {X} test (z ∷ zs) all (suc i) zero x y e h differ =
-    let g : z ≡ y = cc in
-    let rest : (list_all (λ w. test w z) zs && each_two test zs) ≡ true = (both_are_true (list_all (λ w. test z w) zs) _ all).1 in
-    subst (λ (w : X). test x w ≡ true) g (every (λ w. test w z) zs (both_are_true (list_all (λ w. test w z) zs) (each_two test zs) rest).0 i x e)
-two test (z ∷ zs) all (suc i) (suc j) x y e h differ =
-    let rest : (list_all (λ w. test w z) zs && each_two test zs) ≡ true = (both_are_true (list_all (λ w. test z w) zs) _ all).1 in
-    two test zs (both_are_true (list_all (λ w. test w z) zs) (each_two test zs) rest).1 i j x y e h (λ k. differ (ap suc k))
+abbrev statics_below : (class : ℕ) → List FieldInfo → ℕ
+statics_below class fields = sum_by (one_below class) fields
 
--- ---- what the tests say
+one_at_most : (class : ℕ) (f : FieldInfo) → one_below class f ≤ one_static f
+one_at_most class f = by_tests (nat_lt f.class class) (is_static f.flags)
+  where
+    by_tests : (a b : Bool) → cond (a && b) 1 0 ≤ cond b 1 0
+    by_tests true b = omega arith
+    by_tests false true = omega arith
+    by_tests false false = omega arith
+
+not_below : (class n : ℕ) → class ≤ n → nat_lt n class ≡ false
+not_below class n h = grind (arith, nat_tests, h)
+
+is_below : (class n : ℕ) → n < class → nat_lt n class ≡ true
+is_below class n h = grind (arith, nat_tests, h)
+
+none_of : (class : ℕ) (f : FieldInfo) → class ≤ f.class → one_below class f ≡ 0
+none_of class f h = ap (λ (b : Bool). cond {A = ℕ} (b && is_static f.flags) 1 0) (not_below class f.class h)
+
+all_of : (class : ℕ) (f : FieldInfo) → f.class < class → one_below class f ≡ one_static f
+all_of class f h = ap (λ (b : Bool). cond {A = ℕ} (b && is_static f.flags) 1 0) (is_below class f.class h)
+
+below_at_most : (class : ℕ) (fields : List FieldInfo) → statics_below class fields ≤ sum_by one_static fields
+below_at_most class [] = omega arith
+below_at_most class (f ∷ fs) = omega (arith, one_at_most class f, below_at_most class fs, sum_first (one_below class) f fs, sum_first one_static f fs)
+
+none_below : (class : ℕ) (fields : List FieldInfo) → ((i : ℕ) (f : FieldInfo) → slice_get fields i ≡ Some f → class ≤ f.class) → statics_below class fields ≡ 0
+none_below class [] all = refl
+none_below class (f ∷ fs) all = omega (arith, none_of class f (all 0 f refl), none_below class fs (λ i g e. all (suc i) g e), sum_first (one_below class) f fs)
+
+all_below : (class : ℕ) (fields : List FieldInfo) → ((i : ℕ) (f : FieldInfo) → slice_get fields i ≡ Some f → f.class < class) → statics_below class fields ≡ sum_by one_static fields
+all_below class [] all = refl
+all_below class (f ∷ fs) all = omega (arith, all_of class f (all 0 f refl), all_below class fs (λ i g e. all (suc i) g e), sum_first (one_below class) f fs, sum_first one_static f fs)
+
+-- those of a class stand between those below it and those below the next
+one_more : (class : ℕ) (f : FieldInfo) → cond ((f.class == class) && is_static f.flags) 1 0 + one_below class f ≡ one_below (class + 1) f
+one_more class f = by_static (is_static f.flags)
+  where
+    by_static : (b : Bool) → cond ((f.class == class) && b) 1 0 + cond (nat_lt f.class class && b) 1 0 ≡ cond (nat_lt f.class (class + 1) && b) 1 0
+    by_static true = grind (arith, nat_tests)
+    by_static false = grind (arith, nat_tests)
+
+length_more : {X : Type 0} (b : Bool) (x : X) (xs : List X) → length (cond b (x ∷ xs) xs) ≡ cond b 1 0 + length xs
+length_more true x xs = omega arith
+length_more false x xs = omega arith
+
+one_class_more : (class : ℕ) (fields : List FieldInfo) → length (statics_of fields class) + statics_below class fields ≡ statics_below (class + 1) fields
+one_class_more class [] = refl
+one_class_more class (f ∷ fs) =
+    let more = length_more ((f.class == class) && is_static f.flags) f (statics_of fs class) in
+    omega (arith, more, one_more class f, one_class_more class fs, sum_first (one_below class) f fs, sum_first (one_below (class + 1)) f fs)
+
+rises : (class k : ℕ) (fields : List FieldInfo) → statics_below class fields ≤ statics_below (class + k) fields
+rises class zero fields = let same : class + 0 ≡ class = omega arith in subst (λ (c : ℕ). statics_below class fields ≤ statics_below c fields) (sym same) (omega arith)
+rises class (suc k) fields =
+    let same : (class + k) + 1 ≡ class + suc k = omega arith in
+    subst (λ (c : ℕ). statics_below class fields ≤ statics_below c fields) same (omega (arith, rises class k fields, one_class_more (class + k) fields))
+
+-- ---- the static fields before one, and those of the classes below
+
+before_at_least : (class : ℕ) (fields : List FieldInfo) (n : ℕ) → ((j : ℕ) (g : FieldInfo) → n ≤ j → slice_get fields j ≡ Some g → class ≤ g.class) → statics_below class fields ≤ sum_by one_static (take n fields)
+before_at_least class [] n later = omega arith
+before_at_least class (g ∷ gs) zero later = omega (arith, none_below class (g ∷ gs) (λ i f e. later i f (omega arith) e))
+before_at_least class (g ∷ gs) (suc n) later =
+    omega (arith, one_at_most class g, before_at_least class gs n (λ j f h e. later (suc j) f (omega (arith, h)) e), sum_first (one_below class) g gs, sum_first one_static g (take n gs))
+
+before_less : (class : ℕ) (fields : List FieldInfo) (n : ℕ) (f : FieldInfo) → slice_get fields n ≡ Some f → is_static f.flags ≡ true → f.class < class
+    → ((j : ℕ) (g : FieldInfo) → j < n → slice_get fields j ≡ Some g → g.class < class) → sum_by one_static (take n fields) < statics_below class fields
+before_less class [] n f e s h earlier = cc
+before_less class (g ∷ gs) zero f e s h earlier =
+    let same : g ≡ f = same_some e in
+    let one : ◌≡◌ {A = ℕ} (one_below class g) 1 = ap (one_below class) same ∙ all_of class f h ∙ ap (λ (b : Bool). cond {A = ℕ} b 1 0) s in
+    omega (arith, one, sum_first (one_below class) g gs)
+before_less class (g ∷ gs) (suc n) f e s h earlier =
+    omega (
+      arith,
+      all_of class g (earlier 0 g (omega arith) refl),
+      before_less class gs n f e s h (λ j k l m. earlier (suc j) k (omega (arith, l)) m),
+      sum_first (one_below class) g gs,
+      sum_first one_static g (take n gs),
+    )
+
+-- ---- fields of a program, which stand in the order of their classes
+
+class_from : (p : Program) → IsProgram p → (i : ℕ) (f : FieldInfo) → slice_get p.fields i ≡ Some f → file_class 0 ≤ f.class
+class_from p is i f e = (is.fields i f e).class.0
+
+class_to : (p : Program) → IsProgram p → (i : ℕ) (f : FieldInfo) → slice_get p.fields i ≡ Some f → f.class < file_class (length p.names)
+class_to p is i f e = (is.fields i f e).class.1
+
+earlier_class : (p : Program) → IsProgram p → (i j : ℕ) (f g : FieldInfo) → slice_get p.fields i ≡ Some f → slice_get p.fields j ≡ Some g → i ≤ j → f.class ≤ g.class
+earlier_class p is i j f g e h le = ⊎_elim
+    (λ (same : i ≡ j). let one : f ≡ g = same_some (sym e ∙ ap (slice_get p.fields) same ∙ h) in omega (arith, ap (λ (k : FieldInfo). k.class) one))
+    (λ (apart : (i < j) ⊎ (j < i)). ⊎_elim (λ (lt : i < j). before_at (λ (k : FieldInfo). k.class ≤ g.class) p.fields i j f (is.fields j g h).ordered e lt) (λ (gt : j < i). absurd (omega (arith, gt, le))) apart)
+    (cases_order i j)
+
+static_word : (p : Program) → IsProgram p → (n : ℕ) (f : FieldInfo) → slice_get p.fields n ≡ Some f → is_static f.flags ≡ true
+    → f.index ≡ first_class_word + 2 * (f.class - file_class 0 + 1) + sum_by one_static (take n p.fields)
+static_word p is n f e s =
+    (is.fields n f e).index ∙ ap (λ b. cond b (first_class_word + 2 * (f.class - file_class 0 + 1) + statics_among (take n p.fields)) (instances_among f.class (take n p.fields))) s
+
+-- no object of a built-in class has a field
+no_instances : (class : ℕ) (fields : List FieldInfo) → ((i : ℕ) (f : FieldInfo) → slice_get fields i ≡ Some f → class < f.class) → sum_by (λ (f : FieldInfo). cond ((f.class == class) && not (is_static f.flags)) 1 0) fields ≡ 0
+no_instances class [] all = refl
+no_instances class (f ∷ fs) all =
+    let other : (f.class == class) ≡ false = apart f.class class (all 0 f refl) in
+    let none : ◌≡◌ {A = ℕ} (cond ((f.class == class) && not (is_static f.flags)) 1 0) 0 = ap (λ (b : Bool). cond {A = ℕ} (b && not (is_static f.flags)) 1 0) other in
+    omega (arith, none, no_instances class fs (λ i g e. all (suc i) g e), sum_first (λ (g : FieldInfo). cond ((g.class == class) && not (is_static g.flags)) 1 0) f fs)
+  where
+    apart : (m n : ℕ) → n < m → (m == n) ≡ false
+    apart m n h = grind (arith, nat_tests, h)
+
+-- ---- the static fields of the plain machine are those of the program, in order
+
+abbrev value_of : FieldInfo → StaticValue
+value_of f = record { word = f.index; value = word_of f.start }
+
+abbrev statics_in : List FieldInfo → List StaticValue
+statics_in fields = map value_of (filter (λ f. is_static f.flags) fields)
+
+-- the static value is that of this field
+pub record IsValueOf (fields : List FieldInfo) (s : StaticValue) : Type 0 where
+  pub number : ℕ
+  pub field : FieldInfo
+  pub is : slice_get fields number ≡ Some field
+  pub static : is_static field.flags ≡ true
+  pub same : s ≡ value_of field
+
+value_at : (fields : List FieldInfo) (j : ℕ) (s : StaticValue) → slice_get (statics_in fields) j ≡ Some s → IsValueOf fields s
+value_at [] j s e = cc
+value_at (f ∷ fs) j s e = by_test (is_static f.flags) refl j e (λ i h. value_at fs i s h)
+  where
+    later : (k : IsValueOf fs s) → IsValueOf (f ∷ fs) s
+    later k = record { number = suc k.number; field = k.field; is = k.is; static = k.static; same = k.same }
+
+    by_test : (b : Bool) → is_static f.flags ≡ b → (i : ℕ) → slice_get (map value_of (cond b (f ∷ filter (λ g. is_static g.flags) fs) (filter (λ g. is_static g.flags) fs))) i ≡ Some s
+        → ((k : ℕ) → slice_get (statics_in fs) k ≡ Some s → IsValueOf fs s) → IsValueOf (f ∷ fs) s
+    by_test true t zero h more = record { number = 0; field = f; is = refl; static = t; same = sym (same_some h) }
+    by_test true t (suc i) h more = later (more i h)
+    by_test false t i h more = later (more i h)
+
+pub record AreValuesOf (fields : List FieldInfo) (s r : StaticValue) : Type 0 where
+  pub first : IsValueOf fields s
+  pub second : IsValueOf fields r
+  pub order : first.number < second.number
+
+values_at : (fields : List FieldInfo) (i j : ℕ) (s r : StaticValue) → slice_get (statics_in fields) i ≡ Some s → slice_get (statics_in fields) j ≡ Some r → i < j → AreValuesOf fields s r
+values_at [] i j s r e h lt = cc
+values_at (f ∷ fs) i j s r e h lt = by_test (is_static f.flags) refl i j e h lt (λ k l a b less. values_at fs k l s r a b less)
+  where
+    rest : List FieldInfo
+    rest = filter (λ g. is_static g.flags) fs
+
+    next : (x : StaticValue) → IsValueOf fs x → IsValueOf (f ∷ fs) x
+    next x k = record { number = suc k.number; field = k.field; is = k.is; static = k.static; same = k.same }
+
+    later : AreValuesOf fs s r → AreValuesOf (f ∷ fs) s r
+    later k = record { first = next s k.first; second = next r k.second; order = omega (arith, k.order) }
+
+    by_test : (b : Bool) → is_static f.flags ≡ b → (k l : ℕ) → slice_get (map value_of (cond b (f ∷ rest) rest)) k ≡ Some s → slice_get (map value_of (cond b (f ∷ rest) rest)) l ≡ Some r → k < l
+        → ((k l : ℕ) → slice_get (statics_in fs) k ≡ Some s → slice_get (statics_in fs) l ≡ Some r → k < l → AreValuesOf fs s r) → AreValuesOf (f ∷ fs) s r
+    by_test true t k zero a b less more = absurd (omega (arith, less))
+    by_test true t zero (suc l) a b less more = record { first = record { number = 0; field = f; is = refl; static = t; same = sym (same_some a) }; second = next r (value_at fs l r b); order = omega arith }
+    by_test true t (suc k) (suc l) a b less more = later (more k l a b (omega (arith, less)))
+    by_test false t k l a b less more = later (more k l a b less)
+
+words_differ : (p : Program) → IsProgram p → (i j : ℕ) (s r : StaticValue) → slice_get (start_statics p) i ≡ Some s → slice_get (start_statics p) j ≡ Some r → i < j → s.word < r.word
+words_differ p is i j s r e h lt =
+    let k : AreValuesOf p.fields s r = values_at p.fields i j s r e h lt in
+    let less = statics_apart p k.first.number k.second.number k.first.field k.second.field is k.first.is k.second.is k.order k.first.static k.second.static in
+    omega (arith, less, ap (λ (x : StaticValue). x.word) k.first.same, ap (λ (x : StaticValue). x.word) k.second.same)
+
+-- ---- the ready objects, which are written out
+
+abbrev ready_objects : List Object
+ready_objects = objects_from first_ready ready_classes
+
+-- what holds of each object at the start, up to a word
+pub record IsPlaced (o : Object) (to : ℕ) : Type 0 where
+  pub begins : first_ready ≤ o.reference
+  pub to_word : object_end o ≤ to
+  pub built_in : o.class < file_class 0
+  pub empty : length o.values ≡ 0
+
+abbrev is_placed : (to : ℕ) → Object → Bool
+is_placed to o = nat_le first_ready o.reference && (nat_le (object_end o) to && (nat_lt o.class (file_class 0) && (length o.values == 0)))
 
 at_most : (m n : ℕ) → nat_le m n ≡ true → m ≤ n
 at_most m n e = grind (arith, nat_tests)
@@ -51,88 +226,311 @@ at_most m n e = grind (arith, nat_tests)
 less : (m n : ℕ) → nat_lt m n ≡ true → m < n
 less m n e = grind (arith, nat_tests)
 
-abbrev is_beside : Object → Object → Bool
-is_beside o e = nat_le (object_end o) e.reference || nat_le (object_end e) o.reference
+placed : (to : ℕ) (o : Object) → is_placed to o ≡ true → IsPlaced o to
+placed to o e =
+    let a : (nat_le first_ready o.reference ≡ true) × ((nat_le (object_end o) to && (nat_lt o.class (file_class 0) && (length o.values == 0))) ≡ true) = both_are_true _ _ e in
+    let b : (nat_le (object_end o) to ≡ true) × ((nat_lt o.class (file_class 0) && (length o.values == 0)) ≡ true) = both_are_true _ _ a.1 in
+    let c : (nat_lt o.class (file_class 0) ≡ true) × ((length o.values == 0) ≡ true) = both_are_true _ _ b.1 in
+    record { begins = at_most first_ready o.reference a.0; to_word = at_most (object_end o) to b.0; built_in = less o.class (file_class 0) c.0; empty = eqb-true (length o.values) 0 c.1 }
 
-beside : (o e : Object) → is_beside o e ≡ true → IsBeside o e
-beside o e all = by_test (nat_le (object_end o) e.reference) refl all
+ready_placed : (i : ℕ) (o : Object) → slice_get ready_objects i ≡ Some o → IsPlaced o first_class_word
+ready_placed i o e = placed first_class_word o (every (is_placed first_class_word) ready_objects refl i o e)
+
+abbrev each_two : {X : Type 0} → (X → X → Bool) → List X → Bool
+each_two test [] = true
+each_two test (x ∷ xs) = list_all (λ y. test x y) xs && each_two test xs
+
+two : {X : Type 0} (test : X → X → Bool) (xs : List X) → each_two test xs ≡ true → (i j : ℕ) (x y : X) → slice_get xs i ≡ Some x → slice_get xs j ≡ Some y → i < j → test x y ≡ true
+two test [] all i j x y e h lt = cc
+two test (z ∷ zs) all i zero x y e h lt = absurd (omega (arith, lt))
+two {X} test (z ∷ zs) all zero (suc j) x y e h lt =
+    let g : z ≡ x = same_some e in subst (λ (w : X). test w y ≡ true) g (every (λ w. test z w) zs (both_are_true (list_all (λ w. test z w) zs) (each_two test zs) all).0 j y h)
+two test (z ∷ zs) all (suc i) (suc j) x y e h lt = two test zs (both_are_true (list_all (λ w. test z w) zs) (each_two test zs) all).1 i j x y e h (omega (arith, lt))
+
+ready_apart : (i j : ℕ) (o e : Object) → slice_get ready_objects i ≡ Some o → slice_get ready_objects j ≡ Some e → i < j → object_end o ≤ e.reference
+ready_apart i j o e g h lt = at_most (object_end o) e.reference (two (λ x y. nat_le (object_end x) y.reference) ready_objects refl i j o e g h lt)
+
+-- ---- the classes themselves
+
+-- the class with a number, among those from a class on whose words begin at a reference
+pub record IsClassObject (fields : List FieldInfo) (reference class count number : ℕ) (o : Object) : Type 0 where
+  pub place : o.reference + statics_below class fields ≡ reference + 2 * number + statics_below (class + number) fields
+  pub few : number < count
+  pub empty : o.values ≡ []
+  pub itself : o.class ≡ class_itself
+
+class_object : (fields : List FieldInfo) (count class reference i : ℕ) (o : Object) → slice_get (class_objects fields reference (range_with_len class count)) i ≡ Some o → IsClassObject fields reference class count i o
+class_object fields zero class reference i o e = cc
+class_object fields (suc count) class reference zero o e =
+    let same : record { reference = reference; class = class_itself; values = [] } ≡ o = same_some e in
+    let is : reference ≡ o.reference = ap (λ (x : Object). x.reference) same in
+    let at : statics_below (class + 0) fields ≡ statics_below class fields = ap (λ (c : ℕ). statics_below c fields) (omega arith) in
+    record { place = omega (arith, is, at); few = omega arith; empty = sym (ap (λ (x : Object). x.values) same); itself = sym (ap (λ (x : Object). x.class) same) }
+class_object fields (suc count) class reference (suc i) o e =
+    let k : IsClassObject fields (reference + 2 + length (statics_of fields class)) (class + 1) count i o = class_object fields count (class + 1) (reference + 2 + length (statics_of fields class)) i o e in
+    let at : statics_below ((class + 1) + i) fields ≡ statics_below (class + suc i) fields = ap (λ (c : ℕ). statics_below c fields) (omega arith) in
+    record { place = omega (arith, k.place, at, one_class_more class fields); few = omega (arith, k.few); empty = k.empty; itself = k.itself }
+
+abbrev classes_in : Program → List Object
+classes_in p = class_objects p.fields first_class_word (classes_of p)
+
+pub record IsClassAt (p : Program) (number : ℕ) (o : Object) : Type 0 where
+  pub place : o.reference ≡ first_class_word + 2 * number + statics_below (file_class number) p.fields
+  pub few : number < length p.names
+  pub none_before : statics_below (file_class 0) p.fields ≡ 0
+  pub placed : IsPlaced o (words_of p)
+
+class_at : (p : Program) → IsProgram p → (number : ℕ) (o : Object) → slice_get (classes_in p) number ≡ Some o → IsClassAt p number o
+class_at p is number o e =
+    let k : IsClassObject p.fields first_class_word (file_class 0) (length p.names) number o = class_object p.fields (length p.names) (file_class 0) first_class_word number o e in
+    let before : statics_below (file_class 0) p.fields ≡ 0 = none_below (file_class 0) p.fields (class_from p is) in
+    let place : o.reference ≡ first_class_word + 2 * number + statics_below (file_class number) p.fields = omega (arith, k.place, before) in
+    let none : length o.values ≡ 0 = ap length k.empty in
+    record {
+      place = place;
+      few = k.few;
+      none_before = before;
+      placed = record {
+        begins = omega (arith, place);
+        to_word = omega (arith, place, none, k.few, below_at_most (file_class number) p.fields);
+        built_in = omega (arith, k.itself);
+        empty = none;
+      };
+    }
+
+classes_apart : (p : Program) (k l : ℕ) (o e : Object) → IsClassAt p k o → IsClassAt p l e → k < l → object_end o ≤ e.reference
+classes_apart p k l o e a b lt =
+    let to : file_class k + (l - k) ≡ file_class l = omega (arith, lt) in
+    let more : statics_below (file_class k) p.fields ≤ statics_below (file_class l) p.fields = subst (λ (c : ℕ). statics_below (file_class k) p.fields ≤ statics_below c p.fields) to (rises (file_class k) (l - k) p.fields) in
+    omega (arith, a.place, b.place, a.placed.empty, more, lt)
+
+-- ---- all objects: the ready ones, and then the classes
+
+pub data Stands (p : Program) (i : ℕ) (o : Object) : Type 0 where
+  is_ready : slice_get ready_objects i ≡ Some o → i < 8 → Stands p i o
+  is_class : (number : ℕ) → i ≡ 8 + number → IsClassAt p number o → Stands p i o
+
+got_append : {X : Type 0} (xs ys : List X) (i : ℕ) (x : X) → slice_get (xs ++ ys) i ≡ Some x → ((slice_get xs i ≡ Some x) × (i < length xs)) ⊎ ((k : ℕ) × (i ≡ length xs + k) × (slice_get ys k ≡ Some x))
+got_append [] ys i x e = inr (i, omega arith, e)
+got_append (y ∷ xs) ys zero x e = inl (e, omega arith)
+got_append {X} (y ∷ xs) ys (suc i) x e = next (got_append xs ys i x e)
   where
-    by_test : (b : Bool) → nat_le (object_end o) e.reference ≡ b → b || nat_le (object_end e) o.reference ≡ true → IsBeside o e
-    by_test true k h = inl (at_most (object_end o) e.reference k)
-    by_test false k h = inr (at_most (object_end e) o.reference h)
+    next : ((slice_get xs i ≡ Some x) × (i < length xs)) ⊎ ((k : ℕ) × (i ≡ length xs + k) × (slice_get ys k ≡ Some x)) → ((slice_get (y ∷ xs) (suc i) ≡ Some x) × (suc i < length (y ∷ xs))) ⊎ ((k : ℕ) × (suc i ≡ length (y ∷ xs) + k) × (slice_get ys k ≡ Some x))
+    next (inl h) = inl (h.0, omega (arith, h.1))
+    next (inr h) = inr (h.0, omega (arith, h.1), h.2)
 
-abbrev is_outside : StaticValue → Object → Bool
-is_outside s o = nat_lt s.word o.reference || nat_le (object_end o) s.word
-
-outside : (s : StaticValue) (o : Object) → is_outside s o ≡ true → IsOutside o s.word
-outside s o all = by_test (nat_lt s.word o.reference) refl all
+stands : (p : Program) → IsProgram p → (i : ℕ) (o : Object) → slice_get (start_objects p) i ≡ Some o → Stands p i o
+stands p is i o e = by_side (got_append ready_objects (classes_in p) i o e)
   where
-    by_test : (b : Bool) → nat_lt s.word o.reference ≡ b → b || nat_le (object_end o) s.word ≡ true → IsOutside o s.word
-    by_test true k h = inl (less s.word o.reference k)
-    by_test false k h = inr (at_most (object_end o) s.word h)
+    by_side : ((slice_get ready_objects i ≡ Some o) × (i < length ready_objects)) ⊎ ((k : ℕ) × (i ≡ length ready_objects + k) × (slice_get (classes_in p) k ≡ Some o)) → Stands p i o
+    by_side (inl h) = is_ready h.0 h.1
+    by_side (inr h) = is_class h.0 h.1 (class_at p is h.0 o h.2)
 
-differs : (m n : ℕ) → not (m == n) ≡ true → m ≢ n
-differs m n e same = grind (arith, nat_tests, same)
+from_first_class : (p : Program) (o : Object) → IsPlaced o first_class_word → IsPlaced o (words_of p)
+from_first_class p o k = record { begins = k.begins; to_word = omega (arith, k.to_word); built_in = k.built_in; empty = k.empty }
 
-abbrev is_sized : List FieldInfo → Object → Bool
-is_sized fields o = (o.class == int_array_class) || (length o.values == instances_among o.class fields)
+object_placed : (p : Program) (i : ℕ) (o : Object) → Stands p i o → IsPlaced o (words_of p)
+object_placed p i o (is_ready e lt) = from_first_class p o (ready_placed i o e)
+object_placed p i o (is_class number at k) = k.placed
 
-sized : (fields : List FieldInfo) (o : Object) → is_sized fields o ≡ true → o.class ≢ int_array_class → length o.values ≡ instances_among o.class fields
-sized fields o all other = by_test (o.class == int_array_class) refl all
+in_order : (p : Program) (i j : ℕ) (o e : Object) → Stands p i o → Stands p j e → i < j → object_end o ≤ e.reference
+in_order p i j o e (is_ready g a) (is_ready h b) lt = ready_apart i j o e g h lt
+in_order p i j o e (is_ready g a) (is_class l at k) lt = omega (arith, (ready_placed i o g).to_word, k.place)
+in_order p i j o e (is_class l at k) (is_ready h b) lt = absurd (omega (arith, lt, at, b))
+in_order p i j o e (is_class n at k) (is_class l to m) lt = classes_apart p n l o e k m (omega (arith, lt, at, to))
+
+objects_beside : (p : Program) (i j : ℕ) (o e : Object) → Stands p i o → Stands p j e → i ≢ j → IsBeside o e
+objects_beside p i j o e a b differ = ⊎_elim
+    (λ (same : i ≡ j). absurd (differ same))
+    (λ (apart : (i < j) ⊎ (j < i)). ⊎_elim (λ (lt : i < j). inl (in_order p i j o e a b lt)) (λ (gt : j < i). inr (in_order p j i e o b a gt)) apart)
+    (cases_order i j)
+
+-- ---- a static field is outside each object
+
+outside : (p : Program) → IsProgram p → (i : ℕ) (o : Object) (s : StaticValue) → Stands p i o → IsValueOf p.fields s → IsOutside o s.word
+outside p is i o s (is_ready g lt) v =
+    let word : s.word ≡ v.field.index = ap (λ (x : StaticValue). x.word) v.same in
+    inr (omega (arith, word, (ready_placed i o g).to_word, (statics_inside p v.number v.field is v.is v.static).0))
+outside p is i o s (is_class number at k) v = ⊎_elim
+    (λ (same : v.field.class ≡ file_class number). inr (behind (omega (arith, same))))
+    (λ (apart : (v.field.class < file_class number) ⊎ (file_class number < v.field.class)). ⊎_elim (λ (lt : v.field.class < file_class number). inl (before lt)) (λ (gt : file_class number < v.field.class). inr (behind (omega (arith, gt)))) apart)
+    (cases_order v.field.class (file_class number))
   where
-    by_test : (b : Bool) → (o.class == int_array_class) ≡ b → b || (length o.values == instances_among o.class fields) ≡ true → length o.values ≡ instances_among o.class fields
-    by_test true k h = absurd (other (eqb-true o.class int_array_class k))
-    by_test false k h = eqb-true (length o.values) (instances_among o.class fields) h
+    word : s.word ≡ first_class_word + 2 * (v.field.class - file_class 0 + 1) + sum_by one_static (take v.number p.fields)
+    word = ap (λ (x : StaticValue). x.word) v.same ∙ static_word p is v.number v.field v.is v.static
+
+    before : v.field.class < file_class number → s.word < o.reference
+    before lt =
+        let fewer = before_less (file_class number) p.fields v.number v.field v.is v.static lt (λ j g below e. omega (arith, lt, earlier_class p is j v.number g v.field e v.is (omega (arith, below)))) in
+        omega (arith, word, k.place, lt, class_from p is v.number v.field v.is, fewer)
+
+    behind : file_class number ≤ v.field.class → object_end o ≤ s.word
+    behind le =
+        let more = before_at_least (file_class number) p.fields v.number (λ j g from e. omega (arith, le, earlier_class p is v.number j v.field g v.is e from)) in
+        omega (arith, word, k.place, k.placed.empty, le, more)
 
 -- ---- each static field is there
 
-abbrev place : FieldInfo → StaticValue
-place f = record { word = f.index; value = word_of f.start }
-
-first_in : (test : Bool) → test ≡ true → (g f : FieldInfo) → g ≡ f → (gs : List FieldInfo) → Contains (map place (cond test (g ∷ gs) gs)) (place f)
-first_in true e g f same gs = (0, omega arith, ap place same)
+first_in : (test : Bool) → test ≡ true → (g f : FieldInfo) → g ≡ f → (gs : List FieldInfo) → Contains (map value_of (cond test (g ∷ gs) gs)) (value_of f)
+first_in true e g f same gs = (0, omega arith, ap value_of same)
 first_in false e g f same gs = cc
 
-later_in : (test : Bool) (g f : FieldInfo) (gs : List FieldInfo) → Contains (map place gs) (place f) → Contains (map place (cond test (g ∷ gs) gs)) (place f)
-later_in true g f gs k = let below : k.0 < length (map place gs) = k.1 in (suc k.0, omega arith, k.2)
+later_in : (test : Bool) (g f : FieldInfo) (gs : List FieldInfo) → Contains (map value_of gs) (value_of f) → Contains (map value_of (cond test (g ∷ gs) gs)) (value_of f)
+later_in true g f gs k = let below : k.0 < length (map value_of gs) = k.1 in (suc k.0, omega arith, k.2)
 later_in false g f gs k = k
 
-among_statics : (fields : List FieldInfo) (number : ℕ) (f : FieldInfo) → slice_get fields number ≡ Some f → is_static f.flags ≡ true → Contains (map place (filter (λ g. is_static g.flags) fields)) (place f)
+among_statics : (fields : List FieldInfo) (number : ℕ) (f : FieldInfo) → slice_get fields number ≡ Some f → is_static f.flags ≡ true → Contains (statics_in fields) (value_of f)
 among_statics [] number f e is = cc
 among_statics (g ∷ gs) zero f e is =
-    let same : g ≡ f = cc in first_in (is_static g.flags) (subst (λ (h : FieldInfo). is_static h.flags ≡ true) (sym same) is) g f same (filter (λ h. is_static h.flags) gs)
+    let same : g ≡ f = same_some e in first_in (is_static g.flags) (subst (λ (h : FieldInfo). is_static h.flags ≡ true) (sym same) is) g f same (filter (λ h. is_static h.flags) gs)
 among_statics (g ∷ gs) (suc number) f e is = later_in (is_static g.flags) g f (filter (λ h. is_static h.flags) gs) (among_statics gs number f e is)
 
--- ---- in a program that is written out
+-- ---- the whole
 
-abbrev objects : List Object
-objects = start_objects many
-
-abbrev statics : List StaticValue
-statics = start_statics many
-
-many_lies_apart : LieApart many objects statics (words_of many)
-many_lies_apart = record {
-  beside = λ i j o e g h ne. beside o e (two is_beside objects refl i j o e g h ne);
-  differ = λ i j s r g h ne. differs s.word r.word (two (λ x y. not (x.word == y.word)) statics refl i j s r g h ne);
-  mixed = λ i j o s g h. outside s o (every (λ x. is_outside x o) statics (every (λ y. list_all (λ x. is_outside x y) statics) objects refl i o g) j s h);
-  begin = λ i o g. at_most first_ready o.reference (every (λ x. nat_le first_ready x.reference) objects refl i o g);
-  below = λ i o g. at_most (object_end o) (words_of many) (every (λ x. nat_le (object_end x) (words_of many)) objects refl i o g);
-  inside = λ i o g. at_most (object_end o) many.heap (every (λ x. nat_le (object_end x) many.heap) objects refl i o g);
-  sized = λ i o g ne. sized many.fields o (every (λ x. is_sized many.fields x) objects refl i o g) ne;
-  statics_begin = λ j s g. at_most first_ready s.word (every (λ x. nat_le first_ready x.word) statics refl j s g);
-  statics_below = λ j s g. (less s.word (words_of many) (every (λ x. nat_lt x.word (words_of many)) statics refl j s g), less s.word many.heap (every (λ x. nat_lt x.word many.heap) statics refl j s g));
-  there = λ number f e is. (place f, among_statics many.fields number f e is, refl);
+pub lies_apart : StartLiesApart
+lies_apart p is = record {
+  beside = λ i j o e g h differ. objects_beside p i j o e (stands p is i o g) (stands p is j e h) differ;
+  differ = λ i j s r g h differ same. ⊎_elim
+      (λ (k : i ≡ j). differ k)
+      (λ (apart : (i < j) ⊎ (j < i)). ⊎_elim (λ (lt : i < j). omega (arith, words_differ p is i j s r g h lt, same)) (λ (gt : j < i). omega (arith, words_differ p is j i r s h g gt, same)) apart)
+      (cases_order i j);
+  mixed = λ i j o s g h. outside p is i o s (stands p is i o g) (value_at p.fields j s h);
+  begin = λ i o g. (object_placed p i o (stands p is i o g)).begins;
+  below = λ i o g. (object_placed p i o (stands p is i o g)).to_word;
+  inside = λ i o g. omega (arith, (object_placed p i o (stands p is i o g)).to_word, is.words);
+  sized = λ i o g other. let k : IsPlaced o (words_of p) = object_placed p i o (stands p is i o g) in
+      k.empty ∙ sym (no_instances o.class p.fields (λ n f e. omega (arith, k.built_in, class_from p is n f e)));
+  statics_begin = λ j s g. let v : IsValueOf p.fields s = value_at p.fields j s g in
+      omega (arith, ap (λ (x : StaticValue). x.word) v.same, (statics_inside p v.number v.field is v.is v.static).0);
+  statics_below = λ j s g. let v : IsValueOf p.fields s = value_at p.fields j s g in
+      let word : s.word ≡ v.field.index = ap (λ (x : StaticValue). x.word) v.same in
+      let below : v.field.index < words_of p = (statics_inside p v.number v.field is v.is v.static).1 in
+      (omega (arith, word, below), omega (arith, word, below, is.words));
+  there = λ number f e s. (value_of f, among_statics p.fields number f e s, refl);
 }
 
 -- ---- the rest of the heap
 
-zeros_from : (words : List ℕ) (k x : ℕ) → list_all (λ v. v == 0) (drop k words) ≡ true → k ≤ x → x < length words → slice_index words x ≡ 0
-zeros_from [] k x all from below = absurd (grind arith)
-zeros_from (v ∷ vs) zero zero all from below = eqb-true v 0 (both_are_true (v == 0) (list_all (λ w. w == 0) vs) all).0
-zeros_from (v ∷ vs) zero (suc x) all from below = zeros_from vs zero x (both_are_true (v == 0) (list_all (λ w. w == 0) vs) all).1 (grind arith) (grind arith)
-zeros_from (v ∷ vs) (suc k) zero all from below = absurd (grind arith)
-zeros_from (v ∷ vs) (suc k) (suc x) all from below = zeros_from vs k x all (grind arith) (grind arith)
+length_classes : (fields : List FieldInfo) (count class : ℕ) → length (flat_map (class_words fields) (range_with_len class count)) + statics_below class fields ≡ 2 * count + statics_below (class + count) fields
+length_classes fields zero class = let at : statics_below class fields ≡ statics_below (class + 0) fields = ap (λ (c : ℕ). statics_below c fields) (omega arith) in omega (arith, at)
+length_classes fields (suc count) class =
+    let at : statics_below ((class + 1) + count) fields ≡ statics_below (class + suc count) fields = ap (λ (c : ℕ). statics_below c fields) (omega arith) in
+    let own : length (class_words fields class) ≡ 2 + length (statics_of fields class) = omega (arith, length-map (statics_of fields class) (λ (f : FieldInfo). word_of f.start)) in
+    omega (
+      arith,
+      at,
+      own,
+      one_class_more class fields,
+      length_classes fields count (class + 1),
+      length-append (class_words fields class) (flat_map (class_words fields) (range_with_len (class + 1) count)),
+    )
 
-many_is_unused : (cfg : Config) → AreUnused many (start marked cfg)
-many_is_unused cfg = record { many = refl; empty = λ x from below. zeros_from (start marked cfg).words (words_of many) x refl from below }
+abbrev front : Program → (records : ℕ) → List ℕ
+front p records = 0 ∷ words_of p ∷ 0 ∷ 0 ∷ replicate records 0 ++ flat_map object_words ready_classes ++ flat_map (class_words p.fields) (classes_of p)
+
+length_front : (p : Program) (records : ℕ) → IsProgram p → length (front p records) + first_class_word ≡ words_of p + (20 + records)
+length_front p records is =
+    let classes = length_classes p.fields (length p.names) (file_class 0) in
+    omega (
+      arith,
+      classes,
+      none_below (file_class 0) p.fields (class_from p is),
+      all_below (file_class (length p.names)) p.fields (class_to p is),
+      length-append (replicate records 0 ++ flat_map object_words ready_classes) (flat_map (class_words p.fields) (classes_of p)),
+      length-append (replicate records 0) (flat_map object_words ready_classes),
+      length-replicate {A = ℕ} records 0,
+    )
+
+in_replicated : (n x : ℕ) → slice_index (replicate n 0) x ≡ 0
+in_replicated zero x = refl
+in_replicated (suc n) zero = refl
+in_replicated (suc n) (suc x) = in_replicated n x
+
+behind_front : (xs : List ℕ) (n x : ℕ) → length xs ≤ x → slice_index (xs ++ replicate n 0) x ≡ 0
+behind_front [] n x h = in_replicated n x
+behind_front (y ∷ xs) n zero h = absurd (omega (arith, h))
+behind_front (y ∷ xs) n (suc x) h = behind_front xs n x (omega (arith, h))
+
+pub is_unused : StartIsUnused
+is_unused c cfg is = record {
+  many = length-append (front c.program (2 * most_records)) (replicate rest 0) ∙ omega (arith, count, length-replicate {A = ℕ} rest 0, is.words);
+  empty = λ x from below. behind_front (front c.program (2 * most_records)) rest x (omega (arith, count, from));
+}
+  where
+    rest : ℕ
+    rest = c.program.heap - words_of c.program
+
+    count : length (front c.program (2 * most_records)) ≡ words_of c.program
+    count = omega (arith, length_front c.program (2 * most_records) is)
+
+-- ---- the lock word of each object is free, with the count 0
+
+behind : (xs ys : List ℕ) (k : ℕ) → slice_index (xs ++ ys) (length xs + k) ≡ slice_index ys k
+behind [] ys k = ap (slice_index ys) (omega arith)
+behind (x ∷ xs) ys k = let at : length (x ∷ xs) + k ≡ suc (length xs + k) = omega arith in ap (slice_index (x ∷ xs ++ ys)) at ∙ behind xs ys k
+
+class_lock : (fields : List FieldInfo) (count class number x : ℕ) → number < count → x + statics_below class fields ≡ 2 * number + statics_below (class + number) fields
+    → (more : List ℕ) → slice_index (flat_map (class_words fields) (range_with_len class count) ++ more) x ≡ 0
+class_lock fields zero class number x lt at more = absurd (omega (arith, lt))
+class_lock fields (suc count) class zero x lt at more =
+    let same : statics_below (class + 0) fields ≡ statics_below class fields = ap (λ (c : ℕ). statics_below c fields) (omega arith) in
+    let none : x ≡ 0 = omega (arith, at, same) in
+    ap (slice_index (flat_map (class_words fields) (range_with_len class (suc count)) ++ more)) none
+class_lock fields (suc count) class (suc number) x lt at more =
+    let same : statics_below ((class + 1) + number) fields ≡ statics_below (class + suc number) fields = ap (λ (c : ℕ). statics_below c fields) (omega arith) in
+    let own : length (class_words fields class) ≡ 2 + length (statics_of fields class) = omega (arith, length-map (statics_of fields class) (λ (f : FieldInfo). word_of f.start)) in
+    let rises : statics_below (class + 1) fields ≤ statics_below ((class + 1) + number) fields = rises (class + 1) number fields in
+    let rest : ℕ = x - length (class_words fields class) in
+    let is : x ≡ length (class_words fields class) + rest = omega (arith, at, same, own, rises, one_class_more class fields) in
+    let to : rest + statics_below (class + 1) fields ≡ 2 * number + statics_below ((class + 1) + number) fields = omega (arith, is, at, same, own, one_class_more class fields) in
+    ap (slice_index (flat_map (class_words fields) (range_with_len class (suc count)) ++ more)) is
+    ∙ ap (λ (l : List ℕ). slice_index l (length (class_words fields class) + rest)) (append_assoc (class_words fields class) (flat_map (class_words fields) (range_with_len (class + 1) count)) more)
+    ∙ behind (class_words fields class) (flat_map (class_words fields) (range_with_len (class + 1) count) ++ more) rest
+    ∙ class_lock fields count (class + 1) number rest (omega (arith, lt)) to more
+
+-- the words before those of the classes
+abbrev before_classes : Program → (records : ℕ) → List ℕ
+before_classes p records = 0 ∷ words_of p ∷ 0 ∷ 0 ∷ replicate records 0 ++ flat_map object_words ready_classes
+
+length_before : (p : Program) (records : ℕ) → length (before_classes p records) ≡ 20 + records
+length_before p records = omega (arith, length-append (replicate records 0) (flat_map object_words ready_classes), length-replicate {A = ℕ} records 0)
+
+-- a ready object is so many words behind the records
+ready_lock : (p : Program) (records x : ℕ) (more : List ℕ) → slice_index (0 ∷ words_of p ∷ 0 ∷ 0 ∷ replicate records 0 ++ more) (4 + records + x) ≡ slice_index more x
+ready_lock p records x more =
+    let own : length (0 ∷ words_of p ∷ 0 ∷ 0 ∷ replicate records 0) ≡ 4 + records = omega (arith, length-replicate {A = ℕ} records 0) in
+    ap (λ (n : ℕ). slice_index (0 ∷ words_of p ∷ 0 ∷ 0 ∷ replicate records 0 ++ more) (n + x)) (sym own) ∙ behind (0 ∷ words_of p ∷ 0 ∷ 0 ∷ replicate records 0) more x
+
+abbrev class_part : Program → List ℕ
+class_part p = flat_map (class_words p.fields) (classes_of p)
+
+abbrev unused_part : Program → List ℕ
+unused_part p = replicate (p.heap - words_of p) 0
+
+-- the same words, as those before the classes and the others
+from_classes : (p : Program) (records : ℕ) → front p records ++ unused_part p ≡ before_classes p records ++ (class_part p ++ unused_part p)
+from_classes p records = append_assoc (before_classes p records) (class_part p) (unused_part p)
+
+from_ready : (p : Program) (records : ℕ) → front p records ++ unused_part p ≡ 0 ∷ words_of p ∷ 0 ∷ 0 ∷ replicate records 0 ++ (flat_map object_words ready_classes ++ (class_part p ++ unused_part p))
+from_ready p records = from_classes p records ∙ append_assoc (0 ∷ words_of p ∷ 0 ∷ 0 ∷ replicate records 0) (flat_map object_words ready_classes) (class_part p ++ unused_part p)
+
+free_by : (p : Program) (records : ℕ) → records ≡ 2 * most_records → (i : ℕ) (o : Object) → Stands p i o → slice_index (front p records ++ unused_part p) o.reference ≡ 0
+free_by p records many i o (is_ready e lt) =
+    let more : List ℕ = class_part p ++ unused_part p in
+    let place : ℕ = o.reference - first_ready in
+    let at : o.reference ≡ 4 + records + place = omega (arith, many, (ready_placed i o e).begins) in
+    ap (slice_index (front p records ++ unused_part p)) at
+    ∙ ap (λ (l : List ℕ). slice_index l (4 + records + place)) (from_ready p records)
+    ∙ ready_lock p records place (flat_map object_words ready_classes ++ more)
+    ∙ eqb-true (slice_index (flat_map object_words ready_classes ++ more) place) 0 (every (λ x. slice_index (flat_map object_words ready_classes ++ more) (x.reference - first_ready) == 0) ready_objects refl i o e)
+free_by p records many i o (is_class number to k) =
+    let place : ℕ = o.reference - first_class_word in
+    let at : o.reference ≡ length (before_classes p records) + place = omega (arith, many, k.place, length_before p records) in
+    let none : statics_below (file_class 0) p.fields ≡ 0 = k.none_before in
+    ap (slice_index (front p records ++ unused_part p)) at
+    ∙ ap (λ (l : List ℕ). slice_index l (length (before_classes p records) + place)) (from_classes p records)
+    ∙ behind (before_classes p records) (class_part p ++ unused_part p) place
+    ∙ class_lock p.fields (length p.names) (file_class 0) number place k.few (omega (arith, k.place, none)) (unused_part p)
+
+pub lock_is_free : (p : Program) → IsProgram p → (i : ℕ) (o : Object) → slice_get (start_objects p) i ≡ Some o → slice_index (start_words p) o.reference ≡ 0
+lock_is_free p is i o e = free_by p (2 * most_records) refl i o (stands p is i o e)

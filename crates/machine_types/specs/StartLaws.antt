@@ -1,20 +1,22 @@
 -- Laws of the facts at the start of a run.
-use Rattle.std.specs.Prelude.{◌≡◌, ℕ, Bool, true, List, Some, slice_get, slice_index}
-use Rattle.jvm_types.specs.Numbers.{has_number}
+use Rattle.std.specs.Prelude.{◌≡◌, ℕ, Bool, List, Some, slice_get}
+use Rattle.jvm_types.specs.ProgramInvariant.{IsProgram, words_of}
+use Rattle.jvm_types.specs.declared.program.Program.{Program}
 use Rattle.checked_program.specs.MarkedProgram.{MarkedProgram}
 use Rattle.machine_types.specs.Core.{start, start_thread}
 use Rattle.machine_types.specs.History.{told_start, past_at}
-use Rattle.machine_types.specs.PlainMemory.{Object}
-use Rattle.machine_types.specs.StartWords.{start_words}
+use Rattle.machine_types.specs.ObjectsApart.{LieApart}
+use Rattle.machine_types.specs.PlainMemory.{Object, start_objects, start_statics}
 use Rattle.machine_types.specs.Threads.{Thread}
 use Rattle.machine_types.specs.declared.config.Config.{Config}
 use Rattle.machine_types.specs.declared.phase.Phase.{Phase}
 use Rattle.machine_types.specs.Attempts.{OwesNothing}
 use Rattle.machine_types.specs.Construction.{ThreadKeeps}
 use Rattle.machine_types.specs.Facts.{IsThread}
-use Rattle.machine_types.specs.Owners.{Owners}
+use Rattle.machine_types.specs.Owners.{Owners, references_of}
 use Rattle.machine_types.specs.Structure.{Structure}
 use Rattle.machine_types.specs.Typed.{HasClass, ThreadHolds}
+use Rattle.machine_types.specs.UnusedWords.{AreUnused}
 use Rattle.machine_types.specs.Waiting.{Waiting}
 use Rattle.machine_types.specs.Worlds.{World}
 
@@ -40,6 +42,14 @@ StartKeeps = (c : MarkedProgram) (cfg : Config) (frozen : ℕ → Bool) (w : Wor
 abbrev pub StartOwesNothing : Type 0
 StartOwesNothing = (c : MarkedProgram) (cfg : Config) (t : ℕ) → OwesNothing (past_at (told_start c cfg) t)
 
--- where the lock word of each of some objects is 0
+-- of the objects that are there
 abbrev pub StartOwns : Type 0
-StartOwns = (references : List ℕ) (c : MarkedProgram) (cfg : Config) → ((m : ℕ) → has_number references m ≡ true → slice_index (start_words c.program) m ≡ 0) → Owners references (phase_at_start c cfg) (start c cfg)
+StartOwns = (c : MarkedProgram) (cfg : Config) → IsProgram c.program → Owners (references_of (start_objects c.program)) (phase_at_start c cfg) (start c cfg)
+
+-- the objects and static fields that are there lie apart, where linking has laid out the program
+abbrev pub StartLiesApart : Type 0
+StartLiesApart = (p : Program) → IsProgram p → LieApart p (start_objects p) (start_statics p) (words_of p)
+
+-- and the rest of the heap is unused
+abbrev pub StartIsUnused : Type 0
+StartIsUnused = (c : MarkedProgram) (cfg : Config) → IsProgram c.program → AreUnused c.program (start c cfg)

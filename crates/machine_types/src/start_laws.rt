@@ -1,6 +1,6 @@
 //! Laws of the facts at the start of a run, each the contract of a function that does nothing.
 
-ghost use Rattle.machine_types.specs.StartLaws.{StartHasThreads, StartIsStructured, StartIsTyped, StartKeeps, StartOwesNothing, StartOwns, StartWaits};
+ghost use Rattle.machine_types.specs.StartLaws.{StartHasThreads, StartIsStructured, StartIsTyped, StartIsUnused, StartKeeps, StartLiesApart, StartOwesNothing, StartOwns, StartWaits};
 
 /// Each thread has its number and settings, and the roots of its part.
 pub fn start_has_threads()
@@ -32,7 +32,17 @@ pub fn start_owes_nothing()
     ensures { StartOwesNothing }
 {}
 
-/// No thread holds a lock, where the lock word of each object is 0.
+/// No thread holds the lock of an object.
 pub fn start_owns()
     ensures { StartOwns }
+{}
+
+/// In a linked program no place belongs to two objects or static fields, and each static field has its place.
+pub fn start_lies_apart()
+    ensures { StartLiesApart }
+{}
+
+/// The words behind them are 0.
+pub fn start_is_unused()
+    ensures { StartIsUnused }
 {}
