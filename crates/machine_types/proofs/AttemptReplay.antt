@@ -1,14 +1,14 @@
 -- A replay of what is due of an attempt is a run of the plain machine, where its thread holds the monitor.
-use Rattle.std.proofs.Common.{◌≡◌, ◌≢◌, ℕ, zero, suc, ◌+◌, Bool, true, false, cond, List, [], ◌∷◌, Option, Some, None, refl, sym, ap, ◌∙◌, subst, arith}
+use Rattle.std.proofs.Common.{◌≡◌, ◌≢◌, ℕ, zero, suc, ◌+◌, Bool, true, false, cond, List, [], ◌∷◌, Option, Some, None, refl, sym, ap, ◌∙◌, arith}
 use Rattle.std.specs.Prelude.{◌==◌, option_map, option_and_then, slice_get, slice_set}
 use Rattle.std.proofs.lemmas.Bool.Decides.{nat_tests}
 use Rattle.std.proofs.lemmas.List.{set-set}
 use Rattle.lists.proofs.ListLaws.{same_some}
 use Rattle.jvm_types.specs.declared.program.Program.{Program}
-use Rattle.machine_types.specs.Effects.{Effect, Writes, Indexes, Makes, Prints, Returns, Leaves, Waits, Notifies, NotifiesAll, Stuck, read_by}
+use Rattle.machine_types.specs.Effects.{Effect, Writes, Indexes, Makes, Prints, Returns, Leaves, Waits, Notifies, NotifiesAll, read_by}
 use Rattle.machine_types.specs.Frames.{Top, top_of, effect_at, went_on}
 use Rattle.machine_types.specs.History.{steps_of}
-use Rattle.machine_types.specs.Onward.{Onward, Running, Throwing, Entering, Leaving, RootReturned, Uncaught, Next, after, returns, dispatched, done}
+use Rattle.machine_types.specs.Onward.{Onward, Entering, Leaving, Next, after, returns, dispatched, done}
 use Rattle.machine_types.specs.PlainInstructions.{did, if_held, if_left, instructed, got_by}
 use Rattle.machine_types.specs.PlainState.{Plain, PlainThread, Holding, Status, value_at, holding_at, with_holding, held_by, is_holder, with_thread, with_status, goes_on}
 use Rattle.machine_types.specs.PlainState as plain

@@ -1,10 +1,9 @@
 -- What is due of an attempt runs on the plain state beside it: its places are there, and its monitor is free.
-use Rattle.std.proofs.Common.{◌≡◌, ◌≢◌, ◌⊎◌, ⊎_elim, ℕ, zero, suc, ◌+◌, ◌-◌, ◌*◌, ◌/◌, ◌%◌, ◌<◌, ◌≤◌, Bool, true, false, cond, List, [], ◌∷◌, length, Option, Some, None, refl, sym, ap, ◌∙◌, subst, arith}
-use Rattle.std.specs.Prelude.{Contains, map, nat_le, nat_lt, option_map, option_and_then, slice_get, slice_index, slice_index_or, ◌==◌, ◌&&◌}
+use Rattle.std.proofs.Common.{◌≡◌, ◌≢◌, ⊎_elim, ℕ, zero, suc, ◌+◌, ◌-◌, ◌*◌, ◌/◌, ◌%◌, ◌<◌, ◌≤◌, Bool, true, false, cond, List, [], ◌∷◌, length, Option, Some, None, refl, sym, ap, ◌∙◌, subst, arith}
+use Rattle.std.specs.Prelude.{Contains, nat_le, nat_lt, option_map, option_and_then, slice_get, slice_index, slice_index_or, ◌==◌, ◌&&◌}
 use Rattle.std.specs.Option.{option_or}
 use Rattle.std.proofs.lemmas.Bool.Decides.{nat_tests}
 use Rattle.lists.proofs.ListLaws.{same_some}
-use Rattle.jvm_types.specs.ClassNames.{file_class}
 use Rattle.jvm_types.specs.ClassTree.{int_array_class}
 use Rattle.jvm_types.specs.Members.{is_static}
 use Rattle.jvm_types.specs.Numbers.{has_number}
@@ -13,38 +12,31 @@ use Rattle.jvm_types.specs.declared.outcome.End.{End}
 use Rattle.jvm_types.specs.declared.program.FieldInfo.{FieldInfo}
 use Rattle.jvm_types.specs.declared.program.Program.{Program}
 use Rattle.program_laws.proofs.FieldOrder.{instances_inside}
-use Rattle.checked_program.specs.FrozenPlaces.{IsFrozenField, IsGuardedField}
 use Rattle.checked_program.specs.MarkedProgram.{MarkedProgram}
 use Rattle.machine_types.specs.Agreement.{IsPending, AttemptFits, ThreadFits, has_wait_bit, depth_for, depth_of}
 use Rattle.machine_types.specs.AttemptLaws.{ReachesPresent, AttemptsArePlain}
 use Rattle.machine_types.specs.Attempts.{IsFieldAt, Stays, header, frozen, guarded, IsAsNoted, Owes}
-use Rattle.machine_types.specs.Core.{Core}
-use Rattle.machine_types.specs.Elision.{put_back}
 use Rattle.machine_types.specs.Facts.{Facts, FactsBeside}
-use Rattle.machine_types.specs.HeldMonitors.{held_at, depth_at}
+use Rattle.machine_types.specs.HeldMonitors.{held_at}
 use Rattle.machine_types.specs.History.{Told, past_at, steps_of}
 use Rattle.machine_types.specs.LockWords.{lock_of, lock_by}
 use Rattle.machine_types.specs.NewObjects.{IsNewObject, size_by}
-use Rattle.machine_types.specs.ObjectsApart.{LieApart}
-use Rattle.machine_types.specs.Owners.{lock_at, locks_in, NotHeld, hold_by_word, hold_by_list, hold_by_kept, owner_at, references_of}
+use Rattle.machine_types.specs.Owners.{lock_at, NotHeld, hold_by_word, hold_by_list, hold_by_kept, owner_at, references_of}
 use Rattle.machine_types.specs.PlainMemory.{Object, object_end, value_in, object_value, static_value, has_value, header_of, first_value}
 use Rattle.machine_types.specs.PlainState.{Plain, PlainThread, Holding, value_at, holding_at}
 use Rattle.machine_types.specs.PlainState as plain
 use Rattle.machine_types.specs.PlainSteps.{plain_run, plain_step, step_of, step_at, entered}
 use Rattle.machine_types.specs.Replay.{Alone, replayed, at_entry, at_present}
-use Rattle.machine_types.specs.Standing.{tags_of}
 use Rattle.machine_types.specs.Threads.{Attempt, Thread, Config}
-use Rattle.machine_types.specs.Typed.{AttemptHolds, HasClass, ThreadHolds}
+use Rattle.machine_types.specs.Typed.{AttemptHolds, HasClass}
 use Rattle.machine_types.specs.Words.{free_word, header_word, value_word, header_class, header_length}
 use Rattle.machine_types.specs.declared.lock.Held.{Held}
 use Rattle.machine_types.specs.declared.lock.Kept.{Kept}
 use Rattle.machine_types.specs.declared.lock.Kept.TheVariants as keeps
 use Rattle.machine_types.specs.declared.lock.LockWord.{LockWord}
 use Rattle.machine_types.specs.declared.lock.LockWord.TheVariants as locks
-use Rattle.machine_types.specs.declared.phase.Phase.{Phase}
-use Rattle.machine_types.specs.declared.phase.Phase.TheVariants as phases
 use Rattle.machine_types.specs.declared.plain.Act.TheVariants as acts
-use Rattle.machine_types.proofs.AttemptReplay.{stands_as, Stands, stands_after, stands_twice, played}
+use Rattle.machine_types.proofs.AttemptReplay.{stands_as, Stands, stands_after, played}
 use Rattle.machine_types.proofs.Lists.{got_when_set}
 use Rattle.machine_types.proofs.PlainStepLaws.{is_same}
 
@@ -88,9 +80,11 @@ has_header o = (header_of o, ap (λ (b : Bool). cond b (Some (header_of o)) (con
 has_field : (o : Object) (index : ℕ) → index < length o.values → HasValue (value_in o (value_word o.reference index))
 has_field o index lt =
     let v : HasValue (slice_get o.values index) = is_there o.values index lt in
-    let place : value_word o.reference index - first_value o ≡ index = omega arith in
-    (v.0, ap (λ (b : Bool). cond b (Some (header_of o)) (inside (has_value o (value_word o.reference index)))) (not_header o.reference index)
-        ∙ ap inside (within o.reference index (length o.values) lt) ∙ ap (slice_get o.values) place ∙ v.1)
+    let place : value_word o.reference index - first_value o ≡ index = omega arith in (
+      v.0,
+      ap (λ (b : Bool). cond b (Some (header_of o)) (inside (has_value o (value_word o.reference index)))) (not_header o.reference index)
+          ∙ ap inside (within o.reference index (length o.values) lt) ∙ ap (slice_get o.values) place ∙ v.1,
+    )
   where
     inside : Bool → Option ℕ
     inside b = cond b (slice_get o.values (value_word o.reference index - first_value o)) None

@@ -19,7 +19,7 @@ tries = record (fresh marked cfg 1 phases.Run []) { frames = sum_frame ∷ twice
 abbrev due : List Act
 due = Do ∷ Do ∷ Do ∷ Do ∷ Do ∷ Do ∷ Enter ∷ []
 
-leads : replayed many 3000 (λ x. 0) due (at_entry tries attempt []) ≡ Some (at_present tries attempt phases.Run 6 [])
+leads : replayed many 3000 (λ x. Some 0) due (at_entry tries attempt []) ≡ Some (at_present tries attempt phases.Run 6 [])
 leads = refl
 
 -- the section's own exit is none of what is due
@@ -30,9 +30,13 @@ abbrev depth_of : Option Alone → Option ℕ
 depth_of None = None
 depth_of (Some x) = Some x.depth
 
-leaves_sum : depth_of (replayed many 3000 (λ x. 7) behind_sum (at_entry tries attempt [])) ≡ Some 1
+leaves_sum : depth_of (replayed many 3000 (λ x. Some 7) behind_sum (at_entry tries attempt [])) ≡ Some 1
 leaves_sum = refl
 
 -- on another monitor nothing of it is
-on_another : replayed many 3001 (λ x. 0) due (at_entry tries attempt []) ≡ None
+on_another : replayed many 3001 (λ x. Some 0) due (at_entry tries attempt []) ≡ None
 on_another = refl
+
+-- where a place that is read is not there, nothing of it is
+reads_nothing : replayed many 3000 (λ x. None) behind_sum (at_entry tries attempt []) ≡ None
+reads_nothing = refl

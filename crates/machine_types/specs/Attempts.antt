@@ -1,25 +1,19 @@
 -- Attempts: while the lock word is as an attempt noted it, what is due of the attempt leads from its entry to where its thread
 -- is now; a limit is no exception. So at the finish the section can stand in the plain run as a whole.
-use Rattle.std.specs.Prelude.{◌≡◌, ℕ, List, [], ◌∷◌, Contains, Option, Some, None, slice_get, slice_index}
+use Rattle.std.specs.Prelude.{◌≡◌, ℕ, List, [], Contains, Option, Some, None, slice_get, slice_index}
 use Rattle.jvm_types.specs.declared.outcome.End.{End}
 use Rattle.jvm_types.specs.declared.program.FieldInfo.{FieldInfo}
-use Rattle.jvm_types.specs.declared.program.Program.{Program}
 use Rattle.checked_program.specs.FrozenPlaces.{IsFrozenField, IsGuardedField}
 use Rattle.checked_program.specs.MarkedProgram.{MarkedProgram}
-use Rattle.machine_types.specs.Agreement.{Agrees}
 use Rattle.machine_types.specs.Core.{Core}
-use Rattle.machine_types.specs.History.{Past, Told, past_at, steps_of}
+use Rattle.machine_types.specs.History.{Past, Told, past_at}
 use Rattle.machine_types.specs.LockWords.{word_of_lock}
 use Rattle.machine_types.specs.declared.lock.LockWord.TheVariants as locks
 use Rattle.machine_types.specs.PlainMemory.{Object}
-use Rattle.machine_types.specs.PlainState.{Plain, PlainThread}
-use Rattle.machine_types.specs.PlainSteps.{plain_run}
 use Rattle.machine_types.specs.Threads.{Attempt, Thread}
 use Rattle.machine_types.specs.declared.phase.Phase.{Phase}
 use Rattle.machine_types.specs.Words.{header_word, value_word, free_word}
-use Rattle.machine_types.specs.declared.plain.Act.{Act}
-use Rattle.machine_types.specs.declared.plain.Act.TheVariants as acts
-use Rattle.machine_types.specs.Replay.{replayed, status_inside, at_entry, at_present}
+use Rattle.machine_types.specs.Replay.{replayed, at_entry, at_present}
 use Rattle.machine_types.specs.Standing.{tags_of}
 use Rattle.machine_types.specs.Worlds.{World, IsOwnOrFinished}
 
@@ -44,9 +38,9 @@ pub data Stays (c : MarkedProgram) (objects : List Object) (w : World) (next t m
 abbrev pub IsAsNoted : (words : List ℕ) → Attempt → Type 0
 IsAsNoted words a = slice_index words a.monitor ≡ word_of_lock (locks.Free a.noted)
 
--- over every memory that agrees with the words on the places that stay
+-- over every memory that has, on the places that stay, what the words have
 abbrev pub Leads : MarkedProgram → (Keeps : (x : ℕ) → Type 0) → (words : List ℕ) → (was : Phase) → Thread → Attempt → Past → Type 0
-Leads c Keeps words was s a d = IsAsNoted words a → (memory : ℕ → ℕ) → ((x : ℕ) → Keeps x → memory x ≡ slice_index words x) → (ended : List End)
+Leads c Keeps words was s a d = IsAsNoted words a → (memory : ℕ → Option ℕ) → ((x : ℕ) → Keeps x → memory x ≡ Some (slice_index words x)) → (ended : List End)
     → replayed c.program a.monitor memory d.due (at_entry s a ended) ≡ Some (at_present s a was d.pending ended)
 
 -- outside an attempt nothing is due
@@ -60,19 +54,3 @@ Owes c objects w s t was x (Some a) d = Leads c (Stays c objects w (slice_index 
 
 pub record Attempts (c : MarkedProgram) (objects : List Object) (w : World) (was : ℕ → Phase) (told : Told) : Type 0 where
   pub each : (t : ℕ) (x : Thread) → slice_get told.core.threads t ≡ Some x → Owes c objects w told.core t (was t) x x.attempt (past_at told t)
-
--- ---- the same in the words of the plain machine: from a plain state that agrees, the entry and what is due are steps of the
--- thread, which lead to its frames and its status
-
-pub record ReachesPresent (p : Program) (q : Plain) (t : ℕ) (was : Phase) (x : Thread) (due : List Act) : Type 0 where
-  pub after : Plain
-  pub run : plain_run p q (steps_of t (acts.Enter ∷ due)) ≡ Some after
-  pub thread : PlainThread
-  pub is : slice_get after.threads t ≡ Some thread
-  pub frames : thread.frames ≡ x.frames
-  pub status : thread.status ≡ status_inside was
-  pub roots : thread.roots ≡ x.roots
-
-abbrev pub AttemptsArePlain : MarkedProgram → (was : ℕ → Phase) → Told → Plain → Type 0
-AttemptsArePlain c was told q = (t : ℕ) (x : Thread) (a : Attempt) → slice_get told.core.threads t ≡ Some x → x.attempt ≡ Some a → IsAsNoted told.core.words a
-    → Agrees c.program told.core q → ReachesPresent c.program q t (was t) x (past_at told t).due

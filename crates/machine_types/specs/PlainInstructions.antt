@@ -62,12 +62,12 @@ did p q t x at (NotifiesAll m) got = Some (with_thread q t (if_held q t m x at (
 did p q t x at e got = option_map (λ o. with_thread q t (goes_on x o)) (done p at e got)
 
 -- 0 where nothing is read
-abbrev pub got_by : Plain → Option ℕ → Option ℕ
-got_by q None = Some 0
-got_by q (Some x) = value_at q x
+abbrev pub got_by : (memory : ℕ → Option ℕ) → Option ℕ → Option ℕ
+got_by memory None = Some 0
+got_by memory (Some x) = memory x
 
 abbrev pub instructed_by : Program → Plain → (t : ℕ) → PlainThread → Top → Effect → Option Plain
-instructed_by p q t x at e = option_and_then (λ got. did p q t x at e got) (got_by q (read_by e))
+instructed_by p q t x at e = option_and_then (λ got. did p q t x at e got) (got_by (value_at q) (read_by e))
 
 -- None: no step
 abbrev pub instructed : Program → Plain → (t : ℕ) → PlainThread → Option Top → Option Plain

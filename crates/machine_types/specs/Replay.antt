@@ -1,4 +1,5 @@
--- What a thread does in an attempt, as acts of that thread alone over a memory that nobody changes.
+-- What a thread does in an attempt, as acts of that thread alone over a memory that nobody changes, where some places may
+-- not be there.
 use Rattle.std.specs.Prelude.{ℕ, suc, ◌+◌, ◌==◌, List, [], ◌∷◌, Option, Some, None, option_map, option_and_then, if◌then◌else◌}
 use Rattle.jvm_types.specs.declared.outcome.End.{End}
 use Rattle.jvm_types.specs.declared.program.Program.{Program}
@@ -9,6 +10,7 @@ use Rattle.machine_types.specs.Elision.{put_back}
 use Rattle.machine_types.specs.Frames.{Top, top_of, effect_at}
 use Rattle.machine_types.specs.Onward.{Onward, Entering, Leaving, after, dispatched, done}
 use Rattle.machine_types.specs.declared.phase.After.{After}
+use Rattle.machine_types.specs.PlainInstructions.{got_by}
 use Rattle.machine_types.specs.PlainState.{PlainThread, Status, Run, Throw, Enter, Leave, with_status, goes_on}
 use Rattle.machine_types.specs.Threads.{Attempt, Thread}
 use Rattle.machine_types.specs.declared.phase.Phase.{Phase}
@@ -34,16 +36,12 @@ reads_only p at (Writes v word) got = None
 reads_only p at (Prints n) got = None
 reads_only p at e got = done p at e got
 
-abbrev pub read_at : (memory : ℕ → ℕ) → Option ℕ → ℕ
-read_at memory None = 0
-read_at memory (Some x) = memory x
-
 abbrev pub goes : Alone → Option Onward → Option Alone
 goes x onward = option_map (λ o. record x { thread = goes_on x.thread o }) onward
 
-abbrev pub instructs : Program → (m : ℕ) → (memory : ℕ → ℕ) → Alone → Option Top → Option Alone
+abbrev pub instructs : Program → (m : ℕ) → (memory : ℕ → Option ℕ) → Alone → Option Top → Option Alone
 instructs p m memory x None = None
-instructs p m memory x (Some at) = goes (record x { begun = x.begun + 1 }) (option_and_then (only_on m) (reads_only p at (effect_at p at) (read_at memory (read_by (effect_at p at)))))
+instructs p m memory x (Some at) = goes (record x { begun = x.begun + 1 }) (option_and_then (λ got. option_and_then (only_on m) (reads_only p at (effect_at p at) got)) (got_by memory (read_by (effect_at p at))))
 
 abbrev pub enters : Alone → Alone
 enters x = record x { thread = with_status x.thread Run; depth = x.depth + 1 }
@@ -53,14 +51,14 @@ abbrev pub leaves : Program → Alone → After → (depth : ℕ) → Option Alo
 leaves p x a (suc (suc depth)) = goes (record x { depth = suc depth }) (after p x.thread.frames a)
 leaves p x a depth = None
 
-abbrev pub replay_act : Program → (m : ℕ) → (memory : ℕ → ℕ) → Alone → Act → Status → Option Alone
+abbrev pub replay_act : Program → (m : ℕ) → (memory : ℕ → Option ℕ) → Alone → Act → Status → Option Alone
 replay_act p m memory x acts.Do Run = instructs p m memory x (top_of p x.thread.frames)
 replay_act p m memory x acts.Do (Throw r class) = goes x (option_and_then (only_on m) (dispatched p r class x.thread.frames))
 replay_act p m memory x acts.Enter (Enter n) = if n == m then Some (enters x) else None
 replay_act p m memory x acts.Exit (Leave n a) = if n == m then leaves p x a x.depth else None
 replay_act p m memory x act status = None
 
-abbrev pub replayed : Program → (m : ℕ) → (memory : ℕ → ℕ) → List Act → Alone → Option Alone
+abbrev pub replayed : Program → (m : ℕ) → (memory : ℕ → Option ℕ) → List Act → Alone → Option Alone
 replayed p m memory [] x = Some x
 replayed p m memory (act ∷ due) x = option_and_then (replayed p m memory due) (replay_act p m memory x act x.thread.status)
 

@@ -133,10 +133,19 @@ TowardHolds c is towards.Wait fs = FramesHold c is fs
 abbrev pub with_object : Classes → (class a : ℕ) → Classes
 with_object is class a = λ d v. is d v ⊎ ((d ≡ class) × (v ≡ a))
 
+-- a monitor that is to be entered
+abbrev pub IsObject : Classes → (m : ℕ) → Type 0
+IsObject is m = (class : ℕ) × is class m
+
 abbrev pub PhaseHolds : MarkedProgram → Classes → Phase → List Frame → Type 0
 PhaseHolds c is (phases.Element word stored) fs = ElementStands word stored fs × FramesHold c is fs
 PhaseHolds c is (phases.Made a word) fs = FramesHold c (with_object is (header_class word) a) (pushed a fs)
 PhaseHolds c is (phases.Throw x class) fs = IsException is x class × FramesThrown c is fs
+PhaseHolds c is (phases.Enter m tried) fs = IsObject is m × FramesHold c is fs
+PhaseHolds c is (phases.Acquire m) fs = IsObject is m × FramesHold c is fs
+PhaseHolds c is (phases.Take m count) fs = IsObject is m × FramesHold c is fs
+PhaseHolds c is (phases.Flag m u) fs = IsObject is m × FramesHold c is fs
+PhaseHolds c is (phases.TakeFat m r) fs = IsObject is m × FramesHold c is fs
 PhaseHolds c is (phases.Leave m a) fs = AfterHolds c is a fs
 PhaseHolds c is (phases.Grow m toward) fs = TowardHolds c is toward fs
 PhaseHolds c is (phases.FlatOut m a) fs = AfterHolds c is a fs
@@ -146,10 +155,10 @@ PhaseHolds c is phase fs = FramesHold c is fs
 
 -- ---- threads
 
--- with the frame of its entry put back
+-- its monitor, and the frames with that of its entry put back
 abbrev pub AttemptHolds : MarkedProgram → Classes → List Frame → Option Attempt → Type 0
 AttemptHolds c is fs None = Unit {0}
-AttemptHolds c is fs (Some a) = FramesHold c is (put_back a fs)
+AttemptHolds c is fs (Some a) = IsObject is a.monitor × FramesHold c is (put_back a fs)
 
 pub record ThreadHolds (c : MarkedProgram) (is : Classes) (s : Thread) : Type 0 where
   pub phase : PhaseHolds c is s.phase s.frames
