@@ -69,12 +69,33 @@ acts_sound m insn r frames f h =
       handlers_fit = all_weaker (λ handler. P (to_handler f handler)) (λ handler. Fits IsShapeBelow m.code frames (tags_at_handler f) handler.handler) (λ handler k. k.0) (catchers m insn) (of_handlers P f (catchers m insn) inner.1.1);
     }
 
--- ---- what typing reaches
+-- ---- where its edges lead
 
-start_at : (code : List Insn) (i : ℕ) (insn : Insn) → slice_get code i ≡ Some insn → is_start code insn.pc ≡ true
+break_lands : (L : ℕ → TagShape → Type 0) (code : List Insn) (b : Bool) (rule : SRule) (pc : ℕ) → AllByRecursion (ActLands L code) (break_if b rule pc)
+break_lands L code true rule pc = (tt, tt)
+break_lands L code false rule pc = tt
+
+pub acts_land : (L : ℕ → TagShape → Type 0) (m : MethodInfo) (insn : Insn) (r : OpRow) (f : TagShape) → AllByRecursion (Lands L m.code (tags_after insn r f)) (edges insn)
+    → AllByRecursion (λ handler. Lands L m.code (tags_at_handler f) handler.handler) (catchers m insn) → AllByRecursion (ActLands L m.code) (tag_acts m insn r f)
+acts_land L m insn r f onward caught =
+    let P : Act TagShape SRule → Type 0 = ActLands L m.code in
+    let enters = break_if (enters_untagged insn.op f.stack) S1 insn.pc in
+    let exits = break_if (exits_other insn.op f.stack f.held) S2 insn.pc in
+    let brings : List (Act TagShape SRule) = Bring S3 (edges insn) (tags_after insn r f) ∷ map (to_handler f) (catchers m insn) in
+    let leaves = break_if (leaves_held m insn f.held) S4 insn.pc in
+    let handlers = all_weaker (λ handler. Lands L m.code (tags_at_handler f) handler.handler) (λ handler. P (to_handler f handler)) (λ handler h. (h, tt)) (catchers m insn) caught in
+    all_append P (enters ++ exits ++ brings) leaves
+    (all_append P (enters ++ exits) brings
+    (all_append P enters exits (break_lands L m.code (enters_untagged insn.op f.stack) S1 insn.pc) (break_lands L m.code (exits_other insn.op f.stack f.held) S2 insn.pc))
+    (onward, to_handlers P f (catchers m insn) handlers))
+    (break_lands L m.code (leaves_held m insn f.held) S4 insn.pc)
+
+pub start_at : (code : List Insn) (i : ℕ) (insn : Insn) → slice_get code i ≡ Some insn → is_start code insn.pc ≡ true
 start_at [] i insn e = absurd (cc)
 start_at (x ∷ code) zero insn e = let same : x ≡ insn = cc in or_left (x.pc == insn.pc) (is_start code insn.pc) (eq-eqb x.pc insn.pc (ap (λ (y : Insn). y.pc) same))
 start_at (x ∷ code) (suc i) insn e = or_right (x.pc == insn.pc) (is_start code insn.pc) (start_at code i insn e)
+
+-- ---- what typing reaches
 
 module _ (p : Program) (m : MethodInfo) (frames : List (Option TypeFrame)) (laid : IsLaidOut m) (typing : types.IsAssignment p m frames) where
   -- the typing has a frame there
@@ -90,40 +111,27 @@ module _ (p : Program) (m : MethodInfo) (frames : List (Option TypeFrame)) (laid
       }
 
   rows_land : (g : TypeFrame) (f : TagShape) (rows : List Row) → AllByRecursion (λ handler. types.Fits m.code frames (frame_at_handler handler g) handler.handler) rows
-      → AllByRecursion (λ handler. ActLands IsTyped m.code (to_handler f handler)) (until_all rows)
+      → AllByRecursion (λ handler. Lands IsTyped m.code (tags_at_handler f) handler.handler) (until_all rows)
   rows_land g f [] h = tt
   rows_land g f (handler ∷ rows) h = by_test (catches_all handler) (typed_lands (frame_at_handler handler g) (tags_at_handler f) handler.handler h.0) (rows_land g f rows h.1)
     where
-      by_test : (b : Bool) → Lands IsTyped m.code (tags_at_handler f) handler.handler → AllByRecursion (λ handler. ActLands IsTyped m.code (to_handler f handler)) (until_all rows)
-          → AllByRecursion (λ handler. ActLands IsTyped m.code (to_handler f handler)) (if b then handler ∷ [] else handler ∷ until_all rows)
-      by_test true one more = ((one, tt), tt)
-      by_test false one more = ((one, tt), more)
+      by_test : (b : Bool) → Lands IsTyped m.code (tags_at_handler f) handler.handler → AllByRecursion (λ handler. Lands IsTyped m.code (tags_at_handler f) handler.handler) (until_all rows)
+          → AllByRecursion (λ handler. Lands IsTyped m.code (tags_at_handler f) handler.handler) (if b then handler ∷ [] else handler ∷ until_all rows)
+      by_test true one more = (one, tt)
+      by_test false one more = (one, more)
 
   catchers_land : (insn : Insn) (g : TypeFrame) (f : TagShape) → AllByRecursion (λ handler. types.Fits m.code frames (frame_at_handler handler g) handler.handler) (covering m insn.pc)
-      → AllByRecursion (λ handler. ActLands IsTyped m.code (to_handler f handler)) (catchers m insn)
+      → AllByRecursion (λ handler. Lands IsTyped m.code (tags_at_handler f) handler.handler) (catchers m insn)
   catchers_land insn g f h = by_test (can_throw insn.op)
     where
-      by_test : (b : Bool) → AllByRecursion (λ handler. ActLands IsTyped m.code (to_handler f handler)) (if b then until_all (covering m insn.pc) else [])
+      by_test : (b : Bool) → AllByRecursion (λ handler. Lands IsTyped m.code (tags_at_handler f) handler.handler) (if b then until_all (covering m insn.pc) else [])
       by_test true = rows_land g f (covering m insn.pc) h
       by_test false = tt
 
-  break_lands : (b : Bool) (rule : SRule) (pc : ℕ) → AllByRecursion (ActLands IsTyped m.code) (break_if b rule pc)
-  break_lands true rule pc = (tt, tt)
-  break_lands false rule pc = tt
-
-  acts_land : (insn : Insn) (r : OpRow) (g : TypeFrame) (f : TagShape) → types.IsSound m insn r frames g → AllByRecursion (ActLands IsTyped m.code) (tag_acts m insn r f)
-  acts_land insn r g f s =
-      let P : Act TagShape SRule → Type 0 = ActLands IsTyped m.code in
-      let enters = break_if (enters_untagged insn.op f.stack) S1 insn.pc in
-      let exits = break_if (exits_other insn.op f.stack f.held) S2 insn.pc in
-      let brings : List (Act TagShape SRule) = Bring S3 (edges insn) (tags_after insn r f) ∷ map (to_handler f) (catchers m insn) in
-      let leaves = break_if (leaves_held m insn f.held) S4 insn.pc in
-      let edges_land = all_weaker (types.Fits m.code frames (frame_after m r g)) (Lands IsTyped m.code (tags_after insn r f)) (typed_lands (frame_after m r g) (tags_after insn r f)) (edges insn) s.edges_fit in
-      all_append P (enters ++ exits ++ brings) leaves
-      (all_append P (enters ++ exits) brings
-      (all_append P enters exits (break_lands (enters_untagged insn.op f.stack) S1 insn.pc) (break_lands (exits_other insn.op f.stack f.held) S2 insn.pc))
-      (edges_land, to_handlers P f (catchers m insn) (catchers_land insn g f s.handlers_fit)))
-      (break_lands (leaves_held m insn f.held) S4 insn.pc)
+  insn_lands : (insn : Insn) (r : OpRow) (g : TypeFrame) (f : TagShape) → types.IsSound m insn r frames g → AllByRecursion (ActLands IsTyped m.code) (tag_acts m insn r f)
+  insn_lands insn r g f s = acts_land IsTyped m insn r f
+      (all_weaker (types.Fits m.code frames (frame_after m r g)) (Lands IsTyped m.code (tags_after insn r f)) (typed_lands (frame_after m r g) (tags_after insn r f)) (edges insn) s.edges_fit)
+      (catchers_land insn g f s.handlers_fit)
 
   plan_lands : (i : ℕ) (f : TagShape) → IsTyped i f → AllByRecursion (ActLands IsTyped m.code) ((tag_plan p m).acts i f)
   plan_lands i f typed = by_both (slice_get m.code i) refl (slice_get m.targets i) refl
@@ -131,7 +139,7 @@ module _ (p : Program) (m : MethodInfo) (frames : List (Option TypeFrame)) (laid
       by_both : (o : Option Insn) → slice_get m.code i ≡ o → (q : Option Target) → slice_get m.targets i ≡ q → AllByRecursion (ActLands IsTyped m.code) (acts_at p m o q f)
       by_both None c q t = tt
       by_both (Some insn) c None t = tt
-      by_both (Some insn) c (Some target) t = acts_land insn (row p m insn.pc target insn.op) typed.0 f (typing.sound i insn target typed.0 c t typed.1)
+      by_both (Some insn) c (Some target) t = insn_lands insn (row p m insn.pc target insn.op) typed.0 f (typing.sound i insn target typed.0 c t typed.1)
 
   first_typed : IsTyped 0 (entry_tags m)
   first_typed =

@@ -57,6 +57,29 @@ pub record IsLocal {A R : Type 0} (p : Plan A R) (Below : A → A → Type 0) (L
 abbrev pub Begins : List Insn → Type 0
 Begins code = (insn : Insn) × (rest : List Insn) × (code ≡ insn ∷ rest) × (insn.pc ≡ 0)
 
+-- an edge that fits leads to an instruction with a frame that what it brings is at or below
+pub record Landing {A : Type 0} (Below : A → A → Type 0) (code : List Insn) (frames : List (Option A)) (f : A) (to : ℕ) : Type 0 where
+  pub number : ℕ
+  pub insn : Insn
+  pub frame : A
+  pub there : slice_get code number ≡ Some insn
+  pub starts : insn.pc ≡ to
+  pub has : slice_get frames number ≡ Some (Some frame)
+  pub fits : Below f frame
+
+pub landing : {A : Type 0} (Below : A → A → Type 0) (code : List Insn) (frames : List (Option A)) (f : A) (to : ℕ) → Fits Below code frames f to → Landing Below code frames f to
+landing Below [] frames f to h = absurd h
+landing Below (insn ∷ code) [] f to h = absurd h
+landing {A = A} Below (insn ∷ code) (frame ∷ frames) f to h = by_test (insn.pc == to) refl (landing Below code frames f to) h
+  where
+    here : (o : Option A) → frame ≡ o → insn.pc ≡ to → IsSomeAnd o (λ g. Below f g) → Landing Below (insn ∷ code) (frame ∷ frames) f to
+    here None e same h = absurd h
+    here (Some g) e same h = record { number = 0; insn = insn; frame = g; there = refl; starts = same; has = ap Some e; fits = h }
+
+    by_test : (t : Bool) → (insn.pc == to) ≡ t → (Fits Below code frames f to → Landing Below code frames f to) → IsSomeAnd (cond t frame (frame_at code frames to)) (λ g. Below f g) → Landing Below (insn ∷ code) (frame ∷ frames) f to
+    by_test true e more h = here frame refl (grind (arith, nat_tests, e)) h
+    by_test false e more h = let l = more h in record { number = suc l.number; insn = l.insn; frame = l.frame; there = l.there; starts = l.starts; has = l.has; fits = l.fits }
+
 -- ---- small facts
 
 abbrev pub frames_of : {A : Type 0} → List (Node A) → List (Option A)
