@@ -6,3 +6,5 @@ pub mod RowGives
 pub mod TagRanks
 pub mod TagAnswers
 pub mod TagLocal
+pub mod TagReach
+pub mod TagFree
