@@ -20,6 +20,7 @@ use Rattle.checked_program.specs.declared.section.Mode.{Mode}
 use Rattle.checked_program.specs.declared.section.Mode.TheVariants.{OnThis}
 use Rattle.checked_program.specs.declared.section.Spot.{Spot}
 use Rattle.checked_program.specs.declared.section.Spot.TheVariants.{Method, Block}
+use Rattle.section_laws.specs.FrameLaws.{HeldLaw}
 use Rattle.section_laws.proofs.VisitedNodes.{IsFirstOf}
 use Rattle.section_laws.proofs.HeldTags.{one_first, AreOwn, own_along, sound_at, framed_first, held_kept, all_own}
 use Rattle.section_laws.proofs.MarkedReads.{own_object, own_no_fault, called_no_fault}
@@ -160,7 +161,10 @@ module _ (p : Program) (tags : Tagged) (tagged : AreTagged p tags) where
         (λ (no : slice_index_or f.stack 0 Untagged ≡ This → ⊥). absurd (mark 8 (elsewhere refl (λ on. no (exits_block i m insn target f inside (on_this i inside (subst (IsOnThis p tags s.method) is_block on)) at exits)))))
         (is_this_or (slice_index_or f.stack 0 Untagged))
 
--- ---- the law
+-- ---- the laws
+
+pub held_law : HeldLaw
+held_law p tags mi i j m insn other target next f g h tagged from to goes = edge_held p tags tagged mi i j m insn other target next f g h from to goes
 
 pub exit_law : ExitLaw
 exit_law p tags uses s o a (b ∷ parts) mode m insn target f u tagged k h at exits =

@@ -14,10 +14,16 @@ use Rattle.checked_program.specs.Tagging.{tags_after}
 use Rattle.checked_program.specs.TaggedCode.{Tagged, IsAt, Goes, row_of}
 use Rattle.checked_program.specs.Sections.{Section, IsOwn}
 use Rattle.checked_program.specs.Marks.{called_method, args_of, receiver_tag, is_own_object, mode_if}
-use Rattle.checked_program.specs.SectionLaws.{Part, AreParts, HasThis}
+use Rattle.checked_program.specs.SectionLaws.{Part, AreParts, AreTagged, HasThis}
 use Rattle.checked_program.specs.declared.tag.Tag.{Tag}
 use Rattle.checked_program.specs.declared.section.Mode.{Mode}
 use Rattle.checked_program.specs.declared.section.Spot.TheVariants.{Block}
+
+-- ---- an edge between two instructions brings the held list of its target, as the laws of moves ask for
+
+abbrev pub HeldLaw : Type 0
+HeldLaw = (p : Program) (tags : Tagged) (mi i j : ℕ) (m : MethodInfo) (insn other : Insn) (target next : Target) (f g h : TagShape) → AreTagged p tags → IsAt p tags mi i m insn target f → IsAt p tags mi j m other next g
+    → Goes p m insn target f other h → h.held ≡ g.held
 
 -- ---- the start of a block: where its `monitorenter` goes on is its first own instruction
 

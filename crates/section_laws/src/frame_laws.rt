@@ -1,7 +1,7 @@
 //! The frames of a section that may run without its lock, and what they may do.
 
 ghost use Rattle.checked_program.specs.SectionLaws.{ApartLaw, ExitLaw, MoveLaw, OwnLaw, ReadLaw};
-ghost use Rattle.section_laws.specs.FrameLaws.{BeginLaw, InvokeLaw, ResumeLaw, ReturnLaw};
+ghost use Rattle.section_laws.specs.FrameLaws.{BeginLaw, HeldLaw, InvokeLaw, ResumeLaw, ReturnLaw};
 
 /// What an instruction of such a section may do: it writes nothing, and reads no place but a frozen one, or a
 /// guarded one of the section's object.
@@ -17,6 +17,11 @@ pub fn own_monitor_is_left()
 /// No method is twice among the frames of such a section.
 pub fn methods_are_apart()
     ensures { ApartLaw }
+{}
+
+/// An edge between two instructions of a tagged method brings the held list of its target.
+pub fn edges_bring_held()
+    ensures { HeldLaw }
 {}
 
 /// An edge from an own instruction of a section leads to one, or it is the exit of the block.
