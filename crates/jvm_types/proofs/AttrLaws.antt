@@ -13,7 +13,7 @@ use Rattle.jvm_types.specs.declared.class_file.Code.{Code}
 use Rattle.jvm_types.specs.declared.class_file.MemberAttr.{MemberAttr}
 use Rattle.jvm_types.specs.declared.class_file.MemberAttr.TheVariants as member_attrs
 use Rattle.jvm_types.specs.ClassGrammar.{IsCounted, IsIndex, IsAttr, IsNamed, IsHandler, IsCodeAttr, IsFieldAttr, IsMethodAttr}
-use Rattle.jvm_types.specs.ReadingSteps.{Fault, ended, whole, in_body}
+use Rattle.jvm_types.specs.ReadingSteps.{◌>>=◌, Fault, ended, whole, in_body}
 use Rattle.jvm_types.specs.ReadingPool.{is_text, index_at}
 use Rattle.jvm_types.specs.ReadingClass.{attr_at, handler_at, code_at, code_of, value_of, field_attr_at, method_attr_at}
 use Rattle.jvm_types.proofs.StepLaws.{IsBytes, Finds, on_bind, Took, Reads, on_step, u2_reads, u2_again, u4_reads, u4_again, run_reads, run_again, counted_reads}
@@ -206,25 +206,26 @@ chosen : (b : Bool) (x : Result MemberAttr Fault) (y : MemberAttr) (P : MemberAt
 chosen true x y P h k = h refl
 chosen false x y P h k = record { ok = k refl }
 
+-- an attribute of a member, by its name read as one that the member has, or kept unread
+member_attr_takes : (pool : List Constant) (text : List ℕ) (Is : MemberAttr → Type 0) (read : Attr → ℕ → Result MemberAttr Fault)
+    → ((a : Attr) (behind : ℕ) → IsAttr pool a → IsTextAt pool a.name text → Finds (read a behind) (Kept Is a))
+    → ((a : Attr) → IsAttr pool a → (IsTextAt pool a.name text → ⊥) → Is (member_attrs.Other a))
+    → (bytes : List ℕ) → IsBytes bytes
+    → Finds (attr_at pool bytes >>= λ a. (cond (is_text text (slice_get pool a.0.name)) (read a.0 (length a.1)) (Ok (member_attrs.Other a.0)) >>= λ attr. Ok (attr, a.1))) (Took member_attr Is bytes)
+member_attr_takes pool text Is read kept other bytes fits =
+    on_step (attr_reads pool) bytes fits _ _ λ a p.
+    on_bind _ _ _ _ (chosen (is_text text (slice_get pool a.0.name)) (read a.0 (length a.1)) (member_attrs.Other a.0) (Kept Is a.0)
+    (λ e. kept a.0 (length a.1) p.fits (IsTextAt-from_test text pool a.0.name e))
+    (λ e. record { same = refl; fits = other a.0 p.fits (no_IsTextAt text pool a.0.name e) })) λ m found.
+    record { ok = record { parts = p.parts ∙ ap (λ (x : List ℕ). x ++ a.1) found.same; fits = found.fits; rest = p.rest } }
+
 field_attr_takes : (pool : List Constant) (bytes : List ℕ) → IsBytes bytes → Finds (field_attr_at pool bytes) (Took member_attr (IsFieldAttr pool) bytes)
 unfolding field_attr_at
-field_attr_takes pool bytes fits =
-    on_step (attr_reads pool) bytes fits _ _ λ a p.
-    let text : List ℕ = codes "ConstantValue" in
-    on_bind _ _ _ _ (chosen (is_text text (slice_get pool a.0.name)) (value_of pool a.0 (length a.1)) (member_attrs.Other a.0) (Kept (IsFieldAttr pool) a.0)
-    (λ e. value_kept pool a.0 (length a.1) p.fits (IsTextAt-from_test text pool a.0.name e))
-    (λ e. record { same = refl; fits = (p.fits, no_IsTextAt text pool a.0.name e) })) λ m kept.
-    record { ok = record { parts = p.parts ∙ ap (λ (x : List ℕ). x ++ a.1) kept.same; fits = kept.fits; rest = p.rest } }
+field_attr_takes pool = member_attr_takes pool (codes "ConstantValue") (IsFieldAttr pool) (value_of pool) (value_kept pool) (λ a is other. (is, other))
 
 method_attr_takes : (pool : List Constant) (bytes : List ℕ) → IsBytes bytes → Finds (method_attr_at pool bytes) (Took member_attr (IsMethodAttr pool) bytes)
 unfolding method_attr_at
-method_attr_takes pool bytes fits =
-    on_step (attr_reads pool) bytes fits _ _ λ a p.
-    let text : List ℕ = codes "Code" in
-    on_bind _ _ _ _ (chosen (is_text text (slice_get pool a.0.name)) (code_of pool a.0 (length a.1)) (member_attrs.Other a.0) (Kept (IsMethodAttr pool) a.0)
-    (λ e. code_kept pool a.0 (length a.1) p.fits (IsTextAt-from_test text pool a.0.name e))
-    (λ e. record { same = refl; fits = (p.fits, no_IsTextAt text pool a.0.name e) })) λ m kept.
-    record { ok = record { parts = p.parts ∙ ap (λ (x : List ℕ). x ++ a.1) kept.same; fits = kept.fits; rest = p.rest } }
+method_attr_takes pool = member_attr_takes pool (codes "Code") (IsMethodAttr pool) (code_of pool) (code_kept pool) (λ a is other. (is, other))
 
 named_index : (pool : List Constant) (name : ℕ) (text : List ℕ) → IsNamed pool name text → IsIndex kinds.Utf8 pool name
 named_index pool name text is = record { number = is.number; names = (text, is.named) }

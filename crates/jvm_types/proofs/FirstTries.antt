@@ -13,7 +13,6 @@ use Rattle.jvm_types.specs.declared.class_file.MemberAttr.TheVariants.{Code, Oth
 use Rattle.jvm_types.specs.declared.class_file.Member.{Member as ClassMember}
 use Rattle.jvm_types.specs.declared.class_file.ClassFile.{ClassFile}
 use Rattle.jvm_types.specs.declared.code.Insn.{Insn}
-use Rattle.jvm_types.specs.declared.code.Op.{Op}
 use Rattle.jvm_types.specs.declared.code.Op.TheVariants as ops
 use Rattle.jvm_types.specs.declared.first.FirstOp.{FirstOp}
 use Rattle.jvm_types.specs.declared.first.FirstOp.TheVariants.{Out, Const, Add, Print, Return}
@@ -21,6 +20,7 @@ use Rattle.jvm_types.specs.declared.program.Target.TheVariants as targets
 use Rattle.jvm_types.specs.declared.program.MethodInfo.{MethodInfo}
 use Rattle.jvm_types.specs.declared.program.Program.{Program}
 use Rattle.jvm_types.specs.declared.refusal.LRule.TheVariants.{L2, L6}
+use Rattle.jvm_types.proofs.SampleMethods.{insn, method}
 
 abbrev pool : List Constant
 pool = Gap ∷ Utf8 (codes "A") ∷ Class 1 ∷ Utf8 (codes "java/lang/Object") ∷ Class 3
@@ -47,9 +47,6 @@ plain_code = the_code [] [] []
 
 abbrev adds : ClassFile
 adds = class pool [] [] (init (plain_code ∷ []) ∷ []) []
-
-abbrev insn : ℕ → ℕ → Op → Insn
-insn pc next op = record { pc = pc; next = next; op = op }
 
 abbrev insns : List Insn
 insns = insn 0 3 (ops.Getstatic 13) ∷ insn 3 4 (ops.Iconst (pos 2)) ∷ insn 4 5 (ops.Iconst (pos 3)) ∷ insn 5 6 ops.Iadd ∷ insn 6 9 (ops.Invokevirtual 19) ∷ insn 9 10 ops.Return ∷ []
@@ -121,19 +118,7 @@ own_out = refl
 
 -- the first program
 abbrev the_method : MethodInfo
-the_method = record {
-  class = 17;
-  flags = 9;
-  name = codes "init";
-  descriptor = codes "()V";
-  args = [];
-  result = None;
-  max_stack = 3;
-  max_locals = 0;
-  code = insns;
-  targets = targets.Out ∷ targets.Nothing ∷ targets.Nothing ∷ targets.Nothing ∷ targets.Println ∷ targets.Nothing ∷ [];
-  rows = [];
-}
+the_method = method 9 (codes "init") 3 0 insns (targets.Out ∷ targets.Nothing ∷ targets.Nothing ∷ targets.Nothing ∷ targets.Println ∷ targets.Nothing ∷ []) []
 
 its_method : program.methods ≡ the_method ∷ []
 its_method = refl

@@ -1,4 +1,5 @@
 pub mod FilledLaws
+pub mod SampleMethods
 mod NameTries
 mod FirstTries
 mod LinkTries
@@ -31,5 +32,6 @@ pub mod FaultPlaces
 pub mod LoopLaws
 pub mod CodeWhole
 pub mod CodeExact
+pub mod ClassCases
 pub mod TypeOrder
 pub mod FrameOrder

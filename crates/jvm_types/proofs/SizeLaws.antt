@@ -30,7 +30,7 @@ back_within xs ys n h = let e = length-append xs ys in omega (arith, e, h)
 
 -- ---- one method
 
-insns_within : (pc : ℕ) (insns : List Insn) (bytes : List ℕ) → SpellsInsns pc insns bytes → length insns ≤ length bytes
+pub insns_within : (pc : ℕ) (insns : List Insn) (bytes : List ℕ) → SpellsInsns pc insns bytes → length insns ≤ length bytes
 insns_within pc [] bytes h = omega arith
 insns_within pc (insn ∷ insns) bytes (front, rest, e, at, next, op, more) =
     let whole : length bytes ≡ length front + length rest = ap length e ∙ length-append front rest in

@@ -1,5 +1,5 @@
 -- The order of types: it is one, and a meet is the least type that both are below.
-use Rattle.std.proofs.Common.{◌≡◌, ℕ, zero, suc, Bool, true, false, List, [], ◌∷◌, refl, ap, sym, subst, ◌∙◌, arith}
+use Rattle.std.proofs.Common.{◌≡◌, ℕ, Bool, true, false, List, [], ◌∷◌, refl, ap, sym, subst, ◌∙◌, arith}
 use Rattle.std.specs.Prelude.{◌||◌, ◌==◌, if◌then◌else◌}
 use Rattle.std.specs.List.{AllByRecursion}
 use Rattle.std.proofs.lemmas.Bool.Decides.{nat_tests}
@@ -8,6 +8,7 @@ use Rattle.jvm_types.specs.ClassTree.{object_class, super_class, ancestors, is_s
 use Rattle.jvm_types.specs.Types.{is_below, meet, if_same_place}
 use Rattle.jvm_types.specs.declared.typing.VType.{VType}
 use Rattle.jvm_types.specs.declared.typing.VType.TheVariants.{Int, Null, Ref, This, New, Top}
+use Rattle.jvm_types.proofs.ClassCases.{by_class}
 
 -- ---- lists of numbers
 
@@ -25,7 +26,7 @@ there x y xs h = second_true (x == y) (has_number xs y) h
     second_true false b e = e
 
 -- what holds at each number of a list holds at one that is in it
-pick : {P : Type 0} (xs : List ℕ) (y : ℕ) → has_number xs y ≡ true → AllByRecursion (λ x. x ≡ y → P) xs → P
+pub pick : {P : Type 0} (xs : List ℕ) (y : ℕ) → has_number xs y ≡ true → AllByRecursion (λ x. x ≡ y → P) xs → P
 pick [] y h f = absurd (cc)
 pick (x ∷ xs) y h f = by_first (x == y) refl h f.0 (λ g. pick xs y g f.1)
   where
@@ -48,23 +49,7 @@ within (x ∷ xs) ys y all h = by_first (x == y) refl h all.0 (λ g. within xs y
 
 -- no class is more than four steps from Object
 four_up : (c : ℕ) → super_class (super_class (super_class (super_class c))) ≡ object_class
-four_up zero = refl
-four_up (suc zero) = refl
-four_up (suc (suc zero)) = refl
-four_up (suc (suc (suc zero))) = refl
-four_up (suc (suc (suc (suc zero)))) = refl
-four_up (suc (suc (suc (suc (suc zero))))) = refl
-four_up (suc (suc (suc (suc (suc (suc zero)))))) = refl
-four_up (suc (suc (suc (suc (suc (suc (suc zero))))))) = refl
-four_up (suc (suc (suc (suc (suc (suc (suc (suc zero)))))))) = refl
-four_up (suc (suc (suc (suc (suc (suc (suc (suc (suc zero))))))))) = refl
-four_up (suc (suc (suc (suc (suc (suc (suc (suc (suc (suc zero)))))))))) = refl
-four_up (suc (suc (suc (suc (suc (suc (suc (suc (suc (suc (suc zero))))))))))) = refl
-four_up (suc (suc (suc (suc (suc (suc (suc (suc (suc (suc (suc (suc zero)))))))))))) = refl
-four_up (suc (suc (suc (suc (suc (suc (suc (suc (suc (suc (suc (suc (suc zero))))))))))))) = refl
-four_up (suc (suc (suc (suc (suc (suc (suc (suc (suc (suc (suc (suc (suc (suc zero)))))))))))))) = refl
-four_up (suc (suc (suc (suc (suc (suc (suc (suc (suc (suc (suc (suc (suc (suc (suc zero))))))))))))))) = refl
-four_up (suc (suc (suc (suc (suc (suc (suc (suc (suc (suc (suc (suc (suc (suc (suc (suc c)))))))))))))))) = refl
+four_up = by_class (λ c. super_class (super_class (super_class (super_class c))) ≡ object_class) (refl, (refl, (refl, (refl, (refl, (refl, (refl, (refl, (refl, (refl, (refl, (refl, (refl, (refl, (refl, (refl, tt)))))))))))))))) (λ c. refl)
 
 five_up : (c : ℕ) → super_class (super_class (super_class (super_class c))) ≡ super_class (super_class (super_class (super_class (super_class c))))
 five_up c = four_up c ∙ ap super_class (sym (four_up c))
@@ -186,91 +171,42 @@ common_least c d e h k = first_least d e (ancestors c) (chain c) (as_ancestor c 
 -- ---- types
 
 pub below_self : (t : VType) → is_below t t ≡ true
-below_self Int = refl
-below_self Null = refl
 below_self (Ref c) = subclass_self c
-below_self This = refl
 below_self (New pc) = grind (arith, nat_tests)
-below_self Top = refl
+below_self t = refl
 
 pub below_top : (t : VType) → is_below t Top ≡ true
-below_top Int = refl
-below_top Null = refl
-below_top (Ref c) = refl
-below_top This = refl
-below_top (New pc) = refl
-below_top Top = refl
+below_top t = refl
 
 from_top : (t v : VType) → is_below Top v ≡ true → is_below t v ≡ true
 from_top t Top k = below_top t
-from_top t Int k = absurd (cc)
-from_top t Null k = absurd (cc)
-from_top t (Ref c) k = absurd (cc)
-from_top t This k = absurd (cc)
-from_top t (New p) k = absurd (cc)
+from_top t v k = absurd (cc)
 
 null_below : (d : ℕ) (v : VType) → is_below (Ref d) v ≡ true → is_below Null v ≡ true
-null_below d Int k = absurd (cc)
 null_below d Null k = refl
 null_below d (Ref e) k = refl
-null_below d This k = absurd (cc)
-null_below d (New p) k = absurd (cc)
 null_below d Top k = refl
+null_below d v k = absurd (cc)
 
 class_below : (c d : ℕ) (v : VType) → is_subclass c d ≡ true → is_below (Ref d) v ≡ true → is_below (Ref c) v ≡ true
-class_below c d Int h k = absurd (cc)
-class_below c d Null h k = absurd (cc)
 class_below c d (Ref e) h k = subclass_trans c d e h k
-class_below c d This h k = absurd (cc)
-class_below c d (New p) h k = absurd (cc)
 class_below c d Top h k = refl
+class_below c d v h k = absurd (cc)
 
 place_below : (p q : ℕ) (v : VType) → (p == q) ≡ true → is_below (New q) v ≡ true → is_below (New p) v ≡ true
-place_below p q Int h k = absurd (cc)
-place_below p q Null h k = absurd (cc)
-place_below p q (Ref e) h k = absurd (cc)
-place_below p q This h k = absurd (cc)
 place_below p q (New r) h k = grind (arith, nat_tests, h, k)
 place_below p q Top h k = refl
+place_below p q v h k = absurd (cc)
 
 pub below_trans : (t u v : VType) → is_below t u ≡ true → is_below u v ≡ true → is_below t v ≡ true
-below_trans t u Top h k = below_top t
+below_trans t Top v h k = from_top t v k
 below_trans Int Int v h k = k
-below_trans Int Null v h k = absurd (cc)
-below_trans Int (Ref d) v h k = absurd (cc)
-below_trans Int This v h k = absurd (cc)
-below_trans Int (New q) v h k = absurd (cc)
-below_trans Int Top v h k = from_top Int v k
-below_trans Null Int v h k = absurd (cc)
 below_trans Null Null v h k = k
 below_trans Null (Ref d) v h k = null_below d v k
-below_trans Null This v h k = absurd (cc)
-below_trans Null (New q) v h k = absurd (cc)
-below_trans Null Top v h k = from_top Null v k
-below_trans (Ref c) Int v h k = absurd (cc)
-below_trans (Ref c) Null v h k = absurd (cc)
 below_trans (Ref c) (Ref d) v h k = class_below c d v h k
-below_trans (Ref c) This v h k = absurd (cc)
-below_trans (Ref c) (New q) v h k = absurd (cc)
-below_trans (Ref c) Top v h k = from_top (Ref c) v k
-below_trans This Int v h k = absurd (cc)
-below_trans This Null v h k = absurd (cc)
-below_trans This (Ref d) v h k = absurd (cc)
 below_trans This This v h k = k
-below_trans This (New q) v h k = absurd (cc)
-below_trans This Top v h k = from_top This v k
-below_trans (New p) Int v h k = absurd (cc)
-below_trans (New p) Null v h k = absurd (cc)
-below_trans (New p) (Ref d) v h k = absurd (cc)
-below_trans (New p) This v h k = absurd (cc)
 below_trans (New p) (New q) v h k = place_below p q v h k
-below_trans (New p) Top v h k = from_top (New p) v k
-below_trans Top Int v h k = absurd (cc)
-below_trans Top Null v h k = absurd (cc)
-below_trans Top (Ref d) v h k = absurd (cc)
-below_trans Top This v h k = absurd (cc)
-below_trans Top (New q) v h k = absurd (cc)
-below_trans Top Top v h k = k
+below_trans t u v h k = absurd (cc)
 
 below_place : (t : VType) (b : Bool) → is_below t t ≡ true → is_below t (if_same_place b t) ≡ true
 below_place t true h = h
@@ -278,41 +214,13 @@ below_place t false h = below_top t
 
 pub meet_left : (t u : VType) → is_below t (meet t u) ≡ true
 meet_left Int Int = refl
-meet_left Int Null = refl
-meet_left Int (Ref d) = refl
-meet_left Int This = refl
-meet_left Int (New q) = refl
-meet_left Int Top = refl
-meet_left Null Int = refl
 meet_left Null Null = refl
-meet_left Null (Ref d) = refl
-meet_left Null This = refl
-meet_left Null (New q) = refl
-meet_left Null Top = refl
-meet_left (Ref c) Int = refl
+meet_left This This = refl
+meet_left Top Top = refl
 meet_left (Ref c) Null = subclass_self c
 meet_left (Ref c) (Ref d) = common_left c d
-meet_left (Ref c) This = refl
-meet_left (Ref c) (New q) = refl
-meet_left (Ref c) Top = refl
-meet_left This Int = refl
-meet_left This Null = refl
-meet_left This (Ref d) = refl
-meet_left This This = refl
-meet_left This (New q) = refl
-meet_left This Top = refl
-meet_left (New p) Int = refl
-meet_left (New p) Null = refl
-meet_left (New p) (Ref d) = refl
-meet_left (New p) This = refl
 meet_left (New p) (New q) = below_place (New p) (p == q) (below_self (New p))
-meet_left (New p) Top = refl
-meet_left Top Int = refl
-meet_left Top Null = refl
-meet_left Top (Ref d) = refl
-meet_left Top This = refl
-meet_left Top (New q) = refl
-meet_left Top Top = refl
+meet_left t u = refl
 
 other_place : (p q : ℕ) (b : Bool) → (p == q) ≡ b → is_below (New q) (if_same_place b (New p)) ≡ true
 other_place p q true e = grind (arith, nat_tests, e)
@@ -320,41 +228,13 @@ other_place p q false e = refl
 
 pub meet_right : (t u : VType) → is_below u (meet t u) ≡ true
 meet_right Int Int = refl
-meet_right Int Null = refl
-meet_right Int (Ref d) = refl
-meet_right Int This = refl
-meet_right Int (New q) = refl
-meet_right Int Top = refl
-meet_right Null Int = refl
 meet_right Null Null = refl
-meet_right Null (Ref d) = subclass_self d
-meet_right Null This = refl
-meet_right Null (New q) = refl
-meet_right Null Top = refl
-meet_right (Ref c) Int = refl
-meet_right (Ref c) Null = refl
-meet_right (Ref c) (Ref d) = common_right c d
-meet_right (Ref c) This = refl
-meet_right (Ref c) (New q) = refl
-meet_right (Ref c) Top = refl
-meet_right This Int = refl
-meet_right This Null = refl
-meet_right This (Ref d) = refl
 meet_right This This = refl
-meet_right This (New q) = refl
-meet_right This Top = refl
-meet_right (New p) Int = refl
-meet_right (New p) Null = refl
-meet_right (New p) (Ref d) = refl
-meet_right (New p) This = refl
-meet_right (New p) (New q) = other_place p q (p == q) refl
-meet_right (New p) Top = refl
-meet_right Top Int = refl
-meet_right Top Null = refl
-meet_right Top (Ref d) = refl
-meet_right Top This = refl
-meet_right Top (New q) = refl
 meet_right Top Top = refl
+meet_right Null (Ref d) = subclass_self d
+meet_right (Ref c) (Ref d) = common_right c d
+meet_right (New p) (New q) = other_place p q (p == q) refl
+meet_right t u = refl
 
 one_place : (p q r : ℕ) (b : Bool) → (p == q) ≡ b → (p == r) ≡ true → (q == r) ≡ true → is_below (if_same_place b (New p)) (New r) ≡ true
 one_place p q r true e f g = f
@@ -363,162 +243,10 @@ one_place p q r false e f g = grind (arith, nat_tests, e, f, g)
 pub meet_least : (t u v : VType) → is_below t v ≡ true → is_below u v ≡ true → is_below (meet t u) v ≡ true
 meet_least t u Top h k = below_top (meet t u)
 meet_least Int Int v h k = k
-meet_least Int Null Int h k = absurd (cc)
-meet_least Int Null Null h k = absurd (cc)
-meet_least Int Null (Ref e) h k = absurd (cc)
-meet_least Int Null This h k = absurd (cc)
-meet_least Int Null (New r) h k = absurd (cc)
-meet_least Int (Ref d) Int h k = absurd (cc)
-meet_least Int (Ref d) Null h k = absurd (cc)
-meet_least Int (Ref d) (Ref e) h k = absurd (cc)
-meet_least Int (Ref d) This h k = absurd (cc)
-meet_least Int (Ref d) (New r) h k = absurd (cc)
-meet_least Int This Int h k = absurd (cc)
-meet_least Int This Null h k = absurd (cc)
-meet_least Int This (Ref e) h k = absurd (cc)
-meet_least Int This This h k = absurd (cc)
-meet_least Int This (New r) h k = absurd (cc)
-meet_least Int (New q) Int h k = absurd (cc)
-meet_least Int (New q) Null h k = absurd (cc)
-meet_least Int (New q) (Ref e) h k = absurd (cc)
-meet_least Int (New q) This h k = absurd (cc)
-meet_least Int (New q) (New r) h k = absurd (cc)
-meet_least Int Top Int h k = absurd (cc)
-meet_least Int Top Null h k = absurd (cc)
-meet_least Int Top (Ref e) h k = absurd (cc)
-meet_least Int Top This h k = absurd (cc)
-meet_least Int Top (New r) h k = absurd (cc)
-meet_least Null Int Int h k = absurd (cc)
-meet_least Null Int Null h k = absurd (cc)
-meet_least Null Int (Ref e) h k = absurd (cc)
-meet_least Null Int This h k = absurd (cc)
-meet_least Null Int (New r) h k = absurd (cc)
 meet_least Null Null v h k = k
 meet_least Null (Ref d) v h k = k
-meet_least Null This Int h k = absurd (cc)
-meet_least Null This Null h k = absurd (cc)
-meet_least Null This (Ref e) h k = absurd (cc)
-meet_least Null This This h k = absurd (cc)
-meet_least Null This (New r) h k = absurd (cc)
-meet_least Null (New q) Int h k = absurd (cc)
-meet_least Null (New q) Null h k = absurd (cc)
-meet_least Null (New q) (Ref e) h k = absurd (cc)
-meet_least Null (New q) This h k = absurd (cc)
-meet_least Null (New q) (New r) h k = absurd (cc)
-meet_least Null Top Int h k = absurd (cc)
-meet_least Null Top Null h k = absurd (cc)
-meet_least Null Top (Ref e) h k = absurd (cc)
-meet_least Null Top This h k = absurd (cc)
-meet_least Null Top (New r) h k = absurd (cc)
-meet_least (Ref c) Int Int h k = absurd (cc)
-meet_least (Ref c) Int Null h k = absurd (cc)
-meet_least (Ref c) Int (Ref e) h k = absurd (cc)
-meet_least (Ref c) Int This h k = absurd (cc)
-meet_least (Ref c) Int (New r) h k = absurd (cc)
 meet_least (Ref c) Null v h k = h
-meet_least (Ref c) (Ref d) Int h k = absurd (cc)
-meet_least (Ref c) (Ref d) Null h k = absurd (cc)
 meet_least (Ref c) (Ref d) (Ref e) h k = common_least c d e h k
-meet_least (Ref c) (Ref d) This h k = absurd (cc)
-meet_least (Ref c) (Ref d) (New r) h k = absurd (cc)
-meet_least (Ref c) This Int h k = absurd (cc)
-meet_least (Ref c) This Null h k = absurd (cc)
-meet_least (Ref c) This (Ref e) h k = absurd (cc)
-meet_least (Ref c) This This h k = absurd (cc)
-meet_least (Ref c) This (New r) h k = absurd (cc)
-meet_least (Ref c) (New q) Int h k = absurd (cc)
-meet_least (Ref c) (New q) Null h k = absurd (cc)
-meet_least (Ref c) (New q) (Ref e) h k = absurd (cc)
-meet_least (Ref c) (New q) This h k = absurd (cc)
-meet_least (Ref c) (New q) (New r) h k = absurd (cc)
-meet_least (Ref c) Top Int h k = absurd (cc)
-meet_least (Ref c) Top Null h k = absurd (cc)
-meet_least (Ref c) Top (Ref e) h k = absurd (cc)
-meet_least (Ref c) Top This h k = absurd (cc)
-meet_least (Ref c) Top (New r) h k = absurd (cc)
-meet_least This Int Int h k = absurd (cc)
-meet_least This Int Null h k = absurd (cc)
-meet_least This Int (Ref e) h k = absurd (cc)
-meet_least This Int This h k = absurd (cc)
-meet_least This Int (New r) h k = absurd (cc)
-meet_least This Null Int h k = absurd (cc)
-meet_least This Null Null h k = absurd (cc)
-meet_least This Null (Ref e) h k = absurd (cc)
-meet_least This Null This h k = absurd (cc)
-meet_least This Null (New r) h k = absurd (cc)
-meet_least This (Ref d) Int h k = absurd (cc)
-meet_least This (Ref d) Null h k = absurd (cc)
-meet_least This (Ref d) (Ref e) h k = absurd (cc)
-meet_least This (Ref d) This h k = absurd (cc)
-meet_least This (Ref d) (New r) h k = absurd (cc)
 meet_least This This v h k = k
-meet_least This (New q) Int h k = absurd (cc)
-meet_least This (New q) Null h k = absurd (cc)
-meet_least This (New q) (Ref e) h k = absurd (cc)
-meet_least This (New q) This h k = absurd (cc)
-meet_least This (New q) (New r) h k = absurd (cc)
-meet_least This Top Int h k = absurd (cc)
-meet_least This Top Null h k = absurd (cc)
-meet_least This Top (Ref e) h k = absurd (cc)
-meet_least This Top This h k = absurd (cc)
-meet_least This Top (New r) h k = absurd (cc)
-meet_least (New p) Int Int h k = absurd (cc)
-meet_least (New p) Int Null h k = absurd (cc)
-meet_least (New p) Int (Ref e) h k = absurd (cc)
-meet_least (New p) Int This h k = absurd (cc)
-meet_least (New p) Int (New r) h k = absurd (cc)
-meet_least (New p) Null Int h k = absurd (cc)
-meet_least (New p) Null Null h k = absurd (cc)
-meet_least (New p) Null (Ref e) h k = absurd (cc)
-meet_least (New p) Null This h k = absurd (cc)
-meet_least (New p) Null (New r) h k = absurd (cc)
-meet_least (New p) (Ref d) Int h k = absurd (cc)
-meet_least (New p) (Ref d) Null h k = absurd (cc)
-meet_least (New p) (Ref d) (Ref e) h k = absurd (cc)
-meet_least (New p) (Ref d) This h k = absurd (cc)
-meet_least (New p) (Ref d) (New r) h k = absurd (cc)
-meet_least (New p) This Int h k = absurd (cc)
-meet_least (New p) This Null h k = absurd (cc)
-meet_least (New p) This (Ref e) h k = absurd (cc)
-meet_least (New p) This This h k = absurd (cc)
-meet_least (New p) This (New r) h k = absurd (cc)
-meet_least (New p) (New q) Int h k = absurd (cc)
-meet_least (New p) (New q) Null h k = absurd (cc)
-meet_least (New p) (New q) (Ref e) h k = absurd (cc)
-meet_least (New p) (New q) This h k = absurd (cc)
 meet_least (New p) (New q) (New r) h k = one_place p q r (p == q) refl h k
-meet_least (New p) Top Int h k = absurd (cc)
-meet_least (New p) Top Null h k = absurd (cc)
-meet_least (New p) Top (Ref e) h k = absurd (cc)
-meet_least (New p) Top This h k = absurd (cc)
-meet_least (New p) Top (New r) h k = absurd (cc)
-meet_least Top Int Int h k = absurd (cc)
-meet_least Top Int Null h k = absurd (cc)
-meet_least Top Int (Ref e) h k = absurd (cc)
-meet_least Top Int This h k = absurd (cc)
-meet_least Top Int (New r) h k = absurd (cc)
-meet_least Top Null Int h k = absurd (cc)
-meet_least Top Null Null h k = absurd (cc)
-meet_least Top Null (Ref e) h k = absurd (cc)
-meet_least Top Null This h k = absurd (cc)
-meet_least Top Null (New r) h k = absurd (cc)
-meet_least Top (Ref d) Int h k = absurd (cc)
-meet_least Top (Ref d) Null h k = absurd (cc)
-meet_least Top (Ref d) (Ref e) h k = absurd (cc)
-meet_least Top (Ref d) This h k = absurd (cc)
-meet_least Top (Ref d) (New r) h k = absurd (cc)
-meet_least Top This Int h k = absurd (cc)
-meet_least Top This Null h k = absurd (cc)
-meet_least Top This (Ref e) h k = absurd (cc)
-meet_least Top This This h k = absurd (cc)
-meet_least Top This (New r) h k = absurd (cc)
-meet_least Top (New q) Int h k = absurd (cc)
-meet_least Top (New q) Null h k = absurd (cc)
-meet_least Top (New q) (Ref e) h k = absurd (cc)
-meet_least Top (New q) This h k = absurd (cc)
-meet_least Top (New q) (New r) h k = absurd (cc)
-meet_least Top Top Int h k = absurd (cc)
-meet_least Top Top Null h k = absurd (cc)
-meet_least Top Top (Ref e) h k = absurd (cc)
-meet_least Top Top This h k = absurd (cc)
-meet_least Top Top (New r) h k = absurd (cc)
+meet_least t u v h k = absurd (cc)

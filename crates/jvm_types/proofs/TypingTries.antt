@@ -5,7 +5,6 @@ use Rattle.jvm_types.specs.ClassTree.{is_subclass, common_ancestor}
 use Rattle.jvm_types.specs.Types.{TypeFrame, meet}
 use Rattle.jvm_types.specs.Verifying.{Node, first_nodes, next_visit, visited}
 use Rattle.jvm_types.specs.declared.code.Insn.{Insn}
-use Rattle.jvm_types.specs.declared.code.Op.{Op}
 use Rattle.jvm_types.specs.declared.code.Op.TheVariants as ops
 use Rattle.jvm_types.specs.declared.code.Cmp.TheVariants as cmps
 use Rattle.jvm_types.specs.declared.typing.VType.{VType}
@@ -19,6 +18,7 @@ use Rattle.jvm_types.specs.declared.program.MethodInfo.{MethodInfo}
 use Rattle.jvm_types.specs.declared.program.Program.{Program}
 use Rattle.jvm_types.specs.declared.refusal.VRule.{VRule}
 use Rattle.jvm_types.specs.declared.refusal.VRule.TheVariants.{V1, V2, V3, V4, V5, V6, V7, V8}
+use Rattle.jvm_types.proofs.SampleMethods.{insn, method}
 
 -- ---- the visits, computed
 
@@ -50,25 +50,6 @@ ints = record { class = 17; flags = 2; kind = kinds.Int; index = 0; start = pos 
 
 abbrev statics : FieldInfo
 statics = record { class = 17; flags = 8; kind = kinds.Ref 17; index = 2070; start = pos 0 }
-
--- a method of class 17 without a result
-abbrev method : ℕ → List ℕ → ℕ → ℕ → List Insn → List Target → List Row → MethodInfo
-method flags name max_stack max_locals code named rows = record {
-  class = 17;
-  flags = flags;
-  name = name;
-  descriptor = codes "()V";
-  args = [];
-  result = None;
-  max_stack = max_stack;
-  max_locals = max_locals;
-  code = code;
-  targets = named;
-  rows = rows;
-}
-
-abbrev insn : ℕ → ℕ → Op → Insn
-insn pc next op = record { pc = pc; next = next; op = op }
 
 abbrev nothing : Target
 nothing = targets.Nothing
@@ -195,22 +176,13 @@ frame stack locals = Some (record { stack = stack; locals = locals; ready = true
 
 -- a block on `this` in the shape of javac: both rows lead to 16, where local 2 is of no known type
 abbrev block : MethodInfo
-block = record {
-  class = 17;
-  flags = 0;
-  name = codes "sum";
-  descriptor = codes "()I";
-  args = [];
-  result = Some kinds.Int;
-  max_stack = 2;
-  max_locals = 3;
-  code = insn 0 1 (ops.Aload 0) ∷ insn 1 2 ops.Dup ∷ insn 2 3 (ops.Astore 1) ∷ insn 3 4 ops.Monitorenter ∷ insn 4 5 (ops.Aload 0) ∷ insn 5 8 (ops.Getfield 22)
-      ∷ insn 8 9 (ops.Aload 0) ∷ insn 9 12 (ops.Getfield 24) ∷ insn 12 13 ops.Iadd ∷ insn 13 14 (ops.Aload 1) ∷ insn 14 15 ops.Monitorexit ∷ insn 15 16 ops.Ireturn
-      ∷ insn 16 17 (ops.Astore 2) ∷ insn 17 18 (ops.Aload 1) ∷ insn 18 19 ops.Monitorexit ∷ insn 19 20 (ops.Aload 2) ∷ insn 20 21 ops.Athrow ∷ [];
-  targets = nothing ∷ nothing ∷ nothing ∷ nothing ∷ nothing ∷ targets.Field 0 ∷ nothing ∷ targets.Field 1 ∷ nothing ∷ nothing ∷ nothing ∷ nothing
-      ∷ nothing ∷ nothing ∷ nothing ∷ nothing ∷ nothing ∷ [];
-  rows = record { start = 4; end = 15; handler = 16; catch_class = 0 } ∷ record { start = 16; end = 19; handler = 16; catch_class = 0 } ∷ [];
-}
+block = record (method 0 (codes "sum") 2 3
+    (insn 0 1 (ops.Aload 0) ∷ insn 1 2 ops.Dup ∷ insn 2 3 (ops.Astore 1) ∷ insn 3 4 ops.Monitorenter ∷ insn 4 5 (ops.Aload 0) ∷ insn 5 8 (ops.Getfield 22)
+    ∷ insn 8 9 (ops.Aload 0) ∷ insn 9 12 (ops.Getfield 24) ∷ insn 12 13 ops.Iadd ∷ insn 13 14 (ops.Aload 1) ∷ insn 14 15 ops.Monitorexit ∷ insn 15 16 ops.Ireturn
+    ∷ insn 16 17 (ops.Astore 2) ∷ insn 17 18 (ops.Aload 1) ∷ insn 18 19 ops.Monitorexit ∷ insn 19 20 (ops.Aload 2) ∷ insn 20 21 ops.Athrow ∷ [])
+    (nothing ∷ nothing ∷ nothing ∷ nothing ∷ nothing ∷ targets.Field 0 ∷ nothing ∷ targets.Field 1 ∷ nothing ∷ nothing ∷ nothing ∷ nothing
+    ∷ nothing ∷ nothing ∷ nothing ∷ nothing ∷ nothing ∷ [])
+    (record { start = 4; end = 15; handler = 16; catch_class = 0 } ∷ record { start = 16; end = 19; handler = 16; catch_class = 0 } ∷ [])) { descriptor = codes "()I"; result = Some kinds.Int }
 
 the_block : verified program block ≡ Typed (frame [] (Ref 17 ∷ Top ∷ Top ∷ []) ∷ frame (Ref 17 ∷ []) (Ref 17 ∷ Top ∷ Top ∷ []) ∷ frame (Ref 17 ∷ Ref 17 ∷ []) (Ref 17 ∷ Top ∷ Top ∷ [])
     ∷ frame (Ref 17 ∷ []) (Ref 17 ∷ Ref 17 ∷ Top ∷ []) ∷ frame [] (Ref 17 ∷ Ref 17 ∷ Top ∷ []) ∷ frame (Ref 17 ∷ []) (Ref 17 ∷ Ref 17 ∷ Top ∷ []) ∷ frame (Int ∷ []) (Ref 17 ∷ Ref 17 ∷ Top ∷ [])
@@ -323,25 +295,10 @@ copied_below_three = refl
 
 -- ---- the tree of classes
 
-arithmetic_and_memory : common_ancestor 9 14 ≡ 4
+-- of errors, exceptions and classes of a file
+nearest : map (λ (c : ℕ × ℕ). common_ancestor c.0 c.1) ((9, 14) ∷ (9, 10) ∷ (7, 8) ∷ (17, 2) ∷ (18, 18) ∷ []) ≡ 4 ∷ 7 ∷ 5 ∷ 1 ∷ 18 ∷ []
 unfolding is_subclass common_ancestor
-arithmetic_and_memory = refl
-
-arithmetic_and_null : common_ancestor 9 10 ≡ 7
-unfolding is_subclass common_ancestor
-arithmetic_and_null = refl
-
-runtime_and_checked : common_ancestor 7 8 ≡ 5
-unfolding is_subclass common_ancestor
-runtime_and_checked = refl
-
-own_and_array : common_ancestor 17 2 ≡ 1
-unfolding is_subclass common_ancestor
-own_and_array = refl
-
-own_and_own : common_ancestor 18 18 ≡ 18
-unfolding is_subclass common_ancestor
-own_and_own = refl
+nearest = refl
 
 null_and_class : meet Null (Ref 9) ≡ Ref 9
 unfolding is_subclass common_ancestor
