@@ -1,6 +1,6 @@
 -- The held lists of a method that has a tagging: each edge brings the one at its target, and where every monitor is entered
 -- on the object of a section, all held tags are of that object.
-use Rattle.std.proofs.Common.{◌≡◌, ℕ, zero, suc, ◌+◌, ◌<◌, Bool, true, false, List, [], ◌∷◌, ◌++◌, length, map, drop, Option, Some, None, refl, sym, ap, ◌∙◌, subst, arith}
+use Rattle.std.proofs.Common.{◌≡◌, ℕ, zero, suc, ◌+◌, ◌<◌, Bool, true, false, List, [], ◌∷◌, length, drop, Option, Some, None, refl, sym, ap, ◌∙◌, subst, arith}
 use Rattle.std.specs.Prelude.{◌==◌, ◌||◌, slice_get, slice_index_or}
 use Rattle.std.specs.List.{AllByRecursion, list_any}
 use Rattle.std.proofs.lemmas.Bool.{eq-eqb}
@@ -16,18 +16,19 @@ use Rattle.jvm_types.specs.declared.program.Target.{Target}
 use Rattle.jvm_types.specs.declared.program.MethodInfo.{MethodInfo}
 use Rattle.jvm_types.specs.declared.program.Program.{Program}
 use Rattle.jvm_types.specs.declared.refusal.SRule.{SRule}
-use Rattle.jvm_types.specs.declared.refusal.SRule.TheVariants.{S1, S2, S3, S4}
+use Rattle.jvm_types.proofs.EachAfter.{all_weaker}
 use Rattle.checked_program.specs.Visits.{Act, Break, Bring, Node, first_nodes}
 use Rattle.checked_program.specs.LockTags.{TagShape, IsShapeBelow, entry_tags}
-use Rattle.checked_program.specs.Tagging.{tags_after, tags_by_op, tags_at_handler, catchers, enters_untagged, exits_other, leaves_held, break_if, tag_acts, acts_at, tag_meeting, tag_plan, HasTagging}
+use Rattle.checked_program.specs.Tagging.{tags_after, tags_by_op, tags_at_handler, catchers, acts_at, tag_meeting, tag_plan, HasTagging}
 use Rattle.checked_program.specs.TaggedCode.{Goes, onward, caught, row_of}
 use Rattle.checked_program.specs.Marks.{is_own_object}
 use Rattle.checked_program.specs.declared.tag.Tag.{Tag}
 use Rattle.checked_program.specs.declared.tag.Tag.TheVariants.{Untagged}
 use Rattle.checked_program.specs.declared.section.Mode.{Mode}
 use Rattle.tag_laws.proofs.TagOrder.{tag_order}
-use Rattle.section_laws.proofs.VisitedNodes.{IsFirstOf, IsBelow, LandsOn, Sound}
-use Rattle.section_laws.proofs.VisitPaths.{Framed, HasFrame, ActsLead, IsSettled, settled, all_lead, first_holds, starts_below, final_frame}
+use Rattle.tag_laws.proofs.TagActs.{to_handler, AreKept, acts_kept, all_acts}
+use Rattle.tag_laws.proofs.VisitedNodes.{IsFirstOf, IsBelow, LandsOn, IsActFine}
+use Rattle.tag_laws.proofs.VisitPaths.{AreLive, HasFrame, ActLeads, ActsLead, IsSettled, settled, all_lead, first_live, starts_below, final_frame}
 
 -- ---- the first instruction of a pc
 
@@ -68,82 +69,30 @@ pub own_along : (p : Program) (m : MethodInfo) (mode : Mode) (depth : ℕ) (insn
 own_along p m mode depth insn other target f h enters (onward o e) own = own_held mode depth insn.pc (row_of p m insn target) insn.op f.stack f enters own
 own_along p m mode depth insn other target f h enters (caught o e) own = own
 
--- ---- lists of acts
+-- ---- under a tagging
 
 module _ (p : Program) (m : MethodInfo) where
-  abbrev pub TagSound : List (Node TagShape) → List (Act TagShape SRule) → Type 0
-  TagSound nodes acts = Sound TagShape SRule tag_meeting IsShapeBelow tag_order m.code nodes acts
-
   abbrev pub TagLands : List (Node TagShape) → TagShape → ℕ → Type 0
-  TagLands nodes f to = LandsOn TagShape SRule tag_meeting IsShapeBelow tag_order m.code nodes f to
+  TagLands nodes f to = LandsOn tag_meeting IsShapeBelow tag_order m.code nodes f to
 
-  abbrev pub TagLead : (ℕ → Type 0) → List (Act TagShape SRule) → Type 0
-  TagLead Q acts = ActsLead TagShape SRule (tag_plan p m) IsShapeBelow tag_order Q acts
-
-  abbrev pub to_handlers : TagShape → List Row → List (Act TagShape SRule)
-  to_handlers f handlers = map (λ handler. Bring S3 (handler.handler ∷ []) (tags_at_handler f)) handlers
-
-  sound_parts : (nodes : List (Node TagShape)) (xs ys : List (Act TagShape SRule)) → TagSound nodes (xs ++ ys) → TagSound nodes xs × TagSound nodes ys
-  sound_parts nodes [] ys s = (tt, s)
-  sound_parts nodes (Break rule pc ∷ xs) ys s = absurd s
-  sound_parts nodes (Bring rule tos f ∷ xs) ys s = let more = sound_parts nodes xs ys s.1 in ((s.0, more.0), more.1)
-
-  unbroken : (nodes : List (Node TagShape)) (t : Bool) (rule : SRule) (pc : ℕ) → TagSound nodes (break_if t rule pc) → t ≡ false
-  unbroken nodes true rule pc s = absurd s
-  unbroken nodes false rule pc s = refl
-
-  lead_append : (Q : ℕ → Type 0) (xs ys : List (Act TagShape SRule)) → TagLead Q xs → TagLead Q ys → TagLead Q (xs ++ ys)
-  lead_append Q [] ys a b = b
-  lead_append Q (Break rule pc ∷ xs) ys a b = lead_append Q xs ys a b
-  lead_append Q (Bring rule tos f ∷ xs) ys a b = (a.0, lead_append Q xs ys a.1 b)
-
-  break_leads : (Q : ℕ → Type 0) (t : Bool) (rule : SRule) (pc : ℕ) → TagLead Q (break_if t rule pc)
-  break_leads Q true rule pc = tt
-  break_leads Q false rule pc = tt
-
-  -- what the acts of an instruction say
-  pub record IsTagSound (nodes : List (Node TagShape)) (insn : Insn) (r : OpRow) (f : TagShape) : Type 0 where
-    pub exits : exits_other insn.op f.stack f.held ≡ false
-    pub onwards : AllByRecursion (TagLands nodes (tags_after insn r f)) (edges insn)
-    pub catching : TagSound nodes (to_handlers f (catchers m insn))
-
-  tag_sound : (nodes : List (Node TagShape)) (insn : Insn) (r : OpRow) (f : TagShape) → TagSound nodes (tag_acts m insn r f) → IsTagSound nodes insn r f
-  tag_sound nodes insn r f s =
-      let enters = break_if (enters_untagged insn.op f.stack) S1 insn.pc in
-      let exits = break_if (exits_other insn.op f.stack f.held) S2 insn.pc in
-      let brings : List (Act TagShape SRule) = Bring S3 (edges insn) (tags_after insn r f) ∷ to_handlers f (catchers m insn) in
-      let leaves = break_if (leaves_held m insn f.held) S4 insn.pc in
-      let outer = sound_parts nodes (enters ++ exits ++ brings) leaves s in
-      let inner = sound_parts nodes (enters ++ exits) brings outer.0 in
-      let tests = sound_parts nodes enters exits inner.0 in
-      record { exits = unbroken nodes (exits_other insn.op f.stack f.held) S2 insn.pc tests.1; onwards = inner.1.0; catching = inner.1.1 }
-
-  tags_lead : (Q : ℕ → Type 0) (insn : Insn) (r : OpRow) (f : TagShape) → AllByRecursion (λ to. (j : ℕ) → IsFirstOf m.code to j → Q j) (edges insn) → TagLead Q (to_handlers f (catchers m insn)) → TagLead Q (tag_acts m insn r f)
-  tags_lead Q insn r f onwards catching =
-      let enters = break_if (enters_untagged insn.op f.stack) S1 insn.pc in
-      let exits = break_if (exits_other insn.op f.stack f.held) S2 insn.pc in
-      let brings : List (Act TagShape SRule) = Bring S3 (edges insn) (tags_after insn r f) ∷ to_handlers f (catchers m insn) in
-      let leaves = break_if (leaves_held m insn f.held) S4 insn.pc in
-      lead_append Q (enters ++ exits ++ brings) leaves
-      (lead_append Q (enters ++ exits) brings (lead_append Q enters exits (break_leads Q (enters_untagged insn.op f.stack) S1 insn.pc) (break_leads Q (exits_other insn.op f.stack f.held) S2 insn.pc)) (onwards, catching))
-      (break_leads Q (leaves_held m insn f.held) S4 insn.pc)
-
-  -- ---- under a tagging
+  abbrev pub IsTagFine : List (Node TagShape) → Act TagShape SRule → Type 0
+  IsTagFine nodes act = IsActFine tag_meeting IsShapeBelow tag_order m.code nodes act
 
   module _ (frames : List (Option TagShape)) (tagging : HasTagging p m frames) where
-    pub ends : IsSettled TagShape SRule (tag_plan p m) IsShapeBelow tag_order frames
-    ends = settled TagShape SRule (tag_plan p m) IsShapeBelow tag_order frames tagging
+    pub ends : IsSettled (tag_plan p m) IsShapeBelow tag_order frames
+    ends = settled (tag_plan p m) IsShapeBelow tag_order frames tagging
 
-    pub sound_at : (i : ℕ) (insn : Insn) (target : Target) (f : TagShape) → slice_get m.code i ≡ Some insn → slice_get m.targets i ≡ Some target → slice_get frames i ≡ Some (Some f) → IsTagSound ends.last insn (row_of p m insn target) f
+    pub sound_at : (i : ℕ) (insn : Insn) (target : Target) (f : TagShape) → slice_get m.code i ≡ Some insn → slice_get m.targets i ≡ Some target → slice_get frames i ≡ Some (Some f) → AreKept (IsTagFine ends.last) m insn (row_of p m insn target) f
     sound_at i insn target f c t e =
-        let all : TagSound ends.last (acts_at p m (slice_get m.code i) (slice_get m.targets i) f) = ends.sound i f e in
-        tag_sound ends.last insn (row_of p m insn target) f (subst (λ o. TagSound ends.last (acts_at p m (Some insn) o f)) t (subst (λ o. TagSound ends.last (acts_at p m o (slice_get m.targets i) f)) c all))
+        let all : AllByRecursion (IsTagFine ends.last) (acts_at p m (slice_get m.code i) (slice_get m.targets i) f) = ends.sound i f e in
+        acts_kept (IsTagFine ends.last) m insn (row_of p m insn target) f (λ rule pc none. none)
+        (subst (λ o. AllByRecursion (IsTagFine ends.last) (acts_at p m (Some insn) o f)) t (subst (λ o. AllByRecursion (IsTagFine ends.last) (acts_at p m o (slice_get m.targets i) f)) c all))
 
     -- the held list where a frame lands
     landed : (h g : TagShape) (pc j : ℕ) → TagLands ends.last h pc → IsFirstOf m.code pc j → slice_get frames j ≡ Some (Some g) → h.held ≡ g.held
     landed h g pc j lands first e =
         let b = ends.framed j g e in
-        let below : IsBelow TagShape SRule tag_meeting IsShapeBelow tag_order (Some h) (Some g) = subst (λ o. IsBelow TagShape SRule tag_meeting IsShapeBelow tag_order (Some h) o) b.2 (lands j b.0 first b.1) in
+        let below : IsBelow tag_meeting IsShapeBelow tag_order (Some h) (Some g) = subst (λ o. IsBelow tag_meeting IsShapeBelow tag_order (Some h) o) b.2 (lands j b.0 first b.1) in
         held_of h g below
       where
         held_of : (h g : TagShape) → IsShapeBelow h g → h.held ≡ g.held
@@ -161,9 +110,9 @@ module _ (p : Program) (m : MethodInfo) where
     edges_first [] = tt
     edges_first (to ∷ tos) = (is_first to, edges_first tos)
 
-    acts_first : (acts : List (Act TagShape SRule)) → TagLead IsFirst acts
+    acts_first : (acts : List (Act TagShape SRule)) → ActsLead (tag_plan p m) IsShapeBelow tag_order (λ j g. IsFirst j) acts
     acts_first [] = tt
-    acts_first (Break rule pc ∷ acts) = acts_first acts
+    acts_first (Break rule pc ∷ acts) = (tt, acts_first acts)
     acts_first (Bring rule tos f ∷ acts) = (edges_first tos, acts_first acts)
 
     start_first : IsFirst 0
@@ -175,8 +124,8 @@ module _ (p : Program) (m : MethodInfo) where
 
     pub framed_first : (j : ℕ) (insn : Insn) (g : TagShape) → slice_get m.code j ≡ Some insn → slice_get frames j ≡ Some (Some g) → IsFirstOf m.code insn.pc j
     framed_first j insn g c e =
-        let all : Framed TagShape SRule (tag_plan p m) IsShapeBelow tag_order IsFirst ends.last =
-        all_lead TagShape SRule (tag_plan p m) IsShapeBelow tag_order IsFirst ends.visits (first_nodes (tag_plan p m)) ends.last ends.made (first_holds TagShape SRule (tag_plan p m) IsShapeBelow tag_order IsFirst start_first) (λ i f q h. acts_first ((tag_plan p m).acts i f)) in
+        let all : AreLive (tag_plan p m) IsShapeBelow tag_order (λ j g. IsFirst j) ends.last =
+        all_lead (tag_plan p m) IsShapeBelow tag_order (λ j g. IsFirst j) (λ i g f a b. a) ends.visits (first_nodes (tag_plan p m)) ends.last ends.made (first_live (tag_plan p m) IsShapeBelow tag_order (λ j g. IsFirst j) start_first) (λ i f q h. acts_first ((tag_plan p m).acts i f)) in
         let b = ends.framed j g e in
         all j b.0 g b.1 b.2 insn c
 
@@ -190,7 +139,7 @@ module _ (p : Program) (m : MethodInfo) where
         by_test true same e more = let at : to ≡ pc = grind (arith, nat_tests, same) in subst (TagLands ends.last h) at all.0
         by_test false same e more = more e
 
-    caught_at : (f : TagShape) (handlers : List Row) (pc : ℕ) → TagSound ends.last (to_handlers f handlers) → list_any (λ handler. handler.handler == pc) handlers ≡ true → TagLands ends.last (tags_at_handler f) pc
+    caught_at : (f : TagShape) (handlers : List Row) (pc : ℕ) → AllByRecursion (λ handler. IsTagFine ends.last (to_handler f handler)) handlers → list_any (λ handler. handler.handler == pc) handlers ≡ true → TagLands ends.last (tags_at_handler f) pc
     caught_at f [] pc all e = absurd (let bad : false ≡ true = e in cc)
     caught_at f (handler ∷ handlers) pc all e = by_test (handler.handler == pc) refl e (λ e. caught_at f handlers pc all.1 e)
       where
@@ -199,9 +148,9 @@ module _ (p : Program) (m : MethodInfo) where
         by_test true same e more = let at : handler.handler ≡ pc = grind (arith, nat_tests, same) in subst (TagLands ends.last (tags_at_handler f)) at all.0.0
         by_test false same e more = more e
 
-    goes_lands : (insn other : Insn) (target : Target) (f h : TagShape) → IsTagSound ends.last insn (row_of p m insn target) f → Goes p m insn target f other h → TagLands ends.last h other.pc
-    goes_lands insn other target f h sound (onward o e) = lands_at (tags_after insn (row_of p m insn target) f) (edges insn) o.pc sound.onwards e
-    goes_lands insn other target f h sound (caught o e) = caught_at f (catchers m insn) o.pc sound.catching e
+    goes_lands : (insn other : Insn) (target : Target) (f h : TagShape) → AreKept (IsTagFine ends.last) m insn (row_of p m insn target) f → Goes p m insn target f other h → TagLands ends.last h other.pc
+    goes_lands insn other target f h sound (onward o e) = lands_at (tags_after insn (row_of p m insn target) f) (edges insn) o.pc sound.onward e
+    goes_lands insn other target f h sound (caught o e) = caught_at f (catchers m insn) o.pc sound.caught e
 
     pub held_kept : (i j : ℕ) (insn other : Insn) (target : Target) (f g h : TagShape) → slice_get m.code i ≡ Some insn → slice_get m.targets i ≡ Some target → slice_get frames i ≡ Some (Some f)
         → slice_get m.code j ≡ Some other → slice_get frames j ≡ Some (Some g) → Goes p m insn target f other h → h.held ≡ g.held
@@ -218,38 +167,41 @@ module _ (p : Program) (m : MethodInfo) where
       landed_own h pc own lands j first g e = subst (AreOwn mode 0) (landed h g pc j lands first e) own
 
       edges_own : (h : TagShape) (tos : List ℕ) → AreOwn mode 0 h.held → AllByRecursion (TagLands ends.last h) tos → AllByRecursion (λ to. (j : ℕ) → IsFirstOf m.code to j → IsOwnAt j) tos
-      edges_own h [] own all = tt
-      edges_own h (to ∷ tos) own all = (landed_own h to own all.0, edges_own h tos own all.1)
+      edges_own h tos own all = all_weaker (TagLands ends.last h) (λ to. (j : ℕ) → IsFirstOf m.code to j → IsOwnAt j) (λ pc lands. landed_own h pc own lands) tos all
 
-      handlers_own : (f g : TagShape) (handlers : List Row) → AreOwn mode 0 f.held → TagSound ends.last (to_handlers f handlers) → TagLead IsOwnAt (to_handlers g handlers)
-      handlers_own f g [] own all = tt
-      handlers_own f g (handler ∷ handlers) own all = ((landed_own (tags_at_handler f) handler.handler own all.0.0, tt), handlers_own f g handlers own all.1)
+      -- what holds at each instruction, whatever its frame is in the course of the visits
+      abbrev Leads : Act TagShape SRule → Type 0
+      Leads act = ActLeads (tag_plan p m) IsShapeBelow tag_order (λ j g. IsOwnAt j) act
+
+      handlers_own : (f g : TagShape) (handlers : List Row) → AreOwn mode 0 f.held → AllByRecursion (λ handler. IsTagFine ends.last (to_handler f handler)) handlers → AllByRecursion (λ handler. Leads (to_handler g handler)) handlers
+      handlers_own f g handlers own all =
+          all_weaker (λ handler. IsTagFine ends.last (to_handler f handler)) (λ handler. Leads (to_handler g handler)) (λ handler lands. (landed_own (tags_at_handler f) handler.handler own lands.0, tt)) handlers all
 
       start_own : IsOwnAt 0
       start_own g e =
           let b = ends.framed 0 g e in
-          let below : IsBelow TagShape SRule tag_meeting IsShapeBelow tag_order (Some (entry_tags m)) (Some g) =
-          subst (λ o. IsBelow TagShape SRule tag_meeting IsShapeBelow tag_order (Some (entry_tags m)) o) b.2 (starts_below TagShape SRule (tag_plan p m) IsShapeBelow tag_order ends.visits ends.last b.0 ends.made b.1) in
+          let below : IsBelow tag_meeting IsShapeBelow tag_order (Some (entry_tags m)) (Some g) =
+          subst (λ o. IsBelow tag_meeting IsShapeBelow tag_order (Some (entry_tags m)) o) b.2 (starts_below (tag_plan p m) IsShapeBelow tag_order ends.visits ends.last b.0 ends.made b.1) in
           subst (AreOwn mode 0) (none g below) (λ k l. absurd (omega (arith, l)))
         where
           none : (g : TagShape) → IsShapeBelow (entry_tags m) g → [] ≡ g.held
           none g below = below.held
 
-      acts_own : (i : ℕ) (h : TagShape) → IsOwnAt i → HasFrame TagShape SRule (tag_plan p m) IsShapeBelow tag_order i h ends.last → TagLead IsOwnAt ((tag_plan p m).acts i h)
+      acts_own : (i : ℕ) (h : TagShape) → IsOwnAt i → HasFrame (tag_plan p m) IsShapeBelow tag_order i h ends.last → AllByRecursion Leads ((tag_plan p m).acts i h)
       acts_own i h own framed = by_both (slice_get m.code i) refl (slice_get m.targets i) refl
         where
-          by_both : (o : Option Insn) → slice_get m.code i ≡ o → (q : Option Target) → slice_get m.targets i ≡ q → TagLead IsOwnAt (acts_at p m o q h)
+          by_both : (o : Option Insn) → slice_get m.code i ≡ o → (q : Option Target) → slice_get m.targets i ≡ q → AllByRecursion Leads (acts_at p m o q h)
           by_both None c q t = tt
           by_both (Some insn) c None t = tt
           by_both (Some insn) c (Some target) t =
-              let f = final_frame TagShape SRule (tag_plan p m) IsShapeBelow tag_order frames ends i h framed in
+              let f = final_frame (tag_plan p m) IsShapeBelow tag_order frames ends i h framed in
               let sound = sound_at i insn target f.0 c t f.1 in
               let held = own_held mode 0 insn.pc (row_of p m insn target) insn.op f.0.stack f.0 (enters i insn target f.0 c t f.1) (own f.0 f.1) in
-              tags_lead IsOwnAt insn (row_of p m insn target) h (edges_own (tags_after insn (row_of p m insn target) f.0) (edges insn) held sound.onwards) (handlers_own f.0 h (catchers m insn) (own f.0 f.1) sound.catching)
+              all_acts Leads m insn (row_of p m insn target) h (λ rule pc. tt) (edges_own (tags_after insn (row_of p m insn target) f.0) (edges insn) held sound.onward) (handlers_own f.0 h (catchers m insn) (own f.0 f.1) sound.caught)
 
       pub all_own : (j : ℕ) (g : TagShape) → slice_get frames j ≡ Some (Some g) → AreOwn mode 0 g.held
       all_own j g e =
-          let all : Framed TagShape SRule (tag_plan p m) IsShapeBelow tag_order IsOwnAt ends.last =
-          all_lead TagShape SRule (tag_plan p m) IsShapeBelow tag_order IsOwnAt ends.visits (first_nodes (tag_plan p m)) ends.last ends.made (first_holds TagShape SRule (tag_plan p m) IsShapeBelow tag_order IsOwnAt start_own) acts_own in
+          let all : AreLive (tag_plan p m) IsShapeBelow tag_order (λ j g. IsOwnAt j) ends.last =
+          all_lead (tag_plan p m) IsShapeBelow tag_order (λ j g. IsOwnAt j) (λ i g f a b. a) ends.visits (first_nodes (tag_plan p m)) ends.last ends.made (first_live (tag_plan p m) IsShapeBelow tag_order (λ j g. IsOwnAt j) start_own) acts_own in
           let b = ends.framed j g e in
           all j b.0 g b.1 b.2 g e

@@ -4,7 +4,5 @@ pub mod SectionMoves
 pub mod SectionCalls
 pub mod OneMarks
 pub mod HiddenThis
-pub mod VisitedNodes
-pub mod VisitPaths
 pub mod HeldTags
 pub mod MonitorExits

@@ -21,7 +21,7 @@ use Rattle.checked_program.specs.declared.section.Mode.TheVariants.{OnThis}
 use Rattle.checked_program.specs.declared.section.Spot.{Spot}
 use Rattle.checked_program.specs.declared.section.Spot.TheVariants.{Method, Block}
 use Rattle.section_laws.specs.FrameLaws.{HeldLaw}
-use Rattle.section_laws.proofs.VisitedNodes.{IsFirstOf}
+use Rattle.tag_laws.proofs.VisitedNodes.{IsFirstOf}
 use Rattle.section_laws.proofs.HeldTags.{one_first, AreOwn, own_along, sound_at, framed_first, held_kept, all_own}
 use Rattle.section_laws.proofs.MarkedReads.{own_object, own_no_fault, called_no_fault}
 use Rattle.section_laws.proofs.SectionMoves.{one_frame, deep_more, own_deep}

@@ -1,6 +1,9 @@
 pub mod VisitAnswers
 pub mod VisitsEnd
+pub mod VisitedNodes
+pub mod VisitPaths
 pub mod VisitsLocal
+pub mod TagActs
 pub mod TagOrder
 pub mod RowGives
 pub mod TagRanks

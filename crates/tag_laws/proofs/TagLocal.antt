@@ -1,5 +1,5 @@
 -- The local law of tags, from that of visits. Tagging reaches only what typing reaches; so its edges lead to instructions.
-use Rattle.std.proofs.Common.{◌≡◌, ℕ, zero, suc, Bool, true, false, List, [], ◌∷◌, ◌++◌, map, Option, Some, None, refl, sym, ap, ◌∙◌, subst}
+use Rattle.std.proofs.Common.{◌≡◌, ℕ, zero, suc, Bool, true, false, List, [], ◌∷◌, Option, Some, None, refl, sym, ap, ◌∙◌, subst}
 use Rattle.std.specs.Prelude.{◌==◌, if◌then◌else◌, slice_get}
 use Rattle.std.specs.List.{AllByRecursion}
 use Rattle.std.proofs.lemmas.Bool.{or_left, or_right, eq-eqb}
@@ -15,80 +15,39 @@ use Rattle.jvm_types.specs.declared.program.Program.{Program}
 use Rattle.jvm_types.specs.declared.program.Row.{Row}
 use Rattle.jvm_types.specs.declared.program.Target.{Target}
 use Rattle.jvm_types.specs.declared.refusal.SRule.{SRule}
-use Rattle.jvm_types.specs.declared.refusal.SRule.TheVariants.{S1, S2, S3, S4}
-use Rattle.jvm_types.proofs.EachAfter.{all_append, all_weaker}
+use Rattle.jvm_types.proofs.EachAfter.{all_weaker}
 use Rattle.program_laws.proofs.CodeOrder.{one_number}
 use Rattle.typing_laws.proofs.EdgeTargets.{lands}
-use Rattle.typing_laws.proofs.LeastFrames.{distinct}
 use Rattle.typing_laws.proofs.LocalGoing.{begins, local_law}
 use Rattle.checked_program.specs.LockTags.{TagShape, entry_tags, IsShapeBelow}
-use Rattle.checked_program.specs.Tagging.{tags_after, catches_all, until_all, catchers, tags_at_handler, enters_untagged, exits_other, leaves_held, break_if, tag_acts, acts_at, tag_plan, HasTagging, IsSound}
+use Rattle.checked_program.specs.Tagging.{tags_after, catches_all, until_all, catchers, tags_at_handler, tag_acts, acts_at, tag_plan, HasTagging, IsSound}
 use Rattle.checked_program.specs.TagLaws.{TagLocalLaw}
-use Rattle.checked_program.specs.Visits.{Act, Bring, Fits}
+use Rattle.checked_program.specs.Visits.{Act, Fits}
+use Rattle.tag_laws.proofs.TagActs.{to_handler, acts_kept, all_acts}
 use Rattle.tag_laws.proofs.TagOrder.{tag_order}
 use Rattle.tag_laws.proofs.VisitsLocal.{Lands, ActLands, IsClosed, IsActSound, IsLocal, local}
 
--- ---- the parts of what an instruction does
-
-all_parts : {X : Type 0} (P : X → Type 0) (xs ys : List X) → AllByRecursion P (xs ++ ys) → AllByRecursion P xs × AllByRecursion P ys
-all_parts P [] ys h = (tt, h)
-all_parts P (x ∷ xs) ys h = let more = all_parts P xs ys h.1 in ((h.0, more.0), more.1)
-
-abbrev to_handler : TagShape → Row → Act TagShape SRule
-to_handler f handler = Bring S3 (handler.handler ∷ []) (tags_at_handler f)
-
-of_handlers : (P : Act TagShape SRule → Type 0) (f : TagShape) (rows : List Row) → AllByRecursion P (map (to_handler f) rows) → AllByRecursion (λ handler. P (to_handler f handler)) rows
-of_handlers P f [] h = tt
-of_handlers P f (handler ∷ rows) h = (h.0, of_handlers P f rows h.1)
-
-to_handlers : (P : Act TagShape SRule → Type 0) (f : TagShape) (rows : List Row) → AllByRecursion (λ handler. P (to_handler f handler)) rows → AllByRecursion P (map (to_handler f) rows)
-to_handlers P f [] h = tt
-to_handlers P f (handler ∷ rows) h = (h.0, to_handlers P f rows h.1)
-
 -- ---- what is sound by acts is sound by rules
-
-unbroken : (code : List Insn) (frames : List (Option TagShape)) (b : Bool) (rule : SRule) (pc : ℕ) → AllByRecursion (IsActSound IsShapeBelow code frames) (break_if b rule pc) → b ≡ false
-unbroken code frames true rule pc h = absurd h.0
-unbroken code frames false rule pc h = refl
 
 acts_sound : (m : MethodInfo) (insn : Insn) (r : OpRow) (frames : List (Option TagShape)) (f : TagShape) → AllByRecursion (IsActSound IsShapeBelow m.code frames) (tag_acts m insn r f) → IsSound m insn r frames f
 acts_sound m insn r frames f h =
     let P : Act TagShape SRule → Type 0 = IsActSound IsShapeBelow m.code frames in
-    let enters = break_if (enters_untagged insn.op f.stack) S1 insn.pc in
-    let exits = break_if (exits_other insn.op f.stack f.held) S2 insn.pc in
-    let brings : List (Act TagShape SRule) = Bring S3 (edges insn) (tags_after insn r f) ∷ map (to_handler f) (catchers m insn) in
-    let leaves = break_if (leaves_held m insn f.held) S4 insn.pc in
-    let outer = all_parts P (enters ++ exits ++ brings) leaves h in
-    let inner = all_parts P (enters ++ exits) brings outer.0 in
-    let tests = all_parts P enters exits inner.0 in
+    let kept = acts_kept P m insn r f (λ rule pc none. none) h in
     record {
-      enters = unbroken m.code frames (enters_untagged insn.op f.stack) S1 insn.pc tests.0;
-      exits = unbroken m.code frames (exits_other insn.op f.stack f.held) S2 insn.pc tests.1;
-      leaves = unbroken m.code frames (leaves_held m insn f.held) S4 insn.pc outer.1;
-      edges_fit = inner.1.0;
-      handlers_fit = all_weaker (λ handler. P (to_handler f handler)) (λ handler. Fits IsShapeBelow m.code frames (tags_at_handler f) handler.handler) (λ handler k. k.0) (catchers m insn) (of_handlers P f (catchers m insn) inner.1.1);
+      enters = kept.enters;
+      exits = kept.exits;
+      leaves = kept.leaves;
+      edges_fit = kept.onward;
+      handlers_fit = all_weaker (λ handler. P (to_handler f handler)) (λ handler. Fits IsShapeBelow m.code frames (tags_at_handler f) handler.handler) (λ handler k. k.0) (catchers m insn) kept.caught;
     }
 
 -- ---- where its edges lead
-
-break_lands : (L : ℕ → TagShape → Type 0) (code : List Insn) (b : Bool) (rule : SRule) (pc : ℕ) → AllByRecursion (ActLands L code) (break_if b rule pc)
-break_lands L code true rule pc = (tt, tt)
-break_lands L code false rule pc = tt
 
 pub acts_land : (L : ℕ → TagShape → Type 0) (m : MethodInfo) (insn : Insn) (r : OpRow) (f : TagShape) → AllByRecursion (Lands L m.code (tags_after insn r f)) (edges insn)
     → AllByRecursion (λ handler. Lands L m.code (tags_at_handler f) handler.handler) (catchers m insn) → AllByRecursion (ActLands L m.code) (tag_acts m insn r f)
 acts_land L m insn r f onward caught =
     let P : Act TagShape SRule → Type 0 = ActLands L m.code in
-    let enters = break_if (enters_untagged insn.op f.stack) S1 insn.pc in
-    let exits = break_if (exits_other insn.op f.stack f.held) S2 insn.pc in
-    let brings : List (Act TagShape SRule) = Bring S3 (edges insn) (tags_after insn r f) ∷ map (to_handler f) (catchers m insn) in
-    let leaves = break_if (leaves_held m insn f.held) S4 insn.pc in
-    let handlers = all_weaker (λ handler. Lands L m.code (tags_at_handler f) handler.handler) (λ handler. P (to_handler f handler)) (λ handler h. (h, tt)) (catchers m insn) caught in
-    all_append P (enters ++ exits ++ brings) leaves
-    (all_append P (enters ++ exits) brings
-    (all_append P enters exits (break_lands L m.code (enters_untagged insn.op f.stack) S1 insn.pc) (break_lands L m.code (exits_other insn.op f.stack f.held) S2 insn.pc))
-    (onward, to_handlers P f (catchers m insn) handlers))
-    (break_lands L m.code (leaves_held m insn f.held) S4 insn.pc)
+    all_acts P m insn r f (λ rule pc. tt) onward (all_weaker (λ handler. Lands L m.code (tags_at_handler f) handler.handler) (λ handler. P (to_handler f handler)) (λ handler h. (h, tt)) (catchers m insn) caught)
 
 pub start_at : (code : List Insn) (i : ℕ) (insn : Insn) → slice_get code i ≡ Some insn → is_start code insn.pc ≡ true
 start_at [] i insn e = absurd (cc)
@@ -151,7 +110,7 @@ module _ (p : Program) (m : MethodInfo) (frames : List (Option TypeFrame)) (laid
   tag_closed = record { first = first_typed; meets = λ i g f a b. a; lands = plan_lands }
 
   pub tag_local : (tags : List (Option TagShape)) → HasTagging p m tags → IsLocal (tag_plan p m) IsShapeBelow IsTyped tags
-  tag_local tags h = local (tag_plan p m) IsShapeBelow tag_order (distinct 0 m.code laid.bytes laid.code.spelled) IsTyped tag_closed (begins m laid) tags h
+  tag_local tags h = local (tag_plan p m) IsShapeBelow tag_order IsTyped tag_closed (begins m laid) tags h
 
 -- ---- the law
 

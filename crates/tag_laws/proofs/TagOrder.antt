@@ -7,7 +7,7 @@ use Rattle.checked_program.specs.declared.tag.Tag.{Tag}
 use Rattle.checked_program.specs.declared.tag.Tag.TheVariants.{Untagged, This, At}
 use Rattle.checked_program.specs.LockTags.{TagShape, same_tag, same_tags, meet_tags, IsTagBelow, AreTagsBelow, IsShapeBelow}
 use Rattle.checked_program.specs.Tagging.{tag_meeting}
-use Rattle.tag_laws.proofs.VisitsLocal.{Orders}
+use Rattle.tag_laws.proofs.VisitedNodes.{Orders}
 
 -- ---- equal tags
 

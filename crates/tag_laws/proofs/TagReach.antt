@@ -12,7 +12,6 @@ use Rattle.jvm_types.specs.declared.program.Program.{Program}
 use Rattle.jvm_types.specs.declared.program.Target.{Target}
 use Rattle.jvm_types.proofs.EachAfter.{all_weaker}
 use Rattle.program_laws.proofs.CodeOrder.{one_number}
-use Rattle.typing_laws.proofs.LeastFrames.{distinct}
 use Rattle.typing_laws.proofs.LocalGoing.{begins, local_law}
 use Rattle.checked_program.specs.LockTags.{TagShape, entry_tags, IsShapeBelow}
 use Rattle.checked_program.specs.Tagging.{tags_after, tags_at_handler, catchers, acts_at, tag_plan, HasTagging, IsTagAssignment}
@@ -70,7 +69,7 @@ module _ (p : Program) (m : MethodInfo) (frames : List (Option TagShape)) (laid 
   pub all_have : HasTagging p m frames → (i : ℕ) (f : TagShape) → slice_get frames i ≡ Some (Some f) → P f
   all_have tagged i f e =
       let closed : IsClosed (tag_plan p m) HasIt = record { first = first_has; meets = λ i g f a b. a; lands = plan_lands } in
-      let has = (local (tag_plan p m) IsShapeBelow tag_order (distinct 0 m.code laid.bytes laid.code.spelled) HasIt closed (begins m laid) frames tagged).live i f e in
+      let has = (local (tag_plan p m) IsShapeBelow tag_order HasIt closed (begins m laid) frames tagged).live i f e in
       let same : has.0 ≡ f = one_there (slice_get frames i) has.0 f has.1 e in
       subst P same has.2
     where

@@ -1,13 +1,13 @@
 -- What visits of any kind leave at the nodes, of whatever code: frames only rise, one that has changed waits, and under the
 -- last frames no rule is broken and each edge to a node with a frame fits. Where pcs repeat, an edge leads to the first.
-use Rattle.std.proofs.Common.{◌≡◌, ℕ, zero, suc, Bool, true, false, cond, not, ◌&&◌, ◌||◌, List, [], ◌∷◌, Option, Some, None, Result, Ok, refl, sym, ap, ◌∙◌, subst, arith}
+use Rattle.std.proofs.Common.{◌≡◌, ℕ, zero, suc, length, Bool, true, false, cond, not, ◌&&◌, ◌||◌, List, [], ◌∷◌, Option, Some, None, Result, Ok, refl, sym, ap, ◌∙◌, subst, arith}
 use Rattle.std.specs.Prelude.{◌==◌, slice_get, IsSomeAnd}
 use Rattle.std.specs.List.{AllByRecursion, AllZip}
 use Rattle.std.proofs.lemmas.Bool.{or_parts}
 use Rattle.std.proofs.lemmas.Bool.Decides.{nat_tests}
 use Rattle.jvm_types.specs.Numbers.{has_number}
 use Rattle.jvm_types.specs.declared.code.Insn.{Insn}
-use Rattle.tag_laws.proofs.VisitsLocal.{Orders}
+use Rattle.jvm_types.proofs.EachAfter.{all_weaker}
 use Rattle.checked_program.specs.Visits.{Meeting, Act, Break, Bring, Node, joined, brought, all_brought, clashes_with, clash, unless_clash, acted}
 
 -- the first instruction of a pc, by its number
@@ -16,6 +16,17 @@ IsFirstOf [] pc j = ⊥
 IsFirstOf (insn ∷ code) pc zero = (insn.pc == pc) ≡ true
 IsFirstOf (insn ∷ code) pc (suc j) = ((insn.pc == pc) ≡ false) × IsFirstOf code pc j
 
+-- an order in which two frames that may meet are below the frame that they meet in
+pub record Orders {A : Type 0} (d : Meeting A) (Below : A → A → Type 0) : Type 0 where
+  pub self : (f : A) → Below f f
+  pub trans : (f g h : A) → Below f g → Below g h → Below f h
+  pub left : (g f : A) → d.clashes g f ≡ false → Below g (d.meet g f)
+  pub right : (g f : A) → d.clashes g f ≡ false → Below f (d.meet g f)
+  pub equal : (f g : A) → d.same f g ≡ true → f ≡ g
+  -- a frame may meet itself, and one that it met it may meet again
+  pub own : (f : A) → d.clashes f f ≡ false
+  pub again : (g f : A) → d.clashes g f ≡ false → d.clashes (d.meet g f) f ≡ false
+
 some_same : {A : Type 0} {x y : A} → Some x ≡ Some y → x ≡ y
 some_same e = cc
 
@@ -23,7 +34,7 @@ either_is_false : (t u : Bool) → t ≡ false → u ≡ false → (t || u) ≡ 
 either_is_false true u e f = e
 either_is_false false u e f = f
 
-module _ (A R : Type 0) (d : Meeting A) (Below : A → A → Type 0) (order : Orders d Below) where
+module _ {A : Type 0} (d : Meeting A) (Below : A → A → Type 0) (order : Orders d Below) where
   abbrev pub IsBelow : Option A → Option A → Type 0
   IsBelow None g = Unit {0}
   IsBelow (Some f) g = IsSomeAnd g (λ h. Below f h)
@@ -61,6 +72,12 @@ module _ (A R : Type 0) (d : Meeting A) (Below : A → A → Type 0) (order : Or
   risen_trans (a ∷ xs) (b ∷ ys) [] h k = absurd k
   risen_trans (a ∷ xs) (b ∷ ys) (c ∷ zs) h k =
       (record { frame = frame_trans a.frame b.frame c.frame h.0.frame k.0.frame; kept = λ e. ((h.0.kept (k.0.kept e).0).0, (h.0.kept (k.0.kept e).0).1 ∙ (k.0.kept e).1) }, risen_trans xs ys zs h.1 k.1)
+
+  pub risen_length : (xs ys : List (Node A)) → AreRisen xs ys → length xs ≡ length ys
+  risen_length [] [] h = refl
+  risen_length [] (b ∷ ys) h = absurd h
+  risen_length (a ∷ xs) [] h = absurd h
+  risen_length (a ∷ xs) (b ∷ ys) h = ap suc (risen_length xs ys h.1)
 
   -- the node that one was, and the node that one becomes
   pub risen_from : (xs ys : List (Node A)) (i : ℕ) (b : Node A) → AreRisen xs ys → slice_get ys i ≡ Some b → (a : Node A) × (slice_get xs i ≡ Some a) × IsRisen a b
@@ -181,8 +198,7 @@ module _ (A R : Type 0) (d : Meeting A) (Below : A → A → Type 0) (order : Or
     pub lands : AllByRecursion (LandsOn code mid f) tos
 
   all_land : (code : List Insn) (xs ys : List (Node A)) (f : A) (tos : List ℕ) → AreRisen xs ys → AllByRecursion (LandsOn code xs f) tos → AllByRecursion (LandsOn code ys f) tos
-  all_land code xs ys f [] h l = tt
-  all_land code xs ys f (to ∷ tos) h l = (lands_risen code xs ys f to h l.0, all_land code xs ys f tos h l.1)
+  all_land code xs ys f tos h l = all_weaker (LandsOn code xs f) (LandsOn code ys f) (λ to k. lands_risen code xs ys f to h k) tos l
 
   all_edges : (code : List Insn) (tos : List ℕ) (f : A) (nodes : List (Node A)) → clash d code tos f nodes ≡ None → BringsAll code tos f nodes (all_brought d code tos f nodes)
   all_edges code [] f nodes c = record { risen = risen_self nodes; lands = tt }
@@ -193,25 +209,29 @@ module _ (A R : Type 0) (d : Meeting A) (Below : A → A → Type 0) (order : Or
       record { risen = risen_trans nodes next (all_brought d code tos f next) one.risen more.risen; lands = (lands_risen code next (all_brought d code tos f next) f to more.risen one.lands, more.lands) }
 
   -- no rule is broken, and each frame that is brought fits
-  abbrev pub Sound : List Insn → List (Node A) → List (Act A R) → Type 0
-  Sound code nodes [] = Unit {0}
-  Sound code nodes (Break rule pc ∷ acts) = ⊥
-  Sound code nodes (Bring rule tos f ∷ acts) = AllByRecursion (LandsOn code nodes f) tos × Sound code nodes acts
+  abbrev pub IsActFine : {R : Type 0} → List Insn → List (Node A) → Act A R → Type 0
+  IsActFine code nodes (Break rule pc) = ⊥
+  IsActFine code nodes (Bring rule tos f) = AllByRecursion (LandsOn code nodes f) tos
 
-  pub sound_risen : (code : List Insn) (xs ys : List (Node A)) (acts : List (Act A R)) → AreRisen xs ys → Sound code xs acts → Sound code ys acts
-  sound_risen code xs ys [] h s = tt
-  sound_risen code xs ys (Break rule pc ∷ acts) h s = s
-  sound_risen code xs ys (Bring rule tos f ∷ acts) h s = (all_land code xs ys f tos h s.0, sound_risen code xs ys acts h s.1)
+  abbrev pub Sound : {R : Type 0} → List Insn → List (Node A) → List (Act A R) → Type 0
+  Sound code nodes acts = AllByRecursion (IsActFine code nodes) acts
 
-  unclashed : (rule : R) (o : Option ℕ) (more : Result (List (Node A)) (R × ℕ)) (mid : List (Node A)) → unless_clash rule o more ≡ Ok mid → (o ≡ None) × (more ≡ Ok mid)
+  act_risen : {R : Type 0} (code : List Insn) (xs ys : List (Node A)) → AreRisen xs ys → (act : Act A R) → IsActFine code xs act → IsActFine code ys act
+  act_risen code xs ys h (Break rule pc) s = s
+  act_risen code xs ys h (Bring rule tos f) s = all_land code xs ys f tos h s
+
+  pub sound_risen : {R : Type 0} (code : List Insn) (xs ys : List (Node A)) (acts : List (Act A R)) → AreRisen xs ys → Sound code xs acts → Sound code ys acts
+  sound_risen code xs ys acts h s = all_weaker (IsActFine code xs) (IsActFine code ys) (act_risen code xs ys h) acts s
+
+  unclashed : {R : Type 0} (rule : R) (o : Option ℕ) (more : Result (List (Node A)) (R × ℕ)) (mid : List (Node A)) → unless_clash rule o more ≡ Ok mid → (o ≡ None) × (more ≡ Ok mid)
   unclashed rule (Some pc) more mid e = absurd (cc)
   unclashed rule None more mid e = (refl, e)
 
-  pub record Does (code : List Insn) (acts : List (Act A R)) (nodes mid : List (Node A)) : Type 0 where
+  pub record Does {R : Type 0} (code : List Insn) (acts : List (Act A R)) (nodes mid : List (Node A)) : Type 0 where
     pub risen : AreRisen nodes mid
     pub sound : Sound code mid acts
 
-  pub does : (code : List Insn) (acts : List (Act A R)) (nodes mid : List (Node A)) → acted d code acts nodes ≡ Ok mid → Does code acts nodes mid
+  pub does : {R : Type 0} (code : List Insn) (acts : List (Act A R)) (nodes mid : List (Node A)) → acted d code acts nodes ≡ Ok mid → Does code acts nodes mid
   does code [] nodes mid e = let same : nodes ≡ mid = cc in record { risen = subst (λ (ns : List (Node A)). AreRisen nodes ns) same (risen_self nodes); sound = tt }
   does code (Break rule pc ∷ acts) nodes mid e = absurd (cc)
   does code (Bring rule tos f ∷ acts) nodes mid e =
