@@ -4,9 +4,9 @@ use Rattle.std.specs.Prelude.{slice_get}
 use Rattle.std.specs.Option.{option_map, option_to_list}
 use Rattle.jvm_types.specs.CodeTable.{type_of, row, constant_row, get_static_row, get_row, put_row, put_static_row, virtual_row, special_row, static_row}
 use Rattle.jvm_types.specs.declared.op_row.Given.TheVariants.{Fresh}
+use Rattle.jvm_types.specs.declared.op_row.OpRow.{OpRow}
 use Rattle.jvm_types.specs.declared.code.Op.{Op}
 use Rattle.jvm_types.specs.declared.code.Op.TheVariants as ops
-use Rattle.jvm_types.specs.declared.program.FieldInfo.{FieldInfo}
 use Rattle.jvm_types.specs.declared.program.Kind.{Kind}
 use Rattle.jvm_types.specs.declared.program.MethodInfo.{MethodInfo}
 use Rattle.jvm_types.specs.declared.program.Program.{Program}
@@ -17,44 +17,20 @@ few_results : (r : Option Kind) → length (option_to_list (option_map (λ kind.
 few_results None = omega arith
 few_results (Some kind) = omega arith
 
-few_static : (f : Option FieldInfo) → length (get_static_row f).gives ≤ 4
-few_static None = omega arith
-few_static (Some f) = omega arith
-
-few_got : (f : Option FieldInfo) → length (get_row f).gives ≤ 4
-few_got None = omega arith
-few_got (Some f) = omega arith
-
-few_put : (f : Option FieldInfo) → length (put_row f).gives ≤ 4
-few_put None = omega arith
-few_put (Some f) = omega arith
-
-few_put_static : (f : Option FieldInfo) → length (put_static_row f).gives ≤ 4
-few_put_static None = omega arith
-few_put_static (Some f) = omega arith
-
-few_virtual : (c : Option MethodInfo) → length (virtual_row c).gives ≤ 4
-few_virtual None = omega arith
-few_virtual (Some c) = few_results c.result
-
-few_special : (c : Option MethodInfo) → length (special_row c).gives ≤ 4
-few_special None = omega arith
-few_special (Some c) = few_results c.result
-
-few_called : (c : Option MethodInfo) → length (static_row c).gives ≤ 4
-few_called None = omega arith
-few_called (Some c) = few_results c.result
+by_option : {X : Type 0} (rows : Option X → OpRow) → length (rows None).gives ≤ 4 → ((x : X) → length (rows (Some x)).gives ≤ 4) → (o : Option X) → length (rows o).gives ≤ 4
+by_option rows none some None = none
+by_option rows none some (Some x) = some x
 
 few_constant : (p : Program) (pc : ℕ) (target : Target) (op : Op) → length (constant_row p pc target op).gives ≤ 4
 few_constant p pc (targets.Value n) op = omega arith
 few_constant p pc (targets.Class class) op = omega arith
-few_constant p pc (targets.Field f) (ops.Getstatic i) = few_static (slice_get p.fields f)
-few_constant p pc (targets.Field f) (ops.Putstatic i) = few_put_static (slice_get p.fields f)
-few_constant p pc (targets.Field f) (ops.Getfield i) = few_got (slice_get p.fields f)
-few_constant p pc (targets.Field f) (ops.Putfield i) = few_put (slice_get p.fields f)
-few_constant p pc (targets.Method f) (ops.Invokevirtual i) = few_virtual (slice_get p.methods f)
-few_constant p pc (targets.Method f) (ops.Invokespecial i) = few_special (slice_get p.methods f)
-few_constant p pc (targets.Method f) (ops.Invokestatic i) = few_called (slice_get p.methods f)
+few_constant p pc (targets.Field f) (ops.Getstatic i) = by_option get_static_row (omega arith) (λ field. omega arith) (slice_get p.fields f)
+few_constant p pc (targets.Field f) (ops.Putstatic i) = by_option put_static_row (omega arith) (λ field. omega arith) (slice_get p.fields f)
+few_constant p pc (targets.Field f) (ops.Getfield i) = by_option get_row (omega arith) (λ field. omega arith) (slice_get p.fields f)
+few_constant p pc (targets.Field f) (ops.Putfield i) = by_option put_row (omega arith) (λ field. omega arith) (slice_get p.fields f)
+few_constant p pc (targets.Method f) (ops.Invokevirtual i) = by_option virtual_row (omega arith) (λ called. few_results called.result) (slice_get p.methods f)
+few_constant p pc (targets.Method f) (ops.Invokespecial i) = by_option special_row (omega arith) (λ called. few_results called.result) (slice_get p.methods f)
+few_constant p pc (targets.Method f) (ops.Invokestatic i) = by_option static_row (omega arith) (λ called. few_results called.result) (slice_get p.methods f)
 few_constant p pc target op = omega arith
 
 pub few_given : (p : Program) (m : MethodInfo) (pc : ℕ) (target : Target) (op : Op) → length (row p m pc target op).gives ≤ 4
