@@ -6,3 +6,4 @@ pub mod OneMarks
 pub mod HiddenThis
 pub mod HeldTags
 pub mod MonitorExits
+pub mod LawTries
