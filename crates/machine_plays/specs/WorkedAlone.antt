@@ -1,14 +1,13 @@
 -- Worked programs of one thread and one method.
-use Rattle.std.proofs.Common.{ℕ, ℤ, pos, negsuc, List, [], ◌∷◌, Some, None}
-use Rattle.std.specs.Prelude.{codes}
+use Rattle.std.specs.Prelude.{ℕ, ℤ, pos, negsuc, List, [], ◌∷◌, Some, None, codes}
 use Rattle.jvm_types.specs.declared.code.Op.TheVariants as ops
 use Rattle.jvm_types.specs.declared.program.Kind.TheVariants as kinds
 use Rattle.jvm_types.specs.declared.program.Target.TheVariants as targets
 use Rattle.checked_program.specs.MarkedProgram.{MarkedProgram}
 use Rattle.jvm_types.specs.declared.program.Row.{Row}
 use Rattle.checked_program.specs.declared.section.Spot.TheVariants as spots
-use Rattle.machine_types.proofs.Writing.{Line, line, line_to, method, static_field, mark, loaded}
-use Rattle.machine_types.proofs.WorkedPairs.{constructor}
+use Rattle.machine_plays.specs.Writing.{Line, line, line_to, method, static_field, mark, loaded}
+use Rattle.machine_plays.specs.WorkedPairs.{constructor}
 
 abbrev pub init_only : (max_stack max_locals : ℕ) → List Line → List Row → MarkedProgram
 init_only max_stack max_locals lines rows = loaded (codes "A") 0 [] (method 9 (codes "init") (codes "()V") [] None max_stack max_locals lines rows ∷ []) []

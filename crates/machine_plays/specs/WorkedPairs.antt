@@ -1,6 +1,6 @@
 -- Worked classes with two int fields, which are set together and read together.
-use Rattle.std.proofs.Common.{ℕ, pos, List, [], ◌∷◌, ◌++◌, Some, None}
-use Rattle.std.specs.Prelude.{codes}
+use Rattle.std.specs.Prelude.{ℕ, ◌+◌, pos, List, [], ◌∷◌, ◌++◌, Some, None, codes}
+use Rattle.jvm_types.specs.declared.code.Op.{Op}
 use Rattle.jvm_types.specs.declared.code.Op.TheVariants as ops
 use Rattle.jvm_types.specs.declared.code.Cmp.TheVariants as cmps
 use Rattle.jvm_types.specs.declared.program.Kind.TheVariants as kinds
@@ -10,7 +10,7 @@ use Rattle.jvm_types.specs.declared.program.MethodInfo.{MethodInfo}
 use Rattle.checked_program.specs.MarkedProgram.{MarkedProgram}
 use Rattle.checked_program.specs.declared.section.Spot.TheVariants as spots
 use Rattle.checked_program.specs.declared.section.SectionMark.{SectionMark}
-use Rattle.machine_types.proofs.Writing.{Line, line, line_to, row, method, private_field, static_field, mark, loaded}
+use Rattle.machine_plays.specs.Writing.{Line, line, line_to, row, method, private_field, static_field, mark, loaded}
 
 abbrev pub fields : List FieldInfo
 fields = private_field kinds.Int 0 ∷ private_field kinds.Int 1 ∷ static_field (kinds.Ref 17) 2070 ∷ []
@@ -85,26 +85,22 @@ make_and_set = line_to 0 3 (ops.New 2) (targets.Class 17) ∷ line 3 4 ops.Dup
     ∷ line_to 10 13 (ops.Getstatic 25) (targets.Field 2) ∷ line 13 14 (ops.Iconst (pos 0))
     ∷ line_to 14 17 (ops.Invokevirtual 27) (targets.Method 1) ∷ line 17 18 ops.Return ∷ []
 
+-- thread 1 prints what it reads, and each other one sets a value; with the constants for System.out, the read, println and the set
+abbrev pub read_or_set_by : (out read print set : ℕ) → (value : Op) → (behind : ℕ) → List Line
+read_or_set_by out read print set value behind = line 0 1 (ops.Iload 0) ∷ line 1 2 (ops.Iconst (pos 1)) ∷ line 2 5 (ops.IfIcmp cmps.Ne 18)
+    ∷ line_to 5 8 (ops.Getstatic out) targets.Out ∷ line_to 8 11 (ops.Getstatic 25) (targets.Field 2)
+    ∷ line_to 11 14 (ops.Invokevirtual read) (targets.Method 2) ∷ line_to 14 17 (ops.Invokevirtual print) targets.Println
+    ∷ line 17 18 ops.Return ∷ line_to 18 21 (ops.Getstatic 25) (targets.Field 2) ∷ line 21 behind value
+    ∷ line_to behind (behind + 3) (ops.Invokevirtual set) (targets.Method 1) ∷ line (behind + 3) (behind + 4) ops.Return ∷ []
+
 abbrev pub read_or_set : List Line
-read_or_set = line 0 1 (ops.Iload 0) ∷ line 1 2 (ops.Iconst (pos 1)) ∷ line 2 5 (ops.IfIcmp cmps.Ne 18)
-    ∷ line_to 5 8 (ops.Getstatic 32) targets.Out ∷ line_to 8 11 (ops.Getstatic 25) (targets.Field 2)
-    ∷ line_to 11 14 (ops.Invokevirtual 34) (targets.Method 2) ∷ line_to 14 17 (ops.Invokevirtual 39) targets.Println
-    ∷ line 17 18 ops.Return ∷ line_to 18 21 (ops.Getstatic 25) (targets.Field 2) ∷ line 21 22 (ops.Iconst (pos 4))
-    ∷ line_to 22 25 (ops.Invokevirtual 41) (targets.Method 1) ∷ line 25 26 ops.Return ∷ []
+read_or_set = read_or_set_by 32 34 39 41 (ops.Iconst (pos 4)) 22
 
 abbrev pub read_or_set_apart : List Line
-read_or_set_apart = line 0 1 (ops.Iload 0) ∷ line 1 2 (ops.Iconst (pos 1)) ∷ line 2 5 (ops.IfIcmp cmps.Ne 18)
-    ∷ line_to 5 8 (ops.Getstatic 34) targets.Out ∷ line_to 8 11 (ops.Getstatic 25) (targets.Field 2)
-    ∷ line_to 11 14 (ops.Invokevirtual 36) (targets.Method 2) ∷ line_to 14 17 (ops.Invokevirtual 41) targets.Println
-    ∷ line 17 18 ops.Return ∷ line_to 18 21 (ops.Getstatic 25) (targets.Field 2) ∷ line 21 22 (ops.Iconst (pos 1))
-    ∷ line_to 22 25 (ops.Invokevirtual 27) (targets.Method 1) ∷ line 25 26 ops.Return ∷ []
+read_or_set_apart = read_or_set_by 34 36 41 27 (ops.Iconst (pos 1)) 22
 
 abbrev pub read_or_set_ten : List Line
-read_or_set_ten = line 0 1 (ops.Iload 0) ∷ line 1 2 (ops.Iconst (pos 1)) ∷ line 2 5 (ops.IfIcmp cmps.Ne 18)
-    ∷ line_to 5 8 (ops.Getstatic 34) targets.Out ∷ line_to 8 11 (ops.Getstatic 25) (targets.Field 2)
-    ∷ line_to 11 14 (ops.Invokevirtual 36) (targets.Method 2) ∷ line_to 14 17 (ops.Invokevirtual 41) targets.Println
-    ∷ line 17 18 ops.Return ∷ line_to 18 21 (ops.Getstatic 25) (targets.Field 2) ∷ line 21 23 (ops.Bipush (pos 10))
-    ∷ line_to 23 26 (ops.Invokevirtual 27) (targets.Method 1) ∷ line 26 27 ops.Return ∷ []
+read_or_set_ten = read_or_set_by 34 36 41 27 (ops.Bipush (pos 10)) 23
 
 abbrev pub print_sum : List Line
 print_sum = line_to 0 3 (ops.Getstatic 32) targets.Out ∷ line_to 3 6 (ops.Getstatic 25) (targets.Field 2)

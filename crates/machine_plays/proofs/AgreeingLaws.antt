@@ -16,11 +16,13 @@ use Rattle.machine_types.specs.HeldMonitors.{held_at}
 use Rattle.machine_types.specs.PlainState.{Status, PlainThread}
 use Rattle.machine_types.specs.PlainState as plain
 use Rattle.machine_types.specs.ReadyObjects.{class_of, thrown_of}
-use Rattle.machine_types.specs.Threads.{Frame, Attempt, Thread, Phase, Held}
+use Rattle.machine_types.specs.Threads.{Frame, Attempt, Thread}
+use Rattle.machine_types.specs.declared.phase.Phase.{Phase}
+use Rattle.machine_types.specs.declared.lock.Held.{Held}
 use Rattle.machine_types.specs.declared.phase.After.{After}
 use Rattle.machine_types.specs.declared.phase.After.TheVariants as afters
 use Rattle.machine_types.specs.declared.phase.Phase.TheVariants as phases
-use Rattle.machine_types.proofs.Agreeing.{same_list, same_frame, same_frames, same_after, same_end, same, waits_on, is_held, waits, turns, limit_fits, ending_fits, status_fits, thread_fits}
+use Rattle.machine_plays.proofs.Agreeing.{same_list, same_frame, same_frames, same_after, same_end, same, waits_on, is_held, waits, turns, limit_fits, ending_fits, status_fits, thread_fits}
 
 -- ---- what is the same is equal
 

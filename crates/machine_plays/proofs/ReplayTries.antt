@@ -6,7 +6,7 @@ use Rattle.machine_types.specs.declared.phase.Phase.TheVariants as phases
 use Rattle.machine_types.specs.declared.plain.Act.{Act}
 use Rattle.machine_types.specs.declared.plain.Act.TheVariants.{Do, Enter, Exit}
 use Rattle.checked_program.proofs.TriedPrograms.{many}
-use Rattle.machine_types.proofs.InSections.{marked, sum_frame, twice_frame, attempt}
+use Rattle.machine_plays.proofs.InSections.{marked, sum_frame, twice_frame, attempt}
 use Rattle.machine_types.specs.Replay.{Alone, replayed, at_entry, at_present}
 
 abbrev cfg : Config

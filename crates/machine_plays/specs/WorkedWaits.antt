@@ -1,6 +1,5 @@
 -- Worked classes whose threads wait, notify, and lock each other out.
-use Rattle.std.proofs.Common.{ℕ, pos, List, [], ◌∷◌, None}
-use Rattle.std.specs.Prelude.{codes}
+use Rattle.std.specs.Prelude.{ℕ, pos, List, [], ◌∷◌, None, codes}
 use Rattle.jvm_types.specs.declared.code.Op.TheVariants as ops
 use Rattle.jvm_types.specs.declared.code.Cmp.TheVariants as cmps
 use Rattle.jvm_types.specs.declared.program.Kind.TheVariants as kinds
@@ -9,8 +8,8 @@ use Rattle.jvm_types.specs.declared.program.FieldInfo.{FieldInfo}
 use Rattle.jvm_types.specs.declared.program.MethodInfo.{MethodInfo}
 use Rattle.checked_program.specs.MarkedProgram.{MarkedProgram}
 use Rattle.checked_program.specs.declared.section.Spot.TheVariants as spots
-use Rattle.machine_types.proofs.Writing.{Line, line, line_to, row, method, static_field, mark, loaded}
-use Rattle.machine_types.proofs.WorkedPairs.{constructor}
+use Rattle.machine_plays.specs.Writing.{Line, line, line_to, row, method, static_field, mark, loaded}
+use Rattle.machine_plays.specs.WorkedPairs.{constructor}
 
 abbrev pub fields : List FieldInfo
 fields = static_field (kinds.Ref 17) 2070 ∷ []

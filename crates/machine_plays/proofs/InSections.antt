@@ -17,6 +17,7 @@ use Rattle.checked_program.specs.declared.section.Mode.TheVariants.{OnThis}
 use Rattle.checked_program.specs.declared.tag.Tags.{Tags}
 use Rattle.checked_program.proofs.TriedPrograms.{many, tags_of}
 use Rattle.machine_types.specs.Threads.{Frame, Attempt}
+use Rattle.machine_plays.proofs.Standings.{standing}
 use Rattle.machine_types.specs.declared.lock.Held.{Held}
 use Rattle.machine_types.specs.declared.lock.Kept.TheVariants as keeps
 use Rattle.machine_types.specs.declared.phase.Phase.TheVariants as phases
@@ -66,49 +67,13 @@ abbrev entry_frame : Frame
 entry_frame = record { method = 12; pc = 0; receiver = 3000; locals = 3000 ∷ []; stack = [] }
 
 abbrev sum_stands : Standing marked sum_frame
-sum_stands = record {
-  number = 4;
-  method = _;
-  insn = _;
-  target = _;
-  tags = _;
-  at = record { in_program = refl; in_code = refl; names = refl; frames = _; of_method = refl; frame = refl };
-  frames = _;
-  types_of_method = refl;
-  types = _;
-  types_are = refl;
-  pc_is = refl;
-}
+sum_stands = standing marked sum_frame 4 refl refl refl refl refl refl refl refl
 
 abbrev twice_stands : Standing marked twice_frame
-twice_stands = record {
-  number = 1;
-  method = _;
-  insn = _;
-  target = _;
-  tags = _;
-  at = record { in_program = refl; in_code = refl; names = refl; frames = _; of_method = refl; frame = refl };
-  frames = _;
-  types_of_method = refl;
-  types = _;
-  types_are = refl;
-  pc_is = refl;
-}
+twice_stands = standing marked twice_frame 1 refl refl refl refl refl refl refl refl
 
 abbrev entry_stands : Standing marked entry_frame
-entry_stands = record {
-  number = 0;
-  method = _;
-  insn = _;
-  target = _;
-  tags = _;
-  at = record { in_program = refl; in_code = refl; names = refl; frames = _; of_method = refl; frame = refl };
-  frames = _;
-  types_of_method = refl;
-  types = _;
-  types_are = refl;
-  pc_is = refl;
-}
+entry_stands = standing marked entry_frame 0 refl refl refl refl refl refl refl refl
 
 -- ---- with the lock: `twice` holds its monitor, and `sum` has entered it once more
 

@@ -1,6 +1,5 @@
 -- Short ways to write a program, settings, and what a run comes to.
-use Rattle.std.proofs.Common.{ℕ, ℤ, pos, true, List, [], ◌∷◌, Option}
-use Rattle.std.specs.Prelude.{map, replicate}
+use Rattle.std.specs.Prelude.{ℕ, ℤ, pos, true, List, [], ◌∷◌, Option, map, replicate}
 use Rattle.jvm_types.specs.declared.code.Insn.{Insn}
 use Rattle.jvm_types.specs.declared.code.Op.{Op}
 use Rattle.jvm_types.specs.declared.outcome.End.{End}
@@ -14,7 +13,7 @@ use Rattle.jvm_types.specs.declared.program.Target.TheVariants as targets
 use Rattle.jvm_types.specs.declared.program.MethodInfo.{MethodInfo}
 use Rattle.machine_types.specs.PlainState.{Printed}
 use Rattle.checked_program.specs.MarkedProgram.{MarkedProgram}
-use Rattle.machine_types.specs.Threads.{Config}
+use Rattle.machine_types.specs.declared.config.Config.{Config}
 use Rattle.checked_program.specs.declared.section.Spot.{Spot}
 use Rattle.checked_program.specs.declared.section.SectionMark.{SectionMark}
 

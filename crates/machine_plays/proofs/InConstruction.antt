@@ -10,8 +10,9 @@ use Rattle.checked_program.proofs.TriedPrograms.{pair, tags_of}
 use Rattle.machine_types.specs.Construction.{Runs, FramesKeep}
 use Rattle.machine_types.specs.Standing.{Standing}
 use Rattle.machine_types.specs.Threads.{Frame, Attempt}
+use Rattle.machine_plays.proofs.Standings.{standing}
 use Rattle.machine_types.specs.Worlds.{Made, Begun, Builder, builder, World, IsViewOf, finished}
-use Rattle.machine_types.proofs.InSections.{tags_by}
+use Rattle.machine_plays.proofs.InSections.{tags_by}
 
 abbrev in_init : TypeFrame
 in_init = record { stack = This ∷ []; locals = This ∷ []; ready = false }
@@ -34,34 +35,10 @@ abbrev new_frame : Frame
 new_frame = record { method = 3; pc = 4; receiver = 0; locals = []; stack = 3000 ∷ [] }
 
 abbrev init_stands : Standing c init_frame
-init_stands = record {
-  number = 1;
-  method = _;
-  insn = _;
-  target = _;
-  tags = _;
-  at = record { in_program = refl; in_code = refl; names = refl; frames = _; of_method = refl; frame = refl };
-  frames = _;
-  types_of_method = refl;
-  types = _;
-  types_are = refl;
-  pc_is = refl;
-}
+init_stands = standing c init_frame 1 refl refl refl refl refl refl refl refl
 
 abbrev new_stands : Standing c new_frame
-new_stands = record {
-  number = 2;
-  method = _;
-  insn = _;
-  target = _;
-  tags = _;
-  at = record { in_program = refl; in_code = refl; names = refl; frames = _; of_method = refl; frame = refl };
-  frames = _;
-  types_of_method = refl;
-  types = _;
-  types_are = refl;
-  pc_is = refl;
-}
+new_stands = standing c new_frame 2 refl refl refl refl refl refl refl refl
 
 abbrev is_17 : ℕ → Bool
 is_17 class = class == 17
@@ -81,19 +58,7 @@ abbrev before : Frame
 before = record new_frame { stack = 3000 ∷ 3000 ∷ [] }
 
 abbrev before_stands : Standing c before
-before_stands = record {
-  number = 2;
-  method = _;
-  insn = _;
-  target = _;
-  tags = _;
-  at = record { in_program = refl; in_code = refl; names = refl; frames = _; of_method = refl; frame = refl };
-  frames = _;
-  types_of_method = refl;
-  types = _;
-  types_are = refl;
-  pc_is = refl;
-}
+before_stands = standing c before 2 refl refl refl refl refl refl refl refl
 
 abbrev made : World
 made v = if v == 3000 then Some (builder 1 0 (Made 0)) else None

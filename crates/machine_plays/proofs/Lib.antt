@@ -1,0 +1,17 @@
+-- worked runs
+mod Agreeing
+mod AgreeingLaws
+mod Playing
+mod PlaysAlone
+mod PlaysTorn
+mod PlaysFought
+mod PlaysWaited
+mod PlaysThrown
+mod PlaysLimits
+mod PlaysInstructions
+mod Occurrences
+-- facts on threads that are written out
+mod Standings
+mod InSections
+mod ReplayTries
+mod InConstruction

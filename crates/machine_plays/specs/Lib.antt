@@ -1,0 +1,6 @@
+pub mod Writing
+pub mod WorkedAlone
+pub mod WorkedPairs
+pub mod WorkedWaits
+pub mod WorkedRuns
+pub mod Occurring
