@@ -1,6 +1,6 @@
 -- What is due of an attempt runs on the plain state beside it: its places are there, and its monitor is free.
 use Rattle.std.proofs.Common.{◌≡◌, ◌≢◌, ⊎_elim, ℕ, zero, suc, ◌+◌, ◌-◌, ◌*◌, ◌/◌, ◌%◌, ◌<◌, ◌≤◌, Bool, true, false, cond, List, [], ◌∷◌, length, Option, Some, None, refl, sym, ap, ◌∙◌, subst, arith}
-use Rattle.std.specs.Prelude.{Contains, nat_le, nat_lt, option_map, option_and_then, slice_get, slice_index, slice_index_or, ◌==◌, ◌&&◌}
+use Rattle.std.specs.Prelude.{Contains, nat_le, nat_lt, option_map, option_and_then, slice_get, slice_index, ◌==◌, ◌&&◌}
 use Rattle.std.specs.Option.{option_or}
 use Rattle.std.proofs.lemmas.Bool.Decides.{nat_tests}
 use Rattle.lists.proofs.ListLaws.{same_some}
@@ -37,25 +37,15 @@ use Rattle.machine_types.specs.declared.lock.LockWord.{LockWord}
 use Rattle.machine_types.specs.declared.lock.LockWord.TheVariants as locks
 use Rattle.machine_types.specs.declared.plain.Act.TheVariants as acts
 use Rattle.machine_types.proofs.AttemptReplay.{stands_as, Stands, stands_after, played}
-use Rattle.machine_types.proofs.Lists.{got_when_set}
+use Rattle.machine_types.proofs.Lists.{got_when_set, got_below, got_contained}
 use Rattle.machine_types.proofs.PlainStepLaws.{is_same}
 
 -- ---- items of lists
-
-contained : {X : Type 0} (xs : List X) (i : ℕ) (x : X) → i < length xs → slice_index_or xs i x ≡ x → slice_get xs i ≡ Some x
-contained [] i x lt e = absurd (omega (arith, lt))
-contained (y ∷ xs) zero x lt e = ap Some e
-contained (y ∷ xs) (suc i) x lt e = contained xs i x (omega (arith, lt)) e
 
 is_there : {X : Type 0} (xs : List X) (i : ℕ) → i < length xs → (x : X) × (slice_get xs i ≡ Some x)
 is_there [] i lt = absurd (omega (arith, lt))
 is_there (x ∷ xs) zero lt = (x, refl)
 is_there (x ∷ xs) (suc i) lt = is_there xs i (omega (arith, lt))
-
-is_below : {X : Type 0} (xs : List X) (i : ℕ) (x : X) → slice_get xs i ≡ Some x → i < length xs
-is_below [] i x e = cc
-is_below (y ∷ xs) zero x e = omega arith
-is_below (y ∷ xs) (suc i) x e = omega (arith, is_below xs i x e)
 
 -- ---- places of the plain state
 
@@ -122,7 +112,7 @@ module _ (c : MarkedProgram) (cfg : Config) (told : Told) (q : Plain) (k : Facts
       → value_at q x ≡ Some (slice_index told.core.words x)
   plain_has o x there has behind before =
       let e = k.objects o there in
-      let get : slice_get q.objects e.1.0 ≡ Some e.0 = contained q.objects e.1.0 e.0 e.1.1 e.1.2 in
+      let get : slice_get q.objects e.1.0 ≡ Some e.0 = got_contained q.objects e.1.0 e.0 e.1.1 e.1.2 in
       let v : HasValue (value_at q x) = first_has (object_value q.objects x) (static_value q.statics x) (objects_have q.objects e.1.0 e.0 x get (has e.0 e.2 e.4)) in
       let same : slice_index told.core.words x ≡ v.0 = k.agrees.places x v.0 v.1 (not_pending c cfg told k.facts o x there behind before) in
       v.1 ∙ ap Some (sym same)
@@ -133,7 +123,7 @@ module _ (c : MarkedProgram) (cfg : Config) (told : Told) (q : Plain) (k : Facts
       let same : at.field ≡ f = same_some (sym at.is ∙ get) in
       let class : o.class ≡ f.class = at.of_class ∙ ap (λ (g : FieldInfo). g.class) same in
       let place : x ≡ value_word o.reference f.index = at.place ∙ ap (λ (g : FieldInfo). value_word o.reference g.index) same in
-      let there : slice_get k.facts.objects at.there.0 ≡ Some o = contained k.facts.objects at.there.0 o at.there.1 at.there.2 in
+      let there : slice_get k.facts.objects at.there.0 ≡ Some o = got_contained k.facts.objects at.there.0 o at.there.1 at.there.2 in
       let sized : length o.values ≡ instances_among o.class c.program.fields = k.facts.apart.sized at.there.0 o there (λ a. absurd (omega (arith, a, class, (is.fields fi f get).class.0))) in
       let below : f.index < length o.values = subst (λ (n : ℕ). f.index < n) (ap (λ (n : ℕ). instances_among n c.program.fields) (sym class) ∙ sym sized) (instances_inside c.program fi f is get instance) in
       subst (λ (n : ℕ). value_at q n ≡ Some (slice_index told.core.words n)) (sym place)
@@ -195,7 +185,7 @@ module _ (c : MarkedProgram) (cfg : Config) (told : Told) (q : Plain) (k : Facts
   monitor_is_there t x a e tries none =
       let holds : AttemptHolds c (HasClass k.facts.objects) x.frames (Some a) = subst (λ (o : Option Attempt). AttemptHolds c (HasClass k.facts.objects) x.frames o) tries (k.facts.typed.threads t x e).attempt in
       let object = holds.0.1 in
-      let get : slice_get k.facts.objects object.1.0 ≡ Some object.0 = contained k.facts.objects object.1.0 object.0 object.1.1 object.1.2 in
+      let get : slice_get k.facts.objects object.1.0 ≡ Some object.0 = got_contained k.facts.objects object.1.0 object.0 object.1.1 object.1.2 in
       let begins = k.facts.apart.begin object.1.0 object.0 get in
       omega (arith, begins, object.2, none)
 
@@ -241,7 +231,7 @@ module _ (c : MarkedProgram) (cfg : Config) (told : Told) (q : Plain) (k : Facts
 
   pub attempt_runs : (t : ℕ) (x : Thread) (a : Attempt) → slice_get told.core.threads t ≡ Some x → x.attempt ≡ Some a → IsAsNoted told.core.words a → ReachesPresent c.program q t (k.facts.was t) x (past_at told t).due
   attempt_runs t x a e tries noted =
-      let y : (z : PlainThread) × (slice_get q.threads t ≡ Some z) = is_there q.threads t (omega (arith, k.agrees.many, is_below told.core.threads t x e)) in
+      let y : (z : PlainThread) × (slice_get q.threads t ≡ Some z) = is_there q.threads t (omega (arith, k.agrees.many, got_below told.core.threads t x e)) in
       let fits : ThreadFits c.program (has_wait_bit (references_of q.objects) told.core.words t) x (Some a) y.0
       = subst (λ (o : Option Attempt). ThreadFits c.program (has_wait_bit (references_of q.objects) told.core.words t) x o y.0) tries (k.agrees.threads t x y.0 e y.1) in
       reaches t x a y.0 e tries noted y.1 fits

@@ -1,6 +1,6 @@
--- An item of a list that is set, and each item where all pass a test.
-use Rattle.std.proofs.Common.{◌≡◌, ◌≢◌, ℕ, zero, suc, Bool, true, List, [], ◌∷◌, Some, refl, sym, ap, subst}
-use Rattle.std.specs.Prelude.{slice_get, slice_set}
+-- Items of lists: one that is set, each where all pass a test, and where one is.
+use Rattle.std.proofs.Common.{◌≡◌, ◌≢◌, ℕ, zero, suc, ◌<◌, Bool, true, List, [], ◌∷◌, length, Some, refl, sym, ap, subst, arith}
+use Rattle.std.specs.Prelude.{slice_get, slice_set, slice_index_or}
 use Rattle.std.specs.List.{list_all}
 use Rattle.lists.proofs.TestLaws.{both_are_true}
 
@@ -26,3 +26,13 @@ pub every : {X : Type 0} (test : X → Bool) (xs : List X) → list_all test xs 
 every test [] all i x e = cc
 every {X} test (y ∷ ys) all zero x e = let g : y ≡ x = cc in subst (λ (z : X). test z ≡ true) g (both_are_true (test y) (list_all test ys) all).0
 every test (y ∷ ys) all (suc i) x e = every test ys (both_are_true (test y) (list_all test ys) all).1 i x e
+
+pub got_below : {X : Type 0} (xs : List X) (i : ℕ) (x : X) → slice_get xs i ≡ Some x → i < length xs
+got_below [] i x e = cc
+got_below (y ∷ xs) zero x e = omega arith
+got_below (y ∷ xs) (suc i) x e = omega (arith, got_below xs i x e)
+
+pub got_contained : {X : Type 0} (xs : List X) (i : ℕ) (x : X) → i < length xs → slice_index_or xs i x ≡ x → slice_get xs i ≡ Some x
+got_contained [] i x lt e = absurd (omega (arith, lt))
+got_contained (y ∷ xs) zero x lt e = ap Some e
+got_contained (y ∷ xs) (suc i) x lt e = got_contained xs i x (omega (arith, lt)) e

@@ -21,7 +21,7 @@ use Rattle.machine_types.specs.declared.phase.Phase.TheVariants as phases
 use Rattle.machine_types.specs.Owners.{Locks, lock_at, locks_in, NotHeld, hold_by_word, hold_by_list, drawn_by, Owns, flat_holders, one_if_flat, references_of, Owners}
 use Rattle.machine_types.proofs.AtStart.{IsFreshPhase, starts, idles, is_over, is_start_thread, phase_is_fresh}
 use Rattle.machine_types.specs.StartLaws.{phase_at_start, StartOwns}
-use Rattle.machine_types.proofs.PlacesAtStart.{lock_is_free}
+use Rattle.machine_types.proofs.WordsAtStart.{lock_is_free}
 
 -- ---- owners, where the lock word of each object is 0
 

@@ -1,5 +1,5 @@
 -- Places at the start of a run of a linked program: they lie apart, and the rest of the heap is unused.
-use Rattle.std.proofs.Common.{◌≡◌, ◌≢◌, ◌⊎◌, ⊎_elim, inl, inr, ℕ, zero, suc, ◌+◌, ◌-◌, ◌*◌, ◌<◌, ◌≤◌, Bool, true, false, cond, List, [], ◌∷◌, ◌++◌, length, take, Some, refl, sym, ap, subst, ◌∙◌, length-append, append_assoc, arith}
+use Rattle.std.proofs.Common.{◌≡◌, ◌≢◌, ◌⊎◌, ⊎_elim, inl, inr, ℕ, zero, suc, ◌+◌, ◌-◌, ◌*◌, ◌<◌, ◌≤◌, Bool, true, false, cond, List, [], ◌∷◌, ◌++◌, length, take, Some, refl, sym, ap, subst, ◌∙◌, length-append, arith}
 use Rattle.std.specs.Prelude.{filter, flat_map, map, replicate, Contains, not, nat_le, nat_lt, ◌==◌, ◌&&◌, slice_get, slice_index}
 use Rattle.std.specs.List.{list_all, range_with_len, sum_by}
 use Rattle.std.proofs.lemmas.List.{length-map, length-replicate}
@@ -20,19 +20,19 @@ use Rattle.machine_types.specs.ObjectsApart.{IsBeside, IsOutside}
 use Rattle.machine_types.specs.PlainMemory.{Object, StaticValue, object_end, objects_from, class_objects, start_objects, start_statics}
 use Rattle.machine_types.specs.ReadyObjects.{ready_classes, first_ready}
 use Rattle.machine_types.specs.StartLaws.{StartLiesApart, StartIsUnused}
-use Rattle.machine_types.specs.StartWords.{object_words, statics_of, class_words, classes_of, start_words}
+use Rattle.machine_types.specs.StartWords.{object_words, statics_of, class_words, classes_of}
 use Rattle.machine_types.specs.Words.{most_records}
 use Rattle.machine_types.proofs.Lists.{every}
 
 -- ---- how many static fields there are, and how many of the classes below one
 
-abbrev one_static : FieldInfo → ℕ
+abbrev pub one_static : FieldInfo → ℕ
 one_static f = cond (is_static f.flags) 1 0
 
-abbrev one_below : (class : ℕ) → FieldInfo → ℕ
+abbrev pub one_below : (class : ℕ) → FieldInfo → ℕ
 one_below class f = cond (nat_lt f.class class && is_static f.flags) 1 0
 
-abbrev statics_below : (class : ℕ) → List FieldInfo → ℕ
+abbrev pub statics_below : (class : ℕ) → List FieldInfo → ℕ
 statics_below class fields = sum_by (one_below class) fields
 
 one_at_most : (class : ℕ) (f : FieldInfo) → one_below class f ≤ one_static f
@@ -49,17 +49,17 @@ not_below class n h = grind (arith, nat_tests, h)
 is_below : (class n : ℕ) → n < class → nat_lt n class ≡ true
 is_below class n h = grind (arith, nat_tests, h)
 
-none_of : (class : ℕ) (f : FieldInfo) → class ≤ f.class → one_below class f ≡ 0
+pub none_of : (class : ℕ) (f : FieldInfo) → class ≤ f.class → one_below class f ≡ 0
 none_of class f h = ap (λ (b : Bool). cond {A = ℕ} (b && is_static f.flags) 1 0) (not_below class f.class h)
 
-all_of : (class : ℕ) (f : FieldInfo) → f.class < class → one_below class f ≡ one_static f
+pub all_of : (class : ℕ) (f : FieldInfo) → f.class < class → one_below class f ≡ one_static f
 all_of class f h = ap (λ (b : Bool). cond {A = ℕ} (b && is_static f.flags) 1 0) (is_below class f.class h)
 
 below_at_most : (class : ℕ) (fields : List FieldInfo) → statics_below class fields ≤ sum_by one_static fields
 below_at_most class [] = omega arith
 below_at_most class (f ∷ fs) = omega (arith, one_at_most class f, below_at_most class fs, sum_first (one_below class) f fs, sum_first one_static f fs)
 
-none_below : (class : ℕ) (fields : List FieldInfo) → ((i : ℕ) (f : FieldInfo) → slice_get fields i ≡ Some f → class ≤ f.class) → statics_below class fields ≡ 0
+pub none_below : (class : ℕ) (fields : List FieldInfo) → ((i : ℕ) (f : FieldInfo) → slice_get fields i ≡ Some f → class ≤ f.class) → statics_below class fields ≡ 0
 none_below class [] all = refl
 none_below class (f ∷ fs) all = omega (arith, none_of class f (all 0 f refl), none_below class fs (λ i g e. all (suc i) g e), sum_first (one_below class) f fs)
 
@@ -79,13 +79,13 @@ length_more : {X : Type 0} (b : Bool) (x : X) (xs : List X) → length (cond b (
 length_more true x xs = omega arith
 length_more false x xs = omega arith
 
-one_class_more : (class : ℕ) (fields : List FieldInfo) → length (statics_of fields class) + statics_below class fields ≡ statics_below (class + 1) fields
+pub one_class_more : (class : ℕ) (fields : List FieldInfo) → length (statics_of fields class) + statics_below class fields ≡ statics_below (class + 1) fields
 one_class_more class [] = refl
 one_class_more class (f ∷ fs) =
     let more = length_more ((f.class == class) && is_static f.flags) f (statics_of fs class) in
     omega (arith, more, one_more class f, one_class_more class fs, sum_first (one_below class) f fs, sum_first (one_below (class + 1)) f fs)
 
-rises : (class k : ℕ) (fields : List FieldInfo) → statics_below class fields ≤ statics_below (class + k) fields
+pub rises : (class k : ℕ) (fields : List FieldInfo) → statics_below class fields ≤ statics_below (class + k) fields
 rises class zero fields = let same : class + 0 ≡ class = omega arith in subst (λ (c : ℕ). statics_below class fields ≤ statics_below c fields) (sym same) (omega arith)
 rises class (suc k) fields =
     let same : (class + k) + 1 ≡ class + suc k = omega arith in
@@ -93,7 +93,7 @@ rises class (suc k) fields =
 
 -- ---- the static fields before one, and those of the classes below
 
-before_at_least : (class : ℕ) (fields : List FieldInfo) (n : ℕ) → ((j : ℕ) (g : FieldInfo) → n ≤ j → slice_get fields j ≡ Some g → class ≤ g.class) → statics_below class fields ≤ sum_by one_static (take n fields)
+pub before_at_least : (class : ℕ) (fields : List FieldInfo) (n : ℕ) → ((j : ℕ) (g : FieldInfo) → n ≤ j → slice_get fields j ≡ Some g → class ≤ g.class) → statics_below class fields ≤ sum_by one_static (take n fields)
 before_at_least class [] n later = omega arith
 before_at_least class (g ∷ gs) zero later = omega (arith, none_below class (g ∷ gs) (λ i f e. later i f (omega arith) e))
 before_at_least class (g ∷ gs) (suc n) later =
@@ -117,19 +117,19 @@ before_less class (g ∷ gs) (suc n) f e s h earlier =
 
 -- ---- fields of a program, which stand in the order of their classes
 
-class_from : (p : Program) → IsProgram p → (i : ℕ) (f : FieldInfo) → slice_get p.fields i ≡ Some f → file_class 0 ≤ f.class
+pub class_from : (p : Program) → IsProgram p → (i : ℕ) (f : FieldInfo) → slice_get p.fields i ≡ Some f → file_class 0 ≤ f.class
 class_from p is i f e = (is.fields i f e).class.0
 
-class_to : (p : Program) → IsProgram p → (i : ℕ) (f : FieldInfo) → slice_get p.fields i ≡ Some f → f.class < file_class (length p.names)
+pub class_to : (p : Program) → IsProgram p → (i : ℕ) (f : FieldInfo) → slice_get p.fields i ≡ Some f → f.class < file_class (length p.names)
 class_to p is i f e = (is.fields i f e).class.1
 
-earlier_class : (p : Program) → IsProgram p → (i j : ℕ) (f g : FieldInfo) → slice_get p.fields i ≡ Some f → slice_get p.fields j ≡ Some g → i ≤ j → f.class ≤ g.class
+pub earlier_class : (p : Program) → IsProgram p → (i j : ℕ) (f g : FieldInfo) → slice_get p.fields i ≡ Some f → slice_get p.fields j ≡ Some g → i ≤ j → f.class ≤ g.class
 earlier_class p is i j f g e h le = ⊎_elim
     (λ (same : i ≡ j). let one : f ≡ g = same_some (sym e ∙ ap (slice_get p.fields) same ∙ h) in omega (arith, ap (λ (k : FieldInfo). k.class) one))
     (λ (apart : (i < j) ⊎ (j < i)). ⊎_elim (λ (lt : i < j). before_at (λ (k : FieldInfo). k.class ≤ g.class) p.fields i j f (is.fields j g h).ordered e lt) (λ (gt : j < i). absurd (omega (arith, gt, le))) apart)
     (cases_order i j)
 
-static_word : (p : Program) → IsProgram p → (n : ℕ) (f : FieldInfo) → slice_get p.fields n ≡ Some f → is_static f.flags ≡ true
+pub static_word : (p : Program) → IsProgram p → (n : ℕ) (f : FieldInfo) → slice_get p.fields n ≡ Some f → is_static f.flags ≡ true
     → f.index ≡ first_class_word + 2 * (f.class - file_class 0 + 1) + sum_by one_static (take n p.fields)
 static_word p is n f e s =
     (is.fields n f e).index ∙ ap (λ b. cond b (first_class_word + 2 * (f.class - file_class 0 + 1) + statics_among (take n p.fields)) (instances_among f.class (take n p.fields))) s
@@ -207,7 +207,7 @@ words_differ p is i j s r e h lt =
 
 -- ---- the ready objects, which are written out
 
-abbrev ready_objects : List Object
+abbrev pub ready_objects : List Object
 ready_objects = objects_from first_ready ready_classes
 
 -- what holds of each object at the start, up to a word
@@ -233,7 +233,7 @@ placed to o e =
     let c : (nat_lt o.class (file_class 0) ≡ true) × ((length o.values == 0) ≡ true) = both_are_true _ _ b.1 in
     record { begins = at_most first_ready o.reference a.0; to_word = at_most (object_end o) to b.0; built_in = less o.class (file_class 0) c.0; empty = eqb-true (length o.values) 0 c.1 }
 
-ready_placed : (i : ℕ) (o : Object) → slice_get ready_objects i ≡ Some o → IsPlaced o first_class_word
+pub ready_placed : (i : ℕ) (o : Object) → slice_get ready_objects i ≡ Some o → IsPlaced o first_class_word
 ready_placed i o e = placed first_class_word o (every (is_placed first_class_word) ready_objects refl i o e)
 
 abbrev each_two : {X : Type 0} → (X → X → Bool) → List X → Bool
@@ -277,7 +277,7 @@ classes_in p = class_objects p.fields first_class_word (classes_of p)
 pub record IsClassAt (p : Program) (number : ℕ) (o : Object) : Type 0 where
   pub place : o.reference ≡ first_class_word + 2 * number + statics_below (file_class number) p.fields
   pub few : number < length p.names
-  pub none_before : statics_below (file_class 0) p.fields ≡ 0
+  pub itself : o.class ≡ class_itself
   pub placed : IsPlaced o (words_of p)
 
 class_at : (p : Program) → IsProgram p → (number : ℕ) (o : Object) → slice_get (classes_in p) number ≡ Some o → IsClassAt p number o
@@ -289,7 +289,7 @@ class_at p is number o e =
     record {
       place = place;
       few = k.few;
-      none_before = before;
+      itself = k.itself;
       placed = record {
         begins = omega (arith, place);
         to_word = omega (arith, place, none, k.few, below_at_most (file_class number) p.fields);
@@ -319,7 +319,7 @@ got_append {X} (y ∷ xs) ys (suc i) x e = next (got_append xs ys i x e)
     next (inl h) = inl (h.0, omega (arith, h.1))
     next (inr h) = inr (h.0, omega (arith, h.1), h.2)
 
-stands : (p : Program) → IsProgram p → (i : ℕ) (o : Object) → slice_get (start_objects p) i ≡ Some o → Stands p i o
+pub stands : (p : Program) → IsProgram p → (i : ℕ) (o : Object) → slice_get (start_objects p) i ≡ Some o → Stands p i o
 stands p is i o e = by_side (got_append ready_objects (classes_in p) i o e)
   where
     by_side : ((slice_get ready_objects i ≡ Some o) × (i < length ready_objects)) ⊎ ((k : ℕ) × (i ≡ length ready_objects + k) × (slice_get (classes_in p) k ≡ Some o)) → Stands p i o
@@ -329,7 +329,7 @@ stands p is i o e = by_side (got_append ready_objects (classes_in p) i o e)
 from_first_class : (p : Program) (o : Object) → IsPlaced o first_class_word → IsPlaced o (words_of p)
 from_first_class p o k = record { begins = k.begins; to_word = omega (arith, k.to_word); built_in = k.built_in; empty = k.empty }
 
-object_placed : (p : Program) (i : ℕ) (o : Object) → Stands p i o → IsPlaced o (words_of p)
+pub object_placed : (p : Program) (i : ℕ) (o : Object) → Stands p i o → IsPlaced o (words_of p)
 object_placed p i o (is_ready e lt) = from_first_class p o (ready_placed i o e)
 object_placed p i o (is_class number at k) = k.placed
 
@@ -425,7 +425,7 @@ length_classes fields (suc count) class =
       length-append (class_words fields class) (flat_map (class_words fields) (range_with_len (class + 1) count)),
     )
 
-abbrev front : Program → (records : ℕ) → List ℕ
+abbrev pub front : Program → (records : ℕ) → List ℕ
 front p records = 0 ∷ words_of p ∷ 0 ∷ 0 ∷ replicate records 0 ++ flat_map object_words ready_classes ++ flat_map (class_words p.fields) (classes_of p)
 
 length_front : (p : Program) (records : ℕ) → IsProgram p → length (front p records) + first_class_word ≡ words_of p + (20 + records)
@@ -462,75 +462,3 @@ is_unused c cfg is = record {
 
     count : length (front c.program (2 * most_records)) ≡ words_of c.program
     count = omega (arith, length_front c.program (2 * most_records) is)
-
--- ---- the lock word of each object is free, with the count 0
-
-behind : (xs ys : List ℕ) (k : ℕ) → slice_index (xs ++ ys) (length xs + k) ≡ slice_index ys k
-behind [] ys k = ap (slice_index ys) (omega arith)
-behind (x ∷ xs) ys k = let at : length (x ∷ xs) + k ≡ suc (length xs + k) = omega arith in ap (slice_index (x ∷ xs ++ ys)) at ∙ behind xs ys k
-
-class_lock : (fields : List FieldInfo) (count class number x : ℕ) → number < count → x + statics_below class fields ≡ 2 * number + statics_below (class + number) fields
-    → (more : List ℕ) → slice_index (flat_map (class_words fields) (range_with_len class count) ++ more) x ≡ 0
-class_lock fields zero class number x lt at more = absurd (omega (arith, lt))
-class_lock fields (suc count) class zero x lt at more =
-    let same : statics_below (class + 0) fields ≡ statics_below class fields = ap (λ (c : ℕ). statics_below c fields) (omega arith) in
-    let none : x ≡ 0 = omega (arith, at, same) in
-    ap (slice_index (flat_map (class_words fields) (range_with_len class (suc count)) ++ more)) none
-class_lock fields (suc count) class (suc number) x lt at more =
-    let same : statics_below ((class + 1) + number) fields ≡ statics_below (class + suc number) fields = ap (λ (c : ℕ). statics_below c fields) (omega arith) in
-    let own : length (class_words fields class) ≡ 2 + length (statics_of fields class) = omega (arith, length-map (statics_of fields class) (λ (f : FieldInfo). word_of f.start)) in
-    let rises : statics_below (class + 1) fields ≤ statics_below ((class + 1) + number) fields = rises (class + 1) number fields in
-    let rest : ℕ = x - length (class_words fields class) in
-    let is : x ≡ length (class_words fields class) + rest = omega (arith, at, same, own, rises, one_class_more class fields) in
-    let to : rest + statics_below (class + 1) fields ≡ 2 * number + statics_below ((class + 1) + number) fields = omega (arith, is, at, same, own, one_class_more class fields) in
-    ap (slice_index (flat_map (class_words fields) (range_with_len class (suc count)) ++ more)) is
-    ∙ ap (λ (l : List ℕ). slice_index l (length (class_words fields class) + rest)) (append_assoc (class_words fields class) (flat_map (class_words fields) (range_with_len (class + 1) count)) more)
-    ∙ behind (class_words fields class) (flat_map (class_words fields) (range_with_len (class + 1) count) ++ more) rest
-    ∙ class_lock fields count (class + 1) number rest (omega (arith, lt)) to more
-
--- the words before those of the classes
-abbrev before_classes : Program → (records : ℕ) → List ℕ
-before_classes p records = 0 ∷ words_of p ∷ 0 ∷ 0 ∷ replicate records 0 ++ flat_map object_words ready_classes
-
-length_before : (p : Program) (records : ℕ) → length (before_classes p records) ≡ 20 + records
-length_before p records = omega (arith, length-append (replicate records 0) (flat_map object_words ready_classes), length-replicate {A = ℕ} records 0)
-
--- a ready object is so many words behind the records
-ready_lock : (p : Program) (records x : ℕ) (more : List ℕ) → slice_index (0 ∷ words_of p ∷ 0 ∷ 0 ∷ replicate records 0 ++ more) (4 + records + x) ≡ slice_index more x
-ready_lock p records x more =
-    let own : length (0 ∷ words_of p ∷ 0 ∷ 0 ∷ replicate records 0) ≡ 4 + records = omega (arith, length-replicate {A = ℕ} records 0) in
-    ap (λ (n : ℕ). slice_index (0 ∷ words_of p ∷ 0 ∷ 0 ∷ replicate records 0 ++ more) (n + x)) (sym own) ∙ behind (0 ∷ words_of p ∷ 0 ∷ 0 ∷ replicate records 0) more x
-
-abbrev class_part : Program → List ℕ
-class_part p = flat_map (class_words p.fields) (classes_of p)
-
-abbrev unused_part : Program → List ℕ
-unused_part p = replicate (p.heap - words_of p) 0
-
--- the same words, as those before the classes and the others
-from_classes : (p : Program) (records : ℕ) → front p records ++ unused_part p ≡ before_classes p records ++ (class_part p ++ unused_part p)
-from_classes p records = append_assoc (before_classes p records) (class_part p) (unused_part p)
-
-from_ready : (p : Program) (records : ℕ) → front p records ++ unused_part p ≡ 0 ∷ words_of p ∷ 0 ∷ 0 ∷ replicate records 0 ++ (flat_map object_words ready_classes ++ (class_part p ++ unused_part p))
-from_ready p records = from_classes p records ∙ append_assoc (0 ∷ words_of p ∷ 0 ∷ 0 ∷ replicate records 0) (flat_map object_words ready_classes) (class_part p ++ unused_part p)
-
-free_by : (p : Program) (records : ℕ) → records ≡ 2 * most_records → (i : ℕ) (o : Object) → Stands p i o → slice_index (front p records ++ unused_part p) o.reference ≡ 0
-free_by p records many i o (is_ready e lt) =
-    let more : List ℕ = class_part p ++ unused_part p in
-    let place : ℕ = o.reference - first_ready in
-    let at : o.reference ≡ 4 + records + place = omega (arith, many, (ready_placed i o e).begins) in
-    ap (slice_index (front p records ++ unused_part p)) at
-    ∙ ap (λ (l : List ℕ). slice_index l (4 + records + place)) (from_ready p records)
-    ∙ ready_lock p records place (flat_map object_words ready_classes ++ more)
-    ∙ eqb-true (slice_index (flat_map object_words ready_classes ++ more) place) 0 (every (λ x. slice_index (flat_map object_words ready_classes ++ more) (x.reference - first_ready) == 0) ready_objects refl i o e)
-free_by p records many i o (is_class number to k) =
-    let place : ℕ = o.reference - first_class_word in
-    let at : o.reference ≡ length (before_classes p records) + place = omega (arith, many, k.place, length_before p records) in
-    let none : statics_below (file_class 0) p.fields ≡ 0 = k.none_before in
-    ap (slice_index (front p records ++ unused_part p)) at
-    ∙ ap (λ (l : List ℕ). slice_index l (length (before_classes p records) + place)) (from_classes p records)
-    ∙ behind (before_classes p records) (class_part p ++ unused_part p) place
-    ∙ class_lock p.fields (length p.names) (file_class 0) number place k.few (omega (arith, k.place, none)) (unused_part p)
-
-pub lock_is_free : (p : Program) → IsProgram p → (i : ℕ) (o : Object) → slice_get (start_objects p) i ≡ Some o → slice_index (start_words p) o.reference ≡ 0
-lock_is_free p is i o e = free_by p (2 * most_records) refl i o (stands p is i o e)

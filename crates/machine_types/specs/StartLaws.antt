@@ -11,8 +11,8 @@ use Rattle.machine_types.specs.Threads.{Thread}
 use Rattle.machine_types.specs.declared.config.Config.{Config}
 use Rattle.machine_types.specs.declared.phase.Phase.{Phase}
 use Rattle.machine_types.specs.Attempts.{OwesNothing}
-use Rattle.machine_types.specs.Construction.{ThreadKeeps}
-use Rattle.machine_types.specs.Facts.{IsThread}
+use Rattle.machine_types.specs.Construction.{AreFrozen, ThreadKeeps}
+use Rattle.machine_types.specs.Facts.{Facts, IsThread}
 use Rattle.machine_types.specs.Owners.{Owners, references_of}
 use Rattle.machine_types.specs.Structure.{Structure}
 use Rattle.machine_types.specs.Typed.{HasClass, ThreadHolds}
@@ -53,3 +53,7 @@ StartLiesApart = (p : Program) → IsProgram p → LieApart p (start_objects p) 
 -- and the rest of the heap is unused
 abbrev pub StartIsUnused : Type 0
 StartIsUnused = (c : MarkedProgram) (cfg : Config) → IsProgram c.program → AreUnused c.program (start c cfg)
+
+-- so all facts hold at the start, with some frozen classes
+abbrev pub StartHasFacts : Type 0
+StartHasFacts = (c : MarkedProgram) (cfg : Config) (frozen : ℕ → Bool) → IsProgram c.program → AreFrozen c frozen → Facts c cfg (told_start c cfg)

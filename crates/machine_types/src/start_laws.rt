@@ -1,6 +1,6 @@
 //! Laws of the facts at the start of a run, each the contract of a function that does nothing.
 
-ghost use Rattle.machine_types.specs.StartLaws.{StartHasThreads, StartIsStructured, StartIsTyped, StartIsUnused, StartKeeps, StartLiesApart, StartOwesNothing, StartOwns, StartWaits};
+ghost use Rattle.machine_types.specs.StartLaws.{StartHasFacts, StartHasThreads, StartIsStructured, StartIsTyped, StartIsUnused, StartKeeps, StartLiesApart, StartOwesNothing, StartOwns, StartWaits};
 
 /// Each thread has its number and settings, and the roots of its part.
 pub fn start_has_threads()
@@ -45,4 +45,9 @@ pub fn start_lies_apart()
 /// The words behind them are 0.
 pub fn start_is_unused()
     ensures { StartIsUnused }
+{}
+
+/// All facts hold at the start of a run of a linked program.
+pub fn start_has_facts()
+    ensures { StartHasFacts }
 {}

@@ -1,0 +1,151 @@
+-- All facts hold at the start of a run.
+use Rattle.std.proofs.Common.{◌≡◌, inl, ℕ, zero, suc, pos, ◌<◌, ◌%◌, ◌^◌, true, List, Option, Some, None, refl, sym, ap, subst, ◌∙◌, arith}
+use Rattle.std.specs.Prelude.{Bool, Contains, slice_get, slice_index, cond}
+use Rattle.std.specs.Int.{w32, cast_unsigned}
+use Rattle.jvm_types.specs.Layout.{kept_int}
+use Rattle.jvm_types.specs.Members.{is_static}
+use Rattle.jvm_types.specs.ProgramInvariant.{IsProgram, words_of}
+use Rattle.jvm_types.specs.declared.program.FieldInfo.{FieldInfo}
+use Rattle.jvm_types.specs.declared.program.Kind.{Kind}
+use Rattle.jvm_types.specs.declared.program.Kind.TheVariants as kinds
+use Rattle.jvm_types.specs.declared.program.Program.{Program}
+use Rattle.checked_program.specs.MarkedProgram.{MarkedProgram}
+use Rattle.machine_types.specs.Attempts.{Attempts, Owes}
+use Rattle.machine_types.specs.Construction.{AreFrozen, Construction, KindKeeps}
+use Rattle.machine_types.specs.Core.{start, start_thread}
+use Rattle.machine_types.specs.History.{told_start, past_at}
+use Rattle.machine_types.specs.Ints.{word_of}
+use Rattle.machine_types.specs.NewObjects.{NewObjects}
+use Rattle.machine_types.specs.PlainMemory.{Object, start_objects}
+use Rattle.machine_types.specs.StartLaws.{StartHasFacts, phase_at_start}
+use Rattle.machine_types.specs.StartWords.{start_words}
+use Rattle.machine_types.specs.Threads.{Attempt, Thread, Config}
+use Rattle.machine_types.specs.Typed.{Typed, PlacesHold, HasClass, KindHolds}
+use Rattle.machine_types.specs.Worlds.{World}
+use Rattle.machine_types.specs.declared.phase.Phase.{Phase}
+use Rattle.machine_types.specs.declared.phase.Phase.TheVariants as phases
+use Rattle.machine_types.proofs.AtStart.{IsFreshPhase, starts, idles, is_over, is_start_thread, phase_is_fresh, has_threads, is_structured, is_typed, keeps, owes_nothing, waits}
+use Rattle.machine_types.proofs.Lists.{got_contained}
+use Rattle.machine_types.proofs.OwnersAtStart.{start_owns_all}
+use Rattle.machine_types.proofs.PlacesAtStart.{lies_apart, is_unused, IsPlaced, object_placed, stands, class_from}
+use Rattle.machine_types.proofs.WordsAtStart.{header_is, static_is}
+
+-- ---- no phase of the start has an element or a new object, and no thread an attempt
+
+fresh_phase : (c : MarkedProgram) (cfg : Config) (t : ℕ) (x : Thread) → slice_get (start c cfg).threads t ≡ Some x → IsFreshPhase x.phase
+fresh_phase c cfg t x e = subst (λ (y : Thread). IsFreshPhase y.phase) (is_start_thread c cfg t x e) (phase_is_fresh c cfg t)
+
+no_element : (phase : Phase) (word : ℕ) (stored : Option ℕ) → IsFreshPhase phase → phase ≡ phases.Element word stored → ⊥
+no_element _ word stored starts e = cc
+no_element _ word stored idles e = cc
+no_element _ word stored is_over e = cc
+
+none_made : (phase : Phase) (a word : ℕ) → IsFreshPhase phase → phase ≡ phases.Made a word → ⊥
+none_made _ a word starts e = cc
+none_made _ a word idles e = cc
+none_made _ a word is_over e = cc
+
+no_attempt : (c : MarkedProgram) (cfg : Config) (t : ℕ) → (start_thread c cfg t).attempt ≡ None
+no_attempt c cfg zero = refl
+no_attempt c cfg (suc t) = refl
+
+-- ---- the objects
+
+at_start : (p : Program) → IsProgram p → (o : Object) → Contains (start_objects p) o → IsPlaced o (words_of p)
+at_start p is o k = let get : slice_get (start_objects p) k.0 ≡ Some o = got_contained (start_objects p) k.0 o k.1 k.2 in object_placed p k.0 o (stands p is k.0 o get)
+
+-- none of them has a field of a file's class
+not_of_file : (p : Program) → IsProgram p → (o : Object) (n : ℕ) (f : FieldInfo) → Contains (start_objects p) o → slice_get p.fields n ≡ Some f → o.class ≡ f.class → ⊥
+not_of_file p is o n f k e same = absurd (omega (arith, (at_start p is o k).built_in, class_from p is n f e, same))
+
+-- ---- static fields: an int of 32 bits, or null
+
+start_kept : (p : Program) → IsProgram p → (n : ℕ) (f : FieldInfo) → slice_get p.fields n ≡ Some f → is_static f.flags ≡ true → f.start ≡ kept_int f.kind f.start
+start_kept p is n f e s = (is.fields n f e).start_kept ∙ ap (λ b. cond b (kept_int f.kind f.start) (pos 0)) s
+
+low_below : (n : ℕ) → n % 2 ^ 32 < 2 ^ 32
+low_below n = omega arith
+
+int_below : (p : Program) → IsProgram p → (n : ℕ) (f : FieldInfo) → slice_get p.fields n ≡ Some f → is_static f.flags ≡ true → slice_index (start_words p) f.index < 2 ^ 32
+int_below p is n f e s = subst (λ (v : ℕ). v < 2 ^ 32) (sym (static_is p is n f e s)) (low_below (cast_unsigned w32 f.start))
+
+null_at : (p : Program) → IsProgram p → (n class : ℕ) (f : FieldInfo) → slice_get p.fields n ≡ Some f → is_static f.flags ≡ true → f.kind ≡ kinds.Ref class → slice_index (start_words p) f.index ≡ 0
+null_at p is n class f e s k = static_is p is n f e s ∙ ap word_of (start_kept p is n f e s ∙ ap (λ (kind : Kind). kept_int kind f.start) k)
+
+static_holds : (p : Program) (objects : List Object) → IsProgram p → (n : ℕ) (f : FieldInfo) (kind : Kind) → slice_get p.fields n ≡ Some f → is_static f.flags ≡ true → f.kind ≡ kind → KindHolds (HasClass objects) kind (slice_index (start_words p) f.index)
+static_holds p objects is n f kinds.Int e s k = int_below p is n f e s
+static_holds p objects is n f kinds.Bool e s k = int_below p is n f e s
+static_holds p objects is n f (kinds.Ref class) e s k = inl (null_at p is n class f e s k)
+
+-- ---- the facts on places
+
+abbrev no_world : World
+no_world v = None
+
+static_keeps : (p : Program) → IsProgram p → (n : ℕ) (f : FieldInfo) (kind : Kind) → slice_get p.fields n ≡ Some f → is_static f.flags ≡ true → f.kind ≡ kind → KindKeeps no_world (words_of p) kind (slice_index (start_words p) f.index)
+static_keeps p is n f kinds.Int e s k = tt
+static_keeps p is n f kinds.Bool e s k = tt
+static_keeps p is n f (kinds.Ref class) e s k = (omega (arith, null_at p is n class f e s k), refl)
+
+places_hold : (p : Program) → IsProgram p → PlacesHold p (start_objects p) (start_words p)
+places_hold p is = record {
+  headers = λ o k. header_is p is k.0 o (got_contained (start_objects p) k.0 o k.1 k.2);
+  fields = λ o n f k e s same. absurd (not_of_file p is o n f k e same);
+  elements = λ o i k a lt. absurd (omega (arith, (at_start p is o k).empty, lt));
+  statics = λ n f e s. static_holds p (start_objects p) is n f f.kind e s refl;
+}
+
+typed : (c : MarkedProgram) (cfg : Config) → IsProgram c.program → Typed c (start_objects c.program) (start c cfg)
+typed c cfg is = record {
+  threads = is_typed c cfg (start_objects c.program);
+  elements = λ t x word stored e k. absurd (no_element x.phase word stored (fresh_phase c cfg t x e) k);
+  places = places_hold c.program is;
+}
+
+new_objects : (c : MarkedProgram) (cfg : Config) → NewObjects c.program (start_objects c.program) (start c cfg)
+new_objects c cfg = record {
+  each = λ t x a word e k. absurd (none_made x.phase a word (fresh_phase c cfg t x e) k);
+  apart = λ t u x y a b word other e h ne k l. absurd (none_made x.phase a word (fresh_phase c cfg t x e) k);
+}
+
+none_built : {X : Type 0} (x : X) → None ≡ Some x → ⊥
+none_built x e = cc
+
+construction : (c : MarkedProgram) (cfg : Config) (frozen : ℕ → Bool) → IsProgram c.program → AreFrozen c frozen → Construction c frozen no_world (phase_at_start c cfg) (start_objects c.program) (start c cfg)
+construction c cfg frozen is are = record {
+  frozen_are = are;
+  world = record { one = λ v u b lost e h. absurd (none_built b e); inside = λ v b e. absurd (none_built b e); room = omega arith };
+  each = λ t x e. keeps c cfg frozen no_world (words_of c.program) t x e;
+  places = record {
+    fields = λ o n f k e s same. absurd (not_of_file c.program is o n f k e same);
+    statics = λ n f e s. static_keeps c.program is n f f.kind e s refl;
+  };
+}
+
+attempts : (c : MarkedProgram) (cfg : Config) → Attempts c (start_objects c.program) no_world (phase_at_start c cfg) (told_start c cfg)
+attempts c cfg = record {
+  each = λ t x e.
+      let none : x.attempt ≡ None = sym (ap (λ (y : Thread). y.attempt) (is_start_thread c cfg t x e)) ∙ no_attempt c cfg t in
+      subst (λ (o : Option Attempt). Owes c (start_objects c.program) no_world (start c cfg) t (phase_at_start c cfg t) x o (past_at (told_start c cfg) t)) (sym none) (owes_nothing c cfg t);
+}
+
+-- ---- all of them
+
+pub facts : StartHasFacts
+facts c cfg frozen is are = record {
+  was = phase_at_start c cfg;
+  objects = start_objects c.program;
+  world = no_world;
+  frozen = frozen;
+  own = has_threads c cfg;
+  started = λ o k. (o, k, refl, refl);
+  apart = lies_apart c.program is;
+  unused = is_unused c cfg is;
+  structure = is_structured c cfg;
+  owners = start_owns_all c cfg is;
+  waiting = waits c cfg;
+  typed = typed c cfg is;
+  new_objects = new_objects c cfg;
+  construction = construction c cfg frozen is are;
+  attempts = attempts c cfg;
+}
