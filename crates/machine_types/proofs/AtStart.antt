@@ -34,7 +34,7 @@ use Rattle.machine_types.specs.Worlds.{Builder, World, IsOwnOrFinished, IsViewOf
 
 -- ---- each thread is a fresh one
 
-pub thread_in : (f : ℕ → Thread) (from n t : ℕ) (s : Thread) → slice_get (map f (range_with_len from n)) t ≡ Some s → f (from + t) ≡ s
+pub thread_in : {X : Type 0} (f : ℕ → X) (from n t : ℕ) (s : X) → slice_get (map f (range_with_len from n)) t ≡ Some s → f (from + t) ≡ s
 thread_in f from zero t s e = cc
 thread_in f from (suc n) zero s e = let x : f from ≡ s = cc in let y : from ≡ from + 0 = omega arith in subst (λ (i : ℕ). f i ≡ s) y x
 thread_in f from (suc n) (suc t) s e = let y : (from + 1) + t ≡ from + suc t = omega arith in subst (λ (i : ℕ). f i ≡ s) y (thread_in f (from + 1) n t s e)

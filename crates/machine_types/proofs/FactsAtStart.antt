@@ -149,3 +149,7 @@ facts c cfg frozen is are = record {
   construction = construction c cfg frozen is are;
   attempts = attempts c cfg;
 }
+
+pub objects_are : (c : MarkedProgram) (cfg : Config) (frozen : ℕ → Bool) (is : IsProgram c.program) (are : AreFrozen c frozen) → (facts c cfg frozen is are).objects ≡ start_objects c.program
+unfolding facts
+objects_are c cfg frozen is are = refl

@@ -161,7 +161,7 @@ pub record IsValueOf (fields : List FieldInfo) (s : StaticValue) : Type 0 where
   pub static : is_static field.flags ≡ true
   pub same : s ≡ value_of field
 
-value_at : (fields : List FieldInfo) (j : ℕ) (s : StaticValue) → slice_get (statics_in fields) j ≡ Some s → IsValueOf fields s
+pub value_at : (fields : List FieldInfo) (j : ℕ) (s : StaticValue) → slice_get (statics_in fields) j ≡ Some s → IsValueOf fields s
 value_at [] j s e = cc
 value_at (f ∷ fs) j s e = by_test (is_static f.flags) refl j e (λ i h. value_at fs i s h)
   where

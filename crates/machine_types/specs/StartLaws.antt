@@ -7,12 +7,14 @@ use Rattle.machine_types.specs.Core.{start, start_thread}
 use Rattle.machine_types.specs.History.{told_start, past_at}
 use Rattle.machine_types.specs.ObjectsApart.{LieApart}
 use Rattle.machine_types.specs.PlainMemory.{Object, start_objects, start_statics}
+use Rattle.machine_types.specs.PlainState.{plain_start}
 use Rattle.machine_types.specs.Threads.{Thread}
 use Rattle.machine_types.specs.declared.config.Config.{Config}
 use Rattle.machine_types.specs.declared.phase.Phase.{Phase}
+use Rattle.machine_types.specs.Agreement.{Agrees}
 use Rattle.machine_types.specs.Attempts.{OwesNothing}
 use Rattle.machine_types.specs.Construction.{AreFrozen, ThreadKeeps}
-use Rattle.machine_types.specs.Facts.{Facts, IsThread}
+use Rattle.machine_types.specs.Facts.{Facts, FactsBeside, IsThread}
 use Rattle.machine_types.specs.Owners.{Owners, references_of}
 use Rattle.machine_types.specs.Structure.{Structure}
 use Rattle.machine_types.specs.Typed.{HasClass, ThreadHolds}
@@ -57,3 +59,10 @@ StartIsUnused = (c : MarkedProgram) (cfg : Config) → IsProgram c.program → A
 -- so all facts hold at the start, with some frozen classes
 abbrev pub StartHasFacts : Type 0
 StartHasFacts = (c : MarkedProgram) (cfg : Config) (frozen : ℕ → Bool) → IsProgram c.program → AreFrozen c frozen → Facts c cfg (told_start c cfg)
+
+-- the plain machine's start agrees, and stands beside them
+abbrev pub StartAgrees : Type 0
+StartAgrees = (c : MarkedProgram) (cfg : Config) → IsProgram c.program → Agrees c.program (start c cfg) (plain_start c.program)
+
+abbrev pub StartStandsBeside : Type 0
+StartStandsBeside = (c : MarkedProgram) (cfg : Config) (frozen : ℕ → Bool) → IsProgram c.program → AreFrozen c frozen → FactsBeside c cfg (told_start c cfg) (plain_start c.program)

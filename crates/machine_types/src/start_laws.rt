@@ -1,6 +1,6 @@
 //! Laws of the facts at the start of a run, each the contract of a function that does nothing.
 
-ghost use Rattle.machine_types.specs.StartLaws.{StartHasFacts, StartHasThreads, StartIsStructured, StartIsTyped, StartIsUnused, StartKeeps, StartLiesApart, StartOwesNothing, StartOwns, StartWaits};
+ghost use Rattle.machine_types.specs.StartLaws.{StartAgrees, StartHasFacts, StartHasThreads, StartIsStructured, StartIsTyped, StartIsUnused, StartKeeps, StartLiesApart, StartOwesNothing, StartOwns, StartStandsBeside, StartWaits};
 
 /// Each thread has its number and settings, and the roots of its part.
 pub fn start_has_threads()
@@ -50,4 +50,14 @@ pub fn start_is_unused()
 /// All facts hold at the start of a run of a linked program.
 pub fn start_has_facts()
     ensures { StartHasFacts }
+{}
+
+/// The start of the plain machine agrees with it.
+pub fn start_agrees()
+    ensures { StartAgrees }
+{}
+
+/// So the start of the plain machine stands beside the facts.
+pub fn start_stands_beside()
+    ensures { StartStandsBeside }
 {}
