@@ -1,40 +1,17 @@
 -- The tree of classes, class by class.
-use Rattle.std.proofs.Common.{◌≡◌, ℕ, zero, suc, ◌≤◌, Bool, true, false, ◌&&◌, ◌||◌, List, [], ◌∷◌, refl, sym, subst, arith}
+use Rattle.std.proofs.Common.{◌≡◌, ℕ, ◌≤◌, Bool, true, false, ◌&&◌, ◌||◌, refl, sym, subst, arith}
 use Rattle.std.specs.Prelude.{◌==◌, nat_le, nat_lt}
-use Rattle.std.specs.List.{AllByRecursion}
 use Rattle.std.proofs.lemmas.Bool.Decides.{nat_tests}
 use Rattle.jvm_types.specs.Numbers.{has_number}
-use Rattle.jvm_types.specs.ClassTree.{super_class, ancestors, is_subclass, built_in_supers}
+use Rattle.jvm_types.specs.ClassTree.{throwable_class, super_class, ancestors, is_subclass, built_in_supers}
+use Rattle.jvm_types.proofs.ClassCases.{behind, by_class}
+use Rattle.jvm_types.proofs.TypeOrder.{pick}
 use Rattle.program_laws.specs.ClassLaws.{LeavesStandAlone, FileClassesStandAlone, ThrowablesAreBelow}
 
 -- ---- classes that are just above none
 
 pub super_in : (c : ℕ) → has_number built_in_supers (super_class c) ≡ true
-super_in zero = refl
-super_in (suc zero) = refl
-super_in (suc (suc zero)) = refl
-super_in (suc (suc (suc zero))) = refl
-super_in (suc (suc (suc (suc zero)))) = refl
-super_in (suc (suc (suc (suc (suc zero))))) = refl
-super_in (suc (suc (suc (suc (suc (suc zero)))))) = refl
-super_in (suc (suc (suc (suc (suc (suc (suc zero))))))) = refl
-super_in (suc (suc (suc (suc (suc (suc (suc (suc zero)))))))) = refl
-super_in (suc (suc (suc (suc (suc (suc (suc (suc (suc zero))))))))) = refl
-super_in (suc (suc (suc (suc (suc (suc (suc (suc (suc (suc zero)))))))))) = refl
-super_in (suc (suc (suc (suc (suc (suc (suc (suc (suc (suc (suc zero))))))))))) = refl
-super_in (suc (suc (suc (suc (suc (suc (suc (suc (suc (suc (suc (suc zero)))))))))))) = refl
-super_in (suc (suc (suc (suc (suc (suc (suc (suc (suc (suc (suc (suc (suc zero))))))))))))) = refl
-super_in (suc (suc (suc (suc (suc (suc (suc (suc (suc (suc (suc (suc (suc (suc zero)))))))))))))) = refl
-super_in (suc (suc (suc (suc (suc (suc (suc (suc (suc (suc (suc (suc (suc (suc (suc zero))))))))))))))) = refl
-super_in (suc (suc (suc (suc (suc (suc (suc (suc (suc (suc (suc (suc (suc (suc (suc (suc c)))))))))))))))) = refl
-
-pub pick : {P : Type 0} (xs : List ℕ) (y : ℕ) → has_number xs y ≡ true → AllByRecursion (λ x. x ≡ y → P) xs → P
-pick [] y h f = absurd (cc)
-pick (x ∷ xs) y h f = by_first (x == y) refl h f.0 (λ g. pick xs y g f.1)
-  where
-    by_first : {P : Type 0} (t : Bool) → (x == y) ≡ t → (t || has_number xs y) ≡ true → (x ≡ y → P) → (has_number xs y ≡ true → P) → P
-    by_first true e h f more = f (grind (arith, nat_tests, e))
-    by_first false e h f more = more h
+super_in = by_class (λ c. has_number built_in_supers (super_class c) ≡ true) (refl, (refl, (refl, (refl, (refl, (refl, (refl, (refl, (refl, (refl, (refl, (refl, (refl, (refl, (refl, (refl, tt)))))))))))))))) (λ c. refl)
 
 no_super : (c d : ℕ) → has_number built_in_supers d ≡ false → super_class c ≡ d → ⊥
 no_super c d n e = let is : has_number built_in_supers d ≡ true = subst (λ (x : ℕ). has_number built_in_supers x ≡ true) e (super_in c) in absurd (cc)
@@ -63,20 +40,4 @@ past c h = both (c == 4) (nat_le 4 c) (nat_lt c 16) (grind (arith, nat_tests, h)
 
 pub throwables_below : ThrowablesAreBelow
 unfolding is_subclass
-throwables_below zero = refl
-throwables_below (suc zero) = refl
-throwables_below (suc (suc zero)) = refl
-throwables_below (suc (suc (suc zero))) = refl
-throwables_below (suc (suc (suc (suc zero)))) = refl
-throwables_below (suc (suc (suc (suc (suc zero))))) = refl
-throwables_below (suc (suc (suc (suc (suc (suc zero)))))) = refl
-throwables_below (suc (suc (suc (suc (suc (suc (suc zero))))))) = refl
-throwables_below (suc (suc (suc (suc (suc (suc (suc (suc zero)))))))) = refl
-throwables_below (suc (suc (suc (suc (suc (suc (suc (suc (suc zero))))))))) = refl
-throwables_below (suc (suc (suc (suc (suc (suc (suc (suc (suc (suc zero)))))))))) = refl
-throwables_below (suc (suc (suc (suc (suc (suc (suc (suc (suc (suc (suc zero))))))))))) = refl
-throwables_below (suc (suc (suc (suc (suc (suc (suc (suc (suc (suc (suc (suc zero)))))))))))) = refl
-throwables_below (suc (suc (suc (suc (suc (suc (suc (suc (suc (suc (suc (suc (suc zero))))))))))))) = refl
-throwables_below (suc (suc (suc (suc (suc (suc (suc (suc (suc (suc (suc (suc (suc (suc zero)))))))))))))) = refl
-throwables_below (suc (suc (suc (suc (suc (suc (suc (suc (suc (suc (suc (suc (suc (suc (suc zero))))))))))))))) = refl
-throwables_below (suc (suc (suc (suc (suc (suc (suc (suc (suc (suc (suc (suc (suc (suc (suc (suc c)))))))))))))))) = past (suc (suc (suc (suc (suc (suc (suc (suc (suc (suc (suc (suc (suc (suc (suc (suc c)))))))))))))))) (omega arith)
+throwables_below = by_class (λ c. is_subclass c throwable_class ≡ (nat_le 4 c && nat_lt c 16)) (refl, (refl, (refl, (refl, (refl, (refl, (refl, (refl, (refl, (refl, (refl, (refl, (refl, (refl, (refl, (refl, tt)))))))))))))))) (λ c. past (behind 16 c) (omega arith))

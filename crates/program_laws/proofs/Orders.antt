@@ -9,9 +9,9 @@ use Rattle.jvm_types.specs.ClassTree.{super_class, ancestors, is_subclass, built
 use Rattle.jvm_types.specs.Types.{TypeFrame, is_below, all_pairs, frame_below}
 use Rattle.jvm_types.specs.declared.typing.VType.{VType}
 use Rattle.jvm_types.specs.declared.typing.VType.TheVariants.{Int, Null, Ref, This, New, Top}
-use Rattle.jvm_types.proofs.TypeOrder.{subclass_self, subclass_trans, common_left, common_right, common_least, below_self, below_trans, meet_left, meet_right, meet_least}
+use Rattle.jvm_types.proofs.TypeOrder.{pick, subclass_self, subclass_trans, common_left, common_right, common_least, below_self, below_trans, meet_left, meet_right, meet_least}
 use Rattle.jvm_types.proofs.FrameOrder.{stack_below, locals_below, ready_below, types_self, types_trans, types_meet_left, types_meet_right, types_meet_least}
-use Rattle.program_laws.proofs.ClassTreeLaws.{pick, super_in}
+use Rattle.program_laws.proofs.ClassTreeLaws.{super_in}
 use Rattle.program_laws.specs.OrderLaws.{ClassesAreOrdered, CommonAncestorIsLeast, TypesAreOrdered, MeetIsLeast, FramesAreOrdered, FramesMeet}
 
 -- ---- classes

@@ -8,6 +8,7 @@ use Rattle.jvm_types.specs.ClassTree.{object_class, super_class, is_subclass, fi
 use Rattle.jvm_types.specs.Types.{TypeFrame, meet, if_same_place, same_type, all_pairs, meets, same_ready, same_frame, meet_frames}
 use Rattle.jvm_types.specs.declared.typing.VType.{VType}
 use Rattle.jvm_types.specs.declared.typing.VType.TheVariants.{Int, Null, Ref, This, New, Top}
+use Rattle.jvm_types.proofs.ClassCases.{by_class}
 use Rattle.jvm_types.proofs.TypeOrder.{subclass_object}
 
 -- ---- classes
@@ -22,64 +23,16 @@ depth c = slice_index_or depths c 1
 
 depth_above : (c : ℕ) → depth (super_class c) ≡ depth c - 1
 unfolding depth
-depth_above zero = refl
-depth_above (suc zero) = refl
-depth_above (suc (suc zero)) = refl
-depth_above (suc (suc (suc zero))) = refl
-depth_above (suc (suc (suc (suc zero)))) = refl
-depth_above (suc (suc (suc (suc (suc zero))))) = refl
-depth_above (suc (suc (suc (suc (suc (suc zero)))))) = refl
-depth_above (suc (suc (suc (suc (suc (suc (suc zero))))))) = refl
-depth_above (suc (suc (suc (suc (suc (suc (suc (suc zero)))))))) = refl
-depth_above (suc (suc (suc (suc (suc (suc (suc (suc (suc zero))))))))) = refl
-depth_above (suc (suc (suc (suc (suc (suc (suc (suc (suc (suc zero)))))))))) = refl
-depth_above (suc (suc (suc (suc (suc (suc (suc (suc (suc (suc (suc zero))))))))))) = refl
-depth_above (suc (suc (suc (suc (suc (suc (suc (suc (suc (suc (suc (suc zero)))))))))))) = refl
-depth_above (suc (suc (suc (suc (suc (suc (suc (suc (suc (suc (suc (suc (suc zero))))))))))))) = refl
-depth_above (suc (suc (suc (suc (suc (suc (suc (suc (suc (suc (suc (suc (suc (suc zero)))))))))))))) = refl
-depth_above (suc (suc (suc (suc (suc (suc (suc (suc (suc (suc (suc (suc (suc (suc (suc zero))))))))))))))) = refl
-depth_above (suc (suc (suc (suc (suc (suc (suc (suc (suc (suc (suc (suc (suc (suc (suc (suc c)))))))))))))))) = refl
+depth_above = by_class (λ c. depth (super_class c) ≡ depth c - 1) (refl, (refl, (refl, (refl, (refl, (refl, (refl, (refl, (refl, (refl, (refl, (refl, (refl, (refl, (refl, (refl, tt)))))))))))))))) (λ c. refl)
 
 depth_object : (c : ℕ) → depth c ≡ 0 → c ≡ object_class
 unfolding depth
-depth_object zero e = absurd (omega (arith, e))
-depth_object (suc zero) e = refl
-depth_object (suc (suc zero)) e = absurd (omega (arith, e))
-depth_object (suc (suc (suc zero))) e = absurd (omega (arith, e))
-depth_object (suc (suc (suc (suc zero)))) e = absurd (omega (arith, e))
-depth_object (suc (suc (suc (suc (suc zero))))) e = absurd (omega (arith, e))
-depth_object (suc (suc (suc (suc (suc (suc zero)))))) e = absurd (omega (arith, e))
-depth_object (suc (suc (suc (suc (suc (suc (suc zero))))))) e = absurd (omega (arith, e))
-depth_object (suc (suc (suc (suc (suc (suc (suc (suc zero)))))))) e = absurd (omega (arith, e))
-depth_object (suc (suc (suc (suc (suc (suc (suc (suc (suc zero))))))))) e = absurd (omega (arith, e))
-depth_object (suc (suc (suc (suc (suc (suc (suc (suc (suc (suc zero)))))))))) e = absurd (omega (arith, e))
-depth_object (suc (suc (suc (suc (suc (suc (suc (suc (suc (suc (suc zero))))))))))) e = absurd (omega (arith, e))
-depth_object (suc (suc (suc (suc (suc (suc (suc (suc (suc (suc (suc (suc zero)))))))))))) e = absurd (omega (arith, e))
-depth_object (suc (suc (suc (suc (suc (suc (suc (suc (suc (suc (suc (suc (suc zero))))))))))))) e = absurd (omega (arith, e))
-depth_object (suc (suc (suc (suc (suc (suc (suc (suc (suc (suc (suc (suc (suc (suc zero)))))))))))))) e = absurd (omega (arith, e))
-depth_object (suc (suc (suc (suc (suc (suc (suc (suc (suc (suc (suc (suc (suc (suc (suc zero))))))))))))))) e = absurd (omega (arith, e))
-depth_object (suc (suc (suc (suc (suc (suc (suc (suc (suc (suc (suc (suc (suc (suc (suc (suc c)))))))))))))))) e = absurd (omega (arith, e))
+depth_object = by_class (λ c. depth c ≡ 0 → c ≡ object_class) (λ e. absurd (omega (arith, e)), (λ e. refl, (λ e. absurd (omega (arith, e)), (λ e. absurd (omega (arith, e)), (λ e. absurd (omega (arith, e)), (λ e. absurd (omega (arith, e)), (λ e. absurd (omega (arith, e)), (λ e. absurd (omega (arith, e)), (λ e. absurd (omega (arith, e)), (λ e. absurd (omega (arith, e)), (λ e. absurd (omega (arith, e)), (λ e. absurd (omega (arith, e)), (λ e. absurd (omega (arith, e)), (λ e. absurd (omega (arith, e)), (λ e. absurd (omega (arith, e)), (λ e. absurd (omega (arith, e)), tt)))))))))))))))) (λ c e. absurd (omega (arith, e)))
 
 -- no class has more than four above it
 depth_small : (c : ℕ) → depth c ≤ 4
 unfolding depth
-depth_small zero = omega arith
-depth_small (suc zero) = omega arith
-depth_small (suc (suc zero)) = omega arith
-depth_small (suc (suc (suc zero))) = omega arith
-depth_small (suc (suc (suc (suc zero)))) = omega arith
-depth_small (suc (suc (suc (suc (suc zero))))) = omega arith
-depth_small (suc (suc (suc (suc (suc (suc zero)))))) = omega arith
-depth_small (suc (suc (suc (suc (suc (suc (suc zero))))))) = omega arith
-depth_small (suc (suc (suc (suc (suc (suc (suc (suc zero)))))))) = omega arith
-depth_small (suc (suc (suc (suc (suc (suc (suc (suc (suc zero))))))))) = omega arith
-depth_small (suc (suc (suc (suc (suc (suc (suc (suc (suc (suc zero)))))))))) = omega arith
-depth_small (suc (suc (suc (suc (suc (suc (suc (suc (suc (suc (suc zero))))))))))) = omega arith
-depth_small (suc (suc (suc (suc (suc (suc (suc (suc (suc (suc (suc (suc zero)))))))))))) = omega arith
-depth_small (suc (suc (suc (suc (suc (suc (suc (suc (suc (suc (suc (suc (suc zero))))))))))))) = omega arith
-depth_small (suc (suc (suc (suc (suc (suc (suc (suc (suc (suc (suc (suc (suc (suc zero)))))))))))))) = omega arith
-depth_small (suc (suc (suc (suc (suc (suc (suc (suc (suc (suc (suc (suc (suc (suc (suc zero))))))))))))))) = omega arith
-depth_small (suc (suc (suc (suc (suc (suc (suc (suc (suc (suc (suc (suc (suc (suc (suc (suc c)))))))))))))))) = omega arith
+depth_small = by_class (λ c. depth c ≤ 4) (omega arith, (omega arith, (omega arith, (omega arith, (omega arith, (omega arith, (omega arith, (omega arith, (omega arith, (omega arith, (omega arith, (omega arith, (omega arith, (omega arith, (omega arith, (omega arith, tt)))))))))))))))) (λ c. omega arith)
 
 -- ---- the nearest common ancestor is the class itself or has fewer above it
 
@@ -157,59 +110,23 @@ place_falls p false e = omega arith
 meet_falls : (t u : VType) → Falls (same_type t (meet t u)) (rank (meet t u)) (rank t)
 unfolding rank
 meet_falls Int Int = omega arith
-meet_falls Int Null = omega arith
-meet_falls Int (Ref d) = omega arith
-meet_falls Int This = omega arith
-meet_falls Int (New q) = omega arith
-meet_falls Int Top = omega arith
-meet_falls Null Int = omega arith
-meet_falls Null Null = omega arith
+meet_falls This This = omega arith
+meet_falls Top Top = omega arith
 meet_falls Null (Ref d) = omega (arith, depth_small d)
-meet_falls Null This = omega arith
-meet_falls Null (New q) = omega arith
-meet_falls Null Top = omega arith
-meet_falls (Ref c) Int = omega arith
 meet_falls (Ref c) Null = class_same c
 meet_falls (Ref c) (Ref d) = ref_falls c d
-meet_falls (Ref c) This = omega arith
-meet_falls (Ref c) (New q) = omega arith
-meet_falls (Ref c) Top = omega arith
-meet_falls This Int = omega arith
-meet_falls This Null = omega arith
-meet_falls This (Ref d) = omega arith
-meet_falls This This = omega arith
-meet_falls This (New q) = omega arith
-meet_falls This Top = omega arith
-meet_falls (New p) Int = omega arith
-meet_falls (New p) Null = omega arith
-meet_falls (New p) (Ref d) = omega arith
-meet_falls (New p) This = omega arith
 meet_falls (New p) (New q) = place_falls p (p == q) (same_number p)
-meet_falls (New p) Top = omega arith
-meet_falls Top Int = omega arith
-meet_falls Top Null = omega arith
-meet_falls Top (Ref d) = omega arith
-meet_falls Top This = omega arith
-meet_falls Top (New q) = omega arith
-meet_falls Top Top = omega arith
+meet_falls t u = omega arith
 
 rank_some : (t : VType) → 1 ≤ rank t
 unfolding rank
-rank_some Null = omega arith
 rank_some (Ref c) = omega arith
-rank_some Int = omega arith
-rank_some This = omega arith
-rank_some (New pc) = omega arith
-rank_some Top = omega arith
+rank_some t = omega arith
 
 rank_small : (t : VType) → rank t ≤ 7
 unfolding rank
-rank_small Null = omega arith
 rank_small (Ref c) = omega (arith, depth_small c)
-rank_small Int = omega arith
-rank_small This = omega arith
-rank_small (New pc) = omega arith
-rank_small Top = omega arith
+rank_small t = omega arith
 
 -- ---- places
 
