@@ -1,8 +1,7 @@
 -- Frames by the first of their locals, with nothing known of the others.
-use Rattle.std.proofs.Common.{◌≡◌, ℕ, zero, suc, ◌+◌, ◌-◌, ◌≤◌, min, Bool, true, false, not, List, [], ◌∷◌, ◌++◌, length, map, reverse, drop, replicate, Option, Some, None, refl, sym, ap, ◌∙◌, arith}
+use Rattle.std.proofs.Common.{◌≡◌, ℕ, zero, suc, ◌+◌, ◌-◌, ◌≤◌, min, Bool, true, false, not, List, [], ◌∷◌, ◌++◌, length, map, reverse, drop, replicate, Option, Some, refl, sym, ap, ◌∙◌, arith}
 use Rattle.std.specs.Prelude.{◌||◌, ◌&&◌, if◌then◌else◌, slice_set, slice_index_or}
 use Rattle.std.specs.List.{list_any}
-use Rattle.std.specs.Option.{IfSome}
 use Rattle.std.proofs.lemmas.List.{reverse-append, map-append, length-map, length-set, replicate-append-replicate}
 use Rattle.jvm_types.specs.Types.{TypeFrame, filled, is_uninitialised, is_new, same_type, same_ready, same_frame, all_pairs, meet, meets, meet_frames}
 use Rattle.jvm_types.specs.CodeTable.{value_of, stack_after, locals_after}

@@ -1,5 +1,5 @@
 -- A small program, which a test verifies, is one that linking may leave.
-use Rattle.std.proofs.Common.{◌≡◌, ℕ, zero, suc, false, List, [], ◌∷◌, Some, None, refl, subst, arith}
+use Rattle.std.proofs.Common.{◌≡◌, ℕ, zero, suc, false, List, [], ◌∷◌, Some, refl, subst, arith}
 use Rattle.std.specs.Prelude.{codes, take, slice_get}
 use Rattle.jvm_types.specs.LinkFaults.{is_taken}
 use Rattle.jvm_types.specs.ProgramInvariant.{IsProgram, IsMethodOf}
@@ -7,22 +7,11 @@ use Rattle.jvm_types.specs.declared.code.Op.TheVariants.{Nop, Return}
 use Rattle.jvm_types.specs.declared.program.Target.TheVariants.{Nothing}
 use Rattle.jvm_types.specs.declared.program.MethodInfo.{MethodInfo}
 use Rattle.jvm_types.specs.declared.program.Program.{Program}
+use Rattle.jvm_types.proofs.SampleMethods.{insn, method}
 use Rattle.code_verifier.proofs.Laid.{spelled}
 
 abbrev pub small_method : MethodInfo
-small_method = record {
-  class = 17;
-  flags = 8;
-  name = codes "m";
-  descriptor = codes "()V";
-  args = [];
-  result = None;
-  max_stack = 1;
-  max_locals = 0;
-  code = record { pc = 0; next = 1; op = Nop } ∷ record { pc = 1; next = 2; op = Return } ∷ [];
-  targets = Nothing ∷ Nothing ∷ [];
-  rows = [];
-}
+small_method = method 8 (codes "m") 1 0 (insn 0 1 Nop ∷ insn 1 2 Return ∷ []) (Nothing ∷ Nothing ∷ []) []
 
 abbrev pub small : Program
 small = record { names = codes "P" ∷ []; fields = []; methods = small_method ∷ []; heap = 4096; workers = 0 }

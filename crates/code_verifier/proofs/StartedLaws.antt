@@ -1,5 +1,5 @@
 -- The object that an `<init>` is called on, looked for among the values that are taken.
-use Rattle.std.proofs.Common.{◌≡◌, ℕ, zero, suc, ◌<◌, Bool, true, false, not, List, [], ◌∷◌, length, map, drop, Option, Some, None, refl, sym, ap, ◌∙◌, arith}
+use Rattle.std.proofs.Common.{◌≡◌, ℕ, zero, suc, ◌<◌, Bool, true, false, not, List, [], ◌∷◌, length, drop, Option, Some, None, refl, sym, ap, ◌∙◌, arith}
 use Rattle.std.specs.Prelude.{◌||◌, slice_get, slice_index_or}
 use Rattle.jvm_types.specs.CodeFault.{or_else}
 use Rattle.jvm_types.specs.declared.op_row.Want.{Want}
@@ -11,7 +11,7 @@ use Rattle.jvm_types.specs.declared.op_row.OpRow.{OpRow}
 use Rattle.jvm_types.specs.declared.program.MethodInfo.{MethodInfo}
 use Rattle.std.specs.Option.{IfSome}
 use Rattle.jvm_types.specs.declared.typing.VType.{VType}
-use Rattle.jvm_types.specs.declared.typing.VType.TheVariants.{Int, Null, Ref, This, New, Top}
+use Rattle.jvm_types.specs.declared.typing.VType.TheVariants.{This, New, Top}
 
 started_first : (own : ℕ) (want : Want) (t : VType) (wants : List Want) (ts : List VType) → started own (want ∷ wants) (t ∷ ts) ≡ or_else (started own (want ∷ []) (t ∷ [])) (started own wants ts)
 started_first own (ToStart class) This wants ts = refl

@@ -1,6 +1,6 @@
 -- Lists of types, place by place and from their other end.
-use Rattle.std.proofs.Common.{◌≡◌, ℕ, zero, suc, ◌<◌, Bool, true, false, not, List, [], ◌∷◌, ◌++◌, length, take, drop, Some, refl, ap, arith}
-use Rattle.std.specs.Prelude.{◌||◌, ◌&&◌, if◌then◌else◌, slice_get, slice_set, slice_index_or}
+use Rattle.std.proofs.Common.{◌≡◌, ℕ, zero, suc, Bool, true, false, not, List, [], ◌∷◌, ◌++◌, take, drop, Some, refl, ap}
+use Rattle.std.specs.Prelude.{◌||◌, ◌&&◌, if◌then◌else◌, slice_get, slice_set}
 use Rattle.jvm_types.specs.Types.{same_type, meet, all_pairs, meets}
 use Rattle.jvm_types.specs.Verifying.{initialised}
 use Rattle.jvm_types.specs.declared.typing.VType.{VType}

@@ -1,11 +1,10 @@
 -- One visit, step by step.
-use Rattle.std.proofs.Common.{◌≡◌, ℕ, Bool, true, false, not, List, [], ◌∷◌, length, Option, Some, None, Result, Ok, Err, refl, sym, subst, ap, ◌∙◌}
-use Rattle.std.specs.Prelude.{◌||◌, slice_get}
+use Rattle.std.proofs.Common.{◌≡◌, ℕ, false, List, [], ◌∷◌, length, Option, Some, None, Result, Err, refl, sym, subst, ap, ◌∙◌}
 use Rattle.std.specs.Option.{IfSome}
 use Rattle.std.proofs.lemmas.List.{length-map, length-set}
 use Rattle.jvm_types.specs.CodeTable.{row, locals_after}
-use Rattle.jvm_types.specs.Types.{TypeFrame, same_type}
-use Rattle.jvm_types.specs.Verifying.{Node, node_at, started, after_start, frame_after, mistypes, broken_before, broken_after, unless_broken, unless_clash, clash, edges, all_brought, covering, handled, gone_on, visited_row, visited_insn, takes_too_many, gives_too_many, lacks_locals, misuses_object}
+use Rattle.jvm_types.specs.Types.{TypeFrame}
+use Rattle.jvm_types.specs.Verifying.{Node, node_at, started, after_start, frame_after, mistypes, broken_before, unless_broken, unless_clash, gone_on, visited_row, visited_insn, takes_too_many, gives_too_many, lacks_locals, misuses_object}
 use Rattle.jvm_types.specs.declared.code.Insn.{Insn}
 use Rattle.jvm_types.specs.declared.op_row.Given.{Given}
 use Rattle.jvm_types.specs.declared.op_row.OpRow.{OpRow}

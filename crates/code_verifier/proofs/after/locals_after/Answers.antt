@@ -1,4 +1,4 @@
-use Rattle.std.proofs.Common.{◌≡◌, suc, ◌≤◌, min, length, ap, ◌∙◌, arith}
+use Rattle.std.proofs.Common.{suc, ◌≤◌, min, length, ap, ◌∙◌, arith}
 use Rattle.jvm_types.specs.CodeTable.{locals_after}
 use Rattle.jvm_types.specs.Types.{filled}
 use Rattle.jvm_types.specs.declared.typing.VType.TheVariants.{Top}

@@ -1,4 +1,4 @@
-use Rattle.std.proofs.Common.{◌≡◌, not, ap, ◌∙◌}
+use Rattle.std.proofs.Common.{not, ap, ◌∙◌}
 use Rattle.std.specs.Prelude.{◌&&◌}
 use Rattle.jvm_types.specs.Types.{same_type, all_pairs, meets}
 use Rattle.code_verifier.proofs.FrameLaws.{frames_met, frames_told}
