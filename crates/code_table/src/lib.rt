@@ -19,7 +19,7 @@ pub use indexed_method::IndexedMethod;
 pub use number_laws::numbers_are_exact;
 pub use op_rows::row;
 pub use pc_table::PcTable;
-pub use row_moves::{Making, stack_after, value_of, write_local};
+pub use row_moves::{Making, Types, stack_after, value_of, write_local};
 pub use type_order::{is_below, is_new, is_uninitialised, meet, same_type};
 pub use ways::{branches_to, can_throw, edges, falls_through, goes_back};
 

@@ -25,6 +25,27 @@ pub trait Making {
         ensures { result ≡ made self.now t };
 }
 
+/// Places hold types, and nothing is known of one that holds Top.
+pub struct Types;
+
+impl Making for Types {
+    type Value = VType;
+
+    ghost use Rattle.jvm_types.specs.declared.typing.VType.TheVariants.{Top};
+
+    ghost none = { λ types. Top };
+
+    ghost made = { λ types t. t };
+
+    fn none(&self) -> VType {
+        VType::Top
+    }
+
+    fn made(&self, t: VType) -> VType {
+        t
+    }
+}
+
 fn taken<T: Copy + Drop>(stack: &Stack<T>, place: u8, none: T) -> T
     ensures { result ≡ slice_index_or stack.now place none }
 {

@@ -207,7 +207,7 @@ pub local_written : (writes : Option (ℕ × Given)) (stack locals first : List 
     → filled (length locals) (locals_after Top (λ t. t) writes stack first) ≡ locals_after Top (λ t. t) writes stack locals
 local_written writes stack locals first i given ew ef h =
     rw ew (
-      sym (set_filled (length locals) first i (value_of Top (λ t. t) stack first given) h)
-      ∙ ap (λ t. slice_set (filled (length locals) first) i t) (value_known (length locals) stack first given)
-      ∙ ap (λ l. slice_set l i (value_of Top (λ t. t) stack l given)) ef
+    sym (set_filled (length locals) first i (value_of Top (λ t. t) stack first given) h)
+    ∙ ap (λ t. slice_set (filled (length locals) first) i t) (value_known (length locals) stack first given)
+    ∙ ap (λ l. slice_set l i (value_of Top (λ t. t) stack l given)) ef
     )

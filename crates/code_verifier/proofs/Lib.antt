@@ -1,5 +1,6 @@
 pub mod TypeLists
 pub mod FrameLaws
+pub mod SameFrames
 pub mod TakenLaws
 pub mod StartedLaws
 pub mod WaitingLaws

@@ -9,30 +9,9 @@ ghost use Rattle.jvm_types.specs.declared.typing.VType.TheVariants.{Top};
 
 use crate::frames::value;
 use crate::type_lists::{fill, initialise, initialise_stack};
-use code_table::{Making, same_type, write_local};
+use code_table::{Types, same_type, write_local};
 use jvm_types::{Given, MethodInfo, OpRow, Rows, Stack, TypeFrame, VType, Want};
 use std::alloc::{AllocError, Global};
-
-/// Frames whose places hold types.
-struct Types;
-
-impl Making for Types {
-    type Value = VType;
-
-    ghost use Rattle.jvm_types.specs.declared.typing.VType.TheVariants.{Top};
-
-    ghost none = { λ types. Top };
-
-    ghost made = { λ types t. t };
-
-    fn none(&self) -> VType {
-        VType::Top
-    }
-
-    fn made(&self, t: VType) -> VType {
-        t
-    }
-}
 
 /// The stack after an instruction that has this row, as it is before an `<init>` is called.
 #[tactic(auto, using(crate::proofs::FrameLaws::stack_known))]

@@ -1,10 +1,25 @@
 //! Frames where edges meet.
 
-ghost use Rattle.std.specs.Prelude.{◌≡◌, not, length};
+ghost use Rattle.std.specs.Prelude.{◌≡◌, true, not, length};
 ghost use Rattle.jvm_types.specs.Types.{meet_frames, same_frame};
 
-use crate::type_lists::{meet_locals, meet_stacks};
+use crate::type_lists::{meet_locals, meet_stacks, same_types};
 use jvm_types::TypeFrame;
+
+/// Whether a frame is another; it may be told not to be where last locals of which nothing is known are kept in one of
+/// them alone.
+fn is_same(frame: &TypeFrame, other: &TypeFrame) -> bool
+    requires { length frame.now.locals ≡ length other.now.locals }
+    ensures { result ≡ true → frame.now ≡ other.now }
+{
+    if frame.is_ready() != other.is_ready() {
+        return false;
+    }
+    if !same_types(frame.stack().as_slice(), other.stack().as_slice()) {
+        return false;
+    }
+    same_types(frame.first_locals(), other.first_locals())
+}
 
 /// The frame where two meet, which takes the place of the first; and whether that changed it.
 pub fn meet_frames(frame: TypeFrame, other: &TypeFrame) -> (TypeFrame, bool)
@@ -13,6 +28,9 @@ pub fn meet_frames(frame: TypeFrame, other: &TypeFrame) -> (TypeFrame, bool)
     ensures met { result.0 ≡ meet_frames frame other.now }
     ensures told { result.1 ≡ not (same_frame frame (meet_frames frame other.now)) }
 {
+    if is_same(&frame, other) {
+        return (frame, false);
+    }
     let local_count = frame.local_count();
     let (mut stack, mut locals, was_ready) = frame.into_parts();
     let stack_changed = meet_stacks(&mut stack, other.stack());

@@ -15,14 +15,14 @@ use std::marker::Model;
 
 /// What is known of an instruction: the frame that its edges met in, and whether that has changed since it was
 /// visited.
-#[derive(Debug, Drop)]
+#[derive(Drop)]
 struct StoredNode {
     frame: Option<TypeFrame>,
     waits: bool,
 }
 
 /// The nodes of the instructions in order, and the numbers of those that wait.
-#[derive(Debug, Drop)]
+#[derive(Drop)]
 pub struct Nodes {
     nodes: Vec<StoredNode>,
     waiting: BTreeSet<usize>,

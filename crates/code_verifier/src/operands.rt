@@ -10,7 +10,7 @@ use jvm_types::class_numbers::OBJECT_CLASS;
 use jvm_types::{MethodInfo, OpRow, Stack, TypeFrame, VType, Want};
 
 /// What can be wrong with a value.
-#[derive(Clone, Copy, Debug, PartialEq, Eq)]
+#[derive(Clone, Copy)]
 pub enum Fault {
     /// It is uninitialised where it may not be, or initialised where an `<init>` is called on it.
     Misuse,

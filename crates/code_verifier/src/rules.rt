@@ -7,7 +7,7 @@ ghost use Rattle.jvm_types.specs.Verifying.{takes_too_many, gives_too_many, name
 use crate::frames::{has_new_local, has_uninitialised};
 use crate::operands::{Fault, some_operand};
 use code_table::{IndexedMethod, falls_through, goes_back};
-use jvm_types::{Given, Insn, Kind, MethodInfo, Op, OpRow, Row, TypeFrame, VRule, Want};
+use jvm_types::{Insn, Kind, MethodInfo, Op, OpRow, Row, TypeFrame, VRule};
 
 /// V1: the stack has too few values.
 fn takes_too_many(row: &OpRow, f: &TypeFrame) -> bool
@@ -24,19 +24,11 @@ fn gives_too_many(m: &MethodInfo, row: &OpRow, f: &TypeFrame) -> bool
     usize::from(m.max_stack) < left.saturating_add(row.gives.len())
 }
 
-fn reads_no_local(m: &MethodInfo, reads: Option<(u16, Want)>) -> bool
-    ensures { result ≡ names_no_local m.now reads }
+/// Whether a local that is read or written is none of the method's.
+fn names_no_local<T: Copy + Drop>(m: &MethodInfo, named: Option<(u16, T)>) -> bool
+    ensures { result ≡ names_no_local m.now named }
 {
-    match reads {
-        Some((i, _)) => m.max_locals <= i,
-        None => false,
-    }
-}
-
-fn writes_no_local(m: &MethodInfo, writes: Option<(u16, Given)>) -> bool
-    ensures { result ≡ names_no_local m.now writes }
-{
-    match writes {
+    match named {
         Some((i, _)) => m.max_locals <= i,
         None => false,
     }
@@ -46,8 +38,8 @@ fn writes_no_local(m: &MethodInfo, writes: Option<(u16, Given)>) -> bool
 fn lacks_locals(m: &MethodInfo, row: &OpRow, f: &TypeFrame) -> bool
     ensures { result ≡ lacks_locals m.now row.now f.now }
 {
-    reads_no_local(m, row.reads)
-        || writes_no_local(m, row.writes)
+    names_no_local(m, row.reads)
+        || names_no_local(m, row.writes)
         || usize::from(m.max_locals) < f.local_count()
 }
 

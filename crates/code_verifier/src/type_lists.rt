@@ -22,6 +22,21 @@ pub fn some_new(types: &[VType]) -> bool
     types.iter().any(|t| is_new(*t))
 }
 
+/// Whether two lists have the same types, place by place.
+pub fn same_types(types: &[VType], others: &[VType]) -> bool
+    ensures { result ≡ all_pairs same_type types.now others.now }
+{
+    if types.len() != others.len() {
+        return false;
+    }
+    for i in 0..types.len() {
+        if !same_type(types[i], others[i]) {
+            return false;
+        }
+    }
+    true
+}
+
 /// Nothing is known of the places that are added up to this count.
 pub fn fill(types: &mut Rows<VType>, count: usize) -> Result<(), AllocError>
     ensures { OnOk result (types.new ≡ filled count types.old) }

@@ -2,7 +2,14 @@ use Rattle.std.proofs.Common.{not, ap, ◌∙◌}
 use Rattle.std.specs.Prelude.{◌&&◌}
 use Rattle.jvm_types.specs.Types.{same_type, all_pairs, meets}
 use Rattle.code_verifier.proofs.FrameLaws.{frames_met, frames_told}
+use Rattle.code_verifier.proofs.SameFrames.{met_unchanged, told_unchanged}
 use Rattle.code_verifier.proofs.meeting.meet_frames.Goals as goal
+
+pub returns-then-is_same-clause-met : goal.returns-then-is_same-clause-met
+returns-then-is_same-clause-met c = met_unchanged c.args.frame c.args.other.now (c.is_same.ensures c.if-is_same.true)
+
+pub returns-then-is_same-clause-told : goal.returns-then-is_same-clause-told
+returns-then-is_same-clause-told c = told_unchanged c.args.frame c.args.other.now (c.is_same.ensures c.if-is_same.true)
 
 pub returns-clause-met : goal.returns-clause-met
 returns-clause-met c = c.new-met.ensures ∙ frames_met c.args.frame c.args.other.now c.local_count-local_count.result c.into_parts-stack.result.1 c.meet_locals-locals_changed.new.locals c.meet_stacks-stack_changed.new.stack _

@@ -1,0 +1,105 @@
+-- Frames of the same types are one, and a frame meets itself in itself.
+use Rattle.std.proofs.Common.{◌≡◌, ◌≢◌, ℕ, Bool, true, false, not, List, [], ◌∷◌, length, reverse, refl, sym, ap, ◌∙◌, eqb-true, arith}
+use mathlib.Core.Bool.{beq}
+use Rattle.std.specs.Prelude.{◌&&◌, ◌==◌}
+use Rattle.std.proofs.lemmas.Bool.Decides.{nat_tests}
+use Rattle.jvm_types.specs.Types.{TypeFrame, filled, same_type, same_ready, same_frame, all_pairs, if_same_place, meet, meets, meet_frames}
+use Rattle.jvm_types.specs.declared.typing.VType.{VType}
+use Rattle.jvm_types.specs.declared.typing.VType.TheVariants.{Int, Null, Ref, This, New, Top}
+use Rattle.code_table.proofs.MeetLaws.{meet_same_class}
+
+-- ---- the same types
+
+one_type : (t u : VType) → same_type t u ≡ true → t ≡ u
+one_type Int Int e = refl
+one_type Null Null e = refl
+one_type (Ref c) (Ref d) e = ap Ref (eqb-true c d e)
+one_type This This e = refl
+one_type (New p) (New q) e = ap New (eqb-true p q e)
+one_type Top Top e = refl
+one_type t u e = absurd (cc)
+
+first_holds : (a b : Bool) → (a && b) ≡ true → a ≡ true
+first_holds true b e = refl
+first_holds false b e = absurd (cc)
+
+second_holds : (a b : Bool) → (a && b) ≡ true → b ≡ true
+second_holds true b e = e
+second_holds false b e = absurd (cc)
+
+one_list : (ts us : List VType) → all_pairs same_type ts us ≡ true → ts ≡ us
+one_list [] [] e = refl
+one_list [] (u ∷ us) e = absurd (cc)
+one_list (t ∷ ts) [] e = absurd (cc)
+one_list (t ∷ ts) (u ∷ us) e =
+    ap (λ x. x ∷ ts) (one_type t u (first_holds (same_type t u) (all_pairs same_type ts us) e))
+    ∙ ap (λ xs. u ∷ xs) (one_list ts us (second_holds (same_type t u) (all_pairs same_type ts us) e))
+
+pub unlike : (ts us : List VType) → length ts ≢ length us → false ≡ all_pairs same_type ts us
+unlike ts us n = by_test (all_pairs same_type ts us) refl
+  where
+    by_test : (b : Bool) → all_pairs same_type ts us ≡ b → false ≡ b
+    by_test false e = refl
+    by_test true e = absurd (n (ap length (one_list ts us e)))
+
+pub one_answer : (a b : Bool) → not (beq a b) ≡ false → a ≡ b
+one_answer true true e = refl
+one_answer false false e = refl
+one_answer true false e = absurd (cc)
+one_answer false true e = absurd (cc)
+
+-- frames, by their slices and first locals
+pub one_frame : (f g : TypeFrame) (stack others locals other_locals : List VType) → length f.locals ≡ length g.locals → f.ready ≡ g.ready
+    → reverse stack ≡ f.stack → reverse others ≡ g.stack → filled (length f.locals) locals ≡ f.locals → filled (length g.locals) other_locals ≡ g.locals
+    → all_pairs same_type stack others ≡ true → all_pairs same_type locals other_locals ≡ true → f ≡ g
+one_frame f g stack others locals other_locals long ready es eo el em s l =
+    let stacks : f.stack ≡ g.stack = sym es ∙ ap reverse (one_list stack others s) ∙ eo in
+    let all : f.locals ≡ g.locals = sym el ∙ ap (λ ts. filled (length f.locals) ts) (one_list locals other_locals l) ∙ ap (λ n. filled n other_locals) long ∙ em in
+    λ i. record { stack = stacks i; locals = all i; ready = ready i }
+
+-- ---- a frame and itself
+
+same_number : (n : ℕ) → (n == n) ≡ true
+same_number n = grind (arith, nat_tests)
+
+same_place : (p : ℕ) (b : Bool) → b ≡ true → if_same_place b (New p) ≡ New p
+same_place p true e = refl
+same_place p false e = absurd (cc)
+
+meet_self : (t : VType) → meet t t ≡ t
+meet_self (Ref c) = ap Ref (meet_same_class c)
+meet_self (New p) = same_place p (p == p) (same_number p)
+meet_self t = refl
+
+type_self : (t : VType) → same_type t t ≡ true
+type_self (Ref c) = same_number c
+type_self (New p) = same_number p
+type_self t = refl
+
+meets_self : (ts : List VType) → meets ts ts ≡ ts
+meets_self [] = refl
+meets_self (t ∷ ts) = ap (λ x. x ∷ meets ts ts) (meet_self t) ∙ ap (λ xs. t ∷ xs) (meets_self ts)
+
+types_self : (ts : List VType) → all_pairs same_type ts ts ≡ true
+types_self [] = refl
+types_self (t ∷ ts) = rw (type_self t) (types_self ts)
+
+both_self : (a : Bool) → (a && a) ≡ a
+both_self true = refl
+both_self false = refl
+
+ready_self : (a : Bool) → same_ready a a ≡ true
+ready_self true = refl
+ready_self false = refl
+
+frame_self : (f : TypeFrame) → meet_frames f f ≡ f
+frame_self f = λ i. record { stack = meets_self f.stack i; locals = meets_self f.locals i; ready = both_self f.ready i }
+
+same_self : (f : TypeFrame) → same_frame f f ≡ true
+same_self f = rw (types_self f.stack, types_self f.locals) (ready_self f.ready)
+
+pub met_unchanged : (f g : TypeFrame) → f ≡ g → f ≡ meet_frames f g
+met_unchanged f g e = sym (frame_self f) ∙ ap (λ h. meet_frames f h) e
+
+pub told_unchanged : (f g : TypeFrame) → f ≡ g → false ≡ not (same_frame f (meet_frames f g))
+told_unchanged f g e = sym (ap not (same_self f)) ∙ ap (λ h. not (same_frame f h)) (met_unchanged f g e)
