@@ -1,0 +1,6 @@
+//! Values that only contracts see.
+#![tactic(auto)]
+
+pub mod told;
+
+pub use told::Told;
