@@ -1,0 +1,15 @@
+use Rattle.std.proofs.Common.{List, ap}
+use Rattle.machine_types.specs.Threads.{Frame}
+use Rattle.frames.proofs.CopyLaws.{restored_frames}
+use Rattle.frames.proofs.frame_stack.FrameStack.put_top.Goals as goal
+
+pub returns : goal.returns
+returns c =
+    let s = c.self.inside in
+    let some = rw (← c.self.view_is) at c.requires.frame in
+    let fits = rw (← c.self.view_is) at c.requires.fits in
+    let alike = rw (← c.self.view_is) at c.requires.alike in
+    let put = rw c.as_slice.ensures.value at c.copy_slots.ensures.copied in
+    rw (← c.self.view_is) (ap (λ (fs : List Frame). record { program = s.program.told; frames = fs })
+    (restored_frames s.program.told s.heads.items s.start s.slots.items s.free c.index-old.result.now c.args.head c.args.kept.now.items c.copy_slots.new.slots.items
+    c.self.invariant c.index-old.ensures some fits alike c.copy_slots.ensures.length c.copy_slots.ensures.above put))

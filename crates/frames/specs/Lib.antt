@@ -1,0 +1,5 @@
+pub mod FrameLists
+pub mod Laid
+pub mod RootLists
+pub mod KeptAttempts
+pub mod ThreadParts
