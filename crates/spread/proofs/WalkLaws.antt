@@ -1,11 +1,13 @@
 -- What the least closed set is for two rules: the nodes that lead into a set, and those that lead to no cycle.
-use Rattle.std.proofs.Common.{◌≡◌, ℕ, zero, suc, ◌+◌, ◌<◌, ◌≤◌, ◌≢◌, Bool, true, false, eqb, List, [], ◌∷◌, length, refl, sym, subst, arith, ⊎_elim, ◌||◌, ◌&&◌}
-use Rattle.std.specs.Prelude.{◌==◌, slice_index}
+use Rattle.std.proofs.Common.{◌≡◌, ℕ, zero, suc, ◌+◌, ◌<◌, ◌≤◌, ◌≢◌, Bool, true, false, eqb, List, [], ◌∷◌, length, refl, sym, subst, arith, ⊎_elim, ◌||◌, ◌&&◌, not, map, ◌∙◌, get_or-set_same, get_or-set_other, ap, take, drop, ◌++◌}
+use Rattle.std.specs.Prelude.{◌==◌, ◌↔◌, slice_index, slice_index_or, slice_set}
+use Rattle.std.proofs.lemmas.List.{length-map, get_or-map, get_or_past, take-append-le}
+use Rattle.std.proofs.Math.Seq.{take-length}
 use Rattle.std.specs.List.{AllByRecursion, list_any, IsDistinct}
-use Rattle.std.proofs.lemmas.Bool.{cases_eq}
+use Rattle.std.proofs.lemmas.Bool.{cases_eq, cases_lt}
 use Rattle.std.proofs.lemmas.Map.Steps.{length-le_from_distinct_below}
 use Rattle.spread.specs.LeastSet.{one_if, chosen, Settles, settle, IsSpread, IsGraph}
-use Rattle.spread.specs.Walks.{IsEdge, Walks, Leads, LeadsOn, Recurs, FindsLeading, FindsRecurring}
+use Rattle.spread.specs.Walks.{IsEdge, Walks, Leads, LeadsOn, Recurs, FindsLeading, FindsRecurring, AreLeading, AreRecurring, AreDegrees, need_unless}
 use Rattle.spread.proofs.SpreadLaws.{equal_from, differ_from, equal_to, chosen-le}
 
 -- ---- counts and edges
@@ -151,3 +153,112 @@ module _ (from to start : List ℕ) (g : IsGraph (length start) from to) (degree
 
 pub finds_recurring : FindsRecurring
 finds_recurring from to start need g s degree a l = (λ z r. grounded from to start g degree a l ((s.exact a l).0 z) r, λ z. cyclic from to start g degree need s a l z)
+
+-- ---- what is found, node by node
+
+same_bool : (b : Bool) (P : Type 0) → (b ≡ true → P) → (P → b ≡ false → ⊥) → (b ≡ true) ↔ P
+same_bool true P f g = (f, λ x. refl)
+same_bool false P f g = (f, λ x. absurd (g x refl))
+
+module _ (from to : List ℕ) (into : List Bool) (need : List ℕ) (g : IsGraph (length into) from to) (s : IsSpread from to (map need_unless into) need) where
+  starts_long : length (map need_unless into) ≡ length into
+  starts_long = length-map into need_unless
+
+  start_at : (a : ℕ) → a < length into → slice_index (map need_unless into) a ≡ need_unless (slice_index_or into a false)
+  start_at a l = get_or-map need_unless into a false 0 l
+
+  none_at : (b : Bool) → (need_unless b ≡ 0) ↔ (b ≡ true)
+  none_at true = (λ e. refl, λ e. refl)
+  none_at false = (λ e. absurd (omega (arith, e)), λ e. absurd (let bad : false ≡ true = e in cc))
+
+  at_most : (b : Bool) → need_unless b ≤ 1
+  at_most true = omega arith
+  at_most false = omega arith
+
+  one : (a : ℕ) → slice_index (map need_unless into) a ≤ 1
+  one a = ⊎_elim (λ (l : a < length into). rw (start_at a l) (at_most (slice_index_or into a false)))
+      (λ (l : length into ≤ a). rw (get_or_past (map need_unless into) a 0 (rw starts_long l)) (omega arith)) (cases_lt a (length into))
+
+  found_at : (a : ℕ) → a < length into → (slice_index need a ≡ 0) ↔ ((b : ℕ) × (b < length (map need_unless into)) × Leads from to a b × (slice_index (map need_unless into) b ≡ 0))
+  found_at a l = finds_leading from to (map need_unless into) need (rw starts_long g) s one a (rw starts_long l)
+
+  pub leads_found : AreLeading from to into (map (λ n. n == 0) need)
+  leads_found = record {
+    long = length-map need (λ n. n == 0) ∙ s.long ∙ starts_long;
+    each = λ a l.
+        let low : a < length need = rw (s.long, starts_long) l in
+        let is : slice_index_or (map (λ n. n == 0) need) a false ≡ (slice_index need a == 0) = get_or-map (λ n. n == 0) need a 0 false low in
+        rw is (
+          λ e. let r = (found_at a l).0 (equal_from (slice_index need a) 0 e) in
+              let inside : r.0 < length into = rw (← starts_long) r.1 in
+              (r.0, inside, r.2, (none_at (slice_index_or into r.0 false)).0 (sym (start_at r.0 inside) ∙ r.3)),
+          λ r. equal_to (slice_index need a) 0 ((found_at a l).1 (r.0, rw starts_long r.1, r.2, start_at r.0 r.1 ∙ (none_at (slice_index_or into r.0 false)).1 r.3)),
+        );
+  }
+
+module _ (from to : List ℕ) (n : ℕ) (start need : List ℕ) (g : IsGraph n from to) (d : AreDegrees from n start) (s : IsSpread from to start need) where
+  cycle_at : (a : ℕ) → a < n → ((slice_index need a ≡ 0) → Recurs from to a → ⊥) × ((slice_index need a ≡ 0 → ⊥) → Recurs from to a)
+  cycle_at a l = finds_recurring from to start need (rw d.long g) s (λ b m. d.each b (rw (← d.long) m)) a (rw d.long l)
+
+  by_need : (a : ℕ) → a < n → (b : Bool) → (slice_index need a == 0) ≡ b → (not b ≡ true) ↔ Recurs from to a
+  by_need a l true e = (λ f. absurd (let bad : false ≡ true = f in cc), λ r. absurd ((cycle_at a l).0 (equal_from (slice_index need a) 0 e) r))
+  by_need a l false e = (λ f. (cycle_at a l).1 (differ_from (slice_index need a) 0 e), λ r. refl)
+
+  pub cycles_found : AreRecurring from to n (map (λ k. not (k == 0)) need)
+  cycles_found = record {
+    long = length-map need (λ k. not (k == 0)) ∙ s.long ∙ d.long;
+    each = λ a l.
+        let low : a < length need = rw (s.long, d.long) l in
+        let is : slice_index_or (map (λ k. not (k == 0)) need) a false ≡ not (slice_index need a == 0) = get_or-map (λ k. not (k == 0)) need a 0 false low in
+        rw is (by_need a l (slice_index need a == 0) refl);
+  }
+
+-- ---- degrees
+
+pub chosen_next : (from : List ℕ) (a e : ℕ) → chosen from (λ k. true) a (e + 1) ≡ chosen from (λ k. true) a e + one_if (slice_index from e == a)
+chosen_next from a e = let next : e + 1 ≡ suc e = omega arith in rw next (by_test (slice_index from e == a))
+  where
+    by_test : (t : Bool) → chosen from (λ k. true) a e + one_if (t && true) ≡ chosen from (λ k. true) a e + one_if t
+    by_test true = refl
+    by_test false = refl
+
+pub chosen_few : (from : List ℕ) (a m : ℕ) → chosen from (λ k. true) a m ≤ m
+chosen_few from a zero = omega arith
+chosen_few from a (suc m) = by_test ((slice_index from m == a) && true) (chosen_few from a m)
+  where
+    by_test : (t : Bool) → chosen from (λ k. true) a m ≤ m → chosen from (λ k. true) a m + one_if t ≤ suc m
+    by_test true l = omega (arith, l)
+    by_test false l = omega (arith, l)
+
+none_more : (n : ℕ) → n ≡ n + 0
+none_more n = omega arith
+
+pub counted_more : (from counts : List ℕ) (n e : ℕ) → length counts ≡ n → ((a : ℕ) → a < n → slice_index counts a ≡ chosen from (λ k. true) a e) → slice_index from e < n
+    → (a : ℕ) → a < n → slice_index (slice_set counts (slice_index from e) (slice_index counts (slice_index from e) + 1)) a ≡ chosen from (λ k. true) a (e + 1)
+counted_more from counts n e long upto inside a l = rw chosen_next (by_test (slice_index from e == a) refl)
+  where
+    by_test : (t : Bool) → (slice_index from e == a) ≡ t → slice_index (slice_set counts (slice_index from e) (slice_index counts (slice_index from e) + 1)) a ≡ chosen from (λ k. true) a e + one_if t
+    by_test true w =
+        let same : slice_index from e ≡ a = equal_from (slice_index from e) a w in
+        let low : a < length counts = omega (arith, l, long) in
+        rw same (rw get_or-set_same (ap (λ k. k + 1) (upto a l)))
+    by_test false w = let other : a ≢ slice_index from e = λ q. differ_from (slice_index from e) a w (sym q) in rw get_or-set_other (let was : slice_index counts a ≡ chosen from (λ k. true) a e = upto a l in was ∙ none_more (chosen from (λ k. true) a e))
+
+-- ---- what a vector shows after its slice was written
+
+written : (len : ℕ) (items need shown : List ℕ) → length need ≡ length items → len ≡ length items → shown ≡ take len (need ++ drop (length need) items) → shown ≡ need
+written len items need shown long is e =
+    let same : len ≡ length need = omega (arith, long, is) in
+    e ∙ ap (λ n. take n (need ++ drop (length need) items)) same ∙ take-append-le (length need) need (drop (length need) items) (omega arith) ∙ take-length need
+
+pub leads_shown : (from to : List ℕ) (into : List Bool) (len : ℕ) (items need shown : List ℕ) (v : List Bool) → IsGraph (length into) from to → items ≡ map need_unless into → len ≡ length items → IsSpread from to items need
+    → shown ≡ take len (need ++ drop (length need) items) → v ≡ map (λ n. n == 0) shown → AreLeading from to into v
+leads_shown from to into len items need shown v g start is s e f =
+    let same : shown ≡ need = written len items need shown s.long is e in
+    subst (AreLeading from to into) (sym (f ∙ ap (λ l. map (λ n. n == 0) l) same)) (leads_found from to into need g (subst (λ l. IsSpread from to l need) start s))
+
+pub cycles_shown : (from to : List ℕ) (n len : ℕ) (items need shown : List ℕ) (v : List Bool) → IsGraph n from to → AreDegrees from n items → len ≡ length items → IsSpread from to items need
+    → shown ≡ take len (need ++ drop (length need) items) → v ≡ map (λ k. not (k == 0)) shown → AreRecurring from to n v
+cycles_shown from to n len items need shown v g d is s e f =
+    let same : shown ≡ need = written len items need shown s.long is e in
+    subst (AreRecurring from to n) (sym (f ∙ ap (λ l. map (λ k. not (k == 0)) l) same)) (cycles_found from to n items need g d s)

@@ -1,5 +1,5 @@
 -- Walks along the edges of a graph.
-use Rattle.std.specs.Prelude.{◌≡◌, ℕ, ◌<◌, ◌≤◌, true, List, [], ◌∷◌, length, slice_index, ◌↔◌}
+use Rattle.std.specs.Prelude.{◌≡◌, ℕ, ◌<◌, ◌≤◌, Bool, true, false, List, [], ◌∷◌, length, slice_index, slice_index_or, ◌↔◌}
 use Rattle.spread.specs.LeastSet.{chosen, IsSpread, IsGraph}
 
 abbrev pub IsEdge : List ℕ → List ℕ → ℕ → ℕ → Type 0
@@ -31,3 +31,22 @@ FindsLeading = (from to start need : List ℕ) → IsGraph (length start) from t
 abbrev pub FindsRecurring : Type 0
 FindsRecurring = (from to start need : List ℕ) → IsGraph (length start) from to → IsSpread from to start need → ((a : ℕ) → a < length start → slice_index start a ≡ chosen from (λ e. true) a (length from)) → (a : ℕ) → a < length start
     → ((slice_index need a ≡ 0) → Recurs from to a → ⊥) × ((slice_index need a ≡ 0 → ⊥) → Recurs from to a)
+
+-- of each node, whether it leads into a set of nodes
+pub record AreLeading (from to : List ℕ) (into leads : List Bool) : Type 0 where
+  pub long : length leads ≡ length into
+  pub each : (a : ℕ) → a < length into → (slice_index_or leads a false ≡ true) ↔ ((b : ℕ) × (b < length into) × Leads from to a b × (slice_index_or into b false ≡ true))
+
+-- of each of n nodes, whether it leads to one that leads back to itself
+pub record AreRecurring (from to : List ℕ) (n : ℕ) (recurs : List Bool) : Type 0 where
+  pub long : length recurs ≡ n
+  pub each : (a : ℕ) → a < n → (slice_index_or recurs a false ≡ true) ↔ Recurs from to a
+
+-- how many edges leave each of n nodes
+pub record AreDegrees (from : List ℕ) (n : ℕ) (degrees : List ℕ) : Type 0 where
+  pub long : length degrees ≡ n
+  pub each : (a : ℕ) → a < n → slice_index degrees a ≡ chosen from (λ e. true) a (length from)
+
+abbrev pub need_unless : Bool → ℕ
+need_unless true = 0
+need_unless false = 1

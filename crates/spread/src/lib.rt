@@ -2,12 +2,15 @@
 //! that lead into a set, and those that lead to a cycle.
 #![tactic(auto)]
 
+mod walks;
+
 ghost use Rattle.std.specs.Prelude.{◌≡◌, ℕ, suc, ◌+◌, ◌-◌, ◌<◌, ◌≤◌, true, false, slice_index_or, ◌==◌, if◌then◌else◌, List, [], ◌∷◌, ◌++◌, length, slice_index, slice_set, OnOk, IfOk, EachIndex, MatchOption};
 ghost use Rattle.spread.specs.Walks.{FindsLeading, FindsRecurring};
 ghost use Rattle.spread.specs.LeastSet.{IsSpread, IsGraph};
 ghost use Rattle.spread.specs.Chains.{IsChained, Going, latest, weight, zeros};
 
 use std::alloc::{AllocError, Global};
+pub use walks::{leading, recurring};
 
 /// For each node the last edge to it, and for each edge the one before it to the same node; each as a number plus 1,
 /// with 0 for none.
@@ -158,15 +161,12 @@ mod tests {
     fn nodes_that_lead_to_a_set_or_a_cycle_are_found(rt: HostRuntime) -> Result<(), AllocError> {
         let from = [0_u32, 1, 1, 3];
         let to = [1_u32, 0, 2, 2];
-        let mut leading = [1_u32, 1, 1, 0];
-        spread(rt.alloc(), &from, &to, &mut leading)?;
-        assert_eq!(rt; leading.as_slice(), [1, 1, 1, 0].as_slice());
-        let mut reaching = [1_u32, 1, 0, 1];
-        spread(rt.alloc(), &from, &to, &mut reaching)?;
-        assert_eq!(rt; reaching.as_slice(), [0, 0, 0, 0].as_slice());
-        let mut degrees = [1_u32, 2, 0, 1];
-        spread(rt.alloc(), &from, &to, &mut degrees)?;
-        assert_eq!(rt; degrees.as_slice(), [1, 1, 0, 0].as_slice());
+        let leads = leading(rt.alloc(), &from, &to, &[false, false, true, false])?;
+        assert_eq!(rt; leads.as_slice(), [true, true, true, true].as_slice());
+        let leads = leading(rt.alloc(), &from, &to, &[false, false, false, true])?;
+        assert_eq!(rt; leads.as_slice(), [false, false, false, true].as_slice());
+        let recurs = recurring(rt.alloc(), &from, &to, 4)?;
+        assert_eq!(rt; recurs.as_slice(), [true, true, false, false].as_slice());
         Ok(())
     }
 }
