@@ -1,0 +1,162 @@
+-- The edges of the graph are the calls of reached instructions.
+use Rattle.std.proofs.Common.{◌≡◌, ℕ, zero, suc, ◌+◌, ◌*◌, ◌/◌, ◌%◌, ◌<◌, ◌≤◌, ◌≢◌, Bool, true, false, List, [], ◌∷◌, length, Option, Some, None, refl, sym, ap, subst, ◌∙◌, arith, ⊎_elim, inl, inr, ◌⊎◌}
+use Rattle.std.specs.Prelude.{◌==◌, nat_lt, if◌then◌else◌, slice_get, IsSomeAnd}
+use Rattle.std.specs.Option.{option_map}
+use Rattle.std.proofs.lemmas.Bool.Decides.{nat_tests}
+use Rattle.std.proofs.lemmas.Option.{slice_get-map, slice_get_within, same_Some}
+use Rattle.jvm_types.specs.ProgramInvariant.{IsProgram, IsTargetOf, IsMethodTarget, site_in}
+use Rattle.jvm_types.specs.Members.{Site}
+use Rattle.jvm_types.specs.declared.call.Call.TheVariants.{Virtual, Special, Static}
+use Rattle.jvm_types.specs.declared.code.Insn.{Insn}
+use Rattle.jvm_types.specs.declared.code.Op.{Op}
+use Rattle.jvm_types.specs.declared.code.Op.TheVariants as ops
+use Rattle.jvm_types.specs.declared.program.Target.{Target}
+use Rattle.jvm_types.specs.declared.program.Target.TheVariants as targets
+use Rattle.jvm_types.specs.declared.program.MethodInfo.{MethodInfo}
+use Rattle.jvm_types.specs.declared.program.Program.{Program}
+use Rattle.program_laws.proofs.CodeOrder.{have_targets}
+use Rattle.checked_program.specs.LockTags.{TagShape}
+use Rattle.checked_program.specs.TaggedCode.{Tagged, tagged_by, IsAt}
+use Rattle.checked_program.specs.Marks.{Callee, callee, Calls, called_method, receiver_tag, is_own_object, mode_if}
+use Rattle.checked_program.specs.declared.tag.Tag.{Tag}
+use Rattle.checked_program.specs.declared.tag.Tags.{Tags}
+use Rattle.checked_program.specs.declared.section.Mode.{Mode}
+use Rattle.checked_program.specs.declared.section.Mode.TheVariants.{OnThis, OffThis}
+use Rattle.spread.specs.Walks.{IsEdge}
+use Rattle.guard_analysis.specs.CallGraph.{mode_number, node_of, mode_at, AreCalls, node_in, call_node, call_at, graph_before, call_graph}
+use Rattle.guard_analysis.proofs.GraphEdges.{the_call, CallAt, graph_added, graph_old}
+
+-- ---- nodes
+
+pub half_of : (u : ℕ) (mode : Mode) → (2 * u + mode_number mode) / 2 ≡ u
+half_of u OnThis = omega arith
+half_of u OffThis = omega arith
+
+pub mode_back : (u : ℕ) (mode : Mode) → mode_at (2 * u + mode_number mode) ≡ mode
+mode_back u OnThis = let even : (2 * u + 0) % 2 ≡ 0 = omega arith in rw even refl
+mode_back u OffThis = let odd : (2 * u + 1) % 2 ≡ 1 = omega arith in rw odd refl
+
+pub node_again : (y : ℕ) → node_of (callee (y / 2) (mode_at y)) ≡ y
+node_again y = ⊎_elim (λ (e : y % 2 ≡ 0). rw e (omega arith)) (λ (e : y % 2 ≡ 1). rw e (omega arith)) (halves y)
+  where
+    halves : (y : ℕ) → (y % 2 ≡ 0) ⊎ (y % 2 ≡ 1)
+    halves y = grind arith
+
+pub node_low : (n u : ℕ) (mode : Mode) → u < n → 2 * u + mode_number mode < 2 * n
+node_low n u OnThis h = omega (arith, h)
+node_low n u OffThis h = omega (arith, h)
+
+-- ---- one instruction
+
+-- the three that stand at an instruction that is reached
+pub record AtCall (oi : Option Insn) (ot : Option Target) (of : Option (Option TagShape)) (p : Program) (mode : Mode) (y : ℕ) : Type 0 where
+  pub insn : Insn
+  pub target : Target
+  pub f : TagShape
+  pub is_insn : oi ≡ Some insn
+  pub is_target : ot ≡ Some target
+  pub is_frame : of ≡ Some (Some f)
+  pub call : call_node p mode insn.op target f.stack ≡ Some y
+
+pub call_parts : (p : Program) (mode : Mode) (oi : Option Insn) (ot : Option Target) (of : Option (Option TagShape)) (y : ℕ) → call_at p mode oi ot of ≡ Some y → AtCall oi ot of p mode y
+call_parts p mode (Some insn) (Some target) (Some (Some f)) y e = record { insn = insn; target = target; f = f; is_insn = refl; is_target = refl; is_frame = refl; call = e }
+call_parts p mode (Some insn) (Some target) (Some None) y e = absurd (cc)
+call_parts p mode (Some insn) (Some target) None y e = absurd (cc)
+call_parts p mode (Some insn) None of y e = absurd (cc)
+call_parts p mode None ot of y e = absurd (cc)
+
+pub node_parts : (n : ℕ) (o : Option ℕ) (mode : Mode) (y : ℕ) → node_in n o mode ≡ Some y → (u : ℕ) × (o ≡ Some u) × (u < n) × (2 * u + mode_number mode ≡ y)
+node_parts n None mode y e = absurd (cc)
+node_parts n (Some u) mode y e = by_test (nat_lt u n) refl e
+  where
+    by_test : (t : Bool) → nat_lt u n ≡ t → (if t then Some (2 * u + mode_number mode) else None) ≡ Some y → (v : ℕ) × (Some u ≡ Some v) × (v < n) × (2 * v + mode_number mode ≡ y)
+    by_test true w k = (u, refl, grind (arith, nat_tests), same_Some (2 * u + mode_number mode) y k)
+    by_test false w k = absurd (let bad : None ≡ Some y = k in cc)
+
+pub node_there : (n u : ℕ) (o : Option ℕ) (mode : Mode) → o ≡ Some u → u < n → node_in n o mode ≡ Some (2 * u + mode_number mode)
+node_there n u o mode e h = let test : nat_lt u n ≡ true = grind (arith, nat_tests) in rw (e, test) refl
+
+-- ---- a call names a method of the program
+
+some_inside : (ms : List MethodInfo) (u : ℕ) (P : MethodInfo → Type 0) → IsSomeAnd (slice_get ms u) P → u < length ms
+some_inside [] u P h = absurd h
+some_inside (m ∷ ms) zero P h = omega arith
+some_inside (m ∷ ms) (suc u) P h = let more : u < length ms = some_inside ms u P h in omega (arith, more)
+
+named : (p : Program) (site : Site) (op : Op) (target : Target) (u : ℕ) → called_method op target ≡ Some u → IsTargetOf p site op target → u < length p.methods
+named p site (ops.Invokevirtual i) (targets.Method v) u e t = let same : v ≡ u = same_Some v u e in subst (λ x. x < length p.methods) same (some_inside p.methods v _ t)
+named p site (ops.Invokespecial i) (targets.Method v) u e t = let same : v ≡ u = same_Some v u e in subst (λ x. x < length p.methods) same (some_inside p.methods v _ t)
+named p site (ops.Invokestatic i) (targets.Method v) u e t = let same : v ≡ u = same_Some v u e in subst (λ x. x < length p.methods) same (some_inside p.methods v _ t)
+named p site op target u e t = absurd (cc)
+
+pub called_inside : (p : Program) (tags : Tagged) → IsProgram p → (a b : Callee) (i : ℕ) → Calls p tags a i b → b.method < length p.methods
+called_inside p tags is a b i c =
+    let has = have_targets p a.method i c.m c.insn is c.at.in_program c.at.in_code in
+    named p (site_in c.m) c.insn.op c.target b.method c.called
+    (subst (λ (t : Target). IsTargetOf p (site_in c.m) c.insn.op t) (same_Some has.0 c.target (sym has.1 ∙ c.at.names)) has.2)
+
+-- ---- calls and edges
+
+module _ (p : Program) (tags : List Tags) (is : IsProgram p) where
+  -- a method's frames
+  pub with_tags : (mi : ℕ) (frames : List (Option TagShape)) → slice_get (tagged_by tags) mi ≡ Some frames → (t : Tags) × (slice_get tags mi ≡ Some t) × (t.frames ≡ frames)
+  with_tags mi frames e = by_tags (slice_get tags mi) refl (sym (slice_get-map (λ (t : Tags). t.frames) tags mi) ∙ e)
+    where
+      by_tags : (o : Option Tags) → slice_get tags mi ≡ o → option_map (λ (t : Tags). t.frames) o ≡ Some frames → (t : Tags) × (slice_get tags mi ≡ Some t) × (t.frames ≡ frames)
+      by_tags None q k = absurd (let bad : None ≡ Some frames = k in cc)
+      by_tags (Some t) q k = (t, q, same_Some t.frames frames k)
+
+  pub frames_there : (mi : ℕ) (t : Tags) → slice_get tags mi ≡ Some t → slice_get (tagged_by tags) mi ≡ Some t.frames
+  frames_there mi t e = slice_get-map (λ (t : Tags). t.frames) tags mi ∙ ap (option_map (λ (t : Tags). t.frames)) e
+
+  call_there : (a b : Callee) (i : ℕ) → Calls p (tagged_by tags) a i b → CallAt p (slice_get p.methods (node_of a / 2)) (slice_get tags (node_of a / 2)) (node_of a) (node_of b)
+  call_there a b i c =
+      let has = with_tags a.method c.at.frames c.at.of_method in
+      let at_frame : slice_get has.0.frames i ≡ Some (Some c.f) = subst (λ l. slice_get l i ≡ Some (Some c.f)) (sym has.2) c.at.frame in
+      let node : call_node p a.mode c.insn.op c.target c.f.stack ≡ Some (node_of b) =
+      node_there (length p.methods) b.method (called_method c.insn.op c.target) (mode_if (is_own_object a.mode (receiver_tag p c.insn.op c.target c.f.stack))) c.called (called_inside p (tagged_by tags) is a b i c)
+      ∙ ap (λ (mode : Mode). Some (2 * b.method + mode_number mode)) (sym c.mode_is) in
+      record {
+        m = c.m;
+        is_m = ap (λ u. slice_get p.methods u) (half_of a.method a.mode) ∙ c.at.in_program;
+        t = has.0;
+        is_t = ap (λ u. slice_get tags u) (half_of a.method a.mode) ∙ has.1;
+        i = i;
+        inside = slice_get_within c.m.code i c.insn c.at.in_code;
+        call = rw (mode_back a.method a.mode, c.at.in_code, c.at.names, at_frame) node;
+      }
+
+  call_back : (a : Callee) (y : ℕ) → CallAt p (slice_get p.methods (node_of a / 2)) (slice_get tags (node_of a / 2)) (node_of a) y → (b : Callee) × (node_of b ≡ y) × ((i : ℕ) × Calls p (tagged_by tags) a i b)
+  call_back a y c =
+      let parts = call_parts p (mode_at (node_of a)) (slice_get c.m.code c.i) (slice_get c.m.targets c.i) (slice_get c.t.frames c.i) y c.call in
+      let mode : Mode = mode_if (is_own_object a.mode (receiver_tag p parts.insn.op parts.target parts.f.stack)) in
+      let call : call_node p a.mode parts.insn.op parts.target parts.f.stack ≡ Some y = subst (λ (mode : Mode). call_node p mode parts.insn.op parts.target parts.f.stack ≡ Some y) (mode_back a.method a.mode) parts.call in
+      let named = node_parts (length p.methods) (called_method parts.insn.op parts.target) mode y call in (
+        callee named.0 mode,
+        named.3,
+        (
+          c.i,
+          record {
+            m = c.m;
+            insn = parts.insn;
+            target = parts.target;
+            f = parts.f;
+            at = record {
+              in_program = ap (λ u. slice_get p.methods u) (sym (half_of a.method a.mode)) ∙ c.is_m;
+              in_code = parts.is_insn;
+              names = parts.is_target;
+              frames = c.t.frames;
+              of_method = frames_there a.method c.t (ap (λ u. slice_get tags u) (sym (half_of a.method a.mode)) ∙ c.is_t);
+              frame = parts.is_frame;
+            };
+            called = named.1;
+            mode_is = refl;
+          },
+        ),
+      )
+
+  pub edges_are_calls : AreCalls p (tagged_by tags) (call_graph p tags).from (call_graph p tags).to
+  edges_are_calls = record {
+    there = λ a b i c. graph_added p tags (2 * length p.methods) (node_of a) (node_of b) (node_low (length p.methods) a.method a.mode (slice_get_within p.methods a.method c.m c.at.in_program)) (call_there a b i c);
+    only = λ a y e. call_back a y (graph_old p tags (2 * length p.methods) (node_of a) y e).1;
+  }

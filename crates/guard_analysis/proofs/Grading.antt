@@ -1,0 +1,211 @@
+-- The grade of an instruction is the first rule by which it forbids the section of its method.
+use Rattle.std.proofs.Common.{◌≡◌, ℕ, zero, suc, ◌+◌, ◌*◌, ◌<◌, ◌≤◌, ◌≢◌, Bool, true, false, List, [], ◌∷◌, ◌++◌, length, Option, Some, None, refl, sym, ap, subst, ◌∙◌, arith, ⊎_elim, inl, inr, ◌⊎◌}
+use Rattle.std.specs.Prelude.{◌↔◌, if◌then◌else◌, slice_get, slice_index, slice_index_or}
+use Rattle.std.proofs.lemmas.Bool.{cases_eq}
+use Rattle.std.proofs.lemmas.List.{length-append, get_or_append_left, get_or_push}
+use Rattle.std.proofs.lemmas.Option.{slice_get_within, same_Some}
+use Rattle.jvm_types.specs.ProgramInvariant.{IsProgram}
+use Rattle.jvm_types.specs.declared.code.Op.{Op}
+use Rattle.jvm_types.specs.declared.code.Op.TheVariants as ops
+use Rattle.jvm_types.specs.declared.program.Target.{Target}
+use Rattle.jvm_types.specs.declared.program.Target.TheVariants as targets
+use Rattle.jvm_types.specs.declared.program.MethodInfo.{MethodInfo}
+use Rattle.jvm_types.specs.declared.program.Program.{Program}
+use Rattle.checked_program.specs.LockTags.{TagShape}
+use Rattle.checked_program.specs.TaggedCode.{Tagged, tagged_by, IsAt}
+use Rattle.checked_program.specs.Marks.{Callee, callee, Calls, BreaksAt, fault, enter_fault, call_fault, read_fault, is_locking, receiver_tag, is_own_object, mode_if, called_method}
+use Rattle.checked_program.specs.declared.tag.Tag.{Tag}
+use Rattle.checked_program.specs.declared.tag.Tags.{Tags}
+use Rattle.checked_program.specs.declared.section.Mode.{Mode}
+use Rattle.checked_program.specs.declared.section.Mode.TheVariants.{OnThis, OffThis}
+use Rattle.checked_program.specs.declared.section.FieldUse.{FieldUse}
+use Rattle.checked_program.specs.declared.section.FieldUse.TheVariants.{Frozen, Guarded, Open}
+use Rattle.guard_analysis.specs.CallGraph.{mode_number, node_of, call_at, call_node}
+use Rattle.guard_analysis.specs.Faults.{fault_at, grade_of, grade_at, grades_before, AreCallees, LeadsToBreak, LeadsToItself}
+use Rattle.guard_analysis.specs.SectionGrades.{Forbids, breaks, calls, recurs, IsGrade, AreGrades}
+use Rattle.guard_analysis.proofs.CallEdges.{with_tags, frames_there, called_inside, call_parts, node_parts, node_there}
+use Rattle.guard_analysis.proofs.CalleesFound.{breaks_one, same_callee}
+
+-- ---- no instruction breaks a rule beyond M5
+
+enter_low : (b : Bool) → enter_fault b ≤ 5
+enter_low true = omega arith
+enter_low false = omega arith
+
+call_low : (b own : Bool) → call_fault b own ≤ 5
+call_low true own = enter_low own
+call_low false own = omega arith
+
+read_low : (u : FieldUse) (own : Bool) → read_fault u own ≤ 5
+read_low Frozen own = omega arith
+read_low Guarded true = omega arith
+read_low Guarded false = omega arith
+read_low Open own = omega arith
+
+pub fault_low : (p : Program) (uses : List FieldUse) (mode : Mode) (op : Op) (target : Target) (stack : List Tag) → fault p uses mode op target stack ≤ 5
+fault_low p uses mode ops.Monitorenter target stack = enter_low _
+fault_low p uses mode (ops.Invokevirtual i) (targets.Method u) stack = call_low _ _
+fault_low p uses mode (ops.Invokespecial i) (targets.Method u) stack = call_low _ _
+fault_low p uses mode (ops.Getfield i) (targets.Field fi) stack = read_low _ _
+fault_low p uses mode (ops.Getstatic i) (targets.Field fi) stack = omega arith
+fault_low p uses mode op target stack = omega arith
+
+pub forbids_low : (p : Program) (tags : Tagged) (uses : List FieldUse) (mi i k : ℕ) → Forbids p tags uses mi i k → (0 < k) × (k ≤ 7)
+forbids_low p tags uses mi i k (breaks n b) = let low : n ≤ 5 = subst (λ x. x ≤ 5) b.fault_is (fault_low p uses OnThis b.insn.op b.target b.f.stack) in (b.some, omega (arith, low))
+forbids_low p tags uses mi i k (calls first c l) = (omega arith, omega arith)
+forbids_low p tags uses mi i k (recurs first c l) = (omega arith, omega arith)
+
+-- ---- of a method with its frames
+
+module _ (p : Program) (uses : List FieldUse) (tags : List Tags) (is : IsProgram p) (mi : ℕ) (m : MethodInfo) (t : Tags) (at_m : slice_get p.methods mi ≡ Some m) (at_t : slice_get tags mi ≡ Some t) where
+  abbrev on_this : Callee
+  on_this = callee mi OnThis
+
+  abbrev own_fault : ℕ → ℕ
+  own_fault i = fault_at p uses OnThis (slice_get m.code i) (slice_get m.targets i) (slice_get t.frames i)
+
+  abbrev own_call : ℕ → Option ℕ
+  own_call i = call_at p OnThis (slice_get m.code i) (slice_get m.targets i) (slice_get t.frames i)
+
+  frame_is : (i : ℕ) (frames : List (Option TagShape)) (f : TagShape) → slice_get (tagged_by tags) mi ≡ Some frames → slice_get frames i ≡ Some (Some f) → slice_get t.frames i ≡ Some (Some f)
+  frame_is i frames f e g =
+      let has = with_tags p tags is mi frames e in
+      let same : t ≡ has.0 = same_Some t has.0 (sym at_t ∙ has.1) in
+      subst (λ l. slice_get l i ≡ Some (Some f)) (sym (ap (λ (x : Tags). x.frames) same ∙ has.2)) g
+
+  method_is : (n : MethodInfo) → slice_get p.methods mi ≡ Some n → n ≡ m
+  method_is n e = same_Some n m (sym e ∙ at_m)
+
+  fault_known : (i n : ℕ) → BreaksAt p (tagged_by tags) uses on_this i n → own_fault i ≡ n
+  fault_known i n k =
+      let code : slice_get m.code i ≡ Some k.insn = subst (λ (x : MethodInfo). slice_get x.code i ≡ Some k.insn) (method_is k.m k.at.in_program) k.at.in_code in
+      let target : slice_get m.targets i ≡ Some k.target = subst (λ (x : MethodInfo). slice_get x.targets i ≡ Some k.target) (method_is k.m k.at.in_program) k.at.names in
+      let frame : slice_get t.frames i ≡ Some (Some k.f) = frame_is i k.at.frames k.f k.at.of_method k.at.frame in
+      rw (code, target, frame) k.fault_is
+
+  call_known : (i : ℕ) (b : Callee) → Calls p (tagged_by tags) on_this i b → own_call i ≡ Some (node_of b)
+  call_known i b k =
+      let code : slice_get m.code i ≡ Some k.insn = subst (λ (x : MethodInfo). slice_get x.code i ≡ Some k.insn) (method_is k.m k.at.in_program) k.at.in_code in
+      let target : slice_get m.targets i ≡ Some k.target = subst (λ (x : MethodInfo). slice_get x.targets i ≡ Some k.target) (method_is k.m k.at.in_program) k.at.names in
+      let frame : slice_get t.frames i ≡ Some (Some k.f) = frame_is i k.at.frames k.f k.at.of_method k.at.frame in
+      let node : call_node p OnThis k.insn.op k.target k.f.stack ≡ Some (node_of b) =
+          node_there (length p.methods) b.method (called_method k.insn.op k.target) (mode_if (is_own_object OnThis (receiver_tag p k.insn.op k.target k.f.stack))) k.called (called_inside p (tagged_by tags) is on_this b i k)
+          ∙ ap (λ (mode : Mode). Some (2 * b.method + mode_number mode)) (sym k.mode_is) in
+      rw (code, target, frame) node
+
+  call_found : (i y : ℕ) → own_call i ≡ Some y → (b : Callee) × (node_of b ≡ y) × (b.method < length p.methods) × Calls p (tagged_by tags) on_this i b
+  call_found i y e =
+      let parts = call_parts p OnThis (slice_get m.code i) (slice_get m.targets i) (slice_get t.frames i) y e in
+      let mode : Mode = mode_if (is_own_object OnThis (receiver_tag p parts.insn.op parts.target parts.f.stack)) in
+      let named = node_parts (length p.methods) (called_method parts.insn.op parts.target) mode y parts.call in
+      (
+        callee named.0 mode,
+        named.3,
+        named.2,
+        record {
+          m = m;
+          insn = parts.insn;
+          target = parts.target;
+          f = parts.f;
+          at = record { in_program = at_m; in_code = parts.is_insn; names = parts.is_target; frames = t.frames; of_method = frames_there p tags is mi t at_t; frame = parts.is_frame };
+          called = named.1;
+          mode_is = refl;
+        },
+      )
+
+  module _ (broken again : List Bool) (are : AreCallees p (tagged_by tags) uses broken again) where
+    abbrev Grade : ℕ → ℕ → Type 0
+    Grade i n = IsGrade p (tagged_by tags) uses mi i n
+
+    -- where the instruction breaks a rule by itself
+    by_fault : (i n : ℕ) → own_fault i ≡ suc n → Grade i (suc n)
+    by_fault i n e = record {
+      forbids = λ h. breaks (suc n) (subst (λ x. BreaksAt p (tagged_by tags) uses on_this i x) e (breaks_one p uses tags is on_this m t i at_m at_t (omega (arith, e))));
+      first = λ k f. (omega arith, least k f);
+    }
+      where
+        low : suc n ≤ 5
+        low = let b = breaks_one p uses tags is on_this m t i at_m at_t (omega (arith, e)) in let most : own_fault i ≤ 5 = subst (λ x. x ≤ 5) b.fault_is (fault_low p uses OnThis b.insn.op b.target b.f.stack) in omega (arith, most, e)
+
+        least : (k : ℕ) → Forbids p (tagged_by tags) uses mi i k → suc n ≤ k
+        least k (breaks x b) = omega (arith, fault_known i x b, e)
+        least k (calls first c l) = omega (arith, low)
+        least k (recurs first c l) = omega (arith, low)
+
+    -- where it breaks none and calls none
+    by_none : (i : ℕ) → own_fault i ≡ 0 → own_call i ≡ None → Grade i 0
+    by_none i e c = record { forbids = λ h. absurd (omega (arith, h)); first = λ k f. absurd (none k f) }
+      where
+        none : (k : ℕ) → Forbids p (tagged_by tags) uses mi i k → ⊥
+        none k (breaks x b) = omega (arith, fault_known i x b, e, b.some)
+        none k (calls first d l) = let bad : None ≡ Some (node_of first) = sym c ∙ call_known i first d in cc
+        none k (recurs first d l) = let bad : None ≡ Some (node_of first) = sym c ∙ call_known i first d in cc
+
+    -- where it breaks none and calls a node
+    by_call : (i y : ℕ) → own_fault i ≡ 0 → own_call i ≡ Some y → (s r : Bool) → slice_index_or broken y false ≡ s → slice_index_or again y false ≡ r → Grade i (if s then 6 else if r then 7 else 0)
+    by_call i y e c s r f g = by_flags s r f g
+      where
+        found : (b : Callee) × (node_of b ≡ y) × (b.method < length p.methods) × Calls p (tagged_by tags) on_this i b
+        found = call_found i y c
+
+        same : (b : Callee) → Calls p (tagged_by tags) on_this i b → b ≡ found.0
+        same b k = same_callee b found.0 (same_Some (node_of b) y (sym (call_known i b k) ∙ c) ∙ sym found.1)
+
+        no_break : (x : ℕ) → BreaksAt p (tagged_by tags) uses on_this i x → ⊥
+        no_break x b = omega (arith, fault_known i x b, e, b.some)
+
+        flag_broken : (b : Callee) → Calls p (tagged_by tags) on_this i b → LeadsToBreak p (tagged_by tags) uses b → slice_index_or broken y false ≡ true
+        flag_broken b k l = subst (λ x. slice_index_or broken x false ≡ true) found.1 ((are.broken found.0 found.2).1 (subst (LeadsToBreak p (tagged_by tags) uses) (same b k) l))
+
+        flag_again : (b : Callee) → Calls p (tagged_by tags) on_this i b → LeadsToItself p (tagged_by tags) b → slice_index_or again y false ≡ true
+        flag_again b k l = subst (λ x. slice_index_or again x false ≡ true) found.1 ((are.again found.0 found.2).1 (subst (LeadsToItself p (tagged_by tags)) (same b k) l))
+
+        at_least_six : (k : ℕ) → Forbids p (tagged_by tags) uses mi i k → 6 ≤ k
+        at_least_six k (breaks x b) = absurd (no_break x b)
+        at_least_six k (calls first d l) = omega arith
+        at_least_six k (recurs first d l) = omega arith
+
+        at_least_seven : slice_index_or broken y false ≡ false → (k : ℕ) → Forbids p (tagged_by tags) uses mi i k → 7 ≤ k
+        at_least_seven w k (breaks x b) = absurd (no_break x b)
+        at_least_seven w k (calls first d l) = absurd (let bad : true ≡ false = sym (flag_broken first d l) ∙ w in cc)
+        at_least_seven w k (recurs first d l) = omega arith
+
+        none_at_all : slice_index_or broken y false ≡ false → slice_index_or again y false ≡ false → (k : ℕ) → Forbids p (tagged_by tags) uses mi i k → ⊥
+        none_at_all w v k (breaks x b) = no_break x b
+        none_at_all w v k (calls first d l) = let bad : true ≡ false = sym (flag_broken first d l) ∙ w in cc
+        none_at_all w v k (recurs first d l) = let bad : true ≡ false = sym (flag_again first d l) ∙ v in cc
+
+        by_flags : (s r : Bool) → slice_index_or broken y false ≡ s → slice_index_or again y false ≡ r → Grade i (if s then 6 else if r then 7 else 0)
+        by_flags true r w v = record {
+          forbids = λ h. calls found.0 found.3 ((are.broken found.0 found.2).0 (subst (λ x. slice_index_or broken x false ≡ true) (sym found.1) w));
+          first = λ k q. (omega arith, at_least_six k q);
+        }
+        by_flags false true w v = record {
+          forbids = λ h. recurs found.0 found.3 ((are.again found.0 found.2).0 (subst (λ x. slice_index_or again x false ≡ true) (sym found.1) v));
+          first = λ k q. (omega arith, at_least_seven w k q);
+        }
+        by_flags false false w v = record { forbids = λ h. absurd (omega (arith, h)); first = λ k q. absurd (none_at_all w v k q) }
+
+    grade_is : (i : ℕ) → Grade i (grade_at p uses broken again m t.frames i)
+    grade_is i = by_parts (own_fault i) (own_call i) refl refl
+      where
+        by_parts : (n : ℕ) (o : Option ℕ) → own_fault i ≡ n → own_call i ≡ o → Grade i (grade_of n o broken again)
+        by_parts zero None e c = by_none i e c
+        by_parts zero (Some y) e c = by_call i y e c (slice_index_or broken y false) (slice_index_or again y false) refl refl
+        by_parts (suc n) o e c = by_fault i n e
+
+    grades_long : (n : ℕ) → length (grades_before p uses broken again m t.frames n) ≡ n
+    grades_long zero = refl
+    grades_long (suc n) = length-append (grades_before p uses broken again m t.frames n) _ ∙ ap (λ k. k + 1) (grades_long n) ∙ omega arith
+
+    grades_at : (n i : ℕ) → i < n → slice_index (grades_before p uses broken again m t.frames n) i ≡ grade_at p uses broken again m t.frames i
+    grades_at zero i l = absurd (omega (arith, l))
+    grades_at (suc n) i l = ⊎_elim
+        (λ (q : i ≡ n). get_or_push (grades_before p uses broken again m t.frames n) (grade_at p uses broken again m t.frames n) 0 i (grades_long n ∙ sym q) ∙ ap (grade_at p uses broken again m t.frames) (sym q))
+        (λ (q : i ≢ n). let low : i < n = omega (arith, l, q) in
+        get_or_append_left (grades_before p uses broken again m t.frames n) _ 0 i (subst (λ k. i < k) (sym (grades_long n)) low) ∙ grades_at n i low)
+        (cases_eq i n)
+
+    pub are_grades : (grades : List ℕ) → grades ≡ grades_before p uses broken again m t.frames (length m.code) → AreGrades p (tagged_by tags) uses mi m grades
+    are_grades grades e = subst (AreGrades p (tagged_by tags) uses mi m) (sym e)
+        (record { long = grades_long (length m.code); each = λ i l. subst (Grade i) (sym (grades_at (length m.code) i l)) (grade_is i) })

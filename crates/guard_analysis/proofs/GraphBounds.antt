@@ -1,0 +1,85 @@
+-- The graph of calls is one of few edges.
+use Rattle.std.proofs.Common.{◌≡◌, ℕ, zero, suc, ◌+◌, ◌*◌, ◌/◌, ◌<◌, ◌≤◌, List, [], ◌∷◌, ◌++◌, length, Option, Some, None, refl, sym, ap, subst, ◌∙◌, arith, IsTrue}
+use Rattle.std.specs.Prelude.{slice_get, slice_index}
+use Rattle.std.specs.List.{sum_by}
+use Rattle.std.proofs.lemmas.List.{length-append}
+use Rattle.std.proofs.lemmas.List.Sums.{sum_by-cons}
+use Rattle.std.proofs.lemmas.Option.{slice_get_within}
+use Rattle.jvm_types.specs.ProgramInvariant.{IsProgram, most_instructions}
+use Rattle.jvm_types.specs.declared.program.MethodInfo.{MethodInfo}
+use Rattle.jvm_types.specs.declared.program.Program.{Program}
+use Rattle.program_laws.proofs.CodeOrder.{methods_laid_out, starts}
+use Rattle.checked_program.specs.LockTags.{TagShape}
+use Rattle.checked_program.specs.Reach.{size_of}
+use Rattle.checked_program.specs.declared.tag.Tags.{Tags}
+use Rattle.spread.specs.Walks.{IsEdge}
+use Rattle.spread.specs.LeastSet.{IsGraph}
+use Rattle.guard_analysis.specs.CallGraph.{with_edge, edges_before, node_edges, graph_before, call_graph, call_at}
+use Rattle.guard_analysis.specs.declared.call_graph.Graph.{Graph}
+use Rattle.guard_analysis.proofs.GraphEdges.{graph_alike, graph_old, the_call}
+use Rattle.guard_analysis.proofs.CallEdges.{call_parts, node_parts, node_low}
+
+with_few : (a : ℕ) (g : Graph) (c : Option ℕ) → length (with_edge a g c).from ≤ length g.from + 1
+with_few a g None = omega arith
+with_few a g (Some b) = omega (arith, length-append g.from (a ∷ []))
+
+edges_few : (p : Program) (m : MethodInfo) (frames : List (Option TagShape)) (a : ℕ) (g : Graph) (i : ℕ) → length (edges_before p m frames a g i).from ≤ length g.from + i
+edges_few p m frames a g zero = omega arith
+edges_few p m frames a g (suc i) = omega (arith, with_few a (edges_before p m frames a g i) (the_call p m frames a i), edges_few p m frames a g i)
+
+node_few : (p : Program) (om : Option MethodInfo) (ot : Option Tags) (a : ℕ) (g : Graph) → length (node_edges p om ot a g).from ≤ length g.from + size_of om
+node_few p (Some m) (Some t) a g = edges_few p m t.frames a g (length m.code)
+node_few p (Some m) None a g = omega arith
+node_few p None ot a g = omega arith
+
+-- ---- all instructions, each counted for both modes
+
+sizes : List MethodInfo → ℕ → ℕ
+sizes ms zero = 0
+sizes ms (suc a) = sizes ms a + size_of (slice_get ms (a / 2))
+
+graph_few : (p : Program) (tags : List Tags) (n : ℕ) → length (graph_before p tags n).from ≤ sizes p.methods n
+unfolding sizes
+graph_few p tags zero = omega arith
+graph_few p tags (suc a) = omega (arith, node_few p (slice_get p.methods (a / 2)) (slice_get tags (a / 2)) a (graph_before p tags a), graph_few p tags a)
+
+sizes_behind : (m : MethodInfo) (ms : List MethodInfo) (k : ℕ) → sizes (m ∷ ms) (suc (suc k)) ≡ 2 * length m.code + sizes ms k
+unfolding sizes
+sizes_behind m ms zero = omega arith
+sizes_behind m ms (suc k) =
+    let half : suc (suc k) / 2 ≡ suc (k / 2) = omega arith in
+    let more : sizes (m ∷ ms) (suc (suc k)) ≡ 2 * length m.code + sizes ms k = sizes_behind m ms k in
+    rw half (omega (arith, more))
+
+sizes_all : (ms : List MethodInfo) → sizes ms (2 * length ms) ≡ 2 * sum_by (λ m. length m.code) ms
+unfolding sizes
+sizes_all [] = refl
+sizes_all (m ∷ ms) =
+    let two : 2 * length (m ∷ ms) ≡ suc (suc (2 * length ms)) = omega arith in
+    let more : sizes ms (2 * length ms) ≡ 2 * sum_by (λ m. length m.code) ms = sizes_all ms in
+    let sum : sum_by (λ m. length m.code) (m ∷ ms) ≡ length m.code + sum_by (λ m. length m.code) ms = sum_by-cons (λ m. length m.code) m ms in
+    rw two (sizes_behind m ms (2 * length ms) ∙ omega (arith, more, sum))
+
+-- ---- each method has an instruction
+
+some_each : (ms : List MethodInfo) → ((i : ℕ) (m : MethodInfo) → slice_get ms i ≡ Some m → 0 < length m.code) → length ms ≤ sum_by (λ m. length m.code) ms
+some_each [] h = omega arith
+some_each (m ∷ ms) h = omega (arith, sum_by-cons (λ m. length m.code) m ms, h 0 m refl, some_each ms (λ i n e. h (suc i) n e))
+
+pub methods_few : (p : Program) → IsProgram p → length p.methods ≤ most_instructions
+methods_few p is =
+    let low : length p.methods ≤ sum_by (λ m. length m.code) p.methods = some_each p.methods (λ i m e. let first = starts m (methods_laid_out p i m is e) in slice_get_within m.code 0 first.0 first.1) in
+    let size : sum_by (λ m. length m.code) p.methods ≤ most_instructions = is.size in
+    omega (arith, low, size)
+
+pub is_graph : (p : Program) (tags : List Tags) → IsProgram p → IsGraph (2 * length p.methods) (call_graph p tags).from (call_graph p tags).to
+is_graph p tags is = record {
+  alike = graph_alike p tags (2 * length p.methods);
+  few = let size : sum_by (λ m. length m.code) p.methods ≤ 67108864 = is.size in omega (arith, graph_few p tags (2 * length p.methods), sizes_all p.methods, size);
+  starts = λ e l. (graph_old p tags (2 * length p.methods) (slice_index (call_graph p tags).from e) (slice_index (call_graph p tags).to e) (e, l, refl, refl)).0;
+  ends = λ e l.
+      let c = (graph_old p tags (2 * length p.methods) (slice_index (call_graph p tags).from e) (slice_index (call_graph p tags).to e) (e, l, refl, refl)).1 in
+      let parts = call_parts p _ _ _ _ _ c.call in
+      let named = node_parts (length p.methods) _ _ _ parts.call in
+      subst (λ y. y < 2 * length p.methods) named.3 (node_low (length p.methods) named.0 _ named.2);
+}

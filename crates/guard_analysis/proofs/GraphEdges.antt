@@ -1,0 +1,148 @@
+-- The edges of the graph of calls are the calls.
+use Rattle.std.proofs.Common.{◌≡◌, ℕ, zero, suc, ◌+◌, ◌*◌, ◌/◌, ◌%◌, ◌<◌, ◌≤◌, ◌≢◌, Bool, true, false, List, [], ◌∷◌, ◌++◌, length, Option, Some, None, refl, sym, ap, subst, ◌∙◌, arith, ⊎_elim, inl, inr, ◌⊎◌}
+use Rattle.std.specs.Prelude.{◌==◌, nat_lt, if◌then◌else◌, slice_get, slice_index}
+use Rattle.std.specs.Option.{option_map}
+use Rattle.std.proofs.lemmas.Bool.{cases_eq}
+use Rattle.std.proofs.lemmas.Bool.Decides.{nat_tests}
+use Rattle.std.proofs.lemmas.List.{length-append, get_or_append_left, get_or_push}
+use Rattle.std.proofs.lemmas.Option.{slice_get-map, slice_get_within, same_Some}
+use Rattle.jvm_types.specs.declared.code.Insn.{Insn}
+use Rattle.jvm_types.specs.declared.code.Op.{Op}
+use Rattle.jvm_types.specs.declared.program.Target.{Target}
+use Rattle.jvm_types.specs.declared.program.MethodInfo.{MethodInfo}
+use Rattle.jvm_types.specs.declared.program.Program.{Program}
+use Rattle.checked_program.specs.LockTags.{TagShape}
+use Rattle.checked_program.specs.TaggedCode.{Tagged, tagged_by, IsAt}
+use Rattle.checked_program.specs.Marks.{Callee, callee, Calls, called_method, receiver_tag, is_own_object, mode_if}
+use Rattle.checked_program.specs.declared.tag.Tag.{Tag}
+use Rattle.checked_program.specs.declared.tag.Tags.{Tags}
+use Rattle.checked_program.specs.declared.section.Mode.{Mode}
+use Rattle.checked_program.specs.declared.section.Mode.TheVariants.{OnThis, OffThis}
+use Rattle.spread.specs.Walks.{IsEdge}
+use Rattle.guard_analysis.specs.CallGraph.{mode_number, node_of, mode_at, AreCalls, node_in, call_node, call_at, no_edges, with_edge, edges_before, node_edges, graph_before, call_graph}
+use Rattle.guard_analysis.specs.declared.call_graph.Graph.{Graph}
+
+-- ---- one edge more
+
+module _ (from to : List ℕ) (alike : length from ≡ length to) (a b : ℕ) where
+  edge_kept : (x y : ℕ) → IsEdge from to x y → IsEdge (from ++ a ∷ []) (to ++ b ∷ []) x y
+  edge_kept x y e =
+      let low : e.0 < length from = e.1 in
+      (e.0, rw length-append (omega (arith, low)), get_or_append_left from (a ∷ []) 0 e.0 low ∙ e.2, get_or_append_left to (b ∷ []) 0 e.0 (omega (arith, low, alike)) ∙ e.3)
+
+  edge_added : IsEdge (from ++ a ∷ []) (to ++ b ∷ []) a b
+  edge_added = (length from, rw length-append (omega arith), get_or_push from a 0 (length from) refl, get_or_push to b 0 (length from) (sym alike))
+
+  edge_old : (x y : ℕ) → IsEdge (from ++ a ∷ []) (to ++ b ∷ []) x y → IsEdge from to x y ⊎ ((x ≡ a) × (y ≡ b))
+  edge_old x y e = ⊎_elim
+      (λ (q : e.0 ≡ length from). inr (sym e.2 ∙ get_or_push from a 0 e.0 (sym q), sym e.3 ∙ get_or_push to b 0 e.0 (sym alike ∙ sym q)))
+      (λ (q : e.0 ≢ length from).
+      let total : length (from ++ a ∷ []) ≡ length from + 1 = length-append from (a ∷ []) in
+      let is_low : e.0 < length (from ++ a ∷ []) = e.1 in
+      let low : e.0 < length from = omega (arith, is_low, total, q) in
+      inl (e.0, low, sym (get_or_append_left from (a ∷ []) 0 e.0 low) ∙ e.2, sym (get_or_append_left to (b ∷ []) 0 e.0 (omega (arith, low, alike))) ∙ e.3))
+      (cases_eq e.0 (length from))
+
+abbrev pub IsAlike : Graph → Type 0
+IsAlike g = length g.from ≡ length g.to
+
+with_alike : (a : ℕ) (g : Graph) (c : Option ℕ) → IsAlike g → IsAlike (with_edge a g c)
+with_alike a g None l = l
+with_alike a g (Some b) l = length-append g.from (a ∷ []) ∙ ap (λ n. n + 1) l ∙ sym (length-append g.to (b ∷ []))
+
+with_kept : (a : ℕ) (g : Graph) (c : Option ℕ) (x y : ℕ) → IsAlike g → IsEdge g.from g.to x y → IsEdge (with_edge a g c).from (with_edge a g c).to x y
+with_kept a g None x y l e = e
+with_kept a g (Some b) x y l e = edge_kept g.from g.to l a b x y e
+
+with_added : (a : ℕ) (g : Graph) (c : Option ℕ) (b : ℕ) → IsAlike g → c ≡ Some b → IsEdge (with_edge a g c).from (with_edge a g c).to a b
+with_added a g c b l q = rw q (edge_added g.from g.to l a b)
+
+with_old : (a : ℕ) (g : Graph) (c : Option ℕ) (x y : ℕ) → IsAlike g → IsEdge (with_edge a g c).from (with_edge a g c).to x y → IsEdge g.from g.to x y ⊎ ((x ≡ a) × (c ≡ Some y))
+with_old a g None x y l e = inl e
+with_old a g (Some b) x y l e = ⊎_elim (λ k. inl k) (λ k. inr (k.0, ap Some (sym k.1))) (edge_old g.from g.to l a b x y e)
+
+-- ---- the calls of one node
+
+abbrev pub the_call : Program → MethodInfo → List (Option TagShape) → ℕ → ℕ → Option ℕ
+the_call p m frames a i = call_at p (mode_at a) (slice_get m.code i) (slice_get m.targets i) (slice_get frames i)
+
+module _ (p : Program) (m : MethodInfo) (frames : List (Option TagShape)) (a : ℕ) (g : Graph) (l : IsAlike g) where
+  before_alike : (i : ℕ) → IsAlike (edges_before p m frames a g i)
+  before_alike zero = l
+  before_alike (suc i) = with_alike a (edges_before p m frames a g i) (the_call p m frames a i) (before_alike i)
+
+  before_kept : (i x y : ℕ) → IsEdge g.from g.to x y → IsEdge (edges_before p m frames a g i).from (edges_before p m frames a g i).to x y
+  before_kept zero x y e = e
+  before_kept (suc i) x y e = with_kept a (edges_before p m frames a g i) (the_call p m frames a i) x y (before_alike i) (before_kept i x y e)
+
+  before_added : (i j b : ℕ) → j < i → the_call p m frames a j ≡ Some b → IsEdge (edges_before p m frames a g i).from (edges_before p m frames a g i).to a b
+  before_added zero j b h c = absurd (omega (arith, h))
+  before_added (suc i) j b h c = ⊎_elim
+      (λ (q : j ≡ i). with_added a (edges_before p m frames a g i) (the_call p m frames a i) b (before_alike i) (subst (λ k. the_call p m frames a k ≡ Some b) q c))
+      (λ (q : j ≢ i). with_kept a (edges_before p m frames a g i) (the_call p m frames a i) a b (before_alike i) (before_added i j b (omega (arith, h, q)) c))
+      (cases_eq j i)
+
+  before_old : (i x y : ℕ) → IsEdge (edges_before p m frames a g i).from (edges_before p m frames a g i).to x y → IsEdge g.from g.to x y ⊎ ((x ≡ a) × ((j : ℕ) × (the_call p m frames a j ≡ Some y)))
+  before_old zero x y e = inl e
+  before_old (suc i) x y e = ⊎_elim (λ k. before_old i x y k) (λ k. inr (k.0, (i, k.1))) (with_old a (edges_before p m frames a g i) (the_call p m frames a i) x y (before_alike i) e)
+
+-- ---- the calls of the first nodes
+
+-- a call of the method of a node
+pub record CallAt (p : Program) (om : Option MethodInfo) (ot : Option Tags) (a y : ℕ) : Type 0 where
+  pub m : MethodInfo
+  pub is_m : om ≡ Some m
+  pub t : Tags
+  pub is_t : ot ≡ Some t
+  pub i : ℕ
+  pub inside : i < length m.code
+  pub call : the_call p m t.frames a i ≡ Some y
+
+pub the_call_past : (p : Program) (m : MethodInfo) (frames : List (Option TagShape)) (a i y : ℕ) → the_call p m frames a i ≡ Some y → i < length m.code
+the_call_past p m frames a i y c = by_insn (slice_get m.code i) refl c
+  where
+    by_insn : (o : Option Insn) → slice_get m.code i ≡ o → call_at p (mode_at a) o (slice_get m.targets i) (slice_get frames i) ≡ Some y → i < length m.code
+    by_insn (Some insn) e k = slice_get_within m.code i insn e
+    by_insn None e k = absurd (let bad : None ≡ Some y = k in cc)
+
+node_alike : (p : Program) (om : Option MethodInfo) (ot : Option Tags) (a : ℕ) (g : Graph) → IsAlike g → IsAlike (node_edges p om ot a g)
+node_alike p (Some m) (Some t) a g l = before_alike p m t.frames a g l (length m.code)
+node_alike p (Some m) None a g l = l
+node_alike p None ot a g l = l
+
+node_kept : (p : Program) (om : Option MethodInfo) (ot : Option Tags) (a : ℕ) (g : Graph) (x y : ℕ) → IsAlike g → IsEdge g.from g.to x y → IsEdge (node_edges p om ot a g).from (node_edges p om ot a g).to x y
+node_kept p (Some m) (Some t) a g x y l e = before_kept p m t.frames a g l (length m.code) x y e
+node_kept p (Some m) None a g x y l e = e
+node_kept p None ot a g x y l e = e
+
+node_added : (p : Program) (om : Option MethodInfo) (ot : Option Tags) (a : ℕ) (g : Graph) (y : ℕ) → IsAlike g → CallAt p om ot a y → IsEdge (node_edges p om ot a g).from (node_edges p om ot a g).to a y
+node_added p om ot a g y l c = rw (c.is_m, c.is_t) (before_added p c.m c.t.frames a g l (length c.m.code) c.i y c.inside c.call)
+
+node_old : (p : Program) (om : Option MethodInfo) (ot : Option Tags) (a : ℕ) (g : Graph) (x y : ℕ) → IsAlike g → IsEdge (node_edges p om ot a g).from (node_edges p om ot a g).to x y → IsEdge g.from g.to x y ⊎ ((x ≡ a) × CallAt p om ot a y)
+node_old p (Some m) (Some t) a g x y l e =
+    ⊎_elim (λ k. inl k) (λ k. inr (k.0, record { m = m; is_m = refl; t = t; is_t = refl; i = k.1.0; inside = the_call_past p m t.frames a k.1.0 y k.1.1; call = k.1.1 }))
+    (before_old p m t.frames a g l (length m.code) x y e)
+node_old p (Some m) None a g x y l e = inl e
+node_old p None ot a g x y l e = inl e
+
+module _ (p : Program) (tags : List Tags) where
+  abbrev CallFrom : ℕ → ℕ → Type 0
+  CallFrom a y = CallAt p (slice_get p.methods (a / 2)) (slice_get tags (a / 2)) a y
+
+  pub graph_alike : (n : ℕ) → IsAlike (graph_before p tags n)
+  graph_alike zero = refl
+  graph_alike (suc a) = node_alike p (slice_get p.methods (a / 2)) (slice_get tags (a / 2)) a (graph_before p tags a) (graph_alike a)
+
+  pub graph_added : (n a y : ℕ) → a < n → CallFrom a y → IsEdge (graph_before p tags n).from (graph_before p tags n).to a y
+  graph_added zero a y h c = absurd (omega (arith, h))
+  graph_added (suc n) a y h c = ⊎_elim
+      (λ (q : a ≡ n). subst (λ k. IsEdge (graph_before p tags (suc k)).from (graph_before p tags (suc k)).to a y) q (node_added p (slice_get p.methods (a / 2)) (slice_get tags (a / 2)) a (graph_before p tags a) y (graph_alike a) c))
+      (λ (q : a ≢ n). node_kept p (slice_get p.methods (n / 2)) (slice_get tags (n / 2)) n (graph_before p tags n) a y (graph_alike n) (graph_added n a y (omega (arith, h, q)) c))
+      (cases_eq a n)
+
+  pub graph_old : (n x y : ℕ) → IsEdge (graph_before p tags n).from (graph_before p tags n).to x y → (x < n) × CallFrom x y
+  graph_old zero x y e = absurd (let low : e.0 < 0 = e.1 in omega (arith, low))
+  graph_old (suc n) x y e = ⊎_elim
+      (λ k. let r = graph_old n x y k in let low : x < n = r.0 in (omega (arith, low), r.1))
+      (λ k. (let same : x ≡ n = k.0 in omega (arith, same), subst (λ z. CallFrom z y) (sym k.0) k.1))
+      (node_old p (slice_get p.methods (n / 2)) (slice_get tags (n / 2)) n (graph_before p tags n) x y (graph_alike n) e)

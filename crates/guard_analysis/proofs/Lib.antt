@@ -1,0 +1,10 @@
+pub mod GraphEdges
+pub mod CallEdges
+pub mod GraphBounds
+pub mod CalleesFound
+pub mod BlockWalkLaws
+pub mod Earliest
+pub mod Grading
+pub mod SectionMarks
+pub mod BlockMarks
+pub mod MarkLists

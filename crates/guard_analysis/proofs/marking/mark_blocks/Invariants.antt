@@ -1,0 +1,13 @@
+use Rattle.std.proofs.Common.{◌≡◌, map, drop}
+use Rattle.std.specs.List.{filter_map}
+use Rattle.jvm_types.specs.declared.code.Insn.{Insn}
+use Rattle.checked_program.specs.TaggedCode.{tagged_by}
+use Rattle.checked_program.specs.Sections.{block_at}
+use Rattle.guard_analysis.specs.SectionGrades.{section_in, IsFresh, MarksUpTo}
+use Rattle.guard_analysis.proofs.marking.mark_blocks.Given as goal
+
+abbrev pub invariant-loop-i : goal.invariant-loop-i
+invariant-loop-i l = record {
+  fresh : IsFresh l.m l.i l.walk;
+  marks : MarksUpTo l.p (tagged_by l.tags) l.uses l.method l.m.code l.i l.fn.marks l.marks;
+}

@@ -1,0 +1,70 @@
+-- What the instructions of a method break, one after the other, and what the methods break that they call.
+use Rattle.std.specs.Prelude.{◌≡◌, ◌<◌, ◌↔◌, ◌*◌, ◌/◌, ℕ, zero, suc, Bool, true, false, ◌||◌, nat_lt, if◌then◌else◌, List, [], ◌∷◌, ◌++◌, length, Option, Some, None, slice_get, slice_index_or}
+use Rattle.jvm_types.specs.declared.code.Insn.{Insn}
+use Rattle.jvm_types.specs.declared.program.Target.{Target}
+use Rattle.jvm_types.specs.declared.program.MethodInfo.{MethodInfo}
+use Rattle.jvm_types.specs.declared.program.Program.{Program}
+use Rattle.checked_program.specs.LockTags.{TagShape}
+use Rattle.checked_program.specs.TaggedCode.{Tagged}
+use Rattle.checked_program.specs.Marks.{Callee, callee, Calls, CallsThrough, CallsItself, BreaksAt, fault}
+use Rattle.checked_program.specs.declared.tag.Tags.{Tags}
+use Rattle.checked_program.specs.declared.section.Mode.{Mode}
+use Rattle.checked_program.specs.declared.section.Mode.TheVariants.{OnThis}
+use Rattle.checked_program.specs.declared.section.FieldUse.{FieldUse}
+use Rattle.guard_analysis.specs.CallGraph.{node_of, mode_at, call_at}
+
+-- ---- rules that a method breaks
+
+abbrev pub fault_at : Program → List FieldUse → Mode → Option Insn → Option Target → Option (Option TagShape) → ℕ
+fault_at p uses mode (Some insn) (Some target) (Some (Some f)) = fault p uses mode insn.op target f.stack
+fault_at p uses mode insn target f = 0
+
+abbrev pub breaks_before : Program → List FieldUse → MethodInfo → List (Option TagShape) → Mode → ℕ → Bool
+breaks_before p uses m frames mode zero = false
+breaks_before p uses m frames mode (suc i) = breaks_before p uses m frames mode i || nat_lt 0 (fault_at p uses mode (slice_get m.code i) (slice_get m.targets i) (slice_get frames i))
+
+abbrev pub node_breaks : Program → List FieldUse → Option MethodInfo → Option Tags → Mode → Bool
+node_breaks p uses (Some m) (Some t) mode = breaks_before p uses m t.frames mode (length m.code)
+node_breaks p uses m t mode = false
+
+abbrev pub breaking_nodes : Program → List FieldUse → List Tags → ℕ → List Bool
+breaking_nodes p uses tags zero = []
+breaking_nodes p uses tags (suc a) = breaking_nodes p uses tags a ++ node_breaks p uses (slice_get p.methods (a / 2)) (slice_get tags (a / 2)) (mode_at a) ∷ []
+
+-- ---- what calls lead to
+
+-- a chain of calls leads to a method that breaks a rule
+pub record LeadsToBreak (p : Program) (tags : Tagged) (uses : List FieldUse) (first : Callee) : Type 0 where
+  pub called : Callee
+  pub over : List Callee
+  pub through : CallsThrough p tags first over called
+  pub i : ℕ
+  pub n : ℕ
+  pub breaks : BreaksAt p tags uses called i n
+
+-- a chain of calls leads to a method that calls itself
+pub record LeadsToItself (p : Program) (tags : Tagged) (first : Callee) : Type 0 where
+  pub called : Callee
+  pub over : List Callee
+  pub through : CallsThrough p tags first over called
+  pub recurs : CallsItself p tags called.method
+
+-- of each node, by its number
+pub record AreCallees (p : Program) (tags : Tagged) (uses : List FieldUse) (breaks recurs : List Bool) : Type 0 where
+  pub broken : (b : Callee) → b.method < length p.methods → (slice_index_or breaks (node_of b) false ≡ true) ↔ LeadsToBreak p tags uses b
+  pub again : (b : Callee) → b.method < length p.methods → (slice_index_or recurs (node_of b) false ≡ true) ↔ LeadsToItself p tags b
+
+-- ---- the first rule that forbids an instruction of a section, or 0
+
+abbrev pub grade_of : ℕ → Option ℕ → List Bool → List Bool → ℕ
+grade_of zero None breaks recurs = 0
+grade_of zero (Some b) breaks recurs = if slice_index_or breaks b false then 6 else if slice_index_or recurs b false then 7 else 0
+grade_of (suc n) call breaks recurs = suc n
+
+abbrev pub grade_at : Program → List FieldUse → List Bool → List Bool → MethodInfo → List (Option TagShape) → ℕ → ℕ
+grade_at p uses breaks recurs m frames i =
+    grade_of (fault_at p uses OnThis (slice_get m.code i) (slice_get m.targets i) (slice_get frames i)) (call_at p OnThis (slice_get m.code i) (slice_get m.targets i) (slice_get frames i)) breaks recurs
+
+abbrev pub grades_before : Program → List FieldUse → List Bool → List Bool → MethodInfo → List (Option TagShape) → ℕ → List ℕ
+grades_before p uses breaks recurs m frames zero = []
+grades_before p uses breaks recurs m frames (suc i) = grades_before p uses breaks recurs m frames i ++ grade_at p uses breaks recurs m frames i ∷ []

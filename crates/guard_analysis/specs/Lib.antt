@@ -1,0 +1,4 @@
+pub mod BlockWalks
+pub mod CallGraph
+pub mod Faults
+pub mod SectionGrades

@@ -1,0 +1,172 @@
+//! The rule of marking that an instruction breaks by itself.
+
+ghost use Rattle.std.specs.Prelude.{◌≡◌, length, slice_get, slice_index_or};
+ghost use Rattle.checked_program.specs.FrozenPlaces.{locks_this};
+ghost use Rattle.checked_program.specs.Marks.{call_fault, enter_fault, fault, is_locking, read_fault};
+ghost use Rattle.checked_program.specs.declared.section.FieldUse.TheVariants.{Open as open_use};
+ghost use Rattle.guard_analysis.specs.Faults.{breaks_before, fault_at, node_breaks};
+
+use crate::calls::{is_own_object, receiver_tag};
+use crate::tag_reading::stack_tag;
+use checked_program::{FieldUse, Mode, TagFrame, Tags};
+use jvm_types::{MethodInfo, Op, Program, Rows, Target};
+
+/// How a field may be read; open where there is no such field.
+fn use_of(uses: &Rows<FieldUse>, field: u32) -> FieldUse
+    ensures { result ≡ slice_index_or uses.now field open_use }
+{
+    let i = field as usize;
+    if i >= uses.len() {
+        return FieldUse::Open;
+    }
+    match uses.get(i) {
+        Some(u) => *u,
+        None => unreachable!(),
+    }
+}
+
+/// Whether the frames of a method hold the monitor of their receiver (JVMS 2.11.10).
+pub(crate) fn locks_this(m: &MethodInfo) -> bool
+    ensures { result ≡ locks_this m.now }
+{
+    m.flags & 0x20 != 0 && m.flags & 0x8 == 0
+}
+
+fn is_locking(p: &Program, u: u32) -> bool
+    ensures { result ≡ is_locking (slice_get p.now.methods u) }
+{
+    match p.methods.get(u as usize) {
+        Some(m) => locks_this(m),
+        None => false,
+    }
+}
+
+fn enter_fault(own: bool) -> u8
+    ensures { result ≡ enter_fault own }
+{
+    if own { 0 } else { 3 }
+}
+
+fn call_fault(locking: bool, own: bool) -> u8
+    ensures { result ≡ call_fault locking own }
+{
+    if locking { enter_fault(own) } else { 0 }
+}
+
+fn read_fault(field_use: FieldUse, own: bool) -> u8
+    ensures { result ≡ read_fault field_use own }
+{
+    match field_use {
+        FieldUse::Frozen => 0,
+        FieldUse::Guarded => { if own { 0 } else { 5 } }
+        FieldUse::Open => 5,
+    }
+}
+
+/// The number of the rule that an instruction breaks in a method called on the section's object, or off it; 0 for
+/// none.
+fn fault(
+    p: &Program,
+    uses: &Rows<FieldUse>,
+    mode: Mode,
+    op: &Op,
+    target: Target,
+    frame: &TagFrame,
+) -> u8
+    ensures { result ≡ fault p.now uses.now mode op.now target frame.now.stack }
+{
+    match op {
+        Op::Putfield(_) => 1,
+        Op::Putstatic(_) => 1,
+        Op::Iastore => 1,
+        Op::New(_) => 2,
+        Op::Newarray => 2,
+        Op::Monitorenter => enter_fault(is_own_object(mode, stack_tag(frame, 0))),
+        Op::Invokevirtual(_) => match target {
+            Target::Method(u) => call_fault(
+                is_locking(p, u),
+                is_own_object(mode, receiver_tag(p, op, target, frame)),
+            ),
+            Target::Println => 4,
+            Target::Wait => 4,
+            Target::Notify => 4,
+            Target::NotifyAll => 4,
+            _ => 0,
+        },
+        Op::Invokespecial(_) => match target {
+            Target::Method(u) => call_fault(
+                is_locking(p, u),
+                is_own_object(mode, receiver_tag(p, op, target, frame)),
+            ),
+            _ => 0,
+        },
+        Op::Getstatic(_) => match target {
+            Target::Field(_) => 5,
+            _ => 0,
+        },
+        Op::Iaload => 5,
+        Op::Getfield(_) => match target {
+            Target::Field(f) => read_fault(
+                use_of(uses, f),
+                is_own_object(mode, stack_tag(frame, 0)),
+            ),
+            _ => 0,
+        },
+        _ => 0,
+    }
+}
+
+/// The same of the instruction of a number; 0 where it is not reached.
+pub(crate) fn fault_at(
+    p: &Program,
+    uses: &Rows<FieldUse>,
+    mode: Mode,
+    m: &MethodInfo,
+    tags: &Tags,
+    i: usize,
+) -> u8
+    ensures { result ≡ fault_at p.now uses.now mode (slice_get m.now.code i) (slice_get m.now.targets i) (slice_get tags.now.frames i) }
+{
+    match m.code.get(i) {
+        Some(insn) => match m.targets.get(i) {
+            Some(target) => match tags.frames.get(i) {
+                Some(Some(f)) => fault(p, uses, mode, &insn.op, *target, f),
+                Some(None) => 0,
+                None => 0,
+            },
+            None => 0,
+        },
+        None => 0,
+    }
+}
+
+/// Whether some instruction of a method breaks a rule.
+fn breaks(p: &Program, uses: &Rows<FieldUse>, mode: Mode, m: &MethodInfo, tags: &Tags) -> bool
+    ensures { result ≡ breaks_before p.now uses.now m.now tags.now.frames mode (length m.now.code) }
+{
+    let mut found = false;
+    for i in 0..m.code.len() {
+        let broken = fault_at(p, uses, mode, m, tags, i) > 0;
+        found = found || broken;
+    }
+    found
+}
+
+/// Whether some instruction of the method of a number breaks a rule.
+pub(crate) fn node_breaks(
+    p: &Program,
+    uses: &Rows<FieldUse>,
+    tags: &Rows<Tags>,
+    method: usize,
+    mode: Mode,
+) -> bool
+    ensures { result ≡ node_breaks p.now uses.now (slice_get p.now.methods method) (slice_get tags.now method) mode }
+{
+    match p.methods.get(method) {
+        Some(m) => match tags.get(method) {
+            Some(t) => breaks(p, uses, mode, m, t),
+            None => false,
+        },
+        None => false,
+    }
+}

@@ -1,0 +1,309 @@
+//! The mark of each section, from the rules that forbid the instructions that it covers.
+
+ghost use Rattle.std.specs.Prelude.{◌≡◌, ◌<◌, ◌*◌, replicate, ◌≤◌, ◌+◌, ℕ, Some, None, if◌then◌else◌, length, map, slice_get, slice_index, slice_index_or, IfOk, OnOk};
+ghost use Rattle.checked_program.specs.LockTags.{is_this};
+ghost use Rattle.checked_program.specs.declared.tag.Tag.TheVariants.{Untagged as untagged};
+ghost use Rattle.std.specs.List.{AllZip, filter_map};
+ghost use Rattle.jvm_types.specs.ProgramInvariant.{IsProgram};
+ghost use Rattle.jvm_types.specs.declared.limits.TheConstants.{MOST_INSTRUCTIONS as most};
+ghost use Rattle.checked_program.specs.MarkedProgram.{AreTaggings};
+ghost use Rattle.checked_program.specs.TaggedCode.{tagged_by};
+ghost use Rattle.checked_program.specs.Sections.{block_at, sections, spots_of};
+ghost use Rattle.checked_program.specs.Marks.{IsMarkOf};
+ghost use Rattle.jvm_types.specs.Verifying.{IsLaidOut};
+ghost use Rattle.spread.specs.LeastSet.{IsGraph};
+ghost use Rattle.guard_analysis.specs.CallGraph.{call_graph};
+ghost use Rattle.guard_analysis.specs.BlockWalks.{IsExplored};
+ghost use Rattle.guard_analysis.specs.Faults.{AreCallees, grades_before};
+ghost use Rattle.guard_analysis.specs.SectionGrades.{depth_at, earlier, whole_of, earliest_before, section_in, sections_at, AreGrades, IsBlockMark, IsFresh, Marks};
+
+use crate::block_walk::{Walk, explore};
+use crate::callees::Callees;
+use crate::faults::locks_this;
+use crate::tag_reading::{is_this, stack_tag};
+use checked_program::{FieldUse, SectionMark, Spot, TagFrame, Tags};
+use code_table::IndexedMethod;
+use jvm_types::{MethodInfo, Op, Program, Rows};
+use std::alloc::{AllocError, Global};
+
+/// Of two rules the one that is tested first; 0 is none.
+fn earlier(n: u8, k: u8) -> u8
+    ensures { result ≡ earlier n k }
+{
+    if k == 0 {
+        n
+    } else if n == 0 {
+        k
+    } else if k < n {
+        k
+    } else {
+        n
+    }
+}
+
+fn rule_at(rules: &[u8], i: usize) -> u8
+    ensures { result ≡ slice_index rules.now i }
+{
+    if i < rules.len() { rules[i] } else { 0 }
+}
+
+/// The first of all rules.
+fn earliest(rules: &[u8]) -> u8
+    ensures { result ≡ earliest_before (λ i. slice_index rules.now i) (length rules.now) }
+{
+    let mut first = 0;
+    for i in 0..rules.len() {
+        first = earlier(first, rule_at(rules, i));
+    }
+    first
+}
+
+/// The first of the rules of these instructions.
+fn earliest_of(rules: &[u8], own: &[usize]) -> u8
+    ensures { result ≡ earliest_before (λ t. slice_index rules.now (slice_index own.now t)) (length own.now) }
+{
+    let mut first = 0;
+    for t in 0..own.len() {
+        first = earlier(first, rule_at(rules, own[t]));
+    }
+    first
+}
+
+/// How many monitors are held where a block would begin, where it would be on this.
+fn depth_of(frame: &TagFrame) -> Option<usize>
+    ensures { result ≡ (if is_this (slice_index_or frame.now.stack 0 untagged) then Some (length frame.now.held) else None) }
+{
+    if is_this(stack_tag(frame, 0)) {
+        Some(frame.held().len())
+    } else {
+        None
+    }
+}
+
+fn depth_at(m: &MethodInfo, tags: &Tags, i: usize) -> Option<usize>
+    ensures { result ≡ depth_at m.now tags.now.frames i }
+{
+    match m.code.get(i) {
+        Some(_) => match m.targets.get(i) {
+            Some(_) => match tags.frames.get(i) {
+                Some(Some(f)) => depth_of(f),
+                Some(None) => None,
+                None => None,
+            },
+            None => None,
+        },
+        None => None,
+    }
+}
+
+/// The mark of the block whose `monitorenter` has this number.
+fn mark_block(
+    alloc: Global,
+    walk: &mut Walk,
+    m: &IndexedMethod<'_>,
+    tags: &Tags,
+    grades: &[u8],
+    i: usize,
+    stamp: usize,
+) -> Result<u8, AllocError>
+    requires stamp { stamp ≡ i + 1 }
+    requires fresh { IsFresh m.now i walk.old }
+    ensures mark { IfOk result (IsBlockMark m.now tags.now.frames grades.now i (depth_at m.now tags.now.frames i)) }
+    ensures fresh { OnOk result (IsFresh m.now (i + 1) walk.new) }
+{
+    match depth_at(m.method(), tags, i) {
+        Some(depth) => {
+            explore(alloc, walk, m, tags, depth, stamp, i)?;
+            Ok(earliest_of(grades, walk.own.as_slice()))
+        }
+        None => Ok(8),
+    }
+}
+
+/// Adds the mark of the block that begins at an instruction, where one does.
+fn mark_at(
+    alloc: Global,
+    walk: &mut Walk,
+    p: &Program,
+    uses: &Rows<FieldUse>,
+    method: u32,
+    m: &IndexedMethod<'_>,
+    tags: &Rows<Tags>,
+    t: &Tags,
+    grades: &[u8],
+    i: usize,
+    stamp: usize,
+    marks: &mut Rows<SectionMark>,
+) -> Result<(), AllocError>
+    requires program { IsProgram p.now }
+    requires there { slice_get p.now.methods method ≡ Some m.now }
+    requires tagged { slice_get tags.now method ≡ Some t.now }
+    requires grades { AreGrades p.now (tagged_by tags.now) uses.now method m.now grades.now }
+    requires stamp { stamp ≡ i + 1 }
+    requires fresh { IsFresh m.now i walk.old }
+    ensures marks { OnOk result (Marks p.now (tagged_by tags.now) uses.now (sections_at method (slice_get m.now.code i)) marks.old marks.new) }
+    ensures fresh { OnOk result (IsFresh m.now (i + 1) walk.new) }
+{
+    match m.method().code.get(i) {
+        Some(insn) => match insn.op {
+            Op::Monitorenter => {
+                let mark = mark_block(alloc, walk, m, t, grades, i, stamp)?;
+                marks.push(SectionMark {
+                    method,
+                    spot: Spot::Block(insn.pc),
+                    mark,
+                })?;
+                Ok(())
+            }
+            _ => Ok(()),
+        },
+        None => Ok(()),
+    }
+}
+
+fn fresh_walk(alloc: Global, len: usize) -> Result<Walk, AllocError>
+    ensures { IfOk result (λ w. w.seen ≡ replicate len 0) }
+{
+    Ok(Walk {
+        seen: Rows::from_vec(vec![in alloc; 0; len]?),
+        own: Rows::new(alloc),
+    })
+}
+
+/// Adds the marks of the blocks of a method.
+fn mark_blocks(
+    alloc: Global,
+    p: &Program,
+    uses: &Rows<FieldUse>,
+    method: u32,
+    m: &IndexedMethod<'_>,
+    tags: &Rows<Tags>,
+    t: &Tags,
+    grades: &[u8],
+    marks: &mut Rows<SectionMark>,
+) -> Result<(), AllocError>
+    requires program { IsProgram p.now }
+    requires there { slice_get p.now.methods method ≡ Some m.now }
+    requires tagged { slice_get tags.now method ≡ Some t.now }
+    requires grades { AreGrades p.now (tagged_by tags.now) uses.now method m.now grades.now }
+    ensures { OnOk result (Marks p.now (tagged_by tags.now) uses.now (map (section_in method) (filter_map (λ insn. block_at insn.pc insn.op) m.now.code)) marks.old marks.new) }
+{
+    let len = m.method().code.len();
+    let mut walk = fresh_walk(alloc, len)?;
+    for i in 0..len {
+        mark_at(
+            alloc,
+            &mut walk,
+            p,
+            uses,
+            method,
+            m,
+            tags,
+            t,
+            grades,
+            i,
+            i + 1,
+            marks,
+        )?;
+    }
+    Ok(())
+}
+
+/// Adds the mark of a method's own section, where it has one.
+fn mark_whole(
+    p: &Program,
+    uses: &Rows<FieldUse>,
+    method: u32,
+    m: &MethodInfo,
+    tags: &Rows<Tags>,
+    t: &Tags,
+    grades: &[u8],
+    marks: &mut Rows<SectionMark>,
+) -> Result<(), AllocError>
+    requires there { slice_get p.now.methods method ≡ Some m.now }
+    requires tagged { slice_get tags.now method ≡ Some t.now }
+    requires grades { AreGrades p.now (tagged_by tags.now) uses.now method m.now grades.now }
+    ensures { OnOk result (Marks p.now (tagged_by tags.now) uses.now (map (section_in method) (whole_of m.now)) marks.old marks.new) }
+{
+    if locks_this(m) {
+        marks.push(SectionMark {
+            method,
+            spot: Spot::Method,
+            mark: earliest(grades),
+        })?;
+    }
+    Ok(())
+}
+
+/// Adds the marks of all sections of a method.
+fn mark_method(
+    alloc: Global,
+    p: &Program,
+    uses: &Rows<FieldUse>,
+    callees: &Callees,
+    method: u32,
+    m: &MethodInfo,
+    tags: &Rows<Tags>,
+    t: &Tags,
+    marks: &mut Rows<SectionMark>,
+) -> Result<(), AllocError>
+    requires program { IsProgram p.now }
+    requires few { length p.now.methods ≤ most }
+    requires there { slice_get p.now.methods method ≡ Some m.now }
+    requires laid { IsLaidOut m.now }
+    requires tagged { slice_get tags.now method ≡ Some t.now }
+    requires callees { AreCallees p.now (tagged_by tags.now) uses.now callees.now.breaks.items callees.now.recurs.items }
+    ensures { OnOk result (Marks p.now (tagged_by tags.now) uses.now (map (section_in method) (spots_of m.now)) marks.old marks.new) }
+{
+    let grades = callees.grades(alloc, p, uses, m, t)?;
+    let indexed = IndexedMethod::of(alloc, m)?;
+    mark_whole(p, uses, method, m, tags, t, grades.as_slice(), marks)?;
+    mark_blocks(
+        alloc,
+        p,
+        uses,
+        method,
+        &indexed,
+        tags,
+        t,
+        grades.as_slice(),
+        marks,
+    )
+}
+
+fn mark_all(
+    alloc: Global,
+    p: &Program,
+    uses: &Rows<FieldUse>,
+    tags: &Rows<Tags>,
+) -> Result<Rows<SectionMark>, AllocError>
+    requires program { IsProgram p.now }
+    requires few { length p.now.methods ≤ most }
+    requires graph { IsGraph (2 * length p.now.methods) (call_graph p.now tags.now).from (call_graph p.now tags.now).to }
+    requires tags { length p.now.methods ≤ length tags.now }
+    ensures { IfOk result (AllZip (IsMarkOf p.now (tagged_by tags.now) uses.now) (sections p.now)) }
+{
+    let callees = Callees::of(alloc, p, uses, tags)?;
+    let mut marks = Rows::new(alloc);
+    for u in 0..p.methods.len() {
+        let m = &p.methods.as_slice()[u];
+        let t = &tags.as_slice()[u];
+        mark_method(alloc, p, uses, &callees, u as u32, m, tags, t, &mut marks)?;
+    }
+    Ok(marks)
+}
+
+/// The mark of each section of a program, in order of its methods: 0 where it may run without its lock, else the first
+/// rule that forbids that. `uses` has how each field may be read, `tags` the lock tags of each method.
+pub fn mark_by_uses(
+    alloc: Global,
+    p: &Program,
+    uses: &Rows<FieldUse>,
+    tags: &Rows<Tags>,
+) -> Result<Rows<SectionMark>, AllocError>
+    requires program { IsProgram p.now }
+    requires tagged { AreTaggings p.now p.now.methods tags.now }
+    ensures { IfOk result (AllZip (IsMarkOf p.now (tagged_by tags.now) uses.now) (sections p.now)) }
+{
+    mark_all(alloc, p, uses, tags)
+}
