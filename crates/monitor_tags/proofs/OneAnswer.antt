@@ -1,0 +1,25 @@
+-- A method has one answer.
+use Rattle.std.proofs.Common.{◌≡◌, Result, refl}
+use Rattle.std.specs.Prelude.{IfOk, IfErr}
+use Rattle.std.proofs.lemmas.Result.{IfOk-weaker, IfErr-weaker}
+use Rattle.jvm_types.specs.declared.program.MethodInfo.{MethodInfo}
+use Rattle.jvm_types.specs.declared.program.Program.{Program}
+use Rattle.checked_program.specs.Tagging.{IsTaggingOf}
+use Rattle.checked_program.specs.declared.tag.Tags.{Tags}
+use Rattle.tag_laws.proofs.TagAnswers.{one_tagging_all, no_refusal}
+use Rattle.monitor_tags.specs.declared.error.TagError.{TagError}
+use Rattle.monitor_tags.specs.declared.error.TagError.TheVariants.{Memory, Refused}
+use Rattle.monitor_tags.specs.Visiting.{IsRefusal}
+
+one_of : (p : Program) (m : MethodInfo) (found t : Tags) → IsTaggingOf p m found → IsTaggingOf p m t → found ≡ t
+one_of p m found t a b = λ i. record { frames = one_tagging_all p m found.frames t.frames a b i }
+
+pub only_by : (p : Program) (m : MethodInfo) (result : Result Tags TagError) → IfOk result (IsTaggingOf p m) → (t : Tags) → IsTaggingOf p m t → IfOk result (λ found. found ≡ t)
+only_by p m result ok t is = IfOk-weaker result (IsTaggingOf p m) (λ found. found ≡ t) (λ found h. one_of p m found t h is) ok
+
+not_refused : (p : Program) (m : MethodInfo) (t : Tags) (e : TagError) → IsTaggingOf p m t → IsRefusal p m e → e ≡ Memory
+not_refused p m t Memory is h = refl
+not_refused p m t (Refused rule pc) is h = absurd (no_refusal p m t.frames rule pc is h)
+
+pub tagged_by : (p : Program) (m : MethodInfo) (result : Result Tags TagError) → IfErr result (IsRefusal p m) → (t : Tags) → IsTaggingOf p m t → IfErr result (λ e. e ≡ Memory)
+tagged_by p m result refused t is = IfErr-weaker result (IsRefusal p m) (λ e. e ≡ Memory) (λ e h. not_refused p m t e is h) refused

@@ -1,0 +1,16 @@
+use Rattle.std.proofs.Common.{◌≡◌, List, [], ◌∷◌, map, refl, ap, ◌∙◌}
+use Rattle.checked_program.specs.LockTags.{TagShape}
+use Rattle.checked_program.specs.Visits.{Node}
+use Rattle.monitor_tags.specs.declared.nodes.StoredNode.{StoredNode}
+use Rattle.monitor_tags.specs.Waiting.{node_is}
+use Rattle.monitor_tags.proofs.nodes.Nodes.into_tags.Goals as goal
+
+frames_stored : (items : List StoredNode) (nodes : List (Node TagShape)) → map node_is items ≡ nodes → map (λ node. node.frame) items ≡ map (λ node. node.frame) nodes
+frames_stored items nodes e = both items ∙ ap (λ l. map (λ node. node.frame) l) e
+  where
+    both : (items : List StoredNode) → map (λ node. node.frame) items ≡ map (λ node. node.frame) (map node_is items)
+    both [] = refl
+    both (x ∷ xs) = ap (λ l. x.frame ∷ l) (both xs)
+
+pub loop-node-init : goal.loop-node-init
+loop-node-init c = rw (c.new-frames.ensures, c.into_iter-node-iterator.ensures.into_iter_gives.0) (frames_stored c.self.inside.nodes.items c.args.self c.self.view_is)

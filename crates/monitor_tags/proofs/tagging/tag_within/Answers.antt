@@ -1,0 +1,31 @@
+use Rattle.std.proofs.Common.{◌≡◌, ℕ, zero, suc, ◌<◌, List, [], ◌∷◌, length, take, Option, Some, None, sym, subst, arith}
+use Rattle.std.specs.Prelude.{slice_get, IfOk, IfErr, IsSomeAnd}
+use Rattle.checked_program.specs.Tagging.{IsTaggingOf}
+use Rattle.checked_program.specs.declared.tag.Tags.{Tags}
+use Rattle.jvm_types.specs.declared.program.MethodInfo.{MethodInfo}
+use Rattle.monitor_tags.specs.declared.error.TagError.TheVariants.{Memory}
+use Rattle.program_laws.proofs.CodeOrder.{laid_out}
+use Rattle.monitor_tags.proofs.OneAnswer.{only_by, tagged_by}
+use Rattle.monitor_tags.proofs.tagging.tag_within.Goals as goal
+
+is_there : (methods : List MethodInfo) (i : ℕ) → i < length methods → None ≡ slice_get methods i → ⊥
+is_there [] i h e = absurd (omega (arith, h))
+is_there (m ∷ ms) zero h e = absurd (cc)
+is_there (m ∷ ms) (suc i) h e = is_there ms i (omega (arith, h)) e
+
+some_and : (o : Option MethodInfo) (m : MethodInfo) (P : MethodInfo → Type 0) → Some m ≡ o → P m → IsSomeAnd o P
+some_and o m P e h = subst (λ (x : Option MethodInfo). IsSomeAnd x P) e h
+
+pub tag_method-requires : goal.tag_method-requires
+tag_method-requires c = laid_out c.args.p.now (take c.args.method c.args.p.now.methods) c.in-Some.m.now (c.requires.program.methods c.args.method c.in-Some.m.now (sym c.in-Some.ensures.value))
+
+pub unreachable-requires : goal.unreachable-requires
+unreachable-requires c = is_there c.args.p.now.methods c.args.method c.requires.method c.in-None.ensures.value
+
+pub returns-clause-only : goal.returns-clause-only
+returns-clause-only c = some_and (slice_get c.args.p.now.methods c.args.method) c.in-Some.m.now (λ m. (t : Tags) → IsTaggingOf c.args.p.now m t → IfOk c.tag_method.result (λ found. found ≡ t)) c.in-Some.ensures.value
+    (only_by c.args.p.now c.in-Some.m.now c.tag_method.result c.tag_method.ensures.ok)
+
+pub returns-clause-tagged : goal.returns-clause-tagged
+returns-clause-tagged c = some_and (slice_get c.args.p.now.methods c.args.method) c.in-Some.m.now (λ m. (t : Tags) → IsTaggingOf c.args.p.now m t → IfErr c.tag_method.result (λ e. e ≡ Memory)) c.in-Some.ensures.value
+    (tagged_by c.args.p.now c.in-Some.m.now c.tag_method.result c.tag_method.ensures.refused)

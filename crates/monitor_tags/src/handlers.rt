@@ -1,0 +1,81 @@
+//! Edges to the handlers that an exception of an instruction may go to.
+
+ghost use Rattle.std.specs.Prelude.{◌≡◌, ◌&&◌, length, IfOk};
+ghost use Rattle.std.specs.List.{list_any};
+ghost use Rattle.jvm_types.specs.CodeTable.{can_throw};
+ghost use Rattle.jvm_types.specs.Verifying.{covers, covering};
+ghost use Rattle.checked_program.specs.LockTags.{TagShape};
+ghost use Rattle.checked_program.specs.Tagging.{until_all, catchers, tags_at_handler};
+ghost use Rattle.monitor_tags.specs.Visiting.{Leaves, Keeps, does, to_handlers};
+
+use crate::after::frame_at_handler;
+use crate::edges::go_to;
+use crate::error::TagError;
+use crate::nodes::Nodes;
+use crate::rules::{catches_all, covers, is_covered};
+use checked_program::TagFrame;
+use code_table::{IndexedMethod, can_throw};
+use jvm_types::{Insn, MethodInfo};
+use std::alloc::{AllocError, Global};
+
+/// Whether an exception of an instruction may go to some handler.
+fn has_catchers(m: &MethodInfo, insn: &Insn) -> bool
+    ensures { result ≡ (can_throw insn.now.op && list_any (covers insn.now.pc) m.now.rows) }
+{
+    can_throw(&insn.op) && is_covered(insn.pc, m.rows.as_slice())
+}
+
+/// The frame at the handlers that an exception of an instruction may go to, where there are some.
+pub fn keep_for_handlers(
+    alloc: Global,
+    m: &MethodInfo,
+    insn: &Insn,
+    f: &TagFrame,
+) -> Result<Option<TagFrame>, AllocError>
+    ensures { IfOk result (Keeps m.now insn.now f.now) }
+{
+    if has_catchers(m, insn) {
+        Ok(Some(frame_at_handler(alloc, f)?))
+    } else {
+        Ok(None)
+    }
+}
+
+/// A frame goes to the handlers of the rows that cover a pc, up to the first that catches all.
+fn handle(
+    alloc: Global,
+    m: &IndexedMethod<'_>,
+    nodes: &mut Nodes,
+    pc: u32,
+    f: &TagFrame,
+) -> Result<(), TagError>
+    requires { length nodes.old ≡ length m.now.code }
+    ensures left { Leaves (does m.now (to_handlers f.now (until_all (covering m.now pc))) nodes.old) nodes.new result }
+{
+    for row in m.method().rows.as_slice() {
+        if covers(pc, row) {
+            go_to(alloc, m, nodes, row.handler, f)?;
+            if catches_all(row) {
+                return Ok(());
+            }
+        }
+    }
+    Ok(())
+}
+
+/// What was kept of a frame goes to the handlers that an exception of an instruction may go to.
+pub fn handle_kept(
+    alloc: Global,
+    m: &IndexedMethod<'_>,
+    nodes: &mut Nodes,
+    insn: &Insn,
+    kept: &Option<TagFrame>,
+) -> Result<(), TagError>
+    requires { length nodes.old ≡ length m.now.code }
+    ensures { (f : TagShape) → Keeps m.now insn.now f kept.now → Leaves (does m.now (to_handlers (tags_at_handler f) (catchers m.now insn.now)) nodes.old) nodes.new result }
+{
+    match kept {
+        Some(f) => handle(alloc, m, nodes, insn.pc, f),
+        None => Ok(()),
+    }
+}

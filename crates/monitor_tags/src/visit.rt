@@ -1,0 +1,95 @@
+//! One visit of an instruction: its rules, its edges, then those to handlers.
+
+ghost use Rattle.std.specs.Prelude.{◌≡◌, length, slice_get};
+ghost use Rattle.jvm_types.specs.declared.op_row.OpRow.{OpRow};
+ghost use Rattle.checked_program.specs.LockTags.{TagShape};
+ghost use Rattle.checked_program.specs.Tagging.{tag_acts, tag_plan};
+ghost use Rattle.checked_program.specs.Visits.{acts_on};
+ghost use Rattle.monitor_tags.specs.Waiting.{node_at};
+ghost use Rattle.monitor_tags.specs.Visiting.{Leaves, IsGoing, Prepares, does};
+
+use crate::after::frame_after;
+use crate::edges::go_along;
+use crate::error::TagError;
+use crate::handlers::{handle_kept, keep_for_handlers};
+use crate::nodes::Nodes;
+use crate::rules::{enters_untagged, exits_other, leaves_held};
+use checked_program::TagFrame;
+use code_table::{IndexedMethod, edges, row};
+use jvm_types::{Insn, MethodInfo, OpRow, Program, SRule};
+use std::alloc::Global;
+
+/// What an instruction does with a frame: the frame that goes along its edges, the one that goes to handlers where
+/// there are some, and whether the instruction breaks S4.
+#[derive(Debug, Drop)]
+struct Going {
+    after: TagFrame,
+    at_handler: Option<TagFrame>,
+    leaves: bool,
+}
+
+/// What an instruction that has this row does with a frame; or the first of S1 and S2 that it breaks.
+fn prepare(
+    alloc: Global,
+    m: &MethodInfo,
+    insn: &Insn,
+    row: &OpRow,
+    f: &TagFrame,
+) -> Result<Going, TagError>
+    ensures { Prepares m.now insn.now row.now f.now result }
+{
+    if enters_untagged(&insn.op, f.stack()) {
+        return Err(TagError::Refused(SRule::S1, insn.pc));
+    }
+    if exits_other(&insn.op, f.stack(), f.held()) {
+        return Err(TagError::Refused(SRule::S2, insn.pc));
+    }
+    Ok(Going {
+        after: frame_after(alloc, insn, row, f)?,
+        at_handler: keep_for_handlers(alloc, m, insn, f)?,
+        leaves: leaves_held(m, insn, f.held()),
+    })
+}
+
+/// The edges of an instruction, and S4.
+fn go_on(
+    alloc: Global,
+    m: &IndexedMethod<'_>,
+    nodes: &mut Nodes,
+    insn: &Insn,
+    going: Going,
+) -> Result<(), TagError>
+    requires { length nodes.old ≡ length m.now.code }
+    ensures { (r : OpRow) → (f : TagShape) → IsGoing m.now insn.now r f going → Leaves (does m.now (tag_acts m.now insn.now r f) nodes.old) nodes.new result }
+{
+    let tos = edges(alloc, insn)?;
+    go_along(alloc, m, nodes, &tos, going.after)?;
+    handle_kept(alloc, m, nodes, insn, &going.at_handler)?;
+    if going.leaves {
+        return Err(TagError::Refused(SRule::S4, insn.pc));
+    }
+    Ok(())
+}
+
+/// The visit of the instruction of this number.
+pub fn visit(
+    alloc: Global,
+    p: &Program,
+    m: &IndexedMethod<'_>,
+    nodes: &mut Nodes,
+    i: usize,
+) -> Result<(), TagError>
+    requires { length nodes.old ≡ length m.now.code }
+    ensures { Leaves (does m.now (acts_on (tag_plan p.now m.now) i (node_at nodes.old i).frame) nodes.old) nodes.new result }
+{
+    let method = m.method();
+    let (Some(insn), Some(target)) = (method.code.get(i), method.targets.get(i)) else {
+        return Ok(());
+    };
+    let Some(frame) = nodes.frame(i) else {
+        return Ok(());
+    };
+    let row = row(alloc, p, method, insn.pc, *target, &insn.op)?;
+    let going = prepare(alloc, method, insn, &row, frame)?;
+    go_on(alloc, m, nodes, insn, going)
+}
