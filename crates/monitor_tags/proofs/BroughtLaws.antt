@@ -1,5 +1,5 @@
 -- Edges: what one leaves of the nodes, by the number of the instruction that it leads to.
-use Rattle.std.proofs.Common.{◌≡◌, ℕ, suc, ◌<◌, Bool, true, false, List, [], ◌∷◌, ◌++◌, length, Option, Some, None, refl, sym, ap, ◌∙◌, arith}
+use Rattle.std.proofs.Common.{◌≡◌, ℕ, suc, ◌<◌, Bool, true, false, List, [], ◌∷◌, ◌++◌, length, Option, Some, None, refl, ap, ◌∙◌, arith}
 use Rattle.std.specs.Prelude.{◌==◌, if◌then◌else◌, slice_set}
 use Rattle.std.specs.Option.{option_map}
 use Rattle.jvm_types.specs.declared.code.Insn.{Insn}

@@ -10,7 +10,6 @@ use Rattle.checked_program.specs.Tagging.{tag_meeting}
 use Rattle.checked_program.specs.Visits.{Node, clash, clashes_with}
 use Rattle.code_table.specs.PcTables.{number_at, Ascend}
 use Rattle.code_table.proofs.PcLaws.{same_number, other_number}
-use Rattle.monitor_tags.specs.Waiting.{node_at}
 use Rattle.monitor_tags.specs.Visiting.{lesser, clash_place}
 
 abbrev pub clash_of : List Insn → List ℕ → TagShape → List (Node TagShape) → Option ℕ

@@ -1,11 +1,10 @@
 -- The nodes of a method at the start, and how many there are.
-use Rattle.std.proofs.Common.{◌≡◌, ℕ, zero, suc, ◌-◌, ◌<◌, true, List, [], ◌∷◌, length, map, replicate, Some, refl, sym, ap, ◌∙◌, arith}
+use Rattle.std.proofs.Common.{◌≡◌, suc, ◌<◌, true, List, [], ◌∷◌, length, map, replicate, Some, refl, sym, ap, ◌∙◌, arith}
 use Rattle.std.specs.Prelude.{slice_set}
-use Rattle.std.proofs.lemmas.List.{length-set}
 use Rattle.jvm_types.specs.declared.code.Insn.{Insn}
 use Rattle.checked_program.specs.LockTags.{TagShape}
 use Rattle.checked_program.specs.Tagging.{tag_meeting}
-use Rattle.checked_program.specs.Visits.{Node, unreached, joined, nodes_for}
+use Rattle.checked_program.specs.Visits.{unreached, joined, nodes_for}
 use Rattle.monitor_tags.specs.Waiting.{node_at}
 use Rattle.monitor_tags.specs.Visiting.{Nodes}
 

@@ -1,5 +1,5 @@
 -- The handlers that an exception may go to, row by row.
-use Rattle.std.proofs.Common.{◌≡◌, ℕ, suc, ◌+◌, ◌<◌, Bool, true, false, List, [], ◌∷◌, length, drop, Ok, Err, Result, refl, sym, ap, ◌∙◌}
+use Rattle.std.proofs.Common.{◌≡◌, ℕ, ◌+◌, ◌<◌, Bool, true, false, List, [], ◌∷◌, length, drop, Ok, Result, refl, sym, ap, ◌∙◌}
 use Rattle.std.specs.Prelude.{◌||◌, ◌&&◌, if◌then◌else◌, slice_index_or}
 use Rattle.std.specs.List.{list_any, filter}
 use Rattle.std.proofs.lemmas.List.{drop_more}
@@ -11,9 +11,8 @@ use Rattle.jvm_types.specs.declared.program.Row.{Row}
 use Rattle.jvm_types.specs.declared.refusal.SRule.{SRule}
 use Rattle.checked_program.specs.LockTags.{TagShape}
 use Rattle.checked_program.specs.Tagging.{catches_all, until_all, catchers}
-use Rattle.monitor_tags.specs.declared.error.TagError.{TagError}
-use Rattle.monitor_tags.specs.Visiting.{Nodes, Leaves, does, goes, to_handlers}
-use Rattle.monitor_tags.proofs.VisitLaws.{then_does, leaves_first}
+use Rattle.monitor_tags.specs.Visiting.{Nodes, does, goes, to_handlers}
+use Rattle.monitor_tags.proofs.VisitLaws.{then_does}
 
 -- ---- whether there are some
 

@@ -1,25 +1,24 @@
 -- One visit, act by act.
-use Rattle.std.proofs.Common.{◌≡◌, ℕ, zero, suc, Bool, true, false, List, [], ◌∷◌, ◌++◌, length, Option, Some, None, Result, Ok, Err, refl, sym, ap, ◌∙◌, subst, append_assoc}
-use Rattle.std.specs.Prelude.{if◌then◌else◌, slice_get, slice_set}
+use Rattle.std.proofs.Common.{◌≡◌, ℕ, zero, suc, Bool, true, false, List, [], ◌∷◌, ◌++◌, length, Option, Some, None, Result, Ok, Err, refl, sym, ap, ◌∙◌, subst}
+use Rattle.std.specs.Prelude.{slice_get, slice_set}
 use Rattle.jvm_types.specs.CodeTable.{row}
 use Rattle.jvm_types.specs.Verifying.{edges}
 use Rattle.jvm_types.specs.declared.code.Insn.{Insn}
 use Rattle.jvm_types.specs.declared.op_row.OpRow.{OpRow}
 use Rattle.jvm_types.specs.declared.program.MethodInfo.{MethodInfo}
 use Rattle.jvm_types.specs.declared.program.Program.{Program}
-use Rattle.jvm_types.specs.declared.program.Row.{Row}
 use Rattle.jvm_types.specs.declared.program.Target.{Target}
 use Rattle.jvm_types.specs.declared.refusal.SRule.{SRule}
-use Rattle.jvm_types.specs.declared.refusal.SRule.TheVariants.{S1, S2, S3, S4}
+use Rattle.jvm_types.specs.declared.refusal.SRule.TheVariants.{S1, S2, S4}
 use Rattle.checked_program.specs.LockTags.{TagShape}
-use Rattle.checked_program.specs.Tagging.{tag_meeting, tag_plan, tag_acts, acts_at, break_if, catchers, tags_after, tags_at_handler, enters_untagged, exits_other, leaves_held}
-use Rattle.checked_program.specs.Visits.{Node, Act, Break, Bring, acted, acts_on, brought, all_brought, clash, unless_clash, visited, visited_node}
+use Rattle.checked_program.specs.Tagging.{tag_meeting, tag_plan, tag_acts, break_if, catchers, tags_after, tags_at_handler, enters_untagged, exits_other, leaves_held}
+use Rattle.checked_program.specs.Visits.{Node, Act, Break, Bring, acts_on, brought, all_brought, clash, unless_clash, visited, visited_node}
 use Rattle.monitor_tags.specs.declared.error.TagError.{TagError}
 use Rattle.monitor_tags.specs.declared.error.TagError.TheVariants.{Memory, Refused}
 use Rattle.monitor_tags.specs.declared.visit.Going.{Going}
 use Rattle.monitor_tags.specs.Waiting.{node_at, node_or_none}
 use Rattle.monitor_tags.proofs.BroughtLaws.{length_brought}
-use Rattle.monitor_tags.specs.Visiting.{Nodes, Done, Leaves, does, goes, to_handlers, Keeps, IsGoing, Prepares, first_rule}
+use Rattle.monitor_tags.specs.Visiting.{Nodes, Done, Leaves, does, goes, to_handlers, IsGoing, Prepares, first_rule}
 
 -- ---- some acts, then others
 

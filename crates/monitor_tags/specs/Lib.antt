@@ -1,3 +1,4 @@
 pub mod Held
 pub mod Waiting
 pub mod Visiting
+pub mod Samples

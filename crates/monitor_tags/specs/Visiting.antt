@@ -1,6 +1,5 @@
 -- What one visit of the nodes of a method answers, and the visits in all.
-use Rattle.std.specs.Prelude.{◌≡◌, ℕ, min, Bool, false, if◌then◌else◌, List, [], ◌∷◌, length, map, Option, Some, None, Result, Ok, Err}
-use Rattle.jvm_types.specs.CodeTable.{can_throw}
+use Rattle.std.specs.Prelude.{◌≡◌, ℕ, min, Bool, false, if◌then◌else◌, List, [], ◌∷◌, map, Option, Some, None, Result, Ok, Err}
 use Rattle.jvm_types.specs.Verifying.{covering}
 use Rattle.jvm_types.specs.declared.code.Insn.{Insn}
 use Rattle.jvm_types.specs.declared.op_row.OpRow.{OpRow}

@@ -15,3 +15,6 @@ mod visit;
 
 pub use error::TagError;
 pub use tagging::{tag, tag_within};
+
+#[cfg(test)]
+mod tests;

@@ -1,5 +1,5 @@
 use Rattle.std.proofs.Common.{sym}
-use Rattle.monitor_tags.proofs.HandlerLaws.{no_catchers, some_catchers}
+use Rattle.monitor_tags.proofs.HandlerLaws.{no_catchers}
 use Rattle.monitor_tags.proofs.handlers.keep_for_handlers.Goals as goal
 
 pub returns-else-has_catchers : goal.returns-else-has_catchers

@@ -1,8 +1,7 @@
 use Rattle.std.proofs.Common.{not, ap, ◌∙◌}
-use Rattle.std.specs.Prelude.{◌||◌, ◌&&◌}
+use Rattle.std.specs.Prelude.{◌&&◌}
 use Rattle.std.specs.List.{list_any}
-use Rattle.jvm_types.specs.Verifying.{covers, covering, is_return}
-use Rattle.jvm_types.specs.CodeTable.{can_throw}
+use Rattle.jvm_types.specs.Verifying.{covers}
 use Rattle.checked_program.specs.Tagging.{catches_all}
 use Rattle.monitor_tags.proofs.StackTags.{any_covering}
 use Rattle.monitor_tags.proofs.rules.may_leave.Goals as goal

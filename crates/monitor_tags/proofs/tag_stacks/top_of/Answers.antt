@@ -1,4 +1,4 @@
-use Rattle.std.proofs.Common.{◌≡◌, ◌∷◌, ◌+◌, ◌-◌, ◌<◌, ℕ, suc, take, drop, sym, ap, ◌∙◌, arith}
+use Rattle.std.proofs.Common.{◌≡◌, ◌∷◌, ◌-◌, ◌<◌, suc, take, drop, ap, ◌∙◌, arith}
 use Rattle.monitor_tags.proofs.StackTags.{place_more}
 use Rattle.monitor_tags.proofs.tag_stacks.top_of.Goals as goal
 
