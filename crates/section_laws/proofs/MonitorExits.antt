@@ -20,7 +20,7 @@ use Rattle.checked_program.specs.declared.section.Mode.{Mode}
 use Rattle.checked_program.specs.declared.section.Mode.TheVariants.{OnThis}
 use Rattle.checked_program.specs.declared.section.Spot.{Spot}
 use Rattle.checked_program.specs.declared.section.Spot.TheVariants.{Method, Block}
-use Rattle.section_laws.specs.FrameLaws.{HeldLaw}
+use Rattle.section_laws.specs.FrameLaws.{HeldLaw, BlockLaw}
 use Rattle.tag_laws.proofs.VisitedNodes.{IsFirstOf}
 use Rattle.section_laws.proofs.HeldTags.{one_first, AreOwn, own_along, sound_at, framed_first, held_kept, all_own}
 use Rattle.section_laws.proofs.MarkedReads.{own_object, own_no_fault, called_no_fault}
@@ -141,14 +141,16 @@ module _ (p : Program) (tags : Tagged) (tagged : AreTagged p tags) where
         let deep : length inside.f.held < length f.held = own_deep p tags s.method pc i m insn target f inside at in
         (exits_innermost OnThis f.stack f.held (subst (λ op. exits_other op f.stack f.held ≡ false) exits (exit_at s.method i m insn target f at)) (λ l. own 0 (omega (arith, deep)))).1
 
-    -- the block that the section begins with is the one
-    on_this : (i : ℕ) (inside : IsInBlock p tags s.method pc i) → IsOnThis p tags s.method (Block pc) → slice_index_or inside.f.stack 0 Untagged ≡ This
-    on_this i inside on =
+    -- the block that the section begins with is the one of that pc
+    starts_on_this : (i : ℕ) (m : MethodInfo) (insn : Insn) (target : Target) (f : TagShape) → IsAt p tags s.method i m insn target f → insn.pc ≡ pc → IsOnThis p tags s.method (Block pc) → slice_index_or f.stack 0 Untagged ≡ This
+    starts_on_this i m insn target f at pc_is on =
         let a : BeginsAt p tags s.method pc on.0 on.1 = on.2 in
-        let b : BeginsAt p tags s.method pc inside.enter inside.f = inside.begins in
-        let place : on.0 ≡ inside.enter = one_start s.method on.0 inside.enter a.m b.m a.insn b.insn a.target b.target on.1 inside.f a.at b.at (a.pc_is ∙ sym b.pc_is) in
-        let same : on.1 ≡ inside.f = one_frame p tags s.method inside.enter a.m b.m a.insn b.insn a.target b.target on.1 inside.f (subst (λ n. IsAt p tags s.method n a.m a.insn a.target on.1) place a.at) b.at in
+        let place : on.0 ≡ i = one_start s.method on.0 i a.m m a.insn insn a.target target on.1 f a.at at (a.pc_is ∙ sym pc_is) in
+        let same : on.1 ≡ f = one_frame p tags s.method i a.m m a.insn insn a.target target on.1 f (subst (λ n. IsAt p tags s.method n a.m a.insn a.target on.1) place a.at) at in
         subst (λ (x : TagShape). slice_index_or x.stack 0 Untagged ≡ This) same on.3
+
+    on_this : (i : ℕ) (inside : IsInBlock p tags s.method pc i) → IsOnThis p tags s.method (Block pc) → slice_index_or inside.f.stack 0 Untagged ≡ This
+    on_this i inside on = let b : BeginsAt p tags s.method pc inside.enter inside.f = inside.begins in starts_on_this inside.enter b.m b.insn b.target inside.f b.at b.pc_is on
 
     -- a tag is `this` or not, so that it is `this` where it can't but be
     is_this_or : (t : Tag) → (t ≡ This) ⊎ (t ≡ This → ⊥)
@@ -156,15 +158,23 @@ module _ (p : Program) (tags : Tagged) (tagged : AreTagged p tags) where
     is_this_or Untagged = inr (λ e. cc)
     is_this_or (At n) = inr (λ e. cc)
 
+    -- a marked block is on `this`, so what follows from that holds
+    by_mark : (t : Tag) → (IsOnThis p tags s.method (Block pc) → t ≡ This) → t ≡ This
+    by_mark t h = ⊎_elim (λ e. e) (λ (no : t ≡ This → ⊥). absurd (mark 8 (elsewhere refl (λ on. no (h (subst (IsOnThis p tags s.method) is_block on)))))) (is_this_or t)
+
     exits_inside : (i : ℕ) (m : MethodInfo) (insn : Insn) (target : Target) (f : TagShape) → IsInBlock p tags s.method pc i → IsAt p tags s.method i m insn target f → insn.op ≡ ops.Monitorexit → slice_index_or f.stack 0 Untagged ≡ This
-    exits_inside i m insn target f inside at exits = ⊎_elim (λ e. e)
-        (λ (no : slice_index_or f.stack 0 Untagged ≡ This → ⊥). absurd (mark 8 (elsewhere refl (λ on. no (exits_block i m insn target f inside (on_this i inside (subst (IsOnThis p tags s.method) is_block on)) at exits)))))
-        (is_this_or (slice_index_or f.stack 0 Untagged))
+    exits_inside i m insn target f inside at exits = by_mark (slice_index_or f.stack 0 Untagged) (λ on. exits_block i m insn target f inside (on_this i inside on) at exits)
+
+    starts_inside : (i : ℕ) (m : MethodInfo) (insn : Insn) (target : Target) (f : TagShape) → IsAt p tags s.method i m insn target f → insn.pc ≡ pc → slice_index_or f.stack 0 Untagged ≡ This
+    starts_inside i m insn target f at pc_is = by_mark (slice_index_or f.stack 0 Untagged) (λ on. starts_on_this i m insn target f at pc_is on)
 
 -- ---- the laws
 
 pub held_law : HeldLaw
 held_law p tags mi i j m insn other target next f g h tagged from to goes = edge_held p tags tagged mi i j m insn other target next f g h from to goes
+
+pub block_law : BlockLaw
+block_law p tags uses s i receiver m insn target f stack tagged k spot at enters this = this 0 (starts_inside p tags tagged uses s k insn.pc spot i m insn target f at refl)
 
 pub exit_law : ExitLaw
 exit_law p tags uses s o a (b ∷ parts) mode m insn target f u tagged k h at exits =

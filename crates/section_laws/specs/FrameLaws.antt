@@ -13,9 +13,10 @@ use Rattle.checked_program.specs.LockTags.{TagShape}
 use Rattle.checked_program.specs.Tagging.{tags_after}
 use Rattle.checked_program.specs.TaggedCode.{Tagged, IsAt, Goes, row_of}
 use Rattle.checked_program.specs.Sections.{Section, IsOwn}
-use Rattle.checked_program.specs.Marks.{called_method, args_of, receiver_tag, is_own_object, mode_if}
+use Rattle.checked_program.specs.Marks.{called_method, args_of, receiver_tag, is_own_object, mode_if, HasMark}
 use Rattle.checked_program.specs.SectionLaws.{Part, AreParts, AreTagged, HasThis}
 use Rattle.checked_program.specs.declared.tag.Tag.{Tag}
+use Rattle.checked_program.specs.declared.section.FieldUse.{FieldUse}
 use Rattle.checked_program.specs.declared.section.Mode.{Mode}
 use Rattle.checked_program.specs.declared.section.Spot.TheVariants.{Block}
 
@@ -30,6 +31,11 @@ HeldLaw = (p : Program) (tags : Tagged) (mi i j : ℕ) (m : MethodInfo) (insn ot
 abbrev pub BeginLaw : Type 0
 BeginLaw = (p : Program) (tags : Tagged) (mi i j : ℕ) (m : MethodInfo) (insn other : Insn) (target next : Target) (f g : TagShape) (top : Tag) (below : List Tag) → IsAt p tags mi i m insn target f → IsAt p tags mi j m other next g
     → insn.op ≡ ops.Monitorenter → f.stack ≡ top ∷ below → has_number (edges insn) other.pc ≡ true → (tags_after insn (row_of p m insn target) f).held ≡ g.held → IsOwn p tags mi (Block insn.pc) j
+
+-- a marked block is on the receiver: that is what its `monitorenter` takes
+abbrev pub BlockLaw : Type 0
+BlockLaw = (p : Program) (tags : Tagged) (uses : List FieldUse) (s : Section) (i receiver : ℕ) (m : MethodInfo) (insn : Insn) (target : Target) (f : TagShape) (stack : List ℕ) → AreTagged p tags → HasMark p tags uses s 0
+    → s.spot ≡ Block insn.pc → IsAt p tags s.method i m insn target f → insn.op ≡ ops.Monitorenter → HasThis receiver f.stack stack → slice_index stack 0 ≡ receiver
 
 -- ---- invocation: the called frame stands above the calling one
 

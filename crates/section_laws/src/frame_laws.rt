@@ -1,7 +1,7 @@
 //! The frames of a section that may run without its lock, and what they may do.
 
 ghost use Rattle.checked_program.specs.SectionLaws.{ApartLaw, ExitLaw, MoveLaw, OwnLaw, ReadLaw};
-ghost use Rattle.section_laws.specs.FrameLaws.{BeginLaw, HeldLaw, InvokeLaw, ResumeLaw, ReturnLaw};
+ghost use Rattle.section_laws.specs.FrameLaws.{BeginLaw, BlockLaw, HeldLaw, InvokeLaw, ResumeLaw, ReturnLaw};
 
 /// What an instruction of such a section may do: it writes nothing, and reads no place but a frozen one, or a
 /// guarded one of the section's object.
@@ -37,6 +37,11 @@ pub fn frames_move()
 /// Where the `monitorenter` of a block goes on is an own instruction of the block.
 pub fn blocks_begin()
     ensures { BeginLaw }
+{}
+
+/// The `monitorenter` of such a block is on `this`: it enters the monitor of the receiver.
+pub fn blocks_are_on_this()
+    ensures { BlockLaw }
 {}
 
 /// Where the top frame of a section calls a method, the called one is a frame of the section (JVMS 2.6).
