@@ -1,39 +1,18 @@
 -- Frames of the same types are one, and a frame meets itself in itself.
-use Rattle.std.proofs.Common.{◌≡◌, ◌≢◌, ℕ, Bool, true, false, not, List, [], ◌∷◌, length, reverse, refl, sym, ap, ◌∙◌, eqb-true, arith}
+use Rattle.std.proofs.Common.{◌≡◌, ◌≢◌, ℕ, Bool, true, false, not, List, [], ◌∷◌, length, reverse, refl, sym, ap, ◌∙◌, arith}
 use mathlib.Core.Bool.{beq}
 use Rattle.std.specs.Prelude.{◌&&◌, ◌==◌}
 use Rattle.std.proofs.lemmas.Bool.Decides.{nat_tests}
 use Rattle.jvm_types.specs.Types.{TypeFrame, filled, same_type, same_ready, same_frame, all_pairs, if_same_place, meet, meets, meet_frames}
 use Rattle.jvm_types.specs.declared.typing.VType.{VType}
-use Rattle.jvm_types.specs.declared.typing.VType.TheVariants.{Int, Null, Ref, This, New, Top}
+use Rattle.jvm_types.specs.declared.typing.VType.TheVariants.{Ref, New}
+use Rattle.typing_laws.proofs.LocalRisen.{same_frames}
 use Rattle.code_table.proofs.MeetLaws.{meet_same_class}
 
 -- ---- the same types
 
-one_type : (t u : VType) → same_type t u ≡ true → t ≡ u
-one_type Int Int e = refl
-one_type Null Null e = refl
-one_type (Ref c) (Ref d) e = ap Ref (eqb-true c d e)
-one_type This This e = refl
-one_type (New p) (New q) e = ap New (eqb-true p q e)
-one_type Top Top e = refl
-one_type t u e = absurd (cc)
-
-first_holds : (a b : Bool) → (a && b) ≡ true → a ≡ true
-first_holds true b e = refl
-first_holds false b e = absurd (cc)
-
-second_holds : (a b : Bool) → (a && b) ≡ true → b ≡ true
-second_holds true b e = e
-second_holds false b e = absurd (cc)
-
 one_list : (ts us : List VType) → all_pairs same_type ts us ≡ true → ts ≡ us
-one_list [] [] e = refl
-one_list [] (u ∷ us) e = absurd (cc)
-one_list (t ∷ ts) [] e = absurd (cc)
-one_list (t ∷ ts) (u ∷ us) e =
-    ap (λ x. x ∷ ts) (one_type t u (first_holds (same_type t u) (all_pairs same_type ts us) e))
-    ∙ ap (λ xs. u ∷ xs) (one_list ts us (second_holds (same_type t u) (all_pairs same_type ts us) e))
+one_list ts us e = ap (λ (f : TypeFrame). f.stack) (same_frames (record { stack = ts; locals = []; ready = true }) (record { stack = us; locals = []; ready = true }) (rw e refl))
 
 pub unlike : (ts us : List VType) → length ts ≢ length us → false ≡ all_pairs same_type ts us
 unlike ts us n = by_test (all_pairs same_type ts us) refl
