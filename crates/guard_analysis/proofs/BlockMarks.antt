@@ -292,9 +292,9 @@ module _ (p : Program) (tags : List Tags) (is : IsProgram p) (mi : ℕ) (m : Met
           let at : IsAt p (tagged_by tags) mi enter m insn x.1 x.2 = stands enter insn x.1 x.2 at_insn x.4 x.5 in
           subst (λ k. HasMark p (tagged_by tags) uses (section_in mi (Block insn.pc)) k) (sym b.3)
           (has_earliest p (tagged_by tags) uses (section_in mi (Block insn.pc)) (on_this depth x.1 x.2 at x.6 x.7) (length b.0) (λ k. slice_index b.0 k) (λ k. slice_index grades (slice_index b.0 k))
-              (λ k l. are.each (slice_index b.0 k) (in_code depth x.1 x.2 at x.6 x.7 (slice_index b.0 k) (b.1 k l)))
-              (λ k l h. inside_own depth x.1 x.2 at x.6 x.7 (slice_index b.0 k) (b.1 k l))
-              (λ i o. b.2 i (own_inside depth x.1 x.2 at x.6 x.7 i o)))
+          (λ k l. are.each (slice_index b.0 k) (in_code depth x.1 x.2 at x.6 x.7 (slice_index b.0 k) (b.1 k l)))
+          (λ k l h. inside_own depth x.1 x.2 at x.6 x.7 (slice_index b.0 k) (b.1 k l))
+          (λ i o. b.2 i (own_inside depth x.1 x.2 at x.6 x.7 i o)))
         where
           last_deep : (depth i : ℕ) (ks : List ℕ) (j : ℕ) → Stays m t.frames depth i ks j → is_deep m t.frames depth j ≡ true
           last_deep depth i [] j s = subst (λ k. is_deep m t.frames depth k ≡ true) s.0 s.1

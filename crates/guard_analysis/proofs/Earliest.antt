@@ -31,11 +31,11 @@ earliest_is rule (suc k) =
     let here = earlier_is (earliest_before rule k) (rule k) in
     record {
       some = λ h. ⊎_elim
-      (λ (q : earlier (earliest_before rule k) (rule k) ≡ earliest_before rule k). let r = rest.some (subst (λ x. 0 < x) q h) in let low : r.0 < k = r.1 in (r.0, omega (arith, low), r.2 ∙ sym q))
-      (λ (q : earlier (earliest_before rule k) (rule k) ≢ earliest_before rule k). (k, omega arith, sym (here.one h q)))
-      (cases_eq (earlier (earliest_before rule k) (rule k)) (earliest_before rule k));
+          (λ (q : earlier (earliest_before rule k) (rule k) ≡ earliest_before rule k). let r = rest.some (subst (λ x. 0 < x) q h) in let low : r.0 < k = r.1 in (r.0, omega (arith, low), r.2 ∙ sym q))
+          (λ (q : earlier (earliest_before rule k) (rule k) ≢ earliest_before rule k). (k, omega arith, sym (here.one h q)))
+          (cases_eq (earlier (earliest_before rule k) (rule k)) (earliest_before rule k));
       first = λ t l h. ⊎_elim
-      (λ (q : t ≡ k). subst (λ x. (0 < earlier (earliest_before rule k) (rule k)) × (earlier (earliest_before rule k) (rule k) ≤ rule x)) (sym q) (here.second (subst (λ x. 0 < rule x) q h)))
-      (λ (q : t ≢ k). let r = rest.first t (omega (arith, l, q)) h in let s = here.first r.0 in let below : earliest_before rule k ≤ rule t = r.1 in let under : earlier (earliest_before rule k) (rule k) ≤ earliest_before rule k = s.1 in (s.0, omega (arith, below, under)))
-      (cases_eq t k);
+          (λ (q : t ≡ k). subst (λ x. (0 < earlier (earliest_before rule k) (rule k)) × (earlier (earliest_before rule k) (rule k) ≤ rule x)) (sym q) (here.second (subst (λ x. 0 < rule x) q h)))
+          (λ (q : t ≢ k). let r = rest.first t (omega (arith, l, q)) h in let s = here.first r.0 in let below : earliest_before rule k ≤ rule t = r.1 in let under : earlier (earliest_before rule k) (rule k) ≤ earliest_before rule k = s.1 in (s.0, omega (arith, below, under)))
+          (cases_eq t k);
     }

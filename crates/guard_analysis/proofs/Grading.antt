@@ -89,16 +89,15 @@ module _ (p : Program) (uses : List FieldUse) (tags : List Tags) (is : IsProgram
       let target : slice_get m.targets i ≡ Some k.target = subst (λ (x : MethodInfo). slice_get x.targets i ≡ Some k.target) (method_is k.m k.at.in_program) k.at.names in
       let frame : slice_get t.frames i ≡ Some (Some k.f) = frame_is i k.at.frames k.f k.at.of_method k.at.frame in
       let node : call_node p OnThis k.insn.op k.target k.f.stack ≡ Some (node_of b) =
-          node_there (length p.methods) b.method (called_method k.insn.op k.target) (mode_if (is_own_object OnThis (receiver_tag p k.insn.op k.target k.f.stack))) k.called (called_inside p (tagged_by tags) is on_this b i k)
-          ∙ ap (λ (mode : Mode). Some (2 * b.method + mode_number mode)) (sym k.mode_is) in
+      node_there (length p.methods) b.method (called_method k.insn.op k.target) (mode_if (is_own_object OnThis (receiver_tag p k.insn.op k.target k.f.stack))) k.called (called_inside p (tagged_by tags) is on_this b i k)
+      ∙ ap (λ (mode : Mode). Some (2 * b.method + mode_number mode)) (sym k.mode_is) in
       rw (code, target, frame) node
 
   call_found : (i y : ℕ) → own_call i ≡ Some y → (b : Callee) × (node_of b ≡ y) × (b.method < length p.methods) × Calls p (tagged_by tags) on_this i b
   call_found i y e =
       let parts = call_parts p OnThis (slice_get m.code i) (slice_get m.targets i) (slice_get t.frames i) y e in
       let mode : Mode = mode_if (is_own_object OnThis (receiver_tag p parts.insn.op parts.target parts.f.stack)) in
-      let named = node_parts (length p.methods) (called_method parts.insn.op parts.target) mode y parts.call in
-      (
+      let named = node_parts (length p.methods) (called_method parts.insn.op parts.target) mode y parts.call in (
         callee named.0 mode,
         named.3,
         named.2,

@@ -81,7 +81,7 @@ module _ (p : Program) (tags : Tagged) (uses : List FieldUse) (mi : ℕ) where
   both_marked m old mid new h k all rest c =
       let blocks : List Spot = filter_map (λ insn. block_at insn.pc insn.op) m.code in
       let parts : map (section_in mi) (spots_of m) ++ rest ≡ map (section_in mi) (whole_of m) ++ (blocks_of m.code ++ rest) =
-          ap (λ x. x ++ rest) (map-append (section_in mi) (whole_of m) blocks) ∙ append_assoc (map (section_in mi) (whole_of m)) (map (section_in mi) blocks) rest in
+      ap (λ x. x ++ rest) (map-append (section_in mi) (whole_of m) blocks) ∙ append_assoc (map (section_in mi) (whole_of m)) (map (section_in mi) blocks) rest in
       k all rest (h all (blocks_of m.code ++ rest) (subst (λ x. Continues p tags uses all x old) parts c))
 
   pub both_marked_in : (m n : MethodInfo) (old mid new : List SectionMark) → n ≡ m → Marks p tags uses (map (section_in mi) (whole_of m)) old mid → Marks p tags uses (blocks_of n.code) mid new → Marks p tags uses (map (section_in mi) (spots_of m)) old new

@@ -30,16 +30,24 @@ module _ (p : Program) (tags : Tagged) (uses : List FieldUse) (s : Section) wher
   forbids_of : IsOnThis p tags s.method s.spot → (n : ℕ) → Applies p tags uses s n → (i : ℕ) × (IsOwn p tags s.method s.spot i) × Forbids p tags uses s.method i n
   forbids_of on n (elsewhere e f) = absurd (f on)
   forbids_of on n (itself b) = (b.i, b.own, breaks n b.breaks)
-  forbids_of on n (called e b) = (b.is_called.i, b.is_called.own, subst (λ x. Forbids p tags uses s.method b.is_called.i x) (sym e)
-      (calls b.is_called.first b.is_called.calls (record { called = b.called; over = b.is_called.over; through = b.is_called.through; i = b.i; n = b.n; breaks = b.breaks })))
-  forbids_of on n (recurring e b) = (b.is_called.i, b.is_called.own, subst (λ x. Forbids p tags uses s.method b.is_called.i x) (sym e)
-      (recurs b.is_called.first b.is_called.calls (record { called = b.called; over = b.is_called.over; through = b.is_called.through; recurs = b.recurs })))
+  forbids_of on n (called e b) = (
+    b.is_called.i,
+    b.is_called.own,
+    subst (λ x. Forbids p tags uses s.method b.is_called.i x) (sym e)
+        (calls b.is_called.first b.is_called.calls (record { called = b.called; over = b.is_called.over; through = b.is_called.through; i = b.i; n = b.n; breaks = b.breaks })),
+  )
+  forbids_of on n (recurring e b) = (
+    b.is_called.i,
+    b.is_called.own,
+    subst (λ x. Forbids p tags uses s.method b.is_called.i x) (sym e)
+        (recurs b.is_called.first b.is_called.calls (record { called = b.called; over = b.is_called.over; through = b.is_called.through; recurs = b.recurs })),
+  )
 
   turn_is : (n : ℕ) → n ≤ 7 → turn n ≡ n
   turn_is n l = let test : (n == 8) ≡ false = grind (arith, nat_tests) in rw test refl
 
   module _ (on : IsOnThis p tags s.method s.spot) (k : ℕ) (index rule : ℕ → ℕ) (grades : (t : ℕ) → t < k → IsGrade p tags uses s.method (index t) (rule t)) (own : (t : ℕ) → t < k → 0 < rule t → IsOwn p tags s.method s.spot (index t))
-    (all : (i : ℕ) → IsOwn p tags s.method s.spot i → (t : ℕ) × (t < k) × (index t ≡ i)) where
+      (all : (i : ℕ) → IsOwn p tags s.method s.spot i → (t : ℕ) × (t < k) × (index t ≡ i)) where
     least : (n x : ℕ) → IsEarliest rule k n → Applies p tags uses s x → (0 < n) × (n ≤ x) × (x ≤ 7)
     least n x e a =
         let f = forbids_of on x a in
@@ -57,8 +65,7 @@ module _ (p : Program) (tags : Tagged) (uses : List FieldUse) (s : Section) wher
         let t = e.some (omega arith) in
         let some : 0 < rule t.0 = omega (arith, t.2) in
         let forbids : Forbids p tags uses s.method (index t.0) (suc n) = subst (λ x. Forbids p tags uses s.method (index t.0) x) t.2 ((grades t.0 t.1).forbids some) in
-        let low : suc n ≤ 7 = (forbids_low p tags uses s.method (index t.0) (suc n) forbids).1 in
-        (
+        let low : suc n ≤ 7 = (forbids_low p tags uses s.method (index t.0) (suc n) forbids).1 in (
           applies_of (index t.0) (suc n) (own t.0 t.1 some) forbids,
           λ x l a. let r = least (suc n) x e a in let under : suc n ≤ x = r.1 in let small : x ≤ 7 = r.2 in omega (arith, l, under, turn_is (suc n) low, turn_is x small),
         )

@@ -10,7 +10,7 @@ pub mark_method-requires-clause-laid : goal.mark_method-requires-clause-laid
 mark_method-requires-clause-laid c =
     let inside : c.loop-u.u < length c.args.p.now.methods = omega (arith, c.loop-u-test.true, c.len-u-end.ensures) in
     let at : slice_get c.args.p.now.methods c.loop-u.u ≡ Some c.index-as_slice-u.result = slice_get_read c.args.p.now.methods (length c.args.p.now.methods) c.loop-u.u c.index-as_slice-u.result refl inside
-        (c.index-as_slice-u.is ∙ ap (λ l. get_or l c.loop-u.u c.index-as_slice-u.result) c.as_slice.ensures) in
+    (c.index-as_slice-u.is ∙ ap (λ l. get_or l c.loop-u.u c.index-as_slice-u.result) c.as_slice.ensures) in
     methods_laid_out c.args.p.now c.loop-u.u c.index-as_slice-u.result c.requires.program at
 
 pub mark_method-requires-clause-tagged : goal.mark_method-requires-clause-tagged
@@ -23,7 +23,7 @@ pub loop-u-preserved : goal.loop-u-preserved
 loop-u-preserved c =
     let inside : c.loop-u.u < length c.args.p.now.methods = omega (arith, c.loop-u-test.true, c.len-u-end.ensures) in
     let at : slice_get c.args.p.now.methods c.loop-u.u ≡ Some c.index-as_slice-u.result = slice_get_read c.args.p.now.methods (length c.args.p.now.methods) c.loop-u.u c.index-as_slice-u.result refl inside
-        (c.index-as_slice-u.is ∙ ap (λ l. get_or l c.loop-u.u c.index-as_slice-u.result) c.as_slice.ensures) in
+    (c.index-as_slice-u.is ∙ ap (λ l. get_or l c.loop-u.u c.index-as_slice-u.result) c.as_slice.ensures) in
     methods_go_on c.args.p.now (tagged_by c.args.tags.now) c.args.uses.now c.loop-u.u c.index-as_slice-u.result c.loop-u.marks c.mark_method.new.marks at c.loop-u.invariant c.in_ok-mark_method.ensures
 
 pub returns : goal.returns

@@ -13,7 +13,7 @@ mark_whole-requires-clause-grades c = are_grades c.args.p.now c.args.uses.now c.
 pub mark_blocks-requires-clause-grades : goal.mark_blocks-requires-clause-grades
 mark_blocks-requires-clause-grades c = subst (λ m. AreGrades c.args.p.now (tagged_by c.args.tags.now) c.args.uses.now c.args.method m c.as_slice-2.result.now) (sym c.in_ok-indexed.ensures)
     (are_grades c.args.p.now c.args.uses.now c.args.tags.now c.requires.program c.args.method c.args.m.now c.args.t.now c.requires.there c.requires.tagged c.args.callees.now.breaks.items c.args.callees.now.recurs.items
-        c.requires.callees c.as_slice-2.result.now (c.as_slice-2.ensures.value ∙ c.in_ok-grades.ensures))
+    c.requires.callees c.as_slice-2.result.now (c.as_slice-2.ensures.value ∙ c.in_ok-grades.ensures))
 
 pub returns : goal.returns
 returns c = on_ok_weaker c.mark_blocks.result

@@ -10,4 +10,4 @@ use Rattle.guard_analysis.proofs.marking.mark_whole.Goals as goal
 pub returns-in_ok-push : goal.returns-in_ok-push
 returns-in_ok-push c = marks_whole c.args.p.now (tagged_by c.args.tags.now) c.args.uses.now c.args.method c.args.m.now c.args.marks.now c.push.new.self c.earliest.result (sym c.locks_this.ensures ∙ c.if-locks_this.true) c.in_ok-push.ensures.ok
     (subst (λ n. IsMarkOf c.args.p.now (tagged_by c.args.tags.now) c.args.uses.now (section_in c.args.method Method) (record { method = c.args.method; spot = Method; mark = n })) (sym c.earliest.ensures)
-        (whole_marked c.args.p.now (tagged_by c.args.tags.now) c.args.uses.now c.args.method c.args.m.now c.requires.there c.args.grades.now c.requires.grades))
+    (whole_marked c.args.p.now (tagged_by c.args.tags.now) c.args.uses.now c.args.method c.args.m.now c.requires.there c.args.grades.now c.requires.grades))
