@@ -13,6 +13,3 @@ mod reading;
 
 pub use read_error::ReadError;
 pub use reading::read_class;
-
-#[cfg(test)]
-mod reading_tests;

@@ -14,10 +14,3 @@ mod verifying;
 pub use loading::{FileError, first_ops, load_program};
 pub use loading_laws::{loaded_is_not_refused, loaded_or_refused, one_loading, one_refusal};
 pub use texts::{refusal, report};
-
-#[cfg(test)]
-mod compiled;
-#[cfg(test)]
-mod test_files;
-#[cfg(test)]
-mod tests;

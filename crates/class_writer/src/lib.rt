@@ -15,6 +15,3 @@ pub use builder::{Builder, new_builder};
 pub use error::{BuildError, WriteError};
 pub use laws::{reads_what_was_written, writes_what_was_read};
 pub use writer::write_class;
-
-#[cfg(test)]
-mod tests;

@@ -12,6 +12,3 @@ mod switches;
 
 pub use decoding::decode;
 pub use error::CodeError;
-
-#[cfg(test)]
-mod tests;

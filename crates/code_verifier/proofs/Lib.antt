@@ -9,6 +9,4 @@ pub mod ClashLaws
 pub mod LaidOut
 pub mod SettlingLaws
 pub mod OneAnswer
-pub mod Laid
-pub mod SmallProgram
 pub mod VisitLaws

@@ -2,4 +2,3 @@ pub mod Faults
 pub mod Waiting
 pub mod Visiting
 pub mod Settling
-pub mod Laying

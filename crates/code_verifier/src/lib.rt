@@ -19,6 +19,3 @@ mod visit;
 pub use budget::{Budget, MOST_KEPT};
 pub use error::VerifyError;
 pub use verifying::{verify, verify_within};
-
-#[cfg(test)]
-mod tests;

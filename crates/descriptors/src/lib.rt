@@ -7,6 +7,3 @@ pub mod reading;
 
 pub use class_numbers::ClassNumbers;
 pub use reading::{Signature, field_kind, method_signature};
-
-#[cfg(test)]
-mod tests;

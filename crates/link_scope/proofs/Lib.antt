@@ -5,5 +5,4 @@ pub mod ListLaws
 pub mod RowLaws
 pub mod TableLaws
 pub mod TakenLaws
-pub mod TestClassLaws
 pub mod TextLaws

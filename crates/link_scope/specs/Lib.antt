@@ -4,4 +4,3 @@ pub mod FileTexts
 pub mod Keys
 pub mod MemberTables
 pub mod BuiltIn
-pub mod TestClasses

@@ -12,6 +12,3 @@ mod texts;
 
 pub use file_scope::FileScope;
 pub use scope::{Found, Scope};
-
-#[cfg(test)]
-mod tests;

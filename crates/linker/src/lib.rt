@@ -11,6 +11,3 @@ mod methods;
 pub use budget::MOST_COPIED;
 pub use error::LinkError;
 pub use linking::link;
-
-#[cfg(test)]
-mod tests;

@@ -2,10 +2,9 @@
 #![tactic(auto)]
 
 mod bytes;
+mod statics;
 mod texts;
 
 pub use bytes::{bytes_of, changed};
+pub use statics::with_statics;
 pub use texts::{adds, below_exception, constants, kinds, pair, peeks, tally, work};
-
-#[cfg(test)]
-mod tests;

@@ -1,4 +1,6 @@
-use super::*;
+//! Names of classes and descriptors.
+
+use descriptors::{ClassNumbers, field_kind, method_signature};
 use jvm_types::{Kind, Rows};
 use std::test::*;
 

@@ -1,8 +1,8 @@
 //! Class files for tests that are made of many equal parts.
 
-use jvm_types::Bytes;
+use crate::bytes::bytes_of;
+use lists::Bytes;
 use std::alloc::{AllocError, Global};
-use test_classes::bytes_of;
 
 fn push_u2(bytes: &mut Bytes, number: u16) -> Result<(), AllocError> {
     bytes.extend_from_slice(&number.to_be_bytes())

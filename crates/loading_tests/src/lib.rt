@@ -1,0 +1,22 @@
+//! Tests of loading and running that use public calls alone. Each topic is a module. They stand here so that the
+//! crates below are not proved a second time for them.
+#![tactic(auto)]
+
+mod files;
+
+pub use files::{one, two};
+
+#[cfg(test)]
+mod loading;
+#[cfg(test)]
+mod names;
+#[cfg(test)]
+mod reading;
+#[cfg(test)]
+mod refusals;
+#[cfg(test)]
+mod reports;
+#[cfg(test)]
+mod runs;
+#[cfg(test)]
+mod writing;

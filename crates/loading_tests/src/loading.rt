@@ -1,0 +1,157 @@
+//! Small programs, and the rule that refuses each of them.
+
+ghost use Rattle.std.specs.Prelude.{◌<◌, ◌≤◌, length};
+
+use crate::files::{one, two};
+use crate::refusals::{
+    FINAL_FIELD, MISUSED, NOT_BUILT_YET, OTHER_SUPER, PairRefusal, Refusal, TWO_FILES, UNDECODABLE,
+    UNDECODABLE_ROWS, UNLINKED, UNREADABLE, UNTYPED, VERSIONS, WIDE,
+};
+use class_runner::{first_ops, load_program};
+use jvm_types::limits::LEAST_HEAP;
+use jvm_types::{Bytes, FirstOp, Rows};
+use std::alloc::{AllocError, Global};
+use std::process::Abort;
+use std::test::*;
+use test_classes::{
+    adds, below_exception, changed, constants, pair, peeks, tally, with_statics, work,
+};
+
+/// The line of the rule that refuses the files, with no workers or with one. It is empty where they are loaded.
+fn line_of(alloc: Global, files: &Rows<Bytes>, worker: bool) -> Result<String, AllocError>
+    requires some { 0 < length files.now }
+    requires few { length files.now ≤ 64 }
+{
+    match load_program(alloc, files, LEAST_HEAP, u8::from(worker)) {
+        Ok(_) => Ok(String::new(alloc)),
+        Err(error) => format!(in alloc; "{error}"),
+    }
+}
+
+/// Compares what refuses each change of a class.
+fn check_all(
+    rt: &(impl Abort + AllocGlobal),
+    hex: &str,
+    refusals: &[Refusal],
+) -> Result<(), AllocError> {
+    for refusal in refusals {
+        let files = one(rt.alloc(), changed(rt.alloc(), hex, refusal.changes)?)?;
+        let line = line_of(rt.alloc(), &files, false)?;
+        assert_eq!(rt; line.as_str(), refusal.line);
+    }
+    Ok(())
+}
+
+/// Compares what refuses two copies of the class that adds.
+fn check_pairs(
+    rt: &(impl Abort + AllocGlobal),
+    refusals: &[PairRefusal],
+) -> Result<(), AllocError> {
+    for refusal in refusals {
+        let first = changed(rt.alloc(), adds(), refusal.first)?;
+        let second = changed(rt.alloc(), adds(), refusal.second)?;
+        let files = two(rt.alloc(), first, second)?;
+        let line = line_of(rt.alloc(), &files, false)?;
+        assert_eq!(rt; line.as_str(), refusal.line);
+    }
+    Ok(())
+}
+
+#[test]
+fn loads_a_class_that_adds_and_prints(rt: HostRuntime) -> Result<(), Fail> {
+    let files = one(rt.alloc(), changed(rt.alloc(), adds(), &[])?)?;
+    let program = load_program(rt.alloc(), &files, LEAST_HEAP, 0)?;
+    let ops = first_ops(rt.alloc(), &program)?;
+    let wanted = [
+        FirstOp::Out,
+        FirstOp::Const(2),
+        FirstOp::Const(3),
+        FirstOp::Add,
+        FirstOp::Print,
+        FirstOp::Return,
+    ];
+    assert_eq!(rt; ops.as_slice(), wanted.as_slice());
+    Ok(())
+}
+
+#[test]
+fn refuses_by_each_rule_of_class_files(rt: HostRuntime) -> Result<(), Fail> {
+    check_all(&rt, adds(), &UNREADABLE)?;
+    check_all(&rt, adds(), &VERSIONS)?;
+    check_all(&rt, constants(), &WIDE)?;
+    Ok(())
+}
+
+#[test]
+fn refuses_by_each_rule_of_code(rt: HostRuntime) -> Result<(), Fail> {
+    check_all(&rt, adds(), &UNDECODABLE)?;
+    check_all(&rt, pair(), &UNDECODABLE_ROWS)?;
+    Ok(())
+}
+
+#[test]
+fn refuses_names_in_linking(rt: HostRuntime) -> Result<(), Fail> {
+    check_all(&rt, adds(), &UNLINKED)?;
+    check_all(&rt, pair(), &FINAL_FIELD)?;
+    check_all(&rt, below_exception(), &OTHER_SUPER)?;
+    check_pairs(&rt, &TWO_FILES)?;
+    Ok(())
+}
+
+#[test]
+fn refuses_by_each_rule_of_types(rt: HostRuntime) -> Result<(), Fail> {
+    check_all(&rt, adds(), &UNTYPED)?;
+    check_all(&rt, pair(), &MISUSED)?;
+    Ok(())
+}
+
+#[test]
+fn compiled_classes_pass_all_rules(rt: HostRuntime) -> Result<(), Fail> {
+    for hex in [pair(), tally(), work()] {
+        check_all(&rt, hex, &NOT_BUILT_YET)?;
+    }
+    Ok(())
+}
+
+/// Compares what refuses the class with two private fields beside another one.
+fn check_beside(
+    rt: &(impl Abort + AllocGlobal),
+    other: Bytes,
+    line: &str,
+) -> Result<(), AllocError> {
+    let first = changed(rt.alloc(), pair(), &[])?;
+    let files = two(rt.alloc(), first, other)?;
+    let found = line_of(rt.alloc(), &files, false)?;
+    assert_eq!(rt; found.as_str(), line);
+    Ok(())
+}
+
+#[test]
+fn refuses_in_the_second_file(rt: HostRuntime) -> Result<(), Fail> {
+    let peeking = changed(rt.alloc(), peeks(), &[])?;
+    check_beside(&rt, peeking, "refused L3 file 1 method 0 at 1")?;
+    let falling = changed(rt.alloc(), adds(), &[(216, 0)])?;
+    check_beside(&rt, falling, "refused V6 file 1 method 0 at 9")?;
+    Ok(())
+}
+
+#[test]
+fn a_worker_needs_run(rt: HostRuntime) -> Result<(), Fail> {
+    let files = one(rt.alloc(), changed(rt.alloc(), adds(), &[])?)?;
+    let line = line_of(rt.alloc(), &files, true)?;
+    assert_eq!(rt; line.as_str(), "refused L4 file 0 at 0");
+    Ok(())
+}
+
+#[test]
+fn the_fixed_words_fit_the_heap(rt: HostRuntime) -> Result<(), Fail> {
+    for (count, wanted) in [
+        (2026, "refused L0 file 0 at 0"),
+        (2027, "refused L8 file 0 at 0"),
+    ] {
+        let files = one(rt.alloc(), with_statics(rt.alloc(), count)?)?;
+        let line = line_of(rt.alloc(), &files, false)?;
+        assert_eq!(rt; line.as_str(), wanted);
+    }
+    Ok(())
+}
