@@ -7,7 +7,7 @@ use Rattle.std.proofs.lemmas.Option.{slice_get_read}
 use Rattle.std.proofs.lemmas.Slice.Zip.{AllZip-long}
 use Rattle.std.proofs.lemmas.Slice.Eq.{bytes_eq-Decides}
 use Rattle.jvm_types.specs.Members.{is_static}
-use Rattle.jvm_types.specs.CodeGrammar.{SpellsInsns}
+use Rattle.jvm_types.proofs.SizeLaws.{insns_within}
 use Rattle.jvm_types.specs.ProgramInvariant.{IsProgram}
 use Rattle.jvm_types.specs.FirstForm.{first_op, AreFirstOps, EndsInReturn, RunsWithin, is_first_file, IsFirstCode, IsInit, IsFirstProgram, IsFirstForm}
 use Rattle.jvm_types.specs.declared.code.Insn.{Insn}
@@ -111,14 +111,6 @@ stops code targets i ops insn long within is e so_far all h =
     first_is insn (drop (i + 1) code) (get_or targets i Nothing) (drop (i + 1) targets) r.0 (rw (here, there) at r.1) e
 
 -- ---- the method
-
-insns_within : (pc : ℕ) (insns : List Insn) (bytes : List ℕ) → SpellsInsns pc insns bytes → length insns ≤ length bytes
-insns_within pc [] bytes h = omega arith
-insns_within pc (insn ∷ insns) bytes (front, rest, e, at, next, op, more) =
-    let whole : length bytes ≡ length front + length rest = ap length e ∙ length-append front rest in
-    let some : length front ≡ suc (length op.operands) = ap length op.is in
-    let tail : length insns ≤ length rest = insns_within insn.next insns rest more in
-    omega (arith, whole, some, tail)
 
 -- a method of a program has at most as many instructions as its code has bytes, and a target for each
 pub method_short : (p : Program) (i : ℕ) (m : MethodInfo) → IsProgram p → i < length p.methods → m ≡ get_or p.methods i m → length m.code ≤ 65535
