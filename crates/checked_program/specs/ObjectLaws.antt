@@ -21,7 +21,7 @@ abbrev pub IsOther : List Tag → ℕ → Type 0
 IsOther stack k = slice_index_or stack k Untagged ≢ This
 
 -- an instruction puts `this` in no place and no local, gives it to no method and no caller, throws it not, locks it not, and
--- compares it with nothing
+-- compares it with no other value
 abbrev pub HidesThis : Program → Op → Target → List Tag → Type 0
 HidesThis p (ops.Putfield i) target stack = IsOther stack 0
 HidesThis p (ops.Putstatic i) target stack = IsOther stack 0

@@ -100,7 +100,8 @@ impl TagLocals {
         self.count.max(self.first.len())
     }
 
-    /// How many of them are kept in memory.
+    /// How many of them are kept in memory, to count the bytes that tags take. It has no clause: the value that
+    /// contracts see doesn't tell how many these are.
     pub fn kept(&self) -> usize {
         self.first.len()
     }
