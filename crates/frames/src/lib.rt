@@ -12,3 +12,6 @@ mod thread_state;
 
 pub use head::StackOverflow;
 pub use thread_state::ThreadState;
+
+#[cfg(test)]
+mod tests;

@@ -1,0 +1,38 @@
+-- A program of one class without members, on which the tests try a thread.
+use Rattle.std.proofs.Common.{◌≡◌, ℕ, zero, suc, ◌≤◌, false, List, [], ◌∷◌, take, length, Some, refl, subst, arith}
+use Rattle.std.specs.Prelude.{codes, slice_get}
+use Rattle.std.proofs.lemmas.Option.{slice_get_within}
+use Rattle.jvm_types.specs.LinkFaults.{is_taken}
+use Rattle.jvm_types.specs.ProgramInvariant.{IsProgram}
+use Rattle.jvm_types.specs.declared.program.Program.{Program}
+use Rattle.checked_program.specs.CheckedProgram.{IsChecked}
+
+abbrev empty : Program
+empty = record { names = codes "A" ∷ []; fields = []; methods = []; heap = 4096; workers = 0 }
+
+nothing_there : {A : Type 0} (xs : List A) (i : ℕ) (x : A) → length xs ≤ 0 → slice_get xs i ≡ Some x → ⊥
+nothing_there xs i x l e = omega (arith, l, slice_get_within xs i x e)
+
+names_apart : (number : ℕ) (name : List ℕ) → slice_get (codes "A" ∷ []) number ≡ Some name → is_taken (take number (codes "A" ∷ [])) name ≡ false
+names_apart zero name e =
+    let same : codes "A" ≡ name = cc in
+    subst (λ (n : List ℕ). is_taken [] n ≡ false) same refl
+names_apart (suc number) name e = absurd (nothing_there [] number name (omega arith) e)
+
+empty_is_program : IsProgram empty
+empty_is_program = record {
+  some_file = omega arith;
+  files = omega arith;
+  workers = omega arith;
+  heap_from = omega arith;
+  heap_to = omega arith;
+  words = omega arith;
+  names = names_apart;
+  fields = (λ number f e. absurd (nothing_there empty.fields number f (omega arith) e));
+  methods = (λ number m e. absurd (nothing_there empty.methods number m (omega arith) e));
+  run = (λ l. absurd (omega (arith, l)));
+  size = omega arith;
+}
+
+pub empty_is_checked : IsChecked (record { program = record { names = codes "A" ∷ []; fields = []; methods = []; heap = 4096; workers = 0 }; typings = [] })
+empty_is_checked = record { program = empty_is_program; typings = tt }
