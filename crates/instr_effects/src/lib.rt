@@ -1,0 +1,14 @@
+//! What each instruction does (JVMS 6.5), and what it asks of the words that threads share.
+#![tactic(auto)]
+
+mod accesses;
+mod before;
+mod effects;
+mod ints;
+mod names;
+
+pub use accesses::{is_checked, perform, read_by, wants};
+pub use effects::effect;
+
+#[cfg(test)]
+mod tests;
