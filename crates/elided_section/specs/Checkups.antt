@@ -1,0 +1,9 @@
+-- A check of a lock word in an attempt: the lock has to be free, with the count that was noted.
+use Rattle.std.specs.Prelude.{ℕ, ◌==◌, if◌then◌else◌}
+use Rattle.machine_types.specs.LockWords.{word_of_lock}
+use Rattle.machine_types.specs.declared.lock.LockWord.TheVariants.{Free}
+use Rattle.elided_section.specs.declared.Checkup.{Checkup}
+use Rattle.elided_section.specs.declared.Checkup.TheVariants.{Same, Differs}
+
+abbrev pub checkup : (noted found : ℕ) → Checkup
+checkup noted found = if found == word_of_lock (Free noted) then Same else Differs noted found
