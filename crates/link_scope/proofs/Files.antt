@@ -1,11 +1,11 @@
 -- Each of some files is a class, and has its number.
-use Rattle.std.proofs.Common.{◌≡◌, ℕ, zero, suc, ◌<◌, ◌≤◌, List, [], ◌∷◌, length, Some, subst, arith}
+use Rattle.std.proofs.Common.{◌≡◌, ℕ, zero, suc, List, [], ◌∷◌, Some, subst, arith}
 use Rattle.std.specs.Prelude.{slice_get}
 use Rattle.std.specs.List.{AllByRecursion}
 use Rattle.std.proofs.lemmas.Option.{slice_get_within}
 use Rattle.jvm_types.specs.ClassGrammar.{IsClass}
 use Rattle.jvm_types.specs.declared.class_file.ClassFile.{ClassFile}
-use Rattle.link_scope.specs.Scoping.{AreFiles, FileOf, IsFileOf}
+use Rattle.link_scope.specs.Scoping.{AreFiles, IsFileOf}
 
 class_at : (files : List ClassFile) (file : ℕ) (c : ClassFile) → AllByRecursion IsClass files → slice_get files file ≡ Some c → IsClass c
 class_at [] file c all e = absurd cc
