@@ -1,6 +1,6 @@
 -- Laws of the plain machine's steps: the last exit, the notification of all, the begin of a part, instructions and exceptions.
 use Rattle.std.proofs.Common.{◌≡◌, ◌≢◌, inl, inr, ℕ, zero, suc, ◌+◌, Bool, true, false, List, [], ◌∷◌, map, Option, Some, None, refl, sym, ap, ◌∙◌, subst}
-use Rattle.std.specs.Prelude.{cond, drop, not, ◌==◌, nat_lt, nat_le, option_map, option_and_then, slice_get}
+use Rattle.std.specs.Prelude.{cond, drop, ◌==◌, nat_lt, nat_le, option_map, option_and_then, slice_get}
 use Rattle.std.specs.List.{list_all, list_any}
 use Rattle.lists.proofs.TestLaws.{both_are_true}
 use Rattle.lists.proofs.ListLaws.{same_some}
@@ -32,17 +32,9 @@ use Rattle.machine_types.specs.declared.phase.After.TheVariants as afters
 use Rattle.machine_types.specs.declared.plain.Act.{Act}
 use Rattle.machine_types.specs.declared.plain.Act.TheVariants as acts
 use Rattle.machine_types.proofs.Lists.{got_when_set, got_other, every}
-use Rattle.machine_types.proofs.PlainStepLaws.{by_status, is_same, are_same, depth_is}
+use Rattle.machine_types.proofs.PlainStepLaws.{by_status, is_same, are_same, depth_is, none_left}
 
 -- ---- the last exit
-
-none_left : (m : ℕ) (hs : List Holding) → holding_at (without_holding m hs) m ≡ None
-none_left m [] = refl
-none_left m (h ∷ hs) = by_test (h.monitor == m) refl (none_left m hs)
-  where
-    by_test : (b : Bool) → (h.monitor == m) ≡ b → holding_at (without_holding m hs) m ≡ None → holding_at (cond (not b) (h ∷ without_holding m hs) (without_holding m hs)) m ≡ None
-    by_test true t r = r
-    by_test false t r = rw t r
 
 frees_by : (p : Program) (q r : Plain) (t u m : ℕ) (a : After) (x : PlainThread) (h : Holding) (b : Bool) → (h.holder == t) ≡ b → h.depth ≡ 1
     → cond b (option_map (λ o. with_thread (left q t m h.depth) t (goes_on x o)) (after p x.frames a)) None ≡ Some r → depth_for u (holding_at r.holdings m) ≡ None

@@ -1,21 +1,21 @@
 -- Laws of the plain machine's steps.
 use Rattle.std.specs.List.{list_any}
 use Rattle.std.proofs.Common.{◌≡◌, ◌≢◌, ℕ, zero, suc, ◌+◌, Bool, true, false, List, [], ◌∷◌, Option, Some, None, refl, sym, ap, ◌∙◌, subst, arith}
-use Rattle.std.specs.Prelude.{◌==◌, ◌||◌, option_map, slice_get, slice_set, if◌then◌else◌}
+use Rattle.std.specs.Prelude.{cond, not, ◌==◌, ◌||◌, option_map, slice_get, slice_set, if◌then◌else◌}
 use Rattle.std.proofs.lemmas.Bool.Decides.{nat_tests}
 use Rattle.jvm_types.specs.declared.outcome.End.TheVariants as ends
 use Rattle.jvm_types.specs.declared.program.Program.{Program}
 use Rattle.machine_types.specs.Agreement.{depth_for}
 use Rattle.machine_types.specs.Onward.{Onward, After, after}
 use Rattle.machine_types.specs.PlainLaws.{Steps, is_for, NoOtherStep, EntersAlone, RetakesAlone, one_deeper, EntersDeeper, ExitsShallower, WaitGivesUp, RetakeGivesBack, NobodyWaits, NotifyWakes}
-use Rattle.machine_types.specs.PlainState.{Plain, PlainThread, Holding, Status, holding_at, with_holding, held_by, let_go, with_thread, with_status, goes_on}
+use Rattle.machine_types.specs.PlainState.{Plain, PlainThread, Holding, Status, holding_at, with_holding, without_holding, held_by, let_go, with_thread, with_status, goes_on}
 use Rattle.machine_types.specs.PlainState as plain
 use Rattle.machine_types.specs.PlainSteps.{is_due, begins, entered, left, exited, waited, waits_on, woken, wakes_one, retaken, step_at, step_of}
 use Rattle.machine_types.specs.declared.plain.Act.{Act}
 use Rattle.machine_types.specs.declared.plain.Act.TheVariants as acts
 use Rattle.machine_types.proofs.Lists.{got_when_set, got_other}
 
--- ---- an act is a step in the statuses that it is for alone
+-- ---- an act is a step in no status but those that it is for
 
 no_root : (p : Program) (t : ℕ) (x : PlainThread) (status : Status) → is_for acts.Begin status ≡ false → begins p t x status ≡ None
 no_root p t x plain.Ready d = cc
@@ -131,14 +131,27 @@ exits_shallower p q r t m depth a x h s d = exits_by p q r t m depth a x (holdin
 
 -- ---- Wait and Retake
 
+-- a monitor that is let go has no holder
+pub none_left : (m : ℕ) (hs : List Holding) → holding_at (without_holding m hs) m ≡ None
+none_left m [] = refl
+none_left m (h ∷ hs) = by_test (h.monitor == m) refl (none_left m hs)
+  where
+    by_test : (b : Bool) → (h.monitor == m) ≡ b → holding_at (without_holding m hs) m ≡ None → holding_at (cond (not b) (h ∷ without_holding m hs) (without_holding m hs)) m ≡ None
+    by_test true t r = r
+    by_test false t r = rw t r
+
 abbrev GivesUp : Plain → Plain → ℕ → ℕ → PlainThread → Option Holding → Type 0
-GivesUp q r t m x h = (depth : ℕ) × (depth_for t h ≡ Some depth) × (slice_get r.threads t ≡ Some (record x { status = plain.Waiting m depth }))
+GivesUp q r t m x h = (depth : ℕ) × (depth_for t h ≡ Some depth) × (slice_get r.threads t ≡ Some (record x { status = plain.Waiting m depth })) × ((u : ℕ) → depth_for u (holding_at r.holdings m) ≡ None)
 
 gives_up_by : (q r : Plain) (t m : ℕ) (x : PlainThread) (h : Holding) (b : Bool) → (h.holder == t) ≡ b → slice_get q.threads t ≡ Some x
     → (if b then Some (with_thread (let_go q m) t (with_status x (plain.Waiting m h.depth))) else None) ≡ Some r → GivesUp q r t m x (Some h)
 gives_up_by q r t m x h true e g s =
-    let is : with_thread (let_go q m) t (with_status x (plain.Waiting m h.depth)) ≡ r = cc in
-    (h.depth, own_for t h e, subst (λ (z : Plain). slice_get z.threads t ≡ Some (record x { status = plain.Waiting m h.depth })) is (got_when_set q.threads t x _ g))
+    let is : with_thread (let_go q m) t (with_status x (plain.Waiting m h.depth)) ≡ r = cc in (
+      h.depth,
+      own_for t h e,
+      subst (λ (z : Plain). slice_get z.threads t ≡ Some (record x { status = plain.Waiting m h.depth })) is (got_when_set q.threads t x _ g),
+      λ u. subst (λ (z : Plain). depth_for u (holding_at z.holdings m) ≡ None) is (ap (depth_for u) (none_left m q.holdings)),
+    )
 gives_up_by q r t m x h false e g s = cc
 
 waits_by : (q r : Plain) (t m : ℕ) (x : PlainThread) (h : Option Holding) → slice_get q.threads t ≡ Some x → waited q t m x h ≡ Some r → GivesUp q r t m x h

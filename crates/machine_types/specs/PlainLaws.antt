@@ -25,7 +25,7 @@ use Rattle.machine_types.specs.declared.plain.PlainStep.{PlainStep}
 abbrev pub step : (t : ℕ) → Act → PlainStep
 step t act = record { thread = t; act = act }
 
--- ---- an act is a step in the statuses that it is for, and in no other
+-- ---- an act is a step in no status but those that it is for
 
 abbrev pub is_for : Act → Status → Bool
 is_for acts.Begin plain.Ready = true
@@ -87,10 +87,10 @@ abbrev pub ExitGoesOn : Type 0
 ExitGoesOn = (p : Program) (q r : Plain) (t m : ℕ) (a : After) (x : PlainThread) → Steps p q r t x acts.Exit → x.status ≡ plain.Leave m a
     → (o : Onward) × (after p x.frames a ≡ Some o) × (slice_get r.threads t ≡ Some (goes_on x o))
 
--- the depth that a wait gives up is the one that is taken back
+-- the depth that a wait gives up is the one that is taken back, and no thread holds the monitor afterwards
 abbrev pub WaitGivesUp : Type 0
 WaitGivesUp = (p : Program) (q r : Plain) (t m : ℕ) (x : PlainThread) → Steps p q r t x acts.Wait → x.status ≡ plain.Wait m
-    → (depth : ℕ) × (depth_in q t m ≡ Some depth) × (slice_get r.threads t ≡ Some (record x { status = plain.Waiting m depth }))
+    → (depth : ℕ) × (depth_in q t m ≡ Some depth) × (slice_get r.threads t ≡ Some (record x { status = plain.Waiting m depth })) × ((u : ℕ) → depth_in r u m ≡ None)
 
 abbrev pub RetakeGivesBack : Type 0
 RetakeGivesBack = (p : Program) (q r : Plain) (t m depth : ℕ) (x : PlainThread) → Steps p q r t x acts.Retake → x.status ≡ plain.Woken m depth → depth_in r t m ≡ Some depth
