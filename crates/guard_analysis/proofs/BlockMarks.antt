@@ -1,6 +1,6 @@
 -- What a walk finds are the own instructions of a block, and so its mark is the one that a block has.
-use Rattle.std.proofs.Common.{◌≡◌, ℕ, zero, suc, ◌+◌, ◌<◌, ◌≤◌, ◌≢◌, Bool, true, false, ◌||◌, cond, List, [], ◌∷◌, ◌++◌, length, map, Option, Some, None, refl, sym, ap, subst, ◌∙◌, arith, ⊎_elim, inl, inr, ◌⊎◌}
-use Rattle.std.specs.Prelude.{◌==◌, ◌↔◌, nat_lt, if◌then◌else◌, slice_get, slice_index, slice_index_or, IsSomeAnd}
+use Rattle.std.proofs.Common.{◌≡◌, ℕ, ◌<◌, Bool, true, false, ◌||◌, cond, List, [], ◌∷◌, ◌++◌, length, map, Option, Some, None, refl, sym, ap, subst, ◌∙◌, arith, ⊎_elim, inl, inr, ◌⊎◌}
+use Rattle.std.specs.Prelude.{◌==◌, nat_lt, if◌then◌else◌, slice_get, slice_index, slice_index_or, IsSomeAnd}
 use Rattle.std.specs.List.{list_any, filter, filter_map, cons_option}
 use Rattle.std.proofs.lemmas.Bool.Decides.{nat_tests}
 use Rattle.std.proofs.lemmas.Option.{slice_get_within, same_Some}
@@ -19,17 +19,17 @@ use Rattle.code_table.proofs.NumbersExact.{exact}
 use Rattle.program_laws.proofs.CodeOrder.{methods_laid_out, one_number}
 use Rattle.checked_program.specs.LockTags.{TagShape, is_this}
 use Rattle.checked_program.specs.Tagging.{catches_all, until_all, catchers, tags_after, tags_at_handler}
-use Rattle.checked_program.specs.TaggedCode.{Tagged, tagged_by, IsAt, IsReached, IsEdge, Goes, onward, caught, row_of}
-use Rattle.checked_program.specs.Sections.{Section, IsDeep, StaysDeep, BeginsAt, IsInBlock, IsOwn}
+use Rattle.checked_program.specs.TaggedCode.{tagged_by, IsAt, IsEdge, Goes, onward, caught, row_of}
+use Rattle.checked_program.specs.Sections.{IsDeep, StaysDeep, BeginsAt, IsOwn}
 use Rattle.checked_program.specs.Marks.{IsOnThis, HasMark, IsMarkOf}
 use Rattle.checked_program.specs.declared.tag.Tag.{Tag}
 use Rattle.checked_program.specs.declared.tag.Tag.TheVariants.{Untagged, This, At}
 use Rattle.checked_program.specs.declared.tag.Tags.{Tags}
-use Rattle.checked_program.specs.declared.section.Spot.TheVariants.{Method, Block}
+use Rattle.checked_program.specs.declared.section.Spot.TheVariants.{Block}
 use Rattle.checked_program.specs.declared.section.FieldUse.{FieldUse}
 use Rattle.spread.specs.Chains.{IsIn}
-use Rattle.guard_analysis.specs.BlockWalks.{handler_pcs, catch_pcs, way_pcs, ways_from, ways_at, deep_at, is_deep, Stays, IsInside, Has}
-use Rattle.guard_analysis.specs.SectionGrades.{earliest_before, depth_on_this, depth_at, IsGrade, AreGrades, IsBlockMark, section_in}
+use Rattle.guard_analysis.specs.BlockWalks.{handler_pcs, catch_pcs, way_pcs, ways_from, ways_at, deep_at, is_deep, Stays, IsInside}
+use Rattle.guard_analysis.specs.SectionGrades.{depth_on_this, depth_at, AreGrades, IsBlockMark, section_in}
 use Rattle.guard_analysis.proofs.CallEdges.{with_tags, frames_there}
 use Rattle.guard_analysis.proofs.SectionMarks.{has_earliest, has_elsewhere}
 

@@ -1,12 +1,11 @@
 -- The edges of the graph are the calls of reached instructions.
-use Rattle.std.proofs.Common.{◌≡◌, ℕ, zero, suc, ◌+◌, ◌*◌, ◌/◌, ◌%◌, ◌<◌, ◌≤◌, ◌≢◌, Bool, true, false, List, [], ◌∷◌, length, Option, Some, None, refl, sym, ap, subst, ◌∙◌, arith, ⊎_elim, inl, inr, ◌⊎◌}
-use Rattle.std.specs.Prelude.{◌==◌, nat_lt, if◌then◌else◌, slice_get, IsSomeAnd}
+use Rattle.std.proofs.Common.{◌≡◌, ℕ, zero, suc, ◌+◌, ◌*◌, ◌/◌, ◌%◌, ◌<◌, Bool, true, false, List, [], ◌∷◌, length, Option, Some, None, refl, sym, ap, subst, ◌∙◌, arith, ⊎_elim, ◌⊎◌}
+use Rattle.std.specs.Prelude.{nat_lt, if◌then◌else◌, slice_get, IsSomeAnd}
 use Rattle.std.specs.Option.{option_map}
 use Rattle.std.proofs.lemmas.Bool.Decides.{nat_tests}
 use Rattle.std.proofs.lemmas.Option.{slice_get-map, slice_get_within, same_Some}
-use Rattle.jvm_types.specs.ProgramInvariant.{IsProgram, IsTargetOf, IsMethodTarget, site_in}
+use Rattle.jvm_types.specs.ProgramInvariant.{IsProgram, IsTargetOf, site_in}
 use Rattle.jvm_types.specs.Members.{Site}
-use Rattle.jvm_types.specs.declared.call.Call.TheVariants.{Virtual, Special, Static}
 use Rattle.jvm_types.specs.declared.code.Insn.{Insn}
 use Rattle.jvm_types.specs.declared.code.Op.{Op}
 use Rattle.jvm_types.specs.declared.code.Op.TheVariants as ops
@@ -16,15 +15,13 @@ use Rattle.jvm_types.specs.declared.program.MethodInfo.{MethodInfo}
 use Rattle.jvm_types.specs.declared.program.Program.{Program}
 use Rattle.program_laws.proofs.CodeOrder.{have_targets}
 use Rattle.checked_program.specs.LockTags.{TagShape}
-use Rattle.checked_program.specs.TaggedCode.{Tagged, tagged_by, IsAt}
+use Rattle.checked_program.specs.TaggedCode.{Tagged, tagged_by}
 use Rattle.checked_program.specs.Marks.{Callee, callee, Calls, called_method, receiver_tag, is_own_object, mode_if}
-use Rattle.checked_program.specs.declared.tag.Tag.{Tag}
 use Rattle.checked_program.specs.declared.tag.Tags.{Tags}
 use Rattle.checked_program.specs.declared.section.Mode.{Mode}
 use Rattle.checked_program.specs.declared.section.Mode.TheVariants.{OnThis, OffThis}
-use Rattle.spread.specs.Walks.{IsEdge}
-use Rattle.guard_analysis.specs.CallGraph.{mode_number, node_of, mode_at, AreCalls, node_in, call_node, call_at, graph_before, call_graph}
-use Rattle.guard_analysis.proofs.GraphEdges.{the_call, CallAt, graph_added, graph_old}
+use Rattle.guard_analysis.specs.CallGraph.{mode_number, node_of, mode_at, AreCalls, node_in, call_node, call_at, call_graph}
+use Rattle.guard_analysis.proofs.GraphEdges.{CallAt, graph_added, graph_old}
 
 -- ---- nodes
 

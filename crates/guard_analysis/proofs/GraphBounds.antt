@@ -1,5 +1,5 @@
 -- The graph of calls is one of few edges.
-use Rattle.std.proofs.Common.{◌≡◌, ℕ, zero, suc, ◌+◌, ◌*◌, ◌/◌, ◌<◌, ◌≤◌, List, [], ◌∷◌, ◌++◌, length, Option, Some, None, refl, sym, ap, subst, ◌∙◌, arith, IsTrue}
+use Rattle.std.proofs.Common.{◌≡◌, ℕ, zero, suc, ◌+◌, ◌*◌, ◌/◌, ◌<◌, ◌≤◌, List, [], ◌∷◌, length, Option, Some, None, refl, subst, ◌∙◌, arith}
 use Rattle.std.specs.Prelude.{slice_get, slice_index}
 use Rattle.std.specs.List.{sum_by}
 use Rattle.std.proofs.lemmas.List.{length-append}
@@ -12,9 +12,8 @@ use Rattle.program_laws.proofs.CodeOrder.{methods_laid_out, starts}
 use Rattle.checked_program.specs.LockTags.{TagShape}
 use Rattle.checked_program.specs.Reach.{size_of}
 use Rattle.checked_program.specs.declared.tag.Tags.{Tags}
-use Rattle.spread.specs.Walks.{IsEdge}
 use Rattle.spread.specs.LeastSet.{IsGraph}
-use Rattle.guard_analysis.specs.CallGraph.{with_edge, edges_before, node_edges, graph_before, call_graph, call_at}
+use Rattle.guard_analysis.specs.CallGraph.{with_edge, edges_before, node_edges, graph_before, call_graph}
 use Rattle.guard_analysis.specs.declared.call_graph.Graph.{Graph}
 use Rattle.guard_analysis.proofs.GraphEdges.{graph_alike, graph_old, the_call}
 use Rattle.guard_analysis.proofs.CallEdges.{call_parts, node_parts, node_low}

@@ -1,5 +1,5 @@
 -- Marks one behind the other complete the marks of all sections.
-use Rattle.std.proofs.Common.{◌≡◌, ℕ, zero, suc, ◌+◌, ◌<◌, ◌≤◌, Bool, true, false, List, [], ◌∷◌, ◌++◌, length, map, drop, Option, Some, None, refl, sym, ap, subst, ◌∙◌, arith, append_assoc}
+use Rattle.std.proofs.Common.{◌≡◌, ℕ, zero, suc, ◌+◌, ◌<◌, ◌≤◌, true, List, [], ◌∷◌, ◌++◌, length, map, drop, Option, Some, None, refl, sym, ap, subst, ◌∙◌, arith, append_assoc}
 use Rattle.std.specs.Prelude.{if◌then◌else◌, slice_get, slice_index}
 use Rattle.std.specs.List.{AllZip, filter_map, cons_option}
 use Rattle.std.specs.Option.{option_to_list}
@@ -20,7 +20,7 @@ use Rattle.checked_program.specs.declared.section.Spot.{Spot}
 use Rattle.checked_program.specs.declared.section.Spot.TheVariants.{Method, Block}
 use Rattle.checked_program.specs.declared.section.SectionMark.{SectionMark}
 use Rattle.checked_program.specs.declared.section.FieldUse.{FieldUse}
-use Rattle.guard_analysis.specs.BlockWalks.{Has, IsInside, IsExplored}
+use Rattle.guard_analysis.specs.BlockWalks.{IsExplored}
 use Rattle.guard_analysis.specs.SectionGrades.{earliest_before, IsBlockMark, section_in, sections_at, whole_of, Continues, Marks, MarksUpTo}
 use Rattle.guard_analysis.specs.declared.block_walk.Walk.{Walk}
 use Rattle.guard_analysis.proofs.SectionMarks.{adds_one}

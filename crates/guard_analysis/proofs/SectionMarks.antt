@@ -1,19 +1,16 @@
 -- The first rule that forbids an own instruction is the mark of the section.
-use Rattle.std.proofs.Common.{◌≡◌, ℕ, zero, suc, ◌+◌, ◌<◌, ◌≤◌, ◌≢◌, Bool, true, false, List, [], ◌∷◌, ◌++◌, length, map, drop, Option, Some, None, refl, sym, ap, subst, ◌∙◌, arith, ⊎_elim, append_assoc}
-use Rattle.std.specs.Prelude.{◌==◌, if◌then◌else◌, slice_get, slice_index}
+use Rattle.std.proofs.Common.{◌≡◌, ℕ, zero, suc, ◌<◌, ◌≤◌, false, List, [], ◌∷◌, ◌++◌, length, Some, refl, sym, subst, ◌∙◌, arith, append_assoc}
+use Rattle.std.specs.Prelude.{◌==◌, slice_get, slice_index}
 use Rattle.std.specs.List.{AllZip}
-use Rattle.std.proofs.lemmas.Bool.{cases_eq}
 use Rattle.std.proofs.lemmas.Bool.Decides.{nat_tests}
 use Rattle.std.proofs.lemmas.Option.{slice_get_within, same_Some}
 use Rattle.jvm_types.specs.declared.program.MethodInfo.{MethodInfo}
 use Rattle.jvm_types.specs.declared.program.Program.{Program}
 use Rattle.checked_program.specs.TaggedCode.{Tagged, IsReached}
 use Rattle.checked_program.specs.Sections.{Section, IsOwn}
-use Rattle.checked_program.specs.Marks.{Callee, callee, Applies, elsewhere, itself, called, recurring, IsOnThis, turn, HasMark, IsMarkOf}
-use Rattle.checked_program.specs.declared.section.Spot.{Spot}
-use Rattle.checked_program.specs.declared.section.Spot.TheVariants.{Method, Block}
+use Rattle.checked_program.specs.Marks.{Applies, elsewhere, itself, called, recurring, IsOnThis, turn, HasMark, IsMarkOf}
+use Rattle.checked_program.specs.declared.section.Spot.TheVariants.{Method}
 use Rattle.checked_program.specs.declared.section.SectionMark.{SectionMark}
-use Rattle.checked_program.specs.declared.section.Mode.TheVariants.{OnThis}
 use Rattle.checked_program.specs.declared.section.FieldUse.{FieldUse}
 use Rattle.guard_analysis.specs.SectionGrades.{earliest_before, Forbids, breaks, calls, recurs, IsGrade, AreGrades, section_in, Continues}
 use Rattle.guard_analysis.proofs.Earliest.{IsEarliest, earliest_is}

@@ -1,6 +1,6 @@
 -- The graph of calls. Its nodes are the methods, each once as it is called on the section's object and once as it is called
 -- off it; its edges are the calls of reached instructions.
-use Rattle.std.specs.Prelude.{◌≡◌, ◌<◌, ◌+◌, ◌*◌, ◌/◌, ◌%◌, ℕ, zero, suc, Bool, true, false, ◌||◌, ◌==◌, nat_lt, if◌then◌else◌, List, [], ◌∷◌, ◌++◌, length, Option, Some, None, slice_get}
+use Rattle.std.specs.Prelude.{◌≡◌, ◌+◌, ◌*◌, ◌/◌, ◌%◌, ℕ, zero, suc, ◌==◌, nat_lt, if◌then◌else◌, List, [], ◌∷◌, ◌++◌, length, Option, Some, None, slice_get}
 use Rattle.jvm_types.specs.declared.code.Insn.{Insn}
 use Rattle.jvm_types.specs.declared.code.Op.{Op}
 use Rattle.jvm_types.specs.declared.program.Target.{Target}
@@ -8,12 +8,11 @@ use Rattle.jvm_types.specs.declared.program.MethodInfo.{MethodInfo}
 use Rattle.jvm_types.specs.declared.program.Program.{Program}
 use Rattle.checked_program.specs.LockTags.{TagShape}
 use Rattle.checked_program.specs.TaggedCode.{Tagged}
-use Rattle.checked_program.specs.Marks.{Callee, callee, Calls, called_method, receiver_tag, is_own_object, mode_if, fault}
+use Rattle.checked_program.specs.Marks.{Callee, Calls, called_method, receiver_tag, is_own_object, mode_if}
 use Rattle.checked_program.specs.declared.tag.Tag.{Tag}
 use Rattle.checked_program.specs.declared.tag.Tags.{Tags}
 use Rattle.checked_program.specs.declared.section.Mode.{Mode}
 use Rattle.checked_program.specs.declared.section.Mode.TheVariants.{OnThis, OffThis}
-use Rattle.checked_program.specs.declared.section.FieldUse.{FieldUse}
 use Rattle.spread.specs.Walks.{IsEdge}
 use Rattle.guard_analysis.specs.declared.call_graph.Graph.{Graph}
 

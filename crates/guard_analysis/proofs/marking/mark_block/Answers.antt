@@ -1,4 +1,4 @@
-use Rattle.std.proofs.Common.{◌≡◌, ◌∙◌, ap}
+use Rattle.std.proofs.Common.{◌∙◌, ap}
 use Rattle.guard_analysis.specs.SectionGrades.{depth_at}
 use Rattle.guard_analysis.proofs.MarkLists.{explored_mark}
 use Rattle.guard_analysis.proofs.marking.mark_block.Goals as goal

@@ -1,9 +1,5 @@
-use Rattle.std.proofs.Common.{◌≡◌, map, drop}
-use Rattle.std.specs.List.{filter_map}
-use Rattle.jvm_types.specs.declared.code.Insn.{Insn}
 use Rattle.checked_program.specs.TaggedCode.{tagged_by}
-use Rattle.checked_program.specs.Sections.{block_at}
-use Rattle.guard_analysis.specs.SectionGrades.{section_in, IsFresh, MarksUpTo}
+use Rattle.guard_analysis.specs.SectionGrades.{IsFresh, MarksUpTo}
 use Rattle.guard_analysis.proofs.marking.mark_blocks.Given as goal
 
 abbrev pub invariant-loop-i : goal.invariant-loop-i
