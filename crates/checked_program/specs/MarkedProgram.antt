@@ -1,5 +1,6 @@
 -- A program with all that its checks found: it is linked, and each of its methods has a typing and lock tags, each section a mark.
-use Rattle.std.specs.Prelude.{List, [], ◌∷◌}
+use Rattle.std.specs.Prelude.{List}
+use Rattle.std.specs.List.{AllZip}
 use Rattle.jvm_types.specs.declared.program.MethodInfo.{MethodInfo}
 use Rattle.jvm_types.specs.declared.program.Program.{Program}
 use Rattle.jvm_types.specs.declared.typing.Typing.{Typing}
@@ -21,9 +22,7 @@ checked_part c = record { program = c.program; typings = c.typings }
 
 -- of each method its tagging, in the order of the methods
 abbrev pub AreTaggings : Program → List MethodInfo → List Tags → Type 0
-AreTaggings p [] [] = Unit {0}
-AreTaggings p (m ∷ ms) (t ∷ ts) = IsTaggingOf p m t × AreTaggings p ms ts
-AreTaggings p ms ts = ⊥
+AreTaggings p ms ts = AllZip (IsTaggingOf p) ms ts
 
 pub record IsMarked (c : MarkedProgram) : Type 0 where
   pub checked : IsChecked (checked_part c)

@@ -10,8 +10,14 @@ use Rattle.jvm_types.specs.Targets.{Scope}
 use Rattle.jvm_types.specs.Linked.{code_of, scope_of, linked_methods, program_of}
 use Rattle.jvm_types.specs.Linkable.{IsDecoded}
 use Rattle.jvm_types.specs.LinkFaults.{LinkFault, link_fault, IsLinked}
-use Rattle.jvm_types.specs.Verifying.{IsTypingOf}
-use Rattle.checked_program.specs.CheckedProgram.{CheckedProgram, AreTypings}
+use Rattle.jvm_types.specs.Verifying.{IsTypingOf, IsRefused}
+use Rattle.checked_program.specs.CheckedProgram.{AreTypings}
+use Rattle.checked_program.specs.MarkedProgram.{MarkedProgram, AreTaggings}
+use Rattle.checked_program.specs.Marks.{AreMarks}
+use Rattle.checked_program.specs.TaggedCode.{tagged_by}
+use Rattle.checked_program.specs.Tagging.{IsTaggingOf, IsTagRefused}
+use Rattle.checked_program.specs.declared.section.SectionMark.{SectionMark}
+use Rattle.checked_program.specs.declared.tag.Tags.{Tags}
 use Rattle.jvm_types.specs.FirstForm.{IsFirstForm}
 use Rattle.jvm_types.specs.declared.class_file.ClassFile.{ClassFile}
 use Rattle.jvm_types.specs.declared.code.Insn.{Insn}
@@ -22,12 +28,16 @@ use Rattle.jvm_types.specs.declared.typing.Typing.{Typing}
 use Rattle.jvm_types.specs.declared.refusal.Rule.{Rule}
 use Rattle.jvm_types.specs.declared.refusal.Rule.TheVariants.{C, K, L, V, S}
 use Rattle.jvm_types.specs.declared.refusal.VRule.{VRule}
+use Rattle.jvm_types.specs.declared.refusal.SRule.{SRule}
 use Rattle.jvm_types.specs.declared.refusal.Place.{Place}
 use Rattle.jvm_types.proofs.ClassLawProofs.{one_class, read_if_spelled}
 use Rattle.jvm_types.proofs.CodeLaws.{faultless}
 use Rattle.jvm_types.proofs.CodeOnce.{once}
 use Rattle.typing_laws.proofs.OneTyping.{one_typing, no_refusal}
-use Rattle.class_runner.specs.Loading.{AreRead, IsLoaded, IsFirstLoaded, IsFirstUntyped, IsUnbuilt, IsUntyped, IsRefusedBy, IsNotLoaded, read_fault, decode_fault}
+use Rattle.tag_laws.proofs.TagAnswers.{one_tagging_all, no_refusal as no_tag_refusal}
+use Rattle.section_laws.proofs.OneMarks.{one_mark}
+use Rattle.class_runner.specs.Loading.{AreRead, IsLoaded, IsFirstLoaded, LetsPass, IsAccepted, IsFirstRefused, IsFirstUntyped, IsFirstUntagged, IsUnbuilt, IsUntyped, IsUntagged, IsRefusedBy, IsNotLoaded, read_fault, decode_fault}
+use Rattle.class_runner.specs.LoadingLaws.{LoadedAccepted, AcceptedNotRefused}
 use Rattle.class_runner.specs.Stages.{IsLinkedFrom}
 use Rattle.class_runner.specs.declared.loading.FileError.{FileError}
 use Rattle.class_runner.specs.declared.loading.FileError.TheVariants.{Memory, Refused}
@@ -48,18 +58,22 @@ classes_once files cs ds h k = each_once Spells one_class files cs ds h k
 code_once : (ds : List Declared) (code others : List (List Insn)) → AllZip IsDecoded ds code → AllZip IsDecoded ds others → code ≡ others
 code_once ds code others h k = each_once IsDecoded (λ d i j p q. once (code_of d.member.attrs).bytes (code_of d.member.attrs).rows (code_of d.member.attrs).rows i j p q) ds code others h k
 
+-- frames are all that a typing has, and all that tags have
 same_typing : (p : Program) (m : MethodInfo) (t u : Typing) → IsTypingOf p m t → IsTypingOf p m u → t ≡ u
 same_typing p m t u h k =
     let frames : t.frames ≡ u.frames = one_typing p m t.frames u.frames h k in
     λ i. record { frames = frames i }
 
+same_tags : (p : Program) (m : MethodInfo) (t u : Tags) → IsTaggingOf p m t → IsTaggingOf p m u → t ≡ u
+same_tags p m t u h k =
+    let frames : t.frames ≡ u.frames = one_tagging_all p m t.frames u.frames h k in
+    λ i. record { frames = frames i }
+
 typings_once : (p : Program) (ms : List MethodInfo) (ts us : List Typing) → AreTypings p ms ts → AreTypings p ms us → ts ≡ us
-typings_once p [] [] [] h k = refl
-typings_once p [] [] (u ∷ us) h k = absurd k
-typings_once p [] (t ∷ ts) us h k = absurd h
-typings_once p (m ∷ ms) [] us h k = absurd h
-typings_once p (m ∷ ms) (t ∷ ts) [] h k = absurd k
-typings_once p (m ∷ ms) (t ∷ ts) (u ∷ us) h k = λ i. same_typing p m t u h.0 k.0 i ∷ typings_once p ms ts us h.1 k.1 i
+typings_once p ms ts us h k = each_once (IsTypingOf p) (same_typing p) ms ts us h k
+
+tags_once : (p : Program) (ms : List MethodInfo) (ts us : List Tags) → AreTaggings p ms ts → AreTaggings p ms us → ts ≡ us
+tags_once p ms ts us h k = each_once (IsTaggingOf p) (same_tags p) ms ts us h k
 
 -- ---- the same files are loaded to the same
 
@@ -72,17 +86,33 @@ read_once files cs ds code others a b =
 pub same_program : (cs ds : List ClassFile) (code others : List (List Insn)) (heap workers : ℕ) (p q : Program) → cs ≡ ds → code ≡ others → IsLinked cs code heap workers p → IsLinked ds others heap workers q → p ≡ q
 same_program cs ds code others heap workers p q e f a b = a.is ∙ (λ i. program_of (e i) (f i) heap workers) ∙ sym b.is
 
-same_checked : (c d : CheckedProgram) → c.program ≡ d.program → AreTypings c.program c.program.methods c.typings → AreTypings d.program d.program.methods d.typings → c ≡ d
-same_checked c d e h k =
-    let typings : c.typings ≡ d.typings = typings_once c.program c.program.methods c.typings d.typings h (subst (λ (p : Program). AreTypings p p.methods d.typings) (sym e) k) in
-    λ i. record { program = e i; typings = typings i }
+abbrev marked : Program → List Typing → List Tags → List SectionMark → MarkedProgram
+marked p ts gs ms = record { program = p; typings = ts; tags = gs; marks = ms }
 
-pub loaded_once : (files : List (List ℕ)) (heap workers : ℕ) (c d : CheckedProgram) → IsLoaded files heap workers c → IsLoaded files heap workers d → c ≡ d
+-- two checks of one program
+same_checked : (p : Program) (ts us : List Typing) (gs hs : List Tags) (ms ns : List SectionMark) → AreTypings p p.methods ts → AreTypings p p.methods us → AreTaggings p p.methods gs → AreTaggings p p.methods hs
+    → AreMarks p (tagged_by gs) ms → AreMarks p (tagged_by hs) ns → marked p ts gs ms ≡ marked p us hs ns
+same_checked p ts us gs hs ms ns t u g h m n =
+    let typings : ts ≡ us = typings_once p p.methods ts us t u in
+    let tags : gs ≡ hs = tags_once p p.methods gs hs g h in
+    let marks : ms ≡ ns = one_mark p (tagged_by gs) ms ns m (subst (λ (x : List Tags). AreMarks p (tagged_by x) ns) (sym tags) n) in
+    λ i. marked p (typings i) (tags i) (marks i)
+
+checked_once : (p : Program) (d : MarkedProgram) (ts : List Typing) (gs : List Tags) (ms : List SectionMark) → p ≡ d.program → AreTypings p p.methods ts → AreTypings d.program d.program.methods d.typings
+    → AreTaggings p p.methods gs → AreTaggings d.program d.program.methods d.tags → AreMarks p (tagged_by gs) ms → AreMarks d.program (tagged_by d.tags) d.marks → marked p ts gs ms ≡ d
+checked_once p d ts gs ms e t u g h m n =
+    same_checked p ts d.typings gs d.tags ms d.marks t (subst (λ (q : Program). AreTypings q q.methods d.typings) (sym e) u) g (subst (λ (q : Program). AreTaggings q q.methods d.tags) (sym e) h) m
+    (subst (λ (q : Program). AreMarks q (tagged_by d.tags) d.marks) (sym e) n)
+    ∙ ap (λ (q : Program). marked q d.typings d.tags d.marks) e
+
+pub loaded_once : (files : List (List ℕ)) (heap workers : ℕ) (c d : MarkedProgram) → IsLoaded files heap workers c → IsLoaded files heap workers d → c ≡ d
 loaded_once files heap workers c d a b =
     let read = read_once files a.classes b.classes a.code b.code a.read b.read in
-    same_checked c d (same_program a.classes b.classes a.code b.code heap workers c.program d.program read.0 read.1 a.checked.linked b.checked.linked) a.checked.typed b.checked.typed
+    let k = a.checked.passed in
+    let l = b.checked.passed in
+    checked_once c.program d c.typings c.tags c.marks (same_program a.classes b.classes a.code b.code heap workers c.program d.program read.0 read.1 k.linked l.linked) k.typed l.typed k.tagged l.tagged a.checked.marked b.checked.marked
 
--- ---- files that are loaded are not refused
+-- ---- files that are accepted are not refused
 
 pub never_both : {X : Type 0} (o : Option X) (x : X) → o ≡ None → o ≡ Some x → ⊥
 never_both o x e h = absurd cc
@@ -101,50 +131,70 @@ no_decode_fault [] code h = refl
 no_decode_fault (d ∷ ds) [] h = absurd h
 no_decode_fault (d ∷ ds) (insns ∷ code) h = rw (faultless (code_of d.member.attrs).bytes (code_of d.member.attrs).rows insns h.0) (no_decode_fault ds code h.1)
 
-pub none_untyped : (p : Program) (ds : List Declared) (ms : List MethodInfo) (ts : List Typing) (rule : VRule) (place : Place) → AreTypings p ms ts → IsFirstUntyped p ds ms rule place → ⊥
-none_untyped p [] ms ts rule place h k = absurd k
-none_untyped p (d ∷ ds) [] ts rule place h k = absurd k
-none_untyped p (d ∷ ds) (m ∷ ms) [] rule place h k = absurd h
-none_untyped p (d ∷ ds) (m ∷ ms) (t ∷ ts) rule place h k = elim k [
-  | inl refused ↦ no_refusal p m t.frames rule place.at h.0 refused.0
-  | inr (u, typed, later) ↦ none_untyped p ds ms ts rule place h.1 later
+-- where all have what a check finds, it refuses none
+none_refused : {T R : Type 0} (has : MethodInfo → T → Type 0) (refuses : MethodInfo → R → ℕ → Type 0) → ((m : MethodInfo) (t : T) (rule : R) (pc : ℕ) → has m t → refuses m rule pc → ⊥)
+    → (rule : R) (ds : List Declared) (ms : List MethodInfo) (ts : List T) (place : Place) → AllZip has ms ts → IsFirstRefused has refuses rule ds ms place → ⊥
+none_refused has refuses never rule [] ms ts place h k = absurd k
+none_refused has refuses never rule (d ∷ ds) [] ts place h k = absurd k
+none_refused has refuses never rule (d ∷ ds) (m ∷ ms) [] place h k = absurd h
+none_refused has refuses never rule (d ∷ ds) (m ∷ ms) (t ∷ ts) place h k = elim k [
+  | inl refused ↦ never m t rule place.at h.0 refused.0
+  | inr (u, passed, later) ↦ none_refused has refuses never rule ds ms ts place h.1 later
 ]
 
-never_linked : (files : List (List ℕ)) (heap workers : ℕ) (c : CheckedProgram) (l : IsLoaded files heap workers c) (cs : List ClassFile) (code : List (List Insn)) (fault : LinkFault) → AreRead files cs code → link_fault cs code heap workers ≡ Some fault → ⊥
-never_linked files heap workers c l cs code fault read refused =
-    let same = read_once files l.classes cs l.code code l.read read in
-    never_both (link_fault l.classes l.code heap workers) fault l.checked.linked.unrefused ((λ i. link_fault (same.0 i) (same.1 i) heap workers) ∙ refused)
+pub none_untyped : (p : Program) (ds : List Declared) (ms : List MethodInfo) (ts : List Typing) (rule : VRule) (place : Place) → AreTypings p ms ts → IsFirstUntyped p ds ms rule place → ⊥
+none_untyped p ds ms ts rule place h k = none_refused (IsTypingOf p) (IsRefused p) (λ m t r pc x y. no_refusal p m t.frames r pc x y) rule ds ms ts place h k
 
-never_unbuilt : (files : List (List ℕ)) (heap workers : ℕ) (c : CheckedProgram) (ops : List FirstOp) → IsFirstLoaded files heap workers c ops → IsUnbuilt files heap workers → ⊥
-never_unbuilt files heap workers c ops l u =
-    let same = read_once files l.classes u.classes l.code u.code l.read u.read in
-    let program : c.program ≡ u.checked_program.program = same_program l.classes u.classes l.code u.code heap workers c.program u.checked_program.program same.0 same.1 l.checked.linked u.checked.linked in
-    u.other ops (subst (λ (cs : List ClassFile). IsFirstForm cs u.checked_program.program ops) same.0 (subst (λ (p : Program). IsFirstForm l.classes p ops) program l.first))
+pub none_untagged : (p : Program) (ds : List Declared) (ms : List MethodInfo) (ts : List Tags) (rule : SRule) (place : Place) → AreTaggings p ms ts → IsFirstUntagged p ds ms rule place → ⊥
+none_untagged p ds ms ts rule place h k = none_refused (IsTaggingOf p) (IsTagRefused p) (λ m t r pc x y. no_tag_refusal p m t.frames r pc x y) rule ds ms ts place h k
 
-never_untyped : (files : List (List ℕ)) (heap workers : ℕ) (c : CheckedProgram) (rule : VRule) (place : Place) → IsLoaded files heap workers c → IsUntyped files heap workers rule place → ⊥
-never_untyped files heap workers c rule place l u =
-    let same = read_once files l.classes u.classes l.code u.code l.read u.read in
-    let program : c.program ≡ u.program = same_program l.classes u.classes l.code u.code heap workers c.program u.program same.0 same.1 l.checked.linked u.linked in
-    none_untyped u.program (declared_methods u.classes) u.program.methods c.typings rule place (subst (λ (p : Program). AreTypings p p.methods c.typings) program l.checked.typed) u.first
+never_linked : (files : List (List ℕ)) (heap workers : ℕ) (w : LetsPass files heap workers) (cs : List ClassFile) (code : List (List Insn)) (fault : LinkFault) → AreRead files cs code → link_fault cs code heap workers ≡ Some fault → ⊥
+never_linked files heap workers w cs code fault read refused =
+    let same = read_once files w.classes cs w.code code w.read read in
+    never_both (link_fault w.classes w.code heap workers) fault w.passed.linked.unrefused ((λ i. link_fault (same.0 i) (same.1 i) heap workers) ∙ refused)
 
-abbrev pub loaded : (files : List (List ℕ)) (heap workers : ℕ) (c : CheckedProgram) (ops : List FirstOp) → IsFirstLoaded files heap workers c ops → IsLoaded files heap workers c
+-- files that pass are linked to one program
+pub passed_program : (files : List (List ℕ)) (heap workers : ℕ) (w : LetsPass files heap workers) (cs : List ClassFile) (code : List (List Insn)) (p : Program) → AreRead files cs code → IsLinked cs code heap workers p → (w.classes ≡ cs) × (w.program ≡ p)
+passed_program files heap workers w cs code p read linked =
+    let same = read_once files w.classes cs w.code code w.read read in
+    (same.0, same_program w.classes cs w.code code heap workers w.program p same.0 same.1 w.passed.linked linked)
+
+never_unbuilt : (files : List (List ℕ)) (heap workers : ℕ) → IsAccepted files heap workers → IsUnbuilt files heap workers → ⊥
+never_unbuilt files heap workers (w, ops, first) (u, other) =
+    let same = passed_program files heap workers w u.classes u.code u.program u.read u.passed.linked in
+    other ops (subst (λ (cs : List ClassFile). IsFirstForm cs u.program ops) same.0 (subst (λ (p : Program). IsFirstForm w.classes p ops) same.1 first))
+
+pub never_untyped : (files : List (List ℕ)) (heap workers : ℕ) (rule : VRule) (place : Place) → LetsPass files heap workers → IsUntyped files heap workers rule place → ⊥
+never_untyped files heap workers rule place w u =
+    let same = passed_program files heap workers w u.classes u.code u.program u.read u.linked in
+    none_untyped u.program (declared_methods u.classes) u.program.methods w.typings rule place (subst (λ (p : Program). AreTypings p p.methods w.typings) same.1 w.passed.typed) u.first
+
+pub never_untagged : (files : List (List ℕ)) (heap workers : ℕ) (rule : SRule) (place : Place) → LetsPass files heap workers → IsUntagged files heap workers rule place → ⊥
+never_untagged files heap workers rule place w u =
+    let same = passed_program files heap workers w u.classes u.code u.program u.read u.linked in
+    none_untagged u.program (declared_methods u.classes) u.program.methods w.tags rule place (subst (λ (p : Program). AreTaggings p p.methods w.tags) same.1 w.passed.tagged) u.first
+
+abbrev pub loaded : (files : List (List ℕ)) (heap workers : ℕ) (c : MarkedProgram) (ops : List FirstOp) → IsFirstLoaded files heap workers c ops → IsLoaded files heap workers c
 loaded files heap workers c ops l = record { classes = l.classes; code = l.code; read = l.read; checked = l.checked }
 
-pub never_refused : (files : List (List ℕ)) (heap workers : ℕ) (c : CheckedProgram) (ops : List FirstOp) (rule : Rule) (place : Place) → IsFirstLoaded files heap workers c ops → IsRefusedBy files heap workers rule place → ⊥
-never_refused files heap workers c ops (C rule) place l r = never_both (read_fault 0 files) (C rule, place) (no_read_fault 0 files l.classes l.read.spelled) r
-never_refused files heap workers c ops (K rule) place l (classes, spelled, fault) =
-    let same : l.classes ≡ classes = classes_once files l.classes classes l.read.spelled spelled in
-    never_both (decode_fault (declared_methods l.classes)) (K rule, place) (no_decode_fault (declared_methods l.classes) l.code l.read.decoded) (ap (λ (cs : List ClassFile). decode_fault (declared_methods cs)) same ∙ fault)
-never_refused files heap workers c ops (L rule) place l r = elim r [
-  | inl u ↦ never_linked files heap workers c (loaded files heap workers c ops l) u.classes u.code (rule, place) u.read u.fault
-  | inr (u, is, at) ↦ never_unbuilt files heap workers c ops l u
-]
-never_refused files heap workers c ops (V rule) place l r = never_untyped files heap workers c rule place (loaded files heap workers c ops l) r
-never_refused files heap workers c ops (S rule) place l r = r
+pub accepted : LoadedAccepted
+accepted files heap workers c ops l = (record { classes = l.classes; code = l.code; program = c.program; typings = c.typings; tags = c.tags; read = l.read; passed = l.checked.passed }, ops, l.first)
 
-pub only_memory : (files : List (List ℕ)) (heap workers : ℕ) (c : CheckedProgram) (ops : List FirstOp) (e : FileError) → IsFirstLoaded files heap workers c ops → IsNotLoaded files heap workers e → e ≡ Memory
-only_memory files heap workers c ops Memory l r = refl
-only_memory files heap workers c ops (Refused rule place) l r = absurd (never_refused files heap workers c ops rule place l r)
+pub never_refused : AcceptedNotRefused
+never_refused files heap workers (C rule) place (w, ops, first) r = never_both (read_fault 0 files) (C rule, place) (no_read_fault 0 files w.classes w.read.spelled) r
+never_refused files heap workers (K rule) place (w, ops, first) (classes, spelled, fault) =
+    let same : w.classes ≡ classes = classes_once files w.classes classes w.read.spelled spelled in
+    never_both (decode_fault (declared_methods w.classes)) (K rule, place) (no_decode_fault (declared_methods w.classes) w.code w.read.decoded) (ap (λ (cs : List ClassFile). decode_fault (declared_methods cs)) same ∙ fault)
+never_refused files heap workers (L rule) place (w, ops, first) r = elim r [
+  | inl u ↦ never_linked files heap workers w u.classes u.code (rule, place) u.read u.fault
+  | inr (u, is, at) ↦ never_unbuilt files heap workers (w, ops, first) u
+]
+never_refused files heap workers (V rule) place (w, ops, first) r = never_untyped files heap workers rule place w r
+never_refused files heap workers (S rule) place (w, ops, first) r = never_untagged files heap workers rule place w r
+
+pub only_memory : (files : List (List ℕ)) (heap workers : ℕ) (e : FileError) → IsAccepted files heap workers → IsNotLoaded files heap workers e → e ≡ Memory
+only_memory files heap workers Memory w r = refl
+only_memory files heap workers (Refused rule place) w r = absurd (never_refused files heap workers rule place w r)
 
 -- ---- what one stage gives the next
 
@@ -167,45 +217,45 @@ methods_long s (d ∷ ds) (insns ∷ code) h = ap suc (methods_long s ds code h.
 pub linked_long : (cs : List ClassFile) (code : List (List Insn)) (heap workers : ℕ) (p : Program) → AllZip IsDecoded (declared_methods cs) code → IsLinked cs code heap workers p → length p.methods ≡ length (declared_methods cs)
 linked_long cs code heap workers p decoded linked = ap (λ (q : Program). length q.methods) linked.is ∙ methods_long (scope_of cs) (declared_methods cs) code decoded
 
-abbrev checked : Program → List Typing → CheckedProgram
-checked p ts = record { program = p; typings = ts }
+abbrev pub passes : (files : List (List ℕ)) (heap workers : ℕ) (cs : List ClassFile) (p : Program) (ts : List Typing) (gs : List Tags) → AllZip Spells files cs → IsLinkedFrom cs heap workers p → AreTypings p p.methods ts → AreTaggings p p.methods gs → LetsPass files heap workers
+passes files heap workers cs p ts gs spelled linked typed tagged = record {
+  classes = cs;
+  code = linked.code;
+  program = p;
+  typings = ts;
+  tags = gs;
+  read = record { spelled = spelled; decoded = linked.decoded };
+  passed = record { linked = linked.linked; typed = typed; tagged = tagged };
+}
 
-pub first_loaded : (files : List (List ℕ)) (heap workers : ℕ) (cs : List ClassFile) (p : Program) (ts : List Typing) → AllZip Spells files cs → IsLinkedFrom cs heap workers p → AreTypings p p.methods ts
-    → (ops : List FirstOp) × IsFirstForm cs p ops → (ops : List FirstOp) × IsFirstLoaded files heap workers (checked p ts) ops
-first_loaded files heap workers cs p ts spelled linked typed (ops, first) = (
+pub first_loaded : (files : List (List ℕ)) (heap workers : ℕ) (cs : List ClassFile) (p : Program) (ts : List Typing) (gs : List Tags) (ms : List SectionMark) → AllZip Spells files cs → IsLinkedFrom cs heap workers p → AreTypings p p.methods ts
+    → AreTaggings p p.methods gs → AreMarks p (tagged_by gs) ms → (ops : List FirstOp) × IsFirstForm cs p ops → (ops : List FirstOp) × IsFirstLoaded files heap workers (marked p ts gs ms) ops
+first_loaded files heap workers cs p ts gs ms spelled linked typed tagged marks (ops, first) = (
   ops,
   record {
     classes = cs;
     code = linked.code;
     read = record { spelled = spelled; decoded = linked.decoded };
-    checked = record { linked = linked.linked; typed = typed };
+    checked = record { passed = record { linked = linked.linked; typed = typed; tagged = tagged }; marked = marks };
     first = first;
   },
 )
 
-pub unbuilt : (files : List (List ℕ)) (heap workers : ℕ) (cs : List ClassFile) (p : Program) (ts : List Typing) → AllZip Spells files cs → IsLinkedFrom cs heap workers p → AreTypings p p.methods ts
+pub unbuilt : (files : List (List ℕ)) (heap workers : ℕ) (cs : List ClassFile) (p : Program) (ts : List Typing) (gs : List Tags) → AllZip Spells files cs → IsLinkedFrom cs heap workers p → AreTypings p p.methods ts → AreTaggings p p.methods gs
     → ((ops : List FirstOp) × IsFirstForm cs p ops → ⊥) → IsUnbuilt files heap workers
-unbuilt files heap workers cs p ts spelled linked typed other = record {
-  classes = cs;
-  code = linked.code;
-  checked_program = checked p ts;
-  read = record { spelled = spelled; decoded = linked.decoded };
-  checked = record { linked = linked.linked; typed = typed };
-  other = λ ops first. other (ops, first);
-}
+unbuilt files heap workers cs p ts gs spelled linked typed tagged other = (passes files heap workers cs p ts gs spelled linked typed tagged, λ ops first. other (ops, first))
 
 -- ---- the clauses
 
-pub if_loaded : (files : List (List ℕ)) (heap workers : ℕ) (r : Result CheckedProgram FileError) → IfOk r (λ c. (ops : List FirstOp) × IsFirstLoaded files heap workers c ops) → IfOk r (λ c. IsLoaded files heap workers c)
+pub if_loaded : (files : List (List ℕ)) (heap workers : ℕ) (r : Result MarkedProgram FileError) → IfOk r (λ c. (ops : List FirstOp) × IsFirstLoaded files heap workers c ops) → IfOk r (λ c. IsLoaded files heap workers c)
 if_loaded files heap workers (Ok c) (ops, first) = loaded files heap workers c ops first
 if_loaded files heap workers (Err e) h = tt
 
-pub if_other : (files : List (List ℕ)) (heap workers : ℕ) (c : CheckedProgram) (ops : List FirstOp) (r : Result CheckedProgram FileError) → IfOk r (λ d. (ops : List FirstOp) × IsFirstLoaded files heap workers d ops)
+pub if_other : (files : List (List ℕ)) (heap workers : ℕ) (c : MarkedProgram) (ops : List FirstOp) (r : Result MarkedProgram FileError) → IfOk r (λ d. (ops : List FirstOp) × IsFirstLoaded files heap workers d ops)
     → IsFirstLoaded files heap workers c ops → IfOk r (λ d. d ≡ c)
 if_other files heap workers c ops (Ok d) (others, found) first = loaded_once files heap workers d c (loaded files heap workers d others found) (loaded files heap workers c ops first)
 if_other files heap workers c ops (Err e) h first = tt
 
-pub if_refused : (files : List (List ℕ)) (heap workers : ℕ) (c : CheckedProgram) (ops : List FirstOp) (r : Result CheckedProgram FileError) → IfErr r (λ e. IsNotLoaded files heap workers e)
-    → IsFirstLoaded files heap workers c ops → IfErr r (λ e. e ≡ Memory)
-if_refused files heap workers c ops (Ok d) h first = tt
-if_refused files heap workers c ops (Err e) h first = only_memory files heap workers c ops e first h
+pub if_refused : (files : List (List ℕ)) (heap workers : ℕ) (r : Result MarkedProgram FileError) → IfErr r (λ e. IsNotLoaded files heap workers e) → IsAccepted files heap workers → IfErr r (λ e. e ≡ Memory)
+if_refused files heap workers (Ok d) h w = tt
+if_refused files heap workers (Err e) h w = only_memory files heap workers e w h

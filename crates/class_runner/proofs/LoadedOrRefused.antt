@@ -1,4 +1,4 @@
--- Every list of files is loaded to a program of the first form, or a rule refuses it: stage by stage.
+-- Every list of files is accepted, or a rule refuses it: stage by stage.
 use Rattle.std.proofs.Common.{◌≡◌, ℕ, suc, ◌+◌, ◌<◌, ◌≤◌, inl, inr, Bool, true, false, Decides, List, [], ◌∷◌, ◌++◌, length, map, take, Option, Some, None, refl, sym, subst, ap, ◌∙◌, arith}
 use Rattle.std.specs.Prelude.{◌⊎◌, slice_get}
 use Rattle.std.specs.List.{AllZip, AllByRecursion}
@@ -12,7 +12,10 @@ use Rattle.jvm_types.specs.ProgramInvariant.{IsProgram}
 use Rattle.jvm_types.specs.ReadingClass.{class_fault}
 use Rattle.jvm_types.specs.Types.{TypeFrame}
 use Rattle.jvm_types.specs.Verifying.{IsLaidOut, IsRefused, IsTypingOf, HasTyping}
-use Rattle.checked_program.specs.CheckedProgram.{CheckedProgram, AreTypings}
+use Rattle.checked_program.specs.CheckedProgram.{AreTypings}
+use Rattle.checked_program.specs.LockTags.{TagShape}
+use Rattle.checked_program.specs.Tagging.{IsTaggingOf, IsTagRefused}
+use Rattle.checked_program.specs.declared.tag.Tags.{Tags}
 use Rattle.jvm_types.specs.FirstForm.{IsFirstForm}
 use Rattle.jvm_types.specs.declared.class_file.Constant.{Constant}
 use Rattle.jvm_types.specs.declared.class_file.ClassFile.{ClassFile}
@@ -29,6 +32,7 @@ use Rattle.jvm_types.specs.declared.refusal.KRule.{KRule}
 use Rattle.jvm_types.specs.declared.refusal.LRule.{LRule}
 use Rattle.jvm_types.specs.declared.refusal.LRule.TheVariants.{L0}
 use Rattle.jvm_types.specs.declared.refusal.VRule.{VRule}
+use Rattle.jvm_types.specs.declared.refusal.SRule.{SRule}
 use Rattle.jvm_types.specs.declared.refusal.Rule.{Rule}
 use Rattle.jvm_types.specs.declared.refusal.Rule.TheVariants.{C, K, L, V, S}
 use Rattle.jvm_types.specs.declared.refusal.Place.{Place}
@@ -36,9 +40,10 @@ use Rattle.jvm_types.proofs.ClassLawProofs.{spelled_or_faulty}
 use Rattle.jvm_types.proofs.CodeExact.{exact}
 use Rattle.jvm_types.proofs.LinkedLaws.{linked_is_program}
 use Rattle.typing_laws.proofs.VisitsEndAnswer.{typed_or_refused}
+use Rattle.tag_laws.proofs.TagAnswers.{tagged_or_refused_all as tagged_or_refused}
 use Rattle.program_laws.proofs.CodeOrder.{laid_out}
-use Rattle.class_runner.specs.Loading.{AreRead, AreChecked, IsFirstLoaded, IsFirstUntyped, IsUnbuilt, IsUnlinked, IsUntyped, IsRefusedBy, read_fault, decode_fault}
-use Rattle.class_runner.specs.LoadingLaws.{IsLoadable, LoadedOrRefused}
+use Rattle.class_runner.specs.Loading.{AreRead, ArePassed, LetsPass, IsAccepted, IsFirstRefused, IsUnbuilt, IsUnlinked, IsUntyped, IsUntagged, IsRefusedBy, read_fault, decode_fault}
+use Rattle.class_runner.specs.LoadingLaws.{IsLoadable, AcceptedOrRefused}
 use Rattle.class_runner.proofs.LoadedOnce.{spelled_long, spelled_classes, linked_long}
 use Rattle.class_runner.proofs.FirstFormed.{Told, IsFormed, formed_or_not}
 
@@ -91,10 +96,13 @@ all_decoded (d ∷ ds) h = by_fault (code_fault (code_of d.member.attrs).bytes (
     by_fault None e (inl (code, decoded)) = let one = exact (code_of d.member.attrs).bytes (code_of d.member.attrs).rows h.0 e in inl (one.0 ∷ code, (one.1, decoded))
     by_fault None e (inr (rule, place, fault)) = inr (rule, place, rw e fault)
 
--- ---- V: verifying
+-- ---- methods
 
 abbrev typing_of : List (Option TypeFrame) → Typing
 typing_of frames = record { frames = frames }
+
+abbrev tags_of : List (Option TagShape) → Tags
+tags_of frames = record { frames = frames }
 
 each : {X : Type 0} (P : X → Type 0) (xs : List X) → ((i : ℕ) (x : X) → slice_get xs i ≡ Some x → P x) → AllByRecursion P xs
 each P [] h = tt
@@ -103,63 +111,64 @@ each P (x ∷ xs) h = (h 0 x refl, each P xs (λ i y e. h (suc i) y e))
 methods_laid : (p : Program) → IsProgram p → AllByRecursion IsLaidOut p.methods
 methods_laid p is = each IsLaidOut p.methods (λ i m e. laid_out p (take i p.methods) m (is.methods i m e))
 
-abbrev AreTyped : Program → List Declared → List MethodInfo → Type 0
-AreTyped p ds ms = ((ts : List Typing) × AreTypings p ms ts) ⊎ ((rule : VRule) × (place : Place) × IsFirstUntyped p ds ms rule place)
+-- ---- checks of methods, one by one
 
-one_typed : (p : Program) (m : MethodInfo) → IsLaidOut m → ((t : Typing) × IsTypingOf p m t) ⊎ ((rule : VRule) × (pc : ℕ) × IsRefused p m rule pc)
+abbrev AreFound : {T R : Type 0} → (MethodInfo → T → Type 0) → (MethodInfo → R → ℕ → Type 0) → List Declared → List MethodInfo → Type 0
+AreFound {T = T} {R = R} has refuses ds ms = ((ts : List T) × AllZip has ms ts) ⊎ ((rule : R) × (place : Place) × IsFirstRefused has refuses rule ds ms place)
+
+abbrev IsTold : {T R : Type 0} → (MethodInfo → T → Type 0) → (MethodInfo → R → ℕ → Type 0) → MethodInfo → Type 0
+IsTold {T = T} {R = R} has refuses m = ((t : T) × has m t) ⊎ ((rule : R) × (pc : ℕ) × refuses m rule pc)
+
+all_found : {T R : Type 0} (has : MethodInfo → T → Type 0) (refuses : MethodInfo → R → ℕ → Type 0) → ((m : MethodInfo) → IsLaidOut m → IsTold has refuses m)
+    → (ds : List Declared) (ms : List MethodInfo) → length ms ≡ length ds → AllByRecursion IsLaidOut ms → AreFound has refuses ds ms
+all_found has refuses tells [] [] long h = inl ([], tt)
+all_found has refuses tells [] (m ∷ ms) long h = absurd (omega arith)
+all_found has refuses tells (d ∷ ds) [] long h = absurd (omega arith)
+all_found has refuses tells (d ∷ ds) (m ∷ ms) long h = by_one has refuses d ds m ms (tells m h.0) (all_found has refuses tells ds ms (omega (arith, long)) h.1)
+  where
+    by_one : {T R : Type 0} (has : MethodInfo → T → Type 0) (refuses : MethodInfo → R → ℕ → Type 0) (d : Declared) (ds : List Declared) (m : MethodInfo) (ms : List MethodInfo) → IsTold has refuses m → AreFound has refuses ds ms → AreFound has refuses (d ∷ ds) (m ∷ ms)
+    by_one has refuses d ds m ms (inr (rule, pc, refused)) rest = inr (rule, in_method d.file d.place pc, inl (refused, refl))
+    by_one has refuses d ds m ms (inl (t, passed)) (inl (ts, are)) = inl (t ∷ ts, (passed, are))
+    by_one has refuses d ds m ms (inl (t, passed)) (inr (rule, place, later)) = inr (rule, place, inr (t, passed, later))
+
+one_typed : (p : Program) (m : MethodInfo) → IsLaidOut m → IsTold (IsTypingOf p) (IsRefused p) m
 one_typed p m laid = elim (typed_or_refused p m laid) [
   | inl (frames, typed) ↦ inl (typing_of frames, typed)
   | inr refused ↦ inr refused
 ]
 
-all_typed : (p : Program) (ds : List Declared) (ms : List MethodInfo) → length ms ≡ length ds → AllByRecursion IsLaidOut ms → AreTyped p ds ms
-all_typed p [] [] long h = inl ([], tt)
-all_typed p [] (m ∷ ms) long h = absurd (omega arith)
-all_typed p (d ∷ ds) [] long h = absurd (omega arith)
-all_typed p (d ∷ ds) (m ∷ ms) long h = by_typing (one_typed p m h.0) (all_typed p ds ms (omega (arith, long)) h.1)
-  where
-    by_typing : ((t : Typing) × IsTypingOf p m t) ⊎ ((rule : VRule) × (pc : ℕ) × IsRefused p m rule pc) → AreTyped p ds ms → AreTyped p (d ∷ ds) (m ∷ ms)
-    by_typing (inr (rule, pc, refused)) rest = inr (rule, in_method d.file d.place pc, inl (refused, refl))
-    by_typing (inl (t, typed)) (inl (ts, are)) = inl (t ∷ ts, (typed, are))
-    by_typing (inl (t, typed)) (inr (rule, place, later)) = inr (rule, place, inr (t, typed, later))
+one_tagged : (p : Program) (m : MethodInfo) → IsLaidOut m → IsTold (IsTaggingOf p) (IsTagRefused p) m
+one_tagged p m laid = elim (tagged_or_refused p m laid) [
+  | inl (frames, tagged) ↦ inl (tags_of frames, tagged)
+  | inr refused ↦ inr refused
+]
 
 -- ---- the whole
 
 abbrev IsAnswered : List (List ℕ) → (heap workers : ℕ) → Type 0
-IsAnswered files heap workers =
-    ((c : CheckedProgram) × (ops : List FirstOp) × IsFirstLoaded files heap workers c ops) ⊎ ((rule : Rule) × (place : Place) × IsRefusedBy files heap workers rule place)
+IsAnswered files heap workers = IsAccepted files heap workers ⊎ ((rule : Rule) × (place : Place) × IsRefusedBy files heap workers rule place)
 
--- files that are linked are typed and of the first form, or refused
+-- files that are linked are typed, tagged and of the first form, or refused
 linked_answered : (files : List (List ℕ)) (heap workers : ℕ) (cs : List ClassFile) (code : List (List Insn)) (p : Program) → AreRead files cs code → IsLinked cs code heap workers p → IsProgram p → IsAnswered files heap workers
-linked_answered files heap workers cs code p read linked is =
-    by_types (all_typed p (declared_methods cs) p.methods (linked_long cs code heap workers p read.decoded linked) (methods_laid p is))
+linked_answered files heap workers cs code p read linked is = by_types (all_found (IsTypingOf p) (IsRefused p) (one_typed p) (declared_methods cs) p.methods many laid)
   where
-    by_form : (ts : List Typing) → AreTypings p p.methods ts → Told (IsFormed cs p) → IsAnswered files heap workers
-    by_form ts typed (inl (ops, first)) = inl (
-      record { program = p; typings = ts },
-      ops,
-      record { classes = cs; code = code; read = read; checked = record { linked = linked; typed = typed }; first = first },
-    )
-    by_form ts typed (inr never) = inr (
-      L L0,
-      in_file 0 0,
-      inr (
-        record {
-          classes = cs;
-          code = code;
-          checked_program = record { program = p; typings = ts };
-          read = read;
-          checked = record { linked = linked; typed = typed };
-          other = λ ops first. never (ops, first);
-        },
-        refl,
-        refl,
-      ),
-    )
+    many : length p.methods ≡ length (declared_methods cs)
+    many = linked_long cs code heap workers p read.decoded linked
 
-    by_types : AreTyped p (declared_methods cs) p.methods → IsAnswered files heap workers
+    laid : AllByRecursion IsLaidOut p.methods
+    laid = methods_laid p is
+
+    by_form : (ts : List Typing) (gs : List Tags) → ArePassed cs code heap workers p ts gs → Told (IsFormed cs p) → IsAnswered files heap workers
+    by_form ts gs passed (inl (ops, first)) = inl (record { classes = cs; code = code; program = p; typings = ts; tags = gs; read = read; passed = passed }, ops, first)
+    by_form ts gs passed (inr never) = inr (L L0, in_file 0 0, inr ((record { classes = cs; code = code; program = p; typings = ts; tags = gs; read = read; passed = passed }, λ ops first. never (ops, first)), refl, refl))
+
+    by_tags : (ts : List Typing) → AreTypings p p.methods ts → AreFound (IsTaggingOf p) (IsTagRefused p) (declared_methods cs) p.methods → IsAnswered files heap workers
+    by_tags ts typed (inr (rule, place, untagged)) = inr (S rule, place, record { classes = cs; code = code; program = p; typings = ts; read = read; linked = linked; typed = typed; first = untagged })
+    by_tags ts typed (inl (gs, tagged)) = by_form ts gs (record { linked = linked; typed = typed; tagged = tagged }) (formed_or_not cs p is)
+
+    by_types : AreFound (IsTypingOf p) (IsRefused p) (declared_methods cs) p.methods → IsAnswered files heap workers
     by_types (inr (rule, place, untyped)) = inr (V rule, place, record { classes = cs; code = code; program = p; read = read; linked = linked; first = untyped })
-    by_types (inl (ts, typed)) = by_form ts typed (formed_or_not cs p is)
+    by_types (inl (ts, typed)) = by_tags ts typed (all_found (IsTaggingOf p) (IsTagRefused p) (one_tagged p) (declared_methods cs) p.methods many laid)
 
 -- files whose methods are decoded are linked, or refused
 decoded_answered : (files : List (List ℕ)) (heap workers : ℕ) (cs : List ClassFile) (code : List (List Insn)) → IsLoadable files heap workers → AreRead files cs code → IsAnswered files heap workers
@@ -183,8 +192,8 @@ decoded_answered files heap workers cs code able read = by_fault (link_fault cs 
         } in
         linked_answered files heap workers cs code (program_of cs code heap workers) read linked (linked_is_program cs code heap workers (program_of cs code heap workers) linkable linked)
 
-pub loaded_or_refused : LoadedOrRefused
-loaded_or_refused files heap workers able = by_classes (all_read 0 files able.bytes)
+pub accepted_or_refused : AcceptedOrRefused
+accepted_or_refused files heap workers able = by_classes (all_read 0 files able.bytes)
   where
     by_code : (cs : List ClassFile) → AllZip Spells files cs → AreDecoded (declared_methods cs) → IsAnswered files heap workers
     by_code cs spelled (inr (rule, place, fault)) = inr (K rule, place, (cs, spelled, fault))

@@ -4,23 +4,26 @@ use Rattle.std.specs.List.{AllZip}
 use Rattle.jvm_types.specs.ClassGrammar.{Spells}
 use Rattle.jvm_types.specs.Members.{Declared, declared_methods}
 use Rattle.jvm_types.specs.LinkFaults.{LinkFault, link_fault, in_file, in_method, IsLinked}
-use Rattle.jvm_types.specs.Verifying.{IsTypingOf}
+use Rattle.jvm_types.specs.Verifying.{IsTypingOf, IsRefused}
 use Rattle.jvm_types.specs.declared.class_file.ClassFile.{ClassFile}
 use Rattle.jvm_types.specs.declared.code.Insn.{Insn}
 use Rattle.jvm_types.specs.declared.program.MethodInfo.{MethodInfo}
 use Rattle.jvm_types.specs.declared.program.Program.{Program}
-use Rattle.jvm_types.specs.declared.typing.Typing.{Typing}
+use Rattle.checked_program.specs.CheckedProgram.{AreTypings}
+use Rattle.checked_program.specs.Tagging.{IsTaggingOf, IsTagRefused}
 use Rattle.jvm_types.specs.declared.refusal.CRule.{CRule}
 use Rattle.jvm_types.specs.declared.refusal.KRule.{KRule}
 use Rattle.jvm_types.specs.declared.refusal.LRule.{LRule}
 use Rattle.jvm_types.specs.declared.refusal.VRule.{VRule}
+use Rattle.jvm_types.specs.declared.refusal.SRule.{SRule}
 use Rattle.jvm_types.specs.declared.refusal.Rule.{Rule}
 use Rattle.jvm_types.specs.declared.refusal.Rule.TheVariants.{C, K, L, V, S}
 use Rattle.jvm_types.specs.declared.refusal.Place.{Place}
 use Rattle.typing_laws.proofs.OneTyping.{no_refusal, one_refusal}
-use Rattle.class_runner.specs.Loading.{AreRead, IsFirstUntyped, IsUnbuilt, IsUnlinked, IsUntyped, IsRefusedBy, read_fault, decode_fault}
+use Rattle.tag_laws.proofs.TagAnswers.{no_refusal as no_tag_refusal, one_refusal_all}
+use Rattle.class_runner.specs.Loading.{AreRead, IsFirstRefused, IsFirstUntyped, IsFirstUntagged, IsUnlinked, IsUntyped, IsUntagged, IsRefusedBy, read_fault, decode_fault}
 use Rattle.class_runner.specs.LoadingLaws.{OneRefusal}
-use Rattle.class_runner.proofs.LoadedOnce.{classes_once, read_once, same_program, never_both, no_read_fault, no_decode_fault, none_untyped}
+use Rattle.class_runner.proofs.LoadedOnce.{classes_once, read_once, same_program, never_both, no_read_fault, no_decode_fault, none_untyped, never_untyped, never_untagged}
 
 abbrev Same : Rule → Rule → Place → Place → Type 0
 Same rule other place at = (rule ≡ other) × (place ≡ at)
@@ -52,11 +55,14 @@ pub record WereRead (files : List (List ℕ)) : Type 0 where
 read_at_l : (files : List (List ℕ)) (heap workers : ℕ) (rule : LRule) (place : Place) → IsRefusedBy files heap workers (L rule) place → WereRead files
 read_at_l files heap workers rule place r = elim r [
   | inl u ↦ record { classes = u.classes; code = u.code; read = u.read }
-  | inr (u, is, at) ↦ record { classes = u.classes; code = u.code; read = u.read }
+  | inr (u, is, at) ↦ record { classes = u.0.classes; code = u.0.code; read = u.0.read }
 ]
 
 read_at_v : (files : List (List ℕ)) (heap workers : ℕ) (rule : VRule) (place : Place) → IsRefusedBy files heap workers (V rule) place → WereRead files
 read_at_v files heap workers rule place u = record { classes = u.classes; code = u.code; read = u.read }
+
+read_at_s : (files : List (List ℕ)) (heap workers : ℕ) (rule : SRule) (place : Place) → IsRefusedBy files heap workers (S rule) place → WereRead files
+read_at_s files heap workers rule place u = record { classes = u.classes; code = u.code; read = u.read }
 
 never_c : (files classes : _) (rule : CRule) (place : Place) → AllZip Spells files classes → read_fault 0 files ≡ Some (C rule, place) → ⊥
 never_c files classes rule place spelled r = never_both (read_fault 0 files) (C rule, place) (no_read_fault 0 files classes spelled) r
@@ -72,18 +78,24 @@ never_unlinked files heap workers rule place cs code p read linked u =
     let same = read_once files cs u.classes code u.code read u.read in
     never_both (link_fault cs code heap workers) (rule, place) linked.unrefused ((λ i. link_fault (same.0 i) (same.1 i) heap workers) ∙ u.fault)
 
-never_untyped : (files : List (List ℕ)) (heap workers : ℕ) (rule : VRule) (place : Place) → IsUnbuilt files heap workers → IsUntyped files heap workers rule place → ⊥
-never_untyped files heap workers rule place b u =
-    let same = read_once files b.classes u.classes b.code u.code b.read u.read in
-    let program : u.program ≡ b.checked_program.program = sym (same_program b.classes u.classes b.code u.code heap workers b.checked_program.program u.program same.0 same.1 b.checked.linked u.linked) in
-    none_untyped b.checked_program.program (declared_methods u.classes) b.checked_program.program.methods b.checked_program.typings rule place b.checked.typed
-    (subst (λ (p : Program). IsFirstUntyped p (declared_methods u.classes) p.methods rule place) program u.first)
-
 never_v : (files : List (List ℕ)) (heap workers : ℕ) (rule : LRule) (other : VRule) (place at : Place) → IsRefusedBy files heap workers (L rule) place → IsUntyped files heap workers other at → ⊥
 never_v files heap workers rule other place at r u = elim r [
   | inl unlinked ↦ never_unlinked files heap workers rule place u.classes u.code u.program u.read u.linked unlinked
-  | inr (b, is, here) ↦ never_untyped files heap workers other at b u
+  | inr (b, is, here) ↦ never_untyped files heap workers other at b.0 u
 ]
+
+never_s : (files : List (List ℕ)) (heap workers : ℕ) (rule : LRule) (other : SRule) (place at : Place) → IsRefusedBy files heap workers (L rule) place → IsUntagged files heap workers other at → ⊥
+never_s files heap workers rule other place at r u = elim r [
+  | inl unlinked ↦ never_unlinked files heap workers rule place u.classes u.code u.program u.read u.linked unlinked
+  | inr (b, is, here) ↦ never_untagged files heap workers other at b.0 u
+]
+
+-- files of which a method is refused by its tags have typings
+never_both_checks : (files : List (List ℕ)) (heap workers : ℕ) (rule : VRule) (other : SRule) (place at : Place) → IsUntyped files heap workers rule place → IsUntagged files heap workers other at → ⊥
+never_both_checks files heap workers rule other place at u w =
+    let same = read_once files w.classes u.classes w.code u.code w.read u.read in
+    let program : w.program ≡ u.program = same_program w.classes u.classes w.code u.code heap workers w.program u.program same.0 same.1 w.linked u.linked in
+    none_untyped u.program (declared_methods u.classes) u.program.methods w.typings rule place (subst (λ (p : Program). AreTypings p p.methods w.typings) program w.typed) u.first
 
 -- ---- each stage refuses once
 
@@ -98,28 +110,30 @@ once_l files heap workers rule other place at r s = elim r [
     | inl w ↦
         let same = read_once files u.classes w.classes u.code w.code u.read w.read in
         same_link_fault (link_fault u.classes u.code heap workers) rule other place at u.fault ((λ i. link_fault (same.0 i) (same.1 i) heap workers) ∙ w.fault)
-    | inr (b, is, here) ↦ absurd (never_unlinked files heap workers rule place b.classes b.code b.checked_program.program b.read b.checked.linked u)
+    | inr (b, is, here) ↦ absurd (never_unlinked files heap workers rule place b.0.classes b.0.code b.0.program b.0.read b.0.passed.linked u)
   ]
   | inr (b, is, here) ↦ elim s [
-    | inl w ↦ absurd (never_unlinked files heap workers other at b.classes b.code b.checked_program.program b.read b.checked.linked w)
+    | inl w ↦ absurd (never_unlinked files heap workers other at b.0.classes b.0.code b.0.program b.0.read b.0.passed.linked w)
     | inr (d, are, there) ↦ (ap L (is ∙ sym are), here ∙ sym there)
   ]
 ]
 
--- the first method that has no typing is one
-untyped_once : (p : Program) (ds : List Declared) (ms : List MethodInfo) (rule other : VRule) (place at : Place) → IsFirstUntyped p ds ms rule place → IsFirstUntyped p ds ms other at → Same (V rule) (V other) place at
-untyped_once p [] ms rule other place at h k = absurd h
-untyped_once p (d ∷ ds) [] rule other place at h k = absurd h
-untyped_once p (d ∷ ds) (m ∷ ms) rule other place at h k = elim h [
+-- the first method that a check refuses is one
+first_once : {T R : Type 0} (has : MethodInfo → T → Type 0) (refuses : MethodInfo → R → ℕ → Type 0) → ((m : MethodInfo) (t : T) (rule : R) (pc : ℕ) → has m t → refuses m rule pc → ⊥)
+    → ((m : MethodInfo) (rule other : R) (pc at : ℕ) → refuses m rule pc → refuses m other at → (rule ≡ other) × (pc ≡ at)) → (ds : List Declared) (ms : List MethodInfo) (rule other : R) (place at : Place)
+    → IsFirstRefused has refuses rule ds ms place → IsFirstRefused has refuses other ds ms at → (rule ≡ other) × (place ≡ at)
+first_once has refuses never one [] ms rule other place at h k = absurd h
+first_once has refuses never one (d ∷ ds) [] rule other place at h k = absurd h
+first_once has refuses never one (d ∷ ds) (m ∷ ms) rule other place at h k = elim h [
   | inl refused ↦ elim k [
     | inl again ↦
-        let same = one_refusal p m rule other place.at at.at refused.0 again.0 in
-        (ap V same.0, refused.1 ∙ ap (in_method d.file d.place) same.1 ∙ sym again.1)
-    | inr (t, typed, later) ↦ absurd (no_refusal p m t.frames rule place.at typed refused.0)
+        let same = one m rule other place.at at.at refused.0 again.0 in
+        (same.0, refused.1 ∙ ap (in_method d.file d.place) same.1 ∙ sym again.1)
+    | inr (t, passed, later) ↦ absurd (never m t rule place.at passed refused.0)
   ]
-  | inr (t, typed, later) ↦ elim k [
-    | inl again ↦ absurd (no_refusal p m t.frames other at.at typed again.0)
-    | inr (u, also, after) ↦ untyped_once p ds ms rule other place at later after
+  | inr (t, passed, later) ↦ elim k [
+    | inl again ↦ absurd (never m t other at.at passed again.0)
+    | inr (u, also, after) ↦ first_once has refuses never one ds ms rule other place at later after
   ]
 ]
 
@@ -127,9 +141,17 @@ once_v : (files : List (List ℕ)) (heap workers : ℕ) (rule other : VRule) (pl
 once_v files heap workers rule other place at u w =
     let same = read_once files w.classes u.classes w.code u.code w.read u.read in
     let program : w.program ≡ u.program = same_program w.classes u.classes w.code u.code heap workers w.program u.program same.0 same.1 w.linked u.linked in
-    untyped_once u.program (declared_methods u.classes) u.program.methods rule other place at u.first
-    (subst (λ (p : Program). IsFirstUntyped p (declared_methods u.classes) p.methods other at) program
-    (subst (λ (cs : List ClassFile). IsFirstUntyped w.program (declared_methods cs) w.program.methods other at) same.0 w.first))
+    let first = subst (λ (p : Program). IsFirstUntyped p (declared_methods u.classes) p.methods other at) program (subst (λ (cs : List ClassFile). IsFirstUntyped w.program (declared_methods cs) w.program.methods other at) same.0 w.first) in
+    let one = first_once (IsTypingOf u.program) (IsRefused u.program) (λ m t r pc x y. no_refusal u.program m t.frames r pc x y) (one_refusal u.program) (declared_methods u.classes) u.program.methods rule other place at u.first first in
+    (ap V one.0, one.1)
+
+once_s : (files : List (List ℕ)) (heap workers : ℕ) (rule other : SRule) (place at : Place) → IsUntagged files heap workers rule place → IsUntagged files heap workers other at → Same (S rule) (S other) place at
+once_s files heap workers rule other place at u w =
+    let same = read_once files w.classes u.classes w.code u.code w.read u.read in
+    let program : w.program ≡ u.program = same_program w.classes u.classes w.code u.code heap workers w.program u.program same.0 same.1 w.linked u.linked in
+    let first = subst (λ (p : Program). IsFirstUntagged p (declared_methods u.classes) p.methods other at) program (subst (λ (cs : List ClassFile). IsFirstUntagged w.program (declared_methods cs) w.program.methods other at) same.0 w.first) in
+    let one = first_once (IsTaggingOf u.program) (IsTagRefused u.program) (λ m t r pc x y. no_tag_refusal u.program m t.frames r pc x y) (one_refusal_all u.program) (declared_methods u.classes) u.program.methods rule other place at u.first first in
+    (ap S one.0, one.1)
 
 -- ---- the whole
 
@@ -150,8 +172,12 @@ refused_once files heap workers (V rule) (C other) place at r s = absurd (never_
 refused_once files heap workers (V rule) (K other) place at r s = absurd (never_k files heap workers other at (read_at_v files heap workers rule place r) s)
 refused_once files heap workers (V rule) (L other) place at r s = absurd (never_v files heap workers other rule at place s r)
 refused_once files heap workers (V rule) (V other) place at r s = once_v files heap workers rule other place at r s
-refused_once files heap workers (S rule) other place at r s = absurd r
-refused_once files heap workers (C rule) (S other) place at r s = absurd s
-refused_once files heap workers (K rule) (S other) place at r s = absurd s
-refused_once files heap workers (L rule) (S other) place at r s = absurd s
-refused_once files heap workers (V rule) (S other) place at r s = absurd s
+refused_once files heap workers (C rule) (S other) place at r s = absurd (never_c files s.classes rule place s.read.spelled r)
+refused_once files heap workers (K rule) (S other) place at r s = absurd (never_k files heap workers rule place (read_at_s files heap workers other at s) r)
+refused_once files heap workers (L rule) (S other) place at r s = absurd (never_s files heap workers rule other place at r s)
+refused_once files heap workers (V rule) (S other) place at r s = absurd (never_both_checks files heap workers rule other place at r s)
+refused_once files heap workers (S rule) (C other) place at r s = absurd (never_c files r.classes other at r.read.spelled s)
+refused_once files heap workers (S rule) (K other) place at r s = absurd (never_k files heap workers other at (read_at_s files heap workers rule place r) s)
+refused_once files heap workers (S rule) (L other) place at r s = absurd (never_s files heap workers other rule at place s r)
+refused_once files heap workers (S rule) (V other) place at r s = absurd (never_both_checks files heap workers other rule at place s r)
+refused_once files heap workers (S rule) (S other) place at r s = once_s files heap workers rule other place at r s

@@ -1,4 +1,5 @@
 pub mod Report
+pub mod MarksText
 pub mod Refusal
 pub mod Loading
 pub mod LoadingLaws

@@ -1,26 +1,29 @@
 -- Laws of loading: what files are loaded to, and which rule refuses them where, is known by the files alone, and every list of files
--- is either loaded or refused.
+-- is either accepted or refused.
 use Rattle.std.specs.Prelude.{◌≡◌, ◌⊎◌, ℕ, ◌<◌, ◌≤◌, List, length}
 use Rattle.std.specs.List.{AllByRecursion}
 use Rattle.jvm_types.specs.ClassGrammar.{IsByte}
-use Rattle.checked_program.specs.CheckedProgram.{CheckedProgram}
+use Rattle.checked_program.specs.MarkedProgram.{MarkedProgram}
 use Rattle.jvm_types.specs.ProgramInvariant.{most_files, most_workers, least_heap, most_heap}
 use Rattle.jvm_types.specs.declared.first.FirstOp.{FirstOp}
 use Rattle.jvm_types.specs.declared.refusal.Rule.{Rule}
 use Rattle.jvm_types.specs.declared.refusal.Place.{Place}
-use Rattle.class_runner.specs.Loading.{IsLoaded, IsFirstLoaded, IsRefusedBy}
+use Rattle.class_runner.specs.Loading.{IsLoaded, IsFirstLoaded, IsAccepted, IsRefusedBy}
 
 -- files are loaded to one program
 abbrev pub OneLoading : Type 0
-OneLoading = (files : List (List ℕ)) (heap workers : ℕ) (c d : CheckedProgram) → IsLoaded files heap workers c → IsLoaded files heap workers d → c ≡ d
+OneLoading = (files : List (List ℕ)) (heap workers : ℕ) (c d : MarkedProgram) → IsLoaded files heap workers c → IsLoaded files heap workers d → c ≡ d
 
 -- files are refused by one rule, at one place
 abbrev pub OneRefusal : Type 0
 OneRefusal = (files : List (List ℕ)) (heap workers : ℕ) (rule other : Rule) (place at : Place) → IsRefusedBy files heap workers rule place → IsRefusedBy files heap workers other at → (rule ≡ other) × (place ≡ at)
 
--- no files that are loaded to a program of the first form are refused
-abbrev pub LoadedNotRefused : Type 0
-LoadedNotRefused = (files : List (List ℕ)) (heap workers : ℕ) (c : CheckedProgram) (ops : List FirstOp) (rule : Rule) (place : Place) → IsFirstLoaded files heap workers c ops → IsRefusedBy files heap workers rule place → ⊥
+-- no files that are accepted are refused; what is loaded is accepted
+abbrev pub AcceptedNotRefused : Type 0
+AcceptedNotRefused = (files : List (List ℕ)) (heap workers : ℕ) (rule : Rule) (place : Place) → IsAccepted files heap workers → IsRefusedBy files heap workers rule place → ⊥
+
+abbrev pub LoadedAccepted : Type 0
+LoadedAccepted = (files : List (List ℕ)) (heap workers : ℕ) (c : MarkedProgram) (ops : List FirstOp) → IsFirstLoaded files heap workers c ops → IsAccepted files heap workers
 
 -- from 1 to 64 files of bytes, and numbers inside the limits of the machine
 pub record IsLoadable (files : List (List ℕ)) (heap workers : ℕ) : Type 0 where
@@ -31,7 +34,6 @@ pub record IsLoadable (files : List (List ℕ)) (heap workers : ℕ) : Type 0 wh
   pub heap_from : least_heap ≤ heap
   pub heap_to : heap ≤ most_heap
 
--- they are loaded to a program of the first form, or a rule refuses them
-abbrev pub LoadedOrRefused : Type 0
-LoadedOrRefused = (files : List (List ℕ)) (heap workers : ℕ) → IsLoadable files heap workers
-    → ((c : CheckedProgram) × (ops : List FirstOp) × IsFirstLoaded files heap workers c ops) ⊎ ((rule : Rule) × (place : Place) × IsRefusedBy files heap workers rule place)
+-- they are accepted, or a rule refuses them
+abbrev pub AcceptedOrRefused : Type 0
+AcceptedOrRefused = (files : List (List ℕ)) (heap workers : ℕ) → IsLoadable files heap workers → IsAccepted files heap workers ⊎ ((rule : Rule) × (place : Place) × IsRefusedBy files heap workers rule place)

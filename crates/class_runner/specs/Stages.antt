@@ -9,7 +9,8 @@ use Rattle.jvm_types.specs.Members.{Declared, declared_from, declared_methods}
 use Rattle.jvm_types.specs.Linkable.{IsDecoded}
 use Rattle.jvm_types.specs.LinkFaults.{in_file, in_method, link_fault, IsLinked}
 use Rattle.jvm_types.specs.Verifying.{IsTypingOf, IsRefused}
-use Rattle.checked_program.specs.CheckedProgram.{AreTypings}
+use Rattle.checked_program.specs.Tagging.{IsTaggingOf, IsTagRefused}
+use Rattle.checked_program.specs.declared.tag.Tags.{Tags}
 use Rattle.jvm_types.specs.declared.class_file.Code.{Code}
 use Rattle.jvm_types.specs.declared.class_file.ClassFile.{ClassFile}
 use Rattle.jvm_types.specs.declared.code.Insn.{Insn}
@@ -19,9 +20,8 @@ use Rattle.jvm_types.specs.declared.typing.Typing.{Typing}
 use Rattle.jvm_types.specs.declared.refusal.Rule.{Rule}
 use Rattle.jvm_types.specs.declared.refusal.Rule.TheVariants as rules
 use Rattle.jvm_types.specs.declared.refusal.LRule.{LRule}
-use Rattle.jvm_types.specs.declared.refusal.VRule.{VRule}
 use Rattle.jvm_types.specs.declared.refusal.Place.{Place}
-use Rattle.class_runner.specs.Loading.{read_fault, decode_fault, IsFirstUntyped}
+use Rattle.class_runner.specs.Loading.{read_fault, decode_fault, IsFirstRefused, IsFirstUntyped, IsFirstUntagged}
 use Rattle.class_runner.specs.declared.loading.FileError.{FileError}
 use Rattle.class_runner.specs.declared.loading.FileError.TheVariants as errors
 
@@ -84,6 +84,14 @@ IsUnlinkedFrom classes heap workers (errors.Refused (rules.K rule) place) = deco
 IsUnlinkedFrom classes heap workers (errors.Refused (rules.L rule) place) = IsRefusedLink classes heap workers rule place
 IsUnlinkedFrom classes heap workers e = ⊥
 
+-- ---- checks of methods, one by one
+
+-- the methods before those that are left have these
+pub record AreFoundSoFar {T R : Type 0} (has : MethodInfo → T → Type 0) (refuses : MethodInfo → R → ℕ → Type 0) (methods : List MethodInfo) (left all : List Declared) (found : List T) : Type 0 where
+  pub whole : (rest : List T) → AllZip has (drop (length found) methods) rest → AllZip has methods (found ++ rest)
+  pub refused : (rule : R) (place : Place) → IsFirstRefused has refuses rule left (drop (length found) methods) place → IsFirstRefused has refuses rule all methods place
+  pub long : length found + length left ≡ length methods
+
 -- ---- V: verifying
 
 -- the typing of a method that is there
@@ -103,7 +111,27 @@ IsUnverified p ds ms (errors.Refused (rules.V rule) place) = IsFirstUntyped p ds
 IsUnverified p ds ms e = ⊥
 
 -- the methods before those that are left have these typings
-pub record AreTypedSoFar (p : Program) (left all : List Declared) (typings : List Typing) : Type 0 where
-  pub whole : (rest : List Typing) → AreTypings p (drop (length typings) p.methods) rest → AreTypings p p.methods (typings ++ rest)
-  pub untyped : (rule : VRule) (place : Place) → IsFirstUntyped p left (drop (length typings) p.methods) rule place → IsFirstUntyped p all p.methods rule place
-  pub long : length typings + length left ≡ length p.methods
+abbrev pub AreTypedSoFar : Program → (left all : List Declared) → List Typing → Type 0
+AreTypedSoFar p left all typings = AreFoundSoFar (IsTypingOf p) (IsRefused p) p.methods left all typings
+
+-- ---- S: tagging
+
+-- the lock tags of a method that is there
+abbrev pub IsTaggedAt : Program → Option MethodInfo → Tags → Type 0
+IsTaggedAt p m t = IsSomeAnd m (λ x. IsTaggingOf p x t)
+
+-- memory ran out, or the method, which has this number in its class in this file, has no tags
+abbrev pub IsUntaggedAt : Program → Option MethodInfo → (file number : ℕ) → FileError → Type 0
+IsUntaggedAt p m file number errors.Memory = Unit {0}
+IsUntaggedAt p m file number (errors.Refused (rules.S rule) place) = IsSomeAnd m (λ x. IsTagRefused p x rule place.at) × (place ≡ in_method file number place.at)
+IsUntaggedAt p m file number e = ⊥
+
+-- memory ran out, or this is the first of these methods that has no tags
+abbrev pub IsNotTagged : Program → List Declared → List MethodInfo → FileError → Type 0
+IsNotTagged p ds ms errors.Memory = Unit {0}
+IsNotTagged p ds ms (errors.Refused (rules.S rule) place) = IsFirstUntagged p ds ms rule place
+IsNotTagged p ds ms e = ⊥
+
+-- the methods before those that are left have these tags
+abbrev pub AreTaggedSoFar : Program → (left all : List Declared) → List Tags → Type 0
+AreTaggedSoFar p left all tags = AreFoundSoFar (IsTaggingOf p) (IsTagRefused p) p.methods left all tags

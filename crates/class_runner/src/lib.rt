@@ -6,11 +6,16 @@ mod first_form;
 mod linking;
 pub mod loading;
 pub mod loading_laws;
+pub mod marks;
 mod operands;
 mod reading;
+mod tagging;
 pub mod texts;
 mod verifying;
 
 pub use loading::{FileError, first_ops, load_program};
-pub use loading_laws::{loaded_is_not_refused, loaded_or_refused, one_loading, one_refusal};
+pub use loading_laws::{
+    accepted_is_not_refused, accepted_or_refused, loaded_is_accepted, one_loading, one_refusal,
+};
+pub use marks::mark_text;
 pub use texts::{refusal, report};

@@ -1,14 +1,15 @@
 //! Files to a checked program, or the first rule that refuses them.
 
 ghost use Rattle.std.specs.Prelude.{◌≡◌, ◌<◌, ◌≤◌, List, length, IfOk, IfErr};
-ghost use Rattle.checked_program.specs.CheckedProgram.{CheckedProgram};
+ghost use Rattle.checked_program.specs.MarkedProgram.{MarkedProgram};
 ghost use Rattle.jvm_types.specs.FirstForm.{IsFirstProgram};
-ghost use Rattle.class_runner.specs.Loading.{IsLoaded, IsFirstLoaded, IsNotLoaded};
+ghost use Rattle.class_runner.specs.Loading.{IsLoaded, IsFirstLoaded, IsAccepted, IsNotLoaded};
 ghost use Rattle.jvm_types.specs.declared.first.FirstOp.{FirstOp as Op};
 
 use crate::first_form::{find_ops, is_first_form};
 use crate::linking::link_files;
 use crate::reading::read_files;
+use crate::tagging::tag_files;
 use crate::texts::RefusalText;
 use crate::verifying::verify_files;
 use checked_program::Checked;
@@ -57,8 +58,8 @@ impl fmt::Display for FileError {
 
 /// The checked program of some files, of which there are 1 to 64, with so many heap words and workers. The first rule that
 /// refuses the files is answered with its place. Each file is read as a class (C), in order; then each method is decoded (K), in
-/// order of files and methods; then the files are linked (L); then each method is verified (V). What passes all that and
-/// isn't of the first form is not built yet (L0).
+/// order of files and methods; then the files are linked (L); then each method is verified (V); then each is tagged (S). What
+/// passes all that and isn't of the first form is not built yet (L0).
 pub fn load_program(
     alloc: Global,
     files: &Rows<Bytes>,
@@ -70,12 +71,12 @@ pub fn load_program(
     requires heap_from { LEAST_HEAP ≤ heap }
     requires heap_to { heap ≤ MOST_HEAP }
     requires workers { workers ≤ MOST_WORKERS }
-    // What is answered is the program of the files, with its typings, and of the first form.
+    // What is answered is the program of the files, with its typings, tags and marks, and of the first form.
     ensures ok { IfOk result (λ c. IsLoaded files.now heap workers c) }
     ensures first { IfOk result (λ c. (ops : List Op) × IsFirstLoaded files.now heap workers c ops) }
-    // Files that are loaded to such a program are answered with no other and are not refused.
-    ensures only { (c : CheckedProgram) (ops : List Op) → IsFirstLoaded files.now heap workers c ops → IfOk result (λ found. found ≡ c) }
-    ensures accepted { (c : CheckedProgram) (ops : List Op) → IsFirstLoaded files.now heap workers c ops → IfErr result (λ e. e ≡ FileError.Memory) }
+    // Files that are loaded to such a program are answered with no other, and accepted files are not refused.
+    ensures only { (c : MarkedProgram) (ops : List Op) → IsFirstLoaded files.now heap workers c ops → IfOk result (λ found. found ≡ c) }
+    ensures accepted { IsAccepted files.now heap workers → IfErr result (λ e. e ≡ FileError.Memory) }
     ensures refused { IfErr result (λ e. IsNotLoaded files.now heap workers e) }
 {
     load_files(alloc, files.as_slice(), heap, workers)
@@ -95,10 +96,12 @@ fn load_files(alloc: Global, files: &[Bytes], heap: u32, workers: u8) -> Result<
     let classes = read_files(alloc, files)?;
     let program = link_files(alloc, &classes, heap, workers)?;
     let typings = verify_files(alloc, classes.as_slice(), &program)?;
+    let tags = tag_files(alloc, classes.as_slice(), &program)?;
     if !is_first_form(alloc, classes.as_slice(), &program)? {
         return Err(FileError::Refused(Rule::L(LRule::L0), in_file(0, 0)));
     }
-    Ok(Checked::of(program, typings))
+    // A program of the first form has no sections.
+    Ok(Checked::of(program, typings, tags, Rows::new(alloc)))
 }
 
 /// The instructions of a program of the first form.

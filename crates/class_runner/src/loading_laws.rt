@@ -1,6 +1,6 @@
 //! Laws of loading, for all files: each function only states one.
 
-ghost use Rattle.class_runner.specs.LoadingLaws.{LoadedNotRefused, LoadedOrRefused, OneLoading, OneRefusal};
+ghost use Rattle.class_runner.specs.LoadingLaws.{AcceptedNotRefused, AcceptedOrRefused, LoadedAccepted, OneLoading, OneRefusal};
 
 /// Files are loaded to one program.
 pub fn one_loading()
@@ -12,12 +12,17 @@ pub fn one_refusal()
     ensures { OneRefusal }
 {}
 
-/// No files that are loaded to a program of the first form are refused.
-pub fn loaded_is_not_refused()
-    ensures { LoadedNotRefused }
+/// Files that are loaded to a program of the first form are accepted.
+pub fn loaded_is_accepted()
+    ensures { LoadedAccepted }
 {}
 
-/// From 1 to 64 files are loaded to a program of the first form or refused.
-pub fn loaded_or_refused()
-    ensures { LoadedOrRefused }
+/// No files that are accepted are refused.
+pub fn accepted_is_not_refused()
+    ensures { AcceptedNotRefused }
+{}
+
+/// From 1 to 64 files are accepted or refused.
+pub fn accepted_or_refused()
+    ensures { AcceptedOrRefused }
 {}

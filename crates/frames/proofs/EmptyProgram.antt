@@ -5,7 +5,7 @@ use Rattle.std.proofs.lemmas.Option.{slice_get_within}
 use Rattle.jvm_types.specs.LinkFaults.{is_taken}
 use Rattle.jvm_types.specs.ProgramInvariant.{IsProgram}
 use Rattle.jvm_types.specs.declared.program.Program.{Program}
-use Rattle.checked_program.specs.CheckedProgram.{IsChecked}
+use Rattle.checked_program.specs.MarkedProgram.{IsMarked}
 
 abbrev empty : Program
 empty = record { names = codes "A" ∷ []; fields = []; methods = []; heap = 4096; workers = 0 }
@@ -34,5 +34,9 @@ empty_is_program = record {
   size = omega arith;
 }
 
-pub empty_is_checked : IsChecked (record { program = record { names = codes "A" ∷ []; fields = []; methods = []; heap = 4096; workers = 0 }; typings = [] })
-empty_is_checked = record { program = empty_is_program; typings = tt }
+pub empty_is_marked : IsMarked (record { program = record { names = codes "A" ∷ []; fields = []; methods = []; heap = 4096; workers = 0 }; typings = []; tags = []; marks = [] })
+empty_is_marked = record {
+  checked = record { program = empty_is_program; typings = tt };
+  tags = tt;
+  marks = record { uses = []; are_uses = record { long = refl; each = λ fi u e. absurd (nothing_there [] fi u (omega arith) e) }; each = tt };
+}

@@ -1,5 +1,4 @@
 ghost use Rattle.std.specs.Prelude.{◌≡◌, ◌∷◌, [], codes, IfOk};
-ghost use Rattle.checked_program.specs.CheckedProgram.{IsChecked};
 
 use crate::ThreadState;
 use checked_program::Checked;
@@ -23,10 +22,15 @@ fn empty_program(alloc: Global) -> Result<Program, AllocError>
     })
 }
 
-#[tactic(auto, using(crate::proofs::EmptyProgram::empty_is_checked))]
+#[tactic(auto, using(crate::proofs::EmptyProgram::empty_is_marked))]
 fn checked(alloc: Global) -> Result<Checked, AllocError> {
     let program = empty_program(alloc)?;
-    Ok(Checked::of(program, Rows::new(alloc)))
+    Ok(Checked::of(
+        program,
+        Rows::new(alloc),
+        Rows::new(alloc),
+        Rows::new(alloc),
+    ))
 }
 
 const SETTINGS: Config = Config {
@@ -41,14 +45,7 @@ const SETTINGS: Config = Config {
 fn a_thread_without_roots_has_returned(rt: HostRuntime) -> Result<(), AllocError> {
     let alloc = rt.alloc();
     let p = checked(alloc)?;
-    let mut s = ThreadState::start(
-        alloc,
-        0,
-        &p,
-        &Rows::new(alloc),
-        &Rows::new(alloc),
-        &SETTINGS,
-    )?;
+    let mut s = ThreadState::start(alloc, 0, &p, &SETTINGS)?;
     assert_eq!(rt; s.end(), Some(End::Returned));
     assert_eq!(rt; s.depth(), 0);
     s.begin_part();
@@ -62,14 +59,7 @@ fn a_thread_without_roots_has_returned(rt: HostRuntime) -> Result<(), AllocError
 fn what_a_thread_holds_goes_by_the_monitor(rt: HostRuntime) -> Result<(), AllocError> {
     let alloc = rt.alloc();
     let p = checked(alloc)?;
-    let mut s = ThreadState::start(
-        alloc,
-        1,
-        &p,
-        &Rows::new(alloc),
-        &Rows::new(alloc),
-        &SETTINGS,
-    )?;
+    let mut s = ThreadState::start(alloc, 1, &p, &SETTINGS)?;
     assert_eq!(rt; s.phase(), Phase::Idle);
     let once = Held {
         monitor: 96,

@@ -1,7 +1,7 @@
 //! The state of a thread (JVMS 2.5, 2.6).
 
 ghost use Rattle.std.specs.Prelude.{◌≡◌, ◌+◌, ◌-◌, ◌≤◌, ◌<◌, [], ◌∷◌, ◌++◌, length, take, drop, slice_get, slice_index, slice_set, option_map, IfOk, IfSome, IsSome, Some, None, OnOk, OnErr, true, false};
-ghost use Rattle.checked_program.specs.MarkedProgram.{MarkedProgram, checked_part};
+ghost use Rattle.checked_program.specs.MarkedProgram.{MarkedProgram};
 ghost use Rattle.machine_types.specs.Core.{start_thread, part_phase, is_live, how_ended, reported_end, report_of, with_roots};
 ghost use Rattle.machine_types.specs.Frames.{has_room};
 ghost use Rattle.machine_types.specs.HeldMonitors.{held_at, with_held, without_held, places_of};
@@ -110,29 +110,27 @@ fn reported_end(phase: Phase, first: Option<End>) -> End
 
 // The start and the end of a run.
 impl ThreadState {
-    /// The thread of this number at the start of a run of a checked program with these tags and marks. It takes all
+    /// The thread of this number at the start of a run of a checked program. It takes all
     /// the memory that the thread will use.
     pub fn start(
         alloc: Global,
         number: u8,
         p: &Checked,
-        tags: &Rows<Tags>,
-        marks: &Rows<SectionMark>,
         cfg: &Config,
     ) -> Result<ThreadState, AllocError>
-        ensures { IfOk result (λ s. s ≡ start_thread (record { program = p.now.program; typings = p.now.typings; tags = tags.now; marks = marks.now }) cfg.now number) }
+        ensures { IfOk result (λ s. s ≡ start_thread p.now cfg.now number) }
     {
         let roots = Roots::of(alloc, p.program(), number)?;
         let phase = start_phase(number, &roots);
         Ok(ThreadState {
             typings: Told::of(p.typings()),
-            tags: Told::of(tags),
-            marks: Told::of(marks),
+            tags: Told::of(p.tags()),
+            marks: Told::of(p.marks()),
             cfg: *cfg,
             number,
             phase,
             frames: FrameStack::new(alloc, p.program())?,
-            held: Vec::with_capacity(alloc, places(tags)?)?,
+            held: Vec::with_capacity(alloc, places(p.tags())?)?,
             attempt: None,
             kept: vec![in alloc; 0u64; SLOTS]?,
             roots,
@@ -459,7 +457,7 @@ impl ThreadState {
     /// arguments from the stack of the top frame. Where there are 256 frames, or its slots and theirs are more than
     /// 16,384, it answers `StackOverflow`, and nothing changes.
     pub fn push_frame(&mut self, p: &Checked, method: u32) -> Result<(), StackOverflow>
-        requires program { p.now ≡ checked_part self.old.program }
+        requires program { p.now ≡ self.old.program }
         requires method { method < length p.now.program.methods }
         requires given { IfSome (slice_get p.now.program.methods method) (λ m. HasArguments m self.old.frames) }
         ensures ok { OnOk result (IfSome (slice_get p.now.program.methods method) (λ m. self.new ≡ record self.old { frames = entered self.old.number method m self.old.frames })) }

@@ -1,16 +1,18 @@
 -- What is owed to files that were read, and where one was not.
-use Rattle.std.proofs.Common.{◌≡◌, ℕ, ◌≤◌, List, Option, Some, refl, inl, inr, arith}
+use Rattle.std.proofs.Common.{◌≡◌, ℕ, ◌≤◌, List, Option, Some, None, refl, inl, inr, arith}
 use Rattle.jvm_types.specs.LinkFaults.{in_file}
 use Rattle.jvm_types.specs.declared.refusal.Rule.TheVariants as rules
 use Rattle.jvm_types.specs.declared.refusal.CRule.TheVariants.{C10}
+use Rattle.jvm_types.specs.declared.refusal.Rule.{Rule}
+use Rattle.jvm_types.specs.declared.refusal.Place.{Place}
 use Rattle.solero.specs.Faults.{CountsFault}
-use Rattle.checked_program.specs.CheckedProgram.{CheckedProgram}
+use Rattle.checked_program.specs.MarkedProgram.{MarkedProgram}
 use Rattle.jvm_types.specs.declared.first.FirstOp.{FirstOp}
-use Rattle.class_runner.specs.Loading.{IsFirstLoaded}
+use Rattle.class_runner.specs.Loading.{IsFirstLoaded, IsRefusedBy}
 use Rattle.class_runner.specs.Refusal.{refusal_text}
 use Rattle.solero.specs.Answer.{IsDue, Reports, Refuses, heap_words, workers, longest_file, first_long}
 use Rattle.solero.specs.Reading.{IsUnread}
-use Rattle.solero.specs.Parts.{IsUnreadDue, ReportsProgram}
+use Rattle.solero.specs.Parts.{IsLine, IsRun, IsUnreadDue, ReportsProgram}
 use Rattle.solero.specs.declared.shelf.NamedFile.{NamedFile}
 use Rattle.solero.specs.declared.shelf.ShelfError.{ShelfError}
 use Rattle.solero.specs.declared.shelf.ShelfError.TheVariants.{Memory, Failed, TooLong}
@@ -18,7 +20,7 @@ use Rattle.solero.specs.declared.answer.Due.{Due}
 use Rattle.solero.specs.declared.answer.Due.TheVariants.{Refusal, CannotRead, OutOfMemory}
 
 -- a report of the program that the files are loaded to is one of the files
-pub reported : (contents : List (List ℕ)) (checked : CheckedProgram) (text : List ℕ) → (ops : List FirstOp) × IsFirstLoaded contents heap_words workers checked ops → ReportsProgram checked.program text → Reports contents text
+pub reported : (contents : List (List ℕ)) (checked : MarkedProgram) (text : List ℕ) → (ops : List FirstOp) × IsFirstLoaded contents heap_words workers checked ops → ReportsProgram checked.program text → Reports contents text
 reported contents checked text (ops, loaded) r = record {
   checked = checked;
   ops = r.ops;
@@ -33,6 +35,12 @@ reported contents checked text (ops, loaded) r = record {
   run = r.run;
   report = r.report;
 }
+
+-- the line of what refuses files, none of which is too long, is due to them
+pub refused_run : (contents : List (List ℕ)) (rule : Rule) (place : Place) (due : Due) → first_long 0 contents ≡ None → IsRefusedBy contents heap_words workers rule place → IsLine (refusal_text rule place) due → IsRun contents due
+refused_run contents rule place (Refusal text) short refused line = record { rule = rule; place = place; refused = rw short refused; is_line = line }
+refused_run contents rule place OutOfMemory short refused line = tt
+refused_run contents rule place due short refused line = absurd line
 
 -- ---- a file that was not read
 

@@ -2,7 +2,7 @@
 use Rattle.std.specs.Prelude.{◌≡◌, ℕ, ◌+◌, ◌<◌, ◌≤◌, nat_lt, List, [], ◌∷◌, ◌++◌, length, map, take, codes, Option, Some, None, IfSome, if◌then◌else◌}
 use Rattle.std.specs.Fmt.{decimal}
 use Rattle.std.specs.List.{AllByRecursion}
-use Rattle.checked_program.specs.CheckedProgram.{CheckedProgram}
+use Rattle.checked_program.specs.MarkedProgram.{MarkedProgram}
 use Rattle.jvm_types.specs.LinkFaults.{in_file}
 use Rattle.jvm_types.specs.declared.first.FirstOp.{FirstOp}
 use Rattle.jvm_types.specs.declared.limits.TheConstants.{MOST_FILE_BYTES}
@@ -57,7 +57,7 @@ first_long file (content ∷ contents) = if nat_lt longest_file (length content)
 
 -- the text reports a plain run of the instructions of the program that the files are loaded to
 pub record Reports (contents : List (List ℕ)) (text : List ℕ) : Type 0 where
-  pub checked : CheckedProgram
+  pub checked : MarkedProgram
   pub ops : List FirstOp
   pub loaded : IsFirstLoaded contents heap_words workers checked ops
   pub outcome : Outcome

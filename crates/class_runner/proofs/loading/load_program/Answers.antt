@@ -8,4 +8,4 @@ pub returns-clause-only : goal.returns-clause-only
 returns-clause-only c = λ other ops first. if_other c.args.files.now c.args.heap c.args.workers other ops c.load_files.result (rw c.as_slice.ensures at c.load_files.ensures.first) first
 
 pub returns-clause-accepted : goal.returns-clause-accepted
-returns-clause-accepted c = λ other ops first. if_refused c.args.files.now c.args.heap c.args.workers other ops c.load_files.result (rw c.as_slice.ensures at c.load_files.ensures.refused) first
+returns-clause-accepted c = λ accepted. if_refused c.args.files.now c.args.heap c.args.workers c.load_files.result (rw c.as_slice.ensures at c.load_files.ensures.refused) accepted

@@ -3,11 +3,12 @@ use Rattle.std.proofs.lemmas.Result.{err_from_is_err_and}
 use Rattle.jvm_types.specs.Members.{Declared, declared_by, declared_methods}
 use Rattle.class_runner.specs.Stages.{AreTypedSoFar}
 use Rattle.class_runner.proofs.MethodsDecoded.{files_at}
-use Rattle.class_runner.proofs.MethodsTyped.{ends, class_within, few_methods}
+use Rattle.jvm_types.specs.Verifying.{IsTypingOf, IsRefused}
+use Rattle.class_runner.proofs.MethodsFound.{ends, class_within, few_methods}
 use Rattle.class_runner.proofs.verifying.verify_files.Goals as goal
 
 pub verify_class-requires-clause-all : goal.verify_class-requires-clause-all
-verify_class-requires-clause-all c = class_within c.args.program.now c.loop-file.file c.args.classes.now c.index-classes-file.result (declared_methods c.args.classes.now) c.loop-file.typings c.loop-file-test.true c.index-classes-file.is c.loop-file.invariant
+verify_class-requires-clause-all c = class_within (IsTypingOf c.args.program.now) (IsRefused c.args.program.now) c.args.program.now.methods c.loop-file.file c.args.classes.now c.index-classes-file.result (declared_methods c.args.classes.now) c.loop-file.typings c.loop-file-test.true c.index-classes-file.is c.loop-file.invariant
 
 pub verify_class-requires-clause-few : goal.verify_class-requires-clause-few
 verify_class-requires-clause-few c = omega (arith, few_methods 0 c.args.classes.now c.requires.classes, c.requires.methods, c.requires.few)
@@ -28,4 +29,4 @@ loop-file-preserved c =
     (subst (λ (ds : List Declared). AreTypedSoFar c.args.program.now ds (declared_methods cs) c.loop-file.typings) (files_at i cs c.index-classes-file.result c.loop-file-test.true c.index-classes-file.is) c.loop-file.invariant)
 
 pub returns-clause-ok : goal.returns-clause-ok
-returns-clause-ok c = ends c.args.program.now c.loop-file.file c.args.classes.now (declared_methods c.args.classes.now) c.loop-file.typings c.loop-file-test.false c.loop-file.invariant
+returns-clause-ok c = ends (IsTypingOf c.args.program.now) (IsRefused c.args.program.now) c.args.program.now.methods c.loop-file.file c.args.classes.now (declared_methods c.args.classes.now) c.loop-file.typings c.loop-file-test.false c.loop-file.invariant

@@ -1,5 +1,6 @@
 use Rattle.std.proofs.Common.{sym, ap, ◌∙◌}
 use Rattle.std.specs.Option.{option_copied}
+use Rattle.checked_program.specs.MarkedProgram.{checked_part}
 use Rattle.checked_program.proofs.CheckedPlaces.{called_fit_all}
 use Rattle.frames.proofs.RootLaws.{there_is}
 use Rattle.frames.proofs.thread_state.ThreadState.push_frame.Goals as goal
@@ -7,7 +8,7 @@ use Rattle.frames.proofs.thread_state.ThreadState.push_frame.Goals as goal
 pub push_frame-requires-clause-fits : goal.push_frame-requires-clause-fits
 push_frame-requires-clause-fits c =
     let here = rw c.program.ensures.program at (sym c.get.ensures.value ∙ ap option_copied c.in-Some.is) in
-    called_fit_all c.args.p.now c.args.method c.in-Some.m.now c.program.ensures.checked here
+    called_fit_all (checked_part c.args.p.now) c.args.method c.in-Some.m.now c.program.ensures.marked.checked here
 
 pub unreachable-requires : goal.unreachable-requires
 unreachable-requires c =
