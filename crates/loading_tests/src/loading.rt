@@ -5,7 +5,7 @@ ghost use Rattle.std.specs.Prelude.{◌<◌, ◌≤◌, length};
 use crate::files::{one, two};
 use crate::refusals::{
     FINAL_FIELD, MISUSED, NOT_BUILT_YET, OTHER_SUPER, PairRefusal, Refusal, TWO_FILES, UNDECODABLE,
-    UNDECODABLE_ROWS, UNLINKED, UNREADABLE, UNTYPED, VERSIONS, WIDE,
+    UNDECODABLE_ROWS, UNLINKED, UNREADABLE, UNTAGGED, UNTYPED, VERSIONS, WIDE,
 };
 use class_runner::{first_ops, load_program};
 use jvm_types::limits::LEAST_HEAP;
@@ -102,6 +102,12 @@ fn refuses_names_in_linking(rt: HostRuntime) -> Result<(), Fail> {
 fn refuses_by_each_rule_of_types(rt: HostRuntime) -> Result<(), Fail> {
     check_all(&rt, adds(), &UNTYPED)?;
     check_all(&rt, pair(), &MISUSED)?;
+    Ok(())
+}
+
+#[test]
+fn refuses_by_each_rule_of_locking(rt: HostRuntime) -> Result<(), Fail> {
+    check_all(&rt, adds(), &UNTAGGED)?;
     Ok(())
 }
 

@@ -234,6 +234,70 @@ pub const OTHER_SUPER: [Refusal; 1] = [Refusal {
     line: "refused L6 file 0 at 0",
 }];
 
+/// Methods whose locking is not structured: changes of the class that adds. Each begins with `aconst_null`.
+pub const UNTAGGED: [Refusal; 4] = [
+    // null has no tag where it is entered
+    Refusal {
+        changes: &[
+            (207, 1),
+            (208, 0xc2),
+            (209, 0),
+            (210, 0),
+            (211, 0),
+            (212, 0),
+            (213, 0),
+            (214, 0),
+            (215, 0),
+        ],
+        line: "refused S1 file 0 method 0 at 1",
+    },
+    // nothing was entered that could be left
+    Refusal {
+        changes: &[
+            (207, 1),
+            (208, 0xc3),
+            (209, 0),
+            (210, 0),
+            (211, 0),
+            (212, 0),
+            (213, 0),
+            (214, 0),
+            (215, 0),
+        ],
+        line: "refused S2 file 0 method 0 at 1",
+    },
+    // `dup, iconst_0, ifeq` to 8, `monitorenter, aconst_null`: at 8 one way has entered, the other has not
+    Refusal {
+        changes: &[
+            (207, 1),
+            (208, 0x59),
+            (209, 3),
+            (210, 0x99),
+            (211, 0),
+            (212, 5),
+            (213, 0xc2),
+            (214, 1),
+            (215, 0),
+        ],
+        line: "refused S3 file 0 method 0 at 8",
+    },
+    // `dup, monitorenter, pop`, and then the return
+    Refusal {
+        changes: &[
+            (207, 1),
+            (208, 0x59),
+            (209, 0xc2),
+            (210, 0x57),
+            (211, 0),
+            (212, 0),
+            (213, 0),
+            (214, 0),
+            (215, 0),
+        ],
+        line: "refused S4 file 0 method 0 at 9",
+    },
+];
+
 /// Methods that have no typing: changes of the class that adds.
 pub const UNTYPED: [Refusal; 9] = [
     // a value is taken from the stack, and the sum finds one
@@ -320,7 +384,23 @@ pub const MISUSED: [Refusal; 3] = [
 ];
 
 /// Two files: the stages go one after another, and each goes over all files.
-pub const TWO_FILES: [PairRefusal; 5] = [
+pub const TWO_FILES: [PairRefusal; 6] = [
+    // the second has no typing, the first enters a value without a tag
+    PairRefusal {
+        first: &[
+            (207, 1),
+            (208, 0xc2),
+            (209, 0),
+            (210, 0),
+            (211, 0),
+            (212, 0),
+            (213, 0),
+            (214, 0),
+            (215, 0),
+        ],
+        second: &[(13, b'B'), (210, 0x57)],
+        line: "refused V1 file 1 method 0 at 5",
+    },
     // both classes have one name
     PairRefusal {
         first: &[],
