@@ -1,12 +1,13 @@
 #!/usr/bin/env python3
-"""Measures how fast the built program decodes, links and verifies, and how the time grows where the input doubles.
+"""Measures how fast the built program decodes, links, verifies, tags and marks, and how the time grows where the input doubles.
 
 Run it by hand from the top of the repository, after `./run --proved examples/A.class`:
 
     python3 bench/loading.py
 
 Each program is made so that the stage that is measured is the last to be done: its last method, or its first class, breaks
-a rule of that stage, and the line of the refusal is printed beside the time. Each line has the median of the runs, less the
+a rule of that stage, and the line of the refusal is printed beside the time. Programs that are marked pass all rules, and
+are refused as not built yet; beside each stands the same one without marks, which a rule of tagging refuses. Each line has the median of the runs, less the
 start of the program, and the quartiles, between which half of the runs lie.
 """
 import measure
@@ -74,6 +75,7 @@ class ClassFile:
 
 
 STATIC = 8
+SYNCHRONIZED = 0x20
 
 
 def files_of(codes, stack=2, local=1):
@@ -137,6 +139,47 @@ def member_names(count):
     return [f"member{i}" for i in range(count)]
 
 
+LOCKS_NULL = b"\x01\xc2\xb1"
+
+
+def tagging(methods):
+    """Methods of 65,533 bytes, `aconst_null, dup, pop, pop` over and over; the last enters a monitor that has no tag."""
+    code = b"\x01\x59\x57\x57" * 16383
+    return files_of([code + b"\xb1"] * (methods - 1) + [LOCKS_NULL])
+
+
+def calling(files, refused):
+    """Files with 10,000 static methods each, of which each calls the next one of the next file and of its own, and 100
+    synchronized ones, which call one each. Where they are to be refused, the last method enters a monitor without a tag."""
+    contents = []
+    for number in range(files):
+        file = ClassFile(f"C{number}")
+        names = [f"m{i}" for i in range(10000)]
+        own = [file.member(10, f"C{number}", name, "()V") for name in names]
+        other = [file.member(10, f"C{(number + 1) % files}", name, "()V") for name in names]
+        for i, name in enumerate(names):
+            code = b"\xb1"
+            if i + 1 < len(names):
+                code = b"\xb8" + u2(own[i + 1]) + b"\xb8" + u2(other[i + 1]) + code
+            file.method(STATIC, name, "()V", code, 0, 0)
+        for i in range(100):
+            file.method(SYNCHRONIZED, f"s{i}", "()V", b"\xb8" + u2(own[i * 100]) + b"\xb1", 0, 1)
+        if refused and number + 1 == files:
+            file.method(STATIC, "last", "()V", LOCKS_NULL)
+        contents.append(file.content())
+    return contents
+
+
+def marking(files):
+    """Such files that pass all rules."""
+    return calling(files, False)
+
+
+def unmarked(files):
+    """The same, refused in tagging."""
+    return calling(files, True)
+
+
 def linking(files):
     """Files of nearly 1 MiB with many members, which use one another's; the first one's `init` is not static."""
     contents = []
@@ -182,7 +225,10 @@ SHAPES = (
     (straight, "methods", (8, 16, 32)),
     (branches, "methods", (15, 30, 60)),
     (joins, "methods", (8, 16, 32)),
+    (tagging, "methods", (8, 16, 32)),
     (linking, "files", (16, 32, 64)),
+    (unmarked, "files", (16, 32, 64)),
+    (marking, "files", (16, 32, 64)),
     (shared, "constants", (15000, 30000, 60000)),
 )
 
