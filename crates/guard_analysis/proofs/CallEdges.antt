@@ -80,7 +80,7 @@ some_inside [] u P h = absurd h
 some_inside (m ∷ ms) zero P h = omega arith
 some_inside (m ∷ ms) (suc u) P h = let more : u < length ms = some_inside ms u P h in omega (arith, more)
 
-named : (p : Program) (site : Site) (op : Op) (target : Target) (u : ℕ) → called_method op target ≡ Some u → IsTargetOf p site op target → u < length p.methods
+pub named : (p : Program) (site : Site) (op : Op) (target : Target) (u : ℕ) → called_method op target ≡ Some u → IsTargetOf p site op target → u < length p.methods
 named p site (ops.Invokevirtual i) (targets.Method v) u e t = let same : v ≡ u = same_Some v u e in subst (λ x. x < length p.methods) same (some_inside p.methods v _ t)
 named p site (ops.Invokespecial i) (targets.Method v) u e t = let same : v ≡ u = same_Some v u e in subst (λ x. x < length p.methods) same (some_inside p.methods v _ t)
 named p site (ops.Invokestatic i) (targets.Method v) u e t = let same : v ≡ u = same_Some v u e in subst (λ x. x < length p.methods) same (some_inside p.methods v _ t)

@@ -18,7 +18,7 @@ use Rattle.guard_analysis.specs.declared.call_graph.Graph.{Graph}
 use Rattle.guard_analysis.proofs.GraphEdges.{graph_alike, graph_old, the_call}
 use Rattle.guard_analysis.proofs.CallEdges.{call_parts, node_parts, node_low}
 
-with_few : (a : ℕ) (g : Graph) (c : Option ℕ) → length (with_edge a g c).from ≤ length g.from + 1
+pub with_few : (a : ℕ) (g : Graph) (c : Option ℕ) → length (with_edge a g c).from ≤ length g.from + 1
 with_few a g None = omega arith
 with_few a g (Some b) = omega (arith, length-append g.from (a ∷ []))
 

@@ -37,18 +37,18 @@ module _ (from to : List ℕ) (alike : length from ≡ length to) (a b : ℕ) wh
 abbrev pub IsAlike : Graph → Type 0
 IsAlike g = length g.from ≡ length g.to
 
-with_alike : (a : ℕ) (g : Graph) (c : Option ℕ) → IsAlike g → IsAlike (with_edge a g c)
+pub with_alike : (a : ℕ) (g : Graph) (c : Option ℕ) → IsAlike g → IsAlike (with_edge a g c)
 with_alike a g None l = l
 with_alike a g (Some b) l = length-append g.from (a ∷ []) ∙ ap (λ n. n + 1) l ∙ sym (length-append g.to (b ∷ []))
 
-with_kept : (a : ℕ) (g : Graph) (c : Option ℕ) (x y : ℕ) → IsAlike g → IsEdge g.from g.to x y → IsEdge (with_edge a g c).from (with_edge a g c).to x y
+pub with_kept : (a : ℕ) (g : Graph) (c : Option ℕ) (x y : ℕ) → IsAlike g → IsEdge g.from g.to x y → IsEdge (with_edge a g c).from (with_edge a g c).to x y
 with_kept a g None x y l e = e
 with_kept a g (Some b) x y l e = edge_kept g.from g.to l a b x y e
 
-with_added : (a : ℕ) (g : Graph) (c : Option ℕ) (b : ℕ) → IsAlike g → c ≡ Some b → IsEdge (with_edge a g c).from (with_edge a g c).to a b
+pub with_added : (a : ℕ) (g : Graph) (c : Option ℕ) (b : ℕ) → IsAlike g → c ≡ Some b → IsEdge (with_edge a g c).from (with_edge a g c).to a b
 with_added a g c b l q = rw q (edge_added g.from g.to l a b)
 
-with_old : (a : ℕ) (g : Graph) (c : Option ℕ) (x y : ℕ) → IsAlike g → IsEdge (with_edge a g c).from (with_edge a g c).to x y → IsEdge g.from g.to x y ⊎ ((x ≡ a) × (c ≡ Some y))
+pub with_old : (a : ℕ) (g : Graph) (c : Option ℕ) (x y : ℕ) → IsAlike g → IsEdge (with_edge a g c).from (with_edge a g c).to x y → IsEdge g.from g.to x y ⊎ ((x ≡ a) × (c ≡ Some y))
 with_old a g None x y l e = inl e
 with_old a g (Some b) x y l e = ⊎_elim (λ k. inl k) (λ k. inr (k.0, ap Some (sym k.1))) (edge_old g.from g.to l a b x y e)
 

@@ -1,4 +1,5 @@
 pub mod BlockWalks
 pub mod CallGraph
+pub mod MethodCalls
 pub mod Faults
 pub mod SectionGrades

@@ -23,7 +23,7 @@ pub(crate) fn mode_at(a: usize) -> Mode
     mode_if(a % 2 == 0)
 }
 
-fn add_edge(graph: &mut Graph, a: u32, called: Option<u32>) -> Result<(), AllocError>
+pub(crate) fn add_edge(graph: &mut Graph, a: u32, called: Option<u32>) -> Result<(), AllocError>
     ensures { OnOk result (graph.new ≡ with_edge a graph.old called) }
 {
     match called {

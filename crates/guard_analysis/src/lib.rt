@@ -7,6 +7,8 @@ mod callees;
 mod calls;
 mod faults;
 mod marking;
+mod reached_code;
 mod tag_reading;
 
 pub use marking::mark_by_uses;
+pub use reached_code::reach;

@@ -68,7 +68,7 @@ walk_more : (from to : List ℕ) (a : ℕ) (ns : List ℕ) (b c : ℕ) → Walks
 walk_more from to a [] b c w e = (c ∷ [], (rw w e, refl))
 walk_more from to a (n ∷ ns) b c w e = let r = walk_more from to n ns b c w.1 e in (n ∷ r.0, (w.0, r.1))
 
-leads_more : (from to : List ℕ) (a b c : ℕ) → Leads from to a b → IsEdge from to b c → Leads from to a c
+pub leads_more : (from to : List ℕ) (a b c : ℕ) → Leads from to a b → IsEdge from to b c → Leads from to a c
 leads_more from to a b c l e = walk_more from to a l.0 b c l.1 e
 
 on_more : (from to : List ℕ) (a b c : ℕ) → LeadsOn from to a b → IsEdge from to b c → LeadsOn from to a c
