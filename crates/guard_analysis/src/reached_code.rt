@@ -127,8 +127,9 @@ fn size_found(p: &Program, found: &[bool]) -> u32
     total as u32
 }
 
-/// The instructions of a method together with those of all other methods that it calls, directly or through calls; each
-/// method counts once.
+/// The number of instructions of a method together with those of all other methods that it calls, directly or through
+/// calls (JVMS 6.5, the invoke instructions); each method counts once, and all of its code. `method` is the number of a
+/// method of the program. Errors: where memory runs out.
 pub fn reach(alloc: Global, p: &Program, method: u32) -> Result<u32, AllocError>
     requires program { IsProgram p.now }
     requires inside { method < length p.now.methods }
