@@ -1,0 +1,4 @@
+pub mod StackLengths
+pub mod KeptPlaces
+pub mod KeptInside
+pub mod ClassFlags

@@ -1,0 +1,2 @@
+pub mod FrozenClasses
+pub mod KeptThis

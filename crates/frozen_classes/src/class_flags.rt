@@ -1,0 +1,98 @@
+//! The classes of the files, from what their `<init>` methods let out.
+
+ghost use Rattle.std.specs.Prelude.{◌≡◌, length, slice_get, Some, IfOk};
+ghost use Rattle.jvm_types.specs.ProgramInvariant.{IsProgram};
+ghost use Rattle.jvm_types.specs.Verifying.{IsLaidOut};
+ghost use Rattle.checked_program.specs.MarkedProgram.{AreTaggings};
+ghost use Rattle.checked_program.specs.TaggedCode.{tagged_by};
+ghost use Rattle.frozen_classes.specs.FrozenClasses.{AreFrozenClasses};
+ghost use Rattle.frozen_classes.specs.KeptThis.{frozen_upto, leak_of, noted};
+
+use crate::insn_kept::keeps_all;
+use checked_program::Tags;
+use code_table::{IndexedMethod, is_init};
+use jvm_types::class_numbers::FIRST_FILE_CLASS;
+use jvm_types::{MethodInfo, Program, Rows};
+use std::alloc::{AllocError, Global};
+
+/// The class of a method, where this is an `<init>` that lets its object out.
+fn leak_of(alloc: Global, p: &Program, m: &MethodInfo, t: &Tags) -> Result<Option<u16>, AllocError>
+    requires laid { IsLaidOut m.now }
+    ensures { IfOk result (λ c. c ≡ leak_of p.now (Some m.now) (Some t.now)) }
+{
+    if is_init(m) {
+        let indexed = IndexedMethod::of(alloc, m)?;
+        let keeps = keeps_all(alloc, p, &indexed, t)?;
+        if keeps { Ok(None) } else { Ok(Some(m.class)) }
+    } else {
+        Ok(None)
+    }
+}
+
+fn leak_at(
+    alloc: Global,
+    p: &Program,
+    tags: &Rows<Tags>,
+    u: usize,
+) -> Result<Option<u16>, AllocError>
+    requires program { IsProgram p.now }
+    ensures { IfOk result (λ c. c ≡ leak_of p.now (slice_get p.now.methods u) (slice_get tags.now u)) }
+{
+    match p.methods.get(u) {
+        Some(m) => match tags.get(u) {
+            Some(t) => leak_of(alloc, p, m, t),
+            None => Ok(None),
+        },
+        None => Ok(None),
+    }
+}
+
+/// A class with an `<init>` that lets its object out is not frozen.
+fn note(flags: &mut Rows<bool>, class: Option<u16>)
+    ensures { flags.new ≡ noted flags.old class }
+{
+    match class {
+        Some(c) => {
+            if c >= FIRST_FILE_CLASS {
+                let k = (c - FIRST_FILE_CLASS) as usize;
+                if k < flags.len() {
+                    flags.set(k, false);
+                }
+            }
+        }
+        None => {}
+    }
+}
+
+fn frozen_upto(
+    alloc: Global,
+    p: &Program,
+    tags: &Rows<Tags>,
+    methods: usize,
+) -> Result<Rows<bool>, AllocError>
+    requires program { IsProgram p.now }
+    ensures { IfOk result (λ flags. flags ≡ frozen_upto p.now tags.now methods) }
+{
+    let mut flags = Rows::from_vec(vec![in alloc; true; p.names.len()]?);
+    for u in 0..methods {
+        let leak = leak_at(alloc, p, tags, u)?;
+        note(&mut flags, leak);
+    }
+    Ok(flags)
+}
+
+/// For the class of each file, in order, whether it is frozen: no `<init>` of it lets its object out, loses sight of
+/// it, or writes a final field on another object. `tags` has the lock tags of each method. It fails only where memory
+/// is refused.
+pub fn frozen_classes(
+    alloc: Global,
+    p: &Program,
+    tags: &Rows<Tags>,
+) -> Result<Rows<bool>, AllocError>
+    requires program { IsProgram p.now }
+    requires tagged { AreTaggings p.now p.now.methods tags.now }
+    ensures { IfOk result (AreFrozenClasses p.now (tagged_by tags.now)) }
+{
+    let flags = frozen_upto(alloc, p, tags, p.methods.len())?;
+    Ok(flags)
+}
