@@ -1,6 +1,7 @@
 //! The edges of an instruction, to each of which what has `this` is compared with what stands there.
 
 ghost use Rattle.std.specs.Prelude.{◌≡◌, IfOk};
+ghost use Rattle.std.specs.Option.{option_copied};
 ghost use Rattle.jvm_types.specs.Verifying.{covers, edges};
 ghost use Rattle.code_table.specs.PcTables.{number_at};
 ghost use Rattle.frozen_classes.specs.KeptThis.{catches_well, caught_well, frame_of, joins_all, keeps_after, keeps_caught, passes, passes_at};
@@ -11,18 +12,28 @@ use code_table::{IndexedMethod, can_throw, edges};
 use jvm_types::{Insn, MethodInfo, OpRow, Row};
 use std::alloc::{AllocError, Global};
 
-fn joins_one(row: &OpRow, f: &TagFrame, m: &MethodInfo, t: &Tags, j: usize) -> bool
-    ensures { result ≡ passes (keeps_after row.now f.now) (frame_of m.now t.now.frames j) }
+/// The tags of the instruction of a number, where it is reached.
+pub(crate) fn reached_tags<'a>(m: &MethodInfo, t: &'a Tags, j: usize) -> Option<&'a TagFrame>
+    ensures { option_copied result ≡ frame_of m.now t.now.frames j }
 {
     match m.code.get(j) {
         Some(_) => match m.targets.get(j) {
             Some(_) => match t.frames.get(j) {
-                Some(Some(g)) => keeps_after(row, f, g),
-                Some(None) => true,
-                None => true,
+                Some(Some(g)) => Some(g),
+                Some(None) => None,
+                None => None,
             },
-            None => true,
+            None => None,
         },
+        None => None,
+    }
+}
+
+fn joins_one(row: &OpRow, f: &TagFrame, m: &MethodInfo, t: &Tags, j: usize) -> bool
+    ensures { result ≡ passes (keeps_after row.now f.now) (frame_of m.now t.now.frames j) }
+{
+    match reached_tags(m, t, j) {
+        Some(g) => keeps_after(row, f, g),
         None => true,
     }
 }
@@ -30,15 +41,8 @@ fn joins_one(row: &OpRow, f: &TagFrame, m: &MethodInfo, t: &Tags, j: usize) -> b
 fn catches_one(f: &TagFrame, m: &MethodInfo, t: &Tags, j: usize) -> bool
     ensures { result ≡ passes (keeps_caught f.now) (frame_of m.now t.now.frames j) }
 {
-    match m.code.get(j) {
-        Some(_) => match m.targets.get(j) {
-            Some(_) => match t.frames.get(j) {
-                Some(Some(g)) => keeps_caught(f, g),
-                Some(None) => true,
-                None => true,
-            },
-            None => true,
-        },
+    match reached_tags(m, t, j) {
+        Some(g) => keeps_caught(f, g),
         None => true,
     }
 }

@@ -4,7 +4,7 @@ ghost use Rattle.std.specs.Prelude.{◌≡◌, ◌&&◌, length, slice_get, IfOk
 ghost use Rattle.checked_program.specs.FrozenPlaces.{is_field_of, is_final_of, may_take};
 ghost use Rattle.frozen_classes.specs.KeptThis.{all_before, begins_well, frame_of, keeps_all, keeps_at, keeps_here, puts_well, takes_well};
 
-use crate::edges_kept::{caught_well, joins_all};
+use crate::edges_kept::{caught_well, joins_all, reached_tags};
 use crate::places::{local_this, stack_this};
 use checked_program::{TagFrame, Tags};
 use code_table::{IndexedMethod, row};
@@ -132,15 +132,8 @@ fn keeps_at(
 fn begins_well(m: &MethodInfo, t: &Tags) -> bool
     ensures { result ≡ begins_well m.now (frame_of m.now t.now.frames 0) }
 {
-    match m.code.get(0) {
-        Some(_) => match m.targets.get(0) {
-            Some(_) => match t.frames.get(0) {
-                Some(Some(f)) => m.flags & 0x8 != 0 || local_this(f, 0),
-                Some(None) => true,
-                None => true,
-            },
-            None => true,
-        },
+    match reached_tags(m, t, 0) {
+        Some(f) => m.flags & 0x8 != 0 || local_this(f, 0),
         None => true,
     }
 }
