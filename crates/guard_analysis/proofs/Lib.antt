@@ -10,3 +10,6 @@ pub mod Grading
 pub mod SectionMarks
 pub mod BlockMarks
 pub mod MarkLists
+pub mod HeldTags
+pub mod FieldUseLaws
+pub mod FieldUsesFound

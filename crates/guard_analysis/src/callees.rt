@@ -40,7 +40,7 @@ fn breaking_nodes(
     Ok(breaking)
 }
 
-fn flag_at(flags: &[bool], i: usize) -> bool
+pub(crate) fn flag_at(flags: &[bool], i: usize) -> bool
     ensures { result ≡ slice_index_or flags.now i false }
 {
     if i < flags.len() { flags[i] } else { false }

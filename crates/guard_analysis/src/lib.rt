@@ -6,6 +6,7 @@ mod call_graph;
 mod callees;
 mod calls;
 mod faults;
+mod field_uses;
 mod marking;
 mod reached_code;
 mod tag_reading;
