@@ -11,5 +11,5 @@ mod marking;
 mod reached_code;
 mod tag_reading;
 
-pub use marking::mark_by_uses;
+pub use marking::{mark, mark_by_uses};
 pub use reached_code::reach;

@@ -9,7 +9,7 @@ ghost use Rattle.jvm_types.specs.declared.limits.TheConstants.{MOST_INSTRUCTIONS
 ghost use Rattle.checked_program.specs.MarkedProgram.{AreTaggings};
 ghost use Rattle.checked_program.specs.TaggedCode.{tagged_by};
 ghost use Rattle.checked_program.specs.Sections.{block_at, sections, spots_of};
-ghost use Rattle.checked_program.specs.Marks.{IsMarkOf};
+ghost use Rattle.checked_program.specs.Marks.{AreMarks, IsMarkOf};
 ghost use Rattle.jvm_types.specs.Verifying.{IsLaidOut};
 ghost use Rattle.spread.specs.LeastSet.{IsGraph};
 ghost use Rattle.guard_analysis.specs.CallGraph.{call_graph};
@@ -20,9 +20,11 @@ ghost use Rattle.guard_analysis.specs.SectionGrades.{depth_at, earlier, whole_of
 use crate::block_walk::{Walk, explore};
 use crate::callees::Callees;
 use crate::faults::locks_this;
+use crate::field_uses::uses;
 use crate::tag_reading::{is_this, stack_tag};
 use checked_program::{FieldUse, SectionMark, Spot, TagFrame, Tags};
 use code_table::IndexedMethod;
+use frozen_classes::frozen_classes;
 use jvm_types::{MethodInfo, Op, Program, Rows};
 use std::alloc::{AllocError, Global};
 
@@ -306,4 +308,17 @@ pub fn mark_by_uses(
     ensures { IfOk result (AllZip (IsMarkOf p.now (tagged_by tags.now) uses.now) (sections p.now)) }
 {
     mark_all(alloc, p, uses, tags)
+}
+
+/// The mark of each section of a program, in order of its methods: 0 where it may run without its lock, else the first
+/// rule that forbids that. `tags` has the lock tags of each method. The error is that memory was refused.
+pub fn mark(alloc: Global, p: &Program, tags: &Rows<Tags>) -> Result<Rows<SectionMark>, AllocError>
+    requires program { IsProgram p.now }
+    requires tagged { AreTaggings p.now p.now.methods tags.now }
+    ensures { IfOk result (AreMarks p.now (tagged_by tags.now)) }
+{
+    let frozen = frozen_classes(alloc, p, tags)?;
+    let uses = uses(alloc, p, tags, &frozen)?;
+    let marks = mark_by_uses(alloc, p, &uses, tags)?;
+    Ok(marks)
 }
