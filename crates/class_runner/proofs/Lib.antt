@@ -10,4 +10,3 @@ pub mod LoadedOnce
 pub mod RefusedOnce
 pub mod LoadedOrRefused
 pub mod FirstFormed
-pub mod NoSections

@@ -13,6 +13,7 @@ use crate::tagging::tag_files;
 use crate::texts::RefusalText;
 use crate::verifying::verify_files;
 use checked_program::Checked;
+use guard_analysis::mark;
 use jvm_types::limits::{LEAST_HEAP, MOST_FILES, MOST_HEAP, MOST_WORKERS};
 use jvm_types::{Bytes, FirstOp, LRule, Place, Rows, Rule, in_file};
 use std::alloc::{AllocError, Global};
@@ -97,11 +98,11 @@ fn load_files(alloc: Global, files: &[Bytes], heap: u32, workers: u8) -> Result<
     let program = link_files(alloc, &classes, heap, workers)?;
     let typings = verify_files(alloc, classes.as_slice(), &program)?;
     let tags = tag_files(alloc, classes.as_slice(), &program)?;
+    let marks = mark(alloc, &program, &tags)?;
     if !is_first_form(alloc, classes.as_slice(), &program)? {
         return Err(FileError::Refused(Rule::L(LRule::L0), in_file(0, 0)));
     }
-    // A program of the first form has no sections.
-    Ok(Checked::of(program, typings, tags, Rows::new(alloc)))
+    Ok(Checked::of(program, typings, tags, marks))
 }
 
 /// The instructions of a program of the first form.

@@ -1,6 +1,4 @@
-use Rattle.std.proofs.Common.{refl, inr, [], arith}
-use Rattle.checked_program.specs.TaggedCode.{tagged_by}
-use Rattle.class_runner.proofs.NoSections.{first_marks}
+use Rattle.std.proofs.Common.{refl, inr, arith}
 use Rattle.class_runner.proofs.LoadedOnce.{spelled_long, spelled_classes, unbuilt, first_loaded}
 use Rattle.class_runner.proofs.loading.load_files.Goals as goal
 
@@ -29,22 +27,9 @@ returns-then-not-branch-clause-refused c =
       c.in_file.ensures,
     )
 
-pub of-requires : goal.of-requires
-of-requires c =
-    let first = rw (c.if-not-branch.false, c.as_slice-3.ensures) at c.in_ok-is_first_form.ensures in
-    let linked = c.in_ok-program.ensures.ok in
-    let p = c.in_ok-program.program in
-    rw c.new.ensures (record {
-      checked = record { program = c.in_ok-program.ensures.program; typings = c.in_ok-typings.ensures.ok };
-      tags = c.in_ok-tags.ensures.ok;
-      marks = first_marks c.in_ok-classes.classes linked.code c.args.heap c.args.workers p first.0 (tagged_by c.in_ok-tags.tags) linked.linked first.1;
-    })
-
 pub returns-clause-first : goal.returns-clause-first
 returns-clause-first c =
     let first = rw (c.if-not-branch.false, c.as_slice-3.ensures) at c.in_ok-is_first_form.ensures in
-    let linked = c.in_ok-program.ensures.ok in
-    let p = c.in_ok-program.program in
-    let marks = first_marks c.in_ok-classes.classes linked.code c.args.heap c.args.workers p first.0 (tagged_by c.in_ok-tags.tags) linked.linked first.1 in
-    rw (c.of.ensures, c.new.ensures)
-    (first_loaded c.args.files.now c.args.heap c.args.workers c.in_ok-classes.classes p c.in_ok-typings.typings c.in_ok-tags.tags [] c.in_ok-classes.ensures.ok linked c.in_ok-typings.ensures.ok c.in_ok-tags.ensures.ok marks first)
+    rw c.of.ensures
+    (first_loaded c.args.files.now c.args.heap c.args.workers c.in_ok-classes.classes c.in_ok-program.program c.in_ok-typings.typings c.in_ok-tags.tags c.in_ok-marks.marks c.in_ok-classes.ensures.ok c.in_ok-program.ensures.ok
+    c.in_ok-typings.ensures.ok c.in_ok-tags.ensures.ok c.in_ok-marks.ensures first)
