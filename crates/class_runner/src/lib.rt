@@ -13,9 +13,13 @@ mod tagging;
 pub mod texts;
 mod verifying;
 
+pub use linking::link_files;
 pub use loading::{FileError, first_ops, load_program};
 pub use loading_laws::{
     accepted_is_not_refused, accepted_or_refused, loaded_is_accepted, one_loading, one_refusal,
 };
 pub use marks::mark_text;
+pub use reading::read_files;
+pub use tagging::tag_files;
 pub use texts::{refusal, report};
+pub use verifying::verify_files;
