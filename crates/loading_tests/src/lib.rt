@@ -9,7 +9,11 @@ pub use files::{one, two};
 #[cfg(test)]
 mod loading;
 #[cfg(test)]
+mod marking;
+#[cfg(test)]
 mod names;
+#[cfg(test)]
+mod reaches;
 #[cfg(test)]
 mod reading;
 #[cfg(test)]

@@ -2,9 +2,11 @@
 #![tactic(auto)]
 
 mod bytes;
+mod sections;
 mod statics;
 mod texts;
 
 pub use bytes::{bytes_of, changed};
+pub use sections::{calls, counts_up, marks, stores_this};
 pub use statics::with_statics;
 pub use texts::{adds, below_exception, constants, kinds, pair, peeks, tally, work};
