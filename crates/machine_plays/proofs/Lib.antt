@@ -8,6 +8,7 @@ mod PlaysFought
 mod PlaysWaited
 mod PlaysThrown
 mod PlaysLimits
+mod PlaysTurns
 mod PlaysInstructions
 mod Occurrences
 -- facts on threads that are written out

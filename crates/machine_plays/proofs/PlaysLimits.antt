@@ -28,10 +28,6 @@ pub one_turn : Plays runs.one_turn
 unfolding is_subclass
 one_turn = refl
 
-pub locked_out : Plays runs.locked_out
-unfolding is_subclass
-locked_out = refl
-
 pub one_print : Plays runs.one_print
 unfolding is_subclass
 one_print = refl

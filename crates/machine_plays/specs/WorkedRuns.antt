@@ -54,7 +54,7 @@ first_state r = with_record (start r.program r.cfg)
 
 -- more events than any run here has
 abbrev pub most_events : ℕ
-most_events = 600
+most_events = 3000
 
 -- ---- results that several runs share
 
@@ -298,8 +298,8 @@ one_turn = run (shared 2) (record usual { turns = 1 }) []
 
 -- Each of two threads holds the monitor that the other one wants.
 abbrev pub locked_out : Run
-locked_out = long_run locks_out (record usual { turns = 100 }) []
-    (comes_to (report ends.Returned [] 9 0 0 0 0 ∷ report ends.Turns [] 11 0 0 1 0 ∷ report ends.Turns [] 11 0 0 1 0 ∷ []) ends.NotRun [] 246 36)
+locked_out = long_run locks_out (record usual { turns = 1000 }) []
+    (comes_to (report ends.Returned [] 9 0 0 0 0 ∷ report ends.Turns [] 11 0 0 1 0 ∷ report ends.Turns [] 11 0 0 1 0 ∷ []) ends.NotRun [] 2046 36)
 
 -- The second print is one too many.
 abbrev pub one_print : Run
