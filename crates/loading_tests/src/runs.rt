@@ -2,7 +2,7 @@
 
 use jvm_types::{Counts, End, FirstOp, Print, Rows};
 use std::test::*;
-use step_core::run_first;
+use first_machine::run_first;
 
 /// Prints the greatest int and 1 more, and then -1.
 const CODE: [FirstOp; 9] = [

@@ -11,7 +11,7 @@ use Rattle.jvm_types.specs.declared.refusal.Rule.TheVariants as rules
 use Rattle.jvm_types.specs.declared.refusal.CRule.TheVariants.{C10}
 use Rattle.jvm_types.specs.declared.refusal.Rule.{Rule}
 use Rattle.jvm_types.specs.declared.refusal.Place.{Place}
-use Rattle.step_core.specs.PlainRun.{IsPlainOutcome}
+use Rattle.first_machine.specs.PlainRun.{IsPlainOutcome}
 use Rattle.class_runner.specs.Report.{line, report_text}
 use Rattle.class_runner.specs.Refusal.{refusal_text}
 use Rattle.class_runner.specs.Loading.{IsFirstLoaded, IsRefusedBy}

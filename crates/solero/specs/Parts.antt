@@ -8,7 +8,7 @@ use Rattle.jvm_types.specs.declared.outcome.Outcome.{Outcome}
 use Rattle.jvm_types.specs.declared.program.Program.{Program}
 use Rattle.jvm_types.specs.declared.refusal.Rule.TheVariants as rules
 use Rattle.jvm_types.specs.declared.refusal.CRule.TheVariants.{C10}
-use Rattle.step_core.specs.PlainRun.{IsPlainOutcome}
+use Rattle.first_machine.specs.PlainRun.{IsPlainOutcome}
 use Rattle.class_runner.specs.Report.{line, report_text}
 use Rattle.class_runner.specs.Refusal.{refusal_text}
 use Rattle.solero.specs.Answer.{longest_file, Reports, Refuses}

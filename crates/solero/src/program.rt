@@ -19,7 +19,7 @@ use class_runner::{FileError, first_ops, load_program, report};
 use jvm_types::limits::MOST_FILES;
 use jvm_types::{Bytes, Gate, Rows};
 use std::alloc::{AllocError, Global};
-use step_core::run_first;
+use first_machine::run_first;
 
 /// The heap words of the machine that runs the program.
 const HEAP_WORDS: u32 = 65_536;

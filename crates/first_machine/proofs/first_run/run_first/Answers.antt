@@ -1,8 +1,8 @@
 use Rattle.std.proofs.Common.{◌+◌, drop, Some, sym, ◌∙◌, ap}
-use Rattle.step_core.specs.Progress.{shown, top_frame}
-use Rattle.step_core.proofs.Goes.{goes_first, goes_at, goes_next, goes_none, some_of}
-use Rattle.step_core.proofs.Reached.{reached_next, reached_end}
-use Rattle.step_core.proofs.first_run.run_first.Goals as goal
+use Rattle.first_machine.specs.Progress.{shown, top_frame}
+use Rattle.first_machine.proofs.Goes.{goes_first, goes_at, goes_next, goes_none, some_of}
+use Rattle.first_machine.proofs.Reached.{reached_next, reached_end}
+use Rattle.first_machine.proofs.first_run.run_first.Goals as goal
 
 pub loop-op-init : goal.loop-op-init
 loop-op-init c = record {

@@ -2,8 +2,8 @@
 
 ghost use Rattle.std.specs.Prelude.{◌≡◌, ◌+◌, ◌<◌, ◌∷◌, IfOk, OnOk, IsSome};
 ghost use Rattle.std.specs.Option.{option_to_list};
-ghost use Rattle.step_core.specs.PlainRun.{effect};
-ghost use Rattle.step_core.specs.Operands.{IsNumberFirst};
+ghost use Rattle.first_machine.specs.PlainRun.{effect};
+ghost use Rattle.first_machine.specs.Operands.{IsNumberFirst};
 
 use jvm_types::{FirstOp, Stack};
 use std::alloc::AllocError;

@@ -1,7 +1,7 @@
 use Rattle.std.proofs.Common.{◌-◌, length, drop}
-use Rattle.step_core.specs.Progress.{IsReached}
-use Rattle.step_core.proofs.Goes.{Goes}
-use Rattle.step_core.proofs.first_run.run_first.Given as goal
+use Rattle.first_machine.specs.Progress.{IsReached}
+use Rattle.first_machine.proofs.Goes.{Goes}
+use Rattle.first_machine.proofs.first_run.run_first.Given as goal
 
 abbrev pub invariant-loop-op : goal.invariant-loop-op
 invariant-loop-op l = record {

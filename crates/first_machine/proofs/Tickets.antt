@@ -2,8 +2,8 @@
 use Rattle.std.proofs.Common.{◌≡◌, ℕ, ℤ, ◌+◌, List, [], ◌∷◌, ◌++◌, length, Result, Ok, Err, OnOk, refl, ap, sym, ◌∙◌, arith, add-zero, suc}
 use Rattle.std.proofs.lemmas.List.{length-map, length_push}
 use Rattle.jvm_types.specs.declared.outcome.Print.{Print as Printed}
-use Rattle.step_core.specs.PlainRun.{ticketed}
-use Rattle.step_core.specs.Progress.{values}
+use Rattle.first_machine.specs.PlainRun.{ticketed}
+use Rattle.first_machine.specs.Progress.{values}
 
 pub on_ok : {T E : Type 0} {P Q : Type 0} (r : Result T E) → (P → Q) → OnOk r P → OnOk r Q
 on_ok (Ok x) f p = f p

@@ -2,7 +2,7 @@
 use Rattle.std.specs.Prelude.{◌≡◌, List}
 use Rattle.jvm_types.specs.declared.first.FirstOp.{FirstOp}
 use Rattle.jvm_types.specs.declared.outcome.Outcome.{Outcome}
-use Rattle.step_core.specs.PlainRun.{IsPlainOutcome}
+use Rattle.first_machine.specs.PlainRun.{IsPlainOutcome}
 
 abbrev pub HasOneOutcome : Type 0
 HasOneOutcome = (code : List FirstOp) (one other : Outcome) → IsPlainOutcome code one → IsPlainOutcome code other → one ≡ other

@@ -1,5 +1,5 @@
-use Rattle.step_core.proofs.Tickets.{on_ok, ticketed_next, counted_next}
-use Rattle.step_core.proofs.first_run.Thread.print.Goals as goal
+use Rattle.first_machine.proofs.Tickets.{on_ok, ticketed_next, counted_next}
+use Rattle.first_machine.proofs.first_run.Thread.print.Goals as goal
 
 pub returns-clause-ticketed : goal.returns-clause-ticketed
 returns-clause-ticketed c =

@@ -2,8 +2,8 @@ ghost use Rattle.std.specs.Prelude.{◌≡◌, ◌+◌, ◌<◌, ◌≤◌, [], 
 ghost use Rattle.std.specs.Option.{option_map};
 ghost use Rattle.jvm_types.specs.FirstForm.{IsFirstRun};
 ghost use Rattle.jvm_types.specs.declared.first.FirstOp.{FirstOp as Op};
-ghost use Rattle.step_core.specs.PlainRun.{effect, gone_on, outcome_of, IsPlainOutcome};
-ghost use Rattle.step_core.specs.Progress.{top_frame, shown, acts_until, returned, IsTicketed, IsReached};
+ghost use Rattle.first_machine.specs.PlainRun.{effect, gone_on, outcome_of, IsPlainOutcome};
+ghost use Rattle.first_machine.specs.Progress.{top_frame, shown, acts_until, returned, IsTicketed, IsReached};
 
 use crate::frame::Frame;
 use jvm_types::{Counts, End, FirstOp, Outcome, Print, Rows, Stack, ThreadReport};

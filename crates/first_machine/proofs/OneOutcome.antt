@@ -3,8 +3,8 @@ use Rattle.std.proofs.Common.{◌≡◌, List, [], ◌∷◌, Option, Some, None
 use Rattle.std.specs.Option.{option_and_then}
 use Rattle.jvm_types.specs.declared.first.FirstOp.{FirstOp}
 use Rattle.jvm_types.specs.declared.outcome.End.{End}
-use Rattle.step_core.specs.PlainRun.{Frame, Status, Ready, Run, Ended, Plain, Act, Begin, Do, start, stepped, plain_step, plain_run}
-use Rattle.step_core.specs.OneOutcome.{HasOneOutcome}
+use Rattle.first_machine.specs.PlainRun.{Frame, Status, Ready, Run, Ended, Plain, Act, Begin, Do, start, stepped, plain_step, plain_run}
+use Rattle.first_machine.specs.OneOutcome.{HasOneOutcome}
 
 no_step : (code : List FirstOp) (q : Plain) (act : Act) (s : Status) (frames : List Frame) (end : End) → s ≡ Ended end → stepped code q act s frames ≡ None
 no_step code q Begin Ready frames end e = cc
