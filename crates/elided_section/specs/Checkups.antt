@@ -1,9 +1,16 @@
 -- A check of a lock word in an attempt: the lock has to be free, with the count that was noted.
 use Rattle.std.specs.Prelude.{ℕ, ◌==◌, if◌then◌else◌}
+use Rattle.machine_types.specs.Elision.{elided}
 use Rattle.machine_types.specs.LockWords.{word_of_lock}
+use Rattle.machine_types.specs.Threads.{Thread}
 use Rattle.machine_types.specs.declared.lock.LockWord.TheVariants.{Free}
-use Rattle.elided_section.specs.declared.Checkup.{Checkup}
-use Rattle.elided_section.specs.declared.Checkup.TheVariants.{Same, Differs}
+use Rattle.elided_section.specs.declared.checkup.Checkup.{Checkup}
+use Rattle.elided_section.specs.declared.checkup.Checkup.TheVariants.{Same, Differs}
 
 abbrev pub checkup : (noted found : ℕ) → Checkup
 checkup noted found = if found == word_of_lock (Free noted) then Same else Differs noted found
+
+-- what the check at the end of a section makes of the thread
+abbrev pub finished : Thread → Checkup → Thread
+finished s Same = elided s
+finished s (Differs noted found) = s
