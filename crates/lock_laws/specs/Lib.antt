@@ -1,0 +1,2 @@
+pub mod AttemptLaws
+pub mod HeldLaws
