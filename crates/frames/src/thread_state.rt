@@ -3,7 +3,7 @@
 ghost use Rattle.std.specs.Prelude.{◌≡◌, ◌+◌, ◌-◌, ◌≤◌, ◌<◌, [], ◌∷◌, ◌++◌, length, take, drop, slice_get, slice_index, slice_set, option_map, IfOk, IfSome, IsSome, Some, None, OnOk, OnErr, true, false};
 ghost use Rattle.checked_program.specs.MarkedProgram.{MarkedProgram};
 ghost use Rattle.machine_types.specs.Core.{start_thread, part_phase, is_live, how_ended, reported_end, report_of, with_roots};
-ghost use Rattle.machine_types.specs.Frames.{has_room};
+ghost use Rattle.machine_types.specs.Frames.{has_room, most_frames};
 ghost use Rattle.machine_types.specs.HeldMonitors.{held_at, with_held, without_held, places_of};
 ghost use Rattle.machine_types.specs.Threads.{Frame, Attempt, head_of};
 ghost use Rattle.frames.specs.FrameLists.{top, below, with_top, max_stack, entered, HasArguments};
@@ -337,7 +337,8 @@ impl ThreadState {
     /// How many frames there are.
     #[inline(always)]
     pub fn depth(&self) -> u32
-        ensures { result ≡ length self.now.frames }
+        ensures depth { result ≡ length self.now.frames }
+        ensures few { length self.now.frames ≤ most_frames }
     {
         self.frames.depth() as u32
     }
