@@ -1,0 +1,4 @@
+pub mod Values
+pub mod Typing
+pub mod Allowed
+pub mod Landing
