@@ -6,7 +6,7 @@ use Rattle.std.proofs.lemmas.Bool.Decides.{nat_tests}
 use Rattle.std.proofs.lemmas.List.{length-map, length-reverse}
 use Rattle.jvm_types.specs.CodeTable.{row, no_row, can_throw, type_of, want_of, arguments, constant_row, get_static_row, put_static_row, get_row, put_row, virtual_row, special_row, static_row}
 use Rattle.jvm_types.specs.Members.{is_static, Site, field_rule, call_rule}
-use Rattle.jvm_types.specs.ProgramInvariant.{IsTargetOf, site_in}
+use Rattle.jvm_types.specs.ProgramInvariant.{IsClassOf, IsTargetOf, site_in}
 use Rattle.jvm_types.specs.Verifying.{edges, new_class}
 use Rattle.jvm_types.specs.declared.call.Call.TheVariants.{Virtual, Special, Static as FixedCall}
 use Rattle.jvm_types.specs.declared.class_numbers.TheConstants.{OBJECT_CLASS, INT_ARRAY_CLASS, PRINT_STREAM_CLASS, THROWABLE_CLASS}
@@ -100,7 +100,7 @@ module _ (p : Program) (m : MethodInfo) (is : Classes) where
 
   an_object : (a class : ℕ) → (a == 0) ≡ false → IsNullOr is class a → IsOf is class a
   an_object a class e (inl h) = absurd (grind (arith, nat_tests, e, h))
-  an_object a class e (inr h) = h
+  an_object a class e (inr h) = (grind (arith, nat_tests, e), h.0, h.1, h.2)
 
   narrow_lt : (bits a : ℕ) → narrowed bits a < 2 ^ 32
   narrow_lt bits a = by_test (nat_lt (a % 2 ^ bits) (2 ^ (bits - 1)))
@@ -229,17 +229,8 @@ module _ (p : Program) (m : MethodInfo) (is : Classes) where
 
     -- the class that a `new` at this pc makes
     abbrev pub MakesAt : Target → Type 0
-    MakesAt (targets.Class class) = (new_class m.code m.targets pc ≡ Some class) × (class < 65536)
+    MakesAt (targets.Class class) = (new_class m.code m.targets pc ≡ Some class) × IsClassOf p class
     MakesAt target = Unit {0}
-
-    made_class : (class : ℕ) → class < 65536 → header_class (header class 0) ≡ class
-    made_class class h = omega arith
-
-    array_made : (count : ℕ) → INT_ARRAY_CLASS ≡ header_class (header INT_ARRAY_CLASS count)
-    array_made count = omega arith
-
-    made_here : (class : ℕ) → MakesAt (targets.Class class) → new_class m.code m.targets pc ≡ Some (header_class (header class 0))
-    made_here class h = h.0 ∙ ap Some (sym (made_class class h.1))
 
     abbrev has_constant : Op → Bool
     has_constant (ops.Ldc i) = true
@@ -278,7 +269,7 @@ module _ (p : Program) (m : MethodInfo) (is : Classes) where
     named_allowed (targets.Method number) (ops.Invokestatic i) l s h n k e = calls_fixed pc next i number (site_in m) (slice_get p.methods number) s refl k h.0
     named_allowed (targets.Value n) (ops.Ldc i) l s h c k e = (inl refl, ((low_lt _, tt), tt))
     named_allowed (targets.Value n) (ops.LdcW i) l s h c k e = (inl refl, ((low_lt _, tt), tt))
-    named_allowed (targets.Class class) (ops.New i) l s h n k e = (inl refl, types.New pc, refl, refl, made_here class n)
+    named_allowed (targets.Class class) (ops.New i) l s h n k e = (inl refl, types.New pc, refl, refl, (class, n.0, n.1, refl, refl))
     named_allowed (targets.Init class) (ops.Invokespecial i) l (a ∷ s) h n k e = (inl refl, (tt, tt))
     named_allowed targets.Println (ops.Invokevirtual i) l (v ∷ a ∷ s) h n k e = not_null (at (ops.Invokevirtual i)) targets.Println (constant_row p pc targets.Println (ops.Invokevirtual i)) a (Prints v) refl (λ z. (inl refl, h.0.0, (tt, tt)))
     named_allowed targets.Wait (ops.Invokevirtual i) l (a ∷ s) h n k e = not_null (at (ops.Invokevirtual i)) targets.Wait (constant_row p pc targets.Wait (ops.Invokevirtual i)) a (Waits a) refl (λ z. (inl refl, an_object a OBJECT_CLASS z h.0.0, (tt, tt)))
@@ -342,16 +333,16 @@ module _ (p : Program) (m : MethodInfo) (is : Classes) where
     effect_allowed target (ops.GotoW to) l s h n k = (inl refl, (tt, tt))
     effect_allowed target (ops.Tableswitch otherwise lowest tos) l (a ∷ s) h n k = (in_table otherwise tos (unsigned_abs (int_of a -ℤ lowest)) (int_lt (int_of a) lowest), (tt, tt))
     effect_allowed target (ops.Lookupswitch otherwise cases) l (a ∷ s) h n k = (in_cases otherwise cases a, (tt, tt))
-    effect_allowed target ops.Ireturn l (a ∷ s) h n k = tt
-    effect_allowed target ops.Areturn l (a ∷ s) h n k = tt
-    effect_allowed target ops.Return l s h n k = tt
-    effect_allowed target ops.Newarray l (a ∷ s) h n k = makes (int_lt (int_of a) (pos 0)) (nat_lt p.heap (low a)) (low a)
+    effect_allowed target ops.Ireturn l (a ∷ s) h n k = refl
+    effect_allowed target ops.Areturn l (a ∷ s) h n k = refl
+    effect_allowed target ops.Return l s h n k = refl
+    effect_allowed target ops.Newarray l (a ∷ s) h n k = makes (int_lt (int_of a) (pos 0)) (nat_lt p.heap (low a)) (low a) refl
       where
-        makes : (b c : Bool) (count : ℕ) → Allowed p m is (at ops.Newarray) target (row p m pc target ops.Newarray)
+        makes : (b c : Bool) (count : ℕ) → nat_lt p.heap count ≡ c → Allowed p m is (at ops.Newarray) target (row p m pc target ops.Newarray)
             (if b then Throws thrown.NegativeArraySizeException else if c then Throws thrown.OutOfMemoryError else Makes (header INT_ARRAY_CLASS count) (array_size count))
-        makes true c count = refl
-        makes false true count = refl
-        makes false false count = (inl refl, types.Ref INT_ARRAY_CLASS, refl, refl, array_made count)
+        makes true c count e = refl
+        makes false true count e = refl
+        makes false false count e = (inl refl, types.Ref INT_ARRAY_CLASS, refl, refl, (refl, count, grind (arith, nat_tests, e), refl, refl))
     effect_allowed target ops.Arraylength l (a ∷ s) h n k = not_null (at ops.Arraylength) target (row p m pc target ops.Arraylength) a (Measures a) refl
         (λ z. (inl refl, an_object a INT_ARRAY_CLASS z h.0.0, λ v e. ((e, tt), tt)))
     effect_allowed target ops.Athrow l (a ∷ s) h n k = not_null (at ops.Athrow) target (row p m pc target ops.Athrow) a (Raises a) refl (λ z. (refl, an_object a THROWABLE_CLASS z h.0.0))

@@ -2,3 +2,4 @@ pub mod Values
 pub mod Typing
 pub mod Allowed
 pub mod Landing
+pub mod TopStand

@@ -1,11 +1,12 @@
 -- What the instruction of a verified method may do, by the values that its frame holds (JVMS 4.10.2.2, 6.5). What it means that
 -- an object of a class stands at a word is a parameter.
-use Rattle.std.specs.Prelude.{◌≡◌, ℕ, ◌⊎◌, ◌<◌, ◌^◌, true, false, List, [], ◌∷◌, length, Option, Some, None, slice_get}
+use Rattle.std.specs.Prelude.{◌≡◌, ℕ, ◌⊎◌, ◌<◌, ◌≤◌, ◌^◌, true, false, List, [], ◌∷◌, length, Option, Some, None, slice_get}
 use Rattle.std.specs.List.{AllByRecursion}
 use Rattle.jvm_types.specs.ClassTree.{is_subclass}
 use Rattle.jvm_types.specs.CodeTable.{can_throw}
 use Rattle.jvm_types.specs.Members.{is_static}
-use Rattle.jvm_types.specs.Verifying.{new_class, edges}
+use Rattle.jvm_types.specs.ProgramInvariant.{IsClassOf}
+use Rattle.jvm_types.specs.Verifying.{new_class, edges, is_return}
 use Rattle.jvm_types.specs.declared.class_numbers.TheConstants.{OBJECT_CLASS, INT_ARRAY_CLASS, THROWABLE_CLASS}
 use Rattle.jvm_types.specs.declared.code.Insn.{Insn}
 use Rattle.jvm_types.specs.declared.op_row.Given.{Given}
@@ -25,11 +26,11 @@ use Rattle.machine_types.specs.declared.effect.Effect.{Effect}
 use Rattle.machine_types.specs.declared.effect.Effect.TheVariants.{Goes, Throws, Reads, Writes, Indexes, Measures, Raises, Makes, Prints, Calls, Returns, Enters, Leaves, Waits, Notifies, NotifiesAll, Stuck}
 use Rattle.machine_types.specs.Effects.{variable_of}
 use Rattle.machine_types.specs.Typed.{Classes, IsNullOr, Holds, KindHolds}
-use Rattle.machine_types.specs.Words.{header_class}
+use Rattle.machine_types.specs.Words.{header, object_size, array_size}
 
--- an object of the class or of one below it
+-- an object of the class or of one below it, and not null
 abbrev pub IsOf : Classes → (class v : ℕ) → Type 0
-IsOf is class v = (d : ℕ) × (is d v) × (is_subclass d class ≡ true)
+IsOf is class v = (0 < v) × (d : ℕ) × (is d v) × (is_subclass d class ≡ true)
 
 -- ---- what a row asks of values, and what it gives
 
@@ -87,11 +88,11 @@ abbrev pub StoredHolds : Option ℕ → Type 0
 StoredHolds None = Unit {0}
 StoredHolds (Some v) = v < 2 ^ 32
 
--- the type that an object of a class has where it is made
-abbrev pub MadeAs : MethodInfo → VType → (class : ℕ) → Type 0
-MadeAs m (New pc) class = new_class m.code m.targets pc ≡ Some class
-MadeAs m (Ref c) class = c ≡ class
-MadeAs m type class = ⊥
+-- the type that a new object or array has where it is made, by its header and its size
+abbrev pub MadeAs : Program → MethodInfo → VType → (word size : ℕ) → Type 0
+MadeAs p m (New pc) word size = (class : ℕ) × (new_class m.code m.targets pc ≡ Some class) × IsClassOf p class × (word ≡ header class 0) × (size ≡ object_size p class)
+MadeAs p m (Ref class) word size = (class ≡ INT_ARRAY_CLASS) × (count : ℕ) × (count ≤ p.heap) × (word ≡ header INT_ARRAY_CLASS count) × (size ≡ array_size count)
+MadeAs p m type word size = ⊥
 
 abbrev pub Allowed : Program → MethodInfo → Classes → Insn → Target → OpRow → Effect → Type 0
 Allowed p m is insn target r (Goes to made) = OneOf (edges insn) to × Gives m is r made
@@ -101,10 +102,10 @@ Allowed p m is insn target r (Writes v word) = GoesOn insn × (f : FieldInfo) ×
 Allowed p m is insn target r (Indexes a i stored) = GoesOn insn × IsOf is INT_ARRAY_CLASS a × StoredHolds stored × ((got : ℕ) → got < 2 ^ 32 → Gives m is r got)
 Allowed p m is insn target r (Measures a) = GoesOn insn × IsOf is INT_ARRAY_CLASS a × ((got : ℕ) → got < 2 ^ 32 → Gives m is r got)
 Allowed p m is insn target r (Raises x) = (can_throw insn.op ≡ true) × IsOf is THROWABLE_CLASS x
-Allowed p m is insn target r (Makes word size) = GoesOn insn × (type : VType) × (r.gives ≡ Fresh type ∷ []) × (r.writes ≡ None) × MadeAs m type (header_class word)
+Allowed p m is insn target r (Makes word size) = GoesOn insn × (type : VType) × (r.gives ≡ Fresh type ∷ []) × (r.writes ≡ None) × MadeAs p m type word size
 Allowed p m is insn target r (Prints n) = GoesOn insn × (n < 2 ^ 32) × Gives m is r 0
 Allowed p m is insn target r (Calls number) = (called : MethodInfo) × (target ≡ Method number) × (slice_get p.methods number ≡ Some called)
-Allowed p m is insn target r Returns = Unit {0}
+Allowed p m is insn target r Returns = is_return insn.op ≡ true
 Allowed p m is insn target r (Enters a) = GoesOn insn × (IsOf is OBJECT_CLASS a) × Gives m is r 0
 Allowed p m is insn target r (Leaves a) = GoesOn insn × (IsNullOr is OBJECT_CLASS a) × Gives m is r 0
 Allowed p m is insn target r (Waits a) = GoesOn insn × (IsOf is OBJECT_CLASS a) × Gives m is r 0
