@@ -169,7 +169,7 @@ module _ (p : Program) (m : MethodInfo) (is : Classes) where
   -- ---- calls
 
   -- the value at a place of a row that takes so many
-  below_args : (wants : List Want) (want : Want) (s : List ℕ) → TakenHold m is (wants ++ want ∷ []) s → (v : ℕ) × (slice_get s (length wants) ≡ Some v) × WantHolds m is want v
+  pub below_args : (wants : List Want) (want : Want) (s : List ℕ) → TakenHold m is (wants ++ want ∷ []) s → (v : ℕ) × (slice_get s (length wants) ≡ Some v) × WantHolds m is want v
   below_args [] want (v ∷ s) h = (v, refl, h.0)
   below_args (w ∷ ws) want (v ∷ s) h = below_args ws want s h.1
   below_args ws want s h = absurd (assumption)

@@ -3,3 +3,6 @@ pub mod Typing
 pub mod Allowed
 pub mod Landing
 pub mod TopStand
+pub mod Calls
+pub mod FewFields
+pub mod TopEffects
