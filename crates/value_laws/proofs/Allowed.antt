@@ -1,13 +1,13 @@
 -- The effect of each instruction is one that its row allows, where its operands are what the row takes.
-use Rattle.std.proofs.Common.{◌≡◌, ◌≢◌, ℕ, zero, suc, ◌+◌, ◌-◌, ◌*◌, ◌%◌, ◌<◌, ◌≤◌, ◌^◌, ◌⊎◌, inl, inr, Bool, true, false, not, ◌||◌, ◌&&◌, List, [], ◌∷◌, length, Option, Some, None, refl, ap, sym, subst, ◌∙◌, arith}
-use Rattle.std.specs.Prelude.{nat_lt, nat_le, ◌==◌, int_lt, pos, unsigned_abs, ◌-ℤ◌, slice_get, slice_index, map, ◌++◌, if◌then◌else◌, IsSomeAnd, reverse}
+use Rattle.std.proofs.Common.{◌≡◌, ℕ, zero, suc, ◌+◌, ◌-◌, ◌%◌, ◌<◌, ◌^◌, ◌⊎◌, inl, inr, Bool, true, false, not, List, [], ◌∷◌, length, Option, Some, None, refl, ap, sym, subst, ◌∙◌, arith}
+use Rattle.std.specs.Prelude.{nat_lt, ◌==◌, int_lt, pos, unsigned_abs, ◌-ℤ◌, slice_get, slice_index, map, ◌++◌, if◌then◌else◌, IsSomeAnd, reverse}
 use Rattle.std.specs.Option.{unwrap_or}
 use Rattle.std.proofs.lemmas.Bool.Decides.{nat_tests}
 use Rattle.std.proofs.lemmas.List.{length-map, length-reverse}
-use Rattle.jvm_types.specs.CodeTable.{row, no_row, can_throw, type_of, want_of, arguments, constant_row, get_static_row, put_static_row, get_row, put_row, virtual_row, special_row, static_row}
+use Rattle.jvm_types.specs.CodeTable.{row, can_throw, type_of, want_of, arguments, constant_row, get_static_row, put_static_row, get_row, put_row, virtual_row, special_row, static_row}
 use Rattle.jvm_types.specs.Members.{is_static, Site, field_rule, call_rule}
 use Rattle.jvm_types.specs.ProgramInvariant.{IsClassOf, IsTargetOf, site_in}
-use Rattle.jvm_types.specs.Verifying.{edges, new_class}
+use Rattle.jvm_types.specs.Verifying.{new_class}
 use Rattle.jvm_types.specs.declared.call.Call.TheVariants.{Virtual, Special, Static as FixedCall}
 use Rattle.jvm_types.specs.declared.class_numbers.TheConstants.{OBJECT_CLASS, INT_ARRAY_CLASS, PRINT_STREAM_CLASS, THROWABLE_CLASS}
 use Rattle.jvm_types.specs.declared.code.Case.{Case}
@@ -29,15 +29,14 @@ use Rattle.jvm_types.specs.declared.refusal.LRule.{LRule}
 use Rattle.jvm_types.specs.declared.refusal.LRule.TheVariants.{L2}
 use Rattle.jvm_types.specs.declared.typing.VType.TheVariants as types
 use Rattle.jvm_types.proofs.TypeOrder.{subclass_self}
-use Rattle.machine_types.specs.declared.effect.Variable.{Variable}
 use Rattle.machine_types.specs.declared.effect.Effect.{Effect}
-use Rattle.machine_types.specs.declared.effect.Effect.TheVariants.{Goes, Throws, Reads, Writes, Indexes, Measures, Raises, Makes, Prints, Calls, Returns, Enters, Leaves, Waits, Notifies, NotifiesAll, Stuck}
-use Rattle.machine_types.specs.Effects.{variable_of, kept, gets_static, puts_static, gets, puts, calls_on, calls_instance, calls_static, at_local, unless_null, unless_zero, branch, table_target, case_target, named, makes_array, effect}
+use Rattle.machine_types.specs.declared.effect.Effect.TheVariants.{Goes, Throws, Reads, Writes, Indexes, Measures, Raises, Makes, Prints, Calls, Enters, Waits, Notifies, NotifiesAll, Stuck}
+use Rattle.machine_types.specs.Effects.{variable_of, kept, gets_static, puts_static, gets, puts, calls_on, calls_instance, calls_static, at_local, unless_null, unless_zero, case_target, named, effect}
 use Rattle.machine_types.specs.Ints.{low, word_of, int_of, narrowed, added, divided, remaining}
 use Rattle.machine_types.specs.ReadyObjects.{out_object}
-use Rattle.machine_types.specs.Typed.{Classes, IsNullOr, IsMadeAt, KindHolds, Holds}
-use Rattle.machine_types.specs.Words.{header, header_class, array_size}
-use Rattle.value_laws.specs.Allowed.{IsOf, IsFieldAt, WantHolds, TakenHold, HasLocal, GivenHolds, Gives, OneOf, Allowed}
+use Rattle.machine_types.specs.Typed.{Classes, IsNullOr, KindHolds, Holds}
+use Rattle.machine_types.specs.Words.{header, array_size}
+use Rattle.value_laws.specs.Allowed.{IsOf, IsFieldAt, WantHolds, TakenHold, HasLocal, OneOf, Allowed}
 
 low_lt : (n : ℕ) → low n < 2 ^ 32
 low_lt n = omega arith

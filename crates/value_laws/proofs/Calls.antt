@@ -1,6 +1,6 @@
 -- What a call takes and gives, and that its receiver is there and not null.
-use Rattle.std.proofs.Common.{◌≡◌, ◌≢◌, ℕ, zero, suc, ◌+◌, ◌-◌, ◌<◌, ◌≤◌, ◌⊎◌, inl, inr, Bool, true, false, not, ◌||◌, List, [], ◌∷◌, ◌++◌, length, Option, Some, None, refl, ap, sym, subst, ◌∙◌, arith}
-use Rattle.std.specs.Prelude.{◌==◌, slice_get, slice_index, take, drop, reverse, map, replicate, if◌then◌else◌}
+use Rattle.std.proofs.Common.{◌≡◌, ℕ, zero, suc, ◌+◌, ◌<◌, ◌⊎◌, inl, inr, Bool, true, false, not, ◌||◌, List, [], ◌∷◌, ◌++◌, length, Option, Some, None, refl, ap, sym, subst, ◌∙◌, arith}
+use Rattle.std.specs.Prelude.{◌==◌, slice_get, take, reverse, if◌then◌else◌}
 use Rattle.std.proofs.lemmas.Bool.Decides.{nat_tests}
 use Rattle.std.proofs.lemmas.List.{length-map, length-reverse, length-append, reverse-append}
 use Rattle.jvm_types.specs.CodeTable.{arguments, want_of, is_init, result_of, stack_row, virtual_row, special_row, static_row}
@@ -13,13 +13,11 @@ use Rattle.jvm_types.specs.declared.op_row.Want.TheVariants.{AnObject, ToStart}
 use Rattle.jvm_types.specs.declared.outcome.Thrown.TheVariants.{NullPointerException}
 use Rattle.jvm_types.specs.declared.program.MethodInfo.{MethodInfo}
 use Rattle.jvm_types.specs.declared.program.Program.{Program}
-use Rattle.jvm_types.specs.declared.program.Target.{Target}
 use Rattle.jvm_types.specs.declared.program.Target.TheVariants as targets
 use Rattle.program_laws.specs.TargetLaws.{HasRow}
 use Rattle.typing_laws.specs.EntryLaws.{receiver_count}
 use Rattle.checked_program.specs.CheckedLaws.{receiver_want}
-use Rattle.machine_types.specs.declared.effect.Effect.{Effect}
-use Rattle.machine_types.specs.declared.effect.Effect.TheVariants.{Throws, Calls, Stuck}
+use Rattle.machine_types.specs.declared.effect.Effect.TheVariants.{Throws, Calls}
 use Rattle.machine_types.specs.Effects.{calls_on, calls_instance, effect}
 use Rattle.machine_types.specs.Frames.{first_or_null}
 
@@ -73,6 +71,7 @@ takes_arguments called r call = ap (λ (x : OpRow). length x.takes) call.is ∙ 
   where
     counted : (b : Bool) (wants : List Want) → is_static called.flags ≡ b → length wants ≡ (if b then 0 else 1) + length called.args → length wants ≡ receiver_count called + length called.args
     counted b wants s e = rw s e
+
     by_kind : ((is_static called.flags ≡ false) × (call.takes ≡ arguments called ++ receiver_want (is_init called) called.class ∷ [])) ⊎ ((is_static called.flags ≡ true) × (call.takes ≡ arguments called))
         → length call.takes ≡ receiver_count called + length called.args
     by_kind (inl k) = counted false call.takes k.0 (ap length k.1 ∙ length-append (arguments called) (receiver_want (is_init called) called.class ∷ []) ∙ omega (arith, as_many called))

@@ -1,17 +1,15 @@
 -- Where a frame stands, and that it stands at the target of an edge when it has gone there.
-use Rattle.std.proofs.Common.{◌≡◌, ◌≢◌, ℕ, zero, suc, ◌+◌, ◌-◌, ◌<◌, ◌≤◌, ◌⊎◌, inl, inr, Bool, true, false, List, [], ◌∷◌, length, Option, Some, None, refl, ap, sym, subst, ◌∙◌, arith}
-use Rattle.std.specs.Prelude.{◌==◌, cond, slice_get, map, drop, IsTrue, IsSomeAnd, if◌then◌else◌}
-use Rattle.std.specs.List.{AllZip, AllByRecursion}
+use Rattle.std.proofs.Common.{◌≡◌, ℕ, zero, suc, true, false, List, [], ◌∷◌, Option, Some, refl, ap, sym, subst, ◌∙◌, arith}
+use Rattle.std.specs.Prelude.{◌==◌, cond, slice_get, map}
+use Rattle.std.specs.List.{AllZip}
 use Rattle.std.proofs.lemmas.Bool.{or_parts}
 use Rattle.std.proofs.lemmas.Bool.Decides.{nat_tests}
 use Rattle.jvm_types.specs.CodeGrammar.{is_start}
-use Rattle.jvm_types.specs.Types.{TypeFrame, frame_below}
+use Rattle.jvm_types.specs.Types.{TypeFrame}
 use Rattle.jvm_types.specs.Verifying.{IsLaidOut, HasTyping, IsAssignment, edges}
 use Rattle.jvm_types.specs.Verifying as types
 use Rattle.jvm_types.specs.declared.code.Insn.{Insn}
 use Rattle.jvm_types.specs.declared.program.MethodInfo.{MethodInfo}
-use Rattle.jvm_types.specs.declared.program.Program.{Program}
-use Rattle.jvm_types.specs.declared.program.Target.{Target}
 use Rattle.jvm_types.specs.declared.typing.Typing.{Typing}
 use Rattle.program_laws.proofs.CodeOrder.{methods_laid_out, one_number, have_targets}
 use Rattle.typing_laws.proofs.EdgeTargets.{lands}
@@ -19,7 +17,7 @@ use Rattle.typing_laws.proofs.LeastFrames.{AreDistinct, distinct}
 use Rattle.checked_program.specs.CheckedLaws.{AreFramesOf, IsPlace, Holds}
 use Rattle.checked_program.specs.LockTags.{TagShape, IsShapeBelow}
 use Rattle.checked_program.specs.MarkedProgram.{MarkedProgram, IsMarked, checked_part}
-use Rattle.checked_program.specs.TaggedCode.{IsAt, row_of, tagged_by}
+use Rattle.checked_program.specs.TaggedCode.{row_of}
 use Rattle.checked_program.specs.Tagging.{IsTagAssignment, IsTaggingOf}
 use Rattle.checked_program.specs.Tagging as tagging
 use Rattle.checked_program.specs.Visits as visits
@@ -27,11 +25,10 @@ use Rattle.checked_program.specs.declared.tag.Tags.{Tags}
 use Rattle.checked_program.proofs.CheckedPlaces.{checked_sound, places_hold_all}
 use Rattle.tag_laws.proofs.TagLocal.{tag_local_law}
 use Rattle.tag_laws.proofs.VisitsLocal.{landing}
-use Rattle.machine_types.specs.Frames.{Top, top_at, top_in, top_of, at_pc}
+use Rattle.machine_types.specs.Frames.{top_at, top_in, top_of, at_pc}
 use Rattle.machine_types.specs.Standing.{Standing, tags_of}
 use Rattle.machine_types.specs.Threads.{Frame}
 use Rattle.machine_types.specs.Typed.{Classes, FrameHolds}
-use Rattle.machine_types.specs.Typed as typed
 use Rattle.value_laws.proofs.Values.{ValuesHold, values_below}
 
 -- ---- lists

@@ -6,3 +6,4 @@ pub mod TopStand
 pub mod Calls
 pub mod FewFields
 pub mod TopEffects
+pub mod Callers

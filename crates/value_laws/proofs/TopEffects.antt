@@ -1,14 +1,12 @@
 -- The effect of the instruction at which typed frames stand is allowed, and what it names is there.
-use Rattle.std.proofs.Common.{◌≡◌, ◌≢◌, ℕ, zero, suc, ◌+◌, ◌-◌, ◌<◌, ◌≤◌, ◌^◌, ◌⊎◌, inl, inr, Bool, true, false, ◌||◌, List, [], ◌∷◌, ◌++◌, length, Option, Some, None, refl, ap, sym, subst, ◌∙◌, arith}
-use Rattle.std.specs.Prelude.{◌==◌, nat_lt, slice_get, slice_index, take, reverse, if◌then◌else◌, IsTrue}
-use Rattle.std.specs.List.{AllZip, AllByRecursion}
+use Rattle.std.proofs.Common.{◌≡◌, ℕ, ◌+◌, ◌<◌, ◌≤◌, ◌^◌, ◌⊎◌, inl, inr, Bool, true, false, ◌||◌, List, [], ◌∷◌, ◌++◌, length, Some, refl, ap, sym, subst, ◌∙◌, arith}
+use Rattle.std.specs.Prelude.{◌==◌, slice_get, slice_index, take, reverse, if◌then◌else◌}
 use Rattle.std.proofs.lemmas.Bool.Decides.{nat_tests}
 use Rattle.std.proofs.lemmas.Option.{get_or_from_slice_get}
-use Rattle.jvm_types.specs.ClassTree.{is_subclass}
-use Rattle.jvm_types.specs.CodeTable.{arguments, result_of, stack_row, is_init}
+use Rattle.jvm_types.specs.CodeTable.{arguments, is_init}
 use Rattle.jvm_types.specs.Members.{Site, is_static}
 use Rattle.jvm_types.specs.Numbers.{has_number}
-use Rattle.jvm_types.specs.ProgramInvariant.{IsProgram, IsClassOf, site_in, words_of}
+use Rattle.jvm_types.specs.ProgramInvariant.{IsProgram, IsClassOf, site_in}
 use Rattle.jvm_types.specs.Verifying.{IsLaidOut, edges, frame_after, Fits}
 use Rattle.jvm_types.specs.declared.class_numbers.TheConstants.{OBJECT_CLASS, PRINT_STREAM_CLASS}
 use Rattle.jvm_types.specs.declared.code.Insn.{Insn}
@@ -18,15 +16,13 @@ use Rattle.jvm_types.specs.declared.op_row.OpRow.{OpRow}
 use Rattle.jvm_types.specs.declared.op_row.Given.{Given}
 use Rattle.jvm_types.specs.declared.op_row.Given.TheVariants.{Fresh}
 use Rattle.jvm_types.specs.declared.op_row.Want.{Want}
-use Rattle.jvm_types.specs.declared.op_row.Want.TheVariants.{AnObject, ToStart}
 use Rattle.jvm_types.specs.declared.program.FieldInfo.{FieldInfo}
 use Rattle.jvm_types.specs.declared.program.MethodInfo.{MethodInfo}
 use Rattle.jvm_types.specs.declared.program.Program.{Program}
 use Rattle.jvm_types.specs.declared.program.Target.{Target}
 use Rattle.jvm_types.specs.declared.program.Target.TheVariants as targets
 use Rattle.jvm_types.specs.declared.typing.VType.{VType}
-use Rattle.jvm_types.specs.declared.typing.VType.TheVariants.{Int, Null, Ref, This, New, Top as Unknown}
-use Rattle.program_laws.specs.CodeLaws.{Begins}
+use Rattle.jvm_types.specs.declared.typing.VType.TheVariants.{Ref, New}
 use Rattle.program_laws.specs.TargetLaws.{HasRow}
 use Rattle.program_laws.proofs.CodeOrder.{class_of_the_new}
 use Rattle.program_laws.proofs.FieldOrder.{statics_inside, instances_inside}
@@ -40,23 +36,23 @@ use Rattle.machine_types.specs.declared.effect.Variable.{Variable}
 use Rattle.machine_types.specs.declared.effect.Variable.TheVariants.{Instance, Static}
 use Rattle.machine_types.specs.declared.effect.Effect.{Effect}
 use Rattle.machine_types.specs.declared.effect.Effect.TheVariants.{Goes, Throws, Reads, Writes, Indexes, Measures, Raises, Makes, Prints, Calls, Returns, Enters, Leaves, Waits, Notifies, NotifiesAll, Stuck}
-use Rattle.machine_types.specs.Effects.{variable_of, effect}
-use Rattle.machine_types.specs.Frames.{Top, frames_of, top_of, row_at, effect_at, entry_frame, arguments_of, first_or_null}
+use Rattle.machine_types.specs.Effects.{effect}
+use Rattle.machine_types.specs.Frames.{Top, effect_at, first_or_null}
 use Rattle.machine_types.specs.Lawful.{within}
 use Rattle.machine_types.specs.ReadyObjects.{out_object}
 use Rattle.machine_types.specs.Standing.{Standing}
 use Rattle.machine_types.specs.Threads.{Frame}
-use Rattle.machine_types.specs.Typed.{Classes, IsNullOr, FrameHolds, FramesHold}
+use Rattle.machine_types.specs.Typed.{Classes, IsNullOr, FrameHolds}
 use Rattle.machine_types.specs.Words.{variable_word}
-use Rattle.value_laws.specs.Allowed.{IsOf, IsFieldAt, WantHolds, TakenHold, GivenHolds, Gives, OneOf, MadeAs, Allowed}
-use Rattle.value_laws.specs.TopFrames.{StandsAt, RowFits, GoesTo, IsReference, CallFits, MakesFit, IsAllowed, EffectsAreAllowed}
+use Rattle.value_laws.specs.Allowed.{IsOf, IsFieldAt, WantHolds, TakenHold, OneOf, MadeAs, Allowed}
+use Rattle.value_laws.specs.TopFrames.{GoesTo, IsReference, CallFits, MakesFit, IsAllowed, EffectsAreAllowed}
 use Rattle.value_laws.proofs.Values.{ValuesHold}
 use Rattle.value_laws.proofs.Typing.{operands, edge_at}
 use Rattle.value_laws.proofs.Allowed.{MakesAt, below_args, effect_allowed}
-use Rattle.value_laws.proofs.Landing.{laid_at, rules_at, place_of, stand_top}
+use Rattle.value_laws.proofs.Landing.{laid_at, rules_at, stand_top}
 use Rattle.value_laws.proofs.Calls.{CallRow, call_row, as_many, takes_arguments, HasReceiver, call_receiver, receiver_first}
 use Rattle.value_laws.proofs.FewFields.{few_fields}
-use Rattle.value_laws.proofs.TopStand.{top_here, stands_here, row_here}
+use Rattle.value_laws.proofs.TopStand.{top_here, row_here}
 
 some_same : {X : Type 0} {x y : X} → Some x ≡ Some y → x ≡ y
 some_same e = cc
@@ -83,7 +79,7 @@ module _ (c : MarkedProgram) (marked : IsMarked c) (is : Classes) (out : is PRIN
 
   pub allowed_here : (f : Frame) (h : FrameHolds c is 0 f)
       → Allowed c.program h.stands.method is h.stands.insn h.stands.target (row_of c.program h.stands.method h.stands.insn h.stands.target)
-        (effect c.program h.stands.insn.next h.stands.target h.stands.insn.op f.locals f.stack)
+      (effect c.program h.stands.insn.next h.stands.target h.stands.insn.op f.locals f.stack)
   allowed_here f h =
       let k = h.stands in
       let rules = rules_at c marked f k in
@@ -127,6 +123,7 @@ module _ (c : MarkedProgram) (marked : IsMarked c) where
     where
       is : IsProgram c.program
       is = marked.checked.program
+
       by_flag : (b : Bool) → is_static f.flags ≡ b → variable_word (if b then Static f.index else Instance at.reference f.index) < 2 ^ 32
       by_flag true e = let inside = statics_inside c.program at.number f is at.there e in omega (arith, inside.1, is.words, is.heap_to)
       by_flag false e =
@@ -163,10 +160,13 @@ module _ (c : MarkedProgram) (marked : IsMarked c) where
       where
         v : ℕ
         v = has.0
+
         index : slice_index f.stack (length called.args) ≡ v
         index = get_or_from_slice_get f.stack (length called.args) v 0 has.1
+
         file : 17 ≤ called.class
         file = (marked.checked.program.methods number called e).class.0
+
         by_kind : ((is_static called.flags ≡ false) × (call.takes ≡ arguments called ++ receiver_want (is_init called) called.class ∷ [])) ⊎ ((is_static called.flags ≡ true) × (call.takes ≡ arguments called))
             → IsReference c.program (slice_index f.stack (length called.args))
         by_kind (inl k) =
@@ -203,6 +203,7 @@ module _ (c : MarkedProgram) (marked : IsMarked c) where
       where
         r : OpRow
         r = row_of c.program h.stands.method h.stands.insn h.stands.target
+
         by_flag : (b : Bool) → is_static called.flags ≡ b → (is_static called.flags ≡ false → IsReference c.program (slice_index f.stack (length called.args))) → (is_static called.flags ≡ false → HasReceiver called f.stack)
             → length r.takes ≡ receiver_count called + length called.args → (if b then 0 else first_or_null (reverse (take (length r.takes) f.stack))) < c.program.heap
         by_flag true s inside has count = omega (arith, marked.checked.program.heap_from)

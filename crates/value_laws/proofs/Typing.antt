@@ -1,28 +1,24 @@
 -- The frame after an instruction has the types that verification gives it: generic in the row.
-use Rattle.std.proofs.Common.{◌≡◌, ◌≢◌, ℕ, zero, suc, ◌+◌, ◌-◌, ◌*◌, ◌%◌, ◌<◌, ◌≤◌, ◌^◌, ◌⊎◌, inl, inr, Bool, true, false, not, ◌||◌, ◌&&◌, List, [], ◌∷◌, length, Option, Some, None, refl, ap, sym, subst, ◌∙◌, arith}
-use Rattle.std.specs.Prelude.{IsTrue, IsSomeAnd, nat_lt, nat_le, ◌==◌, slice_get, slice_set, slice_index_or, map, drop, ◌++◌, if◌then◌else◌}
+use Rattle.std.proofs.Common.{◌≡◌, ℕ, inl, inr, Bool, true, false, not, List, [], ◌∷◌, Option, Some, None, refl, sym, subst, arith}
+use Rattle.std.specs.Prelude.{if◌then◌else◌}
 use Rattle.std.specs.List.{AllZip, AllByRecursion}
 use Rattle.std.proofs.lemmas.Bool.{or_parts}
 use Rattle.std.proofs.lemmas.Bool.Decides.{nat_tests}
-use Rattle.jvm_types.specs.ClassTree.{is_subclass}
-use Rattle.jvm_types.specs.CodeTable.{value_of, stack_after, locals_after}
 use Rattle.jvm_types.specs.declared.op_row.OpRow.{OpRow}
 use Rattle.jvm_types.specs.declared.op_row.Want.{Want}
 use Rattle.jvm_types.specs.declared.op_row.Want.TheVariants.{AnyValue, AnInt, AnObject, AnyReference, AHolder, ToStart}
-use Rattle.jvm_types.specs.declared.op_row.Given.{Given}
-use Rattle.jvm_types.specs.declared.op_row.Given.TheVariants.{Fresh, Taken, Local}
-use Rattle.jvm_types.specs.Types.{TypeFrame, is_below, is_uninitialised, same_type, all_pairs, frame_below}
-use Rattle.jvm_types.specs.Verifying.{suits, some_taken, some_read, new_class, is_class, takes_too_many, mistypes, started, initialised, after_start, frame_after, edges, Fits}
+use Rattle.jvm_types.specs.Types.{TypeFrame, is_uninitialised, same_type}
+use Rattle.jvm_types.specs.Verifying.{suits, some_taken, some_read, new_class, is_class, takes_too_many, mistypes, started, initialised, after_start, frame_after, Fits}
 use Rattle.jvm_types.specs.declared.code.Insn.{Insn}
 use Rattle.jvm_types.specs.declared.typing.VType.{VType}
-use Rattle.jvm_types.specs.declared.typing.VType.TheVariants.{Int, Null, Ref, This, New, Top}
+use Rattle.jvm_types.specs.declared.typing.VType.TheVariants.{Ref, This, New}
 use Rattle.jvm_types.specs.declared.program.MethodInfo.{MethodInfo}
 use Rattle.jvm_types.proofs.TypeOrder.{subclass_self}
 use Rattle.typing_laws.proofs.MonoTypes.{same_object}
 use Rattle.machine_types.specs.Frames.{frame_on}
 use Rattle.machine_types.specs.Threads.{Frame}
-use Rattle.machine_types.specs.Typed.{Classes, IsNullOr, IsMadeAt, Holds}
-use Rattle.value_laws.specs.Allowed.{IsOf, WantHolds, TakenHold, HasLocal, GivenHolds, WriteHolds, Gives, OneOf}
+use Rattle.machine_types.specs.Typed.{Classes, IsMadeAt, Holds}
+use Rattle.value_laws.specs.Allowed.{TakenHold, Gives, OneOf}
 use Rattle.value_laws.proofs.Values.{ValuesHold, taken_hold, moved_stack, moved_locals}
 
 module _ (m : MethodInfo) (is : Classes) where
@@ -52,9 +48,11 @@ module _ (m : MethodInfo) (is : Classes) where
   start_holds : (wants : List Want) (ts : List VType) → Suit wants ts → StartHolds (started m.class wants ts)
   start_holds [] ts h = tt
   start_holds (ToStart class ∷ wants) (This ∷ ts) h = (refl, λ v k. k)
-  start_holds (ToStart class ∷ wants) (New pc ∷ ts) h =
-      (refl, new_start class pc (suiting (is_class (new_class m.code m.targets pc) class)
-        (or_parts (not (is_class (new_class m.code m.targets pc) class)) (some_taken (λ want t. not (suits m want t)) wants ts) h).0))
+  start_holds (ToStart class ∷ wants) (New pc ∷ ts) h = (
+    refl,
+    new_start class pc (suiting (is_class (new_class m.code m.targets pc) class)
+        (or_parts (not (is_class (new_class m.code m.targets pc) class)) (some_taken (λ want t. not (suits m want t)) wants ts) h).0),
+  )
   start_holds (AnyValue ∷ wants) (t ∷ ts) h = start_holds wants ts (later AnyValue t wants ts h)
   start_holds (AnInt ∷ wants) (t ∷ ts) h = start_holds wants ts (later AnInt t wants ts h)
   start_holds (AnObject class ∷ wants) (t ∷ ts) h = start_holds wants ts (later (AnObject class) t wants ts h)

@@ -1,6 +1,6 @@
 -- Values and the order of types; what a row asks of values is there under a typing.
-use Rattle.std.proofs.Common.{◌≡◌, ◌≢◌, ℕ, zero, suc, ◌+◌, ◌-◌, ◌*◌, ◌%◌, ◌<◌, ◌≤◌, ◌^◌, ◌⊎◌, inl, inr, Bool, true, false, not, ◌||◌, ◌&&◌, List, [], ◌∷◌, length, Option, Some, None, refl, ap, sym, subst, ◌∙◌, arith}
-use Rattle.std.specs.Prelude.{nat_lt, nat_le, ◌==◌, slice_get, slice_set, slice_index_or, map, drop, ◌++◌, if◌then◌else◌}
+use Rattle.std.proofs.Common.{◌≡◌, ℕ, zero, suc, ◌⊎◌, inl, inr, Bool, true, false, not, ◌||◌, ◌&&◌, List, [], ◌∷◌, length, Option, Some, None, refl, ap, sym, subst, ◌∙◌, arith}
+use Rattle.std.specs.Prelude.{nat_lt, ◌==◌, slice_set, slice_index_or, map, drop, ◌++◌}
 use Rattle.std.specs.List.{AllZip, AllByRecursion}
 use Rattle.std.proofs.lemmas.Bool.{or_parts}
 use Rattle.std.proofs.lemmas.Bool.Decides.{nat_tests}
@@ -8,7 +8,7 @@ use Rattle.jvm_types.specs.ClassTree.{is_subclass}
 use Rattle.jvm_types.specs.CodeTable.{value_of, stack_after, locals_after}
 use Rattle.jvm_types.specs.Members.{is_static}
 use Rattle.jvm_types.specs.Types.{TypeFrame, is_below, all_pairs, frame_below}
-use Rattle.jvm_types.specs.Verifying.{suits, some_taken, at_local, new_class, is_class}
+use Rattle.jvm_types.specs.Verifying.{suits, some_taken, new_class, is_class}
 use Rattle.jvm_types.specs.declared.class_numbers.TheConstants.{OBJECT_CLASS}
 use Rattle.jvm_types.specs.declared.op_row.OpRow.{OpRow}
 use Rattle.jvm_types.specs.declared.op_row.Want.{Want}
@@ -21,8 +21,8 @@ use Rattle.jvm_types.specs.declared.program.MethodInfo.{MethodInfo}
 use Rattle.jvm_types.proofs.TypeOrder.{subclass_self, subclass_trans}
 use Rattle.jvm_types.proofs.FrameOrder.{stack_below, locals_below}
 use Rattle.machine_types.specs.Threads.{Frame}
-use Rattle.machine_types.specs.Typed.{Classes, IsNullOr, IsMadeAt, Holds}
-use Rattle.value_laws.specs.Allowed.{IsOf, WantHolds, TakenHold, GivenHolds, WriteHolds, Gives}
+use Rattle.machine_types.specs.Typed.{Classes, IsNullOr, Holds}
+use Rattle.value_laws.specs.Allowed.{WantHolds, TakenHold, GivenHolds, WriteHolds, Gives}
 
 -- the values of a frame have the types of a typing
 pub record ValuesHold (m : MethodInfo) (is : Classes) (g : TypeFrame) (f : Frame) : Type 0 where
