@@ -1,0 +1,4 @@
+pub mod StandingLaws
+pub mod MoveLaws
+pub mod CallLaws
+pub mod ThrowLaws
