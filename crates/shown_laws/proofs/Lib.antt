@@ -1,0 +1,7 @@
+pub mod MarkedMethods
+pub mod FramePlaces
+pub mod TagValues
+pub mod EffectsOfInsns
+pub mod ShownFrames
+pub mod FrameMoves
+pub mod MoveProofs

@@ -6,7 +6,7 @@ use Rattle.jvm_types.specs.declared.code.Op.{Op}
 use Rattle.jvm_types.specs.declared.program.MethodInfo.{MethodInfo}
 use Rattle.jvm_types.specs.declared.program.Program.{Program}
 use Rattle.checked_program.specs.MarkedProgram.{MarkedProgram, IsMarked}
-use Rattle.machine_types.specs.Effects.{Calls, Returns}
+use Rattle.machine_types.specs.declared.effect.Effect.TheVariants.{Calls, Returns}
 use Rattle.machine_types.specs.Frames.{Top, top_of, frames_of, effect_at, waiting, entry_frame, arguments_of, monitor_of, returned}
 use Rattle.machine_types.specs.Onward.{root_arguments}
 use Rattle.machine_types.specs.Shown.{Show, own_entry}
@@ -22,7 +22,8 @@ callee_frame p at number called = entry_frame number called (arguments_of p at)
 
 -- the called method is one of the program
 abbrev pub CalledStand : Type 0
-CalledStand = (p : Program) (at : Top) (number : ℕ) → effect_at p at ≡ Calls number → (called : MethodInfo) × (slice_get p.methods number ≡ Some called)
+CalledStand = (c : MarkedProgram) (fs : List Frame) (shown : List ℕ) (at : Top) (number : ℕ) → IsMarked c → top_of c.program fs ≡ Some at → Show c Whole fs shown
+    → effect_at c.program at ≡ Calls number → (called : MethodInfo) × (slice_get c.program.methods number ≡ Some called)
 
 -- a synchronized method shows its monitor
 abbrev pub CallsShow : Type 0

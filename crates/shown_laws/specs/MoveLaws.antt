@@ -5,9 +5,9 @@ use Rattle.jvm_types.specs.Numbers.{has_number}
 use Rattle.jvm_types.specs.Verifying.{edges}
 use Rattle.jvm_types.specs.declared.code.Op.{Op}
 use Rattle.jvm_types.specs.declared.code.Op.TheVariants as ops
-use Rattle.jvm_types.specs.declared.program.Program.{Program}
 use Rattle.checked_program.specs.MarkedProgram.{MarkedProgram, IsMarked}
-use Rattle.machine_types.specs.Effects.{Effect, Goes, Reads, Writes, Indexes, Measures, Prints, Makes, Enters, Leaves, Waits, Notifies, NotifiesAll}
+use Rattle.machine_types.specs.declared.effect.Effect.{Effect}
+use Rattle.machine_types.specs.declared.effect.Effect.TheVariants.{Goes, Reads, Writes, Indexes, Measures, Prints, Makes, Enters, Leaves, Waits, Notifies, NotifiesAll}
 use Rattle.machine_types.specs.Frames.{Top, top_of, effect_at, went, went_on, making, pushed}
 use Rattle.machine_types.specs.Shown.{Show}
 use Rattle.machine_types.specs.Standing.{Whole, Lacking}
@@ -41,7 +41,8 @@ goes_to next (NotifiesAll m) = Some next
 goes_to next e = None
 
 abbrev pub EffectsFollowEdges : Type 0
-EffectsFollowEdges = (p : Program) (at : Top) (to : ℕ) → goes_to at.insn.next (effect_at p at) ≡ Some to → (is_lock_op at.insn.op ≡ false) × (has_number (edges at.insn) to ≡ true)
+EffectsFollowEdges = (c : MarkedProgram) (fs : List Frame) (shown : List ℕ) (at : Top) (to : ℕ) → IsMarked c → top_of c.program fs ≡ Some at → Show c Whole fs shown
+    → goes_to at.insn.next (effect_at c.program at) ≡ Some to → (is_lock_op at.insn.op ≡ false) × (has_number (edges at.insn) to ≡ true)
 
 -- so what is shown stays
 abbrev pub EffectsShow : Type 0

@@ -1,10 +1,10 @@
 -- What the frames of a thread show when an exception is thrown, caught, or ends a frame, in a marked program (JVMS 2.10).
 use Rattle.std.specs.Prelude.{◌≡◌, ℕ, Bool, true, false, List, [], ◌∷◌, drop, Some, None}
 use Rattle.jvm_types.specs.CodeTable.{can_throw}
-use Rattle.jvm_types.specs.declared.program.Program.{Program}
 use Rattle.jvm_types.specs.declared.program.Row.{Row}
 use Rattle.checked_program.specs.MarkedProgram.{MarkedProgram, IsMarked}
-use Rattle.machine_types.specs.Effects.{Effect, Throws, Raises, Indexes, Makes, Calls, Waits, Notifies, NotifiesAll}
+use Rattle.machine_types.specs.declared.effect.Effect.{Effect}
+use Rattle.machine_types.specs.declared.effect.Effect.TheVariants.{Throws, Raises, Indexes, Makes, Calls, Waits, Notifies, NotifiesAll}
 use Rattle.machine_types.specs.Frames.{Top, top_of, frames_of, effect_at, handler_at, caught}
 use Rattle.machine_types.specs.Shown.{Show}
 use Rattle.machine_types.specs.Standing.{Whole, Thrown}
@@ -28,7 +28,7 @@ may_throw e = false
 
 -- such an effect is one of an instruction that can throw
 abbrev pub EffectsThrow : Type 0
-EffectsThrow = (p : Program) (at : Top) → may_throw (effect_at p at) ≡ true → can_throw at.insn.op ≡ true
+EffectsThrow = (c : MarkedProgram) (fs : List Frame) (shown : List ℕ) (at : Top) → IsMarked c → top_of c.program fs ≡ Some at → Show c Whole fs shown → may_throw (effect_at c.program at) ≡ true → can_throw at.insn.op ≡ true
 
 -- the frames stay as they were
 abbrev pub ThrowsShow : Type 0
