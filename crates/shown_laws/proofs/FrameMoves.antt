@@ -57,10 +57,10 @@ abbrev dup_row : OpRow
 dup_row = record { takes = any_values 1; gives = Taken 0 ∷ Taken 0 ∷ []; reads = None; writes = None }
 
 module _ (c : MarkedProgram) (is : IsMarked c) where
-  abbrev the_row : (f : Frame) → Standing c f → OpRow
+  abbrev pub the_row : (f : Frame) → Standing c f → OpRow
   the_row f k = row_of c.program k.method k.insn k.target
 
-  edge_fits : (f : Frame) (k : Standing c f) (to : ℕ) → has_number (edges k.insn) to ≡ true → Fits IsShapeBelow k.method.code k.at.frames (tags_after k.insn (the_row f k) k.tags) to
+  pub edge_fits : (f : Frame) (k : Standing c f) (to : ℕ) → has_number (edges k.insn) to ≡ true → Fits IsShapeBelow k.method.code k.at.frames (tags_after k.insn (the_row f k) k.tags) to
   edge_fits f k to edge = picked (Fits IsShapeBelow k.method.code k.at.frames (tags_after k.insn (the_row f k) k.tags)) to (edges k.insn) (sound_at c is f k).edges_fit edge
 
   -- the frame shows what it did, with another choice of values

@@ -5,3 +5,4 @@ pub mod EffectsOfInsns
 pub mod ShownFrames
 pub mod FrameMoves
 pub mod MoveProofs
+pub mod MonitorMoves

@@ -1,0 +1,5 @@
+use Rattle.shown_laws.proofs.MonitorMoves.{leaves_law}
+use Rattle.shown_laws.proofs.move_laws.leaves_show.Goals as goal
+
+pub returns : goal.returns
+returns c = leaves_law
