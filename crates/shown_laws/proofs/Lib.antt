@@ -6,3 +6,4 @@ pub mod ShownFrames
 pub mod FrameMoves
 pub mod MoveProofs
 pub mod MonitorMoves
+pub mod FrameCalls

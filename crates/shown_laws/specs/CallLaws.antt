@@ -1,5 +1,5 @@
 -- What the frames of a thread show when a method is called and when it returns, in a marked program (JVMS 2.6).
-use Rattle.std.specs.Prelude.{◌≡◌, ℕ, true, List, [], ◌∷◌, ◌++◌, Some, slice_get}
+use Rattle.std.specs.Prelude.{◌≡◌, ℕ, Bool, true, List, [], ◌∷◌, ◌++◌, length, Some, slice_get}
 use Rattle.jvm_types.specs.Members.{is_static, is_synchronized}
 use Rattle.jvm_types.specs.Verifying.{is_return}
 use Rattle.jvm_types.specs.declared.code.Op.{Op}
@@ -13,7 +13,6 @@ use Rattle.machine_types.specs.Shown.{Show, own_entry}
 use Rattle.machine_types.specs.Standing.{Standing, Operands, Whole}
 use Rattle.machine_types.specs.Structure.{TopEnters, TopLeaves}
 use Rattle.machine_types.specs.Threads.{Frame}
-use Rattle.machine_types.specs.Typed.{Classes, FramesHold}
 
 -- ---- calls
 
@@ -57,7 +56,11 @@ abbrev pub ReturnsShow : Type 0
 ReturnsShow = (c : MarkedProgram) (fs : List Frame) (shown : List ℕ) (at : Top) → IsMarked c → top_of c.program fs ≡ Some at → Show c Whole fs shown
     → effect_at c.program at ≡ Returns → IsLeft c at is_return Whole (returned c.program at) shown
 
--- so it does behind the release of a lock, where types say that a value is there
+-- the stack of a frame has as many values as the types there; it has where types hold
+abbrev pub HasHeight : (c : MarkedProgram) → Frame → Type 0
+HasHeight c f = (k : Standing c f) → length f.stack ≡ length k.types.stack
+
+-- so a return does behind the release of a lock
 abbrev pub ReturnsBehindRelease : Type 0
-ReturnsBehindRelease = (c : MarkedProgram) (is : Classes) (fs : List Frame) (shown : List ℕ) (at : Top) (m : ℕ) → IsMarked c → top_of c.program fs ≡ Some at → Show c Whole fs shown
-    → FramesHold c is fs → TopLeaves c m is_return fs → (rest : List ℕ) × (shown ≡ m ∷ rest) × Show c Whole (returned c.program at) rest
+ReturnsBehindRelease = (c : MarkedProgram) (fs : List Frame) (shown : List ℕ) (at : Top) (m : ℕ) → IsMarked c → top_of c.program fs ≡ Some at → Show c Whole fs shown
+    → HasHeight c at.frame → TopLeaves c m is_return fs → (rest : List ℕ) × (shown ≡ m ∷ rest) × Show c Whole (returned c.program at) rest
