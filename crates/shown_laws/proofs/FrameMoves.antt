@@ -43,7 +43,7 @@ picked P to (x ∷ tos) h e = by_test (x == to) refl e (λ e. picked P to tos h.
     by_test true t e more = let same : x ≡ to = grind (arith, nat_tests, t) in subst P same h.0
     by_test false t e more = more e
 
-plain_after : (pc : ℕ) (r : OpRow) (op : Op) (ts : List Tag) (f : TagShape) → is_lock_op op ≡ false → is_dup op ≡ false → tags_by_op pc r op ts f ≡ moved_tags r f
+pub plain_after : (pc : ℕ) (r : OpRow) (op : Op) (ts : List Tag) (f : TagShape) → is_lock_op op ≡ false → is_dup op ≡ false → tags_by_op pc r op ts f ≡ moved_tags r f
 plain_after pc r ops.Dup ts f e d = absurd (cc)
 plain_after pc r ops.Monitorenter ts f e d = absurd (cc)
 plain_after pc r ops.Monitorexit ts f e d = absurd (cc)

@@ -7,3 +7,5 @@ pub mod FrameMoves
 pub mod MoveProofs
 pub mod MonitorMoves
 pub mod FrameCalls
+pub mod FrameReturns
+pub mod FrameThrows
