@@ -1,5 +1,5 @@
 -- Which instructions have an effect: where it goes on in its frame, what it takes from the stack, and whether it can throw.
-use Rattle.std.proofs.Common.{◌≡◌, ℕ, ℤ, zero, suc, Bool, true, false, cond, not, List, [], ◌∷◌, ◌++◌, map, length, Option, Some, None, refl, sym, ap, ◌∙◌, subst, arith, append-nil}
+use Rattle.std.proofs.Common.{◌≡◌, ℕ, ℤ, zero, suc, Bool, true, false, cond, not, List, [], ◌∷◌, ◌++◌, map, length, Option, Some, None, refl, sym, ◌∙◌, subst, arith, append-nil}
 use Rattle.std.specs.Prelude.{pos, ◌==◌, ◌||◌, nat_lt, int_lt, slice_get, slice_index, unsigned_abs, ◌-ℤ◌}
 use Rattle.std.specs.Option.{unwrap_or}
 use Rattle.std.proofs.lemmas.Bool.Decides.{nat_tests}
@@ -14,7 +14,6 @@ use Rattle.jvm_types.specs.declared.code.Case.{Case}
 use Rattle.jvm_types.specs.declared.code.Insn.{Insn}
 use Rattle.jvm_types.specs.declared.code.Op.{Op}
 use Rattle.jvm_types.specs.declared.code.Op.TheVariants as ops
-use Rattle.jvm_types.specs.declared.op_row.Given.{Given}
 use Rattle.jvm_types.specs.declared.op_row.Given.TheVariants.{Fresh}
 use Rattle.jvm_types.specs.declared.outcome.Thrown.TheVariants as thrown
 use Rattle.jvm_types.specs.declared.program.FieldInfo.{FieldInfo}
@@ -26,7 +25,7 @@ use Rattle.jvm_types.specs.declared.typing.VType.{VType}
 use Rattle.jvm_types.specs.declared.typing.VType.TheVariants as types
 use Rattle.program_laws.specs.TargetLaws.{HasRow}
 use Rattle.checked_program.specs.Marks.{called_method}
-use Rattle.machine_types.specs.Effects.{effect, named, kept, unless_null, unless_zero, at_local, branch, table_target, case_target, gets_static, puts_static, gets, puts, calls_instance, calls_static, calls_on, makes_array, variable_of}
+use Rattle.machine_types.specs.Effects.{effect, named, kept, unless_null, unless_zero, at_local, table_target, case_target, gets_static, puts_static, gets, puts, calls_instance, calls_static, calls_on, makes_array, variable_of}
 use Rattle.machine_types.specs.declared.effect.Effect.{Effect}
 use Rattle.machine_types.specs.declared.effect.Effect.TheVariants.{Goes, Throws, Reads, Writes, Indexes, Measures, Raises, Makes, Prints, Calls, Returns, Enters, Leaves, Waits, Notifies, NotifiesAll, Stuck}
 use Rattle.machine_types.specs.Ints.{low, word_of, int_of, added, divided, remaining, compares}
@@ -174,9 +173,6 @@ module _ (p : Program) (m : MethodInfo) (pc next : ℕ) where
 
   abbrev Row : Op → Target → Type 0
   Row op target = HasRow p (site_in m) pc target op (row p m pc target op)
-
-  moves : (op : Op) → is_lock_op op ≡ false → (to : ℕ) → has_number (edges (at op)) to ≡ true → IsMove (at op) to
-  moves op e to h = (e, h)
 
   -- ---- what a constant names
 

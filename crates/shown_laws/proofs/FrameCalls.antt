@@ -1,8 +1,8 @@
 -- A call: the caller waits, and the called method begins.
-use Rattle.std.proofs.Common.{◌≡◌, ℕ, zero, suc, ◌+◌, ◌-◌, ◌≤◌, Bool, true, false, cond, ◌&&◌, List, [], ◌∷◌, ◌++◌, map, drop, take, reverse, length, replicate, Option, Some, None, inl, refl, sym, ap, ◌∙◌, subst, arith}
+use Rattle.std.proofs.Common.{◌≡◌, ℕ, zero, suc, ◌-◌, ◌≤◌, Bool, true, false, cond, ◌&&◌, List, [], ◌∷◌, ◌++◌, drop, take, reverse, length, replicate, Some, inl, refl, sym, ap, ◌∙◌, subst, arith}
 use Rattle.std.specs.Prelude.{slice_get}
 use Rattle.std.proofs.lemmas.List.{length-append, length-replicate}
-use Rattle.jvm_types.specs.CodeTable.{row, result_of, arguments, can_throw}
+use Rattle.jvm_types.specs.CodeTable.{arguments}
 use Rattle.jvm_types.specs.Members.{Site, is_static, is_synchronized}
 use Rattle.jvm_types.specs.ProgramInvariant.{site_in}
 use Rattle.jvm_types.specs.declared.code.Op.{Op}
@@ -16,16 +16,14 @@ use Rattle.jvm_types.specs.declared.program.Target.TheVariants as targets
 use Rattle.lists.proofs.ListLaws.{same_some}
 use Rattle.lists.proofs.StackLaws.{reverse_cons}
 use Rattle.program_laws.specs.TargetLaws.{HasRow}
-use Rattle.checked_program.specs.LockTags.{TagShape, IsShapeBelow, entry_tags}
+use Rattle.checked_program.specs.LockTags.{entry_tags}
 use Rattle.checked_program.specs.MarkedProgram.{MarkedProgram, IsMarked}
 use Rattle.checked_program.specs.Marks.{called_method}
-use Rattle.checked_program.specs.declared.tag.Tag.{Tag}
-use Rattle.checked_program.specs.declared.tag.Tag.TheVariants.{Untagged, This, At}
-use Rattle.machine_types.specs.Frames.{Top, top_of, effect_at, waiting, entry_frame, arguments_of, first_or_null, monitor_of}
+use Rattle.checked_program.specs.declared.tag.Tag.TheVariants.{Untagged, This}
+use Rattle.machine_types.specs.Frames.{Top, effect_at, waiting, entry_frame, arguments_of, first_or_null, monitor_of}
 use Rattle.machine_types.specs.Onward.{root_arguments}
 use Rattle.machine_types.specs.Shown.{HaveValues, Shows, ShowsAtCall, ShowBelow, Show, own_entry}
-use Rattle.machine_types.specs.Standing.{Standing, Whole, Taken, row_at}
-use Rattle.machine_types.specs.Structure.{TopEnters}
+use Rattle.machine_types.specs.Standing.{Standing, Whole, row_at}
 use Rattle.machine_types.specs.Threads.{Frame}
 use Rattle.machine_types.specs.declared.effect.Effect.TheVariants.{Calls}
 use Rattle.shown_laws.specs.CallLaws.{callee_frame, CalledStand, CallsShow, CallsEnter, RootsShow}

@@ -1,34 +1,30 @@
 -- Moves of the top frame within its method.
-use Rattle.std.proofs.Common.{◌≡◌, ℕ, zero, suc, Bool, true, false, cond, not, ◌&&◌, ◌||◌, List, [], ◌∷◌, ◌++◌, map, drop, length, Option, Some, None, refl, sym, ap, ◌∙◌, subst, arith}
-use Rattle.std.specs.Prelude.{◌==◌, slice_get}
+use Rattle.std.proofs.Common.{◌≡◌, ℕ, Bool, true, false, ◌||◌, List, [], ◌∷◌, ◌++◌, map, drop, length, Option, None, refl, sym, ap, ◌∙◌, subst, arith}
+use Rattle.std.specs.Prelude.{◌==◌}
 use Rattle.std.specs.List.{AllByRecursion}
 use Rattle.std.proofs.lemmas.Bool.Decides.{nat_tests}
 use Rattle.jvm_types.specs.CodeTable.{row, value_of, stack_after, locals_after, any_values}
 use Rattle.jvm_types.specs.Numbers.{has_number}
 use Rattle.jvm_types.specs.Verifying.{edges}
-use Rattle.jvm_types.specs.declared.code.Insn.{Insn}
 use Rattle.jvm_types.specs.declared.code.Op.{Op}
 use Rattle.jvm_types.specs.declared.code.Op.TheVariants as ops
 use Rattle.jvm_types.specs.declared.op_row.Given.{Given}
-use Rattle.jvm_types.specs.declared.op_row.Given.TheVariants.{Fresh, Taken}
+use Rattle.jvm_types.specs.declared.op_row.Given.TheVariants.{Taken}
 use Rattle.jvm_types.specs.declared.op_row.OpRow.{OpRow}
-use Rattle.jvm_types.specs.declared.program.MethodInfo.{MethodInfo}
-use Rattle.lists.proofs.TestLaws.{is_true}
-use Rattle.tag_laws.proofs.TagOrder.{one_tag}
-use Rattle.checked_program.specs.LockTags.{TagShape, same_tag, without, AreTagsBelow, IsShapeBelow}
+use Rattle.checked_program.specs.LockTags.{TagShape, without, IsShapeBelow}
 use Rattle.checked_program.specs.MarkedProgram.{MarkedProgram, IsMarked}
 use Rattle.checked_program.specs.TaggedCode.{row_of}
-use Rattle.checked_program.specs.Tagging.{IsSound, moved_tags, tags_by_op, tags_after, enters_untagged, exits_other}
+use Rattle.checked_program.specs.Tagging.{moved_tags, tags_by_op, tags_after}
 use Rattle.checked_program.specs.Visits.{Fits}
 use Rattle.checked_program.specs.declared.tag.Tag.{Tag}
 use Rattle.checked_program.specs.declared.tag.Tag.TheVariants.{Untagged, This, At}
 use Rattle.machine_types.specs.Frames.{frame_on}
-use Rattle.machine_types.specs.Shown.{tag_value, HaveValues, entries_of, own_entry, Shows}
+use Rattle.machine_types.specs.Shown.{tag_value, HaveValues, own_entry, Shows}
 use Rattle.machine_types.specs.Standing.{Standing, Whole, Lacking}
 use Rattle.machine_types.specs.Threads.{Frame}
 use Rattle.shown_laws.specs.MoveLaws.{is_lock_op}
 use Rattle.shown_laws.proofs.EffectsOfInsns.{is_dup, IsMaking}
-use Rattle.shown_laws.proofs.FramePlaces.{of_standing, sound_at, Lands}
+use Rattle.shown_laws.proofs.FramePlaces.{of_standing, sound_at}
 use Rattle.shown_laws.proofs.MarkedMethods.{free_at}
 use Rattle.shown_laws.proofs.ShownFrames.{landed, whole_landed, shows_landed}
 use Rattle.shown_laws.proofs.TagValues.{weaker, dropped, row_stack, row_locals, chosen, rechosen, values_kept, chosen_there}
@@ -86,12 +82,6 @@ module _ (c : MarkedProgram) (is : IsMarked c) where
   doubled f own top to made dup edge =
       by_tags top.stands.tags.stack refl (subst (λ (op : Op). Fits IsShapeBelow top.stands.method.code top.stands.at.frames (tags_by_op top.stands.insn.pc (the_row f top.stands) op top.stands.tags.stack top.stands.tags) to) dup (edge_fits f top.stands to edge)) top.stack
     where
-      pc : ℕ
-      pc = top.stands.insn.pc
-
-      r : OpRow
-      r = the_row f top.stands
-
       row_is : dup_row ≡ the_row f top.stands
       row_is = sym (ap (λ (op : Op). row c.program top.stands.method top.stands.insn.pc top.stands.target op) dup)
 

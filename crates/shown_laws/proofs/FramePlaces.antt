@@ -1,27 +1,23 @@
 -- Where frames stand: the instruction of a pc is one, and an edge leads to one.
-use Rattle.std.proofs.Common.{◌≡◌, ℕ, zero, suc, Bool, true, false, cond, List, [], ◌∷◌, map, Option, Some, None, refl, sym, ap, ◌∙◌, subst, arith}
+use Rattle.std.proofs.Common.{◌≡◌, ℕ, zero, suc, true, false, cond, List, [], ◌∷◌, Option, Some, None, refl, sym, ap, ◌∙◌, subst, arith}
 use Rattle.std.specs.Prelude.{◌==◌, slice_get, IsSomeAnd}
 use Rattle.std.proofs.lemmas.Bool.{or_parts}
 use Rattle.std.proofs.lemmas.Bool.Decides.{nat_tests}
 use Rattle.jvm_types.specs.CodeGrammar.{is_start}
-use Rattle.jvm_types.specs.Types.{TypeFrame}
 use Rattle.jvm_types.specs.Verifying.{IsLaidOut}
 use Rattle.jvm_types.specs.declared.code.Insn.{Insn}
 use Rattle.jvm_types.specs.declared.program.MethodInfo.{MethodInfo}
-use Rattle.jvm_types.specs.declared.program.Program.{Program}
-use Rattle.jvm_types.specs.declared.program.Target.{Target}
 use Rattle.lists.proofs.ListLaws.{same_some}
 use Rattle.program_laws.proofs.CodeOrder.{one_number, have_targets}
 use Rattle.typing_laws.proofs.LeastFrames.{AreDistinct, distinct}
 use Rattle.checked_program.specs.LockTags.{TagShape, IsShapeBelow}
 use Rattle.checked_program.specs.MarkedProgram.{MarkedProgram, IsMarked}
-use Rattle.checked_program.specs.TaggedCode.{IsAt, row_of}
+use Rattle.checked_program.specs.TaggedCode.{row_of}
 use Rattle.checked_program.specs.Tagging.{IsSound}
 use Rattle.checked_program.specs.Visits.{frame_at, Fits}
 use Rattle.tag_laws.proofs.TagReach.{tagged_typed}
-use Rattle.machine_types.specs.Frames.{Top, at_pc, top_at, top_in, top_of, frames_of}
-use Rattle.machine_types.specs.Shown.{Show}
-use Rattle.machine_types.specs.Standing.{Standing, Operands, tags_of}
+use Rattle.machine_types.specs.Frames.{Top, at_pc, top_at, top_in, top_of}
+use Rattle.machine_types.specs.Standing.{Standing, tags_of}
 use Rattle.machine_types.specs.Threads.{Frame}
 use Rattle.shown_laws.specs.StandingLaws.{IsSame, OneStanding, IsTop, TopsStand, FramesHaveTops}
 use Rattle.shown_laws.proofs.MarkedMethods.{IsMethod, MethodAt, method_at, method_with, found_at}

@@ -1,14 +1,15 @@
 -- The end of a frame: by a return, or by an exception that it does not catch.
-use Rattle.std.proofs.Common.{◌≡◌, ℕ, zero, suc, ◌+◌, Bool, true, false, cond, not, ◌&&◌, ◌||◌, List, [], ◌∷◌, ◌++◌, map, drop, length, Option, Some, None, refl, sym, ap, ◌∙◌, subst, arith}
+use Rattle.std.proofs.Common.{◌≡◌, ℕ, suc, Bool, true, false, cond, List, [], ◌∷◌, ◌++◌, map, drop, length, Option, Some, None, refl, sym, ap, ◌∙◌, subst, arith}
 use Rattle.std.specs.Prelude.{slice_get}
-use Rattle.std.specs.List.{AllZip, list_any}
+use Rattle.std.specs.List.{AllZip}
 use Rattle.std.specs.Option.{option_map, option_to_list}
 use Rattle.lists.proofs.ListLaws.{same_some}
 use Rattle.lists.proofs.TestLaws.{first_true}
-use Rattle.jvm_types.specs.CodeTable.{row, result_of, type_of, value_of, stack_after, locals_after, can_throw, virtual_row, special_row, static_row}
+use Rattle.jvm_types.specs.CodeTable.{row, result_of, type_of, value_of, locals_after, can_throw, virtual_row, special_row, static_row}
 use Rattle.jvm_types.specs.Members.{is_synchronized}
 use Rattle.jvm_types.specs.Numbers.{has_number}
-use Rattle.jvm_types.specs.Verifying.{edges, is_return, covering, broken_after}
+use Rattle.jvm_types.specs.Types.{TypeFrame}
+use Rattle.jvm_types.specs.Verifying.{edges, is_return}
 use Rattle.jvm_types.specs.declared.code.Insn.{Insn}
 use Rattle.jvm_types.specs.declared.code.Op.{Op}
 use Rattle.jvm_types.specs.declared.code.Op.TheVariants as ops
@@ -26,14 +27,13 @@ use Rattle.typing_laws.proofs.RuleUses.{returns_suit_all}
 use Rattle.checked_program.specs.LockTags.{TagShape, IsShapeBelow}
 use Rattle.checked_program.specs.MarkedProgram.{MarkedProgram, IsMarked}
 use Rattle.checked_program.specs.Marks.{called_method}
-use Rattle.checked_program.specs.TaggedCode.{row_of}
-use Rattle.checked_program.specs.Tagging.{moved_tags, tags_by_op, leaves_held, may_leave, catches_all}
+use Rattle.checked_program.specs.Tagging.{moved_tags, leaves_held, may_leave}
 use Rattle.checked_program.specs.Visits.{Fits}
 use Rattle.checked_program.specs.declared.tag.Tag.{Tag}
-use Rattle.checked_program.specs.declared.tag.Tag.TheVariants.{Untagged, This, At}
-use Rattle.machine_types.specs.Frames.{Top, top_of, effect_at, frames_of, given, given_back, returned, monitor_of}
+use Rattle.checked_program.specs.declared.tag.Tag.TheVariants.{Untagged}
+use Rattle.machine_types.specs.Frames.{Top, effect_at, given, given_back, returned, monitor_of}
 use Rattle.machine_types.specs.Shown.{tag_value, HaveValues, Shows, ShowsAtCall, ShowBelow, Show, own_entry}
-use Rattle.machine_types.specs.Standing.{Standing, Operands, Whole, Thrown, row_at}
+use Rattle.machine_types.specs.Standing.{Standing, Operands, Whole, row_at}
 use Rattle.machine_types.specs.Structure.{IsLeaving, TopLeaves}
 use Rattle.machine_types.specs.Threads.{Frame}
 use Rattle.machine_types.specs.Typed.{Classes, Holds, FrameHolds}
@@ -217,7 +217,7 @@ module _ (c : MarkedProgram) (is : IsMarked c) where
 pub has_height : (c : MarkedProgram) (marked : IsMarked c) (is : Classes) (f : Frame) → FrameHolds c is 0 f → HasHeight c f
 has_height c marked is f h k =
     let same = one_standing c marked f h.stands k in
-    sym (zip_length (Holds h.stands.method is) h.stands.types.stack f.stack h.stack) ∙ ap (λ (t : Rattle.jvm_types.specs.Types.TypeFrame). length t.stack) same.types
+    sym (zip_length (Holds h.stands.method is) h.stands.types.stack f.stack h.stack) ∙ ap (λ (t : TypeFrame). length t.stack) same.types
   where
     zip_length : {A B : Type 0} (P : A → B → Type 0) (xs : List A) (ys : List B) → AllZip P xs ys → length xs ≡ length ys
     zip_length P [] [] h = refl

@@ -1,24 +1,23 @@
 -- Exceptions: to a handler, or out of a frame.
-use Rattle.std.proofs.Common.{◌≡◌, ℕ, Bool, true, false, cond, not, ◌&&◌, ◌||◌, List, [], ◌∷◌, ◌++◌, drop, Option, Some, None, refl, sym, ap, ◌∙◌, subst}
+use Rattle.std.proofs.Common.{◌≡◌, ℕ, Bool, true, false, cond, not, ◌&&◌, ◌||◌, List, [], ◌∷◌, ◌++◌, Some, None, refl, sym, ap, ◌∙◌, subst}
 use Rattle.std.specs.Prelude.{◌==◌}
 use Rattle.std.specs.List.{AllByRecursion, list_any, filter}
 use Rattle.jvm_types.specs.ClassTree.{is_subclass}
 use Rattle.jvm_types.specs.CodeTable.{can_throw}
 use Rattle.jvm_types.specs.Verifying.{is_return, covers, covering}
 use Rattle.jvm_types.specs.declared.code.Insn.{Insn}
-use Rattle.jvm_types.specs.declared.code.Op.{Op}
 use Rattle.jvm_types.specs.declared.program.MethodInfo.{MethodInfo}
 use Rattle.jvm_types.specs.declared.program.Program.{Program}
 use Rattle.jvm_types.specs.declared.program.Row.{Row}
 use Rattle.jvm_types.specs.declared.program.Target.{Target}
 use Rattle.checked_program.specs.LockTags.{IsShapeBelow}
 use Rattle.checked_program.specs.MarkedProgram.{MarkedProgram, IsMarked}
-use Rattle.checked_program.specs.Tagging.{catches_all, until_all, tags_at_handler, may_leave}
+use Rattle.checked_program.specs.Tagging.{catches_all, until_all, tags_at_handler}
 use Rattle.checked_program.specs.Visits.{Fits}
-use Rattle.machine_types.specs.Frames.{Top, top_of, effect_at, frames_of, handler_of, handler_at, caught}
+use Rattle.machine_types.specs.Frames.{Top, effect_at, frames_of, handler_of, handler_at, caught}
 use Rattle.machine_types.specs.Shown.{Shows, ShowsAtCall, ShowBelow, Show}
 use Rattle.machine_types.specs.Standing.{Standing, Whole, Thrown}
-use Rattle.machine_types.specs.Structure.{TopIs, TopLeaves, any_op}
+use Rattle.machine_types.specs.Structure.{TopIs, any_op}
 use Rattle.machine_types.specs.Threads.{Frame}
 use Rattle.machine_types.specs.declared.effect.Effect.{Effect}
 use Rattle.machine_types.specs.declared.effect.Effect.TheVariants.{Throws, Raises, Indexes, Makes, Calls, Waits, Notifies, NotifiesAll}
@@ -60,12 +59,6 @@ among : (P : Row → Type 0) (pc class : ℕ) (rows : List Row) (r : Row) → ha
 among P pc class [] r e h = absurd (cc)
 among P pc class (x ∷ rows) r e h = by_cover (covers pc x) e h (among P pc class rows r)
   where
-    rest : Option Row
-    rest = handler_of pc class rows
-
-    later : List Row
-    later = filter (covers pc) rows
-
     by_catch : (b d : Bool) → cond (b || d) (Some x) (handler_of pc class rows) ≡ Some r → AllByRecursion P (cond b (x ∷ []) (x ∷ until_all (filter (covers pc) rows)))
         → (handler_of pc class rows ≡ Some r → AllByRecursion P (until_all (filter (covers pc) rows)) → P r) → P r
     by_catch true d e h more = let same : x ≡ r = cc in subst P same h.0

@@ -1,27 +1,21 @@
 -- What a method of a marked program has: its types and its tags, under their local laws.
-use Rattle.std.proofs.Common.{◌≡◌, ℕ, zero, suc, Bool, true, false, cond, not, ◌&&◌, ◌||◌, List, [], ◌∷◌, map, Option, Some, None, refl, sym, ap, ◌∙◌, subst, arith}
-use Rattle.std.specs.Prelude.{◌==◌, slice_get, IsSomeAnd}
+use Rattle.std.proofs.Common.{◌≡◌, ℕ, zero, suc, Bool, true, false, cond, List, [], ◌∷◌, map, Option, Some, None, refl, sym, ap, ◌∙◌, subst, arith}
+use Rattle.std.specs.Prelude.{◌==◌, slice_get}
 use Rattle.std.specs.List.{AllByRecursion}
 use Rattle.std.proofs.lemmas.Bool.{or_parts}
 use Rattle.std.proofs.lemmas.Bool.Decides.{nat_tests}
-use Rattle.jvm_types.specs.CodeGrammar.{is_start}
-use Rattle.jvm_types.specs.CodeTable.{row}
 use Rattle.jvm_types.specs.Types.{TypeFrame}
 use Rattle.jvm_types.specs.Verifying as types
 use Rattle.jvm_types.specs.Verifying.{IsLaidOut, HasTyping}
 use Rattle.jvm_types.specs.declared.code.Insn.{Insn}
 use Rattle.jvm_types.specs.declared.program.MethodInfo.{MethodInfo}
 use Rattle.jvm_types.specs.declared.program.Program.{Program}
-use Rattle.jvm_types.specs.declared.program.Target.{Target}
 use Rattle.jvm_types.specs.declared.typing.Typing.{Typing}
 use Rattle.lists.proofs.ListLaws.{same_some}
-use Rattle.program_laws.proofs.CodeOrder.{one_number, have_targets}
-use Rattle.typing_laws.proofs.LeastFrames.{AreDistinct, distinct}
-use Rattle.checked_program.specs.LockTags.{TagShape, same_tag, IsShapeBelow}
+use Rattle.checked_program.specs.LockTags.{TagShape, same_tag}
 use Rattle.checked_program.specs.MarkedProgram.{MarkedProgram, IsMarked, AreTaggings, checked_part}
-use Rattle.checked_program.specs.TaggedCode.{IsAt, row_of, tagged_by}
-use Rattle.checked_program.specs.Tagging.{HasTagging, IsTaggingOf, IsTagAssignment, IsSound}
-use Rattle.checked_program.specs.Visits.{frame_at, Fits}
+use Rattle.checked_program.specs.Tagging.{HasTagging, IsTaggingOf, IsTagAssignment}
+use Rattle.checked_program.specs.Visits.{frame_at}
 use Rattle.checked_program.specs.declared.tag.Tag.{Tag}
 use Rattle.checked_program.specs.declared.tag.Tag.TheVariants.{Untagged, This, At}
 use Rattle.checked_program.specs.declared.tag.Tags.{Tags}
@@ -29,9 +23,8 @@ use Rattle.checked_program.proofs.CheckedPlaces.{checked_sound}
 use Rattle.tag_laws.specs.ReachLaws.{is_held}
 use Rattle.tag_laws.proofs.TagFree.{own_tag_free}
 use Rattle.tag_laws.proofs.TagLocal.{tag_local_law}
-use Rattle.tag_laws.proofs.TagReach.{tagged_typed}
 use Rattle.machine_types.specs.Shown.{IsMade, AreMade, held_tags}
-use Rattle.machine_types.specs.Standing.{Standing, tags_of}
+use Rattle.machine_types.specs.Standing.{tags_of}
 
 -- ---- a method
 
@@ -83,11 +76,6 @@ module _ (c : MarkedProgram) (is : IsMarked c) where
       (subst (λ (x : List (Option TypeFrame)). IsMethod c.program m a.tags x) (same_some (sym a.its_types ∙ f)) a.holds)
 
 -- ---- instructions by their pcs
-
-not_first : (insns : List Insn) (i : ℕ) (x : Insn) (pc : ℕ) → is_start insns pc ≡ false → slice_get insns i ≡ Some x → (pc == x.pc) ≡ false
-not_first [] i x pc n e = absurd (cc)
-not_first (y ∷ insns) zero x pc n e = let same : y ≡ x = same_some e in let no : (x.pc == pc) ≡ false = subst (λ (z : Insn). (z.pc == pc) ≡ false) same (or_parts (y.pc == pc) (is_start insns pc) n).0 in grind (arith, nat_tests, no)
-not_first (y ∷ insns) (suc i) x pc n e = not_first insns i x pc (or_parts (y.pc == pc) (is_start insns pc) n).1 e
 
 -- the instruction of a frame at a pc
 pub found_at : {A : Type 0} (code : List Insn) (frames : List (Option A)) (pc : ℕ) (f : A) → frame_at code frames pc ≡ Some f

@@ -1,26 +1,25 @@
 -- A `monitorenter` shows its monitor innermost, and a `monitorexit` leaves the innermost one.
-use Rattle.std.proofs.Common.{◌≡◌, ℕ, zero, suc, Bool, true, false, not, List, [], ◌∷◌, ◌++◌, map, drop, length, Option, Some, None, inr, refl, sym, ap, ◌∙◌, subst, arith}
+use Rattle.std.proofs.Common.{◌≡◌, ℕ, zero, suc, true, false, List, [], ◌∷◌, ◌++◌, map, drop, Some, inr, refl, sym, ap, ◌∙◌, subst, arith}
 use Rattle.std.specs.Prelude.{◌≢◌, slice_get}
 use Rattle.std.specs.List.{Contains}
-use Rattle.jvm_types.specs.CodeTable.{row, stack_after, locals_after}
+use Rattle.jvm_types.specs.CodeTable.{stack_after, locals_after}
 use Rattle.jvm_types.specs.Numbers.{has_number}
 use Rattle.jvm_types.specs.Verifying.{edges}
-use Rattle.jvm_types.specs.declared.code.Insn.{Insn}
 use Rattle.jvm_types.specs.declared.code.Op.{Op}
 use Rattle.jvm_types.specs.declared.code.Op.TheVariants as ops
 use Rattle.jvm_types.specs.declared.op_row.OpRow.{OpRow}
 use Rattle.jvm_types.specs.declared.program.MethodInfo.{MethodInfo}
 use Rattle.lists.proofs.ListLaws.{same_some}
 use Rattle.lists.proofs.TestLaws.{is_true}
-use Rattle.checked_program.specs.LockTags.{TagShape, same_tag, AreTagsBelow, IsShapeBelow}
+use Rattle.checked_program.specs.LockTags.{TagShape, same_tag, IsShapeBelow}
 use Rattle.checked_program.specs.MarkedProgram.{MarkedProgram, IsMarked}
-use Rattle.checked_program.specs.Tagging.{IsSound, moved_tags, tags_by_op, tags_after, enters_untagged, exits_other}
+use Rattle.checked_program.specs.Tagging.{moved_tags, tags_by_op, enters_untagged, exits_other}
 use Rattle.checked_program.specs.Visits.{Fits}
 use Rattle.checked_program.specs.declared.tag.Tag.{Tag}
 use Rattle.checked_program.specs.declared.tag.Tag.TheVariants.{Untagged, This, At}
 use Rattle.tag_laws.proofs.TagOrder.{one_tag}
 use Rattle.machine_types.specs.Frames.{Top, effect_at, frame_on, went_on}
-use Rattle.machine_types.specs.Shown.{tag_value, HaveValues, entries_of, own_entry, Shows, Show}
+use Rattle.machine_types.specs.Shown.{tag_value, HaveValues, own_entry, Shows, Show}
 use Rattle.machine_types.specs.Standing.{Standing, Whole}
 use Rattle.machine_types.specs.Structure.{IsBehindEntry, TopEnters}
 use Rattle.machine_types.specs.Threads.{Frame}
@@ -29,7 +28,7 @@ use Rattle.shown_laws.specs.MoveLaws.{EntersShow, LeavesShow}
 use Rattle.shown_laws.proofs.EffectsOfInsns.{IsOnTop, next_edge}
 use Rattle.shown_laws.proofs.EffectsOfInsns as effects
 use Rattle.shown_laws.proofs.FrameMoves.{the_row, edge_fits}
-use Rattle.shown_laws.proofs.FramePlaces.{sound_at, Lands, top_by}
+use Rattle.shown_laws.proofs.FramePlaces.{sound_at, Lands}
 use Rattle.shown_laws.proofs.ShownFrames.{landed, whole_landed, by_top, fits_at}
 use Rattle.shown_laws.proofs.TagValues.{row_stack, row_locals}
 

@@ -1,5 +1,5 @@
 -- The laws of moves.
-use Rattle.std.proofs.Common.{◌≡◌, ℕ, Bool, true, false, List, [], ◌∷◌, ◌++◌, Option, Some, None, refl, sym, ap, ◌∙◌, subst}
+use Rattle.std.proofs.Common.{◌≡◌, ℕ, true, false, List, [], ◌∷◌, Option, Some, None, refl, subst}
 use Rattle.jvm_types.specs.Numbers.{has_number}
 use Rattle.jvm_types.specs.Verifying.{edges}
 use Rattle.jvm_types.specs.declared.code.Insn.{Insn}
@@ -9,16 +9,15 @@ use Rattle.jvm_types.specs.declared.program.MethodInfo.{MethodInfo}
 use Rattle.jvm_types.specs.declared.program.Program.{Program}
 use Rattle.jvm_types.specs.declared.program.Target.{Target}
 use Rattle.lists.proofs.ListLaws.{same_some}
-use Rattle.checked_program.specs.MarkedProgram.{MarkedProgram, IsMarked}
 use Rattle.machine_types.specs.declared.effect.Effect.{Effect}
 use Rattle.machine_types.specs.declared.effect.Effect.TheVariants.{Goes, Reads, Writes, Indexes, Measures, Prints, Makes, Waits, Notifies, NotifiesAll}
-use Rattle.machine_types.specs.Frames.{Top, top_of, effect_at, went, went_on, making, pushed}
+use Rattle.machine_types.specs.Frames.{Top, effect_at, went, went_on, making}
 use Rattle.machine_types.specs.Shown.{Show}
-use Rattle.machine_types.specs.Standing.{Standing, Whole, Lacking}
+use Rattle.machine_types.specs.Standing.{Whole, Lacking}
 use Rattle.machine_types.specs.Structure.{TopIs, is_element_op}
 use Rattle.machine_types.specs.Threads.{Frame}
 use Rattle.shown_laws.specs.MoveLaws.{is_lock_op, MovesShow, goes_to, EffectsFollowEdges, EffectsShow, ElementsShow, MakingShows, PushedShows}
-use Rattle.shown_laws.proofs.EffectsOfInsns.{IsMove, IsMaking, Fits, next_edge}
+use Rattle.shown_laws.proofs.EffectsOfInsns.{IsMove, Fits, next_edge}
 use Rattle.shown_laws.proofs.FrameMoves.{moved, making_frame, pushed_frame}
 use Rattle.shown_laws.proofs.FramePlaces.{one_standing, top_by}
 use Rattle.shown_laws.proofs.ShownFrames.{by_top, fits_at}

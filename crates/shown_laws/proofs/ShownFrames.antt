@@ -1,29 +1,20 @@
 -- What a frame shows where an edge leads to, and the top frame of a thread as the laws have it.
-use Rattle.std.proofs.Common.{◌≡◌, ℕ, Bool, true, false, List, [], ◌∷◌, ◌++◌, map, Option, Some, None, refl, sym, ap, ◌∙◌, subst}
-use Rattle.std.specs.Prelude.{slice_get}
-use Rattle.jvm_types.specs.CodeTable.{row}
-use Rattle.jvm_types.specs.ProgramInvariant.{site_in}
-use Rattle.jvm_types.specs.Types.{TypeFrame}
-use Rattle.jvm_types.specs.declared.code.Insn.{Insn}
+use Rattle.std.proofs.Common.{◌≡◌, ℕ, List, [], ◌∷◌, ◌++◌, map, Option, Some, sym, ap, ◌∙◌, subst}
 use Rattle.jvm_types.specs.declared.program.MethodInfo.{MethodInfo}
 use Rattle.lists.proofs.ListLaws.{same_some}
-use Rattle.program_laws.specs.TargetLaws.{HasRow}
-use Rattle.typing_laws.specs.RuleLaws.{RulesHold}
-use Rattle.checked_program.specs.CheckedLaws.{Holds, IsPlace}
+use Rattle.checked_program.specs.CheckedLaws.{Holds}
 use Rattle.checked_program.specs.LockTags.{TagShape, AreTagsBelow, IsShapeBelow}
 use Rattle.checked_program.specs.MarkedProgram.{MarkedProgram, IsMarked, checked_part}
-use Rattle.checked_program.specs.TaggedCode.{row_of}
 use Rattle.checked_program.specs.Visits as visits
 use Rattle.checked_program.specs.declared.tag.Tag.{Tag}
 use Rattle.checked_program.proofs.CheckedPlaces.{checked_sound, places_hold_all}
-use Rattle.machine_types.specs.Effects.{effect}
-use Rattle.machine_types.specs.Frames.{Top, top_of, effect_at, frames_of}
+use Rattle.machine_types.specs.Frames.{Top, top_of, effect_at}
 use Rattle.machine_types.specs.Shown.{tag_value, HaveValues, StackShows, entries_of, Shows, ShowBelow, Show, own_entry}
-use Rattle.machine_types.specs.Standing.{Standing, Operands, Whole, tags_of}
+use Rattle.machine_types.specs.Standing.{Standing, Operands, Whole}
 use Rattle.machine_types.specs.Threads.{Frame}
 use Rattle.shown_laws.proofs.EffectsOfInsns.{Fits, effect_fits}
-use Rattle.shown_laws.proofs.FramePlaces.{of_standing, sound_at, Lands, lands, top_by, has_top}
-use Rattle.shown_laws.proofs.MarkedMethods.{IsMethod, MethodAt, method_at, are_made, got_mapped}
+use Rattle.shown_laws.proofs.FramePlaces.{of_standing, Lands, lands, top_by, has_top}
+use Rattle.shown_laws.proofs.MarkedMethods.{are_made, got_mapped}
 use Rattle.shown_laws.proofs.TagValues.{weaker}
 
 module _ (c : MarkedProgram) (is : IsMarked c) where
