@@ -1,3 +1,5 @@
+pub mod FewFields
+mod IndexLaws
 pub mod FilledTags
 pub mod TriedPrograms
 mod TagTries

@@ -10,5 +10,6 @@ pub mod SectionLaws
 pub mod ObjectLaws
 pub mod Reach
 pub mod CheckedProgram
+pub mod CodeIndex
 pub mod MarkedProgram
 pub mod CheckedLaws

@@ -1,30 +1,37 @@
-ghost use Rattle.std.specs.Prelude.{◌≡◌};
+ghost use Rattle.std.specs.Prelude.{◌≡◌, slice_get, IfOk};
+ghost use Rattle.checked_program.specs.CodeIndex.{number_in, words_of_object, AllAscend, FewInstances};
 ghost use Rattle.checked_program.specs.MarkedProgram.{IsMarked};
 
+use crate::code_index::{CodeIndex, count_words, search_in};
 use crate::section::SectionMark;
 use crate::tag::Tags;
 use jvm_types::{Program, Rows, Typing};
+use std::alloc::{AllocError, Global};
 use std::marker::Model;
 
 /// A linked program whose methods were verified and tagged, and whose sections were marked: a program
 /// beside the typing and the lock tags of each of its methods, in the order of the methods, and the mark of
-/// each of its sections, in the order of the sections.
+/// each of its sections, in the order of the sections. Once it is indexed, what a run asks for at each instruction is found
+/// in constant time; contracts don't see that.
 #[derive(Debug, Drop)]
 pub struct Checked {
     program: Program,
     typings: Rows<Typing>,
     tags: Rows<Tags>,
     marks: Rows<SectionMark>,
+    index: Option<CodeIndex>,
 }
 
 impl Model for Checked {
+    ghost use Rattle.std.specs.Prelude.{IfSome};
+    ghost use Rattle.checked_program.specs.CodeIndex.{IsCodeIndex};
     ghost use Rattle.checked_program.specs.MarkedProgram.{MarkedProgram, IsMarked};
 
     ghost Value = { MarkedProgram };
 
     ghost view = { λ c. record { program = c.program; typings = c.typings; tags = c.tags; marks = c.marks } };
 
-    ghost invariant = { λ c. IsMarked (record { program = c.program; typings = c.typings; tags = c.tags; marks = c.marks }) };
+    ghost invariant = { λ c. IsMarked (record { program = c.program; typings = c.typings; tags = c.tags; marks = c.marks }) × IfSome c.index (λ index. IsCodeIndex c.program.methods c.program.fields index.tables.items index.sizes.items) };
 }
 
 impl Checked {
@@ -43,6 +50,53 @@ impl Checked {
             typings,
             tags,
             marks,
+            index: None,
+        }
+    }
+
+    /// Tells that the pcs of each method ascend, and that no class has many fields.
+    fn indexable(&self)
+        ensures ascend { AllAscend self.now.program.methods }
+        ensures few { FewInstances self.now.program.fields }
+    {
+        let _ = &self.program;
+    }
+
+    /// The same program with tables of its instructions and its objects.
+    pub fn indexed(mut self, alloc: Global) -> Result<Checked, AllocError>
+        ensures { IfOk result (λ c. c ≡ self) }
+    {
+        self.indexable();
+        self.index = Some(CodeIndex::of(alloc, &self.program)?);
+        Ok(self)
+    }
+
+    /// The number of the instruction of a method that begins at a pc, where one does: in constant time once the program is
+    /// indexed, else by a search.
+    #[inline(always)]
+    pub fn number_at(&self, method: u32, pc: u32) -> Option<usize>
+        ensures { result ≡ number_in (slice_get self.now.program.methods method) pc }
+    {
+        match &self.index {
+            Some(index) if (method as usize) < index.tables.len() =>
+                index.tables[method as usize].find(pc),
+            _ => search_in(&self.program, method, pc),
+        }
+    }
+
+    /// How many words an object of a class takes: two, and one for each of its fields.
+    #[inline(always)]
+    pub fn object_size(&self, class: u16) -> u32
+        ensures { result ≡ words_of_object self.now.program.fields class }
+    {
+        self.indexable();
+        let known = match &self.index {
+            Some(index) => index.sizes.get(usize::from(class)),
+            None => None,
+        };
+        match known {
+            Some(words) => *words,
+            None => count_words(self.program.fields.as_slice(), class),
         }
     }
 

@@ -2,6 +2,7 @@
 #![tactic(auto)]
 
 pub mod checked;
+mod code_index;
 pub mod laws;
 pub mod section;
 pub mod tag;

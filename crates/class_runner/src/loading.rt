@@ -102,7 +102,7 @@ fn load_files(alloc: Global, files: &[Bytes], heap: u32, workers: u8) -> Result<
     if !is_first_form(alloc, classes.as_slice(), &program)? {
         return Err(FileError::Refused(Rule::L(LRule::L0), in_file(0, 0)));
     }
-    Ok(Checked::of(program, typings, tags, marks))
+    Ok(Checked::of(program, typings, tags, marks).indexed(alloc)?)
 }
 
 /// The instructions of a program of the first form.

@@ -100,6 +100,26 @@ impl FrameStack {
         self.heads[self.start].pc = pc;
     }
 
+    /// The stack of the top frame, its top first.
+    #[inline(always)]
+    pub fn stack(&self) -> &[u64]
+        requires { 0 < length self.now.frames }
+        ensures { result.now ≡ (top self.now.frames).stack }
+    {
+        let head = &self.heads[self.start];
+        &self.slots[self.free + head.gap..self.free + head.room]
+    }
+
+    /// The locals of the top frame.
+    #[inline(always)]
+    pub fn locals(&self) -> &[u64]
+        requires { 0 < length self.now.frames }
+        ensures { result.now ≡ (top self.now.frames).locals }
+    {
+        let head = &self.heads[self.start];
+        &self.slots[self.free + head.room..self.free + head.size]
+    }
+
     /// How many values the stack of the top frame has.
     #[inline(always)]
     pub fn height(&self) -> u32

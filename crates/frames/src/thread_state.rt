@@ -397,6 +397,24 @@ impl ThreadState {
         self.frames.set_local(i, value);
     }
 
+    /// The stack of the top frame, its top first.
+    #[inline(always)]
+    pub fn stack(&self) -> &[u64]
+        requires { 0 < length self.now.frames }
+        ensures { result.now ≡ (top self.now.frames).stack }
+    {
+        self.frames.stack()
+    }
+
+    /// The locals of the top frame.
+    #[inline(always)]
+    pub fn locals(&self) -> &[u64]
+        requires { 0 < length self.now.frames }
+        ensures { result.now ≡ (top self.now.frames).locals }
+    {
+        self.frames.locals()
+    }
+
     /// How many values the stack of the top frame has.
     #[inline(always)]
     pub fn height(&self) -> u32
