@@ -30,6 +30,6 @@ returns-then-not-branch-clause-refused c =
 pub returns-clause-first : goal.returns-clause-first
 returns-clause-first c =
     let first = rw (c.if-not-branch.false, c.as_slice-3.ensures) at c.in_ok-is_first_form.ensures in
-    rw c.of.ensures
+    rw (c.in_ok-indexed.ensures, c.of.ensures)
     (first_loaded c.args.files.now c.args.heap c.args.workers c.in_ok-classes.classes c.in_ok-program.program c.in_ok-typings.typings c.in_ok-tags.tags c.in_ok-marks.marks c.in_ok-classes.ensures.ok c.in_ok-program.ensures.ok
     c.in_ok-typings.ensures.ok c.in_ok-tags.ensures.ok c.in_ok-marks.ensures first)
