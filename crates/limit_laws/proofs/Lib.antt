@@ -1,1 +1,2 @@
+pub mod KeptRoots
 pub mod SameThread

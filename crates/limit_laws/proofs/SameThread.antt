@@ -1,6 +1,6 @@
 -- An event leaves what a thread was given as it was.
-use Rattle.std.proofs.Common.{◌≡◌, ℕ, zero, suc, ◌+◌, ◌==◌, nat_lt, nat_le, Bool, true, false, List, [], ◌∷◌, Option, Some, None, refl, ◌∙◌}
-use Rattle.std.specs.Prelude.{if◌then◌else◌, option_map}
+use Rattle.std.proofs.Common.{◌≡◌, ℕ, zero, suc, ◌+◌, ◌==◌, nat_lt, nat_le, Bool, true, false, List, [], ◌∷◌, Option, Some, None, refl}
+use Rattle.std.specs.Prelude.{if◌then◌else◌}
 use Rattle.jvm_types.specs.Numbers.{has_flag}
 use Rattle.jvm_types.specs.declared.outcome.Thrown.TheVariants.{ArrayIndexOutOfBoundsException, OutOfMemoryError, IllegalMonitorStateException}
 use Rattle.jvm_types.specs.declared.program.Program.{Program}
@@ -8,16 +8,16 @@ use Rattle.checked_program.specs.MarkedProgram.{MarkedProgram}
 use Rattle.machine_types.specs.declared.effect.Effect.{Effect}
 use Rattle.machine_types.specs.declared.effect.Effect.TheVariants.{Goes, Throws, Reads, Writes, Indexes, Measures, Raises, Makes, Prints, Calls, Returns, Enters, Leaves, Waits, Notifies, NotifiesAll, Stuck}
 use Rattle.machine_types.specs.Elision.{may_try, begins, tries, is_checked, is_same, fails, if_same, elided}
-use Rattle.machine_types.specs.Events.{started, element_made, element_done, moved}
-use Rattle.machine_types.specs.Frames.{Top, top_of, effect_at, making, went_on}
-use Rattle.machine_types.specs.Going.{runs, goes_on, goes_on_if, goes_after}
+use Rattle.machine_types.specs.Events.{started, moved}
+use Rattle.machine_types.specs.Frames.{Top, top_of, effect_at, went_on}
+use Rattle.machine_types.specs.Going.{goes_on, goes_on_if}
 use Rattle.machine_types.specs.HeldMonitors.{held_at, with_held, without_held, shallower}
-use Rattle.machine_types.specs.Instructions.{has_print_left, begun, indexed, made, if_held, waits, notifies, did, instructed, ran}
+use Rattle.machine_types.specs.Instructions.{has_print_left, begun, made, if_held, waits, notifies, did, ran}
 use Rattle.machine_types.specs.Ints.{low}
 use Rattle.machine_types.specs.LockWords.{word_of_lock, lock_of}
 use Rattle.machine_types.specs.declared.lock.LockWord.{LockWord}
 use Rattle.machine_types.specs.declared.lock.LockWord.TheVariants as locks
-use Rattle.machine_types.specs.Monitors.{Claim, Has, Tries, HasNot, claim, acquires, enter_moves, takes, finishes, released, leave_moves, lets_go, grows_not, fattens, bit_of, goes_to_wait, retakes}
+use Rattle.machine_types.specs.Monitors.{Claim, Has, Tries, HasNot, claim, acquires, enter_moves, finishes, released, leave_moves, lets_go, grows_not, fattens, bit_of, goes_to_wait}
 use Rattle.machine_types.specs.Onward.{Onward, Running, Throwing, Entering, Leaving, RootReturned, Uncaught, threw, done}
 use Rattle.machine_types.specs.Threads.{Thread, Attempt}
 use Rattle.machine_types.specs.declared.phase.After.{After}

@@ -1,1 +1,2 @@
 pub mod GivenThread
+pub mod RootLaws

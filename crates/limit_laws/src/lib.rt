@@ -2,5 +2,7 @@
 #![tactic(auto)]
 
 pub mod given_laws;
+pub mod root_laws;
 
 pub use given_laws::given_is_kept;
+pub use root_laws::roots_are_kept;
