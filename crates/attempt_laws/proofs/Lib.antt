@@ -1,0 +1,10 @@
+pub mod Standings
+pub mod FramesInside
+pub mod Counts
+pub mod ShownLengths
+pub mod EffectOps
+pub mod CallOps
+pub mod SectionFrames
+pub mod Entries
+pub mod Beginning
+pub mod Inside

@@ -1,0 +1,2 @@
+pub mod InsideEffects
+pub mod InsideMoves
