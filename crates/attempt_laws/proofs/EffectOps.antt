@@ -210,7 +210,7 @@ module _ (c : MarkedProgram) (m : ℕ) where
 
 -- ---- where an instruction does not go on behind itself
 
-abbrev GoesElsewhere : Effect → Type 0
+abbrev pub GoesElsewhere : Effect → Type 0
 GoesElsewhere (Reads v) = ⊥
 GoesElsewhere (Measures a) = ⊥
 GoesElsewhere (Enters n) = ⊥
@@ -247,3 +247,16 @@ goes_behind p next target op l s h = by_test (falls_through op) refl
     by_test : (b : Bool) → falls_through op ≡ b → b ≡ true
     by_test true e = refl
     by_test false e = absurd (h (elsewhere p next target op l s e))
+
+-- only an exit leaves a monitor as its instruction
+abbrev pub OnlyLeaves : Effect → Type 0
+OnlyLeaves (Leaves n) = Unit {0}
+OnlyLeaves Stuck = Unit {0}
+OnlyLeaves e = ⊥
+
+pub exit_leaves : (p : Program) (next : ℕ) (target : Target) (op : Op) (l s : List ℕ) → op ≡ ops.Monitorexit → OnlyLeaves (effect p next target op l s)
+exit_leaves p next target op l s e = subst (λ o. OnlyLeaves (effect p next target o l s)) (sym e) (at s)
+  where
+    at : (s : List ℕ) → OnlyLeaves (effect p next target ops.Monitorexit l s)
+    at [] = tt
+    at (a ∷ s) = tt

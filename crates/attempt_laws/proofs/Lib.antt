@@ -8,3 +8,5 @@ pub mod SectionFrames
 pub mod Entries
 pub mod Beginning
 pub mod Inside
+pub mod Base
+pub mod Moves

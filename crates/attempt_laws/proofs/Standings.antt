@@ -83,6 +83,10 @@ module _ (c : MarkedProgram) (marked : IsMarked c) where
       let same : Some (Some k.tags) ≡ Some (Some l.tags) = sym k.at.frame ∙ ap (λ fs. slice_get fs k.number) frames ∙ ap (λ i. slice_get l.at.frames i) (one_number_of f g k l e p) ∙ l.at.frame in
       cc
 
+  pub one_insn : (f g : Frame) (k : Standing c f) (l : Standing c g) → f.method ≡ g.method → f.pc ≡ g.pc → k.insn ≡ l.insn
+  one_insn f g k l e p =
+      let same : Some k.insn ≡ Some l.insn = sym k.at.in_code ∙ ap (λ (m : MethodInfo). slice_get m.code k.number) (one_method f g k l e) ∙ ap (λ i. slice_get l.method.code i) (one_number_of f g k l e p) ∙ l.at.in_code in cc
+
   -- the instruction of another standing, with the first one's method
   pub at_of : (f g : Frame) (k : Standing c f) (l : Standing c g) → f.method ≡ g.method → IsAt c.program (tags_of c) f.method l.number k.method l.insn l.target l.tags
   at_of f g k l e = subst (λ (m : MethodInfo). IsAt c.program (tags_of c) f.method l.number m l.insn l.target l.tags) (sym (one_method f g k l e)) (subst (λ mi. IsAt c.program (tags_of c) mi l.number l.method l.insn l.target l.tags) (sym e) l.at)
