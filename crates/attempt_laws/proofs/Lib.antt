@@ -10,3 +10,5 @@ pub mod Beginning
 pub mod Inside
 pub mod Base
 pub mod Moves
+pub mod Throws
+pub mod Leaves
