@@ -1,29 +1,27 @@
 -- The frame of an attempt's entry, when it is the top one: where it can return or end, and how often the monitor is still
 -- entered.
-use Rattle.std.proofs.Common.{◌≡◌, ◌≢◌, ◌⊎◌, inl, inr, ⊎_elim, ℕ, zero, suc, ◌+◌, ◌<◌, ◌≤◌, Bool, true, false, List, [], ◌∷◌, length, Option, Some, None, refl, sym, ap, ◌∙◌, subst, arith}
+use Rattle.std.proofs.Common.{◌≡◌, ◌≢◌, ◌⊎◌, inl, inr, ⊎_elim, ℕ, zero, suc, ◌+◌, ◌<◌, true, List, [], ◌∷◌, length, Some, refl, sym, ap, ◌∙◌, subst, arith}
 use Rattle.std.specs.Prelude.{slice_get}
 use Rattle.std.specs.List.{AllZip}
 use Rattle.jvm_types.specs.Members.{is_synchronized}
 use Rattle.jvm_types.specs.declared.code.Insn.{Insn}
 use Rattle.jvm_types.specs.declared.program.MethodInfo.{MethodInfo}
+use Rattle.jvm_types.specs.declared.program.Target.{Target}
 use Rattle.checked_program.specs.LockTags.{TagShape}
 use Rattle.checked_program.specs.MarkedProgram.{MarkedProgram, IsMarked}
 use Rattle.checked_program.specs.SectionLaws.{Part, IsSectionPart, AreParts, HasEntryDepth, IsExit}
 use Rattle.checked_program.specs.Sections.{BeginsAt, IsOwn, IsInBlock}
 use Rattle.checked_program.specs.TaggedCode.{IsAt}
-use Rattle.checked_program.specs.declared.section.Spot.{Spot}
 use Rattle.checked_program.specs.declared.section.Spot.TheVariants.{Block}
 use Rattle.section_laws.proofs.SectionMoves.{own_deep}
-use Rattle.machine_types.specs.Elision.{put_back}
 use Rattle.machine_types.specs.Frames.{monitor_of}
 use Rattle.machine_types.specs.Sections.{entered_at}
 use Rattle.machine_types.specs.Shown.{Shows, Show}
 use Rattle.machine_types.specs.Standing.{Standing, Operands, Whole, tags_of}
-use Rattle.machine_types.specs.Structure.{IsPart, IsBehindEntry, Stands, AttemptStands, section_of, frames_inside, count_in, once_at, held_depth, tried_depth}
+use Rattle.machine_types.specs.Structure.{IsPart, IsBehindEntry, AttemptStands, section_of, count_in, once_at, held_depth, tried_depth}
 use Rattle.machine_types.specs.Threads.{Frame, Attempt}
 use Rattle.machine_types.specs.declared.lock.Held.{Held}
 use Rattle.machine_types.specs.declared.phase.Phase.{Phase}
-use Rattle.machine_types.specs.declared.phase.Phase.TheVariants as phases
 use Rattle.attempt_laws.proofs.Entries.{Entered, entered_before, just_before, next_later, none_held, Took, took}
 use Rattle.attempt_laws.proofs.FramesInside.{put_back_alone}
 use Rattle.attempt_laws.proofs.SectionFrames.{part_of, Runs}
@@ -112,12 +110,14 @@ module _ (c : MarkedProgram) (marked : IsMarked c) (a : Attempt) where
             let place : enter ≡ h.at = just_before c marked a.entry k h enter begins.insn at.in_code (ap suc begins.pc_is ∙ sym e) in
             let same : begins.insn ≡ h.insn = insn_is (sym at.in_code ∙ ap (λ n. slice_get k.method.code n) place ∙ h.there) in
             let here : IsAt c.program (tags_of c) a.entry.method h.at k.method h.insn begins.target g = subst (λ n. IsAt c.program (tags_of c) a.entry.method n k.method h.insn begins.target g) place (subst (λ i. IsAt c.program (tags_of c) a.entry.method enter k.method i begins.target g) same at) in
-            let t : Took c marked a.entry k g h.insn begins.target = took c marked a.entry k h begins.target g here in
-            let more : length k.tags.held ≡ suc (length g.held) = ap length t.held in
+            let more : length k.tags.held ≡ suc (length g.held) = one_more g h.insn begins.target (took c marked a.entry k h begins.target g here) in
             let deep : length r.stands.tags.held ≡ suc x.depth = x.last in
             let of_entry : x.depth ≡ length g.held = depth in
             omega (arith, more, deep, of_entry)
           where
+            one_more : (g : TagShape) (insn : Insn) (target : Target) → Took c marked a.entry entry.stands g insn target → length entry.stands.tags.held ≡ suc (length g.held)
+            one_more g insn target t = ap length t.held
+
             insn_is : {p q : Insn} → Some p ≡ Some q → p ≡ q
             insn_is z = cc
 

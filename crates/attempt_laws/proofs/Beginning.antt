@@ -1,35 +1,30 @@
 -- An attempt stands as it begins: its frame is at the first own instruction of a marked section, on its receiver.
-use Rattle.std.proofs.Common.{◌≡◌, ◌≢◌, ◌⊎◌, inl, inr, ⊎_elim, ℕ, zero, suc, ◌<◌, ◌≤◌, Bool, true, false, ◌-◌, List, [], ◌∷◌, ◌++◌, length, map, take, Option, Some, None, refl, sym, ap, ◌∙◌, subst, arith}
+use Rattle.std.proofs.Common.{◌≡◌, ◌≢◌, ◌⊎◌, inl, inr, ⊎_elim, ℕ, zero, suc, true, ◌-◌, List, [], ◌∷◌, ◌++◌, length, map, take, Option, Some, None, refl, sym, ap, ◌∙◌, subst, arith}
 use Rattle.std.specs.Prelude.{slice_get, slice_index_or}
 use Rattle.std.proofs.lemmas.Bool.{cases_eq}
 use Rattle.jvm_types.specs.Members.{is_synchronized}
 use Rattle.jvm_types.specs.declared.code.Insn.{Insn}
 use Rattle.jvm_types.specs.declared.program.MethodInfo.{MethodInfo}
-use Rattle.jvm_types.specs.declared.program.Target.{Target}
 use Rattle.program_laws.proofs.CodeOrder.{have_targets}
 use Rattle.checked_program.specs.LockTags.{TagShape}
 use Rattle.checked_program.specs.MarkedProgram.{MarkedProgram, IsMarked}
 use Rattle.checked_program.specs.Marks.{HasMark, IsOnThis, elsewhere}
-use Rattle.checked_program.specs.Sections.{Section, BeginsAt, IsOwn, IsInBlock}
+use Rattle.checked_program.specs.Sections.{BeginsAt, IsOwn, IsInBlock}
 use Rattle.checked_program.specs.SectionLaws.{IsSectionPart}
 use Rattle.checked_program.specs.TaggedCode.{IsAt, IsReached}
 use Rattle.checked_program.specs.declared.section.FieldUse.{FieldUse}
 use Rattle.checked_program.specs.declared.section.Mode.TheVariants.{OnThis}
-use Rattle.checked_program.specs.declared.section.Spot.{Spot}
-use Rattle.checked_program.specs.declared.section.Spot.TheVariants.{Method, Block}
+use Rattle.checked_program.specs.declared.section.Spot.TheVariants.{Block}
 use Rattle.checked_program.specs.declared.tag.Tag.{Tag}
 use Rattle.checked_program.specs.declared.tag.Tag.TheVariants.{Untagged, This, At}
 use Rattle.section_laws.proofs.SectionCalls.{begin_law}
-use Rattle.machine_types.specs.Elision.{put_back}
 use Rattle.machine_types.specs.Frames.{monitor_of}
-use Rattle.machine_types.specs.HeldMonitors.{held_at}
 use Rattle.machine_types.specs.MarkLaws.{MarkedHasMark}
 use Rattle.machine_types.specs.Sections.{entered_at}
-use Rattle.machine_types.specs.Shown.{tag_value, own_entry, entries_of, Shows}
+use Rattle.machine_types.specs.Shown.{tag_value, own_entry, Shows}
 use Rattle.machine_types.specs.Standing.{Standing, Whole, tags_of}
 use Rattle.machine_types.specs.Structure.{IsBehindEntry, Stands, RunsSection, section_of, frames_inside}
 use Rattle.machine_types.specs.Threads.{Frame, Attempt}
-use Rattle.machine_types.specs.declared.lock.Held.{Held}
 use Rattle.machine_types.specs.declared.phase.Phase.TheVariants as phases
 use Rattle.attempt_laws.specs.InsideMoves.{BeginsAttempt}
 use Rattle.attempt_laws.proofs.Entries.{Entered, entered_before, just_before, next_later, Took, took}

@@ -1,5 +1,5 @@
 -- The frame that a call enters has the receiver that stood below the arguments; a synchronized method's is the section's object.
-use Rattle.std.proofs.Common.{◌≡◌, ℕ, zero, suc, Bool, true, false, not, ◌&&◌, List, [], ◌∷◌, ◌++◌, length, map, reverse, take, Option, Some, None, refl, sym, ap, ◌∙◌, subst, arith}
+use Rattle.std.proofs.Common.{◌≡◌, ℕ, zero, suc, Bool, true, false, not, ◌&&◌, List, [], ◌∷◌, ◌++◌, length, reverse, take, Some, refl, sym, ap, ◌∙◌, subst, arith}
 use Rattle.std.specs.Prelude.{slice_get, slice_index, if◌then◌else◌}
 use Rattle.std.proofs.lemmas.List.{length-append, length-map, length-reverse, reverse-append}
 use Rattle.jvm_types.specs.CodeTable.{arguments, want_of, virtual_row, special_row, static_row}
@@ -15,7 +15,6 @@ use Rattle.jvm_types.specs.declared.program.Program.{Program}
 use Rattle.jvm_types.specs.declared.program.Target.{Target}
 use Rattle.jvm_types.specs.declared.program.Target.TheVariants as targets
 use Rattle.program_laws.specs.TargetLaws.{NamesMethod, HasRow}
-use Rattle.checked_program.specs.FrozenPlaces.{locks_this}
 use Rattle.checked_program.specs.Marks.{args_of, called_method, is_locking}
 use Rattle.checked_program.specs.SectionLaws.{ReadsOnly}
 use Rattle.checked_program.specs.TaggedCode.{Tagged}

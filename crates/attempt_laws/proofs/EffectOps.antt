@@ -1,13 +1,10 @@
 -- What an instruction does that breaks no rule of a section, by its effect.
-use Rattle.std.proofs.Common.{◌≡◌, ◌⊎◌, inl, inr, ℕ, zero, suc, ◌+◌, Bool, true, false, not, ◌&&◌, List, [], ◌∷◌, ◌++◌, length, map, reverse, take, Option, Some, None, refl, sym, ap, ◌∙◌, subst, arith}
-use Rattle.std.specs.Prelude.{◌==◌, nat_lt, int_lt, pos, slice_get, slice_index, if◌then◌else◌}
-use Rattle.std.proofs.lemmas.List.{length-append, length-map, length-reverse, reverse-append}
-use Rattle.jvm_types.specs.CodeTable.{falls_through, arguments, row, virtual_row, special_row}
-use Rattle.jvm_types.specs.Members.{is_static, is_synchronized}
-use Rattle.jvm_types.specs.ProgramInvariant.{IsProgram, site_in}
+use Rattle.std.proofs.Common.{◌≡◌, ◌⊎◌, ℕ, Bool, true, false, List, [], ◌∷◌, length, Option, Some, None, refl, sym, ap, ◌∙◌, subst}
+use Rattle.std.specs.Prelude.{◌==◌, nat_lt, slice_get, slice_index, if◌then◌else◌}
+use Rattle.jvm_types.specs.CodeTable.{falls_through}
+use Rattle.jvm_types.specs.Members.{is_static}
+use Rattle.jvm_types.specs.ProgramInvariant.{site_in}
 use Rattle.jvm_types.specs.Verifying.{is_return}
-use Rattle.jvm_types.specs.declared.class_numbers.TheConstants.{INT_ARRAY_CLASS}
-use Rattle.jvm_types.specs.declared.code.Insn.{Insn}
 use Rattle.jvm_types.specs.declared.code.Op.{Op}
 use Rattle.jvm_types.specs.declared.code.Op.TheVariants as ops
 use Rattle.jvm_types.specs.declared.op_row.OpRow.{OpRow}
@@ -22,15 +19,13 @@ use Rattle.checked_program.specs.FrozenPlaces.{IsFrozenField, IsGuardedField}
 use Rattle.checked_program.specs.MarkedProgram.{MarkedProgram}
 use Rattle.checked_program.specs.Marks.{called_method}
 use Rattle.checked_program.specs.SectionLaws.{ReadsOnly}
-use Rattle.machine_types.specs.Effects.{at_local, unless_null, unless_zero, variable_of, gets, calls_on, calls_instance, calls_static, named, effect, makes_array}
-use Rattle.machine_types.specs.Frames.{Top, row_at}
+use Rattle.machine_types.specs.Effects.{at_local, unless_null, unless_zero, variable_of, gets, calls_on, calls_instance, calls_static, named, effect}
 use Rattle.machine_types.specs.Ints.{low, divided, remaining}
 use Rattle.machine_types.specs.Standing.{tags_of}
-use Rattle.machine_types.specs.declared.effect.Variable.{Variable}
 use Rattle.machine_types.specs.declared.effect.Variable.TheVariants.{Instance, Static}
 use Rattle.machine_types.specs.declared.effect.Effect.{Effect}
-use Rattle.machine_types.specs.declared.effect.Effect.TheVariants.{Goes, Throws, Reads, Writes, Indexes, Measures, Raises, Makes, Prints, Calls, Returns, Enters, Leaves, Waits, Notifies, NotifiesAll, Stuck}
-use Rattle.attempt_laws.specs.InsideEffects.{IsStayingField, MayRead, MayDo}
+use Rattle.machine_types.specs.declared.effect.Effect.TheVariants.{Goes, Throws, Reads, Writes, Indexes, Measures, Makes, Prints, Calls, Returns, Enters, Leaves, Waits, Notifies, NotifiesAll, Stuck}
+use Rattle.attempt_laws.specs.InsideEffects.{MayRead}
 
 -- a call of an instance method finds its receiver below the arguments
 abbrev pub HasReceiver : Program → Op → (number : ℕ) → List ℕ → Type 0

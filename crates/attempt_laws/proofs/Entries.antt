@@ -1,6 +1,6 @@
 -- Where a section begins: at pc 0 no tag is held, and right behind a `monitorenter` the tag that it took is the innermost.
-use Rattle.std.proofs.Common.{◌≡◌, ◌⊎◌, inl, inr, ⊎_elim, ℕ, zero, suc, ◌<◌, ◌≤◌, Bool, true, false, List, [], ◌∷◌, ◌++◌, length, Option, Some, None, refl, sym, ap, ◌∙◌, subst, arith}
-use Rattle.std.specs.Prelude.{◌==◌, ◌||◌, IsSomeAnd, slice_get, slice_index_or, if◌then◌else◌}
+use Rattle.std.proofs.Common.{◌≡◌, ◌⊎◌, inl, inr, ⊎_elim, ℕ, zero, suc, ◌<◌, Bool, true, false, List, [], ◌∷◌, ◌++◌, length, Option, Some, refl, sym, ap, ◌∙◌, subst, arith}
+use Rattle.std.specs.Prelude.{◌==◌, ◌||◌, IsSomeAnd, slice_get, if◌then◌else◌}
 use Rattle.std.proofs.lemmas.Bool.{cases_order}
 use Rattle.std.proofs.lemmas.Bool.Decides.{nat_tests}
 use Rattle.std.proofs.lemmas.Option.{slice_get-get_or}
@@ -16,12 +16,10 @@ use Rattle.jvm_types.specs.declared.program.MethodInfo.{MethodInfo}
 use Rattle.program_laws.proofs.CodeOrder.{ascend, one_number, short, follows}
 use Rattle.checked_program.specs.LockTags.{TagShape, IsShapeBelow, entry_tags}
 use Rattle.checked_program.specs.MarkedProgram.{MarkedProgram, IsMarked, checked_part}
-use Rattle.checked_program.specs.Sections.{BeginsAt}
-use Rattle.checked_program.specs.TaggedCode.{IsAt, Goes, onward, row_of}
+use Rattle.checked_program.specs.TaggedCode.{IsAt, onward, row_of}
 use Rattle.checked_program.specs.Tagging.{enters_untagged, tags_after, tags_by_op, IsSound, IsTagAssignment, HasTagging}
 use Rattle.checked_program.specs.Visits.{frame_at}
 use Rattle.checked_program.specs.declared.tag.Tag.{Tag}
-use Rattle.checked_program.specs.declared.tag.Tag.TheVariants.{Untagged, This, At}
 use Rattle.checked_program.proofs.CheckedPlaces.{checked_sound}
 use Rattle.tag_laws.proofs.TagLocal.{tag_local_law}
 use Rattle.section_laws.proofs.MonitorExits.{held_law}

@@ -1,5 +1,5 @@
 -- The frames inside an attempt, as the top ones come and go.
-use Rattle.std.proofs.Common.{◌≡◌, ℕ, zero, suc, ◌-◌, ◌<◌, ◌≤◌, List, [], ◌∷◌, length, take, drop, refl, sym, ap, ◌∙◌, subst, arith}
+use Rattle.std.proofs.Common.{◌≡◌, ℕ, zero, suc, ◌-◌, ◌<◌, ◌≤◌, List, [], ◌∷◌, length, take, drop, refl, ap, arith}
 use Rattle.machine_types.specs.Elision.{put_back}
 use Rattle.machine_types.specs.Structure.{frames_inside}
 use Rattle.machine_types.specs.Threads.{Frame, Attempt}

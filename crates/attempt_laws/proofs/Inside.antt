@@ -1,22 +1,15 @@
 -- A thread inside an attempt: its top frame, what that may do, and what stays as frames come and go.
-use Rattle.std.proofs.Common.{◌≡◌, ◌≢◌, ◌⊎◌, inl, inr, ⊎_elim, ℕ, zero, suc, ◌<◌, ◌≤◌, Bool, true, false, List, [], ◌∷◌, length, Option, Some, None, refl, sym, ap, ◌∙◌, subst, arith}
-use Rattle.std.specs.Prelude.{slice_get, slice_index}
+use Rattle.std.proofs.Common.{◌≡◌, ◌⊎◌, inr, ⊎_elim, ℕ, ◌<◌, ◌≤◌, true, List, [], ◌∷◌, length, None, refl, sym, ◌∙◌, subst, arith}
 use Rattle.jvm_types.specs.Members.{is_synchronized}
 use Rattle.jvm_types.specs.ProgramInvariant.{site_in}
-use Rattle.jvm_types.specs.declared.program.MethodInfo.{MethodInfo}
 use Rattle.checked_program.specs.LockTags.{TagShape}
 use Rattle.checked_program.specs.MarkedProgram.{MarkedProgram, IsMarked}
-use Rattle.checked_program.specs.SectionLaws.{IsSectionPart, AreParts, HasThis}
-use Rattle.checked_program.specs.Sections.{IsOwn, IsInBlock}
-use Rattle.checked_program.specs.TaggedCode.{row_of}
-use Rattle.checked_program.specs.declared.section.Spot.TheVariants.{Block}
-use Rattle.section_laws.proofs.SectionMoves.{own_deep}
+use Rattle.checked_program.specs.SectionLaws.{HasThis}
 use Rattle.machine_types.specs.Elision.{put_back}
-use Rattle.machine_types.specs.Frames.{Top, top_of, effect_at, row_at, entry_frame, arguments_of, monitor_of}
-use Rattle.machine_types.specs.Shown.{StackShows, Shows, Show}
+use Rattle.machine_types.specs.Frames.{Top, effect_at, row_at}
+use Rattle.machine_types.specs.Shown.{Shows, Show}
 use Rattle.machine_types.specs.Standing.{Standing, Operands, Whole, tags_of}
-use Rattle.machine_types.specs.Structure.{IsPhaseInside, IsBehindEntry, Stands, AttemptStands, Finishes, RunsSection, section_of, frames_inside}
-use Rattle.machine_types.specs.Sections.{entered_at}
+use Rattle.machine_types.specs.Structure.{IsPhaseInside, Stands, AttemptStands, Finishes, RunsSection, frames_inside}
 use Rattle.machine_types.specs.Threads.{Frame, Attempt}
 use Rattle.machine_types.specs.declared.effect.Effect.{Effect}
 use Rattle.machine_types.specs.declared.effect.Effect.TheVariants.{Goes, Throws, Reads, Writes, Indexes, Measures, Raises, Makes, Prints, Calls, Returns, Enters, Leaves, Waits, Notifies, NotifiesAll, Stuck}
@@ -25,11 +18,10 @@ use Rattle.machine_types.specs.declared.phase.Phase.{Phase}
 use Rattle.machine_types.specs.declared.phase.Phase.TheVariants as phases
 use Rattle.attempt_laws.specs.InsideEffects.{MayDo, InsideMayDo}
 use Rattle.attempt_laws.proofs.CallOps.{called_on}
-use Rattle.attempt_laws.proofs.EffectOps.{Does, HasReceiver, does}
-use Rattle.attempt_laws.proofs.Entries.{Entered, entered_before, next_later}
+use Rattle.attempt_laws.proofs.EffectOps.{Does, does}
 use Rattle.attempt_laws.proofs.FramesInside.{one_more}
-use Rattle.attempt_laws.proofs.SectionFrames.{have_this, part_of, Runs, runs_of, row_stands, reads, exits, locking_on}
-use Rattle.attempt_laws.proofs.Standings.{top_here, top_at_standing, laid, one_method, one_tags}
+use Rattle.attempt_laws.proofs.SectionFrames.{have_this, Runs, runs_of, row_stands, reads, exits, locking_on}
+use Rattle.attempt_laws.proofs.Standings.{top_here, top_at_standing, one_tags}
 
 -- ---- the top frame of an attempt
 
@@ -87,7 +79,7 @@ module _ (c : MarkedProgram) (marked : IsMarked c) where
         called_on c.program number called there f.stack (tags_of c) a.monitor (site_in s.method) s.insn.pc s.insn.op s.target (row_at c.program top) marked.checked.program (row_stands c marked f.method s.number s.method s.insn s.target s.tags s.at) d.0 d.1
         (reads c marked a k.uses k.are_uses k.marked f (frames_inside a below) r f.stack this) synchronized
 
-    leaves_on : (n : ℕ) → Does c a.monitor r.stands.insn.op r.stands.target f.stack (Leaves n) → n ≡ a.monitor
+    pub leaves_on : (n : ℕ) → Does c a.monitor r.stands.insn.op r.stands.target f.stack (Leaves n) → n ≡ a.monitor
     leaves_on n d = sym d.1 ∙ exits c marked a k.uses k.are_uses k.marked f (frames_inside a below) r f.stack this d.0
 
     may : (e : Effect) → Does c a.monitor r.stands.insn.op r.stands.target f.stack e → MayDo c a.monitor top e

@@ -1,15 +1,12 @@
 -- An attempt stands behind an exit of its monitor that is not the last one.
-use Rattle.std.proofs.Common.{◌≡◌, ◌⊎◌, inl, inr, ⊎_elim, ℕ, zero, suc, ◌+◌, ◌<◌, ◌≤◌, Bool, true, false, List, [], ◌∷◌, length, Option, Some, None, refl, sym, ap, ◌∙◌, subst, arith}
+use Rattle.std.proofs.Common.{◌≡◌, ⊎_elim, ℕ, suc, ◌+◌, Bool, List, [], ◌∷◌, length, Some, refl, sym, ap, ◌∙◌, subst, arith}
 use Rattle.std.specs.Prelude.{option_map}
-use Rattle.jvm_types.specs.declared.outcome.Thrown.{Thrown}
 use Rattle.jvm_types.specs.declared.code.Op.{Op}
 use Rattle.checked_program.specs.LockTags.{TagShape}
 use Rattle.checked_program.specs.MarkedProgram.{MarkedProgram, IsMarked}
-use Rattle.machine_types.specs.Frames.{Top, top_of, given, given_back, returned, monitor_of}
-use Rattle.machine_types.specs.Onward.{Onward, Running, back, unwound, after}
-use Rattle.machine_types.specs.Shown.{Show}
-use Rattle.machine_types.specs.Standing.{Standing, Operands}
-use Rattle.machine_types.specs.Structure.{IsLeaving, Stands, AttemptStands, Finishes, RunsSection, frames_inside, operands_after, TopLeaves, count_in, held_depth, tried_depth}
+use Rattle.machine_types.specs.Frames.{top_of, given, given_back, returned}
+use Rattle.machine_types.specs.Onward.{Onward, Running, back, unwound}
+use Rattle.machine_types.specs.Structure.{IsLeaving, Stands, AttemptStands, Finishes, frames_inside, operands_after, TopLeaves, count_in, held_depth, tried_depth}
 use Rattle.machine_types.specs.Threads.{Frame, Attempt}
 use Rattle.machine_types.specs.declared.lock.Held.{Held}
 use Rattle.machine_types.specs.declared.phase.After.{After}
@@ -20,7 +17,7 @@ use Rattle.attempt_laws.proofs.Base.{entry_of, as_many, none_inside}
 use Rattle.attempt_laws.proofs.Inside.{runs_inside}
 use Rattle.attempt_laws.proofs.Moves.{stands_inner, only_entry, returned_on, unwound_on}
 use Rattle.attempt_laws.proofs.SectionFrames.{Runs}
-use Rattle.attempt_laws.proofs.Standings.{top_here, top_is, one_tags}
+use Rattle.attempt_laws.proofs.Standings.{top_is, one_tags}
 
 pub onward_is : {x y : Onward} → Some x ≡ Some y → x ≡ y
 onward_is q = cc

@@ -12,3 +12,4 @@ pub mod Base
 pub mod Moves
 pub mod Throws
 pub mod Leaves
+pub mod Steps

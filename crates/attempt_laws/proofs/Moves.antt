@@ -1,5 +1,5 @@
 -- An attempt stands as its top frame goes along an edge, calls, returns to the frame below, or ends by an exception.
-use Rattle.std.proofs.Common.{◌≡◌, ◌≢◌, ◌⊎◌, inl, inr, ⊎_elim, ℕ, zero, suc, ◌-◌, ◌<◌, ◌≤◌, Bool, true, false, List, [], ◌∷◌, ◌++◌, length, take, Option, Some, None, refl, sym, ap, ◌∙◌, subst, arith}
+use Rattle.std.proofs.Common.{◌≡◌, ◌≢◌, inr, ⊎_elim, ℕ, ◌-◌, ◌<◌, ◌≤◌, Bool, true, false, List, [], ◌∷◌, ◌++◌, length, take, Some, None, refl, sym, ap, ◌∙◌, subst, arith}
 use Rattle.std.specs.Prelude.{◌==◌, ◌||◌, slice_get, if◌then◌else◌}
 use Rattle.std.proofs.lemmas.Bool.{cases_eq}
 use Rattle.std.proofs.lemmas.Bool.Decides.{nat_tests}
@@ -12,15 +12,14 @@ use Rattle.jvm_types.specs.declared.code.Op.TheVariants as ops
 use Rattle.jvm_types.specs.declared.outcome.Thrown.{Thrown}
 use Rattle.jvm_types.specs.declared.program.MethodInfo.{MethodInfo}
 use Rattle.jvm_types.specs.declared.program.Target.{Target}
-use Rattle.jvm_types.specs.declared.program.Target.TheVariants as targets
 use Rattle.checked_program.specs.LockTags.{TagShape}
 use Rattle.checked_program.specs.MarkedProgram.{MarkedProgram, IsMarked}
 use Rattle.checked_program.specs.Marks.{called_method}
 use Rattle.checked_program.specs.Tagging.{tags_after}
 use Rattle.checked_program.specs.TaggedCode.{Goes, onward, row_of}
 use Rattle.machine_types.specs.Elision.{put_back}
-use Rattle.machine_types.specs.Frames.{Top, top_of, given}
-use Rattle.machine_types.specs.Onward.{Running, Throwing, back, unwound}
+use Rattle.machine_types.specs.Frames.{top_of, given}
+use Rattle.machine_types.specs.Onward.{back, unwound}
 use Rattle.machine_types.specs.Standing.{Standing}
 use Rattle.machine_types.specs.Structure.{IsPhaseInside, Stands, AttemptStands, RunsSection, frames_inside}
 use Rattle.machine_types.specs.Threads.{Frame, Attempt}
@@ -31,7 +30,7 @@ use Rattle.attempt_laws.specs.InsideMoves.{GoesOnInside, OnwardStands}
 use Rattle.attempt_laws.proofs.FramesInside.{one_more, put_back_over}
 use Rattle.attempt_laws.proofs.Inside.{base_below}
 use Rattle.attempt_laws.proofs.SectionFrames.{Runs, Caller, IsExitOf, section_of_runs, moved, caller}
-use Rattle.attempt_laws.proofs.Standings.{top_here, top_is}
+use Rattle.attempt_laws.proofs.Standings.{top_is}
 
 -- ---- edges
 

@@ -1,43 +1,40 @@
 -- The frames of a section as their top one moves, calls, returns and ends, and what a mark says of the top one.
-use Rattle.std.proofs.Common.{◌≡◌, ◌≢◌, ◌⊎◌, inl, inr, ⊎_elim, ℕ, zero, suc, ◌<◌, Bool, true, false, not, ◌&&◌, List, [], ◌∷◌, length, Option, Some, None, refl, sym, ap, ◌∙◌, subst, arith}
-use Rattle.std.specs.Prelude.{slice_get, slice_index, slice_index_or}
+use Rattle.std.proofs.Common.{◌≡◌, ◌⊎◌, inl, inr, ⊎_elim, ℕ, zero, suc, Bool, true, false, not, ◌&&◌, List, [], ◌∷◌, Some, refl, sym, ap, ◌∙◌, subst, arith}
+use Rattle.std.specs.Prelude.{slice_get, slice_index}
 use Rattle.std.specs.List.{AllZip}
 use Rattle.jvm_types.specs.Members.{is_static, is_synchronized}
-use Rattle.jvm_types.specs.declared.call.Call.TheVariants.{Virtual, Special, Static}
 use Rattle.jvm_types.specs.ProgramInvariant.{IsTargetOf, site_in}
 use Rattle.jvm_types.specs.declared.code.Insn.{Insn}
 use Rattle.jvm_types.specs.declared.code.Op.{Op}
 use Rattle.jvm_types.specs.declared.code.Op.TheVariants as ops
 use Rattle.jvm_types.specs.declared.op_row.OpRow.{OpRow}
 use Rattle.jvm_types.specs.declared.program.MethodInfo.{MethodInfo}
-use Rattle.jvm_types.specs.declared.program.Program.{Program}
 use Rattle.jvm_types.specs.declared.program.Target.{Target}
 use Rattle.jvm_types.specs.declared.program.Target.TheVariants as targets
 use Rattle.program_laws.specs.TargetLaws.{HasRow}
 use Rattle.program_laws.proofs.CodeOrder.{have_targets}
 use Rattle.program_laws.proofs.TargetRows.{targets_rows}
-use Rattle.checked_program.specs.FrozenPlaces.{AreUses, locks_this}
+use Rattle.checked_program.specs.FrozenPlaces.{AreUses}
 use Rattle.checked_program.specs.LockTags.{TagShape}
 use Rattle.checked_program.specs.MarkedProgram.{MarkedProgram, IsMarked}
 use Rattle.checked_program.specs.Marks.{HasMark, Calls, callee, called_method, is_locking, is_own_object, receiver_tag, mode_if, fault, call_fault, enter_fault}
-use Rattle.checked_program.specs.Sections.{Section}
 use Rattle.checked_program.specs.SectionLaws.{Part, AreParts, IsSectionPart, IsExit, HasThis, ReadsOnly}
 use Rattle.checked_program.specs.TaggedCode.{IsAt, Goes, row_of}
 use Rattle.checked_program.specs.declared.section.FieldUse.{FieldUse}
 use Rattle.checked_program.specs.declared.section.Mode.{Mode}
-use Rattle.checked_program.specs.declared.section.Mode.TheVariants.{OnThis, OffThis}
+use Rattle.checked_program.specs.declared.section.Mode.TheVariants.{OnThis}
 use Rattle.checked_program.specs.declared.tag.Tag.{Tag}
-use Rattle.checked_program.specs.declared.tag.Tag.TheVariants.{Untagged, This, At}
+use Rattle.checked_program.specs.declared.tag.Tag.TheVariants.{Untagged, This}
 use Rattle.section_laws.proofs.MarkedReads.{own_no_fault, called_no_fault, read_law}
 use Rattle.section_laws.proofs.MonitorExits.{held_law, exit_law}
-use Rattle.section_laws.proofs.SectionCalls.{invoke_law, resume_law}
+use Rattle.section_laws.proofs.SectionCalls.{invoke_law}
 use Rattle.section_laws.proofs.SectionMoves.{move_law}
 use Rattle.section_laws.specs.FrameLaws.{IsReceiver, mode_of_call}
 use Rattle.machine_types.specs.Shown.{HasValue, HaveValues}
-use Rattle.machine_types.specs.Standing.{Standing, tags_of, row_at}
+use Rattle.machine_types.specs.Standing.{Standing, tags_of}
 use Rattle.machine_types.specs.Structure.{IsPart, RunsSection, section_of}
 use Rattle.machine_types.specs.Threads.{Frame, Attempt}
-use Rattle.attempt_laws.proofs.Standings.{are_tagged, at_of, one_method}
+use Rattle.attempt_laws.proofs.Standings.{are_tagged, at_of}
 
 -- ---- values of tags
 

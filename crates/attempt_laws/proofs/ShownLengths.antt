@@ -1,5 +1,5 @@
 -- How many entries frames show hangs on where they stand alone. So the outermost exit of an attempt is known by its place.
-use Rattle.std.proofs.Common.{◌≡◌, ℕ, zero, suc, ◌+◌, ◌<◌, Bool, true, false, List, [], ◌∷◌, ◌++◌, length, map, Some, None, refl, sym, ap, ◌∙◌, subst, arith}
+use Rattle.std.proofs.Common.{◌≡◌, ℕ, ◌+◌, Bool, true, false, List, [], ◌∷◌, length, map, Some, refl, sym, ap, ◌∙◌, arith}
 use Rattle.std.specs.Prelude.{◌==◌, if◌then◌else◌}
 use Rattle.std.proofs.lemmas.List.{length-append, length-map}
 use Rattle.jvm_types.specs.Members.{is_synchronized}
@@ -7,7 +7,7 @@ use Rattle.jvm_types.specs.declared.program.MethodInfo.{MethodInfo}
 use Rattle.checked_program.specs.LockTags.{TagShape}
 use Rattle.checked_program.specs.MarkedProgram.{MarkedProgram, IsMarked}
 use Rattle.machine_types.specs.Shown.{tag_value, own_entry, Shows, ShowBelow, Show}
-use Rattle.machine_types.specs.Standing.{Standing, Operands, Whole}
+use Rattle.machine_types.specs.Standing.{Operands, Whole}
 use Rattle.machine_types.specs.Structure.{count_in, once_at, held_depth, tried_depth}
 use Rattle.machine_types.specs.Threads.{Frame, Attempt}
 use Rattle.machine_types.specs.declared.lock.Held.{Held}

@@ -1,18 +1,16 @@
 -- Where frames stand: one number for each, and the top of a thread is what stands there.
-use Rattle.std.proofs.Common.{◌≡◌, ◌⊎◌, inl, inr, ⊎_elim, ℕ, zero, suc, ◌<◌, Bool, true, false, List, [], ◌∷◌, length, map, Option, Some, None, refl, sym, ap, ◌∙◌, subst, arith}
+use Rattle.std.proofs.Common.{◌≡◌, ℕ, zero, suc, Bool, true, false, List, [], ◌∷◌, Option, Some, refl, sym, ap, ◌∙◌, subst, arith}
 use Rattle.std.specs.Prelude.{◌==◌, slice_get}
-use Rattle.std.proofs.lemmas.Bool.{cases_lt}
 use Rattle.std.proofs.lemmas.Bool.Decides.{nat_tests}
 use Rattle.jvm_types.specs.Verifying.{IsLaidOut}
 use Rattle.jvm_types.specs.declared.code.Insn.{Insn}
-use Rattle.jvm_types.specs.declared.program.Target.{Target}
 use Rattle.jvm_types.specs.declared.program.MethodInfo.{MethodInfo}
 use Rattle.jvm_types.specs.declared.program.Program.{Program}
 use Rattle.program_laws.proofs.CodeOrder.{methods_laid_out, one_number}
 use Rattle.checked_program.specs.LockTags.{TagShape}
 use Rattle.checked_program.specs.MarkedProgram.{MarkedProgram, IsMarked, AreTaggings}
 use Rattle.checked_program.specs.SectionLaws.{AreTagged}
-use Rattle.checked_program.specs.TaggedCode.{Tagged, tagged_by, IsAt}
+use Rattle.checked_program.specs.TaggedCode.{tagged_by, IsAt}
 use Rattle.checked_program.specs.Tagging.{HasTagging}
 use Rattle.checked_program.specs.declared.tag.Tags.{Tags}
 use Rattle.machine_types.specs.Frames.{Top, at_pc, top_at, top_in, top_of}
@@ -108,5 +106,5 @@ module _ (c : MarkedProgram) (marked : IsMarked c) where
       some_is q = cc
 
 -- a frame stands where one of the same method and pc does
-pub stands_too : (c : MarkedProgram) (f : Frame) (stack locals : List ℕ) → Standing c f → Standing c (record f { stack = stack; locals = locals })
+abbrev pub stands_too : (c : MarkedProgram) (f : Frame) (stack locals : List ℕ) → Standing c f → Standing c (record f { stack = stack; locals = locals })
 stands_too c f stack locals k = record { number = k.number; method = k.method; insn = k.insn; target = k.target; tags = k.tags; at = k.at; frames = k.frames; types_of_method = k.types_of_method; types = k.types; types_are = k.types_are; pc_is = k.pc_is }

@@ -1,5 +1,5 @@
 -- An attempt stands as an exception goes to a handler, or leaves the top frame.
-use Rattle.std.proofs.Common.{◌≡◌, ◌⊎◌, inl, inr, ⊎_elim, ℕ, zero, suc, ◌<◌, ◌≤◌, Bool, true, false, cond, not, ◌&&◌, ◌||◌, List, [], ◌∷◌, length, Option, Some, None, refl, sym, ap, ◌∙◌, subst, arith}
+use Rattle.std.proofs.Common.{◌≡◌, ℕ, Bool, true, false, cond, not, ◌&&◌, ◌||◌, List, [], ◌∷◌, length, Option, Some, None, refl, sym, ap, ◌∙◌, subst, arith}
 use Rattle.std.specs.Prelude.{◌==◌, if◌then◌else◌}
 use Rattle.std.specs.List.{list_any, filter}
 use Rattle.std.proofs.lemmas.Bool.Decides.{nat_tests}
@@ -8,7 +8,6 @@ use Rattle.jvm_types.specs.CodeTable.{can_throw}
 use Rattle.jvm_types.specs.Members.{is_synchronized}
 use Rattle.jvm_types.specs.Verifying.{covers, covering, is_return}
 use Rattle.jvm_types.specs.declared.code.Insn.{Insn}
-use Rattle.jvm_types.specs.declared.code.Op.{Op}
 use Rattle.jvm_types.specs.declared.code.Op.TheVariants as ops
 use Rattle.jvm_types.specs.declared.outcome.Thrown.{Thrown}
 use Rattle.jvm_types.specs.declared.program.MethodInfo.{MethodInfo}
@@ -17,10 +16,9 @@ use Rattle.checked_program.specs.MarkedProgram.{MarkedProgram, IsMarked}
 use Rattle.checked_program.specs.Tagging.{catches_all, until_all, catchers, may_leave, leaves_held, tags_at_handler}
 use Rattle.checked_program.specs.TaggedCode.{caught}
 use Rattle.checked_program.specs.declared.tag.Tag.{Tag}
-use Rattle.machine_types.specs.Frames.{Top, top_of, handler_of, handler_at, monitor_of}
-use Rattle.machine_types.specs.Onward.{Onward, Leaving, handed, unwound}
+use Rattle.machine_types.specs.Frames.{Top, handler_of, handler_at, monitor_of}
+use Rattle.machine_types.specs.Onward.{Leaving, handed, unwound}
 use Rattle.machine_types.specs.ReadyObjects.{class_of}
-use Rattle.machine_types.specs.Standing.{Standing}
 use Rattle.machine_types.specs.Structure.{Stands, AttemptStands, Finishes, frames_inside}
 use Rattle.machine_types.specs.Threads.{Frame, Attempt}
 use Rattle.machine_types.specs.declared.lock.Held.{Held}

@@ -1,9 +1,9 @@
 //! What a thread does inside an attempt, and that the attempt stands as it does so.
 
-use machine_types::marked_has_mark;
-
 ghost use Rattle.attempt_laws.specs.InsideEffects.{InsideMayDo};
 ghost use Rattle.attempt_laws.specs.InsideMoves.{BeginsAttempt, EntersInside, LeavesInside, NoElementInside, StepsInside, ThrowsInside};
+
+use machine_types::marked_has_mark;
 
 /// An instruction inside writes nothing, reads what stays while the monitor is free, and enters and leaves that
 /// monitor alone.
