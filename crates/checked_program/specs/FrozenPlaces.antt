@@ -1,7 +1,7 @@
 -- Frozen classes and frozen fields, and fields that are guarded by the monitor of their object.
 use Rattle.std.specs.Prelude.{◌≡◌, ◌<◌, ℕ, Bool, true, false, not, ◌&&◌, ◌||◌, ◌==◌, List, length, Option, Some, None, slice_get, slice_index_or}
 use Rattle.std.specs.List.{list_any}
-use Rattle.jvm_types.specs.ClassTree.{object_class}
+use Rattle.jvm_types.specs.declared.class_numbers.TheConstants.{OBJECT_CLASS}
 use Rattle.jvm_types.specs.CodeTable.{is_init}
 use Rattle.jvm_types.specs.Members.{is_private, is_static, is_final, is_synchronized}
 use Rattle.jvm_types.specs.declared.code.Insn.{Insn}
@@ -36,7 +36,7 @@ may_take p c ops.Pop target k = true
 may_take p c ops.Pop2 target k = true
 may_take p c (ops.Getfield i) (targets.Field fi) k = (k == 0) && is_field_of c (slice_get p.fields fi)
 may_take p c (ops.Putfield i) (targets.Field fi) k = (k == 1) && is_field_of c (slice_get p.fields fi)
-may_take p c (ops.Invokespecial i) (targets.Init class) k = (k == 0) && (class == object_class)
+may_take p c (ops.Invokespecial i) (targets.Init class) k = (k == 0) && (class == OBJECT_CLASS)
 may_take p c op target k = false
 
 -- an instruction takes what its row pops

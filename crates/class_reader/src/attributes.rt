@@ -7,9 +7,10 @@ ghost use Rattle.jvm_types.specs.ReadingClass.{attr_at, handler_at, code_at, cod
 ghost use Rattle.jvm_types.specs.declared.index_kind.IndexKind.TheVariants.{Value as OfValue};
 ghost use Rattle.class_reader.specs.Giving.{Gives, attr_of, moved_stop, HasPlace};
 
-use crate::indices::{is_named, read_index};
+use crate::indices::read_index;
 use crate::items::{Stop, read_run, read_u2, read_u4};
 use crate::list_reading::{Step, read_list};
+use constant_pools::index_kinds::is_named;
 use jvm_types::{Attr, Bytes, CRule, Code, Constant, Handler, IndexKind, MemberAttr, Rows};
 use std::alloc::Global;
 

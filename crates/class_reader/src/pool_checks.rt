@@ -5,9 +5,9 @@ ghost use Rattle.jvm_types.specs.Spelling.{constant};
 ghost use Rattle.jvm_types.specs.ReadingPool.{both_wanted, entry_wanted, entries_wanted, pool_at};
 ghost use Rattle.class_reader.specs.Giving.{Gives};
 
-use crate::indices::is_kind;
 use crate::items::{Stop, check, read_u2};
-use crate::pool_entries::{read_entries, takes_two};
+use crate::pool_entries::read_entries;
+use constant_pools::index_kinds::{is_wide, names};
 use jvm_types::{CRule, Constant, IndexKind, Rows};
 use std::alloc::Global;
 
@@ -41,12 +41,12 @@ fn check_both(
     ensures { Gives (λ x. x) result (both_wanted kinds.0 kinds.1 pool.now indices.0 indices.1 left) }
 {
     check(
-        is_kind(kinds.0, pool, indices.0),
+        names(kinds.0, pool, indices.0),
         CRule::C5,
         left.saturating_sub(1),
     )?;
     check(
-        is_kind(kinds.1, pool, indices.1),
+        names(kinds.1, pool, indices.1),
         CRule::C5,
         left.saturating_sub(3),
     )
@@ -65,7 +65,7 @@ fn check_entry(
 {
     match entry {
         Constant::Class(index) | Constant::Text(index) => {
-            let is_met = is_kind(IndexKind::Utf8, pool, *index);
+            let is_met = names(IndexKind::Utf8, pool, *index);
             check(is_met, CRule::C5, left.saturating_sub(1))
         }
         Constant::Field(class, member)
@@ -78,7 +78,7 @@ fn check_entry(
             let kinds = (IndexKind::Utf8, IndexKind::Utf8);
             check_both(kinds, pool, (*name, *descriptor), left)
         }
-        _ => check(!(takes_two(entry) && is_last), CRule::C5, left),
+        _ => check(!(is_wide(entry) && is_last), CRule::C5, left),
     }
 }
 

@@ -1,11 +1,13 @@
 //! Reading the entries of the constant pool (JVMS 4.4).
 
 ghost use Rattle.std.specs.Prelude.{◌≡◌, ◌+◌, ◌<◌, ◌^◌, true, length, Decides};
-ghost use Rattle.jvm_types.specs.ClassGrammar.{IsUtf8Byte, is_wide};
+ghost use Rattle.jvm_types.specs.ClassGrammar.{IsUtf8Byte};
 ghost use Rattle.jvm_types.specs.ReadingPool.{text_wanted, text_at, tagged_at, constant_at, entries_at};
 ghost use Rattle.class_reader.specs.Giving.{Gives, entry_at};
 
 use crate::items::{Stop, read_long, read_pair, read_run, read_u1, read_u2, read_u4};
+use constant_pools::index_kinds::is_wide;
+use jvm_types::class_file::TEXT_BYTES_END;
 use jvm_types::{Bytes, CRule, Constant, Rows};
 use std::alloc::Global;
 
@@ -13,7 +15,7 @@ use std::alloc::Global;
 fn is_utf8_byte(byte: u8) -> bool
     ensures { Decides result (IsUtf8Byte byte) }
 {
-    0 < byte && byte < 0xF0
+    0 < byte && byte < TEXT_BYTES_END
 }
 
 /// Looks at the bytes of a text, behind which so many are left.
@@ -114,13 +116,6 @@ fn read_entry(alloc: Global, is_gap_due: bool, bytes: &[u8]) -> Result<(Constant
     }
 }
 
-/// Whether an entry takes two indices (JVMS 4.4.5).
-pub fn takes_two(constant: &Constant) -> bool
-    ensures { result ≡ is_wide constant.now }
-{
-    matches!(constant, Constant::Long(_) | Constant::Double(_))
-}
-
 /// What stands at so many indices, the first of which is a gap.
 pub fn read_entries(
     alloc: Global,
@@ -134,7 +129,7 @@ pub fn read_entries(
     let mut rest = bytes;
     for _ in 0..count {
         let (constant, after) = read_entry(alloc, is_gap_due, rest)?;
-        is_gap_due = takes_two(&constant);
+        is_gap_due = is_wide(&constant);
         constants.push(constant)?;
         rest = after;
     }

@@ -15,11 +15,10 @@ use crate::list_reading::{Step, read_list};
 use crate::members::{FieldStep, MethodStep};
 use crate::pool_checks::read_constants;
 use crate::read_error::ReadError;
+use jvm_types::class_file::MAGIC;
 use jvm_types::limits::{FIRST_VERSION, LAST_VERSION, MOST_FILE_BYTES};
 use jvm_types::{Bytes, CRule, ClassFile, Constant, IndexKind, Rows};
 use std::alloc::Global;
-
-const MAGIC: u32 = 0xCAFE_BABE;
 
 /// The index of an interface.
 struct InterfaceStep;

@@ -4,7 +4,7 @@ use Rattle.std.specs.Prelude.{◌≡◌, ◌⊎◌, ℕ, ◌<◌, ◌≤◌, Lis
 use Rattle.std.specs.List.{AllByRecursion}
 use Rattle.jvm_types.specs.ClassGrammar.{IsByte}
 use Rattle.checked_program.specs.MarkedProgram.{MarkedProgram}
-use Rattle.jvm_types.specs.ProgramInvariant.{most_files, most_workers, least_heap, most_heap}
+use Rattle.jvm_types.specs.declared.limits.TheConstants.{LEAST_HEAP, MOST_FILES, MOST_HEAP, MOST_WORKERS}
 use Rattle.jvm_types.specs.declared.first.FirstOp.{FirstOp}
 use Rattle.jvm_types.specs.declared.refusal.Rule.{Rule}
 use Rattle.jvm_types.specs.declared.refusal.Place.{Place}
@@ -29,10 +29,10 @@ LoadedAccepted = (files : List (List ℕ)) (heap workers : ℕ) (c : MarkedProgr
 pub record IsLoadable (files : List (List ℕ)) (heap workers : ℕ) : Type 0 where
   pub bytes : AllByRecursion (AllByRecursion IsByte) files
   pub some_file : 0 < length files
-  pub few_files : length files ≤ most_files
-  pub few_workers : workers ≤ most_workers
-  pub heap_from : least_heap ≤ heap
-  pub heap_to : heap ≤ most_heap
+  pub few_files : length files ≤ MOST_FILES
+  pub few_workers : workers ≤ MOST_WORKERS
+  pub heap_from : LEAST_HEAP ≤ heap
+  pub heap_to : heap ≤ MOST_HEAP
 
 -- they are accepted, or a rule refuses them
 abbrev pub AcceptedOrRefused : Type 0

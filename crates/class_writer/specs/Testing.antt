@@ -14,6 +14,8 @@ use Rattle.jvm_types.specs.declared.class_file.MemberAttr.{MemberAttr}
 use Rattle.jvm_types.specs.declared.class_file.MemberAttr.TheVariants as member_attrs
 use Rattle.jvm_types.specs.declared.class_file.Member.{Member}
 use Rattle.jvm_types.specs.declared.class_file.ClassFile.{ClassFile}
+use Rattle.jvm_types.specs.declared.class_file.TheConstants.{TEXT_BYTES_END}
+use Rattle.jvm_types.specs.declared.flags.TheConstants.{NATIVE, ABSTRACT}
 
 -- ---- the constant pool
 
@@ -25,7 +27,7 @@ has_due_gaps false (c ∷ cs) = not (is_gap c) && has_due_gaps (is_wide c) cs
 
 -- whether a text may have this byte
 abbrev pub is_utf8_byte : ℕ → Bool
-is_utf8_byte b = nat_lt 0 b && nat_lt b 240
+is_utf8_byte b = nat_lt 0 b && nat_lt b TEXT_BYTES_END
 
 -- whether an entry has such bytes, or indices that name what they have to
 abbrev pub is_constant : List Constant → Constant → Bool
@@ -80,7 +82,7 @@ is_code_attr (member_attrs.Other a) = false
 
 -- one Code, and neither NATIVE nor ABSTRACT
 abbrev pub has_body : Member → Bool
-has_body m = (count_by is_code_attr m.attrs == 1) && not (has_flag 256 m.flags) && not (has_flag 1024 m.flags)
+has_body m = (count_by is_code_attr m.attrs == 1) && not (has_flag NATIVE m.flags) && not (has_flag ABSTRACT m.flags)
 
 abbrev pub is_method : List Constant → Member → Bool
 is_method pool m = has_names pool m && list_all (is_method_attr pool) m.attrs && has_body m

@@ -5,6 +5,7 @@ use Rattle.std.specs.Int.RustNames.{FitsSigned}
 use Rattle.jvm_types.specs.declared.class_file.Constant.{Constant}
 use Rattle.jvm_types.specs.declared.class_file.Constant.TheVariants.{Utf8, Integer}
 use Rattle.jvm_types.specs.declared.class_file.ClassFile.{ClassFile}
+use Rattle.jvm_types.specs.declared.class_file.TheConstants.{MAGIC}
 use Rattle.jvm_types.specs.declared.class_file.Code.{Code}
 use Rattle.jvm_types.specs.Numbers.{u2, u4}
 use Rattle.jvm_types.specs.Spelling.{counted, constant}
@@ -39,7 +40,7 @@ pub record PartsFit (c : Code) : Type 0 where
 
 -- the bytes in front of the interfaces of a class
 abbrev pub head_bytes : ClassFile → List ℕ
-head_bytes c = u4 3405691582 ++ u2 c.minor ++ u2 c.major ++ counted constant c.constants ++ u2 c.flags ++ u2 c.this_class ++ u2 c.super_class
+head_bytes c = u4 MAGIC ++ u2 c.minor ++ u2 c.major ++ counted constant c.constants ++ u2 c.flags ++ u2 c.this_class ++ u2 c.super_class
 
 -- what is known of a class that was written
 pub record IsWritten (c : ClassFile) : Type 0 where

@@ -5,7 +5,7 @@ ghost use Rattle.jvm_types.specs.declared.class_file.Constant.TheVariants.{Gap};
 ghost use Rattle.class_writer.specs.Building.{empty_class, entries_of, length_with, IsNew, IsFirst, Builds};
 
 use crate::error::BuildError;
-use crate::pool_rules::is_wide;
+use constant_pools::index_kinds::is_wide;
 use jvm_types::limits::MOST_COUNTED;
 use jvm_types::{ClassFile, Constant, Rows};
 use std::alloc::{AllocError, Global};

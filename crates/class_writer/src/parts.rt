@@ -10,10 +10,9 @@ ghost use Rattle.class_writer.specs.Writing.{Writes, IsKnown, PartsFit, IsWritte
 use crate::error::WriteError;
 use crate::list_writing::{Part, write_list};
 use crate::numbers::{write_len_u2, write_run, write_s4, write_u1, write_u2, write_u4, write_u8};
+use jvm_types::class_file::MAGIC;
 use jvm_types::{Attr, Bytes, ClassFile, Code, Constant, Handler, Member, MemberAttr};
 use std::alloc::{AllocError, Global};
-
-const MAGIC: u32 = 0xCAFE_BABE;
 
 impl Part for u16 {
     ghost use Rattle.jvm_types.specs.Numbers.{u2};

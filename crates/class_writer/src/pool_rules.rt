@@ -2,51 +2,11 @@
 
 ghost use Rattle.std.specs.Prelude.{◌≡◌, true};
 ghost use Rattle.std.specs.List.{list_all};
-ghost use Rattle.jvm_types.specs.ReadingPool.{names};
-ghost use Rattle.jvm_types.specs.ClassGrammar.{is_wide};
-ghost use Rattle.class_writer.specs.Testing.{is_named, has_due_gaps, is_utf8_byte, is_constant, is_pool};
+ghost use Rattle.class_writer.specs.Testing.{has_due_gaps, is_utf8_byte, is_constant, is_pool};
 
+use constant_pools::index_kinds::{is_wide, names};
+use jvm_types::class_file::TEXT_BYTES_END;
 use jvm_types::{Bytes, Constant, IndexKind, Rows};
-
-/// Whether an index names an entry of this kind.
-pub fn names(kind: IndexKind, pool: &Rows<Constant>, index: u16) -> bool
-    ensures { result ≡ names kind pool.now index }
-{
-    match (kind, pool.get(usize::from(index))) {
-        (IndexKind::CatchType, _) if index == 0 => true,
-        (IndexKind::Utf8, Some(Constant::Utf8(_))) => true,
-        (IndexKind::Class | IndexKind::CatchType, Some(Constant::Class(_))) => true,
-        (IndexKind::NameAndType, Some(Constant::NameAndType(..))) => true,
-        (
-            IndexKind::Value,
-            Some(
-                Constant::Integer(_)
-                | Constant::Float(_)
-                | Constant::Long(_)
-                | Constant::Double(_)
-                | Constant::Text(_),
-            ),
-        ) => true,
-        _ => false,
-    }
-}
-
-/// Whether an index names this text.
-pub fn is_named(text: &[u8], pool: &Rows<Constant>, index: u16) -> bool
-    ensures { result ≡ is_named text.now pool.now index }
-{
-    match pool.get(usize::from(index)) {
-        Some(Constant::Utf8(found)) => found.as_slice() == text,
-        _ => false,
-    }
-}
-
-/// Whether an entry takes two indices (JVMS 4.4.5).
-pub fn is_wide(constant: &Constant) -> bool
-    ensures { result ≡ is_wide constant.now }
-{
-    matches!(constant, Constant::Long(_) | Constant::Double(_))
-}
 
 /// Whether a gap stands at index 0 and behind each `Long` and `Double`, and nowhere else.
 fn has_due_gaps(pool: &Rows<Constant>) -> bool
@@ -66,7 +26,9 @@ fn has_due_gaps(pool: &Rows<Constant>) -> bool
 fn is_utf8(text: &Bytes) -> bool
     ensures { result ≡ list_all is_utf8_byte text.now }
 {
-    text.as_slice().iter().all(|b| 0 < *b && *b < 0xF0)
+    text.as_slice()
+        .iter()
+        .all(|b| 0 < *b && *b < TEXT_BYTES_END)
 }
 
 /// Whether a text may have its bytes, or the indices of another entry name what they have to.

@@ -6,7 +6,8 @@ ghost use Rattle.jvm_types.specs.ReadingPool.{names};
 ghost use Rattle.jvm_types.specs.declared.index_kind.IndexKind.TheVariants.{Class};
 ghost use Rattle.class_writer.specs.Testing.{is_attr, is_handler, is_code, is_field_attr, is_method_attr, has_names, is_field, is_code_attr, has_body, is_method, has_version, has_classes, has_members, keeps_rules};
 
-use crate::pool_rules::{is_named, is_pool, names};
+use crate::pool_rules::is_pool;
+use constant_pools::index_kinds::{is_named, names};
 use jvm_types::flags::{ABSTRACT, NATIVE, has_flag};
 use jvm_types::limits::{FIRST_VERSION, LAST_VERSION};
 use jvm_types::{Attr, ClassFile, Code, Constant, Handler, IndexKind, Member, MemberAttr, Rows};
@@ -38,7 +39,7 @@ fn are_handlers(pool: &Rows<Constant>, items: &Rows<Handler>) -> bool
 fn is_code(pool: &Rows<Constant>, code: &Code) -> bool
     ensures { result ≡ is_code pool.now code.now }
 {
-    is_named(b"Code", pool, code.name)
+    is_named(pool, code.name, b"Code")
         && are_handlers(pool, &code.rows)
         && are_attrs(pool, &code.attrs)
 }
@@ -50,10 +51,10 @@ fn is_field_attr(pool: &Rows<Constant>, attr: &MemberAttr) -> bool
     match attr {
         MemberAttr::Code(_) => false,
         MemberAttr::ConstantValue { name, constant } => {
-            is_named(b"ConstantValue", pool, *name) && names(IndexKind::Value, pool, *constant)
+            is_named(pool, *name, b"ConstantValue") && names(IndexKind::Value, pool, *constant)
         }
         MemberAttr::Other(attr) => {
-            is_attr(pool, attr) && !is_named(b"ConstantValue", pool, attr.name)
+            is_attr(pool, attr) && !is_named(pool, attr.name, b"ConstantValue")
         }
     }
 }
@@ -65,7 +66,7 @@ fn is_method_attr(pool: &Rows<Constant>, attr: &MemberAttr) -> bool
     match attr {
         MemberAttr::Code(code) => is_code(pool, code),
         MemberAttr::ConstantValue { .. } => false,
-        MemberAttr::Other(attr) => is_attr(pool, attr) && !is_named(b"Code", pool, attr.name),
+        MemberAttr::Other(attr) => is_attr(pool, attr) && !is_named(pool, attr.name, b"Code"),
     }
 }
 

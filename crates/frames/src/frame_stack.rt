@@ -5,9 +5,10 @@ ghost use Rattle.frames.specs.FrameLists.{top, below, with_top, max_stack};
 ghost use Rattle.machine_types.specs.Frames.{most_frames, most_slots};
 
 use crate::arguments::argument_count;
-use crate::head::{Head, MOST_FRAMES, SLOTS, StackOverflow};
+use crate::head::{Head, SLOTS, StackOverflow};
 use crate::laying::{copy_slots, lay, lay_root, receiver_at};
 use jvm_types::flags::is_static;
+use jvm_types::limits::MOST_FRAMES;
 use jvm_types::{MethodInfo, Program};
 use std::alloc::{AllocError, Global};
 use std::marker::Model;

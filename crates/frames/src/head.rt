@@ -2,9 +2,6 @@
 
 use jvm_types::limits::MOST_SLOTS;
 
-/// The most frames of one thread.
-pub const MOST_FRAMES: usize = 256;
-
 /// The slots of one thread, for the stacks and the locals of its frames.
 pub const SLOTS: usize = MOST_SLOTS as usize;
 

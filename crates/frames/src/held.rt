@@ -6,9 +6,9 @@ ghost use Rattle.machine_types.specs.Frames.{most_frames};
 ghost use Rattle.machine_types.specs.HeldMonitors.{held_at, with_held, without_held, held_in_frame, most_in, most_held};
 ghost use Rattle.machine_types.specs.declared.lock.Held.{Held};
 
-use crate::head::MOST_FRAMES;
 use checked_program::{TagFrame, Tags};
 use jvm_types::Rows;
+use jvm_types::limits::MOST_FRAMES;
 use machine_types::Held;
 use std::alloc::AllocError;
 

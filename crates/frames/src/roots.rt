@@ -5,6 +5,7 @@ ghost use Rattle.machine_types.specs.Parts.{numbers_of, is_entry_named};
 ghost use Rattle.frames.specs.RootLists.{is_root};
 
 use jvm_types::class_numbers::FIRST_FILE_CLASS;
+use jvm_types::limits::MOST_INSTRUCTIONS;
 use jvm_types::{MethodInfo, Program, Rows};
 use std::alloc::{AllocError, Global};
 use std::marker::Model;
@@ -109,7 +110,7 @@ impl Roots {
 
     /// Those of `init` and `done`.
     fn of_first(alloc: Global, p: &Program) -> Result<Roots, AllocError>
-        requires { length p.now.methods ≤ 67108864 }
+        requires { length p.now.methods ≤ MOST_INSTRUCTIONS }
         ensures { IfOk result (λ r. r ≡ record { left = first_roots p.now 0; later = later_roots p.now 0 }) }
     {
         let mut numbers = Rows::new(alloc);
@@ -123,7 +124,7 @@ impl Roots {
     /// Those of `run`, for later.
     fn of_worker(alloc: Global, p: &Program, number: u8) -> Result<Roots, AllocError>
         requires worker { 0 < number }
-        requires few { length p.now.methods ≤ 67108864 }
+        requires few { length p.now.methods ≤ MOST_INSTRUCTIONS }
         ensures { IfOk result (λ r. r ≡ record { left = first_roots p.now number; later = later_roots p.now number }) }
     {
         let mut numbers = Rows::new(alloc);
@@ -133,7 +134,7 @@ impl Roots {
 
     /// Those of a thread.
     pub fn of(alloc: Global, p: &Program, number: u8) -> Result<Roots, AllocError>
-        requires { length p.now.methods ≤ 67108864 }
+        requires { length p.now.methods ≤ MOST_INSTRUCTIONS }
         ensures { IfOk result (λ r. r ≡ record { left = first_roots p.now number; later = later_roots p.now number }) }
     {
         if number == 0 {

@@ -5,7 +5,7 @@ use Rattle.std.specs.List.{sum_by}
 use Rattle.std.proofs.lemmas.List.{length-append}
 use Rattle.std.proofs.lemmas.List.Sums.{sum_by-cons}
 use Rattle.std.proofs.lemmas.Option.{slice_get_within}
-use Rattle.jvm_types.specs.ProgramInvariant.{IsProgram, most_instructions}
+use Rattle.jvm_types.specs.ProgramInvariant.{IsProgram}
 use Rattle.jvm_types.specs.declared.program.MethodInfo.{MethodInfo}
 use Rattle.jvm_types.specs.declared.program.Program.{Program}
 use Rattle.program_laws.proofs.CodeOrder.{methods_laid_out, starts}
@@ -17,6 +17,7 @@ use Rattle.guard_analysis.specs.CallGraph.{with_edge, edges_before, node_edges, 
 use Rattle.guard_analysis.specs.declared.call_graph.Graph.{Graph}
 use Rattle.guard_analysis.proofs.GraphEdges.{graph_alike, graph_old, the_call}
 use Rattle.guard_analysis.proofs.CallEdges.{call_parts, node_parts, node_low}
+use Rattle.jvm_types.specs.declared.limits.TheConstants.{MOST_INSTRUCTIONS}
 
 pub with_few : (a : ℕ) (g : Graph) (c : Option ℕ) → length (with_edge a g c).from ≤ length g.from + 1
 with_few a g None = omega arith
@@ -65,10 +66,10 @@ some_each : (ms : List MethodInfo) → ((i : ℕ) (m : MethodInfo) → slice_get
 some_each [] h = omega arith
 some_each (m ∷ ms) h = omega (arith, sum_by-cons (λ m. length m.code) m ms, h 0 m refl, some_each ms (λ i n e. h (suc i) n e))
 
-pub methods_few : (p : Program) → IsProgram p → length p.methods ≤ most_instructions
+pub methods_few : (p : Program) → IsProgram p → length p.methods ≤ MOST_INSTRUCTIONS
 methods_few p is =
     let low : length p.methods ≤ sum_by (λ m. length m.code) p.methods = some_each p.methods (λ i m e. let first = starts m (methods_laid_out p i m is e) in slice_get_within m.code 0 first.0 first.1) in
-    let size : sum_by (λ m. length m.code) p.methods ≤ most_instructions = is.size in
+    let size : sum_by (λ m. length m.code) p.methods ≤ MOST_INSTRUCTIONS = is.size in
     omega (arith, low, size)
 
 pub is_graph : (p : Program) (tags : List Tags) → IsProgram p → IsGraph (2 * length p.methods) (call_graph p tags).from (call_graph p tags).to

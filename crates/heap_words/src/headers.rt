@@ -3,6 +3,8 @@
 ghost use Rattle.std.specs.Prelude.{◌≡◌, ◌<◌, ◌^◌};
 ghost use Rattle.machine_types.specs.Words.{header, header_class, header_length};
 
+use jvm_types::fixed_words::HEADER_CLASSES;
+
 /// The header of an object of a class, or of an array of so many elements.
 #[inline(always)]
 pub fn header(class: u16, length: u32) -> u64
@@ -10,7 +12,7 @@ pub fn header(class: u16, length: u32) -> u64
     ensures class { header_class result ≡ class }
     ensures length { header_length result ≡ length }
 {
-    65536 * length as u64 + class as u64
+    HEADER_CLASSES * length as u64 + class as u64
 }
 
 /// The class that a header names.
@@ -18,7 +20,7 @@ pub fn header(class: u16, length: u32) -> u64
 pub fn header_class(word: u64) -> u16
     ensures { result ≡ header_class word }
 {
-    (word % 65536) as u16
+    (word % HEADER_CLASSES) as u16
 }
 
 /// The number of elements of the array that has a header of 48 bits.
@@ -27,5 +29,5 @@ pub fn header_length(word: u64) -> u32
     requires { word < 2 ^ 48 }
     ensures { result ≡ header_length word }
 {
-    (word / 65536) as u32
+    (word / HEADER_CLASSES) as u32
 }

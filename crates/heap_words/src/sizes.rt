@@ -1,11 +1,12 @@
 //! How many words objects and arrays take.
 
 ghost use Rattle.std.specs.Prelude.{◌≡◌, ◌<◌, ◌≤◌};
-ghost use Rattle.jvm_types.specs.ProgramInvariant.{IsProgram, instances_among, most_heap};
+ghost use Rattle.jvm_types.specs.ProgramInvariant.{IsProgram, instances_among};
 ghost use Rattle.machine_types.specs.Words.{array_size, object_size};
 
 use jvm_types::fixed_words::OBJECT_HEAD_WORDS;
 use jvm_types::flags::is_static;
+use jvm_types::limits::MOST_HEAP;
 use jvm_types::{FieldInfo, Program};
 
 /// How many of some fields an object of a class has.
@@ -34,7 +35,7 @@ pub fn object_size(p: &Program, class: u16) -> u32
 /// How many words an array of int takes: two, and one for each of its elements, which are no more than a heap has words.
 #[inline(always)]
 pub fn array_size(length: u32) -> u32
-    requires { length ≤ most_heap }
+    requires { length ≤ MOST_HEAP }
     ensures { result ≡ array_size length }
 {
     OBJECT_HEAD_WORDS + length

@@ -12,7 +12,7 @@ use Rattle.jvm_types.specs.ClassNames.{text_at, file_class}
 use Rattle.jvm_types.specs.ClassGrammar.{FieldsFit}
 use Rattle.jvm_types.specs.Descriptors.{field_kind}
 use Rattle.jvm_types.specs.Members.{is_static}
-use Rattle.jvm_types.specs.Layout.{first_class_word, static_count, class_words, first_constant, kept_int, start_of_constant, static_start, kind_of, field_info, fields_of, fields_from, laid_out_fields, fixed_words}
+use Rattle.jvm_types.specs.Layout.{static_count, class_words, first_constant, kept_int, start_of_constant, static_start, kind_of, field_info, fields_of, fields_from, laid_out_fields, fixed_words}
 use Rattle.jvm_types.specs.ProgramInvariant.{IsKindOf, statics_among, instances_among, IsFieldOf}
 use Rattle.jvm_types.specs.declared.class_file.Constant.{Constant}
 use Rattle.jvm_types.specs.declared.class_file.Constant.TheVariants.{Integer}
@@ -22,6 +22,7 @@ use Rattle.jvm_types.specs.declared.program.Kind.{Kind}
 use Rattle.jvm_types.specs.declared.program.Kind.TheVariants as kinds
 use Rattle.jvm_types.specs.declared.program.FieldInfo.{FieldInfo}
 use Rattle.jvm_types.specs.declared.program.Program.{Program}
+use Rattle.jvm_types.specs.declared.fixed_words.TheConstants.{FIRST_CLASS_WORD}
 
 -- ---- numbers
 
@@ -100,7 +101,7 @@ kind_in p (Some kind) h = h
 -- a field of a file, behind fields of this class and of those before it
 field_fits : (p : Program) (file : ℕ) (pool : List Constant) (place word : ℕ) (m : ClassMember) (before : List FieldInfo)
     → file < length p.names → AllByRecursion FieldsFit pool → AllByRecursion (λ e. e.class ≤ file_class file) before
-    → place ≡ instances_among (file_class file) before → word ≡ first_class_word + 2 * (file + 1) + statics_among before → place < 65535
+    → place ≡ instances_among (file_class file) before → word ≡ FIRST_CLASS_WORD + 2 * (file + 1) + statics_among before → place < 65535
     → IsFieldOf p before (field_info p.names file pool (cond (is_static m.flags) word place) m)
 field_fits p file pool place word m before l h o e f few = record {
   class = (omega arith, omega (arith, l));
@@ -119,7 +120,7 @@ step_few false place rest h = omega (arith, h)
 -- the fields of a class, behind those of the classes before it
 class_fits : (p : Program) (file : ℕ) (pool : List Constant) (place word : ℕ) (ms : List ClassMember) (before : List FieldInfo)
     → file < length p.names → AllByRecursion FieldsFit pool → AllByRecursion (λ e. e.class ≤ file_class file) before
-    → place ≡ instances_among (file_class file) before → word ≡ first_class_word + 2 * (file + 1) + statics_among before → place + length ms < 65536
+    → place ≡ instances_among (file_class file) before → word ≡ FIRST_CLASS_WORD + 2 * (file + 1) + statics_among before → place + length ms < 65536
     → EachAfter (IsFieldOf p) before (fields_of p.names file pool place word ms)
 class_fits p file pool place word [] before l h o e f few = tt
 class_fits p file pool place word (m ∷ ms) before l h o e f few =
@@ -127,8 +128,8 @@ class_fits p file pool place word (m ∷ ms) before l h o e f few =
     let info : FieldInfo = field_info p.names file pool (cond b word place) m in
     let e' : cond b place (place + 1) ≡ instances_among (file_class file) (before ++ info ∷ []) =
     next_place b (file_class file) place (instances_among (file_class file) before) e ∙ sym (sum_last (λ f. cond ((f.class == file_class file) && not (is_static f.flags)) 1 0) before info) in
-    let f' : cond b (word + 1) word ≡ first_class_word + 2 * (file + 1) + statics_among (before ++ info ∷ []) =
-    next_word b word (first_class_word + 2 * (file + 1)) (statics_among before) f ∙ ap (λ n. first_class_word + 2 * (file + 1) + n) (sym (sum_last (λ f. cond (is_static f.flags) 1 0) before info)) in (
+    let f' : cond b (word + 1) word ≡ FIRST_CLASS_WORD + 2 * (file + 1) + statics_among (before ++ info ∷ []) =
+    next_word b word (FIRST_CLASS_WORD + 2 * (file + 1)) (statics_among before) f ∙ ap (λ n. FIRST_CLASS_WORD + 2 * (file + 1) + n) (sym (sum_last (λ f. cond (is_static f.flags) 1 0) before info)) in (
       field_fits p file pool place word m before l h o e f (omega (arith, few)),
       class_fits p file pool (cond b place (place + 1)) (cond b (word + 1) word) ms (before ++ info ∷ []) l h (all_append (λ e. e.class ≤ file_class file) before (info ∷ []) o (omega arith, tt)) e' f' (step_few b place (length ms) few),
     )
@@ -161,7 +162,7 @@ none_yet class (f ∷ before) h =
 -- the fields of the classes from a file on
 files_fit : (p : Program) (file word : ℕ) (cs : List ClassFile) (before : List FieldInfo)
     → file + length cs ≡ length p.names → AllByRecursion (λ (c : ClassFile). AllByRecursion FieldsFit c.constants × (length c.fields < 65536)) cs → AllByRecursion (λ e. e.class < file_class file) before
-    → word ≡ first_class_word + 2 * file + statics_among before
+    → word ≡ FIRST_CLASS_WORD + 2 * file + statics_among before
     → EachAfter (IsFieldOf p) before (fields_from p.names file word cs)
 files_fit p file word [] before l h o f = tt
 files_fit p file word (c ∷ cs) before l h o f =
@@ -177,7 +178,7 @@ files_fit p file word (c ∷ cs) before l h o f =
 
 -- the fields of a program stand where its invariant has them
 pub fields_placed : (p : Program) (files : List ClassFile) → length files ≡ length p.names → AllByRecursion (λ (c : ClassFile). AllByRecursion FieldsFit c.constants × (length c.fields < 65536)) files → EachAfter (IsFieldOf p) [] (laid_out_fields p.names files)
-fields_placed p files l h = files_fit p 0 first_class_word files [] (omega (arith, l)) h tt refl
+fields_placed p files l h = files_fit p 0 FIRST_CLASS_WORD files [] (omega (arith, l)) h tt refl
 
 -- ---- words
 
@@ -192,5 +193,5 @@ words_from names file word (c ∷ cs) =
     omega (arith, first, count, same, rest)
 
 -- the fixed words of the files are those of the program
-pub words_counted : (names : List (List ℕ)) (files : List ClassFile) → fixed_words files ≡ first_class_word + 2 * length files + statics_among (laid_out_fields names files)
-words_counted names files = let e = words_from names 0 first_class_word files in omega (arith, e)
+pub words_counted : (names : List (List ℕ)) (files : List ClassFile) → fixed_words files ≡ FIRST_CLASS_WORD + 2 * length files + statics_among (laid_out_fields names files)
+words_counted names files = let e = words_from names 0 FIRST_CLASS_WORD files in omega (arith, e)

@@ -17,7 +17,7 @@ use Rattle.jvm_types.specs.ClassGrammar.{FieldsFit, IsClass}
 use Rattle.jvm_types.specs.Descriptors.{Signature, method_signature}
 use Rattle.jvm_types.specs.Members.{Declared, class_of, descriptor_of, declared_from, declared_by, declared_methods}
 use Rattle.jvm_types.specs.Targets.{Scope}
-use Rattle.jvm_types.specs.Layout.{first_class_word, laid_out_fields, fixed_words}
+use Rattle.jvm_types.specs.Layout.{laid_out_fields, fixed_words}
 use Rattle.jvm_types.specs.Linked.{scope_of, coded_methods, code_of, site_of, resolved_target, resolved_row, resolved_signature, linked_method, linked_methods, program_of}
 use Rattle.jvm_types.specs.LinkFaults.{first_fault, in_file, in_method, insn_fault, row_fault, uses_fault, class_pass, member_pass, use_pass, root_pass, word_pass, is_run, is_wrong_method, is_run_method}
 use Rattle.jvm_types.specs.Linkable.{IsDecoded, IsLinkable}
@@ -31,6 +31,7 @@ use Rattle.jvm_types.specs.declared.code.Insn.{Insn}
 use Rattle.jvm_types.specs.declared.program.MethodInfo.{MethodInfo}
 use Rattle.jvm_types.specs.declared.program.Program.{Program}
 use Rattle.jvm_types.specs.declared.refusal.LRule.TheVariants.{L4, L8}
+use Rattle.jvm_types.specs.declared.fixed_words.TheConstants.{FIRST_CLASS_WORD}
 
 -- ---- one method
 
@@ -136,7 +137,7 @@ program_fits files code heap workers able classes members uses roots words =
     let count : length (class_names files) ≡ length files = length-map files class_name in
     let wrong = two_untested (list_any is_wrong_method (declared_methods files)) (ltb 0 workers && not (list_any is_run_method (declared_methods files))) L4 L4 (no_rule (in_file 0 0) _ roots) in
     let fixed : fixed_words files ≤ heap = ltb-false heap (fixed_words files) (untested (ltb heap (fixed_words files)) L8 [] (no_rule (in_file 0 0) _ words)).0 in
-    let counted : fixed_words files ≡ first_class_word + 2 * length files + statics_among (laid_out_fields (class_names files) files) = words_counted (class_names files) files in
+    let counted : fixed_words files ≡ FIRST_CLASS_WORD + 2 * length files + statics_among (laid_out_fields (class_names files) files) = words_counted (class_names files) files in
     let size = program_within (scope_of files) files code able.classes able.decoded in
     let fields : EachAfter (IsFieldOf p) [] (laid_out_fields (class_names files) files) =
     fields_placed p files (sym count) (all_weaker IsClass (λ (c : ClassFile). AllByRecursion FieldsFit c.constants × (length c.fields < 65536)) (λ c h. (h.pool.fields, h.fields.count)) files able.classes) in

@@ -9,7 +9,7 @@ use Rattle.jvm_types.specs.ClassNames.{class_names, has_built_in_init}
 use Rattle.jvm_types.specs.Members.{Site, is_class_init_name, field_rule, call_rule, built_in_methods, init_of, Declared, class_of, name_of, descriptor_of, declared_from, declared_by, declared_fields, declared_methods, entries_from, is_static}
 use Rattle.jvm_types.specs.declared.call.Call.TheVariants.{Virtual, Special, Static}
 use Rattle.jvm_types.specs.Targets.{Scope}
-use Rattle.jvm_types.specs.Layout.{fields_of, fields_from, laid_out_fields, first_class_word, class_words}
+use Rattle.jvm_types.specs.Layout.{fields_of, fields_from, laid_out_fields, class_words}
 use Rattle.jvm_types.specs.Linked.{scope_of, coded_methods, linked_methods, program_of}
 use Rattle.jvm_types.specs.Linkable.{IsDecoded}
 use Rattle.jvm_types.specs.declared.class_file.Constant.{Constant}
@@ -21,6 +21,7 @@ use Rattle.jvm_types.specs.declared.program.MethodInfo.{MethodInfo}
 use Rattle.jvm_types.specs.declared.program.Target.TheVariants as targets
 use Rattle.jvm_types.specs.declared.program.Program.{Program}
 use Rattle.jvm_types.specs.declared.refusal.LRule.TheVariants.{L7}
+use Rattle.jvm_types.specs.declared.fixed_words.TheConstants.{FIRST_CLASS_WORD}
 
 -- ---- built-in members
 
@@ -166,7 +167,7 @@ scope_fits files code heap workers h =
     let p : Program = program_of files code heap workers in
     record {
       names = refl;
-      fields = (out_fits p, field_entries p 0 (declared_fields files) (laid_out_fields (class_names files) files) (files_same (class_names files) 0 first_class_word files) (λ j. ap (slice_get p.fields) (omega arith)));
+      fields = (out_fits p, field_entries p 0 (declared_fields files) (laid_out_fields (class_names files) files) (files_same (class_names files) 0 FIRST_CLASS_WORD files) (λ j. ap (slice_get p.fields) (omega arith)));
       methods = all_append (MethodFits p) built_in_methods (entries_from targets.Method 0 (declared_methods files)) (built_in_fit p)
           (method_entries p 0 (declared_methods files) (linked_methods (scope_of files) (coded_methods files code)) (methods_same (scope_of files) (declared_methods files) code h) (λ j. ap (slice_get p.methods) (omega arith)));
     }

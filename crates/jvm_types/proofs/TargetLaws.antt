@@ -10,7 +10,7 @@ use Rattle.std.proofs.lemmas.Bool.{cond_both}
 use Rattle.jvm_types.proofs.KindLaws.{numbered}
 use Rattle.jvm_types.proofs.LayoutLaws.{entry_fits}
 use Rattle.jvm_types.specs.ClassNames.{class_number, named_class, class_text_at, text_at, is_class, can_be_made, system_name}
-use Rattle.jvm_types.specs.ClassTree.{object_class}
+use Rattle.jvm_types.specs.declared.class_numbers.TheConstants.{OBJECT_CLASS}
 use Rattle.jvm_types.specs.ClassGrammar.{FieldsFit}
 use Rattle.jvm_types.specs.Members.{Entry, Site, member_in, look_up, is_init_name, field_rule, call_rule}
 use Rattle.jvm_types.specs.declared.call.Call.{Call}
@@ -43,8 +43,8 @@ either_found P (Some x) b h k = h
 
 looked_up : (P : Entry → Type 0) (entries : List Entry) (class : ℕ) (name descriptor : List ℕ) → AllByRecursion P entries → IfSome (look_up entries class name descriptor) P
 looked_up P entries class name descriptor h =
-    either_found P (member_in entries class name descriptor) (cond (is_init_name name) None (member_in entries object_class name descriptor))
-    (found P _ entries h) (cond_both (is_init_name name) None (member_in entries object_class name descriptor) (λ o. IfSome o P) (λ e. tt) (λ e. found P _ entries h))
+    either_found P (member_in entries class name descriptor) (cond (is_init_name name) None (member_in entries OBJECT_CLASS name descriptor))
+    (found P _ entries h) (cond_both (is_init_name name) None (member_in entries OBJECT_CLASS name descriptor) (λ o. IfSome o P) (λ e. tt) (λ e. found P _ entries h))
 
 -- ---- a member
 

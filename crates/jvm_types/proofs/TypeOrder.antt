@@ -4,11 +4,12 @@ use Rattle.std.specs.Prelude.{◌||◌, ◌==◌, if◌then◌else◌}
 use Rattle.std.specs.List.{AllByRecursion}
 use Rattle.std.proofs.lemmas.Bool.Decides.{nat_tests}
 use Rattle.jvm_types.specs.Numbers.{has_number}
-use Rattle.jvm_types.specs.ClassTree.{object_class, super_class, ancestors, is_subclass, first_above, common_ancestor}
+use Rattle.jvm_types.specs.ClassTree.{super_class, ancestors, is_subclass, first_above, common_ancestor}
 use Rattle.jvm_types.specs.Types.{is_below, meet, if_same_place}
 use Rattle.jvm_types.specs.declared.typing.VType.{VType}
 use Rattle.jvm_types.specs.declared.typing.VType.TheVariants.{Int, Null, Ref, This, New, Top}
 use Rattle.jvm_types.proofs.ClassCases.{by_class}
+use Rattle.jvm_types.specs.declared.class_numbers.TheConstants.{OBJECT_CLASS}
 
 -- ---- lists of numbers
 
@@ -48,8 +49,8 @@ within (x ∷ xs) ys y all h = by_first (x == y) refl h all.0 (λ g. within xs y
 -- ---- the tree
 
 -- no class is more than four steps from Object
-four_up : (c : ℕ) → super_class (super_class (super_class (super_class c))) ≡ object_class
-four_up = by_class (λ c. super_class (super_class (super_class (super_class c))) ≡ object_class) (refl, (refl, (refl, (refl, (refl, (refl, (refl, (refl, (refl, (refl, (refl, (refl, (refl, (refl, (refl, (refl, tt)))))))))))))))) (λ c. refl)
+four_up : (c : ℕ) → super_class (super_class (super_class (super_class c))) ≡ OBJECT_CLASS
+four_up = by_class (λ c. super_class (super_class (super_class (super_class c))) ≡ OBJECT_CLASS) (refl, (refl, (refl, (refl, (refl, (refl, (refl, (refl, (refl, (refl, (refl, (refl, (refl, (refl, (refl, (refl, tt)))))))))))))))) (λ c. refl)
 
 five_up : (c : ℕ) → super_class (super_class (super_class (super_class c))) ≡ super_class (super_class (super_class (super_class (super_class c))))
 five_up c = four_up c ∙ ap super_class (sym (four_up c))
@@ -102,9 +103,9 @@ pub subclass_self : (c : ℕ) → is_subclass c c ≡ true
 unfolding is_subclass
 subclass_self c = at0 c c refl
 
-pub subclass_object : (c : ℕ) → is_subclass c object_class ≡ true
+pub subclass_object : (c : ℕ) → is_subclass c OBJECT_CLASS ≡ true
 unfolding is_subclass
-subclass_object c = at4 c object_class (four_up c)
+subclass_object c = at4 c OBJECT_CLASS (four_up c)
 
 pub subclass_trans : (c d e : ℕ) → is_subclass c d ≡ true → is_subclass d e ≡ true → is_subclass c e ≡ true
 unfolding is_subclass
@@ -113,7 +114,7 @@ subclass_trans c d e h k = within (ancestors d) (ancestors c) e (above c d h) k
 -- ---- the nearest common ancestor
 
 first_left : (c d : ℕ) (xs : List ℕ) → AllIn (ancestors c) xs → has_number (ancestors c) (first_above d xs) ≡ true
-first_left c d [] all = at4 c object_class (four_up c)
+first_left c d [] all = at4 c OBJECT_CLASS (four_up c)
 first_left c d (x ∷ xs) all = by_first (is_subclass d x) all.0 (first_left c d xs all.1)
   where
     by_first : (t : Bool) → has_number (ancestors c) x ≡ true → has_number (ancestors c) (first_above d xs) ≡ true → has_number (ancestors c) (if t then x else first_above d xs) ≡ true

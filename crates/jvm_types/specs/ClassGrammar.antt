@@ -20,6 +20,7 @@ use Rattle.jvm_types.specs.declared.class_file.MemberAttr.TheVariants as member_
 use Rattle.jvm_types.specs.declared.class_file.Member.{Member}
 use Rattle.jvm_types.specs.declared.class_file.ClassFile.{ClassFile}
 use Rattle.jvm_types.specs.declared.limits.TheConstants.{MOST_FILE_BYTES, FIRST_VERSION, LAST_VERSION}
+use Rattle.jvm_types.specs.declared.class_file.TheConstants.{TEXT_BYTES_END}
 use Rattle.jvm_types.specs.declared.flags.TheConstants.{NATIVE, ABSTRACT}
 
 abbrev pub IsByte : ℕ → Type 0
@@ -73,7 +74,7 @@ GapsFit due (c ∷ cs) = (is_gap c ≡ due) × GapsFit (is_wide c) cs
 
 -- a byte of a text (JVMS 4.4.7); here the bytes are looked at one by one, and not as characters
 abbrev pub IsUtf8Byte : ℕ → Type 0
-IsUtf8Byte b = (0 < b) × (b < 240)
+IsUtf8Byte b = (0 < b) × (b < TEXT_BYTES_END)
 
 -- the numbers of an entry are in their fields
 abbrev pub FieldsFit : Constant → Type 0

@@ -2,11 +2,10 @@
 use Rattle.std.specs.Prelude.{ℕ, bytes_eq, ◌+◌, nat_lt, nat_le, ◌==◌, Bool, ◌&&◌, ◌||◌, not, List, [], ◌∷◌, map, Option, Some, slice_get, codes, if◌then◌else◌}
 use Rattle.std.specs.Option.{option_or}
 use Rattle.std.specs.List.{list_any, position_from}
-use Rattle.jvm_types.specs.ClassTree.{object_class, throwable_class}
 use Rattle.jvm_types.specs.declared.class_file.Constant.{Constant}
 use Rattle.jvm_types.specs.declared.class_file.Constant.TheVariants.{Utf8, Class}
 use Rattle.jvm_types.specs.declared.class_file.ClassFile.{ClassFile}
-use Rattle.jvm_types.specs.declared.class_numbers.TheConstants.{SYSTEM_CLASS, CLASS_ITSELF, FIRST_FILE_CLASS}
+use Rattle.jvm_types.specs.declared.class_numbers.TheConstants.{SYSTEM_CLASS, CLASS_ITSELF, FIRST_FILE_CLASS, OBJECT_CLASS, THROWABLE_CLASS}
 
 -- ---- texts, which are compared byte by byte
 
@@ -51,10 +50,6 @@ numbered_names = codes "java/lang/Object" ∷ codes "[I" ∷ codes "java/io/Prin
 abbrev pub system_name : List ℕ
 system_name = codes "java/lang/System"
 
--- the header of a class itself names this class
-abbrev pub class_itself : ℕ
-class_itself = CLASS_ITSELF
-
 -- the class of a file, by the number of the file from 0
 abbrev pub file_class : ℕ → ℕ
 file_class file = FIRST_FILE_CLASS + file
@@ -63,12 +58,8 @@ file_class file = FIRST_FILE_CLASS + file
 abbrev pub class_number : List (List ℕ) → List ℕ → Option ℕ
 class_number names text = option_or (position_from (bytes_eq text) 1 numbered_names) (position_from (bytes_eq text) (file_class 0) names)
 
--- where a constant names a class, 0 stands for `java/lang/System`
-abbrev pub system_class : ℕ
-system_class = SYSTEM_CLASS
-
 abbrev pub named_class : List (List ℕ) → List ℕ → Option ℕ
-named_class names text = if bytes_eq text system_name then Some system_class else class_number names text
+named_class names text = if bytes_eq text system_name then Some SYSTEM_CLASS else class_number names text
 
 -- the names that no file may take: those of the built-in classes, and that of the array class
 abbrev pub is_built_in_name : List ℕ → Bool
@@ -78,11 +69,11 @@ is_built_in_name text = list_any (bytes_eq text) (system_name ∷ numbered_names
 
 -- Throwable and the classes below it
 abbrev pub is_throwable : ℕ → Bool
-is_throwable class = nat_le throwable_class class && nat_lt class class_itself
+is_throwable class = nat_le THROWABLE_CLASS class && nat_lt class CLASS_ITSELF
 
 -- the built-in classes that have an `<init>()V`
 abbrev pub has_built_in_init : ℕ → Bool
-has_built_in_init class = class == object_class || is_throwable class
+has_built_in_init class = class == OBJECT_CLASS || is_throwable class
 
 -- a class that a `new` may name: one of the program, Object or a throwable (JVMS 6.5, `new`; there every class that is
 -- neither an interface nor abstract, while here PrintStream cannot be made)
@@ -91,4 +82,4 @@ can_be_made class = has_built_in_init class || nat_le (file_class 0) class
 
 -- a class that has objects, in a program of so many files
 abbrev pub is_class : ℕ → ℕ → Bool
-is_class files class = nat_lt 0 class && nat_lt class (file_class files) && not (class == class_itself)
+is_class files class = nat_lt 0 class && nat_lt class (file_class files) && not (class == CLASS_ITSELF)

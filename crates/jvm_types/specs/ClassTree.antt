@@ -3,19 +3,7 @@
 -- them stand here, without IndexOutOfBoundsException and VirtualMachineError between them.
 use Rattle.std.specs.Prelude.{ℕ, slice_index_or, Bool, if◌then◌else◌, List, [], ◌∷◌}
 use Rattle.jvm_types.specs.Numbers.{has_number}
-use Rattle.jvm_types.specs.declared.class_numbers.TheConstants.{OBJECT_CLASS, INT_ARRAY_CLASS, PRINT_STREAM_CLASS, THROWABLE_CLASS}
-
-abbrev pub object_class : ℕ
-object_class = OBJECT_CLASS
-
-abbrev pub int_array_class : ℕ
-int_array_class = INT_ARRAY_CLASS
-
-abbrev pub print_stream_class : ℕ
-print_stream_class = PRINT_STREAM_CLASS
-
-abbrev pub throwable_class : ℕ
-throwable_class = THROWABLE_CLASS
+use Rattle.jvm_types.specs.declared.class_numbers.TheConstants.{OBJECT_CLASS}
 
 -- the class just above each built-in one, by its number: Exception 5 and Error 6 are below Throwable,
 -- RuntimeException 7 and InterruptedException 8 below Exception, 9 to 13 below RuntimeException, and 14 and 15
@@ -25,7 +13,7 @@ built_in_supers = 1 ∷ 1 ∷ 1 ∷ 1 ∷ 1 ∷ 4 ∷ 4 ∷ 5 ∷ 5 ∷ 7 ∷ 7 
 
 -- the class just above
 abbrev pub super_class : ℕ → ℕ
-super_class class = slice_index_or built_in_supers class object_class
+super_class class = slice_index_or built_in_supers class OBJECT_CLASS
 
 -- a class and those above it: no class is more than four steps from Object, and so each list ends there
 abbrev pub ancestors : ℕ → List ℕ
@@ -40,7 +28,7 @@ is_subclass class other = has_number (ancestors class) other
 
 -- the first of some classes that another is below
 abbrev pub first_above : ℕ → List ℕ → ℕ
-first_above other [] = object_class
+first_above other [] = OBJECT_CLASS
 first_above other (c ∷ cs) = if is_subclass other c then c else first_above other cs
 
 -- the nearest common ancestor of two classes

@@ -1,7 +1,7 @@
 -- What descriptors say, by the texts of types (JVMS 4.3.2, 4.3.3).
 use Rattle.std.specs.Prelude.{◌≡◌, ◌⊎◌, ◌↔◌, ℕ, ◌==◌, false, List, [], ◌∷◌, ◌++◌, Option, Some, None, codes}
 use Rattle.std.specs.List.{list_any}
-use Rattle.jvm_types.specs.ClassTree.{int_array_class}
+use Rattle.jvm_types.specs.declared.class_numbers.TheConstants.{INT_ARRAY_CLASS}
 use Rattle.jvm_types.specs.Descriptors.{class_kind, field_kind, Signature, method_signature}
 use Rattle.jvm_types.specs.declared.program.Kind.{Kind}
 use Rattle.jvm_types.specs.declared.program.Kind.TheVariants as kinds
@@ -17,7 +17,7 @@ pub record SpellsClass (names : List (List ℕ)) (class : ℕ) (text : List ℕ)
 abbrev pub SpellsKind : List (List ℕ) → Kind → List ℕ → Type 0
 SpellsKind names kinds.Int text = text ≡ codes "I"
 SpellsKind names kinds.Bool text = text ≡ codes "Z"
-SpellsKind names (kinds.Ref class) text = ((class ≡ int_array_class) × (text ≡ codes "[I")) ⊎ SpellsClass names class text
+SpellsKind names (kinds.Ref class) text = ((class ≡ INT_ARRAY_CLASS) × (text ≡ codes "[I")) ⊎ SpellsClass names class text
 
 -- the texts of types one after another
 abbrev pub SpellsKinds : List (List ℕ) → List Kind → List ℕ → Type 0

@@ -3,7 +3,7 @@
 use Rattle.std.specs.Prelude.{ℕ, bytes_eq, ◌==◌, List, [], ◌∷◌, Option, Some, None, codes, if◌then◌else◌}
 use Rattle.std.specs.Option.{option_map, option_and_then}
 use Rattle.jvm_types.specs.ClassNames.{class_number}
-use Rattle.jvm_types.specs.ClassTree.{int_array_class}
+use Rattle.jvm_types.specs.declared.class_numbers.TheConstants.{INT_ARRAY_CLASS}
 use Rattle.jvm_types.specs.declared.program.Kind.{Kind}
 use Rattle.jvm_types.specs.declared.program.Kind.TheVariants as kinds
 
@@ -19,7 +19,7 @@ followed kind after = None
 
 -- the array of the first of some types: of int alone there are arrays
 abbrev pub array_of : List Kind → List ℕ → Option Types
-array_of (kinds.Int ∷ after) rest = Some (record { kinds = kinds.Ref int_array_class ∷ after; rest = rest })
+array_of (kinds.Int ∷ after) rest = Some (record { kinds = kinds.Ref INT_ARRAY_CLASS ∷ after; rest = rest })
 array_of kinds rest = None
 
 -- the type `L` name `;`: a class that has a number, and not the array class, whose type is `[I`

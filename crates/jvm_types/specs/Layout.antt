@@ -20,10 +20,6 @@ use Rattle.jvm_types.specs.declared.fixed_words.TheConstants.{FIRST_CLASS_WORD, 
 
 -- ---- words
 
--- the words before it: null's, the next free word, ticket and record, 1,024 monitor records and 8 ready objects of two each
-abbrev pub first_class_word : ℕ
-first_class_word = FIRST_CLASS_WORD
-
 abbrev pub static_count : List ClassMember → ℕ
 static_count fields = count_by (λ m. is_static m.flags) fields
 
@@ -33,7 +29,7 @@ class_words c = OBJECT_HEAD_WORDS + static_count c.fields
 
 -- the words that a program has from the start on; objects and arrays follow
 abbrev pub fixed_words : List ClassFile → ℕ
-fixed_words files = first_class_word + sum_by class_words files
+fixed_words files = FIRST_CLASS_WORD + sum_by class_words files
 
 -- ---- start values (JVMS 4.7.2, 5.5)
 
@@ -81,4 +77,4 @@ fields_from names file word [] = []
 fields_from names file word (c ∷ cs) = fields_of names file c.constants 0 (word + OBJECT_HEAD_WORDS) c.fields ++ fields_from names (file + 1) (word + class_words c) cs
 
 abbrev pub laid_out_fields : List (List ℕ) → List ClassFile → List FieldInfo
-laid_out_fields names files = fields_from names 0 first_class_word files
+laid_out_fields names files = fields_from names 0 FIRST_CLASS_WORD files

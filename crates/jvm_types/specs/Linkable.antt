@@ -5,7 +5,7 @@ use Rattle.jvm_types.specs.ClassGrammar.{IsClass}
 use Rattle.jvm_types.specs.CodeGrammar.{IsCode}
 use Rattle.jvm_types.specs.Members.{Declared, declared_methods}
 use Rattle.jvm_types.specs.Linked.{code_of}
-use Rattle.jvm_types.specs.ProgramInvariant.{most_files, most_workers, least_heap, most_heap}
+use Rattle.jvm_types.specs.declared.limits.TheConstants.{LEAST_HEAP, MOST_FILES, MOST_HEAP, MOST_WORKERS}
 use Rattle.jvm_types.specs.declared.class_file.ClassFile.{ClassFile}
 use Rattle.jvm_types.specs.declared.code.Insn.{Insn}
 
@@ -17,9 +17,9 @@ IsDecoded d insns = IsCode (code_of d.member.attrs).bytes (code_of d.member.attr
 -- limits of the machine.
 pub record IsLinkable (files : List ClassFile) (code : List (List Insn)) (heap workers : ℕ) : Type 0 where
   pub some_file : 0 < length files
-  pub few_files : length files ≤ most_files
+  pub few_files : length files ≤ MOST_FILES
   pub classes : AllByRecursion IsClass files
   pub decoded : AllZip IsDecoded (declared_methods files) code
-  pub few_workers : workers ≤ most_workers
-  pub heap_from : least_heap ≤ heap
-  pub heap_to : heap ≤ most_heap
+  pub few_workers : workers ≤ MOST_WORKERS
+  pub heap_from : LEAST_HEAP ≤ heap
+  pub heap_to : heap ≤ MOST_HEAP

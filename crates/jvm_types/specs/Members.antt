@@ -4,8 +4,7 @@ use Rattle.std.specs.Prelude.{ℕ, bytes_eq, ◌+◌, ◌==◌, Bool, ◌&&◌, 
 use Rattle.std.specs.Option.{option_or}
 use Rattle.std.specs.List.{find, range_with_len}
 use Rattle.jvm_types.specs.Numbers.{has_flag}
-use Rattle.jvm_types.specs.ClassNames.{text_at, file_class, system_class}
-use Rattle.jvm_types.specs.ClassTree.{object_class, print_stream_class, throwable_class}
+use Rattle.jvm_types.specs.ClassNames.{text_at, file_class}
 use Rattle.jvm_types.specs.declared.call.Call.{Call}
 use Rattle.jvm_types.specs.declared.call.Call.TheVariants.{Virtual, Special, Static}
 use Rattle.jvm_types.specs.declared.class_file.Constant.{Constant}
@@ -16,7 +15,7 @@ use Rattle.jvm_types.specs.declared.program.Target.TheVariants as targets
 use Rattle.jvm_types.specs.declared.refusal.LRule.{LRule}
 use Rattle.jvm_types.specs.declared.refusal.LRule.TheVariants.{L2, L3, L7}
 use Rattle.jvm_types.specs.declared.flags.TheConstants.{PUBLIC, PRIVATE, STATIC, FINAL, SYNCHRONIZED}
-use Rattle.jvm_types.specs.declared.class_numbers.TheConstants.{THROWABLES}
+use Rattle.jvm_types.specs.declared.class_numbers.TheConstants.{THROWABLES, OBJECT_CLASS, PRINT_STREAM_CLASS, SYSTEM_CLASS, THROWABLE_CLASS}
 
 -- ---- flags (JVMS 4.5, 4.6); every other flag has no effect
 
@@ -52,7 +51,7 @@ pub record Entry : Type 0 where
 
 -- `java/lang/System.out`: public, static and final
 abbrev pub built_in_fields : List Entry
-built_in_fields = record { class = system_class; name = codes "out"; descriptor = codes "Ljava/io/PrintStream;"; flags = PUBLIC + STATIC + FINAL; target = targets.Out } ∷ []
+built_in_fields = record { class = SYSTEM_CLASS; name = codes "out"; descriptor = codes "Ljava/io/PrintStream;"; flags = PUBLIC + STATIC + FINAL; target = targets.Out } ∷ []
 
 -- a public instance method of a built-in class
 abbrev pub public_method : ℕ → List ℕ → List ℕ → Target → Entry
@@ -63,12 +62,12 @@ init_of class = public_method class (codes "<init>") (codes "()V") (targets.Init
 
 -- Object's, PrintStream's, and those of the twelve throwables
 abbrev pub built_in_methods : List Entry
-built_in_methods = init_of object_class
-    ∷ public_method object_class (codes "wait") (codes "()V") targets.Wait
-    ∷ public_method object_class (codes "notify") (codes "()V") targets.Notify
-    ∷ public_method object_class (codes "notifyAll") (codes "()V") targets.NotifyAll
-    ∷ public_method print_stream_class (codes "println") (codes "(I)V") targets.Println
-    ∷ map init_of (range_with_len throwable_class THROWABLES)
+built_in_methods = init_of OBJECT_CLASS
+    ∷ public_method OBJECT_CLASS (codes "wait") (codes "()V") targets.Wait
+    ∷ public_method OBJECT_CLASS (codes "notify") (codes "()V") targets.Notify
+    ∷ public_method OBJECT_CLASS (codes "notifyAll") (codes "()V") targets.NotifyAll
+    ∷ public_method PRINT_STREAM_CLASS (codes "println") (codes "(I)V") targets.Println
+    ∷ map init_of (range_with_len THROWABLE_CLASS THROWABLES)
 
 -- a field or method that a file declares: the number of the file, its own number among those of its class, and the pool of
 -- the file
@@ -115,7 +114,7 @@ abbrev pub member_in : List Entry → ℕ → List ℕ → List ℕ → Option E
 member_in entries class name descriptor = find (λ e. (e.class == class) && bytes_eq e.name name && bytes_eq e.descriptor descriptor) entries
 
 abbrev pub look_up : List Entry → ℕ → List ℕ → List ℕ → Option Entry
-look_up entries class name descriptor = option_or (member_in entries class name descriptor) (if is_init_name name then None else member_in entries object_class name descriptor)
+look_up entries class name descriptor = option_or (member_in entries class name descriptor) (if is_init_name name then None else member_in entries OBJECT_CLASS name descriptor)
 
 -- ---- what a member allows
 

@@ -8,7 +8,7 @@ use Rattle.jvm_types.specs.Descriptors.{method_signature}
 use Rattle.jvm_types.specs.Members.{is_static, is_synchronized, Site, field_rule, call_rule}
 use Rattle.jvm_types.specs.declared.call.Call.{Call}
 use Rattle.jvm_types.specs.declared.call.Call.TheVariants.{Virtual, Special, Static}
-use Rattle.jvm_types.specs.Layout.{first_class_word, kept_int}
+use Rattle.jvm_types.specs.Layout.{kept_int}
 use Rattle.jvm_types.specs.LinkFaults.{is_taken, is_run, is_wrong_root}
 use Rattle.jvm_types.specs.CodeGrammar.{IsCode}
 use Rattle.jvm_types.specs.declared.class_file.Handler.{Handler}
@@ -22,7 +22,7 @@ use Rattle.jvm_types.specs.declared.program.Target.TheVariants as targets
 use Rattle.jvm_types.specs.declared.program.Row.{Row}
 use Rattle.jvm_types.specs.declared.program.MethodInfo.{MethodInfo}
 use Rattle.jvm_types.specs.declared.program.Program.{Program}
-use Rattle.jvm_types.specs.declared.fixed_words.TheConstants.{OBJECT_HEAD_WORDS}
+use Rattle.jvm_types.specs.declared.fixed_words.TheConstants.{OBJECT_HEAD_WORDS, FIRST_CLASS_WORD}
 use Rattle.jvm_types.specs.declared.limits.TheConstants.{MOST_COUNTED, MOST_FILES, MOST_INSTRUCTIONS, MOST_WORKERS, LEAST_HEAP, MOST_HEAP}
 
 -- ---- classes and types
@@ -53,12 +53,12 @@ instances_among class fields = count_by (λ f. (f.class == class) && not (is_sta
 -- before that have two words of their own; an instance field has the next place of its class's objects.
 abbrev pub index_after : List FieldInfo → FieldInfo → ℕ
 index_after earlier f =
-    if is_static f.flags then first_class_word + OBJECT_HEAD_WORDS * (f.class - file_class 0 + 1) + statics_among earlier
+    if is_static f.flags then FIRST_CLASS_WORD + OBJECT_HEAD_WORDS * (f.class - file_class 0 + 1) + statics_among earlier
     else instances_among f.class earlier
 
 -- the words that the program has from the start on
 abbrev pub words_of : Program → ℕ
-words_of p = first_class_word + OBJECT_HEAD_WORDS * length p.names + statics_among p.fields
+words_of p = FIRST_CLASS_WORD + OBJECT_HEAD_WORDS * length p.names + statics_among p.fields
 
 -- a field of the program, behind those before it
 pub record IsFieldOf (p : Program) (before : List FieldInfo) (f : FieldInfo) : Type 0 where
@@ -158,28 +158,12 @@ pub record IsMethodOf (p : Program) (before : List MethodInfo) (m : MethodInfo) 
 
 -- ---- the whole
 
-abbrev pub most_files : ℕ
-most_files = MOST_FILES
-
-abbrev pub most_workers : ℕ
-most_workers = MOST_WORKERS
-
-abbrev pub least_heap : ℕ
-least_heap = LEAST_HEAP
-
-abbrev pub most_heap : ℕ
-most_heap = MOST_HEAP
-
--- 64 files of 1,048,576 bytes have no more instructions
-abbrev pub most_instructions : ℕ
-most_instructions = MOST_INSTRUCTIONS
-
 pub record IsProgram (p : Program) : Type 0 where
   pub some_file : 0 < length p.names
-  pub files : length p.names ≤ most_files
-  pub workers : p.workers ≤ most_workers
-  pub heap_from : least_heap ≤ p.heap
-  pub heap_to : p.heap ≤ most_heap
+  pub files : length p.names ≤ MOST_FILES
+  pub workers : p.workers ≤ MOST_WORKERS
+  pub heap_from : LEAST_HEAP ≤ p.heap
+  pub heap_to : p.heap ≤ MOST_HEAP
   pub words : words_of p ≤ p.heap
   -- no class has the name of a built-in one or of one before it
   pub names : (number : ℕ) (name : List ℕ) → slice_get p.names number ≡ Some name → is_taken (take number p.names) name ≡ false
@@ -187,4 +171,4 @@ pub record IsProgram (p : Program) : Type 0 where
   pub methods : (number : ℕ) (m : MethodInfo) → slice_get p.methods number ≡ Some m → IsMethodOf p (take number p.methods) m
   -- with workers there is a `run(I)V` of the first class
   pub run : 0 < p.workers → list_any (λ m. (m.class == file_class 0) && is_run m.name m.descriptor) p.methods ≡ true
-  pub size : sum_by (λ m. length m.code) p.methods ≤ most_instructions
+  pub size : sum_by (λ m. length m.code) p.methods ≤ MOST_INSTRUCTIONS

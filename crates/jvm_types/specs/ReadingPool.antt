@@ -5,6 +5,7 @@ use Rattle.jvm_types.specs.declared.refusal.CRule.TheVariants.{C4, C5, C6}
 use Rattle.jvm_types.specs.declared.index_kind.IndexKind.{IndexKind}
 use Rattle.jvm_types.specs.declared.index_kind.IndexKind.TheVariants as kinds
 use Rattle.jvm_types.specs.declared.class_file.Constant.{Constant}
+use Rattle.jvm_types.specs.declared.class_file.TheConstants.{TEXT_BYTES_END}
 use Rattle.jvm_types.specs.declared.class_file.Constant.TheVariants.{Gap, Utf8, Integer, Float, Long, Double, Class, Text, Field, Method, InterfaceMethod, NameAndType}
 use Rattle.jvm_types.specs.Spelling.{constant}
 use Rattle.jvm_types.specs.ClassGrammar.{is_wide}
@@ -48,7 +49,7 @@ index_at kind pool bytes = do
 unfoldable pub text_wanted : List ℕ → ℕ → Result (Unit {0}) Fault
 text_wanted [] behind = Ok tt
 text_wanted (b ∷ text) behind = do
-  ok ← wanted (nat_lt 0 b && nat_lt b 240) C6 (length (b ∷ text) + behind)
+  ok ← wanted (nat_lt 0 b && nat_lt b TEXT_BYTES_END) C6 (length (b ∷ text) + behind)
   text_wanted text behind
 
 -- a text behind its length

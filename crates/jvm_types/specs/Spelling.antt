@@ -11,6 +11,7 @@ use Rattle.jvm_types.specs.declared.class_file.MemberAttr.{MemberAttr}
 use Rattle.jvm_types.specs.declared.class_file.MemberAttr.TheVariants as member_attrs
 use Rattle.jvm_types.specs.declared.class_file.Member.{Member}
 use Rattle.jvm_types.specs.declared.class_file.ClassFile.{ClassFile}
+use Rattle.jvm_types.specs.declared.class_file.TheConstants.{MAGIC}
 
 -- a list, behind its length in two bytes
 abbrev pub counted : {A : Type 0} → (A → List ℕ) → List A → List ℕ
@@ -55,6 +56,6 @@ member m = u2 m.flags ++ u2 m.name ++ u2 m.descriptor ++ counted member_attr m.a
 
 -- a class file (JVMS 4.1): 0xCAFEBABE, then its parts in order
 abbrev pub class_file : ClassFile → List ℕ
-class_file c = u4 3405691582 ++ u2 c.minor ++ u2 c.major ++ counted constant c.constants
+class_file c = u4 MAGIC ++ u2 c.minor ++ u2 c.major ++ counted constant c.constants
     ++ u2 c.flags ++ u2 c.this_class ++ u2 c.super_class ++ counted u2 c.interfaces
     ++ counted member c.fields ++ counted member c.methods ++ counted attr c.attrs

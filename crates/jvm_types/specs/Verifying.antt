@@ -3,7 +3,7 @@
 use Rattle.std.specs.Prelude.{◌≡◌, ◌≢◌, ◌≤◌, IsTrue, IsSomeAnd, ℕ, suc, ◌+◌, ◌-◌, Bool, true, false, not, ◌&&◌, ◌||◌, ◌==◌, nat_lt, nat_le, if◌then◌else◌, List, [], ◌∷◌, ◌++◌, length, map, Option, Some, None, Result, Ok, Err, slice_get, slice_set}
 use Rattle.std.specs.List.{list_any, filter, AllByRecursion, AllZip}
 use Rattle.jvm_types.specs.Numbers.{has_number}
-use Rattle.jvm_types.specs.ClassTree.{object_class, throwable_class, is_subclass}
+use Rattle.jvm_types.specs.ClassTree.{is_subclass}
 use Rattle.jvm_types.specs.CodeTable.{row, branches_to, falls_through, stack_after, locals_after, is_init}
 use Rattle.jvm_types.specs.declared.op_row.Want.{Want}
 use Rattle.jvm_types.specs.declared.op_row.Want.TheVariants.{AnyValue, AnInt, AnObject, AnyReference, AHolder, ToStart}
@@ -26,6 +26,7 @@ use Rattle.jvm_types.specs.declared.program.MethodInfo.{MethodInfo}
 use Rattle.jvm_types.specs.declared.program.Program.{Program}
 use Rattle.jvm_types.specs.declared.refusal.VRule.{VRule}
 use Rattle.jvm_types.specs.declared.refusal.VRule.TheVariants.{V1, V2, V3, V4, V5, V6, V7, V8}
+use Rattle.jvm_types.specs.declared.class_numbers.TheConstants.{OBJECT_CLASS, THROWABLE_CLASS}
 
 -- ---- the values that an instruction takes and reads
 
@@ -54,10 +55,10 @@ abbrev pub suits : MethodInfo → Want → VType → Bool
 suits m AnyValue t = true
 suits m AnInt t = is_below t Int
 suits m (AnObject class) t = is_below t (Ref class)
-suits m AnyReference t = is_uninitialised t || is_below t (Ref object_class)
+suits m AnyReference t = is_uninitialised t || is_below t (Ref OBJECT_CLASS)
 suits m (AHolder class) This = class == m.class
 suits m (AHolder class) t = is_below t (Ref class)
-suits m (ToStart class) This = class == m.class || class == object_class
+suits m (ToStart class) This = class == m.class || class == OBJECT_CLASS
 suits m (ToStart class) (New pc) = is_class (new_class m.code m.targets pc) class
 suits m (ToStart class) t = false
 
@@ -177,7 +178,7 @@ edges insn = branches_to insn.op ++ (if falls_through insn.op then insn.next ∷
 
 -- the class that a handler row catches: Throwable where its catch type is 0
 abbrev pub caught_class : Row → ℕ
-caught_class handler = if handler.catch_class == 0 then throwable_class else handler.catch_class
+caught_class handler = if handler.catch_class == 0 then THROWABLE_CLASS else handler.catch_class
 
 -- the frame at a handler: the locals as they are before the instruction, and the one exception on the stack
 abbrev pub frame_at_handler : Row → TypeFrame → TypeFrame
@@ -187,7 +188,7 @@ frame_at_handler handler f = record { stack = Ref (caught_class handler) ∷ [];
 abbrev pub catch_fault : MethodInfo → ℕ → Row → Option (VRule × ℕ)
 catch_fault m pc handler =
     if m.max_stack == 0 then Some (V2, pc) else
-    if not (is_subclass (caught_class handler) throwable_class) then Some (V4, handler.handler) else
+    if not (is_subclass (caught_class handler) THROWABLE_CLASS) then Some (V4, handler.handler) else
     None
 
 -- ---- visits

@@ -5,6 +5,9 @@ use lists::{Bytes, Rows};
 /// The first four bytes of a class file.
 pub const MAGIC: u32 = 0xCAFE_BABE;
 
+/// A byte of a text is below this one, and not 0 (JVMS 4.4.7).
+pub const TEXT_BYTES_END: u8 = 0xF0;
+
 /// An entry of the constant pool (JVMS 4.4). Each `u16` here is an index of the pool.
 #[derive(Debug, PartialEq, Drop)]
 pub enum Constant {

@@ -19,6 +19,9 @@ pub const MONITOR_RECORDS: u32 = 1024;
 /// The words that each object has before its fields or elements: its lock word and its header.
 pub const OBJECT_HEAD_WORDS: u32 = 2;
 
+/// The class numbers that fit the low part of a header; the length of an array stands above it.
+pub const HEADER_CLASSES: u64 = 65_536;
+
 /// How many ready objects there are: seven throwables and `System.out`, none with a field.
 pub const READY_OBJECTS: u32 = 8;
 

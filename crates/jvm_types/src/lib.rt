@@ -18,7 +18,6 @@ pub mod limits;
 pub mod link_laws;
 pub mod op_row;
 pub mod outcome;
-pub mod pool_texts;
 pub mod program;
 pub mod refusal;
 pub mod site;

@@ -30,5 +30,11 @@ pub const LEAST_HEAP: u32 = 4096;
 /// The most heap words.
 pub const MOST_HEAP: u32 = 1_048_576;
 
+/// The most frames of one thread.
+pub const MOST_FRAMES: usize = 256;
+
 /// The most slots of the frames of one thread, their locals and their stacks.
 pub const MOST_SLOTS: u32 = 16_384;
+
+/// The most prints of one thread that a run may allow.
+pub const MOST_PRINTS: u32 = 1_048_576;

@@ -7,8 +7,8 @@ ghost use Rattle.jvm_types.specs.LinkFaults.{is_outside, class_link_fault, class
 
 use crate::places::Fault;
 use crate::texts::is_same_text;
+use constant_pools::pool_texts::class_text_at;
 use jvm_types::flags::{ABSTRACT, INTERFACE, has_flag};
-use jvm_types::pool_texts::class_text_at;
 use jvm_types::{ClassFile, LRule, in_file};
 use link_scope::{FileScope, Scope};
 

@@ -9,9 +9,10 @@ ghost use Rattle.jvm_types.specs.LinkFaults.{is_run, is_entry, is_wrong_root, is
 
 use crate::places::Fault;
 use crate::texts::{is_class_init_name, is_same_text};
+use constant_pools::pool_texts;
 use jvm_types::class_numbers::FIRST_FILE_CLASS;
 use jvm_types::flags::is_static;
-use jvm_types::{ClassFile, LRule, Member, in_file, pool_texts};
+use jvm_types::{ClassFile, LRule, Member, in_file};
 use link_scope::{FileScope, Scope};
 
 /// Whether a method is the part of a worker.

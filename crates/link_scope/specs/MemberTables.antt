@@ -1,7 +1,7 @@
 -- Members by the numbers of their names and descriptors.
 use Rattle.std.specs.Prelude.{◌≡◌, ℕ, ◌<◌, Bool, false, List, [], ◌++◌, Option, Some, None, slice_get, if◌then◌else◌}
 use Rattle.std.specs.Option.{unwrap_or, option_or}
-use Rattle.jvm_types.specs.ClassTree.{object_class}
+use Rattle.jvm_types.specs.declared.class_numbers.TheConstants.{OBJECT_CLASS}
 use Rattle.std.specs.List.{AllByRecursion}
 use Rattle.jvm_types.specs.ClassNames.{text_at, file_class}
 use Rattle.jvm_types.specs.Members.{Entry, built_in_fields, built_in_methods, declared_from, declared_by, entries_from, member_in}
@@ -89,7 +89,7 @@ pub record AreMembers (sort : Sort) (files : List ClassFile) (numbers : List (Li
 
 -- the member with a key, or else that of Object with its name and descriptor, which no `<init>` is looked for in
 abbrev pub found_in : List (Key × Found) → Key → Bool → Option Found
-found_in table key is_init = option_or (found_at table key) (if is_init then None else found_at table (record key { class = object_class }))
+found_in table key is_init = option_or (found_at table key) (if is_init then None else found_at table (record key { class = OBJECT_CLASS }))
 
 -- the files are classes, and their fields and methods stand in their tables
 pub record AreScoped (files : List ClassFile) (numbers : List (List ℕ × ℕ)) (field_table method_table : Members) : Type 0 where

@@ -5,7 +5,7 @@ use Rattle.jvm_types.specs.ClassGrammar.{IsClass}
 use Rattle.jvm_types.specs.ClassNames.{text_at, class_name, class_names}
 use Rattle.jvm_types.specs.Members.{Entry}
 use Rattle.jvm_types.specs.LinkFaults.{is_repeated, is_taken}
-use Rattle.jvm_types.specs.ProgramInvariant.{most_files}
+use Rattle.jvm_types.specs.declared.limits.TheConstants.{MOST_FILES}
 use Rattle.jvm_types.specs.declared.class_file.Constant.{Constant}
 use Rattle.jvm_types.specs.declared.class_file.Member.{Member as ClassMember}
 use Rattle.jvm_types.specs.declared.class_file.ClassFile.{ClassFile}
@@ -31,7 +31,7 @@ IsFound name found entry = ⊥
 
 -- at most 64 classes
 pub record AreFiles (files : List ClassFile) : Type 0 where
-  pub few : length files ≤ most_files
+  pub few : length files ≤ MOST_FILES
   pub classes : AllByRecursion IsClass files
 
 -- one of some files: its number and its class
@@ -41,7 +41,7 @@ pub record FileOf : Type 0 where
   pub class : ClassFile
 
 pub record IsFileOf (f : FileOf) : Type 0 where
-  pub number : f.number < most_files
+  pub number : f.number < MOST_FILES
   pub here : slice_get f.files f.number ≡ Some f.class
   pub class : IsClass f.class
 

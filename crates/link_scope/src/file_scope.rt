@@ -11,8 +11,8 @@ ghost use Rattle.descriptors.specs.Signatures.{meaning};
 ghost use Rattle.link_scope.specs.Scoping.{IsFound, IsFileOf, repeats};
 
 use crate::scope::{Found, Scope};
+use constant_pools::pool_texts::text_at;
 use descriptors::Signature;
-use jvm_types::pool_texts::text_at;
 use jvm_types::{ClassFile, Kind, class_numbers};
 use std::alloc::{AllocError, Global};
 use std::marker::Model;

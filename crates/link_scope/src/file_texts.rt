@@ -12,9 +12,9 @@ ghost use Rattle.link_scope.specs.FileTexts.{IsRow, AreRows, is_before};
 
 use crate::names::names_of;
 use crate::texts::{EMPTY, Meaning, Texts};
+use constant_pools::pool_texts::{class_name, text_of};
 use descriptors::{ClassNumbers, Signature};
 use jvm_types::class_numbers::FIRST_FILE_CLASS;
-use jvm_types::pool_texts::{class_name, text_of};
 use jvm_types::{ClassFile, Constant, Rows};
 use std::alloc::{AllocError, Global};
 use std::marker::Model;

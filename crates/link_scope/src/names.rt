@@ -4,7 +4,7 @@ ghost use Rattle.std.specs.Prelude.{◌≡◌, IfOk};
 ghost use Rattle.jvm_types.specs.ClassNames.{class_names};
 ghost use Rattle.descriptors.specs.NameTables.{names_in};
 
-use jvm_types::pool_texts::class_name;
+use constant_pools::pool_texts::class_name;
 use jvm_types::{ClassFile, Rows};
 use std::alloc::{AllocError, Global};
 

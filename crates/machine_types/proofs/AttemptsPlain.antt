@@ -4,7 +4,7 @@ use Rattle.std.specs.Prelude.{Contains, nat_le, nat_lt, option_map, option_and_t
 use Rattle.std.specs.Option.{option_or}
 use Rattle.std.proofs.lemmas.Bool.Decides.{nat_tests}
 use Rattle.lists.proofs.ListLaws.{same_some}
-use Rattle.jvm_types.specs.ClassTree.{int_array_class}
+use Rattle.jvm_types.specs.declared.class_numbers.TheConstants.{INT_ARRAY_CLASS}
 use Rattle.jvm_types.specs.Members.{is_static}
 use Rattle.jvm_types.specs.Numbers.{has_number}
 use Rattle.jvm_types.specs.ProgramInvariant.{IsProgram, instances_among}
@@ -88,7 +88,7 @@ has_field o index lt =
 -- ---- no new object has them
 
 size_two : (p : Program) (word : ℕ) → 2 ≤ size_by p word
-size_two p word = by_test (header_class word == int_array_class)
+size_two p word = by_test (header_class word == INT_ARRAY_CLASS)
   where
     by_test : (b : Bool) → 2 ≤ cond b (2 + header_length word) (2 + instances_among (header_class word) p.fields)
     by_test true = omega arith

@@ -7,8 +7,8 @@ use Rattle.std.proofs.lemmas.Bool.{cases_order, eqb-true}
 use Rattle.std.proofs.lemmas.Bool.Decides.{nat_tests}
 use Rattle.lists.proofs.TestLaws.{both_are_true}
 use Rattle.lists.proofs.ListLaws.{same_some}
-use Rattle.jvm_types.specs.ClassNames.{class_itself, file_class}
-use Rattle.jvm_types.specs.Layout.{first_class_word}
+use Rattle.jvm_types.specs.ClassNames.{file_class}
+use Rattle.jvm_types.specs.declared.class_numbers.TheConstants.{CLASS_ITSELF}
 use Rattle.jvm_types.specs.Members.{is_static}
 use Rattle.jvm_types.specs.ProgramInvariant.{IsProgram, instances_among, statics_among, words_of}
 use Rattle.jvm_types.specs.declared.program.FieldInfo.{FieldInfo}
@@ -23,6 +23,7 @@ use Rattle.machine_types.specs.StartLaws.{StartLiesApart, StartIsUnused}
 use Rattle.machine_types.specs.StartWords.{object_words, statics_of, class_words, classes_of}
 use Rattle.machine_types.specs.Words.{most_records}
 use Rattle.machine_types.proofs.Lists.{every}
+use Rattle.jvm_types.specs.declared.fixed_words.TheConstants.{FIRST_CLASS_WORD}
 
 -- ---- how many static fields there are, and how many of the classes below one
 
@@ -130,9 +131,9 @@ earlier_class p is i j f g e h le = ⊎_elim
     (cases_order i j)
 
 pub static_word : (p : Program) → IsProgram p → (n : ℕ) (f : FieldInfo) → slice_get p.fields n ≡ Some f → is_static f.flags ≡ true
-    → f.index ≡ first_class_word + 2 * (f.class - file_class 0 + 1) + sum_by one_static (take n p.fields)
+    → f.index ≡ FIRST_CLASS_WORD + 2 * (f.class - file_class 0 + 1) + sum_by one_static (take n p.fields)
 static_word p is n f e s =
-    (is.fields n f e).index ∙ ap (λ b. cond b (first_class_word + 2 * (f.class - file_class 0 + 1) + statics_among (take n p.fields)) (instances_among f.class (take n p.fields))) s
+    (is.fields n f e).index ∙ ap (λ b. cond b (FIRST_CLASS_WORD + 2 * (f.class - file_class 0 + 1) + statics_among (take n p.fields)) (instances_among f.class (take n p.fields))) s
 
 -- no object of a built-in class has a field
 no_instances : (class : ℕ) (fields : List FieldInfo) → ((i : ℕ) (f : FieldInfo) → slice_get fields i ≡ Some f → class < f.class) → sum_by (λ (f : FieldInfo). cond ((f.class == class) && not (is_static f.flags)) 1 0) fields ≡ 0
@@ -233,8 +234,8 @@ placed to o e =
     let c : (nat_lt o.class (file_class 0) ≡ true) × ((length o.values == 0) ≡ true) = both_are_true _ _ b.1 in
     record { begins = at_most first_ready o.reference a.0; to_word = at_most (object_end o) to b.0; built_in = less o.class (file_class 0) c.0; empty = eqb-true (length o.values) 0 c.1 }
 
-pub ready_placed : (i : ℕ) (o : Object) → slice_get ready_objects i ≡ Some o → IsPlaced o first_class_word
-ready_placed i o e = placed first_class_word o (every (is_placed first_class_word) ready_objects refl i o e)
+pub ready_placed : (i : ℕ) (o : Object) → slice_get ready_objects i ≡ Some o → IsPlaced o FIRST_CLASS_WORD
+ready_placed i o e = placed FIRST_CLASS_WORD o (every (is_placed FIRST_CLASS_WORD) ready_objects refl i o e)
 
 abbrev each_two : {X : Type 0} → (X → X → Bool) → List X → Bool
 each_two test [] = true
@@ -257,12 +258,12 @@ pub record IsClassObject (fields : List FieldInfo) (reference class count number
   pub place : o.reference + statics_below class fields ≡ reference + 2 * number + statics_below (class + number) fields
   pub few : number < count
   pub empty : o.values ≡ []
-  pub itself : o.class ≡ class_itself
+  pub itself : o.class ≡ CLASS_ITSELF
 
 class_object : (fields : List FieldInfo) (count class reference i : ℕ) (o : Object) → slice_get (class_objects fields reference (range_with_len class count)) i ≡ Some o → IsClassObject fields reference class count i o
 class_object fields zero class reference i o e = cc
 class_object fields (suc count) class reference zero o e =
-    let same : record { reference = reference; class = class_itself; values = [] } ≡ o = same_some e in
+    let same : record { reference = reference; class = CLASS_ITSELF; values = [] } ≡ o = same_some e in
     let is : reference ≡ o.reference = ap (λ (x : Object). x.reference) same in
     let at : statics_below (class + 0) fields ≡ statics_below class fields = ap (λ (c : ℕ). statics_below c fields) (omega arith) in
     record { place = omega (arith, is, at); few = omega arith; empty = sym (ap (λ (x : Object). x.values) same); itself = sym (ap (λ (x : Object). x.class) same) }
@@ -272,19 +273,19 @@ class_object fields (suc count) class reference (suc i) o e =
     record { place = omega (arith, k.place, at, one_class_more class fields); few = omega (arith, k.few); empty = k.empty; itself = k.itself }
 
 abbrev classes_in : Program → List Object
-classes_in p = class_objects p.fields first_class_word (classes_of p)
+classes_in p = class_objects p.fields FIRST_CLASS_WORD (classes_of p)
 
 pub record IsClassAt (p : Program) (number : ℕ) (o : Object) : Type 0 where
-  pub place : o.reference ≡ first_class_word + 2 * number + statics_below (file_class number) p.fields
+  pub place : o.reference ≡ FIRST_CLASS_WORD + 2 * number + statics_below (file_class number) p.fields
   pub few : number < length p.names
-  pub itself : o.class ≡ class_itself
+  pub itself : o.class ≡ CLASS_ITSELF
   pub placed : IsPlaced o (words_of p)
 
 class_at : (p : Program) → IsProgram p → (number : ℕ) (o : Object) → slice_get (classes_in p) number ≡ Some o → IsClassAt p number o
 class_at p is number o e =
-    let k : IsClassObject p.fields first_class_word (file_class 0) (length p.names) number o = class_object p.fields (length p.names) (file_class 0) first_class_word number o e in
+    let k : IsClassObject p.fields FIRST_CLASS_WORD (file_class 0) (length p.names) number o = class_object p.fields (length p.names) (file_class 0) FIRST_CLASS_WORD number o e in
     let before : statics_below (file_class 0) p.fields ≡ 0 = none_below (file_class 0) p.fields (class_from p is) in
-    let place : o.reference ≡ first_class_word + 2 * number + statics_below (file_class number) p.fields = omega (arith, k.place, before) in
+    let place : o.reference ≡ FIRST_CLASS_WORD + 2 * number + statics_below (file_class number) p.fields = omega (arith, k.place, before) in
     let none : length o.values ≡ 0 = ap length k.empty in
     record {
       place = place;
@@ -326,7 +327,7 @@ stands p is i o e = by_side (got_append ready_objects (classes_in p) i o e)
     by_side (inl h) = is_ready h.0 h.1
     by_side (inr h) = is_class h.0 h.1 (class_at p is h.0 o h.2)
 
-from_first_class : (p : Program) (o : Object) → IsPlaced o first_class_word → IsPlaced o (words_of p)
+from_first_class : (p : Program) (o : Object) → IsPlaced o FIRST_CLASS_WORD → IsPlaced o (words_of p)
 from_first_class p o k = record { begins = k.begins; to_word = omega (arith, k.to_word); built_in = k.built_in; empty = k.empty }
 
 pub object_placed : (p : Program) (i : ℕ) (o : Object) → Stands p i o → IsPlaced o (words_of p)
@@ -356,7 +357,7 @@ outside p is i o s (is_class number at k) v = ⊎_elim
     (λ (apart : (v.field.class < file_class number) ⊎ (file_class number < v.field.class)). ⊎_elim (λ (lt : v.field.class < file_class number). inl (before lt)) (λ (gt : file_class number < v.field.class). inr (behind (omega (arith, gt)))) apart)
     (cases_order v.field.class (file_class number))
   where
-    word : s.word ≡ first_class_word + 2 * (v.field.class - file_class 0 + 1) + sum_by one_static (take v.number p.fields)
+    word : s.word ≡ FIRST_CLASS_WORD + 2 * (v.field.class - file_class 0 + 1) + sum_by one_static (take v.number p.fields)
     word = ap (λ (x : StaticValue). x.word) v.same ∙ static_word p is v.number v.field v.is v.static
 
     before : v.field.class < file_class number → s.word < o.reference
@@ -428,7 +429,7 @@ length_classes fields (suc count) class =
 abbrev pub front : Program → (records : ℕ) → List ℕ
 front p records = 0 ∷ words_of p ∷ 0 ∷ 0 ∷ replicate records 0 ++ flat_map object_words ready_classes ++ flat_map (class_words p.fields) (classes_of p)
 
-length_front : (p : Program) (records : ℕ) → IsProgram p → length (front p records) + first_class_word ≡ words_of p + (20 + records)
+length_front : (p : Program) (records : ℕ) → IsProgram p → length (front p records) + FIRST_CLASS_WORD ≡ words_of p + (20 + records)
 length_front p records is =
     let classes = length_classes p.fields (length p.names) (file_class 0) in
     omega (

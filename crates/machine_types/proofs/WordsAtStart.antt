@@ -7,8 +7,8 @@ use Rattle.std.proofs.lemmas.Bool.{cases_order, eqb-true}
 use Rattle.std.proofs.lemmas.Bool.Decides.{nat_tests}
 use Rattle.lists.proofs.ListLaws.{same_some}
 use Rattle.jvm_types.specs.ClassNames.{file_class}
-use Rattle.jvm_types.specs.ClassTree.{int_array_class}
-use Rattle.jvm_types.specs.Layout.{first_class_word}
+use Rattle.jvm_types.specs.declared.class_numbers.TheConstants.{INT_ARRAY_CLASS}
+use Rattle.jvm_types.specs.declared.fixed_words.TheConstants.{FIRST_CLASS_WORD}
 use Rattle.jvm_types.specs.Members.{is_static}
 use Rattle.jvm_types.specs.ProgramInvariant.{IsProgram, words_of}
 use Rattle.jvm_types.specs.declared.program.FieldInfo.{FieldInfo}
@@ -97,10 +97,10 @@ from_ready p records = from_classes p records ∙ append_assoc (records_part p r
 
 -- ---- a word of a class, and one of a ready object
 
-in_class : (p : Program) (records : ℕ) → records ≡ 2 * most_records → IsProgram p → (number reference d : ℕ) → number < length p.names → reference ≡ first_class_word + 2 * number + statics_below (file_class number) p.fields
+in_class : (p : Program) (records : ℕ) → records ≡ 2 * most_records → IsProgram p → (number reference d : ℕ) → number < length p.names → reference ≡ FIRST_CLASS_WORD + 2 * number + statics_below (file_class number) p.fields
     → d < 2 + length (statics_of p.fields (file_class number)) → slice_index (front p records ++ unused_part p) (reference + d) ≡ slice_index (class_words p.fields (file_class number)) d
 in_class p records many is number reference d few at within =
-    let place : ℕ = reference - first_class_word in
+    let place : ℕ = reference - FIRST_CLASS_WORD in
     let to : reference + d ≡ length (records_part p records ++ ready_part) + (place + d) = omega (arith, many, at, length_before p records) in
     ap (slice_index (front p records ++ unused_part p)) to
     ∙ ap (λ (l : List ℕ). slice_index l (length (records_part p records ++ ready_part) + (place + d))) (from_classes p records)
@@ -135,7 +135,7 @@ header_by p records many is i o (is_ready e lt) =
     ∙ eqb-true (slice_index (ready_part ++ more) (o.reference - first_ready + 1)) (header_of o) (every (λ x. slice_index (ready_part ++ more) (x.reference - first_ready + 1) == header_of x) ready_objects refl i o e)
 header_by p records many is i o (is_class number to k) =
     in_class p records many is number o.reference 1 k.few k.place (omega arith)
-    ∙ sym (ap (λ (class : ℕ). header class (cond (class == int_array_class) (length o.values) 0)) k.itself)
+    ∙ sym (ap (λ (class : ℕ). header class (cond (class == INT_ARRAY_CLASS) (length o.values) 0)) k.itself)
 
 pub header_is : (p : Program) → IsProgram p → (i : ℕ) (o : Object) → slice_get (start_objects p) i ≡ Some o → slice_index (start_words p) (header_word o.reference) ≡ header_of o
 header_is p is i o e = header_by p (2 * most_records) refl is i o (stands p is i o e)
@@ -205,7 +205,7 @@ static_by p records many is n f e s =
     let number : ℕ = f.class - file_class 0 in
     let class : file_class number ≡ f.class = omega (arith, class_from p is n f e) in
     let few : number < length p.names = omega (arith, class, class_to p is n f e) in
-    let reference : ℕ = first_class_word + 2 * number + statics_below (file_class number) p.fields in
+    let reference : ℕ = FIRST_CLASS_WORD + 2 * number + statics_below (file_class number) p.fields in
     let j : ℕ = sum_by one_static (take n p.fields) - statics_below (file_class number) p.fields in
     let least : statics_below (file_class number) p.fields ≤ sum_by one_static (take n p.fields) = before_at_least (file_class number) p.fields n (λ i g le get. omega (arith, class, earlier_class p is n i f g e get le)) in
     let get : slice_get (statics_of p.fields (file_class number)) j ≡ Some f

@@ -3,7 +3,7 @@
 use Rattle.std.specs.Prelude.{◌≡◌, ◌<◌, ◌≤◌, ℕ, zero, suc, ◌+◌, List, [], ◌∷◌, length, Option, Some, None, IfSome, IsTrue}
 use Rattle.std.specs.List.{AllByRecursion}
 use Rattle.jvm_types.specs.Numbers.{has_number}
-use Rattle.jvm_types.specs.ProgramInvariant.{most_workers}
+use Rattle.jvm_types.specs.declared.limits.TheConstants.{MOST_WORKERS}
 use Rattle.jvm_types.specs.declared.outcome.End.TheVariants as ends
 use Rattle.jvm_types.specs.declared.program.Program.{Program}
 use Rattle.machine_types.specs.FoundWords.{most_count}
@@ -23,7 +23,7 @@ KeptFits (keeps.Fat r) = r < most_records
 
 abbrev pub PhaseFits : Phase → Type 0
 PhaseFits (phases.Take m c) = c < most_count
-PhaseFits (phases.Flag m u) = u ≤ most_workers
+PhaseFits (phases.Flag m u) = u ≤ MOST_WORKERS
 PhaseFits (phases.TakeFat m r) = r < most_records
 PhaseFits (phases.Own m r toward) = r < most_records
 PhaseFits (phases.FatIn m r toward) = r < most_records
@@ -32,7 +32,7 @@ PhaseFits (phases.WaitOut m r) = r < most_records
 PhaseFits (phases.WaitLook m r depth) = r < most_records
 PhaseFits (phases.Retake m r depth) = r < most_records
 PhaseFits (phases.NotifyLook m r) = r < most_records
-PhaseFits (phases.NotifyOne m r u) = (r < most_records) × (u ≤ most_workers)
+PhaseFits (phases.NotifyOne m r u) = (r < most_records) × (u ≤ MOST_WORKERS)
 PhaseFits (phases.NotifyAll m r) = r < most_records
 PhaseFits phase = Unit {0}
 

@@ -1,7 +1,8 @@
 -- Which words an event may find, by what stands at the word that it accesses.
-use Rattle.std.specs.Prelude.{◌≡◌, ◌≢◌, ◌<◌, ◌≤◌, ℕ, ◌^◌, true, length, Option, Some, None, IsTrue, IsSome, slice_get}
-use Rattle.jvm_types.specs.ClassNames.{is_class, class_itself}
-use Rattle.jvm_types.specs.ClassTree.{int_array_class}
+use Rattle.std.specs.Prelude.{◌≡◌, ◌≢◌, ◌<◌, ◌≤◌, ℕ, ◌+◌, ◌^◌, true, length, Option, Some, None, IsTrue, IsSome, slice_get}
+use Rattle.jvm_types.specs.ClassNames.{is_class}
+use Rattle.jvm_types.specs.declared.class_numbers.TheConstants.{CLASS_ITSELF, INT_ARRAY_CLASS}
+use Rattle.jvm_types.specs.declared.limits.TheConstants.{MOST_WORKERS}
 use Rattle.jvm_types.specs.declared.program.FieldInfo.{FieldInfo}
 use Rattle.jvm_types.specs.declared.program.Kind.{Kind}
 use Rattle.jvm_types.specs.declared.program.Kind.TheVariants as kinds
@@ -47,14 +48,14 @@ HasCount lock = Unit {0}
 
 -- a class that has objects, or a class itself; only arrays have a length
 pub record IsHeader (p : Program) (word : ℕ) : Type 0 where
-  pub class : header_class word ≢ class_itself → IsTrue (is_class (length p.names) (header_class word))
-  pub unsized : header_class word ≢ int_array_class → header_length word ≡ 0
+  pub class : header_class word ≢ CLASS_ITSELF → IsTrue (is_class (length p.names) (header_class word))
+  pub unsized : header_class word ≢ INT_ARRAY_CLASS → header_length word ≡ 0
   pub fits : header_length word ≤ p.heap
 
 abbrev pub WordFits : Program → Content → (word : ℕ) → Type 0
 WordFits p Lock word = (is_lock_word word ≡ true) × HasCount (lock_of word)
-WordFits p Owner word = word ≤ 9
-WordFits p Bits word = word < 512
+WordFits p Owner word = word ≤ MOST_WORKERS + 1
+WordFits p Bits word = word < 2 ^ (MOST_WORKERS + 1)
 WordFits p Header word = IsHeader p word
 WordFits p ThrowableHeader word = IsHeader p word × IsSome (thrown_of (header_class word))
 WordFits p IntPlace word = word < 2 ^ 32

@@ -1,7 +1,7 @@
 -- Objects whose header is not stored yet lie apart from all others, and their words are 0 (JVMS 6.5, `new`: fields begin with
 -- their default values).
 use Rattle.std.specs.Prelude.{◌≡◌, ◌≢◌, ◌⊎◌, ℕ, ◌+◌, ◌<◌, ◌≤◌, ◌==◌, List, Contains, Some, slice_get, slice_index, if◌then◌else◌}
-use Rattle.jvm_types.specs.ClassTree.{int_array_class}
+use Rattle.jvm_types.specs.declared.class_numbers.TheConstants.{INT_ARRAY_CLASS}
 use Rattle.jvm_types.specs.ProgramInvariant.{words_of}
 use Rattle.jvm_types.specs.declared.program.Program.{Program}
 use Rattle.machine_types.specs.Core.{Core}
@@ -11,7 +11,7 @@ use Rattle.machine_types.specs.Words.{free_word, header_class, header_length, ob
 use Rattle.machine_types.specs.declared.phase.Phase.TheVariants as phases
 
 abbrev pub size_by : Program → (word : ℕ) → ℕ
-size_by p word = if header_class word == int_array_class then array_size (header_length word) else object_size p (header_class word)
+size_by p word = if header_class word == INT_ARRAY_CLASS then array_size (header_length word) else object_size p (header_class word)
 
 pub record IsNewObject (p : Program) (objects : List Object) (s : Core) (a size : ℕ) : Type 0 where
   -- behind the words that are there from the start

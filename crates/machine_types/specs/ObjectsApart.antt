@@ -1,7 +1,7 @@
 -- Objects and static fields lie apart: no place belongs to two of them, and all lie below the number for the next reference,
 -- inside the heap; and all places that the program's fields name are there.
 use Rattle.std.specs.Prelude.{◌≡◌, ◌≢◌, ◌<◌, ◌≤◌, ◌⊎◌, ℕ, true, List, length, Contains, slice_get, Some}
-use Rattle.jvm_types.specs.ClassTree.{int_array_class}
+use Rattle.jvm_types.specs.declared.class_numbers.TheConstants.{INT_ARRAY_CLASS}
 use Rattle.jvm_types.specs.Members.{is_static}
 use Rattle.jvm_types.specs.ProgramInvariant.{instances_among}
 use Rattle.jvm_types.specs.declared.program.FieldInfo.{FieldInfo}
@@ -26,7 +26,7 @@ pub record LieApart (p : Program) (objects : List Object) (statics : List Static
   pub below : (i : ℕ) (o : Object) → slice_get objects i ≡ Some o → object_end o ≤ next
   pub inside : (i : ℕ) (o : Object) → slice_get objects i ≡ Some o → object_end o ≤ p.heap
   -- an object has a value for each field of its class
-  pub sized : (i : ℕ) (o : Object) → slice_get objects i ≡ Some o → o.class ≢ int_array_class → length o.values ≡ instances_among o.class p.fields
+  pub sized : (i : ℕ) (o : Object) → slice_get objects i ≡ Some o → o.class ≢ INT_ARRAY_CLASS → length o.values ≡ instances_among o.class p.fields
   pub statics_begin : (j : ℕ) (s : StaticValue) → slice_get statics j ≡ Some s → first_ready ≤ s.word
   pub statics_below : (j : ℕ) (s : StaticValue) → slice_get statics j ≡ Some s → (s.word < next) × (s.word < p.heap)
   -- and each static field is there

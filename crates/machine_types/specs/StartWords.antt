@@ -1,7 +1,7 @@
 -- The words at the start of a run.
 use Rattle.std.specs.Prelude.{ℕ, ◌-◌, ◌*◌, ◌==◌, ◌&&◌, List, [], ◌∷◌, ◌++◌, map, length, filter, flat_map, replicate}
 use Rattle.std.specs.List.{range_with_len}
-use Rattle.jvm_types.specs.ClassNames.{file_class, class_itself}
+use Rattle.jvm_types.specs.ClassNames.{file_class}
 use Rattle.jvm_types.specs.Members.{is_static}
 use Rattle.jvm_types.specs.ProgramInvariant.{words_of}
 use Rattle.jvm_types.specs.declared.program.FieldInfo.{FieldInfo}
@@ -10,6 +10,7 @@ use Rattle.machine_types.specs.Ints.{word_of}
 use Rattle.machine_types.specs.LockWords.{word_of_lock, Free}
 use Rattle.machine_types.specs.ReadyObjects.{ready_classes}
 use Rattle.machine_types.specs.Words.{header, most_records}
+use Rattle.jvm_types.specs.declared.class_numbers.TheConstants.{CLASS_ITSELF}
 
 -- an object without fields, whose lock is free
 abbrev pub object_words : (class : ℕ) → List ℕ
@@ -20,7 +21,7 @@ statics_of fields class = filter (λ f. (f.class == class) && is_static f.flags)
 
 -- the class itself as an object, and its static fields in order
 abbrev pub class_words : List FieldInfo → (class : ℕ) → List ℕ
-class_words fields class = object_words class_itself ++ map (λ f. word_of f.start) (statics_of fields class)
+class_words fields class = object_words CLASS_ITSELF ++ map (λ f. word_of f.start) (statics_of fields class)
 
 -- the classes of the files
 abbrev pub classes_of : Program → List ℕ

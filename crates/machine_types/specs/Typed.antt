@@ -1,7 +1,7 @@
 -- Types: frames and places have values of the types that verification and declarations give them (JVMS 4.10.2.2, 2.3, 2.4).
 use Rattle.std.specs.Prelude.{◌≡◌, ℕ, ◌⊎◌, ◌<◌, ◌^◌, true, false, List, [], ◌∷◌, length, drop, Option, Some, None, slice_get, slice_index, Contains}
 use Rattle.std.specs.List.{AllZip}
-use Rattle.jvm_types.specs.ClassTree.{int_array_class, is_subclass}
+use Rattle.jvm_types.specs.ClassTree.{is_subclass}
 use Rattle.jvm_types.specs.Members.{is_static}
 use Rattle.jvm_types.specs.Verifying.{new_class}
 use Rattle.jvm_types.specs.declared.outcome.Thrown.{Thrown}
@@ -27,6 +27,7 @@ use Rattle.machine_types.specs.declared.phase.Toward.{Toward}
 use Rattle.machine_types.specs.declared.phase.Toward.TheVariants as towards
 use Rattle.machine_types.specs.declared.phase.Phase.TheVariants as phases
 use Rattle.machine_types.specs.Standing.{Standing, CallsMethod, row_at}
+use Rattle.jvm_types.specs.declared.class_numbers.TheConstants.{INT_ARRAY_CLASS}
 
 -- ---- values
 
@@ -174,7 +175,7 @@ pub record PlacesHold (p : Program) (objects : List Object) (words : List ℕ) :
   pub headers : (o : Object) → Contains objects o → slice_index words (header_word o.reference) ≡ header_of o
   pub fields : (o : Object) (number : ℕ) (f : FieldInfo) → Contains objects o → slice_get p.fields number ≡ Some f → is_static f.flags ≡ false → o.class ≡ f.class
       → KindHolds (HasClass objects) f.kind (slice_index words (value_word o.reference f.index))
-  pub elements : (o : Object) (i : ℕ) → Contains objects o → o.class ≡ int_array_class → i < length o.values → slice_index words (value_word o.reference i) < 2 ^ 32
+  pub elements : (o : Object) (i : ℕ) → Contains objects o → o.class ≡ INT_ARRAY_CLASS → i < length o.values → slice_index words (value_word o.reference i) < 2 ^ 32
   pub statics : (number : ℕ) (f : FieldInfo) → slice_get p.fields number ≡ Some f → is_static f.flags ≡ true → KindHolds (HasClass objects) f.kind (slice_index words f.index)
 
 -- of a state with these objects

@@ -3,10 +3,11 @@ use Rattle.std.proofs.Common.{◌≡◌, ℕ, ◌≤◌, Bool, true, false, ◌&
 use Rattle.std.specs.Prelude.{◌==◌, nat_le, nat_lt}
 use Rattle.std.proofs.lemmas.Bool.Decides.{nat_tests}
 use Rattle.jvm_types.specs.Numbers.{has_number}
-use Rattle.jvm_types.specs.ClassTree.{throwable_class, super_class, ancestors, is_subclass, built_in_supers}
+use Rattle.jvm_types.specs.ClassTree.{super_class, ancestors, is_subclass, built_in_supers}
 use Rattle.jvm_types.proofs.ClassCases.{behind, by_class}
 use Rattle.jvm_types.proofs.TypeOrder.{pick}
 use Rattle.program_laws.specs.ClassLaws.{LeavesStandAlone, FileClassesStandAlone, ThrowablesAreBelow}
+use Rattle.jvm_types.specs.declared.class_numbers.TheConstants.{THROWABLE_CLASS}
 
 -- ---- classes that are just above none
 
@@ -40,4 +41,4 @@ past c h = both (c == 4) (nat_le 4 c) (nat_lt c 16) (grind (arith, nat_tests, h)
 
 pub throwables_below : ThrowablesAreBelow
 unfolding is_subclass
-throwables_below = by_class (λ c. is_subclass c throwable_class ≡ (nat_le 4 c && nat_lt c 16)) (refl, (refl, (refl, (refl, (refl, (refl, (refl, (refl, (refl, (refl, (refl, (refl, (refl, (refl, (refl, (refl, tt)))))))))))))))) (λ c. past (behind 16 c) (omega arith))
+throwables_below = by_class (λ c. is_subclass c THROWABLE_CLASS ≡ (nat_le 4 c && nat_lt c 16)) (refl, (refl, (refl, (refl, (refl, (refl, (refl, (refl, (refl, (refl, (refl, (refl, (refl, (refl, (refl, (refl, tt)))))))))))))))) (λ c. past (behind 16 c) (omega arith))

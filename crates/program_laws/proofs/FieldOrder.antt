@@ -6,7 +6,7 @@ use Rattle.std.proofs.lemmas.Bool.{cases_order}
 use Rattle.std.proofs.lemmas.Bool.Decides.{nat_tests}
 use Rattle.jvm_types.specs.ClassNames.{file_class}
 use Rattle.jvm_types.specs.Members.{is_static}
-use Rattle.jvm_types.specs.Layout.{first_class_word}
+use Rattle.jvm_types.specs.declared.fixed_words.TheConstants.{FIRST_CLASS_WORD}
 use Rattle.jvm_types.specs.ProgramInvariant.{IsFieldOf, statics_among, instances_among, index_after}
 use Rattle.jvm_types.specs.declared.program.FieldInfo.{FieldInfo}
 use Rattle.jvm_types.proofs.EachAfter.{sum_first}
@@ -36,11 +36,11 @@ before_at P (y ∷ xs) (suc i) (suc j) x all e h = before_at P xs i j x all.1 e 
 
 -- ---- fields
 
-static_index : (before : List FieldInfo) (f : FieldInfo) → is_static f.flags ≡ true → index_after before f ≡ first_class_word + 2 * (f.class - file_class 0 + 1) + statics_among before
-static_index before f e = ap (λ b. cond b (first_class_word + 2 * (f.class - file_class 0 + 1) + statics_among before) (instances_among f.class before)) e
+static_index : (before : List FieldInfo) (f : FieldInfo) → is_static f.flags ≡ true → index_after before f ≡ FIRST_CLASS_WORD + 2 * (f.class - file_class 0 + 1) + statics_among before
+static_index before f e = ap (λ b. cond b (FIRST_CLASS_WORD + 2 * (f.class - file_class 0 + 1) + statics_among before) (instances_among f.class before)) e
 
 instance_index : (before : List FieldInfo) (f : FieldInfo) → is_static f.flags ≡ false → index_after before f ≡ instances_among f.class before
-instance_index before f e = ap (λ b. cond b (first_class_word + 2 * (f.class - file_class 0 + 1) + statics_among before) (instances_among f.class before)) e
+instance_index before f e = ap (λ b. cond b (FIRST_CLASS_WORD + 2 * (f.class - file_class 0 + 1) + statics_among before) (instances_among f.class before)) e
 
 one_static : (f : FieldInfo) → is_static f.flags ≡ true → ◌≡◌ {A = ℕ} (cond (is_static f.flags) 1 0) 1
 one_static f e = ap (λ (b : Bool). cond {A = ℕ} b 1 0) e

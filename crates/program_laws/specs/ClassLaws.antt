@@ -1,8 +1,9 @@
 -- What a machine that knows classes by their numbers may rely on.
 use Rattle.std.specs.Prelude.{◌≡◌, ℕ, ◌≤◌, true, false}
 use Rattle.jvm_types.specs.Numbers.{has_number}
-use Rattle.jvm_types.specs.ClassTree.{built_in_supers, throwable_class, is_subclass}
+use Rattle.jvm_types.specs.ClassTree.{built_in_supers, is_subclass}
 use Rattle.jvm_types.specs.ClassNames.{file_class, is_throwable}
+use Rattle.jvm_types.specs.declared.class_numbers.TheConstants.{THROWABLE_CLASS}
 
 -- only the class itself is below one that is just above none, as `int[]`, PrintStream and a throwable without subclasses
 abbrev pub LeavesStandAlone : Type 0
@@ -14,4 +15,4 @@ FileClassesStandAlone = (class other : ℕ) → file_class 0 ≤ other → is_su
 
 -- the classes below Throwable are the twelve throwables
 abbrev pub ThrowablesAreBelow : Type 0
-ThrowablesAreBelow = (class : ℕ) → is_subclass class throwable_class ≡ is_throwable class
+ThrowablesAreBelow = (class : ℕ) → is_subclass class THROWABLE_CLASS ≡ is_throwable class

@@ -1,14 +1,14 @@
 -- What a machine that lays out the words of fields may rely on.
 use Rattle.std.specs.Prelude.{◌≡◌, ℕ, ◌<◌, ◌≤◌, true, false, slice_get, Some}
 use Rattle.jvm_types.specs.Members.{is_static}
-use Rattle.jvm_types.specs.Layout.{first_class_word}
+use Rattle.jvm_types.specs.declared.fixed_words.TheConstants.{FIRST_CLASS_WORD}
 use Rattle.jvm_types.specs.ProgramInvariant.{IsProgram, words_of, instances_among}
 use Rattle.jvm_types.specs.declared.program.FieldInfo.{FieldInfo}
 use Rattle.jvm_types.specs.declared.program.Program.{Program}
 
 -- the word of a static field is one of those that the program has from the start on
 abbrev pub StaticsLieInside : Type 0
-StaticsLieInside = (p : Program) (number : ℕ) (f : FieldInfo) → IsProgram p → slice_get p.fields number ≡ Some f → is_static f.flags ≡ true → (first_class_word ≤ f.index) × (f.index < words_of p)
+StaticsLieInside = (p : Program) (number : ℕ) (f : FieldInfo) → IsProgram p → slice_get p.fields number ≡ Some f → is_static f.flags ≡ true → (FIRST_CLASS_WORD ≤ f.index) × (f.index < words_of p)
 
 -- the place of an instance field is below the number of fields that an object of its class has
 abbrev pub InstancesLieInside : Type 0

@@ -1,7 +1,7 @@
 -- What the constant of an instruction names is there, and the row of the instruction is the one of what is named: never
 -- the empty row that the table has where nothing fits.
 use Rattle.std.specs.Prelude.{◌≡◌, ℕ, Bool, true, false, [], ◌∷◌, Option, Some, slice_get}
-use Rattle.jvm_types.specs.ClassTree.{object_class, print_stream_class}
+use Rattle.jvm_types.specs.declared.class_numbers.TheConstants.{OBJECT_CLASS, PRINT_STREAM_CLASS}
 use Rattle.jvm_types.specs.ClassNames.{can_be_made, has_built_in_init}
 use Rattle.jvm_types.specs.CodeTable.{an_int, stack_row, get_static_row, put_static_row, get_row, put_row, virtual_row, special_row, static_row, row}
 use Rattle.jvm_types.specs.declared.op_row.Want.TheVariants.{AnInt, AnObject, ToStart}
@@ -62,11 +62,11 @@ HasRow p site pc (targets.Method number) (Invokevirtual i) r = NamesMethod p sit
 HasRow p site pc (targets.Method number) (Invokespecial i) r = NamesMethod p site number Special false special_row r
 HasRow p site pc (targets.Method number) (Invokestatic i) r = NamesMethod p site number Static true static_row r
 HasRow p site pc (targets.Init class) (Invokespecial i) r = (r ≡ stack_row (ToStart class ∷ []) []) × (has_built_in_init class ≡ true)
-HasRow p site pc targets.Out (Getstatic i) r = r ≡ stack_row [] (Fresh (types.Ref print_stream_class) ∷ [])
-HasRow p site pc targets.Println (Invokevirtual i) r = r ≡ stack_row (AnInt ∷ AnObject print_stream_class ∷ []) []
-HasRow p site pc targets.Wait (Invokevirtual i) r = r ≡ stack_row (AnObject object_class ∷ []) []
-HasRow p site pc targets.Notify (Invokevirtual i) r = r ≡ stack_row (AnObject object_class ∷ []) []
-HasRow p site pc targets.NotifyAll (Invokevirtual i) r = r ≡ stack_row (AnObject object_class ∷ []) []
+HasRow p site pc targets.Out (Getstatic i) r = r ≡ stack_row [] (Fresh (types.Ref PRINT_STREAM_CLASS) ∷ [])
+HasRow p site pc targets.Println (Invokevirtual i) r = r ≡ stack_row (AnInt ∷ AnObject PRINT_STREAM_CLASS ∷ []) []
+HasRow p site pc targets.Wait (Invokevirtual i) r = r ≡ stack_row (AnObject OBJECT_CLASS ∷ []) []
+HasRow p site pc targets.Notify (Invokevirtual i) r = r ≡ stack_row (AnObject OBJECT_CLASS ∷ []) []
+HasRow p site pc targets.NotifyAll (Invokevirtual i) r = r ≡ stack_row (AnObject OBJECT_CLASS ∷ []) []
 HasRow p site pc targets.Nothing op r = has_constant op ≡ false
 HasRow p site pc target op r = ⊥
 

@@ -5,7 +5,7 @@ use Rattle.std.specs.Prelude.{◌==◌}
 use Rattle.std.proofs.lemmas.List.{length-map}
 use Rattle.std.proofs.lemmas.Bool.{ltb-false}
 use Rattle.std.proofs.lemmas.Bool.Decides.{nat_tests}
-use Rattle.jvm_types.specs.ClassTree.{throwable_class, is_subclass}
+use Rattle.jvm_types.specs.ClassTree.{is_subclass}
 use Rattle.jvm_types.specs.CodeTable.{stack_after, locals_after, is_init}
 use Rattle.jvm_types.specs.declared.op_row.Given.{Given}
 use Rattle.jvm_types.specs.declared.op_row.OpRow.{OpRow}
@@ -18,6 +18,7 @@ use Rattle.jvm_types.specs.declared.program.MethodInfo.{MethodInfo}
 use Rattle.jvm_types.specs.declared.program.Row.{Row}
 use Rattle.jvm_types.specs.declared.refusal.VRule.{VRule}
 use Rattle.jvm_types.specs.declared.refusal.VRule.TheVariants.{V1, V2, V3, V4, V7}
+use Rattle.jvm_types.specs.declared.class_numbers.TheConstants.{THROWABLE_CLASS}
 
 pub record IsBounded (m : MethodInfo) (f : TypeFrame) : Type 0 where
   pub locals : length f.locals ≡ length (entry_frame m).locals
@@ -107,6 +108,6 @@ some_room n e = grind (arith, nat_tests, e)
 pub handler_bounded : (m : MethodInfo) (pc : ℕ) (handler : Row) (f : TypeFrame) → catch_fault m pc handler ≡ None → IsBounded m f → IsBounded m (frame_at_handler handler f)
 handler_bounded m pc handler f e b = record {
   locals = b.locals;
-  stack = some_room m.max_stack (untaken (m.max_stack == 0) (not (is_subclass (caught_class handler) throwable_class)) (V2, pc) (V4, handler.handler) e);
+  stack = some_room m.max_stack (untaken (m.max_stack == 0) (not (is_subclass (caught_class handler) THROWABLE_CLASS)) (V2, pc) (V4, handler.handler) e);
   ready = b.ready;
 }

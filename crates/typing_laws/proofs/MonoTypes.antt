@@ -3,7 +3,7 @@ use Rattle.std.proofs.Common.{◌≡◌, ℕ, Bool, true, false, ◌||◌, ◌�
 use Rattle.std.specs.Prelude.{if◌then◌else◌}
 use Rattle.std.proofs.lemmas.Bool.{or_cases, or_left, or_right}
 use Rattle.std.proofs.lemmas.Bool.Decides.{nat_tests}
-use Rattle.jvm_types.specs.ClassTree.{object_class}
+use Rattle.jvm_types.specs.declared.class_numbers.TheConstants.{OBJECT_CLASS}
 use Rattle.jvm_types.specs.declared.op_row.Want.{Want}
 use Rattle.jvm_types.specs.declared.op_row.Want.TheVariants.{AnyValue, AnInt, AnObject, AnyReference, AHolder, ToStart}
 use Rattle.jvm_types.specs.Types.{is_below, is_uninitialised, same_type}
@@ -79,12 +79,12 @@ holder_below m class t This h k = absurd (cc)
 holder_below m class This u h k = absurd (cc)
 holder_below m class t u h k = below_trans t u (Ref class) h k
 
-reference_below : (t u : VType) → is_below t u ≡ true → (is_uninitialised u || is_below u (Ref object_class)) ≡ true → (is_uninitialised t || is_below t (Ref object_class)) ≡ true
-reference_below t u h k = by_case (or_cases (is_uninitialised u) (is_below u (Ref object_class)) k)
+reference_below : (t u : VType) → is_below t u ≡ true → (is_uninitialised u || is_below u (Ref OBJECT_CLASS)) ≡ true → (is_uninitialised t || is_below t (Ref OBJECT_CLASS)) ≡ true
+reference_below t u h k = by_case (or_cases (is_uninitialised u) (is_below u (Ref OBJECT_CLASS)) k)
   where
-    by_case : (is_uninitialised u ≡ true) ⊎ (is_below u (Ref object_class) ≡ true) → (is_uninitialised t || is_below t (Ref object_class)) ≡ true
-    by_case (inl e) = or_left (is_uninitialised t) (is_below t (Ref object_class)) (subst (λ (v : VType). is_uninitialised v ≡ true) (sym (below_object t u e h)) e)
-    by_case (inr e) = or_right (is_uninitialised t) (is_below t (Ref object_class)) (below_trans t u (Ref object_class) h e)
+    by_case : (is_uninitialised u ≡ true) ⊎ (is_below u (Ref OBJECT_CLASS) ≡ true) → (is_uninitialised t || is_below t (Ref OBJECT_CLASS)) ≡ true
+    by_case (inl e) = or_left (is_uninitialised t) (is_below t (Ref OBJECT_CLASS)) (subst (λ (v : VType). is_uninitialised v ≡ true) (sym (below_object t u e h)) e)
+    by_case (inr e) = or_right (is_uninitialised t) (is_below t (Ref OBJECT_CLASS)) (below_trans t u (Ref OBJECT_CLASS) h e)
 
 pub suits_below : (m : MethodInfo) (want : Want) (t u : VType) → is_below t u ≡ true → suits m want u ≡ true → suits m want t ≡ true
 suits_below m AnyValue t u h k = refl

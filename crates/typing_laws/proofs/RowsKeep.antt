@@ -3,7 +3,7 @@ use Rattle.std.proofs.Common.{ℕ, zero, suc, Bool, true, false, List, [], ◌�
 use Rattle.std.specs.Prelude.{if◌then◌else◌, slice_get, slice_set, slice_index_or}
 use Rattle.std.specs.List.{AllByRecursion}
 use Rattle.std.specs.Option.{option_map, option_to_list}
-use Rattle.jvm_types.specs.ClassTree.{int_array_class, print_stream_class}
+use Rattle.jvm_types.specs.declared.class_numbers.TheConstants.{INT_ARRAY_CLASS, PRINT_STREAM_CLASS}
 use Rattle.jvm_types.specs.CodeTable.{type_of, row, constant_row, get_static_row, get_row, put_row, put_static_row, virtual_row, special_row, static_row, value_of, stack_after, locals_after}
 use Rattle.jvm_types.specs.declared.op_row.Given.{Given}
 use Rattle.jvm_types.specs.declared.op_row.Given.TheVariants.{Fresh, Taken, Local}
@@ -133,7 +133,7 @@ module _ (P : VType → Type 0) (top : P Top) where
     constant_fine p pc new (targets.Method f) (ops.Invokevirtual i) = virtual_fine (slice_get p.methods f)
     constant_fine p pc new (targets.Method f) (ops.Invokespecial i) = special_fine (slice_get p.methods f)
     constant_fine p pc new (targets.Method f) (ops.Invokestatic i) = static_fine (slice_get p.methods f)
-    constant_fine p pc new targets.Out op = ((refs print_stream_class, tt), tt)
+    constant_fine p pc new targets.Out op = ((refs PRINT_STREAM_CLASS, tt), tt)
     constant_fine p pc new target op = (tt, tt)
 
     pub row_fine : (p : Program) (m : MethodInfo) (pc : ℕ) → P (New pc) → (target : Target) (op : Op) → FineRow (row p m pc target op)
@@ -147,5 +147,5 @@ module _ (P : VType → Type 0) (top : P Top) where
     row_fine p m pc new target (ops.Invokespecial i) = constant_fine p pc new target (ops.Invokespecial i)
     row_fine p m pc new target (ops.Invokestatic i) = constant_fine p pc new target (ops.Invokestatic i)
     row_fine p m pc new target (ops.New i) = constant_fine p pc new target (ops.New i)
-    row_fine p m pc new target ops.Newarray = ((refs int_array_class, tt), tt)
+    row_fine p m pc new target ops.Newarray = ((refs INT_ARRAY_CLASS, tt), tt)
     row_fine p m pc new target op = assumption

@@ -4,12 +4,13 @@ use Rattle.std.proofs.Common.{◌≡◌, ℕ, zero, suc, ◌+◌, ◌-◌, ◌*�
 use Rattle.std.specs.Prelude.{◌⊎◌, ◌&&◌, ◌==◌, if◌then◌else◌, slice_index_or}
 use Rattle.std.specs.List.{AllByRecursion}
 use Rattle.std.proofs.lemmas.Bool.Decides.{nat_tests}
-use Rattle.jvm_types.specs.ClassTree.{object_class, super_class, is_subclass, first_above, common_ancestor}
+use Rattle.jvm_types.specs.ClassTree.{super_class, is_subclass, first_above, common_ancestor}
 use Rattle.jvm_types.specs.Types.{TypeFrame, meet, if_same_place, same_type, all_pairs, meets, same_ready, same_frame, meet_frames}
 use Rattle.jvm_types.specs.declared.typing.VType.{VType}
 use Rattle.jvm_types.specs.declared.typing.VType.TheVariants.{Int, Null, Ref, This, New, Top}
 use Rattle.jvm_types.proofs.ClassCases.{by_class}
 use Rattle.jvm_types.proofs.TypeOrder.{subclass_object}
+use Rattle.jvm_types.specs.declared.class_numbers.TheConstants.{OBJECT_CLASS}
 
 -- ---- classes
 
@@ -25,9 +26,9 @@ depth_above : (c : ℕ) → depth (super_class c) ≡ depth c - 1
 unfolding depth
 depth_above = by_class (λ c. depth (super_class c) ≡ depth c - 1) (refl, (refl, (refl, (refl, (refl, (refl, (refl, (refl, (refl, (refl, (refl, (refl, (refl, (refl, (refl, (refl, tt)))))))))))))))) (λ c. refl)
 
-depth_object : (c : ℕ) → depth c ≡ 0 → c ≡ object_class
+depth_object : (c : ℕ) → depth c ≡ 0 → c ≡ OBJECT_CLASS
 unfolding depth
-depth_object = by_class (λ c. depth c ≡ 0 → c ≡ object_class) (λ e. absurd (omega (arith, e)), (λ e. refl, (λ e. absurd (omega (arith, e)), (λ e. absurd (omega (arith, e)), (λ e. absurd (omega (arith, e)), (λ e. absurd (omega (arith, e)), (λ e. absurd (omega (arith, e)), (λ e. absurd (omega (arith, e)), (λ e. absurd (omega (arith, e)), (λ e. absurd (omega (arith, e)), (λ e. absurd (omega (arith, e)), (λ e. absurd (omega (arith, e)), (λ e. absurd (omega (arith, e)), (λ e. absurd (omega (arith, e)), (λ e. absurd (omega (arith, e)), (λ e. absurd (omega (arith, e)), tt)))))))))))))))) (λ c e. absurd (omega (arith, e)))
+depth_object = by_class (λ c. depth c ≡ 0 → c ≡ OBJECT_CLASS) (λ e. absurd (omega (arith, e)), (λ e. refl, (λ e. absurd (omega (arith, e)), (λ e. absurd (omega (arith, e)), (λ e. absurd (omega (arith, e)), (λ e. absurd (omega (arith, e)), (λ e. absurd (omega (arith, e)), (λ e. absurd (omega (arith, e)), (λ e. absurd (omega (arith, e)), (λ e. absurd (omega (arith, e)), (λ e. absurd (omega (arith, e)), (λ e. absurd (omega (arith, e)), (λ e. absurd (omega (arith, e)), (λ e. absurd (omega (arith, e)), (λ e. absurd (omega (arith, e)), (λ e. absurd (omega (arith, e)), tt)))))))))))))))) (λ c e. absurd (omega (arith, e)))
 
 -- no class has more than four above it
 depth_small : (c : ℕ) → depth c ≤ 4

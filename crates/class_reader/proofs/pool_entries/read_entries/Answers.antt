@@ -12,7 +12,7 @@ returns-in_err-constant c =
 
 pub loop-preserved : goal.loop-preserved
 loop-preserved c =
-    rw (c.in_ok-push.ensures.ok, c.takes_two-is_gap_due.ensures) (entries_step c.loop.constants c.args.count c.loop.counter c.loop.is_gap_due c.loop.rest.now c.in_ok-constant.constant c.in_ok-constant.after.now (entries_at c.args.count true c.args.bytes.now) c.loop-test.true c.in_ok-constant.ensures c.loop.invariant)
+    rw (c.in_ok-push.ensures.ok, c.is_wide-is_gap_due.ensures) (entries_step c.loop.constants c.args.count c.loop.counter c.loop.is_gap_due c.loop.rest.now c.in_ok-constant.constant c.in_ok-constant.after.now (entries_at c.args.count true c.args.bytes.now) c.loop-test.true c.in_ok-constant.ensures c.loop.invariant)
 
 pub returns : goal.returns
 returns c = entries_done c.loop.constants c.args.count c.loop.counter c.loop.is_gap_due c.loop.rest.now (entries_at c.args.count true c.args.bytes.now) c.loop-test.false c.loop.invariant

@@ -3,8 +3,7 @@
 ghost use Rattle.std.specs.Prelude.{◌≡◌, slice_get, IfOk, Some};
 ghost use Rattle.jvm_types.specs.ClassNames.{text_of, text_at, class_text_at, class_name, class_names};
 
-use crate::class_file::{ClassFile, Constant};
-use lists::{Bytes, Rows};
+use jvm_types::{Bytes, ClassFile, Constant, Rows};
 use std::alloc::{AllocError, Global};
 
 /// The text of an entry, and no bytes where it has none.
