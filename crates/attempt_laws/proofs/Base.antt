@@ -3,6 +3,7 @@
 use Rattle.std.proofs.Common.{◌≡◌, ◌≢◌, ◌⊎◌, inl, inr, ⊎_elim, ℕ, zero, suc, ◌+◌, ◌<◌, true, List, [], ◌∷◌, length, Some, refl, sym, ap, ◌∙◌, subst, arith}
 use Rattle.std.specs.Prelude.{slice_get}
 use Rattle.std.specs.List.{AllZip}
+use Rattle.lists.proofs.ListLaws.{same_some}
 use Rattle.jvm_types.specs.Members.{is_synchronized}
 use Rattle.jvm_types.specs.declared.code.Insn.{Insn}
 use Rattle.jvm_types.specs.declared.program.MethodInfo.{MethodInfo}
@@ -27,9 +28,6 @@ use Rattle.attempt_laws.proofs.FramesInside.{put_back_alone}
 use Rattle.attempt_laws.proofs.SectionFrames.{part_of, Runs}
 use Rattle.attempt_laws.proofs.ShownLengths.{own_count, shown_length, none_inner}
 use Rattle.attempt_laws.proofs.Standings.{laid, one_method, one_tags}
-
-method_is : {x y : MethodInfo} → Some x ≡ Some y → x ≡ y
-method_is q = cc
 
 -- the only frame inside is the section's own
 pub own_part : (c : MarkedProgram) (a : Attempt) (f : Frame) (r : Runs c a f []) → IsSectionPart c.program (tags_of c) (section_of a) a.monitor (part_of f r.stands.number) r.mode
@@ -105,10 +103,10 @@ module _ (c : MarkedProgram) (marked : IsMarked c) (a : Attempt) where
             let begins : BeginsAt c.program (tags_of c) a.entry.method pc enter g = b in
             let k = entry.stands in
             let h = behind pc e in
-            let method : begins.m ≡ k.method = method_is (sym begins.at.in_program ∙ k.at.in_program) in
+            let method : begins.m ≡ k.method = same_some (sym begins.at.in_program ∙ k.at.in_program) in
             let at : IsAt c.program (tags_of c) a.entry.method enter k.method begins.insn begins.target g = subst (λ m. IsAt c.program (tags_of c) a.entry.method enter m begins.insn begins.target g) method begins.at in
             let place : enter ≡ h.at = just_before c marked a.entry k h enter begins.insn at.in_code (ap suc begins.pc_is ∙ sym e) in
-            let same : begins.insn ≡ h.insn = insn_is (sym at.in_code ∙ ap (λ n. slice_get k.method.code n) place ∙ h.there) in
+            let same : begins.insn ≡ h.insn = same_some (sym at.in_code ∙ ap (λ n. slice_get k.method.code n) place ∙ h.there) in
             let here : IsAt c.program (tags_of c) a.entry.method h.at k.method h.insn begins.target g = subst (λ n. IsAt c.program (tags_of c) a.entry.method n k.method h.insn begins.target g) place (subst (λ i. IsAt c.program (tags_of c) a.entry.method enter k.method i begins.target g) same at) in
             let more : length k.tags.held ≡ suc (length g.held) = one_more g h.insn begins.target (took c marked a.entry k h begins.target g here) in
             let deep : length r.stands.tags.held ≡ suc x.depth = x.last in
@@ -117,9 +115,6 @@ module _ (c : MarkedProgram) (marked : IsMarked c) (a : Attempt) where
           where
             one_more : (g : TagShape) (insn : Insn) (target : Target) → Took c marked a.entry entry.stands g insn target → length entry.stands.tags.held ≡ suc (length g.held)
             one_more g insn target t = ap length t.held
-
-            insn_is : {p q : Insn} → Some p ≡ Some q → p ≡ q
-            insn_is z = cc
 
         by_pc : (n : ℕ) → a.entry.pc ≡ n → length r.stands.tags.held ≡ length entry.stands.tags.held
         by_pc zero e = absurd (subst (λ s. HasEntryDepth c.program (tags_of c) a.entry.method s x.depth) (ap entered_at e) x.of_entry)
@@ -136,8 +131,8 @@ module _ (c : MarkedProgram) (marked : IsMarked c) (a : Attempt) where
 
         alike : (own other : List ℕ) → Shows c o f own → Shows c Whole a.entry other → length own ≡ length other
         alike own other s t =
-            let first : length s.stands.tags.held ≡ length r.stands.tags.held = ap (λ (x : TagShape). length x.held) (one_tags c marked f f s.stands r.stands refl refl) in
-            let second : length t.stands.tags.held ≡ length entry.stands.tags.held = ap (λ (x : TagShape). length x.held) (one_tags c marked a.entry a.entry t.stands entry.stands refl refl) in
+            let first : length s.stands.tags.held ≡ length r.stands.tags.held = ap (λ (x : TagShape). length x.held) (one_tags c marked f s.stands r.stands) in
+            let second : length t.stands.tags.held ≡ length entry.stands.tags.held = ap (λ (x : TagShape). length x.held) (one_tags c marked a.entry t.stands entry.stands) in
             let method : own_count s.stands.method ≡ own_count t.stands.method = ap own_count (one_method c marked f a.entry s.stands t.stands last.method) in
             let long = shown_length c o f own s in
             let other_long = shown_length c Whole a.entry other t in

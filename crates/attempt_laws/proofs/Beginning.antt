@@ -2,6 +2,7 @@
 use Rattle.std.proofs.Common.{◌≡◌, ◌≢◌, ◌⊎◌, inl, inr, ⊎_elim, ℕ, zero, suc, true, ◌-◌, List, [], ◌∷◌, ◌++◌, length, map, take, Option, Some, None, refl, sym, ap, ◌∙◌, subst, arith}
 use Rattle.std.specs.Prelude.{slice_get, slice_index_or}
 use Rattle.std.proofs.lemmas.Bool.{cases_eq}
+use Rattle.lists.proofs.ListLaws.{same_some}
 use Rattle.jvm_types.specs.Members.{is_synchronized}
 use Rattle.jvm_types.specs.declared.code.Insn.{Insn}
 use Rattle.jvm_types.specs.declared.program.MethodInfo.{MethodInfo}
@@ -32,18 +33,6 @@ use Rattle.attempt_laws.proofs.FramesInside.{put_back_alone, one_more}
 use Rattle.attempt_laws.proofs.SectionFrames.{part_of}
 use Rattle.attempt_laws.proofs.Standings.{laid, one_tags}
 
-frames_are : {x y : List (Option TagShape)} → Some x ≡ Some y → x ≡ y
-frames_are q = cc
-
-shape_is : {x y : TagShape} → Some (Some x) ≡ Some (Some y) → x ≡ y
-shape_is q = cc
-
-insn_is : {x y : Insn} → Some x ≡ Some y → x ≡ y
-insn_is q = cc
-
-method_is : {x y : MethodInfo} → Some x ≡ Some y → x ≡ y
-method_is q = cc
-
 -- a tag is `this` or not
 is_this_or : (t : Tag) → (t ≡ This) ⊎ (t ≡ This → ⊥)
 is_this_or This = inl refl
@@ -70,7 +59,7 @@ module _ (c : MarkedProgram) (marked : IsMarked c) (f : Frame) (k : Standing c f
   decided pc (Some (Some tags)) q = ⊎_elim
       (λ (p : e.insn.pc ≡ pc). ⊎_elim
       (λ (t : slice_index_or tags.stack 0 Untagged ≡ This). inl (record { pc_is = p; tags = tags; there = q; this = t }))
-      (λ (t : slice_index_or tags.stack 0 Untagged ≡ This → ⊥). inr (λ x. t (ap (λ (y : TagShape). slice_index_or y.stack 0 Untagged) (shape_is (sym q ∙ x.there)) ∙ x.this)))
+      (λ (t : slice_index_or tags.stack 0 Untagged ≡ This → ⊥). inr (λ x. t (ap (λ (y : TagShape). slice_index_or y.stack 0 Untagged) (same_some (same_some (sym q ∙ x.there))) ∙ x.this)))
       (is_this_or (slice_index_or tags.stack 0 Untagged)))
       (λ (p : e.insn.pc ≢ pc). inr (λ x. p x.pc_is))
       (cases_eq e.insn.pc pc)
@@ -82,7 +71,7 @@ module _ (c : MarkedProgram) (marked : IsMarked c) (f : Frame) (k : Standing c f
       begins = b
 
       same_method : begins.m ≡ k.method
-      same_method = method_is (sym begins.at.in_program ∙ k.at.in_program)
+      same_method = same_some (sym begins.at.in_program ∙ k.at.in_program)
 
       there : slice_get k.method.code enter ≡ Some begins.insn
       there = subst (λ (m : MethodInfo). slice_get m.code enter ≡ Some begins.insn) same_method begins.at.in_code
@@ -91,10 +80,10 @@ module _ (c : MarkedProgram) (marked : IsMarked c) (f : Frame) (k : Standing c f
       same = just_before c marked f k e enter begins.insn there (ap suc begins.pc_is ∙ before)
 
       same_insn : e.insn ≡ begins.insn
-      same_insn = insn_is (sym e.there ∙ ap (λ n. slice_get k.method.code n) (sym same) ∙ there)
+      same_insn = same_some (sym e.there ∙ ap (λ n. slice_get k.method.code n) (sym same) ∙ there)
 
       same_frames : k.at.frames ≡ begins.at.frames
-      same_frames = frames_are (sym k.at.of_method ∙ begins.at.of_method)
+      same_frames = same_some (sym k.at.of_method ∙ begins.at.of_method)
 
   -- so it is where the block is marked
   by_mark : (pc : ℕ) (uses : List FieldUse) → suc pc ≡ f.pc → HasMark c.program (tags_of c) uses (record { method = f.method; spot = Block pc }) 0 → IsOnReceiver pc
@@ -122,7 +111,7 @@ module _ (c : MarkedProgram) (marked : IsMarked c) (f : Frame) (k : Standing c f
 -- the innermost entry that is shown
 innermost : (c : MarkedProgram) (marked : IsMarked c) (f : Frame) (k : Standing c f) (own rest outer : List ℕ) (m : ℕ) (held : List Tag) → (s : Shows c Whole f own) → k.tags.held ≡ This ∷ held → own ++ rest ≡ m ∷ outer → f.receiver ≡ m
 innermost c marked f k own rest outer m held s h e =
-    let tags : s.stands.tags.held ≡ This ∷ held = ap (λ (x : TagShape). x.held) (one_tags c marked f f s.stands k refl refl) ∙ h in
+    let tags : s.stands.tags.held ≡ This ∷ held = ap (λ (x : TagShape). x.held) (one_tags c marked f s.stands k) ∙ h in
     let shown : own ≡ f.receiver ∷ (map (tag_value s.choice f.receiver) held ++ own_entry s.stands.method f) = s.shown_are ∙ ap (λ ts. map (tag_value s.choice f.receiver) ts ++ own_entry s.stands.method f) tags in
     first (ap (λ xs. xs ++ rest) (sym shown) ∙ e)
   where

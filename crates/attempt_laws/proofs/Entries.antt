@@ -1,9 +1,10 @@
 -- Where a section begins: at pc 0 no tag is held, and right behind a `monitorenter` the tag that it took is the innermost.
-use Rattle.std.proofs.Common.{◌≡◌, ◌⊎◌, inl, inr, ⊎_elim, ℕ, zero, suc, ◌<◌, Bool, true, false, List, [], ◌∷◌, ◌++◌, length, Option, Some, refl, sym, ap, ◌∙◌, subst, arith}
+use Rattle.std.proofs.Common.{◌≡◌, ◌⊎◌, inl, inr, ⊎_elim, ℕ, suc, ◌<◌, true, false, List, [], ◌∷◌, ◌++◌, length, Option, Some, None, refl, sym, ap, ◌∙◌, subst, arith}
 use Rattle.std.specs.Prelude.{◌==◌, ◌||◌, IsSomeAnd, slice_get, if◌then◌else◌}
 use Rattle.std.proofs.lemmas.Bool.{cases_order}
 use Rattle.std.proofs.lemmas.Bool.Decides.{nat_tests}
 use Rattle.std.proofs.lemmas.Option.{slice_get-get_or}
+use Rattle.lists.proofs.ListLaws.{same_some}
 use Rattle.jvm_types.specs.CodeTable.{branches_to, falls_through}
 use Rattle.jvm_types.specs.Numbers.{has_number}
 use Rattle.jvm_types.specs.Verifying.{IsLaidOut, edges}
@@ -15,51 +16,18 @@ use Rattle.jvm_types.specs.declared.program.Target.{Target}
 use Rattle.jvm_types.specs.declared.program.MethodInfo.{MethodInfo}
 use Rattle.program_laws.proofs.CodeOrder.{ascend, one_number, short, follows}
 use Rattle.checked_program.specs.LockTags.{TagShape, IsShapeBelow, entry_tags}
-use Rattle.checked_program.specs.MarkedProgram.{MarkedProgram, IsMarked, checked_part}
+use Rattle.checked_program.specs.MarkedProgram.{MarkedProgram, IsMarked}
 use Rattle.checked_program.specs.TaggedCode.{IsAt, onward, row_of}
-use Rattle.checked_program.specs.Tagging.{enters_untagged, tags_after, tags_by_op, IsSound, IsTagAssignment, HasTagging}
+use Rattle.checked_program.specs.Tagging.{enters_untagged, tags_after, tags_by_op, IsSound}
 use Rattle.checked_program.specs.Visits.{frame_at}
 use Rattle.checked_program.specs.declared.tag.Tag.{Tag}
-use Rattle.checked_program.proofs.CheckedPlaces.{checked_sound}
-use Rattle.tag_laws.proofs.TagLocal.{tag_local_law}
 use Rattle.section_laws.proofs.MonitorExits.{held_law}
+use Rattle.shown_laws.proofs.FramePlaces.{of_standing}
+use Rattle.shown_laws.proofs.MarkedMethods.{found_at}
 use Rattle.machine_types.specs.Standing.{Standing, tags_of}
 use Rattle.machine_types.specs.Structure.{IsBehindEntry}
 use Rattle.machine_types.specs.Threads.{Frame}
 use Rattle.attempt_laws.proofs.Standings.{are_tagged, laid}
-
--- ---- the frame at a pc
-
-framed : {A : Type 0} → (code : List Insn) (xs : List (Option A)) (pc i : ℕ) (insn : Insn) (x : A) → slice_get code i ≡ Some insn → insn.pc ≡ pc → slice_get xs i ≡ Some (Some x) → ((j : ℕ) (other : Insn) → slice_get code j ≡ Some other → other.pc ≡ pc → j ≡ i) → frame_at code xs pc ≡ Some x
-framed [] xs pc i insn x e p t one = absurd (cc)
-framed (y ∷ code) [] pc i insn x e p t one = absurd (cc)
-framed {A = A} (y ∷ code) (z ∷ xs) pc zero insn x e p t one = rw here (some_is t)
-  where
-    same : y ≡ insn
-    same = cc
-
-    at : y.pc ≡ pc
-    at = ap (λ (w : Insn). w.pc) same ∙ p
-
-    here : (y.pc == pc) ≡ true
-    here = grind (arith, nat_tests, at)
-
-    some_is : {u v : Option A} → Some u ≡ Some v → u ≡ v
-    some_is q = cc
-framed (y ∷ code) (z ∷ xs) pc (suc i) insn x e p t one = rw later (framed code xs pc i insn x e p t (λ j other f q. less j (one (suc j) other f q)))
-  where
-    less : (j : ℕ) → suc j ≡ suc i → j ≡ i
-    less j q = omega (arith, q)
-
-    other_pc : y.pc ≡ pc → ⊥
-    other_pc q = let bad : 0 ≡ suc i = one 0 y refl q in omega (arith, bad)
-
-    by_test : (b : Bool) → (y.pc == pc) ≡ b → b ≡ false
-    by_test false q = refl
-    by_test true q = absurd (other_pc (grind (arith, nat_tests, q)))
-
-    later : (y.pc == pc) ≡ false
-    later = by_test (y.pc == pc) refl
 
 -- ---- pcs
 
@@ -110,36 +78,23 @@ module _ (c : MarkedProgram) (marked : IsMarked c) where
       here : k.insn.pc ≡ f.pc
       here = k.pc_is
 
-      insn_is : {x y : Insn} → Some x ≡ Some y → x ≡ y
-      insn_is q = cc
-
       one_pc : j ≡ k.number → other.pc ≡ k.insn.pc
-      one_pc same = ap (λ (x : Insn). x.pc) (insn_is (sym there ∙ ap (λ n. slice_get k.method.code n) same ∙ k.at.in_code))
+      one_pc same = ap (λ (x : Insn). x.pc) (same_some (sym there ∙ ap (λ n. slice_get k.method.code n) same ∙ k.at.in_code))
 
   -- ---- tags
 
-  pub assigned : (f : Frame) (k : Standing c f) → IsTagAssignment c.program k.method k.at.frames
-  assigned f k =
-      let types = checked_sound (checked_part c) f.method k.method marked.checked k.at.in_program in
-      let tags = are_tagged c marked f.method k.method k.at.in_program in
-      let same : tags.0 ≡ k.at.frames = frames_are (sym tags.1 ∙ k.at.of_method) in
-      tag_local_law c.program k.method types.0.frames k.at.frames types.2.laid types.2.typed (subst (λ fs. HasTagging c.program k.method fs) same tags.2)
-    where
-      frames_are : {x y : List (Option TagShape)} → Some x ≡ Some y → x ≡ y
-      frames_are q = cc
-
-  pub tags_sound : (f : Frame) (k : Standing c f) → IsSound k.method k.insn (row_of c.program k.method k.insn k.target) k.at.frames k.tags
-  tags_sound f k = (assigned f k).sound k.number k.insn k.target k.tags k.at.in_code k.at.names k.at.frame
-
   -- at the start of a method
   pub none_held : (f : Frame) (k : Standing c f) → f.pc ≡ 0 → k.tags.held ≡ []
-  none_held f k first =
-      let here : frame_at k.method.code k.at.frames 0 ≡ Some k.tags = framed k.method.code k.at.frames 0 k.number k.insn k.tags k.at.in_code (k.pc_is ∙ first) k.at.frame
-      (λ j other e p. one_number k.method j k.number other k.insn (laid c marked f k) e k.at.in_code (p ∙ sym (k.pc_is ∙ first))) in
-      held_of (subst (λ o. IsSomeAnd o (λ g. IsShapeBelow (entry_tags k.method) g)) here (assigned f k).entry)
+  none_held f k first = by_frame (frame_at k.method.code k.at.frames 0) refl (of_standing c marked f k).sound.entry
     where
-      held_of : IsShapeBelow (entry_tags k.method) k.tags → k.tags.held ≡ []
-      held_of below = sym below.held
+      by_frame : (o : Option TagShape) → frame_at k.method.code k.at.frames 0 ≡ o → IsSomeAnd o (λ g. IsShapeBelow (entry_tags k.method) g) → k.tags.held ≡ []
+      by_frame None q h = absurd h
+      by_frame (Some g) q h =
+          let l = found_at k.method.code k.at.frames 0 g q in
+          let same : l.0 ≡ k.number = one_number k.method l.0 k.number l.1 k.insn (laid c marked f k) l.2 k.at.in_code (l.3 ∙ sym (k.pc_is ∙ first)) in
+          let tags : k.tags ≡ g = same_some (same_some (sym k.at.frame ∙ ap (λ i. slice_get k.at.frames i) (sym same) ∙ l.4)) in
+          let below : IsShapeBelow (entry_tags k.method) g = h in
+          ap (λ (x : TagShape). x.held) tags ∙ sym below.held
 
   -- behind a `monitorenter`
   taken : (pc : ℕ) (row : OpRow) (op : Op) (f : TagShape) → op ≡ ops.Monitorenter → enters_untagged op f.stack ≡ false → (t : Tag) × (ts : List Tag) × (f.stack ≡ t ∷ ts) × ((tags_by_op pc row op f.stack f).held ≡ t ∷ f.held)
@@ -166,11 +121,8 @@ module _ (c : MarkedProgram) (marked : IsMarked c) where
 
   pub took : (f : Frame) (k : Standing c f) (e : Entered c f k) (target : Target) (g : TagShape) → IsAt c.program (tags_of c) f.method e.at k.method e.insn target g → Took f k g e.insn target
   took f k e target g at =
-      let standing : IsSound k.method e.insn (row_of c.program k.method e.insn target) k.at.frames g = (assigned f k).sound e.at e.insn target g e.there at.names (subst (λ fs. slice_get fs e.at ≡ Some (Some g)) (frames_are (sym at.of_method ∙ k.at.of_method)) at.frame) in
+      let standing : IsSound k.method e.insn (row_of c.program k.method e.insn target) k.at.frames g = (of_standing c marked f k).sound.sound e.at e.insn target g e.there at.names (subst (λ fs. slice_get fs e.at ≡ Some (Some g)) (same_some (sym at.of_method ∙ k.at.of_method)) at.frame) in
       let t = taken e.insn.pc (row_of c.program k.method e.insn target) e.insn.op g e.enters standing.enters in
       let edge : has_number (edges e.insn) k.insn.pc ≡ true = goes_next e.insn.op e.insn.next k.insn.pc e.enters (e.next ∙ sym k.pc_is) in
       let brings = held_law c.program (tags_of c) f.method e.at k.number k.method e.insn k.insn target k.target g k.tags (tags_after e.insn (row_of c.program k.method e.insn target) g) (are_tagged c marked) at k.at (onward k.insn edge) in
       record { taken_tag = t.0; others = t.1; stack = t.2; held = sym brings ∙ t.3; edge = edge; brings = brings }
-    where
-      frames_are : {x y : List (Option TagShape)} → Some x ≡ Some y → x ≡ y
-      frames_are q = cc

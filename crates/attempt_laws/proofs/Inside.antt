@@ -55,7 +55,7 @@ stays c phase other f below held a k inside never = stands_on c phase other (f �
 module _ (c : MarkedProgram) (marked : IsMarked c) where
   -- the tags of `this` on its stack
   pub stack_this : (f : Frame) (k : Standing c f) (own : List ℕ) → Shows c Whole f own → HasThis f.receiver k.tags.stack f.stack
-  stack_this f k own s = subst (λ (x : TagShape). HasThis f.receiver x.stack f.stack) (one_tags c marked f f s.stands k refl refl) (have_this s.choice f.receiver s.stands.tags.stack f.stack s.stack)
+  stack_this f k own s = subst (λ (x : TagShape). HasThis f.receiver x.stack f.stack) (one_tags c marked f s.stands k) (have_this s.choice f.receiver s.stands.tags.stack f.stack s.stack)
 
   pub top_shows : (o : Operands) (f : Frame) (below : List Frame) (shown : List ℕ) → Show c o (f ∷ below) shown → (own : List ℕ) × Shows c o f own
   top_shows o f below shown s = (s.0, s.3)

@@ -1,6 +1,7 @@
 -- An attempt stands behind an exit of its monitor that is not the last one.
 use Rattle.std.proofs.Common.{◌≡◌, ⊎_elim, ℕ, suc, ◌+◌, Bool, List, [], ◌∷◌, length, Some, refl, sym, ap, ◌∙◌, subst, arith}
 use Rattle.std.specs.Prelude.{option_map}
+use Rattle.lists.proofs.ListLaws.{same_some}
 use Rattle.jvm_types.specs.declared.code.Op.{Op}
 use Rattle.checked_program.specs.LockTags.{TagShape}
 use Rattle.checked_program.specs.MarkedProgram.{MarkedProgram, IsMarked}
@@ -19,12 +20,9 @@ use Rattle.attempt_laws.proofs.Moves.{stands_inner, only_entry, returned_on, unw
 use Rattle.attempt_laws.proofs.SectionFrames.{Runs}
 use Rattle.attempt_laws.proofs.Standings.{top_is, one_tags}
 
-pub onward_is : {x y : Onward} → Some x ≡ Some y → x ≡ y
-onward_is q = cc
-
 -- how a thread goes on is known
 pub lands : (c : MarkedProgram) (held : List Held) (a : Attempt) (o onward : Onward) → (OnwardStands c o → GoesOnInside c o held a) → Some o ≡ Some onward → OnwardStands c onward → GoesOnInside c onward held a
-lands c held a o onward h q st = subst (λ x. GoesOnInside c x held a) (onward_is q) (h (subst (OnwardStands c) (sym (onward_is q)) st))
+lands c held a o onward h q st = subst (λ x. GoesOnInside c x held a) (same_some q) (h (subst (OnwardStands c) (sym (same_some q)) st))
 
 module _ (c : MarkedProgram) (marked : IsMarked c) (m : ℕ) (e : After) (held : List Held) (a : Attempt) (n : ℕ) (inner : a.inner ≡ suc n) where
   -- it is no last look at the lock word
@@ -48,7 +46,7 @@ module _ (c : MarkedProgram) (marked : IsMarked c) (m : ℕ) (e : After) (held :
   top_runs f below k = runs_inside c (phases.Leave m e) f below held a k (never_finished (frames_inside a (f ∷ below)))
 
   none_held : (f : Frame) (below : List Frame) (test : Op → Bool) (r : Runs c a f (frames_inside a below)) → TopLeaves c m test (f ∷ below) → r.stands.tags.held ≡ []
-  none_held f below test r (k, leaves, passes) = let at : IsLeaving c m f k = leaves in ap (λ (x : TagShape). x.held) (one_tags c marked f f r.stands k refl refl) ∙ at.none
+  none_held f below test r (k, leaves, passes) = let at : IsLeaving c m f k = leaves in ap (λ (x : TagShape). x.held) (one_tags c marked f r.stands k) ∙ at.none
 
 pub leaves_inside : LeavesInside
 leaves_inside c m afters.Next fs held a n onward marked k s inner goes st = lands c held (record a { inner = n }) (Running fs) onward (λ l. next c marked m afters.Next held a n inner fs k) goes st

@@ -3,6 +3,7 @@ use Rattle.std.proofs.Common.{◌≡◌, ◌≢◌, inr, ⊎_elim, ℕ, ◌-◌,
 use Rattle.std.specs.Prelude.{◌==◌, ◌||◌, slice_get, if◌then◌else◌}
 use Rattle.std.proofs.lemmas.Bool.{cases_eq}
 use Rattle.std.proofs.lemmas.Bool.Decides.{nat_tests}
+use Rattle.lists.proofs.ListLaws.{same_some}
 use Rattle.jvm_types.specs.CodeTable.{branches_to, falls_through}
 use Rattle.jvm_types.specs.Numbers.{has_number}
 use Rattle.jvm_types.specs.Verifying.{edges}
@@ -103,12 +104,6 @@ module _ (c : MarkedProgram) (marked : IsMarked c) (phase : Phase) (f : Frame) (
   not_base : (b : Frame) (more : List Frame) → a.base ≤ length (b ∷ more) → (a.base ≡ length (b ∷ more) → ⊥) → a.base ≤ length more
   not_base b more l never = ⊎_elim (λ (e : a.base ≡ length (b ∷ more)). absurd (never e)) (λ (e : a.base ≢ length (b ∷ more)). omega (arith, l, e)) (cases_eq a.base (length (b ∷ more)))
 
-  insn_is : {x y : Insn} → Some x ≡ Some y → x ≡ y
-  insn_is q = cc
-
-  method_is : {x y : MethodInfo} → Some x ≡ Some y → x ≡ y
-  method_is q = cc
-
   pub returned_on : (below : List Frame) (n : ℕ) (result : List ℕ) (k : AttemptStands c phase (f ∷ below) held a) → Runs c a f (frames_inside a below) → (a.base ≡ length below → ⊥) → OnwardStands c (back (given result (top_of c.program below)))
       → GoesOnInside c (back (given result (top_of c.program below))) held (record a { inner = n })
   returned_on [] n result k r never st = absurd (never (let l = k.based in omega (arith, l)))
@@ -126,8 +121,8 @@ module _ (c : MarkedProgram) (marked : IsMarked c) (phase : Phase) (f : Frame) (
       call : called_method kb.insn.op x.1.call.target ≡ Some f.method
       call =
           let z = x.1.call in
-          let method : z.m ≡ kb.method = method_is (sym z.at.in_program ∙ kb.at.in_program) in
-          let same : z.insn ≡ kb.insn = insn_is (sym z.at.in_code ∙ ap (λ (m : MethodInfo). slice_get m.code kb.number) method ∙ kb.at.in_code) in
+          let method : z.m ≡ kb.method = same_some (sym z.at.in_program ∙ kb.at.in_program) in
+          let same : z.insn ≡ kb.insn = same_some (sym z.at.in_code ∙ ap (λ (m : MethodInfo). slice_get m.code kb.number) method ∙ kb.at.in_code) in
           subst (λ (i : Insn). called_method i.op z.target ≡ Some f.method) same z.called
 
       g : Frame

@@ -2,6 +2,7 @@
 use Rattle.std.proofs.Common.{◌≡◌, ◌⊎◌, inl, inr, ⊎_elim, ℕ, zero, suc, Bool, true, false, not, ◌&&◌, List, [], ◌∷◌, Some, refl, sym, ap, ◌∙◌, subst, arith}
 use Rattle.std.specs.Prelude.{slice_get, slice_index}
 use Rattle.std.specs.List.{AllZip}
+use Rattle.lists.proofs.ListLaws.{same_some}
 use Rattle.jvm_types.specs.Members.{is_static, is_synchronized}
 use Rattle.jvm_types.specs.ProgramInvariant.{IsTargetOf, site_in}
 use Rattle.jvm_types.specs.declared.code.Insn.{Insn}
@@ -47,15 +48,6 @@ have_this choice receiver (t ∷ ts) (v ∷ vs) h (suc k) e = have_this choice r
 
 -- ---- methods and instructions of a program
 
-number_is : {x y : ℕ} → Some x ≡ Some y → x ≡ y
-number_is e = cc
-
-method_is : {x y : MethodInfo} → Some x ≡ Some y → x ≡ y
-method_is e = cc
-
-target_is : {x y : Target} → Some x ≡ Some y → x ≡ y
-target_is e = cc
-
 -- no synchronized method is static
 pub not_static : (c : MarkedProgram) → IsMarked c → (u : ℕ) (m : MethodInfo) → slice_get c.program.methods u ≡ Some m → is_synchronized m.flags ≡ true → is_static m.flags ≡ true → ⊥
 not_static c marked u m there synchronized static = never (is_static m.flags) (is_synchronized m.flags) (marked.checked.program.methods u m there).unsynchronized static synchronized
@@ -76,7 +68,7 @@ is_locked c marked u m there synchronized = ap is_locking there ∙ both (is_syn
 pub row_stands : (c : MarkedProgram) → IsMarked c → (mi i : ℕ) (m : MethodInfo) (insn : Insn) (target : Target) (u : TagShape) → IsAt c.program (tags_of c) mi i m insn target u → HasRow c.program (site_in m) insn.pc target insn.op (row_of c.program m insn target)
 row_stands c marked mi i m insn target u at =
     let t = have_targets c.program mi i m insn marked.checked.program at.in_program at.in_code in
-    let same : t.0 ≡ target = target_is (sym t.1 ∙ at.names) in
+    let same : t.0 ≡ target = same_some (sym t.1 ∙ at.names) in
     targets_rows c.program m insn.pc target insn.op (subst (λ x. IsTargetOf c.program (site_in m) insn.op x) same t.2)
 
 -- ---- the frames of an attempt, the top one apart
@@ -196,11 +188,11 @@ module _ (c : MarkedProgram) (marked : IsMarked c) (a : Attempt) where
     own_call : (u : ℕ) (called : MethodInfo) (mi : MethodInfo) (pc : ℕ) (op : Op) (target : Target) (row : OpRow) (mode : Mode) (ts : List Tag) → slice_get c.program.methods u ≡ Some called → is_synchronized called.flags ≡ true
         → called_method op target ≡ Some u → HasRow c.program (site_in mi) pc target op row → fault c.program uses mode op target ts ≡ 0 → is_own_object mode (receiver_tag c.program op target ts) ≡ true
     own_call u called mi pc (ops.Invokevirtual i) (targets.Method v) row mode ts there synchronized call k z =
-        called_own (is_locking (slice_get c.program.methods v)) _ (ap (λ x. is_locking (slice_get c.program.methods x)) (number_is call) ∙ is_locked c marked u called there synchronized) z
+        called_own (is_locking (slice_get c.program.methods v)) _ (ap (λ x. is_locking (slice_get c.program.methods x)) (same_some call) ∙ is_locked c marked u called there synchronized) z
     own_call u called mi pc (ops.Invokespecial i) (targets.Method v) row mode ts there synchronized call k z =
-        called_own (is_locking (slice_get c.program.methods v)) _ (ap (λ x. is_locking (slice_get c.program.methods x)) (number_is call) ∙ is_locked c marked u called there synchronized) z
+        called_own (is_locking (slice_get c.program.methods v)) _ (ap (λ x. is_locking (slice_get c.program.methods x)) (same_some call) ∙ is_locked c marked u called there synchronized) z
     own_call u called mi pc (ops.Invokestatic i) (targets.Method v) row mode ts there synchronized call k z =
-        absurd (not_static c marked u called there synchronized (subst (λ (m : MethodInfo). is_static m.flags ≡ true) (method_is (sym k.there ∙ ap (λ x. slice_get c.program.methods x) (number_is call) ∙ there)) k.sort))
+        absurd (not_static c marked u called there synchronized (subst (λ (m : MethodInfo). is_static m.flags ≡ true) (same_some (sym k.there ∙ ap (λ x. slice_get c.program.methods x) (same_some call) ∙ there)) k.sort))
     own_call u called mi pc op target row mode ts there synchronized call k z = absurd (cc)
 
     -- the frame of a synchronized method is on the section's object

@@ -34,7 +34,7 @@ module _ (c : MarkedProgram) (marked : IsMarked c) where
   -- two lists that one frame may show
   same_own : (o q : Operands) (f : Frame) (own other : List ℕ) → Shows c o f own → Shows c q f other → length own ≡ length other
   same_own o q f own other s t =
-      let tags = one_tags c marked f f s.stands t.stands refl refl in
+      let tags = one_tags c marked f s.stands t.stands in
       let method = one_method c marked f f s.stands t.stands refl in
       shown_length c o f own s ∙ ap (λ (x : TagShape). length x.held + own_count s.stands.method) tags ∙ ap (λ m. length t.stands.tags.held + own_count m) method ∙ sym (shown_length c q f other t)
 

@@ -2,6 +2,7 @@
 use Rattle.std.proofs.Common.{◌≡◌, inl, inr, ⊎_elim, ℕ, ◌≤◌, Bool, true, false, List, [], ◌∷◌, length, Option, Some, None, refl, sym, ap, ◌∙◌, subst, arith}
 use Rattle.std.specs.Prelude.{slice_get, option_map, if◌then◌else◌}
 use Rattle.lists.proofs.TestLaws.{first_true}
+use Rattle.lists.proofs.ListLaws.{same_some}
 use Rattle.jvm_types.specs.CodeTable.{falls_through}
 use Rattle.jvm_types.specs.Members.{is_synchronized}
 use Rattle.jvm_types.specs.Numbers.{has_number}
@@ -35,14 +36,13 @@ use Rattle.attempt_laws.specs.InsideMoves.{GoesOnInside, OnwardStands, GoesAlong
 use Rattle.attempt_laws.proofs.Base.{own_part, entry_of, of_synchronized, as_many_at_exit, none_inside}
 use Rattle.attempt_laws.proofs.CallOps.{is_receiver}
 use Rattle.attempt_laws.proofs.EffectOps.{Does, GoesElsewhere, goes_behind, OnlyLeaves, exit_leaves}
-use Rattle.attempt_laws.proofs.Entries.{tags_sound}
+use Rattle.shown_laws.proofs.FrameReturns.{leaves_none}
 use Rattle.attempt_laws.proofs.FramesInside.{one_more, put_back_over, alone_inside}
 use Rattle.attempt_laws.proofs.Inside.{base_below, runs_inside, stands_on, stays, stack_this, top_shows, top_does, locking, calls_on, leaves_on, not_finished}
-use Rattle.attempt_laws.proofs.Leaves.{lands, onward_is}
+use Rattle.attempt_laws.proofs.Leaves.{lands}
 use Rattle.attempt_laws.proofs.Moves.{next_edge, stands_inner, put_back_top, only_entry, along, returned_on}
 use Rattle.attempt_laws.proofs.SectionFrames.{Runs, IsExitOf, moved, invoked, reads, row_stands}
 use Rattle.attempt_laws.proofs.Standings.{top_here, top_at_standing, stands_too, one_insn}
-use Rattle.attempt_laws.proofs.Throws.{none_held_at}
 
 module _ (c : MarkedProgram) (marked : IsMarked c) (f : Frame) (below : List Frame) (held : List Held) (a : Attempt) (k : AttemptStands c phases.Run (f ∷ below) held a) (s : Stands c phases.Run (f ∷ below) held (Some a)) where
   abbrev r : Runs c a f (frames_inside a below)
@@ -122,7 +122,7 @@ module _ (c : MarkedProgram) (marked : IsMarked c) (f : Frame) (below : List Fra
 
   raises : (o : Option Thrown) (x : ℕ) (result : Onward) → option_map (λ class. Throwing x class (f ∷ below)) o ≡ Some result → GoesOnInside c result held a
   raises None x result e = absurd (cc)
-  raises (Some class) x result e = subst (λ y. GoesOnInside c y held a) (onward_is e) (throws x class)
+  raises (Some class) x result e = subst (λ y. GoesOnInside c y held a) (same_some e) (throws x class)
 
   -- ---- calls
 
@@ -158,7 +158,7 @@ module _ (c : MarkedProgram) (marked : IsMarked c) (f : Frame) (below : List Fra
   -- ---- returns
 
   none_held : is_return r.stands.insn.op ≡ true → r.stands.tags.held ≡ []
-  none_held q = let sound = tags_sound c marked f r.stands in none_held_at r.stands.method r.stands.insn r.stands.tags.held sound.leaves (first_true (is_return r.stands.insn.op) _ q)
+  none_held q = leaves_none c marked f r.stands (first_true (is_return r.stands.insn.op) _ q)
 
   not_alone : r.stands.tags.held ≡ [] → is_synchronized r.stands.method.flags ≡ false → a.base ≡ length below → ⊥
   not_alone none plain base = let bad : true ≡ false = sym (alone (frames_inside a below) r (only_entry a below base) none) ∙ plain in cc
@@ -218,5 +218,5 @@ no_element_inside c word stored (f ∷ below) held a marked k s =
     let r' = runs_inside c (phases.Element word stored) f below held a k (no_element_finish a word stored (frames_inside a (f ∷ below))) in
     let shows = top_shows c marked Whole f below s.shown s.show in
     let h = reads c marked a k.uses k.are_uses k.marked f (frames_inside a below) r' f.stack (stack_this c marked f r'.stands shows.0 shows.1) in
-    let is = ap (λ (i : Insn). is_element_op stored i.op) (one_insn c marked f f r'.stands s.phase_shows.0 refl refl) ∙ s.phase_shows.1 in
+    let is = ap (λ (i : Insn). is_element_op stored i.op) (one_insn c marked f r'.stands s.phase_shows.0) ∙ s.phase_shows.1 in
     no_element c a.monitor stored r'.stands.insn.op r'.stands.target f.stack is h

@@ -3,6 +3,7 @@ use Rattle.std.proofs.Common.{◌≡◌, ℕ, Bool, true, false, cond, not, ◌&
 use Rattle.std.specs.Prelude.{◌==◌, if◌then◌else◌}
 use Rattle.std.specs.List.{list_any, filter}
 use Rattle.std.proofs.lemmas.Bool.Decides.{nat_tests}
+use Rattle.lists.proofs.ListLaws.{same_some}
 use Rattle.jvm_types.specs.ClassTree.{is_subclass}
 use Rattle.jvm_types.specs.CodeTable.{can_throw}
 use Rattle.jvm_types.specs.Members.{is_synchronized}
@@ -13,9 +14,8 @@ use Rattle.jvm_types.specs.declared.outcome.Thrown.{Thrown}
 use Rattle.jvm_types.specs.declared.program.MethodInfo.{MethodInfo}
 use Rattle.jvm_types.specs.declared.program.Row.{Row}
 use Rattle.checked_program.specs.MarkedProgram.{MarkedProgram, IsMarked}
-use Rattle.checked_program.specs.Tagging.{catches_all, until_all, catchers, may_leave, leaves_held, tags_at_handler}
+use Rattle.checked_program.specs.Tagging.{catches_all, until_all, catchers, may_leave, tags_at_handler}
 use Rattle.checked_program.specs.TaggedCode.{caught}
-use Rattle.checked_program.specs.declared.tag.Tag.{Tag}
 use Rattle.machine_types.specs.Frames.{Top, handler_of, handler_at, monitor_of}
 use Rattle.machine_types.specs.Onward.{Leaving, handed, unwound}
 use Rattle.machine_types.specs.ReadyObjects.{class_of}
@@ -26,7 +26,7 @@ use Rattle.machine_types.specs.declared.phase.After.TheVariants as afters
 use Rattle.machine_types.specs.declared.phase.Phase.TheVariants as phases
 use Rattle.attempt_laws.specs.InsideMoves.{GoesOnInside, OnwardStands, ThrowsInside}
 use Rattle.attempt_laws.proofs.Base.{entry_of, of_synchronized}
-use Rattle.attempt_laws.proofs.Entries.{tags_sound}
+use Rattle.shown_laws.proofs.FrameReturns.{leaves_none}
 use Rattle.attempt_laws.proofs.Inside.{runs_inside, stays}
 use Rattle.attempt_laws.proofs.Moves.{only_entry, along, unwound_on}
 use Rattle.attempt_laws.proofs.SectionFrames.{Runs, locking_on}
@@ -45,9 +45,6 @@ caught_among pc class (r ∷ rows) row e = by_cover (covers pc r) e (caught_amon
     Among : List Row → Type 0
     Among xs = list_any (λ (h : Row). h.handler == row.handler) (until_all xs) ≡ true
 
-    row_is : {x y : Row} → Some x ≡ Some y → x ≡ y
-    row_is q = cc
-
     here : r ≡ row → (r.handler == row.handler) ≡ true
     here q = let same : r.handler ≡ row.handler = ap (λ (x : Row). x.handler) q in grind (arith, nat_tests, same)
 
@@ -60,8 +57,8 @@ caught_among pc class (r ∷ rows) row e = by_cover (covers pc r) e (caught_amon
     second b false q = q
 
     by_catch : (b s : Bool) → cond (b || s) (Some r) (handler_of pc class rows) ≡ Some row → (handler_of pc class rows ≡ Some row → Among later) → list_any (λ (h : Row). h.handler == row.handler) (cond b (r ∷ []) (r ∷ until_all later)) ≡ true
-    by_catch true s q more = first true (here (row_is q))
-    by_catch false true q more = first false (here (row_is q))
+    by_catch true s q more = first true (here (same_some q))
+    by_catch false true q more = first false (here (same_some q))
     by_catch false false q more = second false (r.handler == row.handler) (more q)
 
     by_cover : (a : Bool) → cond (a && (r.catch_class == 0 || is_subclass class r.catch_class)) (Some r) (handler_of pc class rows) ≡ Some row → (handler_of pc class rows ≡ Some row → Among later) → Among (cond a (r ∷ later) later)
@@ -86,10 +83,6 @@ none_catches pc class (r ∷ rows) e = by_cover (covers pc r) e (none_catches pc
     by_cover false q more = more q
 
 -- ---- an instruction that may leave its method holds no tag
-
-pub none_held_at : (m : MethodInfo) (insn : Insn) (held : List Tag) → leaves_held m insn held ≡ false → may_leave m insn ≡ true → held ≡ []
-none_held_at m insn [] e l = refl
-none_held_at m insn (t ∷ held) e l = absurd (let bad : true ≡ false = sym l ∙ e in cc)
 
 leaves_by_throw : (m : MethodInfo) (insn : Insn) → can_throw insn.op ≡ true → list_any catches_all (covering m insn.pc) ≡ false → may_leave m insn ≡ true
 leaves_by_throw m insn t n = by_tests (is_return insn.op) (can_throw insn.op) (list_any catches_all (covering m insn.pc)) t n
@@ -116,7 +109,7 @@ module _ (c : MarkedProgram) (marked : IsMarked c) (x : ℕ) (class : Thrown) (f
   top = top_here c f below r.stands
 
   throws : can_throw r.stands.insn.op ≡ true
-  throws = ap (λ (i : Insn). can_throw i.op) (one_insn c marked f f r.stands s.phase_shows.0 refl refl) ∙ s.phase_shows.1
+  throws = ap (λ (i : Insn). can_throw i.op) (one_insn c marked f r.stands s.phase_shows.0) ∙ s.phase_shows.1
 
   no_exit : r.stands.insn.op ≡ ops.Monitorexit → ⊥
   no_exit e = let bad : false ≡ true = sym (ap can_throw e) ∙ throws in cc
@@ -136,8 +129,7 @@ module _ (c : MarkedProgram) (marked : IsMarked c) (x : ℕ) (class : Thrown) (f
       let m = r.stands.method in
       let insn = r.stands.insn in
       let at : handler_of insn.pc (class_of class) m.rows ≡ None = ap (λ pc. handler_of pc (class_of class) m.rows) r.stands.pc_is ∙ e in
-      let sound = tags_sound c marked f r.stands in
-      none_held_at m insn r.stands.tags.held sound.leaves (leaves_by_throw m insn throws (none_catches insn.pc (class_of class) m.rows at))
+      leaves_none c marked f r.stands (leaves_by_throw m insn throws (none_catches insn.pc (class_of class) m.rows at))
 
   -- only a synchronized method's frame is that of an entry
   not_alone : r.stands.tags.held ≡ [] → is_synchronized r.stands.method.flags ≡ false → a.base ≡ length below → ⊥
