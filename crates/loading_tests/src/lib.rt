@@ -7,6 +7,8 @@ mod files;
 pub use files::{one, two};
 
 #[cfg(test)]
+mod code_rows;
+#[cfg(test)]
 mod loading;
 #[cfg(test)]
 mod marking;
@@ -22,5 +24,7 @@ mod refusals;
 mod reports;
 #[cfg(test)]
 mod runs;
+#[cfg(test)]
+mod shared_lists;
 #[cfg(test)]
 mod writing;

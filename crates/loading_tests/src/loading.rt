@@ -28,6 +28,32 @@ fn line_of(alloc: Global, files: &Rows<Bytes>, worker: bool) -> Result<String, A
     }
 }
 
+/// Compares what refuses one file.
+fn check_line(
+    rt: &(impl Abort + AllocGlobal),
+    file: Bytes,
+    worker: bool,
+    line: &str,
+) -> Result<(), AllocError> {
+    let files = one(rt.alloc(), file)?;
+    let found = line_of(rt.alloc(), &files, worker)?;
+    assert_eq!(rt; found.as_str(), line);
+    Ok(())
+}
+
+/// Compares what refuses two files.
+fn check_lines(
+    rt: &(impl Abort + AllocGlobal),
+    first: Bytes,
+    second: Bytes,
+    line: &str,
+) -> Result<(), AllocError> {
+    let files = two(rt.alloc(), first, second)?;
+    let found = line_of(rt.alloc(), &files, false)?;
+    assert_eq!(rt; found.as_str(), line);
+    Ok(())
+}
+
 /// Compares what refuses each change of a class.
 fn check_all(
     rt: &(impl Abort + AllocGlobal),
@@ -35,9 +61,8 @@ fn check_all(
     refusals: &[Refusal],
 ) -> Result<(), AllocError> {
     for refusal in refusals {
-        let files = one(rt.alloc(), changed(rt.alloc(), hex, refusal.changes)?)?;
-        let line = line_of(rt.alloc(), &files, false)?;
-        assert_eq!(rt; line.as_str(), refusal.line);
+        let file = changed(rt.alloc(), hex, refusal.changes)?;
+        check_line(rt, file, false, refusal.line)?;
     }
     Ok(())
 }
@@ -50,11 +75,19 @@ fn check_pairs(
     for refusal in refusals {
         let first = changed(rt.alloc(), adds(), refusal.first)?;
         let second = changed(rt.alloc(), adds(), refusal.second)?;
-        let files = two(rt.alloc(), first, second)?;
-        let line = line_of(rt.alloc(), &files, false)?;
-        assert_eq!(rt; line.as_str(), refusal.line);
+        check_lines(rt, first, second, refusal.line)?;
     }
     Ok(())
+}
+
+/// Compares what refuses the class with two private fields beside another one.
+fn check_beside(
+    rt: &(impl Abort + AllocGlobal),
+    other: Bytes,
+    line: &str,
+) -> Result<(), AllocError> {
+    let first = changed(rt.alloc(), pair(), &[])?;
+    check_lines(rt, first, other, line)
 }
 
 #[test]
@@ -75,65 +108,29 @@ fn loads_a_class_that_adds_and_prints(rt: HostRuntime) -> Result<(), Fail> {
 }
 
 #[test]
-fn refuses_by_each_rule_of_class_files(rt: HostRuntime) -> Result<(), Fail> {
+fn refuses_by_each_rule_of_files_and_code(rt: HostRuntime) -> Result<(), Fail> {
     check_all(&rt, adds(), &UNREADABLE)?;
     check_all(&rt, adds(), &VERSIONS)?;
     check_all(&rt, constants(), &WIDE)?;
-    Ok(())
-}
-
-#[test]
-fn refuses_by_each_rule_of_code(rt: HostRuntime) -> Result<(), Fail> {
     check_all(&rt, adds(), &UNDECODABLE)?;
     check_all(&rt, pair(), &UNDECODABLE_ROWS)?;
     Ok(())
 }
 
 #[test]
-fn refuses_names_in_linking(rt: HostRuntime) -> Result<(), Fail> {
+fn refuses_by_each_rule_of_programs(rt: HostRuntime) -> Result<(), Fail> {
     check_all(&rt, adds(), &UNLINKED)?;
     check_all(&rt, pair(), &FINAL_FIELD)?;
     check_all(&rt, below_exception(), &OTHER_SUPER)?;
-    check_pairs(&rt, &TWO_FILES)?;
-    Ok(())
-}
-
-#[test]
-fn refuses_by_each_rule_of_types(rt: HostRuntime) -> Result<(), Fail> {
     check_all(&rt, adds(), &UNTYPED)?;
     check_all(&rt, pair(), &MISUSED)?;
-    Ok(())
-}
-
-#[test]
-fn refuses_by_each_rule_of_locking(rt: HostRuntime) -> Result<(), Fail> {
     check_all(&rt, adds(), &UNTAGGED)?;
     Ok(())
 }
 
 #[test]
-fn compiled_classes_pass_all_rules(rt: HostRuntime) -> Result<(), Fail> {
-    for hex in [pair(), tally(), work()] {
-        check_all(&rt, hex, &NOT_BUILT_YET)?;
-    }
-    Ok(())
-}
-
-/// Compares what refuses the class with two private fields beside another one.
-fn check_beside(
-    rt: &(impl Abort + AllocGlobal),
-    other: Bytes,
-    line: &str,
-) -> Result<(), AllocError> {
-    let first = changed(rt.alloc(), pair(), &[])?;
-    let files = two(rt.alloc(), first, other)?;
-    let found = line_of(rt.alloc(), &files, false)?;
-    assert_eq!(rt; found.as_str(), line);
-    Ok(())
-}
-
-#[test]
-fn refuses_in_the_second_file(rt: HostRuntime) -> Result<(), Fail> {
+fn refuses_in_one_of_two_files(rt: HostRuntime) -> Result<(), Fail> {
+    check_pairs(&rt, &TWO_FILES)?;
     let peeking = changed(rt.alloc(), peeks(), &[])?;
     check_beside(&rt, peeking, "refused L3 file 1 method 0 at 1")?;
     let falling = changed(rt.alloc(), adds(), &[(216, 0)])?;
@@ -141,23 +138,19 @@ fn refuses_in_the_second_file(rt: HostRuntime) -> Result<(), Fail> {
     Ok(())
 }
 
+/// Compiled classes pass all rules, a worker needs `run`, and the fixed words fit the heap.
 #[test]
-fn a_worker_needs_run(rt: HostRuntime) -> Result<(), Fail> {
-    let files = one(rt.alloc(), changed(rt.alloc(), adds(), &[])?)?;
-    let line = line_of(rt.alloc(), &files, true)?;
-    assert_eq!(rt; line.as_str(), "refused L4 file 0 at 0");
-    Ok(())
-}
-
-#[test]
-fn the_fixed_words_fit_the_heap(rt: HostRuntime) -> Result<(), Fail> {
+fn compiled_classes_workers_and_words(rt: HostRuntime) -> Result<(), Fail> {
+    for hex in [pair(), tally(), work()] {
+        check_all(&rt, hex, &NOT_BUILT_YET)?;
+    }
+    let without_run = changed(rt.alloc(), adds(), &[])?;
+    check_line(&rt, without_run, true, "refused L4 file 0 at 0")?;
     for (count, wanted) in [
         (2026, "refused L0 file 0 at 0"),
         (2027, "refused L8 file 0 at 0"),
     ] {
-        let files = one(rt.alloc(), with_statics(rt.alloc(), count)?)?;
-        let line = line_of(rt.alloc(), &files, false)?;
-        assert_eq!(rt; line.as_str(), wanted);
+        check_line(&rt, with_statics(rt.alloc(), count)?, false, wanted)?;
     }
     Ok(())
 }

@@ -84,21 +84,12 @@ fn check_marks(
 }
 
 #[test]
-fn own_instructions_mark(rt: HostRuntime) -> Result<(), Fail> {
+fn sections_are_marked(rt: HostRuntime) -> Result<(), Fail> {
     check_marks(&rt, marks(), &[], OWN)?;
     let wanted = "P.set(I)V method M1\nP.sum()I block 3 M0\n";
     check_marks(&rt, pair(), &[], wanted)?;
-    Ok(())
-}
-
-#[test]
-fn callees_mark(rt: HostRuntime) -> Result<(), Fail> {
     check_marks(&rt, calls(), &[], BY_CALLEES)?;
-    Ok(())
-}
-
-#[test]
-fn a_class_that_stores_this_is_not_frozen(rt: HostRuntime) -> Result<(), Fail> {
+    // a class that stores `this` is not frozen
     check_marks(&rt, stores_this(), &[], "K.get()I method M5\n")?;
     // the store becomes four times nop
     let without = [(178, 0), (179, 0), (180, 0), (181, 0)];

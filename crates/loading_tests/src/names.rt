@@ -17,7 +17,7 @@ fn three_files(rt: &HostRuntime) -> Result<Option<ClassNumbers<'static>>, Fail> 
 }
 
 #[test]
-fn numbers_classes(rt: HostRuntime) -> Result<(), Fail> {
+fn numbers_classes_and_reads_descriptors(rt: HostRuntime) -> Result<(), Fail> {
     match three_files(&rt)? {
         Some(classes) => {
             assert!(rt; classes.number(b"Pair") == Some(17));
@@ -25,16 +25,6 @@ fn numbers_classes(rt: HostRuntime) -> Result<(), Fail> {
             assert!(rt; classes.number(b"java/lang/StackOverflowError") == Some(15));
             assert!(rt; classes.number(b"java/lang/System") == None);
             assert!(rt; classes.named(b"java/lang/System") == Some(0));
-        }
-        None => assert!(rt; false),
-    }
-    Ok(())
-}
-
-#[test]
-fn reads_descriptors(rt: HostRuntime) -> Result<(), Fail> {
-    match three_files(&rt)? {
-        Some(classes) => {
             assert!(rt; field_kind(&classes, b"LOther;") == Some(Kind::Ref(19)));
             assert!(rt; field_kind(&classes, b"[I") == Some(Kind::Ref(2)));
             assert!(rt; field_kind(&classes, b"L[I;") == None);

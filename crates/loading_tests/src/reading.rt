@@ -42,17 +42,12 @@ fn reads_what_javac_writes(rt: HostRuntime) -> Result<(), Fail> {
 }
 
 #[test]
-fn refuses_each_front_of_a_class(rt: HostRuntime) -> Result<(), Fail> {
+fn refuses_each_front_of_a_class_and_a_byte_behind_it(rt: HostRuntime) -> Result<(), Fail> {
     for len in 0..223 {
         let mut file = changed(rt.alloc(), adds(), &[])?;
         file.truncate(len);
         assert!(rt; matches!(refusal_of(&rt, &file), Some((CRule::C3, _))));
     }
-    Ok(())
-}
-
-#[test]
-fn refuses_a_byte_that_is_left_over(rt: HostRuntime) -> Result<(), Fail> {
     let mut file = changed(rt.alloc(), adds(), &[])?;
     file.push(0)?;
     assert!(rt; refusal_of(&rt, &file) == Some((CRule::C8, 223)));

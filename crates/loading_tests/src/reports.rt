@@ -48,7 +48,7 @@ fn print(ticket: u64, value: i32) -> Print {
 }
 
 #[test]
-fn reports_two_threads(rt: HostRuntime) -> Result<(), Fail> {
+fn reports_two_threads_and_refusals(rt: HostRuntime) -> Result<(), Fail> {
     let alloc = rt.alloc();
     let mut threads = Rows::new(alloc);
     let prints = [print(0, 5), print(2, -7)];
@@ -61,14 +61,9 @@ fn reports_two_threads(rt: HostRuntime) -> Result<(), Fail> {
     };
     let text = report(alloc, &outcome)?;
     assert_eq!(rt; text.as_slice(), REPORT.as_bytes());
-    Ok(())
-}
-
-#[test]
-fn refuses_by_a_line(rt: HostRuntime) -> Result<(), Fail> {
-    let text = refusal(rt.alloc(), Rule::L(LRule::L0), in_file(0, 0))?;
+    let text = refusal(alloc, Rule::L(LRule::L0), in_file(0, 0))?;
     assert_eq!(rt; text.as_slice(), b"refused L0 file 0 at 0\n".as_slice());
-    let text = refusal(rt.alloc(), Rule::C(CRule::C10), in_method(3, 12, 65_535))?;
+    let text = refusal(alloc, Rule::C(CRule::C10), in_method(3, 12, 65_535))?;
     assert_eq!(rt;
         text.as_slice(),
         b"refused C10 file 3 method 12 at 65535\n".as_slice()

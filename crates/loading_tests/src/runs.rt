@@ -1,8 +1,8 @@
 //! Runs of the first form.
 
+use first_machine::run_first;
 use jvm_types::{Counts, End, FirstOp, Print, Rows};
 use std::test::*;
-use first_machine::run_first;
 
 /// Prints the greatest int and 1 more, and then -1.
 const CODE: [FirstOp; 9] = [

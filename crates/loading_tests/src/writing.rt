@@ -122,11 +122,21 @@ fn built_kinds(alloc: Global) -> Result<ClassFile, BuildError> {
     })
 }
 
+/// Whether the bytes are read as a class, and written back as they are.
+fn is_written_back(alloc: Global, hex: &str) -> Result<bool, Fail> {
+    let bytes = bytes_of(alloc, hex)?;
+    let class = read_class(alloc, &bytes)?;
+    let again = write_class(alloc, &class)?;
+    Ok(again.as_slice() == bytes.as_slice())
+}
+
 #[test]
-fn writes_each_kind_of_part(rt: HostRuntime) -> Result<(), Fail> {
+fn writes_each_kind_of_part_and_what_was_read(rt: HostRuntime) -> Result<(), Fail> {
     let class = built_kinds(rt.alloc())?;
     let bytes = write_class(rt.alloc(), &class)?;
     assert!(rt; bytes.as_slice() == bytes_of(rt.alloc(), kinds())?.as_slice());
+    assert!(rt; is_written_back(rt.alloc(), tally())?);
+    assert!(rt; is_written_back(rt.alloc(), pair())?);
     Ok(())
 }
 
@@ -168,20 +178,5 @@ fn fills_a_pool(rt: HostRuntime) -> Result<(), Fail> {
     let refused = add_text(alloc, &mut builder, b"B");
     assert!(rt; matches!(refused, Err(BuildError::Full)));
     assert_eq!(rt; add_text(alloc, &mut builder, b"A")?, 65_534);
-    Ok(())
-}
-
-/// Whether the bytes are read as a class, and written back as they are.
-fn is_written_back(alloc: Global, hex: &str) -> Result<bool, Fail> {
-    let bytes = bytes_of(alloc, hex)?;
-    let class = read_class(alloc, &bytes)?;
-    let again = write_class(alloc, &class)?;
-    Ok(again.as_slice() == bytes.as_slice())
-}
-
-#[test]
-fn classes_are_written_back(rt: HostRuntime) -> Result<(), Fail> {
-    assert!(rt; is_written_back(rt.alloc(), tally())?);
-    assert!(rt; is_written_back(rt.alloc(), pair())?);
     Ok(())
 }
