@@ -22,6 +22,3 @@ pub use pc_table::PcTable;
 pub use row_moves::{Making, Types, stack_after, value_of, write_local};
 pub use type_order::{is_below, is_new, is_uninitialised, meet, same_type};
 pub use ways::{branches_to, can_throw, edges, falls_through, goes_back};
-
-#[cfg(test)]
-mod tests;

@@ -6,13 +6,16 @@ ghost use Rattle.machine_types.specs.Ints.{low, word_of, int_of, added, subtract
 
 use jvm_types::Cmp;
 
+/// How many ints there are.
+const INTS: u64 = 1 << 32;
+
 /// The low 32 bits.
 #[inline(always)]
 pub fn low(a: u64) -> u64
     ensures word { result ≡ low a }
     ensures fits { result < 2 ^ 32 }
 {
-    a % 4_294_967_296
+    a % INTS
 }
 
 #[inline(always)]
@@ -40,7 +43,7 @@ pub fn add(a: u64, b: u64) -> u64
 pub fn subtract(a: u64, b: u64) -> u64
     ensures { result ≡ subtracted a b }
 {
-    low(low(a) + (4_294_967_296 - low(b)))
+    low(low(a) + (INTS - low(b)))
 }
 
 #[inline(always)]
@@ -128,7 +131,7 @@ pub fn to_byte(a: u64) -> u64
     if bits < 128 {
         bits
     } else {
-        4_294_967_296 - 256 + bits
+        INTS - 256 + bits
     }
 }
 
@@ -149,7 +152,7 @@ pub fn to_short(a: u64) -> u64
     if bits < 32768 {
         bits
     } else {
-        4_294_967_296 - 65536 + bits
+        INTS - 65536 + bits
     }
 }
 

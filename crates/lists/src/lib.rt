@@ -8,6 +8,3 @@ pub mod stack;
 pub use room::Room;
 pub use rows::{Bytes, Rows};
 pub use stack::Stack;
-
-#[cfg(test)]
-mod tests;

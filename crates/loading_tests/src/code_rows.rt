@@ -4,6 +4,7 @@ use code_table::{
     PcTable, branches_to, can_throw, common_ancestor, edges, falls_through, goes_back, is_subclass,
     row,
 };
+use jvm_types::limits::LEAST_HEAP;
 use jvm_types::{Case, Given, Insn, Kind, MethodInfo, Op, Program, Rows, Target, VType, Want};
 use std::alloc::{AllocError, Global};
 use std::test::*;
@@ -40,7 +41,7 @@ fn no_program(alloc: Global) -> Program {
         names: Rows::new(alloc),
         fields: Rows::new(alloc),
         methods: Rows::new(alloc),
-        heap: 4096,
+        heap: LEAST_HEAP,
         workers: 0,
     }
 }
