@@ -1,3 +1,13 @@
 pub mod HeldLists
 pub mod HeldBound
 pub mod AttemptBases
+pub mod Turns
+pub mod Entries
+pub mod Waits
+pub mod GoingOn
+pub mod Releases
+pub mod ElementEffects
+pub mod Instructions
+pub mod StaticRoots
+pub mod ThreadSteps
+pub mod StateSteps

@@ -1,2 +1,4 @@
-pub mod AttemptLaws
+pub mod BaseLaws
 pub mod HeldLaws
+pub mod StructureLaws
+pub mod StateLaws
