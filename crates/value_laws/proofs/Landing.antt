@@ -42,6 +42,12 @@ zip_at R (a ∷ xs) [] i x y all e f = absurd all
 zip_at R (a ∷ xs) (b ∷ ys) zero x y all e f = let e : a ≡ x = cc in let f : b ≡ y = cc in subst (λ z. R z y) e (subst (λ z. R a z) f all.0)
 zip_at R (a ∷ xs) (b ∷ ys) (suc i) x y all e f = zip_at R xs ys i x y all.1 e f
 
+pub zip_has : {A B : Type 0} (R : A → B → Type 0) (xs : List A) (ys : List B) (i : ℕ) (x : A) → AllZip R xs ys → slice_get xs i ≡ Some x → (y : B) × (slice_get ys i ≡ Some y)
+zip_has R [] ys i x all e = absurd (cc)
+zip_has R (a ∷ xs) [] i x all e = absurd all
+zip_has R (a ∷ xs) (b ∷ ys) zero x all e = (b, refl)
+zip_has R (a ∷ xs) (b ∷ ys) (suc i) x all e = zip_has R xs ys i x all.1 e
+
 -- an item of a list that was mapped
 pub mapped_at : {A B : Type 0} (g : A → B) (xs : List A) (i : ℕ) (y : B) → slice_get (map g xs) i ≡ Some y → (x : A) × (slice_get xs i ≡ Some x) × (g x ≡ y)
 mapped_at g [] i y e = absurd (cc)

@@ -7,3 +7,4 @@ pub mod Calls
 pub mod FewFields
 pub mod TopEffects
 pub mod Callers
+pub mod Entries

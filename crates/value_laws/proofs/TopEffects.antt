@@ -68,7 +68,7 @@ module _ (c : MarkedProgram) (marked : IsMarked c) (is : Classes) (out : is PRIN
   values_of f h = record { stack = h.stack; locals = h.locals; receiver = h.receiver }
 
   makes_at : (m : MethodInfo) (i : ℕ) (insn : Insn) (target : Target) (r : OpRow) → IsLaidOut m → slice_get m.code i ≡ Some insn → slice_get m.targets i ≡ Some target
-      → HasRow c.program (site_in m) insn.pc target insn.op r → MakesAt c.program m is insn.pc insn.next out target
+      → HasRow c.program (site_in m) insn.pc target insn.op r → MakesAt c.program m is [] insn.pc insn.next out target
   makes_at m i insn (targets.Class class) r laid e t h = (class_of_the_new m i insn class laid e t, class_named c.program (site_in m) insn.pc class insn.op r h)
   makes_at m i insn target r laid e t h = tt
 
@@ -78,13 +78,13 @@ module _ (c : MarkedProgram) (marked : IsMarked c) (is : Classes) (out : is PRIN
       operands h.stands.method is (row_of c.program h.stands.method h.stands.insn h.stands.target) h.stands.types f rules.rules.takes rules.rules.types (values_of f h)
 
   pub allowed_here : (f : Frame) (h : FrameHolds c is 0 f)
-      → Allowed c.program h.stands.method is h.stands.insn h.stands.target (row_of c.program h.stands.method h.stands.insn h.stands.target)
+      → Allowed c.program h.stands.method is h.stands.insn h.stands.target (row_of c.program h.stands.method h.stands.insn h.stands.target) f.stack
       (effect c.program h.stands.insn.next h.stands.target h.stands.insn.op f.locals f.stack)
   allowed_here f h =
       let k = h.stands in
       let rules = rules_at c marked f k in
       let fits = row_here c marked is f h in
-      effect_allowed c.program k.method is k.insn.pc k.insn.next out k.target k.insn.op f.locals f.stack
+      effect_allowed c.program k.method is f.stack k.insn.pc k.insn.next out k.target k.insn.op f.locals f.stack refl
       (taken_here f h, fits.reads, fits.writes)
       (makes_at k.method k.number k.insn k.target (row_of c.program k.method k.insn k.target) (laid_at c marked f.method k.method k.at.in_program) k.at.in_code k.at.names rules.has_row)
       rules.names
@@ -172,7 +172,7 @@ module _ (c : MarkedProgram) (marked : IsMarked c) where
         by_kind (inl k) =
             let takes : r.takes ≡ arguments called ++ receiver_want (is_init called) called.class ∷ [] = ap (λ (x : OpRow). x.takes) call.is ∙ k.1 in
             let want = receiver_want (is_init called) called.class in
-            let at = below_args c.program h.stands.method (within c.program) (arguments called) want f.stack (subst (λ (ws : List Want). TakenHold h.stands.method (within c.program) ws f.stack) takes taken) in
+            let at = below_args c.program h.stands.method (within c.program) [] (arguments called) want f.stack (subst (λ (ws : List Want). TakenHold h.stands.method (within c.program) ws f.stack) takes taken) in
             let there : slice_get f.stack (length called.args) ≡ Some at.0 = subst (λ (n : ℕ). slice_get f.stack n ≡ Some at.0) (as_many called) at.1 in
             let same : at.0 ≡ v = some_same (sym there ∙ has.1) in
             let inside = receiver_inside (is_init called) called.class at.0 file at.2 (subst (λ (n : ℕ). 0 < n) (sym same) has.2) in
@@ -215,9 +215,9 @@ module _ (c : MarkedProgram) (marked : IsMarked c) where
             subst (λ (n : ℕ). n < c.program.heap) (index ∙ sym first) (inside s).1
 
     allowed_as : (e : Effect) → effect_at c.program (top_here c f fs h.stands) ≡ e
-        → Allowed c.program h.stands.method (within c.program) h.stands.insn h.stands.target (row_of c.program h.stands.method h.stands.insn h.stands.target) e → IsAllowed c.program (top_here c f fs h.stands) e
+        → Allowed c.program h.stands.method (within c.program) h.stands.insn h.stands.target (row_of c.program h.stands.method h.stands.insn h.stands.target) f.stack e → IsAllowed c.program (top_here c f fs h.stands) e
     allowed_as (Goes to made) e a = goes_to c marked f fs h.stands to a.0
-    allowed_as (Throws x) e a = a
+    allowed_as (Throws x) e a = a.0
     allowed_as (Reads v) e a = (goes_to c marked f fs h.stands h.stands.insn.next a.0, variable_small h.stands.target v a.1 a.2)
     allowed_as (Writes v word) e a = (goes_to c marked f fs h.stands h.stands.insn.next a.0, variable_small h.stands.target v a.1 a.2)
     allowed_as (Indexes x i stored) e a = (goes_to c marked f fs h.stands h.stands.insn.next a.0, of_heap _ x a.1)

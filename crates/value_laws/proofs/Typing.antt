@@ -24,7 +24,7 @@ use Rattle.value_laws.proofs.Values.{ValuesHold, taken_hold, moved_stack, moved_
 module _ (m : MethodInfo) (is : Classes) where
   -- ---- the object that an `<init>` is called on
 
-  abbrev StartHolds : Option (VType × ℕ) → Type 0
+  abbrev pub StartHolds : Option (VType × ℕ) → Type 0
   StartHolds None = Unit {0}
   StartHolds (Some object) = (is_uninitialised object.0 ≡ true) × ((v : ℕ) → Holds m is object.0 v → is object.1 v)
 
@@ -39,13 +39,13 @@ module _ (m : MethodInfo) (is : Classes) where
   suiting true e = refl
   suiting false e = absurd (cc)
 
-  abbrev Suit : List Want → List VType → Type 0
+  abbrev pub Suit : List Want → List VType → Type 0
   Suit wants ts = some_taken (λ want t. not (suits m want t)) wants ts ≡ false
 
   later : (want : Want) (t : VType) (wants : List Want) (ts : List VType) → Suit (want ∷ wants) (t ∷ ts) → Suit wants ts
   later want t wants ts h = (or_parts (not (suits m want t)) (some_taken (λ want t. not (suits m want t)) wants ts) h).1
 
-  start_holds : (wants : List Want) (ts : List VType) → Suit wants ts → StartHolds (started m.class wants ts)
+  pub start_holds : (wants : List Want) (ts : List VType) → Suit wants ts → StartHolds (started m.class wants ts)
   start_holds [] ts h = tt
   start_holds (ToStart class ∷ wants) (This ∷ ts) h = (refl, λ v k. k)
   start_holds (ToStart class ∷ wants) (New pc ∷ ts) h = (
@@ -80,7 +80,7 @@ module _ (m : MethodInfo) (is : Classes) where
   all_started o class (t ∷ ts) (v ∷ s) u h k = (one_started o class t v u h k.0, all_started o class ts s u h k.1)
   all_started o class ts s u h k = absurd (assumption)
 
-  started_frame : (o : Option (VType × ℕ)) (g : TypeFrame) (f : Frame) → StartHolds o → ValuesHold m is g f → ValuesHold m is (after_start o g) f
+  pub started_frame : (o : Option (VType × ℕ)) (g : TypeFrame) (f : Frame) → StartHolds o → ValuesHold m is g f → ValuesHold m is (after_start o g) f
   started_frame None g f h k = k
   started_frame (Some object) g f h k = record {
     stack = all_started object.0 object.1 g.stack f.stack h.0 h.1 k.stack;

@@ -117,7 +117,7 @@ module _ (m : MethodInfo) (is : Classes) where
   value_holds ts ls s l made (Taken place) f g h = item_holds ts s place f
   value_holds ts ls s l made (Local i) f g h = item_holds ls l i g
 
-  rest_holds : (n : ℕ) (ts : List VType) (s : List ℕ) → AllZip (Holds m is) ts s → AllZip (Holds m is) (drop n ts) (drop n s)
+  pub rest_holds : (n : ℕ) (ts : List VType) (s : List ℕ) → AllZip (Holds m is) ts s → AllZip (Holds m is) (drop n ts) (drop n s)
   rest_holds zero ts s k = k
   rest_holds (suc n) [] [] k = k
   rest_holds (suc n) (t ∷ ts) (v ∷ s) k = rest_holds n ts s k.1

@@ -14,6 +14,8 @@ use Rattle.jvm_types.specs.declared.op_row.Given.TheVariants.{Fresh}
 use Rattle.jvm_types.specs.declared.op_row.OpRow.{OpRow}
 use Rattle.jvm_types.specs.declared.op_row.Want.{Want}
 use Rattle.jvm_types.specs.declared.op_row.Want.TheVariants.{AnyValue, AnInt, AnObject, AnyReference, AHolder, ToStart}
+use Rattle.jvm_types.specs.declared.outcome.Thrown.{Thrown}
+use Rattle.jvm_types.specs.declared.outcome.Thrown.TheVariants as thrown
 use Rattle.jvm_types.specs.declared.program.FieldInfo.{FieldInfo}
 use Rattle.jvm_types.specs.declared.program.MethodInfo.{MethodInfo}
 use Rattle.jvm_types.specs.declared.program.Program.{Program}
@@ -25,8 +27,9 @@ use Rattle.machine_types.specs.declared.effect.Variable.{Variable}
 use Rattle.machine_types.specs.declared.effect.Effect.{Effect}
 use Rattle.machine_types.specs.declared.effect.Effect.TheVariants.{Goes, Throws, Reads, Writes, Indexes, Measures, Raises, Makes, Prints, Calls, Returns, Enters, Leaves, Waits, Notifies, NotifiesAll, Stuck}
 use Rattle.machine_types.specs.Effects.{variable_of}
-use Rattle.machine_types.specs.Typed.{Classes, IsNullOr, Holds, KindHolds}
-use Rattle.machine_types.specs.Words.{header, object_size, array_size}
+use Rattle.machine_types.specs.Ints.{low}
+use Rattle.machine_types.specs.Typed.{Classes, IsNullOr, Holds, KindHolds, IsElementOn}
+use Rattle.machine_types.specs.Words.{header, object_size, array_size, value_word}
 
 -- an object of the class or of one below it, and not null
 abbrev pub IsOf : Classes → (class v : ℕ) → Type 0
@@ -94,21 +97,31 @@ MadeAs p m (New pc) word size = (class : ℕ) × (new_class m.code m.targets pc 
 MadeAs p m (Ref class) word size = (class ≡ INT_ARRAY_CLASS) × (count : ℕ) × (count ≤ p.heap) × (word ≡ header INT_ARRAY_CLASS count) × (size ≡ array_size count)
 MadeAs p m type word size = ⊥
 
-abbrev pub Allowed : Program → MethodInfo → Classes → Insn → Target → OpRow → Effect → Type 0
-Allowed p m is insn target r (Goes to made) = OneOf (edges insn) to × Gives m is r made
-Allowed p m is insn target r (Throws x) = can_throw insn.op ≡ true
-Allowed p m is insn target r (Reads v) = GoesOn insn × (f : FieldInfo) × IsFieldAt p is target v f × ((got : ℕ) → KindHolds is f.kind got → Gives m is r got)
-Allowed p m is insn target r (Writes v word) = GoesOn insn × (f : FieldInfo) × IsFieldAt p is target v f × KindHolds is f.kind word × Gives m is r 0
-Allowed p m is insn target r (Indexes a i stored) = GoesOn insn × IsOf is INT_ARRAY_CLASS a × StoredHolds stored × ((got : ℕ) → got < 2 ^ 32 → Gives m is r got)
-Allowed p m is insn target r (Measures a) = GoesOn insn × IsOf is INT_ARRAY_CLASS a × ((got : ℕ) → got < 2 ^ 32 → Gives m is r got)
-Allowed p m is insn target r (Raises x) = (can_throw insn.op ≡ true) × IsOf is THROWABLE_CLASS x
-Allowed p m is insn target r (Makes word size) = GoesOn insn × (type : VType) × (r.gives ≡ Fresh type ∷ []) × (r.writes ≡ None) × MadeAs p m type word size
-Allowed p m is insn target r (Prints n) = GoesOn insn × (n < 2 ^ 32) × Gives m is r 0
-Allowed p m is insn target r (Calls number) = (called : MethodInfo) × (target ≡ Method number) × (slice_get p.methods number ≡ Some called)
-Allowed p m is insn target r Returns = is_return insn.op ≡ true
-Allowed p m is insn target r (Enters a) = GoesOn insn × (IsOf is OBJECT_CLASS a) × Gives m is r 0
-Allowed p m is insn target r (Leaves a) = GoesOn insn × (IsNullOr is OBJECT_CLASS a) × Gives m is r 0
-Allowed p m is insn target r (Waits a) = GoesOn insn × (IsOf is OBJECT_CLASS a) × Gives m is r 0
-Allowed p m is insn target r (Notifies a) = GoesOn insn × (IsOf is OBJECT_CLASS a) × Gives m is r 0
-Allowed p m is insn target r (NotifiesAll a) = GoesOn insn × (IsOf is OBJECT_CLASS a) × Gives m is r 0
-Allowed p m is insn target r Stuck = ⊥
+-- what the machine throws by itself
+abbrev pub IsByMachine : Thrown → Type 0
+IsByMachine thrown.Throwable = ⊥
+IsByMachine thrown.Exception = ⊥
+IsByMachine thrown.Error = ⊥
+IsByMachine thrown.RuntimeException = ⊥
+IsByMachine thrown.InterruptedException = ⊥
+IsByMachine x = Unit {0}
+
+-- of the instruction of a method, with its target, its row and the stack that it stands on
+abbrev pub Allowed : Program → MethodInfo → Classes → Insn → Target → OpRow → (stack : List ℕ) → Effect → Type 0
+Allowed p m is insn target r s (Goes to made) = OneOf (edges insn) to × Gives m is r made
+Allowed p m is insn target r s (Throws x) = (can_throw insn.op ≡ true) × IsByMachine x
+Allowed p m is insn target r s (Reads v) = GoesOn insn × (f : FieldInfo) × IsFieldAt p is target v f × ((got : ℕ) → KindHolds is f.kind got → Gives m is r got)
+Allowed p m is insn target r s (Writes v word) = GoesOn insn × (f : FieldInfo) × IsFieldAt p is target v f × KindHolds is f.kind word × Gives m is r 0
+Allowed p m is insn target r s (Indexes a i stored) = GoesOn insn × IsOf is INT_ARRAY_CLASS a × IsElementOn (value_word a (low i)) stored s × StoredHolds stored × ((got : ℕ) → got < 2 ^ 32 → Gives m is r got)
+Allowed p m is insn target r s (Measures a) = GoesOn insn × IsOf is INT_ARRAY_CLASS a × ((got : ℕ) → got < 2 ^ 32 → Gives m is r got)
+Allowed p m is insn target r s (Raises x) = (can_throw insn.op ≡ true) × IsOf is THROWABLE_CLASS x
+Allowed p m is insn target r s (Makes word size) = GoesOn insn × (type : VType) × (r.gives ≡ Fresh type ∷ []) × (r.writes ≡ None) × MadeAs p m type word size
+Allowed p m is insn target r s (Prints n) = GoesOn insn × (n < 2 ^ 32) × Gives m is r 0
+Allowed p m is insn target r s (Calls number) = (called : MethodInfo) × (target ≡ Method number) × (slice_get p.methods number ≡ Some called)
+Allowed p m is insn target r s Returns = is_return insn.op ≡ true
+Allowed p m is insn target r s (Enters a) = GoesOn insn × (IsOf is OBJECT_CLASS a) × Gives m is r 0
+Allowed p m is insn target r s (Leaves a) = GoesOn insn × (IsNullOr is OBJECT_CLASS a) × Gives m is r 0
+Allowed p m is insn target r s (Waits a) = GoesOn insn × (IsOf is OBJECT_CLASS a) × Gives m is r 0
+Allowed p m is insn target r s (Notifies a) = GoesOn insn × (IsOf is OBJECT_CLASS a) × Gives m is r 0
+Allowed p m is insn target r s (NotifiesAll a) = GoesOn insn × (IsOf is OBJECT_CLASS a) × Gives m is r 0
+Allowed p m is insn target r s Stuck = ⊥
