@@ -8,3 +8,4 @@ pub mod FewFields
 pub mod TopEffects
 pub mod Callers
 pub mod Entries
+pub mod Moves
