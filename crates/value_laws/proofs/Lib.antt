@@ -9,3 +9,6 @@ pub mod TopEffects
 pub mod Callers
 pub mod Entries
 pub mod Moves
+pub mod Lifts
+pub mod Onwards
+pub mod Doing
