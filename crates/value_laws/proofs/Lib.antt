@@ -12,3 +12,5 @@ pub mod Moves
 pub mod Lifts
 pub mod Onwards
 pub mod Doing
+pub mod ThreadTypes
+pub mod KeptRun

@@ -22,13 +22,13 @@ module _ (is more : Classes) (up : (class v : ℕ) → is class v → more class
   holds_up m (New pc) v h = (h.0, h.1, up h.0 v h.2)
   holds_up m Top v h = h
 
-  zip_up : (m : MethodInfo) (ts : List VType) (vs : List ℕ) → AllZip (Holds m is) ts vs → AllZip (Holds m more) ts vs
+  pub zip_up : (m : MethodInfo) (ts : List VType) (vs : List ℕ) → AllZip (Holds m is) ts vs → AllZip (Holds m more) ts vs
   zip_up m [] [] h = h
   zip_up m (t ∷ ts) (v ∷ vs) h = (holds_up m t v h.0, zip_up m ts vs h.1)
   zip_up m ts vs h = absurd (assumption)
 
   module _ (c : MarkedProgram) where
-    pub frame_up : (count : ℕ) (f : Frame) → FrameHolds c is count f → FrameHolds c more count f
+    abbrev pub frame_up : (count : ℕ) (f : Frame) → FrameHolds c is count f → FrameHolds c more count f
     frame_up count f h = record {
       stands = h.stands;
       stack = zip_up h.stands.method (drop count h.stands.types.stack) f.stack h.stack;

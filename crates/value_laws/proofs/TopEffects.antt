@@ -131,7 +131,7 @@ module _ (c : MarkedProgram) (marked : IsMarked c) where
           let holder = at.holder e in
           omega (arith, inside, few_fields c.program f.class is, holder.2, is.heap_to)
 
-  made_size : (m : MethodInfo) (type : VType) (word size : ℕ) → MadeAs c.program m type word size → (2 ≤ size) × (size < 2 ^ 32)
+  pub made_size : (m : MethodInfo) (type : VType) (word size : ℕ) → MadeAs c.program m type word size → (2 ≤ size) × (size < 2 ^ 32)
   made_size m (New pc) word size h = (omega (arith, h.4), omega (arith, h.4, few_fields c.program h.0 marked.checked.program))
   made_size m (Ref class) word size h = (omega (arith, h.4), omega (arith, h.4, h.2, marked.checked.program.heap_to))
   made_size m type word size h = absurd (assumption)
