@@ -1,10 +1,9 @@
 -- What an instruction does keeps the types of its thread's frames, whatever its effect.
-use Rattle.std.proofs.Common.{◌≡◌, ◌≢◌, ℕ, zero, suc, ◌+◌, ◌-◌, ◌<◌, ◌≤◌, ◌^◌, ◌⊎◌, inl, inr, Bool, true, false, ◌&&◌, List, [], ◌∷◌, length, Option, Some, None, refl, ap, sym, subst, ◌∙◌, arith}
-use Rattle.std.specs.Prelude.{slice_get, take, drop, reverse, option_map, if◌then◌else◌}
+use Rattle.std.proofs.Common.{◌≡◌, ℕ, ◌<◌, inl, Bool, true, false, ◌&&◌, List, ◌∷◌, length, Option, Some, None, refl, sym, subst, ◌∙◌, arith}
+use Rattle.std.specs.Prelude.{slice_get, drop, option_map, if◌then◌else◌}
 use Rattle.jvm_types.specs.Members.{is_static, is_synchronized, Site}
 use Rattle.jvm_types.specs.ProgramInvariant.{site_in}
-use Rattle.jvm_types.specs.Verifying.{edges, is_return}
-use Rattle.jvm_types.specs.declared.class_numbers.TheConstants.{OBJECT_CLASS}
+use Rattle.jvm_types.specs.Verifying.{edges}
 use Rattle.jvm_types.specs.declared.code.Op.{Op}
 use Rattle.jvm_types.specs.declared.code.Op.TheVariants as ops
 use Rattle.jvm_types.specs.declared.op_row.OpRow.{OpRow}
@@ -22,21 +21,21 @@ use Rattle.machine_types.specs.declared.effect.Effect.{Effect}
 use Rattle.machine_types.specs.declared.effect.Effect.TheVariants.{Goes, Throws, Reads, Writes, Indexes, Measures, Raises, Makes, Prints, Calls, Returns, Enters, Leaves, Waits, Notifies, NotifiesAll, Stuck}
 use Rattle.machine_types.specs.Effects.{effect}
 use Rattle.jvm_types.specs.Types as types
-use Rattle.machine_types.specs.Frames.{first_or_null, Top, frames_of, row_at, effect_at, frame_on, went, went_on, waiting, has_room, entry_frame, arguments_of, monitor_of}
-use Rattle.machine_types.specs.Onward.{Onward, Running, Throwing, Entering, Leaving, threw, entered, called, done}
-use Rattle.machine_types.specs.ReadyObjects.{ready, class_of, thrown_of}
+use Rattle.machine_types.specs.Frames.{first_or_null, effect_at, frame_on, went, went_on, waiting, has_room, entry_frame, arguments_of}
+use Rattle.machine_types.specs.Onward.{Running, Throwing, Entering, threw, entered, called, done}
+use Rattle.machine_types.specs.ReadyObjects.{class_of, thrown_of}
 use Rattle.machine_types.specs.Threads.{Frame}
-use Rattle.machine_types.specs.Typed.{Classes, FrameHolds, WaitHolds, HoldBelow, FramesHold, IsObject}
+use Rattle.machine_types.specs.Typed.{Classes, FrameHolds, HoldBelow, FramesHold, IsObject}
 use Rattle.machine_types.specs.Words.{header_class, header_length}
-use Rattle.value_laws.specs.Allowed.{IsOf, OneOf, Gives, IsByMachine, Allowed}
+use Rattle.value_laws.specs.Allowed.{OneOf, Gives, IsByMachine, Allowed}
 use Rattle.value_laws.proofs.Values.{ValuesHold}
 use Rattle.value_laws.proofs.Landing.{rules_at}
-use Rattle.value_laws.proofs.Calls.{CallRow, call_row, HasReceiver, call_receiver}
+use Rattle.value_laws.proofs.Calls.{call_row, call_receiver}
 use Rattle.value_laws.proofs.Entries.{call_values, enters}
 use Rattle.value_laws.proofs.Moves.{goes, waits}
 use Rattle.value_laws.proofs.TopStand.{top_here}
-use Rattle.value_laws.proofs.TopEffects.{taken_here, allowed_here}
-use Rattle.value_laws.proofs.Onwards.{Keeps, keeps_all, keeps_top, keeps_push, HasObjects, FoundHolds, AreInside, Onwards, IfOnwards, goes_out}
+use Rattle.value_laws.proofs.TopEffects.{taken_here}
+use Rattle.value_laws.proofs.Onwards.{keeps_all, keeps_top, keeps_push, HasObjects, FoundHolds, Onwards, IfOnwards, goes_out}
 
 -- a method that is named where it is called
 call_named : (p : Program) (site : Site) (pc number : ℕ) (op : Op) (r : OpRow) → HasRow p site pc (targets.Method number) op r → called_method op (targets.Method number) ≡ Some number
@@ -46,9 +45,6 @@ call_named p site pc number (ops.Invokestatic i) r h = refl
 call_named p site pc number op r h = absurd (assumption)
 
 module _ (c : MarkedProgram) (marked : IsMarked c) (is : Classes) (has : HasObjects c.program is) (f : Frame) (fs : List Frame) (h : FrameHolds c is 0 f) (b : HoldBelow c is f.method fs) where
-  row_here : OpRow
-  row_here = row_of c.program h.stands.method h.stands.insn h.stands.target
-
   pub runs_on : (to made : ℕ) → OneOf (edges h.stands.insn) to → Gives h.stands.method is (row_of c.program h.stands.method h.stands.insn h.stands.target) made
       → Onwards c is (f ∷ fs) (Running (went c.program (top_here c f fs h.stands) to made))
   runs_on to made edge gives = record {
@@ -92,15 +88,12 @@ module _ (c : MarkedProgram) (marked : IsMarked c) (is : Classes) (has : HasObje
     calls_it : Onwards c is (f ∷ fs) (called c.program (top_here c f fs h.stands) number m)
     calls_it = by_room (has_room c.program (f ∷ fs) m)
       where
-        g : Frame
-        g = entry_frame number m (arguments_of c.program (top_here c f fs h.stands))
-        caller : Frame
-        caller = record f { stack = drop (length (row_of c.program h.stands.method h.stands.insn h.stands.target).takes) f.stack }
         typed : FramesHold c is (entry_frame number m (arguments_of c.program (top_here c f fs h.stands)) ∷ record f { stack = drop (length (row_of c.program h.stands.method h.stands.insn h.stands.target).takes) f.stack } ∷ fs)
         typed = (enters c marked is number m (arguments_of c.program (top_here c f fs h.stands)) e entry_values, (waits c marked is f h number call_names, b))
+
         by_flag : (s : Bool) → is_synchronized m.flags ≡ s
             → Onwards c is (f ∷ fs) (if s then Entering (entry_frame number m (arguments_of c.program (top_here c f fs h.stands))).receiver (entry_frame number m (arguments_of c.program (top_here c f fs h.stands)) ∷ waiting c.program (top_here c f fs h.stands))
-              else Running (entry_frame number m (arguments_of c.program (top_here c f fs h.stands)) ∷ waiting c.program (top_here c f fs h.stands)))
+            else Running (entry_frame number m (arguments_of c.program (top_here c f fs h.stands)) ∷ waiting c.program (top_here c f fs h.stands)))
         by_flag true s = record {
           holds = ((m.class, entry_values.receiver (not_static (is_static m.flags) (is_synchronized m.flags) (marked.checked.program.methods number m e).unsynchronized s)), typed);
           keeps = keeps_push f (entry_frame number m (arguments_of c.program (top_here c f fs h.stands))) (record f { stack = drop (length (row_of c.program h.stands.method h.stands.insn h.stands.target).takes) f.stack }) fs;
@@ -115,6 +108,7 @@ module _ (c : MarkedProgram) (marked : IsMarked c) (is : Classes) (has : HasObje
           keeps = keeps_push f (entry_frame number m (arguments_of c.program (top_here c f fs h.stands))) (record f { stack = drop (length (row_of c.program h.stands.method h.stands.insn h.stands.target).takes) f.stack }) fs;
           inside = λ all. (entry_inside, all);
         }
+
         by_room : (room : Bool) → Onwards c is (f ∷ fs) (if room then entered m (entry_frame number m (arguments_of c.program (top_here c f fs h.stands))) (waiting c.program (top_here c f fs h.stands)) else threw thrown.StackOverflowError (top_here c f fs h.stands))
         by_room true = by_flag (is_synchronized m.flags) refl
         by_room false = throws_it thrown.StackOverflowError tt

@@ -1,39 +1,33 @@
 -- The frame that a call makes has the types of the called method's start.
-use Rattle.std.proofs.Common.{◌≡◌, ◌≢◌, ℕ, zero, suc, ◌+◌, ◌-◌, ◌<◌, ◌≤◌, ◌^◌, ◌⊎◌, inl, inr, Bool, true, false, List, [], ◌∷◌, ◌++◌, length, Option, Some, None, refl, ap, sym, subst, ◌∙◌, arith}
-use Rattle.std.specs.Prelude.{◌==◌, nat_lt, slice_get, map, reverse, take, drop, replicate, if◌then◌else◌}
+use Rattle.std.proofs.Common.{◌≡◌, ℕ, zero, suc, ◌-◌, ◌<◌, ◌≤◌, ◌⊎◌, inl, inr, Bool, true, false, List, [], ◌∷◌, ◌++◌, length, Some, refl, ap, sym, subst, ◌∙◌, arith}
+use Rattle.std.specs.Prelude.{slice_get, map, reverse, take, replicate, if◌then◌else◌}
 use Rattle.std.specs.List.{AllZip}
-use Rattle.std.proofs.lemmas.Bool.Decides.{nat_tests}
 use Rattle.std.proofs.lemmas.List.{reverse-append, map-append, reverse-reverse, length-append}
 use Rattle.jvm_types.specs.CodeTable.{want_of, type_of, arguments, is_init}
 use Rattle.jvm_types.specs.Members.{is_static}
 use Rattle.jvm_types.specs.Types.{TypeFrame, filled, receiver_types}
 use Rattle.jvm_types.specs.Types as types
-use Rattle.jvm_types.specs.declared.class_numbers.TheConstants.{OBJECT_CLASS}
 use Rattle.jvm_types.specs.declared.op_row.OpRow.{OpRow}
 use Rattle.jvm_types.specs.declared.op_row.Want.{Want}
-use Rattle.jvm_types.specs.declared.op_row.Want.TheVariants.{AnObject, ToStart}
 use Rattle.jvm_types.specs.declared.program.Kind.{Kind}
 use Rattle.jvm_types.specs.declared.program.Kind.TheVariants as kinds
 use Rattle.jvm_types.specs.declared.program.MethodInfo.{MethodInfo}
-use Rattle.jvm_types.specs.declared.program.Program.{Program}
 use Rattle.jvm_types.specs.declared.typing.Typing.{Typing}
 use Rattle.jvm_types.specs.declared.typing.VType.{VType}
 use Rattle.jvm_types.specs.declared.typing.VType.TheVariants.{Ref, This, Top}
 use Rattle.jvm_types.proofs.TypeOrder.{subclass_self}
 use Rattle.program_laws.proofs.ClassTreeLaws.{files_alone}
 use Rattle.checked_program.specs.CheckedLaws.{receiver_want}
-use Rattle.checked_program.specs.LockTags.{TagShape, entry_tags}
+use Rattle.checked_program.specs.LockTags.{entry_tags}
 use Rattle.checked_program.specs.MarkedProgram.{MarkedProgram, IsMarked, checked_part}
 use Rattle.checked_program.specs.Tagging.{IsTaggingOf}
 use Rattle.checked_program.specs.declared.tag.Tags.{Tags}
 use Rattle.checked_program.proofs.CheckedPlaces.{checked_sound}
-use Rattle.machine_types.specs.Frames.{entry_frame, first_or_null}
-use Rattle.machine_types.specs.Standing.{tags_of}
-use Rattle.machine_types.specs.Threads.{Frame}
-use Rattle.machine_types.specs.Typed.{Classes, IsNullOr, Holds, FrameHolds}
+use Rattle.machine_types.specs.Frames.{entry_frame}
+use Rattle.machine_types.specs.Typed.{Classes, Holds, FrameHolds}
 use Rattle.value_laws.specs.Allowed.{WantHolds, TakenHold}
 use Rattle.value_laws.proofs.Values.{ValuesHold}
-use Rattle.value_laws.proofs.Landing.{map_at, zip_has, types_at, tags_at, land}
+use Rattle.value_laws.proofs.Landing.{map_at, zip_has, tags_at, land}
 use Rattle.value_laws.proofs.Calls.{CallRow, HasReceiver, as_many, deepest_first}
 use Rattle.value_laws.proofs.TopStand.{zip_length}
 
@@ -119,10 +113,12 @@ module _ (m : MethodInfo) (is : Classes) where
         typed : (b : Bool) → Holds called is (if b then This else Ref called.class) v
         typed true = k
         typed false = inr (called.class, k, subclass_self called.class)
+
         by_flag : (b d : Bool) → b ≡ false
             → AllZip (Holds called is) (filled called.max_locals ((if b then [] else (if d then This else Ref called.class) ∷ []) ++ map type_of called.args)) ((v ∷ args) ++ replicate (called.max_locals - length (v ∷ args)) 0)
         by_flag true d e = absurd (cc)
         by_flag false d e = locals_filled ((if d then This else Ref called.class) ∷ map type_of called.args) (v ∷ args) (typed d, zip)
+
         by_static : (b : Bool) → b ≡ false → is called.class (if b then 0 else v)
         by_static true e = absurd (cc)
         by_static false e = k
@@ -151,6 +147,7 @@ module _ (m : MethodInfo) (is : Classes) where
           ordered wants e =
               let takes : r.takes ≡ wants = ap (λ (x : OpRow). x.takes) call.is ∙ e in
               subst (λ (ws : List Want). AllZip (WantHolds m is) (reverse ws) (reverse (take (length r.takes) s))) takes (in_order r.takes s taken)
+
           by_kind : ((is_static called.flags ≡ false) × (call.takes ≡ arguments called ++ receiver_want (is_init called) called.class ∷ [])) ⊎ ((is_static called.flags ≡ true) × (call.takes ≡ arguments called))
               → ValuesHold called is (types.entry_frame called) (entry_frame number called (reverse (take (length r.takes) s)))
           by_kind (inl k) =

@@ -1,11 +1,11 @@
 -- The event that begins an instruction keeps the types of all that its thread holds.
-use Rattle.std.proofs.Common.{◌≡◌, ◌≢◌, ℕ, zero, suc, ◌+◌, ◌-◌, ◌<◌, ◌≤◌, ◌^◌, ◌⊎◌, inl, inr, Bool, true, false, List, [], ◌∷◌, ◌++◌, length, Option, Some, None, refl, ap, sym, subst, ◌∙◌, arith}
+use Rattle.std.proofs.Common.{◌≡◌, ℕ, ◌+◌, ◌<◌, ◌≤◌, inl, inr, Bool, true, false, List, [], ◌∷◌, ◌++◌, length, Option, Some, None, refl, ap, sym, subst, ◌∙◌, arith}
 use Rattle.std.specs.Prelude.{nat_lt, nat_le, map, drop, if◌then◌else◌}
 use Rattle.std.specs.List.{AllByRecursion}
 use Rattle.std.proofs.lemmas.Bool.Decides.{nat_tests}
 use Rattle.jvm_types.specs.ClassNames.{is_class}
-use Rattle.jvm_types.specs.CodeTable.{value_of, stack_after, locals_after}
-use Rattle.jvm_types.specs.ProgramInvariant.{IsProgram, IsClassOf}
+use Rattle.jvm_types.specs.CodeTable.{value_of, locals_after}
+use Rattle.jvm_types.specs.ProgramInvariant.{IsProgram}
 use Rattle.jvm_types.specs.Verifying.{edges}
 use Rattle.jvm_types.specs.declared.class_numbers.TheConstants.{INT_ARRAY_CLASS}
 use Rattle.jvm_types.specs.declared.op_row.OpRow.{OpRow}
@@ -16,29 +16,28 @@ use Rattle.jvm_types.specs.declared.outcome.Thrown.TheVariants as thrown
 use Rattle.jvm_types.specs.declared.program.MethodInfo.{MethodInfo}
 use Rattle.jvm_types.specs.declared.program.Program.{Program}
 use Rattle.jvm_types.specs.declared.typing.VType.{VType}
-use Rattle.jvm_types.specs.declared.typing.VType.TheVariants.{Int, Null, Ref, This, New, Top as Unknown}
+use Rattle.jvm_types.specs.declared.typing.VType.TheVariants.{Ref, New}
 use Rattle.jvm_types.proofs.TypeOrder.{subclass_self}
 use Rattle.checked_program.specs.MarkedProgram.{MarkedProgram, IsMarked}
 use Rattle.checked_program.specs.TaggedCode.{row_of}
 use Rattle.machine_types.specs.declared.effect.Effect.{Effect}
 use Rattle.machine_types.specs.declared.effect.Effect.TheVariants.{Goes, Throws, Reads, Writes, Indexes, Measures, Raises, Makes, Prints, Calls, Returns, Enters, Leaves, Waits, Notifies, NotifiesAll, Stuck}
 use Rattle.machine_types.specs.Elision.{is_checked, if_same}
-use Rattle.machine_types.specs.Frames.{Top, effect_at, frame_on, went_on, making, pushed}
-use Rattle.machine_types.specs.Going.{with_phase, runs, goes_on, goes_on_if}
+use Rattle.machine_types.specs.Frames.{effect_at, went_on, making, pushed}
+use Rattle.machine_types.specs.Going.{with_phase, goes_on, goes_on_if}
 use Rattle.machine_types.specs.HeldMonitors.{held_at}
-use Rattle.machine_types.specs.Instructions.{has_print_left, begun, indexed, made, printed, if_held, waits, notifies, did, instructed}
+use Rattle.machine_types.specs.Instructions.{has_print_left, indexed, made, printed, if_held, waits, notifies, did, instructed}
 use Rattle.machine_types.specs.Ints.{low}
 use Rattle.machine_types.specs.Lawful.{NewFits}
 use Rattle.machine_types.specs.Onward.{Onward, Running, threw, done}
-use Rattle.machine_types.specs.Threads.{Frame, Attempt, Thread}
-use Rattle.machine_types.specs.Typed.{Classes, Holds, FrameHolds, HoldBelow, FramesHold, PhaseHolds, ElementStands, with_object, AttemptHolds}
+use Rattle.machine_types.specs.Threads.{Frame, Thread}
+use Rattle.machine_types.specs.Typed.{Classes, Holds, FrameHolds, HoldBelow, FramesHold, PhaseHolds, ElementStands, with_object}
 use Rattle.machine_types.specs.Words.{header, header_class, header_length, value_word}
 use Rattle.machine_types.specs.declared.lock.Held.{Held}
 use Rattle.machine_types.specs.declared.lock.Kept.{Kept}
 use Rattle.machine_types.specs.declared.lock.Kept.TheVariants as keeps
 use Rattle.machine_types.specs.declared.phase.Phase.{Phase}
 use Rattle.machine_types.specs.declared.phase.Phase.TheVariants as phases
-use Rattle.machine_types.specs.declared.phase.Toward.TheVariants as towards
 use Rattle.value_laws.specs.Allowed.{OneOf, Gives, GivenHolds, WriteHolds, MadeAs, Allowed}
 use Rattle.value_laws.proofs.Lifts.{frame_up, below_up}
 use Rattle.value_laws.proofs.Moves.{goes}
@@ -92,7 +91,7 @@ module _ (c : MarkedProgram) (marked : IsMarked c) (is : Classes) (has : HasObje
       let up : (class v : ℕ) → is class v → more class v = λ class v k. inl k in
       let holds = made_holds c.program h.stands.method is type word size a marked.checked.program made_as in
       let given : Gives h.stands.method more r a =
-          (subst (λ (gs : List Given). AllByRecursion (GivenHolds h.stands.method more a) gs) (sym gives) (holds, tt), subst (λ o. WriteHolds h.stands.method more a o) (sym writes) tt) in
+      (subst (λ (gs : List Given). AllByRecursion (GivenHolds h.stands.method more a) gs) (sym gives) (holds, tt), subst (λ o. WriteHolds h.stands.method more a o) (sym writes) tt) in
       let on = goes c marked more f (frame_up is more up c 0 f h) h.stands.insn.next a edge given in
       let stacked = subst (λ (gs : List Given). FrameHolds c more 0 (record f { pc = h.stands.insn.next; stack = map (value_of 0 (λ type. a) f.stack f.locals) gs ++ drop (length r.takes) f.stack; locals = locals_after 0 (λ type. a) r.writes f.stack f.locals })) gives on in
       (subst (λ o. FrameHolds c more 0 (record f { pc = h.stands.insn.next; stack = a ∷ drop (length r.takes) f.stack; locals = locals_after 0 (λ type. a) o f.stack f.locals })) writes stacked, below_up is more up c f.method fs b)
@@ -104,7 +103,7 @@ module _ (c : MarkedProgram) (marked : IsMarked c) (is : Classes) (has : HasObje
     where
       by_test : (t : Bool) → nat_le (got + size) c.program.heap ≡ t
           → IsBasedIn (if t then record s { frames = making c.program (top_here c f fs h.stands); phase = phases.Made got word } else goes_on s (threw thrown.OutOfMemoryError (top_here c f fs h.stands))).frames
-            (if t then record s { frames = making c.program (top_here c f fs h.stands); phase = phases.Made got word } else goes_on s (threw thrown.OutOfMemoryError (top_here c f fs h.stands))).attempt
+          (if t then record s { frames = making c.program (top_here c f fs h.stands); phase = phases.Made got word } else goes_on s (threw thrown.OutOfMemoryError (top_here c f fs h.stands))).attempt
           → TypedBy c is (if t then record s { frames = making c.program (top_here c f fs h.stands); phase = phases.Made got word } else goes_on s (threw thrown.OutOfMemoryError (top_here c f fs h.stands)))
       by_test true e new = record {
         values = record {
@@ -165,7 +164,7 @@ module _ (c : MarkedProgram) (marked : IsMarked c) (is : Classes) (has : HasObje
 
     notifies_if : (m : ℕ) (phase : ℕ → Phase) (held : Option Held) → ((r : ℕ) → PhaseHolds c is (phase r) (went_on c.program (top_here c f fs h.stands) 0)) → ((r : ℕ) → NewFits (phase r) c.program.heap)
         → IsBasedIn (if_held s (top_here c f fs h.stands) held (notifies (record s { frames = went_on c.program (top_here c f fs h.stands) 0 }) phase)).frames
-          (if_held s (top_here c f fs h.stands) held (notifies (record s { frames = went_on c.program (top_here c f fs h.stands) 0 }) phase)).attempt
+        (if_held s (top_here c f fs h.stands) held (notifies (record s { frames = went_on c.program (top_here c f fs h.stands) 0 }) phase)).attempt
         → TypedBy c is (if_held s (top_here c f fs h.stands) held (notifies (record s { frames = went_on c.program (top_here c f fs h.stands) 0 }) phase))
     notifies_if m phase None holds fits new = not_held new
     notifies_if m phase (Some l) holds fits new = notifies_typed m phase l.kept holds fits (by_kept l.kept new)
@@ -213,7 +212,7 @@ module _ (c : MarkedProgram) (marked : IsMarked c) (is : Classes) (has : HasObje
     where
       by_test : (t : Bool)
           → IsBasedIn (if t then if_same s s.attempt got (did c.program s (top_here c f fs h.stands) e got) else did c.program s (top_here c f fs h.stands) e got).frames
-            (if t then if_same s s.attempt got (did c.program s (top_here c f fs h.stands) e got) else did c.program s (top_here c f fs h.stands) e got).attempt
+          (if t then if_same s s.attempt got (did c.program s (top_here c f fs h.stands) e got) else did c.program s (top_here c f fs h.stands) e got).attempt
           → TypedBy c is (if t then if_same s s.attempt got (did c.program s (top_here c f fs h.stands) e got) else did c.program s (top_here c f fs h.stands) e got)
       by_test true new = same_typed c is s s.attempt got (did c.program s (top_here c f fs h.stands) e got) refl rests new (λ more. did_typed e got same al found more)
       by_test false new = did_typed e got same al found new

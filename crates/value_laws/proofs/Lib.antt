@@ -14,3 +14,6 @@ pub mod Onwards
 pub mod Doing
 pub mod ThreadTypes
 pub mod KeptRun
+pub mod KeptPhases
+pub mod Roots
+pub mod KeptTypes

@@ -1,5 +1,5 @@
 -- What holds of values where some objects are there holds where more are.
-use Rattle.std.proofs.Common.{◌≡◌, ℕ, ◌⊎◌, inl, inr, true, false, List, [], ◌∷◌, length}
+use Rattle.std.proofs.Common.{ℕ, inl, inr, List, [], ◌∷◌}
 use Rattle.std.specs.Prelude.{drop}
 use Rattle.std.specs.List.{AllZip}
 use Rattle.jvm_types.specs.declared.program.MethodInfo.{MethodInfo}

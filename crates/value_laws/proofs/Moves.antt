@@ -1,12 +1,12 @@
 -- Typed frames stay typed as the top one goes on, waits at a call, is given the result of one, or catches an exception.
-use Rattle.std.proofs.Common.{◌≡◌, ◌≢◌, ℕ, zero, suc, ◌+◌, ◌-◌, ◌<◌, ◌≤◌, ◌⊎◌, inl, inr, Bool, true, false, cond, not, ◌||◌, ◌&&◌, List, [], ◌∷◌, ◌++◌, length, Option, Some, None, refl, ap, sym, subst, ◌∙◌, arith}
+use Rattle.std.proofs.Common.{◌≡◌, ℕ, zero, suc, inl, inr, Bool, true, false, cond, not, ◌||◌, ◌&&◌, List, [], ◌∷◌, ◌++◌, length, Option, Some, None, refl, ap, sym, subst, ◌∙◌}
 use Rattle.std.specs.Prelude.{◌==◌, slice_get, map, drop, if◌then◌else◌}
 use Rattle.std.specs.List.{AllZip, AllByRecursion, find}
 use Rattle.std.specs.Option.{option_to_list, option_map}
 use Rattle.std.proofs.lemmas.Bool.{or_parts}
 use Rattle.jvm_types.specs.ClassTree.{is_subclass}
-use Rattle.jvm_types.specs.CodeTable.{type_of, can_throw, result_of, stack_row, value_of, stack_after, locals_after}
-use Rattle.jvm_types.specs.Types.{TypeFrame, is_below, frame_below}
+use Rattle.jvm_types.specs.CodeTable.{type_of, can_throw, result_of, value_of, stack_after, locals_after}
+use Rattle.jvm_types.specs.Types.{TypeFrame, is_below}
 use Rattle.jvm_types.specs.Verifying.{edges, is_return, suits, some_taken, some_read, started, after_start, frame_after, frame_at_handler, caught_class, covers, covering}
 use Rattle.jvm_types.specs.Verifying as types
 use Rattle.jvm_types.specs.declared.class_numbers.TheConstants.{THROWABLE_CLASS}
@@ -15,7 +15,6 @@ use Rattle.jvm_types.specs.declared.code.Op.TheVariants as ops
 use Rattle.jvm_types.specs.declared.op_row.OpRow.{OpRow}
 use Rattle.jvm_types.specs.declared.op_row.Given.{Given}
 use Rattle.jvm_types.specs.declared.op_row.Given.TheVariants.{Fresh}
-use Rattle.jvm_types.specs.declared.op_row.Want.{Want}
 use Rattle.jvm_types.specs.declared.program.Kind.{Kind}
 use Rattle.jvm_types.specs.declared.program.Kind.TheVariants as kinds
 use Rattle.jvm_types.specs.declared.program.MethodInfo.{MethodInfo}
@@ -160,7 +159,7 @@ module _ (c : MarkedProgram) (marked : IsMarked c) (is : Classes) where
       let tags = tag_rules_at c marked g k in
       let edge = call_edge k.insn k.target number w.calls in
       let values : ValuesHold k.method is (record k.types { stack = drop (length r.takes) k.types.stack }) g =
-          record { stack = subst (λ (n : ℕ). AllZip (Holds k.method is) (drop n k.types.stack) g.stack) w.taken w.holds.stack; locals = w.holds.locals; receiver = w.holds.receiver } in
+      record { stack = subst (λ (n : ℕ). AllZip (Holds k.method is) (drop n k.types.stack) g.stack) w.taken w.holds.stack; locals = w.holds.locals; receiver = w.holds.receiver } in
       land c marked is (record g { pc = k.insn.next; stack = given ++ g.stack }) k.method k.frames k.at.frames (frame_after k.method r k.types) (tags_after k.insn r k.tags) k.at.in_program k.types_of_method k.at.of_method
       (all_at (types.Fits k.method.code k.frames (frame_after k.method r k.types)) (edges k.insn) k.insn.next rules.sound.edges_fit edge)
       (all_at (visits.Fits IsShapeBelow k.method.code k.at.frames (tags_after k.insn r k.tags)) (edges k.insn) k.insn.next tags.edges_fit edge)
@@ -186,7 +185,7 @@ module _ (c : MarkedProgram) (marked : IsMarked c) (is : Classes) where
       let found = handler_in (λ h. types.Fits s.method.code s.frames (frame_at_handler h s.types) h.handler) s.insn.pc class s.method.rows r rules.sound.handlers_fit here in
       let among = catchers_among s.method s.insn.pc class r (sym (handler_found s.insn.pc class s.method.rows) ∙ here) in
       let handlers : AllByRecursion (λ handler. visits.Fits IsShapeBelow s.method.code s.at.frames (tags_at_handler s.tags) handler.handler) (until_all (covering s.method s.insn.pc)) =
-          subst (λ b. AllByRecursion (λ handler. visits.Fits IsShapeBelow s.method.code s.at.frames (tags_at_handler s.tags) handler.handler) (if b then until_all (covering s.method s.insn.pc) else [])) throws tags.handlers_fit in
+      subst (λ b. AllByRecursion (λ handler. visits.Fits IsShapeBelow s.method.code s.at.frames (tags_at_handler s.tags) handler.handler) (if b then until_all (covering s.method s.insn.pc) else [])) throws tags.handlers_fit in
       land c marked is (record f { pc = r.handler; stack = x ∷ [] }) s.method s.frames s.at.frames (frame_at_handler r s.types) (tags_at_handler s.tags) s.at.in_program s.types_of_method s.at.of_method
       found.0
       (all_get (λ (handler : Row). visits.Fits IsShapeBelow s.method.code s.at.frames (tags_at_handler s.tags) handler.handler) (until_all (covering s.method s.insn.pc)) among.0 r handlers among.1)

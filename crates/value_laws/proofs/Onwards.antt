@@ -1,36 +1,24 @@
 -- How a thread goes on keeps the types of its frames, and what lies below the section of an attempt.
-use Rattle.std.proofs.Common.{◌≡◌, ◌≢◌, ℕ, zero, suc, ◌+◌, ◌-◌, ◌<◌, ◌≤◌, ◌^◌, ◌⊎◌, inl, inr, Bool, true, false, ◌&&◌, List, [], ◌∷◌, ◌++◌, length, Option, Some, None, refl, ap, sym, subst, ◌∙◌, arith}
-use Rattle.std.specs.Prelude.{slice_get, drop, option_map, if◌then◌else◌}
+use Rattle.std.proofs.Common.{◌≡◌, ℕ, suc, ◌-◌, ◌<◌, ◌^◌, inl, inr, Bool, true, false, List, [], ◌∷◌, ◌++◌, length, Option, Some, None, refl, ap, sym, subst, ◌∙◌, arith}
+use Rattle.std.specs.Prelude.{drop, option_map, if◌then◌else◌}
 use Rattle.std.specs.List.{AllByRecursion}
 use Rattle.jvm_types.specs.ClassTree.{is_subclass}
 use Rattle.jvm_types.specs.CodeTable.{can_throw}
-use Rattle.jvm_types.specs.Members.{is_static, is_synchronized}
-use Rattle.jvm_types.specs.ProgramInvariant.{site_in}
-use Rattle.jvm_types.specs.Verifying.{edges, is_return}
+use Rattle.jvm_types.specs.Members.{is_synchronized}
+use Rattle.jvm_types.specs.Verifying.{is_return}
 use Rattle.jvm_types.specs.declared.class_numbers.TheConstants.{PRINT_STREAM_CLASS, THROWABLE_CLASS}
-use Rattle.jvm_types.specs.declared.code.Insn.{Insn}
-use Rattle.jvm_types.specs.declared.code.Op.{Op}
-use Rattle.jvm_types.specs.declared.code.Op.TheVariants as ops
-use Rattle.jvm_types.specs.declared.op_row.OpRow.{OpRow}
 use Rattle.jvm_types.specs.declared.outcome.Thrown.{Thrown}
 use Rattle.jvm_types.specs.declared.outcome.Thrown.TheVariants as thrown
 use Rattle.jvm_types.specs.declared.program.FieldInfo.{FieldInfo}
-use Rattle.jvm_types.specs.declared.program.MethodInfo.{MethodInfo}
 use Rattle.jvm_types.specs.declared.program.Program.{Program}
 use Rattle.jvm_types.specs.declared.program.Row.{Row}
 use Rattle.jvm_types.specs.declared.program.Target.{Target}
-use Rattle.jvm_types.specs.declared.program.Target.TheVariants as targets
-use Rattle.program_laws.specs.TargetLaws.{HasRow}
 use Rattle.typing_laws.proofs.RuleUses.{returns_suit_all}
 use Rattle.checked_program.specs.MarkedProgram.{MarkedProgram, IsMarked}
-use Rattle.checked_program.specs.Marks.{called_method}
-use Rattle.checked_program.specs.TaggedCode.{row_of}
 use Rattle.machine_types.specs.declared.effect.Effect.{Effect}
-use Rattle.machine_types.specs.declared.effect.Effect.TheVariants.{Goes, Throws, Reads, Writes, Indexes, Measures, Raises, Makes, Prints, Calls, Returns, Enters, Leaves, Waits, Notifies, NotifiesAll, Stuck}
-use Rattle.machine_types.specs.declared.effect.Variable.{Variable}
-use Rattle.machine_types.specs.Effects.{effect}
-use Rattle.machine_types.specs.Frames.{Top, frames_of, top_of, row_at, effect_at, went, went_on, waiting, has_room, entry_frame, arguments_of, monitor_of, given_back, given, returned, handler_of, handler_at, caught}
-use Rattle.machine_types.specs.Onward.{Onward, Running, Throwing, Entering, Leaving, RootReturned, Uncaught, threw, entered, called, returns, back, unwound, handed, dispatched, after, done}
+use Rattle.machine_types.specs.declared.effect.Effect.TheVariants.{Reads, Measures, Raises}
+use Rattle.machine_types.specs.Frames.{Top, top_of, monitor_of, given_back, given, returned, handler_of, handler_at}
+use Rattle.machine_types.specs.Onward.{Onward, Running, Throwing, Entering, Leaving, RootReturned, Uncaught, returns, back, unwound, handed, dispatched, after}
 use Rattle.machine_types.specs.ReadyObjects.{ready, class_of, thrown_of, out_object}
 use Rattle.machine_types.specs.Standing.{Standing}
 use Rattle.machine_types.specs.Structure.{TopIs, AfterShows}
@@ -39,13 +27,10 @@ use Rattle.machine_types.specs.Typed.{Classes, KindHolds, FrameHolds, WaitHolds,
 use Rattle.machine_types.specs.declared.phase.After.{After}
 use Rattle.machine_types.specs.declared.phase.After.TheVariants.{Next, Return, Unwind}
 use Rattle.machine_types.specs.Words.{header_class, header_length}
-use Rattle.value_laws.specs.Allowed.{IsOf, IsFieldAt, OneOf, Gives, IsByMachine, Allowed}
+use Rattle.value_laws.specs.Allowed.{IsFieldAt, IsByMachine}
 use Rattle.value_laws.proofs.Landing.{stand_top, rules_at}
-use Rattle.value_laws.proofs.Calls.{CallRow, call_row, HasReceiver, call_receiver}
-use Rattle.value_laws.proofs.Entries.{call_values, enters}
-use Rattle.value_laws.proofs.Moves.{given_holds, goes, waits, resumes, catches}
+use Rattle.value_laws.proofs.Moves.{given_holds, resumes, catches}
 use Rattle.value_laws.proofs.TopStand.{top_here}
-use Rattle.value_laws.proofs.TopEffects.{taken_here}
 use Rattle.value_laws.proofs.Callers.{row_of_call}
 
 some_same : {X : Type 0} {x y : X} → Some x ≡ Some y → x ≡ y
@@ -187,10 +172,10 @@ module _ (c : MarkedProgram) (marked : IsMarked c) (is : Classes) where
         let call = row_of_call c marked g k f.method h.stands.method w.calls h.stands.at.in_program in
         subst (λ o. Onwards c is (f ∷ g ∷ gs) (back (given result o))) (sym (stand_top c marked g gs k))
         (record {
-            holds = (resumes c marked is g f.method h.stands.method result w call typed, b);
-            keeps = keeps_pop f g (record g { pc = k.insn.next; stack = result ++ g.stack }) gs;
-            inside = λ all. all.1;
-          })
+          holds = (resumes c marked is g f.method h.stands.method result w call typed, b);
+          keeps = keeps_pop f g (record g { pc = k.insn.next; stack = result ++ g.stack }) gs;
+          inside = λ all. all.1;
+        })
 
     pub goes_below : is_return h.stands.insn.op ≡ true → HoldBelow c is f.method fs → Onwards c is (f ∷ fs) (back (returned c.program (top_here c f fs h.stands)))
     goes_below r b = by_below fs b

@@ -1,7 +1,6 @@
 -- A thread that goes on keeps the types of all that it holds.
-use Rattle.std.proofs.Common.{◌≡◌, ◌≢◌, ℕ, zero, suc, ◌+◌, ◌-◌, ◌<◌, ◌≤◌, ◌^◌, ◌⊎◌, inl, inr, Bool, true, false, List, [], ◌∷◌, length, Option, Some, None, refl, ap, sym, subst, ◌∙◌, arith}
-use Rattle.std.specs.Prelude.{nat_lt, drop, option_map, IfSome, if◌then◌else◌}
-use Rattle.std.specs.List.{AllByRecursion}
+use Rattle.std.proofs.Common.{◌≡◌, ℕ, zero, suc, ◌+◌, ◌-◌, ◌<◌, Bool, true, false, List, [], ◌∷◌, length, Option, Some, None, sym, subst}
+use Rattle.std.specs.Prelude.{nat_lt, drop, IfSome, if◌then◌else◌}
 use Rattle.jvm_types.specs.declared.outcome.End.TheVariants as ends
 use Rattle.jvm_types.specs.declared.program.Program.{Program}
 use Rattle.checked_program.specs.MarkedProgram.{MarkedProgram}
@@ -13,7 +12,7 @@ use Rattle.machine_types.specs.Threads.{Frame, Attempt, Thread}
 use Rattle.machine_types.specs.Typed.{Classes, FramesHold, AttemptHolds, ThreadHolds, PhaseHolds, IsObject}
 use Rattle.machine_types.specs.declared.phase.Phase.{Phase}
 use Rattle.machine_types.specs.declared.phase.Phase.TheVariants as phases
-use Rattle.value_laws.proofs.Onwards.{Keeps, keeps_all, AreInside, Onwards, IfOnwards}
+use Rattle.value_laws.proofs.Onwards.{Keeps, AreInside, Onwards, IfOnwards}
 
 -- ---- what a thread holds beside its phase
 
