@@ -9,7 +9,7 @@ use Rattle.machine_types.specs.Standing.{tags_of}
 use Rattle.machine_types.specs.Structure.{AttemptStandsIn, Finishes, RunsSection, IsPart, frames_inside, section_of}
 use Rattle.machine_types.specs.Threads.{Frame, Attempt}
 use Rattle.machine_types.specs.declared.phase.Phase.{Phase}
-use Rattle.lock_laws.specs.BaseLaws.{IsOnBase, AttemptsAreBased}
+use Rattle.lock_laws.specs.AttemptLaws.{IsOnBase, AttemptsAreBased}
 
 -- behind so many frames
 pub record IsBehind (count method : ℕ) (fs : List Frame) : Type 0 where

@@ -1,4 +1,4 @@
-pub mod BaseLaws
+pub mod AttemptLaws
 pub mod HeldLaws
 pub mod StructureLaws
 pub mod StateLaws
