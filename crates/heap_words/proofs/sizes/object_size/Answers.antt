@@ -1,7 +1,7 @@
 use Rattle.std.proofs.Common.{◌<◌, List, subst, sym, arith}
 use Rattle.jvm_types.specs.ProgramInvariant.{instances_among}
 use Rattle.jvm_types.specs.declared.program.FieldInfo.{FieldInfo}
-use Rattle.heap_words.proofs.FewFields.{few_fields}
+use Rattle.checked_program.proofs.FewFields.{few_fields}
 use Rattle.heap_words.proofs.sizes.object_size.Goals as goal
 
 pub instances-requires : goal.instances-requires
