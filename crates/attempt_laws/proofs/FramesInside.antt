@@ -23,15 +23,7 @@ put_back_alone a f below e = ap (λ n. a.entry ∷ drop n (f ∷ below)) (more e
     more : a.base ≡ length below → suc (length below) - a.base ≡ 1
     more e = omega (arith, e)
 
-pub none_inside : (a : Attempt) (fs : List Frame) → frames_inside a fs ≡ [] → a.base < length fs → ⊥
-none_inside a fs e l = at fs (length fs - a.base) e (omega (arith, l)) l
-  where
-    at : (xs : List Frame) (n : ℕ) → take n xs ≡ [] → 0 < n → a.base < length xs → ⊥
-    at [] n e z l = omega (arith, l)
-    at (x ∷ xs) zero e z l = omega (arith, z)
-    at (x ∷ xs) (suc n) e z l = cc
-
--- all frames inside are the entry's
+-- where none is inside of the frames below, these are as many as at the entry
 pub alone_inside : (a : Attempt) (below : List Frame) → a.base ≤ length below → frames_inside a below ≡ [] → a.base ≡ length below
 alone_inside a below l e = at below refl
   where

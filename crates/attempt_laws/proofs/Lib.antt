@@ -13,3 +13,4 @@ pub mod Moves
 pub mod Throws
 pub mod Leaves
 pub mod Steps
+pub mod EntryKept

@@ -1,2 +1,3 @@
 pub mod InsideEffects
 pub mod InsideMoves
+pub mod EntryFrames
