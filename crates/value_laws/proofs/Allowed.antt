@@ -1,9 +1,8 @@
 -- The effect of each instruction is one that its row allows, where its operands are what the row takes.
 use Rattle.std.proofs.Common.{◌≡◌, ℕ, zero, suc, ◌+◌, ◌-◌, ◌%◌, ◌<◌, ◌^◌, ◌⊎◌, inl, inr, Bool, true, false, not, List, [], ◌∷◌, length, Option, Some, None, refl, ap, sym, subst, ◌∙◌, arith}
-use Rattle.std.specs.Prelude.{nat_lt, ◌==◌, int_lt, pos, unsigned_abs, ◌-ℤ◌, slice_get, slice_index, map, ◌++◌, if◌then◌else◌, IsSomeAnd, reverse}
+use Rattle.std.specs.Prelude.{nat_lt, ◌==◌, int_lt, pos, unsigned_abs, ◌-ℤ◌, slice_get, slice_index, map, ◌++◌, if◌then◌else◌, IsSomeAnd}
 use Rattle.std.specs.Option.{unwrap_or}
 use Rattle.std.proofs.lemmas.Bool.Decides.{nat_tests}
-use Rattle.std.proofs.lemmas.List.{length-map, length-reverse}
 use Rattle.jvm_types.specs.CodeTable.{row, can_throw, type_of, want_of, arguments, constant_row, get_static_row, put_static_row, get_row, put_row, virtual_row, special_row, static_row}
 use Rattle.jvm_types.specs.Members.{is_static, Site, field_rule, call_rule}
 use Rattle.jvm_types.specs.ProgramInvariant.{IsClassOf, IsTargetOf, site_in}
@@ -36,6 +35,7 @@ use Rattle.machine_types.specs.Ints.{low, word_of, int_of, narrowed, added, divi
 use Rattle.machine_types.specs.ReadyObjects.{out_object}
 use Rattle.machine_types.specs.Typed.{Classes, IsNullOr, KindHolds, Holds, IsElementOn}
 use Rattle.machine_types.specs.Words.{header, array_size, value_word}
+use Rattle.value_laws.proofs.Calls.{as_many}
 use Rattle.value_laws.specs.Allowed.{IsOf, IsFieldAt, WantHolds, TakenHold, HasLocal, OneOf, Allowed}
 
 low_lt : (n : ℕ) → low n < 2 ^ 32
@@ -178,9 +178,6 @@ module _ (p : Program) (m : MethodInfo) (is : Classes) (stack : List ℕ) where
   below_args [] want (v ∷ s) h = (v, refl, h.0)
   below_args (w ∷ ws) want (v ∷ s) h = below_args ws want s h.1
   below_args ws want s h = absurd (assumption)
-
-  as_many : (called : MethodInfo) → length (arguments called) ≡ length called.args
-  as_many called = length-map (reverse called.args) want_of ∙ length-reverse called.args
 
   called_on : (insn : Insn) (r : OpRow) (o : Option ℕ) (v number : ℕ) (called : MethodInfo) → can_throw insn.op ≡ true → slice_get p.methods number ≡ Some called → o ≡ Some v
       → Allows insn (targets.Method number) r (calls_on o number)

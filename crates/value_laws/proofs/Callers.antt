@@ -4,6 +4,7 @@ use Rattle.std.specs.Prelude.{◌==◌, nat_lt, slice_get, drop, if◌then◌els
 use Rattle.std.specs.List.{AllByRecursion, filter}
 use Rattle.std.proofs.lemmas.Bool.Decides.{nat_tests}
 use Rattle.std.proofs.lemmas.List.{length-drop}
+use Rattle.lists.proofs.ListLaws.{same_some}
 use Rattle.jvm_types.specs.ClassTree.{is_subclass}
 use Rattle.jvm_types.specs.CodeTable.{result_of}
 use Rattle.jvm_types.specs.ProgramInvariant.{site_in}
@@ -34,11 +35,9 @@ use Rattle.value_laws.specs.Allowed.{OneOf}
 use Rattle.value_laws.specs.TopFrames.{BelowFits, CallerFits, ReturnsFit, HandlerFits, HandlersFit}
 use Rattle.value_laws.proofs.Landing.{stand_top, rules_at}
 use Rattle.value_laws.proofs.Calls.{CallRow, call_row}
-use Rattle.value_laws.proofs.TopStand.{zip_length, top_here, stands_here}
+use Rattle.value_laws.proofs.Lists.{zip_length}
+use Rattle.value_laws.proofs.TopStand.{top_here, stands_here}
 use Rattle.value_laws.proofs.TopEffects.{goes_to}
-
-some_same : {X : Type 0} {x y : X} → Some x ≡ Some y → x ≡ y
-some_same e = cc
 
 -- ---- calls
 
@@ -54,9 +53,9 @@ call_edge insn target number e = by_op insn.pc insn.next insn.op target e
 
 -- the target names the method
 pub call_target : (op : Op) (target : Target) (number : ℕ) → called_method op target ≡ Some number → target ≡ targets.Method number
-call_target (ops.Invokevirtual i) (targets.Method u) number e = ap targets.Method (some_same e)
-call_target (ops.Invokespecial i) (targets.Method u) number e = ap targets.Method (some_same e)
-call_target (ops.Invokestatic i) (targets.Method u) number e = ap targets.Method (some_same e)
+call_target (ops.Invokevirtual i) (targets.Method u) number e = ap targets.Method (same_some e)
+call_target (ops.Invokespecial i) (targets.Method u) number e = ap targets.Method (same_some e)
+call_target (ops.Invokestatic i) (targets.Method u) number e = ap targets.Method (same_some e)
 call_target op target number e = absurd (let bad : None ≡ Some number = e in cc)
 
 module _ (c : MarkedProgram) (marked : IsMarked c) where
@@ -113,7 +112,7 @@ module _ (c : MarkedProgram) (marked : IsMarked c) (f : Frame) (h : FrameHolds c
 pub returns_fit : ReturnsFit
 returns_fit c [] at marked h e r = absurd (cc)
 returns_fit c (f ∷ fs) at marked h e r =
-    let same : top_here c f fs h.0.stands ≡ at = some_same (sym (stand_top c marked f fs h.0.stands) ∙ e) in
+    let same : top_here c f fs h.0.stands ≡ at = same_some (sym (stand_top c marked f fs h.0.stands) ∙ e) in
     subst (λ (x : Top). BelowFits c.program x.below (given_back x.insn.op x.frame.stack)) same (below_fits c marked f h.0 fs h.1)
 
 -- ---- handlers
@@ -128,7 +127,7 @@ handler_in P pc class (r ∷ rs) handler all e = by_cover (covers pc r) (r.catch
         → (if a && b then Some r else handler_of pc class rs) ≡ Some handler
         → (AllByRecursion P (filter (covers pc) rs) → handler_of pc class rs ≡ Some handler → P handler × ((handler.catch_class == 0 || is_subclass class handler.catch_class) ≡ true))
         → P handler × ((handler.catch_class == 0 || is_subclass class handler.catch_class) ≡ true)
-    by_cover true true g all e more = let same : r ≡ handler = some_same e in (subst P same all.0, subst (λ (h : Row). (h.catch_class == 0 || is_subclass class h.catch_class) ≡ true) same g)
+    by_cover true true g all e more = let same : r ≡ handler = same_some e in (subst P same all.0, subst (λ (h : Row). (h.catch_class == 0 || is_subclass class h.catch_class) ≡ true) same g)
     by_cover true false g all e more = more all.1 e
     by_cover false b g all e more = more all e
 
@@ -152,7 +151,7 @@ handlers_fit c (f ∷ fs) at class r marked h e catches = by_kind h.0
   where
     of_top : (k : Standing c f) → HandlerFits at r
     of_top k =
-        let same : top_here c f fs k ≡ at = some_same (sym (stand_top c marked f fs k) ∙ e) in
+        let same : top_here c f fs k ≡ at = same_some (sym (stand_top c marked f fs k) ∙ e) in
         subst (λ (x : Top). HandlerFits x r) same (handler_fits c marked f fs k class r (subst (λ (x : Top). handler_at class x ≡ Some r) (sym same) catches))
 
     by_kind : ThrownHolds c (within c.program) f → HandlerFits at r

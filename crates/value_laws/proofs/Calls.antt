@@ -3,6 +3,7 @@ use Rattle.std.proofs.Common.{◌≡◌, ℕ, zero, suc, ◌+◌, ◌<◌, ◌�
 use Rattle.std.specs.Prelude.{◌==◌, slice_get, take, reverse, if◌then◌else◌}
 use Rattle.std.proofs.lemmas.Bool.Decides.{nat_tests}
 use Rattle.std.proofs.lemmas.List.{length-map, length-reverse, length-append, reverse-append}
+use Rattle.lists.proofs.ListLaws.{same_some}
 use Rattle.jvm_types.specs.CodeTable.{arguments, want_of, is_init, result_of, stack_row, virtual_row, special_row, static_row}
 use Rattle.jvm_types.specs.Members.{Site, is_static, is_init_name, is_class_init_name}
 use Rattle.jvm_types.specs.declared.code.Op.{Op}
@@ -20,9 +21,6 @@ use Rattle.checked_program.specs.CheckedLaws.{receiver_want}
 use Rattle.machine_types.specs.declared.effect.Effect.TheVariants.{Throws, Calls}
 use Rattle.machine_types.specs.Effects.{calls_on, calls_instance, effect}
 use Rattle.machine_types.specs.Frames.{first_or_null}
-
-some_same : {X : Type 0} {x y : X} → Some x ≡ Some y → x ≡ y
-some_same e = cc
 
 -- ---- the row of a call
 
@@ -51,14 +49,14 @@ static_call called s = record { takes = arguments called; is = refl; by = inr (s
 
 pub call_row : (p : Program) (site : Site) (pc number : ℕ) (op : Op) (r : OpRow) (called : MethodInfo) → slice_get p.methods number ≡ Some called → HasRow p site pc (targets.Method number) op r → CallRow called r
 call_row p site pc number (ops.Invokevirtual i) r called e h =
-    let same : h.method ≡ called = some_same (sym h.there ∙ e) in
+    let same : h.method ≡ called = same_some (sym h.there ∙ e) in
     subst (λ (x : OpRow). CallRow called x) (sym h.its)
     (subst (λ (x : MethodInfo). CallRow x (virtual_row (Some h.method))) same (virtual_call h.method h.sort (no_init (is_static h.method.flags) (is_init_name h.method.name) (is_class_init_name h.method.name) h.fits)))
 call_row p site pc number (ops.Invokespecial i) r called e h =
-    let same : h.method ≡ called = some_same (sym h.there ∙ e) in
+    let same : h.method ≡ called = same_some (sym h.there ∙ e) in
     subst (λ (x : OpRow). CallRow called x) (sym h.its) (subst (λ (x : MethodInfo). CallRow x (special_row (Some h.method))) same (special_call h.method h.sort))
 call_row p site pc number (ops.Invokestatic i) r called e h =
-    let same : h.method ≡ called = some_same (sym h.there ∙ e) in
+    let same : h.method ≡ called = same_some (sym h.there ∙ e) in
     subst (λ (x : OpRow). CallRow called x) (sym h.its) (subst (λ (x : MethodInfo). CallRow x (static_row (Some h.method))) same (static_call h.method h.sort))
 call_row p site pc number op r called e h = absurd (assumption)
 
@@ -96,7 +94,7 @@ pub call_receiver : (p : Program) (site : Site) (pc next number n : ℕ) (op : O
 call_receiver p site pc next number n (ops.Invokevirtual i) r called l s e h f k = on_receiver (slice_get s (length called.args)) number n (sym (ap (λ o. calls_instance o number s) e) ∙ f)
 call_receiver p site pc next number n (ops.Invokespecial i) r called l s e h f k = on_receiver (slice_get s (length called.args)) number n (sym (ap (λ o. calls_instance o number s) e) ∙ f)
 call_receiver p site pc next number n (ops.Invokestatic i) r called l s e h f k =
-    let same : h.method ≡ called = some_same (sym h.there ∙ e) in
+    let same : h.method ≡ called = same_some (sym h.there ∙ e) in
     let bad : true ≡ false = sym (subst (λ (x : MethodInfo). is_static x.flags ≡ true) same h.sort) ∙ k in
     absurd (cc)
 call_receiver p site pc next number n op r called l s e h f k = absurd (assumption)

@@ -1,8 +1,8 @@
 -- The frame that a call makes has the types of the called method's start.
-use Rattle.std.proofs.Common.{◌≡◌, ℕ, zero, suc, ◌-◌, ◌<◌, ◌≤◌, ◌⊎◌, inl, inr, Bool, true, false, List, [], ◌∷◌, ◌++◌, length, Some, refl, ap, sym, subst, ◌∙◌, arith}
+use Rattle.std.proofs.Common.{◌≡◌, ℕ, zero, suc, ◌-◌, ◌<◌, ◌≤◌, ◌⊎◌, inl, inr, Bool, true, false, List, [], ◌∷◌, ◌++◌, length, Some, ap, sym, subst, ◌∙◌, arith}
 use Rattle.std.specs.Prelude.{slice_get, map, reverse, take, replicate, if◌then◌else◌}
 use Rattle.std.specs.List.{AllZip}
-use Rattle.std.proofs.lemmas.List.{reverse-append, map-append, reverse-reverse, length-append}
+use Rattle.std.proofs.lemmas.List.{reverse-append, length-append}
 use Rattle.jvm_types.specs.CodeTable.{want_of, type_of, arguments, is_init}
 use Rattle.jvm_types.specs.Members.{is_static}
 use Rattle.jvm_types.specs.Types.{TypeFrame, filled, receiver_types}
@@ -26,29 +26,10 @@ use Rattle.checked_program.proofs.CheckedPlaces.{checked_sound}
 use Rattle.machine_types.specs.Frames.{entry_frame}
 use Rattle.machine_types.specs.Typed.{Classes, Holds, FrameHolds}
 use Rattle.value_laws.specs.Allowed.{WantHolds, TakenHold}
+use Rattle.value_laws.proofs.Lists.{zip_has, map_at, zip_length, zip_append, zip_reverse, reverse_map}
 use Rattle.value_laws.proofs.Values.{ValuesHold}
-use Rattle.value_laws.proofs.Landing.{map_at, zip_has, tags_at, land}
+use Rattle.value_laws.proofs.Landing.{tags_at, land}
 use Rattle.value_laws.proofs.Calls.{CallRow, HasReceiver, as_many, deepest_first}
-use Rattle.value_laws.proofs.TopStand.{zip_length}
-
--- ---- lists
-
-zip_append : {A B : Type 0} (R : A → B → Type 0) (xs zs : List A) (ys ws : List B) → AllZip R xs ys → AllZip R zs ws → AllZip R (xs ++ zs) (ys ++ ws)
-zip_append R [] zs [] ws f g = g
-zip_append R (x ∷ xs) zs (y ∷ ys) ws f g = (f.0, zip_append R xs zs ys ws f.1 g)
-zip_append R xs zs ys ws f g = absurd (assumption)
-
-zip_reverse : {A B : Type 0} (R : A → B → Type 0) (xs : List A) (ys : List B) → AllZip R xs ys → AllZip R (reverse xs) (reverse ys)
-zip_reverse R [] [] f = f
-zip_reverse R (x ∷ xs) (y ∷ ys) f = rw (reverse-append (x ∷ []) xs, reverse-append (y ∷ []) ys) (zip_append R (reverse xs) (x ∷ []) (reverse ys) (y ∷ []) (zip_reverse R xs ys f.1) (f.0, tt))
-zip_reverse R xs ys f = absurd (assumption)
-
-map_reverse : {A B : Type 0} (f : A → B) (xs : List A) → map f (reverse xs) ≡ reverse (map f xs)
-map_reverse f [] = refl
-map_reverse f (x ∷ xs) = ap (map f) (reverse-append (x ∷ []) xs) ∙ map-append f (reverse xs) (x ∷ []) ∙ ap (λ ys. ys ++ f x ∷ []) (map_reverse f xs) ∙ sym (reverse-append (f x ∷ []) (map f xs))
-
-reverse_map : {A B : Type 0} (f : A → B) (xs : List A) → reverse (map f (reverse xs)) ≡ map f xs
-reverse_map f xs = ap reverse (map_reverse f xs) ∙ reverse-reverse (map f xs)
 
 -- ---- arguments
 

@@ -1,9 +1,9 @@
 -- Where a frame stands, and that it stands at the target of an edge when it has gone there.
-use Rattle.std.proofs.Common.{◌≡◌, ℕ, zero, suc, true, false, List, [], ◌∷◌, Option, Some, refl, ap, sym, subst, ◌∙◌, arith}
+use Rattle.std.proofs.Common.{◌≡◌, ℕ, zero, suc, true, false, List, [], ◌∷◌, Option, Some, ap, sym, subst, ◌∙◌, arith}
 use Rattle.std.specs.Prelude.{◌==◌, cond, slice_get, map}
-use Rattle.std.specs.List.{AllZip}
 use Rattle.std.proofs.lemmas.Bool.{or_parts}
 use Rattle.std.proofs.lemmas.Bool.Decides.{nat_tests}
+use Rattle.lists.proofs.ListLaws.{same_some}
 use Rattle.jvm_types.specs.CodeGrammar.{is_start}
 use Rattle.jvm_types.specs.Types.{TypeFrame}
 use Rattle.jvm_types.specs.Verifying.{IsLaidOut, HasTyping, IsAssignment, edges}
@@ -29,35 +29,8 @@ use Rattle.machine_types.specs.Frames.{top_at, top_in, top_of, at_pc}
 use Rattle.machine_types.specs.Standing.{Standing, tags_of}
 use Rattle.machine_types.specs.Threads.{Frame}
 use Rattle.machine_types.specs.Typed.{Classes, FrameHolds}
+use Rattle.value_laws.proofs.Lists.{zip_at, mapped_at}
 use Rattle.value_laws.proofs.Values.{ValuesHold, values_below}
-
--- ---- lists
-
-some_same : {X : Type 0} {x y : X} → Some x ≡ Some y → x ≡ y
-some_same e = cc
-
-zip_at : {A B : Type 0} (R : A → B → Type 0) (xs : List A) (ys : List B) (i : ℕ) (x : A) (y : B) → AllZip R xs ys → slice_get xs i ≡ Some x → slice_get ys i ≡ Some y → R x y
-zip_at R [] ys i x y all e f = absurd (cc)
-zip_at R (a ∷ xs) [] i x y all e f = absurd all
-zip_at R (a ∷ xs) (b ∷ ys) zero x y all e f = let e : a ≡ x = cc in let f : b ≡ y = cc in subst (λ z. R z y) e (subst (λ z. R a z) f all.0)
-zip_at R (a ∷ xs) (b ∷ ys) (suc i) x y all e f = zip_at R xs ys i x y all.1 e f
-
-pub zip_has : {A B : Type 0} (R : A → B → Type 0) (xs : List A) (ys : List B) (i : ℕ) (x : A) → AllZip R xs ys → slice_get xs i ≡ Some x → (y : B) × (slice_get ys i ≡ Some y)
-zip_has R [] ys i x all e = absurd (cc)
-zip_has R (a ∷ xs) [] i x all e = absurd all
-zip_has R (a ∷ xs) (b ∷ ys) zero x all e = (b, refl)
-zip_has R (a ∷ xs) (b ∷ ys) (suc i) x all e = zip_has R xs ys i x all.1 e
-
--- an item of a list that was mapped
-pub mapped_at : {A B : Type 0} (g : A → B) (xs : List A) (i : ℕ) (y : B) → slice_get (map g xs) i ≡ Some y → (x : A) × (slice_get xs i ≡ Some x) × (g x ≡ y)
-mapped_at g [] i y e = absurd (cc)
-mapped_at g (x ∷ xs) zero y e = (x, refl, some_same e)
-mapped_at g (x ∷ xs) (suc i) y e = mapped_at g xs i y e
-
-pub map_at : {A B : Type 0} (g : A → B) (xs : List A) (i : ℕ) (x : A) → slice_get xs i ≡ Some x → slice_get (map g xs) i ≡ Some (g x)
-map_at g [] i x e = absurd (cc)
-map_at g (y ∷ xs) zero x e = let e : y ≡ x = cc in ap (λ z. Some (g z)) e
-map_at g (y ∷ xs) (suc i) x e = map_at g xs i x e
 
 -- ---- the item of a pc
 
@@ -96,7 +69,7 @@ module _ (c : MarkedProgram) (marked : IsMarked c) where
   types_at number m frames e t =
       let s = checked_sound (checked_part c) number m marked.checked e in
       let there = mapped_at (λ (t : Typing). t.frames) c.typings number frames t in
-      let same : there.0 ≡ s.0 = some_same (sym there.1 ∙ s.1) in
+      let same : there.0 ≡ s.0 = same_some (sym there.1 ∙ s.1) in
       (s.0, s.1, sym there.2 ∙ ap (λ (t : Typing). t.frames) same, s.2)
 
   pub tags_at : (number : ℕ) (m : MethodInfo) (frames : List (Option TagShape)) → slice_get c.program.methods number ≡ Some m → slice_get (tags_of c) number ≡ Some frames → IsTagAssignment c.program m frames

@@ -1,3 +1,4 @@
+pub mod Lists
 pub mod Values
 pub mod Typing
 pub mod Allowed

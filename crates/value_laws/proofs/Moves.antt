@@ -1,6 +1,6 @@
 -- Typed frames stay typed as the top one goes on, waits at a call, is given the result of one, or catches an exception.
-use Rattle.std.proofs.Common.{◌≡◌, ℕ, zero, suc, inl, inr, Bool, true, false, cond, not, ◌||◌, ◌&&◌, List, [], ◌∷◌, ◌++◌, length, Option, Some, None, refl, ap, sym, subst, ◌∙◌}
-use Rattle.std.specs.Prelude.{◌==◌, slice_get, map, drop, if◌then◌else◌}
+use Rattle.std.proofs.Common.{◌≡◌, ℕ, inl, inr, Bool, true, false, cond, not, ◌||◌, ◌&&◌, List, [], ◌∷◌, ◌++◌, length, Option, Some, None, refl, ap, sym, subst, ◌∙◌}
+use Rattle.std.specs.Prelude.{◌==◌, map, drop, if◌then◌else◌}
 use Rattle.std.specs.List.{AllZip, AllByRecursion, find}
 use Rattle.std.specs.Option.{option_to_list, option_map}
 use Rattle.std.proofs.lemmas.Bool.{or_parts}
@@ -34,23 +34,19 @@ use Rattle.machine_types.specs.Standing.{Standing}
 use Rattle.machine_types.specs.Threads.{Frame}
 use Rattle.machine_types.specs.Typed.{Classes, Holds, FrameHolds, WaitHolds}
 use Rattle.value_laws.specs.Allowed.{OneOf, Gives}
+use Rattle.value_laws.proofs.Lists.{all_get}
 use Rattle.value_laws.proofs.Values.{ValuesHold, holds_below, rest_holds}
 use Rattle.value_laws.proofs.Typing.{start_holds, started_frame, values_after}
 use Rattle.value_laws.proofs.Landing.{rules_at, tag_rules_at, land}
 use Rattle.value_laws.proofs.Calls.{CallRow}
 use Rattle.value_laws.proofs.Callers.{handler_in, call_edge}
 
--- ---- lists
+-- ---- edges
 
 all_at : (P : ℕ → Type 0) (tos : List ℕ) (to : ℕ) → AllByRecursion P tos → OneOf tos to → P to
 all_at P (x ∷ xs) to all (inl e) = subst P (sym e) all.0
 all_at P (x ∷ xs) to all (inr h) = all_at P xs to all.1 h
 all_at P [] to all h = absurd h
-
-all_get : {A : Type 0} (P : A → Type 0) (xs : List A) (i : ℕ) (x : A) → AllByRecursion P xs → slice_get xs i ≡ Some x → P x
-all_get P [] i x all e = absurd (cc)
-all_get P (y ∷ xs) zero x all e = let same : y ≡ x = cc in subst P same all.0
-all_get P (y ∷ xs) (suc i) x all e = all_get P xs i x all.1 e
 
 -- ---- results
 

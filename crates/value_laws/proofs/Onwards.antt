@@ -2,6 +2,7 @@
 use Rattle.std.proofs.Common.{◌≡◌, ℕ, suc, ◌-◌, ◌<◌, ◌^◌, inl, inr, Bool, true, false, List, [], ◌∷◌, ◌++◌, length, Option, Some, None, refl, ap, sym, subst, ◌∙◌, arith}
 use Rattle.std.specs.Prelude.{drop, option_map, if◌then◌else◌}
 use Rattle.std.specs.List.{AllByRecursion}
+use Rattle.lists.proofs.ListLaws.{same_some}
 use Rattle.jvm_types.specs.ClassTree.{is_subclass}
 use Rattle.jvm_types.specs.CodeTable.{can_throw}
 use Rattle.jvm_types.specs.Members.{is_synchronized}
@@ -32,9 +33,6 @@ use Rattle.value_laws.proofs.Landing.{stand_top, rules_at}
 use Rattle.value_laws.proofs.Moves.{given_holds, resumes, catches}
 use Rattle.value_laws.proofs.TopStand.{top_here}
 use Rattle.value_laws.proofs.Callers.{row_of_call}
-
-some_same : {X : Type 0} {x y : X} → Some x ≡ Some y → x ≡ y
-some_same e = cc
 
 -- ---- what lies below a section
 
@@ -133,7 +131,7 @@ module _ (c : MarkedProgram) (marked : IsMarked c) (is : Classes) where
   -- two places of a frame are one
   pub same_op : (f : Frame) (k h : Standing c f) → k.insn.op ≡ h.insn.op
   same_op f k h =
-      let same : top_here c f [] k ≡ top_here c f [] h = some_same (sym (stand_top c marked f [] k) ∙ stand_top c marked f [] h) in
+      let same : top_here c f [] k ≡ top_here c f [] h = same_some (sym (stand_top c marked f [] k) ∙ stand_top c marked f [] h) in
       ap (λ (at : Top). at.insn.op) same
 
   module _ (x : ℕ) (class : Thrown) (f : Frame) (fs : List Frame) (k : IsException is x class) (thrown : ThrownHolds c is f) (b : HoldBelow c is f.method fs) where

@@ -4,6 +4,8 @@ use Rattle.std.specs.Prelude.{◌==◌, nat_lt, codes, bytes_eq, slice_get, map,
 use Rattle.std.specs.List.{AllZip, AllByRecursion}
 use Rattle.std.proofs.lemmas.Bool.Decides.{nat_tests}
 use Rattle.std.proofs.lemmas.Slice.Eq.{bytes_eq-Decides}
+use Rattle.lists.proofs.ListLaws.{same_some}
+use Rattle.lists.proofs.TestLaws.{both_true, both_are_true, first_true, second_true}
 use Rattle.jvm_types.specs.ClassNames.{file_class}
 use Rattle.jvm_types.specs.CodeTable.{type_of}
 use Rattle.jvm_types.specs.LinkFaults.{is_run, is_entry}
@@ -62,16 +64,12 @@ numbered test (m ∷ ms) n k e = by_test (test m) refl e (numbered test ms (suc 
 abbrev pub IsSomeRoot : MethodInfo → Type 0
 IsSomeRoot m = IsRoot m [] ⊎ IsRoot m (kinds.Int ∷ [])
 
-both : (a b : Bool) → (a && b) ≡ true → (a ≡ true) × (b ≡ true)
-both true b e = (refl, e)
-both false b e = absurd (cc)
-
 module _ (p : Program) (is : IsProgram p) where
   entry_root : (name : List ℕ) (at : ℕ) (m : MethodInfo) → (bytes_eq name (codes "init") || bytes_eq name (codes "done")) ≡ true → (bytes_eq m.name name ≡ true → m.name ≡ name) → slice_get p.methods at ≡ Some m
       → is_entry_named name (codes "()V") m ≡ true → IsSomeRoot m
   entry_root name at m one same e h =
-      let parts = both ((m.class == file_class 0) && bytes_eq m.name name) (bytes_eq m.descriptor (codes "()V")) h in
-      let names = both (m.class == file_class 0) (bytes_eq m.name name) parts.0 in
+      let parts = both_are_true ((m.class == file_class 0) && bytes_eq m.name name) (bytes_eq m.descriptor (codes "()V")) h in
+      let names = both_are_true (m.class == file_class 0) (bytes_eq m.name name) parts.0 in
       let class : m.class ≡ file_class 0 = equal m.class (file_class 0) names.0 in
       let name_is = same names.1 in
       by_run (is_run m.name m.descriptor) refl class
@@ -90,13 +88,10 @@ module _ (p : Program) (is : IsProgram p) where
 
   run_root_of : (at : ℕ) (m : MethodInfo) → slice_get p.methods at ≡ Some m → is_entry_named (codes "run") (codes "(I)V") m ≡ true → IsSomeRoot m
   run_root_of at m e h =
-      let parts = both ((m.class == file_class 0) && bytes_eq m.name (codes "run")) (bytes_eq m.descriptor (codes "(I)V")) h in
-      let names = both (m.class == file_class 0) (bytes_eq m.name (codes "run")) parts.0 in
-      inr (run_root p at m is e (equal m.class (file_class 0) names.0) (all (bytes_eq m.name (codes "run")) (bytes_eq m.descriptor (codes "(I)V")) names.1 parts.1))
+      let parts = both_are_true ((m.class == file_class 0) && bytes_eq m.name (codes "run")) (bytes_eq m.descriptor (codes "(I)V")) h in
+      let names = both_are_true (m.class == file_class 0) (bytes_eq m.name (codes "run")) parts.0 in
+      inr (run_root p at m is e (equal m.class (file_class 0) names.0) (both_true (bytes_eq m.name (codes "run")) (bytes_eq m.descriptor (codes "(I)V")) names.1 parts.1))
     where
-      all : (a b : Bool) → a ≡ true → b ≡ true → (a && b) ≡ true
-      all a b e f = rw (e, f) refl
-
       equal : (a b : ℕ) → (a == b) ≡ true → a ≡ b
       equal a b e = grind (arith, nat_tests, e)
 
@@ -108,15 +103,12 @@ module _ (p : Program) (is : IsProgram p) where
   of_numbers test root k m h e =
       let x = numbered test p.methods 0 k h in
       let there : slice_get p.methods k ≡ Some x.method = ap (slice_get p.methods) (omega (arith, x.number)) ∙ x.there in
-      let same : x.method ≡ m = some_same (sym there ∙ e) in
+      let same : x.method ≡ m = same_some (sym there ∙ e) in
       root k m e (subst (λ (y : MethodInfo). test y ≡ true) same x.passes)
-    where
-      some_same : {x y : MethodInfo} → Some x ≡ Some y → x ≡ y
-      some_same e = cc
 
   either : (xs ys : List ℕ) → Roots xs → Roots ys → Roots (xs ++ ys)
   either [] ys f g k m h e = g k m h e
-  either (x ∷ xs) ys f g k m h e = by_first (x == k) refl h (λ rest. either xs ys (λ k m h e. f k m (later (x == k) (has_number xs k) h) e) g k m rest e)
+  either (x ∷ xs) ys f g k m h e = by_first (x == k) refl h (λ rest. either xs ys (λ k m h e. f k m (second_true (x == k) (has_number xs k) h) e) g k m rest e)
     where
       later : (a b : Bool) → b ≡ true → (a || b) ≡ true
       later true b e = refl
@@ -126,7 +118,7 @@ module _ (p : Program) (is : IsProgram p) where
       first a b e = rw e refl
 
       by_first : (b : Bool) → (x == k) ≡ b → (b || has_number (xs ++ ys) k) ≡ true → (has_number (xs ++ ys) k ≡ true → IsSomeRoot m) → IsSomeRoot m
-      by_first true t h more = f k m (first (x == k) (has_number xs k) t) e
+      by_first true t h more = f k m (first_true (x == k) (has_number xs k) t) e
       by_first false t h more = more h
 
   same_text : (text other : List ℕ) → bytes_eq text other ≡ true → text ≡ other

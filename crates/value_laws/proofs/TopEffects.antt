@@ -1,8 +1,10 @@
 -- The effect of the instruction at which typed frames stand is allowed, and what it names is there.
-use Rattle.std.proofs.Common.{◌≡◌, ℕ, ◌+◌, ◌<◌, ◌≤◌, ◌^◌, ◌⊎◌, inl, inr, Bool, true, false, ◌||◌, List, [], ◌∷◌, ◌++◌, length, Some, refl, ap, sym, subst, ◌∙◌, arith}
+use Rattle.std.proofs.Common.{◌≡◌, ℕ, ◌+◌, ◌<◌, ◌≤◌, ◌^◌, ◌⊎◌, inl, inr, Bool, true, false, List, [], ◌∷◌, ◌++◌, length, Some, refl, ap, sym, subst, ◌∙◌, arith}
 use Rattle.std.specs.Prelude.{◌==◌, slice_get, slice_index, take, reverse, if◌then◌else◌}
 use Rattle.std.proofs.lemmas.Bool.Decides.{nat_tests}
 use Rattle.std.proofs.lemmas.Option.{get_or_from_slice_get}
+use Rattle.lists.proofs.ListLaws.{same_some}
+use Rattle.lists.proofs.TestLaws.{first_true, second_true}
 use Rattle.jvm_types.specs.CodeTable.{arguments, is_init}
 use Rattle.jvm_types.specs.Members.{Site, is_static}
 use Rattle.jvm_types.specs.Numbers.{has_number}
@@ -54,9 +56,6 @@ use Rattle.value_laws.proofs.Calls.{CallRow, call_row, as_many, takes_arguments,
 use Rattle.value_laws.proofs.FewFields.{few_fields}
 use Rattle.value_laws.proofs.TopStand.{top_here, row_here}
 
-some_same : {X : Type 0} {x y : X} → Some x ≡ Some y → x ≡ y
-some_same e = cc
-
 -- ---- the effect is allowed
 
 class_named : (p : Program) (site : Site) (pc class : ℕ) (op : Op) (r : OpRow) → HasRow p site pc (targets.Class class) op r → IsClassOf p class
@@ -94,14 +93,7 @@ module _ (c : MarkedProgram) (marked : IsMarked c) (is : Classes) (out : is PRIN
 number_in : (tos : List ℕ) (to : ℕ) → OneOf tos to → has_number tos to ≡ true
 number_in [] to h = absurd h
 number_in (x ∷ xs) to (inl e) = first_true (x == to) (has_number xs to) (grind (arith, nat_tests, e))
-  where
-    first_true : (a b : Bool) → a ≡ true → (a || b) ≡ true
-    first_true a b e = rw e refl
 number_in (x ∷ xs) to (inr h) = second_true (x == to) (has_number xs to) (number_in xs to h)
-  where
-    second_true : (a b : Bool) → b ≡ true → (a || b) ≡ true
-    second_true true b e = refl
-    second_true false b e = e
 
 module _ (c : MarkedProgram) (marked : IsMarked c) (f : Frame) (fs : List Frame) (k : Standing c f) where
   pub goes_to : (to : ℕ) → OneOf (edges k.insn) to → GoesTo (top_here c f fs k) to
@@ -174,7 +166,7 @@ module _ (c : MarkedProgram) (marked : IsMarked c) where
             let want = receiver_want (is_init called) called.class in
             let at = below_args c.program h.stands.method (within c.program) [] (arguments called) want f.stack (subst (λ (ws : List Want). TakenHold h.stands.method (within c.program) ws f.stack) takes taken) in
             let there : slice_get f.stack (length called.args) ≡ Some at.0 = subst (λ (n : ℕ). slice_get f.stack n ≡ Some at.0) (as_many called) at.1 in
-            let same : at.0 ≡ v = some_same (sym there ∙ has.1) in
+            let same : at.0 ≡ v = same_some (sym there ∙ has.1) in
             let inside = receiver_inside (is_init called) called.class at.0 file at.2 (subst (λ (n : ℕ). 0 < n) (sym same) has.2) in
             subst (IsReference c.program) (same ∙ sym index) (subst (λ (n : ℕ). 0 < n) (sym same) has.2, inside)
         by_kind (inr k) = absurd (let bad : true ≡ false = sym k.0 ∙ s in cc)
@@ -241,6 +233,6 @@ module _ (c : MarkedProgram) (marked : IsMarked c) where
 pub effects_allowed : EffectsAreAllowed
 effects_allowed c [] at marked h e = absurd (cc)
 effects_allowed c (f ∷ fs) at marked h e =
-    let same : top_here c f fs h.0.stands ≡ at = some_same (sym (stand_top c marked f fs h.0.stands) ∙ e) in
+    let same : top_here c f fs h.0.stands ≡ at = same_some (sym (stand_top c marked f fs h.0.stands) ∙ e) in
     subst (λ (x : Top). IsAllowed c.program x (effect_at c.program x)) same
     (allowed_as c marked f fs h.0 (effect_at c.program (top_here c f fs h.0.stands)) refl (allowed_here c marked (within c.program) (out c marked f fs h.0) f h.0))

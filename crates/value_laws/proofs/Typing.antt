@@ -4,6 +4,7 @@ use Rattle.std.specs.Prelude.{if◌then◌else◌}
 use Rattle.std.specs.List.{AllZip, AllByRecursion}
 use Rattle.std.proofs.lemmas.Bool.{or_parts}
 use Rattle.std.proofs.lemmas.Bool.Decides.{nat_tests}
+use Rattle.lists.proofs.TestLaws.{is_true}
 use Rattle.jvm_types.specs.declared.op_row.OpRow.{OpRow}
 use Rattle.jvm_types.specs.declared.op_row.Want.{Want}
 use Rattle.jvm_types.specs.declared.op_row.Want.TheVariants.{AnyValue, AnInt, AnObject, AnyReference, AHolder, ToStart}
@@ -35,10 +36,6 @@ module _ (m : MethodInfo) (is : Classes) where
   new_start : (class pc : ℕ) → is_class (new_class m.code m.targets pc) class ≡ true → (v : ℕ) → IsMadeAt m is pc v → is class v
   new_start class pc h v k = subst (λ (c : ℕ). is c v) (sym (same_class (new_class m.code m.targets pc) k.0 class k.1 h)) k.2
 
-  suiting : (b : Bool) → not b ≡ false → b ≡ true
-  suiting true e = refl
-  suiting false e = absurd (cc)
-
   abbrev pub Suit : List Want → List VType → Type 0
   Suit wants ts = some_taken (λ want t. not (suits m want t)) wants ts ≡ false
 
@@ -50,7 +47,7 @@ module _ (m : MethodInfo) (is : Classes) where
   start_holds (ToStart class ∷ wants) (This ∷ ts) h = (refl, λ v k. k)
   start_holds (ToStart class ∷ wants) (New pc ∷ ts) h = (
     refl,
-    new_start class pc (suiting (is_class (new_class m.code m.targets pc) class)
+    new_start class pc (is_true (is_class (new_class m.code m.targets pc) class)
         (or_parts (not (is_class (new_class m.code m.targets pc) class)) (some_taken (λ want t. not (suits m want t)) wants ts) h).0),
   )
   start_holds (AnyValue ∷ wants) (t ∷ ts) h = start_holds wants ts (later AnyValue t wants ts h)

@@ -4,6 +4,7 @@ use Rattle.std.specs.Prelude.{nat_lt, ◌==◌, slice_set, slice_index_or, map, 
 use Rattle.std.specs.List.{AllZip, AllByRecursion}
 use Rattle.std.proofs.lemmas.Bool.{or_parts}
 use Rattle.std.proofs.lemmas.Bool.Decides.{nat_tests}
+use Rattle.lists.proofs.TestLaws.{is_true}
 use Rattle.jvm_types.specs.ClassTree.{is_subclass}
 use Rattle.jvm_types.specs.CodeTable.{value_of, stack_after, locals_after}
 use Rattle.jvm_types.specs.Members.{is_static}
@@ -90,17 +91,13 @@ module _ (m : MethodInfo) (is : Classes) where
       same_class (Some c) e h = let same : c ≡ k.0 = cc in grind (arith, nat_tests, same, h)
   want_holds want t v h k = absurd (cc)
 
-  suiting : (b : Bool) → not b ≡ false → b ≡ true
-  suiting true e = refl
-  suiting false e = absurd (cc)
-
   -- where no rule is broken, the values on top are what the row takes
   pub taken_hold : (wants : List Want) (ts : List VType) (s : List ℕ) → nat_lt (length ts) (length wants) ≡ false → some_taken (λ want t. not (suits m want t)) wants ts ≡ false
       → AllZip (Holds m is) ts s → TakenHold m is wants s
   taken_hold [] ts s e h k = tt
   taken_hold (want ∷ wants) (t ∷ ts) (v ∷ s) e h k =
       let parts = or_parts (not (suits m want t)) (some_taken (λ want t. not (suits m want t)) wants ts) h in
-      (want_holds want t v (suiting (suits m want t) parts.0) k.0, taken_hold wants ts s (grind (arith, nat_tests, e)) parts.1 k.1)
+      (want_holds want t v (is_true (suits m want t) parts.0) k.0, taken_hold wants ts s (grind (arith, nat_tests, e)) parts.1 k.1)
   taken_hold wants ts s e h k = absurd (first_of (assumption, grind (arith, nat_tests, e)))
 
   -- ---- what a row gives
