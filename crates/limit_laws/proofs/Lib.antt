@@ -1,2 +1,7 @@
+pub mod HeldBounds
+pub mod BoundedOnward
+pub mod BoundedInstructions
+pub mod BoundedMonitors
+pub mod KeptBounds
 pub mod KeptRoots
 pub mod SameThread

@@ -1,2 +1,3 @@
+pub mod BoundLaws
 pub mod GivenThread
 pub mod RootLaws
