@@ -1,7 +1,8 @@
 -- Entering and leaving monitors, waiting and notifying keep a thread within its bounds.
-use Rattle.std.proofs.Common.{◌≡◌, ℕ, zero, suc, ◌+◌, ◌<◌, ◌≤◌, nat_lt, nat_le, Bool, true, false, ◌&&◌, List, [], ◌∷◌, length, Option, Some, None, refl, subst, ap, arith}
+use Rattle.std.proofs.Common.{◌≡◌, ℕ, zero, suc, ◌+◌, ◌<◌, ◌≤◌, nat_lt, nat_le, Bool, true, false, List, [], ◌∷◌, length, Option, Some, None, refl, subst, ap, arith}
 use Rattle.std.specs.Prelude.{◌==◌, ◌/◌, ◌%◌, if◌then◌else◌, option_map, IfSome}
 use Rattle.std.proofs.lemmas.Bool.Decides.{nat_tests}
+use Rattle.lists.proofs.TestLaws.{both_are_true}
 use Rattle.jvm_types.specs.declared.limits.TheConstants.{MOST_WORKERS}
 use Rattle.jvm_types.specs.declared.outcome.End.TheVariants as ends
 use Rattle.jvm_types.specs.declared.program.Program.{Program}
@@ -37,17 +38,13 @@ LockFits (locks.Held u) = u ≤ MOST_WORKERS
 LockFits (locks.Flagged u) = Unit {0}
 LockFits (locks.Fat r) = r < most_records
 
-both_true : (a b : Bool) → (a && b) ≡ true → b ≡ true
-both_true true b e = e
-both_true false b e = absurd (cc)
-
 pub lock_fits : (word : ℕ) → is_lock_word word ≡ true → HasCount (lock_of word) → LockFits (lock_of word)
 lock_fits word e h = by_kind (word % 4) (word / 4) e h
   where
     by_kind : (kind upper : ℕ) → is_lock_by kind upper ≡ true → HasCount (lock_by kind upper) → LockFits (lock_by kind upper)
     by_kind zero n e h = h
     by_kind (suc zero) n e h = grind (arith, nat_tests, e)
-    by_kind (suc (suc zero)) n e h = let few : n ≤ 9 = grind (arith, nat_tests, both_true (nat_lt 0 n) (nat_le n 9) e) in omega arith
+    by_kind (suc (suc zero)) n e h = let few : n ≤ 9 = grind (arith, nat_tests, (both_are_true (nat_lt 0 n) (nat_le n 9) e).1) in omega arith
     by_kind (suc (suc (suc kind))) n e h = tt
 
 -- ---- what is held

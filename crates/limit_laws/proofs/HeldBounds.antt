@@ -8,6 +8,7 @@ use Rattle.machine_types.specs.HeldMonitors.{held_at, with_held, without_held}
 use Rattle.machine_types.specs.declared.lock.Held.{Held}
 use Rattle.machine_types.specs.declared.lock.Kept.{Kept}
 use Rattle.machine_types.specs.declared.lock.Kept.TheVariants as keeps
+use Rattle.lock_laws.proofs.HeldLists.{held_monitor}
 
 -- ---- each monitor
 
@@ -57,21 +58,13 @@ flat_without m (g ∷ hs) = by_test (g.monitor == m) (flat_without m hs)
     by_test true more = omega arith
     by_test false more = omega arith
 
-held_as : (m : ℕ) (hs : List Held) (h : Held) → held_at hs m ≡ Some h → h.monitor ≡ m
-held_as m [] h e = absurd (cc)
-held_as m (g ∷ hs) h e = by_test (g.monitor == m) refl e (λ e. held_as m hs h e)
-  where
-    by_test : (b : Bool) → (g.monitor == m) ≡ b → (if b then Some g else held_at hs m) ≡ Some h → (held_at hs m ≡ Some h → h.monitor ≡ m) → h.monitor ≡ m
-    by_test true t e more = let same : g ≡ h = cc in let one : g.monitor ≡ m = grind (arith, nat_tests, t) in subst (λ (x : Held). x.monitor ≡ m) same one
-    by_test false t e more = more e
-
 -- what stands in place of the entry of its monitor
 pub flat_refit : (m : ℕ) (hs : List Held) (h e : Held) → held_at hs m ≡ Some h → e.monitor ≡ h.monitor → flat_held (with_held e hs) + flat h ≡ flat e + flat_held hs
 flat_refit m [] h e found same = absurd (cc)
 flat_refit m (g ∷ hs) h e found same = by_test (g.monitor == m) refl found (g.monitor == e.monitor) refl (λ found. flat_refit m hs h e found same)
   where
     at : e.monitor ≡ m
-    at = subst (λ (i : ℕ). e.monitor ≡ i) (held_as m (g ∷ hs) h found) same
+    at = subst (λ (i : ℕ). e.monitor ≡ i) (held_monitor m (g ∷ hs) h found) same
 
     by_test : (b : Bool) → (g.monitor == m) ≡ b → (if b then Some g else held_at hs m) ≡ Some h → (d : Bool) → (g.monitor == e.monitor) ≡ d
         → (held_at hs m ≡ Some h → flat_held (with_held e hs) + flat h ≡ flat e + flat_held hs) → flat_held (if d then e ∷ hs else g ∷ with_held e hs) + flat h ≡ flat e + flat_held (g ∷ hs)

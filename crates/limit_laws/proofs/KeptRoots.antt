@@ -3,6 +3,7 @@ use Rattle.std.proofs.Common.{◌≡◌, ℕ, zero, suc, ◌+◌, ◌<◌, ◌==
 use Rattle.std.specs.Prelude.{if◌then◌else◌, option_map, slice_get, IfSome, IsTrue}
 use Rattle.std.specs.List.{AllByRecursion}
 use Rattle.std.proofs.lemmas.Bool.Decides.{nat_tests}
+use Rattle.lists.proofs.TestLaws.{first_true, second_true}
 use Rattle.jvm_types.specs.Members.{is_synchronized, is_class_init_name}
 use Rattle.jvm_types.specs.Numbers.{has_flag, has_number}
 use Rattle.jvm_types.specs.declared.outcome.End.TheVariants as ends
@@ -291,14 +292,7 @@ numbers_within test n (m ∷ ms) k e = by_pass (test m) (λ e. let more : k < su
 
 numbers_in : (xs ys : List ℕ) (k : ℕ) {P : Type 0} → has_number (xs ++ ys) k ≡ true → (has_number xs k ≡ true → P) → (has_number ys k ≡ true → P) → P
 numbers_in [] ys k e f g = g e
-numbers_in (x ∷ xs) ys k e f g = number_first (x == k) (has_number (xs ++ ys) k) e (λ t. f (first (x == k) (has_number xs k) t)) (λ t. numbers_in xs ys k t (λ t. f (second (x == k) (has_number xs k) t)) g)
-  where
-    first : (a b : Bool) → a ≡ true → (a || b) ≡ true
-    first a b e = rw e refl
-
-    second : (a b : Bool) → b ≡ true → (a || b) ≡ true
-    second true b e = refl
-    second false b e = e
+numbers_in (x ∷ xs) ys k e f g = number_first (x == k) (has_number (xs ++ ys) k) e (λ t. f (first_true (x == k) (has_number xs k) t)) (λ t. numbers_in xs ys k t (λ t. f (second_true (x == k) (has_number xs k) t)) g)
 
 roots_within : (p : Program) (number part k : ℕ) → has_number (part_roots p number part) k ≡ true → k < length p.methods
 roots_within p number part k e = by_part number part e

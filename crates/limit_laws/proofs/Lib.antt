@@ -4,4 +4,5 @@ pub mod BoundedInstructions
 pub mod BoundedMonitors
 pub mod KeptBounds
 pub mod KeptRoots
+pub mod LawfulThread
 pub mod SameThread

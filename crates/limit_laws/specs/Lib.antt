@@ -1,3 +1,4 @@
 pub mod BoundLaws
 pub mod GivenThread
+pub mod LawfulLaws
 pub mod RootLaws
