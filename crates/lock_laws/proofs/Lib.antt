@@ -11,3 +11,4 @@ pub mod Instructions
 pub mod StaticRoots
 pub mod ThreadSteps
 pub mod StateSteps
+pub mod PartSteps

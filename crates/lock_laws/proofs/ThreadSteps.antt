@@ -156,7 +156,7 @@ ends_keeps c was s e l k inside =
     let within : AttemptStandsIn c (phases.Ending e) s.frames s.held s.attempt = subst (λ (phase : Phase). AttemptStandsIn c phase s.frames s.held s.attempt) l inside in
     record { is_as = refl; stands = over_stands c e s.frames s.held s.attempt at; attempt = over_inside c e s.frames s.held s.attempt at.phase_shows within }
 
-over_counts : (was : Phase) (e : End) → IsLimitAt e (phases.Ended e) was → counted_by was (phases.Ended e) ≡ was
+pub over_counts : (was : Phase) (e : End) → IsLimitAt e (phases.Ended e) was → counted_by was (phases.Ended e) ≡ was
 over_counts was ends.Steps l = refl
 over_counts was ends.Prints l = refl
 over_counts was ends.Turns l = refl

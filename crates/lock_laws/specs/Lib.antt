@@ -2,3 +2,4 @@ pub mod AttemptLaws
 pub mod HeldLaws
 pub mod StructureLaws
 pub mod StateLaws
+pub mod PartLaws
