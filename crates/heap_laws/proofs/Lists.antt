@@ -1,0 +1,52 @@
+-- Items that lists contain, by their indexes, and words that are set.
+use Rattle.std.proofs.Common.{◌≡◌, ◌≢◌, ◌⊎◌, inl, inr, ℕ, zero, suc, ◌<◌, Bool, true, false, List, [], ◌∷◌, length, Some, refl, ap, arith}
+use Rattle.std.specs.Prelude.{Contains, slice_get, slice_index, slice_index_or, slice_set, ◌==◌}
+use Rattle.std.proofs.lemmas.Bool.Decides.{nat_tests}
+use Rattle.std.proofs.lemmas.List.{get_or-set_same, get_or-set_other, set-get_or}
+
+pub got_below : {X : Type 0} (xs : List X) (i : ℕ) (x : X) → slice_get xs i ≡ Some x → i < length xs
+got_below [] i x e = cc
+got_below (y ∷ xs) zero x e = omega arith
+got_below (y ∷ xs) (suc i) x e = omega (arith, got_below xs i x e)
+
+got_contained : {X : Type 0} (xs : List X) (i : ℕ) (x : X) → i < length xs → slice_index_or xs i x ≡ x → slice_get xs i ≡ Some x
+got_contained [] i x lt e = absurd (omega (arith, lt))
+got_contained (y ∷ xs) zero x lt e = ap Some e
+got_contained (y ∷ xs) (suc i) x lt e = got_contained xs i x (omega (arith, lt)) e
+
+pub contained_got : {X : Type 0} (xs : List X) (x : X) (k : Contains xs x) → slice_get xs k.0 ≡ Some x
+contained_got xs x k = got_contained xs k.0 x k.1 k.2
+
+got_index : {X : Type 0} (xs : List X) (i : ℕ) (x : X) → slice_get xs i ≡ Some x → slice_index_or xs i x ≡ x
+got_index [] i x e = cc
+got_index (y ∷ xs) zero x e = cc
+got_index (y ∷ xs) (suc i) x e = got_index xs i x e
+
+pub got_contains : {X : Type 0} (xs : List X) (i : ℕ) (x : X) → slice_get xs i ≡ Some x → Contains xs x
+got_contains xs i x e = (i, got_below xs i x e, got_index xs i x e)
+
+pub contains_more : {X : Type 0} (y : X) (xs : List X) (x : X) → Contains xs x → Contains (y ∷ xs) x
+contains_more y xs x k = got_contains (y ∷ xs) (suc k.0) x (contained_got xs x k)
+
+pub contains_first : {X : Type 0} (x : X) (xs : List X) → Contains (x ∷ xs) x
+contains_first x xs = got_contains (x ∷ xs) 0 x refl
+
+-- ---- two numbers
+
+pub same_or_not : (a b : ℕ) → (a ≡ b) ⊎ (a ≢ b)
+same_or_not a b = by_test (a == b) refl
+  where
+    by_test : (t : Bool) → (a == b) ≡ t → (a ≡ b) ⊎ (a ≢ b)
+    by_test true e = inl (grind (arith, nat_tests, e))
+    by_test false e = inr (λ same. absurd (grind (arith, nat_tests, e, same)))
+
+-- ---- words
+
+pub set_here : (words : List ℕ) (w v : ℕ) → w < length words → slice_index (slice_set words w v) w ≡ v
+set_here words w v h = get_or-set_same words w v 0 h
+
+pub set_there : (words : List ℕ) (w u v : ℕ) → u ≢ w → slice_index (slice_set words w v) u ≡ slice_index words u
+set_there words w u v h = get_or-set_other words w u v 0 h
+
+pub set_same : (words : List ℕ) (w : ℕ) → slice_set words w (slice_index words w) ≡ words
+set_same words w = set-get_or words w 0
