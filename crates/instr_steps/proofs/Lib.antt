@@ -1,0 +1,5 @@
+mod TopPlaces
+mod CallLaws
+mod Ready
+mod PhasesReady
+mod RootsThere

@@ -1,0 +1,61 @@
+-- The roots of a part are methods of the program.
+use Rattle.std.proofs.Common.{◌≡◌, ◌<◌, ℕ, zero, suc, ◌+◌, Bool, true, false, List, [], ◌∷◌, ◌++◌, length, refl, subst, arith}
+use Rattle.std.specs.Prelude.{◌==◌, ◌||◌, IfSome, IsTrue, slice_get, if◌then◌else◌, codes}
+use Rattle.std.specs.List.{AllByRecursion}
+use Rattle.std.proofs.lemmas.Bool.Decides.{nat_tests}
+use Rattle.lists.proofs.ListLaws.{all_weaker}
+use Rattle.jvm_types.specs.Members.{is_class_init_name}
+use Rattle.jvm_types.specs.Numbers.{has_number}
+use Rattle.jvm_types.specs.declared.program.MethodInfo.{MethodInfo}
+use Rattle.jvm_types.specs.declared.program.Program.{Program}
+use Rattle.machine_types.specs.Bounds.{FramesFit, part_roots}
+use Rattle.machine_types.specs.Parts.{numbers_of, is_entry_named, init_roots}
+use Rattle.machine_types.specs.Threads.{Frame}
+use Rattle.machine_types.specs.declared.phase.Phase.TheVariants.{Start}
+
+all_of : (P : ℕ → Type 0) (xs ys : List ℕ) → AllByRecursion P xs → AllByRecursion P ys → AllByRecursion P (xs ++ ys)
+all_of P [] ys a b = b
+all_of P (x ∷ xs) ys a b = (a.0, all_of P xs ys a.1 b)
+
+same_number : (x y : ℕ) → (x == y) ≡ true → x ≡ y
+same_number x y t = grind (arith, nat_tests, t)
+
+first_or_later : (P : ℕ → Type 0) (x : ℕ) (xs : List ℕ) (y : ℕ) (t : Bool) → (x == y) ≡ t → P x → (has_number xs y ≡ true → P y) → (t || has_number xs y) ≡ true → P y
+first_or_later P x xs y true t first later e = subst P (same_number x y t) first
+first_or_later P x xs y false t first later e = later e
+
+picked : (P : ℕ → Type 0) (xs : List ℕ) (y : ℕ) → AllByRecursion P xs → has_number xs y ≡ true → P y
+picked P [] y all e = absurd (cc)
+picked P (x ∷ xs) y all e = first_or_later P x xs y (x == y) refl all.0 (picked P xs y all.1) e
+
+numbers_within : (test : MethodInfo → Bool) (n : ℕ) (ms : List MethodInfo) → AllByRecursion (λ k. k < n + length ms) (numbers_of test n ms)
+numbers_within test n [] = tt
+numbers_within test n (m ∷ ms) = by_test (test m) (all_weaker (λ k. k < suc n + length ms) (λ k. k < n + suc (length ms)) (λ k h. omega (arith, h)) (numbers_of test (suc n) ms) (numbers_within test (suc n) ms))
+  where
+    by_test : (t : Bool) → AllByRecursion (λ k. k < n + suc (length ms)) (numbers_of test (suc n) ms)
+        → AllByRecursion (λ k. k < n + suc (length ms)) (if t then n ∷ numbers_of test (suc n) ms else numbers_of test (suc n) ms)
+    by_test true all = (omega arith, all)
+    by_test false all = all
+
+methods_within : (test : MethodInfo → Bool) (ms : List MethodInfo) → AllByRecursion (λ k. k < length ms) (numbers_of test 0 ms)
+methods_within test ms = all_weaker (λ k. k < 0 + length ms) (λ k. k < length ms) (λ k h. omega (arith, h)) (numbers_of test 0 ms) (numbers_within test 0 ms)
+
+first_within : (p : Program) → AllByRecursion (λ k. k < length p.methods) (init_roots p)
+first_within p =
+    all_of (λ k. k < length p.methods) (numbers_of (λ m. is_class_init_name m.name) 0 p.methods) (numbers_of (is_entry_named (codes "init") (codes "()V")) 0 p.methods) (methods_within (λ m. is_class_init_name m.name) p.methods)
+    (methods_within (is_entry_named (codes "init") (codes "()V")) p.methods)
+
+all_within : (p : Program) (number part : ℕ) → AllByRecursion (λ k. k < length p.methods) (part_roots p number part)
+all_within p zero zero = first_within p
+all_within p zero (suc zero) = first_within p
+all_within p zero (suc (suc part)) = methods_within (is_entry_named (codes "done") (codes "()V")) p.methods
+all_within p (suc t) part = methods_within (is_entry_named (codes "run") (codes "(I)V")) p.methods
+
+pub first_there : (p : Program) (number part : ℕ) (roots : List ℕ) → AllByRecursion (λ root. IsTrue (has_number (part_roots p number part) root)) roots
+    → IfSome (slice_get roots 0) (λ root. root < length p.methods)
+first_there p number part [] all = tt
+first_there p number part (root ∷ roots) all = picked (λ k. k < length p.methods) (part_roots p number part) root (all_within p number part) all.0
+
+pub no_frame_yet : (frames : List Frame) (roots : List ℕ) → FramesFit Start frames roots → frames ≡ []
+no_frame_yet frames [] fit = absurd fit
+no_frame_yet frames (root ∷ roots) fit = fit

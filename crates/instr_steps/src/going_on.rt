@@ -1,0 +1,258 @@
+//! The top frame after an instruction, by the instruction's row in the table (JVMS 6.5).
+
+ghost use Rattle.std.specs.Prelude.{◌≡◌, ◌<◌, ◌≤◌, ◌+◌, ◌-◌, ◌∷◌, ◌++◌, length, drop, map};
+ghost use Rattle.jvm_types.specs.CodeTable.{row, constant_row, result_of, value_of};
+ghost use Rattle.jvm_types.specs.declared.program.Target.TheVariants as targets;
+ghost use Rattle.frames.specs.FrameLists.{top, max_stack};
+ghost use Rattle.value_laws.specs.Allowed.{HasLocal};
+ghost use Rattle.instr_steps.specs.Going.{HasRoom, HasTaken, frame_went, stack_went};
+
+use frames::ThreadState;
+use jvm_types::{MethodInfo, Op, Program, Target};
+
+/// The top frame goes on at a pc, without so many values of its stack.
+#[inline(always)]
+fn take(s: &mut ThreadState, count: u16, to: u32)
+    requires frame { 0 < length s.old.frames }
+    requires values { count ≤ length (top s.old.frames).stack }
+    ensures { s.new ≡ stack_went to (drop count (top s.old.frames).stack) s.old }
+{
+    s.drop_values(count);
+    s.set_pc(to);
+}
+
+/// The same, with one value in their place.
+#[inline(always)]
+fn replace(s: &mut ThreadState, count: u16, made: u64, to: u32)
+    requires frame { 0 < length s.old.frames }
+    requires values { count ≤ length (top s.old.frames).stack }
+    requires room { length (top s.old.frames).stack - count + 1 ≤ max_stack s.old.program.program (top s.old.frames).method }
+    ensures { s.new ≡ stack_went to (made ∷ drop count (top s.old.frames).stack) s.old }
+{
+    s.drop_values(count);
+    s.push_value(made);
+    s.set_pc(to);
+}
+
+/// Behind an instruction that names a field.
+#[inline(always)]
+fn went_with_field(
+    s: &mut ThreadState,
+    p: &Program,
+    pc: u32,
+    number: u32,
+    op: &Op,
+    to: u32,
+    made: u64,
+)
+    requires frame { 0 < length s.old.frames }
+    requires taken { HasTaken (constant_row p.now pc (targets.Field number) op.now) (top s.old.frames) }
+    requires room { HasRoom (constant_row p.now pc (targets.Field number) op.now) (top s.old.frames) (max_stack s.old.program.program (top s.old.frames).method) }
+    ensures { s.new ≡ frame_went (constant_row p.now pc (targets.Field number) op.now) to made s.old }
+{
+    if p.fields.get(number as usize).is_none() {
+        s.set_pc(to);
+        return;
+    }
+    match op {
+        Op::Getstatic(_) => replace(s, 0, made, to),
+        Op::Putstatic(_) => take(s, 1, to),
+        Op::Getfield(_) => replace(s, 1, made, to),
+        Op::Putfield(_) => take(s, 2, to),
+        _ => s.set_pc(to),
+    }
+}
+
+/// How many arguments a method takes.
+fn argument_count(called: &MethodInfo) -> u16
+    requires { length called.now.args < 65536 }
+    ensures { result ≡ length called.now.args }
+{
+    called.args.len() as u16
+}
+
+/// Behind a call that takes so many values.
+#[inline(always)]
+fn went_past(s: &mut ThreadState, count: u16, called: &MethodInfo, to: u32, made: u64)
+    requires frame { 0 < length s.old.frames }
+    requires values { count ≤ length (top s.old.frames).stack }
+    requires room { length (top s.old.frames).stack - count + length (result_of called.now) ≤ max_stack s.old.program.program (top s.old.frames).method }
+    ensures { s.new ≡ stack_went to (map (value_of 0 (λ type. made) (top s.old.frames).stack (top s.old.frames).locals) (result_of called.now) ++ drop count (top s.old.frames).stack) s.old }
+{
+    if called.result.is_some() {
+        replace(s, count, made, to);
+    } else {
+        take(s, count, to);
+    }
+}
+
+/// Behind an instruction that names a method.
+fn went_with_method(
+    s: &mut ThreadState,
+    p: &Program,
+    pc: u32,
+    number: u32,
+    op: &Op,
+    to: u32,
+    made: u64,
+)
+    requires frame { 0 < length s.old.frames }
+    requires short { length (top s.old.frames).stack < 65536 }
+    requires taken { HasTaken (constant_row p.now pc (targets.Method number) op.now) (top s.old.frames) }
+    requires room { HasRoom (constant_row p.now pc (targets.Method number) op.now) (top s.old.frames) (max_stack s.old.program.program (top s.old.frames).method) }
+    ensures { s.new ≡ frame_went (constant_row p.now pc (targets.Method number) op.now) to made s.old }
+{
+    let Some(called) = p.methods.get(number as usize) else {
+        s.set_pc(to);
+        return;
+    };
+    match op {
+        Op::Invokevirtual(_) | Op::Invokespecial(_) => {
+            let count = argument_count(called) + 1;
+            went_past(s, count, called, to, made);
+        }
+        Op::Invokestatic(_) => {
+            let count = argument_count(called);
+            went_past(s, count, called, to, made);
+        }
+        _ => s.set_pc(to),
+    }
+}
+
+/// Behind an instruction with a constant.
+#[inline(always)]
+fn went_with_constant(
+    s: &mut ThreadState,
+    p: &Program,
+    pc: u32,
+    target: Target,
+    op: &Op,
+    to: u32,
+    made: u64,
+)
+    requires frame { 0 < length s.old.frames }
+    requires short { length (top s.old.frames).stack < 65536 }
+    requires taken { HasTaken (constant_row p.now pc target op.now) (top s.old.frames) }
+    requires room { HasRoom (constant_row p.now pc target op.now) (top s.old.frames) (max_stack s.old.program.program (top s.old.frames).method) }
+    ensures { s.new ≡ frame_went (constant_row p.now pc target op.now) to made s.old }
+{
+    match target {
+        Target::Nothing => s.set_pc(to),
+        Target::Value(_) | Target::Class(_) | Target::Out => replace(s, 0, made, to),
+        Target::Field(number) => went_with_field(s, p, pc, number, op, to, made),
+        Target::Method(number) => went_with_method(s, p, pc, number, op, to, made),
+        Target::Init(_) | Target::Wait | Target::Notify | Target::NotifyAll => take(s, 1, to),
+        Target::Println => take(s, 2, to),
+    }
+}
+
+/// The top frame goes on at a pc behind an instruction, which makes this value, where it makes one.
+pub fn went(
+    s: &mut ThreadState,
+    m: &MethodInfo,
+    p: &Program,
+    pc: u32,
+    target: Target,
+    op: &Op,
+    to: u32,
+    made: u64,
+)
+    requires frame { 0 < length s.old.frames }
+    requires taken { HasTaken (row p.now m.now pc target op.now) (top s.old.frames) }
+    requires room { HasRoom (row p.now m.now pc target op.now) (top s.old.frames) (max_stack s.old.program.program (top s.old.frames).method) }
+    requires reads { HasLocal (row p.now m.now pc target op.now).reads (top s.old.frames).locals }
+    requires writes { HasLocal (row p.now m.now pc target op.now).writes (top s.old.frames).locals }
+    requires short { length (top s.old.frames).stack < 65536 }
+    ensures { s.new ≡ frame_went (row p.now m.now pc target op.now) to made s.old }
+{
+    match op {
+        Op::Nop | Op::Goto(_) | Op::GotoW(_) | Op::Return => s.set_pc(to),
+        Op::AconstNull | Op::Iconst(_) | Op::Bipush(_) | Op::Sipush(_) => replace(s, 0, made, to),
+        Op::Iload(i) | Op::Aload(i) => {
+            let value = s.local(*i);
+            replace(s, 0, value, to);
+        }
+        Op::Istore(i) | Op::Astore(i) => {
+            let value = s.value(0);
+            s.set_local(*i, value);
+            take(s, 1, to);
+        }
+        Op::Iinc(i, _) => {
+            s.set_local(*i, made);
+            s.set_pc(to);
+        }
+        Op::Pop
+        | Op::If(_, _)
+        | Op::Ifnull(_)
+        | Op::Ifnonnull(_)
+        | Op::Tableswitch { .. }
+        | Op::Lookupswitch { .. }
+        | Op::Ireturn
+        | Op::Areturn
+        | Op::Athrow
+        | Op::Monitorenter
+        | Op::Monitorexit => take(s, 1, to),
+        Op::Pop2 | Op::IfIcmp(_, _) | Op::IfAcmpeq(_) | Op::IfAcmpne(_) => take(s, 2, to),
+        Op::Iastore => take(s, 3, to),
+        Op::Ineg | Op::I2b | Op::I2c | Op::I2s | Op::Newarray | Op::Arraylength => {
+            replace(s, 1, made, to)
+        }
+        Op::Iaload
+        | Op::Iadd
+        | Op::Isub
+        | Op::Imul
+        | Op::Idiv
+        | Op::Irem
+        | Op::Ishl
+        | Op::Ishr
+        | Op::Iushr
+        | Op::Iand
+        | Op::Ior
+        | Op::Ixor => replace(s, 2, made, to),
+        Op::Dup => {
+            let first = s.value(0);
+            replace(s, 1, first, to);
+            s.push_value(first);
+        }
+        Op::DupX1 => {
+            let first = s.value(0);
+            let second = s.value(1);
+            replace(s, 2, first, to);
+            s.push_value(second);
+            s.push_value(first);
+        }
+        Op::DupX2 => {
+            let first = s.value(0);
+            let second = s.value(1);
+            let third = s.value(2);
+            replace(s, 3, first, to);
+            s.push_value(third);
+            s.push_value(second);
+            s.push_value(first);
+        }
+        Op::Dup2 => {
+            let first = s.value(0);
+            let second = s.value(1);
+            replace(s, 2, second, to);
+            s.push_value(first);
+            s.push_value(second);
+            s.push_value(first);
+        }
+        Op::Swap => {
+            let upper = s.value(0);
+            let lower = s.value(1);
+            replace(s, 2, upper, to);
+            s.push_value(lower);
+        }
+        Op::Ldc(_)
+        | Op::LdcW(_)
+        | Op::Getstatic(_)
+        | Op::Putstatic(_)
+        | Op::Getfield(_)
+        | Op::Putfield(_)
+        | Op::Invokevirtual(_)
+        | Op::Invokespecial(_)
+        | Op::Invokestatic(_)
+        | Op::New(_) => went_with_constant(s, p, pc, target, op, to, made),
+    }
+}

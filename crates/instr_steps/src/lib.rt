@@ -1,0 +1,20 @@
+//! The instructions over the state of a thread (JVMS 6.5).
+#![tactic(auto)]
+
+mod calls;
+mod checks;
+mod did;
+mod effecting;
+mod exceptions;
+mod going_on;
+mod monitors;
+mod moves;
+mod objects;
+mod phases;
+mod places;
+mod running;
+mod taking;
+
+pub use did::Did;
+pub use phases::{begin_root, dispatch, finish_element, go_after, store_header};
+pub use running::{local, run, run_local, run_want, run_with};

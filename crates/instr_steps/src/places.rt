@@ -1,0 +1,103 @@
+//! Where the top frame of a thread stands.
+
+ghost use Rattle.std.specs.Prelude.{◌≡◌, ◌<◌, length, slice_get, IsSome, Some};
+ghost use Rattle.jvm_types.specs.declared.code.Insn.{Insn};
+ghost use Rattle.machine_types.specs.Frames.{top_of};
+ghost use Rattle.checked_program.specs.CodeIndex.{number_in};
+ghost use Rattle.frames.specs.FrameLists.{top};
+ghost use Rattle.instr_steps.specs.Places.{at_place};
+
+use checked_program::Checked;
+use frames::ThreadState;
+use jvm_types::{Insn, MethodInfo, Rows, Target};
+use std::marker::Model;
+
+/// An instruction of a method, with what its constant names.
+#[derive(Debug, Drop)]
+pub struct Place<'a> {
+    method: &'a MethodInfo,
+    insn: &'a Insn,
+    target: Target,
+}
+
+impl<'a> Model for Place<'a> {
+    ghost use Rattle.instr_steps.specs.Places.{Place as At};
+
+    ghost Value = { At };
+
+    ghost view = { λ at. record { method = at.method.now; insn = at.insn.now; target = at.target } };
+}
+
+impl<'a> Place<'a> {
+    #[inline(always)]
+    pub fn method(&self) -> &'a MethodInfo
+        ensures { result.now ≡ self.now.method }
+    {
+        self.method
+    }
+
+    #[inline(always)]
+    pub fn insn(&self) -> &'a Insn
+        ensures { result.now ≡ self.now.insn }
+    {
+        self.insn
+    }
+
+    #[inline(always)]
+    pub fn target(&self) -> Target
+        ensures { result ≡ self.now.target }
+    {
+        self.target
+    }
+}
+
+/// A method of the program.
+#[inline(always)]
+pub fn method_of(p: &Checked, number: u32) -> &MethodInfo
+    requires { number < length p.now.program.methods }
+    ensures { slice_get p.now.program.methods number ≡ Some result.now }
+{
+    match p.program().methods.get(number as usize) {
+        Some(m) => m,
+        None => unreachable!(),
+    }
+}
+
+#[inline(always)]
+fn insn_at(code: &Rows<Insn>, i: usize) -> &Insn
+    requires { i < length code.now }
+    ensures { slice_get code.now i ≡ Some result.now }
+{
+    match code.get(i) {
+        Some(insn) => insn,
+        None => unreachable!(),
+    }
+}
+
+#[inline(always)]
+fn target_at(targets: &Rows<Target>, i: usize) -> Target
+    requires { i < length targets.now }
+    ensures { slice_get targets.now i ≡ Some result }
+{
+    match targets.get(i) {
+        Some(target) => *target,
+        None => unreachable!(),
+    }
+}
+
+/// The place of the top frame, which has one.
+#[inline(always)]
+pub fn place_of<'a>(s: &ThreadState, p: &'a Checked) -> Place<'a>
+    requires { IsSome (top_of p.now.program s.now.frames) }
+    ensures { top_of p.now.program s.now.frames ≡ Some (at_place s.now.frames result) }
+{
+    let method = method_of(p, s.method());
+    match p.number_at(s.method(), s.pc()) {
+        Some(i) => Place {
+            method,
+            insn: insn_at(&method.code, i),
+            target: target_at(&method.targets, i),
+        },
+        None => unreachable!(),
+    }
+}
