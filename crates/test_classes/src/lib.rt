@@ -2,11 +2,23 @@
 #![tactic(auto)]
 
 mod bytes;
+mod meetings;
+mod pairs;
 mod sections;
+mod single;
 mod statics;
 mod texts;
+mod torn;
 
 pub use bytes::{bytes_of, changed};
+pub use meetings::{BANK, LOCKS_OUT, RECORDS, SPINS, WAITS, WAITS_DEEP};
+pub use pairs::{SHARED, SHARED_AND_DONE, TWICE, UNLOCKED};
 pub use sections::{calls, counts_up, marks, stores_this};
+pub use single::{
+    ADDS_TWICE, ALL_PARTS, CALLS_ITSELF, CATCHES_BY_CLASS, COMPUTES, DIVIDES_BY_ZERO,
+    INDEXES_AND_THROWS, KEEPS_LOW_BIT, LEAVES_BY_EXCEPTION, MAKES_ARRAY, MEASURES_NULL, MOVES,
+    NEEDS_SLOTS,
+};
 pub use statics::with_statics;
-pub use texts::{adds, below_exception, constants, kinds, pair, peeks, tally, work};
+pub use texts::{ADDS, PAIR, adds, below_exception, constants, kinds, pair, peeks, tally, work};
+pub use torn::{COUNTS, DIVIDES, DIVIDES_AT_REST};
