@@ -27,4 +27,6 @@ mod runs;
 #[cfg(test)]
 mod shared_lists;
 #[cfg(test)]
+mod tagging;
+#[cfg(test)]
 mod writing;

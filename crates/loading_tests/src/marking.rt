@@ -56,7 +56,7 @@ const BY_CALLEES: &str = "\
     Calls.storesAndPrints(I)V method M1\n";
 
 /// The checked program of some files.
-fn load(alloc: Global, files: &[Bytes]) -> Result<Checked, FileError>
+pub fn load(alloc: Global, files: &[Bytes]) -> Result<Checked, FileError>
     requires some { 0 < length files.now }
     requires few { length files.now ≤ 64 }
 {

@@ -4,6 +4,5 @@ pub mod BroughtLaws
 pub mod ClashLaws
 pub mod VisitLaws
 pub mod HandlerLaws
-pub mod SampleRows
 pub mod FirstNodes
 pub mod OneAnswer

@@ -15,6 +15,3 @@ mod visit;
 
 pub use error::TagError;
 pub use tagging::{tag, tag_within};
-
-#[cfg(test)]
-mod tests;

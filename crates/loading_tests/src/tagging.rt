@@ -1,0 +1,74 @@
+//! The lock tags of compiled classes. Methods and their instructions go by their numbers.
+
+use crate::files::one;
+use crate::marking::load;
+use checked_program::{Checked, Tag};
+use class_runner::FileError;
+use std::process::Abort;
+use std::test::*;
+use test_classes::{changed, marks, pair};
+
+/// The tag of the innermost monitor before an instruction; `None` where none is held, or the instruction is not reached.
+fn innermost(program: &Checked, method: usize, insn: usize) -> Option<Tag> {
+    match program.tags().get(method) {
+        Some(tags) => match tags.frames.get(insn) {
+            Some(Some(frame)) => frame.held().get(0).copied(),
+            _ => None,
+        },
+        None => None,
+    }
+}
+
+/// The tag on the top of the stack before an instruction.
+fn top(program: &Checked, method: usize, insn: usize) -> Option<Tag> {
+    match program.tags().get(method) {
+        Some(tags) => match tags.frames.get(insn) {
+            Some(Some(frame)) => frame.stack().get(0).copied(),
+            _ => None,
+        },
+        None => None,
+    }
+}
+
+/// Compares what a method of a class holds, and has on its stack, before some instructions.
+fn check_tags(
+    rt: &(impl Abort + AllocGlobal),
+    hex: &str,
+    method: usize,
+    held: &[(usize, Option<Tag>)],
+    tops: &[(usize, Tag)],
+) -> Result<(), FileError> {
+    let alloc = rt.alloc();
+    let files = one(alloc, changed(alloc, hex, &[])?)?;
+    let program = load(alloc, files.as_slice())?;
+    for (insn, tag) in held {
+        assert!(rt; innermost(&program, method, *insn) == *tag);
+    }
+    for (insn, tag) in tops {
+        assert!(rt; top(&program, method, *insn) == Some(*tag));
+    }
+    Ok(())
+}
+
+#[test]
+fn blocks_are_tagged(rt: HostRuntime) -> Result<(), Fail> {
+    // `P.sum`, a block on `this` that ends at the return and in its handler
+    let held = [
+        (3, None),
+        (4, Some(Tag::This)),
+        (11, None),
+        (12, Some(Tag::This)),
+        (16, None),
+    ];
+    let tops = [
+        (11, Tag::Untagged),
+        (12, Tag::Untagged),
+        (16, Tag::Untagged),
+    ];
+    check_tags(&rt, pair(), 2, &held, &tops)?;
+    // `Marks.onKey`, a block on a field, which the `dup` at pc 4 tags
+    let held = [(4, None), (5, Some(Tag::At(4))), (9, None)];
+    let tops = [(2, Tag::Untagged), (3, Tag::At(4))];
+    check_tags(&rt, marks(), 19, &held, &tops)?;
+    Ok(())
+}
