@@ -1,2 +1,6 @@
 pub mod Lists
 pub mod Sites
+pub mod Places
+pub mod Accesses
+pub mod Phases
+pub mod Lifted

@@ -3,4 +3,4 @@
 
 pub mod site_laws;
 
-pub use site_laws::{sites_differ, sites_lie_inside};
+pub use site_laws::{events_reach_sites, sites_differ, sites_lie_inside};

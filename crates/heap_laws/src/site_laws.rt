@@ -1,6 +1,6 @@
 //! Which word an event accesses.
 
-ghost use Rattle.heap_laws.specs.SiteLaws.{SitesDiffer, SitesLieInside};
+ghost use Rattle.heap_laws.specs.SiteLaws.{EventsReachSites, SitesDiffer, SitesLieInside};
 
 use machine_types::start_lies_apart;
 
@@ -17,3 +17,9 @@ pub fn sites_lie_inside()
 {
     start_lies_apart();
 }
+
+/// The event that a thread makes next accesses what its phase says: a lock word, the owner or the waiting bits of a monitor
+/// record, a header, a field or an element that is there, a counter, or the header of the object that it makes.
+pub fn events_reach_sites()
+    ensures { EventsReachSites }
+{}
