@@ -86,3 +86,47 @@ pub fn hand(s: &mut ThreadState, p: &Checked, place: &Place, x: u32, class: Thro
         None => unwind(s, x, class),
     }
 }
+
+#[cfg(test)]
+mod tests {
+    use super::*;
+    use std::test::*;
+
+    /// Rows for `RuntimeException`, for `Throwable` in a wider range, and for all exceptions.
+    const ROWS: [Row; 3] = [
+        Row {
+            start: 2,
+            end: 5,
+            handler: 20,
+            catch_class: 7,
+        },
+        Row {
+            start: 2,
+            end: 8,
+            handler: 30,
+            catch_class: 4,
+        },
+        Row {
+            start: 5,
+            end: 9,
+            handler: 40,
+            catch_class: 0,
+        },
+    ];
+
+    #[test]
+    fn the_first_row_that_catches_has_the_handler(rt: HostRuntime) {
+        let arithmetic = class_of(Thrown::ArithmeticException);
+        let overflow = class_of(Thrown::StackOverflowError);
+        for (pc, class, wanted) in [
+            (1, arithmetic, None),
+            (2, arithmetic, Some(20)),
+            (2, overflow, Some(30)),
+            (5, arithmetic, Some(30)),
+            (8, overflow, Some(40)),
+            (9, arithmetic, None),
+        ] {
+            assert_eq!(rt; handler(pc, class, ROWS.as_slice()), wanted);
+        }
+    }
+}
