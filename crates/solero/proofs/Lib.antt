@@ -1,4 +1,6 @@
-pub mod Options
+pub mod Found
+pub mod Numbers
+pub mod Orders
 pub mod Owed
 pub mod SoFar
 pub mod Writing

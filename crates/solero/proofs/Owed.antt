@@ -8,45 +8,50 @@ use Rattle.jvm_types.specs.declared.refusal.Place.{Place}
 use Rattle.solero.specs.Faults.{CountsFault}
 use Rattle.checked_program.specs.MarkedProgram.{MarkedProgram}
 use Rattle.jvm_types.specs.declared.first.FirstOp.{FirstOp}
-use Rattle.class_runner.specs.Loading.{IsFirstLoaded, IsRefusedBy}
+use Rattle.class_runner.specs.Loading.{IsFirstLoaded, IsLoaded, IsRefusedBy}
 use Rattle.class_runner.specs.Refusal.{refusal_text}
-use Rattle.solero.specs.Answer.{IsDue, Reports, Refuses, heap_words, workers, longest_file, first_long}
+use Rattle.solero.specs.Command.{Asked}
+use Rattle.solero.specs.Answer.{IsDue, Refuses, longest_file, first_long}
 use Rattle.solero.specs.Reading.{IsUnread}
-use Rattle.solero.specs.Parts.{IsLine, IsRun, IsUnreadDue, ReportsProgram}
+use Rattle.solero.specs.Parts.{IsLine, IsMadeBy, IsRun, IsUnreadDue}
 use Rattle.solero.specs.declared.shelf.NamedFile.{NamedFile}
 use Rattle.solero.specs.declared.shelf.ShelfError.{ShelfError}
 use Rattle.solero.specs.declared.shelf.ShelfError.TheVariants.{Memory, Failed, TooLong}
+use Rattle.solero.specs.declared.request.Mode.{Mode}
+use Rattle.solero.specs.declared.request.Mode.TheVariants.{Replay, Mark}
 use Rattle.solero.specs.declared.answer.Due.{Due}
-use Rattle.solero.specs.declared.answer.Due.TheVariants.{Refusal, CannotRead, OutOfMemory}
+use Rattle.solero.specs.declared.answer.Due.TheVariants.{Report, Marks, Refusal, CannotRead, OutOfMemory}
 
--- a report of the program that the files are loaded to is one of the files
-pub reported : (contents : List (List ℕ)) (checked : MarkedProgram) (text : List ℕ) → (ops : List FirstOp) × IsFirstLoaded contents heap_words workers checked ops → ReportsProgram checked.program text → Reports contents text
-reported contents checked text (ops, loaded) r = record {
+-- what the mode makes of the program that the files are loaded to is made of the files
+pub made_of_files : (mode : Mode) (asked : Asked) (contents : List (List ℕ)) (checked : MarkedProgram) (due : Due) → asked.mode ≡ mode → (ops : List FirstOp) × IsFirstLoaded contents asked.heap asked.threads checked ops → IsLoaded contents asked.heap asked.threads checked → IsMadeBy mode checked due → IsRun asked contents due
+made_of_files Replay asked contents checked (Report text) is (ops, first) loaded r = rw is (record {
   checked = checked;
   ops = r.ops;
   loaded = record {
-    classes = loaded.classes;
-    code = loaded.code;
-    read = loaded.read;
-    checked = loaded.checked;
-    first = record { class = loaded.first.class; only = loaded.first.only; file = loaded.first.file; init = loaded.first.init; program = r.first };
+    classes = first.classes;
+    code = first.code;
+    read = first.read;
+    checked = first.checked;
+    first = record { class = first.first.class; only = first.first.only; file = first.first.file; init = first.first.init; program = r.first };
   };
   outcome = r.outcome;
   run = r.run;
   report = r.report;
-}
+})
+made_of_files Mark asked contents checked (Marks text) is first loaded m = rw is (record { checked = checked; loaded = loaded; marks = m })
+made_of_files mode asked contents checked due is first loaded m = absurd m
 
 -- the line of what refuses files, none of which is too long, is due to them
-pub refused_run : (contents : List (List ℕ)) (rule : Rule) (place : Place) (due : Due) → first_long 0 contents ≡ None → IsRefusedBy contents heap_words workers rule place → IsLine (refusal_text rule place) due → IsRun contents due
-refused_run contents rule place (Refusal text) short refused line = record { rule = rule; place = place; refused = rw short refused; is_line = line }
-refused_run contents rule place OutOfMemory short refused line = tt
-refused_run contents rule place due short refused line = absurd line
+pub refused_run : (asked : Asked) (contents : List (List ℕ)) (rule : Rule) (place : Place) (due : Due) → first_long 0 contents ≡ None → IsRefusedBy contents asked.heap asked.threads rule place → IsLine (refusal_text rule place) due → IsRun asked contents due
+refused_run asked contents rule place (Refusal text) short refused line = record { rule = rule; place = place; refused = rw short refused; is_line = line }
+refused_run asked contents rule place OutOfMemory short refused line = tt
+refused_run asked contents rule place due short refused line = absurd line
 
 -- ---- a file that was not read
 
 -- the line of a file that is too long refuses contents of which it is the first
-long_refused : (contents : List (List ℕ)) (file : ℕ) (text : List ℕ) → first_long 0 contents ≡ Some file → text ≡ refusal_text (rules.C C10) (in_file file longest_file) → Refuses contents text
-long_refused contents file text long line = record {
+long_refused : (asked : Asked) (contents : List (List ℕ)) (file : ℕ) (text : List ℕ) → first_long 0 contents ≡ Some file → text ≡ refusal_text (rules.C C10) (in_file file longest_file) → Refuses asked contents text
+long_refused asked contents file text long line = record {
   rule = rules.C C10;
   place = in_file file longest_file;
   refused = rw long (refl, refl);
@@ -58,10 +63,10 @@ at_least before after (inl rose) = omega arith
 at_least before after (inr full) = omega arith
 
 -- what is due where a file was not read is due to the names
-pub unread_due : (files : Option (List NamedFile)) (names : List (List ℕ)) (before after file : ℕ) (error : ShelfError) (due : Due) → IsUnread files names before after file error → IsUnreadDue file error due → IsDue (Some names) files before after due
-unread_due files names before after file TooLong (Refusal text) unread line = (unread.0, record { contents = unread.1.contents; are = unread.1.are; many = unread.1.many; refuses = long_refused unread.1.contents file text unread.1.first line })
-unread_due files names before after file Failed (CannotRead text) unread line = (unread.0, record { file = file; among = unread.1; before = unread.2; is_line = line })
-unread_due files names before after file TooLong OutOfMemory unread line = omega arith
-unread_due files names before after file Failed OutOfMemory unread line = at_least before after unread.0
-unread_due files names before after file Memory OutOfMemory unread line = unread
-unread_due files names before after file error due unread line = absurd line
+pub unread_due : (files : Option (List NamedFile)) (asked : Asked) (before after file : ℕ) (error : ShelfError) (due : Due) → IsUnread files asked.files before after file error → IsUnreadDue file error due → IsDue (Some asked) files before after due
+unread_due files asked before after file TooLong (Refusal text) unread line = (unread.0, record { contents = unread.1.contents; are = unread.1.are; many = unread.1.many; refuses = long_refused asked unread.1.contents file text unread.1.first line })
+unread_due files asked before after file Failed (CannotRead text) unread line = (unread.0, record { file = file; among = unread.1; before = unread.2; is_line = line })
+unread_due files asked before after file TooLong OutOfMemory unread line = omega arith
+unread_due files asked before after file Failed OutOfMemory unread line = at_least before after unread.0
+unread_due files asked before after file Memory OutOfMemory unread line = unread
+unread_due files asked before after file error due unread line = absurd line

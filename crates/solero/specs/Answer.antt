@@ -14,15 +14,20 @@ use Rattle.jvm_types.specs.declared.refusal.Place.{Place}
 use Rattle.first_machine.specs.PlainRun.{IsPlainOutcome}
 use Rattle.class_runner.specs.Report.{line, report_text}
 use Rattle.class_runner.specs.Refusal.{refusal_text}
-use Rattle.class_runner.specs.Loading.{IsFirstLoaded, IsRefusedBy}
+use Rattle.class_runner.specs.MarksText.{marks_text}
+use Rattle.class_runner.specs.Loading.{IsFirstLoaded, IsLoaded, IsRefusedBy}
+use Rattle.solero.specs.Command.{Asked}
 use Rattle.solero.specs.Faults.{CountsFault}
 use Rattle.solero.specs.Shelf.{content_of}
 use Rattle.solero.specs.declared.shelf.NamedFile.{NamedFile}
+use Rattle.solero.specs.declared.request.Mode.{Mode}
+use Rattle.solero.specs.declared.request.Mode.TheVariants.{Replay, Mark}
 use Rattle.solero.specs.declared.answer.Due.{Due}
-use Rattle.solero.specs.declared.answer.Due.TheVariants.{Report, Usage, Refusal, CannotRead, OutOfMemory}
+use Rattle.solero.specs.declared.answer.Due.TheVariants.{Report, Marks, Usage, Refusal, CannotRead, OutOfMemory}
 
 abbrev pub status_of : Due → ℕ
 status_of (Report text) = 0
+status_of (Marks text) = 0
 status_of Usage = 2
 status_of (Refusal text) = 3
 status_of (CannotRead text) = 4
@@ -30,6 +35,7 @@ status_of OutOfMemory = 6
 
 abbrev pub text_of : Due → List ℕ
 text_of (Report text) = text
+text_of (Marks text) = text
 text_of Usage = line (codes "usage: solero [options] FILE...")
 text_of (Refusal text) = text
 text_of (CannotRead text) = text
@@ -41,13 +47,6 @@ text_of OutOfMemory = line (codes "out of memory")
 abbrev pub longest_file : ℕ
 longest_file = MOST_FILE_BYTES
 
--- the number of heap words and of workers, which no word sets yet
-abbrev pub heap_words : ℕ
-heap_words = 65536
-
-abbrev pub workers : ℕ
-workers = 0
-
 -- the first of some files that is too long, counted from a number on
 abbrev pub first_long : ℕ → List (List ℕ) → Option ℕ
 first_long file [] = None
@@ -56,25 +55,37 @@ first_long file (content ∷ contents) = if nat_lt longest_file (length content)
 -- ---- what is due to the contents of the files
 
 -- the text reports a plain run of the instructions of the program that the files are loaded to
-pub record Reports (contents : List (List ℕ)) (text : List ℕ) : Type 0 where
+pub record Reports (asked : Asked) (contents : List (List ℕ)) (text : List ℕ) : Type 0 where
   pub checked : MarkedProgram
   pub ops : List FirstOp
-  pub loaded : IsFirstLoaded contents heap_words workers checked ops
+  pub loaded : IsFirstLoaded contents asked.heap asked.threads checked ops
   pub outcome : Outcome
   pub run : IsPlainOutcome ops outcome
   pub report : text ≡ report_text outcome
 
+-- the text has the marks of the program that the files are loaded to
+pub record ListsMarks (asked : Asked) (contents : List (List ℕ)) (text : List ℕ) : Type 0 where
+  pub checked : MarkedProgram
+  pub loaded : IsLoaded contents asked.heap asked.threads checked
+  pub marks : text ≡ marks_text checked.program checked.marks
+
+-- what the mode makes of the files: a report, or their marks
+abbrev pub IsMade : Mode → Asked → List (List ℕ) → Due → Type 0
+IsMade Replay asked contents (Report text) = Reports asked contents text
+IsMade Mark asked contents (Marks text) = ListsMarks asked contents text
+IsMade mode asked contents due = ⊥
+
 -- A rule and a place refuse the files. A file that is too long is refused when it is read from the shelf, before any is read as a
 -- class.
-abbrev pub IsRefusal : Option ℕ → List (List ℕ) → Rule → Place → Type 0
-IsRefusal (Some file) contents rule place = (rule ≡ rules.C C10) × (place ≡ in_file file longest_file)
-IsRefusal None contents rule place = IsRefusedBy contents heap_words workers rule place
+abbrev pub IsRefusal : Option ℕ → Asked → List (List ℕ) → Rule → Place → Type 0
+IsRefusal (Some file) asked contents rule place = (rule ≡ rules.C C10) × (place ≡ in_file file longest_file)
+IsRefusal None asked contents rule place = IsRefusedBy contents asked.heap asked.threads rule place
 
 -- the text is the line of a rule and a place that refuse the files
-pub record Refuses (contents : List (List ℕ)) (text : List ℕ) : Type 0 where
+pub record Refuses (asked : Asked) (contents : List (List ℕ)) (text : List ℕ) : Type 0 where
   pub rule : Rule
   pub place : Place
-  pub refused : IsRefusal (first_long 0 contents) contents rule place
+  pub refused : IsRefusal (first_long 0 contents) asked contents rule place
   pub is_line : text ≡ refusal_text rule place
 
 -- ---- what is due to the words and the shelf
@@ -83,20 +94,20 @@ pub record Refuses (contents : List (List ℕ)) (text : List ℕ) : Type 0 where
 abbrev pub contents_of : List NamedFile → List (List ℕ) → List (List ℕ)
 contents_of files names = map (content_of files) names
 
--- a report of the files of these names; where the shelf does not tell its files, of some of which there are as many
-pub record ReportsFiles (files : Option (List NamedFile)) (names : List (List ℕ)) (text : List ℕ) : Type 0 where
+-- made of the files that are asked for; where the shelf does not tell its files, of some of which there are as many
+pub record IsMadeOf (files : Option (List NamedFile)) (asked : Asked) (due : Due) : Type 0 where
   pub contents : List (List ℕ)
-  pub are : IfSome files (λ fs. contents ≡ contents_of fs names)
-  pub many : length contents ≡ length names
+  pub are : IfSome files (λ fs. contents ≡ contents_of fs asked.files)
+  pub many : length contents ≡ length asked.files
   pub short : AllByRecursion (λ content. length content ≤ longest_file) contents
-  pub reports : Reports contents text
+  pub made : IsMade asked.mode asked contents due
 
--- the line of a refusal of the files of these names; where the shelf does not tell its files, of some of which there are as many
-pub record RefusesFiles (files : Option (List NamedFile)) (names : List (List ℕ)) (text : List ℕ) : Type 0 where
+-- the line of a refusal of the files that are asked for; where the shelf does not tell its files, of some of which there are as many
+pub record RefusesFiles (files : Option (List NamedFile)) (asked : Asked) (text : List ℕ) : Type 0 where
   pub contents : List (List ℕ)
-  pub are : IfSome files (λ fs. contents ≡ contents_of fs names)
-  pub many : length contents ≡ length names
-  pub refuses : Refuses contents text
+  pub are : IfSome files (λ fs. contents ≡ contents_of fs asked.files)
+  pub many : length contents ≡ length asked.files
+  pub refuses : Refuses asked contents text
 
 -- The line that one of the files of these names can't be read. None before it is too long, since such a file is refused when it is
 -- read.
@@ -106,12 +117,12 @@ pub record SaysUnread (files : Option (List NamedFile)) (names : List (List ℕ)
   pub before : IfSome files (λ fs. first_long 0 (take file (contents_of fs names)) ≡ None)
   pub is_line : text ≡ line (codes "cannot read file " ++ decimal file)
 
--- What is due to a command, None where the words are not read, and to the files, None where the shelf does not tell
--- them. The shelf's count of faults goes from before to after. Want of memory may come to any command.
-abbrev pub IsDue : Option (List (List ℕ)) → Option (List NamedFile) → ℕ → ℕ → Due → Type 0
+-- What is due to the words, of which None are not read, and to the files, of which None are not told. The shelf's count of faults
+-- goes from before to after. Want of memory may come to any words.
+abbrev pub IsDue : Option Asked → Option (List NamedFile) → ℕ → ℕ → Due → Type 0
+IsDue asked files before after OutOfMemory = before ≤ after
 IsDue None files before after due = (due ≡ Usage) × (after ≡ before)
-IsDue (Some names) files before after Usage = ⊥
-IsDue (Some names) files before after (CannotRead text) = CountsFault before after × SaysUnread files names text
-IsDue (Some names) files before after OutOfMemory = before ≤ after
-IsDue (Some names) files before after (Refusal text) = (after ≡ before) × RefusesFiles files names text
-IsDue (Some names) files before after (Report text) = (after ≡ before) × ReportsFiles files names text
+IsDue (Some asked) files before after Usage = ⊥
+IsDue (Some asked) files before after (CannotRead text) = CountsFault before after × SaysUnread files asked.files text
+IsDue (Some asked) files before after (Refusal text) = (after ≡ before) × RefusesFiles files asked text
+IsDue (Some asked) files before after due = (after ≡ before) × IsMadeOf files asked due

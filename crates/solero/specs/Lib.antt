@@ -4,7 +4,9 @@ pub mod ListShelf
 pub mod Sink
 pub mod ListSink
 pub mod Delivery
+pub mod Bounds
 pub mod Command
+pub mod Requests
 pub mod Answer
 pub mod Reading
 pub mod Parts

@@ -1,6 +1,7 @@
 -- What the parts of the work find due.
 use Rattle.std.specs.Prelude.{◌≡◌, ℕ, List, ◌++◌, codes}
 use Rattle.std.specs.Fmt.{decimal}
+use Rattle.checked_program.specs.MarkedProgram.{MarkedProgram}
 use Rattle.jvm_types.specs.LinkFaults.{in_file}
 use Rattle.jvm_types.specs.FirstForm.{IsFirstProgram}
 use Rattle.jvm_types.specs.declared.first.FirstOp.{FirstOp}
@@ -11,11 +12,15 @@ use Rattle.jvm_types.specs.declared.refusal.CRule.TheVariants.{C10}
 use Rattle.first_machine.specs.PlainRun.{IsPlainOutcome}
 use Rattle.class_runner.specs.Report.{line, report_text}
 use Rattle.class_runner.specs.Refusal.{refusal_text}
-use Rattle.solero.specs.Answer.{longest_file, Reports, Refuses}
+use Rattle.class_runner.specs.MarksText.{marks_text}
+use Rattle.solero.specs.Command.{Asked}
+use Rattle.solero.specs.Answer.{longest_file, IsMade, Refuses}
 use Rattle.solero.specs.declared.shelf.ShelfError.{ShelfError}
 use Rattle.solero.specs.declared.shelf.ShelfError.TheVariants.{Failed, TooLong}
+use Rattle.solero.specs.declared.request.Mode.{Mode}
+use Rattle.solero.specs.declared.request.Mode.TheVariants.{Replay, Mark}
 use Rattle.solero.specs.declared.answer.Due.{Due}
-use Rattle.solero.specs.declared.answer.Due.TheVariants.{Report, Refusal, CannotRead, OutOfMemory}
+use Rattle.solero.specs.declared.answer.Due.TheVariants.{Report, Marks, Refusal, CannotRead, OutOfMemory}
 
 -- the line of a refusal, or want of memory
 abbrev pub IsLine : List ℕ → Due → Type 0
@@ -34,11 +39,10 @@ IsUnreadDue file error OutOfMemory = Unit {0}
 IsUnreadDue file error due = ⊥
 
 -- what is due to the contents of the files, none of which is too long
-abbrev pub IsRun : List (List ℕ) → Due → Type 0
-IsRun contents (Report text) = Reports contents text
-IsRun contents (Refusal text) = Refuses contents text
-IsRun contents OutOfMemory = Unit {0}
-IsRun contents due = ⊥
+abbrev pub IsRun : Asked → List (List ℕ) → Due → Type 0
+IsRun asked contents (Refusal text) = Refuses asked contents text
+IsRun asked contents OutOfMemory = Unit {0}
+IsRun asked contents due = IsMade asked.mode asked contents due
 
 -- the text reports a plain run of a program of the first form
 pub record ReportsProgram (p : Program) (text : List ℕ) : Type 0 where
@@ -47,3 +51,9 @@ pub record ReportsProgram (p : Program) (text : List ℕ) : Type 0 where
   pub outcome : Outcome
   pub run : IsPlainOutcome ops outcome
   pub report : text ≡ report_text outcome
+
+-- what the mode makes of a program
+abbrev pub IsMadeBy : Mode → MarkedProgram → Due → Type 0
+IsMadeBy Replay c (Report text) = ReportsProgram c.program text
+IsMadeBy Mark c (Marks text) = text ≡ marks_text c.program c.marks
+IsMadeBy mode c due = ⊥

@@ -18,6 +18,8 @@ const OUT_OF_MEMORY: &str = "out of memory\n";
 pub enum Due {
     /// The report of a run of which all parts returned.
     Report(Bytes),
+    /// The marks of a program's sections.
+    Marks(Bytes),
     /// The words are not read.
     Usage,
     /// The line of the rule that refuses the files.
@@ -34,7 +36,7 @@ impl Due {
         ensures { result ≡ status_of self.now }
     {
         match self {
-            Due::Report(_) => 0,
+            Due::Report(_) | Due::Marks(_) => 0,
             Due::Usage => 2,
             Due::Refusal(_) => 3,
             Due::CannotRead(_) => 4,
@@ -47,7 +49,8 @@ impl Due {
         ensures { result.now ≡ text_of self.now }
     {
         match self {
-            Due::Report(text) | Due::Refusal(text) | Due::CannotRead(text) => text.as_slice(),
+            Due::Report(text) | Due::Marks(text) | Due::Refusal(text) | Due::CannotRead(text) =>
+                text.as_slice(),
             Due::Usage => USAGE.as_bytes(),
             Due::OutOfMemory => OUT_OF_MEMORY.as_bytes(),
         }

@@ -9,10 +9,12 @@ mod command;
 mod delivery;
 mod program;
 mod reading;
+mod request;
 mod shelf;
 mod sink;
 #[cfg(test)]
 mod tests;
+mod values;
 
 use adapters::{FileShelf, OutputSink};
 use answer::Due;

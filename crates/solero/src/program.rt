@@ -3,32 +3,28 @@ ghost use Rattle.jvm_types.specs.FirstForm.{IsFirstProgram};
 ghost use Rattle.jvm_types.specs.declared.first.FirstOp.{FirstOp as Op};
 ghost use Rattle.solero.specs.Faults.{CountsFault};
 ghost use Rattle.solero.specs.Command.{texts, command};
+ghost use Rattle.solero.specs.Requests.{asked_by};
 ghost use Rattle.solero.specs.Answer.{IsDue, first_long};
 ghost use Rattle.solero.specs.Delivery.{Delivers};
-ghost use Rattle.solero.specs.Parts.{IsRun, IsUnreadDue, ReportsProgram};
+ghost use Rattle.solero.specs.Parts.{IsMadeBy, IsRun, IsUnreadDue, ReportsProgram};
 ghost use Rattle.solero.specs.declared.answer.Due.{Due as TheDue};
 
 use crate::answer::{Due, cannot_read, refused, too_long};
-use crate::command::file_names;
+use crate::command::read_words;
 use crate::delivery::deliver;
 use crate::reading::{Unread, read_files};
+use crate::request::{Mode, Request};
 use crate::shelf::{Shelf, ShelfError};
 use crate::sink::Sink;
 use checked_program::Checked;
-use class_runner::{FileError, first_ops, load_program, report};
+use class_runner::{FileError, first_ops, load_program, mark_text, report};
+use first_machine::run_first;
 use jvm_types::limits::MOST_FILES;
 use jvm_types::{Bytes, Gate, Rows};
 use std::alloc::{AllocError, Global};
-use first_machine::run_first;
 
-/// The heap words of the machine that runs the program.
-const HEAP_WORDS: u32 = 65_536;
-
-/// The worker threads that run parts of it.
-const WORKERS: u8 = 0;
-
-/// Runs the program of the words: reads its files from the shelf, in order, then loads and runs them, and
-/// writes what came of it to the sink. It answers the status that the process ends with.
+/// Does what the words ask for: reads the files from the shelf, in order, then loads them, and runs the program or finds the
+/// marks of its sections, and writes what came of it to the sink. It answers the status that the process ends with.
 ///
 /// No part runs on a worker yet, so nobody passes the gate.
 pub fn top<S: Shelf, K: Sink, G: Gate + Sync>(
@@ -39,15 +35,15 @@ pub fn top<S: Shelf, K: Sink, G: Gate + Sync>(
     gate: &G,
 ) -> u8
     // What the words and the files are owed is written, and answered by its status.
-    ensures answer { let named = command (texts words.now.items) in (due : TheDue)
-        × IsDue named (S.files shelf.old) (S.faults shelf.old) (S.faults shelf.new) due
+    ensures answer { (due : TheDue)
+        × IsDue (command (texts words.now.items)) (S.files shelf.old) (S.faults shelf.old) (S.faults shelf.new) due
         × Delivers (K.text sink.old) (K.text sink.new) (K.faults sink.old) (K.faults sink.new) due result }
     ensures files { S.files shelf.new ≡ S.files shelf.old }
 
     // Each status comes for its cause, and a fault of the sink goes before all.
     ensures status { (result ≤ 6) × (result ≢ 1) }
     ensures words_read { result ≡ 2 → command (texts words.now.items) ≡ None }
-    ensures words_not_read { command (texts words.now.items) ≡ None → (result ≡ 2) ⊎ (result ≡ 5) }
+    ensures words_not_read { command (texts words.now.items) ≡ None → (result ≡ 2) ⊎ ((result ≡ 5) ⊎ (result ≡ 6)) }
     ensures shelf_failed { result ≡ 4 → CountsFault (S.faults shelf.old) (S.faults shelf.new) }
     ensures shelf_fault { S.faults shelf.old < S.faults shelf.new → 4 ≤ result }
     ensures sink_failed { result ≡ 5 → CountsFault (K.faults sink.old) (K.faults sink.new) }
@@ -64,22 +60,21 @@ fn work<S: Shelf>(alloc: Global, words: &Vec<String>, shelf: &mut S) -> Due
         (S.faults shelf.old) (S.faults shelf.new) result }
     ensures files { S.files shelf.new ≡ S.files shelf.old }
 {
-    match file_names(words) {
-        Some(names) => work_on(alloc, names, shelf),
-        None => Due::Usage,
+    match read_words(alloc, words.as_slice()) {
+        Ok(Some(request)) => work_on(alloc, &request, shelf),
+        Ok(None) => Due::Usage,
+        Err(AllocError) => Due::OutOfMemory,
     }
 }
 
-// What is due to the files of these names.
-fn work_on<S: Shelf>(alloc: Global, names: &[String], shelf: &mut S) -> Due
-    requires some { 0 < length names.now }
-    requires few { length names.now ≤ MOST_FILES }
-    ensures due { IsDue (Some (texts names.now)) (S.files shelf.old)
+// What is due to the files that are asked for.
+fn work_on<S: Shelf>(alloc: Global, request: &Request, shelf: &mut S) -> Due
+    ensures due { IsDue (Some (asked_by request.now)) (S.files shelf.old)
         (S.faults shelf.old) (S.faults shelf.new) result }
     ensures files { S.files shelf.new ≡ S.files shelf.old }
 {
-    match read_files(alloc, names, shelf) {
-        Ok(contents) => run_files(alloc, &contents),
+    match read_files(alloc, request.files.as_slice(), shelf) {
+        Ok(contents) => run_files(alloc, request, &contents),
         Err(unread) => not_read(alloc, unread),
     }
 }
@@ -96,19 +91,30 @@ fn not_read(alloc: Global, unread: Unread) -> Due
 }
 
 // What is due to the contents of the files, none of which is too long.
-fn run_files(alloc: Global, contents: &Rows<Bytes>) -> Due
+fn run_files(alloc: Global, request: &Request, contents: &Rows<Bytes>) -> Due
     requires some { 0 < length contents.now }
     requires few { length contents.now ≤ MOST_FILES }
     requires short { first_long 0 contents.now ≡ None }
-    ensures { IsRun contents.now result }
+    ensures { IsRun (asked_by request.now) contents.now result }
 {
-    match load_program(alloc, contents, HEAP_WORDS, WORKERS) {
-        Ok(checked) => match report_of(alloc, &checked) {
-            Ok(text) => Due::Report(text),
+    match load_program(alloc, contents, request.heap, request.threads) {
+        Ok(checked) => match made(alloc, request.mode, &checked) {
+            Ok(due) => due,
             Err(AllocError) => Due::OutOfMemory,
         },
         Err(FileError::Refused(rule, place)) => refused(alloc, rule, place),
         Err(FileError::Memory) => Due::OutOfMemory,
+    }
+}
+
+// What the mode makes of the program.
+fn made(alloc: Global, mode: Mode, checked: &Checked) -> Result<Due, AllocError>
+    requires { (ops : List Op) × IsFirstProgram checked.now.program ops }
+    ensures { IfOk result (λ due. IsMadeBy mode checked.now due) }
+{
+    match mode {
+        Mode::Replay => Ok(Due::Report(report_of(alloc, checked)?)),
+        Mode::Mark => Ok(Due::Marks(mark_text(alloc, checked)?)),
     }
 }
 

@@ -102,15 +102,80 @@ fn check_all(rt: &(impl Abort + AllocGlobal), cases: &[Case<'_>]) -> Result<(), 
     Ok(())
 }
 
+// Words that are not read, each in a line of its own.
+const NOT_READ: [&str; 34] = [
+    "-x A.class",
+    "A.class -x",
+    "--help",
+    "-h A.class",
+    "--memory table A.class",
+    "--threads 1",
+    "--threads",
+    "A.class --threads",
+    "--threads 9 A.class",
+    "--threads -1 A.class",
+    "--threads one A.class",
+    "--threads 1 --threads 1 A.class",
+    "--mode run A.class",
+    "--mode load A.class",
+    "--mode mark --mode mark A.class",
+    "--order 0 A.class",
+    "--order 129 A.class",
+    "--order= A.class",
+    "--steps 0 A.class",
+    "--steps 4294967296 A.class",
+    "--turns 0 A.class",
+    "--heap 4095 A.class",
+    "--heap 1048577 A.class",
+    "--prints 0 A.class",
+    "--prints 1048577 A.class",
+    "--elide yes A.class",
+    "--range 0 A.class",
+    "--range 4294967296 A.class",
+    "--mode mark --order 1 A.class",
+    "--mode mark --steps 1 A.class",
+    "--mode mark --turns 1 A.class",
+    "--mode mark --prints 1 A.class",
+    "--mode mark --elide on A.class",
+    "--mode mark --range 1 A.class",
+];
+
+// Words that are read.
+const READ: [&str; 7] = [
+    "A.class --threads 0 --order 18 --steps 6 --turns 1 --heap 4096 --prints 1 --elide off --range 1",
+    "--threads=0 --steps=+0004294967295 --turns=4294967295 A.class",
+    "--heap 1048576 --prints 1048576 --elide on --range 4294967295 --mode replay A.class",
+    "--mode mark --threads 0 --heap 4096 A.class",
+    "-- A.class",
+    "--mode=mark A.class",
+    "A.class",
+];
+
+fn words_of(alloc: Global, line: &'static str) -> Result<Vec<&'static str>, AllocError> {
+    line.split(' ').collect(alloc)
+}
+
+// The status of the words of a line, over one file that adds and prints.
+fn status_of(alloc: Global, line: &'static str) -> Result<u8, AllocError> {
+    let words = words_of(alloc, line)?;
+    let mut shelf = shelf_of(alloc, adds(), &[])?;
+    run(alloc, words.as_slice(), &mut shelf, &mut CalmSink::new())
+}
+
 #[test]
-fn words_that_are_not_read(rt: HostRuntime) -> Result<(), Fail> {
-    let cases = [
+fn words(rt: HostRuntime) -> Result<(), Fail> {
+    for line in NOT_READ {
+        assert_eq!(rt; status_of(rt.alloc(), line)?, 2);
+    }
+    for line in READ {
+        assert_eq!(rt; status_of(rt.alloc(), line)?, 0);
+    }
+    let more = [
         Case::new(&[], adds(), &[], 2, USAGE),
-        Case::new(&["-x"], adds(), &[], 2, USAGE),
-        Case::new(&["A.class", "-x"], adds(), &[], 2, USAGE),
         Case::new(&["A.class"; 65], adds(), &[], 2, USAGE),
+        Case::new(&["--mode", "mark", "A.class"], adds(), &[], 0, ""),
     ];
-    check_all(&rt, &cases)?;
+    check_all(&rt, &more)?;
     Ok(())
 }
 
