@@ -6,9 +6,9 @@ Run it by hand from the top of the repository, after `./run --proved examples/A.
     python3 bench/loading.py
 
 Each program is made so that the stage that is measured is the last to be done: its last method, or its first class, breaks
-a rule of that stage, and the line of the refusal is printed beside the time. Programs that are marked pass all rules, and
-are refused as not built yet; beside each stands the same one without marks, which a rule of tagging refuses. Each line has the median of the runs, less the
-start of the program, and the quartiles, between which half of the runs lie.
+a rule of that stage, and the line of the refusal is printed beside the time. Programs that are marked pass all rules and
+have no method that would be run; beside each stands the same one without marks, which a rule of tagging refuses. Each line
+has the median of the runs, less the start of the program, and the quartiles, between which half of the runs lie.
 """
 import measure
 

@@ -43,7 +43,7 @@ class Runs:
 
         def run():
             done = subprocess.run([PROGRAM, *paths], stdout=subprocess.PIPE, check=False)
-            self.answer = done.stdout.decode().strip()
+            self.answer = done.stdout.decode().split("\n")[0]
 
         run()
         return repeated(run, runs)
