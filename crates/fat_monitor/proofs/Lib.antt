@@ -1,0 +1,2 @@
+pub mod HeldFits
+pub mod LawfulAnswers
