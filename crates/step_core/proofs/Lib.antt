@@ -1,0 +1,3 @@
+pub mod LawfulSteps
+pub mod LocalEvents
+pub mod StaysLawful

@@ -1,0 +1,12 @@
+//! One event of a thread: the access that it wants, and what the thread becomes by the word that the access found.
+#![tactic(auto)]
+
+mod attempts;
+mod entering;
+mod leaving;
+mod moving;
+mod wanting;
+
+pub use instr_effects::perform;
+pub use moving::{apply, event, step_local};
+pub use wanting::want;
