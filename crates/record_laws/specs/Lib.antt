@@ -1,0 +1,2 @@
+pub mod SharedWords
+pub mod LeftWords
