@@ -1,1 +1,3 @@
 pub mod LeftStands
+pub mod SameTally
+pub mod CountedEvents

@@ -1,2 +1,3 @@
 pub mod SharedWords
 pub mod LeftWords
+pub mod Counters
