@@ -93,20 +93,20 @@ swapped P is v n h k = by_test (n == is)
     by_test false = k
 
 module _ (P : ℕ → Type 0) (access : Access) (got : ℕ) (may : P got) where
-  leaves : (a : Access) → Some a ≡ Some access → P (left_by a got) → P (left_by access got)
+  pub leaves : (a : Access) → Some a ≡ Some access → P (left_by a got) → P (left_by access got)
   leaves a e h = subst (λ (x : Access). P (left_by x got)) (same_some e) h
 
-  no_access : None ≡ Some access → P (left_by access got)
+  pub no_access : None ≡ Some access → P (left_by access got)
   no_access e = absurd (cc)
 
-  loaded : (w : ℕ) → Some (Load w) ≡ Some access → P (left_by access got)
+  pub loaded : (w : ℕ) → Some (Load w) ≡ Some access → P (left_by access got)
   loaded w e = leaves (Load w) e may
 
-  looked : (a : Option Attempt) → looks a ≡ Some access → P (left_by access got)
+  pub looked : (a : Option Attempt) → looks a ≡ Some access → P (left_by access got)
   looked None e = no_access e
   looked (Some a) e = loaded a.monitor e
 
-  checked : (b : Bool) (a : Option Attempt) → (if b then looks a else None) ≡ Some access → P (left_by access got)
+  pub checked : (b : Bool) (a : Option Attempt) → (if b then looks a else None) ≡ Some access → P (left_by access got)
   checked true a e = looked a e
   checked false a e = no_access e
 
