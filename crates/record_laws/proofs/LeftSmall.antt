@@ -1,5 +1,5 @@
 -- What an event leaves of a word is below 2^64, and what it adds to a counter is little.
-use Rattle.std.proofs.Common.{◌≡◌, ℕ, zero, suc, ◌+◌, ◌*◌, ◌-◌, ◌/◌, ◌%◌, ◌^◌, ◌<◌, ◌≤◌, nat_lt, nat_le, Bool, true, false, ◌&&◌, List, Option, Some, None, refl, sym, ap, subst, ◌∙◌, arith}
+use Rattle.std.proofs.Common.{◌≡◌, ◌⊎◌, inl, inr, ℕ, zero, suc, ◌+◌, ◌*◌, ◌-◌, ◌/◌, ◌%◌, ◌^◌, ◌<◌, ◌≤◌, nat_lt, nat_le, Bool, true, false, ◌&&◌, List, Option, Some, None, refl, sym, ap, subst, ◌∙◌, arith}
 use Rattle.std.specs.Prelude.{option_map, if◌then◌else◌}
 use Rattle.std.proofs.lemmas.Bool.Decides.{nat_tests}
 use Rattle.lists.proofs.ListLaws.{same_some}
@@ -149,7 +149,13 @@ abbrev pub added : Access → ℕ
 added (Add w v) = v
 added access = 0
 
+-- only counters are added to
+abbrev pub IsCounted : Access → Type 0
+IsCounted (Add w v) = (w ≡ free_word) ⊎ (w ≡ ticket_word) ⊎ (w ≡ record_word)
+IsCounted access = Unit {0}
+
 pub record AddsFew (access : Access) (began drew : ℕ) : Type 0 where
+  pub counted : IsCounted access
   pub free : accessed access ≡ free_word → added access ≤ most_size * began
   pub tickets : accessed access ≡ ticket_word → added access ≤ began
   pub records : accessed access ≡ record_word → added access ≤ drew
@@ -158,15 +164,15 @@ module _ (access : Access) (began drew : ℕ) where
   by_access : (a : Access) → Some a ≡ Some access → AddsFew a began drew → AddsFew access began drew
   by_access a e h = subst (λ (x : Access). AddsFew x began drew) (same_some e) h
 
-  no_sum : (a : Access) → Some a ≡ Some access → added a ≡ 0 → AddsFew access began drew
-  no_sum a e none = by_access a e (record { free = λ k. omega (arith, none); tickets = λ k. omega (arith, none); records = λ k. omega (arith, none) })
+  no_sum : (a : Access) → Some a ≡ Some access → added a ≡ 0 → IsCounted a → AddsFew access began drew
+  no_sum a e none is = by_access a e (record { counted = is; free = λ k. omega (arith, none); tickets = λ k. omega (arith, none); records = λ k. omega (arith, none) })
 
   none : None ≡ Some access → AddsFew access began drew
   none e = absurd (cc)
 
   looks_adds : (a : Option Attempt) → looks a ≡ Some access → AddsFew access began drew
   looks_adds None e = none e
-  looks_adds (Some a) e = no_sum _ e refl
+  looks_adds (Some a) e = no_sum _ e refl tt
 
   checked_adds : (b : Bool) (a : Option Attempt) → (if b then looks a else None) ≡ Some access → AddsFew access began drew
   checked_adds true a e = looks_adds a e
@@ -175,16 +181,16 @@ module _ (access : Access) (began drew : ℕ) where
 effect_adds : (p : Program) (target : Target) (s : Thread) (access : Access) (pc : ℕ) (e : Effect) → StoresFit p target e → effect_wants s pc e ≡ Some access → AddsFew access 1 0
 effect_adds p target s access pc (Goes to made) fits w = checked_adds access 1 0 (nat_le to pc) s.attempt w
 effect_adds p target s access pc (Calls number) fits w = looks_adds access 1 0 s.attempt w
-effect_adds p target s access pc (Reads v) fits w = no_sum access 1 0 _ w refl
-effect_adds p target s access pc (Writes v word) fits w = no_sum access 1 0 _ w refl
-effect_adds p target s access pc (Indexes array index stored) fits w = no_sum access 1 0 _ w refl
-effect_adds p target s access pc (Measures array) fits w = no_sum access 1 0 _ w refl
-effect_adds p target s access pc (Raises x) fits w = no_sum access 1 0 _ w refl
-effect_adds p target s access pc (Makes word size) fits w = by_access access 1 0 _ w (record { free = λ k. omega (arith, fits); tickets = λ k. absurd (omega (arith, k)); records = λ k. absurd (omega (arith, k)) })
+effect_adds p target s access pc (Reads v) fits w = no_sum access 1 0 _ w refl tt
+effect_adds p target s access pc (Writes v word) fits w = no_sum access 1 0 _ w refl tt
+effect_adds p target s access pc (Indexes array index stored) fits w = no_sum access 1 0 _ w refl tt
+effect_adds p target s access pc (Measures array) fits w = no_sum access 1 0 _ w refl tt
+effect_adds p target s access pc (Raises x) fits w = no_sum access 1 0 _ w refl tt
+effect_adds p target s access pc (Makes word size) fits w = by_access access 1 0 _ w (record { counted = inl refl; free = λ k. omega (arith, fits); tickets = λ k. absurd (omega (arith, k)); records = λ k. absurd (omega (arith, k)) })
 effect_adds p target s access pc (Prints n) fits w = by_limit (has_print_left s) w
   where
     by_limit : (b : Bool) → (if b then Some (Add ticket_word 1) else None) ≡ Some access → AddsFew access 1 0
-    by_limit true w = by_access access 1 0 _ w (record { free = λ k. absurd (omega (arith, k)); tickets = λ k. omega arith; records = λ k. absurd (omega (arith, k)) })
+    by_limit true w = by_access access 1 0 _ w (record { counted = inr (inl refl); free = λ k. absurd (omega (arith, k)); tickets = λ k. omega arith; records = λ k. absurd (omega (arith, k)) })
     by_limit false w = none access 1 0 w
 effect_adds p target s access pc e fits w = none access 1 0 w
 
@@ -192,8 +198,8 @@ leave_adds : (s : Thread) (m : ℕ) (access : Access) (claimed : Claim) → leav
 leave_adds s m access (Has h) w = by_depth (nat_lt 1 h.depth) w
   where
     by_kept : (k : Kept) → Some (release s m k) ≡ Some access → AddsFew access 0 0
-    by_kept (keeps.Flat n) w = no_sum access 0 0 _ w refl
-    by_kept (keeps.Fat r) w = no_sum access 0 0 _ w refl
+    by_kept (keeps.Flat n) w = no_sum access 0 0 _ w refl tt
+    by_kept (keeps.Fat r) w = no_sum access 0 0 _ w refl tt
 
     by_depth : (b : Bool) → (if b then None else Some (release s m h.kept)) ≡ Some access → AddsFew access 0 0
     by_depth true w = none access 0 0 w
@@ -201,18 +207,18 @@ leave_adds s m access (Has h) w = by_depth (nat_lt 1 h.depth) w
 leave_adds s m access (Tries a) w = by_inner a.inner w
   where
     by_inner : (inner : ℕ) → finish_wants m inner ≡ Some access → AddsFew access 0 0
-    by_inner zero w = no_sum access 0 0 _ w refl
+    by_inner zero w = no_sum access 0 0 _ w refl tt
     by_inner (suc inner) w = none access 0 0 w
 leave_adds s m access HasNot w = none access 0 0 w
 
 enter_adds : (m : ℕ) (access : Access) (claimed : Claim) → enter_wants m claimed ≡ Some access → AddsFew access 0 0
 enter_adds m access (Has h) w = none access 0 0 w
 enter_adds m access (Tries a) w = none access 0 0 w
-enter_adds m access HasNot w = no_sum access 0 0 _ w refl
+enter_adds m access HasNot w = no_sum access 0 0 _ w refl tt
 
 element_adds : (word : ℕ) (access : Access) (stored : Option ℕ) → Some (element_wants word stored) ≡ Some access → AddsFew access 0 0
-element_adds word access None w = no_sum access 0 0 _ w refl
-element_adds word access (Some v) w = no_sum access 0 0 _ w refl
+element_adds word access None w = no_sum access 0 0 _ w refl tt
+element_adds word access (Some v) w = no_sum access 0 0 _ w refl tt
 
 pub adds_few : (c : MarkedProgram) (s : Thread) (phase : Phase) (access : Access) → wanted c s phase ≡ Some access → PhaseStores c s phase → AddsFew access (begun_by phase (top_of c.program s.frames)) (drawn_by phase)
 adds_few c s phases.Run access w fits = by_top (top_of c.program s.frames) fits w
@@ -221,26 +227,26 @@ adds_few c s phases.Run access w fits = by_top (top_of c.program s.frames) fits 
     by_top None fits w = none access 0 0 w
     by_top (Some at) fits w = effect_adds c.program at.target s access at.frame.pc (effect_at c.program at) (fits at refl) w
 adds_few c s (phases.Element word stored) access w fits = element_adds word access stored w
-adds_few c s (phases.Made a word) access w fits = no_sum access 0 0 _ w refl
+adds_few c s (phases.Made a word) access w fits = no_sum access 0 0 _ w refl tt
 adds_few c s (phases.Throw x class) access w fits = looks_adds access 0 0 s.attempt w
 adds_few c s (phases.Enter m n) access w fits = enter_adds m access (claim s m) w
-adds_few c s (phases.Acquire m) access w fits = no_sum access 0 0 _ w refl
-adds_few c s (phases.Take m n) access w fits = no_sum access 0 0 _ w refl
-adds_few c s (phases.Flag m u) access w fits = no_sum access 0 0 _ w refl
-adds_few c s (phases.TakeFat m r) access w fits = no_sum access 0 0 _ w refl
+adds_few c s (phases.Acquire m) access w fits = no_sum access 0 0 _ w refl tt
+adds_few c s (phases.Take m n) access w fits = no_sum access 0 0 _ w refl tt
+adds_few c s (phases.Flag m u) access w fits = no_sum access 0 0 _ w refl tt
+adds_few c s (phases.TakeFat m r) access w fits = no_sum access 0 0 _ w refl tt
 adds_few c s (phases.Leave m a) access w fits = leave_adds s m access (claim s m) w
-adds_few c s (phases.Grow m toward) access w fits = by_access access 0 1 _ w (record { free = λ k. absurd (omega (arith, k)); tickets = λ k. absurd (omega (arith, k)); records = λ k. omega arith })
-adds_few c s (phases.FlatOut m a) access w fits = no_sum access 0 0 _ w refl
-adds_few c s (phases.Own m r toward) access w fits = no_sum access 0 0 _ w refl
-adds_few c s (phases.FatIn m r toward) access w fits = no_sum access 0 0 _ w refl
-adds_few c s (phases.WaitBit m r) access w fits = no_sum access 0 0 _ w refl
-adds_few c s (phases.WaitOut m r) access w fits = no_sum access 0 0 _ w refl
-adds_few c s (phases.WaitLook m r depth) access w fits = no_sum access 0 0 _ w refl
-adds_few c s (phases.Retake m r depth) access w fits = no_sum access 0 0 _ w refl
-adds_few c s (phases.NotifyLook m r) access w fits = no_sum access 0 0 _ w refl
-adds_few c s (phases.NotifyOne m r u) access w fits = no_sum access 0 0 _ w refl
-adds_few c s (phases.NotifyAll m r) access w fits = no_sum access 0 0 _ w refl
-adds_few c s (phases.Ending e) access w fits = no_sum access 0 0 _ w refl
+adds_few c s (phases.Grow m toward) access w fits = by_access access 0 1 _ w (record { counted = inr (inr refl); free = λ k. absurd (omega (arith, k)); tickets = λ k. absurd (omega (arith, k)); records = λ k. omega arith })
+adds_few c s (phases.FlatOut m a) access w fits = no_sum access 0 0 _ w refl tt
+adds_few c s (phases.Own m r toward) access w fits = no_sum access 0 0 _ w refl tt
+adds_few c s (phases.FatIn m r toward) access w fits = no_sum access 0 0 _ w refl tt
+adds_few c s (phases.WaitBit m r) access w fits = no_sum access 0 0 _ w refl tt
+adds_few c s (phases.WaitOut m r) access w fits = no_sum access 0 0 _ w refl tt
+adds_few c s (phases.WaitLook m r depth) access w fits = no_sum access 0 0 _ w refl tt
+adds_few c s (phases.Retake m r depth) access w fits = no_sum access 0 0 _ w refl tt
+adds_few c s (phases.NotifyLook m r) access w fits = no_sum access 0 0 _ w refl tt
+adds_few c s (phases.NotifyOne m r u) access w fits = no_sum access 0 0 _ w refl tt
+adds_few c s (phases.NotifyAll m r) access w fits = no_sum access 0 0 _ w refl tt
+adds_few c s (phases.Ending e) access w fits = no_sum access 0 0 _ w refl tt
 adds_few c s phase access w fits = absurd (cc)
 
 -- ---- a counter is only added to

@@ -1,3 +1,5 @@
 pub mod SharedWords
 pub mod LeftWords
 pub mod Counters
+pub mod RunFacts
+pub mod RunLaws
