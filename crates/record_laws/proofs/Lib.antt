@@ -5,3 +5,5 @@ pub mod TopStores
 pub mod LeftSmall
 pub mod EventWords
 pub mod Sums
+pub mod Reached
+pub mod EventFacts
