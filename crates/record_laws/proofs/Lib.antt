@@ -7,3 +7,5 @@ pub mod EventWords
 pub mod Sums
 pub mod Reached
 pub mod EventFacts
+pub mod StartWords
+pub mod PartFacts
