@@ -1,7 +1,6 @@
 -- What an event does to the numbers of a thread that bound the counters.
-use Rattle.std.proofs.Common.{◌≡◌, ℕ, zero, suc, ◌+◌, ◌-◌, ◌≤◌, nat_lt, Bool, true, false, List, [], ◌∷◌, Option, Some, None, refl, ap, sym, ◌∙◌, subst, arith}
+use Rattle.std.proofs.Common.{◌≡◌, ℕ, ◌+◌, ◌-◌, ◌≤◌, nat_lt, Bool, true, false, List, [], ◌∷◌, Option, Some, None, refl, ap, subst, arith}
 use Rattle.std.specs.Prelude.{◌==◌, if◌then◌else◌}
-use Rattle.std.proofs.lemmas.Bool.Decides.{nat_tests}
 use Rattle.jvm_types.specs.Numbers.{has_flag}
 use Rattle.jvm_types.specs.declared.outcome.End.{End}
 use Rattle.jvm_types.specs.declared.outcome.End.TheVariants as ends
@@ -11,12 +10,12 @@ use Rattle.machine_types.specs.Bounds.{flat_held}
 use Rattle.machine_types.specs.Elision.{may_try}
 use Rattle.machine_types.specs.Events.{moved}
 use Rattle.machine_types.specs.Frames.{Top, top_of}
-use Rattle.machine_types.specs.Going.{with_phase, failed_turn, goes_after}
-use Rattle.machine_types.specs.HeldMonitors.{held_at, with_held, without_held, deeper, shallower}
+use Rattle.machine_types.specs.Going.{with_phase}
+use Rattle.machine_types.specs.HeldMonitors.{held_at, with_held, without_held, shallower}
 use Rattle.machine_types.specs.Instructions.{begun, ran}
 use Rattle.machine_types.specs.LockWords.{word_of_lock, lock_of}
 use Rattle.machine_types.specs.declared.lock.LockWord.TheVariants as locks
-use Rattle.machine_types.specs.Monitors.{Claim, Has, Tries, HasNot, claim_by, takes, enter_moves, released, leave_moves, lets_go, grows_not, fattens, bit_of, goes_to_wait, retakes}
+use Rattle.machine_types.specs.Monitors.{Claim, Tries, HasNot, claim_by, takes, enter_moves, released, leave_moves, lets_go, grows_not, fattens, bit_of, goes_to_wait, retakes}
 use Rattle.machine_types.specs.Structure.{IsFlat, IsStructured, Stands}
 use Rattle.machine_types.specs.Threads.{Thread, Attempt}
 use Rattle.machine_types.specs.Words.{most_records}
@@ -28,10 +27,9 @@ use Rattle.machine_types.specs.declared.phase.Phase.{Phase}
 use Rattle.machine_types.specs.declared.phase.Phase.TheVariants as phases
 use Rattle.machine_types.specs.declared.phase.Toward.{Toward}
 use Rattle.machine_types.specs.declared.phase.Toward.TheVariants as towards
-use Rattle.lock_laws.proofs.HeldLists.{held_monitor}
 use Rattle.limit_laws.proofs.HeldBounds.{flat, flat_put, flat_without, flat_refit}
 use Rattle.record_laws.specs.Counters.{drawn_for_flat}
-use Rattle.record_laws.proofs.SameTally.{Tally, tally_of, goes, goes_if, checked, run, acquired, tried, finished, not_grown, begun_root}
+use Rattle.record_laws.proofs.SameTally.{Tally, tally_of, goes_if, checked, run, acquired, tried, finished, begun_root}
 
 -- ---- flat locks that are held
 

@@ -1,18 +1,16 @@
 -- An event keeps what holds of the words in every reached state, and its thread stays lawful.
-use Rattle.std.proofs.Common.{◌≡◌, ◌≢◌, ◌⊎◌, inl, inr, ℕ, zero, suc, ◌+◌, ◌<◌, ◌≤◌, ◌^◌, true, List, [], ◌∷◌, length, Option, Some, None, refl, ap, sym, subst, ◌∙◌, arith}
+use Rattle.std.proofs.Common.{◌≡◌, ◌≢◌, ◌⊎◌, inl, inr, ℕ, zero, suc, ◌<◌, ◌≤◌, ◌^◌, List, [], ◌∷◌, Option, Some, None, refl, ap, sym, subst, ◌∙◌, arith}
 use Rattle.std.specs.Prelude.{slice_get, slice_index, slice_set}
 use Rattle.std.proofs.lemmas.List.{length-set}
 use Rattle.lists.proofs.ListLaws.{same_some}
 use Rattle.checked_program.specs.MarkedProgram.{MarkedProgram, IsMarked}
-use Rattle.machine_types.specs.Accesses.{accessed, left_by, found_by, performed, words_after}
+use Rattle.machine_types.specs.Accesses.{accessed, left_by, found_by, words_after}
 use Rattle.machine_types.specs.declared.access.Access.{Access}
 use Rattle.machine_types.specs.declared.access.Access.TheVariants.{Load, Store, Cas, Add, Or, And, Rest}
 use Rattle.machine_types.specs.Core.{Core, event_of}
 use Rattle.machine_types.specs.Events.{wanted, moved}
 use Rattle.machine_types.specs.Facts.{IsThread}
-use Rattle.machine_types.specs.Frames.{top_of}
 use Rattle.machine_types.specs.Lawful.{IsLawful}
-use Rattle.machine_types.specs.PlainMemory.{Object}
 use Rattle.machine_types.specs.Threads.{Thread}
 use Rattle.machine_types.specs.declared.config.Config.{Config}
 use Rattle.lock_laws.specs.PartLaws.{PartsFit, EventsFitParts}
@@ -25,9 +23,9 @@ use Rattle.heap_laws.specs.SiteLaws.{EventsReachSites, SitesDiffer, SitesLieInsi
 use Rattle.heap_laws.proofs.Lists.{same_or_not}
 use Rattle.record_laws.specs.Counters.{CountersFit}
 use Rattle.record_laws.specs.LeftWords.{LeftMayStand}
-use Rattle.record_laws.specs.RunFacts.{HaveWidth, AreThreads, RunFacts, AccessFits}
+use Rattle.record_laws.specs.RunFacts.{HaveWidth, AreThreads, RunFacts}
 use Rattle.record_laws.specs.RunLaws.{EventsKeepFacts, EventsKeepThreads, ReachedFits}
-use Rattle.record_laws.specs.SharedWords.{LocksFit, RecordsFit}
+use Rattle.record_laws.specs.SharedWords.{LocksFit}
 use Rattle.record_laws.proofs.CountedEvents.{holds_flat, event_counts}
 use Rattle.record_laws.proofs.EventWords.{records_fit, locks_fit, counters_grow}
 use Rattle.record_laws.proofs.Reached.{leaves_small}

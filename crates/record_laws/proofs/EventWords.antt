@@ -1,6 +1,6 @@
 -- What an event leaves of the words for locking and of the counters.
-use Rattle.std.proofs.Common.{◌≡◌, ◌≢◌, ◌⊎◌, inl, inr, ℕ, zero, suc, ◌+◌, ◌*◌, ◌<◌, ◌≤◌, ◌^◌, Bool, true, false, List, [], ◌∷◌, length, Option, Some, None, refl, ap, sym, subst, ◌∙◌, arith}
-use Rattle.std.specs.Prelude.{Contains, slice_get, slice_index, slice_index_or, slice_set, ◌==◌, if◌then◌else◌}
+use Rattle.std.proofs.Common.{◌≡◌, ◌≢◌, ◌⊎◌, inl, inr, ℕ, zero, suc, ◌+◌, ◌*◌, ◌<◌, ◌≤◌, ◌^◌, Bool, true, false, List, ◌∷◌, length, Option, Some, None, refl, ap, sym, subst, ◌∙◌, arith}
+use Rattle.std.specs.Prelude.{Contains, slice_get, slice_index, slice_set, ◌==◌, if◌then◌else◌}
 use Rattle.lists.proofs.ListLaws.{same_some}
 use Rattle.jvm_types.specs.ProgramInvariant.{IsProgram}
 use Rattle.jvm_types.specs.declared.class_numbers.TheConstants.{INT_ARRAY_CLASS}
@@ -20,13 +20,13 @@ use Rattle.machine_types.specs.Structure.{IsStructured, Stands}
 use Rattle.machine_types.specs.Threads.{Thread}
 use Rattle.machine_types.specs.Typed.{PhaseHolds}
 use Rattle.machine_types.specs.Lawful.{within}
-use Rattle.machine_types.specs.Words.{free_word, ticket_word, record_word, most_records, header_word, header_class, header_length, array_size, object_size}
+use Rattle.machine_types.specs.Words.{free_word, ticket_word, record_word, header_word, header_class, header_length, array_size, object_size}
 use Rattle.machine_types.specs.declared.lock.LockWord.TheVariants as locks
 use Rattle.machine_types.specs.declared.phase.Phase.{Phase}
 use Rattle.machine_types.specs.declared.phase.Phase.TheVariants as phases
 use Rattle.heap_laws.specs.HeapFacts.{HeapFacts, objects_by}
 use Rattle.heap_laws.specs.SiteLaws.{EventsReachSites, SitesDiffer, SitesLieInside}
-use Rattle.heap_laws.specs.Sites.{Site, Counter, OwnerOf, BitsOf, LockOf, NewHeaderOf, site_word, IsThere, Suits, IsAccessOf, Reaches, ReachesIf}
+use Rattle.heap_laws.specs.Sites.{Site, Counter, OwnerOf, BitsOf, LockOf, NewHeaderOf, site_word, IsThere, Suits, IsAccessOf, ReachesIf}
 use Rattle.heap_laws.proofs.Lists.{same_or_not, set_here, set_there}
 use Rattle.record_laws.specs.Counters.{most_size}
 use Rattle.record_laws.specs.LeftWords.{LeftMayStand}
@@ -108,7 +108,7 @@ module _ (c : MarkedProgram) (objects : List Object) (s : Core) (t : ℕ) (x : T
         by_word (inl d) =
             let same : k.site ≡ site = differ c objects s k.site site marked heap k.there is (sym k.word ∙ sym d) in
             let here : slice_index (slice_set s.words (accessed a) (left_by a (slice_index s.words (accessed a)))) (accessed a) ≡ left_by a (slice_index s.words (accessed a)) =
-                set_here s.words (accessed a) _ (subst (λ (n : ℕ). n < length s.words) (sym k.word) (inside c objects s k.site marked heap k.there)) in
+            set_here s.words (accessed a) _ (subst (λ (n : ℕ). n < length s.words) (sym k.word) (inside c objects s k.site marked heap k.there)) in
             inr (record {
               access = a;
               wants = e;

@@ -1,20 +1,20 @@
 -- What an event leaves of a word is below 2^64, and what it adds to a counter is little.
-use Rattle.std.proofs.Common.{◌≡◌, ◌⊎◌, inl, inr, ℕ, zero, suc, ◌+◌, ◌*◌, ◌-◌, ◌/◌, ◌%◌, ◌^◌, ◌<◌, ◌≤◌, nat_lt, nat_le, Bool, true, false, ◌&&◌, List, Option, Some, None, refl, sym, ap, subst, ◌∙◌, arith}
+use Rattle.std.proofs.Common.{◌≡◌, ◌⊎◌, inl, inr, ℕ, zero, suc, ◌+◌, ◌*◌, ◌/◌, ◌%◌, ◌^◌, ◌<◌, ◌≤◌, nat_lt, nat_le, Bool, true, false, Option, Some, None, refl, subst, arith}
 use Rattle.std.specs.Prelude.{option_map, if◌then◌else◌}
 use Rattle.std.proofs.lemmas.Bool.Decides.{nat_tests}
 use Rattle.lists.proofs.ListLaws.{same_some}
 use Rattle.jvm_types.specs.declared.program.Program.{Program}
 use Rattle.jvm_types.specs.declared.program.Target.{Target}
-use Rattle.checked_program.specs.MarkedProgram.{MarkedProgram, IsMarked}
+use Rattle.checked_program.specs.MarkedProgram.{MarkedProgram}
 use Rattle.machine_types.specs.Accesses.{accessed, left_by}
 use Rattle.machine_types.specs.declared.access.Access.{Access}
-use Rattle.machine_types.specs.declared.access.Access.TheVariants.{Load, Store, Cas, Add, Or, And, Rest}
+use Rattle.machine_types.specs.declared.access.Access.TheVariants.{Load, Add}
 use Rattle.machine_types.specs.Elision.{looks}
 use Rattle.machine_types.specs.Events.{element_wants, wanted}
 use Rattle.machine_types.specs.FoundWords.{Content, Lock, Owner, Bits, Any, effect_content, run_content, leave_content, content_at}
 use Rattle.machine_types.specs.Frames.{Top, top_of, effect_at}
 use Rattle.machine_types.specs.Instructions.{has_print_left, effect_wants, run_wants}
-use Rattle.machine_types.specs.LockWords.{lock_by, lock_of, is_lock_by, is_lock_word}
+use Rattle.machine_types.specs.LockWords.{lock_by, is_lock_by}
 use Rattle.machine_types.specs.Monitors.{Claim, Has, Tries, HasNot, claim, enter_wants, finish_wants, leave_wants, release}
 use Rattle.machine_types.specs.Threads.{Attempt, Thread}
 use Rattle.machine_types.specs.Words.{free_word, ticket_word, record_word}

@@ -1,6 +1,6 @@
 -- What an event leaves of a word of a lock or of a record, phase by phase.
 use Rattle.std.proofs.Common.{◌≡◌, ℕ, zero, suc, ◌+◌, ◌-◌, ◌*◌, ◌/◌, ◌%◌, ◌^◌, ◌<◌, ◌≤◌, nat_lt, nat_le, Bool, true, false, ◌&&◌, Option, Some, None, refl, sym, ap, ◌∙◌, subst, arith}
-use Rattle.std.specs.Prelude.{◌==◌, bit_and, bit_or, option_map, if◌then◌else◌}
+use Rattle.std.specs.Prelude.{◌==◌, bit_and, bit_or, if◌then◌else◌}
 use Rattle.std.proofs.lemmas.Bool.Decides.{nat_tests}
 use Rattle.std.proofs.lemmas.Nat.{or_lt, and_le_l}
 use Rattle.lists.proofs.ListLaws.{same_some}
@@ -10,11 +10,10 @@ use Rattle.jvm_types.specs.declared.program.FieldInfo.{FieldInfo}
 use Rattle.jvm_types.specs.declared.program.Program.{Program}
 use Rattle.jvm_types.specs.declared.program.Target.{Target}
 use Rattle.jvm_types.specs.declared.program.Target.TheVariants as targets
-use Rattle.checked_program.specs.MarkedProgram.{MarkedProgram}
 use Rattle.machine_types.specs.Accesses.{left_by}
 use Rattle.machine_types.specs.declared.access.Access.{Access}
-use Rattle.machine_types.specs.declared.access.Access.TheVariants.{Load, Store, Cas, Add, Or, And, Rest}
-use Rattle.machine_types.specs.Bounds.{IsBounded, KeptFits, PhaseFits}
+use Rattle.machine_types.specs.declared.access.Access.TheVariants.{Load}
+use Rattle.machine_types.specs.Bounds.{PhaseFits}
 use Rattle.machine_types.specs.Elision.{looks}
 use Rattle.machine_types.specs.Events.{wanted}
 use Rattle.machine_types.specs.FoundWords.{kind_content, field_content, variable_content, effect_content, run_content, leave_content, content_at}
@@ -26,7 +25,7 @@ use Rattle.machine_types.specs.declared.lock.LockWord.{LockWord}
 use Rattle.machine_types.specs.declared.lock.LockWord.TheVariants as locks
 use Rattle.machine_types.specs.Monitors.{Claim, Has, Tries, HasNot, claim, count_kept, enter_wants, finish_wants, freed, leave_wants, release, bit_of}
 use Rattle.machine_types.specs.Threads.{Attempt, Thread}
-use Rattle.machine_types.specs.Words.{most_records, owner_word}
+use Rattle.machine_types.specs.Words.{most_records}
 use Rattle.machine_types.specs.declared.effect.Effect.{Effect}
 use Rattle.machine_types.specs.declared.effect.Effect.TheVariants.{Goes, Reads, Writes, Calls}
 use Rattle.machine_types.specs.declared.lock.Held.{Held}

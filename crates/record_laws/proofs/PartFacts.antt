@@ -1,14 +1,12 @@
 -- What holds of the words holds at the start of a run, and where a part begins: no word changes then, nor what bounds the counters.
-use Rattle.std.proofs.Common.{◌≡◌, ℕ, zero, suc, ◌+◌, ◌≤◌, Bool, true, false, List, [], ◌∷◌, map, Option, Some, None, refl, ap, sym, subst, ◌∙◌, arith}
+use Rattle.std.proofs.Common.{◌≡◌, ℕ, zero, suc, ◌+◌, Bool, true, false, List, [], ◌∷◌, map, Option, Some, None, refl, ap, subst, arith}
 use Rattle.std.specs.Prelude.{slice_get, if◌then◌else◌}
-use Rattle.std.specs.List.{AllByRecursion, range_with_len, sum_by}
+use Rattle.std.specs.List.{AllByRecursion, range_with_len}
 use Rattle.std.proofs.lemmas.List.Sums.{sum_by-cons}
-use Rattle.jvm_types.specs.declared.outcome.End.{End}
-use Rattle.jvm_types.specs.declared.outcome.End.TheVariants as ends
 use Rattle.jvm_types.specs.declared.program.Program.{Program}
-use Rattle.checked_program.specs.MarkedProgram.{MarkedProgram, IsMarked}
+use Rattle.checked_program.specs.MarkedProgram.{MarkedProgram}
 use Rattle.machine_types.specs.Bounds.{flat_held}
-use Rattle.machine_types.specs.Core.{Core, start, start_thread, may_begin, may_begin_by, part_phase, with_roots, part_begins, next, next_threads}
+use Rattle.machine_types.specs.Core.{Core, start, start_thread, may_begin, may_begin_by, part_phase, with_roots, part_begins, next_threads}
 use Rattle.machine_types.specs.Lawful.{IsLawful}
 use Rattle.machine_types.specs.Parts.{run_roots, done_roots}
 use Rattle.machine_types.specs.PlainMemory.{start_objects}
@@ -18,10 +16,9 @@ use Rattle.machine_types.specs.declared.config.Config.{Config}
 use Rattle.machine_types.specs.declared.phase.Phase.{Phase}
 use Rattle.machine_types.specs.declared.phase.Phase.TheVariants as phases
 use Rattle.lock_laws.specs.PartLaws.{PartFits, PartsFit, NextKeepsStructure, counted_next}
-use Rattle.heap_laws.specs.HeapFacts.{HeapFacts}
 use Rattle.heap_laws.specs.HeapLaws.{StartHasHeap, NextKeepsHeap}
 use Rattle.record_laws.specs.Counters.{CountersFit, drawn_for_flat, instructions_of, flat_of, taken_of}
-use Rattle.record_laws.specs.RunFacts.{AreThreads, RunFacts}
+use Rattle.record_laws.specs.RunFacts.{AreThreads}
 use Rattle.record_laws.specs.RunLaws.{StartHasFacts, NextKeepsFacts}
 use Rattle.record_laws.proofs.StartWords.{locks_at_start, records_at_start, small_at_start, free_at_start, ticket_at_start, record_at_start}
 

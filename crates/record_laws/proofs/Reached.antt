@@ -1,6 +1,6 @@
 -- What the access of a thread finds in a reached state, and what it leaves.
-use Rattle.std.proofs.Common.{◌≡◌, ◌⊎◌, inl, inr, ℕ, zero, suc, ◌+◌, ◌<◌, ◌≤◌, ◌^◌, true, List, length, Option, Some, None, refl, ap, sym, subst, ◌∙◌, arith}
-use Rattle.std.specs.Prelude.{Contains, IfSome, slice_get, slice_index}
+use Rattle.std.proofs.Common.{◌≡◌, ℕ, ◌<◌, ◌≤◌, ◌^◌, List, length, Option, Some, None, refl, ap, sym, subst, arith}
+use Rattle.std.specs.Prelude.{IfSome, slice_get, slice_index}
 use Rattle.jvm_types.specs.declared.program.Program.{Program}
 use Rattle.checked_program.specs.MarkedProgram.{MarkedProgram, IsMarked}
 use Rattle.machine_types.specs.Accesses.{accessed, left_by, found_by}
@@ -8,17 +8,16 @@ use Rattle.machine_types.specs.declared.access.Access.{Access}
 use Rattle.machine_types.specs.declared.access.Access.TheVariants.{Load, Store, Cas, Add, Or, And, Rest}
 use Rattle.machine_types.specs.Core.{Core}
 use Rattle.machine_types.specs.Events.{wanted}
-use Rattle.machine_types.specs.FoundWords.{Content, Lock, Owner, Bits, Header, ThrowableHeader, IntPlace, ReferencePlace, Any, HasCount, WordFits, content_at}
+use Rattle.machine_types.specs.FoundWords.{Content, Lock, Owner, Bits, HasCount, WordFits, content_at}
 use Rattle.machine_types.specs.Frames.{top_of}
 use Rattle.machine_types.specs.Lawful.{IsLawful}
-use Rattle.machine_types.specs.LockWords.{lock_of, is_lock_word}
+use Rattle.machine_types.specs.LockWords.{lock_of}
 use Rattle.machine_types.specs.PlainMemory.{Object}
 use Rattle.machine_types.specs.Threads.{Thread}
 use Rattle.machine_types.specs.declared.config.Config.{Config}
 use Rattle.machine_types.specs.declared.lock.LockWord.{LockWord}
 use Rattle.machine_types.specs.declared.lock.LockWord.TheVariants as locks
 use Rattle.heap_laws.specs.FoundLaws.{IsOfHeap, HeapWordsFit}
-use Rattle.heap_laws.specs.HeapFacts.{HeapFacts}
 use Rattle.heap_laws.specs.SiteLaws.{EventsReachSites, SitesLieInside}
 use Rattle.heap_laws.specs.Sites.{Site, OwnerOf, BitsOf, LockOf, site_word, IsThere, Suits, IsAccessOf, Reaches, ReachesIf}
 use Rattle.record_laws.specs.LeftWords.{LeftMayStand}

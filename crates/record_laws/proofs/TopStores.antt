@@ -1,6 +1,5 @@
 -- What an instruction stores, and how large an object is that it makes.
-use Rattle.std.proofs.Common.{◌≡◌, ℕ, ◌+◌, ◌<◌, ◌≤◌, ◌^◌, inl, inr, true, false, List, [], ◌∷◌, Option, Some, None, refl, ap, sym, subst, ◌∙◌, arith}
-use Rattle.std.specs.Prelude.{slice_get}
+use Rattle.std.proofs.Common.{◌≡◌, ℕ, ◌<◌, ◌≤◌, ◌^◌, inl, inr, true, false, List, [], ◌∷◌, Option, Some, ap, sym, subst, ◌∙◌, arith}
 use Rattle.lists.proofs.ListLaws.{same_some}
 use Rattle.jvm_types.specs.CodeTable.{row}
 use Rattle.jvm_types.specs.ProgramInvariant.{IsProgram}
@@ -17,14 +16,14 @@ use Rattle.jvm_types.specs.declared.typing.VType.TheVariants.{Ref, New}
 use Rattle.checked_program.specs.MarkedProgram.{MarkedProgram, IsMarked}
 use Rattle.checked_program.specs.TaggedCode.{row_of}
 use Rattle.machine_types.specs.declared.effect.Effect.{Effect}
-use Rattle.machine_types.specs.declared.effect.Effect.TheVariants.{Goes, Throws, Reads, Writes, Indexes, Measures, Raises, Makes, Prints, Calls, Returns, Enters, Leaves, Waits, Notifies, NotifiesAll, Stuck}
+use Rattle.machine_types.specs.declared.effect.Effect.TheVariants.{Writes, Makes}
 use Rattle.machine_types.specs.FoundWords.{Content, IntPlace, ReferencePlace, kind_content, field_content, variable_content}
 use Rattle.machine_types.specs.Frames.{Top, top_of, effect_at}
 use Rattle.machine_types.specs.Lawful.{within}
 use Rattle.machine_types.specs.ReadyObjects.{out_object}
 use Rattle.machine_types.specs.Structure.{TopIs, is_element_op}
 use Rattle.machine_types.specs.Threads.{Frame}
-use Rattle.machine_types.specs.Typed.{Classes, IsNullOr, KindHolds, FrameHolds, FramesHold, IsElementOn, ElementStands}
+use Rattle.machine_types.specs.Typed.{Classes, KindHolds, FramesHold, IsElementOn, ElementStands}
 use Rattle.value_laws.specs.Allowed.{IsFieldAt, TakenHold, MadeAs, Allowed}
 use Rattle.value_laws.proofs.FewFields.{few_fields}
 use Rattle.value_laws.proofs.Landing.{stand_top}
