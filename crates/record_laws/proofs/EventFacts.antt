@@ -1,5 +1,5 @@
 -- An event keeps what holds of the words in every reached state, and its thread stays lawful.
-use Rattle.std.proofs.Common.{◌≡◌, ◌≢◌, ◌⊎◌, inl, inr, ℕ, zero, suc, ◌<◌, ◌≤◌, ◌^◌, List, [], ◌∷◌, Option, Some, None, refl, ap, sym, subst, ◌∙◌, arith}
+use Rattle.std.proofs.Common.{◌≡◌, ◌≢◌, ◌⊎◌, inl, inr, ℕ, zero, suc, ◌<◌, ◌^◌, List, [], ◌∷◌, Option, Some, None, refl, ap, sym, subst, ◌∙◌}
 use Rattle.std.specs.Prelude.{slice_get, slice_index, slice_set}
 use Rattle.std.proofs.lemmas.List.{length-set}
 use Rattle.lists.proofs.ListLaws.{same_some}
@@ -7,7 +7,7 @@ use Rattle.checked_program.specs.MarkedProgram.{MarkedProgram, IsMarked}
 use Rattle.machine_types.specs.Accesses.{accessed, left_by, found_by, words_after}
 use Rattle.machine_types.specs.declared.access.Access.{Access}
 use Rattle.machine_types.specs.declared.access.Access.TheVariants.{Load, Store, Cas, Add, Or, And, Rest}
-use Rattle.machine_types.specs.Core.{Core, event_of}
+use Rattle.machine_types.specs.Core.{Core, event, event_of}
 use Rattle.machine_types.specs.Events.{wanted, moved}
 use Rattle.machine_types.specs.Facts.{IsThread}
 use Rattle.machine_types.specs.Lawful.{IsLawful}
@@ -17,19 +17,15 @@ use Rattle.lock_laws.specs.PartLaws.{PartsFit, EventsFitParts}
 use Rattle.limit_laws.specs.GivenThread.{Given, given_of, GivenIsKept}
 use Rattle.limit_laws.specs.LawfulLaws.{LawfulIsKept}
 use Rattle.heap_laws.specs.FoundLaws.{HeapWordsFit}
-use Rattle.heap_laws.specs.HeapFacts.{HeapFacts, objects_of}
+use Rattle.heap_laws.specs.HeapFacts.{objects_after}
 use Rattle.heap_laws.specs.HeapLaws.{EventsKeepHeap}
-use Rattle.heap_laws.specs.SiteLaws.{EventsReachSites, SitesDiffer, SitesLieInside}
+use Rattle.heap_laws.specs.SiteLaws.{EventsReachSites, SitesLieInside}
 use Rattle.heap_laws.proofs.Lists.{same_or_not}
-use Rattle.record_laws.specs.Counters.{CountersFit}
+use Rattle.record_laws.specs.KeptWords.{EventsKeepLocks, EventsKeepRecords, EventsKeepCounters}
 use Rattle.record_laws.specs.LeftWords.{LeftMayStand}
 use Rattle.record_laws.specs.RunFacts.{HaveWidth, AreThreads, RunFacts}
 use Rattle.record_laws.specs.RunLaws.{EventsKeepFacts, EventsKeepThreads, ReachedFits}
-use Rattle.record_laws.specs.SharedWords.{LocksFit}
-use Rattle.record_laws.proofs.CountedEvents.{holds_flat, event_counts}
-use Rattle.record_laws.proofs.EventWords.{records_fit, locks_fit, counters_grow}
 use Rattle.record_laws.proofs.Reached.{leaves_small}
-use Rattle.record_laws.proofs.Sums.{counters_after}
 
 set_each : (P : ℕ → Type 0) (words : List ℕ) (w v : ℕ) → P v → ((i : ℕ) → P (slice_index words i)) → (i : ℕ) → P (slice_index (slice_set words w v) i)
 set_each P [] w v h all i = all i
@@ -50,26 +46,11 @@ got_other (z ∷ zs) zero (suc j) x n = refl
 got_other (z ∷ zs) (suc i) zero x n = refl
 got_other (z ∷ zs) (suc i) (suc j) x n = got_other zs i j x (λ e. n (ap suc e))
 
-module _ (differ : SitesDiffer) (inside : SitesLieInside) (reach : EventsReachSites) (fit : HeapWordsFit) (leaves : LeftMayStand) (c : MarkedProgram) (cfg : Config) (s : Core) (t : ℕ) (marked : IsMarked c) (width : HaveWidth cfg)
+module _ (inside : SitesLieInside) (reach : EventsReachSites) (fit : HeapWordsFit) (leaves : LeftMayStand) (c : MarkedProgram) (cfg : Config) (s : Core) (t : ℕ) (marked : IsMarked c) (width : HaveWidth cfg)
     (threads : AreThreads c cfg s) (facts : RunFacts c cfg s) where
+  -- ---- each word stays a number of 64 bits
+
   module _ (x : Thread) (there : slice_get s.threads t ≡ Some x) where
-    lawful : IsLawful c x
-    lawful = threads.lawful t x there
-
-    settings : x.cfg.range ≡ cfg.range
-    settings = ap (λ (k : Config). k.range) (threads.own t x there).settings
-
-    few_threads : x.number ≤ 8
-    few_threads = omega (arith, lawful.bounded.number, marked.checked.program.workers)
-
-    abbrev after : List ℕ
-    after = words_after s.words (wanted c x x.phase)
-
-    abbrev now : Thread
-    now = moved c x x.phase (found_by s.words (wanted c x x.phase))
-
-    -- ---- each word stays a number of 64 bits
-
     set_small : (a : Access) → wanted c x x.phase ≡ Some a → (i : ℕ) → slice_index (slice_set s.words (accessed a) (left_by a (slice_index s.words (accessed a)))) i < 2 ^ 64
     set_small a e i = set_each (λ n. n < 2 ^ 64) s.words (accessed a) (left_by a (slice_index s.words (accessed a))) (leaves_small inside reach fit leaves c cfg s t x marked width threads facts there a e) facts.small i
 
@@ -83,47 +64,45 @@ module _ (differ : SitesDiffer) (inside : SitesLieInside) (reach : EventsReachSi
     small_by (Some (Or w v)) e i = set_small (Or w v) e i
     small_by (Some (And w v)) e i = set_small (And w v) e i
 
-    -- ---- the words for locking, and the counters
+  words_small : (o : Option Thread) → slice_get s.threads t ≡ o → (i : ℕ) → slice_index (event_of c s t o).words i < 2 ^ 64
+  words_small None e i = facts.small i
+  words_small (Some x) e i = small_by x e (wanted c x x.phase) refl i
 
-    locks_kept : LocksFit cfg.range (objects_of c.program (Some x) facts.objects) after
-    locks_kept =
-        let before = subst (λ (n : ℕ). LocksFit n facts.objects s.words) (sym settings) facts.locks in
-        subst (λ (n : ℕ). LocksFit n (objects_of c.program (Some x) facts.objects) after) settings
-        (locks_fit c facts.objects s t x marked facts.heap there lawful differ inside reach leaves few_threads before)
+  -- ---- all that holds of the words
 
-    counters_kept : CountersFit c.program (record { words = after; threads = slice_set s.threads t now })
-    counters_kept =
-        let grow = counters_grow c facts.objects s t x marked facts.heap there lawful differ inside reach in
-        counters_after c.program s.threads s.words after t x now x.phase _ there refl facts.counters
-        (event_counts c x x.phase (found_by s.words (wanted c x x.phase)) refl (holds_flat c lawful.was x lawful.structured)) grow.free grow.tickets grow.records
+  event_keeps : EventsKeepHeap → EventsKeepLocks → EventsKeepRecords → EventsKeepCounters → RunFacts c cfg (event c s t)
+  event_keeps heap locks records counters = record {
+    objects = objects_after c.program s t facts.objects;
+    heap = heap c facts.objects s t marked facts.heap (threads.lawful t);
+    locks = locks c cfg facts.objects s t marked facts.heap threads facts.locks;
+    records = records c cfg facts.objects s t marked facts.heap threads facts.records;
+    counters = counters c cfg facts.objects s t marked facts.heap threads facts.counters;
+    small = words_small (slice_get s.threads t) refl;
+  }
 
-    pub event_by_thread : HeapFacts c (objects_of c.program (Some x) facts.objects) (event_of c s t (Some x)) → RunFacts c cfg (event_of c s t (Some x))
-    event_by_thread heap = record {
-      objects = objects_of c.program (Some x) facts.objects;
-      heap = heap;
-      locks = locks_kept;
-      records = records_fit c facts.objects s t x marked facts.heap there lawful differ inside reach leaves few_threads facts.records;
-      counters = counters_kept;
-      small = small_by (wanted c x x.phase) refl;
-    }
+pub events_keep_facts : SitesLieInside → EventsReachSites → HeapWordsFit → LeftMayStand → EventsKeepHeap → EventsKeepLocks → EventsKeepRecords → EventsKeepCounters → EventsKeepFacts
+events_keep_facts inside reach fit leaves heap locks records counters c cfg s t marked width threads facts = event_keeps inside reach fit leaves c cfg s t marked width threads facts heap locks records counters
 
-    -- ---- the thread
+-- ---- the threads
 
-    given_is : GivenIsKept → given_of now ≡ given_of x
-    given_is given = given c x x.phase (found_by s.words (wanted c x x.phase))
+module _ (given : GivenIsKept) (lawfully : LawfulIsKept) (reached : ReachedFits) (c : MarkedProgram) (cfg : Config) (s : Core) (t : ℕ) (marked : IsMarked c) (width : HaveWidth cfg)
+    (threads : AreThreads c cfg s) (facts : RunFacts c cfg s) where
+  module _ (x : Thread) (there : slice_get s.threads t ≡ Some x) where
+    abbrev now : Thread
+    now = moved c x x.phase (found_by s.words (wanted c x x.phase))
 
-    now_lawful : LawfulIsKept → ReachedFits → IsLawful c now
-    now_lawful lawfully reached = lawfully c x (found_by s.words (wanted c x x.phase)) marked lawful (reached c cfg s t x marked width threads facts there).found
+    now_lawful : IsLawful c now
+    now_lawful = lawfully c x (found_by s.words (wanted c x x.phase)) marked (threads.lawful t x there) (reached c cfg s t x marked width threads facts there).found
 
-    now_thread : GivenIsKept → LawfulIsKept → ReachedFits → IsThread c cfg t now
-    now_thread given lawfully reached =
+    now_thread : IsThread c cfg t now
+    now_thread =
         let own : IsThread c cfg t x = threads.own t x there in
-        let same : given_of now ≡ given_of x = given_is given in
+        let same : given_of now ≡ given_of x = given c x x.phase (found_by s.words (wanted c x x.phase)) in
         record {
           number = ap (λ (g : Given). g.number) same ∙ own.number;
           program = ap (λ (g : Given). g.program) same ∙ own.program;
           settings = ap (λ (g : Given). g.cfg) same ∙ own.settings;
-          rooted = (now_lawful lawfully reached).rooted;
+          rooted = now_lawful.rooted;
           part = λ n. ap (λ (g : Given). g.part) same ∙ own.part n;
         }
 
@@ -137,30 +116,20 @@ module _ (differ : SitesDiffer) (inside : SitesLieInside) (reach : EventsReachSi
             subst (λ (n : ℕ). P n y) (sym k) (subst (P t) same here)
         by_number (inr d) = others u y (sym (got_other s.threads t u now d) ∙ e)
 
-    pub threads_by_thread : GivenIsKept → LawfulIsKept → ReachedFits → PartsFit (event_of c s t (Some x)).threads → AreThreads c cfg (event_of c s t (Some x))
-    threads_by_thread given lawfully reached parts = record {
+    thread_kept : PartsFit (event_of c s t (Some x)).threads → AreThreads c cfg (event_of c s t (Some x))
+    thread_kept parts = record {
       count = length-set s.threads t now ∙ threads.count;
-      own = at_each (λ u y. IsThread c cfg u y) (now_thread given lawfully reached) threads.own;
-      lawful = at_each (λ u y. IsLawful c y) (now_lawful lawfully reached) threads.lawful;
+      own = at_each (λ u y. IsThread c cfg u y) now_thread threads.own;
+      lawful = at_each (λ u y. IsLawful c y) now_lawful threads.lawful;
       parts = parts;
     }
 
-  pub event_keeps : EventsKeepHeap → RunFacts c cfg (event_of c s t (slice_get s.threads t))
-  event_keeps keep = by_thread (slice_get s.threads t) refl (keep c facts.objects s t marked facts.heap (threads.lawful t))
-    where
-      by_thread : (o : Option Thread) → slice_get s.threads t ≡ o → HeapFacts c (objects_of c.program o facts.objects) (event_of c s t o) → RunFacts c cfg (event_of c s t o)
-      by_thread None e heap = facts
-      by_thread (Some x) e heap = event_by_thread x e heap
-
-  pub threads_kept : GivenIsKept → LawfulIsKept → ReachedFits → EventsFitParts → AreThreads c cfg (event_of c s t (slice_get s.threads t))
-  threads_kept given lawfully reached parts = by_thread (slice_get s.threads t) refl (parts c s t (λ x got. ap (λ (g : Given). g.part) (given c x x.phase got)) threads.parts)
+  threads_kept : EventsFitParts → AreThreads c cfg (event_of c s t (slice_get s.threads t))
+  threads_kept parts = by_thread (slice_get s.threads t) refl (parts c s t (λ x got. ap (λ (g : Given). g.part) (given c x x.phase got)) threads.parts)
     where
       by_thread : (o : Option Thread) → slice_get s.threads t ≡ o → PartsFit (event_of c s t o).threads → AreThreads c cfg (event_of c s t o)
       by_thread None e k = threads
-      by_thread (Some x) e k = threads_by_thread x e given lawfully reached k
+      by_thread (Some x) e k = thread_kept x e k
 
-pub events_keep_facts : SitesDiffer → SitesLieInside → EventsReachSites → HeapWordsFit → LeftMayStand → EventsKeepHeap → EventsKeepFacts
-events_keep_facts differ inside reach fit leaves keep c cfg s t marked width threads facts = event_keeps differ inside reach fit leaves c cfg s t marked width threads facts keep
-
-pub events_keep_threads : SitesDiffer → SitesLieInside → EventsReachSites → HeapWordsFit → LeftMayStand → GivenIsKept → LawfulIsKept → ReachedFits → EventsFitParts → EventsKeepThreads
-events_keep_threads differ inside reach fit leaves given lawfully reached parts c cfg s t marked width threads facts = threads_kept differ inside reach fit leaves c cfg s t marked width threads facts given lawfully reached parts
+pub events_keep_threads : GivenIsKept → LawfulIsKept → ReachedFits → EventsFitParts → EventsKeepThreads
+events_keep_threads given lawfully reached parts c cfg s t marked width threads facts = threads_kept given lawfully reached c cfg s t marked width threads facts parts

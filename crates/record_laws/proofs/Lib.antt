@@ -5,6 +5,7 @@ pub mod TopStores
 pub mod LeftSmall
 pub mod EventWords
 pub mod Sums
+pub mod KeptWords
 pub mod Reached
 pub mod EventFacts
 pub mod StartWords

@@ -6,7 +6,7 @@ use Rattle.std.proofs.lemmas.List.Sums.{sum_by-cons}
 use Rattle.jvm_types.specs.declared.program.Program.{Program}
 use Rattle.checked_program.specs.MarkedProgram.{MarkedProgram}
 use Rattle.machine_types.specs.Bounds.{flat_held}
-use Rattle.machine_types.specs.Core.{Core, start, start_thread, may_begin, may_begin_by, part_phase, with_roots, part_begins, next_threads}
+use Rattle.machine_types.specs.Core.{Core, start_thread, may_begin, may_begin_by, part_phase, with_roots, part_begins, next_threads}
 use Rattle.machine_types.specs.Lawful.{IsLawful}
 use Rattle.machine_types.specs.Parts.{run_roots, done_roots}
 use Rattle.machine_types.specs.PlainMemory.{start_objects}
@@ -17,7 +17,8 @@ use Rattle.machine_types.specs.declared.phase.Phase.{Phase}
 use Rattle.machine_types.specs.declared.phase.Phase.TheVariants as phases
 use Rattle.lock_laws.specs.PartLaws.{PartFits, PartsFit, NextKeepsStructure, counted_next}
 use Rattle.heap_laws.specs.HeapLaws.{StartHasHeap, NextKeepsHeap}
-use Rattle.record_laws.specs.Counters.{CountersFit, drawn_for_flat, instructions_of, flat_of, taken_of}
+use Rattle.record_laws.specs.Counters.{drawn_for_flat, instructions_of, flat_of, taken_of}
+use Rattle.record_laws.specs.KeptWords.{StartLocksFit, StartRecordsFit, StartCountersFit, NextKeepsCounters}
 use Rattle.record_laws.specs.RunFacts.{AreThreads}
 use Rattle.record_laws.specs.RunLaws.{StartHasFacts, NextKeepsFacts}
 use Rattle.record_laws.proofs.StartWords.{locks_at_start, records_at_start, small_at_start, free_at_start, ticket_at_start, record_at_start}
@@ -32,20 +33,26 @@ none_flat : (c : MarkedProgram) (cfg : Config) (from n : ℕ) → flat_of (map (
 none_flat c cfg from zero = refl
 none_flat c cfg from (suc n) = omega (arith, sum_by-cons (λ x. flat_held x.held) (start_thread c cfg from) (map (start_thread c cfg) (range_with_len (from + 1) n)), none_held c cfg from, none_flat c cfg (from + 1) n)
 
-counters_at_start : (c : MarkedProgram) (cfg : Config) → CountersFit c.program (start c cfg)
-counters_at_start c cfg = record {
+pub start_counters_fit : StartCountersFit
+start_counters_fit c cfg = record {
   free = omega (arith, free_at_start c.program);
   tickets = omega (arith, ticket_at_start c.program);
   records = omega (arith, record_at_start c.program, none_flat c cfg 0 (c.program.workers + 1));
 }
 
-pub start_has_facts : StartHasHeap → StartHasFacts
-start_has_facts heap c cfg marked = record {
+pub start_locks_fit : StartLocksFit
+start_locks_fit c cfg = locks_at_start c.program cfg.range
+
+pub start_records_fit : StartRecordsFit
+start_records_fit c cfg = records_at_start c.program
+
+pub start_has_facts : StartHasHeap → StartLocksFit → StartRecordsFit → StartCountersFit → StartHasFacts
+start_has_facts heap locks records counters c cfg marked = record {
   objects = start_objects c.program;
   heap = heap c cfg marked;
-  locks = locks_at_start c.program cfg.range;
-  records = records_at_start c.program;
-  counters = counters_at_start c cfg;
+  locks = locks c cfg;
+  records = records c cfg;
+  counters = counters c cfg;
   small = small_at_start c.program marked.checked.program;
 }
 
@@ -93,6 +100,11 @@ next_same p (x ∷ workers) fits = by_test (may_begin (x ∷ workers)) refl
     by_test true may = part_same p x.part x workers fits may
     by_test false may = same_sums (x ∷ workers)
 
+pub next_keeps_counters : NextKeepsCounters
+next_keeps_counters c s parts fit =
+    let same = next_same c.program s.threads parts in
+    record { free = omega (arith, fit.free, same.instructions); tickets = omega (arith, fit.tickets, same.instructions); records = omega (arith, fit.records, same.flat, same.taken) }
+
 -- ---- the phase of each thread that counts
 
 was_of : (c : MarkedProgram) (o : Option Thread) → ((x : Thread) → o ≡ Some x → IsLawful c x) → Phase
@@ -111,14 +123,12 @@ module _ (c : MarkedProgram) (cfg : Config) (s : Core) (threads : AreThreads c c
       by_thread None k e = absurd (cc)
       by_thread (Some y) k e = let same : y ≡ x = cc in subst (λ (z : Thread). IsStructured c (k y refl).was z) same (k y refl).structured
 
-pub next_keeps_facts : NextKeepsStructure → NextKeepsHeap → NextKeepsFacts
-next_keeps_facts keep heap c cfg s threads facts =
-    let same = next_same c.program s.threads threads.parts in
-    record {
-      objects = facts.objects;
-      heap = heap c facts.objects (counted_next c (was c cfg s threads) s) s facts.heap (keep c (was c cfg s threads) s threads.parts (structure c cfg s threads));
-      locks = facts.locks;
-      records = facts.records;
-      counters = record { free = omega (arith, facts.counters.free, same.instructions); tickets = omega (arith, facts.counters.tickets, same.instructions); records = omega (arith, facts.counters.records, same.flat, same.taken) };
-      small = facts.small;
-    }
+pub next_keeps_facts : NextKeepsStructure → NextKeepsHeap → NextKeepsCounters → NextKeepsFacts
+next_keeps_facts keep heap counters c cfg s threads facts = record {
+  objects = facts.objects;
+  heap = heap c facts.objects (counted_next c (was c cfg s threads) s) s facts.heap (keep c (was c cfg s threads) s threads.parts (structure c cfg s threads));
+  locks = facts.locks;
+  records = facts.records;
+  counters = counters c s threads.parts facts.counters;
+  small = facts.small;
+}

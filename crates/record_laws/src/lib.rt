@@ -2,6 +2,11 @@
 //! does nothing.
 #![tactic(auto)]
 
+pub mod kept_laws;
 pub mod left_laws;
 
+pub use kept_laws::{
+    counters_are_kept, locks_are_kept, next_keeps_counters, records_are_kept, start_counters_fit,
+    start_locks_fit, start_records_fit, sums_fit,
+};
 pub use left_laws::left_words_may_stand;
