@@ -31,15 +31,15 @@ use Rattle.machine_types.specs.PlainMemory.{Object, start_objects}
 use Rattle.machine_types.specs.ReadyObjects.{out_object, first_ready}
 use Rattle.machine_types.specs.Structure.{TopIs, is_element_op}
 use Rattle.machine_types.specs.Threads.{Frame, Attempt, Thread}
-use Rattle.machine_types.specs.Typed.{Classes, KindHolds, FrameHolds, FramesHold, IsElementOn, ElementStands, HasElementOn, HasElementIn, HasClass, IsObject, AttemptHolds}
-use Rattle.machine_types.specs.Words.{free_word, ticket_word, record_word, most_records, owner_word, bits_word, header_word, variable_word}
+use Rattle.machine_types.specs.Typed.{Classes, KindHolds, FramesHold, IsElementOn, ElementStands, HasElement, HasElementOn, HasElementIn, HasClass, IsObject, AttemptHolds}
+use Rattle.machine_types.specs.Words.{free_word, ticket_word, record_word, most_records, owner_word, bits_word, header_word, value_word, variable_word}
 use Rattle.machine_types.specs.declared.access.Access.{Access}
 use Rattle.machine_types.specs.declared.access.Access.TheVariants.{Load, Store, Cas, Add, Or, And, Rest}
 use Rattle.machine_types.specs.declared.effect.Effect.{Effect}
 use Rattle.machine_types.specs.declared.effect.Effect.TheVariants.{Goes, Throws, Reads, Writes, Indexes, Measures, Raises, Makes, Prints, Calls, Returns, Enters, Leaves, Waits, Notifies, NotifiesAll, Stuck}
 use Rattle.machine_types.specs.declared.effect.Variable.{Variable}
 use Rattle.machine_types.specs.declared.effect.Variable.TheVariants.{Instance, Static}
-use Rattle.value_laws.specs.Allowed.{IsOf, IsFieldAt, Allowed}
+use Rattle.value_laws.specs.Allowed.{IsOf, IsFieldAt, StoredHolds, Allowed}
 use Rattle.value_laws.proofs.Landing.{stand_top}
 use Rattle.value_laws.proofs.TopStand.{top_here}
 use Rattle.value_laws.proofs.TopEffects.{allowed_here}
@@ -89,13 +89,28 @@ static_suits kinds.Int word = tt
 static_suits kinds.Bool word = tt
 static_suits (kinds.Ref class) word = tt
 
--- an element that is to be stored is one of an array
-array_stored : (p : Program) (m : MethodInfo) (is : Classes) (insn : Insn) (target : Target) (r : OpRow) (op : Op) (next : ℕ) (locals : List ℕ) (v w i a : ℕ) (s : List ℕ) → is_element_op (Some v) op ≡ true → (a == 0) ≡ false
-    → Allowed p m is insn target r (w ∷ i ∷ a ∷ s) (effect p next target op locals (w ∷ i ∷ a ∷ s)) → IsOf is INT_ARRAY_CLASS a × (w < 2 ^ 32)
-array_stored p m is insn target r ops.Iastore next locals v w i a s e some al =
+-- an element that is read or to be stored is one of an array
+abbrev ReadsArray : Classes → Option ℕ → List ℕ → Type 0
+ReadsArray is None (i ∷ a ∷ s) = IsOf is INT_ARRAY_CLASS a
+ReadsArray is (Some v) (w ∷ i ∷ a ∷ s) = IsOf is INT_ARRAY_CLASS a × (w < 2 ^ 32)
+ReadsArray is stored s = Unit {0}
+
+abbrev HasReference : Option ℕ → List ℕ → Type 0
+HasReference None (i ∷ a ∷ s) = (a == 0) ≡ false
+HasReference (Some v) (w ∷ i ∷ a ∷ s) = (a == 0) ≡ false
+HasReference stored s = ⊥
+
+array_read : (p : Program) (m : MethodInfo) (is : Classes) (insn : Insn) (target : Target) (r : OpRow) (op : Op) (next : ℕ) (locals : List ℕ) (stored : Option ℕ) (stack : List ℕ) → is_element_op stored op ≡ true → HasReference stored stack
+    → Allowed p m is insn target r stack (effect p next target op locals stack) → ReadsArray is stored stack
+array_read p m is insn target r ops.Iaload next locals None (i ∷ a ∷ s) e some al =
+    let k = subst (λ b. Allowed p m is insn target r (i ∷ a ∷ s) (if b then Throws thrown.NullPointerException else Indexes a i None)) some al in
+    k.1
+array_read p m is insn target r ops.Iastore next locals (Some v) (w ∷ i ∷ a ∷ s) e some al =
     let k = subst (λ b. Allowed p m is insn target r (w ∷ i ∷ a ∷ s) (if b then Throws thrown.NullPointerException else Indexes a i (Some w))) some al in
     (k.1, k.3)
-array_stored p m is insn target r op next locals v w i a s e some al = absurd (cc)
+array_read p m is insn target r op next locals None (i ∷ a ∷ s) e some al = absurd (cc)
+array_read p m is insn target r op next locals (Some v) (w ∷ i ∷ a ∷ s) e some al = absurd (cc)
+array_read p m is insn target r op next locals stored stack e some al = absurd (assumption)
 
 module _ (c : MarkedProgram) (marked : IsMarked c) (objects : List Object) (s : Core) (facts : HeapFacts c objects s) where
   p : Program
@@ -144,6 +159,7 @@ module _ (c : MarkedProgram) (marked : IsMarked c) (objects : List Object) (s : 
     suits : Suits (kind_content f.kind) site
     word : variable_word v ≡ site_word site
     stored : (n : ℕ) → KindHolds (HasClass objects) f.kind n → SiteHolds c.program objects (slice_index s.words free_word) site n
+    holds : KindHolds (HasClass objects) f.kind (slice_index s.words (site_word site))
 
   variable_site : (target : Target) (v : Variable) (f : FieldInfo) → IsFieldAt c.program (HasClass objects) target v f → VariableSite v f
   variable_site target v f at = subst (λ w. VariableSite w f) (sym at.variable) (by_flag (is_static f.flags) refl)
@@ -158,6 +174,7 @@ module _ (c : MarkedProgram) (marked : IsMarked c) (objects : List Object) (s : 
             suits = static_suits f.kind f.index;
             word = refl;
             stored = λ n h. static_stored c.program is_program objects (slice_index s.words free_word) facts.apart at.number f at.there n e h;
+            holds = facts.typed.places.statics at.number f at.there e;
           }
       by_flag false e =
           let holder = at.holder e in
@@ -175,9 +192,13 @@ module _ (c : MarkedProgram) (marked : IsMarked c) (objects : List Object) (s : 
             suits = value_suits f.kind at.reference f.index;
             word = refl;
             stored = λ n h. subst (λ a. IsValue c.program objects a f.index n) holder.2.2 (field_stored c.program is_program objects (slice_index s.words free_word) facts.apart at.number f at.there object n there of_class e h);
+            holds = subst (λ a. KindHolds (HasClass objects) f.kind (slice_index s.words (value_word a f.index))) holder.2.2 (facts.typed.places.fields object at.number f there at.there e of_class);
           }
 
-  content_is : (target : Target) (v : Variable) (f : FieldInfo) → IsFieldAt c.program (HasClass objects) target v f → variable_content c.program target ≡ kind_content f.kind
+  pub read_holds : (target : Target) (v : Variable) (f : FieldInfo) → IsFieldAt c.program (HasClass objects) target v f → KindHolds (HasClass objects) f.kind (slice_index s.words (variable_word v))
+  read_holds target v f at = let k = variable_site target v f at in subst (λ w. KindHolds (HasClass objects) f.kind (slice_index s.words w)) (sym k.word) k.holds
+
+  pub content_is : (target : Target) (v : Variable) (f : FieldInfo) → IsFieldAt c.program (HasClass objects) target v f → variable_content c.program target ≡ kind_content f.kind
   content_is target v f at = ap (variable_content c.program) at.named ∙ ap field_content at.there
 
   reads_fit : (target : Target) (v : Variable) (f : FieldInfo) → IsFieldAt c.program (HasClass objects) target v f → FitsAt c.program objects s (variable_content c.program target) (Load (variable_word v))
@@ -235,38 +256,70 @@ module _ (c : MarkedProgram) (marked : IsMarked c) (objects : List Object) (s : 
 
   -- ---- elements
 
-  element_loads : (word : ℕ) (stack : List ℕ) → IsElementOn word None stack → HasElementOn objects None stack → FitsAt c.program objects s IntPlace (Load word)
-  element_loads word (i ∷ a ∷ stack) e k = loads (ValueOf a i) IntPlace word (k.object, k.there, k.is, k.below) tt tt e
-  element_loads word stack e k = absurd (assumption)
+  -- the array that the stack names, and the place in it
+  pub record ElementSite (word : ℕ) (stored : Option ℕ) : Type 0 where
+    pub array : Object
+    pub there : Contains objects array
+    pub class : array.class ≡ INT_ARRAY_CLASS
+    pub index : ℕ
+    pub below : index < length array.values
+    pub word_is : word ≡ value_word array.reference index
+    pub value : StoredHolds stored
 
-  element_stores : (f : Frame) (h : FrameHolds c (HasClass objects) 0 f) (word v : ℕ) (stack : List ℕ) → f.stack ≡ stack → is_element_op (Some v) h.stands.insn.op ≡ true → IsElementOn word (Some v) stack → HasElementOn objects (Some v) stack
-      → FitsAt c.program objects s IntPlace (Store word v)
-  element_stores f h word v (w ∷ i ∷ a ∷ stack) e op on k =
-      let j = h.stands in
-      let begins = facts.apart.begin k.there.0 k.object (contained_got objects k.object k.there) in
-      let some : (a == 0) ≡ false = not_null k.object.reference a k.is begins in
-      let al = subst (λ st. Allowed c.program j.method (HasClass objects) j.insn j.target (row_of c.program j.method j.insn j.target) st (effect c.program j.insn.next j.target j.insn.op f.locals st)) e (allowed_here c marked (HasClass objects) out_there f h) in
-      let array = array_stored c.program j.method (HasClass objects) j.insn j.target (row_of c.program j.method j.insn j.target) j.insn.op j.insn.next f.locals v w i a stack op some al in
-      let class : array.0.1 ≡ INT_ARRAY_CLASS = leaves_alone array.0.1 INT_ARRAY_CLASS refl array.0.3 in
-      let object = array.0.2.0 in
-      let there : Contains objects object = array.0.2.1 in
-      let one : k.object ≡ object = same_object c.program objects (slice_index s.words free_word) facts.apart k.object object k.there there (k.is ∙ sym array.0.2.2) in
-      let of_class : k.object.class ≡ INT_ARRAY_CLASS = ap (λ (o : Object). o.class) one ∙ (array.0.2.3 ∙ class) in
-      record {
-        site = ValueOf a i;
-        there = (k.object, k.there, k.is, k.below);
-        word = on.0;
-        suits = tt;
-        old = tt;
-        left = subst (λ x. IsValue c.program objects x i v) k.is (element_stored c.program is_program objects (slice_index s.words free_word) facts.apart k.object i v k.there of_class (subst (λ n. n < 2 ^ 32) (sym on.1) array.1));
-      }
+  not_null : (a i : ℕ) → HasElement objects a i → (a == 0) ≡ false
+  not_null a i k = some k.object.reference a k.is (facts.apart.begin k.there.0 k.object (contained_got objects k.object k.there))
     where
-      not_null : (n a : ℕ) → n ≡ a → first_ready ≤ n → (a == 0) ≡ false
-      not_null n a e h = grind (arith, nat_tests, e, h)
-  element_stores f h word v stack e op on k = absurd (assumption)
+      some : (n a : ℕ) → n ≡ a → first_ready ≤ n → (a == 0) ≡ false
+      some n a e h = grind (arith, nat_tests, e, h)
 
-  pub element_fits : (word : ℕ) (stored : Option ℕ) (fs : List Frame) → ElementStands word stored fs → FramesHold c (HasClass objects) fs → HasElementIn objects stored fs → TopIs c (is_element_op stored) fs
-      → FitsAccess c.program objects s IntPlace (element_wants word stored)
-  element_fits word stored [] e h k top = absurd e
-  element_fits word None (f ∷ fs) e h k top = element_loads word f.stack e k
-  element_fits word (Some v) (f ∷ fs) e h k top = element_stores f h.0 word v f.stack refl (ap (is_element_op (Some v)) (same_op c marked (HasClass objects) f h.0.stands top.0) ∙ top.1) e k
+  array_class : (a i : ℕ) → IsOf (HasClass objects) INT_ARRAY_CLASS a → (k : HasElement objects a i) → k.object.class ≡ INT_ARRAY_CLASS
+  array_class a i array k =
+      let class : array.1 ≡ INT_ARRAY_CLASS = leaves_alone array.1 INT_ARRAY_CLASS refl array.3 in
+      let object : Object = array.2.0 in
+      let one : k.object ≡ object = same_object c.program objects (slice_index s.words free_word) facts.apart k.object object k.there array.2.1 (k.is ∙ sym array.2.2) in
+      ap (λ (o : Object). o.class) one ∙ (array.2.3 ∙ class)
+
+  site_on : (word : ℕ) (stored : Option ℕ) (stack : List ℕ) → (HasReference stored stack → ReadsArray (HasClass objects) stored stack) → IsElementOn word stored stack → HasElementOn objects stored stack → ElementSite word stored
+  site_on word None (i ∷ a ∷ stack) array on k = record {
+    array = k.object;
+    there = k.there;
+    class = array_class a i (array (not_null a i k)) k;
+    index = i;
+    below = k.below;
+    word_is = subst (λ n. word ≡ value_word n i) (sym k.is) on;
+    value = tt;
+  }
+  site_on word (Some v) (w ∷ i ∷ a ∷ stack) array on k =
+      let of = array (not_null a i k) in
+      record {
+        array = k.object;
+        there = k.there;
+        class = array_class a i of.0 k;
+        index = i;
+        below = k.below;
+        word_is = subst (λ n. word ≡ value_word n i) (sym k.is) on.0;
+        value = subst (λ n. n < 2 ^ 32) (sym on.1) of.1;
+      }
+  site_on word stored stack array on k = absurd (assumption)
+
+  pub element_site : (word : ℕ) (stored : Option ℕ) (fs : List Frame) → ElementStands word stored fs → FramesHold c (HasClass objects) fs → HasElementIn objects stored fs → TopIs c (is_element_op stored) fs → ElementSite word stored
+  element_site word stored [] e h k top = absurd e
+  element_site word stored (f ∷ fs) e h k top =
+      let j = h.0.stands in
+      let op = ap (is_element_op stored) (same_op c marked (HasClass objects) f j top.0) ∙ top.1 in
+      let al = allowed_here c marked (HasClass objects) out_there f h.0 in
+      site_on word stored f.stack (λ some. array_read c.program j.method (HasClass objects) j.insn j.target (row_of c.program j.method j.insn j.target) j.insn.op j.insn.next f.locals stored f.stack op some al) e k
+
+  pub element_small : (word : ℕ) (stored : Option ℕ) → ElementSite word stored → slice_index s.words word < 2 ^ 32
+  element_small word stored k = subst (λ w. slice_index s.words w < 2 ^ 32) (sym k.word_is) (facts.typed.places.elements k.array k.index k.there k.class k.below)
+
+  pub element_fits : (word : ℕ) (stored : Option ℕ) → ElementSite word stored → FitsAccess c.program objects s IntPlace (element_wants word stored)
+  element_fits word None k = loads (ValueOf k.array.reference k.index) IntPlace word (k.array, k.there, refl, k.below) tt tt k.word_is
+  element_fits word (Some v) k = record {
+    site = ValueOf k.array.reference k.index;
+    there = (k.array, k.there, refl, k.below);
+    word = k.word_is;
+    suits = tt;
+    old = tt;
+    left = element_stored c.program is_program objects (slice_index s.words free_word) facts.apart k.array k.index v k.there k.class k.value;
+  }

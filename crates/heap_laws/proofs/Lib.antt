@@ -4,3 +4,5 @@ pub mod Places
 pub mod Accesses
 pub mod Phases
 pub mod Lifted
+pub mod Headers
+pub mod Quiet

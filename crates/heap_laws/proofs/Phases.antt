@@ -30,7 +30,7 @@ use Rattle.limit_laws.proofs.HeldBounds.{found}
 use Rattle.heap_laws.specs.HeapFacts.{HoldsObjects, HeapFacts}
 use Rattle.heap_laws.specs.SiteLaws.{EventsReachSites}
 use Rattle.heap_laws.specs.Sites.{NewHeaderOf, Reaches, ReachesIf}
-use Rattle.heap_laws.proofs.Accesses.{FitsAccess, FitsIf, at_lock, at_owner, at_bits, at_record_word, look_fits, run_fits, element_fits}
+use Rattle.heap_laws.proofs.Accesses.{FitsAccess, FitsIf, at_lock, at_owner, at_bits, at_record_word, look_fits, run_fits, element_site, element_fits}
 
 -- ---- claims
 
@@ -55,7 +55,7 @@ tried_at m None (Some b) a e = by_test (b.monitor == m) refl e
         (ap Some one, subst (λ (x : Attempt). x.monitor ≡ m) one same)
     by_test false t e = absurd (cc)
 
-some_of : {A : Type 0} (P : A → Type 0) (o : Option A) (a : A) → o ≡ Some a → IfSome o P → P a
+pub some_of : {A : Type 0} (P : A → Type 0) (o : Option A) (a : A) → o ≡ Some a → IfSome o P → P a
 some_of P o a e h = subst (λ x. IfSome x P) e h
 
 -- ---- what a phase asks beside its types
@@ -116,7 +116,7 @@ module _ (c : MarkedProgram) (marked : IsMarked c) (objects : List Object) (s : 
   phase_fits phases.Idle old h b k = tt
   phase_fits phases.Start old h b k = tt
   phase_fits phases.Run old h b k = run_fits c marked objects s facts x x.frames h attempt
-  phase_fits (phases.Element word stored) old h b k = element_fits c marked objects s facts word stored x.frames h.0 h.1 k.0 k.1
+  phase_fits (phases.Element word stored) old h b k = element_fits c marked objects s facts word stored (element_site c marked objects s facts word stored x.frames h.0 h.1 k.0 k.1)
   phase_fits (phases.Made a word) old h b k = absurd old
   phase_fits (phases.Throw e class) old h b k = look_fits c marked objects s facts x.frames x.attempt attempt
   phase_fits (phases.Enter m tried) old h b k = enter_fits m (claim x m) h.0
