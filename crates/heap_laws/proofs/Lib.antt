@@ -6,3 +6,5 @@ pub mod Phases
 pub mod Lifted
 pub mod Headers
 pub mod Quiet
+pub mod Found
+pub mod Leads
