@@ -8,3 +8,5 @@ pub mod Headers
 pub mod Quiet
 pub mod Found
 pub mod Leads
+pub mod WordSteps
+pub mod Assembled
