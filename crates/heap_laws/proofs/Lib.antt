@@ -10,3 +10,5 @@ pub mod Found
 pub mod Leads
 pub mod WordSteps
 pub mod Assembled
+pub mod Moves
+pub mod NewHeader

@@ -60,7 +60,7 @@ Inside p objects s (Old reference) x = InObject objects reference x
 Inside p objects s (New reference) x = InNew p s reference x
 Inside p objects s (Single word) x = HasStatic p word × (x ≡ word)
 
-two_at_least : (p : Program) (word : ℕ) → 2 ≤ size_by p word
+pub two_at_least : (p : Program) (word : ℕ) → 2 ≤ size_by p word
 two_at_least p word = by_test (header_class word == INT_ARRAY_CLASS)
   where
     by_test : (b : Bool) → 2 ≤ (if b then array_size (header_length word) else object_size p (header_class word))
