@@ -12,3 +12,4 @@ pub mod WordSteps
 pub mod Assembled
 pub mod Moves
 pub mod NewHeader
+pub mod Kept

@@ -3,6 +3,8 @@
 
 pub mod found_laws;
 pub mod site_laws;
+pub mod state_laws;
 
 pub use found_laws::heap_words_fit;
 pub use site_laws::{events_reach_sites, sites_differ, sites_lie_inside};
+pub use state_laws::{events_keep_heap, next_keeps_heap};
