@@ -10,3 +10,4 @@ pub mod Reached
 pub mod EventFacts
 pub mod StartWords
 pub mod PartFacts
+pub mod Runs
