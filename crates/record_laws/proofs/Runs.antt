@@ -3,7 +3,7 @@ use Rattle.std.proofs.Common.{List, [], ◌∷◌}
 use Rattle.checked_program.specs.MarkedProgram.{MarkedProgram, IsMarked}
 use Rattle.machine_types.specs.Core.{Core, Happening, Of, NextPart, start, happened, all_happened, core}
 use Rattle.machine_types.specs.declared.config.Config.{Config}
-use Rattle.record_laws.specs.RunFacts.{HaveWidth, AreThreads, RunFacts}
+use Rattle.record_laws.specs.RunFacts.{HaveWidth}
 use Rattle.record_laws.specs.RunLaws.{StartHasFacts, EventsKeepFacts, NextKeepsFacts, EventsKeepThreads, PartsKeepThreads, IsReached, RunsReach}
 
 module _ (facts_start : StartHasFacts) (facts_event : EventsKeepFacts) (facts_next : NextKeepsFacts) (threads_event : EventsKeepThreads) (c : MarkedProgram) (cfg : Config) (marked : IsMarked c) (width : HaveWidth cfg)
