@@ -26,10 +26,10 @@ use Rattle.value_laws.proofs.FewFields.{counts_few}
 
 -- ---- a class and a length
 
-class_is : (class count : ℕ) → class < 65536 → header_class (header class count) ≡ class
+pub class_is : (class count : ℕ) → class < 65536 → header_class (header class count) ≡ class
 class_is class count h = omega (arith, h)
 
-length_is : (class count : ℕ) → class < 65536 → header_length (header class count) ≡ count
+pub length_is : (class count : ℕ) → class < 65536 → header_length (header class count) ≡ count
 length_is class count h = omega (arith, h)
 
 -- ---- an object that is there
@@ -122,7 +122,7 @@ module _ (p : Program) (is_program : IsProgram p) where
       by_test true t = ap array_size (length_is INT_ARRAY_CLASS count (omega arith))
       by_test false t = absurd (cc)
 
-  class_header : (class : ℕ) → IsClassOf p class → IsHeader p (header class 0)
+  pub class_header : (class : ℕ) → IsClassOf p class → IsHeader p (header class 0)
   class_header class h =
       let is = class_is class 0 (class_below class h) in
       let none = length_is class 0 (class_below class h) in

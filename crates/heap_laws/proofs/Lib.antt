@@ -13,3 +13,4 @@ pub mod Assembled
 pub mod Moves
 pub mod NewHeader
 pub mod Kept
+pub mod Start

@@ -7,4 +7,4 @@ pub mod state_laws;
 
 pub use found_laws::heap_words_fit;
 pub use site_laws::{events_reach_sites, sites_differ, sites_lie_inside};
-pub use state_laws::{events_keep_heap, next_keeps_heap};
+pub use state_laws::{events_keep_heap, next_keeps_heap, start_has_heap};
