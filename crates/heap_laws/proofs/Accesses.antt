@@ -113,9 +113,6 @@ array_read p m is insn target r op next locals (Some v) (w ∷ i ∷ a ∷ s) e 
 array_read p m is insn target r op next locals stored stack e some al = absurd (assumption)
 
 module _ (c : MarkedProgram) (marked : IsMarked c) (objects : List Object) (s : Core) (facts : HeapFacts c objects s) where
-  p : Program
-  p = c.program
-
   is_program : IsProgram c.program
   is_program = marked.checked.program
 

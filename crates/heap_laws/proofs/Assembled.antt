@@ -72,7 +72,7 @@ module _ (c : MarkedProgram) (marked : IsMarked c) (objects later : List Object)
   zero_there : (n : ℕ) → slice_index s.words free_word ≤ n → n < c.program.heap → slice_index after n ≡ 0
   zero_there n le lt = behind.unused n le ∙ facts.unused.empty n le lt
 
-  own_new : (a word : ℕ) → MadeNow c.program s after a word → IsNewObject c.program later (record { words = after; threads = slice_set s.threads t y }) a (size_by c.program word)
+  own_new : (a word : ℕ) → MadeNow c.program s after a word → IsNewObject c.program later state a (size_by c.program word)
   own_new a word k = record {
     begins = omega (arith, facts.begins, k.at);
     below = omega (arith, k.next);
@@ -81,7 +81,7 @@ module _ (c : MarkedProgram) (marked : IsMarked c) (objects later : List Object)
     empty = λ n from to. zero_there n (omega (arith, k.at, from)) (omega (arith, to, k.room));
   }
 
-  other_new : (u : ℕ) (x : Thread) (a word : ℕ) → u ≢ t → slice_get s.threads u ≡ Some x → x.phase ≡ phases.Made a word → IsNewObject c.program later (record { words = after; threads = slice_set s.threads t y }) a (size_by c.program word)
+  other_new : (u : ℕ) (x : Thread) (a word : ℕ) → u ≢ t → slice_get s.threads u ≡ Some x → x.phase ≡ phases.Made a word → IsNewObject c.program later state a (size_by c.program word)
   other_new u x a word n e m =
       let k = facts.new_objects.each u x a word e m in
       record {
@@ -111,7 +111,7 @@ module _ (c : MarkedProgram) (marked : IsMarked c) (objects later : List Object)
       by_sides (inr k) (inl j) = inl (own_behind u x b other a word (made_by z b other j.1 l) k.1 m)
       by_sides (inr k) (inr j) = facts.new_objects.apart u v x z a b word other k.1 j.1 n m l
 
-  pub assembled : HeapFacts c later (record { words = after; threads = slice_set s.threads t y })
+  pub assembled : HeapFacts c later state
   assembled = record {
     started = λ o k. up o.class o.reference (facts.started o k);
     apart = apart_on c.program later (start_statics c.program) (slice_index s.words free_word) (slice_index after free_word) behind.free behind.apart;
@@ -123,7 +123,7 @@ module _ (c : MarkedProgram) (marked : IsMarked c) (objects later : List Object)
       places = behind.places;
     };
     new_objects = record {
-      each = λ u x a word e m. of_each (λ z. z.phase ≡ phases.Made a word → IsNewObject c.program later (record { words = after; threads = slice_set s.threads t y }) a (size_by c.program word)) u x e
+      each = λ u x a word e m. of_each (λ z. z.phase ≡ phases.Made a word → IsNewObject c.program later state a (size_by c.program word)) u x e
           (λ m. own_new a word (became.made a word m)) (λ g n m. other_new u x a word n g m) m;
       apart = new_apart;
     };

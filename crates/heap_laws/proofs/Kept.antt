@@ -45,23 +45,26 @@ new_or_old phase = inl tt
 
 module _ (keeps : StructureIsKept) (lies : StartLiesApart) (c : MarkedProgram) (marked : IsMarked c) (objects : List Object) (s : Core) (facts : HeapFacts c objects s) (t : ℕ) where
   module _ (x : Thread) (there : slice_get s.threads t ≡ Some x) (lawful : IsLawful c x) where
-    after : List ℕ
+    abbrev after : List ℕ
     after = words_after s.words (wanted c x x.phase)
 
-    got : ℕ
+    abbrev got : ℕ
     got = found_by s.words (wanted c x x.phase)
+
+    abbrev now : Thread
+    now = moved c x x.phase (found_by s.words (wanted c x x.phase))
 
     abbrev state : Core
     state = record { words = words_after s.words (wanted c x x.phase); threads = slice_set s.threads t (moved c x x.phase (found_by s.words (wanted c x x.phase))) }
 
-    leads : Leads c objects s (words_after s.words (wanted c x x.phase)) (moved c x x.phase (found_by s.words (wanted c x x.phase)))
+    leads : Leads c objects s after now
     leads = let monitors = facts.monitors t x there in let typed = facts.typed.threads t x there in phase_leads c marked objects s facts x x.phase refl monitors.held typed.phase monitors.waits
 
     -- ---- where no header is stored for the first time
 
-    old_behind : IsOldPhase x.phase → Behind c objects objects s t (words_after s.words (wanted c x x.phase))
+    old_behind : IsOldPhase x.phase → Behind c objects objects s t after
     old_behind old =
-        let w : WordsGoOn c objects s (words_after s.words (wanted c x x.phase)) =
+        let w : WordsGoOn c objects s after =
         words_go_on lies c marked objects s facts (content_at c x x.phase) (wanted c x x.phase) (old_fits c marked objects s facts t x there lawful old) in
         record {
           up = λ o k. k;
@@ -75,22 +78,22 @@ module _ (keeps : StructureIsKept) (lies : StartLiesApart) (c : MarkedProgram) (
           beside = λ u z a word differ e m o k. let new = facts.new_objects.each u z a word e m in new.beside o k;
         }
 
-    old_became : IsOldPhase x.phase → Became c objects s (words_after s.words (wanted c x x.phase)) (moved c x x.phase (found_by s.words (wanted c x x.phase)))
+    old_became : IsOldPhase x.phase → Became c objects s after now
     old_became old =
         let typed = facts.typed.threads t x there in
         let has = has_objects c marked objects s facts objects (slice_index s.words free_word) (λ o k. k) facts.apart in
         let l = leads in
         record {
-          values = moved_values keeps c marked (HasClass objects) has x lawful typed (found_by s.words (wanted c x x.phase)) (old_finds c marked objects s facts t x there lawful x.phase refl old typed.phase);
+          values = moved_values keeps c marked (HasClass objects) has x lawful typed got (old_finds c marked objects s facts t x there lawful x.phase refl old typed.phase);
           monitors = l.monitors;
           element = l.element;
           made = l.made;
         }
 
-    old_kept : IsOldPhase x.phase → HeapFacts c (objects_by c.program x.phase objects) (record { words = words_after s.words (wanted c x x.phase); threads = slice_set s.threads t (moved c x x.phase (found_by s.words (wanted c x x.phase))) })
+    old_kept : IsOldPhase x.phase → HeapFacts c (objects_by c.program x.phase objects) state
     old_kept old =
-        subst (λ os. HeapFacts c os (record { words = words_after s.words (wanted c x x.phase); threads = slice_set s.threads t (moved c x x.phase (found_by s.words (wanted c x x.phase))) })) (sym (objects_old c.program x.phase objects old))
-        (assembled c marked objects objects s facts t (words_after s.words (wanted c x x.phase)) (moved c x x.phase (found_by s.words (wanted c x x.phase))) (old_behind old) (old_became old))
+        subst (λ os. HeapFacts c os state) (sym (objects_old c.program x.phase objects old))
+        (assembled c marked objects objects s facts t after now (old_behind old) (old_became old))
 
     -- ---- where one is
 
@@ -98,40 +101,40 @@ module _ (keeps : StructureIsKept) (lies : StartLiesApart) (c : MarkedProgram) (
       abbrev later : List Object
       later = new_object a word (size_by c.program word) ∷ objects
 
-      words_are : words_after s.words (wanted c x x.phase) ≡ slice_set s.words (header_word a) word
+      words_are : after ≡ slice_set s.words (header_word a) word
       words_are = ap (λ phase. words_after s.words (wanted c x phase)) made
 
-      behind : Behind c objects (new_object a word (size_by c.program word) ∷ objects) s t (slice_set s.words (header_word a) word)
+      behind : Behind c objects later s t (slice_set s.words (header_word a) word)
       behind = behind_new lies c marked objects s facts t x there a word made
 
-      up : (class v : ℕ) → HasClass objects class v → HasClass (new_object a word (size_by c.program word) ∷ objects) class v
+      up : (class v : ℕ) → HasClass objects class v → HasClass later class v
       up class v k = let b = behind in (k.0, b.up k.0 k.1, k.2, k.3)
 
-      new_became : Became c (new_object a word (size_by c.program word) ∷ objects) s (words_after s.words (wanted c x x.phase)) (moved c x x.phase (found_by s.words (wanted c x x.phase)))
+      new_became : Became c later s after now
       new_became =
           let b = behind in
-          let has = has_objects c marked objects s facts (new_object a word (size_by c.program word) ∷ objects) (slice_index s.words free_word) b.up b.apart in
-          let values = thread_up (HasClass objects) (HasClass (new_object a word (size_by c.program word) ∷ objects)) up c x (facts.typed.threads t x there) in
-          let finds = subst (λ phase. PhaseFinds c (HasClass (new_object a word (size_by c.program word) ∷ objects)) phase x.frames (found_by s.words (wanted c x x.phase))) (sym made) (class_new lies c marked objects s facts t x there a word made) in
+          let has = has_objects c marked objects s facts later (slice_index s.words free_word) b.up b.apart in
+          let values = thread_up (HasClass objects) (HasClass later) up c x (facts.typed.threads t x there) in
+          let finds = subst (λ phase. PhaseFinds c (HasClass later) phase x.frames got) (sym made) (class_new lies c marked objects s facts t x there a word made) in
           let l = leads in
           record {
-            values = moved_values keeps c marked (HasClass (new_object a word (size_by c.program word) ∷ objects)) has x lawful values (found_by s.words (wanted c x x.phase)) finds;
-            monitors = monitors_up (HasClass objects) (HasClass (new_object a word (size_by c.program word) ∷ objects)) up (moved c x x.phase (found_by s.words (wanted c x x.phase))) l.monitors;
-            element = λ w stored e. element_up objects (new_object a word (size_by c.program word) ∷ objects) b.up stored (moved c x x.phase (found_by s.words (wanted c x x.phase))).frames (l.element w stored e);
+            values = moved_values keeps c marked (HasClass later) has x lawful values got finds;
+            monitors = monitors_up (HasClass objects) (HasClass later) up now l.monitors;
+            element = λ w stored e. element_up objects later b.up stored now.frames (l.element w stored e);
             made = l.made;
           }
 
-      new_kept : HeapFacts c (objects_by c.program x.phase objects) (record { words = words_after s.words (wanted c x x.phase); threads = slice_set s.threads t (moved c x x.phase (found_by s.words (wanted c x x.phase))) })
+      new_kept : HeapFacts c (objects_by c.program x.phase objects) state
       new_kept =
-          subst (λ os. HeapFacts c os (record { words = words_after s.words (wanted c x x.phase); threads = slice_set s.threads t (moved c x x.phase (found_by s.words (wanted c x x.phase))) })) (sym (ap (λ phase. objects_by c.program phase objects) made))
-          (assembled c marked objects (new_object a word (size_by c.program word) ∷ objects) s facts t (words_after s.words (wanted c x x.phase)) (moved c x x.phase (found_by s.words (wanted c x x.phase)))
-          (subst (Behind c objects (new_object a word (size_by c.program word) ∷ objects) s t) (sym words_are) behind) new_became)
+          subst (λ os. HeapFacts c os state) (sym (ap (λ phase. objects_by c.program phase objects) made))
+          (assembled c marked objects later s facts t after now
+          (subst (Behind c objects later s t) (sym words_are) behind) new_became)
 
-    thread_kept : HeapFacts c (objects_by c.program x.phase objects) (record { words = words_after s.words (wanted c x x.phase); threads = slice_set s.threads t (moved c x x.phase (found_by s.words (wanted c x x.phase))) })
+    thread_kept : HeapFacts c (objects_by c.program x.phase objects) state
     thread_kept = by_phase (new_or_old x.phase)
       where
         by_phase : IsOldPhase x.phase ⊎ ((a : ℕ) × (word : ℕ) × (x.phase ≡ phases.Made a word))
-            → HeapFacts c (objects_by c.program x.phase objects) (record { words = words_after s.words (wanted c x x.phase); threads = slice_set s.threads t (moved c x x.phase (found_by s.words (wanted c x x.phase))) })
+            → HeapFacts c (objects_by c.program x.phase objects) state
         by_phase (inl old) = old_kept old
         by_phase (inr k) = new_kept k.0 k.1 k.2
 

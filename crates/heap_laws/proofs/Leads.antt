@@ -18,7 +18,7 @@ use Rattle.machine_types.specs.Effects.{effect}
 use Rattle.machine_types.specs.Elision.{if_same}
 use Rattle.machine_types.specs.Events.{element_made, wanted, moved}
 use Rattle.machine_types.specs.FoundWords.{IsHeader}
-use Rattle.machine_types.specs.Frames.{Top, top_of, effect_at, went_on, making}
+use Rattle.machine_types.specs.Frames.{top_of, effect_at, went_on, making}
 use Rattle.machine_types.specs.Going.{with_phase, goes_on, goes_on_if}
 use Rattle.machine_types.specs.HeldMonitors.{held_at}
 use Rattle.machine_types.specs.Instructions.{has_print_left, effect_wants, run_wants, begun, indexed, made, printed, if_held, waits, notifies, did, instructed, ran}
@@ -116,9 +116,6 @@ module _ (c : MarkedProgram) (marked : IsMarked c) (objects : List Object) (s : 
   Gets e got = Unit {0}
 
   module _ (x : Thread) (f : Frame) (fs : List Frame) (h : FrameHolds c (HasClass objects) 0 f) (there : x.frames ≡ f ∷ fs) (quiet : Quiet (HasClass objects) x) where
-    at : Top
-    at = top_here c f fs h.stands
-
     goes_leads : (got : ℕ) (e : Effect) → Leads c objects s after (goes_on_if x (done c.program (top_here c f fs h.stands) e got))
     goes_leads got e = quiet_leads _ (goes_if_quiet (HasClass objects) x (done c.program (top_here c f fs h.stands) e got) quiet)
 
@@ -160,9 +157,6 @@ module _ (c : MarkedProgram) (marked : IsMarked c) (objects : List Object) (s : 
               made = λ b w e. let same = made_is got b word w e in subst (λ z. MadeNow c.program s after z w) same.0 (subst (MadeNow c.program s after got) same.1 now);
             }
         by_test false t = quiet_leads _ (goes_quiet (HasClass objects) x (threw thrown.OutOfMemoryError (top_here c f fs h.stands)) quiet.held)
-
-    on_leads : Quiet (HasClass objects) (record x { frames = went_on c.program (top_here c f fs h.stands) 0 })
-    on_leads = record { held = quiet.held; phase = quiet.phase }
 
     waits_quiet : (m : ℕ) (held : Option Held) → Quiet (HasClass objects) (if_held x (top_here c f fs h.stands) held (waits (record x { frames = went_on c.program (top_here c f fs h.stands) 0 }) m))
     waits_quiet m None = goes_quiet (HasClass objects) x (threw thrown.IllegalMonitorStateException (top_here c f fs h.stands)) quiet.held

@@ -2,7 +2,7 @@
 use Rattle.std.proofs.Common.{◌≡◌, ◌≢◌, ◌⊎◌, inl, inr, ℕ, zero, suc, ◌<◌, Bool, true, false, List, [], ◌∷◌, length, Some, refl, ap, arith}
 use Rattle.std.specs.Prelude.{Contains, slice_get, slice_index, slice_index_or, slice_set, ◌==◌}
 use Rattle.std.proofs.lemmas.Bool.Decides.{nat_tests}
-use Rattle.std.proofs.lemmas.List.{get_or-set_same, get_or-set_other, set-get_or}
+use Rattle.std.proofs.lemmas.List.{get_or-set_same, get_or-set_other}
 
 pub got_below : {X : Type 0} (xs : List X) (i : ℕ) (x : X) → slice_get xs i ≡ Some x → i < length xs
 got_below [] i x e = cc
@@ -47,6 +47,3 @@ set_here words w v h = get_or-set_same words w v 0 h
 
 pub set_there : (words : List ℕ) (w u v : ℕ) → u ≢ w → slice_index (slice_set words w v) u ≡ slice_index words u
 set_there words w u v h = get_or-set_other words w u v 0 h
-
-pub set_same : (words : List ℕ) (w : ℕ) → slice_set words w (slice_index words w) ≡ words
-set_same words w = set-get_or words w 0
