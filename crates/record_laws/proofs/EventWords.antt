@@ -214,12 +214,13 @@ module _ (c : MarkedProgram) (objects : List Object) (s : Core) (t : ℕ) (x : T
     adds : (access : Access) → wanted c x x.phase ≡ Some access → AddsFew access began (drawn_by x.phase)
     adds access w = adds_few c x x.phase access w phase_stores
 
-    pub record Grow : Type 0 where
+    -- how far each counter comes
+    pub record CountersGrow : Type 0 where
       pub free : slice_index after free_word ≤ slice_index s.words free_word + most_size * began
       pub tickets : slice_index after ticket_word ≤ slice_index s.words ticket_word + began
       pub records : slice_index after record_word ≤ slice_index s.words record_word + drawn_by x.phase
 
-    pub counters_grow : Grow
+    pub counters_grow : CountersGrow
     counters_grow = record {
       free = grows free_word (most_size * began) (omega arith, omega arith) (λ access w at. (adds access w).free at);
       tickets = grows ticket_word began (omega arith, omega arith) (λ access w at. (adds access w).tickets at);

@@ -130,7 +130,7 @@ content_is_locking c s (phases.Ended e) is = absurd is
 content_is_locking c s (phases.Leave m a) is = leave_is_locking (claim s m)
 content_is_locking c s phase is = tt
 
--- left: what a word for locking is left as
+-- where a word for locking is left as one
 pub left_small : (c : MarkedProgram) (s : Thread) (phase : Phase) (access : Access) (got : ℕ) → s.cfg.range < 2 ^ 61 → wanted c s phase ≡ Some access → Small got → SumFits access got → PhaseStores c s phase
     → MayStand s.cfg.range (content_at c s phase) (left_by access got) → Small (left_by access got)
 left_small c s phases.Idle access got few w small sum fits left = no_access Small access got small w

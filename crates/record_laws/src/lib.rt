@@ -11,4 +11,6 @@ pub use kept_laws::{
     start_locks_fit, start_records_fit, sums_fit,
 };
 pub use left_laws::left_words_may_stand;
-pub use run_laws::{reached_fits, run_facts_event, run_facts_next, threads_are_kept};
+pub use run_laws::{
+    reached_fits, run_facts_event, run_facts_next, run_facts_start, runs_reach, threads_are_kept,
+};
