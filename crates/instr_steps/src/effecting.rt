@@ -4,6 +4,7 @@ ghost use Rattle.std.specs.Prelude.{◌≡◌, ◌<◌, length};
 ghost use Rattle.machine_types.specs.Frames.{effect_at};
 ghost use Rattle.machine_types.specs.FoundWords.{WordFits, effect_content};
 ghost use Rattle.machine_types.specs.Instructions.{begun, did, instructed};
+ghost use Rattle.machine_types.specs.declared.phase.Phase.TheVariants.{Run};
 ghost use Rattle.frames.specs.FrameLists.{top};
 ghost use Rattle.value_laws.specs.TopFrames.{IsAllowed};
 ghost use Rattle.instr_steps.specs.Effecting.{CallerFitsAfter, CanFail};
@@ -12,7 +13,7 @@ ghost use Rattle.instr_steps.specs.Places.{CanGo, IsAt, at_place};
 use crate::calls::{call, return_from};
 use crate::checks::passes;
 use crate::monitors::{enter, leave, notify, notify_all, wait};
-use crate::moves::{go_on, go_to, throw};
+use crate::moves::{run_on, run_to, throw};
 use crate::objects::{index, make, measure, print, raise};
 use crate::places::Place;
 use checked_program::Checked;
@@ -41,6 +42,7 @@ pub fn effect_here(s: &ThreadState, p: &Checked, place: &Place) -> Effect
 /// What the effect makes of the thread, by the word that it found.
 #[inline(always)]
 pub fn do_effect(s: &mut ThreadState, p: &Checked, place: &Place, effect: Effect, got: u64)
+    requires phase { s.old.phase ≡ Run }
     requires program { p.now ≡ s.old.program }
     requires stands { IsAt p.now.program s.old.frames place.now }
     requires row { CanGo p.now.program s.old.frames place.now }
@@ -51,10 +53,10 @@ pub fn do_effect(s: &mut ThreadState, p: &Checked, place: &Place, effect: Effect
     ensures { s.new ≡ did p.now.program s.old (at_place s.old.frames place.now) effect got }
 {
     match effect {
-        Effect::Goes(to, made) => go_to(s, p, place, to, made),
+        Effect::Goes(to, made) => run_to(s, p, place, to, made),
         Effect::Throws(x) => throw(s, p, place, x),
-        Effect::Reads(_) => go_on(s, p, place, got),
-        Effect::Writes(_, _) => go_on(s, p, place, 0),
+        Effect::Reads(_) => run_on(s, p, place, got),
+        Effect::Writes(_, _) => run_on(s, p, place, 0),
         Effect::Indexes(array, i, stored) => index(s, p, place, array, i, stored, got),
         Effect::Measures(_) => measure(s, p, place, got),
         Effect::Raises(x) => raise(s, p, place, x, got),
@@ -74,6 +76,7 @@ pub fn do_effect(s: &mut ThreadState, p: &Checked, place: &Place, effect: Effect
 /// One more instruction: in an attempt behind its check, where it has one.
 #[inline(always)]
 pub fn instruct(s: &mut ThreadState, p: &Checked, place: &Place, effect: Effect, got: u64)
+    requires phase { s.old.phase ≡ Run }
     requires program { p.now ≡ s.old.program }
     requires stands { IsAt p.now.program s.old.frames place.now }
     requires row { CanGo p.now.program s.old.frames place.now }

@@ -120,7 +120,6 @@ fn went_with_method(
 }
 
 /// Behind an instruction with a constant.
-#[inline(always)]
 fn went_with_constant(
     s: &mut ThreadState,
     p: &Program,
@@ -147,6 +146,7 @@ fn went_with_constant(
 }
 
 /// The top frame goes on at a pc behind an instruction, which makes this value, where it makes one.
+#[inline(always)]
 pub fn went(
     s: &mut ThreadState,
     m: &MethodInfo,

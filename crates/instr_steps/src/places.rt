@@ -1,6 +1,7 @@
 //! Where the top frame of a thread stands.
 
-ghost use Rattle.std.specs.Prelude.{◌≡◌, ◌<◌, length, slice_get, IsSome, Some};
+ghost use Rattle.std.specs.Prelude.{◌≡◌, ◌<◌, length, slice_get, slice_index_or, IsSome, Some};
+ghost use Rattle.jvm_types.specs.declared.program.Target.TheVariants.{Nothing};
 ghost use Rattle.jvm_types.specs.declared.code.Insn.{Insn};
 ghost use Rattle.machine_types.specs.Frames.{top_of};
 ghost use Rattle.checked_program.specs.CodeIndex.{number_in};
@@ -17,15 +18,28 @@ use std::marker::Model;
 pub struct Place<'a> {
     method: &'a MethodInfo,
     insn: &'a Insn,
-    target: Target,
+    /// The number of the instruction, and of its target.
+    number: usize,
 }
 
 impl<'a> Model for Place<'a> {
+    ghost use Rattle.std.specs.Prelude.{◌<◌, length, slice_index_or};
+    ghost use Rattle.jvm_types.specs.declared.program.Target.TheVariants.{Nothing};
     ghost use Rattle.instr_steps.specs.Places.{Place as At};
 
     ghost Value = { At };
 
-    ghost view = { λ at. record { method = at.method.now; insn = at.insn.now; target = at.target } };
+    ghost view = { λ at. record { method = at.method.now; insn = at.insn.now; target = slice_index_or at.method.now.targets at.number Nothing } };
+
+    ghost invariant = { λ at. at.number < length at.method.now.targets };
+}
+
+#[inline(always)]
+fn target_at(targets: &Rows<Target>, i: usize) -> Target
+    requires { i < length targets.now }
+    ensures { result ≡ slice_index_or targets.now i Nothing }
+{
+    targets.as_slice()[i]
 }
 
 impl<'a> Place<'a> {
@@ -47,7 +61,7 @@ impl<'a> Place<'a> {
     pub fn target(&self) -> Target
         ensures { result ≡ self.now.target }
     {
-        self.target
+        target_at(&self.method.targets, self.number)
     }
 }
 
@@ -74,17 +88,6 @@ fn insn_at(code: &Rows<Insn>, i: usize) -> &Insn
     }
 }
 
-#[inline(always)]
-fn target_at(targets: &Rows<Target>, i: usize) -> Target
-    requires { i < length targets.now }
-    ensures { slice_get targets.now i ≡ Some result }
-{
-    match targets.get(i) {
-        Some(target) => *target,
-        None => unreachable!(),
-    }
-}
-
 /// The place of the top frame, which has one.
 #[inline(always)]
 pub fn place_of<'a>(s: &ThreadState, p: &'a Checked) -> Place<'a>
@@ -96,7 +99,7 @@ pub fn place_of<'a>(s: &ThreadState, p: &'a Checked) -> Place<'a>
         Some(i) => Place {
             method,
             insn: insn_at(&method.code, i),
-            target: target_at(&method.targets, i),
+            number: i,
         },
         None => unreachable!(),
     }

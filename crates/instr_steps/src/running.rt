@@ -1,26 +1,30 @@
 //! The next instruction of a lawful thread.
 
-ghost use Rattle.std.specs.Prelude.{◌≡◌, ◌<◌, ◌^◌, None, length, is_some, if◌then◌else◌, IfSome, slice_index};
+ghost use Rattle.std.specs.Prelude.{◌≡◌, ◌<◌, ◌^◌, ℕ, None, length, is_some, if◌then◌else◌, IfSome, slice_index};
 ghost use Rattle.std.specs.Option.{option_map};
 ghost use Rattle.machine_types.specs.Accesses.{accessed, found_by, left_by, words_after};
 ghost use Rattle.machine_types.specs.Elision.{looks};
 ghost use Rattle.machine_types.specs.Events.{moved, wanted};
 ghost use Rattle.machine_types.specs.FoundWords.{Fits};
-ghost use Rattle.machine_types.specs.Instructions.{effect_wants};
+ghost use Rattle.machine_types.specs.Instructions.{begun, effect_wants, instructed};
+ghost use Rattle.machine_types.specs.declared.effect.Effect.TheVariants.{Goes};
 ghost use Rattle.machine_types.specs.Lawful.{IsLawful};
 ghost use Rattle.machine_types.specs.declared.access.Access.TheVariants.{Load};
 ghost use Rattle.machine_types.specs.declared.phase.Phase.TheVariants.{Run};
 ghost use Rattle.frames.specs.FrameLists.{top};
 ghost use Rattle.instr_effects.specs.Fitting.{HasPlace};
 ghost use Rattle.instr_steps.specs.NextPlace.{IsNext};
+ghost use Rattle.instr_steps.specs.Places.{CanGo, IsAt, at_place};
 ghost use Rattle.instr_steps.specs.Outcomes.{did_in};
 
 use crate::did::{Did, did_in};
 use crate::effecting::{effect_here, instruct};
+use crate::moves::run_to;
 use crate::objects::has_print_left;
 use crate::places::{Place, place_of};
 use checked_program::Checked;
 use frames::ThreadState;
+use going::count_instruction;
 use instr_effects::{perform, wants};
 use jvm_types::Rows;
 use machine_types::{Access, Effect};
@@ -44,6 +48,23 @@ fn want_of(s: &ThreadState, effect: Effect) -> Option<Access>
     ensures { result ≡ effect_wants s.now (top s.now.frames).pc effect }
 {
     wants(s.pc(), effect, tried_monitor(s), has_print_left(s))
+}
+
+/// An instruction that only goes on, outside an attempt, where it wants no access.
+#[inline(always)]
+fn go_alone(s: &mut ThreadState, p: &Checked, place: &Place, to: u32, made: u64)
+    requires phase { s.old.phase ≡ Run }
+    requires program { p.now ≡ s.old.program }
+    requires stands { IsAt p.now.program s.old.frames place.now }
+    requires row { CanGo p.now.program s.old.frames place.now }
+    requires count { s.old.counts.instructions < s.old.cfg.steps }
+    requires alone { s.old.attempt ≡ None }
+    ensures wants { (pc : ℕ) → effect_wants s.old pc (Goes to made) ≡ None }
+    ensures state { s.new ≡ instructed p.now.program (begun s.old) (at_place s.old.frames place.now) (Goes to made) 0 }
+{
+    let _most = s.config().steps;
+    count_instruction(s);
+    run_to(s, p, place, to, made);
 }
 
 /// Where the thread makes its next instruction.
@@ -93,6 +114,12 @@ pub fn run_local(s: &mut ThreadState, p: &Checked) -> Option<Access>
 {
     let place = next_place(s, p);
     let effect = effect_here(s, p, &place);
+    if let Effect::Goes(to, made) = effect {
+        if s.attempt().is_none() {
+            go_alone(s, p, &place, to, made);
+            return None;
+        }
+    }
     let want = want_of(s, effect);
     if want.is_none() {
         instruct(s, p, &place, effect, 0);
@@ -114,6 +141,12 @@ pub fn run_with(s: &mut ThreadState, p: &Checked, words: &mut Rows<u64>)
 {
     let place = next_place(s, p);
     let effect = effect_here(s, p, &place);
+    if let Effect::Goes(to, made) = effect {
+        if s.attempt().is_none() {
+            go_alone(s, p, &place, to, made);
+            return;
+        }
+    }
     let got = match want_of(s, effect) {
         Some(access) => perform(words, access),
         None => 0,
