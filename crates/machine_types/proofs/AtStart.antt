@@ -56,7 +56,7 @@ part_is_fresh (number ∷ roots) = starts
 has_itself : (n : ℕ) → (n == n) ≡ true
 has_itself n = same_number n n refl
 
-all_among : (ys xs : List ℕ) → ((n : ℕ) → has_number xs n ≡ true → has_number ys n ≡ true) → AllByRecursion (λ n. IsTrue (has_number ys n)) xs
+pub all_among : (ys xs : List ℕ) → ((n : ℕ) → has_number xs n ≡ true → has_number ys n ≡ true) → AllByRecursion (λ n. IsTrue (has_number ys n)) xs
 all_among ys [] among = tt
 all_among ys (x ∷ xs) among = (among x (first_true (x == x) (has_number xs x) (has_itself x)), all_among ys xs (λ n e. among n (second_true (x == n) (has_number xs n) e)))
 

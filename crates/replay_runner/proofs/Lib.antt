@@ -1,0 +1,7 @@
+mod StartLaws
+mod LawfulStart
+mod NextPart
+mod NextLawful
+mod NextRuns
+mod Turns
+mod MachineEvents
