@@ -1,6 +1,6 @@
 -- What leads a run on.
 use Rattle.std.proofs.Common.{◌≡◌, ℕ, zero, suc, ◌+◌, Bool, true, false, List, [], ◌∷◌, ◌++◌, Some, None, refl, sym, ap, subst, ◌∙◌, arith, ◌<◌, ◌≤◌, ◌-◌, length, drop}
-use Rattle.std.specs.Prelude.{nat_lt, ◌&&◌, if◌then◌else◌, find, slice_index_or}
+use Rattle.std.specs.Prelude.{nat_le, nat_lt, ◌&&◌, if◌then◌else◌, find, slice_index_or}
 use Rattle.std.specs.List.{range_with_len}
 use Rattle.std.specs.Option.{option_or}
 use Rattle.std.proofs.lemmas.Bool.Decides.{nat_tests}
@@ -144,6 +144,25 @@ find_on test n i h e = ap (find test) (next_number n i h) ∙ ap (λ (b : Bool).
 
 pub find_none : (test : ℕ → Bool) (n i : ℕ) → n ≤ i → find test (range_with_len (i + 1) (n - i)) ≡ None
 find_none test n i h = let e : n - i ≡ 0 = omega (arith, h) in ap (λ (k : ℕ). find test (range_with_len (i + 1) k)) e
+
+-- numbers of which none passes a test are passed over
+pub find_past : (test : ℕ → Bool) (n k : ℕ) → ((i : ℕ) → i < k → test (i + 1) ≡ false) → find test (range_with_len 1 n) ≡ find test (range_with_len (k + 1) (n - k))
+find_past test n zero fails = let e : n - 0 ≡ n = omega arith in ap (λ (m : ℕ). find test (range_with_len 1 m)) (sym e)
+find_past test n (suc k) fails = find_past test n k (λ i h. fails i (omega (arith, h))) ∙ by_room (nat_lt k n) refl
+  where
+    next : k + 1 ≡ suc k
+    next = omega arith
+
+    by_room : (b : Bool) → nat_lt k n ≡ b → find test (range_with_len (k + 1) (n - k)) ≡ find test (range_with_len (suc k + 1) (n - suc k))
+    by_room true e = find_on test n k (grind (arith, nat_tests, e)) (fails k (omega arith)) ∙ ap (λ (m : ℕ). find test (range_with_len (m + 1) (n - m))) next
+    by_room false e = let full : n ≤ k = grind (arith, nat_tests, e) in find_none test n k full ∙ sym (find_none test n (suc k) (omega (arith, full)))
+
+-- numbers below the first that counts
+pub find_from : (s : Core) (from n : ℕ) → find (λ t. nat_le from t && lives s t) (range_with_len 1 n) ≡ find (λ t. nat_le from t && lives s t) (range_with_len (from - 1 + 1) (n - (from - 1)))
+find_from s from n = find_past (λ t. nat_le from t && lives s t) n (from - 1) (λ i h. ap (λ (b : Bool). b && lives s (i + 1)) (below i h))
+  where
+    below : (i : ℕ) → i < from - 1 → nat_le from (i + 1) ≡ false
+    below i h = grind (arith, nat_tests, h)
 
 -- ---- a list from its next item on
 

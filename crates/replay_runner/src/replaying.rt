@@ -72,7 +72,8 @@ fn live_from(machine: &Machine, from: u8) -> Option<u8>
     ensures worker { result ≡ live_from machine.now.core from }
     ensures few { IfSome result (λ t. t ≤ MOST_WORKERS + 1) }
 {
-    for i in 0..=machine.workers() {
+    let below = from.saturating_sub(1);
+    for i in below..=machine.workers() {
         let t = i + 1;
         if is_live_from(machine, from, t) {
             return Some(t);
