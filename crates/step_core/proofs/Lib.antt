@@ -1,3 +1,4 @@
 pub mod LawfulSteps
 pub mod LocalEvents
 pub mod StaysLawful
+pub mod MarkOrderLaws

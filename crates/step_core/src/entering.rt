@@ -1,13 +1,14 @@
 //! The entry of a monitor (JVMS 2.11.10).
 
-ghost use Rattle.std.specs.Prelude.{◌≡◌, ◌<◌, ◌==◌, ◌&&◌, length, true};
+ghost use Rattle.std.specs.Prelude.{◌≡◌, ◌<◌, length, true};
 ghost use Rattle.machine_types.specs.Elision.{may_try, tries};
 ghost use Rattle.machine_types.specs.Monitors.{HasNot, claim, enter_moves, enter_wants};
-ghost use Rattle.machine_types.specs.Sections.{entered_at, is_marked, is_same_spot};
+ghost use Rattle.machine_types.specs.Sections.{entered_at};
 ghost use Rattle.step_core.specs.Claims.{CanEnter};
 
 use crate::attempts::enter_inside;
-use checked_program::{Checked, SectionMark, Spot};
+use crate::marked::is_marked;
+use checked_program::{Checked, Spot};
 use elided_section::begin;
 use fat_monitor::{acquire, enter_again};
 use frames::ThreadState;
@@ -16,39 +17,6 @@ use machine_types::{Access, Phase};
 
 /// How often a section is tried without its lock.
 const MOST_ATTEMPTS: u8 = 2;
-
-fn is_same_spot(spot: Spot, other: Spot) -> bool
-    ensures { result ≡ is_same_spot spot other }
-{
-    match spot {
-        Spot::Method => match other {
-            Spot::Method => true,
-            Spot::Block(_) => false,
-        },
-        Spot::Block(pc) => match other {
-            Spot::Method => false,
-            Spot::Block(at) => pc == at,
-        },
-    }
-}
-
-/// Whether a mark is that of a section.
-fn is_of(mark: &SectionMark, method: u32, spot: Spot) -> bool
-    ensures { result ≡ (mark.now.method == method) && is_same_spot mark.now.spot spot }
-{
-    mark.method == method && is_same_spot(mark.spot, spot)
-}
-
-fn is_marked(marks: &[SectionMark], method: u32, spot: Spot) -> bool
-    ensures { result ≡ is_marked marks.now method spot }
-{
-    for mark in marks {
-        if is_of(mark, method, spot) {
-            return mark.mark == 0;
-        }
-    }
-    false
-}
 
 fn entered_at(pc: u32) -> Spot
     ensures { result ≡ entered_at pc }
@@ -66,9 +34,7 @@ fn may_try(s: &ThreadState, p: &Checked, tried: u8) -> bool
     ensures may { result ≡ may_try p.now s.now tried }
     ensures few { result ≡ true → tried < 2 }
 {
-    s.config().elide
-        && tried < MOST_ATTEMPTS
-        && is_marked(p.marks().as_slice(), s.method(), entered_at(s.pc()))
+    s.config().elide && tried < MOST_ATTEMPTS && is_marked(p, s.method(), entered_at(s.pc()))
 }
 
 /// An attempt begins where the lock is free, and its count is not the last one.

@@ -4,6 +4,7 @@
 mod attempts;
 mod entering;
 mod leaving;
+mod marked;
 mod moving;
 mod wanting;
 

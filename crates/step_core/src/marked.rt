@@ -1,0 +1,74 @@
+//! Whether a section is marked 0. The marks of a program stand in the order of its methods.
+
+ghost use Rattle.std.specs.Prelude.{◌≡◌, ◌==◌, ◌≤◌, ◌&&◌, length, drop};
+ghost use Rattle.machine_types.specs.Sections.{is_marked, is_same_spot};
+ghost use Rattle.checked_program.specs.declared.section.Spot.{Spot as TheSpot};
+ghost use Rattle.step_core.specs.MarkOrder.{AscendFrom};
+
+use checked_program::{Checked, SectionMark, Spot};
+
+fn is_same_spot(spot: Spot, other: Spot) -> bool
+    ensures { result ≡ is_same_spot spot other }
+{
+    match spot {
+        Spot::Method => match other {
+            Spot::Method => true,
+            Spot::Block(_) => false,
+        },
+        Spot::Block(pc) => match other {
+            Spot::Method => false,
+            Spot::Block(at) => pc == at,
+        },
+    }
+}
+
+/// Whether a mark is that of a section.
+fn is_of(mark: &SectionMark, method: u32, spot: Spot) -> bool
+    ensures { result ≡ (mark.now.method == method) && is_same_spot mark.now.spot spot }
+{
+    mark.method == method && is_same_spot(mark.spot, spot)
+}
+
+/// How many marks to pass over by halving: all of them are of methods before this one.
+fn marks_before(marks: &[SectionMark], method: u32) -> usize
+    requires { AscendFrom 0 marks.now }
+    ensures some { result ≤ length marks.now }
+    ensures before { (spot : TheSpot) → is_marked (drop result marks.now) method spot ≡ is_marked marks.now method spot }
+{
+    let mut low = 0;
+    let mut high = marks.len();
+    while low < high {
+        let middle = low + (high - low) / 2;
+        if marks[middle].method < method {
+            low = middle + 1;
+        } else {
+            high = middle;
+        }
+    }
+    low
+}
+
+/// Whether a section is marked 0 by these marks, which are looked through as far as its method's.
+fn is_marked_by(marks: &[SectionMark], method: u32, spot: Spot) -> bool
+    requires { AscendFrom 0 marks.now }
+    ensures { result ≡ is_marked marks.now method spot }
+{
+    for mark in marks {
+        if mark.method > method {
+            return false;
+        }
+        if is_of(mark, method, spot) {
+            return mark.mark == 0;
+        }
+    }
+    false
+}
+
+/// Whether a section of a program is marked 0.
+pub fn is_marked(p: &Checked, method: u32, spot: Spot) -> bool
+    ensures { result ≡ is_marked p.now.marks method spot }
+{
+    let marks = p.marks().as_slice();
+    let first = marks_before(marks, method);
+    is_marked_by(&marks[first..], method, spot)
+}
