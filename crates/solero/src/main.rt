@@ -10,6 +10,8 @@ mod delivery;
 mod program;
 mod reading;
 mod request;
+#[cfg(test)]
+mod row_tests;
 mod shelf;
 mod sink;
 #[cfg(test)]

@@ -1,0 +1,103 @@
+//! Runs of worked classes, each with its whole text and its status. The counts follow from the instructions of the
+//! classes, event by event.
+
+mod limits;
+mod meetings;
+mod one_thread;
+mod sections;
+
+use crate::program::top;
+use crate::shelf::{ListShelf, NamedFile};
+use crate::sink::ListSink;
+use jvm_types::{Bytes, OpenGate, Rows};
+use std::alloc::{AllocError, Global};
+use std::process::Abort;
+use std::test::Fail;
+use test_classes::changed;
+
+/// A run over one file `A.class`, with what it comes to.
+pub struct Run {
+    pub options: &'static [&'static str],
+    /// The threads of the order, each with how many events it has; none: no order is given.
+    pub order: &'static [(char, usize)],
+    /// The class, two digits for each byte.
+    pub class: &'static str,
+    /// Bytes of the class that are changed, each at its place.
+    pub changes: &'static [(usize, u8)],
+    pub status: u8,
+    pub text: &'static str,
+}
+
+/// A text of one digit for each event of the order.
+fn digits(alloc: Global, order: &[(char, usize)]) -> Result<String, AllocError> {
+    let mut digits = String::new(alloc);
+    for (thread, events) in order {
+        for _ in 0..*events {
+            digits.push(*thread)?;
+        }
+    }
+    Ok(digits)
+}
+
+/// The words of the command, the first of which is the program's name.
+fn words(alloc: Global, run: &Run) -> Result<Vec<String>, AllocError> {
+    let mut words = Vec::new(alloc);
+    words.push(String::from_str(alloc, "solero")?)?;
+    for option in run.options {
+        words.push(String::from_str(alloc, option)?)?;
+    }
+    if !run.order.is_empty() {
+        words.push(String::from_str(alloc, "--order")?)?;
+        words.push(digits(alloc, run.order)?)?;
+    }
+    words.push(String::from_str(alloc, "A.class")?)?;
+    Ok(words)
+}
+
+fn shelf(alloc: Global, content: Bytes) -> Result<ListShelf, AllocError> {
+    let name = Bytes::from_slice(alloc, b"A.class")?;
+    let mut files = Rows::new(alloc);
+    files.push(NamedFile { name, content })?;
+    Ok(ListShelf::new(files, Rows::new(alloc)))
+}
+
+fn check(rt: &(impl Abort + AllocGlobal), run: &Run) -> Result<(), AllocError> {
+    let alloc = rt.alloc();
+    let mut shelf = shelf(alloc, changed(alloc, run.class, run.changes)?)?;
+    let mut sink = ListSink::new(alloc, None, 4096);
+    let status = top(alloc, &words(alloc, run)?, &mut shelf, &mut sink, &OpenGate);
+    assert_eq!(rt; sink.text().as_slice(), run.text.as_bytes());
+    assert_eq!(rt; status, run.status);
+    Ok(())
+}
+
+fn check_all(rt: &(impl Abort + AllocGlobal), runs: &[Run]) -> Result<(), AllocError> {
+    for run in runs {
+        check(rt, run)?;
+    }
+    Ok(())
+}
+
+#[test]
+fn one_thread_runs(rt: HostRuntime) -> Result<(), Fail> {
+    check_all(&rt, &one_thread::ONE_THREAD)?;
+    Ok(())
+}
+
+#[test]
+fn sections_run_without_their_lock(rt: HostRuntime) -> Result<(), Fail> {
+    check_all(&rt, &sections::SECTIONS)?;
+    Ok(())
+}
+
+#[test]
+fn threads_meet(rt: HostRuntime) -> Result<(), Fail> {
+    check_all(&rt, &meetings::MEETINGS)?;
+    Ok(())
+}
+
+#[test]
+fn limits_end_threads(rt: HostRuntime) -> Result<(), Fail> {
+    check_all(&rt, &limits::LIMITS)?;
+    Ok(())
+}
