@@ -4,9 +4,6 @@ pub mod MethodsDecoded
 pub mod MethodsFound
 pub mod MethodsTyped
 pub mod MethodsTagged
-pub mod OperandRuns
-pub mod FirstOps
 pub mod LoadedOnce
 pub mod RefusedOnce
 pub mod LoadedOrRefused
-pub mod FirstFormed

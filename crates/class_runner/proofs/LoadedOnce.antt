@@ -18,10 +18,8 @@ use Rattle.checked_program.specs.TaggedCode.{tagged_by}
 use Rattle.checked_program.specs.Tagging.{IsTaggingOf, IsTagRefused}
 use Rattle.checked_program.specs.declared.section.SectionMark.{SectionMark}
 use Rattle.checked_program.specs.declared.tag.Tags.{Tags}
-use Rattle.jvm_types.specs.FirstForm.{IsFirstForm}
 use Rattle.jvm_types.specs.declared.class_file.ClassFile.{ClassFile}
 use Rattle.jvm_types.specs.declared.code.Insn.{Insn}
-use Rattle.jvm_types.specs.declared.first.FirstOp.{FirstOp}
 use Rattle.jvm_types.specs.declared.program.MethodInfo.{MethodInfo}
 use Rattle.jvm_types.specs.declared.program.Program.{Program}
 use Rattle.jvm_types.specs.declared.typing.Typing.{Typing}
@@ -36,7 +34,7 @@ use Rattle.jvm_types.proofs.CodeOnce.{once}
 use Rattle.typing_laws.proofs.OneTyping.{one_typing, no_refusal}
 use Rattle.tag_laws.proofs.TagAnswers.{one_tagging_all, no_refusal as no_tag_refusal}
 use Rattle.section_laws.proofs.OneMarks.{one_mark}
-use Rattle.class_runner.specs.Loading.{AreRead, IsLoaded, IsFirstLoaded, LetsPass, IsAccepted, IsFirstRefused, IsFirstUntyped, IsFirstUntagged, IsUnbuilt, IsUntyped, IsUntagged, IsRefusedBy, IsNotLoaded, read_fault, decode_fault}
+use Rattle.class_runner.specs.Loading.{AreRead, IsLoaded, IsAccepted, IsFirstRefused, IsFirstUntyped, IsFirstUntagged, IsUntyped, IsUntagged, IsRefusedBy, IsNotLoaded, read_fault, decode_fault}
 use Rattle.class_runner.specs.LoadingLaws.{LoadedAccepted, AcceptedNotRefused}
 use Rattle.class_runner.specs.Stages.{IsLinkedFrom}
 use Rattle.class_runner.specs.declared.loading.FileError.{FileError}
@@ -148,49 +146,38 @@ none_untyped p ds ms ts rule place h k = none_refused (IsTypingOf p) (IsRefused 
 pub none_untagged : (p : Program) (ds : List Declared) (ms : List MethodInfo) (ts : List Tags) (rule : SRule) (place : Place) → AreTaggings p ms ts → IsFirstUntagged p ds ms rule place → ⊥
 none_untagged p ds ms ts rule place h k = none_refused (IsTaggingOf p) (IsTagRefused p) (λ m t r pc x y. no_tag_refusal p m t.frames r pc x y) rule ds ms ts place h k
 
-never_linked : (files : List (List ℕ)) (heap workers : ℕ) (w : LetsPass files heap workers) (cs : List ClassFile) (code : List (List Insn)) (fault : LinkFault) → AreRead files cs code → link_fault cs code heap workers ≡ Some fault → ⊥
+never_linked : (files : List (List ℕ)) (heap workers : ℕ) (w : IsAccepted files heap workers) (cs : List ClassFile) (code : List (List Insn)) (fault : LinkFault) → AreRead files cs code → link_fault cs code heap workers ≡ Some fault → ⊥
 never_linked files heap workers w cs code fault read refused =
     let same = read_once files w.classes cs w.code code w.read read in
     never_both (link_fault w.classes w.code heap workers) fault w.passed.linked.unrefused ((λ i. link_fault (same.0 i) (same.1 i) heap workers) ∙ refused)
 
 -- files that pass are linked to one program
-pub passed_program : (files : List (List ℕ)) (heap workers : ℕ) (w : LetsPass files heap workers) (cs : List ClassFile) (code : List (List Insn)) (p : Program) → AreRead files cs code → IsLinked cs code heap workers p → (w.classes ≡ cs) × (w.program ≡ p)
+pub passed_program : (files : List (List ℕ)) (heap workers : ℕ) (w : IsAccepted files heap workers) (cs : List ClassFile) (code : List (List Insn)) (p : Program) → AreRead files cs code → IsLinked cs code heap workers p → (w.classes ≡ cs) × (w.program ≡ p)
 passed_program files heap workers w cs code p read linked =
     let same = read_once files w.classes cs w.code code w.read read in
     (same.0, same_program w.classes cs w.code code heap workers w.program p same.0 same.1 w.passed.linked linked)
 
-never_unbuilt : (files : List (List ℕ)) (heap workers : ℕ) → IsAccepted files heap workers → IsUnbuilt files heap workers → ⊥
-never_unbuilt files heap workers (w, ops, first) (u, other) =
-    let same = passed_program files heap workers w u.classes u.code u.program u.read u.passed.linked in
-    other ops (subst (λ (cs : List ClassFile). IsFirstForm cs u.program ops) same.0 (subst (λ (p : Program). IsFirstForm w.classes p ops) same.1 first))
-
-pub never_untyped : (files : List (List ℕ)) (heap workers : ℕ) (rule : VRule) (place : Place) → LetsPass files heap workers → IsUntyped files heap workers rule place → ⊥
+pub never_untyped : (files : List (List ℕ)) (heap workers : ℕ) (rule : VRule) (place : Place) → IsAccepted files heap workers → IsUntyped files heap workers rule place → ⊥
 never_untyped files heap workers rule place w u =
     let same = passed_program files heap workers w u.classes u.code u.program u.read u.linked in
     none_untyped u.program (declared_methods u.classes) u.program.methods w.typings rule place (subst (λ (p : Program). AreTypings p p.methods w.typings) same.1 w.passed.typed) u.first
 
-pub never_untagged : (files : List (List ℕ)) (heap workers : ℕ) (rule : SRule) (place : Place) → LetsPass files heap workers → IsUntagged files heap workers rule place → ⊥
+pub never_untagged : (files : List (List ℕ)) (heap workers : ℕ) (rule : SRule) (place : Place) → IsAccepted files heap workers → IsUntagged files heap workers rule place → ⊥
 never_untagged files heap workers rule place w u =
     let same = passed_program files heap workers w u.classes u.code u.program u.read u.linked in
     none_untagged u.program (declared_methods u.classes) u.program.methods w.tags rule place (subst (λ (p : Program). AreTaggings p p.methods w.tags) same.1 w.passed.tagged) u.first
 
-abbrev pub loaded : (files : List (List ℕ)) (heap workers : ℕ) (c : MarkedProgram) (ops : List FirstOp) → IsFirstLoaded files heap workers c ops → IsLoaded files heap workers c
-loaded files heap workers c ops l = record { classes = l.classes; code = l.code; read = l.read; checked = l.checked }
-
 pub accepted : LoadedAccepted
-accepted files heap workers c ops l = (record { classes = l.classes; code = l.code; program = c.program; typings = c.typings; tags = c.tags; read = l.read; passed = l.checked.passed }, ops, l.first)
+accepted files heap workers c l = record { classes = l.classes; code = l.code; program = c.program; typings = c.typings; tags = c.tags; read = l.read; passed = l.checked.passed }
 
 pub never_refused : AcceptedNotRefused
-never_refused files heap workers (C rule) place (w, ops, first) r = never_both (read_fault 0 files) (C rule, place) (no_read_fault 0 files w.classes w.read.spelled) r
-never_refused files heap workers (K rule) place (w, ops, first) (classes, spelled, fault) =
+never_refused files heap workers (C rule) place w r = never_both (read_fault 0 files) (C rule, place) (no_read_fault 0 files w.classes w.read.spelled) r
+never_refused files heap workers (K rule) place w (classes, spelled, fault) =
     let same : w.classes ≡ classes = classes_once files w.classes classes w.read.spelled spelled in
     never_both (decode_fault (declared_methods w.classes)) (K rule, place) (no_decode_fault (declared_methods w.classes) w.code w.read.decoded) (ap (λ (cs : List ClassFile). decode_fault (declared_methods cs)) same ∙ fault)
-never_refused files heap workers (L rule) place (w, ops, first) r = elim r [
-  | inl u ↦ never_linked files heap workers w u.classes u.code (rule, place) u.read u.fault
-  | inr (u, is, at) ↦ never_unbuilt files heap workers (w, ops, first) u
-]
-never_refused files heap workers (V rule) place (w, ops, first) r = never_untyped files heap workers rule place w r
-never_refused files heap workers (S rule) place (w, ops, first) r = never_untagged files heap workers rule place w r
+never_refused files heap workers (L rule) place w u = never_linked files heap workers w u.classes u.code (rule, place) u.read u.fault
+never_refused files heap workers (V rule) place w r = never_untyped files heap workers rule place w r
+never_refused files heap workers (S rule) place w r = never_untagged files heap workers rule place w r
 
 pub only_memory : (files : List (List ℕ)) (heap workers : ℕ) (e : FileError) → IsAccepted files heap workers → IsNotLoaded files heap workers e → e ≡ Memory
 only_memory files heap workers Memory w r = refl
@@ -217,44 +204,20 @@ methods_long s (d ∷ ds) (insns ∷ code) h = ap suc (methods_long s ds code h.
 pub linked_long : (cs : List ClassFile) (code : List (List Insn)) (heap workers : ℕ) (p : Program) → AllZip IsDecoded (declared_methods cs) code → IsLinked cs code heap workers p → length p.methods ≡ length (declared_methods cs)
 linked_long cs code heap workers p decoded linked = ap (λ (q : Program). length q.methods) linked.is ∙ methods_long (scope_of cs) (declared_methods cs) code decoded
 
-abbrev pub passes : (files : List (List ℕ)) (heap workers : ℕ) (cs : List ClassFile) (p : Program) (ts : List Typing) (gs : List Tags) → AllZip Spells files cs → IsLinkedFrom cs heap workers p → AreTypings p p.methods ts → AreTaggings p p.methods gs → LetsPass files heap workers
-passes files heap workers cs p ts gs spelled linked typed tagged = record {
+pub loaded : (files : List (List ℕ)) (heap workers : ℕ) (cs : List ClassFile) (p : Program) (ts : List Typing) (gs : List Tags) (ms : List SectionMark) → AllZip Spells files cs → IsLinkedFrom cs heap workers p → AreTypings p p.methods ts
+    → AreTaggings p p.methods gs → AreMarks p (tagged_by gs) ms → IsLoaded files heap workers (marked p ts gs ms)
+loaded files heap workers cs p ts gs ms spelled linked typed tagged marks = record {
   classes = cs;
   code = linked.code;
-  program = p;
-  typings = ts;
-  tags = gs;
   read = record { spelled = spelled; decoded = linked.decoded };
-  passed = record { linked = linked.linked; typed = typed; tagged = tagged };
+  checked = record { passed = record { linked = linked.linked; typed = typed; tagged = tagged }; marked = marks };
 }
-
-pub first_loaded : (files : List (List ℕ)) (heap workers : ℕ) (cs : List ClassFile) (p : Program) (ts : List Typing) (gs : List Tags) (ms : List SectionMark) → AllZip Spells files cs → IsLinkedFrom cs heap workers p → AreTypings p p.methods ts
-    → AreTaggings p p.methods gs → AreMarks p (tagged_by gs) ms → (ops : List FirstOp) × IsFirstForm cs p ops → (ops : List FirstOp) × IsFirstLoaded files heap workers (marked p ts gs ms) ops
-first_loaded files heap workers cs p ts gs ms spelled linked typed tagged marks (ops, first) = (
-  ops,
-  record {
-    classes = cs;
-    code = linked.code;
-    read = record { spelled = spelled; decoded = linked.decoded };
-    checked = record { passed = record { linked = linked.linked; typed = typed; tagged = tagged }; marked = marks };
-    first = first;
-  },
-)
-
-pub unbuilt : (files : List (List ℕ)) (heap workers : ℕ) (cs : List ClassFile) (p : Program) (ts : List Typing) (gs : List Tags) → AllZip Spells files cs → IsLinkedFrom cs heap workers p → AreTypings p p.methods ts → AreTaggings p p.methods gs
-    → ((ops : List FirstOp) × IsFirstForm cs p ops → ⊥) → IsUnbuilt files heap workers
-unbuilt files heap workers cs p ts gs spelled linked typed tagged other = (passes files heap workers cs p ts gs spelled linked typed tagged, λ ops first. other (ops, first))
 
 -- ---- the clauses
 
-pub if_loaded : (files : List (List ℕ)) (heap workers : ℕ) (r : Result MarkedProgram FileError) → IfOk r (λ c. (ops : List FirstOp) × IsFirstLoaded files heap workers c ops) → IfOk r (λ c. IsLoaded files heap workers c)
-if_loaded files heap workers (Ok c) (ops, first) = loaded files heap workers c ops first
-if_loaded files heap workers (Err e) h = tt
-
-pub if_other : (files : List (List ℕ)) (heap workers : ℕ) (c : MarkedProgram) (ops : List FirstOp) (r : Result MarkedProgram FileError) → IfOk r (λ d. (ops : List FirstOp) × IsFirstLoaded files heap workers d ops)
-    → IsFirstLoaded files heap workers c ops → IfOk r (λ d. d ≡ c)
-if_other files heap workers c ops (Ok d) (others, found) first = loaded_once files heap workers d c (loaded files heap workers d others found) (loaded files heap workers c ops first)
-if_other files heap workers c ops (Err e) h first = tt
+pub if_other : (files : List (List ℕ)) (heap workers : ℕ) (c : MarkedProgram) (r : Result MarkedProgram FileError) → IfOk r (λ d. IsLoaded files heap workers d) → IsLoaded files heap workers c → IfOk r (λ d. d ≡ c)
+if_other files heap workers c (Ok d) found l = loaded_once files heap workers d c found l
+if_other files heap workers c (Err e) found l = tt
 
 pub if_refused : (files : List (List ℕ)) (heap workers : ℕ) (r : Result MarkedProgram FileError) → IfErr r (λ e. IsNotLoaded files heap workers e) → IsAccepted files heap workers → IfErr r (λ e. e ≡ Memory)
 if_refused files heap workers (Ok d) h w = tt

@@ -16,21 +16,18 @@ use Rattle.checked_program.specs.CheckedProgram.{AreTypings}
 use Rattle.checked_program.specs.LockTags.{TagShape}
 use Rattle.checked_program.specs.Tagging.{IsTaggingOf, IsTagRefused}
 use Rattle.checked_program.specs.declared.tag.Tags.{Tags}
-use Rattle.jvm_types.specs.FirstForm.{IsFirstForm}
 use Rattle.jvm_types.specs.declared.class_file.Constant.{Constant}
 use Rattle.jvm_types.specs.declared.class_file.ClassFile.{ClassFile}
 use Rattle.jvm_types.specs.declared.class_file.Member.{Member}
 use Rattle.jvm_types.specs.declared.class_file.MemberAttr.{MemberAttr}
 use Rattle.jvm_types.specs.declared.class_file.MemberAttr.TheVariants as member_attrs
 use Rattle.jvm_types.specs.declared.code.Insn.{Insn}
-use Rattle.jvm_types.specs.declared.first.FirstOp.{FirstOp}
 use Rattle.jvm_types.specs.declared.program.MethodInfo.{MethodInfo}
 use Rattle.jvm_types.specs.declared.program.Program.{Program}
 use Rattle.jvm_types.specs.declared.typing.Typing.{Typing}
 use Rattle.jvm_types.specs.declared.refusal.CRule.{CRule}
 use Rattle.jvm_types.specs.declared.refusal.KRule.{KRule}
 use Rattle.jvm_types.specs.declared.refusal.LRule.{LRule}
-use Rattle.jvm_types.specs.declared.refusal.LRule.TheVariants.{L0}
 use Rattle.jvm_types.specs.declared.refusal.VRule.{VRule}
 use Rattle.jvm_types.specs.declared.refusal.SRule.{SRule}
 use Rattle.jvm_types.specs.declared.refusal.Rule.{Rule}
@@ -42,10 +39,9 @@ use Rattle.jvm_types.proofs.LinkedLaws.{linked_is_program}
 use Rattle.typing_laws.proofs.VisitsEndAnswer.{typed_or_refused}
 use Rattle.tag_laws.proofs.TagAnswers.{tagged_or_refused_all as tagged_or_refused}
 use Rattle.program_laws.proofs.CodeOrder.{laid_out}
-use Rattle.class_runner.specs.Loading.{AreRead, ArePassed, LetsPass, IsAccepted, IsFirstRefused, IsUnbuilt, IsUnlinked, IsUntyped, IsUntagged, IsRefusedBy, read_fault, decode_fault}
+use Rattle.class_runner.specs.Loading.{AreRead, ArePassed, IsAccepted, IsFirstRefused, IsUnlinked, IsUntyped, IsUntagged, IsRefusedBy, read_fault, decode_fault}
 use Rattle.class_runner.specs.LoadingLaws.{IsLoadable, AcceptedOrRefused}
 use Rattle.class_runner.proofs.LoadedOnce.{spelled_long, spelled_classes, linked_long}
-use Rattle.class_runner.proofs.FirstFormed.{Told, IsFormed, formed_or_not}
 
 -- ---- C: reading
 
@@ -148,7 +144,7 @@ one_tagged p m laid = elim (tagged_or_refused p m laid) [
 abbrev IsAnswered : List (List ℕ) → (heap workers : ℕ) → Type 0
 IsAnswered files heap workers = IsAccepted files heap workers ⊎ ((rule : Rule) × (place : Place) × IsRefusedBy files heap workers rule place)
 
--- files that are linked are typed, tagged and of the first form, or refused
+-- files that are linked are typed and tagged, or refused
 linked_answered : (files : List (List ℕ)) (heap workers : ℕ) (cs : List ClassFile) (code : List (List Insn)) (p : Program) → AreRead files cs code → IsLinked cs code heap workers p → IsProgram p → IsAnswered files heap workers
 linked_answered files heap workers cs code p read linked is = by_types (all_found (IsTypingOf p) (IsRefused p) (one_typed p) (declared_methods cs) p.methods many laid)
   where
@@ -158,13 +154,9 @@ linked_answered files heap workers cs code p read linked is = by_types (all_foun
     laid : AllByRecursion IsLaidOut p.methods
     laid = methods_laid p is
 
-    by_form : (ts : List Typing) (gs : List Tags) → ArePassed cs code heap workers p ts gs → Told (IsFormed cs p) → IsAnswered files heap workers
-    by_form ts gs passed (inl (ops, first)) = inl (record { classes = cs; code = code; program = p; typings = ts; tags = gs; read = read; passed = passed }, ops, first)
-    by_form ts gs passed (inr never) = inr (L L0, in_file 0 0, inr ((record { classes = cs; code = code; program = p; typings = ts; tags = gs; read = read; passed = passed }, λ ops first. never (ops, first)), refl, refl))
-
     by_tags : (ts : List Typing) → AreTypings p p.methods ts → AreFound (IsTaggingOf p) (IsTagRefused p) (declared_methods cs) p.methods → IsAnswered files heap workers
     by_tags ts typed (inr (rule, place, untagged)) = inr (S rule, place, record { classes = cs; code = code; program = p; typings = ts; read = read; linked = linked; typed = typed; first = untagged })
-    by_tags ts typed (inl (gs, tagged)) = by_form ts gs (record { linked = linked; typed = typed; tagged = tagged }) (formed_or_not cs p is)
+    by_tags ts typed (inl (gs, tagged)) = inl (record { classes = cs; code = code; program = p; typings = ts; tags = gs; read = read; passed = record { linked = linked; typed = typed; tagged = tagged } })
 
     by_types : AreFound (IsTypingOf p) (IsRefused p) (declared_methods cs) p.methods → IsAnswered files heap workers
     by_types (inr (rule, place, untyped)) = inr (V rule, place, record { classes = cs; code = code; program = p; read = read; linked = linked; first = untyped })
@@ -178,7 +170,7 @@ decoded_answered files heap workers cs code able read = by_fault (link_fault cs 
     many = spelled_long files cs read.spelled
 
     by_fault : (o : Option LinkFault) → link_fault cs code heap workers ≡ o → IsAnswered files heap workers
-    by_fault (Some fault) e = inr (L fault.0, fault.1, inl (record { classes = cs; code = code; read = read; fault = e }))
+    by_fault (Some fault) e = inr (L fault.0, fault.1, record { classes = cs; code = code; read = read; fault = e })
     by_fault None e =
         let linked : IsLinked cs code heap workers (program_of cs code heap workers) = record { unrefused = e; is = refl } in
         let linkable : IsLinkable cs code heap workers = record {

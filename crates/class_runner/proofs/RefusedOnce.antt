@@ -23,7 +23,7 @@ use Rattle.typing_laws.proofs.OneTyping.{no_refusal, one_refusal}
 use Rattle.tag_laws.proofs.TagAnswers.{no_refusal as no_tag_refusal, one_refusal_all}
 use Rattle.class_runner.specs.Loading.{AreRead, IsFirstRefused, IsFirstUntyped, IsFirstUntagged, IsUnlinked, IsUntyped, IsUntagged, IsRefusedBy, read_fault, decode_fault}
 use Rattle.class_runner.specs.LoadingLaws.{OneRefusal}
-use Rattle.class_runner.proofs.LoadedOnce.{classes_once, read_once, same_program, never_both, no_read_fault, no_decode_fault, none_untyped, never_untyped, never_untagged}
+use Rattle.class_runner.proofs.LoadedOnce.{classes_once, read_once, same_program, never_both, no_read_fault, no_decode_fault, none_untyped}
 
 abbrev Same : Rule → Rule → Place → Place → Type 0
 Same rule other place at = (rule ≡ other) × (place ≡ at)
@@ -52,11 +52,8 @@ pub record WereRead (files : List (List ℕ)) : Type 0 where
   pub code : List (List Insn)
   pub read : AreRead files classes code
 
-read_at_l : (files : List (List ℕ)) (heap workers : ℕ) (rule : LRule) (place : Place) → IsRefusedBy files heap workers (L rule) place → WereRead files
-read_at_l files heap workers rule place r = elim r [
-  | inl u ↦ record { classes = u.classes; code = u.code; read = u.read }
-  | inr (u, is, at) ↦ record { classes = u.0.classes; code = u.0.code; read = u.0.read }
-]
+read_at_l : (files : List (List ℕ)) (heap workers : ℕ) (rule : LRule) (place : Place) → IsUnlinked files heap workers rule place → WereRead files
+read_at_l files heap workers rule place u = record { classes = u.classes; code = u.code; read = u.read }
 
 read_at_v : (files : List (List ℕ)) (heap workers : ℕ) (rule : VRule) (place : Place) → IsRefusedBy files heap workers (V rule) place → WereRead files
 read_at_v files heap workers rule place u = record { classes = u.classes; code = u.code; read = u.read }
@@ -78,17 +75,11 @@ never_unlinked files heap workers rule place cs code p read linked u =
     let same = read_once files cs u.classes code u.code read u.read in
     never_both (link_fault cs code heap workers) (rule, place) linked.unrefused ((λ i. link_fault (same.0 i) (same.1 i) heap workers) ∙ u.fault)
 
-never_v : (files : List (List ℕ)) (heap workers : ℕ) (rule : LRule) (other : VRule) (place at : Place) → IsRefusedBy files heap workers (L rule) place → IsUntyped files heap workers other at → ⊥
-never_v files heap workers rule other place at r u = elim r [
-  | inl unlinked ↦ never_unlinked files heap workers rule place u.classes u.code u.program u.read u.linked unlinked
-  | inr (b, is, here) ↦ never_untyped files heap workers other at b.0 u
-]
+never_v : (files : List (List ℕ)) (heap workers : ℕ) (rule : LRule) (other : VRule) (place at : Place) → IsUnlinked files heap workers rule place → IsUntyped files heap workers other at → ⊥
+never_v files heap workers rule other place at unlinked u = never_unlinked files heap workers rule place u.classes u.code u.program u.read u.linked unlinked
 
-never_s : (files : List (List ℕ)) (heap workers : ℕ) (rule : LRule) (other : SRule) (place at : Place) → IsRefusedBy files heap workers (L rule) place → IsUntagged files heap workers other at → ⊥
-never_s files heap workers rule other place at r u = elim r [
-  | inl unlinked ↦ never_unlinked files heap workers rule place u.classes u.code u.program u.read u.linked unlinked
-  | inr (b, is, here) ↦ never_untagged files heap workers other at b.0 u
-]
+never_s : (files : List (List ℕ)) (heap workers : ℕ) (rule : LRule) (other : SRule) (place at : Place) → IsUnlinked files heap workers rule place → IsUntagged files heap workers other at → ⊥
+never_s files heap workers rule other place at unlinked u = never_unlinked files heap workers rule place u.classes u.code u.program u.read u.linked unlinked
 
 -- files of which a method is refused by its tags have typings
 never_both_checks : (files : List (List ℕ)) (heap workers : ℕ) (rule : VRule) (other : SRule) (place at : Place) → IsUntyped files heap workers rule place → IsUntagged files heap workers other at → ⊥
@@ -104,19 +95,10 @@ once_k files heap workers rule other place at (cs, spelled, here) (ds, spells, t
     let same : cs ≡ ds = classes_once files cs ds spelled spells in
     same_fault (decode_fault (declared_methods cs)) (K rule) (K other) place at here (ap (λ (xs : List ClassFile). decode_fault (declared_methods xs)) same ∙ there)
 
-once_l : (files : List (List ℕ)) (heap workers : ℕ) (rule other : LRule) (place at : Place) → IsRefusedBy files heap workers (L rule) place → IsRefusedBy files heap workers (L other) at → Same (L rule) (L other) place at
-once_l files heap workers rule other place at r s = elim r [
-  | inl u ↦ elim s [
-    | inl w ↦
-        let same = read_once files u.classes w.classes u.code w.code u.read w.read in
-        same_link_fault (link_fault u.classes u.code heap workers) rule other place at u.fault ((λ i. link_fault (same.0 i) (same.1 i) heap workers) ∙ w.fault)
-    | inr (b, is, here) ↦ absurd (never_unlinked files heap workers rule place b.0.classes b.0.code b.0.program b.0.read b.0.passed.linked u)
-  ]
-  | inr (b, is, here) ↦ elim s [
-    | inl w ↦ absurd (never_unlinked files heap workers other at b.0.classes b.0.code b.0.program b.0.read b.0.passed.linked w)
-    | inr (d, are, there) ↦ (ap L (is ∙ sym are), here ∙ sym there)
-  ]
-]
+once_l : (files : List (List ℕ)) (heap workers : ℕ) (rule other : LRule) (place at : Place) → IsUnlinked files heap workers rule place → IsUnlinked files heap workers other at → Same (L rule) (L other) place at
+once_l files heap workers rule other place at u w =
+    let same = read_once files u.classes w.classes u.code w.code u.read w.read in
+    same_link_fault (link_fault u.classes u.code heap workers) rule other place at u.fault ((λ i. link_fault (same.0 i) (same.1 i) heap workers) ∙ w.fault)
 
 -- the first method that a check refuses is one
 first_once : {T R : Type 0} (has : MethodInfo → T → Type 0) (refuses : MethodInfo → R → ℕ → Type 0) → ((m : MethodInfo) (t : T) (rule : R) (pc : ℕ) → has m t → refuses m rule pc → ⊥)

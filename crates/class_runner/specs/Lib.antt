@@ -4,5 +4,3 @@ pub mod Refusal
 pub mod Loading
 pub mod LoadingLaws
 pub mod Stages
-pub mod Operands
-pub mod FirstTests

@@ -1,5 +1,5 @@
 -- What files are loaded to, and why files are refused: first as classes, file by file; then their methods as code; then their names,
--- in linking; then their methods, in verifying and in tagging; and last what is not built yet.
+-- in linking; and then their methods, in verifying and in tagging.
 use Rattle.std.specs.Prelude.{◌≡◌, ◌⊎◌, ℕ, ◌+◌, List, [], ◌∷◌, Option, Some, None}
 use Rattle.std.specs.List.{AllZip}
 use Rattle.std.specs.Option.{option_map, option_or}
@@ -17,17 +17,14 @@ use Rattle.checked_program.specs.Marks.{AreMarks}
 use Rattle.checked_program.specs.TaggedCode.{tagged_by}
 use Rattle.checked_program.specs.Tagging.{IsTaggingOf, IsTagRefused}
 use Rattle.checked_program.specs.declared.tag.Tags.{Tags}
-use Rattle.jvm_types.specs.FirstForm.{IsFirstForm}
 use Rattle.jvm_types.specs.declared.class_file.ClassFile.{ClassFile}
 use Rattle.jvm_types.specs.declared.code.Insn.{Insn}
-use Rattle.jvm_types.specs.declared.first.FirstOp.{FirstOp}
 use Rattle.jvm_types.specs.declared.program.MethodInfo.{MethodInfo}
 use Rattle.jvm_types.specs.declared.program.Program.{Program}
 use Rattle.jvm_types.specs.declared.typing.Typing.{Typing}
 use Rattle.jvm_types.specs.declared.refusal.Rule.{Rule}
 use Rattle.jvm_types.specs.declared.refusal.Rule.TheVariants as rules
 use Rattle.jvm_types.specs.declared.refusal.LRule.{LRule}
-use Rattle.jvm_types.specs.declared.refusal.LRule.TheVariants.{L0}
 use Rattle.jvm_types.specs.declared.refusal.VRule.{VRule}
 use Rattle.jvm_types.specs.declared.refusal.SRule.{SRule}
 use Rattle.jvm_types.specs.declared.refusal.Place.{Place}
@@ -59,16 +56,8 @@ pub record IsLoaded (files : List (List ℕ)) (heap workers : ℕ) (c : MarkedPr
   pub read : AreRead files classes code
   pub checked : AreChecked classes code heap workers c
 
--- the same, of the first form, with these instructions
-pub record IsFirstLoaded (files : List (List ℕ)) (heap workers : ℕ) (c : MarkedProgram) (ops : List FirstOp) : Type 0 where
-  pub classes : List ClassFile
-  pub code : List (List Insn)
-  pub read : AreRead files classes code
-  pub checked : AreChecked classes code heap workers c
-  pub first : IsFirstForm classes c.program ops
-
--- all rules that are built let the files pass
-pub record LetsPass (files : List (List ℕ)) (heap workers : ℕ) : Type 0 where
+-- all rules let the files pass
+pub record IsAccepted (files : List (List ℕ)) (heap workers : ℕ) : Type 0 where
   pub classes : List ClassFile
   pub code : List (List Insn)
   pub program : Program
@@ -76,10 +65,6 @@ pub record LetsPass (files : List (List ℕ)) (heap workers : ℕ) : Type 0 wher
   pub tags : List Tags
   pub read : AreRead files classes code
   pub passed : ArePassed classes code heap workers program typings tags
-
--- and they are of the first form
-abbrev pub IsAccepted : List (List ℕ) → (heap workers : ℕ) → Type 0
-IsAccepted files heap workers = (w : LetsPass files heap workers) × (ops : List FirstOp) × IsFirstForm w.classes w.program ops
 
 -- ---- why files are refused
 
@@ -106,10 +91,6 @@ IsFirstUntyped p ds ms rule place = IsFirstRefused (IsTypingOf p) (IsRefused p) 
 -- the first method that has no lock tags, in the same way
 abbrev pub IsFirstUntagged : Program → List Declared → List MethodInfo → SRule → Place → Type 0
 IsFirstUntagged p ds ms rule place = IsFirstRefused (IsTaggingOf p) (IsTagRefused p) rule ds ms place
-
--- all rules that are built let the files pass, and they are of no first form
-abbrev pub IsUnbuilt : List (List ℕ) → (heap workers : ℕ) → Type 0
-IsUnbuilt files heap workers = (w : LetsPass files heap workers) × ((ops : List FirstOp) → IsFirstForm w.classes w.program ops → ⊥)
 
 -- linking refuses them
 pub record IsUnlinked (files : List (List ℕ)) (heap workers : ℕ) (rule : LRule) (place : Place) : Type 0 where
@@ -143,7 +124,7 @@ pub record IsUntagged (files : List (List ℕ)) (heap workers : ℕ) (rule : SRu
 abbrev pub IsRefusedBy : List (List ℕ) → (heap workers : ℕ) → Rule → Place → Type 0
 IsRefusedBy files heap workers (rules.C rule) place = read_fault 0 files ≡ Some (rules.C rule, place)
 IsRefusedBy files heap workers (rules.K rule) place = (classes : List ClassFile) × AllZip Spells files classes × (decode_fault (declared_methods classes) ≡ Some (rules.K rule, place))
-IsRefusedBy files heap workers (rules.L rule) place = IsUnlinked files heap workers rule place ⊎ (IsUnbuilt files heap workers × (rule ≡ L0) × (place ≡ in_file 0 0))
+IsRefusedBy files heap workers (rules.L rule) place = IsUnlinked files heap workers rule place
 IsRefusedBy files heap workers (rules.V rule) place = IsUntyped files heap workers rule place
 IsRefusedBy files heap workers (rules.S rule) place = IsUntagged files heap workers rule place
 

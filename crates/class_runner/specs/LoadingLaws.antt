@@ -5,10 +5,9 @@ use Rattle.std.specs.List.{AllByRecursion}
 use Rattle.jvm_types.specs.ClassGrammar.{IsByte}
 use Rattle.checked_program.specs.MarkedProgram.{MarkedProgram}
 use Rattle.jvm_types.specs.declared.limits.TheConstants.{LEAST_HEAP, MOST_FILES, MOST_HEAP, MOST_WORKERS}
-use Rattle.jvm_types.specs.declared.first.FirstOp.{FirstOp}
 use Rattle.jvm_types.specs.declared.refusal.Rule.{Rule}
 use Rattle.jvm_types.specs.declared.refusal.Place.{Place}
-use Rattle.class_runner.specs.Loading.{IsLoaded, IsFirstLoaded, IsAccepted, IsRefusedBy}
+use Rattle.class_runner.specs.Loading.{IsLoaded, IsAccepted, IsRefusedBy}
 
 -- files are loaded to one program
 abbrev pub OneLoading : Type 0
@@ -23,7 +22,7 @@ abbrev pub AcceptedNotRefused : Type 0
 AcceptedNotRefused = (files : List (List ℕ)) (heap workers : ℕ) (rule : Rule) (place : Place) → IsAccepted files heap workers → IsRefusedBy files heap workers rule place → ⊥
 
 abbrev pub LoadedAccepted : Type 0
-LoadedAccepted = (files : List (List ℕ)) (heap workers : ℕ) (c : MarkedProgram) (ops : List FirstOp) → IsFirstLoaded files heap workers c ops → IsAccepted files heap workers
+LoadedAccepted = (files : List (List ℕ)) (heap workers : ℕ) (c : MarkedProgram) → IsLoaded files heap workers c → IsAccepted files heap workers
 
 -- from 1 to 64 files of bytes, and numbers inside the limits of the machine
 pub record IsLoadable (files : List (List ℕ)) (heap workers : ℕ) : Type 0 where

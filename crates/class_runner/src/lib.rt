@@ -2,19 +2,17 @@
 #![tactic(auto)]
 
 mod decoding;
-mod first_form;
 mod linking;
 pub mod loading;
 pub mod loading_laws;
 pub mod marks;
-mod operands;
 mod reading;
 mod tagging;
 pub mod texts;
 mod verifying;
 
 pub use linking::link_files;
-pub use loading::{FileError, first_ops, load_program};
+pub use loading::{FileError, load_program};
 pub use loading_laws::{
     accepted_is_not_refused, accepted_or_refused, loaded_is_accepted, one_loading, one_refusal,
 };

@@ -12,7 +12,7 @@ pub fn one_refusal()
     ensures { OneRefusal }
 {}
 
-/// Files that are loaded to a program of the first form are accepted.
+/// Files that are loaded to a program are accepted.
 pub fn loaded_is_accepted()
     ensures { LoadedAccepted }
 {}

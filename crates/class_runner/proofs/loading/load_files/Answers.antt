@@ -1,5 +1,5 @@
-use Rattle.std.proofs.Common.{refl, inr, arith}
-use Rattle.class_runner.proofs.LoadedOnce.{spelled_long, spelled_classes, unbuilt, first_loaded}
+use Rattle.std.proofs.Common.{arith}
+use Rattle.class_runner.proofs.LoadedOnce.{loaded, spelled_long, spelled_classes}
 use Rattle.class_runner.proofs.loading.load_files.Goals as goal
 
 pub link_files-requires-clause-some_file : goal.link_files-requires-clause-some_file
@@ -17,19 +17,8 @@ verify_files-requires-clause-classes c = rw c.as_slice.ensures (spelled_classes 
 pub tag_files-requires-clause-classes : goal.tag_files-requires-clause-classes
 tag_files-requires-clause-classes c = rw c.as_slice-2.ensures (spelled_classes c.args.files.now c.in_ok-classes.classes c.in_ok-classes.ensures.ok)
 
-pub returns-then-not-branch-clause-refused : goal.returns-then-not-branch-clause-refused
-returns-then-not-branch-clause-refused c =
-    let other = rw (c.if-not-branch.true, c.as_slice-3.ensures) at c.in_ok-is_first_form.ensures in
-    inr (
-      unbuilt c.args.files.now c.args.heap c.args.workers c.in_ok-classes.classes c.in_ok-program.program c.in_ok-typings.typings c.in_ok-tags.tags c.in_ok-classes.ensures.ok c.in_ok-program.ensures.ok c.in_ok-typings.ensures.ok
-          c.in_ok-tags.ensures.ok other,
-      refl,
-      c.in_file.ensures,
-    )
-
-pub returns-clause-first : goal.returns-clause-first
-returns-clause-first c =
-    let first = rw (c.if-not-branch.false, c.as_slice-3.ensures) at c.in_ok-is_first_form.ensures in
+pub returns-clause-ok : goal.returns-clause-ok
+returns-clause-ok c =
     rw (c.in_ok-indexed.ensures, c.of.ensures)
-    (first_loaded c.args.files.now c.args.heap c.args.workers c.in_ok-classes.classes c.in_ok-program.program c.in_ok-typings.typings c.in_ok-tags.tags c.in_ok-marks.marks c.in_ok-classes.ensures.ok c.in_ok-program.ensures.ok
-    c.in_ok-typings.ensures.ok c.in_ok-tags.ensures.ok c.in_ok-marks.ensures first)
+    (loaded c.args.files.now c.args.heap c.args.workers c.in_ok-classes.classes c.in_ok-program.program c.in_ok-typings.typings c.in_ok-tags.tags c.in_ok-marks.marks c.in_ok-classes.ensures.ok c.in_ok-program.ensures.ok
+    c.in_ok-typings.ensures.ok c.in_ok-tags.ensures.ok c.in_ok-marks.ensures)
