@@ -1,5 +1,5 @@
 -- What is owed to files that were read, and where one was not.
-use Rattle.std.proofs.Common.{◌≡◌, ℕ, ◌≤◌, List, Option, Some, None, refl, inl, inr, arith}
+use Rattle.std.proofs.Common.{◌≡◌, ℕ, ◌≤◌, List, Option, Some, None, refl, sym, subst, inl, inr, arith}
 use Rattle.jvm_types.specs.LinkFaults.{in_file}
 use Rattle.jvm_types.specs.declared.refusal.Rule.TheVariants as rules
 use Rattle.jvm_types.specs.declared.refusal.CRule.TheVariants.{C10}
@@ -7,11 +7,10 @@ use Rattle.jvm_types.specs.declared.refusal.Rule.{Rule}
 use Rattle.jvm_types.specs.declared.refusal.Place.{Place}
 use Rattle.solero.specs.Faults.{CountsFault}
 use Rattle.checked_program.specs.MarkedProgram.{MarkedProgram}
-use Rattle.jvm_types.specs.declared.first.FirstOp.{FirstOp}
-use Rattle.class_runner.specs.Loading.{IsFirstLoaded, IsLoaded, IsRefusedBy}
+use Rattle.class_runner.specs.Loading.{IsLoaded, IsRefusedBy}
 use Rattle.class_runner.specs.Refusal.{refusal_text}
 use Rattle.solero.specs.Command.{Asked}
-use Rattle.solero.specs.Answer.{IsDue, Refuses, longest_file, first_long}
+use Rattle.solero.specs.Answer.{IsDue, IsMade, Refuses, longest_file, first_long}
 use Rattle.solero.specs.Reading.{IsUnread}
 use Rattle.solero.specs.Parts.{IsLine, IsMadeBy, IsRun, IsUnreadDue}
 use Rattle.solero.specs.declared.shelf.NamedFile.{NamedFile}
@@ -23,23 +22,10 @@ use Rattle.solero.specs.declared.answer.Due.{Due}
 use Rattle.solero.specs.declared.answer.Due.TheVariants.{Report, Marks, Refusal, CannotRead, OutOfMemory}
 
 -- what the mode makes of the program that the files are loaded to is made of the files
-pub made_of_files : (mode : Mode) (asked : Asked) (contents : List (List ℕ)) (checked : MarkedProgram) (due : Due) → asked.mode ≡ mode → (ops : List FirstOp) × IsFirstLoaded contents asked.heap asked.threads checked ops → IsLoaded contents asked.heap asked.threads checked → IsMadeBy mode checked due → IsRun asked contents due
-made_of_files Replay asked contents checked (Report text) is (ops, first) loaded r = rw is (record {
-  checked = checked;
-  ops = r.ops;
-  loaded = record {
-    classes = first.classes;
-    code = first.code;
-    read = first.read;
-    checked = first.checked;
-    first = record { class = first.first.class; only = first.first.only; file = first.first.file; init = first.first.init; program = r.first };
-  };
-  outcome = r.outcome;
-  run = r.run;
-  report = r.report;
-})
-made_of_files Mark asked contents checked (Marks text) is first loaded m = rw is (record { checked = checked; loaded = loaded; marks = m })
-made_of_files mode asked contents checked due is first loaded m = absurd m
+pub made_of_files : (mode : Mode) (asked : Asked) (contents : List (List ℕ)) (checked : MarkedProgram) (due : Due) → asked.mode ≡ mode → IsLoaded contents asked.heap asked.threads checked → IsMadeBy mode asked checked due → IsRun asked contents due
+made_of_files Replay asked contents checked (Report finish text) is loaded run = subst (λ (m : Mode). IsMade m asked contents (Report finish text)) (sym is) (record { checked = checked; loaded = loaded; run = run })
+made_of_files Mark asked contents checked (Marks text) is loaded m = subst (λ (mode : Mode). IsMade mode asked contents (Marks text)) (sym is) (record { checked = checked; loaded = loaded; marks = m })
+made_of_files mode asked contents checked due is loaded m = absurd m
 
 -- the line of what refuses files, none of which is too long, is due to them
 pub refused_run : (asked : Asked) (contents : List (List ℕ)) (rule : Rule) (place : Place) (due : Due) → first_long 0 contents ≡ None → IsRefusedBy contents asked.heap asked.threads rule place → IsLine (refusal_text rule place) due → IsRun asked contents due

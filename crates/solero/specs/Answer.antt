@@ -4,29 +4,33 @@ use Rattle.std.specs.Fmt.{decimal}
 use Rattle.std.specs.List.{AllByRecursion}
 use Rattle.checked_program.specs.MarkedProgram.{MarkedProgram}
 use Rattle.jvm_types.specs.LinkFaults.{in_file}
-use Rattle.jvm_types.specs.declared.first.FirstOp.{FirstOp}
 use Rattle.jvm_types.specs.declared.limits.TheConstants.{MOST_FILE_BYTES}
-use Rattle.jvm_types.specs.declared.outcome.Outcome.{Outcome}
 use Rattle.jvm_types.specs.declared.refusal.Rule.TheVariants as rules
 use Rattle.jvm_types.specs.declared.refusal.CRule.TheVariants.{C10}
 use Rattle.jvm_types.specs.declared.refusal.Rule.{Rule}
 use Rattle.jvm_types.specs.declared.refusal.Place.{Place}
-use Rattle.first_machine.specs.PlainRun.{IsPlainOutcome}
+use Rattle.machine_types.specs.Core.{Happening, core, outcome}
+use Rattle.machine_types.specs.Schedules.{IsScheduleOf}
 use Rattle.class_runner.specs.Report.{line, report_text}
 use Rattle.class_runner.specs.Refusal.{refusal_text}
 use Rattle.class_runner.specs.MarksText.{marks_text}
-use Rattle.class_runner.specs.Loading.{IsFirstLoaded, IsLoaded, IsRefusedBy}
+use Rattle.class_runner.specs.Loading.{IsAccepted, IsLoaded, IsRefusedBy}
 use Rattle.solero.specs.Command.{Asked}
+use Rattle.solero.specs.Finish.{finish_of}
 use Rattle.solero.specs.Faults.{CountsFault}
 use Rattle.solero.specs.Shelf.{content_of}
 use Rattle.solero.specs.declared.shelf.NamedFile.{NamedFile}
+use Rattle.solero.specs.declared.finish.Finish.{Finish}
+use Rattle.solero.specs.declared.finish.Finish.TheVariants.{Returned, Uncaught, Limited}
 use Rattle.solero.specs.declared.request.Mode.{Mode}
 use Rattle.solero.specs.declared.request.Mode.TheVariants.{Replay, Mark}
 use Rattle.solero.specs.declared.answer.Due.{Due}
 use Rattle.solero.specs.declared.answer.Due.TheVariants.{Report, Marks, Usage, Refusal, CannotRead, OutOfMemory}
 
 abbrev pub status_of : Due → ℕ
-status_of (Report text) = 0
+status_of (Report Returned text) = 0
+status_of (Report Uncaught text) = 1
+status_of (Report Limited text) = 7
 status_of (Marks text) = 0
 status_of Usage = 2
 status_of (Refusal text) = 3
@@ -34,7 +38,7 @@ status_of (CannotRead text) = 4
 status_of OutOfMemory = 6
 
 abbrev pub text_of : Due → List ℕ
-text_of (Report text) = text
+text_of (Report finish text) = text
 text_of (Marks text) = text
 text_of Usage = line (codes "usage: solero [options] FILE...")
 text_of (Refusal text) = text
@@ -54,14 +58,18 @@ first_long file (content ∷ contents) = if nat_lt longest_file (length content)
 
 -- ---- what is due to the contents of the files
 
--- the text reports a plain run of the instructions of the program that the files are loaded to
-pub record Reports (asked : Asked) (contents : List (List ℕ)) (text : List ℕ) : Type 0 where
+-- the text reports what a program comes to over exactly the schedule of an order, which finishes so
+pub record ReportsRun (asked : Asked) (checked : MarkedProgram) (finish : Finish) (text : List ℕ) : Type 0 where
+  pub happenings : List Happening
+  pub schedule : IsScheduleOf checked asked.cfg asked.order happenings
+  pub report : text ≡ report_text (outcome (core checked asked.cfg happenings))
+  pub finished : finish ≡ finish_of (outcome (core checked asked.cfg happenings))
+
+-- the same of the program that the files are loaded to
+pub record Reports (asked : Asked) (contents : List (List ℕ)) (finish : Finish) (text : List ℕ) : Type 0 where
   pub checked : MarkedProgram
-  pub ops : List FirstOp
-  pub loaded : IsFirstLoaded contents asked.heap asked.threads checked ops
-  pub outcome : Outcome
-  pub run : IsPlainOutcome ops outcome
-  pub report : text ≡ report_text outcome
+  pub loaded : IsLoaded contents asked.heap asked.threads checked
+  pub run : ReportsRun asked checked finish text
 
 -- the text has the marks of the program that the files are loaded to
 pub record ListsMarks (asked : Asked) (contents : List (List ℕ)) (text : List ℕ) : Type 0 where
@@ -71,7 +79,7 @@ pub record ListsMarks (asked : Asked) (contents : List (List ℕ)) (text : List 
 
 -- what the mode makes of the files: a report, or their marks
 abbrev pub IsMade : Mode → Asked → List (List ℕ) → Due → Type 0
-IsMade Replay asked contents (Report text) = Reports asked contents text
+IsMade Replay asked contents (Report finish text) = Reports asked contents finish text
 IsMade Mark asked contents (Marks text) = ListsMarks asked contents text
 IsMade mode asked contents due = ⊥
 
@@ -126,3 +134,7 @@ IsDue (Some asked) files before after Usage = ⊥
 IsDue (Some asked) files before after (CannotRead text) = CountsFault before after × SaysUnread files asked.files text
 IsDue (Some asked) files before after (Refusal text) = (after ≡ before) × RefusesFiles files asked text
 IsDue (Some asked) files before after due = (after ≡ before) × IsMadeOf files asked due
+
+-- no file that is asked for is too long, and all rules let them pass
+abbrev pub AreAccepted : List NamedFile → Asked → Type 0
+AreAccepted files asked = (first_long 0 (contents_of files asked.files) ≡ None) × IsAccepted (contents_of files asked.files) asked.heap asked.threads

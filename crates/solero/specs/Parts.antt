@@ -3,18 +3,13 @@ use Rattle.std.specs.Prelude.{◌≡◌, ℕ, List, ◌++◌, codes}
 use Rattle.std.specs.Fmt.{decimal}
 use Rattle.checked_program.specs.MarkedProgram.{MarkedProgram}
 use Rattle.jvm_types.specs.LinkFaults.{in_file}
-use Rattle.jvm_types.specs.FirstForm.{IsFirstProgram}
-use Rattle.jvm_types.specs.declared.first.FirstOp.{FirstOp}
-use Rattle.jvm_types.specs.declared.outcome.Outcome.{Outcome}
-use Rattle.jvm_types.specs.declared.program.Program.{Program}
 use Rattle.jvm_types.specs.declared.refusal.Rule.TheVariants as rules
 use Rattle.jvm_types.specs.declared.refusal.CRule.TheVariants.{C10}
-use Rattle.first_machine.specs.PlainRun.{IsPlainOutcome}
-use Rattle.class_runner.specs.Report.{line, report_text}
+use Rattle.class_runner.specs.Report.{line}
 use Rattle.class_runner.specs.Refusal.{refusal_text}
 use Rattle.class_runner.specs.MarksText.{marks_text}
 use Rattle.solero.specs.Command.{Asked}
-use Rattle.solero.specs.Answer.{longest_file, IsMade, Refuses}
+use Rattle.solero.specs.Answer.{longest_file, IsMade, Refuses, ReportsRun}
 use Rattle.solero.specs.declared.shelf.ShelfError.{ShelfError}
 use Rattle.solero.specs.declared.shelf.ShelfError.TheVariants.{Failed, TooLong}
 use Rattle.solero.specs.declared.request.Mode.{Mode}
@@ -44,16 +39,8 @@ IsRun asked contents (Refusal text) = Refuses asked contents text
 IsRun asked contents OutOfMemory = Unit {0}
 IsRun asked contents due = IsMade asked.mode asked contents due
 
--- the text reports a plain run of a program of the first form
-pub record ReportsProgram (p : Program) (text : List ℕ) : Type 0 where
-  pub ops : List FirstOp
-  pub first : IsFirstProgram p ops
-  pub outcome : Outcome
-  pub run : IsPlainOutcome ops outcome
-  pub report : text ≡ report_text outcome
-
 -- what the mode makes of a program
-abbrev pub IsMadeBy : Mode → MarkedProgram → Due → Type 0
-IsMadeBy Replay c (Report text) = ReportsProgram c.program text
-IsMadeBy Mark c (Marks text) = text ≡ marks_text c.program c.marks
-IsMadeBy mode c due = ⊥
+abbrev pub IsMadeBy : Mode → Asked → MarkedProgram → Due → Type 0
+IsMadeBy Replay asked c (Report finish text) = ReportsRun asked c finish text
+IsMadeBy Mark asked c (Marks text) = text ≡ marks_text c.program c.marks
+IsMadeBy mode asked c due = ⊥

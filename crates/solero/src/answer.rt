@@ -4,6 +4,7 @@ ghost use Rattle.solero.specs.Answer.{status_of, text_of};
 ghost use Rattle.solero.specs.Parts.{IsLine, IsUnreadDue, unread_line};
 ghost use Rattle.solero.specs.declared.shelf.ShelfError.TheVariants.{Failed, TooLong};
 
+use crate::finish::Finish;
 use class_runner::refusal;
 use jvm_types::limits::MOST_FILE_BYTES;
 use jvm_types::{Bytes, CRule, Place, Rule, in_file};
@@ -16,8 +17,8 @@ const OUT_OF_MEMORY: &str = "out of memory\n";
 /// What is due: a text, and a status with it. Each text but those that had to be made needs no memory.
 #[derive(Debug, Drop)]
 pub enum Due {
-    /// The report of a run of which all parts returned.
-    Report(Bytes),
+    /// The report of a run, and how the run finished.
+    Report(Finish, Bytes),
     /// The marks of a program's sections.
     Marks(Bytes),
     /// The words are not read.
@@ -36,7 +37,9 @@ impl Due {
         ensures { result ≡ status_of self.now }
     {
         match self {
-            Due::Report(_) | Due::Marks(_) => 0,
+            Due::Report(Finish::Returned, _) | Due::Marks(_) => 0,
+            Due::Report(Finish::Uncaught, _) => 1,
+            Due::Report(Finish::Limited, _) => 7,
             Due::Usage => 2,
             Due::Refusal(_) => 3,
             Due::CannotRead(_) => 4,
@@ -49,7 +52,7 @@ impl Due {
         ensures { result.now ≡ text_of self.now }
     {
         match self {
-            Due::Report(text) | Due::Marks(text) | Due::Refusal(text) | Due::CannotRead(text) =>
+            Due::Report(_, text) | Due::Marks(text) | Due::Refusal(text) | Due::CannotRead(text) =>
                 text.as_slice(),
             Due::Usage => USAGE.as_bytes(),
             Due::OutOfMemory => OUT_OF_MEMORY.as_bytes(),

@@ -7,6 +7,7 @@ mod adapters;
 mod answer;
 mod command;
 mod delivery;
+mod finish;
 mod program;
 mod reading;
 mod request;

@@ -1,32 +1,33 @@
 ghost use Rattle.std.specs.Prelude.{◌≡◌, ◌<◌, ◌≤◌, ◌≢◌, ◌⊎◌, List, IfOk, Some, None, length};
-ghost use Rattle.jvm_types.specs.FirstForm.{IsFirstProgram};
-ghost use Rattle.jvm_types.specs.declared.first.FirstOp.{FirstOp as Op};
 ghost use Rattle.solero.specs.Faults.{CountsFault};
-ghost use Rattle.solero.specs.Command.{texts, command};
+ghost use Rattle.solero.specs.Command.{Asked, texts, command};
 ghost use Rattle.solero.specs.Requests.{asked_by};
-ghost use Rattle.solero.specs.Answer.{IsDue, first_long};
+ghost use Rattle.solero.specs.Answer.{AreAccepted, IsDue, first_long};
 ghost use Rattle.solero.specs.Delivery.{Delivers};
-ghost use Rattle.solero.specs.Parts.{IsMadeBy, IsRun, IsUnreadDue, ReportsProgram};
+ghost use Rattle.solero.specs.Parts.{IsMadeBy, IsRun, IsUnreadDue};
+ghost use Rattle.solero.specs.declared.request.Mode.TheVariants.{Replay};
+ghost use Rattle.solero.specs.declared.shelf.NamedFile.{NamedFile as File};
 ghost use Rattle.solero.specs.declared.answer.Due.{Due as TheDue};
 
 use crate::answer::{Due, cannot_read, refused, too_long};
 use crate::command::read_words;
 use crate::delivery::deliver;
+use crate::finish::finish_of;
 use crate::reading::{Unread, read_files};
 use crate::request::{Mode, Request};
 use crate::shelf::{Shelf, ShelfError};
 use crate::sink::Sink;
 use checked_program::Checked;
-use class_runner::{FileError, first_ops, load_program, mark_text, report};
-use first_machine::run_first;
+use class_runner::{FileError, load_program, mark_text, report};
 use jvm_types::limits::MOST_FILES;
 use jvm_types::{Bytes, Gate, Rows};
+use replay_runner::replay;
 use std::alloc::{AllocError, Global};
 
 /// Does what the words ask for: reads the files from the shelf, in order, then loads them, and runs the program or finds the
 /// marks of its sections, and writes what came of it to the sink. It answers the status that the process ends with.
 ///
-/// No part runs on a worker yet, so nobody passes the gate.
+/// All workers run by turns on one thread, so nobody passes the gate.
 pub fn top<S: Shelf, K: Sink, G: Gate + Sync>(
     alloc: Global,
     words: &Vec<String>,
@@ -41,11 +42,14 @@ pub fn top<S: Shelf, K: Sink, G: Gate + Sync>(
     ensures files { S.files shelf.new ≡ S.files shelf.old }
 
     // Each status comes for its cause, and a fault of the sink goes before all.
-    ensures status { (result ≤ 6) × (result ≢ 1) }
+    ensures status { result ≤ 7 }
     ensures words_read { result ≡ 2 → command (texts words.now.items) ≡ None }
     ensures words_not_read { command (texts words.now.items) ≡ None → (result ≡ 2) ⊎ ((result ≡ 5) ⊎ (result ≡ 6)) }
+    // Files that all rules let pass are not refused.
+    ensures accepted { (asked : Asked) (files : List File) → command (texts words.now.items) ≡ Some asked
+        → S.files shelf.old ≡ Some files → AreAccepted files asked → result ≢ 3 }
     ensures shelf_failed { result ≡ 4 → CountsFault (S.faults shelf.old) (S.faults shelf.new) }
-    ensures shelf_fault { S.faults shelf.old < S.faults shelf.new → 4 ≤ result }
+    ensures shelf_fault { S.faults shelf.old < S.faults shelf.new → (4 ≤ result) × (result ≤ 6) }
     ensures sink_failed { result ≡ 5 → CountsFault (K.faults sink.old) (K.faults sink.new) }
     ensures sink_fault { K.faults sink.old < K.faults sink.new → result ≡ 5 }
 {
@@ -98,7 +102,7 @@ fn run_files(alloc: Global, request: &Request, contents: &Rows<Bytes>) -> Due
     ensures { IsRun (asked_by request.now) contents.now result }
 {
     match load_program(alloc, contents, request.heap, request.threads) {
-        Ok(checked) => match made(alloc, request.mode, &checked) {
+        Ok(checked) => match made(alloc, request, &checked) {
             Ok(due) => due,
             Err(AllocError) => Due::OutOfMemory,
         },
@@ -108,22 +112,20 @@ fn run_files(alloc: Global, request: &Request, contents: &Rows<Bytes>) -> Due
 }
 
 // What the mode makes of the program.
-fn made(alloc: Global, mode: Mode, checked: &Checked) -> Result<Due, AllocError>
-    requires { (ops : List Op) × IsFirstProgram checked.now.program ops }
-    ensures { IfOk result (λ due. IsMadeBy mode checked.now due) }
+fn made(alloc: Global, request: &Request, checked: &Checked) -> Result<Due, AllocError>
+    ensures { IfOk result (λ due. IsMadeBy request.now.mode (asked_by request.now) checked.now due) }
 {
-    match mode {
-        Mode::Replay => Ok(Due::Report(report_of(alloc, checked)?)),
+    match request.mode {
+        Mode::Replay => report_of(alloc, request, checked),
         Mode::Mark => Ok(Due::Marks(mark_text(alloc, checked)?)),
     }
 }
 
-// The report of a run of the program.
-fn report_of(alloc: Global, checked: &Checked) -> Result<Bytes, AllocError>
-    requires { (ops : List Op) × IsFirstProgram checked.now.program ops }
-    ensures { IfOk result (λ text. ReportsProgram checked.now.program text) }
+// The report of a run in the order that is asked for.
+fn report_of(alloc: Global, request: &Request, checked: &Checked) -> Result<Due, AllocError>
+    ensures { IfOk result (λ due. IsMadeBy Replay (asked_by request.now) checked.now due) }
 {
-    let ops = first_ops(alloc, checked)?;
-    let outcome = run_first(alloc, &ops)?;
-    report(alloc, &outcome)
+    let outcome = replay(alloc, checked, &request.cfg, &request.order)?;
+    let text = report(alloc, &outcome)?;
+    Ok(Due::Report(finish_of(&outcome), text))
 }

@@ -9,7 +9,7 @@ use std::alloc::{AllocError, Global};
 use std::process::Abort;
 use std::test::Fail;
 use std::{fmt, io};
-use test_classes::{adds, bytes_of, pair};
+use test_classes::{SHARED, adds, bytes_of, pair, stores_this};
 
 const REPORT: &str = "5\ninit returned\ndone returned\n\
     counts 0 instructions 6 elided 0 failed 0 locked 0 inflated 0\n";
@@ -197,17 +197,63 @@ fn faults_of_the_shelf(rt: HostRuntime) -> Result<(), Fail> {
     Ok(())
 }
 
+const STEPS: &str = "5\ninit steps\ndone not run\n\
+    counts 0 instructions 5 elided 0 failed 0 locked 0 inflated 0\n";
+
+const ELIDED: &str = "8\n8\n8\ninit returned\ndone returned\n\
+    counts 0 instructions 66 elided 3 failed 0 locked 1 inflated 0\n";
+
+const LOCKED: &str = "8\n8\n8\ninit returned\ndone returned\n\
+    counts 0 instructions 66 elided 0 failed 0 locked 4 inflated 0\n";
+
+// A reader meets a writer once, and reads again.
+const TORN: &str = "8\ninit returned\nthread 1 returned\nthread 2 returned\ndone returned\n\
+    counts 0 instructions 8 elided 0 failed 0 locked 0 inflated 0\n\
+    counts 1 instructions 27 elided 1 failed 1 locked 0 inflated 0\n\
+    counts 2 instructions 14 elided 0 failed 0 locked 1 inflated 0\n";
+
+const TORN_ORDER: &str = "11111111111112222222222221112222222";
+
+const MARKED: &str = "P.set(I)V method M1\nP.sum()I block 3 M0\n";
+
 #[test]
 fn files_that_are_run_and_refused(rt: HostRuntime) -> Result<(), Fail> {
-    let cases = [
+    let runs = [
         Case::new(&["A.class"], adds(), &[2], 0, REPORT),
-        Case::new(&["A.class"], pair(), &[], 3, "refused L0 file 0 at 0\n"),
+        Case::new(&["--steps", "5", "A.class"], adds(), &[], 7, STEPS),
+        Case::new(&["A.class"], pair(), &[], 0, ELIDED),
+        Case::new(&["--elide", "off", "A.class"], pair(), &[], 0, LOCKED),
+        Case::new(
+            &["--threads", "2", "--order", TORN_ORDER, "A.class"],
+            SHARED,
+            &[],
+            0,
+            TORN,
+        ),
+        Case::new(&["--mode", "mark", "A.class"], pair(), &[], 0, MARKED),
+        Case::new(
+            &["--mode", "mark", "A.class"],
+            stores_this(),
+            &[],
+            0,
+            "K.get()I method M5\n",
+        ),
+    ];
+    check_all(&rt, &runs)?;
+    let refusals = [
         Case::new(
             &["A.class", "A.class"],
             adds(),
             &[],
             3,
             "refused L5 file 1 at 0\n",
+        ),
+        Case::new(
+            &["--threads", "1", "A.class"],
+            adds(),
+            &[],
+            3,
+            "refused L4 file 0 at 0\n",
         ),
         Case::new(&["A.class"], "", &[], 3, "refused C3 file 0 at 0\n"),
         Case::new(
@@ -218,7 +264,7 @@ fn files_that_are_run_and_refused(rt: HostRuntime) -> Result<(), Fail> {
             "refused C2 file 0 at 6\n",
         ),
     ];
-    check_all(&rt, &cases)?;
+    check_all(&rt, &refusals)?;
     Ok(())
 }
 

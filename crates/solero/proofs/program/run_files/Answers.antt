@@ -4,7 +4,7 @@ use Rattle.solero.proofs.Owed.{made_of_files, refused_run}
 use Rattle.solero.proofs.program.run_files.Goals as goal
 
 pub returns-in-Ok-made : goal.returns-in-Ok-made
-returns-in-Ok-made c = made_of_files _ (asked_by c.args.request.now) _ c.in-Ok.checked _ refl c.in-Ok.ensures.first c.in-Ok.ensures.ok c.in-Ok-made.ensures
+returns-in-Ok-made c = made_of_files _ (asked_by c.args.request.now) _ c.in-Ok.checked _ refl c.in-Ok.ensures.ok c.in-Ok-made.ensures
 
 pub returns-in-Err-Refused : goal.returns-in-Err-Refused
 returns-in-Err-Refused c =

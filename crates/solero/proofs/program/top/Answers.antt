@@ -1,0 +1,5 @@
+use Rattle.solero.proofs.Accepted.{never_three}
+use Rattle.solero.proofs.program.top.Goals as goal
+
+pub returns-clause-accepted : goal.returns-clause-accepted
+returns-clause-accepted g c = λ asked files read told accepted three. never_three asked files _ _ _ _ _ _ _ _ (rw (read, told) at c.work-due.ensures.due) c.deliver.ensures accepted three
