@@ -1,4 +1,4 @@
-//! Tests of loading and running that use public calls alone. Each topic is a module. They stand here so that the
+//! Tests of loading and of texts that use public calls alone. Each topic is a module. They stand here so that the
 //! crates below are not proved a second time for them.
 #![tactic(auto)]
 
@@ -22,8 +22,6 @@ mod reading;
 mod refusals;
 #[cfg(test)]
 mod reports;
-#[cfg(test)]
-mod runs;
 #[cfg(test)]
 mod shared_lists;
 #[cfg(test)]

@@ -1,15 +1,15 @@
-//! Small programs, and the rule that refuses each of them.
+//! Small programs that are loaded, and small programs with the rule that refuses each of them.
 
 ghost use Rattle.std.specs.Prelude.{◌<◌, ◌≤◌, length};
 
 use crate::files::{one, two};
 use crate::refusals::{
-    FINAL_FIELD, MISUSED, NOT_BUILT_YET, OTHER_SUPER, PairRefusal, Refusal, TWO_FILES, UNDECODABLE,
+    FINAL_FIELD, LOADED, MISUSED, OTHER_SUPER, PairRefusal, Refusal, TWO_FILES, UNDECODABLE,
     UNDECODABLE_ROWS, UNLINKED, UNREADABLE, UNTAGGED, UNTYPED, VERSIONS, WIDE,
 };
-use class_runner::{first_ops, load_program};
+use class_runner::load_program;
 use jvm_types::limits::LEAST_HEAP;
-use jvm_types::{Bytes, FirstOp, Rows};
+use jvm_types::{Bytes, Rows};
 use std::alloc::{AllocError, Global};
 use std::process::Abort;
 use std::test::*;
@@ -91,23 +91,6 @@ fn check_beside(
 }
 
 #[test]
-fn loads_a_class_that_adds_and_prints(rt: HostRuntime) -> Result<(), Fail> {
-    let files = one(rt.alloc(), changed(rt.alloc(), adds(), &[])?)?;
-    let program = load_program(rt.alloc(), &files, LEAST_HEAP, 0)?;
-    let ops = first_ops(rt.alloc(), &program)?;
-    let wanted = [
-        FirstOp::Out,
-        FirstOp::Const(2),
-        FirstOp::Const(3),
-        FirstOp::Add,
-        FirstOp::Print,
-        FirstOp::Return,
-    ];
-    assert_eq!(rt; ops.as_slice(), wanted.as_slice());
-    Ok(())
-}
-
-#[test]
 fn refuses_by_each_rule_of_files_and_code(rt: HostRuntime) -> Result<(), Fail> {
     check_all(&rt, adds(), &UNREADABLE)?;
     check_all(&rt, adds(), &VERSIONS)?;
@@ -141,15 +124,12 @@ fn refuses_in_one_of_two_files(rt: HostRuntime) -> Result<(), Fail> {
 /// Compiled classes pass all rules, a worker needs `run`, and the fixed words fit the heap.
 #[test]
 fn compiled_classes_workers_and_words(rt: HostRuntime) -> Result<(), Fail> {
-    for hex in [pair(), tally(), work()] {
-        check_all(&rt, hex, &NOT_BUILT_YET)?;
+    for hex in [adds(), pair(), tally(), work()] {
+        check_all(&rt, hex, &LOADED)?;
     }
     let without_run = changed(rt.alloc(), adds(), &[])?;
     check_line(&rt, without_run, true, "refused L4 file 0 at 0")?;
-    for (count, wanted) in [
-        (2026, "refused L0 file 0 at 0"),
-        (2027, "refused L8 file 0 at 0"),
-    ] {
+    for (count, wanted) in [(2026, ""), (2027, "refused L8 file 0 at 0")] {
         check_line(&rt, with_statics(rt.alloc(), count)?, false, wanted)?;
     }
     Ok(())

@@ -222,10 +222,10 @@ pub const FINAL_FIELD: [Refusal; 1] = [Refusal {
     line: "refused L7 file 0 method 1 at 2",
 }];
 
-/// A class that is loaded as far as linking and verifying go, and is not of the first form.
-pub const NOT_BUILT_YET: [Refusal; 1] = [Refusal {
+/// A class that is loaded.
+pub const LOADED: [Refusal; 1] = [Refusal {
     changes: &[],
-    line: "refused L0 file 0 at 0",
+    line: "",
 }];
 
 /// A class right below `java/lang/Exception`.
@@ -407,11 +407,11 @@ pub const TWO_FILES: [PairRefusal; 6] = [
         second: &[],
         line: "refused L5 file 1 at 0",
     },
-    // two classes that are loaded are not of the first form
+    // two classes that are loaded
     PairRefusal {
         first: &[],
         second: &[(13, b'B')],
-        line: "refused L0 file 0 at 0",
+        line: "",
     },
     // the second is no class file, the first has no code
     PairRefusal {

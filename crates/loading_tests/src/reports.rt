@@ -61,8 +61,8 @@ fn reports_two_threads_and_refusals(rt: HostRuntime) -> Result<(), Fail> {
     };
     let text = report(alloc, &outcome)?;
     assert_eq!(rt; text.as_slice(), REPORT.as_bytes());
-    let text = refusal(alloc, Rule::L(LRule::L0), in_file(0, 0))?;
-    assert_eq!(rt; text.as_slice(), b"refused L0 file 0 at 0\n".as_slice());
+    let text = refusal(alloc, Rule::L(LRule::L8), in_file(0, 0))?;
+    assert_eq!(rt; text.as_slice(), b"refused L8 file 0 at 0\n".as_slice());
     let text = refusal(alloc, Rule::C(CRule::C10), in_method(3, 12, 65_535))?;
     assert_eq!(rt;
         text.as_slice(),

@@ -1,4 +1,0 @@
-pub mod PlainRun
-pub mod Operands
-pub mod Progress
-pub mod OneOutcome
