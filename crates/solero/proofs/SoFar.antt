@@ -4,12 +4,12 @@ use Rattle.std.proofs.lemmas.Bool.{le-ltb, lt-ltb}
 use Rattle.std.proofs.lemmas.List.{length-map, length-append, length-replicate, take_at}
 use Rattle.std.specs.Prelude.{IfSome, Err}
 use Rattle.std.specs.List.{AllByRecursion}
-use Rattle.solero.specs.Shelf.{IsRead, content_of}
+use Rattle.outside.specs.Shelf.{IsRead, content_of}
 use Rattle.solero.specs.Answer.{longest_file, first_long, contents_of}
 use Rattle.solero.specs.Reading.{IsLong, IsUnread}
-use Rattle.solero.specs.declared.shelf.NamedFile.{NamedFile}
-use Rattle.solero.specs.declared.shelf.ShelfError.{ShelfError}
-use Rattle.solero.specs.declared.shelf.ShelfError.TheVariants.{Memory, Failed, TooLong}
+use Rattle.outside.specs.declared.shelf.NamedFile.{NamedFile}
+use Rattle.outside.specs.declared.shelf.ShelfError.{ShelfError}
+use Rattle.outside.specs.declared.shelf.ShelfError.TheVariants.{Memory, Failed, TooLong}
 
 -- so many files are read, and these are their contents; these names are left of all
 pub record SoFar (files : Option (List NamedFile)) (all left : List (List ℕ)) (before after file : ℕ) (contents : List (List ℕ)) : Type 0 where

@@ -1,8 +1,3 @@
-pub mod Faults
-pub mod Shelf
-pub mod ListShelf
-pub mod Sink
-pub mod ListSink
 pub mod Delivery
 pub mod Bounds
 pub mod Command

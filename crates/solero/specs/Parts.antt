@@ -10,8 +10,8 @@ use Rattle.class_runner.specs.Refusal.{refusal_text}
 use Rattle.class_runner.specs.MarksText.{marks_text}
 use Rattle.solero.specs.Command.{Asked}
 use Rattle.solero.specs.Answer.{longest_file, IsMade, Refuses, ReportsRun}
-use Rattle.solero.specs.declared.shelf.ShelfError.{ShelfError}
-use Rattle.solero.specs.declared.shelf.ShelfError.TheVariants.{Failed, TooLong}
+use Rattle.outside.specs.declared.shelf.ShelfError.{ShelfError}
+use Rattle.outside.specs.declared.shelf.ShelfError.TheVariants.{Failed, TooLong}
 use Rattle.solero.specs.declared.request.Mode.{Mode}
 use Rattle.solero.specs.declared.request.Mode.TheVariants.{Replay, Mark}
 use Rattle.solero.specs.declared.answer.Due.{Due}

@@ -1,12 +1,12 @@
 -- Files that are read from a shelf by their names, in order, until one is not read.
 use Rattle.std.specs.Prelude.{◌≡◌, ℕ, ◌<◌, ◌≤◌, List, [], ◌∷◌, ◌++◌, length, take, Option, Some, None, IfSome, Result, Ok, Err}
 use Rattle.std.specs.List.{AllByRecursion}
-use Rattle.solero.specs.Faults.{CountsFault}
-use Rattle.solero.specs.Shelf.{IsRead}
+use Rattle.outside.specs.Faults.{CountsFault}
+use Rattle.outside.specs.Shelf.{IsRead}
 use Rattle.solero.specs.Answer.{longest_file, first_long, contents_of}
-use Rattle.solero.specs.declared.shelf.NamedFile.{NamedFile}
-use Rattle.solero.specs.declared.shelf.ShelfError.{ShelfError}
-use Rattle.solero.specs.declared.shelf.ShelfError.TheVariants.{Memory, Failed, TooLong}
+use Rattle.outside.specs.declared.shelf.NamedFile.{NamedFile}
+use Rattle.outside.specs.declared.shelf.ShelfError.{ShelfError}
+use Rattle.outside.specs.declared.shelf.ShelfError.TheVariants.{Memory, Failed, TooLong}
 
 -- All are read, and these are their contents. The shelf tells its files, or tells none at None, and its count of faults goes
 -- from before to after.

@@ -2,7 +2,7 @@ ghost use Rattle.std.specs.Prelude.{◌≡◌};
 ghost use Rattle.solero.specs.Delivery.{IsWritten, Delivers};
 
 use crate::answer::Due;
-use crate::sink::{Sink, SinkFailed};
+use outside::sink::{Sink, SinkFailed};
 
 /// The status where the sink failed.
 const SINK_FAILED: u8 = 5;

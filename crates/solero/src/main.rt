@@ -3,7 +3,6 @@
 
 ghost use Rattle.std.specs.Prelude.{◌≡◌, ◌≢◌};
 
-mod adapters;
 mod answer;
 mod command;
 mod delivery;
@@ -13,15 +12,13 @@ mod reading;
 mod request;
 #[cfg(test)]
 mod row_tests;
-mod shelf;
-mod sink;
 #[cfg(test)]
 mod tests;
 mod values;
 
-use adapters::{FileShelf, OutputSink};
 use answer::Due;
 use jvm_types::OpenGate;
+use outside::adapters::{FileShelf, OutputSink};
 use std::io::ErrorKind;
 use std::process::ExitCode;
 use std::rt::Env;

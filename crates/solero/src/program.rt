@@ -1,12 +1,12 @@
 ghost use Rattle.std.specs.Prelude.{◌≡◌, ◌<◌, ◌≤◌, ◌≢◌, ◌⊎◌, List, IfOk, Some, None, length};
-ghost use Rattle.solero.specs.Faults.{CountsFault};
+ghost use Rattle.outside.specs.Faults.{CountsFault};
 ghost use Rattle.solero.specs.Command.{Asked, texts, command};
 ghost use Rattle.solero.specs.Requests.{asked_by};
 ghost use Rattle.solero.specs.Answer.{AreAccepted, IsDue, first_long};
 ghost use Rattle.solero.specs.Delivery.{Delivers};
 ghost use Rattle.solero.specs.Parts.{IsMadeBy, IsRun, IsUnreadDue};
 ghost use Rattle.solero.specs.declared.request.Mode.TheVariants.{Replay};
-ghost use Rattle.solero.specs.declared.shelf.NamedFile.{NamedFile as File};
+ghost use Rattle.outside.specs.declared.shelf.NamedFile.{NamedFile as File};
 ghost use Rattle.solero.specs.declared.answer.Due.{Due as TheDue};
 
 use crate::answer::{Due, cannot_read, refused, too_long};
@@ -15,12 +15,12 @@ use crate::delivery::deliver;
 use crate::finish::finish_of;
 use crate::reading::{Unread, read_files};
 use crate::request::{Mode, Request};
-use crate::shelf::{Shelf, ShelfError};
-use crate::sink::Sink;
 use checked_program::Checked;
 use class_runner::{FileError, load_program, mark_text, report};
 use jvm_types::limits::MOST_FILES;
 use jvm_types::{Bytes, Gate, Rows};
+use outside::shelf::{Shelf, ShelfError};
+use outside::sink::Sink;
 use replay_runner::replay;
 use std::alloc::{AllocError, Global};
 

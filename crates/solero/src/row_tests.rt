@@ -7,9 +7,9 @@ mod one_thread;
 mod sections;
 
 use crate::program::top;
-use crate::shelf::{ListShelf, NamedFile};
-use crate::sink::ListSink;
 use jvm_types::{Bytes, OpenGate, Rows};
+use outside::shelf::{ListShelf, NamedFile};
+use outside::sink::ListSink;
 use std::alloc::{AllocError, Global};
 use std::process::Abort;
 use std::test::Fail;

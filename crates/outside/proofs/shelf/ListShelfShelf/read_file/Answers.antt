@@ -1,7 +1,7 @@
 use Rattle.std.proofs.Common.{arith, ◌≡◌, true, false}
 use Rattle.std.proofs.lemmas.Grind.{common_steps}
-use Rattle.solero.specs.ListShelf.{fails}
-use Rattle.solero.proofs.shelf.ListShelfShelf.read_file.Goals as goal
+use Rattle.outside.specs.ListShelf.{fails}
+use Rattle.outside.proofs.shelf.ListShelfShelf.read_file.Goals as goal
 
 -- the file is there and the call is not on the list, so it does not fail
 pub returns-in-Some-clause-failed : goal.returns-in-Some-clause-failed

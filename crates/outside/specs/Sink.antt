@@ -1,8 +1,8 @@
 -- What a sink answers to a piece of text.
 use Rattle.std.specs.Prelude.{◌≡◌, ℕ, ◌≤◌, List, ◌++◌, length, take, Option, Result, Ok, Err}
 use Rattle.std.specs.Option.{option_map}
-use Rattle.solero.specs.Faults.{CountsFault}
-use Rattle.solero.specs.declared.sink.SinkFailed.{SinkFailed}
+use Rattle.outside.specs.Faults.{CountsFault}
+use Rattle.outside.specs.declared.sink.SinkFailed.{SinkFailed}
 
 -- The answer to a piece, by a sink that has accepted the bytes told or, where there are none, does not tell them.
 -- At the return it tells the bytes now, and its count of faults has gone from before to after.

@@ -1,9 +1,9 @@
 ghost use Rattle.std.specs.Prelude.{◌≡◌, ◌≢◌, ◌↔◌, ◌<◌, ◌≤◌, ℕ, List, Option, Some, None, IsTrue, IfOk, length};
 ghost use Rattle.std.specs.Option.{option_copied};
-ghost use Rattle.solero.specs.Shelf.{IsRead, file_of, content_of};
-ghost use Rattle.solero.specs.ListShelf.{fails, after_reading};
-ghost use Rattle.solero.specs.declared.shelf.NamedFile.{NamedFile as File};
-ghost use Rattle.solero.specs.declared.shelf.ShelfError.TheVariants.{Memory};
+ghost use Rattle.outside.specs.Shelf.{IsRead, file_of, content_of};
+ghost use Rattle.outside.specs.ListShelf.{fails, after_reading};
+ghost use Rattle.outside.specs.declared.shelf.NamedFile.{NamedFile as File};
+ghost use Rattle.outside.specs.declared.shelf.ShelfError.TheVariants.{Memory};
 
 use jvm_types::{Bytes, Rows};
 use std::alloc::{AllocError, Global};
@@ -82,7 +82,7 @@ pub struct ListShelf {
 }
 
 impl Model for ListShelf {
-    ghost use Rattle.solero.specs.ListShelf.{Listed};
+    ghost use Rattle.outside.specs.ListShelf.{Listed};
 
     ghost Value = { Listed };
 
@@ -143,7 +143,7 @@ pub struct CalmShelf {
 
 impl Model for CalmShelf {
     ghost use Rattle.std.specs.Prelude.{List};
-    ghost use Rattle.solero.specs.declared.shelf.NamedFile.{NamedFile};
+    ghost use Rattle.outside.specs.declared.shelf.NamedFile.{NamedFile};
 
     ghost Value = { List NamedFile };
 

@@ -1,9 +1,9 @@
 -- A shelf in memory whose calls fail as a list says.
 use Rattle.std.specs.Prelude.{ℕ, nat_eq, Bool, ◌||◌, List, is_none, if◌then◌else◌}
 use Rattle.std.specs.List.{list_any}
-use Rattle.solero.specs.Faults.{risen}
-use Rattle.solero.specs.Shelf.{file_of}
-use Rattle.solero.specs.declared.shelf.NamedFile.{NamedFile}
+use Rattle.outside.specs.Faults.{risen}
+use Rattle.outside.specs.Shelf.{file_of}
+use Rattle.outside.specs.declared.shelf.NamedFile.{NamedFile}
 
 -- the files, the numbers of the calls that fail, and how many calls and faults there were
 pub record Listed : Type 0 where

@@ -1,7 +1,7 @@
 ghost use Rattle.std.specs.Prelude.{◌≡◌, ◌<◌, ◌++◌, ℕ, List, [], Option, Some, None, length, take, OnErr, IfOk};
-ghost use Rattle.solero.specs.Faults.{risen};
-ghost use Rattle.solero.specs.Sink.{IsTaken};
-ghost use Rattle.solero.specs.ListSink.{accepted};
+ghost use Rattle.outside.specs.Faults.{risen};
+ghost use Rattle.outside.specs.Sink.{IsTaken};
+ghost use Rattle.outside.specs.ListSink.{accepted};
 
 use jvm_types::Bytes;
 use std::alloc::Global;
@@ -38,7 +38,7 @@ pub struct ListSink {
 
 impl Model for ListSink {
     ghost use Rattle.std.specs.Prelude.{◌<◌};
-    ghost use Rattle.solero.specs.ListSink.{Accepting};
+    ghost use Rattle.outside.specs.ListSink.{Accepting};
 
     ghost Value = { Accepting };
 

@@ -2,10 +2,10 @@
 use Rattle.std.specs.Prelude.{◌≡◌, ℕ, ◌<◌, ◌≤◌, List, [], length, find, Option, IfSome, Result, Ok, Err}
 use Rattle.std.specs.Option.{option_map_or}
 use Rattle.std.specs.Str.{bytes_eq}
-use Rattle.solero.specs.Faults.{CountsFault}
-use Rattle.solero.specs.declared.shelf.NamedFile.{NamedFile}
-use Rattle.solero.specs.declared.shelf.ShelfError.{ShelfError}
-use Rattle.solero.specs.declared.shelf.ShelfError.TheVariants.{Memory, Failed, TooLong}
+use Rattle.outside.specs.Faults.{CountsFault}
+use Rattle.outside.specs.declared.shelf.NamedFile.{NamedFile}
+use Rattle.outside.specs.declared.shelf.ShelfError.{ShelfError}
+use Rattle.outside.specs.declared.shelf.ShelfError.TheVariants.{Memory, Failed, TooLong}
 
 -- the first file of that name
 abbrev pub file_of : List NamedFile → List ℕ → Option NamedFile

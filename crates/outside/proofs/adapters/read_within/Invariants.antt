@@ -1,6 +1,6 @@
 use Rattle.std.proofs.Common.{◌-◌, ◌≤◌, length}
 use Rattle.std.specs.Io.KnownBytes.{Consumes}
-use Rattle.solero.proofs.adapters.read_within.Given as goal
+use Rattle.outside.proofs.adapters.read_within.Given as goal
 
 -- the content is what the reader has given, and no longer than the limit
 abbrev pub invariant-loop-content : goal.invariant-loop-content

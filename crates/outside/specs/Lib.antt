@@ -1,0 +1,5 @@
+pub mod Faults
+pub mod Shelf
+pub mod ListShelf
+pub mod Sink
+pub mod ListSink
