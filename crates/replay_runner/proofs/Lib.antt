@@ -5,3 +5,4 @@ mod NextLawful
 mod NextRuns
 mod Turns
 mod MachineEvents
+mod ManyEvents

@@ -1,6 +1,7 @@
 -- A machine that runs: the program and the settings that it was made for, and its state.
+use Rattle.std.specs.Prelude.{◌≡◌, ℕ, zero, suc, List, Some, slice_get}
 use Rattle.checked_program.specs.MarkedProgram.{MarkedProgram, IsMarked}
-use Rattle.machine_types.specs.Core.{Core}
+use Rattle.machine_types.specs.Core.{Core, event}
 use Rattle.machine_types.specs.Settings.{AreSettings}
 use Rattle.machine_types.specs.Threads.{Thread}
 use Rattle.frames.specs.ThreadParts.{part_begun}
@@ -23,3 +24,19 @@ pub record AreRunning (m : Running) : Type 0 where
   pub width : HaveWidth m.cfg
   pub threads : AreThreads m.program m.cfg m.core
   pub facts : RunFacts m.program m.cfg m.core
+
+-- ---- many events of one thread
+
+abbrev pub events : MarkedProgram → Core → (t n : ℕ) → Core
+events c s t zero = s
+events c s t (suc n) = event c (events c s t n) t
+
+abbrev pub run_on : Running → (t n : ℕ) → Running
+run_on m t n = record m { core = events m.program m.core t n }
+
+-- this is a thread of a machine, and these are the machine's words
+pub record IsThreadOf (m : Running) (p : MarkedProgram) (t : ℕ) (s : Thread) (words : List ℕ) : Type 0 where
+  pub runs : AreRunning m
+  pub program : p ≡ m.program
+  pub at : slice_get m.core.threads t ≡ Some s
+  pub words_are : words ≡ m.core.words

@@ -14,18 +14,13 @@ use jvm_types::{Bytes, Outcome};
 use machine_types::Config;
 use std::alloc::{AllocError, Global};
 
-/// Runs thread 0 until it is not live, in `init`. A run ends by its limits, long before the count here does.
+/// Runs thread 0 until it is not live, in `init`.
 fn run_init(machine: &mut Machine, p: &Checked) -> Result<(), AllocError>
     requires { p.now ≡ machine.old.program }
     ensures on { OnOk result ((order : List ℕ) → GoesOn machine.old (First order) machine.new (First order)) }
     ensures over { OnOk result (lives machine.new.core 0 ≡ false) }
 {
-    for _ in 0..u64::MAX {
-        if !machine.event(p, 0) {
-            return Ok(());
-        }
-    }
-    Err(AllocError)
+    machine.run_alone(p, 0)
 }
 
 /// Gives a worker the event of its number in an order, where it is live.
@@ -106,12 +101,7 @@ fn run_done(machine: &mut Machine, p: &Checked) -> Result<(), AllocError>
     ensures on { OnOk result (GoesOn machine.old Last machine.new Last) }
     ensures over { OnOk result (lives machine.new.core 0 ≡ false) }
 {
-    for _ in 0..u64::MAX {
-        if !machine.event(p, 0) {
-            return Ok(());
-        }
-    }
-    Err(AllocError)
+    machine.run_alone(p, 0)
 }
 
 /// Runs the workers by an order and then round by round, and `done` where it may begin.

@@ -1,13 +1,13 @@
 //! The machine: the words that all threads share, and the threads.
 
-ghost use Rattle.std.specs.Prelude.{◌≡◌, ◌+◌, ◌≤◌, ◌<◌, length, map, slice_get, slice_set, Some, IfOk, OnOk, OnErr};
+ghost use Rattle.std.specs.Prelude.{◌≡◌, ◌+◌, ◌≤◌, ◌<◌, ℕ, false, length, map, slice_get, slice_set, Some, IfOk, OnOk, OnErr};
 ghost use Rattle.std.specs.List.{list_all, range_with_len};
-ghost use Rattle.machine_types.specs.Core.{done_end, ended_by, event, lives, may_begin, may_begin_by, next, outcome, start, start_thread};
+ghost use Rattle.machine_types.specs.Core.{done_end, ended_by, event, is_live, lives, may_begin, may_begin_by, next, outcome, start, start_thread};
 ghost use Rattle.machine_types.specs.Parts.{has_finished, has_returned};
 ghost use Rattle.machine_types.specs.Settings.{AreSettings};
 ghost use Rattle.jvm_types.specs.declared.limits.TheConstants.{MOST_WORKERS};
 ghost use Rattle.record_laws.specs.RunFacts.{HaveWidth};
-ghost use Rattle.replay_runner.specs.Running.{own_begun};
+ghost use Rattle.replay_runner.specs.Running.{IsThreadOf, Running, own_begun, run_on};
 
 use crate::start_words::start_words;
 use checked_program::Checked;
@@ -108,6 +108,24 @@ fn begin_part(threads: &mut Vec<ThreadState>)
     }
 }
 
+/// Runs a thread of a machine until it is not live. A run ends by its limits, long before the count here does.
+fn run_thread(s: &mut ThreadState, p: &Checked, words: &mut Rows<u64>) -> Result<(), AllocError>
+    requires { (m : Running) × (t : ℕ) × IsThreadOf m p.now t s.old words.old }
+    ensures on { (m : Running) (t : ℕ) → IsThreadOf m p.now t s.old words.old → (n : ℕ) × IsThreadOf (run_on m t n) p.now t s.new words.new }
+    ensures over { OnOk result (is_live s.new.phase ≡ false) }
+{
+    reached_fits();
+    threads_are_kept();
+    run_facts_event();
+    for _ in 0..u64::MAX {
+        if !s.is_live() {
+            return Ok(());
+        }
+        event(s, p, words);
+    }
+    Err(AllocError)
+}
+
 /// How `done` ended.
 fn done_end(threads: &[ThreadState]) -> End
     ensures { result ≡ done_end threads.now }
@@ -173,6 +191,18 @@ impl Machine {
         run_facts_event();
         event(&mut self.threads[t as usize], p, &mut self.words);
         true
+    }
+
+    /// Events of thread `t` alone, until it is not live.
+    pub fn run_alone(&mut self, p: &Checked, t: u8) -> Result<(), AllocError>
+        requires { p.now ≡ self.old.program }
+        ensures on { (n : ℕ) × (self.new ≡ run_on self.old t n) }
+        ensures over { OnOk result (lives self.new.core t ≡ false) }
+    {
+        if !self.lives(t) {
+            return Ok(());
+        }
+        run_thread(&mut self.threads[t as usize], p, &mut self.words)
     }
 
     /// Whether the next part may begin: that of the workers when `init` has returned, or `done` when each worker has returned
