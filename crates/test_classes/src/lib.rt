@@ -2,7 +2,10 @@
 #![tactic(auto)]
 
 mod bytes;
+mod ints;
 mod meetings;
+mod objects;
+mod overflows;
 mod pairs;
 mod sections;
 mod single;
@@ -11,7 +14,16 @@ mod texts;
 mod torn;
 
 pub use bytes::{bytes_of, changed};
+pub use ints::{
+    BRANCHES, EDGES, LOADS_CONSTANTS, LOCALS, NARROWS, QUOTIENTS, SHIFTS, STACK_MOVES, SUMS,
+    SWITCHES,
+};
 pub use meetings::{BANK, LOCKS_OUT, RECORDS, SPINS, WAITS, WAITS_DEEP};
+pub use objects::{ARRAYS, BOOLEANS, FIELDS, FILLS_HEAP, INVOKES, MONITORS, THROWS};
+pub use overflows::{
+    CATCHES_DEEPEST, DESCENDS, DESCENDS_WIDE, FILLS_SLOTS, OVERFLOWS_ATTEMPT, OVERFLOWS_LOCKED,
+    OVERFLOWS_TWICE,
+};
 pub use pairs::{SHARED, SHARED_AND_DONE, TWICE, UNLOCKED};
 pub use sections::{calls, counts_up, marks, stores_this};
 pub use single::{
