@@ -1,9 +1,12 @@
 //! Runs of worked classes, each with its whole text and its status. The counts follow from the instructions of the
 //! classes, event by event.
 
+mod ints;
 mod limits;
 mod meetings;
+mod objects;
 mod one_thread;
+mod overflows;
 mod sections;
 
 use crate::program::top;
@@ -99,5 +102,13 @@ fn threads_meet(rt: HostRuntime) -> Result<(), Fail> {
 #[test]
 fn limits_end_threads(rt: HostRuntime) -> Result<(), Fail> {
     check_all(&rt, &limits::LIMITS)?;
+    Ok(())
+}
+
+#[test]
+fn instructions_and_frames(rt: HostRuntime) -> Result<(), Fail> {
+    check_all(&rt, &ints::INTS)?;
+    check_all(&rt, &objects::OBJECTS)?;
+    check_all(&rt, &overflows::OVERFLOWS)?;
     Ok(())
 }
