@@ -1,0 +1,13 @@
+pub mod LockViews
+pub mod CountedPhases
+pub mod PartOwners
+pub mod OwnersStep
+pub mod LockWritten
+pub mod OwnerWritten
+pub mod OwnersEvents
+pub mod WordViews
+pub mod QuietWords
+pub mod PlainMoves
+pub mod LockPhases
+pub mod OwnerPhases
+pub mod EventOwners

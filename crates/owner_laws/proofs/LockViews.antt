@@ -1,0 +1,111 @@
+-- What the words say of locks, where one of them has changed; and how a thread has a monitor by them.
+use Rattle.std.proofs.Common.{◌≡◌, ◌≢◌, ◌⊎◌, inl, inr, ℕ, ◌+◌, Bool, true, false, cond, Option, Some, None, refl, sym, ap, ◌∙◌, arith}
+use Rattle.std.specs.Prelude.{◌==◌}
+use Rattle.std.proofs.lemmas.Bool.Decides.{nat_tests}
+use Rattle.machine_types.specs.declared.lock.Held.{Held}
+use Rattle.machine_types.specs.declared.lock.Kept.{Kept}
+use Rattle.machine_types.specs.declared.lock.Kept.TheVariants as keeps
+use Rattle.machine_types.specs.declared.lock.LockWord.{LockWord}
+use Rattle.machine_types.specs.declared.lock.LockWord.TheVariants as locks
+use Rattle.machine_types.specs.Owners.{Locks, Hold, NotHeld, HeldFlat, HeldFat, hold_by_word, hold_by_kept, hold_by_list}
+
+abbrev pub set_lock : (n : ℕ) → LockWord → Locks → Locks
+set_lock n l v = record v { lock = λ m. cond (n == m) l (v.lock m) }
+
+abbrev pub set_owner : (r owner : ℕ) → Locks → Locks
+set_owner r owner v = record v { owner = λ k. cond (r == k) owner (v.owner k) }
+
+abbrev pub set_next : ℕ → Locks → Locks
+set_next n v = record v { next = n }
+
+-- the count of one monitor is another
+abbrev pub recounted : (n k : ℕ) → (count : ℕ → ℕ) → (m : ℕ) → ℕ
+recounted n k count m = cond (n == m) k (count m)
+
+-- ---- tests
+
+pub is_there : (n m : ℕ) → (n == m) ≡ true → n ≡ m
+is_there n m e = grind (arith, nat_tests, e)
+
+pub not_there : (n m : ℕ) → n ≢ m → (n == m) ≡ false
+not_there n m d = by_test (n == m) refl
+  where
+    by_test : (b : Bool) → (n == m) ≡ b → b ≡ false
+    by_test true e = absurd (d (is_there n m e))
+    by_test false e = refl
+
+pub not_same : (n m : ℕ) → (n == m) ≡ false → n ≢ m
+not_same n m e g = grind (arith, nat_tests, g, e)
+
+pub same_there : (n : ℕ) → (n == n) ≡ true
+same_there n = grind (arith, nat_tests)
+
+pub itself : (t : ℕ) (h : Hold) → cond (t == t) h NotHeld ≡ h
+itself t h = ap (λ (b : Bool). cond b h NotHeld) (same_there t)
+
+pub another : (t u : ℕ) (h : Hold) → t ≢ u → cond (t == u) h NotHeld ≡ NotHeld
+another t u h d = ap (λ (b : Bool). cond b h NotHeld) (not_there t u d)
+
+-- ---- how a thread has a monitor
+
+pub flatly : (t : ℕ) (l : LockWord) (owner : ℕ → ℕ) → hold_by_word t l owner ≡ HeldFlat → (l ≡ locks.Held t) ⊎ (l ≡ locks.Flagged t)
+flatly t (locks.Free c) owner e = absurd (cc)
+flatly t (locks.Held u) owner e = by_test (u == t) refl e
+  where
+    by_test : (b : Bool) → (u == t) ≡ b → cond b HeldFlat NotHeld ≡ HeldFlat → (locks.Held u ≡ locks.Held t) ⊎ (locks.Held u ≡ locks.Flagged t)
+    by_test true g e = inl (ap locks.Held (is_there u t g))
+    by_test false g e = absurd (cc)
+flatly t (locks.Flagged u) owner e = by_test (u == t) refl e
+  where
+    by_test : (b : Bool) → (u == t) ≡ b → cond b HeldFlat NotHeld ≡ HeldFlat → (locks.Flagged u ≡ locks.Held t) ⊎ (locks.Flagged u ≡ locks.Flagged t)
+    by_test true g e = inr (ap locks.Flagged (is_there u t g))
+    by_test false g e = absurd (cc)
+flatly t (locks.Fat r) owner e = by_test (owner r == t + 1) e
+  where
+    by_test : (b : Bool) → cond b (HeldFat r) NotHeld ≡ HeldFlat → (locks.Fat r ≡ locks.Held t) ⊎ (locks.Fat r ≡ locks.Flagged t)
+    by_test true e = absurd (cc)
+    by_test false e = absurd (cc)
+
+-- the lock is fat, and the thread owns its record
+pub fatly : (t : ℕ) (l : LockWord) (owner : ℕ → ℕ) (r : ℕ) → hold_by_word t l owner ≡ HeldFat r → (l ≡ locks.Fat r) × (owner r ≡ t + 1)
+fatly t (locks.Free c) owner r e = absurd (cc)
+fatly t (locks.Held u) owner r e = by_test (u == t) e
+  where
+    by_test : (b : Bool) → cond b HeldFlat NotHeld ≡ HeldFat r → (locks.Held u ≡ locks.Fat r) × (owner r ≡ t + 1)
+    by_test true e = absurd (cc)
+    by_test false e = absurd (cc)
+fatly t (locks.Flagged u) owner r e = by_test (u == t) e
+  where
+    by_test : (b : Bool) → cond b HeldFlat NotHeld ≡ HeldFat r → (locks.Flagged u ≡ locks.Fat r) × (owner r ≡ t + 1)
+    by_test true e = absurd (cc)
+    by_test false e = absurd (cc)
+fatly t (locks.Fat k) owner r e = by_test (owner k == t + 1) refl e
+  where
+    by_test : (b : Bool) → (owner k == t + 1) ≡ b → cond b (HeldFat k) NotHeld ≡ HeldFat r → (locks.Fat k ≡ locks.Fat r) × (owner r ≡ t + 1)
+    by_test true g e = let same : k ≡ r = cc in (ap locks.Fat same, ap owner (sym same) ∙ is_there (owner k) (t + 1) g)
+    by_test false g e = absurd (cc)
+
+-- a flat lock is held by one thread, and is not fat
+pub thin_if_flat : (t : ℕ) (l : LockWord) (owner : ℕ → ℕ) → hold_by_word t l owner ≡ HeldFlat → (r : ℕ) → l ≢ locks.Fat r
+thin_if_flat t l owner h r e = at (flatly t l owner h)
+  where
+    at : (l ≡ locks.Held t) ⊎ (l ≡ locks.Flagged t) → ⊥
+    at (inl g) = cc
+    at (inr g) = cc
+
+pub flat_alone : (t u : ℕ) (l : LockWord) (owner : ℕ → ℕ) → hold_by_word t l owner ≡ HeldFlat → u ≢ t → hold_by_word u l owner ≡ NotHeld
+flat_alone t u l owner h d = at (flatly t l owner h)
+  where
+    at : (l ≡ locks.Held t) ⊎ (l ≡ locks.Flagged t) → hold_by_word u l owner ≡ NotHeld
+    at (inl g) = ap (λ (l : LockWord). hold_by_word u l owner) g ∙ another t u HeldFlat (λ e. d (sym e))
+    at (inr g) = ap (λ (l : LockWord). hold_by_word u l owner) g ∙ another t u HeldFlat (λ e. d (sym e))
+
+-- ---- what a thread holds not has no entry
+
+pub not_held : (o : Option Held) → hold_by_list o ≡ NotHeld → o ≡ None
+not_held None e = refl
+not_held (Some h) e = by_kept h.kept e
+  where
+    by_kept : (k : Kept) → hold_by_kept k ≡ NotHeld → Some h ≡ None
+    by_kept (keeps.Flat c) e = absurd (cc)
+    by_kept (keeps.Fat r) e = absurd (cc)

@@ -1,0 +1,23 @@
+//! Owners of locks.
+
+ghost use Rattle.owner_laws.specs.OwnersLaws.{EventsKeepOwners, NextKeepsOwners};
+
+use heap_laws::{events_reach_sites, sites_differ, sites_lie_inside};
+use limit_laws::given_is_kept;
+
+/// Whatever an event does, the lock words and the owners of monitor records say of each monitor what the threads hold of
+/// it; a record belongs to one monitor, and a count that a thread has seen is no later one (PLDI 2010 publication, of the
+/// flat lock with its count).
+pub fn events_keep_owners()
+    ensures { EventsKeepOwners }
+{
+    sites_differ();
+    sites_lie_inside();
+    events_reach_sites();
+    given_is_kept();
+}
+
+/// Where a part of the run begins, each thread holds what it held.
+pub fn next_keeps_owners()
+    ensures { NextKeepsOwners }
+{}
