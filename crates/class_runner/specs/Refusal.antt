@@ -9,7 +9,7 @@ use Rattle.jvm_types.specs.declared.refusal.CRule.TheVariants.{C1, C2, C3, C4, C
 use Rattle.jvm_types.specs.declared.refusal.KRule.{KRule}
 use Rattle.jvm_types.specs.declared.refusal.KRule.TheVariants.{K1, K2, K3, K4, K5, K6}
 use Rattle.jvm_types.specs.declared.refusal.LRule.{LRule}
-use Rattle.jvm_types.specs.declared.refusal.LRule.TheVariants.{L0, L1, L2, L3, L4, L5, L6, L7, L8, L9}
+use Rattle.jvm_types.specs.declared.refusal.LRule.TheVariants.{L1, L2, L3, L4, L5, L6, L7, L8, L9}
 use Rattle.jvm_types.specs.declared.refusal.VRule.{VRule}
 use Rattle.jvm_types.specs.declared.refusal.VRule.TheVariants.{V1, V2, V3, V4, V5, V6, V7, V8}
 use Rattle.jvm_types.specs.declared.refusal.SRule.{SRule}
@@ -40,7 +40,6 @@ k_number K5 = 5
 k_number K6 = 6
 
 abbrev pub l_number : LRule → ℕ
-l_number L0 = 0
 l_number L1 = 1
 l_number L2 = 2
 l_number L3 = 3

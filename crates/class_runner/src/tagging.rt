@@ -11,7 +11,7 @@ ghost use Rattle.class_runner.specs.Stages.{own_methods, IsTaggedAt, IsUntaggedA
 use crate::loading::FileError;
 use checked_program::Tags;
 use code_verifier::{Budget, MOST_KEPT};
-use jvm_types::limits::MOST_FILES;
+use jvm_types::limits::{MOST_FILES, MOST_METHODS};
 use jvm_types::{ClassFile, Program, Rows, Rule, in_method};
 use monitor_tags::{TagError, tag_within};
 use std::alloc::Global;
@@ -52,7 +52,7 @@ fn tag_class(
     requires program { IsProgram program.now }
     requires class { IsClass class.now }
     requires all { length tags.old + length class.now.methods ≤ length program.now.methods }
-    requires few { length program.now.methods ≤ 4194240 }
+    requires few { length program.now.methods ≤ MOST_METHODS }
     ensures ok { OnOk result ((left all : List Declared) → AreTaggedSoFar program.now (own_methods file class.now ++ left) all tags.old → AreTaggedSoFar program.now left all tags.new) }
     ensures refused { IfErr result (λ e. (left all : List Declared) → AreTaggedSoFar program.now (own_methods file class.now ++ left) all tags.old → IsNotTagged program.now all program.now.methods e) }
 {

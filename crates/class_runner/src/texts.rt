@@ -275,7 +275,6 @@ fn l_number(rule: LRule) -> u8
     ensures { result ≡ l_number rule }
 {
     match rule {
-        LRule::L0 => 0,
         LRule::L1 => 1,
         LRule::L2 => 2,
         LRule::L3 => 3,

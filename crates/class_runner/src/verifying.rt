@@ -10,7 +10,7 @@ ghost use Rattle.class_runner.specs.Stages.{own_methods, IsTypedAt, IsUntypedAt,
 
 use crate::loading::FileError;
 use code_verifier::{Budget, MOST_KEPT, VerifyError, verify_within};
-use jvm_types::limits::MOST_FILES;
+use jvm_types::limits::{MOST_FILES, MOST_METHODS};
 use jvm_types::{ClassFile, Program, Rows, Rule, Typing, in_method};
 use std::alloc::Global;
 
@@ -50,7 +50,7 @@ fn verify_class(
     requires program { IsProgram program.now }
     requires class { IsClass class.now }
     requires all { length typings.old + length class.now.methods ≤ length program.now.methods }
-    requires few { length program.now.methods ≤ 4194240 }
+    requires few { length program.now.methods ≤ MOST_METHODS }
     ensures ok { OnOk result ((left all : List Declared) → AreTypedSoFar program.now (own_methods file class.now ++ left) all typings.old → AreTypedSoFar program.now left all typings.new) }
     ensures refused { IfErr result (λ e. (left all : List Declared) → AreTypedSoFar program.now (own_methods file class.now ++ left) all typings.old → IsUnverified program.now all program.now.methods e) }
 {

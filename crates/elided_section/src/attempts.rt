@@ -1,6 +1,7 @@
 //! The attempt of a thread: its begin, its checks, and its two ends.
 
 ghost use Rattle.std.specs.Prelude.{◌≡◌, ◌<◌, ◌^◌, length, IfSome, IsSome};
+ghost use Rattle.jvm_types.specs.declared.limits.TheConstants.{MOST_LIMIT};
 ghost use Rattle.machine_types.specs.Elision.{begins, fails};
 ghost use Rattle.frames.specs.KeptAttempts.{IsBased};
 ghost use Rattle.elided_section.specs.Checkups.{checkup, finished};
@@ -39,7 +40,7 @@ pub fn check(s: &ThreadState, found: u64) -> Checkup
 pub fn finish(s: &mut ThreadState, found: u64) -> Checkup
     requires some { IsSome s.old.attempt }
     requires noted { IfSome s.old.attempt (λ a. a.noted < 2 ^ 62) }
-    requires count { s.old.counts.elided < 4294967295 }
+    requires count { s.old.counts.elided < MOST_LIMIT }
     ensures result { IfSome s.old.attempt (λ a. result ≡ checkup a.noted found) }
     ensures state { s.new ≡ finished s.old result }
 {
@@ -57,7 +58,7 @@ pub fn fail(s: &mut ThreadState, noted: u64, found: u64)
     requires some { IsSome s.old.attempt }
     requires differs { IfSome s.old.attempt (λ a. checkup a.noted found ≡ Differs noted found) }
     requires based { IfSome s.old.attempt (IsBased s.old.frames) }
-    requires count { s.old.counts.failed < 4294967295 }
+    requires count { s.old.counts.failed < MOST_LIMIT }
     ensures { IfSome s.old.attempt (λ a. s.new ≡ fails s.old a) }
 {
     match s.attempt() {

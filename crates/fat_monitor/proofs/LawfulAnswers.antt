@@ -4,7 +4,7 @@ use Rattle.std.specs.Prelude.{◌==◌, if◌then◌else◌}
 use Rattle.checked_program.specs.MarkedProgram.{MarkedProgram}
 use Rattle.machine_types.specs.Bounds.{PhaseFits, StepsFit, TurnsFit, flat_held, under_way}
 use Rattle.machine_types.specs.FoundWords.{Fits, WordFits, content_at}
-use Rattle.machine_types.specs.Frames.{most_frames}
+use Rattle.jvm_types.specs.declared.limits.TheConstants.{MOST_FRAMES}
 use Rattle.machine_types.specs.HeldMonitors.{held_at, places_of}
 use Rattle.machine_types.specs.Lawful.{IsLawful, within}
 use Rattle.machine_types.specs.Structure.{IsAs, IsFlat, PhaseShows}
@@ -75,7 +75,7 @@ made_by_steps : (phase : Phase) (instructions most : ℕ) → StepsFit phase ins
 made_by_steps phases.Run instructions most fit = omega arith
 made_by_steps phase instructions most fit = fit
 
-pub can_answer : (c : MarkedProgram) (s : Thread) (got : ℕ) → HeldHasRoom → c ≡ s.program → length s.frames ≤ most_frames → s.cfg.steps ≤ 4294967295
+pub can_answer : (c : MarkedProgram) (s : Thread) (got : ℕ) → HeldHasRoom → c ≡ s.program → length s.frames ≤ MOST_FRAMES → s.cfg.steps ≤ 4294967295
     → IsLawful c s → Fits c s got → CanAnswer c s s.phase got
 can_answer c s got law same few most lawful fits =
     let made : s.counts.instructions ≤ s.cfg.steps = made_by_steps s.phase s.counts.instructions s.cfg.steps lawful.bounded.steps in

@@ -1,5 +1,6 @@
 -- What an event at a monitor needs of its thread, by the phase, so that no number passes what it is kept in.
 use Rattle.std.specs.Prelude.{◌≡◌, ℕ, ◌<◌, ◌^◌, true, length, None}
+use Rattle.jvm_types.specs.declared.limits.TheConstants.{MOST_LIMIT}
 use Rattle.checked_program.specs.MarkedProgram.{MarkedProgram}
 use Rattle.machine_types.specs.HeldMonitors.{held_at, places_of}
 use Rattle.machine_types.specs.Lawful.{within}
@@ -21,7 +22,7 @@ HasPlaceFor s m = held_at s.held m ≡ None → length s.held < places_of s.prog
 pub record CanTake (s : Thread) (m : ℕ) : Type 0 where
   pub turn : HasTurn s
   pub place : HasPlaceFor s m
-  pub count : s.counts.locked < 4294967295
+  pub count : s.counts.locked < MOST_LIMIT
 
 abbrev pub CanGoOn : MarkedProgram → Thread → After → Type 0
 CanGoOn c s a = AfterHolds c (within c.program) a s.frames
@@ -32,7 +33,7 @@ CanAnswer c s (phases.Take m count) got = CanTake s m × (count < 2 ^ 62)
 CanAnswer c s (phases.TakeFat m r) got = CanTake s m
 CanAnswer c s (phases.Leave m a) got = CanGoOn c s a
 CanAnswer c s (phases.FlatOut m a) got = CanGoOn c s a
-CanAnswer c s (phases.FatIn m r toward) got = s.counts.inflated < 4294967295
+CanAnswer c s (phases.FatIn m r toward) got = s.counts.inflated < MOST_LIMIT
 CanAnswer c s (phases.WaitLook m r depth) got = HasTurn s
 CanAnswer c s (phases.Retake m r depth) got = HasTurn s × HasPlaceFor s m
 CanAnswer c s phase got = Unit {0}

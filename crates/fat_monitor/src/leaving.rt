@@ -1,11 +1,10 @@
 //! How a monitor is left that a thread holds by its last entry, and how its flat lock is made fat.
 
 ghost use Rattle.std.specs.Prelude.{◌≡◌, ◌≤◌, ◌<◌, true, Some, None, if◌then◌else◌, nat_lt};
-ghost use Rattle.jvm_types.specs.declared.limits.TheConstants.{MOST_WORKERS};
+ghost use Rattle.jvm_types.specs.declared.limits.TheConstants.{MOST_LIMIT, MOST_WORKERS};
 ghost use Rattle.machine_types.specs.Going.{with_phase};
 ghost use Rattle.machine_types.specs.HeldMonitors.{held_at};
 ghost use Rattle.machine_types.specs.Monitors.{claim, fattens, grown, grows_not, leave_moves, lets_go, released};
-ghost use Rattle.machine_types.specs.Words.{most_records};
 ghost use Rattle.machine_types.specs.declared.phase.Phase.TheVariants.{Own};
 ghost use Rattle.fat_monitor.specs.Asking.{is_last_exit};
 ghost use Rattle.fat_monitor.specs.Answering.{CanGoOn};
@@ -74,7 +73,7 @@ fn grow_not(s: &mut ThreadState, monitor: u32, toward: Toward)
 
 /// By the number of the record that was drawn.
 pub fn grow(s: &mut ThreadState, monitor: u32, toward: Toward, number: u64)
-    ensures { s.new ≡ (if nat_lt number most_records then with_phase s.old (Own monitor number toward) else grows_not s.old monitor toward) }
+    ensures { s.new ≡ (if nat_lt number MONITOR_RECORDS then with_phase s.old (Own monitor number toward) else grows_not s.old monitor toward) }
 {
     if number < MONITOR_RECORDS as u64 {
         s.set_phase(Phase::Own(monitor, number as u32, toward));
@@ -94,7 +93,7 @@ fn grown(monitor: u32, number: u32, toward: Toward) -> Phase
 
 /// The lock word has the record: the thread keeps its number, and the lock is counted.
 pub fn fatten(s: &mut ThreadState, monitor: u32, number: u32, toward: Toward)
-    requires { s.old.counts.inflated < 4294967295 }
+    requires { s.old.counts.inflated < MOST_LIMIT }
     ensures { s.new ≡ fattens s.old monitor number toward (held_at s.old.held monitor) }
 {
     if let Some(h) = s.held(monitor) {

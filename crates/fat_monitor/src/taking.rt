@@ -1,7 +1,7 @@
 //! How a lock is taken.
 
 ghost use Rattle.std.specs.Prelude.{◌≡◌, ◌<◌, ◌^◌, true, if◌then◌else◌, ◌==◌};
-ghost use Rattle.jvm_types.specs.declared.limits.TheConstants.{MOST_WORKERS};
+ghost use Rattle.jvm_types.specs.declared.limits.TheConstants.{MOST_LIMIT, MOST_WORKERS};
 ghost use Rattle.machine_types.specs.Going.{failed_turn};
 ghost use Rattle.machine_types.specs.LockWords.{is_lock_word, lock_of, word_of_lock};
 ghost use Rattle.machine_types.specs.Monitors.{acquires, takes};
@@ -52,7 +52,7 @@ pub fn acquire(s: &mut ThreadState, monitor: u32, found: u64)
 /// The lock is taken.
 fn take(s: &mut ThreadState, monitor: u32, kept: Kept)
     requires place { HasPlaceFor s.old monitor }
-    requires count { s.old.counts.locked < 4294967295 }
+    requires count { s.old.counts.locked < MOST_LIMIT }
     ensures { s.new ≡ takes s.old monitor kept }
 {
     s.put_held(Held {

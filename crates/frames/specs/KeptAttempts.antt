@@ -2,7 +2,7 @@
 use Rattle.std.specs.Prelude.{◌≡◌, ◌<◌, ℕ, ◌+◌, List, length, Option, Some, None, IfSome}
 use Rattle.jvm_types.specs.declared.program.Program.{Program}
 use Rattle.machine_types.specs.Elision.{put_back}
-use Rattle.machine_types.specs.Frames.{most_slots}
+use Rattle.jvm_types.specs.declared.limits.TheConstants.{MOST_SLOTS}
 use Rattle.machine_types.specs.Threads.{Frame, Attempt}
 use Rattle.frames.specs.FrameLists.{top, deepest}
 use Rattle.frames.specs.Laid.{frame_of, HeadFits}
@@ -19,7 +19,7 @@ attempt_of kept e = record {
 }
 
 pub record IsKept (p : Program) (kept : List ℕ) (attempt : Option AttemptEntry) : Type 0 where
-  pub long : length kept ≡ most_slots
+  pub long : length kept ≡ MOST_SLOTS
   pub entry : IfSome attempt (λ e. HeadFits p e.frame)
 
 -- the frame that entered the section is there, whatever became of it

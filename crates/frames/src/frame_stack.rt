@@ -2,7 +2,7 @@
 
 ghost use Rattle.std.specs.Prelude.{◌≡◌, ◌+◌, ◌-◌, ◌≤◌, ◌<◌, [], ◌∷◌, length, take, drop, slice_index, slice_set, IfOk};
 ghost use Rattle.frames.specs.FrameLists.{top, below, with_top, max_stack};
-ghost use Rattle.machine_types.specs.Frames.{most_frames, most_slots};
+ghost use Rattle.jvm_types.specs.declared.limits.TheConstants.{MOST_SLOTS};
 
 use crate::arguments::argument_count;
 use crate::head::{Head, SLOTS, StackOverflow};
@@ -64,7 +64,7 @@ impl FrameStack {
     #[inline(always)]
     pub fn depth(&self) -> usize
         ensures depth { result ≡ length self.now.frames }
-        ensures few { length self.now.frames ≤ most_frames }
+        ensures few { length self.now.frames ≤ MOST_FRAMES }
     {
         MOST_FRAMES - self.start
     }
@@ -311,8 +311,8 @@ impl FrameStack {
     /// Copies the slots of the top frame, and answers its head.
     pub fn copy_top(&self, kept: &mut Vec<u64>) -> Head
         requires frame { 0 < length self.now.frames }
-        requires room { length kept.old.items ≡ most_slots }
-        ensures room { length kept.new.items ≡ most_slots }
+        requires room { length kept.old.items ≡ MOST_SLOTS }
+        ensures room { length kept.new.items ≡ MOST_SLOTS }
         ensures copy { frame_of result kept.new.items ≡ top self.now.frames }
         ensures fits { HeadFits self.now.program result }
     {
@@ -324,7 +324,7 @@ impl FrameStack {
     /// The copy takes the place of the top frame.
     pub fn put_top(&mut self, head: Head, kept: &Vec<u64>)
         requires frame { 0 < length self.old.frames }
-        requires room { length kept.now.items ≡ most_slots }
+        requires room { length kept.now.items ≡ MOST_SLOTS }
         requires fits { HeadFits self.old.program head }
         requires alike { head.method ≡ (top self.old.frames).method }
         ensures { self.new ≡ record self.old { frames = with_top (frame_of head kept.now.items) self.old.frames } }

@@ -2,7 +2,6 @@
 
 ghost use Rattle.std.specs.Prelude.{◌≡◌, ◌<◌, ◌*◌, ◌+◌, length, slice_set, Some, None, IfSome, IfOk};
 ghost use Rattle.std.specs.List.{remove};
-ghost use Rattle.machine_types.specs.Frames.{most_frames};
 ghost use Rattle.machine_types.specs.HeldMonitors.{held_at, with_held, without_held, held_in_frame, most_in, most_held};
 ghost use Rattle.machine_types.specs.declared.lock.Held.{Held};
 
@@ -70,7 +69,7 @@ pub fn most_held(tags: &Rows<Tags>) -> usize
 
 /// The most entries of the list. A list that is longer than memory is want of memory.
 pub fn places(tags: &Rows<Tags>) -> Result<usize, AllocError>
-    ensures { IfOk result (λ n. n ≡ most_frames * (1 + most_held tags.now)) }
+    ensures { IfOk result (λ n. n ≡ MOST_FRAMES * (1 + most_held tags.now)) }
 {
     let most = most_held(tags);
     match most.checked_add(1) {

@@ -3,7 +3,8 @@
 ghost use Rattle.std.specs.Prelude.{◌≡◌, ◌+◌, ◌-◌, ◌≤◌, ◌<◌, [], ◌∷◌, ◌++◌, length, take, drop, slice_get, slice_index, slice_set, option_map, IfOk, IfSome, IsSome, Some, None, OnOk, OnErr, true, false};
 ghost use Rattle.checked_program.specs.MarkedProgram.{MarkedProgram};
 ghost use Rattle.machine_types.specs.Core.{start_thread, part_phase, is_live, how_ended, reported_end, report_of, with_roots};
-ghost use Rattle.machine_types.specs.Frames.{has_room, most_frames};
+ghost use Rattle.machine_types.specs.Frames.{has_room};
+ghost use Rattle.jvm_types.specs.declared.limits.TheConstants.{MOST_FRAMES};
 ghost use Rattle.machine_types.specs.HeldMonitors.{held_at, with_held, without_held, places_of};
 ghost use Rattle.machine_types.specs.Threads.{Frame, Attempt, head_of};
 ghost use Rattle.frames.specs.FrameLists.{top, below, with_top, max_stack, entered, HasArguments};
@@ -50,7 +51,7 @@ pub struct ThreadState {
 impl Model for ThreadState {
     ghost use Rattle.std.specs.Prelude.{◌≡◌, ◌≤◌, ◌+◌, ◌*◌, length, option_map};
     ghost use Rattle.std.specs.Vec.{vec_capacity};
-    ghost use Rattle.machine_types.specs.Frames.{most_frames};
+    ghost use Rattle.jvm_types.specs.declared.limits.TheConstants.{MOST_FRAMES};
     ghost use Rattle.machine_types.specs.HeldMonitors.{most_held};
     ghost use Rattle.machine_types.specs.Threads.{Thread};
     ghost use Rattle.frames.specs.KeptAttempts.{attempt_of, IsKept};
@@ -60,7 +61,7 @@ impl Model for ThreadState {
 
     ghost view = { λ s. record { program = record { program = s.frames.program; typings = s.typings.told; tags = s.tags.told; marks = s.marks.told }; cfg = s.cfg; number = s.number; phase = s.phase; frames = s.frames.frames; held = s.held.items; attempt = option_map (attempt_of s.kept.items) s.attempt; roots = s.roots.left; turns = s.turns; counts = s.counts; prints = s.prints.items; part = s.part; first = s.first } };
 
-    ghost invariant = { λ s. IsKept s.frames.program s.kept.items s.attempt × (most_frames * (1 + most_held s.tags.told) ≤ vec_capacity s.held) × (s.cfg.prints ≤ length s.prints.items + s.prints.spare) × (length s.prints.items ≤ s.cfg.prints) × (s.roots.later ≡ later_roots s.frames.program s.number) };
+    ghost invariant = { λ s. IsKept s.frames.program s.kept.items s.attempt × (MOST_FRAMES * (1 + most_held s.tags.told) ≤ vec_capacity s.held) × (s.cfg.prints ≤ length s.prints.items + s.prints.spare) × (length s.prints.items ≤ s.cfg.prints) × (s.roots.later ≡ later_roots s.frames.program s.number) };
 }
 
 /// The phase of a thread whose part begins with these roots.
@@ -338,7 +339,7 @@ impl ThreadState {
     #[inline(always)]
     pub fn depth(&self) -> u32
         ensures depth { result ≡ length self.now.frames }
-        ensures few { length self.now.frames ≤ most_frames }
+        ensures few { length self.now.frames ≤ MOST_FRAMES }
     {
         self.frames.depth() as u32
     }

@@ -1,6 +1,7 @@
 //! The counts of a thread, each raised by one.
 
 ghost use Rattle.std.specs.Prelude.{◌≡◌, ◌<◌, ◌+◌};
+ghost use Rattle.jvm_types.specs.declared.limits.TheConstants.{MOST_LIMIT};
 
 use frames::ThreadState;
 use jvm_types::Counts;
@@ -8,7 +9,7 @@ use jvm_types::Counts;
 /// One more instruction is begun.
 #[inline(always)]
 pub fn count_instruction(s: &mut ThreadState)
-    requires { s.old.counts.instructions < 4294967295 }
+    requires { s.old.counts.instructions < MOST_LIMIT }
     ensures { s.new ≡ record s.old { counts = record s.old.counts { instructions = s.old.counts.instructions + 1 } } }
 {
     let counts = s.counts();
@@ -20,7 +21,7 @@ pub fn count_instruction(s: &mut ThreadState)
 
 /// One more section ran without its lock.
 pub fn count_elided(s: &mut ThreadState)
-    requires { s.old.counts.elided < 4294967295 }
+    requires { s.old.counts.elided < MOST_LIMIT }
     ensures { s.new ≡ record s.old { counts = record s.old.counts { elided = s.old.counts.elided + 1 } } }
 {
     let counts = s.counts();
@@ -32,7 +33,7 @@ pub fn count_elided(s: &mut ThreadState)
 
 /// One more attempt failed.
 pub fn count_failed(s: &mut ThreadState)
-    requires { s.old.counts.failed < 4294967295 }
+    requires { s.old.counts.failed < MOST_LIMIT }
     ensures { s.new ≡ record s.old { counts = record s.old.counts { failed = s.old.counts.failed + 1 } } }
 {
     let counts = s.counts();
@@ -44,7 +45,7 @@ pub fn count_failed(s: &mut ThreadState)
 
 /// One more lock is taken.
 pub fn count_locked(s: &mut ThreadState)
-    requires { s.old.counts.locked < 4294967295 }
+    requires { s.old.counts.locked < MOST_LIMIT }
     ensures { s.new ≡ record s.old { counts = record s.old.counts { locked = s.old.counts.locked + 1 } } }
 {
     let counts = s.counts();
@@ -56,7 +57,7 @@ pub fn count_locked(s: &mut ThreadState)
 
 /// One more lock is made fat.
 pub fn count_inflated(s: &mut ThreadState)
-    requires { s.old.counts.inflated < 4294967295 }
+    requires { s.old.counts.inflated < MOST_LIMIT }
     ensures { s.new ≡ record s.old { counts = record s.old.counts { inflated = s.old.counts.inflated + 1 } } }
 {
     let counts = s.counts();

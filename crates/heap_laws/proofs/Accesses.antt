@@ -28,11 +28,12 @@ use Rattle.machine_types.specs.FoundWords.{Content, Lock, Owner, Bits, Header, T
 use Rattle.machine_types.specs.Frames.{top_of, effect_at}
 use Rattle.machine_types.specs.Instructions.{has_print_left, effect_wants, run_wants}
 use Rattle.machine_types.specs.PlainMemory.{Object, start_objects}
-use Rattle.machine_types.specs.ReadyObjects.{out_object, first_ready}
+use Rattle.machine_types.specs.ReadyObjects.{out_object}
+use Rattle.jvm_types.specs.declared.fixed_words.TheConstants.{FIRST_READY_WORD, NEXT_FREE_WORD, NEXT_TICKET_WORD, NEXT_RECORD_WORD, MONITOR_RECORDS}
 use Rattle.machine_types.specs.Structure.{TopIs, is_element_op}
 use Rattle.machine_types.specs.Threads.{Frame, Attempt, Thread}
 use Rattle.machine_types.specs.Typed.{Classes, KindHolds, FramesHold, IsElementOn, ElementStands, HasElement, HasElementOn, HasElementIn, HasClass, IsObject, AttemptHolds}
-use Rattle.machine_types.specs.Words.{free_word, ticket_word, record_word, most_records, owner_word, bits_word, header_word, value_word, variable_word}
+use Rattle.machine_types.specs.Words.{owner_word, bits_word, header_word, value_word, variable_word}
 use Rattle.machine_types.specs.declared.access.Access.{Access}
 use Rattle.machine_types.specs.declared.access.Access.TheVariants.{Load, Store, Cas, Add, Or, And, Rest}
 use Rattle.machine_types.specs.declared.effect.Effect.{Effect}
@@ -62,7 +63,7 @@ pub record FitsAt (p : Program) (objects : List Object) (s : Core) (content : Co
   pub word : accessed access ≡ site_word site
   pub suits : Suits content site
   pub old : IsOldSite site
-  pub left : SiteHolds p objects (slice_index s.words free_word) site (left_by access (slice_index s.words (accessed access)))
+  pub left : SiteHolds p objects (slice_index s.words NEXT_FREE_WORD) site (left_by access (slice_index s.words (accessed access)))
 
 abbrev pub FitsAccess : Program → List Object → Core → Content → Access → Type 0
 FitsAccess p objects s content Rest = Unit {0}
@@ -128,20 +129,20 @@ module _ (c : MarkedProgram) (marked : IsMarked c) (objects : List Object) (s : 
     word = e;
     suits = suits;
     old = old;
-    left = subst (λ x. SiteHolds c.program objects (slice_index s.words free_word) site (slice_index s.words x)) (sym e) (site_typed c.program is_program objects s.words site facts.typed.places);
+    left = subst (λ x. SiteHolds c.program objects (slice_index s.words NEXT_FREE_WORD) site (slice_index s.words x)) (sym e) (site_typed c.program is_program objects s.words site facts.typed.places);
   }
 
   pub at_lock : (m : ℕ) (access : Access) → IsObject (HasClass objects) m → accessed access ≡ m → FitsAt c.program objects s Lock access
   at_lock m access object e = record { site = LockOf m; there = (object.1.0, object.1.1, object.1.2); word = e; suits = tt; old = tt; left = tt }
 
-  pub at_owner : (r : ℕ) (access : Access) → r < most_records → accessed access ≡ owner_word r → FitsAt c.program objects s Owner access
+  pub at_owner : (r : ℕ) (access : Access) → r < MONITOR_RECORDS → accessed access ≡ owner_word r → FitsAt c.program objects s Owner access
   at_owner r access below e = record { site = OwnerOf r; there = below; word = e; suits = tt; old = tt; left = tt }
 
-  pub at_bits : (r : ℕ) (access : Access) → r < most_records → accessed access ≡ bits_word r → FitsAt c.program objects s Bits access
+  pub at_bits : (r : ℕ) (access : Access) → r < MONITOR_RECORDS → accessed access ≡ bits_word r → FitsAt c.program objects s Bits access
   at_bits r access below e = record { site = BitsOf r; there = below; word = e; suits = tt; old = tt; left = tt }
 
-  pub at_record_word : FitsAt c.program objects s Any (Add record_word 1)
-  at_record_word = record { site = Counter record_word; there = (omega arith, omega arith); word = refl; suits = tt; old = tt; left = λ e. absurd (omega (arith, e)) }
+  pub at_record_word : FitsAt c.program objects s Any (Add NEXT_RECORD_WORD 1)
+  at_record_word = record { site = Counter NEXT_RECORD_WORD; there = (omega arith, omega arith); word = refl; suits = tt; old = tt; left = λ e. absurd (omega (arith, e)) }
 
   pub look_fits : (fs : List Frame) (attempt : Option Attempt) → AttemptHolds c (HasClass objects) fs attempt → FitsIf c.program objects s Lock (looks attempt)
   look_fits fs None h = tt
@@ -155,7 +156,7 @@ module _ (c : MarkedProgram) (marked : IsMarked c) (objects : List Object) (s : 
     old : IsOldSite site
     suits : Suits (kind_content f.kind) site
     word : variable_word v ≡ site_word site
-    stored : (n : ℕ) → KindHolds (HasClass objects) f.kind n → SiteHolds c.program objects (slice_index s.words free_word) site n
+    stored : (n : ℕ) → KindHolds (HasClass objects) f.kind n → SiteHolds c.program objects (slice_index s.words NEXT_FREE_WORD) site n
     holds : KindHolds (HasClass objects) f.kind (slice_index s.words (site_word site))
 
   variable_site : (target : Target) (v : Variable) (f : FieldInfo) → IsFieldAt c.program (HasClass objects) target v f → VariableSite v f
@@ -170,7 +171,7 @@ module _ (c : MarkedProgram) (marked : IsMarked c) (objects : List Object) (s : 
             old = tt;
             suits = static_suits f.kind f.index;
             word = refl;
-            stored = λ n h. static_stored c.program is_program objects (slice_index s.words free_word) facts.apart at.number f at.there n e h;
+            stored = λ n h. static_stored c.program is_program objects (slice_index s.words NEXT_FREE_WORD) facts.apart at.number f at.there n e h;
             holds = facts.typed.places.statics at.number f at.there e;
           }
       by_flag false e =
@@ -188,7 +189,7 @@ module _ (c : MarkedProgram) (marked : IsMarked c) (objects : List Object) (s : 
             old = tt;
             suits = value_suits f.kind at.reference f.index;
             word = refl;
-            stored = λ n h. subst (λ a. IsValue c.program objects a f.index n) holder.2.2 (field_stored c.program is_program objects (slice_index s.words free_word) facts.apart at.number f at.there object n there of_class e h);
+            stored = λ n h. subst (λ a. IsValue c.program objects a f.index n) holder.2.2 (field_stored c.program is_program objects (slice_index s.words NEXT_FREE_WORD) facts.apart at.number f at.there object n there of_class e h);
             holds = subst (λ a. KindHolds (HasClass objects) f.kind (slice_index s.words (value_word a f.index))) holder.2.2 (facts.typed.places.fields object at.number f there at.there e of_class);
           }
 
@@ -228,11 +229,11 @@ module _ (c : MarkedProgram) (marked : IsMarked c) (objects : List Object) (s : 
   effect_fits x m insn target r stack pc (Indexes a i stored) h al = loads (HeaderOf a) Header (header_word a) (header_there INT_ARRAY_CLASS a al.1) tt tt refl
   effect_fits x m insn target r stack pc (Measures a) h al = loads (HeaderOf a) Header (header_word a) (header_there INT_ARRAY_CLASS a al.1) tt tt refl
   effect_fits x m insn target r stack pc (Raises a) h al = loads (HeaderOf a) ThrowableHeader (header_word a) (header_there THROWABLE_CLASS a al.1) tt tt refl
-  effect_fits x m insn target r stack pc (Makes word size) h al = record { site = Counter free_word; there = (omega arith, omega arith); word = refl; suits = tt; old = tt; left = λ e. omega arith }
+  effect_fits x m insn target r stack pc (Makes word size) h al = record { site = Counter NEXT_FREE_WORD; there = (omega arith, omega arith); word = refl; suits = tt; old = tt; left = λ e. omega arith }
   effect_fits x m insn target r stack pc (Prints n) h al = by_test (has_print_left x)
     where
-      by_test : (b : Bool) → FitsIf c.program objects s Any (if b then Some (Add ticket_word 1) else None)
-      by_test true = record { site = Counter ticket_word; there = (omega arith, omega arith); word = refl; suits = tt; old = tt; left = λ e. absurd (omega (arith, e)) }
+      by_test : (b : Bool) → FitsIf c.program objects s Any (if b then Some (Add NEXT_TICKET_WORD 1) else None)
+      by_test true = record { site = Counter NEXT_TICKET_WORD; there = (omega arith, omega arith); word = refl; suits = tt; old = tt; left = λ e. absurd (omega (arith, e)) }
       by_test false = tt
   effect_fits x m insn target r stack pc (Throws class) h al = tt
   effect_fits x m insn target r stack pc Returns h al = tt
@@ -266,14 +267,14 @@ module _ (c : MarkedProgram) (marked : IsMarked c) (objects : List Object) (s : 
   not_null : (a i : ℕ) → HasElement objects a i → (a == 0) ≡ false
   not_null a i k = some k.object.reference a k.is (facts.apart.begin k.there.0 k.object (contained_got objects k.object k.there))
     where
-      some : (n a : ℕ) → n ≡ a → first_ready ≤ n → (a == 0) ≡ false
+      some : (n a : ℕ) → n ≡ a → FIRST_READY_WORD ≤ n → (a == 0) ≡ false
       some n a e h = grind (arith, nat_tests, e, h)
 
   array_class : (a i : ℕ) → IsOf (HasClass objects) INT_ARRAY_CLASS a → (k : HasElement objects a i) → k.object.class ≡ INT_ARRAY_CLASS
   array_class a i array k =
       let class : array.1 ≡ INT_ARRAY_CLASS = leaves_alone array.1 INT_ARRAY_CLASS refl array.3 in
       let object : Object = array.2.0 in
-      let one : k.object ≡ object = same_object c.program objects (slice_index s.words free_word) facts.apart k.object object k.there array.2.1 (k.is ∙ sym array.2.2) in
+      let one : k.object ≡ object = same_object c.program objects (slice_index s.words NEXT_FREE_WORD) facts.apart k.object object k.there array.2.1 (k.is ∙ sym array.2.2) in
       ap (λ (o : Object). o.class) one ∙ (array.2.3 ∙ class)
 
   site_on : (word : ℕ) (stored : Option ℕ) (stack : List ℕ) → (HasReference stored stack → ReadsArray (HasClass objects) stored stack) → IsElementOn word stored stack → HasElementOn objects stored stack → ElementSite word stored
@@ -318,5 +319,5 @@ module _ (c : MarkedProgram) (marked : IsMarked c) (objects : List Object) (s : 
     word = k.word_is;
     suits = tt;
     old = tt;
-    left = element_stored c.program is_program objects (slice_index s.words free_word) facts.apart k.array k.index v k.there k.class k.value;
+    left = element_stored c.program is_program objects (slice_index s.words NEXT_FREE_WORD) facts.apart k.array k.index v k.there k.class k.value;
   }

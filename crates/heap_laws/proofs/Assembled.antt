@@ -9,7 +9,7 @@ use Rattle.machine_types.specs.ObjectsApart.{LieApart}
 use Rattle.machine_types.specs.PlainMemory.{Object, object_end, header_of, start_statics}
 use Rattle.machine_types.specs.Threads.{Thread}
 use Rattle.machine_types.specs.Typed.{HasClass, HasElementIn, PlacesHold, ThreadHolds}
-use Rattle.machine_types.specs.Words.{free_word}
+use Rattle.jvm_types.specs.declared.fixed_words.TheConstants.{NEXT_FREE_WORD}
 use Rattle.machine_types.specs.declared.phase.Phase.TheVariants as phases
 use Rattle.heap_laws.specs.HeapFacts.{HoldsObjects, HeapFacts}
 use Rattle.heap_laws.proofs.Lifted.{thread_up, monitors_up, element_up}
@@ -35,9 +35,9 @@ got_set (z ∷ xs) (suc i) (suc j) x y e = next (got_set xs i j x y e)
 pub record Behind (c : MarkedProgram) (objects later : List Object) (s : Core) (t : ℕ) (after : List ℕ) : Type 0 where
   pub up : (o : Object) → Contains objects o → Contains later o
   pub long : length after ≡ length s.words
-  pub free : slice_index s.words free_word ≤ slice_index after free_word
-  pub unused : (n : ℕ) → slice_index s.words free_word ≤ n → slice_index after n ≡ slice_index s.words n
-  pub apart : LieApart c.program later (start_statics c.program) (slice_index s.words free_word)
+  pub free : slice_index s.words NEXT_FREE_WORD ≤ slice_index after NEXT_FREE_WORD
+  pub unused : (n : ℕ) → slice_index s.words NEXT_FREE_WORD ≤ n → slice_index after n ≡ slice_index s.words n
+  pub apart : LieApart c.program later (start_statics c.program) (slice_index s.words NEXT_FREE_WORD)
   pub places : PlacesHold c.program later after
   pub headers : (o : Object) → Contains later o → IsHeader c.program (header_of o)
   pub new : (u : ℕ) (x : Thread) (a word n : ℕ) → u ≢ t → slice_get s.threads u ≡ Some x → x.phase ≡ phases.Made a word → a ≤ n → n < a + size_by c.program word → slice_index after n ≡ slice_index s.words n
@@ -66,10 +66,10 @@ module _ (c : MarkedProgram) (marked : IsMarked c) (objects later : List Object)
         by_side (inl k) = subst P (sym k.1) own
         by_side (inr k) = other k.1 k.0
 
-  low_end : (o : Object) → Contains later o → object_end o ≤ slice_index s.words free_word
+  low_end : (o : Object) → Contains later o → object_end o ≤ slice_index s.words NEXT_FREE_WORD
   low_end o k = behind.apart.below k.0 o (contained_got later o k)
 
-  zero_there : (n : ℕ) → slice_index s.words free_word ≤ n → n < c.program.heap → slice_index after n ≡ 0
+  zero_there : (n : ℕ) → slice_index s.words NEXT_FREE_WORD ≤ n → n < c.program.heap → slice_index after n ≡ 0
   zero_there n le lt = behind.unused n le ∙ facts.unused.empty n le lt
 
   own_new : (a word : ℕ) → MadeNow c.program s after a word → IsNewObject c.program later state a (size_by c.program word)
@@ -114,7 +114,7 @@ module _ (c : MarkedProgram) (marked : IsMarked c) (objects later : List Object)
   pub assembled : HeapFacts c later state
   assembled = record {
     started = λ o k. up o.class o.reference (facts.started o k);
-    apart = apart_on c.program later (start_statics c.program) (slice_index s.words free_word) (slice_index after free_word) behind.free behind.apart;
+    apart = apart_on c.program later (start_statics c.program) (slice_index s.words NEXT_FREE_WORD) (slice_index after NEXT_FREE_WORD) behind.free behind.apart;
     unused = record { many = behind.long ∙ facts.unused.many; empty = λ n le lt. zero_there n (omega (arith, le, behind.free)) lt };
     begins = omega (arith, facts.begins, behind.free);
     typed = record {

@@ -17,7 +17,8 @@ use Rattle.machine_types.specs.StartLaws.{StartLiesApart}
 use Rattle.machine_types.specs.Structure.{IsAs, PhaseShows, IsStructured, Structure}
 use Rattle.machine_types.specs.Threads.{Frame, Thread}
 use Rattle.machine_types.specs.Typed.{Classes, HasClass, HasElementIn, FramesHold, AttemptHolds, PhaseHolds, ThreadHolds}
-use Rattle.machine_types.specs.Words.{free_word, header_word}
+use Rattle.machine_types.specs.Words.{header_word}
+use Rattle.jvm_types.specs.declared.fixed_words.TheConstants.{NEXT_FREE_WORD}
 use Rattle.value_laws.proofs.KeptPhases.{PhaseFinds}
 use Rattle.heap_laws.proofs.Quiet.{AllHeld}
 use Rattle.machine_types.specs.declared.phase.Phase.{Phase}
@@ -81,7 +82,7 @@ module _ (keeps : StructureIsKept) (lies : StartLiesApart) (c : MarkedProgram) (
     old_became : IsOldPhase x.phase → Became c objects s after now
     old_became old =
         let typed = facts.typed.threads t x there in
-        let has = has_objects c marked objects s facts objects (slice_index s.words free_word) (λ o k. k) facts.apart in
+        let has = has_objects c marked objects s facts objects (slice_index s.words NEXT_FREE_WORD) (λ o k. k) facts.apart in
         let l = leads in
         record {
           values = moved_values keeps c marked (HasClass objects) has x lawful typed got (old_finds c marked objects s facts t x there lawful x.phase refl old typed.phase);
@@ -113,7 +114,7 @@ module _ (keeps : StructureIsKept) (lies : StartLiesApart) (c : MarkedProgram) (
       new_became : Became c later s after now
       new_became =
           let b = behind in
-          let has = has_objects c marked objects s facts later (slice_index s.words free_word) b.up b.apart in
+          let has = has_objects c marked objects s facts later (slice_index s.words NEXT_FREE_WORD) b.up b.apart in
           let values = thread_up (HasClass objects) (HasClass later) up c x (facts.typed.threads t x there) in
           let finds = subst (λ phase. PhaseFinds c (HasClass later) phase x.frames got) (sym made) (class_new lies c marked objects s facts t x there a word made) in
           let l = leads in

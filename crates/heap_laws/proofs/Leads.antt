@@ -29,7 +29,8 @@ use Rattle.machine_types.specs.PlainMemory.{Object}
 use Rattle.machine_types.specs.Structure.{is_element_op}
 use Rattle.machine_types.specs.Threads.{Frame, Thread}
 use Rattle.machine_types.specs.Typed.{FrameHolds, FramesHold, IsElementOn, ElementStands, HasElement, HasElementOn, HasElementIn, HasClass, PhaseHolds}
-use Rattle.machine_types.specs.Words.{free_word, header_length, header_word, value_word}
+use Rattle.machine_types.specs.Words.{header_length, header_word, value_word}
+use Rattle.jvm_types.specs.declared.fixed_words.TheConstants.{NEXT_FREE_WORD}
 use Rattle.machine_types.specs.declared.effect.Effect.{Effect}
 use Rattle.machine_types.specs.declared.effect.Effect.TheVariants.{Goes, Throws, Reads, Writes, Indexes, Measures, Raises, Makes, Prints, Calls, Returns, Enters, Leaves, Waits, Notifies, NotifiesAll, Stuck}
 use Rattle.machine_types.specs.declared.lock.Held.{Held}
@@ -85,8 +86,8 @@ made_is a b w v e = (cc, cc)
 -- ---- a new object
 
 pub record MadeNow (p : Program) (s : Core) (after : List ℕ) (a word : ℕ) : Type 0 where
-  pub at : a ≡ slice_index s.words free_word
-  pub next : slice_index after free_word ≡ a + size_by p word
+  pub at : a ≡ slice_index s.words NEXT_FREE_WORD
+  pub next : slice_index after NEXT_FREE_WORD ≡ a + size_by p word
   pub room : a + size_by p word ≤ p.heap
   pub header : IsHeader p word
 
@@ -112,7 +113,7 @@ module _ (c : MarkedProgram) (marked : IsMarked c) (objects : List Object) (s : 
 
   abbrev Gets : Effect → (got : ℕ) → Type 0
   Gets (Indexes a i stored) got = got ≡ slice_index s.words (header_word a)
-  Gets (Makes word size) got = (got ≡ slice_index s.words free_word) × (slice_index after free_word ≡ got + size)
+  Gets (Makes word size) got = (got ≡ slice_index s.words NEXT_FREE_WORD) × (slice_index after NEXT_FREE_WORD ≡ got + size)
   Gets e got = Unit {0}
 
   module _ (x : Thread) (f : Frame) (fs : List Frame) (h : FrameHolds c (HasClass objects) 0 f) (there : x.frames ≡ f ∷ fs) (quiet : Quiet (HasClass objects) x) where
@@ -217,7 +218,7 @@ module _ (c : MarkedProgram) (marked : IsMarked c) (objects : List Object) (s : 
   gets : (x : Thread) (pc : ℕ) (e : Effect) → Gets c marked objects s facts (words_after s.words (effect_wants x pc e)) e (found_by s.words (effect_wants x pc e))
   gets x pc (Indexes a i stored) = refl
   gets x pc (Makes word size) =
-      (refl, set_here s.words free_word (slice_index s.words free_word + size) (omega (arith, facts.unused.many, marked.checked.program.heap_from)))
+      (refl, set_here s.words NEXT_FREE_WORD (slice_index s.words NEXT_FREE_WORD + size) (omega (arith, facts.unused.many, marked.checked.program.heap_from)))
   gets x pc e = tt
 
   run_leads : (x : Thread) (fs : List Frame) → x.frames ≡ fs → x.phase ≡ phases.Run → AllHeld (HasClass objects) x.held → FramesHold c (HasClass objects) fs

@@ -7,7 +7,7 @@ use Rattle.lists.proofs.ListLaws.{same_some}
 use Rattle.jvm_types.specs.Members.{is_static}
 use Rattle.jvm_types.specs.ProgramInvariant.{IsProgram, instances_among}
 use Rattle.jvm_types.specs.declared.class_numbers.TheConstants.{INT_ARRAY_CLASS}
-use Rattle.jvm_types.specs.declared.fixed_words.TheConstants.{OBJECT_HEAD_WORDS}
+use Rattle.jvm_types.specs.declared.fixed_words.TheConstants.{OBJECT_HEAD_WORDS, FIRST_READY_WORD, NEXT_FREE_WORD}
 use Rattle.jvm_types.specs.declared.program.FieldInfo.{FieldInfo}
 use Rattle.jvm_types.specs.declared.program.Kind.{Kind}
 use Rattle.jvm_types.specs.declared.program.Kind.TheVariants as kinds
@@ -18,11 +18,10 @@ use Rattle.machine_types.specs.FoundWords.{IsHeader}
 use Rattle.machine_types.specs.NewObjects.{size_by, IsNewObject}
 use Rattle.machine_types.specs.ObjectsApart.{IsBeside, IsOutside, LieApart}
 use Rattle.machine_types.specs.PlainMemory.{Object, StaticValue, object_end, header_of, new_object, start_statics}
-use Rattle.machine_types.specs.ReadyObjects.{first_ready}
 use Rattle.machine_types.specs.StartLaws.{StartLiesApart}
 use Rattle.machine_types.specs.Threads.{Thread}
 use Rattle.machine_types.specs.Typed.{Classes, KindHolds, HasClass, PlacesHold}
-use Rattle.machine_types.specs.Words.{free_word, header_class, header_length, header_word, value_word, object_size, array_size}
+use Rattle.machine_types.specs.Words.{header_class, header_length, header_word, value_word, object_size, array_size}
 use Rattle.machine_types.specs.declared.phase.Phase.TheVariants as phases
 use Rattle.heap_laws.specs.HeapFacts.{HeapFacts}
 use Rattle.heap_laws.proofs.Lists.{contained_got, got_contains, contains_more, contains_first, set_here, set_there}
@@ -93,7 +92,7 @@ module _ (lies : StartLiesApart) (c : MarkedProgram) (marked : IsMarked c) (obje
   first : (P : Object → Type 0) (o : Object) → slice_get later 0 ≡ Some o → P new → P o
   first P o e h = subst P (same_some e) h
 
-  apart_new : LieApart c.program later (start_statics c.program) (slice_index s.words free_word)
+  apart_new : LieApart c.program later (start_statics c.program) (slice_index s.words NEXT_FREE_WORD)
   apart_new = record {
     beside = beside;
     differ = facts.apart.differ;
@@ -117,12 +116,12 @@ module _ (lies : StartLiesApart) (c : MarkedProgram) (marked : IsMarked c) (obje
       mixed zero j o v g h = first (λ z. IsOutside z v.word) o g (outside_new v j h)
       mixed (suc i) j o v g h = facts.apart.mixed i j o v g h
 
-      begin : (i : ℕ) (o : Object) → slice_get later i ≡ Some o → first_ready ≤ o.reference
-      begin zero o g = first (λ z. first_ready ≤ z.reference) o g (omega (arith, k.begins))
+      begin : (i : ℕ) (o : Object) → slice_get later i ≡ Some o → FIRST_READY_WORD ≤ o.reference
+      begin zero o g = first (λ z. FIRST_READY_WORD ≤ z.reference) o g (omega (arith, k.begins))
       begin (suc i) o g = facts.apart.begin i o g
 
-      below : (i : ℕ) (o : Object) → slice_get later i ≡ Some o → object_end o ≤ slice_index s.words free_word
-      below zero o g = first (λ z. object_end z ≤ slice_index s.words free_word) o g (omega (arith, k.below, ends))
+      below : (i : ℕ) (o : Object) → slice_get later i ≡ Some o → object_end o ≤ slice_index s.words NEXT_FREE_WORD
+      below zero o g = first (λ z. object_end z ≤ slice_index s.words NEXT_FREE_WORD) o g (omega (arith, k.below, ends))
       below (suc i) o g = facts.apart.below i o g
 
       inside : (i : ℕ) (o : Object) → slice_get later i ≡ Some o → object_end o ≤ c.program.heap
@@ -205,7 +204,7 @@ module _ (lies : StartLiesApart) (c : MarkedProgram) (marked : IsMarked c) (obje
   behind_new = record {
     up = up;
     long = length-set s.words (header_word a) word;
-    free = omega (arith, unchanged free_word (λ e. omega (arith, e, k.begins)));
+    free = omega (arith, unchanged NEXT_FREE_WORD (λ e. omega (arith, e, k.begins)));
     unused = λ n le. unchanged n (λ e. omega (arith, e, le, k.below, two_at_least c.program word));
     apart = apart_new;
     places = places_new;

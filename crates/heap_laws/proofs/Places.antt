@@ -12,7 +12,8 @@ use Rattle.machine_types.specs.Core.{Core}
 use Rattle.machine_types.specs.ObjectsApart.{IsBeside, LieApart}
 use Rattle.machine_types.specs.PlainMemory.{Object, header_of, start_statics}
 use Rattle.machine_types.specs.Typed.{KindHolds, HasClass, PlacesHold}
-use Rattle.machine_types.specs.Words.{free_word, header_word, value_word}
+use Rattle.machine_types.specs.Words.{header_word, value_word}
+use Rattle.jvm_types.specs.declared.fixed_words.TheConstants.{NEXT_FREE_WORD}
 use Rattle.heap_laws.specs.Sites.{Site, Counter, OwnerOf, BitsOf, LockOf, HeaderOf, ValueOf, NewHeaderOf, StaticAt, site_word, IsThere}
 use Rattle.heap_laws.proofs.Lists.{contained_got, same_or_not}
 
@@ -29,7 +30,7 @@ IsStaticValue p objects word v = (number : ℕ) (f : FieldInfo) → slice_get p.
 
 -- least: the next free word never falls
 abbrev pub SiteHolds : Program → List Object → (least : ℕ) → Site → (v : ℕ) → Type 0
-SiteHolds p objects least (Counter word) v = word ≡ free_word → least ≤ v
+SiteHolds p objects least (Counter word) v = word ≡ NEXT_FREE_WORD → least ≤ v
 SiteHolds p objects least (HeaderOf reference) v = (o : Object) → Contains objects o → o.reference ≡ reference → v ≡ header_of o
 SiteHolds p objects least (ValueOf reference index) v = IsValue p objects reference index v
 SiteHolds p objects least (StaticAt word) v = IsStaticValue p objects word v
@@ -51,7 +52,7 @@ same_object p objects next apart o e k l same = by_index (same_or_not k.0 l.0)
 -- ---- places are typed just where each site is
 
 module _ (p : Program) (is_program : IsProgram p) (objects : List Object) (words : List ℕ) where
-  pub site_typed : (site : Site) → PlacesHold p objects words → SiteHolds p objects (slice_index words free_word) site (slice_index words (site_word site))
+  pub site_typed : (site : Site) → PlacesHold p objects words → SiteHolds p objects (slice_index words NEXT_FREE_WORD) site (slice_index words (site_word site))
   site_typed (Counter word) places = λ e. omega (arith, ap (slice_index words) e)
   site_typed (OwnerOf r) places = tt
   site_typed (BitsOf r) places = tt

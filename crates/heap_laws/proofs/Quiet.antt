@@ -17,7 +17,7 @@ use Rattle.machine_types.specs.Monitors.{Claim, Has, Tries, HasNot, claim, flag_
 use Rattle.machine_types.specs.Onward.{Onward, Running, Throwing, Entering, Leaving, RootReturned, Uncaught, rooted, dispatched, after}
 use Rattle.machine_types.specs.Threads.{Frame, Attempt, Thread}
 use Rattle.machine_types.specs.Typed.{Classes, IsObject}
-use Rattle.machine_types.specs.Words.{most_records}
+use Rattle.jvm_types.specs.declared.fixed_words.TheConstants.{MONITOR_RECORDS}
 use Rattle.machine_types.specs.declared.lock.Held.{Held}
 use Rattle.machine_types.specs.declared.lock.Kept.{Kept}
 use Rattle.machine_types.specs.declared.lock.Kept.TheVariants as keeps
@@ -213,7 +213,7 @@ module _ (is : Classes) where
       either (got == 0) (takes s m (keeps.Fat r)) (failed_turn s (phases.TakeFat m r)) (takes_quiet s m (keeps.Fat r) h k) (turn_quiet s (phases.TakeFat m r) h tt)
   moved_quiet c s (phases.Leave m a) got n h k e = leaves_quiet c.program s m a (claim s m) got refl (record { held = h; phase = subst (QuietPhase is) e tt })
   moved_quiet c s (phases.Grow m toward) got n h k e =
-      either (nat_lt got most_records) (with_phase s (phases.Own m got toward)) (grows_not s m toward) (phase_quiet s (phases.Own m got toward) h tt) (grows_quiet s m toward h)
+      either (nat_lt got MONITOR_RECORDS) (with_phase s (phases.Own m got toward)) (grows_not s m toward) (phase_quiet s (phases.Own m got toward) h tt) (grows_quiet s m toward h)
   moved_quiet c s (phases.FlatOut m a) got n h k e = lets_go_quiet c.program s m a (record { held = h; phase = subst (QuietPhase is) e tt })
   moved_quiet c s (phases.Own m r toward) got n h k e = phase_quiet s (phases.FatIn m r toward) h tt
   moved_quiet c s (phases.FatIn m r toward) got n h k e = fattens_quiet s m r toward (held_at s.held m) refl (record { held = h; phase = subst (QuietPhase is) e tt })

@@ -10,9 +10,9 @@ use Rattle.machine_types.specs.Core.{Core}
 use Rattle.machine_types.specs.NewObjects.{size_by, IsNewObject}
 use Rattle.machine_types.specs.ObjectsApart.{IsBeside, IsOutside, LieApart}
 use Rattle.machine_types.specs.PlainMemory.{Object, object_end, start_objects, start_statics}
-use Rattle.machine_types.specs.ReadyObjects.{first_ready}
+use Rattle.jvm_types.specs.declared.fixed_words.TheConstants.{FIRST_READY_WORD, NEXT_FREE_WORD}
 use Rattle.machine_types.specs.Threads.{Thread}
-use Rattle.machine_types.specs.Words.{free_word, header_class, header_length, array_size, object_size}
+use Rattle.machine_types.specs.Words.{header_class, header_length, array_size, object_size}
 use Rattle.machine_types.specs.declared.phase.Phase.TheVariants as phases
 use Rattle.machine_types.specs.StartLaws.{StartLiesApart}
 use Rattle.heap_laws.specs.HeapFacts.{HeapFacts}
@@ -55,7 +55,7 @@ pub record InNew (p : Program) (s : Core) (reference x : ℕ) : Type 0 where
   pub to : x < reference + size_by p word
 
 abbrev pub Inside : Program → List Object → Core → Block → (x : ℕ) → Type 0
-Inside p objects s Fixed x = (0 < x) × (x < first_ready)
+Inside p objects s Fixed x = (0 < x) × (x < FIRST_READY_WORD)
 Inside p objects s (Old reference) x = InObject objects reference x
 Inside p objects s (New reference) x = InNew p s reference x
 Inside p objects s (Single word) x = HasStatic p word × (x ≡ word)
@@ -86,7 +86,7 @@ module _ (lies_apart : StartLiesApart) (c : MarkedProgram) (objects : List Objec
   is_program : IsProgram c.program
   is_program = marked.checked.program
 
-  pub static_low : (word : ℕ) → HasStatic c.program word → (first_ready ≤ word) × (word < words_of c.program)
+  pub static_low : (word : ℕ) → HasStatic c.program word → (FIRST_READY_WORD ≤ word) × (word < words_of c.program)
   static_low word k =
       let start : LieApart c.program (start_objects c.program) (start_statics c.program) (words_of c.program) = lies_apart c.program is_program in
       let there = contained_got (start_statics c.program) k.0 k.1 in
@@ -95,7 +95,7 @@ module _ (lies_apart : StartLiesApart) (c : MarkedProgram) (objects : List Objec
   pub new_at : (reference x : ℕ) (k : InNew c.program s reference x) → IsNewObject c.program objects s reference (size_by c.program k.word)
   new_at reference x k = facts.new_objects.each k.t k.thread reference k.word k.there k.made
 
-  old_begins : (reference x : ℕ) → InObject objects reference x → first_ready ≤ x
+  old_begins : (reference x : ℕ) → InObject objects reference x → FIRST_READY_WORD ≤ x
   old_begins reference x k = omega (arith, facts.apart.begin k.there.0 k.object (contained_got objects k.object k.there), k.is, k.from)
 
   new_begins : (reference x : ℕ) → InNew c.program s reference x → words_of c.program ≤ x
@@ -196,7 +196,7 @@ module _ (lies_apart : StartLiesApart) (c : MarkedProgram) (objects : List Objec
 
   -- ---- below the next free word
 
-  pub block_low : (b : Block) (x : ℕ) → In b x → (0 < x) × (x < slice_index s.words free_word) × (x < c.program.heap)
+  pub block_low : (b : Block) (x : ℕ) → In b x → (0 < x) × (x < slice_index s.words NEXT_FREE_WORD) × (x < c.program.heap)
   block_low Fixed x k = (k.0, omega (arith, k.1, facts.begins), omega (arith, k.1, is_program.words))
   block_low (Old a) x k =
       let there = contained_got objects k.object k.there in

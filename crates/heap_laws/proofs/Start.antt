@@ -12,7 +12,7 @@ use Rattle.jvm_types.specs.Layout.{kept_int}
 use Rattle.jvm_types.specs.Members.{is_static}
 use Rattle.jvm_types.specs.ProgramInvariant.{IsProgram, words_of}
 use Rattle.jvm_types.specs.declared.class_numbers.TheConstants.{CLASS_ITSELF, INT_ARRAY_CLASS}
-use Rattle.jvm_types.specs.declared.fixed_words.TheConstants.{OBJECT_HEAD_WORDS, FIRST_CLASS_WORD}
+use Rattle.jvm_types.specs.declared.fixed_words.TheConstants.{OBJECT_HEAD_WORDS, FIRST_CLASS_WORD, FIRST_READY_WORD}
 use Rattle.jvm_types.specs.declared.program.FieldInfo.{FieldInfo}
 use Rattle.jvm_types.specs.declared.program.Kind.{Kind}
 use Rattle.jvm_types.specs.declared.program.Kind.TheVariants as kinds
@@ -27,7 +27,7 @@ use Rattle.machine_types.specs.ObjectsApart.{IsBeside, IsOutside, LieApart}
 use Rattle.machine_types.specs.Parts.{init_roots}
 use Rattle.machine_types.specs.PlainMemory.{Object, StaticValue, object_end, header_of, value_in, has_value, first_value, object_value, static_value, objects_from, class_objects, start_objects, start_statics}
 use Rattle.machine_types.specs.PlainState.{plain_start, value_at}
-use Rattle.machine_types.specs.ReadyObjects.{ready_classes, first_ready}
+use Rattle.machine_types.specs.ReadyObjects.{ready_classes}
 use Rattle.machine_types.specs.StartLaws.{StartAgrees, StartIsTyped, StartIsUnused, StartLiesApart}
 use Rattle.machine_types.specs.StartWords.{statics_of, classes_of}
 use Rattle.machine_types.specs.Threads.{Thread}
@@ -181,7 +181,7 @@ module _ (p : Program) (is_program : IsProgram p) where
   of_classes fields reference (class ∷ classes) (suc i) o e = of_classes fields (reference + OBJECT_HEAD_WORDS + length (statics_of fields class)) classes i o e
 
   start_object : (i : ℕ) (o : Object) → slice_get (start_objects p) i ≡ Some o → IsStartObject p o
-  start_object i o e = from_classes first_ready ready_classes (class_objects p.fields FIRST_CLASS_WORD (classes_of p)) i o ready_are (of_classes p.fields FIRST_CLASS_WORD (classes_of p)) e
+  start_object i o e = from_classes FIRST_READY_WORD ready_classes (class_objects p.fields FIRST_CLASS_WORD (classes_of p)) i o ready_are (of_classes p.fields FIRST_CLASS_WORD (classes_of p)) e
 
   start_header : (o : Object) → Contains (start_objects p) o → IsHeader p (header_of o)
   start_header o k =

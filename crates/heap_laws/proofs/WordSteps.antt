@@ -12,7 +12,7 @@ use Rattle.machine_types.specs.ObjectsApart.{LieApart}
 use Rattle.machine_types.specs.PlainMemory.{Object, StaticValue}
 use Rattle.machine_types.specs.StartLaws.{StartLiesApart}
 use Rattle.machine_types.specs.Typed.{PlacesHold}
-use Rattle.machine_types.specs.Words.{free_word}
+use Rattle.jvm_types.specs.declared.fixed_words.TheConstants.{NEXT_FREE_WORD}
 use Rattle.machine_types.specs.declared.access.Access.{Access}
 use Rattle.machine_types.specs.declared.access.Access.TheVariants.{Load, Store, Cas, Add, Or, And, Rest}
 use Rattle.heap_laws.specs.HeapFacts.{HeapFacts}
@@ -42,8 +42,8 @@ apart_on p objects statics next more le apart = record {
 
 pub record WordsGoOn (c : MarkedProgram) (objects : List Object) (s : Core) (after : List ℕ) : Type 0 where
   pub long : length after ≡ length s.words
-  pub free : slice_index s.words free_word ≤ slice_index after free_word
-  pub unused : (n : ℕ) → slice_index s.words free_word ≤ n → slice_index after n ≡ slice_index s.words n
+  pub free : slice_index s.words NEXT_FREE_WORD ≤ slice_index after NEXT_FREE_WORD
+  pub unused : (n : ℕ) → slice_index s.words NEXT_FREE_WORD ≤ n → slice_index after n ≡ slice_index s.words n
   pub places : PlacesHold c.program objects after
   pub new : (a n : ℕ) → InNew c.program s a n → slice_index after n ≡ slice_index s.words n
 
@@ -74,26 +74,26 @@ module _ (lies : StartLiesApart) (c : MarkedProgram) (marked : IsMarked c) (obje
     site_in : Inside c.program objects s (block fits.site) (accessed access)
     site_in = subst (Inside c.program objects s (block fits.site)) (sym fits.word) (in_block c.program objects s fits.site fits.there)
 
-    low : (0 < accessed access) × (accessed access < slice_index s.words free_word) × (accessed access < c.program.heap)
+    low : (0 < accessed access) × (accessed access < slice_index s.words NEXT_FREE_WORD) × (accessed access < c.program.heap)
     low = block_low lies c objects s marked facts (block fits.site) (accessed access) site_in
 
-    each_site : (site : Site) → IsThere c.program objects s site → SiteHolds c.program objects (slice_index s.words free_word) site (slice_index set (site_word site))
+    each_site : (site : Site) → IsThere c.program objects s site → SiteHolds c.program objects (slice_index s.words NEXT_FREE_WORD) site (slice_index set (site_word site))
     each_site site k = by_word (same_or_not (site_word site) (accessed access))
       where
-        by_word : (site_word site ≡ accessed access) ⊎ (site_word site ≢ accessed access) → SiteHolds c.program objects (slice_index s.words free_word) site (slice_index set (site_word site))
+        by_word : (site_word site ≡ accessed access) ⊎ (site_word site ≢ accessed access) → SiteHolds c.program objects (slice_index s.words NEXT_FREE_WORD) site (slice_index set (site_word site))
         by_word (inl e) =
             let one : site ≡ fits.site = sites_apart lies c objects s site fits.site marked facts k fits.there (e ∙ fits.word) in
             let is : slice_index set (site_word site) ≡ value = ap (slice_index set) e ∙ set_here s.words (accessed access) value (omega (arith, low.2, facts.unused.many)) in
-            subst (SiteHolds c.program objects (slice_index s.words free_word) site) (sym is) (subst (λ x. SiteHolds c.program objects (slice_index s.words free_word) x value) (sym one) fits.left)
+            subst (SiteHolds c.program objects (slice_index s.words NEXT_FREE_WORD) site) (sym is) (subst (λ x. SiteHolds c.program objects (slice_index s.words NEXT_FREE_WORD) x value) (sym one) fits.left)
         by_word (inr n) =
-            subst (SiteHolds c.program objects (slice_index s.words free_word) site) (sym (set_there s.words (accessed access) (site_word site) value n)) (site_typed c.program is_program objects s.words site facts.typed.places)
+            subst (SiteHolds c.program objects (slice_index s.words NEXT_FREE_WORD) site) (sym (set_there s.words (accessed access) (site_word site) value n)) (site_typed c.program is_program objects s.words site facts.typed.places)
 
     words_set : WordsGoOn c objects s set
     words_set = record {
       long = length-set s.words (accessed access) value;
-      free = each_site (Counter free_word) (omega arith, omega arith) refl;
+      free = each_site (Counter NEXT_FREE_WORD) (omega arith, omega arith) refl;
       unused = λ n le. set_there s.words (accessed access) n value (λ e. omega (arith, e, le, low.1));
-      places = places_typed c.program is_program objects set s (slice_index s.words free_word) (slice_index s.words free_word) facts.apart each_site;
+      places = places_typed c.program is_program objects set s (slice_index s.words NEXT_FREE_WORD) (slice_index s.words NEXT_FREE_WORD) facts.apart each_site;
       new = λ a n k. set_there s.words (accessed access) n value (λ e. no_new_block fits.site a fits.old (same_block lies c objects s marked facts (New a) (block fits.site) n k (subst (Inside c.program objects s (block fits.site)) (sym e) site_in)));
     }
 

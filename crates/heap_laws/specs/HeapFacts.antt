@@ -13,7 +13,7 @@ use Rattle.machine_types.specs.PlainMemory.{Object, header_of, new_object, start
 use Rattle.machine_types.specs.Threads.{Thread}
 use Rattle.machine_types.specs.Typed.{Classes, Typed, HasClass, IsObject}
 use Rattle.machine_types.specs.UnusedWords.{AreUnused}
-use Rattle.machine_types.specs.Words.{free_word}
+use Rattle.jvm_types.specs.declared.fixed_words.TheConstants.{NEXT_FREE_WORD}
 use Rattle.machine_types.specs.declared.phase.Phase.{Phase}
 use Rattle.machine_types.specs.declared.phase.Phase.TheVariants as phases
 
@@ -34,10 +34,10 @@ pub record HoldsObjects (is : Classes) (x : Thread) : Type 0 where
 pub record HeapFacts (c : MarkedProgram) (objects : List Object) (s : Core) : Type 0 where
   -- those that are there from the start are among the objects
   pub started : (o : Object) → Contains (start_objects c.program) o → HasClass objects o.class o.reference
-  pub apart : LieApart c.program objects (start_statics c.program) (slice_index s.words free_word)
+  pub apart : LieApart c.program objects (start_statics c.program) (slice_index s.words NEXT_FREE_WORD)
   pub unused : AreUnused c.program s
   -- behind the words that are there from the start
-  pub begins : words_of c.program ≤ slice_index s.words free_word
+  pub begins : words_of c.program ≤ slice_index s.words NEXT_FREE_WORD
   pub typed : Typed c objects s
   pub new_objects : NewObjects c.program objects s
   -- each has a class of the program, and so has one that is made

@@ -8,7 +8,8 @@ use Rattle.machine_types.specs.Core.{Core}
 use Rattle.machine_types.specs.FoundWords.{Content, Lock, Owner, Bits, Header, ThrowableHeader, IntPlace, ReferencePlace, Any}
 use Rattle.machine_types.specs.PlainMemory.{Object, StaticValue, start_statics}
 use Rattle.machine_types.specs.Threads.{Thread}
-use Rattle.machine_types.specs.Words.{free_word, record_word, most_records, owner_word, bits_word, header_word, value_word}
+use Rattle.machine_types.specs.Words.{owner_word, bits_word, header_word, value_word}
+use Rattle.jvm_types.specs.declared.fixed_words.TheConstants.{NEXT_FREE_WORD, NEXT_RECORD_WORD, MONITOR_RECORDS}
 use Rattle.machine_types.specs.declared.phase.Phase.TheVariants as phases
 
 pub data Site : Type 0 where
@@ -53,9 +54,9 @@ HasStatic p word = (v : StaticValue) × Contains (start_statics p) v × (v.word 
 
 -- in a state with these objects
 abbrev pub IsThere : Program → List Object → Core → Site → Type 0
-IsThere p objects s (Counter word) = (free_word ≤ word) × (word ≤ record_word)
-IsThere p objects s (OwnerOf r) = r < most_records
-IsThere p objects s (BitsOf r) = r < most_records
+IsThere p objects s (Counter word) = (NEXT_FREE_WORD ≤ word) × (word ≤ NEXT_RECORD_WORD)
+IsThere p objects s (OwnerOf r) = r < MONITOR_RECORDS
+IsThere p objects s (BitsOf r) = r < MONITOR_RECORDS
 IsThere p objects s (LockOf reference) = HasObject objects reference
 IsThere p objects s (HeaderOf reference) = HasObject objects reference
 IsThere p objects s (ValueOf reference index) = HasValue objects reference index

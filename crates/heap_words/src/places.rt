@@ -1,7 +1,8 @@
 //! The numbers of words. Each answer is below 2^32, as the caller has to know.
 
 ghost use Rattle.std.specs.Prelude.{◌≡◌, ◌+◌, ◌<◌, ◌^◌};
-ghost use Rattle.machine_types.specs.Words.{bits_word, header_word, most_records, owner_word, value_word, variable_word};
+ghost use Rattle.machine_types.specs.Words.{bits_word, header_word, owner_word, value_word, variable_word};
+ghost use Rattle.jvm_types.specs.declared.fixed_words.TheConstants.{MONITOR_RECORDS};
 
 use jvm_types::fixed_words::{FIRST_RECORD_WORD, OBJECT_HEAD_WORDS};
 use machine_types::Variable;
@@ -39,7 +40,7 @@ pub fn variable_word(variable: Variable) -> u32
 /// The word of the owner of a monitor record, of which there are 1,024.
 #[inline(always)]
 pub fn owner_word(number: u32) -> u32
-    requires { number < most_records }
+    requires { number < MONITOR_RECORDS }
     ensures { result ≡ owner_word number }
 {
     FIRST_RECORD_WORD + 2 * number
@@ -48,7 +49,7 @@ pub fn owner_word(number: u32) -> u32
 /// The word of the waiting bits of a monitor record.
 #[inline(always)]
 pub fn bits_word(number: u32) -> u32
-    requires { number < most_records }
+    requires { number < MONITOR_RECORDS }
     ensures { result ≡ bits_word number }
 {
     FIRST_RECORD_WORD + 1 + 2 * number

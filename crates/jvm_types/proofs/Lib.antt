@@ -1,7 +1,6 @@
 pub mod FilledLaws
 pub mod SampleMethods
 mod NameTries
-mod FirstTries
 mod LinkTries
 pub mod KindLaws
 pub mod EachAfter

@@ -25,4 +25,3 @@ pub mod ReadingClass
 pub mod ClassLaws
 pub mod Types
 pub mod Verifying
-pub mod FirstForm

@@ -9,7 +9,6 @@ pub mod class_numbers;
 pub mod code;
 pub mod code_attribute;
 pub mod code_laws;
-pub mod first;
 pub mod fixed_words;
 pub mod flags;
 pub mod gate;
@@ -29,7 +28,6 @@ pub use class_laws::{
     counts_fit, faults_inside, one_class, one_spelling, read_what_is_spelled, spelled_or_faulty,
 };
 pub use code::{Case, Cmp, Insn, Op};
-pub use first::{FirstOp, Operand};
 pub use gate::{Gate, OpenGate};
 pub use index_kind::IndexKind;
 pub use lists::{Bytes, Room, Rows, Stack};

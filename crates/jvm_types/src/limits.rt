@@ -18,6 +18,9 @@ pub const MOST_CODE_BYTES: usize = 65_535;
 /// The most files of a program.
 pub const MOST_FILES: usize = 64;
 
+/// The most methods of a program: a class file counts its own in two bytes.
+pub const MOST_METHODS: usize = MOST_FILES * MOST_COUNTED;
+
 /// The most instructions of a program: so many files have no more bytes.
 pub const MOST_INSTRUCTIONS: usize = MOST_FILES * MOST_FILE_BYTES;
 
@@ -38,3 +41,6 @@ pub const MOST_SLOTS: u32 = 16_384;
 
 /// The most prints of one thread that a run may allow.
 pub const MOST_PRINTS: u32 = 1_048_576;
+
+/// The greatest limit of a run, and so the most that a thread counts.
+pub const MOST_LIMIT: u32 = 4_294_967_295;

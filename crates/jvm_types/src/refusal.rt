@@ -51,8 +51,6 @@ pub enum KRule {
 /// Linking the files.
 #[derive(Clone, Copy, Debug, PartialEq, Eq)]
 pub enum LRule {
-    /// What is not built yet: in file 0, in no method, at 0.
-    L0,
     /// A class that is not there, or a type or constant that this machine does not have: of a field at its number
     /// in its class, of a method at 0, of an instruction at its pc, of a handler row at its start.
     L1,

@@ -15,7 +15,7 @@ use Rattle.machine_types.specs.LockWords.{word_of_lock, lock_by, lock_of, is_loc
 use Rattle.machine_types.specs.Monitors.{Tries, HasNot, claim_by, acquires, enter_moves, takes, finishes, released, leave_moves, lets_go, grows_not, fattens, goes_to_wait, retakes, flag_from}
 use Rattle.machine_types.specs.Structure.{IsFlat}
 use Rattle.machine_types.specs.Threads.{Frame, Attempt, Thread}
-use Rattle.machine_types.specs.Words.{most_records}
+use Rattle.jvm_types.specs.declared.fixed_words.TheConstants.{MONITOR_RECORDS}
 use Rattle.machine_types.specs.declared.lock.Held.{Held}
 use Rattle.machine_types.specs.declared.lock.Kept.{Kept}
 use Rattle.machine_types.specs.declared.lock.Kept.TheVariants as keeps
@@ -36,7 +36,7 @@ abbrev pub LockFits : LockWord → Type 0
 LockFits (locks.Free c) = c < most_count
 LockFits (locks.Held u) = u ≤ MOST_WORKERS
 LockFits (locks.Flagged u) = Unit {0}
-LockFits (locks.Fat r) = r < most_records
+LockFits (locks.Fat r) = r < MONITOR_RECORDS
 
 pub lock_fits : (word : ℕ) → is_lock_word word ≡ true → HasCount (lock_of word) → LockFits (lock_of word)
 lock_fits word e h = by_kind (word % 4) (word / 4) e h
@@ -241,14 +241,14 @@ module _ (p : Program) where
   not_grown s m towards.Wait f k = let less = spends_less s 0 2 0 1 k (omega arith) (omega arith) in bounded p s (phases.Ending ends.Records) f tt f.limits.few_turns f.limits.few_steps tt tt less
 
   -- a flat lock becomes a fat one
-  fat_fits : (s : Thread) (m r : ℕ) (h : Held) → held_at s.held m ≡ Some h → IsFlat (Some h) → r < most_records → Fit p s
+  fat_fits : (s : Thread) (m r : ℕ) (h : Held) → held_at s.held m ≡ Some h → IsFlat (Some h) → r < MONITOR_RECORDS → Fit p s
       → HeldFit (with_held (record h { kept = keeps.Fat r }) s.held) s.counts.instructions (s.counts.inflated + 1) s.counts.locked
   fat_fits s m r h there is_flat fits f =
       let depth : h.depth ≤ s.counts.instructions = at_found (λ h. h.depth ≤ s.counts.instructions) (held_at s.held m) h there (found (λ h. h.depth ≤ s.counts.instructions) m s.held f.held.depths) in
       let one : flat h ≡ 1 = ap (λ (kept : Kept). flat (record h { kept = kept })) is_flat.1 in
       refit_fits m h (record h { kept = keeps.Fat r }) s.held s.counts.instructions s.counts.inflated s.counts.locked 1 there refl f.held fits depth (omega arith)
 
-  pub fattened : (s : Thread) (m r : ℕ) (toward : Toward) (o : Option Held) → held_at s.held m ≡ o → IsFlat o → r < most_records → Fit p s → Spends s 0 2 → IsBounded p (fattens s m r toward o)
+  pub fattened : (s : Thread) (m r : ℕ) (toward : Toward) (o : Option Held) → held_at s.held m ≡ o → IsFlat o → r < MONITOR_RECORDS → Fit p s → Spends s 0 2 → IsBounded p (fattens s m r toward o)
   fattened s m r toward None there is_flat fits f k = absurd is_flat
   fattened s m r toward (Some h) there is_flat fits f k = by_toward toward
     where
@@ -258,14 +258,14 @@ module _ (p : Program) where
 
   -- ---- waiting
 
-  pub gone_to_wait : (s : Thread) (m r : ℕ) (o : Option Held) → held_at s.held m ≡ o → r < most_records → IsBounded p s → Fit p s → Spends s 0 2 → IsBounded p (goes_to_wait s m r o)
+  pub gone_to_wait : (s : Thread) (m r : ℕ) (o : Option Held) → held_at s.held m ≡ o → r < MONITOR_RECORDS → IsBounded p s → Fit p s → Spends s 0 2 → IsBounded p (goes_to_wait s m r o)
   gone_to_wait s m r None there fits b f k = b
   gone_to_wait s m r (Some h) there fits b f k =
       let depth : h.depth ≤ s.counts.instructions = at_found (λ h. h.depth ≤ s.counts.instructions) (held_at s.held m) h there (found (λ h. h.depth ≤ s.counts.instructions) m s.held f.held.depths) in
       let held : HeldFit (without_held m s.held) s.counts.instructions s.counts.inflated s.counts.locked = without_fits m s.held s.counts.instructions s.counts.inflated s.counts.locked f.held in
       bounded p (record s { held = without_held m s.held }) (phases.WaitLook m r h.depth) (record { limits = f.limits; held = held; tried = f.tried }) fits f.limits.few_turns f.limits.few_steps depth tt (record { few = k.few })
 
-  pub taken_back : (s : Thread) (m r depth : ℕ) → r < most_records → depth ≤ s.counts.instructions → Fit p s → Spends s 0 2 → IsBounded p (retakes s m r depth)
+  pub taken_back : (s : Thread) (m r depth : ℕ) → r < MONITOR_RECORDS → depth ≤ s.counts.instructions → Fit p s → Spends s 0 2 → IsBounded p (retakes s m r depth)
   taken_back s m r depth fits few f k =
       let e : Held = record { monitor = m; kept = keeps.Fat r; depth = depth } in
       let held : HeldFit (with_held e s.held) s.counts.instructions s.counts.inflated (s.counts.locked + 0) = put_fits e s.held s.counts.instructions s.counts.inflated s.counts.locked 0 f.held fits few (omega arith) in

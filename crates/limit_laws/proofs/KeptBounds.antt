@@ -23,7 +23,7 @@ use Rattle.machine_types.specs.Monitors.{bit_of, lowest_of, grows_not}
 use Rattle.machine_types.specs.Onward.{Running, Uncaught, rooted, root_arguments, dispatched}
 use Rattle.machine_types.specs.Structure.{Stands, AttemptStandsIn, IsStructured}
 use Rattle.machine_types.specs.Threads.{Frame, Attempt, Thread}
-use Rattle.machine_types.specs.Words.{most_records}
+use Rattle.jvm_types.specs.declared.fixed_words.TheConstants.{MONITOR_RECORDS}
 use Rattle.machine_types.specs.declared.effect.Effect.{Effect}
 use Rattle.machine_types.specs.declared.effect.Effect.TheVariants.{Raises, Calls, Stuck}
 use Rattle.machine_types.specs.declared.lock.Held.{Held}
@@ -148,9 +148,9 @@ bounds_kept c was s got marked structured typed b w = by_phase s.phase structure
         (failing c.program now (phases.TakeFat m r) f b.phase (λ few. few) b.steps tt tt k (spends_less now 1 2 0 1 k (omega arith) (omega arith)))
     by_phase (phases.Leave m a) st ty b w = let now : Thread = record s { phase = phases.Leave m a } in
         left c.program now m a got (held_at s.held m) s.attempt refl refl (fit_of c.program now (phases.Leave m a) b b.turns b.steps) (spends_of c.program now (phases.Leave m a) b)
-    by_phase (phases.Grow m toward) st ty b w = by_record (nat_lt got most_records) refl
+    by_phase (phases.Grow m toward) st ty b w = by_record (nat_lt got MONITOR_RECORDS) refl
       where
-        by_record : (few : Bool) → nat_lt got most_records ≡ few → IsBounded c.program (if few then with_phase (record s { phase = phases.Grow m toward }) (phases.Own m got toward) else grows_not (record s { phase = phases.Grow m toward }) m toward)
+        by_record : (few : Bool) → nat_lt got MONITOR_RECORDS ≡ few → IsBounded c.program (if few then with_phase (record s { phase = phases.Grow m toward }) (phases.Own m got toward) else grows_not (record s { phase = phases.Grow m toward }) m toward)
         by_record true e = bounded c.program s (phases.Own m got toward) (fit_of c.program s (phases.Grow m toward) b b.turns b.steps) (grind (arith, nat_tests, e)) b.turns b.steps tt tt (spends_of c.program s (phases.Grow m toward) b)
         by_record false e = not_grown c.program (record s { phase = phases.Grow m toward }) m toward
             (fit_of c.program (record s { phase = phases.Grow m toward }) (phases.Grow m toward) b b.turns b.steps) (spends_of c.program (record s { phase = phases.Grow m toward }) (phases.Grow m toward) b)

@@ -27,7 +27,8 @@ use Rattle.machine_types.specs.Parts.{numbers_of, entries_named, init_roots}
 use Rattle.machine_types.specs.ReadyObjects.{class_of, thrown_of}
 use Rattle.machine_types.specs.Structure.{HasFrame}
 use Rattle.machine_types.specs.Threads.{Frame, Attempt, Thread}
-use Rattle.machine_types.specs.Words.{header_class, header_length, most_records}
+use Rattle.machine_types.specs.Words.{header_class, header_length}
+use Rattle.jvm_types.specs.declared.fixed_words.TheConstants.{MONITOR_RECORDS}
 use Rattle.machine_types.specs.declared.effect.Effect.{Effect}
 use Rattle.machine_types.specs.declared.effect.Effect.TheVariants.{Goes, Throws, Reads, Writes, Indexes, Measures, Raises, Makes, Prints, Calls, Returns, Enters, Leaves, Waits, Notifies, NotifiesAll, Stuck}
 use Rattle.machine_types.specs.declared.lock.Held.{Held}
@@ -366,7 +367,7 @@ roots_kept c s got h = by_phase s.phase h
         (running c.program (record now { held = _; counts = _ }) (record { roots = h.roots; frame = frame_in (phases.TakeFat m r) s.frames s.roots tt h.frames }))
         (turned c.program now (phases.TakeFat m r) tt (in_frame (phases.TakeFat m r) tt h))
     by_phase (phases.Leave m a) h = let now : Thread = record s { phase = phases.Leave m a } in left c.program now m a (claim now m) got (in_frame (phases.Leave m a) tt h) h
-    by_phase (phases.Grow m toward) h = let now : Thread = record s { phase = phases.Grow m toward } in by_test c.program (nat_lt got most_records) _ _
+    by_phase (phases.Grow m toward) h = let now : Thread = record s { phase = phases.Grow m toward } in by_test c.program (nat_lt got MONITOR_RECORDS) _ _
         (in_phase c.program now (phases.Own m got toward) tt (in_frame (phases.Grow m toward) tt h)) (not_grown c.program now m toward (in_frame (phases.Grow m toward) tt h))
     by_phase (phases.FlatOut m a) h = let_go c.program (record s { phase = phases.FlatOut m a }) m a (in_frame (phases.FlatOut m a) tt h) h
     by_phase (phases.Own m r toward) h = in_phase c.program (record s { phase = phases.Own m r toward }) (phases.FatIn m r toward) tt (in_frame (phases.Own m r toward) tt h)

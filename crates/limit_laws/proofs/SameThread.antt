@@ -23,7 +23,8 @@ use Rattle.machine_types.specs.Threads.{Thread, Attempt}
 use Rattle.machine_types.specs.declared.phase.After.{After}
 use Rattle.machine_types.specs.declared.phase.Phase.{Phase}
 use Rattle.machine_types.specs.declared.lock.Held.{Held}
-use Rattle.machine_types.specs.Words.{header_length, most_records}
+use Rattle.machine_types.specs.Words.{header_length}
+use Rattle.jvm_types.specs.declared.fixed_words.TheConstants.{MONITOR_RECORDS}
 use Rattle.machine_types.specs.declared.lock.Kept.{Kept}
 use Rattle.machine_types.specs.declared.lock.Kept.TheVariants as keeps
 use Rattle.machine_types.specs.declared.phase.Phase.TheVariants as phases
@@ -164,7 +165,7 @@ same_given c s (phases.Take m count) got = by_test (given_of s) (got == word_of_
 same_given c s (phases.Flag m u) got = refl
 same_given c s (phases.TakeFat m r) got = by_test (given_of s) (got == 0) _ _ refl refl
 same_given c s (phases.Leave m a) got = left c.program s m a (claim s m) got
-same_given c s (phases.Grow m toward) got = by_test (given_of s) (nat_lt got most_records) _ _ refl (not_grown s m toward)
+same_given c s (phases.Grow m toward) got = by_test (given_of s) (nat_lt got MONITOR_RECORDS) _ _ refl (not_grown s m toward)
 same_given c s (phases.FlatOut m a) got = let_go c.program s m a
 same_given c s (phases.Own m r toward) got = refl
 same_given c s (phases.FatIn m r toward) got = fattened s m r toward (held_at s.held m)

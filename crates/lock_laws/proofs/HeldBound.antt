@@ -10,7 +10,7 @@ use Rattle.checked_program.specs.LockTags.{TagShape}
 use Rattle.checked_program.specs.MarkedProgram.{MarkedProgram}
 use Rattle.checked_program.specs.TaggedCode.{tagged_by}
 use Rattle.checked_program.specs.declared.tag.Tags.{Tags}
-use Rattle.machine_types.specs.Frames.{most_frames}
+use Rattle.jvm_types.specs.declared.limits.TheConstants.{MOST_FRAMES}
 use Rattle.machine_types.specs.HeldMonitors.{held_at, held_in_frame, most_in, most_held, places_of}
 use Rattle.machine_types.specs.Shown.{Shows, ShowBelow, Show, own_entry, tag_value}
 use Rattle.machine_types.specs.Standing.{Operands, Whole}
@@ -121,12 +121,12 @@ module _ (c : MarkedProgram) where
       let both : length b.0 + length b.1 ≤ suc (length fs) * (1 + most) = product (length fs) most (length b.0) (length b.1) (frame_few operands f b.0 b.3) (below_few f.method fs b.1 b.4) in
       omega arith
 
-  more_frames : (n k a : ℕ) → a < n * (1 + k) → n ≤ most_frames → a < most_frames * (1 + k)
+  more_frames : (n k a : ℕ) → a < n * (1 + k) → n ≤ MOST_FRAMES → a < MOST_FRAMES * (1 + k)
   more_frames n k a e f = grind arith
 
   -- an entry of a monitor that is not held is shown besides those of the monitors that are
   one_more : (m : ℕ) (held : List Held) (operands : Operands) (fs : List Frame) (shown : List ℕ) → Show c operands fs shown → AreHeldOnce held → held_at held m ≡ None → ((k : ℕ) → held_depth k held + once_at m k ≤ count_in k shown)
-      → length fs ≤ most_frames → length held < places_of c
+      → length fs ≤ MOST_FRAMES → length held < places_of c
   one_more m held operands fs shown show once none deep few =
       let all : length (h ∷ held) ≤ length shown = few_held (h ∷ held) shown (none, omega arith, once) (λ k. at_each k (m == k) refl (deep k)) in
       let most_shown : length shown ≤ length fs * (1 + most) = show_few operands fs shown show in

@@ -29,7 +29,7 @@ use Rattle.machine_types.specs.Standing.{Whole, Thrown}
 use Rattle.machine_types.specs.Structure.{HasFrame, TopIs, Stands, AttemptStandsIn, IsStructured, IsAs, IsLimitAt, IsPhaseInside, count_in, any_op}
 use Rattle.machine_types.specs.Threads.{Frame, Attempt, Thread}
 use Rattle.machine_types.specs.Typed.{Classes, AfterHolds, PhaseHolds, ThreadHolds}
-use Rattle.machine_types.specs.Words.{most_records}
+use Rattle.jvm_types.specs.declared.fixed_words.TheConstants.{MONITOR_RECORDS}
 use Rattle.machine_types.specs.declared.lock.Held.{Held}
 use Rattle.machine_types.specs.declared.lock.Kept.TheVariants as keeps
 use Rattle.machine_types.specs.declared.lock.LockWord.TheVariants as locks
@@ -231,7 +231,7 @@ module _ (begin : BeginsAttempt) (entered_again : EntersInside) (is : Classes) (
       by_word true = taken c s m was (keeps.Fat r) k
       by_word false = from (phases.TakeFat m r) (failed_turn s (phases.TakeFat m r)) e (turned_back_fat c s m r k)
   by_phase (phases.Leave m a) here e holds = leaving is c marked was s m a (at (phases.Leave m a) e) (within (phases.Leave m a) e) holds (same (phases.Leave m a) here (sym e)) got
-  by_phase (phases.Grow m toward) here e holds = from (phases.Grow m toward) (moved c s (phases.Grow m toward) got) e (by_records (nat_lt got most_records))
+  by_phase (phases.Grow m toward) here e holds = from (phases.Grow m toward) (moved c s (phases.Grow m toward) got) e (by_records (nat_lt got MONITOR_RECORDS))
     where
       none : s.attempt ≡ None
       none = none_in (phases.Grow m toward) (λ n k. k) e

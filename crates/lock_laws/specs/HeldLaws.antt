@@ -1,7 +1,7 @@
 -- How many monitors a thread holds: there is a place for each.
 use Rattle.std.specs.Prelude.{◌<◌, ◌≤◌, length}
 use Rattle.checked_program.specs.MarkedProgram.{MarkedProgram}
-use Rattle.machine_types.specs.Frames.{most_frames}
+use Rattle.jvm_types.specs.declared.limits.TheConstants.{MOST_FRAMES}
 use Rattle.machine_types.specs.HeldMonitors.{places_of}
 use Rattle.machine_types.specs.Structure.{IsStructured}
 use Rattle.machine_types.specs.Threads.{Thread}
@@ -16,4 +16,4 @@ AddsHeld (phases.Retake m r depth) = Unit {0}
 AddsHeld phase = ⊥
 
 abbrev pub HeldHasRoom : Type 0
-HeldHasRoom = (c : MarkedProgram) (was : Phase) (s : Thread) → IsStructured c was s → length s.frames ≤ most_frames → AddsHeld s.phase → length s.held < places_of c
+HeldHasRoom = (c : MarkedProgram) (was : Phase) (s : Thread) → IsStructured c was s → length s.frames ≤ MOST_FRAMES → AddsHeld s.phase → length s.held < places_of c

@@ -9,7 +9,7 @@ use Rattle.checked_program.specs.MarkedProgram.{MarkedProgram}
 use Rattle.machine_types.specs.Core.{Core, start}
 use Rattle.machine_types.specs.declared.config.Config.{Config}
 use Rattle.machine_types.specs.PlainState.{Printed}
-use Rattle.machine_types.specs.Words.{record_word}
+use Rattle.jvm_types.specs.declared.fixed_words.TheConstants.{NEXT_RECORD_WORD}
 use Rattle.machine_plays.specs.Writing.{row, times, usual, report, printed, shown}
 use Rattle.machine_plays.specs.WorkedAlone.{add_and_print, add_and_print_twice, all_parts, call_itself, catch_by_class, compute, divide_by_zero, index_and_throw, init_only, leaves_by_exception, low_bit, make_array, measure_null, moves, return_only}
 use Rattle.machine_plays.specs.WorkedPairs.{alone, counts_up, divides, make_and_set, make_shared, shared, shared_and_done, twice, unlocked}
@@ -50,7 +50,7 @@ abbrev pub first_state : Run → Core
 first_state r = with_record (start r.program r.cfg)
   where
     with_record : Core → Core
-    with_record s = record s { words = slice_set s.words record_word r.first_record }
+    with_record s = record s { words = slice_set s.words NEXT_RECORD_WORD r.first_record }
 
 -- more events than any run here has
 abbrev pub most_events : ℕ

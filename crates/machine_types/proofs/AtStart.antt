@@ -16,7 +16,8 @@ use Rattle.machine_types.specs.Parts.{init_roots}
 use Rattle.machine_types.specs.PlainMemory.{Object}
 use Rattle.machine_types.specs.ReadyObjects.{ready_classes}
 use Rattle.machine_types.specs.StartWords.{start_words, object_words, class_words, classes_of}
-use Rattle.machine_types.specs.Words.{most_records, bits_word}
+use Rattle.machine_types.specs.Words.{bits_word}
+use Rattle.jvm_types.specs.declared.fixed_words.TheConstants.{MONITOR_RECORDS}
 use Rattle.machine_types.specs.Threads.{Thread, fresh}
 use Rattle.machine_types.specs.declared.phase.Phase.{Phase}
 use Rattle.machine_types.specs.declared.config.Config.{Config}
@@ -151,15 +152,15 @@ in_zeros zero k xs ys zs lt = absurd (grind arith)
 in_zeros (suc n) zero xs ys zs lt = refl
 in_zeros (suc n) (suc k) xs ys zs lt = in_zeros n k xs ys zs (omega arith)
 
-bits_are_zero : (p : Program) (r : ℕ) → r < most_records → slice_index (start_words p) (bits_word r) ≡ 0
+bits_are_zero : (p : Program) (r : ℕ) → r < MONITOR_RECORDS → slice_index (start_words p) (bits_word r) ≡ 0
 bits_are_zero p r lt =
     let y : suc (suc (suc (suc (1 + 2 * r)))) ≡ 5 + 2 * r = omega arith in
-    subst (λ (k : ℕ). slice_index (start_words p) k ≡ 0) y (in_zeros (2 * most_records) (1 + 2 * r) (flat_map object_words ready_classes) (flat_map (class_words p.fields) (classes_of p)) (replicate (p.heap - words_of p) 0) (omega arith))
+    subst (λ (k : ℕ). slice_index (start_words p) k ≡ 0) y (in_zeros (2 * MONITOR_RECORDS) (1 + 2 * r) (flat_map object_words ready_classes) (flat_map (class_words p.fields) (classes_of p)) (replicate (p.heap - words_of p) 0) (omega arith))
 
-none_is_set : (p : Program) (r u : ℕ) → r < most_records → is_bit_set (start_words p) r u ≡ true → ⊥
+none_is_set : (p : Program) (r u : ℕ) → r < MONITOR_RECORDS → is_bit_set (start_words p) r u ≡ true → ⊥
 none_is_set p r u lt e = let h : has_flag (bit_of u) 0 ≡ true = subst (λ (n : ℕ). has_flag (bit_of u) n ≡ true) (bits_are_zero p r lt) e in let g : false ≡ true = sym (none_set (bit_of u)) ∙ h in cc
 
-fresh_waits : (words : List ℕ) (t : ℕ) (phase : Phase) → ((r : ℕ) → r < most_records → is_bit_set words r t ≡ true → ⊥) → IsFreshPhase phase → Waits words t phase
+fresh_waits : (words : List ℕ) (t : ℕ) (phase : Phase) → ((r : ℕ) → r < MONITOR_RECORDS → is_bit_set words r t ≡ true → ⊥) → IsFreshPhase phase → Waits words t phase
 fresh_waits words t _ none starts = record { only = λ r lt e. absurd (none r lt e); must = tt }
 fresh_waits words t _ none idles = record { only = λ r lt e. absurd (none r lt e); must = tt }
 fresh_waits words t _ none is_over = record { only = λ r lt e. absurd (none r lt e); must = tt }

@@ -29,7 +29,8 @@ use Rattle.machine_types.specs.PlainSteps.{plain_run, plain_step, step_of, step_
 use Rattle.machine_types.specs.Replay.{Alone, replayed, at_entry, at_present}
 use Rattle.machine_types.specs.Threads.{Attempt, Thread, Config}
 use Rattle.machine_types.specs.Typed.{AttemptHolds, HasClass}
-use Rattle.machine_types.specs.Words.{free_word, header_word, value_word, header_class, header_length}
+use Rattle.machine_types.specs.Words.{header_word, value_word, header_class, header_length}
+use Rattle.jvm_types.specs.declared.fixed_words.TheConstants.{NEXT_FREE_WORD}
 use Rattle.machine_types.specs.declared.lock.Held.{Held}
 use Rattle.machine_types.specs.declared.lock.Kept.{Kept}
 use Rattle.machine_types.specs.declared.lock.Kept.TheVariants as keeps
@@ -105,7 +106,7 @@ not_pending c cfg told k o x there behind before h =
 
 module _ (c : MarkedProgram) (cfg : Config) (told : Told) (q : Plain) (k : FactsBeside c cfg told q) (is : IsProgram c.program) where
   abbrev next_free : ℕ
-  next_free = slice_index told.core.words free_word
+  next_free = slice_index told.core.words NEXT_FREE_WORD
 
   -- an object of the facts is one of the plain state
   plain_has : (o : Object) (x : ℕ) → Contains k.facts.objects o → ((e : Object) → e.reference ≡ o.reference → length e.values ≡ length o.values → HasValue (value_in e x)) → o.reference < x → x < object_end o

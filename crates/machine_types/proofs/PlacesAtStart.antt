@@ -18,12 +18,11 @@ use Rattle.program_laws.proofs.FieldOrder.{before_at, statics_inside, statics_ap
 use Rattle.machine_types.specs.Ints.{word_of}
 use Rattle.machine_types.specs.ObjectsApart.{IsBeside, IsOutside}
 use Rattle.machine_types.specs.PlainMemory.{Object, StaticValue, object_end, objects_from, class_objects, start_objects, start_statics}
-use Rattle.machine_types.specs.ReadyObjects.{ready_classes, first_ready}
+use Rattle.machine_types.specs.ReadyObjects.{ready_classes}
+use Rattle.jvm_types.specs.declared.fixed_words.TheConstants.{FIRST_READY_WORD, MONITOR_RECORDS, FIRST_CLASS_WORD}
 use Rattle.machine_types.specs.StartLaws.{StartLiesApart, StartIsUnused}
 use Rattle.machine_types.specs.StartWords.{object_words, statics_of, class_words, classes_of}
-use Rattle.machine_types.specs.Words.{most_records}
 use Rattle.machine_types.proofs.Lists.{every}
-use Rattle.jvm_types.specs.declared.fixed_words.TheConstants.{FIRST_CLASS_WORD}
 
 -- ---- how many static fields there are, and how many of the classes below one
 
@@ -209,17 +208,17 @@ words_differ p is i j s r e h lt =
 -- ---- the ready objects, which are written out
 
 abbrev pub ready_objects : List Object
-ready_objects = objects_from first_ready ready_classes
+ready_objects = objects_from FIRST_READY_WORD ready_classes
 
 -- what holds of each object at the start, up to a word
 pub record IsPlaced (o : Object) (to : ℕ) : Type 0 where
-  pub begins : first_ready ≤ o.reference
+  pub begins : FIRST_READY_WORD ≤ o.reference
   pub to_word : object_end o ≤ to
   pub built_in : o.class < file_class 0
   pub empty : length o.values ≡ 0
 
 abbrev is_placed : (to : ℕ) → Object → Bool
-is_placed to o = nat_le first_ready o.reference && (nat_le (object_end o) to && (nat_lt o.class (file_class 0) && (length o.values == 0)))
+is_placed to o = nat_le FIRST_READY_WORD o.reference && (nat_le (object_end o) to && (nat_lt o.class (file_class 0) && (length o.values == 0)))
 
 at_most : (m n : ℕ) → nat_le m n ≡ true → m ≤ n
 at_most m n e = grind (arith, nat_tests)
@@ -229,10 +228,10 @@ less m n e = grind (arith, nat_tests)
 
 placed : (to : ℕ) (o : Object) → is_placed to o ≡ true → IsPlaced o to
 placed to o e =
-    let a : (nat_le first_ready o.reference ≡ true) × ((nat_le (object_end o) to && (nat_lt o.class (file_class 0) && (length o.values == 0))) ≡ true) = both_are_true _ _ e in
+    let a : (nat_le FIRST_READY_WORD o.reference ≡ true) × ((nat_le (object_end o) to && (nat_lt o.class (file_class 0) && (length o.values == 0))) ≡ true) = both_are_true _ _ e in
     let b : (nat_le (object_end o) to ≡ true) × ((nat_lt o.class (file_class 0) && (length o.values == 0)) ≡ true) = both_are_true _ _ a.1 in
     let c : (nat_lt o.class (file_class 0) ≡ true) × ((length o.values == 0) ≡ true) = both_are_true _ _ b.1 in
-    record { begins = at_most first_ready o.reference a.0; to_word = at_most (object_end o) to b.0; built_in = less o.class (file_class 0) c.0; empty = eqb-true (length o.values) 0 c.1 }
+    record { begins = at_most FIRST_READY_WORD o.reference a.0; to_word = at_most (object_end o) to b.0; built_in = less o.class (file_class 0) c.0; empty = eqb-true (length o.values) 0 c.1 }
 
 pub ready_placed : (i : ℕ) (o : Object) → slice_get ready_objects i ≡ Some o → IsPlaced o FIRST_CLASS_WORD
 ready_placed i o e = placed FIRST_CLASS_WORD o (every (is_placed FIRST_CLASS_WORD) ready_objects refl i o e)
@@ -454,12 +453,12 @@ behind_front (y ∷ xs) n (suc x) h = behind_front xs n x (omega (arith, h))
 
 pub is_unused : StartIsUnused
 is_unused c cfg is = record {
-  many = length-append (front c.program (2 * most_records)) (replicate rest 0) ∙ omega (arith, count, length-replicate {A = ℕ} rest 0, is.words);
-  empty = λ x from below. behind_front (front c.program (2 * most_records)) rest x (omega (arith, count, from));
+  many = length-append (front c.program (2 * MONITOR_RECORDS)) (replicate rest 0) ∙ omega (arith, count, length-replicate {A = ℕ} rest 0, is.words);
+  empty = λ x from below. behind_front (front c.program (2 * MONITOR_RECORDS)) rest x (omega (arith, count, from));
 }
   where
     rest : ℕ
     rest = c.program.heap - words_of c.program
 
-    count : length (front c.program (2 * most_records)) ≡ words_of c.program
-    count = omega (arith, length_front c.program (2 * most_records) is)
+    count : length (front c.program (2 * MONITOR_RECORDS)) ≡ words_of c.program
+    count = omega (arith, length_front c.program (2 * MONITOR_RECORDS) is)

@@ -8,7 +8,7 @@ use Rattle.std.proofs.lemmas.Bool.Decides.{nat_tests}
 use Rattle.lists.proofs.ListLaws.{same_some}
 use Rattle.jvm_types.specs.ClassNames.{file_class}
 use Rattle.jvm_types.specs.declared.class_numbers.TheConstants.{INT_ARRAY_CLASS}
-use Rattle.jvm_types.specs.declared.fixed_words.TheConstants.{FIRST_CLASS_WORD}
+use Rattle.jvm_types.specs.declared.fixed_words.TheConstants.{FIRST_CLASS_WORD, FIRST_READY_WORD, MONITOR_RECORDS}
 use Rattle.jvm_types.specs.Members.{is_static}
 use Rattle.jvm_types.specs.ProgramInvariant.{IsProgram, words_of}
 use Rattle.jvm_types.specs.declared.program.FieldInfo.{FieldInfo}
@@ -16,9 +16,9 @@ use Rattle.jvm_types.specs.declared.program.Program.{Program}
 use Rattle.jvm_types.proofs.EachAfter.{sum_first}
 use Rattle.machine_types.specs.Ints.{word_of}
 use Rattle.machine_types.specs.PlainMemory.{Object, header_of, start_objects}
-use Rattle.machine_types.specs.ReadyObjects.{ready_classes, first_ready}
+use Rattle.machine_types.specs.ReadyObjects.{ready_classes}
 use Rattle.machine_types.specs.StartWords.{object_words, statics_of, class_words, classes_of, start_words}
-use Rattle.machine_types.specs.Words.{most_records, header, header_word}
+use Rattle.machine_types.specs.Words.{header, header_word}
 use Rattle.machine_types.proofs.Lists.{every, got_below}
 use Rattle.machine_types.proofs.PlacesAtStart.{one_static, one_below, none_of, all_of, statics_below, none_below, one_class_more, rises, before_at_least, class_from, class_to, earlier_class, static_word, ready_objects, ready_placed, Stands, is_ready, is_class, stands, front}
 
@@ -97,7 +97,7 @@ from_ready p records = from_classes p records ∙ append_assoc (records_part p r
 
 -- ---- a word of a class, and one of a ready object
 
-in_class : (p : Program) (records : ℕ) → records ≡ 2 * most_records → IsProgram p → (number reference d : ℕ) → number < length p.names → reference ≡ FIRST_CLASS_WORD + 2 * number + statics_below (file_class number) p.fields
+in_class : (p : Program) (records : ℕ) → records ≡ 2 * MONITOR_RECORDS → IsProgram p → (number reference d : ℕ) → number < length p.names → reference ≡ FIRST_CLASS_WORD + 2 * number + statics_below (file_class number) p.fields
     → d < 2 + length (statics_of p.fields (file_class number)) → slice_index (front p records ++ unused_part p) (reference + d) ≡ slice_index (class_words p.fields (file_class number)) d
 in_class p records many is number reference d few at within =
     let place : ℕ = reference - FIRST_CLASS_WORD in
@@ -107,38 +107,38 @@ in_class p records many is number reference d few at within =
     ∙ behind (records_part p records ++ ready_part) (class_part p ++ unused_part p) (place + d)
     ∙ class_word p.fields (length p.names) (file_class 0) number place d few (omega (arith, at, none_below (file_class 0) p.fields (class_from p is))) within (unused_part p)
 
-in_ready : (p : Program) (records : ℕ) → records ≡ 2 * most_records → (reference d : ℕ) → first_ready ≤ reference
-    → slice_index (front p records ++ unused_part p) (reference + d) ≡ slice_index (ready_part ++ (class_part p ++ unused_part p)) (reference - first_ready + d)
+in_ready : (p : Program) (records : ℕ) → records ≡ 2 * MONITOR_RECORDS → (reference d : ℕ) → FIRST_READY_WORD ≤ reference
+    → slice_index (front p records ++ unused_part p) (reference + d) ≡ slice_index (ready_part ++ (class_part p ++ unused_part p)) (reference - FIRST_READY_WORD + d)
 in_ready p records many reference d from =
-    let to : reference + d ≡ length (records_part p records) + (reference - first_ready + d) = omega (arith, many, from, length_records p records) in
+    let to : reference + d ≡ length (records_part p records) + (reference - FIRST_READY_WORD + d) = omega (arith, many, from, length_records p records) in
     ap (slice_index (front p records ++ unused_part p)) to
-    ∙ ap (λ (l : List ℕ). slice_index l (length (records_part p records) + (reference - first_ready + d))) (from_ready p records)
-    ∙ behind (records_part p records) (ready_part ++ (class_part p ++ unused_part p)) (reference - first_ready + d)
+    ∙ ap (λ (l : List ℕ). slice_index l (length (records_part p records) + (reference - FIRST_READY_WORD + d))) (from_ready p records)
+    ∙ behind (records_part p records) (ready_part ++ (class_part p ++ unused_part p)) (reference - FIRST_READY_WORD + d)
 
 -- ---- objects: a free lock with the count 0, and the header
 
-lock_by : (p : Program) (records : ℕ) → records ≡ 2 * most_records → IsProgram p → (i : ℕ) (o : Object) → Stands p i o → slice_index (front p records ++ unused_part p) (o.reference + 0) ≡ 0
+lock_by : (p : Program) (records : ℕ) → records ≡ 2 * MONITOR_RECORDS → IsProgram p → (i : ℕ) (o : Object) → Stands p i o → slice_index (front p records ++ unused_part p) (o.reference + 0) ≡ 0
 lock_by p records many is i o (is_ready e lt) =
     let more : List ℕ = class_part p ++ unused_part p in
     in_ready p records many o.reference 0 (ready_placed i o e).begins
-    ∙ eqb-true (slice_index (ready_part ++ more) (o.reference - first_ready + 0)) 0 (every (λ x. slice_index (ready_part ++ more) (x.reference - first_ready + 0) == 0) ready_objects refl i o e)
+    ∙ eqb-true (slice_index (ready_part ++ more) (o.reference - FIRST_READY_WORD + 0)) 0 (every (λ x. slice_index (ready_part ++ more) (x.reference - FIRST_READY_WORD + 0) == 0) ready_objects refl i o e)
 lock_by p records many is i o (is_class number to k) = in_class p records many is number o.reference 0 k.few k.place (omega arith)
 
 pub lock_is_free : (p : Program) → IsProgram p → (i : ℕ) (o : Object) → slice_get (start_objects p) i ≡ Some o → slice_index (start_words p) o.reference ≡ 0
 lock_is_free p is i o e =
-    let at : o.reference ≡ o.reference + 0 = omega arith in ap (slice_index (start_words p)) at ∙ lock_by p (2 * most_records) refl is i o (stands p is i o e)
+    let at : o.reference ≡ o.reference + 0 = omega arith in ap (slice_index (start_words p)) at ∙ lock_by p (2 * MONITOR_RECORDS) refl is i o (stands p is i o e)
 
-header_by : (p : Program) (records : ℕ) → records ≡ 2 * most_records → IsProgram p → (i : ℕ) (o : Object) → Stands p i o → slice_index (front p records ++ unused_part p) (header_word o.reference) ≡ header_of o
+header_by : (p : Program) (records : ℕ) → records ≡ 2 * MONITOR_RECORDS → IsProgram p → (i : ℕ) (o : Object) → Stands p i o → slice_index (front p records ++ unused_part p) (header_word o.reference) ≡ header_of o
 header_by p records many is i o (is_ready e lt) =
     let more : List ℕ = class_part p ++ unused_part p in
     in_ready p records many o.reference 1 (ready_placed i o e).begins
-    ∙ eqb-true (slice_index (ready_part ++ more) (o.reference - first_ready + 1)) (header_of o) (every (λ x. slice_index (ready_part ++ more) (x.reference - first_ready + 1) == header_of x) ready_objects refl i o e)
+    ∙ eqb-true (slice_index (ready_part ++ more) (o.reference - FIRST_READY_WORD + 1)) (header_of o) (every (λ x. slice_index (ready_part ++ more) (x.reference - FIRST_READY_WORD + 1) == header_of x) ready_objects refl i o e)
 header_by p records many is i o (is_class number to k) =
     in_class p records many is number o.reference 1 k.few k.place (omega arith)
     ∙ sym (ap (λ (class : ℕ). header class (cond (class == INT_ARRAY_CLASS) (length o.values) 0)) k.itself)
 
 pub header_is : (p : Program) → IsProgram p → (i : ℕ) (o : Object) → slice_get (start_objects p) i ≡ Some o → slice_index (start_words p) (header_word o.reference) ≡ header_of o
-header_is p is i o e = header_by p (2 * most_records) refl is i o (stands p is i o e)
+header_is p is i o e = header_by p (2 * MONITOR_RECORDS) refl is i o (stands p is i o e)
 
 -- ---- static fields
 
@@ -200,7 +200,7 @@ among_class (g ∷ gs) (suc n) class j f e s c earlier later at =
         let no_below : ◌≡◌ {A = ℕ} (one_below class g) 0 = ap (λ (b : Bool). cond {A = ℕ} (nat_lt g.class class && b) 1 0) t ∙ ap (λ (b : Bool). cond {A = ℕ} b 1 0) (none (nat_lt g.class class)) in
         ap (λ (b : Bool). slice_get (cond ((g.class == class) && b) (g ∷ rest) rest) j) t ∙ ap (λ (b : Bool). slice_get (cond b (g ∷ rest) rest) j) (none (g.class == class)) ∙ more j (omega (arith, sums, no_one, no_below))
 
-static_by : (p : Program) (records : ℕ) → records ≡ 2 * most_records → IsProgram p → (n : ℕ) (f : FieldInfo) → slice_get p.fields n ≡ Some f → is_static f.flags ≡ true → slice_index (front p records ++ unused_part p) f.index ≡ word_of f.start
+static_by : (p : Program) (records : ℕ) → records ≡ 2 * MONITOR_RECORDS → IsProgram p → (n : ℕ) (f : FieldInfo) → slice_get p.fields n ≡ Some f → is_static f.flags ≡ true → slice_index (front p records ++ unused_part p) f.index ≡ word_of f.start
 static_by p records many is n f e s =
     let number : ℕ = f.class - file_class 0 in
     let class : file_class number ≡ f.class = omega (arith, class_from p is n f e) in
@@ -217,4 +217,4 @@ static_by p records many is n f e s =
     ∙ mapped (λ (g : FieldInfo). word_of g.start) (statics_of p.fields (file_class number)) j f get
 
 pub static_is : (p : Program) → IsProgram p → (n : ℕ) (f : FieldInfo) → slice_get p.fields n ≡ Some f → is_static f.flags ≡ true → slice_index (start_words p) f.index ≡ word_of f.start
-static_is p is n f e s = static_by p (2 * most_records) refl is n f e s
+static_is p is n f e s = static_by p (2 * MONITOR_RECORDS) refl is n f e s

@@ -12,7 +12,8 @@ use Rattle.machine_types.specs.declared.lock.LockWord.TheVariants as locks
 use Rattle.machine_types.specs.PlainMemory.{Object}
 use Rattle.machine_types.specs.Threads.{Attempt, Thread}
 use Rattle.machine_types.specs.declared.phase.Phase.{Phase}
-use Rattle.machine_types.specs.Words.{header_word, value_word, free_word}
+use Rattle.machine_types.specs.Words.{header_word, value_word}
+use Rattle.jvm_types.specs.declared.fixed_words.TheConstants.{NEXT_FREE_WORD}
 use Rattle.machine_types.specs.Replay.{replayed, at_entry, at_present}
 use Rattle.machine_types.specs.Standing.{tags_of}
 use Rattle.machine_types.specs.Worlds.{World, IsOwnOrFinished}
@@ -50,7 +51,7 @@ pub record OwesNothing (d : Past) : Type 0 where
 
 abbrev pub Owes : MarkedProgram → List Object → World → Core → (t : ℕ) → (was : Phase) → Thread → Option Attempt → Past → Type 0
 Owes c objects w s t was x None d = OwesNothing d
-Owes c objects w s t was x (Some a) d = Leads c (Stays c objects w (slice_index s.words free_word) t a.monitor) s.words was x a d
+Owes c objects w s t was x (Some a) d = Leads c (Stays c objects w (slice_index s.words NEXT_FREE_WORD) t a.monitor) s.words was x a d
 
 pub record Attempts (c : MarkedProgram) (objects : List Object) (w : World) (was : ℕ → Phase) (told : Told) : Type 0 where
   pub each : (t : ℕ) (x : Thread) → slice_get told.core.threads t ≡ Some x → Owes c objects w told.core t (was t) x x.attempt (past_at told t)

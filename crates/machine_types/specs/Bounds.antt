@@ -10,7 +10,7 @@ use Rattle.machine_types.specs.FoundWords.{most_count}
 use Rattle.machine_types.specs.HeldMonitors.{depth_at}
 use Rattle.machine_types.specs.Parts.{init_roots, run_roots, done_roots}
 use Rattle.machine_types.specs.Threads.{Frame, Attempt, Thread, Phase, Held}
-use Rattle.machine_types.specs.Words.{most_records}
+use Rattle.jvm_types.specs.declared.fixed_words.TheConstants.{MONITOR_RECORDS}
 use Rattle.machine_types.specs.declared.lock.Kept.{Kept}
 use Rattle.machine_types.specs.declared.lock.Kept.TheVariants as keeps
 use Rattle.machine_types.specs.declared.phase.Phase.TheVariants as phases
@@ -19,21 +19,21 @@ use Rattle.machine_types.specs.declared.phase.Phase.TheVariants as phases
 
 abbrev pub KeptFits : Kept → Type 0
 KeptFits (keeps.Flat c) = c < most_count
-KeptFits (keeps.Fat r) = r < most_records
+KeptFits (keeps.Fat r) = r < MONITOR_RECORDS
 
 abbrev pub PhaseFits : Phase → Type 0
 PhaseFits (phases.Take m c) = c < most_count
 PhaseFits (phases.Flag m u) = u ≤ MOST_WORKERS
-PhaseFits (phases.TakeFat m r) = r < most_records
-PhaseFits (phases.Own m r toward) = r < most_records
-PhaseFits (phases.FatIn m r toward) = r < most_records
-PhaseFits (phases.WaitBit m r) = r < most_records
-PhaseFits (phases.WaitOut m r) = r < most_records
-PhaseFits (phases.WaitLook m r depth) = r < most_records
-PhaseFits (phases.Retake m r depth) = r < most_records
-PhaseFits (phases.NotifyLook m r) = r < most_records
-PhaseFits (phases.NotifyOne m r u) = (r < most_records) × (u ≤ MOST_WORKERS)
-PhaseFits (phases.NotifyAll m r) = r < most_records
+PhaseFits (phases.TakeFat m r) = r < MONITOR_RECORDS
+PhaseFits (phases.Own m r toward) = r < MONITOR_RECORDS
+PhaseFits (phases.FatIn m r toward) = r < MONITOR_RECORDS
+PhaseFits (phases.WaitBit m r) = r < MONITOR_RECORDS
+PhaseFits (phases.WaitOut m r) = r < MONITOR_RECORDS
+PhaseFits (phases.WaitLook m r depth) = r < MONITOR_RECORDS
+PhaseFits (phases.Retake m r depth) = r < MONITOR_RECORDS
+PhaseFits (phases.NotifyLook m r) = r < MONITOR_RECORDS
+PhaseFits (phases.NotifyOne m r u) = (r < MONITOR_RECORDS) × (u ≤ MOST_WORKERS)
+PhaseFits (phases.NotifyAll m r) = r < MONITOR_RECORDS
 PhaseFits phase = Unit {0}
 
 -- ---- limits of the run

@@ -21,7 +21,8 @@ use Rattle.machine_types.specs.PlainMemory.{Object}
 use Rattle.machine_types.specs.Threads.{Frame, Attempt, Thread}
 use Rattle.machine_types.specs.declared.phase.Phase.{Phase}
 use Rattle.machine_types.specs.declared.lock.Held.{Held}
-use Rattle.machine_types.specs.Words.{free_word, value_word}
+use Rattle.machine_types.specs.Words.{value_word}
+use Rattle.jvm_types.specs.declared.fixed_words.TheConstants.{NEXT_FREE_WORD}
 use Rattle.machine_types.specs.declared.phase.After.{After}
 use Rattle.machine_types.specs.declared.phase.After.TheVariants as afters
 use Rattle.machine_types.specs.declared.phase.Toward.{Toward}
@@ -222,6 +223,6 @@ pub record PlacesKeep (c : MarkedProgram) (w : World) (next : ℕ) (objects : Li
 
 pub record Construction (c : MarkedProgram) (frozen : ℕ → Bool) (w : World) (was : ℕ → Phase) (objects : List Object) (s : Core) : Type 0 where
   pub frozen_are : AreFrozen c frozen
-  pub world : IsWorld w (words_of c.program) (slice_index s.words free_word)
-  pub each : (t : ℕ) (x : Thread) → slice_get s.threads t ≡ Some x → ThreadKeeps c frozen w (slice_index s.words free_word) t (was t) x
-  pub places : PlacesKeep c w (slice_index s.words free_word) objects s.words
+  pub world : IsWorld w (words_of c.program) (slice_index s.words NEXT_FREE_WORD)
+  pub each : (t : ℕ) (x : Thread) → slice_get s.threads t ≡ Some x → ThreadKeeps c frozen w (slice_index s.words NEXT_FREE_WORD) t (was t) x
+  pub places : PlacesKeep c w (slice_index s.words NEXT_FREE_WORD) objects s.words

@@ -7,7 +7,7 @@ use Rattle.machine_types.specs.History.{Told}
 use Rattle.machine_types.specs.PlainMemory.{Object, start_objects, start_statics}
 use Rattle.machine_types.specs.PlainState.{Plain}
 use Rattle.machine_types.specs.Threads.{Thread, Config}
-use Rattle.machine_types.specs.Words.{free_word}
+use Rattle.jvm_types.specs.declared.fixed_words.TheConstants.{NEXT_FREE_WORD}
 use Rattle.machine_types.specs.declared.phase.Phase.{Phase}
 use Rattle.machine_types.specs.Attempts.{Attempts}
 use Rattle.machine_types.specs.Bounds.{IsRooted}
@@ -41,7 +41,7 @@ pub record Facts (c : MarkedProgram) (cfg : Config) (told : Told) : Type 0 where
   -- those that are there from the start are among the objects
   pub started : (o : Object) → Contains (start_objects c.program) o → HasClass objects o.class o.reference
   -- of the static fields their words
-  pub apart : LieApart c.program objects (start_statics c.program) (slice_index told.core.words free_word)
+  pub apart : LieApart c.program objects (start_statics c.program) (slice_index told.core.words NEXT_FREE_WORD)
   pub unused : AreUnused c.program told.core
   pub structure : Structure c was told.core.threads
   pub owners : Owners (references_of objects) was told.core

@@ -3,7 +3,7 @@ use Rattle.std.specs.Prelude.{ℕ, ◌+◌, ◌-◌, ◌*◌, ◌==◌, max, Lis
 use Rattle.checked_program.specs.MarkedProgram.{MarkedProgram}
 use Rattle.checked_program.specs.LockTags.{TagShape}
 use Rattle.checked_program.specs.declared.tag.Tags.{Tags}
-use Rattle.machine_types.specs.Frames.{most_frames}
+use Rattle.jvm_types.specs.declared.limits.TheConstants.{MOST_FRAMES}
 use Rattle.machine_types.specs.declared.lock.Held.{Held}
 
 abbrev pub held_at : List Held → (m : ℕ) → Option Held
@@ -44,4 +44,4 @@ most_held [] = 0
 most_held (t ∷ ts) = max (most_in t.frames) (most_held ts)
 
 abbrev pub places_of : MarkedProgram → ℕ
-places_of c = most_frames * (1 + most_held c.tags)
+places_of c = MOST_FRAMES * (1 + most_held c.tags)

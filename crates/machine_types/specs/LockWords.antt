@@ -1,7 +1,7 @@
 -- The lock word of an object: its low two bits say of which kind it is. Free and held flat locks, fat locks and the count
 -- are those of the PLDI 2010 publication; the widths are the machine's own.
 use Rattle.std.specs.Prelude.{ℕ, zero, suc, ◌+◌, ◌-◌, ◌*◌, ◌/◌, ◌%◌, nat_lt, nat_le, Bool, true, ◌&&◌, if◌then◌else◌}
-use Rattle.machine_types.specs.Words.{most_records}
+use Rattle.jvm_types.specs.declared.fixed_words.TheConstants.{MONITOR_RECORDS}
 pub use Rattle.machine_types.specs.declared.lock.LockWord.{LockWord}
 pub use Rattle.machine_types.specs.declared.lock.LockWord.TheVariants.{Free, Fat, Held, Flagged}
 
@@ -24,7 +24,7 @@ lock_of word = lock_by (word % 4) (word / 4)
 
 abbrev pub is_lock_by : (kind upper : ℕ) → Bool
 is_lock_by zero n = true
-is_lock_by (suc zero) n = nat_lt n most_records
+is_lock_by (suc zero) n = nat_lt n MONITOR_RECORDS
 is_lock_by kind n = nat_lt 0 n && nat_le n 9
 
 abbrev pub is_lock_word : ℕ → Bool

@@ -7,7 +7,8 @@ use Rattle.jvm_types.specs.declared.program.Program.{Program}
 use Rattle.machine_types.specs.Core.{Core}
 use Rattle.machine_types.specs.PlainMemory.{Object, object_end}
 use Rattle.machine_types.specs.Threads.{Thread}
-use Rattle.machine_types.specs.Words.{free_word, header_class, header_length, object_size, array_size}
+use Rattle.machine_types.specs.Words.{header_class, header_length, object_size, array_size}
+use Rattle.jvm_types.specs.declared.fixed_words.TheConstants.{NEXT_FREE_WORD}
 use Rattle.machine_types.specs.declared.phase.Phase.TheVariants as phases
 
 abbrev pub size_by : Program → (word : ℕ) → ℕ
@@ -16,7 +17,7 @@ size_by p word = if header_class word == INT_ARRAY_CLASS then array_size (header
 pub record IsNewObject (p : Program) (objects : List Object) (s : Core) (a size : ℕ) : Type 0 where
   -- behind the words that are there from the start
   pub begins : words_of p ≤ a
-  pub below : a + size ≤ slice_index s.words free_word
+  pub below : a + size ≤ slice_index s.words NEXT_FREE_WORD
   pub inside : a + size ≤ p.heap
   pub beside : (o : Object) → Contains objects o → (object_end o ≤ a) ⊎ (a + size ≤ o.reference)
   pub empty : (x : ℕ) → a ≤ x → x < a + size → slice_index s.words x ≡ 0

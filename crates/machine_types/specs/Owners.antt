@@ -12,7 +12,8 @@ use Rattle.machine_types.specs.Threads.{Attempt, Thread}
 use Rattle.machine_types.specs.declared.phase.Phase.{Phase}
 use Rattle.machine_types.specs.declared.config.Config.{Config}
 use Rattle.machine_types.specs.declared.lock.Held.{Held}
-use Rattle.machine_types.specs.Words.{record_word, most_records, owner_word}
+use Rattle.machine_types.specs.Words.{owner_word}
+use Rattle.jvm_types.specs.declared.fixed_words.TheConstants.{NEXT_RECORD_WORD, MONITOR_RECORDS}
 use Rattle.machine_types.specs.declared.lock.Kept.{Kept}
 use Rattle.machine_types.specs.declared.lock.Kept.TheVariants as keeps
 use Rattle.machine_types.specs.declared.phase.Phase.TheVariants as phases
@@ -30,10 +31,10 @@ abbrev pub lock_at : (references words : List ℕ) → (m : ℕ) → LockWord
 lock_at references words m = if has_number references m then lock_of (slice_index words m) else locks.Free 0
 
 abbrev pub owner_at : (words : List ℕ) → (r : ℕ) → ℕ
-owner_at words r = if nat_lt r most_records then slice_index words (owner_word r) else 0
+owner_at words r = if nat_lt r MONITOR_RECORDS then slice_index words (owner_word r) else 0
 
 abbrev pub locks_in : (references words : List ℕ) → Locks
-locks_in references words = record { lock = lock_at references words; owner = owner_at words; next = slice_index words record_word }
+locks_in references words = record { lock = lock_at references words; owner = owner_at words; next = slice_index words NEXT_RECORD_WORD }
 
 -- ---- how a thread has a monitor
 
@@ -120,7 +121,7 @@ pub record Owns (v : Locks) (count : ℕ → ℕ) (t : ℕ) (was : Phase) (s : T
 pub record AreLocks (v : Locks) (count : ℕ → ℕ) : Type 0 where
   -- a record belongs to one monitor
   pub one : (m n r : ℕ) → v.lock m ≡ locks.Fat r → v.lock n ≡ locks.Fat r → m ≡ n
-  pub below : (m r : ℕ) → v.lock m ≡ locks.Fat r → (r < v.next) × (r < most_records)
+  pub below : (m r : ℕ) → v.lock m ≡ locks.Fat r → (r < v.next) × (r < MONITOR_RECORDS)
   pub free : (m seen : ℕ) → v.lock m ≡ locks.Free seen → seen ≡ count m
 
 -- two threads have drawn different records

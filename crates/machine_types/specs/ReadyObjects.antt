@@ -38,13 +38,10 @@ thrown_of class = if nat_lt class THROWABLE_CLASS then None else slice_get throw
 abbrev pub ready_classes : List ℕ
 ready_classes = map class_of thrown_by_machine ++ PRINT_STREAM_CLASS ∷ []
 
-abbrev pub first_ready : ℕ
-first_ready = FIRST_READY_WORD
-
 -- the object that the machine throws
 abbrev pub ready : Thrown → ℕ
-ready x = first_ready + OBJECT_HEAD_WORDS * (class_of x - class_of ArithmeticException)
+ready x = FIRST_READY_WORD + OBJECT_HEAD_WORDS * (class_of x - class_of ArithmeticException)
 
 -- `System.out`, the last one
 abbrev pub out_object : ℕ
-out_object = first_ready + OBJECT_HEAD_WORDS * (READY_OBJECTS - 1)
+out_object = FIRST_READY_WORD + OBJECT_HEAD_WORDS * (READY_OBJECTS - 1)

@@ -9,7 +9,8 @@ use Rattle.jvm_types.specs.declared.program.Program.{Program}
 use Rattle.machine_types.specs.Ints.{word_of}
 use Rattle.machine_types.specs.LockWords.{word_of_lock, Free}
 use Rattle.machine_types.specs.ReadyObjects.{ready_classes}
-use Rattle.machine_types.specs.Words.{header, most_records}
+use Rattle.machine_types.specs.Words.{header}
+use Rattle.jvm_types.specs.declared.fixed_words.TheConstants.{MONITOR_RECORDS}
 use Rattle.jvm_types.specs.declared.class_numbers.TheConstants.{CLASS_ITSELF}
 
 -- an object without fields, whose lock is free
@@ -29,7 +30,7 @@ classes_of p = range_with_len (file_class 0) (length p.names)
 
 -- null's word, the first free word, ticket and record, the monitor records, the ready objects, the classes; the rest is 0
 abbrev pub start_words : Program → List ℕ
-start_words p = 0 ∷ words_of p ∷ 0 ∷ 0 ∷ replicate (2 * most_records) 0
+start_words p = 0 ∷ words_of p ∷ 0 ∷ 0 ∷ replicate (2 * MONITOR_RECORDS) 0
     ++ flat_map object_words ready_classes
     ++ flat_map (class_words p.fields) (classes_of p)
     ++ replicate (p.heap - words_of p) 0

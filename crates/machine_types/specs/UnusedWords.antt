@@ -3,8 +3,8 @@
 use Rattle.std.specs.Prelude.{◌≡◌, ◌<◌, ◌≤◌, ℕ, length, slice_index}
 use Rattle.jvm_types.specs.declared.program.Program.{Program}
 use Rattle.machine_types.specs.Core.{Core}
-use Rattle.machine_types.specs.Words.{free_word}
+use Rattle.jvm_types.specs.declared.fixed_words.TheConstants.{NEXT_FREE_WORD}
 
 pub record AreUnused (p : Program) (s : Core) : Type 0 where
   pub many : length s.words ≡ p.heap
-  pub empty : (x : ℕ) → slice_index s.words free_word ≤ x → x < p.heap → slice_index s.words x ≡ 0
+  pub empty : (x : ℕ) → slice_index s.words NEXT_FREE_WORD ≤ x → x < p.heap → slice_index s.words x ≡ 0

@@ -5,7 +5,8 @@ use Rattle.machine_types.specs.Core.{Core}
 use Rattle.machine_types.specs.Monitors.{bit_of}
 use Rattle.machine_types.specs.Threads.{Thread}
 use Rattle.machine_types.specs.declared.phase.Phase.{Phase}
-use Rattle.machine_types.specs.Words.{most_records, bits_word}
+use Rattle.machine_types.specs.Words.{bits_word}
+use Rattle.jvm_types.specs.declared.fixed_words.TheConstants.{MONITOR_RECORDS}
 use Rattle.machine_types.specs.declared.phase.Phase.TheVariants as phases
 
 -- whether the bit of a thread is set
@@ -25,10 +26,10 @@ MustWait words t (phases.NotifyOne m r u) = is_bit_set words r u ≡ true
 MustWait words t phase = Unit {0}
 
 pub record Waits (words : List ℕ) (t : ℕ) (phase : Phase) : Type 0 where
-  pub only : (r : ℕ) → r < most_records → is_bit_set words r t ≡ true → MayWait phase r
+  pub only : (r : ℕ) → r < MONITOR_RECORDS → is_bit_set words r t ≡ true → MayWait phase r
   pub must : MustWait words t phase
 
 -- by the phase of each thread that counts; and no bit is that of no thread
 pub record Waiting (was : ℕ → Phase) (s : Core) : Type 0 where
   pub each : (t : ℕ) (x : Thread) → slice_get s.threads t ≡ Some x → Waits s.words t (was t)
-  pub others : (r t : ℕ) → r < most_records → is_bit_set s.words r t ≡ true → IsSome (slice_get s.threads t)
+  pub others : (r t : ℕ) → r < MONITOR_RECORDS → is_bit_set s.words r t ≡ true → IsSome (slice_get s.threads t)

@@ -18,7 +18,8 @@ use Rattle.machine_types.specs.Owners.{Locks, hold_by_kept, hold_by_list, drawn_
 use Rattle.machine_types.specs.PlainMemory.{Object}
 use Rattle.machine_types.specs.Structure.{AreHeldOnce}
 use Rattle.machine_types.specs.Threads.{Frame, Attempt, Thread}
-use Rattle.machine_types.specs.Words.{most_records, owner_word}
+use Rattle.machine_types.specs.Words.{owner_word}
+use Rattle.jvm_types.specs.declared.fixed_words.TheConstants.{MONITOR_RECORDS}
 use Rattle.machine_types.specs.declared.config.Config.{Config}
 use Rattle.machine_types.specs.declared.lock.Held.{Held}
 use Rattle.machine_types.specs.declared.lock.Kept.{Kept}
@@ -93,10 +94,10 @@ module _ (differ : SitesDiffer) (inside : SitesLieInside) (c : MarkedProgram) (o
   pub lock_is : (n : ℕ) (l : LockWord) → HasObject objects n → (slice_index s.words n == word_of_lock l) ≡ true → lock_at (references_of objects) s.words n ≡ l
   lock_is n l k e = lock_here n k ∙ ap lock_of (is_there (slice_index s.words n) (word_of_lock l) e) ∙ lock_of_word l
 
-  pub owner_none : (r : ℕ) → r < most_records → (slice_index s.words (owner_word r) == 0) ≡ true → (locks_in (references_of objects) s.words).owner r ≡ 0
+  pub owner_none : (r : ℕ) → r < MONITOR_RECORDS → (slice_index s.words (owner_word r) == 0) ≡ true → (locks_in (references_of objects) s.words).owner r ≡ 0
   owner_none r low e = ap (λ (b : Bool). cond b (slice_index s.words (owner_word r)) 0) (low_record r low) ∙ is_there (slice_index s.words (owner_word r)) 0 e
     where
-      low_record : (r : ℕ) → r < most_records → nat_lt r most_records ≡ true
+      low_record : (r : ℕ) → r < MONITOR_RECORDS → nat_lt r MONITOR_RECORDS ≡ true
       low_record r low = grind (arith, nat_tests, low)
 
   -- ---- a plain event

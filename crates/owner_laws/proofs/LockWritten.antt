@@ -5,7 +5,7 @@ use Rattle.machine_types.specs.HeldMonitors.{held_at, with_held, without_held}
 use Rattle.machine_types.specs.Owners.{Locks, NotHeld, hold_by_word, hold_by_kept, hold_by_list, drawn_by, IsDrawn, Knows, IsSeen, PhaseSaw, AttemptSawIn, IsKeptIn, Owns, AreLocks}
 use Rattle.machine_types.specs.Structure.{AreHeldOnce}
 use Rattle.machine_types.specs.Threads.{Attempt, Thread}
-use Rattle.machine_types.specs.Words.{most_records}
+use Rattle.jvm_types.specs.declared.fixed_words.TheConstants.{MONITOR_RECORDS}
 use Rattle.machine_types.specs.declared.config.Config.{Config}
 use Rattle.machine_types.specs.declared.lock.Held.{Held}
 use Rattle.machine_types.specs.declared.lock.LockWord.{LockWord}
@@ -94,7 +94,7 @@ module _ (v : Locks) (count : ℕ → ℕ) (n k : ℕ) (l : LockWord) (thin : (r
           subst (λ (q : Option Held). IsKeptIn q k) (sym none) tt
       keeps m false e q = o.keeps_count m
 
-  words_after : ((r : ℕ) → l ≡ locks.Fat r → IsDrawn v r × (r < most_records)) → ((c : ℕ) → l ≡ locks.Free c → c ≡ k) → AreLocks v count → AreLocks (set_lock n l v) (recounted n k count)
+  words_after : ((r : ℕ) → l ≡ locks.Fat r → IsDrawn v r × (r < MONITOR_RECORDS)) → ((c : ℕ) → l ≡ locks.Free c → c ≡ k) → AreLocks v count → AreLocks (set_lock n l v) (recounted n k count)
   words_after named freed a = record { one = λ i j r. one i j r (n == i) refl (n == j) refl; below = λ i r. below i r (n == i); free = λ i c. free i c (n == i) }
     where
       one : (i j r : ℕ) (b : Bool) → (n == i) ≡ b → (d : Bool) → (n == j) ≡ d → cond b l (v.lock i) ≡ locks.Fat r → cond d l (v.lock j) ≡ locks.Fat r → i ≡ j
@@ -103,7 +103,7 @@ module _ (v : Locks) (count : ℕ → ℕ) (n k : ℕ) (l : LockWord) (thin : (r
       one i j r false e true f g h = absurd ((named r h).0.unnamed i g)
       one i j r false e false f g h = a.one i j r g h
 
-      below : (i r : ℕ) (b : Bool) → cond b l (v.lock i) ≡ locks.Fat r → (r < v.next) × (r < most_records)
+      below : (i r : ℕ) (b : Bool) → cond b l (v.lock i) ≡ locks.Fat r → (r < v.next) × (r < MONITOR_RECORDS)
       below i r true g = ((named r g).0.below, (named r g).1)
       below i r false g = a.below i r g
 
@@ -113,7 +113,7 @@ module _ (v : Locks) (count : ℕ → ℕ) (n k : ℕ) (l : LockWord) (thin : (r
 
   -- the write, from what the thread has then
   pub lock_written : (t : ℕ) (was now : Phase) (x y : Thread) → AreLocks v count → Owns v count t was x → y.cfg ≡ x.cfg
-      → ((i : ℕ) → l ≡ locks.Fat i → IsDrawn v i × (i < most_records)) → ((i : ℕ) → l ≡ locks.Fat i → drawn_by was ≡ Some i) → ((c : ℕ) → l ≡ locks.Free c → c ≡ k)
+      → ((i : ℕ) → l ≡ locks.Fat i → IsDrawn v i × (i < MONITOR_RECORDS)) → ((i : ℕ) → l ≡ locks.Fat i → drawn_by was ≡ Some i) → ((c : ℕ) → l ≡ locks.Free c → c ≡ k)
       → ((u : ℕ) → u ≢ t → (hold_by_word u l v.owner ≡ hold_by_word u (v.lock n) v.owner) × ((hold_by_word u (v.lock n) v.owner ≡ NotHeld) ⊎ (k ≡ count n)))
       → ((m : ℕ) → hold_by_list (held_at y.held m) ≡ cond (n == m) (hold_by_word t l v.owner) (hold_by_list (held_at x.held m)))
       → ((m : ℕ) → IsKeptIn (held_at y.held m) (recounted n k count m))

@@ -18,7 +18,8 @@ use Rattle.machine_types.specs.Owners.{hold_by_kept, hold_by_list, drawn_by, Kno
 use Rattle.machine_types.specs.PlainMemory.{Object}
 use Rattle.machine_types.specs.Structure.{AreHeldOnce, IsFlat, IsFat}
 use Rattle.machine_types.specs.Threads.{Attempt, Thread}
-use Rattle.machine_types.specs.Words.{record_word, most_records, owner_word}
+use Rattle.machine_types.specs.Words.{owner_word}
+use Rattle.jvm_types.specs.declared.fixed_words.TheConstants.{NEXT_RECORD_WORD, MONITOR_RECORDS}
 use Rattle.machine_types.specs.declared.lock.Held.{Held}
 use Rattle.machine_types.specs.declared.lock.Kept.{Kept}
 use Rattle.machine_types.specs.declared.lock.Kept.TheVariants as keeps
@@ -140,7 +141,7 @@ module _ (differ : SitesDiffer) (inside : SitesLieInside) (c : MarkedProgram) (o
       (cond (slice_index s.words (owner_word r) == 0) (takes x m (keeps.Fat r)) (failed_turn x (phases.TakeFat m r)))
   took_fat m r o = by_test (slice_index s.words (owner_word r) == 0) refl
     where
-      low : r < most_records
+      low : r < MONITOR_RECORDS
       low = (a.below m r o.knows).1
 
       knows : (b : Bool) → Knows (locks_in (references_of objects) s.words) t (counted_by (phases.TakeFat m r) (cond b (phases.TakeFat m r) (phases.Ending ends.Turns)))
@@ -169,7 +170,7 @@ module _ (differ : SitesDiffer) (inside : SitesLieInside) (c : MarkedProgram) (o
       (cond (slice_index s.words (owner_word r) == 0) (retakes x m r depth) (failed_turn x (phases.Retake m r depth)))
   retook m r depth o = by_test (slice_index s.words (owner_word r) == 0) refl
     where
-      low : r < most_records
+      low : r < MONITOR_RECORDS
       low = (a.below m r o.knows).1
 
       knows : (b : Bool) → Knows (locks_in (references_of objects) s.words) t (counted_by (phases.Retake m r depth) (cond b (phases.Retake m r depth) (phases.Ending ends.Turns)))
@@ -284,33 +285,33 @@ module _ (differ : SitesDiffer) (inside : SitesLieInside) (c : MarkedProgram) (o
   -- ---- a lock grows
 
   pub drawn : (m : ℕ) (toward : Toward) (o : OwnsAs (phases.Grow m toward))
-      → Makes (phases.Grow m toward) o (slice_set s.words record_word (slice_index s.words record_word + 1)) (cond (nat_lt (slice_index s.words record_word) most_records) (with_phase x (phases.Own m (slice_index s.words record_word) toward)) (grows_not x m toward))
-  drawn m toward o = by_test (nat_lt (slice_index s.words record_word) most_records)
+      → Makes (phases.Grow m toward) o (slice_set s.words NEXT_RECORD_WORD (slice_index s.words NEXT_RECORD_WORD + 1)) (cond (nat_lt (slice_index s.words NEXT_RECORD_WORD) MONITOR_RECORDS) (with_phase x (phases.Own m (slice_index s.words NEXT_RECORD_WORD) toward)) (grows_not x m toward))
+  drawn m toward o = by_test (nat_lt (slice_index s.words NEXT_RECORD_WORD) MONITOR_RECORDS)
     where
-      none_left : (toward : Toward) (o : OwnsAs (phases.Grow m toward)) → Makes (phases.Grow m toward) o (slice_set s.words record_word (slice_index s.words record_word + 1)) (grows_not x m toward)
-      none_left (towards.Leave after_it) o = on_view differ inside c objects s marked heap count t x a most number once (phases.Grow m (towards.Leave after_it)) o _ _ (grows_not x m (towards.Leave after_it)) count (next_view differ inside c objects s marked heap (slice_index s.words record_word + 1))
+      none_left : (toward : Toward) (o : OwnsAs (phases.Grow m toward)) → Makes (phases.Grow m toward) o (slice_set s.words NEXT_RECORD_WORD (slice_index s.words NEXT_RECORD_WORD + 1)) (grows_not x m toward)
+      none_left (towards.Leave after_it) o = on_view differ inside c objects s marked heap count t x a most number once (phases.Grow m (towards.Leave after_it)) o _ _ (grows_not x m (towards.Leave after_it)) count (next_view differ inside c objects s marked heap (slice_index s.words NEXT_RECORD_WORD + 1))
           (drawn_next (locks_in (references_of objects) s.words) count t (phases.Grow m (towards.Leave after_it)) x a o most (grows_not x m (towards.Leave after_it)) (phases.FlatOut m after_it)
           (record { held_is = refl; attempt = refl; cfg = refl; locked = omega arith }) tt tt (λ i e. absurd (cc)))
-      none_left towards.Wait o = on_view differ inside c objects s marked heap count t x a most number once (phases.Grow m towards.Wait) o _ _ (grows_not x m towards.Wait) count (next_view differ inside c objects s marked heap (slice_index s.words record_word + 1))
+      none_left towards.Wait o = on_view differ inside c objects s marked heap count t x a most number once (phases.Grow m towards.Wait) o _ _ (grows_not x m towards.Wait) count (next_view differ inside c objects s marked heap (slice_index s.words NEXT_RECORD_WORD + 1))
           (drawn_next (locks_in (references_of objects) s.words) count t (phases.Grow m towards.Wait) x a o most (grows_not x m towards.Wait) (phases.Grow m towards.Wait)
           (record { held_is = refl; attempt = refl; cfg = refl; locked = omega arith }) tt tt (λ i e. absurd (cc)))
 
-      by_test : (b : Bool) → Makes (phases.Grow m toward) o (slice_set s.words record_word (slice_index s.words record_word + 1)) (cond b (with_phase x (phases.Own m (slice_index s.words record_word) toward)) (grows_not x m toward))
-      by_test true = let y : Thread = with_phase x (phases.Own m (slice_index s.words record_word) toward) in
-          on_view differ inside c objects s marked heap count t x a most number once (phases.Grow m toward) o _ _ y count (next_view differ inside c objects s marked heap (slice_index s.words record_word + 1))
-          (drawn_next (locks_in (references_of objects) s.words) count t (phases.Grow m toward) x a o most y (phases.Own m (slice_index s.words record_word) toward)
+      by_test : (b : Bool) → Makes (phases.Grow m toward) o (slice_set s.words NEXT_RECORD_WORD (slice_index s.words NEXT_RECORD_WORD + 1)) (cond b (with_phase x (phases.Own m (slice_index s.words NEXT_RECORD_WORD) toward)) (grows_not x m toward))
+      by_test true = let y : Thread = with_phase x (phases.Own m (slice_index s.words NEXT_RECORD_WORD) toward) in
+          on_view differ inside c objects s marked heap count t x a most number once (phases.Grow m toward) o _ _ y count (next_view differ inside c objects s marked heap (slice_index s.words NEXT_RECORD_WORD + 1))
+          (drawn_next (locks_in (references_of objects) s.words) count t (phases.Grow m toward) x a o most y (phases.Own m (slice_index s.words NEXT_RECORD_WORD) toward)
           (record { held_is = refl; attempt = refl; cfg = refl; locked = omega arith })
-          (fresh_record (locks_in (references_of objects) s.words) count t (phases.Grow m toward) x a o most y (phases.Own m (slice_index s.words record_word) toward)) tt
-          (λ i e. let same : slice_index s.words record_word ≡ i = cc in omega (arith, same)))
+          (fresh_record (locks_in (references_of objects) s.words) count t (phases.Grow m toward) x a o most y (phases.Own m (slice_index s.words NEXT_RECORD_WORD) toward)) tt
+          (λ i e. let same : slice_index s.words NEXT_RECORD_WORD ≡ i = cc in omega (arith, same)))
       by_test false = none_left toward o
 
-  pub owned : (m r : ℕ) (toward : Toward) (o : OwnsAs (phases.Own m r toward)) → r < most_records → Makes (phases.Own m r toward) o (slice_set s.words (owner_word r) (x.number + 1)) (with_phase x (phases.FatIn m r toward))
+  pub owned : (m r : ℕ) (toward : Toward) (o : OwnsAs (phases.Own m r toward)) → r < MONITOR_RECORDS → Makes (phases.Own m r toward) o (slice_set s.words (owner_word r) (x.number + 1)) (with_phase x (phases.FatIn m r toward))
   owned m r toward o low = on_view differ inside c objects s marked heap count t x a most number once (phases.Own m r toward) o _ _ (with_phase x (phases.FatIn m r toward)) count
       (owner_view differ inside c objects s marked heap r (x.number + 1) low ∙ ap (λ (n : ℕ). set_owner r (n + 1) (locks_in (references_of objects) s.words)) number)
       (own_stored (locks_in (references_of objects) s.words) count t (phases.Own m r toward) x a o most (with_phase x (phases.FatIn m r toward)) (phases.FatIn m r toward) r o.knows refl
       (record { held_is = refl; attempt = refl; cfg = refl; locked = omega arith }) (λ w d e. (d, e)) (λ w. tt) (λ i e. e))
 
-  pub fattened : (m r : ℕ) (toward : Toward) (held : Option Held) (o : OwnsAs (phases.FatIn m r toward)) → r < most_records → held_at x.held m ≡ held → IsFlat held → IsAccessOf c.program objects s Lock (Store m (word_of_lock (locks.Fat r)))
+  pub fattened : (m r : ℕ) (toward : Toward) (held : Option Held) (o : OwnsAs (phases.FatIn m r toward)) → r < MONITOR_RECORDS → held_at x.held m ≡ held → IsFlat held → IsAccessOf c.program objects s Lock (Store m (word_of_lock (locks.Fat r)))
       → Makes (phases.FatIn m r toward) o (slice_set s.words m (word_of_lock (locks.Fat r))) (fattens x m r toward held)
   fattened m r toward None o low e flat reach = absurd flat
   fattened m r toward (Some h) o low e flat reach = let y : Thread = fattens x m r toward (Some h) in
@@ -325,7 +326,7 @@ module _ (differ : SitesDiffer) (inside : SitesLieInside) (c : MarkedProgram) (o
 
   -- ---- a wait gives the monitor up
 
-  pub gone_out : (m r : ℕ) (held : Option Held) (o : OwnsAs (phases.WaitOut m r)) → r < most_records → held_at x.held m ≡ held → IsFat r held → Makes (phases.WaitOut m r) o (slice_set s.words (owner_word r) 0) (goes_to_wait x m r held)
+  pub gone_out : (m r : ℕ) (held : Option Held) (o : OwnsAs (phases.WaitOut m r)) → r < MONITOR_RECORDS → held_at x.held m ≡ held → IsFat r held → Makes (phases.WaitOut m r) o (slice_set s.words (owner_word r) 0) (goes_to_wait x m r held)
   gone_out m r None o low e fat = absurd fat
   gone_out m r (Some h) o low e fat = let y : Thread = goes_to_wait x m r (Some h) in
       on_view differ inside c objects s marked heap count t x a most number once (phases.WaitOut m r) o _ _ y count (owner_view differ inside c objects s marked heap r 0 low)

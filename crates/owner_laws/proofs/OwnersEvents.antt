@@ -7,7 +7,7 @@ use Rattle.machine_types.specs.LockWords.{next_count}
 use Rattle.machine_types.specs.Owners.{Locks, Hold, NotHeld, HeldFlat, HeldFat, hold_by_word, hold_by_kept, hold_by_list, drawn_by, IsDrawn, Knows, PhaseSaw, AttemptSawIn, IsKeptIn, Owns, AreLocks, one_if_flat}
 use Rattle.machine_types.specs.Structure.{AreHeldOnce}
 use Rattle.machine_types.specs.Threads.{Attempt, Thread}
-use Rattle.machine_types.specs.Words.{most_records}
+use Rattle.jvm_types.specs.declared.fixed_words.TheConstants.{MONITOR_RECORDS}
 use Rattle.machine_types.specs.declared.config.Config.{Config}
 use Rattle.machine_types.specs.declared.lock.Held.{Held}
 use Rattle.machine_types.specs.declared.lock.Kept.{Kept}
@@ -165,11 +165,11 @@ module _ (v : Locks) (count : ℕ → ℕ) (t : ℕ) (was : Phase) (x : Thread) 
 
   -- ---- the lock word names the record
 
-  pub fat_in : (n r : ℕ) (h : Held) → IsDrawn v r → r < most_records → v.owner r ≡ t + 1 → drawn_by was ≡ Some r → held_at x.held n ≡ Some h → hold_by_kept h.kept ≡ HeldFlat
+  pub fat_in : (n r : ℕ) (h : Held) → IsDrawn v r → r < MONITOR_RECORDS → v.owner r ≡ t + 1 → drawn_by was ≡ Some r → held_at x.held n ≡ Some h → hold_by_kept h.kept ≡ HeldFlat
       → Became x y (with_held (record h { kept = keeps.Fat r }) x.held) 0 → IsPlain now
       → Owes v (set_lock n (locks.Fat r) v) count (recounted n (count n) count) t was now x y
   fat_in n r h dr low mine d k f b plain = lock_written v count n (count n) (locks.Fat r) (thin_if_flat t (v.lock n) v.owner flat) (omega arith) t was now x y a o b.cfg
-      (λ i e. let same : r ≡ i = cc in subst (λ (j : ℕ). IsDrawn v j × (j < most_records)) same (dr, low))
+      (λ i e. let same : r ≡ i = cc in subst (λ (j : ℕ). IsDrawn v j × (j < MONITOR_RECORDS)) same (dr, low))
       (λ i e. let same : r ≡ i = cc in subst (λ (j : ℕ). drawn_by was ≡ Some j) same d)
       (λ c e. absurd (cc))
       (λ u e. (ap (λ (i : ℕ). cond (i == u + 1) (HeldFat r) NotHeld) mine ∙ another (t + 1) (u + 1) (HeldFat r) (λ g. e (omega (arith, g))) ∙ sym (flat_alone t u (v.lock n) v.owner flat e), inl (flat_alone t u (v.lock n) v.owner flat e)))

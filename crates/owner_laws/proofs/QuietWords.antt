@@ -21,7 +21,8 @@ use Rattle.machine_types.specs.NewObjects.{size_by}
 use Rattle.machine_types.specs.Owners.{lock_at, owner_at, locks_in, references_of}
 use Rattle.machine_types.specs.PlainMemory.{Object}
 use Rattle.machine_types.specs.Threads.{Thread}
-use Rattle.machine_types.specs.Words.{free_word, ticket_word, record_word, most_records, owner_word, header_word, header_class, header_length, array_size, object_size}
+use Rattle.machine_types.specs.Words.{owner_word, header_word, header_class, header_length, array_size, object_size}
+use Rattle.jvm_types.specs.declared.fixed_words.TheConstants.{NEXT_FREE_WORD, NEXT_TICKET_WORD, NEXT_RECORD_WORD, MONITOR_RECORDS}
 use Rattle.machine_types.specs.declared.effect.Effect.{Effect}
 use Rattle.machine_types.specs.declared.effect.Effect.TheVariants.{Goes, Reads, Writes, Calls, Indexes, Measures, Raises, Makes, Prints}
 use Rattle.machine_types.specs.declared.lock.LockWord.TheVariants as locks
@@ -43,7 +44,7 @@ use Rattle.owner_laws.proofs.WordViews.{has_object, views_same, record_there}
 abbrev pub IsLockSite : Site → Type 0
 IsLockSite (LockOf reference) = Unit {0}
 IsLockSite (OwnerOf r) = Unit {0}
-IsLockSite (Counter word) = word ≡ record_word
+IsLockSite (Counter word) = word ≡ NEXT_RECORD_WORD
 IsLockSite site = ⊥
 
 place_suits_none : (content : Content) (site : Site) → IsPlace content → IsLockSite site → Suits content site → ⊥
@@ -64,7 +65,7 @@ bits_suit_none (Counter w) lock suits = suits
 bits_suit_none site lock suits = lock
 
 -- another counter, or a header, is none of them
-any_is_record : (site : Site) → IsLockSite site → Suits Any site → site_word site ≡ record_word
+any_is_record : (site : Site) → IsLockSite site → Suits Any site → site_word site ≡ NEXT_RECORD_WORD
 any_is_record (Counter w) lock suits = lock
 any_is_record (LockOf r) lock suits = absurd suits
 any_is_record (OwnerOf r) lock suits = absurd suits
@@ -76,7 +77,7 @@ abbrev Same : (got : ℕ) → ℕ → Type 0
 Same got n = n ≡ got
 
 module _ (site : Site) (lock : IsLockSite site) (access : Access) (got : ℕ) (at : accessed access ≡ site_word site) where
-  counter_not : (a : Access) → Some a ≡ Some access → accessed a ≢ record_word → Suits Any site → left_by access got ≡ got
+  counter_not : (a : Access) → Some a ≡ Some access → accessed a ≢ NEXT_RECORD_WORD → Suits Any site → left_by access got ≡ got
   counter_not a e d suits = let same : a ≡ access = cc in absurd (d (ap accessed same ∙ at ∙ any_is_record site lock suits))
 
   effect_leaves : (p : Program) (s : Thread) (pc : ℕ) (target : Target) (e : Effect) → StoresFit p target e → effect_wants s pc e ≡ Some access → Suits (effect_content p target e) site → left_by access got ≡ got
@@ -87,11 +88,11 @@ module _ (site : Site) (lock : IsLockSite site) (access : Access) (got : ℕ) (a
   effect_leaves p s pc target (Indexes array index stored) fits w suits = loaded (Same got) access got refl _ w
   effect_leaves p s pc target (Measures array) fits w suits = loaded (Same got) access got refl _ w
   effect_leaves p s pc target (Raises x) fits w suits = loaded (Same got) access got refl _ w
-  effect_leaves p s pc target (Makes word size) fits w suits = counter_not (Add free_word size) w (λ e. absurd (omega (arith, e))) suits
+  effect_leaves p s pc target (Makes word size) fits w suits = counter_not (Add NEXT_FREE_WORD size) w (λ e. absurd (omega (arith, e))) suits
   effect_leaves p s pc target (Prints n) fits w suits = by_limit (has_print_left s) w
     where
-      by_limit : (b : Bool) → cond b (Some (Add ticket_word 1)) None ≡ Some access → left_by access got ≡ got
-      by_limit true w = counter_not (Add ticket_word 1) w (λ e. absurd (omega (arith, e))) suits
+      by_limit : (b : Bool) → cond b (Some (Add NEXT_TICKET_WORD 1)) None ≡ Some access → left_by access got ≡ got
+      by_limit true w = counter_not (Add NEXT_TICKET_WORD 1) w (λ e. absurd (omega (arith, e))) suits
       by_limit false w = no_access (Same got) access got refl w
   effect_leaves p s pc target e fits w suits = no_access (Same got) access got refl w
 
@@ -110,7 +111,7 @@ IsQuiet (phases.NotifyOne m r u) = Unit {0}
 IsQuiet (phases.NotifyAll m r) = Unit {0}
 IsQuiet phase = ⊥
 
-quiet_leaves : (c : MarkedProgram) (s : Thread) (phase : Phase) (site : Site) (access : Access) (got : ℕ) → IsQuiet phase → PhaseStores c s phase → ((a word : ℕ) → phase ≡ phases.Made a word → header_word a ≢ record_word)
+quiet_leaves : (c : MarkedProgram) (s : Thread) (phase : Phase) (site : Site) (access : Access) (got : ℕ) → IsQuiet phase → PhaseStores c s phase → ((a word : ℕ) → phase ≡ phases.Made a word → header_word a ≢ NEXT_RECORD_WORD)
     → IsLockSite site → wanted c s phase ≡ Some access → Suits (content_at c s phase) site → accessed access ≡ site_word site → left_by access got ≡ got
 quiet_leaves c s phases.Run site access got quiet fits apart lock w suits at = run_leaves site lock access got at c.program s (top_of c.program s.frames) fits w suits
 quiet_leaves c s (phases.Element word stored) site access got quiet fits apart lock w suits at = absurd (place_suits_none IntPlace site tt lock suits)
@@ -143,8 +144,8 @@ module _ (differ : SitesDiffer) (inside : SitesLieInside) (reach : EventsReachSi
       by_cases (inr k) = k.left ∙ quiet_leaves c x x.phase site k.access (slice_index s.words (site_word site)) quiet (phase_stores c objects s t x marked heap there lawful)
           (λ a word e f. made_apart a word e f) lock k.wants k.suits k.word
         where
-          made_apart : (a word : ℕ) → x.phase ≡ phases.Made a word → header_word a ≢ record_word
-          made_apart a word e f = let same : NewHeaderOf a ≡ Counter record_word = differ c objects s (NewHeaderOf a) (Counter record_word) marked heap (t, x, word, there, e) (record_there c objects s) f in cc
+          made_apart : (a word : ℕ) → x.phase ≡ phases.Made a word → header_word a ≢ NEXT_RECORD_WORD
+          made_apart a word e f = let same : NewHeaderOf a ≡ Counter NEXT_RECORD_WORD = differ c objects s (NewHeaderOf a) (Counter NEXT_RECORD_WORD) marked heap (t, x, word, there, e) (record_there c objects s) f in cc
 
   old_lock : (m : ℕ) → lock_at (references_of objects) (words_after s.words (wanted c x x.phase)) m ≡ lock_at (references_of objects) s.words m
   old_lock m = by_test (has_number (references_of objects) m) refl
@@ -176,15 +177,15 @@ module _ (differ : SitesDiffer) (inside : SitesLieInside) (reach : EventsReachSi
       by_test false f old = old
 
   pub quiet_view : locks_in (references_of (objects_by c.program x.phase objects)) (words_after s.words (wanted c x x.phase)) ≡ locks_in (references_of objects) s.words
-  quiet_view = views_same (references_of objects) (references_of (objects_by c.program x.phase objects)) s.words (words_after s.words (wanted c x x.phase)) (by_phase x.phase refl) owner (same_word (Counter record_word) refl (record_there c objects s))
+  quiet_view = views_same (references_of objects) (references_of (objects_by c.program x.phase objects)) s.words (words_after s.words (wanted c x x.phase)) (by_phase x.phase refl) owner (same_word (Counter NEXT_RECORD_WORD) refl (record_there c objects s))
     where
       by_phase : (phase : Phase) → x.phase ≡ phase → (m : ℕ) → lock_at (references_of (objects_by c.program phase objects)) (words_after s.words (wanted c x x.phase)) m ≡ lock_at (references_of objects) s.words m
       by_phase (phases.Made a word) e m = new_lock a word e m
       by_phase phase e m = old_lock m
 
       owner : (r : ℕ) → owner_at (words_after s.words (wanted c x x.phase)) r ≡ owner_at s.words r
-      owner r = by_test (nat_lt r most_records) refl
+      owner r = by_test (nat_lt r MONITOR_RECORDS) refl
         where
-          by_test : (b : Bool) → nat_lt r most_records ≡ b → cond b (slice_index (words_after s.words (wanted c x x.phase)) (owner_word r)) 0 ≡ cond b (slice_index s.words (owner_word r)) 0
-          by_test true e = let low : r < most_records = grind (arith, nat_tests, e) in same_word (OwnerOf r) tt low
+          by_test : (b : Bool) → nat_lt r MONITOR_RECORDS ≡ b → cond b (slice_index (words_after s.words (wanted c x x.phase)) (owner_word r)) 0 ≡ cond b (slice_index s.words (owner_word r)) 0
+          by_test true e = let low : r < MONITOR_RECORDS = grind (arith, nat_tests, e) in same_word (OwnerOf r) tt low
           by_test false e = refl

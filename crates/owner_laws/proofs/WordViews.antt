@@ -8,7 +8,8 @@ use Rattle.machine_types.specs.Core.{Core}
 use Rattle.machine_types.specs.LockWords.{word_of_lock, lock_by, lock_of}
 use Rattle.machine_types.specs.Owners.{lock_at, owner_at, locks_in, references_of}
 use Rattle.machine_types.specs.PlainMemory.{Object}
-use Rattle.machine_types.specs.Words.{record_word, most_records, owner_word}
+use Rattle.machine_types.specs.Words.{owner_word}
+use Rattle.jvm_types.specs.declared.fixed_words.TheConstants.{NEXT_RECORD_WORD, MONITOR_RECORDS}
 use Rattle.machine_types.specs.declared.lock.LockWord.{LockWord}
 use Rattle.machine_types.specs.declared.lock.LockWord.TheVariants as locks
 use Rattle.heap_laws.specs.HeapFacts.{HeapFacts}
@@ -52,7 +53,7 @@ has_object (x ∷ xs) m e = by_test (x.reference == m) refl e (λ f. has_object 
 
 -- ---- the same words
 
-pub views_same : (references later words after : List ℕ) → ((m : ℕ) → lock_at later after m ≡ lock_at references words m) → ((r : ℕ) → owner_at after r ≡ owner_at words r) → slice_index after record_word ≡ slice_index words record_word
+pub views_same : (references later words after : List ℕ) → ((m : ℕ) → lock_at later after m ≡ lock_at references words m) → ((r : ℕ) → owner_at after r ≡ owner_at words r) → slice_index after NEXT_RECORD_WORD ≡ slice_index words NEXT_RECORD_WORD
     → locks_in later after ≡ locks_in references words
 views_same references later words after l o n = λ i. record { lock = λ m. l m i; owner = λ r. o r i; next = n i }
 
@@ -61,7 +62,7 @@ set_self [] w = refl
 set_self (x ∷ words) zero = refl
 set_self (x ∷ words) (suc w) = ap (λ (ws : List ℕ). x ∷ ws) (set_self words w)
 
-pub record_there : (c : MarkedProgram) (objects : List Object) (s : Core) → IsThere c.program objects s (Counter record_word)
+pub record_there : (c : MarkedProgram) (objects : List Object) (s : Core) → IsThere c.program objects s (Counter NEXT_RECORD_WORD)
 record_there c objects s = (omega arith, omega arith)
 
 -- ---- one word is written
@@ -78,10 +79,10 @@ module _ (differ : SitesDiffer) (inside : SitesLieInside) (c : MarkedProgram) (o
       by_test false e = refl
 
   owners_apart : (site : Site) (value : ℕ) → IsThere c.program objects s site → (r : ℕ) → site ≢ OwnerOf r → owner_at (slice_set s.words (site_word site) value) r ≡ owner_at s.words r
-  owners_apart site value k r d = by_test (nat_lt r most_records) refl
+  owners_apart site value k r d = by_test (nat_lt r MONITOR_RECORDS) refl
     where
-      by_test : (b : Bool) → nat_lt r most_records ≡ b → cond b (slice_index (slice_set s.words (site_word site) value) (owner_word r)) 0 ≡ cond b (slice_index s.words (owner_word r)) 0
-      by_test true e = let low : r < most_records = grind (arith, nat_tests, e) in other_site site (OwnerOf r) value k low d
+      by_test : (b : Bool) → nat_lt r MONITOR_RECORDS ≡ b → cond b (slice_index (slice_set s.words (site_word site) value) (owner_word r)) 0 ≡ cond b (slice_index s.words (owner_word r)) 0
+      by_test true e = let low : r < MONITOR_RECORDS = grind (arith, nat_tests, e) in other_site site (OwnerOf r) value k low d
       by_test false e = refl
 
   pub lock_view : (n value : ℕ) → HasObject objects n → locks_in (references_of objects) (slice_set s.words n value) ≡ set_lock n (lock_of value) (locks_in (references_of objects) s.words)
@@ -99,10 +100,10 @@ module _ (differ : SitesDiffer) (inside : SitesLieInside) (c : MarkedProgram) (o
       owner : (r : ℕ) → owner_at (slice_set s.words n value) r ≡ owner_at s.words r
       owner r = owners_apart (LockOf n) value k r (λ e. cc)
 
-      next : slice_index (slice_set s.words n value) record_word ≡ slice_index s.words record_word
-      next = other_site (LockOf n) (Counter record_word) value k (record_there c objects s) (λ e. cc)
+      next : slice_index (slice_set s.words n value) NEXT_RECORD_WORD ≡ slice_index s.words NEXT_RECORD_WORD
+      next = other_site (LockOf n) (Counter NEXT_RECORD_WORD) value k (record_there c objects s) (λ e. cc)
 
-  pub owner_view : (r value : ℕ) → r < most_records → locks_in (references_of objects) (slice_set s.words (owner_word r) value) ≡ set_owner r value (locks_in (references_of objects) s.words)
+  pub owner_view : (r value : ℕ) → r < MONITOR_RECORDS → locks_in (references_of objects) (slice_set s.words (owner_word r) value) ≡ set_owner r value (locks_in (references_of objects) s.words)
   owner_view r value low = λ i. record { lock = λ m. locks_apart (OwnerOf r) value low (λ m e. cc) m i; owner = λ k. owner k i; next = next i }
     where
       owner : (k : ℕ) → owner_at (slice_set s.words (owner_word r) value) k ≡ cond (r == k) value (owner_at s.words k)
@@ -113,15 +114,15 @@ module _ (differ : SitesDiffer) (inside : SitesLieInside) (c : MarkedProgram) (o
               ∙ ap (λ (b : Bool). cond b (slice_index (slice_set s.words (owner_word r) value) (owner_word r)) 0) (low_record r low)
               ∙ set_here s.words (owner_word r) value (inside c objects s (OwnerOf r) marked heap low)
             where
-              low_record : (r : ℕ) → r < most_records → nat_lt r most_records ≡ true
+              low_record : (r : ℕ) → r < MONITOR_RECORDS → nat_lt r MONITOR_RECORDS ≡ true
               low_record r low = grind (arith, nat_tests, low)
           by_test false e = owners_apart (OwnerOf r) value low k (λ g. not_same r k e (cc))
 
-      next : slice_index (slice_set s.words (owner_word r) value) record_word ≡ slice_index s.words record_word
-      next = other_site (OwnerOf r) (Counter record_word) value low (record_there c objects s) (λ e. cc)
+      next : slice_index (slice_set s.words (owner_word r) value) NEXT_RECORD_WORD ≡ slice_index s.words NEXT_RECORD_WORD
+      next = other_site (OwnerOf r) (Counter NEXT_RECORD_WORD) value low (record_there c objects s) (λ e. cc)
 
-  pub next_view : (value : ℕ) → locks_in (references_of objects) (slice_set s.words record_word value) ≡ set_next value (locks_in (references_of objects) s.words)
-  next_view value = λ i. record { lock = λ m. locks_apart (Counter record_word) value (record_there c objects s) (λ m e. cc) m i; owner = λ r. owners_apart (Counter record_word) value (record_there c objects s) r (λ e. cc) i; next = next i }
+  pub next_view : (value : ℕ) → locks_in (references_of objects) (slice_set s.words NEXT_RECORD_WORD value) ≡ set_next value (locks_in (references_of objects) s.words)
+  next_view value = λ i. record { lock = λ m. locks_apart (Counter NEXT_RECORD_WORD) value (record_there c objects s) (λ m e. cc) m i; owner = λ r. owners_apart (Counter NEXT_RECORD_WORD) value (record_there c objects s) r (λ e. cc) i; next = next i }
     where
-      next : slice_index (slice_set s.words record_word value) record_word ≡ value
-      next = set_here s.words record_word value (inside c objects s (Counter record_word) marked heap (record_there c objects s))
+      next : slice_index (slice_set s.words NEXT_RECORD_WORD value) NEXT_RECORD_WORD ≡ value
+      next = set_here s.words NEXT_RECORD_WORD value (inside c objects s (Counter NEXT_RECORD_WORD) marked heap (record_there c objects s))

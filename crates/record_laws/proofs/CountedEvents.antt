@@ -18,7 +18,7 @@ use Rattle.machine_types.specs.declared.lock.LockWord.TheVariants as locks
 use Rattle.machine_types.specs.Monitors.{Claim, Tries, HasNot, claim_by, takes, enter_moves, released, leave_moves, lets_go, grows_not, fattens, bit_of, goes_to_wait, retakes}
 use Rattle.machine_types.specs.Structure.{IsFlat, IsStructured, Stands}
 use Rattle.machine_types.specs.Threads.{Thread, Attempt}
-use Rattle.machine_types.specs.Words.{most_records}
+use Rattle.jvm_types.specs.declared.fixed_words.TheConstants.{MONITOR_RECORDS}
 use Rattle.machine_types.specs.declared.lock.Held.{Held}
 use Rattle.machine_types.specs.declared.lock.Kept.{Kept}
 use Rattle.machine_types.specs.declared.lock.Kept.TheVariants as keeps
@@ -197,7 +197,7 @@ event_counts c s (phases.Take m count) got e h = by_test 0 0 (phases.Take m coun
 event_counts c s (phases.Flag m u) got e h = same (phases.Flag m u) s _ refl refl
 event_counts c s (phases.TakeFat m r) got e h = by_test 0 0 (phases.TakeFat m r) s (got == 0) _ _ (took (phases.TakeFat m r) s m (keeps.Fat r) refl) (same (phases.TakeFat m r) s _ refl refl)
 event_counts c s (phases.Leave m a) got e h = left c.program s m a (held_at s.held m) s.attempt got refl
-event_counts c s (phases.Grow m toward) got e h = by_test 0 1 (phases.Grow m toward) s (nat_lt got most_records) _ _ (by_tally 0 1 (phases.Grow m toward) s _ s refl (omega arith) (omega arith)) (not_drawn s m toward)
+event_counts c s (phases.Grow m toward) got e h = by_test 0 1 (phases.Grow m toward) s (nat_lt got MONITOR_RECORDS) _ _ (by_tally 0 1 (phases.Grow m toward) s _ s refl (omega arith) (omega arith)) (not_drawn s m toward)
 event_counts c s (phases.FlatOut m a) got e h = flat_out c.program s m a (held_at s.held m) refl h
 event_counts c s (phases.Own m r toward) got e h = by_tally 0 0 (phases.Own m r toward) s _ s refl (omega arith) (omega arith)
 event_counts c s (phases.FatIn m r toward) got e h = fattened s m r toward (held_at s.held m) refl h

@@ -20,7 +20,8 @@ use Rattle.machine_types.specs.Structure.{IsStructured, Stands}
 use Rattle.machine_types.specs.Threads.{Thread}
 use Rattle.machine_types.specs.Typed.{PhaseHolds}
 use Rattle.machine_types.specs.Lawful.{within}
-use Rattle.machine_types.specs.Words.{free_word, ticket_word, record_word, header_word, header_class, header_length, array_size, object_size}
+use Rattle.machine_types.specs.Words.{header_word, header_class, header_length, array_size, object_size}
+use Rattle.jvm_types.specs.declared.fixed_words.TheConstants.{NEXT_FREE_WORD, NEXT_TICKET_WORD, NEXT_RECORD_WORD}
 use Rattle.machine_types.specs.declared.lock.LockWord.TheVariants as locks
 use Rattle.machine_types.specs.declared.phase.Phase.{Phase}
 use Rattle.machine_types.specs.declared.phase.Phase.TheVariants as phases
@@ -216,13 +217,13 @@ module _ (c : MarkedProgram) (objects : List Object) (s : Core) (t : ℕ) (x : T
 
     -- how far each counter comes
     pub record CountersGrow : Type 0 where
-      pub free : slice_index after free_word ≤ slice_index s.words free_word + most_size * began
-      pub tickets : slice_index after ticket_word ≤ slice_index s.words ticket_word + began
-      pub records : slice_index after record_word ≤ slice_index s.words record_word + drawn_by x.phase
+      pub free : slice_index after NEXT_FREE_WORD ≤ slice_index s.words NEXT_FREE_WORD + most_size * began
+      pub tickets : slice_index after NEXT_TICKET_WORD ≤ slice_index s.words NEXT_TICKET_WORD + began
+      pub records : slice_index after NEXT_RECORD_WORD ≤ slice_index s.words NEXT_RECORD_WORD + drawn_by x.phase
 
     pub counters_grow : CountersGrow
     counters_grow = record {
-      free = grows free_word (most_size * began) (omega arith, omega arith) (λ access w at. (adds access w).free at);
-      tickets = grows ticket_word began (omega arith, omega arith) (λ access w at. (adds access w).tickets at);
-      records = grows record_word (drawn_by x.phase) (omega arith, omega arith) (λ access w at. (adds access w).records at);
+      free = grows NEXT_FREE_WORD (most_size * began) (omega arith, omega arith) (λ access w at. (adds access w).free at);
+      tickets = grows NEXT_TICKET_WORD began (omega arith, omega arith) (λ access w at. (adds access w).tickets at);
+      records = grows NEXT_RECORD_WORD (drawn_by x.phase) (omega arith, omega arith) (λ access w at. (adds access w).records at);
     }

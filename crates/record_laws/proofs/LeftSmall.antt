@@ -17,7 +17,7 @@ use Rattle.machine_types.specs.Instructions.{has_print_left, effect_wants, run_w
 use Rattle.machine_types.specs.LockWords.{lock_by, is_lock_by}
 use Rattle.machine_types.specs.Monitors.{Claim, Has, Tries, HasNot, claim, enter_wants, finish_wants, leave_wants, release}
 use Rattle.machine_types.specs.Threads.{Attempt, Thread}
-use Rattle.machine_types.specs.Words.{free_word, ticket_word, record_word}
+use Rattle.jvm_types.specs.declared.fixed_words.TheConstants.{NEXT_FREE_WORD, NEXT_TICKET_WORD, NEXT_RECORD_WORD}
 use Rattle.machine_types.specs.declared.effect.Effect.{Effect}
 use Rattle.machine_types.specs.declared.effect.Effect.TheVariants.{Goes, Reads, Writes, Indexes, Measures, Raises, Makes, Prints, Calls}
 use Rattle.machine_types.specs.declared.lock.Kept.{Kept}
@@ -54,8 +54,8 @@ module _ (s : Thread) (access : Access) (got : ℕ) (small : got < 2 ^ 64) (sum 
   added_small : (w v : ℕ) → Some (Add w v) ≡ Some access → Small (left_by access got)
   added_small w v e = leaves Small access got small (Add w v) e (sum w v e)
 
-  print_small : (b : Bool) → (if b then Some (Add ticket_word 1) else None) ≡ Some access → Small (left_by access got)
-  print_small true e = added_small ticket_word 1 e
+  print_small : (b : Bool) → (if b then Some (Add NEXT_TICKET_WORD 1) else None) ≡ Some access → Small (left_by access got)
+  print_small true e = added_small NEXT_TICKET_WORD 1 e
   print_small false e = no_access Small access got small e
 
   effect_small : (p : Program) (target : Target) (pc : ℕ) (e : Effect) → StoresFit p target e → effect_wants s pc e ≡ Some access → Small (left_by access got)
@@ -66,7 +66,7 @@ module _ (s : Thread) (access : Access) (got : ℕ) (small : got < 2 ^ 64) (sum 
   effect_small p target pc (Indexes array index stored) fits w = loaded Small access got small _ w
   effect_small p target pc (Measures array) fits w = loaded Small access got small _ w
   effect_small p target pc (Raises x) fits w = loaded Small access got small _ w
-  effect_small p target pc (Makes word size) fits w = added_small free_word size w
+  effect_small p target pc (Makes word size) fits w = added_small NEXT_FREE_WORD size w
   effect_small p target pc (Prints n) fits w = print_small (has_print_left s) w
   effect_small p target pc e fits w = no_access Small access got small w
 
@@ -138,7 +138,7 @@ left_small c s phases.Start access got few w small sum fits left = no_access Sma
 left_small c s phases.Run access got few w small sum fits left = run_small s access got small sum c.program (top_of c.program s.frames) fits w
 left_small c s (phases.Element word stored) access got few w small sum fits left = element_small s access got small sum word stored fits w
 left_small c s (phases.Made a word) access got few w small sum fits left = leaves Small access got small _ w fits
-left_small c s (phases.Grow m toward) access got few w small sum fits left = added_small s access got small sum record_word 1 w
+left_small c s (phases.Grow m toward) access got few w small sum fits left = added_small s access got small sum NEXT_RECORD_WORD 1 w
 left_small c s (phases.Ending e) access got few w small sum fits left = leaves Small access got small _ w small
 left_small c s (phases.Ended e) access got few w small sum fits left = no_access Small access got small w
 left_small c s phase access got few w small sum fits left = may_small s.cfg.range (left_by access got) (content_at c s phase) few (content_is_locking c s phase tt) left
@@ -151,14 +151,14 @@ added access = 0
 
 -- only counters are added to
 abbrev pub IsCounted : Access → Type 0
-IsCounted (Add w v) = (w ≡ free_word) ⊎ (w ≡ ticket_word) ⊎ (w ≡ record_word)
+IsCounted (Add w v) = (w ≡ NEXT_FREE_WORD) ⊎ (w ≡ NEXT_TICKET_WORD) ⊎ (w ≡ NEXT_RECORD_WORD)
 IsCounted access = Unit {0}
 
 pub record AddsFew (access : Access) (began drew : ℕ) : Type 0 where
   pub counted : IsCounted access
-  pub free : accessed access ≡ free_word → added access ≤ most_size * began
-  pub tickets : accessed access ≡ ticket_word → added access ≤ began
-  pub records : accessed access ≡ record_word → added access ≤ drew
+  pub free : accessed access ≡ NEXT_FREE_WORD → added access ≤ most_size * began
+  pub tickets : accessed access ≡ NEXT_TICKET_WORD → added access ≤ began
+  pub records : accessed access ≡ NEXT_RECORD_WORD → added access ≤ drew
 
 module _ (access : Access) (began drew : ℕ) where
   by_access : (a : Access) → Some a ≡ Some access → AddsFew a began drew → AddsFew access began drew
@@ -189,7 +189,7 @@ effect_adds p target s access pc (Raises x) fits w = no_sum access 1 0 _ w refl 
 effect_adds p target s access pc (Makes word size) fits w = by_access access 1 0 _ w (record { counted = inl refl; free = λ k. omega (arith, fits); tickets = λ k. absurd (omega (arith, k)); records = λ k. absurd (omega (arith, k)) })
 effect_adds p target s access pc (Prints n) fits w = by_limit (has_print_left s) w
   where
-    by_limit : (b : Bool) → (if b then Some (Add ticket_word 1) else None) ≡ Some access → AddsFew access 1 0
+    by_limit : (b : Bool) → (if b then Some (Add NEXT_TICKET_WORD 1) else None) ≡ Some access → AddsFew access 1 0
     by_limit true w = by_access access 1 0 _ w (record { counted = inr (inl refl); free = λ k. absurd (omega (arith, k)); tickets = λ k. omega arith; records = λ k. absurd (omega (arith, k)) })
     by_limit false w = none access 1 0 w
 effect_adds p target s access pc e fits w = none access 1 0 w
@@ -282,7 +282,7 @@ effect_only_adds p target s access got pc (Writes v word) fits w any = absurd (n
 effect_only_adds p target s access got pc (Makes word size) fits w any = adds_by access got _ w (omega arith)
 effect_only_adds p target s access got pc (Prints n) fits w any = by_limit (has_print_left s) w
   where
-    by_limit : (b : Bool) → (if b then Some (Add ticket_word 1) else None) ≡ Some access → OnlyAdds access got
+    by_limit : (b : Bool) → (if b then Some (Add NEXT_TICKET_WORD 1) else None) ≡ Some access → OnlyAdds access got
     by_limit true w = adds_by access got _ w (omega arith)
     by_limit false w = nowhere access got w
 effect_only_adds p target s access got pc (Reads v) fits w any = adds_by access got _ w (omega arith)

@@ -25,7 +25,7 @@ use Rattle.machine_types.specs.declared.lock.LockWord.{LockWord}
 use Rattle.machine_types.specs.declared.lock.LockWord.TheVariants as locks
 use Rattle.machine_types.specs.Monitors.{Claim, Has, Tries, HasNot, claim, count_kept, enter_wants, finish_wants, freed, leave_wants, release, bit_of}
 use Rattle.machine_types.specs.Threads.{Attempt, Thread}
-use Rattle.machine_types.specs.Words.{most_records}
+use Rattle.jvm_types.specs.declared.fixed_words.TheConstants.{MONITOR_RECORDS}
 use Rattle.machine_types.specs.declared.effect.Effect.{Effect}
 use Rattle.machine_types.specs.declared.effect.Effect.TheVariants.{Goes, Reads, Writes, Calls}
 use Rattle.machine_types.specs.declared.lock.Held.{Held}
@@ -47,7 +47,7 @@ is_by_parts word kind upper e f is = ap (λ (k : ℕ). is_lock_by k (word / 4)) 
 -- of a thread that there may be, of a record that there is, with a count up to the last one
 abbrev pub LockFits : (range : ℕ) → LockWord → Type 0
 LockFits range (locks.Free c) = c ≤ range
-LockFits range (locks.Fat r) = r < most_records
+LockFits range (locks.Fat r) = r < MONITOR_RECORDS
 LockFits range (locks.Held t) = t ≤ 8
 LockFits range (locks.Flagged t) = t ≤ 8
 

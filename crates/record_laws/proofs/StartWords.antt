@@ -7,14 +7,14 @@ use Rattle.std.proofs.lemmas.Bool.Decides.{nat_tests}
 use Rattle.lists.proofs.ListLaws.{same_some}
 use Rattle.lists.proofs.TestLaws.{both_are_true}
 use Rattle.jvm_types.specs.ProgramInvariant.{IsProgram, words_of}
-use Rattle.jvm_types.specs.declared.fixed_words.TheConstants.{FIRST_CLASS_WORD}
+use Rattle.jvm_types.specs.declared.fixed_words.TheConstants.{FIRST_CLASS_WORD, FIRST_READY_WORD, MONITOR_RECORDS, NEXT_FREE_WORD, NEXT_TICKET_WORD, NEXT_RECORD_WORD}
 use Rattle.jvm_types.specs.declared.program.FieldInfo.{FieldInfo}
 use Rattle.jvm_types.specs.declared.program.Program.{Program}
 use Rattle.machine_types.specs.Ints.{word_of}
 use Rattle.machine_types.specs.PlainMemory.{Object, objects_from, class_objects, start_objects}
-use Rattle.machine_types.specs.ReadyObjects.{ready_classes, first_ready}
+use Rattle.machine_types.specs.ReadyObjects.{ready_classes}
 use Rattle.machine_types.specs.StartWords.{object_words, statics_of, class_words, classes_of, start_words}
-use Rattle.machine_types.specs.Words.{most_records, free_word, ticket_word, record_word, owner_word, bits_word}
+use Rattle.machine_types.specs.Words.{owner_word, bits_word}
 use Rattle.heap_laws.proofs.Lists.{contained_got}
 use Rattle.machine_types.specs.declared.lock.LockWord.TheVariants as locks
 use Rattle.record_laws.specs.SharedWords.{IsLock, LocksFit, RecordsFit}
@@ -102,17 +102,17 @@ split [] ys i x e = inr (i, e)
 split (y ∷ xs) ys zero x e = inl e
 split (y ∷ xs) ys (suc i) x e = split xs ys i x e
 
-locks_by : (p : Program) (records i : ℕ) (o : Object) → records ≡ 2 * most_records → slice_get (start_objects p) i ≡ Some o → slice_index (all_parts p records) o.reference ≡ 0
-locks_by p records i o many e = by_part (split (objects_from first_ready ready_classes) (class_objects p.fields FIRST_CLASS_WORD (classes_of p)) i o e)
+locks_by : (p : Program) (records i : ℕ) (o : Object) → records ≡ 2 * MONITOR_RECORDS → slice_get (start_objects p) i ≡ Some o → slice_index (all_parts p records) o.reference ≡ 0
+locks_by p records i o many e = by_part (split (objects_from FIRST_READY_WORD ready_classes) (class_objects p.fields FIRST_CLASS_WORD (classes_of p)) i o e)
   where
-    by_part : (slice_get (objects_from first_ready ready_classes) i ≡ Some o) ⊎ ((j : ℕ) × (slice_get (class_objects p.fields FIRST_CLASS_WORD (classes_of p)) j ≡ Some o)) → slice_index (all_parts p records) o.reference ≡ 0
-    by_part (inl k) = free_in (all_parts p records) (records_part p records) (ready_part ++ (class_part p ++ unused_part p)) first_ready o (from_ready p records) (omega (arith, many, length_records p records))
-        (ready_free first_ready ready_classes (class_part p ++ unused_part p) i o k)
+    by_part : (slice_get (objects_from FIRST_READY_WORD ready_classes) i ≡ Some o) ⊎ ((j : ℕ) × (slice_get (class_objects p.fields FIRST_CLASS_WORD (classes_of p)) j ≡ Some o)) → slice_index (all_parts p records) o.reference ≡ 0
+    by_part (inl k) = free_in (all_parts p records) (records_part p records) (ready_part ++ (class_part p ++ unused_part p)) FIRST_READY_WORD o (from_ready p records) (omega (arith, many, length_records p records))
+        (ready_free FIRST_READY_WORD ready_classes (class_part p ++ unused_part p) i o k)
     by_part (inr k) = free_in (all_parts p records) (records_part p records ++ ready_part) (class_part p ++ unused_part p) FIRST_CLASS_WORD o (from_classes p records)
         (omega (arith, many, length-append (records_part p records) ready_part, length_records p records)) (class_free p.fields FIRST_CLASS_WORD (classes_of p) (unused_part p) k.0 o k.1)
 
 pub locks_at_start : (p : Program) (range : ℕ) → LocksFit range (start_objects p) (start_words p)
-locks_at_start p range o k = subst (IsLock range) (sym (locks_by p (2 * most_records) k.0 o refl (contained_got (start_objects p) o k))) (word_is_lock range (locks.Free 0) (omega arith))
+locks_at_start p range o k = subst (IsLock range) (sym (locks_by p (2 * MONITOR_RECORDS) k.0 o refl (contained_got (start_objects p) o k))) (word_is_lock range (locks.Free 0) (omega arith))
 
 -- ---- records
 
@@ -125,13 +125,13 @@ record_zero p records j lt =
 pub records_at_start : (p : Program) → RecordsFit (start_words p)
 records_at_start p = record { owners = λ r lt. owner r lt; bits = λ r lt. bits r lt }
   where
-    zero_at : (word j : ℕ) → word ≡ 4 + j → j < 2 * most_records → slice_index (start_words p) word ≡ 0
-    zero_at word j at lt = ap (slice_index (start_words p)) at ∙ record_zero p (2 * most_records) j lt
+    zero_at : (word j : ℕ) → word ≡ 4 + j → j < 2 * MONITOR_RECORDS → slice_index (start_words p) word ≡ 0
+    zero_at word j at lt = ap (slice_index (start_words p)) at ∙ record_zero p (2 * MONITOR_RECORDS) j lt
 
-    owner : (r : ℕ) → r < most_records → slice_index (start_words p) (owner_word r) ≤ 9
+    owner : (r : ℕ) → r < MONITOR_RECORDS → slice_index (start_words p) (owner_word r) ≤ 9
     owner r lt = omega (arith, zero_at (owner_word r) (2 * r) (omega arith) (omega (arith, lt)))
 
-    bits : (r : ℕ) → r < most_records → slice_index (start_words p) (bits_word r) < 512
+    bits : (r : ℕ) → r < MONITOR_RECORDS → slice_index (start_words p) (bits_word r) < 512
     bits r lt = omega (arith, zero_at (bits_word r) (2 * r + 1) (omega arith) (omega (arith, lt)))
 
 -- ---- all words
@@ -172,18 +172,18 @@ small_at (n ∷ ns) h zero = h.0
 small_at (n ∷ ns) h (suc i) = small_at ns h.1 i
 
 pub small_at_start : (p : Program) → IsProgram p → (i : ℕ) → slice_index (start_words p) i < 2 ^ 64
-small_at_start p is i = small_at (start_words p) (all_parts_small p (2 * most_records) is) i
+small_at_start p is i = small_at (start_words p) (all_parts_small p (2 * MONITOR_RECORDS) is) i
 
 -- ---- counters
 
 counters_by : (p : Program) (records : ℕ) → (slice_index (all_parts p records) 1 ≡ words_of p) × (slice_index (all_parts p records) 2 ≡ 0) × (slice_index (all_parts p records) 3 ≡ 0)
 counters_by p records = (refl, refl, refl)
 
-pub free_at_start : (p : Program) → slice_index (start_words p) free_word ≡ words_of p
-free_at_start p = (counters_by p (2 * most_records)).0
+pub free_at_start : (p : Program) → slice_index (start_words p) NEXT_FREE_WORD ≡ words_of p
+free_at_start p = (counters_by p (2 * MONITOR_RECORDS)).0
 
-pub ticket_at_start : (p : Program) → slice_index (start_words p) ticket_word ≡ 0
-ticket_at_start p = (counters_by p (2 * most_records)).1
+pub ticket_at_start : (p : Program) → slice_index (start_words p) NEXT_TICKET_WORD ≡ 0
+ticket_at_start p = (counters_by p (2 * MONITOR_RECORDS)).1
 
-pub record_at_start : (p : Program) → slice_index (start_words p) record_word ≡ 0
-record_at_start p = (counters_by p (2 * most_records)).2
+pub record_at_start : (p : Program) → slice_index (start_words p) NEXT_RECORD_WORD ≡ 0
+record_at_start p = (counters_by p (2 * MONITOR_RECORDS)).2

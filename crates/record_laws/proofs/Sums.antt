@@ -16,7 +16,7 @@ use Rattle.machine_types.specs.Bounds.{IsBounded, StepsFit, flat_held}
 use Rattle.machine_types.specs.Core.{Core}
 use Rattle.machine_types.specs.Frames.{Top}
 use Rattle.machine_types.specs.Threads.{Thread}
-use Rattle.machine_types.specs.Words.{free_word, ticket_word, record_word}
+use Rattle.jvm_types.specs.declared.fixed_words.TheConstants.{NEXT_FREE_WORD, NEXT_TICKET_WORD, NEXT_RECORD_WORD}
 use Rattle.machine_types.specs.declared.config.Config.{Config}
 use Rattle.machine_types.specs.declared.phase.Phase.{Phase}
 use Rattle.machine_types.specs.declared.phase.Phase.TheVariants as phases
@@ -87,10 +87,10 @@ module _ (c : MarkedProgram) (cfg : Config) (s : Core) (marked : IsMarked c) (wi
       at : (n : ℕ) → w ≡ n → slice_index s.words w ≡ slice_index s.words n
       at n k = ap (slice_index s.words) k
 
-      by_word : AddsFew (Add w v) began drew → (w ≡ free_word) ⊎ (w ≡ ticket_word) ⊎ (w ≡ record_word) → slice_index s.words w + v < 2 ^ 64
-      by_word few (inl k) = omega (arith, at free_word k, few.free k, one, counters.free, instructions_few, marked.checked.program.words, marked.checked.program.heap_to)
-      by_word few (inr (inl k)) = omega (arith, at ticket_word k, few.tickets k, one, counters.tickets, instructions_few)
-      by_word few (inr (inr k)) = omega (arith, at record_word k, few.records k, once, counters.records, taken_few)
+      by_word : AddsFew (Add w v) began drew → (w ≡ NEXT_FREE_WORD) ⊎ (w ≡ NEXT_TICKET_WORD) ⊎ (w ≡ NEXT_RECORD_WORD) → slice_index s.words w + v < 2 ^ 64
+      by_word few (inl k) = omega (arith, at NEXT_FREE_WORD k, few.free k, one, counters.free, instructions_few, marked.checked.program.words, marked.checked.program.heap_to)
+      by_word few (inr (inl k)) = omega (arith, at NEXT_TICKET_WORD k, few.tickets k, one, counters.tickets, instructions_few)
+      by_word few (inr (inr k)) = omega (arith, at NEXT_RECORD_WORD k, few.records k, once, counters.records, taken_few)
 
       by_counter : AddsFew (Add w v) began drew → slice_index s.words w + v < 2 ^ 64
       by_counter few = by_word few few.counted
@@ -100,7 +100,7 @@ module _ (c : MarkedProgram) (cfg : Config) (s : Core) (marked : IsMarked c) (wi
 -- where the counters grow by what the thread has done
 pub counters_after : (p : Program) (threads : List Thread) (words after : List ℕ) (t : ℕ) (x y : Thread) (phase : Phase) (began : ℕ) → slice_get threads t ≡ Some x → x.phase ≡ phase → CountersFit p (record { words = words; threads = threads })
     → Counted began (drawn_by phase) phase x y
-    → slice_index after free_word ≤ slice_index words free_word + most_size * began → slice_index after ticket_word ≤ slice_index words ticket_word + began → slice_index after record_word ≤ slice_index words record_word + drawn_by phase
+    → slice_index after NEXT_FREE_WORD ≤ slice_index words NEXT_FREE_WORD + most_size * began → slice_index after NEXT_TICKET_WORD ≤ slice_index words NEXT_TICKET_WORD + began → slice_index after NEXT_RECORD_WORD ≤ slice_index words NEXT_RECORD_WORD + drawn_by phase
     → CountersFit p (record { words = after; threads = slice_set threads t y })
 counters_after p threads words after t x y phase began e at fit counted free tickets records =
     let instructions = sum_set (λ z. z.counts.instructions) threads t x y e in

@@ -3,14 +3,13 @@
 use Rattle.std.specs.Prelude.{◌≤◌, ℕ, ◌+◌, ◌*◌, List, slice_index}
 use Rattle.std.specs.List.{sum_by}
 use Rattle.jvm_types.specs.ProgramInvariant.{words_of}
-use Rattle.jvm_types.specs.declared.fixed_words.TheConstants.{OBJECT_HEAD_WORDS}
+use Rattle.jvm_types.specs.declared.fixed_words.TheConstants.{OBJECT_HEAD_WORDS, NEXT_FREE_WORD, NEXT_TICKET_WORD, NEXT_RECORD_WORD}
 use Rattle.jvm_types.specs.declared.limits.TheConstants.{MOST_HEAP}
 use Rattle.jvm_types.specs.declared.outcome.End.TheVariants as ends
 use Rattle.jvm_types.specs.declared.program.Program.{Program}
 use Rattle.machine_types.specs.Bounds.{flat_held}
 use Rattle.machine_types.specs.Core.{Core}
 use Rattle.machine_types.specs.Threads.{Thread}
-use Rattle.machine_types.specs.Words.{free_word, ticket_word, record_word}
 use Rattle.machine_types.specs.declared.phase.Phase.{Phase}
 use Rattle.machine_types.specs.declared.phase.Phase.TheVariants as phases
 
@@ -42,6 +41,6 @@ taken_of threads = sum_by (λ x. x.counts.locked + drawn_for_flat x.phase) threa
 -- ---- all three
 
 pub record CountersFit (p : Program) (s : Core) : Type 0 where
-  pub free : slice_index s.words free_word ≤ words_of p + most_size * instructions_of s.threads
-  pub tickets : slice_index s.words ticket_word ≤ instructions_of s.threads
-  pub records : slice_index s.words record_word + flat_of s.threads ≤ taken_of s.threads
+  pub free : slice_index s.words NEXT_FREE_WORD ≤ words_of p + most_size * instructions_of s.threads
+  pub tickets : slice_index s.words NEXT_TICKET_WORD ≤ instructions_of s.threads
+  pub records : slice_index s.words NEXT_RECORD_WORD + flat_of s.threads ≤ taken_of s.threads

@@ -6,7 +6,8 @@ use Rattle.machine_types.specs.LockWords.{lock_of, is_lock_word}
 use Rattle.machine_types.specs.declared.lock.LockWord.{LockWord}
 use Rattle.machine_types.specs.declared.lock.LockWord.TheVariants as locks
 use Rattle.machine_types.specs.PlainMemory.{Object}
-use Rattle.machine_types.specs.Words.{most_records, owner_word, bits_word}
+use Rattle.machine_types.specs.Words.{owner_word, bits_word}
+use Rattle.jvm_types.specs.declared.fixed_words.TheConstants.{MONITOR_RECORDS}
 
 -- a free lock has no count above the last one
 abbrev pub CountsTo : (range : ℕ) → LockWord → Type 0
@@ -30,5 +31,5 @@ LocksFit range objects words = (o : Object) → Contains objects o → IsLock ra
 
 -- the owner of each record is 0 or a thread's number and 1, and only threads wait
 pub record RecordsFit (words : List ℕ) : Type 0 where
-  pub owners : (r : ℕ) → r < most_records → slice_index words (owner_word r) ≤ MOST_WORKERS + 1
-  pub bits : (r : ℕ) → r < most_records → slice_index words (bits_word r) < 2 ^ (MOST_WORKERS + 1)
+  pub owners : (r : ℕ) → r < MONITOR_RECORDS → slice_index words (owner_word r) ≤ MOST_WORKERS + 1
+  pub bits : (r : ℕ) → r < MONITOR_RECORDS → slice_index words (bits_word r) < 2 ^ (MOST_WORKERS + 1)

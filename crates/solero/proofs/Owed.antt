@@ -10,7 +10,8 @@ use Rattle.checked_program.specs.MarkedProgram.{MarkedProgram}
 use Rattle.class_runner.specs.Loading.{IsLoaded, IsRefusedBy}
 use Rattle.class_runner.specs.Refusal.{refusal_text}
 use Rattle.solero.specs.Command.{Asked}
-use Rattle.solero.specs.Answer.{IsDue, IsMade, Refuses, longest_file, first_long}
+use Rattle.solero.specs.Answer.{IsDue, IsMade, Refuses, first_long}
+use Rattle.jvm_types.specs.declared.limits.TheConstants.{MOST_FILE_BYTES}
 use Rattle.solero.specs.Reading.{IsUnread}
 use Rattle.solero.specs.Parts.{IsLine, IsMadeBy, IsRun, IsUnreadDue}
 use Rattle.outside.specs.declared.shelf.NamedFile.{NamedFile}
@@ -36,10 +37,10 @@ refused_run asked contents rule place due short refused line = absurd line
 -- ---- a file that was not read
 
 -- the line of a file that is too long refuses contents of which it is the first
-long_refused : (asked : Asked) (contents : List (List ℕ)) (file : ℕ) (text : List ℕ) → first_long 0 contents ≡ Some file → text ≡ refusal_text (rules.C C10) (in_file file longest_file) → Refuses asked contents text
+long_refused : (asked : Asked) (contents : List (List ℕ)) (file : ℕ) (text : List ℕ) → first_long 0 contents ≡ Some file → text ≡ refusal_text (rules.C C10) (in_file file MOST_FILE_BYTES) → Refuses asked contents text
 long_refused asked contents file text long line = record {
   rule = rules.C C10;
-  place = in_file file longest_file;
+  place = in_file file MOST_FILE_BYTES;
   refused = rw long (refl, refl);
   is_line = line;
 }

@@ -5,7 +5,8 @@ use Rattle.std.proofs.lemmas.List.{length-map, length-append, length-replicate, 
 use Rattle.std.specs.Prelude.{IfSome, Err}
 use Rattle.std.specs.List.{AllByRecursion}
 use Rattle.outside.specs.Shelf.{IsRead, content_of}
-use Rattle.solero.specs.Answer.{longest_file, first_long, contents_of}
+use Rattle.solero.specs.Answer.{first_long, contents_of}
+use Rattle.jvm_types.specs.declared.limits.TheConstants.{MOST_FILE_BYTES}
 use Rattle.solero.specs.Reading.{IsLong, IsUnread}
 use Rattle.outside.specs.declared.shelf.NamedFile.{NamedFile}
 use Rattle.outside.specs.declared.shelf.ShelfError.{ShelfError}
@@ -16,23 +17,23 @@ pub record SoFar (files : Option (List NamedFile)) (all left : List (List ℕ)) 
   pub calm : after ≡ before
   pub many : length contents ≡ file
   pub rest : file + length left ≡ length all
-  pub short : AllByRecursion (λ content. length content ≤ longest_file) contents
+  pub short : AllByRecursion (λ content. length content ≤ MOST_FILE_BYTES) contents
   pub are : IfSome files (λ fs. contents ++ contents_of fs left ≡ contents_of fs all)
 
 -- ---- the first that is too long
 
 -- contents that are not too long are passed over
-pass_short : (file end : ℕ) (front back : List (List ℕ)) → file + length front ≡ end → AllByRecursion (λ content. length content ≤ longest_file) front → first_long file (front ++ back) ≡ first_long end back
+pass_short : (file end : ℕ) (front back : List (List ℕ)) → file + length front ≡ end → AllByRecursion (λ content. length content ≤ MOST_FILE_BYTES) front → first_long file (front ++ back) ≡ first_long end back
 pass_short file end [] back counted short = ap (λ n. first_long n back) (omega arith)
-pass_short file end (content ∷ front) back counted short = rw (le-ltb longest_file (length content) short.0) (pass_short (file + 1) end front back (omega arith) short.1)
+pass_short file end (content ∷ front) back counted short = rw (le-ltb MOST_FILE_BYTES (length content) short.0) (pass_short (file + 1) end front back (omega arith) short.1)
 
-pub none_long : (file : ℕ) (contents : List (List ℕ)) → AllByRecursion (λ content. length content ≤ longest_file) contents → first_long file contents ≡ None
+pub none_long : (file : ℕ) (contents : List (List ℕ)) → AllByRecursion (λ content. length content ≤ MOST_FILE_BYTES) contents → first_long file contents ≡ None
 none_long file [] short = refl
-none_long file (content ∷ contents) short = rw (le-ltb longest_file (length content) short.0) (none_long (file + 1) contents short.1)
+none_long file (content ∷ contents) short = rw (le-ltb MOST_FILE_BYTES (length content) short.0) (none_long (file + 1) contents short.1)
 
 -- the next of some contents is too long, and none before it
-long_next : (file : ℕ) (front rest : List (List ℕ)) (content : List ℕ) → length front ≡ file → AllByRecursion (λ content. length content ≤ longest_file) front → longest_file < length content → first_long 0 (front ++ content ∷ rest) ≡ Some file
-long_next file front rest content many short long = pass_short 0 file front (content ∷ rest) (omega (arith, many)) short ∙ rw (lt-ltb longest_file (length content) long) refl
+long_next : (file : ℕ) (front rest : List (List ℕ)) (content : List ℕ) → length front ≡ file → AllByRecursion (λ content. length content ≤ MOST_FILE_BYTES) front → MOST_FILE_BYTES < length content → first_long 0 (front ++ content ∷ rest) ≡ Some file
+long_next file front rest content many short long = pass_short 0 file front (content ∷ rest) (omega (arith, many)) short ∙ rw (lt-ltb MOST_FILE_BYTES (length content) long) refl
 
 -- a content that is longer than a number
 longer : (n : ℕ) → (content : List ℕ) × (n < length content)
@@ -41,9 +42,9 @@ longer n = (replicate (n + 1) 0, rw (length-replicate {A = ℕ} (n + 1) 0) (omeg
 -- ---- the next file
 
 -- the next file is too long
-next_long : (files : Option (List NamedFile)) (all left : List (List ℕ)) (name : List ℕ) (before mid file : ℕ) (contents : List (List ℕ)) → SoFar files all (name ∷ left) before mid file contents → IfSome files (λ fs. longest_file < length (content_of fs name)) → IsLong files all file
+next_long : (files : Option (List NamedFile)) (all left : List (List ℕ)) (name : List ℕ) (before mid file : ℕ) (contents : List (List ℕ)) → SoFar files all (name ∷ left) before mid file contents → IfSome files (λ fs. MOST_FILE_BYTES < length (content_of fs name)) → IsLong files all file
 next_long None all left name before mid file contents read long =
-    let content = longer longest_file in
+    let content = longer MOST_FILE_BYTES in
     let empty : List ℕ = [] in
     let rest : List (List ℕ) = map (λ _. empty) left in
     record {
@@ -65,7 +66,7 @@ none_before None all left before mid file contents read = tt
 none_before (Some fs) all left before mid file contents read = ap (λ xs. first_long 0 (take file xs)) (sym read.are) ∙ ap (first_long 0) (take_at contents (contents_of fs left) file read.many) ∙ none_long 0 contents read.short
 
 -- the next file is the first that is not read
-pub next_unread : (files : Option (List NamedFile)) (all left : List (List ℕ)) (name : List ℕ) (before mid after file : ℕ) (contents : List (List ℕ)) (error : ShelfError) → SoFar files all (name ∷ left) before mid file contents → IsRead files name longest_file mid after (Err error) → IsUnread files all before after file error
+pub next_unread : (files : Option (List NamedFile)) (all left : List (List ℕ)) (name : List ℕ) (before mid after file : ℕ) (contents : List (List ℕ)) (error : ShelfError) → SoFar files all (name ∷ left) before mid file contents → IsRead files name MOST_FILE_BYTES mid after (Err error) → IsUnread files all before after file error
 next_unread files all left name before mid after file contents TooLong read answer = (answer.0 ∙ read.calm, next_long files all left name before mid file contents read answer.1)
 next_unread files all left name before mid after file contents Failed read answer = (rw (← read.calm) answer, omega (arith, read.rest), none_before files all (name ∷ left) before mid file contents read)
 next_unread files all left name before mid after file contents Memory read answer = omega (arith, read.calm, answer)

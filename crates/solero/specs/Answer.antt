@@ -48,13 +48,10 @@ text_of OutOfMemory = line (codes "out of memory")
 -- ---- files
 
 -- a file that is longer is refused
-abbrev pub longest_file : ℕ
-longest_file = MOST_FILE_BYTES
-
 -- the first of some files that is too long, counted from a number on
 abbrev pub first_long : ℕ → List (List ℕ) → Option ℕ
 first_long file [] = None
-first_long file (content ∷ contents) = if nat_lt longest_file (length content) then Some file else first_long (file + 1) contents
+first_long file (content ∷ contents) = if nat_lt MOST_FILE_BYTES (length content) then Some file else first_long (file + 1) contents
 
 -- ---- what is due to the contents of the files
 
@@ -86,7 +83,7 @@ IsMade mode asked contents due = ⊥
 -- A rule and a place refuse the files. A file that is too long is refused when it is read from the shelf, before any is read as a
 -- class.
 abbrev pub IsRefusal : Option ℕ → Asked → List (List ℕ) → Rule → Place → Type 0
-IsRefusal (Some file) asked contents rule place = (rule ≡ rules.C C10) × (place ≡ in_file file longest_file)
+IsRefusal (Some file) asked contents rule place = (rule ≡ rules.C C10) × (place ≡ in_file file MOST_FILE_BYTES)
 IsRefusal None asked contents rule place = IsRefusedBy contents asked.heap asked.threads rule place
 
 -- the text is the line of a rule and a place that refuse the files
@@ -107,7 +104,7 @@ pub record IsMadeOf (files : Option (List NamedFile)) (asked : Asked) (due : Due
   pub contents : List (List ℕ)
   pub are : IfSome files (λ fs. contents ≡ contents_of fs asked.files)
   pub many : length contents ≡ length asked.files
-  pub short : AllByRecursion (λ content. length content ≤ longest_file) contents
+  pub short : AllByRecursion (λ content. length content ≤ MOST_FILE_BYTES) contents
   pub made : IsMade asked.mode asked contents due
 
 -- the line of a refusal of the files that are asked for; where the shelf does not tell its files, of some of which there are as many

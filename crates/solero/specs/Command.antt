@@ -8,7 +8,7 @@ use Rattle.clap.specs.Walk.{Row, Text, all_of, first_of, is_empty}
 use Rattle.clap.specs.Simple.{App, matches_of, new_app, new_rule, with_rule}
 use Rattle.clap.specs.Faults.{fault_of}
 use Rattle.clap.specs.declared.builder.action.ArgAction.TheVariants.{Append}
-use Rattle.jvm_types.specs.declared.limits.TheConstants.{MOST_FILES}
+use Rattle.jvm_types.specs.declared.limits.TheConstants.{LEAST_HEAP, MOST_FILES, MOST_HEAP, MOST_LIMIT, MOST_PRINTS, MOST_WORKERS}
 use Rattle.machine_types.specs.declared.config.Config.{Config}
 use Rattle.solero.specs.declared.request.Mode.{Mode}
 use Rattle.solero.specs.declared.request.Mode.TheVariants.{Replay, Mark}
@@ -106,19 +106,19 @@ gives_any rows names = list_any (λ name. is_some (first_of name rows)) names
 -- the settings of a run
 unfoldable pub settings : List Row → Option Config
 settings rows = do
-  steps ← number_or 10000000 1 4294967295 (first_of (codes "steps") rows)
-  turns ← number_or 4294967295 1 4294967295 (first_of (codes "turns") rows)
-  prints ← number_or 65536 1 1048576 (first_of (codes "prints") rows)
+  steps ← number_or 10000000 1 MOST_LIMIT (first_of (codes "steps") rows)
+  turns ← number_or MOST_LIMIT 1 MOST_LIMIT (first_of (codes "turns") rows)
+  prints ← number_or 65536 1 MOST_PRINTS (first_of (codes "prints") rows)
   elide ← on_or_off (first_of (codes "elide") rows)
-  range ← number_or 4294967295 1 4294967295 (first_of (codes "range") rows)
+  range ← number_or MOST_LIMIT 1 MOST_LIMIT (first_of (codes "range") rows)
   Some (record { steps = steps; turns = turns; prints = prints; elide = elide; range = range })
 
 unfoldable pub asked : List Row → Option Asked
 asked rows = do
   mode ← mode_or_replay (first_of (codes "mode") rows)
   files ← some_files (all_of (codes "FILE") rows)
-  threads ← number_or 0 0 8 (first_of (codes "threads") rows)
-  heap ← number_or 65536 4096 1048576 (first_of (codes "heap") rows)
+  threads ← number_or 0 0 MOST_WORKERS (first_of (codes "threads") rows)
+  heap ← number_or 65536 LEAST_HEAP MOST_HEAP (first_of (codes "heap") rows)
   cfg ← settings rows
   order ← order_or_none (first_of (codes "order") rows)
   if gives_any rows (not_read mode) then None else Some (record { mode = mode; files = files; threads = threads; heap = heap; cfg = cfg; order = order })

@@ -9,7 +9,8 @@ use Rattle.class_runner.specs.Report.{line}
 use Rattle.class_runner.specs.Refusal.{refusal_text}
 use Rattle.class_runner.specs.MarksText.{marks_text}
 use Rattle.solero.specs.Command.{Asked}
-use Rattle.solero.specs.Answer.{longest_file, IsMade, Refuses, ReportsRun}
+use Rattle.solero.specs.Answer.{IsMade, Refuses, ReportsRun}
+use Rattle.jvm_types.specs.declared.limits.TheConstants.{MOST_FILE_BYTES}
 use Rattle.outside.specs.declared.shelf.ShelfError.{ShelfError}
 use Rattle.outside.specs.declared.shelf.ShelfError.TheVariants.{Failed, TooLong}
 use Rattle.solero.specs.declared.request.Mode.{Mode}
@@ -28,7 +29,7 @@ unread_line file = line (codes "cannot read file " ++ decimal file)
 
 -- what is due where the file of this number is not read
 abbrev pub IsUnreadDue : ℕ → ShelfError → Due → Type 0
-IsUnreadDue file TooLong due = IsLine (refusal_text (rules.C C10) (in_file file longest_file)) due
+IsUnreadDue file TooLong due = IsLine (refusal_text (rules.C C10) (in_file file MOST_FILE_BYTES)) due
 IsUnreadDue file Failed (CannotRead text) = text ≡ unread_line file
 IsUnreadDue file error OutOfMemory = Unit {0}
 IsUnreadDue file error due = ⊥

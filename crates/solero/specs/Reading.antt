@@ -3,7 +3,8 @@ use Rattle.std.specs.Prelude.{◌≡◌, ℕ, ◌<◌, ◌≤◌, List, [], ◌�
 use Rattle.std.specs.List.{AllByRecursion}
 use Rattle.outside.specs.Faults.{CountsFault}
 use Rattle.outside.specs.Shelf.{IsRead}
-use Rattle.solero.specs.Answer.{longest_file, first_long, contents_of}
+use Rattle.solero.specs.Answer.{first_long, contents_of}
+use Rattle.jvm_types.specs.declared.limits.TheConstants.{MOST_FILE_BYTES}
 use Rattle.outside.specs.declared.shelf.NamedFile.{NamedFile}
 use Rattle.outside.specs.declared.shelf.ShelfError.{ShelfError}
 use Rattle.outside.specs.declared.shelf.ShelfError.TheVariants.{Memory, Failed, TooLong}
@@ -13,7 +14,7 @@ use Rattle.outside.specs.declared.shelf.ShelfError.TheVariants.{Memory, Failed, 
 pub record AreRead (files : Option (List NamedFile)) (names : List (List ℕ)) (before after : ℕ) (contents : List (List ℕ)) : Type 0 where
   pub calm : after ≡ before
   pub many : length contents ≡ length names
-  pub short : AllByRecursion (λ content. length content ≤ longest_file) contents
+  pub short : AllByRecursion (λ content. length content ≤ MOST_FILE_BYTES) contents
   pub are : IfSome files (λ fs. contents ≡ contents_of fs names)
 
 -- The file of this number is the first that is too long of some contents: those of the files of these names or, where the shelf
@@ -32,5 +33,5 @@ IsUnread files names before after file Memory = before ≤ after
 
 -- one more file is read: its content stands behind the contents so far
 abbrev pub IsNextRead : {A : Type 0} → Option (List NamedFile) → (name : List ℕ) → (before after : ℕ) → (contents more : List (List ℕ)) → Result A ShelfError → Type 0
-IsNextRead files name before after contents more (Ok done) = (content : List ℕ) × (more ≡ contents ++ content ∷ []) × IsRead files name longest_file before after (Ok content)
-IsNextRead files name before after contents more (Err e) = IsRead files name longest_file before after (Err e)
+IsNextRead files name before after contents more (Ok done) = (content : List ℕ) × (more ≡ contents ++ content ∷ []) × IsRead files name MOST_FILE_BYTES before after (Ok content)
+IsNextRead files name before after contents more (Err e) = IsRead files name MOST_FILE_BYTES before after (Err e)

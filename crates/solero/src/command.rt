@@ -11,12 +11,9 @@ use crate::request::{Mode, Request};
 use crate::values::{Numbers, mode_or_replay, number_or, on_or_off, order_or_none};
 use clap::error::ErrorKind;
 use clap::{Arg, ArgAction, ArgMatches, Command};
-use jvm_types::limits::{LEAST_HEAP, MOST_FILES, MOST_HEAP, MOST_WORKERS};
+use jvm_types::limits::{LEAST_HEAP, MOST_FILES, MOST_HEAP, MOST_LIMIT, MOST_PRINTS, MOST_WORKERS};
 use machine_types::Config;
 use std::alloc::{AllocError, Global};
-
-/// The most prints of a thread that an option may allow.
-const MOST_PRINTS: u32 = 1_048_576;
 
 const THREADS: Numbers = Numbers {
     unless: 0,
@@ -33,13 +30,13 @@ const HEAP: Numbers = Numbers {
 const STEPS: Numbers = Numbers {
     unless: 10_000_000,
     least: 1,
-    most: u32::MAX,
+    most: MOST_LIMIT,
 };
 
 const TURNS: Numbers = Numbers {
-    unless: u32::MAX,
+    unless: MOST_LIMIT,
     least: 1,
-    most: u32::MAX,
+    most: MOST_LIMIT,
 };
 
 const PRINTS: Numbers = Numbers {
@@ -49,9 +46,9 @@ const PRINTS: Numbers = Numbers {
 };
 
 const RANGE: Numbers = Numbers {
-    unless: u32::MAX,
+    unless: MOST_LIMIT,
     least: 1,
-    most: u32::MAX,
+    most: MOST_LIMIT,
 };
 
 /// The options that are read of a run alone.

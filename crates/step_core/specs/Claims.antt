@@ -1,5 +1,6 @@
 -- What the entry and the exit of a monitor, and a check, need of a thread, so that no number passes what it is kept in.
 use Rattle.std.specs.Prelude.{◌≡◌, ℕ, ◌<◌, ◌^◌, true, length, IfSome}
+use Rattle.jvm_types.specs.declared.limits.TheConstants.{MOST_LIMIT}
 use Rattle.checked_program.specs.MarkedProgram.{MarkedProgram}
 use Rattle.machine_types.specs.HeldMonitors.{held_at}
 use Rattle.machine_types.specs.LockWords.{is_lock_word}
@@ -19,9 +20,9 @@ pub record CanEnter (s : Thread) (m got : ℕ) : Type 0 where
 pub record CanFail (s : Thread) : Type 0 where
   pub noted : IfSome s.attempt (λ a. a.noted < 2 ^ 62)
   pub based : IfSome s.attempt (IsBased s.frames)
-  pub count : IfSome s.attempt (λ a. s.counts.failed < 4294967295)
+  pub count : IfSome s.attempt (λ a. s.counts.failed < MOST_LIMIT)
 
 pub record CanLeave (c : MarkedProgram) (s : Thread) (a : After) : Type 0 where
   pub onward : CanGoOn c s a
   pub fails : CanFail s
-  pub count : IfSome s.attempt (λ a. s.counts.elided < 4294967295)
+  pub count : IfSome s.attempt (λ a. s.counts.elided < MOST_LIMIT)

@@ -27,7 +27,8 @@ use Rattle.machine_types.specs.Onward.{Running, after, dispatched}
 use Rattle.machine_types.specs.Structure.{TopIs, is_element_op, AfterShows}
 use Rattle.machine_types.specs.Threads.{Frame, Attempt, Thread}
 use Rattle.machine_types.specs.Typed.{Classes, FramesHold, FramesThrown, IsException, AfterHolds, TowardHolds, AttemptHolds, PhaseHolds, IsObject, with_object}
-use Rattle.machine_types.specs.Words.{header_class, most_records}
+use Rattle.machine_types.specs.Words.{header_class}
+use Rattle.jvm_types.specs.declared.fixed_words.TheConstants.{MONITOR_RECORDS}
 use Rattle.machine_types.specs.declared.lock.Held.{Held}
 use Rattle.machine_types.specs.declared.lock.Kept.{Kept}
 use Rattle.machine_types.specs.declared.lock.Kept.TheVariants as keeps
@@ -282,7 +283,7 @@ module _ (c : MarkedProgram) (marked : IsMarked c) (is : Classes) (has : HasObje
       by_test true = takes_typed c marked is s m h.0 h.1 rests (keeps.Fat r)
       by_test false = turn_typed c is s (phases.TakeFat m r) h tt h.1 rests
   moved_typed (phases.Leave m a) got start h shows finds new = leaves_typed c marked is s m a h shows stays rests based (claim s m) got refl new
-  moved_typed (phases.Grow m toward) got start h shows finds new = by_test (nat_lt got most_records)
+  moved_typed (phases.Grow m toward) got start h shows finds new = by_test (nat_lt got MONITOR_RECORDS)
     where
       by_test : (b : Bool) → TypedBy c is (if b then with_phase s (phases.Own m got toward) else grows_not s m toward)
       by_test true = phase_typed c is s (phases.Own m got toward) h tt rests

@@ -3,7 +3,7 @@ use Rattle.std.proofs.lemmas.List.{drop_more}
 use Rattle.std.specs.Prelude.{string_bytes}
 use Rattle.solero.specs.Command.{texts}
 use Rattle.outside.specs.Shelf.{IsRead}
-use Rattle.solero.specs.Answer.{longest_file}
+use Rattle.jvm_types.specs.declared.limits.TheConstants.{MOST_FILE_BYTES}
 use Rattle.solero.proofs.SoFar.{next_unread}
 use Rattle.solero.proofs.reading.read_files.Goals as goal
 
@@ -15,5 +15,5 @@ returns-in-Err-clause-err g c =
     let named = ap string_bytes (sym c.index-names-file.is) ∙ sym c.as_str.ensures.value in
     let next : texts (drop file names) ≡ c.as_str.result.now ∷ left = ap texts (drop_more names file c.index-names-file.result c.loop-file-test.true) ∙ ap (λ n. n ∷ left) named in
     let read = c.loop-file.invariant.read in
-    let answer = subst (λ files. IsRead files c.as_str.result.now longest_file (g.S.Shelf.faults c.loop-file.shelf) (g.S.Shelf.faults c.read_next.new.shelf) (Err c.in-Err.error)) c.loop-file.invariant.files c.in-Err.ensures.answer in
+    let answer = subst (λ files. IsRead files c.as_str.result.now MOST_FILE_BYTES (g.S.Shelf.faults c.loop-file.shelf) (g.S.Shelf.faults c.read_next.new.shelf) (Err c.in-Err.error)) c.loop-file.invariant.files c.in-Err.ensures.answer in
     next_unread _ (texts names) left c.as_str.result.now _ _ _ file _ _ (rw next at read) answer
