@@ -11,3 +11,9 @@ pub mod PlainMoves
 pub mod LockPhases
 pub mod OwnerPhases
 pub mod EventOwners
+pub mod WaitingBits
+pub mod CalmMoves
+pub mod WaitingStep
+pub mod PartWaiting
+pub mod StillBits
+pub mod EventWaiting

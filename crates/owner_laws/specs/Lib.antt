@@ -1,1 +1,2 @@
 pub mod OwnersLaws
+pub mod WaitingLaws

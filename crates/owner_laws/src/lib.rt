@@ -3,4 +3,6 @@
 
 pub mod state_laws;
 
-pub use state_laws::{events_keep_owners, next_keeps_owners};
+pub use state_laws::{
+    events_keep_owners, events_keep_waiting, next_keeps_owners, next_keeps_waiting,
+};

@@ -1,6 +1,7 @@
-//! Owners of locks.
+//! Owners of locks, and who waits.
 
 ghost use Rattle.owner_laws.specs.OwnersLaws.{EventsKeepOwners, NextKeepsOwners};
+ghost use Rattle.owner_laws.specs.WaitingLaws.{EventsKeepWaiting, NextKeepsWaiting};
 
 use heap_laws::{events_reach_sites, sites_differ, sites_lie_inside};
 use limit_laws::given_is_kept;
@@ -20,4 +21,19 @@ pub fn events_keep_owners()
 /// Where a part of the run begins, each thread holds what it held.
 pub fn next_keeps_owners()
     ensures { NextKeepsOwners }
+{}
+
+/// Whatever an event does, a thread's bit is set in the waiting bits of a record only while it gives that record's monitor up
+/// or looks whether it was notified: a thread sets its own bit alone, and one that clears bits owns the record.
+pub fn events_keep_waiting()
+    ensures { EventsKeepWaiting }
+{
+    sites_differ();
+    sites_lie_inside();
+    events_reach_sites();
+}
+
+/// Where a part of the run begins, nobody waits who did not.
+pub fn next_keeps_waiting()
+    ensures { NextKeepsWaiting }
 {}

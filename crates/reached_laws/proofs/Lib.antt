@@ -1,0 +1,9 @@
+mod RootMoves
+mod DoneRoot
+mod PartsEvents
+mod PartsBegin
+mod NoAttempts
+mod StartThreads
+mod PartLawful
+mod NextThreads
+mod States

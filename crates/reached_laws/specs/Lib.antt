@@ -1,0 +1,4 @@
+pub mod PartsStand
+pub mod StateFacts
+pub mod StateLaws
+pub mod PartsLaws
