@@ -1,0 +1,14 @@
+pub mod Assembled
+pub mod AssembledObjects
+pub mod GoingOnAlike
+pub mod HoldingsAlike
+pub mod OwnBits
+pub mod OwnThread
+pub mod PlainObjects
+pub mod PlainPlaces
+pub mod PlainValues
+pub mod PlainWrites
+pub mod WaitBits
+pub mod WaitersHaveBits
+pub mod EventSteps
+pub mod TopPlaces

@@ -1,0 +1,2 @@
+pub mod StandsBeside
+pub mod StepsBeside

@@ -1,0 +1,3 @@
+mod HeldToLeave
+mod PrintWords
+mod FrameEffects
