@@ -1,0 +1,4 @@
+mod StageFits
+mod EventsKeep
+mod TurnsKeep
+mod ScheduleEnds
