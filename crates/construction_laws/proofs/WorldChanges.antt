@@ -1,0 +1,262 @@
+-- What the changes of a world leave.
+use Rattle.std.proofs.Common.{◌≡◌, ◌≢◌, ℕ, ◌≤◌, ◌<◌, ◌⊎◌, inl, inr, Bool, true, false, ◌&&◌, Option, Some, None, refl, sym, ap, ◌∙◌, subst, arith}
+use Rattle.std.specs.Prelude.{◌==◌, if◌then◌else◌}
+use Rattle.std.proofs.lemmas.Bool.Decides.{nat_tests}
+use Rattle.machine_types.specs.Worlds.{Item, Header, Made, Begun, Lost, Builder, builder, World, IsFinished, IsWorld, finished, same_item, same_builder, lost_if, with_builder, GoesOn}
+
+pub same_to : (x b : ℕ) → x ≡ b → (x == b) ≡ true
+same_to x b e = grind (arith, nat_tests)
+
+pub other_to : (x b : ℕ) → x ≢ b → (x == b) ≡ false
+other_to x b e = grind (arith, nat_tests)
+
+pub same_from : (x b : ℕ) → (x == b) ≡ true → x ≡ b
+same_from x b e = grind (arith, nat_tests)
+
+pub other_from : (x b : ℕ) → (x == b) ≡ false → x ≢ b
+other_from x b e = grind (arith, nat_tests)
+
+item_same : (x y : Item) → same_item x y ≡ true → x ≡ y
+item_same Header Header e = refl
+item_same (Made q) (Made r) e = ap (λ (n : ℕ). Made n) (same_from q r e)
+item_same Begun Begun e = refl
+item_same Lost Lost e = refl
+item_same x y e = absurd (cc)
+
+item_self : (x : Item) → same_item x x ≡ true
+item_self Header = refl
+item_self (Made q) = same_to q q refl
+item_self Begun = refl
+item_self Lost = refl
+
+pub builder_same : (j k : Builder) → same_builder j k ≡ true → j ≡ k
+builder_same j k e = by_tests (j.thread == k.thread) (j.height == k.height) (same_item j.item k.item) refl refl refl e
+  where
+    by_tests : (a b c : Bool) → (j.thread == k.thread) ≡ a → (j.height == k.height) ≡ b → same_item j.item k.item ≡ c → (a && b && c) ≡ true → j ≡ k
+    by_tests true true true x y z e = rw (← same_from j.thread k.thread x, ← same_from j.height k.height y, ← item_same j.item k.item z) refl
+    by_tests true true false x y z e = absurd (cc)
+    by_tests true false c x y z e = absurd (cc)
+    by_tests false b c x y z e = absurd (cc)
+
+pub builder_self : (k : Builder) → same_builder k k ≡ true
+builder_self k = rw (same_to k.thread k.thread refl, same_to k.height k.height refl, item_self k.item) refl
+
+builder_other : (j k : Builder) → j ≢ k → same_builder j k ≡ false
+builder_other j k n = by_test (same_builder j k) refl
+  where
+    by_test : (b : Bool) → same_builder j k ≡ b → same_builder j k ≡ false
+    by_test true e = absurd (n (builder_same j k e))
+    by_test false e = e
+
+pub none_some : {A : Type 0} (o : Option A) (k : A) → o ≡ None → o ≡ Some k → ⊥
+none_some o k e f = cc
+
+pub item_is : (o : Option Builder) (t h t' h' : ℕ) (x y : Item) → o ≡ Some (builder t h x) → o ≡ Some (builder t' h' y) → (h ≡ h') × (x ≡ y)
+item_is o t h t' h' x y e f = let same : builder t h x ≡ builder t' h' y = cc in (ap (λ (k : Builder). k.height) same, ap (λ (k : Builder). k.item) same)
+
+abbrev pub lost : Builder → Builder
+lost b = record b { item = Lost }
+
+-- ---- an object gets a builder
+
+pub given_here : (w : World) (a : ℕ) (k : Builder) → with_builder w a k a ≡ Some k
+given_here w a k = rw (same_to a a refl) refl
+
+pub given_there : (w : World) (a : ℕ) (k : Builder) (v : ℕ) → v ≢ a → with_builder w a k v ≡ lost_if k (w v)
+given_there w a k v n = rw (other_to v a n) refl
+
+pub given_keeps : (w : World) (a : ℕ) (k : Builder) (v : ℕ) (j : Builder) → w v ≡ Some j → v ≢ a → j ≢ k → with_builder w a k v ≡ Some j
+given_keeps w a k v j e n m = given_there w a k v n ∙ ap (lost_if k) e ∙ rw (builder_other k j (λ z. m (sym z))) refl
+
+pub given_none : (w : World) (a : ℕ) (k : Builder) (v : ℕ) → w v ≡ None → v ≢ a → with_builder w a k v ≡ None
+given_none w a k v e n = given_there w a k v n ∙ ap (lost_if k) e
+
+pub given_gone : (w : World) (a : ℕ) (k : Builder) (v : ℕ) → w v ≡ Some k → v ≢ a → with_builder w a k v ≡ Some (lost k)
+given_gone w a k v e n = given_there w a k v n ∙ ap (lost_if k) e ∙ rw (builder_self k) refl
+
+lost_back : (k j : Builder) (o : Option Builder) → lost_if k o ≡ Some j → ((o ≡ Some j) × (j ≢ k)) ⊎ ((o ≡ Some k) × (j ≡ lost k))
+lost_back k j None e = absurd (cc)
+lost_back k j (Some i) e = by_test (same_builder k i) refl e
+  where
+    by_test : (b : Bool) → same_builder k i ≡ b → (if b then Some (lost i) else Some i) ≡ Some j → ((Some i ≡ Some j) × (j ≢ k)) ⊎ ((Some i ≡ Some k) × (j ≡ lost k))
+    by_test true t e = let same : i ≡ k = sym (builder_same k i t) in let is : lost i ≡ j = cc in inr (ap (λ (x : Builder). Some x) same, sym is ∙ ap lost same)
+    by_test false t e = inl (e, λ same. (let is : i ≡ j = cc in let bad : same_builder k i ≡ true = rw (is, same) (builder_self k) in cc))
+
+-- the object itself; one that has its builder on; one that had this builder, and is lost
+abbrev pub GivenBack : World → (a : ℕ) → Builder → (v : ℕ) → Builder → Type 0
+GivenBack w a k v j = ((v ≡ a) × (j ≡ k)) ⊎ ((v ≢ a) × (w v ≡ Some j) × (j ≢ k)) ⊎ ((v ≢ a) × (w v ≡ Some k) × (j ≡ lost k))
+
+pub given_back : (w : World) (a : ℕ) (k : Builder) (v : ℕ) (j : Builder) → with_builder w a k v ≡ Some j → GivenBack w a k v j
+given_back w a k v j = by_test (v == a) refl
+  where
+    by_test : (b : Bool) → (v == a) ≡ b → (if b then Some k else lost_if k (w v)) ≡ Some j → GivenBack w a k v j
+    by_test true t e = inl (same_from v a t, cc)
+    by_test false t e = elim (lost_back k j (w v) e) [ inl x ↦ inr (inl (other_from v a t, x.0, x.1)) | inr x ↦ inr (inr (other_from v a t, x.0, x.1)) ]
+
+lost_none : (k : Builder) (o : Option Builder) → lost_if k o ≡ None → o ≡ None
+lost_none k None e = refl
+lost_none k (Some i) e = by_test (same_builder k i) e
+  where
+    by_test : (b : Bool) → (if b then Some (lost i) else Some i) ≡ None → Some i ≡ None
+    by_test true e = absurd (cc)
+    by_test false e = absurd (cc)
+
+pub given_none_back : (w : World) (a : ℕ) (k : Builder) (v : ℕ) → with_builder w a k v ≡ None → (v ≢ a) × (w v ≡ None)
+given_none_back w a k v = by_test (v == a) refl
+  where
+    by_test : (b : Bool) → (v == a) ≡ b → (if b then Some k else lost_if k (w v)) ≡ None → (v ≢ a) × (w v ≡ None)
+    by_test true t e = absurd (cc)
+    by_test false t e = (other_from v a t, lost_none k (w v) e)
+
+-- each builder stands once, whatever stood before
+one_given : (w : World) (a : ℕ) (k : Builder) → ((v u : ℕ) (b : Builder) → b.item ≢ Lost → w v ≡ Some b → w u ≡ Some b → v ≡ u)
+    → (v u : ℕ) (b : Builder) → b.item ≢ Lost → with_builder w a k v ≡ Some b → with_builder w a k u ≡ Some b → v ≡ u
+one_given w a k one v u j n e f = both (given_back w a k v j e) (given_back w a k u j f)
+  where
+    not_lost : j ≡ lost k → ⊥
+    not_lost z = n (ap (λ (i : Builder). i.item) z)
+
+    both : GivenBack w a k v j → GivenBack w a k u j → v ≡ u
+    both (inl x) (inl y) = x.0 ∙ sym y.0
+    both (inl x) (inr (inl y)) = absurd (y.2 x.1)
+    both (inr (inl x)) (inl y) = absurd (x.2 y.1)
+    both (inr (inl x)) (inr (inl y)) = one v u j n x.1 y.1
+    both (inr (inr x)) y = absurd (not_lost x.2)
+    both x (inr (inr y)) = absurd (not_lost y.2)
+
+pub world_given : (w : World) (first next more a : ℕ) (k : Builder) → IsWorld w first next → next ≤ more → first ≤ a → a < more → IsWorld (with_builder w a k) first more
+world_given w first next more a k is grows above below = record {
+  one = one_given w a k is.one;
+  inside = λ v b e. inside v b (given_back w a k v b e);
+  room = (let r = is.room in omega (arith, r, grows));
+}
+  where
+    was : (v : ℕ) (b : Builder) → w v ≡ Some b → (first ≤ v) × (v < more)
+    was v b e = let i = is.inside v b e in (i.0, (let u = i.1 in omega (arith, u, grows)))
+
+    inside : (v : ℕ) (b : Builder) → GivenBack w a k v b → (first ≤ v) × (v < more)
+    inside v b (inl x) = let s = x.0 in (omega (arith, s, above), omega (arith, s, below))
+    inside v b (inr (inl x)) = was v b x.1
+    inside v b (inr (inr x)) = was v k x.1
+
+-- t gives a builder of its own to an object that it builds, or that is new
+pub goes_given : (w : World) (next more t a : ℕ) (k : Builder) → next ≤ more → k.thread ≡ t → (IsFinished w next a → ⊥) → ((j : Builder) → w a ≡ Some j → j.thread ≡ t) → GoesOn w (with_builder w a k) next more t 0
+goes_given w next more t a k grows mine new was = record {
+  grows = grows;
+  finished = λ v o. given_none w a k v o.1 (λ e. new (subst (IsFinished w next) e o));
+  others = λ v j n e. given_keeps w a k v j e (λ s. n (was j (subst (λ (x : ℕ). w x ≡ Some j) s e))) (λ s. n (ap (λ (i : Builder). i.thread) s ∙ mine));
+  no_more = λ v j n e. mine_only v j n (given_back w a k v j e);
+  lower = λ v j m l e. absurd (omega (arith, l));
+}
+  where
+    mine_only : (v : ℕ) (j : Builder) → j.thread ≢ t → GivenBack w a k v j → w v ≡ Some j
+    mine_only v j n (inl x) = absurd (n (ap (λ (i : Builder). i.thread) x.1 ∙ mine))
+    mine_only v j n (inr (inl x)) = x.1
+    mine_only v j n (inr (inr x)) = absurd (n (ap (λ (i : Builder). i.thread) x.2 ∙ mine))
+
+-- ---- an object is finished
+
+pub finished_here : (w : World) (a : ℕ) → finished w a a ≡ None
+finished_here w a = rw (same_to a a refl) refl
+
+pub finished_there : (w : World) (a v : ℕ) → v ≢ a → finished w a v ≡ w v
+finished_there w a v n = rw (other_to v a n) refl
+
+pub finished_back : (w : World) (a v : ℕ) (j : Builder) → finished w a v ≡ Some j → w v ≡ Some j
+finished_back w a v j = by_test (v == a)
+  where
+    by_test : (b : Bool) → (if b then None else w v) ≡ Some j → w v ≡ Some j
+    by_test true e = absurd (cc)
+    by_test false e = e
+
+pub finished_none : (w : World) (a v : ℕ) → w v ≡ None → finished w a v ≡ None
+finished_none w a v n = by_test (v == a)
+  where
+    by_test : (b : Bool) → (if b then None else w v) ≡ None
+    by_test true = refl
+    by_test false = n
+
+pub world_finished : (w : World) (first next more a : ℕ) → IsWorld w first next → next ≤ more → IsWorld (finished w a) first more
+world_finished w first next more a is grows = record {
+  one = λ v u j n e f. is.one v u j n (finished_back w a v j e) (finished_back w a u j f);
+  inside = λ v j e. let i = is.inside v j (finished_back w a v j e) in (i.0, (let u = i.1 in omega (arith, u, grows)));
+  room = (let r = is.room in omega (arith, r, grows));
+}
+
+-- t finishes an object that it builds
+pub goes_finished : (w : World) (next more t a : ℕ) → next ≤ more → ((j : Builder) → w a ≡ Some j → j.thread ≡ t) → GoesOn w (finished w a) next more t 0
+goes_finished w next more t a grows was = record {
+  grows = grows;
+  finished = λ v o. finished_none w a v o.1;
+  others = λ v j n e. finished_there w a v (λ s. n (was j (subst (λ (x : ℕ). w x ≡ Some j) s e))) ∙ e;
+  no_more = λ v j n e. finished_back w a v j e;
+  lower = λ v j m l e. absurd (omega (arith, l));
+}
+
+-- ---- nothing changes
+
+pub goes_same : (w : World) (next more t : ℕ) → next ≤ more → GoesOn w w next more t 0
+goes_same w next more t grows = record { grows = grows; finished = λ v o. o.1; others = λ v j n e. e; no_more = λ v j n e. e; lower = λ v j m l e. e }
+
+pub world_same : (w : World) (first next more : ℕ) → IsWorld w first next → next ≤ more → IsWorld w first more
+world_same w first next more is grows = record {
+  one = is.one;
+  inside = λ v j e. let i = is.inside v j e in (i.0, (let u = i.1 in omega (arith, u, grows)));
+  room = (let r = is.room in omega (arith, r, grows));
+}
+
+-- ---- one change behind another
+
+pub goes_both : (w v u : World) (next more most t : ℕ) → GoesOn w v next more t 0 → GoesOn v u more most t 0 → GoesOn w u next most t 0
+goes_both w v u next more most t a b = record {
+  grows = (let x = a.grows in let y = b.grows in omega (arith, x, y));
+  finished = λ o f. b.finished o ((let l = f.0 in let x = a.grows in omega (arith, l, x)), a.finished o f);
+  others = λ o j n e. b.others o j n (a.others o j n e);
+  no_more = λ o j n e. a.no_more o j n (b.no_more o j n e);
+  lower = λ o j m l e. absurd (omega (arith, l));
+}
+
+-- ---- what has a builder is finished
+
+abbrev pub drop_if : Builder → Option Builder → Option Builder
+drop_if b None = None
+drop_if b (Some d) = if same_builder b d then None else Some d
+
+abbrev pub without : World → Builder → World
+without w b v = drop_if b (w v)
+
+pub without_gone : (w : World) (b : Builder) (v : ℕ) → w v ≡ Some b → without w b v ≡ None
+without_gone w b v e = ap (drop_if b) e ∙ rw (builder_self b) refl
+
+pub without_keeps : (w : World) (b : Builder) (v : ℕ) (j : Builder) → w v ≡ Some j → j ≢ b → without w b v ≡ Some j
+without_keeps w b v j e n = ap (drop_if b) e ∙ rw (builder_other b j (λ z. n (sym z))) refl
+
+pub without_none : (w : World) (b : Builder) (v : ℕ) → w v ≡ None → without w b v ≡ None
+without_none w b v e = ap (drop_if b) e
+
+pub without_back : (w : World) (b : Builder) (v : ℕ) (j : Builder) → without w b v ≡ Some j → w v ≡ Some j
+without_back w b v j = by_was (w v)
+  where
+    by_was : (o : Option Builder) → drop_if b o ≡ Some j → o ≡ Some j
+    by_was None e = e
+    by_was (Some d) e = by_test (same_builder b d) e
+      where
+        by_test : (x : Bool) → (if x then None else Some d) ≡ Some j → Some d ≡ Some j
+        by_test true e = absurd (cc)
+        by_test false e = e
+
+pub world_without : (w : World) (first next : ℕ) (b : Builder) → IsWorld w first next → IsWorld (without w b) first next
+world_without w first next b is = record {
+  one = λ v u j n e f. is.one v u j n (without_back w b v j e) (without_back w b u j f);
+  inside = λ v j e. is.inside v j (without_back w b v j e);
+  room = is.room;
+}
+
+pub goes_without : (w : World) (next t : ℕ) (b : Builder) → b.thread ≡ t → GoesOn w (without w b) next next t 0
+goes_without w next t b mine = record {
+  grows = omega arith;
+  finished = λ v o. without_none w b v o.1;
+  others = λ v j n e. without_keeps w b v j e (λ s. n (ap (λ (i : Builder). i.thread) s ∙ mine));
+  no_more = λ v j n e. without_back w b v j e;
+  lower = λ v j m l e. absurd (omega (arith, l));
+}

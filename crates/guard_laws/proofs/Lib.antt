@@ -1,0 +1,4 @@
+pub mod WrittenFields
+pub mod FieldWriters
+pub mod ShownMonitors
+pub mod GuardsKept

@@ -1,0 +1,64 @@
+-- An instruction that writes an instance field is a `putfield`, on the object below the value on its stack.
+use Rattle.std.proofs.Common.{◌≡◌, ◌⊎◌, inl, inr, ℕ, Bool, true, false, List, [], ◌∷◌, Option, Some, None, refl, sym, ap, ◌∙◌}
+use Rattle.std.specs.Prelude.{slice_get, slice_index, ◌==◌, if◌then◌else◌}
+use Rattle.jvm_types.specs.Members.{Site}
+use Rattle.jvm_types.specs.ProgramInvariant.{IsTargetOf}
+use Rattle.jvm_types.specs.declared.code.Op.{Op}
+use Rattle.jvm_types.specs.declared.code.Op.TheVariants as ops
+use Rattle.jvm_types.specs.declared.outcome.Thrown.TheVariants as thrown
+use Rattle.jvm_types.specs.declared.program.FieldInfo.{FieldInfo}
+use Rattle.jvm_types.specs.declared.program.Program.{Program}
+use Rattle.jvm_types.specs.declared.program.Target.TheVariants as targets
+use Rattle.machine_types.specs.Effects.{variable_of, kept, gets_static, puts_static, gets, puts, effect}
+use Rattle.machine_types.specs.declared.effect.Effect.TheVariants.{Reads, Throws, Writes}
+use Rattle.machine_types.specs.declared.effect.Variable.{Variable}
+
+-- it writes the variable on the object that stands below the value
+pub record Puts (op : Op) (f : FieldInfo) (stack : List ℕ) (v : Variable) : Type 0 where
+  pub index : ℕ
+  pub is : op ≡ ops.Putfield index
+  pub variable : v ≡ variable_of f (slice_index stack 1)
+
+same_variable : (v u : Variable) (a b : ℕ) → Writes v a ≡ Writes u b → u ≡ v
+same_variable v u a b e = cc
+
+no_static_read : (f : Option FieldInfo) (v : Variable) (word : ℕ) → gets_static f ≡ Writes v word → ⊥
+no_static_read None v word e = cc
+no_static_read (Some f) v word e = cc
+
+no_read : (f : Option FieldInfo) (stack : List ℕ) (v : Variable) (word : ℕ) → gets f stack ≡ Writes v word → ⊥
+no_read None stack v word e = cc
+no_read (Some f) [] v word e = cc
+no_read (Some f) (a ∷ stack) v word e = by_test (a == 0) e
+  where
+    by_test : (b : Bool) → (if b then Throws thrown.NullPointerException else Reads (variable_of f a)) ≡ Writes v word → ⊥
+    by_test true e = cc
+    by_test false e = cc
+
+puts_static_of : (f : FieldInfo) (stack : List ℕ) (v : Variable) (word : ℕ) → puts_static (Some f) stack ≡ Writes v word → v ≡ variable_of f 0
+puts_static_of f [] v word e = absurd (cc)
+puts_static_of f (n ∷ stack) v word e = same_variable (variable_of f 0) v (kept f.kind n) word e
+
+puts_of : (i : ℕ) (f : FieldInfo) (stack : List ℕ) (v : Variable) (word : ℕ) → puts (Some f) stack ≡ Writes v word → Puts (ops.Putfield i) f stack v
+puts_of i f [] v word e = absurd (cc)
+puts_of i f (n ∷ []) v word e = absurd (cc)
+puts_of i f (n ∷ a ∷ stack) v word e = by_test (a == 0) e
+  where
+    by_test : (b : Bool) → (if b then Throws thrown.NullPointerException else Writes (variable_of f a) (kept f.kind n)) ≡ Writes v word → Puts (ops.Putfield i) f (n ∷ a ∷ stack) v
+    by_test true e = absurd (cc)
+    by_test false e = record { index = i; is = refl; variable = same_variable (variable_of f a) v (kept f.kind n) word e }
+
+-- an instruction that names the field, and writes a variable
+module _ (p : Program) (site : Site) (number next : ℕ) (f : FieldInfo) (v : Variable) (word : ℕ) (there : slice_get p.fields number ≡ Some f) where
+  pub field_put : (op : Op) (locals stack : List ℕ) → IsTargetOf p site op (targets.Field number) → effect p next (targets.Field number) op locals stack ≡ Writes v word → (v ≡ variable_of f 0) ⊎ Puts op f stack v
+  field_put (ops.Ldc i) locals stack h e = absurd h
+  field_put (ops.LdcW i) locals stack h e = absurd h
+  field_put (ops.Getstatic i) locals stack h e = absurd (no_static_read (slice_get p.fields number) v word e)
+  field_put (ops.Putstatic i) locals stack h e = inl (puts_static_of f stack v word (ap (λ (o : Option FieldInfo). puts_static o stack) (sym there) ∙ e))
+  field_put (ops.Getfield i) locals stack h e = absurd (no_read (slice_get p.fields number) stack v word e)
+  field_put (ops.Putfield i) locals stack h e = inr (puts_of i f stack v word (ap (λ (o : Option FieldInfo). puts o stack) (sym there) ∙ e))
+  field_put (ops.Invokevirtual i) locals stack h e = absurd h
+  field_put (ops.Invokespecial i) locals stack h e = absurd h
+  field_put (ops.Invokestatic i) locals stack h e = absurd h
+  field_put (ops.New i) locals stack h e = absurd h
+  field_put op locals stack h e = absurd (cc)
