@@ -1,0 +1,7 @@
+mod Outside
+mod GoingOn
+mod ReadPlaces
+mod StayPlaces
+mod Instructions
+mod Phases
+mod Growth

@@ -1,0 +1,5 @@
+pub mod Inside
+pub mod InsideWords
+pub mod InsideMoves
+pub mod InsideBeside
+pub mod InsideTallies

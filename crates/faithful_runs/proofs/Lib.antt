@@ -1,0 +1,4 @@
+pub mod Pasts
+pub mod NextUntried
+pub mod EventMoves
+pub mod FaithfulRuns

@@ -1,0 +1,7 @@
+mod CountedActs
+mod PlayedDue
+mod WholeSections
+mod StayingPlaces
+mod DoneSections
+mod PartsUnderWay
+mod FinishedSections
