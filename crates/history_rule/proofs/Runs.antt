@@ -1,0 +1,27 @@
+-- Runs, step by step.
+use Rattle.std.proofs.Common.{◌≡◌, ℕ, zero, suc, ◌+◌, ◌<◌, List, [], ◌∷◌, ◌++◌, length, take, drop, get_or, Option, Some, None, refl, sym, ap, ◌∙◌, arith, add-one}
+use Rattle.std.specs.Option.{option_and_then}
+use Rattle.jvm_types.specs.declared.program.Program.{Program}
+use Rattle.machine_types.specs.PlainState.{Plain}
+use Rattle.machine_types.specs.PlainSteps.{plain_run, plain_step}
+use Rattle.machine_types.specs.declared.plain.PlainStep.{PlainStep}
+
+-- one step more of a run that was made
+pub run_more : (p : Program) (steps : List PlainStep) (i : ℕ) (d : PlainStep) (q r after : Plain) → i < length steps → plain_run p q (take i steps) ≡ Some r → plain_step p r (get_or steps i d) ≡ Some after
+    → plain_run p q (take (suc i) steps) ≡ Some after
+run_more p [] i d q r after l made step = absurd (omega (arith, l))
+run_more p (x ∷ xs) zero d q r after l made step =
+    let same : q ≡ r = cc in
+    ap (λ (s : Plain). option_and_then (λ u. plain_run p u []) (plain_step p s x)) same ∙ ap (option_and_then (λ u. plain_run p u [])) step
+run_more p (x ∷ xs) (suc i) d q r after l made step = by_first (plain_step p q x) made (λ u e. run_more p xs i d u r after (omega (arith, l)) e step)
+  where
+    by_first : (o : Option Plain) → option_and_then (λ u. plain_run p u (take i xs)) o ≡ Some r → ((u : Plain) → plain_run p u (take i xs) ≡ Some r → plain_run p u (take (suc i) xs) ≡ Some after) → option_and_then (λ u. plain_run p u (take (suc i) xs)) o ≡ Some after
+    by_first None e more = absurd (cc)
+    by_first (Some u) e more = more u e
+
+-- what is left of a run, at the next step
+pub run_rest : (p : Program) (steps : List PlainStep) (i : ℕ) (d : PlainStep) (r : Plain) (o : Option Plain) → i < length steps → plain_step p r (get_or steps i d) ≡ o
+    → plain_run p r (drop i steps) ≡ option_and_then (λ u. plain_run p u (drop (suc i) steps)) o
+run_rest p [] i d r o l step = absurd (omega (arith, l))
+run_rest p (x ∷ xs) zero d r o l step = ap (option_and_then (λ u. plain_run p u xs)) step
+run_rest p (x ∷ xs) (suc i) d r o l step = run_rest p xs i d r o (omega (arith, l)) step

@@ -1,0 +1,35 @@
+-- Objects and static fields at the start.
+use Rattle.std.proofs.Common.{◌≡◌, ℕ, suc, ◌+◌, ◌-◌, ◌<◌, List, [], ◌∷◌, ◌++◌, length, ap, ◌∙◌, append_assoc, arith}
+use Rattle.std.specs.List.{range_with_len}
+use Rattle.jvm_types.specs.declared.class_numbers.TheConstants.{CLASS_ITSELF}
+use Rattle.jvm_types.specs.declared.fixed_words.TheConstants.{OBJECT_HEAD_WORDS}
+use Rattle.jvm_types.specs.declared.outcome.Thrown.{Thrown}
+use Rattle.jvm_types.specs.declared.program.FieldInfo.{FieldInfo}
+use Rattle.machine_types.specs.Ints.{word_of}
+use Rattle.machine_types.specs.PlainMemory.{Object, StaticValue, class_objects}
+use Rattle.machine_types.specs.ReadyObjects.{class_of, ready}
+use Rattle.machine_types.specs.StartWords.{statics_of}
+
+abbrev pub ready_object : Thrown → Object
+ready_object x = record { reference = ready x; class = class_of x; values = [] }
+
+abbrev pub start_static : FieldInfo → StaticValue
+start_static f = record { word = f.index; value = word_of f.start }
+
+abbrev pub itself : (reference : ℕ) → Object
+itself reference = record { reference = reference; class = CLASS_ITSELF; values = [] }
+
+range_step : (first i count : ℕ) → i < count → range_with_len (first + i) (count - i) ≡ (first + i) ∷ range_with_len (first + (i + 1)) (count - (i + 1))
+range_step first i count l =
+    let more : count - i ≡ suc (count - (i + 1)) = omega (arith, l) in
+    let next : (first + i) + 1 ≡ first + (i + 1) = omega arith in
+    ap (range_with_len (first + i)) more ∙ ap (λ (k : ℕ). (first + i) ∷ range_with_len k (count - (i + 1))) next
+
+-- one class more
+pub classes_step : (fields : List FieldInfo) (before : List Object) (reference first i count : ℕ) → i < count
+    → (before ++ itself reference ∷ []) ++ class_objects fields (reference + (OBJECT_HEAD_WORDS + length (statics_of fields (first + i)))) (range_with_len (first + (i + 1)) (count - (i + 1)))
+    ≡ before ++ class_objects fields reference (range_with_len (first + i) (count - i))
+classes_step fields before reference first i count l =
+    let n = length (statics_of fields (first + i)) in
+    let next : reference + (OBJECT_HEAD_WORDS + n) ≡ reference + OBJECT_HEAD_WORDS + n = omega arith in
+    rw (range_step first i count l, next) (append_assoc before (itself reference ∷ []) _)

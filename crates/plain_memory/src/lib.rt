@@ -1,0 +1,10 @@
+//! The memory of the plain machine, which has objects and static fields in place of words (JVMS 2.5.3, 2.7).
+#![tactic(auto)]
+
+mod memory;
+mod object;
+mod places;
+mod start;
+
+pub use memory::Memory;
+pub use places::{header_place, value_place, variable_place};

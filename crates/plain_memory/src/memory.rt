@@ -1,0 +1,202 @@
+//! All objects and all static fields.
+
+ghost use Rattle.std.specs.Prelude.{◌≡◌, ◌==◌, ◌+◌, ◌++◌, ◌∷◌, [], ◌-◌, nat_le, position, true, false, IfOk, OnOk, OnErr, OnSome, MatchOption};
+ghost use Rattle.std.specs.Option.{option_or};
+ghost use Rattle.jvm_types.specs.ProgramInvariant.{IsProgram};
+ghost use Rattle.plain_memory.specs.Memories.{start_memory};
+ghost use Rattle.machine_types.specs.PlainMemory.{has_value, new_object, object_value, object_write, static_value, static_write};
+
+use crate::object::Object;
+use crate::start::{start_objects, start_statics, words_of};
+use heap_words::header_class;
+use jvm_types::Program;
+use jvm_types::fixed_words::OBJECT_HEAD_WORDS;
+use std::alloc::{AllocError, Global};
+use std::marker::Model;
+
+/// A static field, by its word.
+#[derive(Debug, Drop)]
+pub struct StaticValue {
+    pub word: u32,
+    pub value: u64,
+}
+
+impl Model for StaticValue {
+    ghost use Rattle.machine_types.specs.PlainMemory.{StaticValue as Plain};
+
+    ghost Value = { Plain };
+
+    ghost view = { λ s. record { word = s.word; value = s.value } };
+}
+
+impl StaticValue {
+    pub fn of(word: u32, value: u64) -> StaticValue
+        ensures { result ≡ record { word = word; value = value } }
+    {
+        StaticValue { word, value }
+    }
+
+    fn write(&mut self, value: u64)
+        ensures { self.new ≡ record self.old { value = value } }
+    {
+        self.value = value;
+    }
+}
+
+/// What stands at a place, by the first object that has it.
+fn object_value(objects: &[Object], place: u128) -> Option<u64>
+    ensures { result ≡ object_value objects.now place }
+{
+    for o in objects {
+        let value = o.value_in(place);
+        if value.is_some() {
+            return value;
+        }
+    }
+    None
+}
+
+/// The number of the first object that has a value at a place.
+fn object_at(objects: &[Object], place: u128) -> Option<usize>
+    ensures { result ≡ position (λ o. has_value o place) objects.now }
+{
+    objects.iter().position(|o| o.has_value(place))
+}
+
+/// What a static field holds.
+fn static_value(statics: &[StaticValue], place: u128) -> Option<u64>
+    ensures { result ≡ static_value statics.now place }
+{
+    for s in statics {
+        if s.word as u128 == place {
+            return Some(s.value);
+        }
+    }
+    None
+}
+
+/// The number of the static field at a place.
+fn static_at(statics: &[StaticValue], place: u128) -> Option<usize>
+    ensures { result ≡ position (λ s. s.word == place) statics.now }
+{
+    statics.iter().position(|s| s.word as u128 == place)
+}
+
+/// Puts a value at a place of the first object that has it.
+#[tactic(auto, using(crate::proofs::FirstOnes::object_found, crate::proofs::FirstOnes::object_has))]
+fn write_object(objects: &mut Vec<Object>, place: u128, value: u64)
+    ensures { objects.new.items ≡ object_write objects.old.items place value }
+{
+    match object_at(objects.as_slice(), place) {
+        Some(i) => objects[i].write(place, value),
+        None => (),
+    }
+}
+
+/// Puts a value into the static field at a place.
+#[tactic(auto, using(crate::proofs::FirstOnes::static_found))]
+fn write_static(statics: &mut Vec<StaticValue>, place: u128, value: u64)
+    ensures { statics.new.items ≡ static_write statics.old.items place value }
+{
+    match static_at(statics.as_slice(), place) {
+        Some(i) => statics[i].write(value),
+        None => (),
+    }
+}
+
+/// The memory: its objects, its static fields, and the number for the next reference.
+///
+/// A call that answers an error has changed nothing.
+#[derive(Debug, Drop)]
+pub struct Memory {
+    objects: Vec<Object>,
+    statics: Vec<StaticValue>,
+    next: u64,
+}
+
+impl Model for Memory {
+    ghost use Rattle.plain_memory.specs.Memories.{Memory as Whole};
+
+    ghost Value = { Whole };
+
+    ghost view = { λ m. record { objects = m.objects.items; statics = m.statics.items; next = m.next } };
+}
+
+impl Memory {
+    /// The memory at the start: the ready objects and the classes themselves, and each static field with its first value.
+    pub fn start(alloc: Global, p: &Program) -> Result<Memory, AllocError>
+        requires { IsProgram p.now }
+        ensures { IfOk result (λ m. m ≡ start_memory p.now) }
+    {
+        Ok(Memory {
+            objects: start_objects(alloc, p)?,
+            statics: start_statics(alloc, p.fields.as_slice())?,
+            next: words_of(p) as u64,
+        })
+    }
+
+    /// What stands at a place: a header, the value of a field or of an element, or `None` where nothing stands.
+    pub fn value_at(&self, place: u128) -> Option<u64>
+        ensures { result ≡ option_or (object_value self.now.objects place) (static_value self.now.statics place) }
+    {
+        let value = object_value(self.objects.as_slice(), place);
+        if value.is_some() {
+            return value;
+        }
+        static_value(self.statics.as_slice(), place)
+    }
+
+    /// Puts a value at a place; nothing changes where nothing stands there.
+    pub fn write(&mut self, place: u128, value: u64)
+        ensures { self.new ≡ record self.old { objects = object_write self.old.objects place value; statics = static_write self.old.statics place value } }
+    {
+        write_object(&mut self.objects, place, value);
+        write_static(&mut self.statics, place, value);
+    }
+
+    /// The number for the next reference.
+    pub fn next(&self) -> u64
+        ensures { result ≡ self.now.next }
+    {
+        self.next
+    }
+
+    /// The number for the next reference behind an object of so many words; an error where it is more than a `u64` counts.
+    pub fn next_behind(&self, size: u64) -> Result<u64, AllocError>
+        ensures { IfOk result (λ next. next ≡ self.now.next + size) }
+    {
+        match self.next.checked_add(size) {
+            Some(next) => Ok(next),
+            None => Err(AllocError),
+        }
+    }
+
+    /// The number for the next reference becomes this one.
+    pub fn pass(&mut self, next: u64)
+        ensures { self.new ≡ record self.old { next = next } }
+    {
+        self.next = next;
+    }
+
+    /// Adds a new object of the class that a header names, whose words end at `next`.
+    pub fn add(
+        &mut self,
+        alloc: Global,
+        header: u64,
+        size: u32,
+        next: u64,
+    ) -> Result<(), AllocError>
+        ensures ok { OnOk result (self.new ≡ record self.old { objects = self.old.objects ++ new_object self.old.next header size ∷ []; next = next }) }
+        ensures err { OnErr result (self.new ≡ self.old) }
+    {
+        let object = Object::zeroed(
+            alloc,
+            self.next,
+            header_class(header),
+            size.saturating_sub(OBJECT_HEAD_WORDS),
+        )?;
+        self.objects.push(object)?;
+        self.next = next;
+        Ok(())
+    }
+}

@@ -1,0 +1,3 @@
+mod RootLaws
+mod HoldingLaws
+pub mod ThreadLists

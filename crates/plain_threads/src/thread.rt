@@ -1,0 +1,256 @@
+//! One thread.
+
+ghost use Rattle.std.specs.Prelude.{◌≡◌, [], ◌∷◌, ◌++◌, drop, slice_set, slice_get, IfOk, OnOk, OnErr};
+ghost use Rattle.machine_types.specs.PlainState.{Run, Throw, first_thread, goes_on, over, ready_thread, root_over, start_thread};
+ghost use Rattle.machine_types.specs.PlainSteps.{waits_on, wakes};
+ghost use Rattle.plain_frames.specs.Changes.{changed, onward_of, root_begun};
+ghost use Rattle.plain_threads.specs.Statuses.{status_of};
+
+use crate::roots::{init_roots, run_roots};
+use crate::status::Status;
+use checked_program::Checked;
+use jvm_types::{End, Rows, Stack, Thrown};
+use plain_frames::{Change, Frame, Onward};
+use std::alloc::{AllocError, Global};
+use std::marker::Model;
+
+/// A thread of the plain machine. A call that answers an error has changed nothing.
+#[derive(Debug, Drop)]
+pub struct Thread {
+    frames: Stack<Frame>,
+    status: Status,
+    roots: Stack<u32>,
+    ended: Rows<End>,
+}
+
+impl Model for Thread {
+    ghost use Rattle.machine_types.specs.PlainState.{PlainThread};
+    ghost use Rattle.plain_threads.specs.Statuses.{status_of};
+
+    ghost Value = { PlainThread };
+
+    ghost view = { λ x. record { frames = x.frames; status = status_of x.status; roots = x.roots; ended = x.ended } };
+}
+
+impl Thread {
+    /// A thread whose part has not begun.
+    fn ready(alloc: Global, roots: Stack<u32>) -> Thread
+        ensures { result ≡ ready_thread roots }
+    {
+        Thread {
+            frames: Stack::new(alloc),
+            status: Status::Ready,
+            roots,
+            ended: Rows::new(alloc),
+        }
+    }
+
+    /// A thread whose part has returned, since it has no root.
+    fn returned(alloc: Global) -> Result<Thread, AllocError>
+        ensures { IfOk result (λ x. x ≡ first_thread []) }
+    {
+        let mut ended = Rows::new(alloc);
+        ended.push(End::Returned)?;
+        Ok(Thread {
+            frames: Stack::new(alloc),
+            status: Status::Ended(End::Returned),
+            roots: Stack::new(alloc),
+            ended,
+        })
+    }
+
+    /// Thread 0 at the start.
+    fn first(alloc: Global, p: &Checked) -> Result<Thread, AllocError>
+        ensures { IfOk result (λ x. x ≡ start_thread p.now.program 0) }
+    {
+        let roots = init_roots(alloc, p)?;
+        if roots.len() == 0 {
+            Thread::returned(alloc)
+        } else {
+            Ok(Thread::ready(alloc, roots))
+        }
+    }
+
+    /// A thread at the start.
+    pub fn start(alloc: Global, p: &Checked, t: u8) -> Result<Thread, AllocError>
+        ensures { IfOk result (λ x. x ≡ start_thread p.now.program t) }
+    {
+        if t == 0 {
+            Thread::first(alloc, p)
+        } else {
+            Ok(Thread::ready(alloc, run_roots(alloc, p)?))
+        }
+    }
+
+    pub fn status(&self) -> Status
+        ensures { status_of result ≡ self.now.status }
+    {
+        self.status
+    }
+
+    pub fn frames(&self) -> &Stack<Frame>
+        ensures { result.now ≡ self.now.frames }
+    {
+        &self.frames
+    }
+
+    /// The ends of its parts so far.
+    pub fn ended(&self) -> &[End]
+        ensures { result.now ≡ self.now.ended }
+    {
+        self.ended.as_slice()
+    }
+
+    /// The methods that its part has still to run.
+    pub fn roots(&self) -> &Stack<u32>
+        ensures { result.now ≡ self.now.roots }
+    {
+        &self.roots
+    }
+
+    pub fn set_status(&mut self, status: Status)
+        ensures { self.new ≡ record self.old { status = status_of status } }
+    {
+        self.status = status;
+    }
+
+    /// Another frame takes the place of the top one, and the thread is about something else.
+    pub fn goes_to(&mut self, f: Frame, status: Status)
+        ensures { self.new ≡ record self.old { frames = slice_set self.old.frames 0 f; status = status_of status } }
+    {
+        if self.frames.len() > 0 {
+            self.frames.set(0, f);
+        }
+        self.status = status;
+    }
+
+    /// A frame and one on top of it take the place of the top one.
+    fn call(&mut self, caller: Frame, f: Frame) -> Result<(), AllocError>
+        ensures ok { OnOk result (self.new ≡ record self.old { frames = f ∷ slice_set self.old.frames 0 caller }) }
+        ensures err { OnErr result (self.new ≡ self.old) }
+    {
+        let height = self.frames.len();
+        self.frames.push(f)?;
+        if height > 0 {
+            self.frames.set(1, caller);
+        }
+        Ok(())
+    }
+
+    /// Changes the frames.
+    fn change(&mut self, change: Change) -> Result<(), AllocError>
+        ensures ok { OnOk result (self.new ≡ record self.old { frames = changed change self.old.frames }) }
+        ensures err { OnErr result (self.new ≡ self.old) }
+    {
+        match change {
+            Change::Same => (),
+            Change::Top(f) => {
+                if self.frames.len() > 0 {
+                    self.frames.set(0, f);
+                }
+            }
+            Change::Call(caller, f) => self.call(caller, f)?,
+            Change::Below => self.frames.drop_top(1),
+            Change::Back(f) => {
+                self.frames.drop_top(1);
+                if self.frames.len() > 0 {
+                    self.frames.set(0, f);
+                }
+            }
+        }
+        Ok(())
+    }
+
+    /// Its part has ended.
+    fn over(&mut self, alloc: Global, end: End) -> Result<(), AllocError>
+        ensures ok { OnOk result (self.new ≡ over self.old end) }
+        ensures err { OnErr result (self.new ≡ self.old) }
+    {
+        self.ended.push(end)?;
+        self.frames = Stack::new(alloc);
+        self.status = Status::Ended(end);
+        Ok(())
+    }
+
+    /// Its root has returned.
+    fn root_over(&mut self, alloc: Global) -> Result<(), AllocError>
+        ensures ok { OnOk result (self.new ≡ root_over self.old self.old.roots) }
+        ensures err { OnErr result (self.new ≡ self.old) }
+    {
+        if self.roots.len() == 0 {
+            self.over(alloc, End::Returned)?;
+        } else {
+            self.frames = Stack::new(alloc);
+            self.status = Status::Ready;
+        }
+        Ok(())
+    }
+
+    /// Changes the frames and the status.
+    fn turn(&mut self, change: Change, status: Status) -> Result<(), AllocError>
+        ensures ok { OnOk result (self.new ≡ record self.old { frames = changed change self.old.frames; status = status_of status }) }
+        ensures err { OnErr result (self.new ≡ self.old) }
+    {
+        self.change(change)?;
+        self.status = status;
+        Ok(())
+    }
+
+    /// The thread goes on.
+    pub fn go_on(&mut self, alloc: Global, onward: Onward) -> Result<(), AllocError>
+        ensures ok { OnOk result (self.new ≡ goes_on self.old (onward_of self.old.frames onward)) }
+        ensures err { OnErr result (self.new ≡ self.old) }
+    {
+        match onward {
+            Onward::Running(change) => self.turn(change, Status::Run),
+            Onward::Throwing(x, class, change) => self.turn(change, Status::Throw(x, class)),
+            Onward::Entering(m, change) => self.turn(change, Status::Enter(m)),
+            Onward::Leaving(m, then, change) => self.turn(change, Status::Leave(m, then)),
+            Onward::RootReturned => self.root_over(alloc),
+            Onward::Uncaught(class) => self.over(alloc, End::Uncaught(class)),
+        }
+    }
+
+    /// A root begins in its frame, where that has room; others are left to run.
+    pub fn begin(
+        &mut self,
+        alloc: Global,
+        entry: Option<Frame>,
+        roots: Stack<u32>,
+    ) -> Result<(), AllocError>
+        ensures ok { OnOk result (self.new ≡ goes_on (record self.old { roots = roots }) (root_begun entry)) }
+        ensures err { OnErr result (self.new ≡ self.old) }
+    {
+        match entry {
+            Some(f) => {
+                let mut frames = Stack::new(alloc);
+                frames.push(f)?;
+                self.frames = frames;
+                self.status = Status::Run;
+            }
+            None => self.over(alloc, End::Uncaught(Thrown::StackOverflowError))?,
+        }
+        self.roots = roots;
+        Ok(())
+    }
+
+    /// Whether it is in the wait set of a monitor.
+    pub fn waits_on(&self, m: u64) -> bool
+        ensures { result ≡ waits_on m self.now.status }
+    {
+        match self.status {
+            Status::Waiting(n, _) => n == m,
+            _ => false,
+        }
+    }
+
+    /// It is woken, where it is in the wait set of the monitor.
+    pub fn wake(&mut self, m: u64)
+        ensures { self.new ≡ wakes m self.old }
+    {
+        match self.status {
+            Status::Waiting(n, depth) if n == m => self.status = Status::Woken(n, depth),
+            _ => (),
+        }
+    }
+}
