@@ -77,7 +77,7 @@ pub fn go_on(s: &mut ThreadState, p: &Checked, place: &Place, made: u64)
 
 /// A thread that runs goes on to its next instruction, unless it has made as many as it may.
 #[inline(always)]
-fn keep_running(s: &mut ThreadState)
+pub fn keep_running(s: &mut ThreadState)
     requires { s.old.phase ≡ Run }
     ensures { s.new ≡ runs s.old }
 {

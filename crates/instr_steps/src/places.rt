@@ -57,6 +57,18 @@ impl<'a> Place<'a> {
         self.insn
     }
 
+    /// A copy for calls that are not inlined, so that this one needs no place in memory.
+    #[inline(always)]
+    pub fn again(&self) -> Place<'a>
+        ensures { result ≡ self.now }
+    {
+        Place {
+            method: self.method,
+            insn: self.insn,
+            number: self.number,
+        }
+    }
+
     #[inline(always)]
     pub fn target(&self) -> Target
         ensures { result ≡ self.now.target }

@@ -19,7 +19,7 @@ ghost use Rattle.instr_steps.specs.Outcomes.{did_in};
 
 use crate::did::{Did, did_in};
 use crate::effecting::{effect_here, instruct};
-use crate::moves::run_to;
+use crate::moves::{keep_running, move_to};
 use crate::objects::has_print_left;
 use crate::places::{Place, place_of};
 use checked_program::Checked;
@@ -50,7 +50,8 @@ fn want_of(s: &ThreadState, effect: Effect) -> Option<Access>
     wants(s.pc(), effect, tried_monitor(s), has_print_left(s))
 }
 
-/// An instruction that only goes on, outside an attempt, where it wants no access.
+/// An instruction that only goes on, outside an attempt, where it wants no access. Its count comes last, so that nothing is
+/// written between the looks at the instruction.
 #[inline(always)]
 fn go_alone(s: &mut ThreadState, p: &Checked, place: &Place, to: u32, made: u64)
     requires phase { s.old.phase ≡ Run }
@@ -63,8 +64,9 @@ fn go_alone(s: &mut ThreadState, p: &Checked, place: &Place, to: u32, made: u64)
     ensures state { s.new ≡ instructed p.now.program (begun s.old) (at_place s.old.frames place.now) (Goes to made) 0 }
 {
     let _most = s.config().steps;
+    move_to(s, p, place, to, made);
     count_instruction(s);
-    run_to(s, p, place, to, made);
+    keep_running(s);
 }
 
 /// Where the thread makes its next instruction.
@@ -151,7 +153,7 @@ pub fn run_with(s: &mut ThreadState, p: &Checked, words: &mut Rows<u64>)
         Some(access) => perform(words, access),
         None => 0,
     };
-    instruct(s, p, &place, effect, got);
+    instruct(s, p, &place.again(), effect, got);
 }
 
 /// The next instruction, which wants no access.

@@ -6,3 +6,4 @@ mod NextRuns
 mod Turns
 mod MachineEvents
 mod ManyEvents
+mod LoneWorker

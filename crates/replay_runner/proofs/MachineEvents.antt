@@ -1,5 +1,5 @@
 -- An event of a machine that runs.
-use Rattle.std.proofs.Common.{◌≡◌, ◌<◌, ℕ, true, List, Option, Some, None, refl, sym, ap, subst, ◌∙◌, length}
+use Rattle.std.proofs.Common.{◌≡◌, ◌<◌, ℕ, true, List, Option, Some, None, refl, sym, ap, ◌∙◌, length}
 use Rattle.std.specs.Prelude.{slice_get, slice_set, slice_index_or}
 use Rattle.std.proofs.lemmas.Option.{get_or_from_slice_get, slice_get_within}
 use Rattle.machine_types.specs.Accesses.{found_by, words_after}
@@ -7,9 +7,7 @@ use Rattle.machine_types.specs.Core.{Core, event, event_of, lives, is_live_threa
 use Rattle.machine_types.specs.Events.{moved, wanted}
 use Rattle.machine_types.specs.Threads.{Thread}
 use Rattle.checked_program.specs.MarkedProgram.{MarkedProgram}
-use Rattle.machine_types.specs.Lawful.{IsLawful}
-use Rattle.record_laws.specs.RunFacts.{AccessFits}
-use Rattle.record_laws.specs.RunLaws.{EventsKeepFacts, EventsKeepThreads, ReachedFits}
+use Rattle.record_laws.specs.RunLaws.{EventsKeepFacts, EventsKeepThreads}
 use Rattle.replay_runner.specs.Running.{Running, AreRunning}
 
 -- a thread that lives is there
@@ -43,23 +41,6 @@ live_there s t live = by_thread (slice_get s.threads t) refl live
     by_thread : (o : Option Thread) → slice_get s.threads t ≡ o → is_live_thread o ≡ true → t < length s.threads
     by_thread None e live = cc
     by_thread (Some y) e live = slice_get_within s.threads t y e
-
--- what a machine that runs tells of a thread that lives, to a caller that has its program
-pub record Steps (m : Running) (p : MarkedProgram) (t : ℕ) (x : Thread) : Type 0 where
-  pub at : slice_get m.core.threads t ≡ Some x
-  pub fits : AccessFits p m.core x
-  pub lawful : IsLawful p x
-  pub program : p ≡ x.program
-
-pub steps : (m : Running) (p : MarkedProgram) (t : ℕ) (x : Thread) → AreRunning m → ReachedFits → p ≡ m.program → lives m.core t ≡ true → x ≡ slice_index_or m.core.threads t x → Steps m p t x
-steps m p t x h fits same live is =
-    let at : slice_get m.core.threads t ≡ Some x = live_thread m.core t x live is in
-    record {
-      at = at;
-      fits = subst (λ (c : MarkedProgram). AccessFits c m.core x) (sym same) (fits m.program m.cfg m.core t x h.marked h.width h.threads h.facts at);
-      lawful = subst (λ (c : MarkedProgram). IsLawful c x) (sym same) (h.threads.lawful t x at);
-      program = same ∙ sym (h.threads.own t x at).program;
-    }
 
 -- the machine after the event
 pub stepped : (m : Running) (p : MarkedProgram) (t : ℕ) (x y : Thread) (words : List ℕ) → p ≡ m.program → slice_get m.core.threads t ≡ Some x → y ≡ moved p x x.phase (found_by m.core.words (wanted p x x.phase)) → words ≡ words_after m.core.words (wanted p x x.phase)

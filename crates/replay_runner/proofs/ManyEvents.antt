@@ -1,15 +1,17 @@
 -- Many events of one thread of a machine.
-use Rattle.std.proofs.Common.{◌≡◌, ℕ, zero, suc, Bool, true, false, List, [], ◌∷◌, Option, Some, None, refl, sym, ap, subst, ◌∙◌}
-use Rattle.std.specs.Prelude.{slice_get, slice_set}
+use Rattle.std.proofs.Common.{◌≡◌, ◌≤◌, ℕ, zero, suc, Bool, true, false, List, [], ◌∷◌, Option, Some, None, refl, sym, ap, subst, ◌∙◌, arith}
+use Rattle.std.specs.Prelude.{nat_le, slice_get, slice_set}
+use Rattle.std.proofs.lemmas.Bool.Decides.{nat_tests}
 use Rattle.checked_program.specs.MarkedProgram.{MarkedProgram}
 use Rattle.machine_types.specs.Accesses.{found_by, words_after}
-use Rattle.machine_types.specs.Core.{Core, event, event_of, lives}
+use Rattle.machine_types.specs.Core.{Core, event, event_of, is_live, is_live_thread, lives}
 use Rattle.machine_types.specs.Events.{moved, wanted}
 use Rattle.machine_types.specs.Lawful.{IsLawful}
 use Rattle.machine_types.specs.Schedules.{First, Last}
 use Rattle.machine_types.specs.Threads.{Thread}
 use Rattle.record_laws.specs.RunFacts.{AccessFits}
 use Rattle.record_laws.specs.RunLaws.{EventsKeepFacts, EventsKeepThreads, ReachedFits}
+use Rattle.machine_types.proofs.OnlyLive.{only_live_change}
 use Rattle.replay_runner.specs.Replays.{GoesOn}
 use Rattle.replay_runner.specs.Running.{Running, IsThreadOf, events, run_on}
 use Rattle.replay_runner.proofs.MachineEvents.{event_runs, stepped}
@@ -56,6 +58,20 @@ stays_thread m p t x y words after h threads facts is are =
       at = subst (λ (r : Running). slice_get r.core.threads t ≡ Some y) same (got_when_set m.core.threads t x y h.at);
       words_are = ap (λ (r : Running). r.core.words) same;
     }
+
+-- its events behind its end change nothing
+same_from : (c : MarkedProgram) (s : Core) (t k n : ℕ) → k ≤ n → lives (events c s t k) t ≡ false → events c s t n ≡ events c s t k
+same_from c s t k zero le over = let e : zero ≡ k = omega (arith, le) in ap (events c s t) e
+same_from c s t k (suc n) le over = by_place (nat_le k n) refl (λ below. same_from c s t k n below over)
+  where
+    by_place : (b : Bool) → nat_le k n ≡ b → (k ≤ n → events c s t n ≡ events c s t k) → events c s t (suc n) ≡ events c s t k
+    by_place true e before = let same : events c s t n ≡ events c s t k = before (grind (arith, nat_tests, e)) in only_live_change c (events c s t n) t (ap (λ (z : Core). lives z t) same ∙ over) ∙ same
+    by_place false e before = let is : suc n ≡ k = grind (arith, nat_tests, e, le) in ap (events c s t) is
+
+pub stays_over : (m : Running) (p : MarkedProgram) (t k n : ℕ) (x : Thread) (words : List ℕ) → IsThreadOf (run_on m t k) p t x words → is_live x.phase ≡ false → k ≤ n → IsThreadOf (run_on m t n) p t x words
+stays_over m p t k n x words h over le =
+    let same : events m.program m.core t n ≡ events m.program m.core t k = same_from m.program m.core t k n le (ap is_live_thread h.at ∙ over) in
+    subst (λ (s : Core). IsThreadOf (record m { core = s }) p t x words) (sym same) h
 
 -- ---- back in the machine
 

@@ -46,7 +46,7 @@ impl Model for Machine {
 }
 
 /// Tells that the limits are numbers of 32 bits.
-fn have_width(_cfg: Config)
+pub fn have_width(_cfg: Config)
     ensures { HaveWidth _cfg }
 {}
 
@@ -108,22 +108,35 @@ fn begin_part(threads: &mut Vec<ThreadState>)
     }
 }
 
-/// Runs a thread of a machine until it is not live. A run ends by its limits, long before the count here does.
-fn run_thread(s: &mut ThreadState, p: &Checked, words: &mut Rows<u64>) -> Result<(), AllocError>
+/// Makes so many events of a thread of a machine, of which those behind its end change nothing, and tells whether it is live
+/// then. The one call of `event` stands here, so that its code is part of this loop.
+fn run_thread(s: &mut ThreadState, p: &Checked, words: &mut Rows<u64>, count: u64) -> bool
     requires { (m : Running) × (t : ℕ) × IsThreadOf m p.now t s.old words.old }
-    ensures on { (m : Running) (t : ℕ) → IsThreadOf m p.now t s.old words.old → (n : ℕ) × IsThreadOf (run_on m t n) p.now t s.new words.new }
-    ensures over { OnOk result (is_live s.new.phase ≡ false) }
+    ensures on { (m : Running) (t : ℕ) → IsThreadOf m p.now t s.old words.old → IsThreadOf (run_on m t count) p.now t s.new words.new }
+    ensures live { result ≡ is_live s.new.phase }
 {
     reached_fits();
     threads_are_kept();
     run_facts_event();
-    for _ in 0..u64::MAX {
+    for _ in 0..count {
         if !s.is_live() {
-            return Ok(());
+            return false;
         }
         event(s, p, words);
     }
-    Err(AllocError)
+    s.is_live()
+}
+
+/// More events than a run has: its limits end it long before.
+fn most_events() -> u64 {
+    u64::MAX
+}
+
+/// The answer behind the last event, by whether the thread is live.
+fn over(live: bool) -> Result<(), AllocError>
+    ensures { OnOk result (live ≡ false) }
+{
+    if live { Err(AllocError) } else { Ok(()) }
 }
 
 /// How `done` ended.
@@ -186,10 +199,7 @@ impl Machine {
         if !self.lives(t) {
             return false;
         }
-        reached_fits();
-        threads_are_kept();
-        run_facts_event();
-        event(&mut self.threads[t as usize], p, &mut self.words);
+        let _live = run_thread(&mut self.threads[t as usize], p, &mut self.words, 1);
         true
     }
 
@@ -202,7 +212,9 @@ impl Machine {
         if !self.lives(t) {
             return Ok(());
         }
-        run_thread(&mut self.threads[t as usize], p, &mut self.words)
+        let most = most_events();
+        let live = run_thread(&mut self.threads[t as usize], p, &mut self.words, most);
+        over(live)
     }
 
     /// Whether the next part may begin: that of the workers when `init` has returned, or `done` when each worker has returned

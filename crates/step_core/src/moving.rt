@@ -1,18 +1,19 @@
 //! What the next event of a thread makes of it.
 
-ghost use Rattle.std.specs.Prelude.{◌≡◌, ◌<◌, ◌^◌, None, true, IfSome, IsSome, length, slice_index};
+ghost use Rattle.std.specs.Prelude.{◌≡◌, ◌≢◌, ◌<◌, ◌^◌, None, true, IfSome, IsSome, length, slice_index};
 ghost use Rattle.machine_types.specs.Accesses.{accessed, found_by, left_by, words_after};
 ghost use Rattle.machine_types.specs.Core.{is_live};
 ghost use Rattle.machine_types.specs.Events.{moved, wanted};
 ghost use Rattle.machine_types.specs.FoundWords.{Fits};
 ghost use Rattle.machine_types.specs.Lawful.{IsLawful};
+ghost use Rattle.machine_types.specs.declared.phase.Phase.TheVariants.{Run};
 ghost use Rattle.instr_steps.specs.Phases.{IsThrow};
 ghost use Rattle.step_core.specs.Claims.{CanFail};
 
 use crate::attempts::passes;
 use crate::entering::enter;
 use crate::leaving::leave;
-use crate::wanting::want;
+use crate::wanting::want_between;
 use checked_program::Checked;
 use fat_monitor::answer;
 use frames::ThreadState;
@@ -36,11 +37,13 @@ fn throw(s: &mut ThreadState, p: &Checked, found: u64)
     }
 }
 
-/// The next event of the thread, by the word that its access found, which is 0 where it has none.
-fn make(s: &mut ThreadState, p: &Checked, got: u64)
+/// An event that makes no instruction, by the word that its access found, which is 0 where it has none. It stands apart from
+/// `make`, so that an event has one call of the instructions' effects, which the compiler then inlines.
+fn make_between(s: &mut ThreadState, p: &Checked, got: u64)
     requires program { p.now ≡ s.old.program }
     requires lawful { IsLawful p.now s.old }
     requires fits { Fits p.now s.old got }
+    requires between { s.old.phase ≢ Run }
     ensures { s.new ≡ moved p.now s.old s.old.phase got }
 {
     attempts_are_based();
@@ -50,7 +53,7 @@ fn make(s: &mut ThreadState, p: &Checked, got: u64)
     match s.phase() {
         Phase::Idle | Phase::Ended(_) => {}
         Phase::Start => begin_root(s, p),
-        Phase::Run => run(s, p, got),
+        Phase::Run => unreachable!(),
         Phase::Element(_, _) => finish_element(s, p, got),
         Phase::Made(_, _) => store_header(s, p),
         Phase::Throw(_, _) => throw(s, p, got),
@@ -58,6 +61,20 @@ fn make(s: &mut ThreadState, p: &Checked, got: u64)
         Phase::Leave(m, after) => leave(s, p, m, after, got),
         Phase::Ending(e) => s.set_phase(Phase::Ended(e)),
         _ => answer(s, p, got),
+    }
+}
+
+/// The next event of the thread, by the word that its access found, which is 0 where it has none.
+fn make(s: &mut ThreadState, p: &Checked, got: u64)
+    requires program { p.now ≡ s.old.program }
+    requires lawful { IsLawful p.now s.old }
+    requires fits { Fits p.now s.old got }
+    ensures { s.new ≡ moved p.now s.old s.old.phase got }
+{
+    if s.phase() == Phase::Run {
+        run(s, p, got);
+    } else {
+        make_between(s, p, got);
     }
 }
 
@@ -76,12 +93,12 @@ fn make_event(s: &mut ThreadState, p: &Checked, words: &mut Rows<u64>)
         run_with(s, p, words);
         return;
     }
-    match want(s, p) {
+    match want_between(s, p) {
         Some(access) => {
             let got = perform(words, access);
-            make(s, p, got);
+            make_between(s, p, got);
         }
-        None => make(s, p, 0),
+        None => make_between(s, p, 0),
     }
 }
 

@@ -1,8 +1,9 @@
 //! The access that the next event of a thread wants.
 
-ghost use Rattle.std.specs.Prelude.{◌≡◌};
+ghost use Rattle.std.specs.Prelude.{◌≡◌, ◌≢◌};
 ghost use Rattle.machine_types.specs.Events.{wanted};
 ghost use Rattle.machine_types.specs.Lawful.{IsLawful};
+ghost use Rattle.machine_types.specs.declared.phase.Phase.TheVariants.{Run};
 
 use crate::attempts::looks;
 use crate::entering::enter_wants;
@@ -14,17 +15,18 @@ use heap_words::header_word;
 use instr_steps::run_want;
 use machine_types::{Access, Phase};
 
-/// The access that the next event of the thread wants: `None` exactly where that event is local, or the thread is not live.
-pub fn want(s: &ThreadState, p: &Checked) -> Option<Access>
+/// The access of an event that makes no instruction.
+pub fn want_between(s: &ThreadState, p: &Checked) -> Option<Access>
     requires program { p.now ≡ s.now.program }
     requires lawful { IsLawful p.now s.now }
+    requires between { s.now.phase ≢ Run }
     ensures { result ≡ wanted p.now s.now s.now.phase }
 {
     // the program has at most 8 workers, and its words have numbers of 32 bits
     let _workers = p.workers();
     match s.phase() {
         Phase::Idle | Phase::Start | Phase::Ended(_) => None,
-        Phase::Run => run_want(s, p),
+        Phase::Run => unreachable!(),
         Phase::Element(word, stored) => match stored {
             Some(value) => Some(Access::Store(word, value)),
             None => Some(Access::Load(word)),
@@ -35,5 +37,18 @@ pub fn want(s: &ThreadState, p: &Checked) -> Option<Access>
         Phase::Leave(m, _) => leave_wants(s, m),
         Phase::Ending(_) => Some(Access::Rest),
         _ => ask(s),
+    }
+}
+
+/// The access that the next event of the thread wants: `None` exactly where that event is local, or the thread is not live.
+pub fn want(s: &ThreadState, p: &Checked) -> Option<Access>
+    requires program { p.now ≡ s.now.program }
+    requires lawful { IsLawful p.now s.now }
+    ensures { result ≡ wanted p.now s.now s.now.phase }
+{
+    if s.phase() == Phase::Run {
+        run_want(s, p)
+    } else {
+        want_between(s, p)
     }
 }

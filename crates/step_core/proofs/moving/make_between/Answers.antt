@@ -2,7 +2,7 @@ use Rattle.std.proofs.Common.{◌≡◌, ◌≤◌, ap, arith}
 use Rattle.machine_types.specs.declared.config.Config.{Config}
 use Rattle.machine_types.specs.declared.phase.Phase.TheVariants.{Leave}
 use Rattle.step_core.proofs.LawfulSteps.{can_fail, can_leave}
-use Rattle.step_core.proofs.moving.make.Goals as goal
+use Rattle.step_core.proofs.moving.make_between.Goals as goal
 
 pub throw-requires-clause-can : goal.throw-requires-clause-can
 throw-requires-clause-can c =
