@@ -12,7 +12,7 @@ use Rattle.outside.specs.declared.shelf.NamedFile.{NamedFile}
 use Rattle.solero.specs.declared.answer.Due.{Due}
 use Rattle.solero.specs.declared.answer.Due.TheVariants.{Report, Marks, Usage, Refusal, CannotRead, OutOfMemory}
 
-no_refusal : (asked : Asked) (contents : List (List ℕ)) (rule : Rule) (place : Place) → first_long 0 contents ≡ None → IsAccepted contents asked.heap asked.threads → IsRefusal (first_long 0 contents) asked contents rule place → ⊥
+pub no_refusal : (asked : Asked) (contents : List (List ℕ)) (rule : Rule) (place : Place) → first_long 0 contents ≡ None → IsAccepted contents asked.heap asked.threads → IsRefusal (first_long 0 contents) asked contents rule place → ⊥
 no_refusal asked contents rule place short accepted refused = never_refused contents asked.heap asked.threads rule place accepted (rw short at refused)
 
 no_refusal_due : (asked : Asked) (files : List NamedFile) (before after : ℕ) (due : Due) → IsDue (Some asked) (Some files) before after due → AreAccepted files asked → status_of due ≡ 3 → ⊥

@@ -6,3 +6,4 @@ pub mod Owed
 pub mod SoFar
 pub mod SomeThread
 pub mod Writing
+mod Whole

@@ -10,6 +10,7 @@ use Rattle.jvm_types.specs.declared.refusal.CRule.TheVariants.{C10}
 use Rattle.jvm_types.specs.declared.refusal.Rule.{Rule}
 use Rattle.jvm_types.specs.declared.refusal.Place.{Place}
 use Rattle.machine_types.specs.Core.{Happening, core, outcome}
+use Rattle.machine_types.specs.Faithful.{IsFaithful, IsOver}
 use Rattle.machine_types.specs.Schedules.{IsScheduleOf}
 use Rattle.class_runner.specs.Report.{line, report_text}
 use Rattle.class_runner.specs.Refusal.{refusal_text}
@@ -47,8 +48,7 @@ text_of OutOfMemory = line (codes "out of memory")
 
 -- ---- files
 
--- a file that is longer is refused
--- the first of some files that is too long, counted from a number on
+-- the first of some files that is longer than a file may be, counted from a number on; such a file is refused
 abbrev pub first_long : ℕ → List (List ℕ) → Option ℕ
 first_long file [] = None
 first_long file (content ∷ contents) = if nat_lt MOST_FILE_BYTES (length content) then Some file else first_long (file + 1) contents
@@ -59,6 +59,10 @@ first_long file (content ∷ contents) = if nat_lt MOST_FILE_BYTES (length conte
 pub record ReportsRun (asked : Asked) (checked : MarkedProgram) (finish : Finish) (text : List ℕ) : Type 0 where
   pub happenings : List Happening
   pub schedule : IsScheduleOf checked asked.cfg asked.order happenings
+  -- the run stands for one of the plain machine with ordinary monitors, event by event
+  pub plain : IsFaithful checked asked.cfg happenings
+  -- and it is over: no thread is live, and no part may begin
+  pub over : IsOver (core checked asked.cfg happenings)
   pub report : text ≡ report_text (outcome (core checked asked.cfg happenings))
   pub finished : finish ≡ finish_of (outcome (core checked asked.cfg happenings))
 

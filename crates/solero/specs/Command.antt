@@ -11,6 +11,7 @@ use Rattle.clap.specs.declared.builder.action.ArgAction.TheVariants.{Append}
 use Rattle.jvm_types.specs.declared.limits.TheConstants.{LEAST_HEAP, MOST_FILES, MOST_HEAP, MOST_LIMIT, MOST_PRINTS, MOST_WORKERS}
 use Rattle.machine_types.specs.declared.config.Config.{Config}
 use Rattle.solero.specs.declared.request.Mode.{Mode}
+use Rattle.solero.specs.declared.values.TheConstants.{LONGEST_ORDER, USUAL_HEAP, USUAL_PRINTS, USUAL_STEPS}
 use Rattle.solero.specs.declared.request.Mode.TheVariants.{Replay, Mark}
 
 -- the words as texts
@@ -62,9 +63,6 @@ abbrev pub on_or_off : Option Text → Option Bool
 on_or_off None = Some true
 on_or_off (Some text) = if bytes_eq text (codes "on") then Some true else if bytes_eq text (codes "off") then Some false else None
 
-abbrev pub longest_order : ℕ
-longest_order = 100000
-
 -- the digits 1 to 8
 abbrev pub is_worker : ℕ → Bool
 is_worker c = nat_le 49 c && nat_le c 56
@@ -72,7 +70,7 @@ is_worker c = nat_le 49 c && nat_le c 56
 -- the numbers of workers that an order has as digits; none where it isn't given
 abbrev pub order_or_none : Option Text → Option (List ℕ)
 order_or_none None = Some []
-order_or_none (Some text) = if nat_lt 0 (length text) && nat_le (length text) longest_order && list_all is_worker text then Some (map (λ c. c - 48) text) else None
+order_or_none (Some text) = if nat_lt 0 (length text) && nat_le (length text) LONGEST_ORDER && list_all is_worker text then Some (map (λ c. c - 48) text) else None
 
 -- from 1 to 64 names of files
 abbrev pub some_files : Option (List Text) → Option (List Text)
@@ -106,9 +104,9 @@ gives_any rows names = list_any (λ name. is_some (first_of name rows)) names
 -- the settings of a run
 unfoldable pub settings : List Row → Option Config
 settings rows = do
-  steps ← number_or 10000000 1 MOST_LIMIT (first_of (codes "steps") rows)
+  steps ← number_or USUAL_STEPS 1 MOST_LIMIT (first_of (codes "steps") rows)
   turns ← number_or MOST_LIMIT 1 MOST_LIMIT (first_of (codes "turns") rows)
-  prints ← number_or 65536 1 MOST_PRINTS (first_of (codes "prints") rows)
+  prints ← number_or USUAL_PRINTS 1 MOST_PRINTS (first_of (codes "prints") rows)
   elide ← on_or_off (first_of (codes "elide") rows)
   range ← number_or MOST_LIMIT 1 MOST_LIMIT (first_of (codes "range") rows)
   Some (record { steps = steps; turns = turns; prints = prints; elide = elide; range = range })
@@ -118,7 +116,7 @@ asked rows = do
   mode ← mode_or_replay (first_of (codes "mode") rows)
   files ← some_files (all_of (codes "FILE") rows)
   threads ← number_or 0 0 MOST_WORKERS (first_of (codes "threads") rows)
-  heap ← number_or 65536 LEAST_HEAP MOST_HEAP (first_of (codes "heap") rows)
+  heap ← number_or USUAL_HEAP LEAST_HEAP MOST_HEAP (first_of (codes "heap") rows)
   cfg ← settings rows
   order ← order_or_none (first_of (codes "order") rows)
   if gives_any rows (not_read mode) then None else Some (record { mode = mode; files = files; threads = threads; heap = heap; cfg = cfg; order = order })

@@ -6,3 +6,4 @@ pub mod Requests
 pub mod Answer
 pub mod Reading
 pub mod Parts
+pub mod Whole

@@ -8,7 +8,10 @@ ghost use Rattle.solero.specs.Command.{asked, command as command_of, found, give
 ghost use Rattle.solero.specs.Requests.{asked_by};
 
 use crate::request::{Mode, Request};
-use crate::values::{Numbers, mode_or_replay, number_or, on_or_off, order_or_none};
+use crate::values::{
+    Numbers, USUAL_HEAP, USUAL_PRINTS, USUAL_STEPS, mode_or_replay, number_or, on_or_off,
+    order_or_none,
+};
 use clap::error::ErrorKind;
 use clap::{Arg, ArgAction, ArgMatches, Command};
 use jvm_types::limits::{LEAST_HEAP, MOST_FILES, MOST_HEAP, MOST_LIMIT, MOST_PRINTS, MOST_WORKERS};
@@ -22,13 +25,13 @@ const THREADS: Numbers = Numbers {
 };
 
 const HEAP: Numbers = Numbers {
-    unless: 65_536,
+    unless: USUAL_HEAP,
     least: LEAST_HEAP,
     most: MOST_HEAP,
 };
 
 const STEPS: Numbers = Numbers {
-    unless: 10_000_000,
+    unless: USUAL_STEPS,
     least: 1,
     most: MOST_LIMIT,
 };
@@ -40,7 +43,7 @@ const TURNS: Numbers = Numbers {
 };
 
 const PRINTS: Numbers = Numbers {
-    unless: 65_536,
+    unless: USUAL_PRINTS,
     least: 1,
     most: MOST_PRINTS,
 };

@@ -1,10 +1,15 @@
-ghost use Rattle.std.specs.Prelude.{◌≡◌, ◌<◌, ◌≤◌, ◌≢◌, ◌⊎◌, List, IfOk, Some, None, length};
+ghost use Rattle.std.specs.Prelude.{◌≡◌, ℕ, ◌<◌, ◌≤◌, ◌≢◌, ◌⊎◌, List, IfOk, Some, None, length};
+ghost use Rattle.machine_types.specs.Core.{Happening, core};
+ghost use Rattle.machine_types.specs.Faithful.{IsFaithful, IsOver};
+ghost use Rattle.machine_types.specs.Schedules.{IsScheduleOf};
+ghost use Rattle.machine_types.specs.Settings.{AreSettings};
 ghost use Rattle.outside.specs.Faults.{CountsFault};
 ghost use Rattle.solero.specs.Command.{Asked, texts, command};
 ghost use Rattle.solero.specs.Requests.{asked_by};
 ghost use Rattle.solero.specs.Answer.{AreAccepted, IsDue, first_long};
 ghost use Rattle.solero.specs.Delivery.{Delivers};
 ghost use Rattle.solero.specs.Parts.{IsMadeBy, IsRun, IsUnreadDue};
+ghost use Rattle.solero.specs.Whole.{AnswersWhole, IsCalm};
 ghost use Rattle.solero.specs.declared.request.Mode.TheVariants.{Replay};
 ghost use Rattle.outside.specs.declared.shelf.NamedFile.{NamedFile as File};
 ghost use Rattle.solero.specs.declared.answer.Due.{Due as TheDue};
@@ -17,11 +22,14 @@ use crate::reading::{Unread, read_files};
 use crate::request::{Mode, Request};
 use checked_program::Checked;
 use class_runner::{FileError, load_program, mark_text, report};
+use faithful_runs::runs_are_faithful;
 use jvm_types::limits::MOST_FILES;
 use jvm_types::{Bytes, Gate, Rows};
+use machine_types::Config;
 use outside::shelf::{Shelf, ShelfError};
 use outside::sink::Sink;
-use replay_runner::replay;
+use replay_runner::{have_width, replay};
+use schedule_laws::schedules_end_over;
 use std::alloc::{AllocError, Global};
 
 /// Does what the words ask for: reads the files from the shelf, in order, then loads them, and runs the program or finds the
@@ -48,6 +56,11 @@ pub fn top<S: Shelf, K: Sink, G: Gate + Sync>(
     // Files that all rules let pass are not refused.
     ensures accepted { (asked : Asked) (files : List File) → command (texts words.now.items) ≡ Some asked
         → S.files shelf.old ≡ Some files → AreAccepted files asked → result ≢ 3 }
+    // And where nothing fails outside, they are answered in full.
+    ensures complete { (asked : Asked) (files : List File) → command (texts words.now.items) ≡ Some asked
+        → S.files shelf.old ≡ Some files → AreAccepted files asked
+        → IsCalm (S.faults shelf.old) (S.faults shelf.new) → IsCalm (K.faults sink.old) (K.faults sink.new)
+        → AnswersWhole asked files (K.text sink.old) (K.text sink.new) result }
     ensures shelf_failed { result ≡ 4 → CountsFault (S.faults shelf.old) (S.faults shelf.new) }
     ensures shelf_fault { S.faults shelf.old < S.faults shelf.new → (4 ≤ result) × (result ≤ 6) }
     ensures sink_failed { result ≡ 5 → CountsFault (K.faults sink.old) (K.faults sink.new) }
@@ -121,10 +134,23 @@ fn made(alloc: Global, request: &Request, checked: &Checked) -> Result<Due, Allo
     }
 }
 
+// Whatever order it runs in, the run stands for one of the plain machine, and it is over.
+fn is_plain(checked: &Checked, cfg: &Config)
+    requires { AreSettings cfg.now }
+    ensures plain { (hs : List Happening) → IsFaithful checked.now cfg.now hs }
+    ensures over { (order : List ℕ) (hs : List Happening) → IsScheduleOf checked.now cfg.now order hs → IsOver (core checked.now cfg.now hs) }
+{
+    let _program = checked.program();
+    have_width(*cfg);
+    runs_are_faithful();
+    schedules_end_over();
+}
+
 // The report of a run in the order that is asked for.
 fn report_of(alloc: Global, request: &Request, checked: &Checked) -> Result<Due, AllocError>
     ensures { IfOk result (λ due. IsMadeBy Replay (asked_by request.now) checked.now due) }
 {
+    is_plain(checked, &request.cfg);
     let outcome = replay(alloc, checked, &request.cfg, &request.order)?;
     let text = report(alloc, &outcome)?;
     Ok(Due::Report(finish_of(&outcome), text))

@@ -2,14 +2,23 @@
 ghost use Rattle.std.specs.Prelude.{◌≡◌, ◌&&◌, ◌-◌, ◌≤◌, nat_le, nat_lt, IfOk, IfSome, length, map, option_map};
 ghost use Rattle.std.specs.List.{list_all};
 ghost use Rattle.std.specs.Option.{option_copied};
-ghost use Rattle.solero.specs.Command.{is_worker as is_the_worker, longest_order, mode_or_replay as the_mode, number as the_number, number_or as the_number_or, on_or_off as the_switch, order_or_none as the_order, within as the_number_within};
+ghost use Rattle.solero.specs.Command.{is_worker as is_the_worker, mode_or_replay as the_mode, number as the_number, number_or as the_number_or, on_or_off as the_switch, order_or_none as the_order, within as the_number_within};
 
 use crate::request::Mode;
 use jvm_types::Bytes;
 use std::alloc::{AllocError, Global};
 
 /// The most digits of an order.
-const LONGEST_ORDER: usize = 100_000;
+pub const LONGEST_ORDER: usize = 100_000;
+
+/// The most instructions of a thread, where the words say nothing of them.
+pub const USUAL_STEPS: u32 = 10_000_000;
+
+/// The most prints of a thread, where the words say nothing of them.
+pub const USUAL_PRINTS: u32 = 65_536;
+
+/// The heap words, where the words say nothing of them.
+pub const USUAL_HEAP: u32 = 65_536;
 
 /// The numbers that an option may have, and the one that stands where it isn't given.
 #[derive(Clone, Copy, Debug)]
@@ -85,7 +94,7 @@ pub fn order_or_none(alloc: Global, given: Option<&str>) -> Result<Option<Bytes>
 
 #[tactic(auto, using(crate::proofs::Orders::in_range))]
 fn is_order(digits: &[u8]) -> bool
-    ensures { result ≡ (nat_lt 0 (length digits.now) && nat_le (length digits.now) longest_order && list_all is_the_worker digits.now) }
+    ensures { result ≡ (nat_lt 0 (length digits.now) && nat_le (length digits.now) LONGEST_ORDER && list_all is_the_worker digits.now) }
 {
     match digits.len() {
         1..=LONGEST_ORDER => are_workers(digits),

@@ -1,5 +1,9 @@
 use Rattle.solero.proofs.Accepted.{never_three}
+use Rattle.solero.proofs.Whole.{whole}
 use Rattle.solero.proofs.program.top.Goals as goal
 
 pub returns-clause-accepted : goal.returns-clause-accepted
 returns-clause-accepted g c = λ asked files read told accepted three. never_three asked files _ _ _ _ _ _ _ _ (rw (read, told) at c.work-due.ensures.due) c.deliver.ensures accepted three
+
+pub returns-clause-complete : goal.returns-clause-complete
+returns-clause-complete g c = λ asked files read told accepted shelf sink. whole asked files _ _ _ _ _ _ _ _ (rw (read, told) at c.work-due.ensures.due) c.deliver.ensures accepted shelf sink
