@@ -3,8 +3,6 @@
 #![tactic(auto)]
 
 #[cfg(test)]
-mod meetings;
-#[cfg(test)]
 mod playing;
 #[cfg(test)]
 mod shadows;
