@@ -22,9 +22,9 @@ use Rattle.machine_types.specs.PlainSteps.{step_at, step_of, plain_run}
 use Rattle.machine_types.specs.Threads.{Attempt, Thread}
 use Rattle.machine_types.specs.declared.phase.Phase.TheVariants as phases
 use Rattle.machine_types.specs.declared.plain.Act.{Act}
-use Rattle.heap_laws.specs.HeapFacts.{objects_by, objects_of}
-use Rattle.heap_laws.proofs.Assembled.{got_set}
-use Rattle.heap_laws.proofs.Lists.{got_below, same_or_not}
+use Rattle.state_laws.specs.HeapFacts.{objects_by, objects_of}
+use Rattle.state_laws.proofs.Assembled.{got_set}
+use Rattle.state_laws.proofs.Lists.{got_below, same_or_not}
 use Rattle.agreement.specs.StandsBeside.{IsAmong, IsBeingMade, IsPlainNew, StandsBeside, ends_shown}
 use Rattle.agreement.specs.StepsBeside.{StepsBeside}
 

@@ -19,7 +19,7 @@ use Rattle.machine_types.specs.Threads.{Thread}
 use Rattle.machine_types.specs.declared.lock.Held.{Held}
 use Rattle.machine_types.specs.declared.phase.Phase.{Phase}
 use Rattle.machine_types.specs.declared.phase.Phase.TheVariants as phases
-use Rattle.heap_laws.proofs.Lists.{same_or_not}
+use Rattle.state_laws.proofs.Lists.{same_or_not}
 use Rattle.agreement.specs.StandsBeside.{IsBeingMade, IsAmong, IsPlainNew, ends_shown, StandsBeside}
 use Rattle.agreement.proofs.HoldingsAlike.{set_got, set_else}
 use Rattle.agreement.proofs.WaitBits.{fits_by}

@@ -32,8 +32,8 @@ use Rattle.machine_types.specs.declared.phase.Phase.{Phase}
 use Rattle.machine_types.specs.declared.phase.Phase.TheVariants as phases
 use Rattle.machine_types.specs.declared.plain.Act.{Act}
 use Rattle.machine_types.specs.declared.plain.Act.TheVariants as acts
-use Rattle.heap_laws.specs.HeapFacts.{objects_by}
-use Rattle.owner_laws.proofs.WordViews.{set_self}
+use Rattle.state_laws.specs.HeapFacts.{objects_by}
+use Rattle.state_laws.proofs.WordViews.{set_self}
 use Rattle.agreement.specs.StandsBeside.{StandsBeside, ends_shown}
 use Rattle.agreement.specs.StepsBeside.{Begins, StepsBeside}
 use Rattle.agreement.proofs.Assembled.{moved_beside, one_step, steps_beside}

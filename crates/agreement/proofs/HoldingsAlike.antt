@@ -10,7 +10,7 @@ use Rattle.machine_types.specs.Structure.{AreHeldOnce}
 use Rattle.machine_types.specs.Threads.{Thread}
 use Rattle.machine_types.specs.declared.lock.Held.{Held}
 use Rattle.lock_laws.proofs.HeldLists.{held_put, held_without}
-use Rattle.heap_laws.proofs.Lists.{same_or_not}
+use Rattle.state_laws.proofs.Lists.{same_or_not}
 
 -- of each thread and each monitor
 abbrev pub HoldAlike : List Holding → List Thread → Type 0

@@ -15,7 +15,7 @@ use Rattle.machine_types.specs.declared.lock.LockWord.{LockWord}
 use Rattle.machine_types.specs.declared.lock.LockWord.TheVariants as locks
 use Rattle.machine_types.specs.declared.phase.Phase.{Phase}
 use Rattle.machine_types.specs.declared.phase.Phase.TheVariants as phases
-use Rattle.owner_laws.proofs.LockViews.{fatly}
+use Rattle.state_laws.proofs.LockViews.{fatly}
 use Rattle.agreement.proofs.WaitBits.{bit_by}
 
 -- neither gives a monitor up, nor looks

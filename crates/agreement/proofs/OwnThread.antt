@@ -14,9 +14,9 @@ use Rattle.machine_types.specs.declared.config.Config.{Config}
 use Rattle.machine_types.specs.declared.phase.Phase.{Phase}
 use Rattle.machine_types.specs.declared.phase.Phase.TheVariants as phases
 use Rattle.lock_laws.specs.PartLaws.{PartFits, PartsFit}
-use Rattle.heap_laws.proofs.Lists.{same_or_not}
-use Rattle.reached_laws.specs.PartsStand.{DoneRoots}
-use Rattle.reached_laws.specs.StateFacts.{StateFacts}
+use Rattle.state_laws.proofs.Lists.{same_or_not}
+use Rattle.state_laws.specs.PartsStand.{DoneRoots}
+use Rattle.state_laws.specs.StateFacts.{StateFacts}
 use Rattle.agreement.specs.StandsBeside.{StandsBeside, ends_shown, end_of_done}
 use Rattle.agreement.proofs.Assembled.{got_same_length}
 use Rattle.agreement.proofs.GoingOnAlike.{PartRuns, IsUnderWay, none_ends}

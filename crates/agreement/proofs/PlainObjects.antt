@@ -13,7 +13,7 @@ use Rattle.machine_types.specs.ObjectsApart.{IsBeside, IsOutside, LieApart}
 use Rattle.machine_types.specs.Owners.{references_of}
 use Rattle.machine_types.specs.PlainMemory.{Object, StaticValue, header_of, first_value, object_end, has_value, value_in, object_value, static_value, new_object}
 use Rattle.machine_types.specs.Words.{header_word}
-use Rattle.heap_laws.proofs.Lists.{contained_got, got_contains}
+use Rattle.state_laws.proofs.Lists.{contained_got, got_contains}
 
 -- ---- a list with one more behind
 

@@ -11,7 +11,7 @@ use Rattle.machine_types.specs.ObjectsApart.{IsBeside, IsOutside, LieApart}
 use Rattle.machine_types.specs.PlainMemory.{Object, StaticValue, header_of, first_value, object_end, has_value, value_in, object_value, static_value}
 use Rattle.machine_types.specs.PlainState.{Plain, value_at}
 use Rattle.machine_types.specs.Words.{header_word, value_word}
-use Rattle.heap_laws.proofs.Lists.{contained_got, same_or_not}
+use Rattle.state_laws.proofs.Lists.{contained_got, same_or_not}
 
 -- ---- tests
 

@@ -12,10 +12,10 @@ use Rattle.machine_types.specs.Ints.{word_of}
 use Rattle.machine_types.specs.PlainMemory.{Object, StaticValue, header_of, start_statics}
 use Rattle.machine_types.specs.PlainState.{Plain, value_at}
 use Rattle.machine_types.specs.Words.{header_word, value_word}
-use Rattle.heap_laws.specs.HeapFacts.{HeapFacts}
-use Rattle.heap_laws.specs.SiteLaws.{SitesDiffer}
-use Rattle.heap_laws.specs.Sites.{Site, Counter, OwnerOf, BitsOf, LockOf, HeaderOf, ValueOf, NewHeaderOf, StaticAt, site_word, HasStatic, IsThere}
-use Rattle.heap_laws.proofs.Lists.{contained_got}
+use Rattle.state_laws.specs.HeapFacts.{HeapFacts}
+use Rattle.state_laws.specs.SiteLaws.{SitesDiffer}
+use Rattle.state_laws.specs.Sites.{Site, Counter, OwnerOf, BitsOf, LockOf, HeaderOf, ValueOf, NewHeaderOf, StaticAt, site_word, HasStatic, IsThere}
+use Rattle.state_laws.proofs.Lists.{contained_got}
 use Rattle.agreement.specs.StandsBeside.{StandsBeside}
 use Rattle.agreement.proofs.PlainPlaces.{got_some, value_in_object, value_of_object, value_of_header, value_of_static}
 

@@ -15,7 +15,7 @@ use Rattle.machine_types.specs.Owners.{references_of}
 use Rattle.machine_types.specs.PlainMemory.{Object, StaticValue, header_of, first_value, object_end, has_value, value_in, object_value, object_write, static_value, static_write}
 use Rattle.machine_types.specs.PlainState.{Plain, value_at, written}
 use Rattle.machine_types.specs.Words.{header, header_word, value_word}
-use Rattle.heap_laws.proofs.Lists.{contained_got, got_contains}
+use Rattle.state_laws.proofs.Lists.{contained_got, got_contains}
 
 -- ---- objects of one shape: they differ in their values alone
 

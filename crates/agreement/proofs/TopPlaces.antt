@@ -26,11 +26,11 @@ use Rattle.value_laws.specs.Allowed.{IsOf, IsFieldAt, Allowed}
 use Rattle.value_laws.proofs.Landing.{stand_top}
 use Rattle.value_laws.proofs.TopStand.{top_here}
 use Rattle.value_laws.proofs.TopEffects.{allowed_here}
-use Rattle.heap_laws.specs.HeapFacts.{HeapFacts}
-use Rattle.heap_laws.specs.SiteLaws.{SitesDiffer}
-use Rattle.heap_laws.specs.Sites.{Site, HeaderOf, ValueOf, StaticAt, site_word, IsThere}
-use Rattle.heap_laws.proofs.Accesses.{out_there}
-use Rattle.heap_laws.proofs.Lists.{contained_got}
+use Rattle.state_laws.specs.HeapFacts.{HeapFacts}
+use Rattle.state_laws.specs.SiteLaws.{SitesDiffer}
+use Rattle.state_laws.specs.Sites.{Site, HeaderOf, ValueOf, StaticAt, site_word, IsThere}
+use Rattle.state_laws.proofs.Accesses.{out_there}
+use Rattle.state_laws.proofs.Lists.{contained_got}
 use Rattle.agreement.specs.StandsBeside.{StandsBeside}
 use Rattle.agreement.proofs.PlainValues.{IsPlace, value_found}
 

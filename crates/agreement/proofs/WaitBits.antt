@@ -21,12 +21,12 @@ use Rattle.machine_types.specs.Words.{header_class, header_length, object_size, 
 use Rattle.jvm_types.specs.declared.class_numbers.TheConstants.{INT_ARRAY_CLASS}
 use Rattle.machine_types.specs.declared.lock.LockWord.{LockWord}
 use Rattle.machine_types.specs.declared.lock.LockWord.TheVariants as locks
-use Rattle.heap_laws.specs.HeapFacts.{HeapFacts}
-use Rattle.heap_laws.specs.SiteLaws.{SitesDiffer, SitesLieInside}
-use Rattle.heap_laws.specs.Sites.{Site, BitsOf, LockOf, site_word, HasObject, IsThere}
-use Rattle.heap_laws.proofs.Lists.{set_there}
-use Rattle.owner_laws.proofs.LockViews.{is_there}
-use Rattle.owner_laws.proofs.WordViews.{object_has, has_object, lock_view}
+use Rattle.state_laws.specs.HeapFacts.{HeapFacts}
+use Rattle.state_laws.specs.SiteLaws.{SitesDiffer, SitesLieInside}
+use Rattle.state_laws.specs.Sites.{Site, BitsOf, LockOf, site_word, HasObject, IsThere}
+use Rattle.state_laws.proofs.Lists.{set_there}
+use Rattle.state_laws.proofs.LockViews.{is_there}
+use Rattle.state_laws.proofs.WordViews.{object_has, has_object, lock_view}
 use Rattle.agreement.specs.StandsBeside.{IsAmong, IsBeingMade}
 
 -- ---- by the lock

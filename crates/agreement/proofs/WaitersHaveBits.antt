@@ -24,8 +24,8 @@ use Rattle.machine_types.specs.declared.phase.Phase.{Phase}
 use Rattle.machine_types.specs.declared.phase.Phase.TheVariants as phases
 use Rattle.machine_types.specs.declared.phase.Toward.{Toward}
 use Rattle.machine_types.specs.declared.phase.Toward.TheVariants as towards
-use Rattle.heap_laws.proofs.Lists.{got_below}
-use Rattle.owner_laws.proofs.LockViews.{is_there}
+use Rattle.state_laws.proofs.Lists.{got_below}
+use Rattle.state_laws.proofs.LockViews.{is_there}
 
 -- ---- what a bit means
 

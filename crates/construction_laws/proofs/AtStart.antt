@@ -11,9 +11,9 @@ use Rattle.machine_types.specs.PlainMemory.{start_objects}
 use Rattle.machine_types.specs.Typed.{HasClass, KindHolds}
 use Rattle.machine_types.specs.declared.config.Config.{Config}
 use Rattle.machine_types.proofs.AtStart.{keeps}
-use Rattle.heap_laws.specs.HeapFacts.{HeapFacts}
-use Rattle.heap_laws.specs.HeapLaws.{StartHasHeap}
-use Rattle.heap_laws.proofs.Lists.{contained_got}
+use Rattle.state_laws.specs.HeapFacts.{HeapFacts}
+use Rattle.state_laws.specs.HeapLaws.{StartHasHeap}
+use Rattle.state_laws.proofs.Lists.{contained_got}
 use Rattle.construction_laws.specs.ConstructionLaws.{no_builders, StartHasConstruction}
 
 none_built : {X : Type 0} (x : X) → None ≡ Some x → ⊥

@@ -25,7 +25,7 @@ use Rattle.machine_types.specs.Construction.{AreFrozen, builds, makes_frozen, Sl
 use Rattle.machine_types.specs.Frames.{entry_frame, first_or_null}
 use Rattle.machine_types.specs.Standing.{tags_of}
 use Rattle.machine_types.specs.Worlds.{World, IsFinished}
-use Rattle.shown_laws.proofs.MarkedMethods.{method_at}
+use Rattle.lock_laws.proofs.MarkedMethods.{method_at}
 use Rattle.value_laws.proofs.Lists.{zip_reverse, reverse_map}
 use Rattle.construction_laws.proofs.Landing.{both, IsJoined, land}
 use Rattle.construction_laws.proofs.Operands.{WantOld, TakenOld}

@@ -23,16 +23,16 @@ use Rattle.machine_types.specs.declared.phase.Phase.{Phase}
 use Rattle.machine_types.specs.declared.phase.Phase.TheVariants as phases
 use Rattle.lock_laws.specs.StateLaws.{counted_of, counted_at}
 use Rattle.lock_laws.specs.StructureLaws.{StaysStructured, StructureIsKept, counted_by}
-use Rattle.heap_laws.specs.HeapFacts.{objects_by, objects_of}
-use Rattle.heap_laws.specs.Sites.{ReachesIf}
-use Rattle.heap_laws.proofs.Accesses.{element_site}
-use Rattle.heap_laws.proofs.Assembled.{got_set}
-use Rattle.heap_laws.proofs.NewHeader.{behind_new}
-use Rattle.heap_laws.proofs.Phases.{IsOldPhase, old_fits, events_reach}
-use Rattle.heap_laws.proofs.WordSteps.{words_go_on}
+use Rattle.state_laws.specs.HeapFacts.{objects_by, objects_of}
+use Rattle.state_laws.specs.Sites.{ReachesIf}
+use Rattle.state_laws.proofs.Accesses.{element_site}
+use Rattle.state_laws.proofs.Assembled.{got_set}
+use Rattle.state_laws.proofs.NewHeader.{behind_new}
+use Rattle.state_laws.proofs.Phases.{IsOldPhase, old_fits, events_reach}
+use Rattle.state_laws.proofs.WordSteps.{words_go_on}
 use Rattle.value_laws.proofs.Landing.{stand_top}
 use Rattle.value_laws.proofs.TopStand.{top_here}
-use Rattle.reached_laws.specs.StateFacts.{StateFacts}
+use Rattle.state_laws.specs.StateFacts.{StateFacts}
 use Rattle.construction_laws.specs.ConstructionLaws.{BuildsOn, EventsKeepConstruction}
 use Rattle.construction_laws.proofs.InstructionMoves.{none_outside}
 use Rattle.construction_laws.proofs.MonitorMoves.{fits}

@@ -27,10 +27,10 @@ use Rattle.machine_types.specs.declared.lock.Kept.TheVariants as keeps
 use Rattle.machine_types.specs.declared.phase.Phase.{Phase}
 use Rattle.machine_types.specs.declared.phase.Phase.TheVariants as phases
 use Rattle.machine_types.specs.declared.phase.Toward.TheVariants as towards
-use Rattle.attempt_laws.specs.EntryFrames.{KeepsEntry}
-use Rattle.attempt_laws.specs.InsideEffects.{MayDo}
-use Rattle.attempt_laws.proofs.EntryKept.{steps_kept}
-use Rattle.attempt_laws.proofs.Inside.{inside_may}
+use Rattle.lock_laws.specs.EntryFrames.{KeepsEntry}
+use Rattle.lock_laws.specs.InsideEffects.{MayDo}
+use Rattle.lock_laws.proofs.EntryKept.{steps_kept}
+use Rattle.lock_laws.proofs.Inside.{inside_may}
 use Rattle.lock_laws.specs.StructureLaws.{StaysStructured, counted_by}
 use Rattle.value_laws.specs.Allowed.{Allowed}
 use Rattle.value_laws.proofs.Landing.{stand_top}

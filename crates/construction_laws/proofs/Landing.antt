@@ -24,8 +24,8 @@ use Rattle.machine_types.specs.Construction.{AreFrozen, builds, makes_frozen, Sl
 use Rattle.machine_types.specs.Standing.{Standing, tags_of}
 use Rattle.machine_types.specs.Threads.{Frame}
 use Rattle.machine_types.specs.Worlds.{World, IsFinished}
-use Rattle.shown_laws.proofs.FramePlaces.{of_standing}
-use Rattle.shown_laws.proofs.MarkedMethods.{IsMethod, method_with}
+use Rattle.lock_laws.proofs.FramePlaces.{of_standing}
+use Rattle.lock_laws.proofs.MarkedMethods.{IsMethod, method_with}
 use Rattle.construction_laws.proofs.Slots.{slots_edge}
 use Rattle.construction_laws.proofs.TaggedTypes.{AreAsMany, tags_many}
 use Rattle.construction_laws.proofs.NoThis.{HaveNoThis, no_this}

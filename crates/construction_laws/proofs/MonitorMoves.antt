@@ -34,8 +34,8 @@ use Rattle.machine_types.specs.declared.phase.Phase.{Phase}
 use Rattle.machine_types.specs.declared.phase.Phase.TheVariants as phases
 use Rattle.machine_types.specs.declared.phase.Toward.{Toward}
 use Rattle.machine_types.specs.declared.phase.Toward.TheVariants as towards
-use Rattle.attempt_laws.specs.EntryFrames.{KeepsEntry}
-use Rattle.attempt_laws.proofs.EntryKept.{throws_kept, leaves_kept}
+use Rattle.lock_laws.specs.EntryFrames.{KeepsEntry}
+use Rattle.lock_laws.proofs.EntryKept.{throws_kept, leaves_kept}
 use Rattle.lock_laws.specs.StructureLaws.{StaysStructured, counted_by, turned_from}
 use Rattle.lock_laws.proofs.Turns.{outside as none_outside}
 use Rattle.value_laws.specs.Allowed.{OneOf}

@@ -29,7 +29,7 @@ use Rattle.machine_types.specs.Frames.{frame_on}
 use Rattle.machine_types.specs.Standing.{Standing, row_at}
 use Rattle.machine_types.specs.Threads.{Frame}
 use Rattle.machine_types.specs.Worlds.{Made, Begun, Builder, builder, World, IsFinished, IsWorld, GoesOn}
-use Rattle.shown_laws.proofs.FrameMoves.{edge_fits}
+use Rattle.lock_laws.proofs.FrameMoves.{edge_fits}
 use Rattle.value_laws.specs.Allowed.{OneOf}
 use Rattle.value_laws.proofs.Landing.{rules_at}
 use Rattle.value_laws.proofs.Typing.{edge_at}

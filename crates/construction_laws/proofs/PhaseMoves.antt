@@ -36,12 +36,12 @@ use Rattle.machine_types.specs.declared.effect.Variable.{Variable}
 use Rattle.machine_types.specs.declared.effect.Variable.TheVariants.{Instance, Static}
 use Rattle.machine_types.specs.declared.phase.Phase.{Phase}
 use Rattle.machine_types.specs.declared.phase.Phase.TheVariants as phases
-use Rattle.shown_laws.proofs.FramePlaces.{one_standing_law}
-use Rattle.attempt_laws.proofs.Steps.{no_element_inside}
+use Rattle.lock_laws.proofs.FramePlaces.{one_standing_law}
+use Rattle.lock_laws.proofs.Steps.{no_element_inside}
 use Rattle.lock_laws.specs.StructureLaws.{StaysStructured, counted_by}
-use Rattle.heap_laws.specs.HeapFacts.{HeapFacts}
-use Rattle.heap_laws.proofs.Accesses.{out_there}
-use Rattle.heap_laws.proofs.Lists.{set_here}
+use Rattle.state_laws.specs.HeapFacts.{HeapFacts}
+use Rattle.state_laws.proofs.Accesses.{out_there}
+use Rattle.state_laws.proofs.Lists.{set_here}
 use Rattle.value_laws.specs.Allowed.{IsFieldAt, Allowed}
 use Rattle.value_laws.proofs.Landing.{stand_top}
 use Rattle.value_laws.proofs.TopEffects.{allowed_here}

@@ -42,12 +42,12 @@ use Rattle.machine_types.specs.declared.lock.Kept.{Kept}
 use Rattle.machine_types.specs.declared.lock.Kept.TheVariants as keeps
 use Rattle.machine_types.specs.declared.phase.Phase.{Phase}
 use Rattle.machine_types.specs.declared.phase.Phase.TheVariants as phases
-use Rattle.heap_laws.specs.HeapFacts.{HeapFacts}
-use Rattle.heap_laws.specs.Sites.{Site, Counter, OwnerOf, BitsOf, LockOf, HeaderOf, ValueOf, NewHeaderOf, StaticAt, site_word, IsThere, Suits, ReachesIf}
-use Rattle.heap_laws.proofs.Accesses.{ElementSite}
-use Rattle.heap_laws.proofs.Lists.{contained_got, got_contains, same_or_not, set_here, set_there}
-use Rattle.heap_laws.proofs.Places.{same_object}
-use Rattle.heap_laws.proofs.Sites.{sites_apart, sites_inside}
+use Rattle.state_laws.specs.HeapFacts.{HeapFacts}
+use Rattle.state_laws.specs.Sites.{Site, Counter, OwnerOf, BitsOf, LockOf, HeaderOf, ValueOf, NewHeaderOf, StaticAt, site_word, IsThere, Suits, ReachesIf}
+use Rattle.state_laws.proofs.Accesses.{ElementSite}
+use Rattle.state_laws.proofs.Lists.{contained_got, got_contains, same_or_not, set_here, set_there}
+use Rattle.state_laws.proofs.Places.{same_object}
+use Rattle.state_laws.proofs.Sites.{sites_apart, sites_inside}
 use Rattle.value_laws.specs.Allowed.{IsFieldAt, Allowed}
 use Rattle.construction_laws.proofs.BuiltEffects.{KindOld, Built}
 use Rattle.construction_laws.proofs.InstructionMoves.{IsOutside}

@@ -37,7 +37,7 @@ use Rattle.machine_types.specs.Lawful.{within}
 use Rattle.machine_types.specs.Standing.{Standing, row_at}
 use Rattle.machine_types.specs.Threads.{Frame}
 use Rattle.machine_types.specs.Worlds.{Made, Begun, Builder, builder, World, IsFinished}
-use Rattle.shown_laws.proofs.FrameMoves.{edge_fits}
+use Rattle.lock_laws.proofs.FrameMoves.{edge_fits}
 use Rattle.value_laws.specs.Allowed.{OneOf}
 use Rattle.value_laws.proofs.Callers.{call_edge, row_of_call}
 use Rattle.value_laws.proofs.Calls.{CallRow}

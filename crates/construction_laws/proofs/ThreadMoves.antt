@@ -16,10 +16,10 @@ use Rattle.machine_types.specs.Worlds.{Builder, World, IsFinished, IsOwnOrFinish
 use Rattle.machine_types.specs.declared.lock.Held.{Held}
 use Rattle.machine_types.specs.declared.phase.Phase.{Phase}
 use Rattle.machine_types.specs.declared.phase.Phase.TheVariants as phases
-use Rattle.attempt_laws.specs.EntryFrames.{frames_in, KeepsEntry}
+use Rattle.lock_laws.specs.EntryFrames.{frames_in, KeepsEntry}
 use Rattle.lock_laws.specs.StructureLaws.{counted_by}
 use Rattle.value_laws.proofs.Lists.{all_get}
-use Rattle.heap_laws.proofs.Lists.{contained_got, contains_first, contains_more}
+use Rattle.state_laws.proofs.Lists.{contained_got, contains_first, contains_more}
 use Rattle.construction_laws.proofs.CountedPhases.{PhaseFits}
 use Rattle.construction_laws.proofs.KeptFrames.{KeepsAt, phase_frames_kept, phase_kept, attempt_kept}
 use Rattle.construction_laws.proofs.Moves.{Steps}

@@ -2,9 +2,9 @@
 
 ghost use Rattle.construction_laws.specs.ConstructionLaws.{EventsKeepConstruction, NextKeepsConstruction, StartHasConstruction};
 
-use heap_laws::start_has_heap;
 use lock_laws::{next_keeps_structure, structure_is_kept};
 use machine_types::start_lies_apart;
+use state_laws::start_has_heap;
 
 /// At the start of a run no object is unfinished.
 pub fn start_has_construction()

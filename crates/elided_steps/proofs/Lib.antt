@@ -1,0 +1,27 @@
+mod Outside
+mod GoingOn
+mod ReadPlaces
+mod StayPlaces
+mod Instructions
+mod Phases
+mod Growth
+pub mod SilentAttempts
+pub mod FreeLocks
+pub mod FieldRules
+pub mod FieldWriters
+pub mod OwnBuilders
+pub mod LockNoted
+pub mod StayingPlaces
+pub mod OthersKeep
+pub mod Inside
+pub mod InsideWords
+pub mod InsideMoves
+pub mod InsideBeside
+pub mod InsideTallies
+mod CountedActs
+mod PlayedDue
+mod WholeSections
+mod FinishedPlaces
+mod DoneSections
+mod PartsUnderWay
+mod FinishedSections

@@ -21,9 +21,9 @@ use Rattle.machine_types.specs.Worlds.{World}
 use Rattle.machine_types.specs.declared.config.Config.{Config}
 use Rattle.machine_types.specs.declared.phase.Phase.{Phase}
 use Rattle.lock_laws.specs.StateLaws.{counted_after}
-use Rattle.heap_laws.specs.HeapFacts.{objects_after}
-use Rattle.record_laws.specs.RunFacts.{HaveWidth}
-use Rattle.reached_laws.specs.StateFacts.{StateFacts}
+use Rattle.state_laws.specs.HeapFacts.{objects_after}
+use Rattle.state_laws.specs.RunFacts.{HaveWidth}
+use Rattle.state_laws.specs.StateFacts.{StateFacts}
 use Rattle.agreement.specs.StandsBeside.{StandsBeside}
 
 abbrev pub next_free : Core → ℕ

@@ -17,7 +17,7 @@ use Rattle.machine_types.specs.Worlds.{World}
 use Rattle.machine_types.specs.declared.config.Config.{Config}
 use Rattle.machine_types.specs.declared.phase.Phase.{Phase}
 use Rattle.machine_types.specs.declared.plain.PlainStep.{PlainStep}
-use Rattle.heap_laws.specs.HeapFacts.{objects_after}
+use Rattle.state_laws.specs.HeapFacts.{objects_after}
 use Rattle.agreement.specs.StandsBeside.{StandsBeside}
 use Rattle.agreement.specs.StepsBeside.{StepsBeside}
 use Rattle.outcome_steps.specs.OutcomeLaws.{StandsToMove}

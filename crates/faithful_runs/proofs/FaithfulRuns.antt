@@ -29,9 +29,9 @@ use Rattle.machine_types.specs.declared.plain.PlainStep.{PlainStep}
 use Rattle.lock_laws.specs.PartLaws.{counted_next}
 use Rattle.lock_laws.specs.StateLaws.{counted_of, counted_after}
 use Rattle.limit_laws.specs.GivenThread.{GivenIsKept}
-use Rattle.heap_laws.specs.HeapFacts.{objects_after}
-use Rattle.record_laws.specs.RunFacts.{HaveWidth}
-use Rattle.reached_laws.specs.StateFacts.{StateFacts}
+use Rattle.state_laws.specs.HeapFacts.{objects_after}
+use Rattle.state_laws.specs.RunFacts.{HaveWidth}
+use Rattle.state_laws.specs.StateFacts.{StateFacts}
 use Rattle.construction_laws.specs.ConstructionLaws.{no_builders, BuildsOn}
 use Rattle.agreement.specs.StandsBeside.{StandsBeside}
 use Rattle.outcome_steps.specs.OutcomeLaws.{WorkersKeepNone}

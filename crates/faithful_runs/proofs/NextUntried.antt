@@ -14,7 +14,7 @@ use Rattle.machine_types.specs.Threads.{Attempt, Thread}
 use Rattle.machine_types.specs.declared.phase.Phase.{Phase}
 use Rattle.machine_types.specs.declared.phase.Phase.TheVariants as phases
 use Rattle.lock_laws.specs.PartLaws.{PartFits, PartsFit}
-use Rattle.memory_steps.proofs.PartsDue.{no_attempt}
+use Rattle.event_steps.proofs.PartsDue.{no_attempt}
 
 -- ---- one thread
 

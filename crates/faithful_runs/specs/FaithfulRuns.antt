@@ -7,7 +7,7 @@ use Rattle.machine_types.specs.Faithful.{IsFaithful}
 use Rattle.machine_types.specs.MarkLaws.{HasFrozenTest}
 use Rattle.machine_types.specs.Settings.{AreSettings}
 use Rattle.machine_types.specs.declared.config.Config.{Config}
-use Rattle.record_laws.specs.RunFacts.{HaveWidth}
+use Rattle.state_laws.specs.RunFacts.{HaveWidth}
 use Rattle.construction_laws.specs.ConstructionLaws.{StartHasConstruction, EventsKeepConstruction, NextKeepsConstruction}
 use Rattle.guard_laws.specs.GuardLaws.{EventsKeepGuards}
 use Rattle.elided_steps.specs.ElidedSteps.{OthersKeepAttempts, OwnKeepsAttempt, AttemptsAreSilent, AttemptsStandBeside, SectionsFinish, AttemptsAreCounted, FinishesAreCounted, AttemptsPrintNothing}

@@ -2,27 +2,24 @@
 
 ghost use Rattle.faithful_runs.specs.FaithfulRuns.{RunsAreFaithful, RunsFollow};
 
-use attempt_growth::own_keeps_attempt;
-use attempt_stability::others_keep_attempts;
-use attempt_steps::{
-    attempts_are_counted, attempts_are_silent, attempts_print_nothing, attempts_stand_beside,
-    finishes_are_counted,
-};
 use construction_laws::{
     events_keep_construction, next_keeps_construction, start_has_construction,
 };
-use frame_steps::frame_steps;
+use elided_steps::{
+    attempts_are_counted, attempts_are_silent, attempts_print_nothing, attempts_stand_beside,
+    finishes_are_counted, others_keep_attempts, own_keeps_attempt, sections_finish,
+};
+use event_steps::{
+    frame_steps, lock_steps, memory_steps, next_stands_beside, onward_steps, start_stands_beside,
+    wait_phase_steps, waiting_steps,
+};
 use guard_laws::events_keep_guards;
 use limit_laws::given_is_kept;
-use lock_steps::lock_steps;
 use machine_types::{frozen_classes_are_told, instructions_change_memory};
-use memory_steps::{memory_steps, next_stands_beside, onward_steps, start_stands_beside};
-use reached_laws::{
+use state_laws::{
     events_keep_state, events_make_no_attempts, next_keeps_state, next_makes_no_attempts,
     parts_keep_threads, start_has_no_attempts, start_has_state,
 };
-use section_finish::sections_finish;
-use wait_steps::{wait_phase_steps, waiting_steps};
 
 /// Where each event outside attempts stands for plain steps, and each one inside for none but where its section is done, every
 /// run is faithful: its shadow is a plain run, whose steps its counts count, whose prints are its own, and whose parts ended as

@@ -47,14 +47,14 @@ use Rattle.value_laws.proofs.Landing.{stand_top}
 use Rattle.value_laws.proofs.Onwards.{same_op}
 use Rattle.value_laws.proofs.TopStand.{top_here}
 use Rattle.value_laws.proofs.TopEffects.{taken_here, allowed_here}
-use Rattle.heap_laws.specs.HeapFacts.{HeapFacts}
-use Rattle.heap_laws.specs.SiteLaws.{EventsReachSites, SitesDiffer, SitesLieInside}
-use Rattle.heap_laws.specs.Sites.{Site, ValueOf, StaticAt, site_word, IsThere, Suits}
-use Rattle.heap_laws.proofs.Accesses.{out_there}
-use Rattle.heap_laws.proofs.Lists.{contained_got}
-use Rattle.heap_laws.proofs.Places.{same_object}
-use Rattle.record_laws.proofs.EventWords.{IsLeft, word_at}
-use Rattle.record_laws.proofs.LeftStands.{loaded}
+use Rattle.state_laws.specs.HeapFacts.{HeapFacts}
+use Rattle.state_laws.specs.SiteLaws.{EventsReachSites, SitesDiffer, SitesLieInside}
+use Rattle.state_laws.specs.Sites.{Site, ValueOf, StaticAt, site_word, IsThere, Suits}
+use Rattle.state_laws.proofs.Accesses.{out_there}
+use Rattle.state_laws.proofs.Lists.{contained_got}
+use Rattle.state_laws.proofs.Places.{same_object}
+use Rattle.state_laws.proofs.EventWords.{IsLeft, word_at}
+use Rattle.state_laws.proofs.LeftStands.{loaded}
 use Rattle.guard_laws.proofs.WrittenFields.{Puts, field_put}
 
 -- ---- a frame that writes the field of an object

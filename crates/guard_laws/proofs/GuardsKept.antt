@@ -24,9 +24,9 @@ use Rattle.machine_types.specs.Words.{value_word}
 use Rattle.machine_types.specs.declared.lock.Held.{Held}
 use Rattle.machine_types.specs.declared.phase.Phase.{Phase}
 use Rattle.machine_types.specs.declared.phase.Phase.TheVariants as phases
-use Rattle.attempt_laws.proofs.Inside.{stack_this}
-use Rattle.heap_laws.specs.HeapFacts.{HeapFacts}
-use Rattle.heap_laws.specs.SiteLaws.{EventsReachSites, SitesDiffer, SitesLieInside}
+use Rattle.lock_laws.proofs.Inside.{stack_this}
+use Rattle.state_laws.specs.HeapFacts.{HeapFacts}
+use Rattle.state_laws.specs.SiteLaws.{EventsReachSites, SitesDiffer, SitesLieInside}
 use Rattle.guard_laws.specs.GuardLaws.{EventsKeepGuards}
 use Rattle.guard_laws.proofs.FieldWriters.{Writer, TopWrites, IsWriter, field_writer}
 use Rattle.guard_laws.proofs.ShownMonitors.{holds_receiver}

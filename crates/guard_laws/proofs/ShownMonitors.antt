@@ -20,7 +20,7 @@ use Rattle.machine_types.specs.Threads.{Frame}
 use Rattle.machine_types.specs.declared.lock.Held.{Held}
 use Rattle.machine_types.specs.declared.phase.Phase.TheVariants as phases
 use Rattle.lock_laws.proofs.HeldLists.{depth_none}
-use Rattle.shown_laws.proofs.FramePlaces.{one_standing}
+use Rattle.lock_laws.proofs.FramePlaces.{one_standing}
 
 -- ---- counts
 

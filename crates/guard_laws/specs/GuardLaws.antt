@@ -11,8 +11,8 @@ use Rattle.machine_types.specs.Threads.{Thread}
 use Rattle.machine_types.specs.Worlds.{World}
 use Rattle.machine_types.specs.declared.config.Config.{Config}
 use Rattle.machine_types.specs.declared.phase.Phase.{Phase}
-use Rattle.record_laws.specs.RunFacts.{HaveWidth}
-use Rattle.reached_laws.specs.StateFacts.{StateFacts}
+use Rattle.state_laws.specs.RunFacts.{HaveWidth}
+use Rattle.state_laws.specs.StateFacts.{StateFacts}
 
 abbrev pub EventsKeepGuards : Type 0
 EventsKeepGuards = (c : MarkedProgram) (cfg : Config) (objects : List Object) (was : ℕ → Phase) (frozen : ℕ → Bool) (w : World) (s : Core) (t : ℕ) (x : Thread) → IsMarked c → HaveWidth cfg → StateFacts c cfg objects was s

@@ -1,193 +1,128 @@
--- A thread enters a monitor.
-use Rattle.std.proofs.Common.{◌≡◌, ℕ, ◌+◌, Bool, true, false, cond, List, [], ◌∷◌, length, Option, Some, None, refl, sym, ap, subst, arith}
-use Rattle.std.specs.Prelude.{◌==◌, nat_lt}
+-- Where a section begins: at pc 0 no tag is held, and right behind a `monitorenter` the tag that it took is the innermost.
+use Rattle.std.proofs.Common.{◌≡◌, ◌⊎◌, inl, inr, ⊎_elim, ℕ, suc, ◌<◌, true, false, List, [], ◌∷◌, ◌++◌, length, Option, Some, None, refl, sym, ap, ◌∙◌, subst, arith}
+use Rattle.std.specs.Prelude.{◌==◌, ◌||◌, IsSomeAnd, slice_get, if◌then◌else◌}
+use Rattle.std.proofs.lemmas.Bool.{cases_order}
 use Rattle.std.proofs.lemmas.Bool.Decides.{nat_tests}
+use Rattle.std.proofs.lemmas.Option.{slice_get-get_or}
+use Rattle.lists.proofs.ListLaws.{same_some}
+use Rattle.jvm_types.specs.CodeTable.{branches_to, falls_through}
+use Rattle.jvm_types.specs.Numbers.{has_number}
+use Rattle.jvm_types.specs.Verifying.{IsLaidOut, edges}
+use Rattle.jvm_types.specs.declared.code.Insn.{Insn}
+use Rattle.jvm_types.specs.declared.code.Op.{Op}
+use Rattle.jvm_types.specs.declared.code.Op.TheVariants as ops
+use Rattle.jvm_types.specs.declared.op_row.OpRow.{OpRow}
+use Rattle.jvm_types.specs.declared.program.Target.{Target}
+use Rattle.jvm_types.specs.declared.program.MethodInfo.{MethodInfo}
+use Rattle.program_laws.proofs.CodeOrder.{ascend, one_number, short, follows}
+use Rattle.checked_program.specs.LockTags.{TagShape, IsShapeBelow, entry_tags}
 use Rattle.checked_program.specs.MarkedProgram.{MarkedProgram, IsMarked}
-use Rattle.machine_types.specs.Elision.{tries, begins, enters_marked}
-use Rattle.machine_types.specs.Going.{with_phase, runs, failed_turn}
-use Rattle.machine_types.specs.HeldMonitors.{held_at, with_held, deeper}
-use Rattle.machine_types.specs.LockWords.{lock_of}
-use Rattle.machine_types.specs.Monitors.{Tries, HasNot, claim, claim_by, flag_from, acquires, enter_moves, takes}
-use Rattle.machine_types.specs.Structure.{TopEnters, Stands, AttemptStands, AttemptStandsIn, held_depth, tried_depth, once_at}
-use Rattle.machine_types.specs.Threads.{Frame, Attempt, Thread}
-use Rattle.machine_types.specs.declared.lock.Held.{Held}
-use Rattle.machine_types.specs.declared.lock.Kept.{Kept}
-use Rattle.machine_types.specs.declared.lock.LockWord.{LockWord}
-use Rattle.machine_types.specs.declared.lock.LockWord.TheVariants as locks
-use Rattle.machine_types.specs.declared.phase.Phase.{Phase}
-use Rattle.machine_types.specs.declared.phase.Phase.TheVariants as phases
-use Rattle.lock_laws.specs.StructureLaws.{StaysStructured, turned_from}
-use Rattle.lock_laws.proofs.HeldLists.{held_monitor, depth_some, depth_none, raised, once_put}
-use Rattle.attempt_laws.specs.InsideMoves.{BeginsAttempt, EntersInside}
-use Rattle.lock_laws.proofs.GoingOn.{entered_frame}
-use Rattle.lock_laws.proofs.Turns.{TurnsIn, running, turning, no_attempt, held_outside}
+use Rattle.checked_program.specs.TaggedCode.{IsAt, onward, row_of}
+use Rattle.checked_program.specs.Tagging.{enters_untagged, tags_after, tags_by_op, IsSound}
+use Rattle.checked_program.specs.Visits.{frame_at}
+use Rattle.checked_program.specs.declared.tag.Tag.{Tag}
+use Rattle.section_laws.proofs.MonitorExits.{held_law}
+use Rattle.lock_laws.proofs.FramePlaces.{of_standing}
+use Rattle.lock_laws.proofs.MarkedMethods.{found_at}
+use Rattle.machine_types.specs.Standing.{Standing, tags_of}
+use Rattle.machine_types.specs.Structure.{IsBehindEntry}
+use Rattle.machine_types.specs.Threads.{Frame}
+use Rattle.lock_laws.proofs.Standings.{are_tagged, laid}
 
--- ---- the lock is looked at, taken or flagged: the phases of that are alike
+-- ---- pcs
 
-module _ (c : MarkedProgram) (s : Thread) (m : ℕ) where
-  to_take : (count : ℕ) → Stands c (phases.Acquire m) s.frames s.held s.attempt → Stands c (phases.Take m count) s.frames s.held s.attempt
-  to_take count k = record { shown = k.shown; show = k.show; depths = k.depths; once = k.once; phase_shows = k.phase_shows }
+pub next_later : (m : MethodInfo) (i : ℕ) (insn : Insn) → IsLaidOut m → slice_get m.code i ≡ Some insn → insn.pc < insn.next
+next_later m i insn l e = by_place (follows m i insn l e)
+  where
+    by_place : ((other : Insn) × (slice_get m.code (suc i) ≡ Some other) × (other.pc ≡ insn.next)) ⊎ ((suc i ≡ length m.code) × (insn.next ≡ length l.bytes)) → insn.pc < insn.next
+    by_place (inl (other, f, p)) = let up : insn.pc < other.pc = ascend m i (suc i) insn other l e f (omega arith) in omega (arith, up, p)
+    by_place (inr (last, p)) = let up = (short m i insn l e).0 in omega (arith, up, p)
 
-  to_flag : (u : ℕ) → Stands c (phases.Acquire m) s.frames s.held s.attempt → Stands c (phases.Flag m u) s.frames s.held s.attempt
-  to_flag u k = record { shown = k.shown; show = k.show; depths = k.depths; once = k.once; phase_shows = k.phase_shows }
+-- the `monitorenter` that a frame stands right behind
+pub record Entered (c : MarkedProgram) (f : Frame) (k : Standing c f) : Type 0 where
+  pub at : ℕ
+  pub insn : Insn
+  pub there : slice_get k.method.code at ≡ Some insn
+  pub enters : insn.op ≡ ops.Monitorenter
+  pub next : insn.next ≡ f.pc
+  pub before : k.number ≡ suc at
 
-  to_take_fat : (r : ℕ) → Stands c (phases.Acquire m) s.frames s.held s.attempt → Stands c (phases.TakeFat m r) s.frames s.held s.attempt
-  to_take_fat r k = record { shown = k.shown; show = k.show; depths = k.depths; once = k.once; phase_shows = k.phase_shows }
-
-  pub from_take : (count : ℕ) → Stands c (phases.Take m count) s.frames s.held s.attempt → Stands c (phases.Acquire m) s.frames s.held s.attempt
-  from_take count k = record { shown = k.shown; show = k.show; depths = k.depths; once = k.once; phase_shows = k.phase_shows }
-
-  pub from_flag : (u : ℕ) → Stands c (phases.Flag m u) s.frames s.held s.attempt → Stands c (phases.Acquire m) s.frames s.held s.attempt
-  from_flag u k = record { shown = k.shown; show = k.show; depths = k.depths; once = k.once; phase_shows = k.phase_shows }
-
-  pub from_take_fat : (r : ℕ) → Stands c (phases.TakeFat m r) s.frames s.held s.attempt → Stands c (phases.Acquire m) s.frames s.held s.attempt
-  from_take_fat r k = record { shown = k.shown; show = k.show; depths = k.depths; once = k.once; phase_shows = k.phase_shows }
-
-  acquire_turns : Stands c (phases.Acquire m) s.frames s.held s.attempt → TurnsIn c (phases.Acquire m) s
-  acquire_turns k = record { counts = tt; stands = k; inside = no_attempt c (phases.Acquire m) s.frames s.held s.attempt k.phase_shows.no_attempt }
-
-  flag_turns : (u : ℕ) → Stands c (phases.Acquire m) s.frames s.held s.attempt → TurnsIn c (phases.Flag m u) s
-  flag_turns u k = record { counts = tt; stands = to_flag u k; inside = no_attempt c (phases.Flag m u) s.frames s.held s.attempt k.phase_shows.no_attempt }
-
-  -- by what the lock word says
-  pub acquiring : (was : Phase) → turned_from was ≡ phases.Acquire m → Stands c (phases.Acquire m) s.frames s.held s.attempt → (lock : LockWord) → StaysStructured c was (acquires s m lock)
-  acquiring was from k (locks.Free count) = record { is_as = refl; stands = to_take count k; attempt = no_attempt c (phases.Take m count) s.frames s.held s.attempt k.phase_shows.no_attempt }
-  acquiring was from k (locks.Held u) = by_turns (nat_lt (s.turns + 1) flag_from)
+module _ (c : MarkedProgram) (marked : IsMarked c) where
+  pub entered_before : (f : Frame) (k : Standing c f) → IsBehindEntry k.method.code f.pc → Entered c f k
+  entered_before f k (insn, (i, within, is), op, next) = by_place (follows k.method i insn (laid c marked f k) there)
     where
-      limit : TurnsIn c (turned_from was) s
-      limit = subst (λ (phase : Phase). TurnsIn c phase s) (sym from) (acquire_turns k)
+      there : slice_get k.method.code i ≡ Some insn
+      there = slice_get-get_or k.method.code i insn within ∙ ap Some is
 
-      by_turns : (few : Bool) → StaysStructured c was (failed_turn s (cond few (phases.Acquire m) (phases.Flag m u)))
-      by_turns true = turning c was s (phases.Acquire m) (acquire_turns k) limit
-      by_turns false = turning c was s (phases.Flag m u) (flag_turns u k) limit
-  acquiring was from k (locks.Flagged u) = turning c was s (phases.Acquire m) (acquire_turns k) (subst (λ (phase : Phase). TurnsIn c phase s) (sym from) (acquire_turns k))
-  acquiring was from k (locks.Fat r) = record { is_as = refl; stands = to_take_fat r k; attempt = no_attempt c (phases.TakeFat m r) s.frames s.held s.attempt k.phase_shows.no_attempt }
+      by_place : ((other : Insn) × (slice_get k.method.code (suc i) ≡ Some other) × (other.pc ≡ insn.next)) ⊎ ((suc i ≡ length k.method.code) × (insn.next ≡ length (laid c marked f k).bytes)) → Entered c f k
+      by_place (inl (other, e, p)) = record { at = i; insn = insn; there = there; enters = op; next = next; before = one_number k.method k.number (suc i) k.insn other (laid c marked f k) k.at.in_code e (k.pc_is ∙ sym next ∙ sym p) }
+      by_place (inr (last, p)) = absurd (let inside = (short k.method k.number k.insn (laid c marked f k) k.at.in_code).0 in let here = k.pc_is in omega (arith, inside, here, p, next))
 
-  -- the lock was not free
-  pub turned_back : (count : ℕ) → Stands c (phases.Acquire m) s.frames s.held s.attempt → StaysStructured c (phases.Take m count) (failed_turn s (phases.Acquire m))
-  turned_back count k = turning c (phases.Take m count) s (phases.Acquire m) (acquire_turns k) (acquire_turns k)
-
-  pub turned_back_fat : (r : ℕ) → Stands c (phases.Acquire m) s.frames s.held s.attempt → StaysStructured c (phases.TakeFat m r) (failed_turn s (phases.TakeFat m r))
-  turned_back_fat r k = turning c (phases.TakeFat m r) s (phases.TakeFat m r) turns turns
+  -- an instruction at the pc before that of the frame is that `monitorenter`
+  pub just_before : (f : Frame) (k : Standing c f) (e : Entered c f k) (j : ℕ) (other : Insn) → slice_get k.method.code j ≡ Some other → suc other.pc ≡ f.pc → j ≡ e.at
+  just_before f k e j other there p = ⊎_elim
+      (λ (h : j ≡ e.at). h)
+      (λ (h : (j < e.at) ⊎ (e.at < j)). ⊎_elim
+      (λ (l : j < e.at). absurd (let up : other.pc < e.insn.pc = ascend k.method j e.at other e.insn (laid c marked f k) there e.there l in omega (arith, up, p, later, e.next)))
+      (λ (l : e.at < j). ⊎_elim
+      (λ (same : j ≡ k.number). absurd (let pcs : other.pc ≡ k.insn.pc = one_pc same in omega (arith, pcs, p, here)))
+      (λ (h : (j < k.number) ⊎ (k.number < j)). ⊎_elim
+      (λ (q : j < k.number). absurd (let b = e.before in omega (arith, q, l, b)))
+      (λ (q : k.number < j). absurd (let up : k.insn.pc < other.pc = ascend k.method k.number j k.insn other (laid c marked f k) k.at.in_code there q in omega (arith, up, p, here))) h)
+      (cases_order j k.number)) h)
+      (cases_order j e.at)
     where
-      turns : TurnsIn c (phases.TakeFat m r) s
-      turns = record { counts = tt; stands = to_take_fat r k; inside = no_attempt c (phases.TakeFat m r) s.frames s.held s.attempt k.phase_shows.no_attempt }
+      later : e.insn.pc < e.insn.next
+      later = next_later k.method e.at e.insn (laid c marked f k) e.there
 
-  pub looks_at_lock : (was : Phase) → Stands c (phases.Acquire m) s.frames s.held s.attempt → StaysStructured c was (with_phase s (phases.Acquire m))
-  looks_at_lock was k = record { is_as = refl; stands = k; attempt = no_attempt c (phases.Acquire m) s.frames s.held s.attempt k.phase_shows.no_attempt }
+      here : k.insn.pc ≡ f.pc
+      here = k.pc_is
 
-  -- the entry is made
-  pub taken : (was : Phase) (kept : Kept) → Stands c (phases.Acquire m) s.frames s.held s.attempt → StaysStructured c was (takes s m kept)
-  taken was kept k = running c was (record s { held = with_held entry s.held; counts = record s.counts { locked = s.counts.locked + 1 } }) stands (no_attempt c phases.Run s.frames (with_held entry s.held) s.attempt k.phase_shows.no_attempt)
+      one_pc : j ≡ k.number → other.pc ≡ k.insn.pc
+      one_pc same = ap (λ (x : Insn). x.pc) (same_some (sym there ∙ ap (λ n. slice_get k.method.code n) same ∙ k.at.in_code))
+
+  -- ---- tags
+
+  -- at the start of a method
+  pub none_held : (f : Frame) (k : Standing c f) → f.pc ≡ 0 → k.tags.held ≡ []
+  none_held f k first = by_frame (frame_at k.method.code k.at.frames 0) refl (of_standing c marked f k).sound.entry
     where
-      entry : Held
-      entry = record { monitor = m; kept = kept; depth = 1 }
+      by_frame : (o : Option TagShape) → frame_at k.method.code k.at.frames 0 ≡ o → IsSomeAnd o (λ g. IsShapeBelow (entry_tags k.method) g) → k.tags.held ≡ []
+      by_frame None q h = absurd h
+      by_frame (Some g) q h =
+          let l = found_at k.method.code k.at.frames 0 g q in
+          let same : l.0 ≡ k.number = one_number k.method l.0 k.number l.1 k.insn (laid c marked f k) l.2 k.at.in_code (l.3 ∙ sym (k.pc_is ∙ first)) in
+          let tags : k.tags ≡ g = same_some (same_some (sym k.at.frame ∙ ap (λ i. slice_get k.at.frames i) (sym same) ∙ l.4)) in
+          let below : IsShapeBelow (entry_tags k.method) g = h in
+          ap (λ (x : TagShape). x.held) tags ∙ sym below.held
 
-      raised_at : (n : ℕ) → held_depth n (with_held entry s.held) ≡ held_depth n s.held + once_at m n
-      raised_at n = let none : held_depth m s.held ≡ 0 = depth_none m s.held k.phase_shows.not_held in raised m n entry s.held refl (omega arith)
-
-      stands : Stands c phases.Run s.frames (with_held entry s.held) s.attempt
-      stands = record {
-        shown = k.shown;
-        show = k.show;
-        depths = λ n. let d = k.depths n in let more = raised_at n in omega arith;
-        once = once_put entry s.held (omega arith) k.once;
-        phase_shows = entered_frame c m s.frames k.phase_shows.entry.enters;
-      }
-
--- ---- an entry begins
-
-tried_once : (b : Bool) → cond b (0 + 1) 0 ≡ cond b 1 0
-tried_once true = refl
-tried_once false = refl
-
-tried_deeper : (b : Bool) (inner : ℕ) → cond b (inner + 1 + 1) 0 ≡ cond b (inner + 1) 0 + cond b 1 0
-tried_deeper true inner = omega arith
-tried_deeper false inner = omega arith
-
--- the monitor is held
-module _ (begin : BeginsAttempt) (entered_again : EntersInside) (c : MarkedProgram) (s : Thread) (m tried : ℕ) (k : Stands c (phases.Enter m tried) s.frames s.held s.attempt) (inside : AttemptStandsIn c (phases.Enter m tried) s.frames s.held s.attempt) where
-  pub again : (h : Held) → held_at s.held m ≡ Some h → StaysStructured c (phases.Enter m tried) (runs (record s { held = with_held (deeper h) s.held }))
-  again h e = running c (phases.Enter m tried) (record s { held = with_held (deeper h) s.held }) stands (no_attempt c phases.Run s.frames (with_held (deeper h) s.held) s.attempt (held_outside c (phases.Enter m tried) m h s.frames s.held s.attempt (λ n same. same) e inside))
+  -- behind a `monitorenter`
+  taken : (pc : ℕ) (row : OpRow) (op : Op) (f : TagShape) → op ≡ ops.Monitorenter → enters_untagged op f.stack ≡ false → (t : Tag) × (ts : List Tag) × (f.stack ≡ t ∷ ts) × ((tags_by_op pc row op f.stack f).held ≡ t ∷ f.held)
+  taken pc row op f is e = by_stack f.stack refl (subst (λ o. enters_untagged o f.stack ≡ false) is e)
     where
-      raised_at : (n : ℕ) → held_depth n (with_held (deeper h) s.held) ≡ held_depth n s.held + once_at m n
-      raised_at n = raised m n (deeper h) s.held (held_monitor m s.held h e) (ap (λ (i : ℕ). i + 1) (sym (depth_some m s.held h e)))
+      by_stack : (ts : List Tag) → f.stack ≡ ts → enters_untagged ops.Monitorenter ts ≡ false → (t : Tag) × (rest : List Tag) × (f.stack ≡ t ∷ rest) × ((tags_by_op pc row op f.stack f).held ≡ t ∷ f.held)
+      by_stack [] q z = absurd (let bad : true ≡ false = z in cc)
+      by_stack (t ∷ ts) q z = (t, ts, q, ap (λ o. (tags_by_op pc row o f.stack f).held) is ∙ ap (λ s. (tags_by_op pc row ops.Monitorenter s f).held) q)
 
-      stands : Stands c phases.Run s.frames (with_held (deeper h) s.held) s.attempt
-      stands = record {
-        shown = k.shown;
-        show = k.show;
-        depths = λ n. let d = k.depths n in let more = raised_at n in omega arith;
-        once = once_put (deeper h) s.held (omega arith) k.once;
-        phase_shows = entered_frame c m s.frames k.phase_shows.enters;
-      }
-
-  -- the lock is to be taken
-  pub to_acquire : held_at s.held m ≡ None → s.attempt ≡ None → Stands c (phases.Acquire m) s.frames s.held s.attempt
-  to_acquire e none = record { shown = k.shown; show = k.show; depths = k.depths; once = k.once; phase_shows = record { entry = k.phase_shows; not_held = e; no_attempt = none } }
-
-  -- an attempt begins
-  begun : IsMarked c → held_at s.held m ≡ None → s.attempt ≡ None → enters_marked c s.frames ≡ true → (noted number : ℕ) (fs : List Frame) → s.frames ≡ fs → StaysStructured c (phases.Enter m tried) (begins s fs m noted number)
-  begun marked e none may noted number [] f = absurd (subst (λ (fs : List Frame). TopEnters c m fs) f k.phase_shows.enters)
-  begun marked e none may noted number (f ∷ below) same = running c (phases.Enter m tried) (record s { attempt = Some a }) stands (subst (λ (fs : List Frame). AttemptStands c phases.Run fs s.held a) (sym same) tried_there)
+  goes_next : (op : Op) (next pc : ℕ) → op ≡ ops.Monitorenter → next ≡ pc → has_number (branches_to op ++ (if falls_through op then next ∷ [] else [])) pc ≡ true
+  goes_next op next pc is p = subst (λ o. has_number (branches_to o ++ (if falls_through o then next ∷ [] else [])) pc ≡ true) (sym is) (one (grind (arith, nat_tests, p)))
     where
-      a : Attempt
-      a = record { monitor = m; noted = noted; base = length below; number = number; inner = 0; entry = f }
+      one : (next == pc) ≡ true → ((next == pc) || false) ≡ true
+      one q = rw q refl
 
-      before : Stands c (phases.Enter m tried) (f ∷ below) s.held None
-      before = subst (λ (fs : List Frame). Stands c (phases.Enter m tried) fs s.held None) same (subst (λ (o : Option Attempt). Stands c (phases.Enter m tried) s.frames s.held o) none k)
+  -- the tags of the `monitorenter`, the tag that it took, and the edge
+  pub record Took (f : Frame) (k : Standing c f) (g : TagShape) (insn : Insn) (target : Target) : Type 0 where
+    pub taken_tag : Tag
+    pub others : List Tag
+    pub stack : g.stack ≡ taken_tag ∷ others
+    pub held : k.tags.held ≡ taken_tag ∷ g.held
+    pub edge : has_number (edges insn) k.insn.pc ≡ true
+    pub brings : (tags_after insn (row_of c.program k.method insn target) g).held ≡ k.tags.held
 
-      tried_there : AttemptStands c phases.Run (f ∷ below) s.held a
-      tried_there = begin c m tried noted number f below s.held marked before e (subst (λ (fs : List Frame). enters_marked c fs ≡ true) same may)
-
-      stands : Stands c phases.Run s.frames s.held (Some a)
-      stands = record {
-        shown = k.shown;
-        show = k.show;
-        depths = λ n. let d = k.depths n in let now : tried_depth n s.attempt ≡ 0 = ap (tried_depth n) none in let here = tried_once (m == n) in omega arith;
-        once = k.once;
-        phase_shows = entered_frame c m s.frames k.phase_shows.enters;
-      }
-
-  -- by the lock word that was found
-  trying : IsMarked c → held_at s.held m ≡ None → s.attempt ≡ None → enters_marked c s.frames ≡ true → (lock : LockWord) → StaysStructured c (phases.Enter m tried) (tries s m tried lock)
-  trying marked e none may (locks.Free noted) = by_range (nat_lt noted s.cfg.range)
-    where
-      by_range : (within : Bool) → StaysStructured c (phases.Enter m tried) (cond within (begins s s.frames m noted (tried + 1)) (with_phase s (phases.Acquire m)))
-      by_range true = begun marked e none may noted (tried + 1) s.frames refl
-      by_range false = looks_at_lock c s m (phases.Enter m tried) (to_acquire e none)
-  trying marked e none may (locks.Held u) = looks_at_lock c s m (phases.Enter m tried) (to_acquire e none)
-  trying marked e none may (locks.Flagged u) = looks_at_lock c s m (phases.Enter m tried) (to_acquire e none)
-  trying marked e none may (locks.Fat r) = looks_at_lock c s m (phases.Enter m tried) (to_acquire e none)
-
-  -- inside an attempt on the monitor
-  deeper_inside : (a : Attempt) → s.attempt ≡ Some a → a.monitor ≡ m → StaysStructured c (phases.Enter m tried) (runs (record s { attempt = Some (record a { inner = a.inner + 1 }) }))
-  deeper_inside a e on = running c (phases.Enter m tried) (record s { attempt = Some (record a { inner = a.inner + 1 }) }) stands (entered_again c m tried s.frames s.held a (subst (λ (o : Option Attempt). AttemptStandsIn c (phases.Enter m tried) s.frames s.held o) e inside))
-    where
-      stands : Stands c phases.Run s.frames s.held (Some (record a { inner = a.inner + 1 }))
-      stands = record {
-        shown = k.shown;
-        show = k.show;
-        depths = λ n. let d = k.depths n in let now : tried_depth n s.attempt ≡ tried_depth n (Some a) = ap (tried_depth n) e in let here : once_at m n ≡ once_at a.monitor n = ap (λ (i : ℕ). once_at i n) (sym on) in let more = tried_deeper (a.monitor == n) a.inner in omega arith;
-        once = k.once;
-        phase_shows = entered_frame c m s.frames k.phase_shows.enters;
-      }
-
-  pub entering : IsMarked c → (may : Bool) (got : ℕ) → (may ≡ true → enters_marked c s.frames ≡ true) → StaysStructured c (phases.Enter m tried) (enter_moves s m tried may (claim s m) got)
-  entering marked may got on = by_held (held_at s.held m) refl s.attempt refl
-    where
-      unheld : (b : Bool) → b ≡ may → held_at s.held m ≡ None → s.attempt ≡ None → StaysStructured c (phases.Enter m tried) (enter_moves s m tried b HasNot got)
-      unheld true f e none = trying marked e none (on (sym f)) (lock_of got)
-      unheld false f e none = acquiring c s m (phases.Enter m tried) refl (to_acquire e none) (lock_of got)
-
-      inside_of : (a : Attempt) → s.attempt ≡ Some a → m ≡ a.monitor
-      inside_of a e = (subst (λ (o : Option Attempt). AttemptStandsIn c (phases.Enter m tried) s.frames s.held o) e inside).inside
-
-      by_monitor : (a : Attempt) → s.attempt ≡ Some a → (b : Bool) → (a.monitor == m) ≡ b → StaysStructured c (phases.Enter m tried) (enter_moves s m tried may (cond b (Tries a) HasNot) got)
-      by_monitor a e true f = deeper_inside a e (sym (inside_of a e))
-      by_monitor a e false f = let same : m ≡ a.monitor = inside_of a e in absurd (grind (arith, nat_tests, f, same))
-
-      by_held : (o : Option Held) → held_at s.held m ≡ o → (q : Option Attempt) → s.attempt ≡ q → StaysStructured c (phases.Enter m tried) (enter_moves s m tried may (claim_by m o q) got)
-      by_held (Some h) e q f = again h e
-      by_held None e None f = unheld may refl e f
-      by_held None e (Some a) f = by_monitor a f (a.monitor == m) refl
+  pub took : (f : Frame) (k : Standing c f) (e : Entered c f k) (target : Target) (g : TagShape) → IsAt c.program (tags_of c) f.method e.at k.method e.insn target g → Took f k g e.insn target
+  took f k e target g at =
+      let standing : IsSound k.method e.insn (row_of c.program k.method e.insn target) k.at.frames g = (of_standing c marked f k).sound.sound e.at e.insn target g e.there at.names (subst (λ fs. slice_get fs e.at ≡ Some (Some g)) (same_some (sym at.of_method ∙ k.at.of_method)) at.frame) in
+      let t = taken e.insn.pc (row_of c.program k.method e.insn target) e.insn.op g e.enters standing.enters in
+      let edge : has_number (edges e.insn) k.insn.pc ≡ true = goes_next e.insn.op e.insn.next k.insn.pc e.enters (e.next ∙ sym k.pc_is) in
+      let brings = held_law c.program (tags_of c) f.method e.at k.number k.method e.insn k.insn target k.target g k.tags (tags_after e.insn (row_of c.program k.method e.insn target) g) (are_tagged c marked) at k.at (onward k.insn edge) in
+      record { taken_tag = t.0; others = t.1; stack = t.2; held = sym brings ∙ t.3; edge = edge; brings = brings }

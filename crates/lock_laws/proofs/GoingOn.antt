@@ -16,7 +16,7 @@ use Rattle.machine_types.specs.declared.phase.After.TheVariants as afters
 use Rattle.machine_types.specs.declared.phase.Phase.{Phase}
 use Rattle.machine_types.specs.declared.phase.Phase.TheVariants as phases
 use Rattle.lock_laws.specs.StructureLaws.{StaysStructured}
-use Rattle.attempt_laws.specs.InsideMoves.{GoesOnInside, OnwardStands, TopStands}
+use Rattle.lock_laws.specs.InsideMoves.{GoesOnInside, OnwardStands, TopStands}
 use Rattle.lock_laws.proofs.Turns.{running}
 
 -- ---- what the frames show, where a thread goes on from some entries that it has

@@ -32,19 +32,19 @@ use Rattle.machine_types.specs.declared.phase.Phase.{Phase}
 use Rattle.machine_types.specs.declared.phase.Phase.TheVariants as phases
 use Rattle.machine_types.specs.declared.phase.Toward.TheVariants as towards
 use Rattle.lock_laws.specs.StructureLaws.{StaysStructured}
-use Rattle.shown_laws.specs.MoveLaws.{goes_to}
-use Rattle.shown_laws.specs.CallLaws.{IsLeft, callee_frame}
-use Rattle.shown_laws.specs.ThrowLaws.{may_throw}
-use Rattle.attempt_laws.specs.InsideMoves.{GoesAlong}
-use Rattle.attempt_laws.specs.InsideEffects.{MayDo}
-use Rattle.shown_laws.proofs.FrameCalls.{calls_law, call_enters_law}
-use Rattle.shown_laws.proofs.FramePlaces.{tops_stand_law}
-use Rattle.shown_laws.proofs.FrameReturns.{returns_law}
-use Rattle.shown_laws.proofs.FrameThrows.{effects_throw_law, throws_law}
-use Rattle.shown_laws.proofs.MonitorMoves.{enters_law, leaves_law}
-use Rattle.shown_laws.proofs.MoveProofs.{follow_law, effects_law, making_law}
-use Rattle.attempt_laws.proofs.Inside.{inside_may}
-use Rattle.attempt_laws.proofs.Steps.{steps_inside}
+use Rattle.lock_laws.specs.MoveLaws.{goes_to}
+use Rattle.lock_laws.specs.CallLaws.{IsLeft, callee_frame}
+use Rattle.lock_laws.specs.ThrowLaws.{may_throw}
+use Rattle.lock_laws.specs.InsideMoves.{GoesAlong}
+use Rattle.lock_laws.specs.InsideEffects.{MayDo}
+use Rattle.lock_laws.proofs.FrameCalls.{calls_law, call_enters_law}
+use Rattle.lock_laws.proofs.FramePlaces.{tops_stand_law}
+use Rattle.lock_laws.proofs.FrameReturns.{returns_law}
+use Rattle.lock_laws.proofs.FrameThrows.{effects_throw_law, throws_law}
+use Rattle.lock_laws.proofs.MonitorMoves.{enters_law, leaves_law}
+use Rattle.lock_laws.proofs.MoveProofs.{follow_law, effects_law, making_law}
+use Rattle.lock_laws.proofs.Inside.{inside_may}
+use Rattle.lock_laws.proofs.Steps.{steps_inside}
 use Rattle.lock_laws.proofs.ElementEffects.{element_at}
 use Rattle.lock_laws.proofs.GoingOn.{OnwardShows, AttemptGoesOn, none_goes_on, onward_stands, going}
 use Rattle.lock_laws.proofs.Turns.{running, failing, no_attempt}

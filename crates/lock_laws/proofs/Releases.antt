@@ -28,12 +28,12 @@ use Rattle.machine_types.specs.declared.phase.Phase.{Phase}
 use Rattle.machine_types.specs.declared.phase.Phase.TheVariants as phases
 use Rattle.machine_types.specs.declared.phase.Toward.TheVariants as towards
 use Rattle.lock_laws.specs.StructureLaws.{StaysStructured}
-use Rattle.shown_laws.specs.CallLaws.{HasHeight}
-use Rattle.shown_laws.specs.ThrowLaws.{ThrowsOn}
-use Rattle.shown_laws.proofs.FramePlaces.{one_standing_law, tops_stand_law, have_tops_law}
-use Rattle.shown_laws.proofs.FrameReturns.{return_behind_law}
-use Rattle.shown_laws.proofs.FrameThrows.{unwind_behind_law}
-use Rattle.attempt_laws.proofs.Leaves.{leaves_inside}
+use Rattle.lock_laws.specs.CallLaws.{HasHeight}
+use Rattle.lock_laws.specs.ThrowLaws.{ThrowsOn}
+use Rattle.lock_laws.proofs.FramePlaces.{one_standing_law, tops_stand_law, have_tops_law}
+use Rattle.lock_laws.proofs.FrameReturns.{return_behind_law}
+use Rattle.lock_laws.proofs.FrameThrows.{unwind_behind_law}
+use Rattle.lock_laws.proofs.Leaves.{leaves_inside}
 use Rattle.lock_laws.proofs.HeldLists.{OneLess, lowered, depth_some, held_positive}
 use Rattle.lock_laws.proofs.HeldLists as lists
 use Rattle.lock_laws.proofs.GoingOn.{OnwardShows, AttemptGoesOn, none_goes_on, onward_stands, going}

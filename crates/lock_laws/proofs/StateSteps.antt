@@ -14,7 +14,7 @@ use Rattle.machine_types.specs.Typed.{HasClass, ThreadHolds}
 use Rattle.machine_types.specs.declared.phase.Phase.{Phase}
 use Rattle.lock_laws.specs.StructureLaws.{StaysStructured}
 use Rattle.lock_laws.specs.StateLaws.{counted_of, counted_at, EventsKeepStructure}
-use Rattle.attempt_laws.specs.InsideMoves.{BeginsAttempt, EntersInside}
+use Rattle.lock_laws.specs.InsideMoves.{BeginsAttempt, EntersInside}
 use Rattle.lock_laws.proofs.ThreadSteps.{structure_kept}
 
 -- ---- one thread of a list is changed

@@ -38,18 +38,18 @@ use Rattle.machine_types.specs.declared.phase.After.TheVariants as afters
 use Rattle.machine_types.specs.declared.phase.Phase.{Phase}
 use Rattle.machine_types.specs.declared.phase.Phase.TheVariants as phases
 use Rattle.lock_laws.specs.StructureLaws.{StaysStructured, StructureIsKept, counted_by, turned_from}
-use Rattle.shown_laws.specs.CallLaws.{IsLeft}
-use Rattle.shown_laws.specs.ThrowLaws.{ThrowsOn}
-use Rattle.attempt_laws.specs.InsideMoves.{BeginsAttempt, EntersInside}
-use Rattle.shown_laws.proofs.FrameCalls.{roots_law}
-use Rattle.shown_laws.proofs.FramePlaces.{tops_stand_law}
-use Rattle.shown_laws.proofs.FrameThrows.{caught_law, unwound_law}
-use Rattle.shown_laws.proofs.MoveProofs.{elements_law, pushed_law}
-use Rattle.attempt_laws.proofs.Steps.{no_element_inside}
-use Rattle.attempt_laws.proofs.Throws.{throws_inside}
+use Rattle.lock_laws.specs.CallLaws.{IsLeft}
+use Rattle.lock_laws.specs.ThrowLaws.{ThrowsOn}
+use Rattle.lock_laws.specs.InsideMoves.{BeginsAttempt, EntersInside}
+use Rattle.lock_laws.proofs.FrameCalls.{roots_law}
+use Rattle.lock_laws.proofs.FramePlaces.{tops_stand_law}
+use Rattle.lock_laws.proofs.FrameThrows.{caught_law, unwound_law}
+use Rattle.lock_laws.proofs.MoveProofs.{elements_law, pushed_law}
+use Rattle.lock_laws.proofs.Steps.{no_element_inside}
+use Rattle.lock_laws.proofs.Throws.{throws_inside}
 use Rattle.lock_laws.proofs.HeldLists.{OneLess}
 use Rattle.lock_laws.proofs.HeldLists as lists
-use Rattle.lock_laws.proofs.Entries.{from_take, from_flag, from_take_fat, acquiring, turned_back, turned_back_fat, looks_at_lock, taken, entering}
+use Rattle.lock_laws.proofs.MonitorEntries.{from_take, from_flag, from_take_fat, acquiring, turned_back, turned_back_fat, looks_at_lock, taken, entering}
 use Rattle.lock_laws.proofs.GoingOn.{OnwardShows, AttemptGoesOn, none_goes_on, onward_stands, going}
 use Rattle.lock_laws.proofs.Instructions.{checked, instruction_keeps}
 use Rattle.lock_laws.proofs.Releases.{left_with, leaving}

@@ -1,3 +1,10 @@
+pub mod StandingLaws
+pub mod MoveLaws
+pub mod CallLaws
+pub mod ThrowLaws
+pub mod InsideEffects
+pub mod InsideMoves
+pub mod EntryFrames
 pub mod AttemptLaws
 pub mod HeldLaws
 pub mod StructureLaws

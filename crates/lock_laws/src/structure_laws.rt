@@ -3,7 +3,7 @@
 ghost use Rattle.lock_laws.specs.StateLaws.{EventsKeepStructure};
 ghost use Rattle.lock_laws.specs.StructureLaws.{StructureIsKept};
 
-use attempt_laws::{attempt_begins, enters_inside};
+use crate::{attempt_begins, enters_inside};
 
 /// Whatever an event makes of a thread, what it holds, its phase and its attempt agree with what its frames show.
 pub fn structure_is_kept()

@@ -17,8 +17,8 @@ use Rattle.machine_types.specs.declared.phase.Phase.{Phase}
 use Rattle.machine_types.specs.declared.phase.Phase.TheVariants as phases
 use Rattle.value_laws.specs.TopFrames.{Begun}
 use Rattle.value_laws.proofs.TopStand.{frames_stand}
-use Rattle.record_laws.specs.RunFacts.{HaveWidth}
-use Rattle.reached_laws.specs.StateFacts.{StateFacts}
+use Rattle.state_laws.specs.RunFacts.{HaveWidth}
+use Rattle.state_laws.specs.StateFacts.{StateFacts}
 use Rattle.agreement.specs.StandsBeside.{StandsBeside}
 use Rattle.agreement.specs.StepsBeside.{StepsBeside, IsOfFrames, IsOfMemory, IsOfWaiting, GoesOnPhase, LocksPhase, WaitsPhase}
 use Rattle.locked_runs.specs.LockedRuns.{AreEventLaws}

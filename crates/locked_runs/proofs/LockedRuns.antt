@@ -26,10 +26,10 @@ use Rattle.machine_types.specs.declared.plain.PlainStep.{PlainStep}
 use Rattle.lock_laws.specs.PartLaws.{counted_next}
 use Rattle.lock_laws.specs.StateLaws.{counted_after}
 use Rattle.limit_laws.specs.GivenThread.{GivenIsKept}
-use Rattle.heap_laws.specs.HeapFacts.{objects_after}
-use Rattle.record_laws.specs.RunFacts.{HaveWidth}
-use Rattle.reached_laws.specs.PartsLaws.{HaveNoAttempts}
-use Rattle.reached_laws.specs.StateFacts.{StateFacts}
+use Rattle.state_laws.specs.HeapFacts.{objects_after}
+use Rattle.state_laws.specs.RunFacts.{HaveWidth}
+use Rattle.state_laws.specs.PartsLaws.{HaveNoAttempts}
+use Rattle.state_laws.specs.StateFacts.{StateFacts}
 use Rattle.agreement.specs.StandsBeside.{StandsBeside}
 use Rattle.agreement.specs.StepsBeside.{StepsBeside}
 use Rattle.outcome_steps.specs.OutcomeLaws.{StandsToMove, WorkersKeepNone, found_now, steps_now}

@@ -5,9 +5,9 @@ use Rattle.machine_types.specs.Core.{Happening}
 use Rattle.machine_types.specs.Faithful.{IsFaithful}
 use Rattle.machine_types.specs.Settings.{AreSettings}
 use Rattle.machine_types.specs.declared.config.Config.{Config}
-use Rattle.record_laws.specs.RunFacts.{HaveWidth}
-use Rattle.reached_laws.specs.PartsLaws.{StartHasNoAttempts, EventsMakeNoAttempts, NextMakesNoAttempts}
-use Rattle.reached_laws.specs.StateLaws.{ProgramsKeepThreads, StartHasState, EventsKeepState, NextKeepsState}
+use Rattle.state_laws.specs.RunFacts.{HaveWidth}
+use Rattle.state_laws.specs.PartsLaws.{StartHasNoAttempts, EventsMakeNoAttempts, NextMakesNoAttempts}
+use Rattle.state_laws.specs.StateLaws.{ProgramsKeepThreads, StartHasState, EventsKeepState, NextKeepsState}
 use Rattle.agreement.specs.StepsBeside.{FrameSteps, MemorySteps, WaitingSteps, OnwardSteps, LockSteps, WaitPhaseSteps, NextStandsBeside, StartStandsBeside}
 
 -- ---- the laws of events that it follows from

@@ -2,16 +2,16 @@
 
 ghost use Rattle.locked_runs.specs.LockedRuns.{LockedRunsAreFaithful, LockedRunsFollow};
 
-use frame_steps::frame_steps;
+use event_steps::{
+    frame_steps, lock_steps, memory_steps, next_stands_beside, onward_steps, start_stands_beside,
+    wait_phase_steps, waiting_steps,
+};
 use limit_laws::given_is_kept;
-use lock_steps::lock_steps;
 use machine_types::instructions_change_memory;
-use memory_steps::{memory_steps, next_stands_beside, onward_steps, start_stands_beside};
-use reached_laws::{
+use state_laws::{
     events_keep_state, events_make_no_attempts, next_keeps_state, next_makes_no_attempts,
     parts_keep_threads, start_has_no_attempts, start_has_state,
 };
-use wait_steps::{wait_phase_steps, waiting_steps};
 
 /// Where each event stands for plain steps, a run with its attempts turned off is faithful: its shadow is a plain run, whose
 /// steps its counts count, whose prints are its own, and whose parts ended as its own.

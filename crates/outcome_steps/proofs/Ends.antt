@@ -23,7 +23,7 @@ use Rattle.machine_types.specs.Threads.{Attempt, Frame, Thread}
 use Rattle.machine_types.specs.declared.lock.Held.{Held}
 use Rattle.machine_types.specs.declared.phase.Phase.{Phase}
 use Rattle.machine_types.specs.declared.phase.Phase.TheVariants as phases
-use Rattle.reached_laws.specs.PartsStand.{FirstFits, HasFinished, PartsStand}
+use Rattle.state_laws.specs.PartsStand.{FirstFits, HasFinished, PartsStand}
 use Rattle.agreement.specs.StandsBeside.{own_end, end_of_done, ends_shown}
 use Rattle.outcome_steps.specs.OutcomeLaws.{EndsAreThose}
 use Rattle.outcome_steps.proofs.EventCounts.{same_place}

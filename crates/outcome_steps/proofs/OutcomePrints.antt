@@ -16,7 +16,7 @@ use Rattle.machine_types.specs.Faithful.{PrintsFit}
 use Rattle.machine_types.specs.PlainState.{Plain, Printed}
 use Rattle.machine_types.specs.Threads.{Thread}
 use Rattle.machine_types.specs.declared.config.Config.{Config}
-use Rattle.record_laws.proofs.Sums.{sum_set}
+use Rattle.state_laws.proofs.Sums.{sum_set}
 use Rattle.outcome_steps.specs.OutcomeLaws.{NextKeepsPrints, StartHasPrints}
 use Rattle.outcome_steps.proofs.CountedEvents.{with_print}
 use Rattle.outcome_steps.proofs.PlainPrints.{with_printed}

@@ -17,8 +17,8 @@ use Rattle.machine_types.specs.declared.config.Config.{Config}
 use Rattle.machine_types.specs.declared.phase.Phase.{Phase}
 use Rattle.machine_types.specs.declared.plain.Act.{Act}
 use Rattle.machine_types.specs.declared.plain.PlainStep.{PlainStep}
-use Rattle.record_laws.specs.RunFacts.{HaveWidth}
-use Rattle.reached_laws.specs.StateFacts.{StateFacts}
+use Rattle.state_laws.specs.RunFacts.{HaveWidth}
+use Rattle.state_laws.specs.StateFacts.{StateFacts}
 use Rattle.agreement.specs.StandsBeside.{StandsBeside}
 
 -- ---- counts along plain runs

@@ -17,8 +17,8 @@ use Rattle.machine_types.specs.declared.config.Config.{Config}
 use Rattle.machine_types.specs.declared.phase.Phase.{Phase}
 use Rattle.machine_types.specs.declared.phase.Phase.TheVariants as phases
 use Rattle.machine_types.proofs.AtStart.{IsFreshPhase, starts, idles, is_over, phase_is_fresh, is_start_thread, has_threads, is_structured}
-use Rattle.record_laws.specs.RunFacts.{AreThreads, HaveWidth}
-use Rattle.record_laws.specs.RunLaws.{StartHasFacts}
+use Rattle.state_laws.specs.RunFacts.{AreThreads, HaveWidth}
+use Rattle.state_laws.specs.RunLaws.{StartHasFacts}
 use Rattle.replay_runner.specs.Running.{Running, AreRunning}
 use Rattle.lock_laws.proofs.PartSteps.{start_fits}
 

@@ -18,8 +18,8 @@ use Rattle.machine_types.specs.declared.phase.Phase.TheVariants as phases
 use Rattle.machine_types.proofs.AtStart.{all_among}
 use Rattle.replay_runner.specs.Running.{Running, AreRunning}
 use Rattle.lock_laws.specs.PartLaws.{PartFits}
-use Rattle.record_laws.specs.RunFacts.{AreThreads}
-use Rattle.record_laws.specs.RunLaws.{NextKeepsFacts}
+use Rattle.state_laws.specs.RunFacts.{AreThreads}
+use Rattle.state_laws.specs.RunLaws.{NextKeepsFacts}
 use Rattle.replay_runner.proofs.NextLawful.{IsBetween, is_idle, has_returned as is_returned, lawful_anew, lawful_seen}
 
 -- how a part ended that lets the next one begin

@@ -6,7 +6,7 @@ ghost use Rattle.machine_types.specs.Core.{done_end, ended_by, event, is_live, l
 ghost use Rattle.machine_types.specs.Parts.{has_finished, has_returned};
 ghost use Rattle.machine_types.specs.Settings.{AreSettings};
 ghost use Rattle.jvm_types.specs.declared.limits.TheConstants.{MOST_WORKERS};
-ghost use Rattle.record_laws.specs.RunFacts.{HaveWidth};
+ghost use Rattle.state_laws.specs.RunFacts.{HaveWidth};
 ghost use Rattle.replay_runner.specs.Running.{IsThreadOf, Running, own_begun, run_on};
 
 use crate::start_words::start_words;
@@ -14,7 +14,7 @@ use checked_program::Checked;
 use frames::ThreadState;
 use jvm_types::{End, Outcome, Room, Rows, ThreadReport};
 use machine_types::Config;
-use record_laws::{
+use state_laws::{
     reached_fits, run_facts_event, run_facts_next, run_facts_start, threads_are_kept,
 };
 use std::alloc::{AllocError, Global};

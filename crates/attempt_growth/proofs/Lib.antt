@@ -1,7 +1,0 @@
-mod Outside
-mod GoingOn
-mod ReadPlaces
-mod StayPlaces
-mod Instructions
-mod Phases
-mod Growth

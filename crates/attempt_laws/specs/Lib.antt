@@ -1,3 +1,0 @@
-pub mod InsideEffects
-pub mod InsideMoves
-pub mod EntryFrames

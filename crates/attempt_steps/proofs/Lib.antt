@@ -1,5 +1,0 @@
-pub mod Inside
-pub mod InsideWords
-pub mod InsideMoves
-pub mod InsideBeside
-pub mod InsideTallies

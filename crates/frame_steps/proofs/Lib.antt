@@ -1,3 +1,0 @@
-mod HeldToLeave
-mod PrintWords
-mod FrameEffects

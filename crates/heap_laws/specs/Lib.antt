@@ -1,5 +1,0 @@
-pub mod Sites
-pub mod HeapFacts
-pub mod SiteLaws
-pub mod HeapLaws
-pub mod FoundLaws

@@ -1,2 +1,0 @@
-pub mod OwnersLaws
-pub mod WaitingLaws

@@ -1,9 +1,0 @@
-mod RootMoves
-mod DoneRoot
-mod PartsEvents
-mod PartsBegin
-mod NoAttempts
-mod StartThreads
-mod PartLawful
-mod NextThreads
-mod States

@@ -1,4 +1,0 @@
-pub mod PartsStand
-pub mod StateFacts
-pub mod StateLaws
-pub mod PartsLaws

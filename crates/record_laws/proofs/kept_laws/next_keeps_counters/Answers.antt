@@ -1,5 +1,0 @@
-use Rattle.record_laws.proofs.PartFacts.{next_keeps_counters}
-use Rattle.record_laws.proofs.kept_laws.next_keeps_counters.Goals as goal
-
-pub returns : goal.returns
-returns c = next_keeps_counters

@@ -1,5 +1,0 @@
-use Rattle.record_laws.proofs.LeftStands.{left_may_stand}
-use Rattle.record_laws.proofs.left_laws.left_words_may_stand.Goals as goal
-
-pub returns : goal.returns
-returns c = left_may_stand

@@ -1,4 +1,0 @@
-pub mod StandingLaws
-pub mod MoveLaws
-pub mod CallLaws
-pub mod ThrowLaws

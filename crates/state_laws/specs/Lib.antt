@@ -1,0 +1,17 @@
+pub mod Sites
+pub mod HeapFacts
+pub mod SiteLaws
+pub mod HeapLaws
+pub mod FoundLaws
+pub mod SharedWords
+pub mod LeftWords
+pub mod Counters
+pub mod RunFacts
+pub mod KeptWords
+pub mod RunLaws
+pub mod OwnersLaws
+pub mod WaitingLaws
+pub mod PartsStand
+pub mod StateFacts
+pub mod StateLaws
+pub mod PartsLaws

@@ -1,9 +1,0 @@
-pub mod BitWords
-pub mod Moments
-pub mod Moved
-pub mod Ends
-pub mod Waiters
-pub mod Sleepers
-pub mod Notifiers
-pub mod WaitPhases
-pub mod WaitInstructions
