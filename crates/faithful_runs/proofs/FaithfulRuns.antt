@@ -8,11 +8,12 @@ use Rattle.std.proofs.lemmas.Option.{slice_get_within}
 use Rattle.lists.proofs.ListLaws.{same_some}
 use Rattle.jvm_types.specs.declared.fixed_words.TheConstants.{NEXT_FREE_WORD}
 use Rattle.checked_program.specs.MarkedProgram.{MarkedProgram, IsMarked}
-use Rattle.machine_types.specs.Attempts.{Stays, Leads, OwesNothing, Owes}
+use Rattle.machine_types.specs.Attempts.{Stays, Leads, OwesNothing, Owes, Attempts}
 use Rattle.machine_types.specs.Construction.{AreFrozen, Construction}
 use Rattle.machine_types.specs.Core.{Core, Happening, Of, NextPart, start, event, event_of, may_begin, next, all_happened, core, outcome}
 use Rattle.machine_types.specs.Counting.{run_at, take_at, count_along, CountsFit, AreCounted}
 use Rattle.machine_types.specs.Events.{moved}
+use Rattle.machine_types.specs.Facts.{FactsBeside}
 use Rattle.machine_types.specs.Faithful.{EndsFit, PrintsFit, IsPlainRun, IsSilent, IsOver, IsFaithful}
 use Rattle.machine_types.specs.History.{Past, no_past, Told, told_start, past_after, pasts_after, told, all_told, shown_at, steps_of, shown_of, shown, shadow_from, shadow, past}
 use Rattle.machine_types.specs.PlainLaws.{InstructionsChangeMemory}
@@ -44,6 +45,7 @@ use Rattle.locked_runs.specs.LockedRuns.{AreEventLaws}
 use Rattle.locked_runs.proofs.LockedRuns.{run_on, count_on, all_one, recounted, counted_at_start}
 use Rattle.locked_runs.proofs.SameCounts.{came_from, counted_same}
 use Rattle.faithful_runs.specs.FaithfulRuns.{AreElidedLaws, RunsFollow}
+use Rattle.faithful_runs.specs.RunsStand.{told_after, RunStands, RunsStand}
 use Rattle.faithful_runs.proofs.Pasts.{set_there, set_other, set_many}
 use Rattle.faithful_runs.proofs.NextUntried.{none_tries, same_threads}
 use Rattle.faithful_runs.proofs.EventMoves.{MovesIn, event_moves}
@@ -289,12 +291,15 @@ module _ (given : GivenIsKept) (memory : InstructionsChangeMemory) (laws : AreEv
   core_told (h ∷ hs) w = core_told hs (told c w h)
 
   -- after a list of events from the start
-  reached : (hs : List Happening) → Shadowed c cfg frozen (core c cfg hs) (all_told c (told_start c cfg) hs).pasts (shadow c cfg hs)
-  unfolding core shadow
-  reached hs = subst (λ (s : Core). Shadowed c cfg frozen s (all_told c (told_start c cfg) hs).pasts (shadow_from c (told_start c cfg) hs)) (core_told hs (told_start c cfg))
-      (all hs (told_start c cfg) [] start_stands)
+  told_is : (hs : List Happening) → (told_after c cfg hs).core ≡ core c cfg hs
+  unfolding core
+  told_is hs = core_told hs (told_start c cfg)
 
-  -- ---- all of it
+  reached : (hs : List Happening) → Shadowed c cfg frozen (core c cfg hs) (told_after c cfg hs).pasts (shadow c cfg hs)
+  unfolding shadow
+  reached hs = subst (λ (s : Core). Shadowed c cfg frozen s (told_after c cfg hs).pasts (shadow_from c (told_start c cfg) hs)) (told_is hs) (all hs (told_start c cfg) [] start_stands)
+
+  -- ---- a run is faithful
 
   plain_run_of : (hs : List Happening) → IsPlainRun c cfg hs
   plain_run_of hs = let l = reached hs in record { state = l.state; run = l.run; agrees = l.beside.agrees; prints = l.prints }
@@ -319,7 +324,63 @@ module _ (given : GivenIsKept) (memory : InstructionsChangeMemory) (laws : AreEv
     ends = λ r over. ends_of hs r over;
   }
 
+  -- ---- with all facts
+
+  abbrev with_pasts : (hs : List Happening) (s : Core) → Told
+  with_pasts hs s = record { core = s; pasts = (told_after c cfg hs).pasts }
+
+  joined_of : (w : Told) (steps : List PlainStep) (l : Shadowed c cfg frozen w.core w.pasts steps) → FactsBeside c cfg w l.state
+  joined_of w steps l = record {
+    facts = record {
+      was = l.was;
+      objects = l.objects;
+      world = l.world;
+      frozen = frozen;
+      own = l.facts.threads.own;
+      started = l.facts.heap.started;
+      apart = l.facts.heap.apart;
+      unused = l.facts.heap.unused;
+      structure = l.facts.structure;
+      owners = l.facts.owners;
+      waiting = l.facts.waiting;
+      typed = l.facts.heap.typed;
+      new_objects = l.facts.heap.new_objects;
+      construction = l.built;
+      attempts = record { each = l.owes };
+    };
+    agrees = l.beside.agrees;
+    objects = l.beside.known;
+  }
+
+  stands : (hs : List Happening) → RunStands c cfg hs
+  stands hs = let l = reached hs in record {
+    objects = l.objects;
+    was = l.was;
+    world = l.world;
+    frozen = frozen;
+    frozen_are = frozen_are;
+    facts = l.facts;
+    built = l.built;
+    pasts = l.many;
+    told_is = told_is hs;
+    attempts = subst (λ (s : Core). Attempts c l.objects l.world l.was (with_pasts hs s)) (sym (told_is hs)) (record { each = l.owes });
+    state = l.state;
+    run = l.run;
+    beside = l.beside;
+    joined = subst (λ (s : Core). FactsBeside c cfg (with_pasts hs s) l.state) (sym (told_is hs)) (joined_of (with_pasts hs (core c cfg hs)) (shadow c cfg hs) l);
+    counts = counted_of_all hs;
+    prints = l.prints;
+    keep_none = l.keep_none;
+    guards = λ t x there outside. elided.guards c cfg l.objects l.was frozen l.world (core c cfg hs) t x marked width l.facts l.built there outside;
+    silent = silent_of hs;
+  }
+
 pub runs_follow : GivenIsKept → InstructionsChangeMemory → RunsFollow
 runs_follow given memory laws elided c cfg hs marked width settings =
     let test = elided.frozen_test c marked.marks in
     faithful given memory laws elided c cfg test.0 test.1 marked width settings hs
+
+pub runs_stand : GivenIsKept → InstructionsChangeMemory → AreEventLaws → AreElidedLaws → RunsStand
+runs_stand given memory laws elided c cfg hs marked width settings =
+    let test = elided.frozen_test c marked.marks in
+    stands given memory laws elided c cfg test.0 test.1 marked width settings hs

@@ -1,1 +1,2 @@
 pub mod FaithfulRuns
+pub mod RunsStand

@@ -4,4 +4,4 @@
 
 pub mod run_laws;
 
-pub use run_laws::{runs_are_faithful, runs_follow};
+pub use run_laws::{runs_are_faithful, runs_follow, runs_stand};

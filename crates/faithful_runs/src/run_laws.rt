@@ -1,6 +1,8 @@
 //! Runs with attempts.
 
-ghost use Rattle.faithful_runs.specs.FaithfulRuns.{RunsAreFaithful, RunsFollow};
+ghost use Rattle.faithful_runs.specs.FaithfulRuns.{AreElidedLaws, RunsAreFaithful, RunsFollow};
+ghost use Rattle.faithful_runs.specs.RunsStand.{RunsStand};
+ghost use Rattle.locked_runs.specs.LockedRuns.{AreEventLaws};
 
 use construction_laws::{
     events_keep_construction, next_keeps_construction, start_has_construction,
@@ -37,6 +39,24 @@ pub fn runs_are_faithful()
     ensures { RunsAreFaithful }
 {
     runs_follow();
+    event_laws();
+}
+
+/// After every list of events all facts hold: those on the state, on objects under construction and on attempts, beside the
+/// plain state that the list stands for.
+pub fn runs_stand()
+    ensures { RunsStand }
+{
+    given_is_kept();
+    instructions_change_memory();
+    event_laws();
+}
+
+// The laws of events that both come from: outside attempts, and with attempts.
+fn event_laws()
+    ensures events { AreEventLaws }
+    ensures elided { AreElidedLaws }
+{
     // events outside attempts
     frame_steps();
     memory_steps();
