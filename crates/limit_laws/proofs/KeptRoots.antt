@@ -295,7 +295,8 @@ numbers_in : (xs ys : List ℕ) (k : ℕ) {P : Type 0} → has_number (xs ++ ys)
 numbers_in [] ys k e f g = g e
 numbers_in (x ∷ xs) ys k e f g = number_first (x == k) (has_number (xs ++ ys) k) e (λ t. f (first_true (x == k) (has_number xs k) t)) (λ t. numbers_in xs ys k t (λ t. f (second_true (x == k) (has_number xs k) t)) g)
 
-roots_within : (p : Program) (number part k : ℕ) → has_number (part_roots p number part) k ≡ true → k < length p.methods
+-- a root of a part is the number of a method
+pub roots_within : (p : Program) (number part k : ℕ) → has_number (part_roots p number part) k ≡ true → k < length p.methods
 roots_within p number part k e = by_part number part e
   where
     at_start : has_number (init_roots p) k ≡ true → k < length p.methods

@@ -1,0 +1,3 @@
+mod HeldOrTried
+mod NextEvents
+mod SafeStates

@@ -1,0 +1,16 @@
+-- Every thread of a state that a run reaches is safe.
+use Rattle.machine_types.specs.Core.{core}
+use Rattle.state_laws.specs.RunLaws.{ReachedFits}
+use Rattle.state_laws.specs.StateLaws.{ProgramsKeepThreads, RunsHaveState, StatesHaveFacts}
+use Rattle.run_safety.specs.RunSafety.{RunsAreSafe}
+use Rattle.run_safety.proofs.NextEvents.{has_event}
+
+pub runs_are_safe : ProgramsKeepThreads → RunsHaveState → StatesHaveFacts → ReachedFits → RunsAreSafe
+runs_are_safe keep reach facts fits c cfg hs t x marked width set e =
+    let k = reach c cfg hs marked width (keep c cfg marked set) in
+    let lawful = k.facts.threads.lawful t x e in
+    record {
+      lawful = lawful;
+      access = fits c cfg (core c cfg hs) t x marked width k.facts.threads (facts c cfg k.objects k.was (core c cfg hs) k.facts) e;
+      goes = has_event c x marked lawful;
+    }
