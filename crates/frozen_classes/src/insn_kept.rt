@@ -9,6 +9,7 @@ use crate::places::{local_this, stack_this};
 use checked_program::{TagFrame, Tags};
 use code_table::{IndexedMethod, row};
 use jvm_types::class_numbers::OBJECT_CLASS;
+use jvm_types::flags::{is_final, is_static};
 use jvm_types::{Insn, MethodInfo, Op, OpRow, Program, Target};
 use std::alloc::{AllocError, Global};
 
@@ -25,7 +26,7 @@ fn is_final_of(p: &Program, class: u16, field: u32) -> bool
     ensures { result ≡ is_final_of class (slice_get p.now.fields field) }
 {
     match p.fields.get(field as usize) {
-        Some(f) => f.class == class && f.flags & 0x10 != 0,
+        Some(f) => f.class == class && is_final(f.flags),
         None => false,
     }
 }
@@ -133,7 +134,7 @@ fn begins_well(m: &MethodInfo, t: &Tags) -> bool
     ensures { result ≡ begins_well m.now (frame_of m.now t.now.frames 0) }
 {
     match reached_tags(m, t, 0) {
-        Some(f) => m.flags & 0x8 != 0 || local_this(f, 0),
+        Some(f) => is_static(m.flags) || local_this(f, 0),
         None => true,
     }
 }

@@ -9,6 +9,7 @@ ghost use Rattle.guard_analysis.specs.Faults.{breaks_before, fault_at, node_brea
 use crate::calls::{is_own_object, receiver_tag};
 use crate::tag_reading::stack_tag;
 use checked_program::{FieldUse, Mode, TagFrame, Tags};
+use jvm_types::flags::{is_static, is_synchronized};
 use jvm_types::{MethodInfo, Op, Program, Rows, Target};
 
 /// How a field may be read; open where there is no such field.
@@ -29,7 +30,7 @@ fn use_of(uses: &Rows<FieldUse>, field: u32) -> FieldUse
 pub(crate) fn locks_this(m: &MethodInfo) -> bool
     ensures { result ≡ locks_this m.now }
 {
-    m.flags & 0x20 != 0 && m.flags & 0x8 == 0
+    is_synchronized(m.flags) && !is_static(m.flags)
 }
 
 fn is_locking(p: &Program, u: u32) -> bool
