@@ -1,0 +1,6 @@
+mod Outside
+mod Within
+mod Looks
+mod Counts
+mod Runs
+mod Beginnings

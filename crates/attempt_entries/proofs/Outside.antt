@@ -1,0 +1,258 @@
+-- What an event outside an attempt leaves: the thread in no attempt, and at an entry only where it comes to a new one; or in the
+-- attempt that it begins at the entry where it is.
+use Rattle.std.proofs.Common.{◌≡◌, ℕ, ◌+◌, nat_lt, nat_le, Bool, true, false, cond, List, [], ◌∷◌, Option, Some, None, refl, sym, subst}
+use Rattle.std.specs.Prelude.{◌==◌, ◌&&◌, option_map, slice_get, if◌then◌else◌}
+use Rattle.lists.proofs.TestLaws.{both_are_true}
+use Rattle.jvm_types.specs.Numbers.{has_flag}
+use Rattle.jvm_types.specs.declared.fixed_words.TheConstants.{MONITOR_RECORDS}
+use Rattle.jvm_types.specs.declared.outcome.End.TheVariants as ends
+use Rattle.jvm_types.specs.declared.outcome.Thrown.TheVariants.{ArrayIndexOutOfBoundsException, OutOfMemoryError, IllegalMonitorStateException}
+use Rattle.jvm_types.specs.declared.program.Program.{Program}
+use Rattle.checked_program.specs.MarkedProgram.{MarkedProgram}
+use Rattle.machine_types.specs.Elision.{begins, tries, if_same, is_checked, may_try, enters_marked, most_attempts}
+use Rattle.machine_types.specs.Events.{started, moved, element_made}
+use Rattle.machine_types.specs.Frames.{Top, top_of, effect_at, pushed, went_on}
+use Rattle.machine_types.specs.Going.{with_phase, runs, failed_turn, goes_on, goes_on_if, goes_after, root_over}
+use Rattle.machine_types.specs.HeldMonitors.{held_at, with_held, without_held, shallower}
+use Rattle.machine_types.specs.Instructions.{has_print_left, begun, printed, if_held, waits, notifies, did, ran}
+use Rattle.machine_types.specs.Ints.{low}
+use Rattle.machine_types.specs.LockWords.{word_of_lock, lock_of}
+use Rattle.machine_types.specs.Monitors.{claim_by, flag_from, acquires, enter_moves, takes, released, leave_moves, lets_go, grows_not, fattens, goes_to_wait, retakes, bit_of, lowest_of}
+use Rattle.machine_types.specs.Onward.{Onward, Running, Throwing, Entering, Leaving, RootReturned, Uncaught, threw, done, rooted, dispatched, after}
+use Rattle.machine_types.specs.Threads.{Frame, Attempt, Thread}
+use Rattle.machine_types.specs.Words.{header_length}
+use Rattle.machine_types.specs.declared.effect.Effect.{Effect}
+use Rattle.machine_types.specs.declared.effect.Effect.TheVariants.{Indexes, Makes, Prints, Waits, Notifies, NotifiesAll}
+use Rattle.machine_types.specs.declared.lock.Held.{Held}
+use Rattle.machine_types.specs.declared.lock.Kept.{Kept}
+use Rattle.machine_types.specs.declared.lock.Kept.TheVariants as keeps
+use Rattle.machine_types.specs.declared.lock.LockWord.{LockWord}
+use Rattle.machine_types.specs.declared.lock.LockWord.TheVariants as locks
+use Rattle.machine_types.specs.declared.phase.After.{After}
+use Rattle.machine_types.specs.declared.phase.Phase.{Phase}
+use Rattle.machine_types.specs.declared.phase.Phase.TheVariants as phases
+use Rattle.machine_types.specs.declared.phase.Toward.{Toward}
+use Rattle.machine_types.specs.declared.phase.Toward.TheVariants as towards
+use Rattle.attempt_entries.specs.Entries.{is_entering}
+
+-- at an entry that a thread comes to none has been tried
+abbrev pub ComesNew : Phase → Type 0
+ComesNew (phases.Enter m tried) = tried ≡ 0
+ComesNew phase = Unit {0}
+
+-- thread x begins the attempt a by the word that it found, and is y then
+pub record Begins (c : MarkedProgram) (x y : Thread) (got : ℕ) (a : Attempt) : Type 0 where
+  pub tried : ℕ
+  pub enters : x.phase ≡ phases.Enter a.monitor tried
+  pub may : may_try c x tried ≡ true
+  pub not_held : held_at x.held a.monitor ≡ None
+  pub is_free : lock_of got ≡ locks.Free a.noted
+  pub not_last : nat_lt a.noted x.cfg.range ≡ true
+  pub number : a.number ≡ tried + 1
+  pub goes : is_entering y.phase ≡ false
+
+abbrev pub MovesTo : MarkedProgram → (x y : Thread) → (got : ℕ) → Option Attempt → Type 0
+MovesTo c x y got None = ComesNew y.phase
+MovesTo c x y got (Some a) = Begins c x y got a
+
+-- a thread that runs is at no entry
+pub in_run : (b : Bool) → is_entering (cond b phases.Run (phases.Ending ends.Steps)) ≡ false
+in_run true = refl
+in_run false = refl
+
+-- ---- a thread stays outside
+
+record StaysOut (y : Thread) : Type 0 where
+  attempt : y.attempt ≡ None
+  new : ComesNew y.phase
+
+either : (b : Bool) (x y : Thread) → StaysOut x → StaysOut y → StaysOut (if b then x else y)
+either true x y h k = h
+either false x y h k = k
+
+runs_new : (b : Bool) → ComesNew (cond b phases.Run (phases.Ending ends.Steps))
+runs_new true = tt
+runs_new false = tt
+
+turn_new : (b : Bool) (phase : Phase) → ComesNew phase → ComesNew (cond b phase (phases.Ending ends.Turns))
+turn_new true phase k = k
+turn_new false phase k = tt
+
+over_new : (roots : List ℕ) → ComesNew (root_over roots)
+over_new [] = tt
+over_new (number ∷ roots) = tt
+
+running : (s : Thread) → s.attempt ≡ None → StaysOut (runs s)
+running s e = record { attempt = e; new = runs_new (nat_lt s.counts.instructions s.cfg.steps) }
+
+turned : (s : Thread) (phase : Phase) → s.attempt ≡ None → ComesNew phase → StaysOut (failed_turn s phase)
+turned s phase e k = record { attempt = e; new = turn_new (nat_lt (s.turns + 1) s.cfg.turns) phase k }
+
+goes : (s : Thread) (o : Onward) → s.attempt ≡ None → StaysOut (goes_on s o)
+goes s (Running frames) e = record { attempt = e; new = runs_new (nat_lt s.counts.instructions s.cfg.steps) }
+goes s (Throwing x class frames) e = record { attempt = e; new = tt }
+goes s (Entering m frames) e = record { attempt = e; new = refl }
+goes s (Leaving m a frames) e = record { attempt = e; new = tt }
+goes s RootReturned e = record { attempt = e; new = over_new s.roots }
+goes s (Uncaught class) e = record { attempt = e; new = tt }
+
+goes_if : (s : Thread) (o : Option Onward) → StaysOut s → StaysOut (goes_on_if s o)
+goes_if s None k = k
+goes_if s (Some o) k = goes s o k.attempt
+
+-- ---- instructions
+
+held_or : (s : Thread) (at : Top) (h : Option Held) (more : Kept → Thread) → s.attempt ≡ None → ((k : Kept) → StaysOut (more k)) → StaysOut (if_held s at h more)
+held_or s at None more e k = goes s (threw IllegalMonitorStateException at) e
+held_or s at (Some h) more e k = k h.kept
+
+waited : (s : Thread) (m : ℕ) (kept : Kept) → s.attempt ≡ None → StaysOut (waits s m kept)
+waited s m (keeps.Flat n) e = record { attempt = e; new = tt }
+waited s m (keeps.Fat r) e = record { attempt = e; new = tt }
+
+notified : (s : Thread) (phase : ℕ → Phase) (kept : Kept) → ((r : ℕ) → ComesNew (phase r)) → s.attempt ≡ None → StaysOut (notifies s phase kept)
+notified s phase (keeps.Flat n) k e = running s e
+notified s phase (keeps.Fat r) k e = record { attempt = e; new = k r }
+
+instruction : (p : Program) (s : Thread) (at : Top) (e : Effect) (got : ℕ) → StaysOut s → StaysOut (did p s at e got)
+instruction p s at (Indexes array index stored) got k = either (nat_lt (low index) (header_length got)) _ _ (record { attempt = k.attempt; new = tt }) (goes s (threw ArrayIndexOutOfBoundsException at) k.attempt)
+instruction p s at (Makes word size) got k = either (nat_le (got + size) p.heap) _ _ (record { attempt = k.attempt; new = tt }) (goes s (threw OutOfMemoryError at) k.attempt)
+instruction p s at (Prints n) got k = either (has_print_left s) _ _ (goes (printed s got n) (Running (went_on p at 0)) k.attempt) (record { attempt = k.attempt; new = tt })
+instruction p s at (Waits m) got k = held_or s at (held_at s.held m) (waits (record s { frames = went_on p at 0 }) m) k.attempt (λ kept. waited (record s { frames = went_on p at 0 }) m kept k.attempt)
+instruction p s at (Notifies m) got k = held_or s at (held_at s.held m) (notifies (record s { frames = went_on p at 0 }) (phases.NotifyLook m)) k.attempt (λ kept. notified (record s { frames = went_on p at 0 }) (phases.NotifyLook m) kept (λ r. tt) k.attempt)
+instruction p s at (NotifiesAll m) got k = held_or s at (held_at s.held m) (notifies (record s { frames = went_on p at 0 }) (phases.NotifyAll m)) k.attempt (λ kept. notified (record s { frames = went_on p at 0 }) (phases.NotifyAll m) kept (λ r. tt) k.attempt)
+instruction p s at e got k = goes_if s (done p at e got) k
+
+checked : (s : Thread) (a : Option Attempt) (got : ℕ) (y : Thread) → a ≡ None → StaysOut y → StaysOut (if_same s a got y)
+checked s None got y e k = k
+checked s (Some a) got y e k = absurd (cc)
+
+run : (p : Program) (s : Thread) (top : Option Top) (got : ℕ) → StaysOut s → StaysOut (ran p s top got)
+run p s None got k = k
+run p s (Some at) got k =
+    let on : StaysOut (did p (begun s) at (effect_at p at) got) = instruction p (begun s) at (effect_at p at) got (record { attempt = k.attempt; new = k.new }) in
+    either (is_checked at.frame.pc (effect_at p at)) _ _ (checked (begun s) s.attempt got _ k.attempt on) on
+
+-- ---- by its phase
+
+module _ (c : MarkedProgram) (x : Thread) (got : ℕ) (none : x.attempt ≡ None) where
+  abbrev Moves : Thread → Type 0
+  Moves y = MovesTo c x y got y.attempt
+
+  out : (y : Thread) → StaysOut y → Moves y
+  out y k = subst (MovesTo c x y got) (sym k.attempt) k.new
+
+  at_phase : (phase : Phase) → ComesNew phase → StaysOut (with_phase x phase)
+  at_phase phase k = record { attempt = none; new = k }
+
+  acquired : (m : ℕ) (lock : LockWord) → StaysOut (acquires x m lock)
+  acquired m (locks.Free n) = at_phase (phases.Take m n) tt
+  acquired m (locks.Held u) = turned x (if nat_lt (x.turns + 1) flag_from then phases.Acquire m else phases.Flag m u) none (flags (nat_lt (x.turns + 1) flag_from))
+    where
+      flags : (b : Bool) → ComesNew (if b then phases.Acquire m else phases.Flag m u)
+      flags true = tt
+      flags false = tt
+  acquired m (locks.Flagged u) = turned x (phases.Acquire m) none tt
+  acquired m (locks.Fat r) = at_phase (phases.TakeFat m r) tt
+
+  -- an entry of a section that may be tried
+  module _ (m number : ℕ) (enters : x.phase ≡ phases.Enter m number) (may : may_try c x number ≡ true) (not_held : held_at x.held m ≡ None) where
+    is_marked : enters_marked c x.frames ≡ true
+    is_marked = (both_are_true (x.cfg.elide && nat_lt number most_attempts) (enters_marked c x.frames) may).1
+
+    begun_at : (n : ℕ) (fs : List Frame) → x.frames ≡ fs → lock_of got ≡ locks.Free n → nat_lt n x.cfg.range ≡ true → Moves (begins x fs m n (number + 1))
+    begun_at n [] e free below = let bad : false ≡ true = subst (λ (gs : List Frame). enters_marked c gs ≡ true) e is_marked in absurd (cc)
+    begun_at n (f ∷ fs) e free below = record {
+      tried = number;
+      enters = enters;
+      may = may;
+      not_held = not_held;
+      is_free = free;
+      not_last = below;
+      number = refl;
+      goes = in_run (nat_lt x.counts.instructions x.cfg.steps);
+    }
+
+    tried : (lock : LockWord) → lock_of got ≡ lock → Moves (tries x m number lock)
+    tried (locks.Free n) e = by_count (nat_lt n x.cfg.range) refl
+      where
+        by_count : (b : Bool) → nat_lt n x.cfg.range ≡ b → Moves (if b then begins x x.frames m n (number + 1) else with_phase x (phases.Acquire m))
+        by_count true below = begun_at n x.frames refl e below
+        by_count false below = out _ (at_phase (phases.Acquire m) tt)
+    tried (locks.Held u) e = out _ (at_phase (phases.Acquire m) tt)
+    tried (locks.Flagged u) e = out _ (at_phase (phases.Acquire m) tt)
+    tried (locks.Fat r) e = out _ (at_phase (phases.Acquire m) tt)
+
+  entered : (m number : ℕ) → x.phase ≡ phases.Enter m number → (may : Bool) → may_try c x number ≡ may → (held : Option Held) → held_at x.held m ≡ held → Moves (enter_moves x m number may (claim_by m held None) got)
+  entered m number e may f (Some h) g = out _ (record { attempt = none; new = runs_new (nat_lt x.counts.instructions x.cfg.steps) })
+  entered m number e true f None g = tried m number e f g (lock_of got) refl
+  entered m number e false f None g = out _ (acquired m (lock_of got))
+
+  -- ---- an exit
+
+  went : (z : Thread) (a : After) → StaysOut z → StaysOut (goes_after c.program z a)
+  went z a k = goes_if z (after c.program z.frames a) k
+
+  gave_up : (m : ℕ) (a : After) (kept : Kept) → ComesNew x.phase → StaysOut (released c.program x m a kept got)
+  gave_up m a (keeps.Flat n) k = either (got == word_of_lock (locks.Held x.number)) (lets_go c.program x m a) (with_phase x (phases.Grow m (towards.Leave a)))
+      (went (record x { held = without_held m x.held }) a (record { attempt = none; new = k })) (at_phase (phases.Grow m (towards.Leave a)) tt)
+  gave_up m a (keeps.Fat r) k = went (record x { held = without_held m x.held }) a (record { attempt = none; new = k })
+
+  left : (m : ℕ) (a : After) (held : Option Held) → ComesNew x.phase → StaysOut (leave_moves c.program x m a (claim_by m held None) got)
+  left m a (Some h) k = either (nat_lt 1 h.depth) (goes_after c.program (record x { held = with_held (shallower h) x.held }) a) (released c.program x m a h.kept got)
+      (went (record x { held = with_held (shallower h) x.held }) a (record { attempt = none; new = k })) (gave_up m a h.kept k)
+  left m a None k = record { attempt = none; new = k }
+
+  -- ---- a root, a fat lock, and waiting
+
+  started_at : (roots : List ℕ) → ComesNew x.phase → StaysOut (started c.program x roots)
+  started_at [] k = record { attempt = none; new = k }
+  started_at (number ∷ roots) k = goes_if (record x { roots = roots }) (option_map (rooted c.program x.number number) (slice_get c.program.methods number)) (record { attempt = none; new = k })
+
+  not_grown : (m : ℕ) (toward : Toward) → StaysOut (grows_not x m toward)
+  not_grown m (towards.Leave a) = at_phase (phases.FlatOut m a) tt
+  not_grown m towards.Wait = at_phase (phases.Ending ends.Records) tt
+
+  fattened : (m r : ℕ) (toward : Toward) (held : Option Held) → ComesNew x.phase → StaysOut (fattens x m r toward held)
+  fattened m r toward None k = record { attempt = none; new = k }
+  fattened m r (towards.Leave a) (Some h) k = record { attempt = none; new = tt }
+  fattened m r towards.Wait (Some h) k = record { attempt = none; new = tt }
+
+  gone_to_wait : (m r : ℕ) (held : Option Held) → ComesNew x.phase → StaysOut (goes_to_wait x m r held)
+  gone_to_wait m r None k = record { attempt = none; new = k }
+  gone_to_wait m r (Some h) k = record { attempt = none; new = tt }
+
+  -- ---- all phases
+
+  as_it_is : (phase : Phase) → x.phase ≡ phase → ComesNew phase → StaysOut x
+  as_it_is phase e k = record { attempt = none; new = subst ComesNew (sym e) k }
+
+  pub outside_moves : (phase : Phase) → x.phase ≡ phase → Moves (moved c x phase got)
+  outside_moves phases.Idle e = out _ (as_it_is phases.Idle e tt)
+  outside_moves phases.Start e = out _ (started_at x.roots (subst ComesNew (sym e) tt))
+  outside_moves phases.Run e = out _ (run c.program x (top_of c.program x.frames) got (as_it_is phases.Run e tt))
+  outside_moves (phases.Element word stored) e = out _ (goes_if x (option_map (λ at. Running (went_on c.program at (element_made stored got))) (top_of c.program x.frames)) (as_it_is (phases.Element word stored) e tt))
+  outside_moves (phases.Made a word) e = out _ (goes x (Running (pushed a x.frames)) none)
+  outside_moves (phases.Throw y class) e = out _ (checked x x.attempt got _ none (goes_if x (dispatched c.program y class x.frames) (as_it_is (phases.Throw y class) e tt)))
+  outside_moves (phases.Enter m number) e = subst (λ (a : Option Attempt). Moves (enter_moves x m number (may_try c x number) (claim_by m (held_at x.held m) a) got)) (sym none) (entered m number e (may_try c x number) refl (held_at x.held m) refl)
+  outside_moves (phases.Acquire m) e = out _ (acquired m (lock_of got))
+  outside_moves (phases.Take m count) e = out _ (either (got == word_of_lock (locks.Free count)) (takes x m (keeps.Flat count)) (failed_turn x (phases.Acquire m))
+      (record { attempt = none; new = runs_new (nat_lt x.counts.instructions x.cfg.steps) }) (turned x (phases.Acquire m) none tt))
+  outside_moves (phases.Flag m u) e = out _ (at_phase (phases.Acquire m) tt)
+  outside_moves (phases.TakeFat m r) e = out _ (either (got == 0) (takes x m (keeps.Fat r)) (failed_turn x (phases.TakeFat m r))
+      (record { attempt = none; new = runs_new (nat_lt x.counts.instructions x.cfg.steps) }) (turned x (phases.TakeFat m r) none tt))
+  outside_moves (phases.Leave m a) e = subst (λ (t : Option Attempt). Moves (leave_moves c.program x m a (claim_by m (held_at x.held m) t) got)) (sym none) (out _ (left m a (held_at x.held m) (subst ComesNew (sym e) tt)))
+  outside_moves (phases.Grow m toward) e = out _ (either (nat_lt got MONITOR_RECORDS) (with_phase x (phases.Own m got toward)) (grows_not x m toward) (at_phase (phases.Own m got toward) tt) (not_grown m toward))
+  outside_moves (phases.FlatOut m a) e = out _ (went (record x { held = without_held m x.held }) a (record { attempt = none; new = subst ComesNew (sym e) tt }))
+  outside_moves (phases.Own m r toward) e = out _ (at_phase (phases.FatIn m r toward) tt)
+  outside_moves (phases.FatIn m r toward) e = out _ (fattened m r toward (held_at x.held m) (subst ComesNew (sym e) tt))
+  outside_moves (phases.WaitBit m r) e = out _ (at_phase (phases.WaitOut m r) tt)
+  outside_moves (phases.WaitOut m r) e = out _ (gone_to_wait m r (held_at x.held m) (subst ComesNew (sym e) tt))
+  outside_moves (phases.WaitLook m r depth) e = out _ (either (has_flag (bit_of x.number) got) (failed_turn x (phases.WaitLook m r depth)) (with_phase x (phases.Retake m r depth)) (turned x (phases.WaitLook m r depth) none tt) (at_phase (phases.Retake m r depth) tt))
+  outside_moves (phases.Retake m r depth) e = out _ (either (got == 0) (retakes x m r depth) (failed_turn x (phases.Retake m r depth))
+      (record { attempt = none; new = runs_new (nat_lt x.counts.instructions x.cfg.steps) }) (turned x (phases.Retake m r depth) none tt))
+  outside_moves (phases.NotifyLook m r) e = out _ (either (got == 0) (runs x) (with_phase x (phases.NotifyOne m r (lowest_of got))) (running x none) (at_phase (phases.NotifyOne m r (lowest_of got)) tt))
+  outside_moves (phases.NotifyOne m r u) e = out _ (running x none)
+  outside_moves (phases.NotifyAll m r) e = out _ (running x none)
+  outside_moves (phases.Ending reason) e = out _ (at_phase (phases.Ended reason) tt)
+  outside_moves (phases.Ended reason) e = out _ (as_it_is (phases.Ended reason) e tt)

@@ -1,0 +1,62 @@
+//! Where attempts begin, how many fail at one entry, and what they access.
+
+ghost use Rattle.attempt_entries.specs.EntryLaws.{AttemptsOnlyLook, AttemptsStay, BegunAreDue, DueBegin, FewFail, ThreadsKeepCount};
+
+use lock_laws::{inside_may_do, no_element_inside};
+use state_laws::{parts_keep_threads, runs_have_state};
+
+/// The number of tries that a thread keeps at an entry, and in an attempt, is what its events tell.
+pub fn threads_keep_count()
+    ensures { ThreadsKeepCount }
+{
+    inside_may_do();
+    no_element_inside();
+    runs_have_state();
+    parts_keep_threads();
+}
+
+/// At one entry of a section at most two attempts fail.
+pub fn few_fail()
+    ensures { FewFail }
+{
+    threads_keep_count();
+}
+
+/// At the entry of a marked section an attempt begins where attempts are turned on, the thread is in none and does not hold the
+/// monitor, fewer than two have failed at this entry, and the lock word is found free with a count below the last one.
+pub fn due_begin()
+    ensures { DueBegin }
+{
+    runs_have_state();
+    parts_keep_threads();
+    threads_keep_count();
+}
+
+/// It begins nowhere else.
+pub fn begun_are_due()
+    ensures { BegunAreDue }
+{
+    runs_have_state();
+    parts_keep_threads();
+    threads_keep_count();
+}
+
+/// An attempt that is open stays the same one until it ends, but for how often its monitor was entered inside.
+pub fn attempts_stay()
+    ensures { AttemptsStay }
+{
+    inside_may_do();
+    no_element_inside();
+    runs_have_state();
+    parts_keep_threads();
+}
+
+/// Inside an attempt every access is a load, or, where a limit has ended the thread, the load by which it rests.
+pub fn attempts_only_look()
+    ensures { AttemptsOnlyLook }
+{
+    inside_may_do();
+    no_element_inside();
+    runs_have_state();
+    parts_keep_threads();
+}

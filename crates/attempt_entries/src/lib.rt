@@ -1,0 +1,8 @@
+//! Laws of the entries of sections that are run without their lock, each the contract of a function that does nothing.
+#![tactic(auto)]
+
+pub mod entry_laws;
+
+pub use entry_laws::{
+    attempts_only_look, attempts_stay, begun_are_due, due_begin, few_fail, threads_keep_count,
+};
