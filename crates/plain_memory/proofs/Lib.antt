@@ -1,2 +1,4 @@
+mod ApartLaws
 pub mod FirstOnes
+mod OrderLaws
 mod StartLaws

@@ -6,6 +6,7 @@ ghost use Rattle.jvm_types.specs.ProgramInvariant.{IsProgram};
 ghost use Rattle.plain_memory.specs.Memories.{start_memory};
 ghost use Rattle.machine_types.specs.PlainMemory.{has_value, new_object, object_value, object_write, static_value, static_write};
 
+use crate::finding::{are_in_order, object_value, write_object};
 use crate::object::Object;
 use crate::start::{start_objects, start_statics, words_of};
 use heap_words::header_class;
@@ -43,26 +44,6 @@ impl StaticValue {
     }
 }
 
-/// What stands at a place, by the first object that has it.
-fn object_value(objects: &[Object], place: u128) -> Option<u64>
-    ensures { result ≡ object_value objects.now place }
-{
-    for o in objects {
-        let value = o.value_in(place);
-        if value.is_some() {
-            return value;
-        }
-    }
-    None
-}
-
-/// The number of the first object that has a value at a place.
-fn object_at(objects: &[Object], place: u128) -> Option<usize>
-    ensures { result ≡ position (λ o. has_value o place) objects.now }
-{
-    objects.iter().position(|o| o.has_value(place))
-}
-
 /// What a static field holds.
 fn static_value(statics: &[StaticValue], place: u128) -> Option<u64>
     ensures { result ≡ static_value statics.now place }
@@ -80,17 +61,6 @@ fn static_at(statics: &[StaticValue], place: u128) -> Option<usize>
     ensures { result ≡ position (λ s. s.word == place) statics.now }
 {
     statics.iter().position(|s| s.word as u128 == place)
-}
-
-/// Puts a value at a place of the first object that has it.
-#[tactic(auto, using(crate::proofs::FirstOnes::object_found, crate::proofs::FirstOnes::object_has))]
-fn write_object(objects: &mut Vec<Object>, place: u128, value: u64)
-    ensures { objects.new.items ≡ object_write objects.old.items place value }
-{
-    match object_at(objects.as_slice(), place) {
-        Some(i) => objects[i].write(place, value),
-        None => (),
-    }
 }
 
 /// Puts a value into the static field at a place.
@@ -112,6 +82,8 @@ pub struct Memory {
     objects: Vec<Object>,
     statics: Vec<StaticValue>,
     next: u64,
+    /// Whether the objects are known to lie apart and before the next reference, so that a place is found by halves.
+    in_order: bool,
 }
 
 impl Model for Memory {
@@ -120,6 +92,11 @@ impl Model for Memory {
     ghost Value = { Whole };
 
     ghost view = { λ m. record { objects = m.objects.items; statics = m.statics.items; next = m.next } };
+
+    ghost use Rattle.std.specs.Prelude.{◌≡◌, true};
+    ghost use Rattle.plain_memory.specs.Order.{AreInOrder};
+
+    ghost invariant = { λ m. m.in_order ≡ true → AreInOrder m.objects.items m.next };
 }
 
 impl Memory {
@@ -128,10 +105,14 @@ impl Memory {
         requires { IsProgram p.now }
         ensures { IfOk result (λ m. m ≡ start_memory p.now) }
     {
+        let objects = start_objects(alloc, p)?;
+        let next = words_of(p) as u64;
+        let in_order = are_in_order(objects.as_slice(), next);
         Ok(Memory {
-            objects: start_objects(alloc, p)?,
+            objects,
             statics: start_statics(alloc, p.fields.as_slice())?,
-            next: words_of(p) as u64,
+            next,
+            in_order,
         })
     }
 
@@ -139,7 +120,7 @@ impl Memory {
     pub fn value_at(&self, place: u128) -> Option<u64>
         ensures { result ≡ option_or (object_value self.now.objects place) (static_value self.now.statics place) }
     {
-        let value = object_value(self.objects.as_slice(), place);
+        let value = object_value(self.objects.as_slice(), self.in_order, place);
         if value.is_some() {
             return value;
         }
@@ -150,7 +131,7 @@ impl Memory {
     pub fn write(&mut self, place: u128, value: u64)
         ensures { self.new ≡ record self.old { objects = object_write self.old.objects place value; statics = static_write self.old.statics place value } }
     {
-        write_object(&mut self.objects, place, value);
+        write_object(&mut self.objects, self.in_order, place, value);
         write_static(&mut self.statics, place, value);
     }
 
@@ -175,6 +156,7 @@ impl Memory {
     pub fn pass(&mut self, next: u64)
         ensures { self.new ≡ record self.old { next = next } }
     {
+        self.in_order = self.in_order && self.next <= next;
         self.next = next;
     }
 
@@ -195,7 +177,9 @@ impl Memory {
             header_class(header),
             size.saturating_sub(OBJECT_HEAD_WORDS),
         )?;
+        let in_order = self.in_order && object.end() <= next as u128;
         self.objects.push(object)?;
+        self.in_order = in_order;
         self.next = next;
         Ok(())
     }

@@ -77,8 +77,15 @@ impl Object {
         self.reference as u128 + 2
     }
 
+    /// Its reference.
+    pub fn reference(&self) -> u64
+        ensures { result ≡ self.now.reference }
+    {
+        self.reference
+    }
+
     /// The place behind its last value.
-    fn end(&self) -> u128
+    pub fn end(&self) -> u128
         ensures { result ≡ object_end self.now }
     {
         self.first_value() + self.values.len() as u128
