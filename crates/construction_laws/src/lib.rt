@@ -1,6 +1,6 @@
 //! Laws of objects under construction, each the contract of a function that does nothing.
 #![tactic(auto)]
 
-pub mod state_laws;
+pub mod object_laws;
 
-pub use state_laws::{events_keep_construction, next_keeps_construction, start_has_construction};
+pub use object_laws::{events_keep_construction, next_keeps_construction, start_has_construction};

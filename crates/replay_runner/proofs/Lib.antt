@@ -1,7 +1,6 @@
 mod StartLaws
 mod LawfulStart
 mod NextPart
-mod NextLawful
 mod NextRuns
 mod Turns
 mod MachineEvents

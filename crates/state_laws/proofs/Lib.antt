@@ -51,7 +51,7 @@ mod DoneRoot
 mod PartsEvents
 mod PartsBegin
 mod NoAttempts
-mod StartThreads
+pub mod StartThreads
 mod PartLawful
-mod NextThreads
+pub mod NextThreads
 mod States

@@ -1,5 +1,5 @@
 use Rattle.construction_laws.proofs.Events.{events_keep}
-use Rattle.construction_laws.proofs.state_laws.events_keep_construction.Goals as goal
+use Rattle.construction_laws.proofs.object_laws.events_keep_construction.Goals as goal
 
 pub returns : goal.returns
 returns c = events_keep c.start_lies_apart.ensures c.structure_is_kept.ensures
