@@ -8,7 +8,7 @@ use Rattle.lists.proofs.TestLaws.{both_true, both_are_true}
 use Rattle.checked_program.specs.MarkedProgram.{MarkedProgram, IsMarked}
 use Rattle.machine_types.specs.Accesses.{found_by}
 use Rattle.machine_types.specs.Core.{Core, Happening, core, event, event_of}
-use Rattle.machine_types.specs.Elision.{begins, tries, may_try, enters_marked, put_back, most_attempts}
+use Rattle.machine_types.specs.Elision.{begins, tries, may_try, enters_marked}
 use Rattle.machine_types.specs.Events.{wanted, moved}
 use Rattle.machine_types.specs.Going.{with_phase}
 use Rattle.machine_types.specs.HeldMonitors.{held_at}
@@ -17,12 +17,12 @@ use Rattle.machine_types.specs.LockWords.{word_of_lock, lock_by, lock_of}
 use Rattle.machine_types.specs.Monitors.{Claim, HasNot, claim, claim_by, enter_wants, enter_moves}
 use Rattle.machine_types.specs.Settings.{AreSettings}
 use Rattle.machine_types.specs.Threads.{Attempt, Frame, Thread}
+use Rattle.machine_types.specs.declared.access.Access.TheVariants.{Load}
 use Rattle.machine_types.specs.declared.config.Config.{Config}
 use Rattle.machine_types.specs.declared.lock.Held.{Held}
 use Rattle.machine_types.specs.declared.lock.LockWord.TheVariants as locks
 use Rattle.machine_types.specs.declared.phase.Phase.{Phase}
 use Rattle.machine_types.specs.declared.phase.Phase.TheVariants as phases
-use Rattle.lock_laws.proofs.FramesInside.{put_back_alone}
 use Rattle.lock_laws.specs.InsideEffects.{InsideMayDo}
 use Rattle.lock_laws.specs.InsideMoves.{NoElementInside}
 use Rattle.state_laws.specs.RunFacts.{HaveWidth}
@@ -42,7 +42,7 @@ few_fail counted c cfg hs t marked width settings = (counted c cfg hs t marked w
 
 -- ---- a thread behind its event
 
-is_moved : (c : MarkedProgram) (s : Core) (t : ℕ) (x y : Thread) → slice_get s.threads t ≡ Some x → slice_get (event c s t).threads t ≡ Some y → moved c x x.phase (found_by s.words (wanted c x x.phase)) ≡ y
+pub is_moved : (c : MarkedProgram) (s : Core) (t : ℕ) (x y : Thread) → slice_get s.threads t ≡ Some x → slice_get (event c s t).threads t ≡ Some y → moved c x x.phase (found_by s.words (wanted c x x.phase)) ≡ y
 is_moved c s t x y here there =
     same_some (sym (got_when_set s.threads t x (moved c x x.phase (found_by s.words (wanted c x x.phase))) here) ∙ subst (λ (o : Option Thread). slice_get (event_of c s t o).threads t ≡ Some y) here there)
 
@@ -52,10 +52,13 @@ is_moved c s t x y here there =
 claims_none : (x : Thread) (m : ℕ) → x.attempt ≡ None → held_at x.held m ≡ None → claim x m ≡ HasNot
 claims_none x m outside not_held = ap (λ (h : Option Held). claim_by m h x.attempt) not_held ∙ ap (claim_by m None) outside
 
+wants_load : (c : MarkedProgram) (x : Thread) (m tried : ℕ) → x.phase ≡ phases.Enter m tried → x.attempt ≡ None → held_at x.held m ≡ None → wanted c x x.phase ≡ Some (Load m)
+wants_load c x m tried enters outside not_held =
+    ap (λ (phase : Phase). wanted c x phase) enters
+    ∙ ap (λ (q : Claim). enter_wants m q) (claims_none x m outside not_held)
+
 at_entry : (c : MarkedProgram) (s : Core) (x : Thread) (m tried : ℕ) → x.phase ≡ phases.Enter m tried → x.attempt ≡ None → held_at x.held m ≡ None → found_by s.words (wanted c x x.phase) ≡ slice_index s.words m
-at_entry c s x m tried enters outside not_held =
-    ap (λ (phase : Phase). found_by s.words (wanted c x phase)) enters
-    ∙ ap (λ (q : Claim). found_by s.words (enter_wants m q)) (claims_none x m outside not_held)
+at_entry c s x m tried enters outside not_held = ap (found_by s.words) (wants_load c x m tried enters outside not_held)
 
 -- a word that is read as free is that of a free lock
 free_word : (word count : ℕ) → lock_of word ≡ locks.Free count → word ≡ word_of_lock (locks.Free count)
@@ -78,22 +81,29 @@ module _ (c : MarkedProgram) (cfg : Config) (s : Core) (x : Thread) (failed m co
 
   may : may_try c x due.tried ≡ true
   may =
-      both_true (x.cfg.elide && nat_lt due.tried most_attempts) (enters_marked c x.frames)
-      (both_true x.cfg.elide (nat_lt due.tried most_attempts) (ap (λ (k : Config). k.elide) settings ∙ due.elides) (is_above due.tried most_attempts (subst (λ (n : ℕ). n < most_attempts) (sym same_count) due.few))) due.marked
+      both_true (x.cfg.elide && nat_lt due.tried 2) (enters_marked c x.frames)
+      (both_true x.cfg.elide (nat_lt due.tried 2) (ap (λ (k : Config). k.elide) settings ∙ due.elides) (is_above due.tried 2 (subst (λ (n : ℕ). n < 2) (sym same_count) due.few))) due.marked
 
-  begun_at : (fs : List Frame) → x.frames ≡ fs → HasBegun x (begins x fs m count (due.tried + 1)) failed m count
+  loads : wanted c x x.phase ≡ Some (Load m)
+  loads = wants_load c x m due.tried due.enters due.outside due.not_held
+
+  begun_at : (fs : List Frame) → x.frames ≡ fs → HasBegun c x (begins x fs m count (due.tried + 1)) failed m count
   begun_at [] e = let bad : false ≡ true = subst (λ (gs : List Frame). enters_marked c gs ≡ true) e due.marked in absurd (cc)
   begun_at (f ∷ below) e =
       let new : Attempt = record { monitor = m; noted = count; base = length below; number = due.tried + 1; inner = 0; entry = f } in
       record {
+        loads = loads;
         attempt = new;
         is = refl;
         monitor = refl;
         noted = refl;
         number = ap (λ (n : ℕ). n + 1) same_count;
         inner = refl;
+        below = below;
+        entry = e;
+        base = refl;
         frames = refl;
-        entry = subst (λ (gs : List Frame). put_back new gs ≡ gs) (sym e) (put_back_alone new f below refl);
+        held = refl;
       }
 
   found : lock_of (found_by s.words (wanted c x x.phase)) ≡ locks.Free count
@@ -113,15 +123,15 @@ module _ (c : MarkedProgram) (cfg : Config) (s : Core) (x : Thread) (failed m co
           ∙ ap (tries x m due.tried) free
           ∙ ap (λ (b : Bool). cond b (begins x x.frames m count (due.tried + 1)) (with_phase x (phases.Acquire m))) below_last
 
-  pub begun : HasBegun x (moved c x x.phase (found_by s.words (wanted c x x.phase))) failed m count
-  begun = subst (λ (y : Thread). HasBegun x y failed m count) (sym moves) (begun_at x.frames refl)
+  pub begun : HasBegun c x (moved c x x.phase (found_by s.words (wanted c x x.phase))) failed m count
+  begun = subst (λ (y : Thread). HasBegun c x y failed m count) (sym moves) (begun_at x.frames refl)
 
 pub due_begin : RunsHaveState → ProgramsKeepThreads → ThreadsKeepCount → DueBegin
 due_begin runs parts counted c cfg hs t x y m count marked width settings here there due =
     let s : Core = core c cfg hs in
     let state : IsInState c cfg s = runs c cfg hs marked width (parts c cfg marked settings) in
     let kept = (counted c cfg hs t marked width settings).kept x here in
-    subst (λ (z : Thread). HasBegun x z (failed_here c cfg hs t) m count) (is_moved c s t x y here there)
+    subst (λ (z : Thread). HasBegun c x z (failed_here c cfg hs t) m count) (is_moved c s t x y here there)
     (begun c cfg s x (failed_here c cfg hs t) m count (state.facts.threads.own t x here).settings kept due)
 
 -- ---- where one has begun
@@ -129,8 +139,8 @@ due_begin runs parts counted c cfg hs t x y m count marked width settings here t
 module _ (c : MarkedProgram) (cfg : Config) (s : Core) (x y : Thread) (a : Attempt) (failed : ℕ) (settings : x.cfg ≡ cfg) (kept : KeepsCount x.attempt x.phase failed) (outside : x.attempt ≡ None) where
   was_due : Begins c x y (found_by s.words (wanted c x x.phase)) a → IsDue c cfg s x failed a.monitor a.noted
   was_due b =
-      let elides_few = both_are_true (x.cfg.elide && nat_lt b.tried most_attempts) (enters_marked c x.frames) b.may in
-      let elides = both_are_true x.cfg.elide (nat_lt b.tried most_attempts) elides_few.0 in
+      let elides_few = both_are_true (x.cfg.elide && nat_lt b.tried 2) (enters_marked c x.frames) b.may in
+      let elides = both_are_true x.cfg.elide (nat_lt b.tried 2) elides_few.0 in
       let same : b.tried ≡ failed = subst (λ (phase : Phase). KeepsCount None phase failed) b.enters (subst (λ (o : Option Attempt). KeepsCount o x.phase failed) outside kept) in
       record {
         tried = b.tried;
@@ -139,7 +149,7 @@ module _ (c : MarkedProgram) (cfg : Config) (s : Core) (x y : Thread) (a : Attem
         elides = ap (λ (k : Config). k.elide) (sym settings) ∙ elides.0;
         not_held = b.not_held;
         outside = outside;
-        few = subst (λ (n : ℕ). n < most_attempts) same (is_below b.tried most_attempts elides.1);
+        few = subst (λ (n : ℕ). n < 2) same (is_below b.tried 2 elides.1);
         is_free = sym (at_entry c s x a.monitor b.tried b.enters outside b.not_held) ∙ free_word (found_by s.words (wanted c x x.phase)) a.noted b.is_free;
         not_last = subst (λ (k : Config). a.noted < k.range) settings (is_below a.noted x.cfg.range b.not_last);
       }
@@ -152,21 +162,22 @@ begun_are_due runs parts counted c cfg hs t x y a marked width settings here the
     let state : IsInState c cfg s = runs c cfg hs marked width (parts c cfg marked settings) in
     let same : z ≡ y = is_moved c s t x y here there in
     let tries : z.attempt ≡ Some a = ap (λ (k : Thread). k.attempt) same ∙ begins in
-    was_due c cfg s x z a (failed_here c cfg hs t) (state.facts.threads.own t x here).settings ((counted c cfg hs t marked width settings).kept x here) outside
-    (subst (MovesTo c x z got) tries (outside_moves c x got outside x.phase refl))
+    let begun : Begins c x z got a = subst (MovesTo c x z got) tries (outside_moves c x got outside x.phase refl) in
+    (was_due c cfg s x z a (failed_here c cfg hs t) (state.facts.threads.own t x here).settings ((counted c cfg hs t marked width settings).kept x here) outside begun,
+        wants_load c x a.monitor begun.tried begun.enters outside begun.not_held)
 
 -- ---- one that is open
 
-module _ (a b : Attempt) (y : Thread) (still : y.attempt ≡ Some b) where
-  stays : (f : Fate) → HasFate y a f → b ≡ record a { inner = b.inner }
+module _ (x : Thread) (a b : Attempt) (y : Thread) (still : y.attempt ≡ Some b) where
+  stays : (f : Fate) → HasFate x y a f → b ≡ record a { inner = b.inner }
   stays GoesOn k =
       let same : b ≡ record a { inner = k.0 } = same_some (sym still ∙ k.1) in
       same ∙ ap (λ (n : ℕ). let now : Attempt = record a { inner = n } in now) (sym (ap (λ (d : Attempt). d.inner) same))
-  stays Fails k = absurd (let bad : Some b ≡ None = sym still ∙ k.0 in cc)
+  stays Fails k = absurd (let bad : Some b ≡ None = sym still ∙ k.outside in cc)
   stays Finishes k = absurd (let bad : Some b ≡ None = sym still ∙ k.0 in cc)
 
 module _ (may_do : InsideMayDo) (no_element : NoElementInside) (runs : RunsHaveState) (parts : ProgramsKeepThreads) where
-  in_attempt : (c : MarkedProgram) (cfg : Config) (hs : List Happening) (t : ℕ) (x : Thread) (a : Attempt) → IsMarked c → HaveWidth cfg → AreSettings cfg → slice_get (core c cfg hs).threads t ≡ Some x → x.attempt ≡ Some a → Inside c x a
+  pub in_attempt : (c : MarkedProgram) (cfg : Config) (hs : List Happening) (t : ℕ) (x : Thread) (a : Attempt) → IsMarked c → HaveWidth cfg → AreSettings cfg → slice_get (core c cfg hs).threads t ≡ Some x → x.attempt ≡ Some a → Inside c x a
   in_attempt c cfg hs t x a marked width settings here tries =
       let state : IsInState c cfg (core c cfg hs) = runs c cfg hs marked width (parts c cfg marked settings) in
       is_inside may_do no_element c marked x a tries (state.was t) (state.facts.structure t x here)
@@ -176,7 +187,7 @@ module _ (may_do : InsideMayDo) (no_element : NoElementInside) (runs : RunsHaveS
       let s : Core = core c cfg hs in
       let got : ℕ = found_by s.words (wanted c x x.phase) in
       let same : moved c x x.phase got ≡ y = is_moved c s t x y here there in
-      stays a b (moved c x x.phase got) (ap (λ (k : Thread). k.attempt) same ∙ still) (fate c x a x.phase got) (inside_moves c x a (in_attempt c cfg hs t x a marked width settings here tries) got)
+      stays x a b (moved c x x.phase got) (ap (λ (k : Thread). k.attempt) same ∙ still) (fate c x a x.phase got) (inside_moves c x a (in_attempt c cfg hs t x a marked width settings here tries) got)
 
   pub attempts_only_look : AttemptsOnlyLook
   attempts_only_look c cfg hs t x a marked width settings here tries = only_looks c x a x.phase (in_attempt c cfg hs t x a marked width settings here tries).known

@@ -4,20 +4,20 @@ use Rattle.std.specs.Prelude.{◌&&◌, if◌then◌else◌}
 use Rattle.std.proofs.lemmas.Bool.Decides.{nat_tests}
 use Rattle.lists.proofs.TestLaws.{both_are_true}
 use Rattle.checked_program.specs.MarkedProgram.{MarkedProgram}
-use Rattle.machine_types.specs.Elision.{enters_marked, most_attempts}
+use Rattle.machine_types.specs.Elision.{enters_marked}
 use Rattle.machine_types.specs.Events.{moved}
 use Rattle.machine_types.specs.History.{Fate, GoesOn, Fails, Finishes, fate}
 use Rattle.machine_types.specs.Threads.{Attempt, Thread}
 use Rattle.machine_types.specs.declared.phase.Phase.{Phase}
 use Rattle.machine_types.specs.declared.phase.Phase.TheVariants as phases
 use Rattle.elided_steps.proofs.Inside.{Inside}
-use Rattle.attempt_entries.specs.Entries.{is_entering, fails_more, failed_after, KeepsCount}
-use Rattle.attempt_entries.proofs.Outside.{ComesNew, Begins, MovesTo, outside_moves}
+use Rattle.attempt_entries.specs.Entries.{comes_to_enter, fails_more, failed_after, KeepsCount}
+use Rattle.attempt_entries.proofs.Outside.{is_entering, ComesNew, Begins, MovesTo, outside_moves}
 use Rattle.attempt_entries.proofs.Within.{HasFate, inside_moves}
 
 -- of a thread that is y so many have failed
 pub record Counts (y : Thread) (failed : ℕ) : Type 0 where
-  pub few : failed ≤ most_attempts
+  pub few : failed ≤ 2
   pub kept : KeepsCount y.attempt y.phase failed
 
 pub is_below : (n m : ℕ) → nat_lt n m ≡ true → n < m
@@ -29,17 +29,17 @@ elsewhere phase failed e = tt
 
 -- ---- outside an attempt
 
-comes_new : (phase : Phase) (failed : ℕ) → ComesNew phase → KeepsCount None phase (if is_entering phase then 0 else failed)
-comes_new (phases.Enter m tried) failed k = k
-comes_new phase failed k = tt
+comes_new : (was now : Phase) (failed : ℕ) → ComesNew was now → KeepsCount None now (if comes_to_enter was now then 0 else failed)
+comes_new was (phases.Enter m tried) failed k = subst (λ (phase : Phase). tried ≡ (if comes_to_enter phase (phases.Enter m tried) then 0 else failed)) (sym k.0) k.1
+comes_new was now failed k = tt
 
-none_more : (b : Bool) (failed : ℕ) → failed ≤ most_attempts → (if b then 0 else failed) ≤ most_attempts
+none_more : (b : Bool) (failed : ℕ) → failed ≤ 2 → (if b then 0 else failed) ≤ 2
 none_more true failed few = omega arith
 none_more false failed few = few
 
 -- fewer have been tried than may
-few_tried : (elide : Bool) (tried : ℕ) (marked : Bool) → (elide && nat_lt tried most_attempts && marked) ≡ true → tried < most_attempts
-few_tried elide tried marked may = is_below tried most_attempts (both_are_true elide (nat_lt tried most_attempts) (both_are_true (elide && nat_lt tried most_attempts) marked may).0).1
+few_tried : (elide : Bool) (tried : ℕ) (marked : Bool) → (elide && nat_lt tried 2 && marked) ≡ true → tried < 2
+few_tried elide tried marked may = is_below tried 2 (both_are_true elide (nat_lt tried 2) (both_are_true (elide && nat_lt tried 2) marked may).0).1
 
 module _ (c : MarkedProgram) (x y : Thread) (got failed : ℕ) where
   -- of the attempt that begins
@@ -47,27 +47,29 @@ module _ (c : MarkedProgram) (x y : Thread) (got failed : ℕ) where
   begins_counted a b kept =
       let same : b.tried ≡ failed = subst (λ (phase : Phase). KeepsCount None phase failed) b.enters kept in
       let few = few_tried x.cfg.elide b.tried (enters_marked c x.frames) b.may in
-      (b.number ∙ ap (λ (n : ℕ). n + 1) same, subst (λ (n : ℕ). n < most_attempts) same few)
+      (b.number ∙ ap (λ (n : ℕ). n + 1) same, subst (λ (n : ℕ). n < 2) same few)
 
-  outside_counted : (o : Option Attempt) → y.attempt ≡ o → MovesTo c x y got o → KeepsCount None x.phase failed → failed ≤ most_attempts → Counts y (if is_entering y.phase then 0 else failed)
+  outside_counted : (o : Option Attempt) → y.attempt ≡ o → MovesTo c x y got o → KeepsCount None x.phase failed → failed ≤ 2 → Counts y (if comes_to_enter x.phase y.phase then 0 else failed)
   outside_counted None e new kept few = record {
-    few = none_more (is_entering y.phase) failed few;
-    kept = subst (λ (o : Option Attempt). KeepsCount o y.phase (if is_entering y.phase then 0 else failed)) (sym e) (comes_new y.phase failed new);
+    few = none_more (comes_to_enter x.phase y.phase) failed few;
+    kept = subst (λ (o : Option Attempt). KeepsCount o y.phase (if comes_to_enter x.phase y.phase then 0 else failed)) (sym e) (comes_new x.phase y.phase failed new.0);
   }
-  outside_counted (Some a) e b kept few = record {
-    few = none_more (is_entering y.phase) failed few;
-    kept = subst (λ (o : Option Attempt). KeepsCount o y.phase (if is_entering y.phase then 0 else failed)) (sym e)
-        (subst (λ (b : Bool). KeepsCount (Some a) y.phase (if b then 0 else failed)) (sym b.goes) (begins_counted a b kept));
-  }
+  outside_counted (Some a) e b kept few =
+      let stays : comes_to_enter x.phase y.phase ≡ false = subst (λ (phase : Phase). comes_to_enter phase y.phase ≡ false) (sym b.enters) refl in
+      record {
+        few = none_more (comes_to_enter x.phase y.phase) failed few;
+        kept = subst (λ (o : Option Attempt). KeepsCount o y.phase (if comes_to_enter x.phase y.phase then 0 else failed)) (sym e)
+            (subst (λ (b : Bool). KeepsCount (Some a) y.phase (if b then 0 else failed)) (sym stays) (begins_counted a b kept));
+      }
 
 -- ---- inside
 
-module _ (y : Thread) (a : Attempt) (failed : ℕ) (few : failed ≤ most_attempts) (number : a.number ≡ failed + 1) (below : failed < most_attempts) where
-  inside_counted : (f : Fate) → HasFate y a f → Counts y (fails_more f failed)
+module _ (x y : Thread) (a : Attempt) (failed : ℕ) (few : failed ≤ 2) (number : a.number ≡ failed + 1) (below : failed < 2) where
+  inside_counted : (f : Fate) → HasFate x y a f → Counts y (fails_more f failed)
   inside_counted GoesOn k = record { few = few; kept = subst (λ (o : Option Attempt). KeepsCount o y.phase failed) (sym k.1) (number, below) }
   inside_counted Fails k = record {
     few = omega (arith, below);
-    kept = subst (λ (o : Option Attempt). KeepsCount o y.phase (failed + 1)) (sym k.0) (subst (λ (phase : Phase). KeepsCount None phase (failed + 1)) (sym k.1) number);
+    kept = subst (λ (o : Option Attempt). KeepsCount o y.phase (failed + 1)) (sym k.outside) (subst (λ (phase : Phase). KeepsCount None phase (failed + 1)) (sym k.enters) number);
   }
   inside_counted Finishes k = record { few = few; kept = subst (λ (o : Option Attempt). KeepsCount o y.phase failed) (sym k.0) (elsewhere y.phase failed k.1) }
 
@@ -81,4 +83,4 @@ event_counted c x got failed inside k = by_attempt x.attempt refl
         (subst (λ (o : Option Attempt). KeepsCount o x.phase failed) e k.kept) k.few
     by_attempt (Some a) e =
         let kept = subst (λ (o : Option Attempt). KeepsCount o x.phase failed) e k.kept in
-        inside_counted (moved c x x.phase got) a failed k.few kept.0 kept.1 (fate c x a x.phase got) (inside_moves c x a (inside a e) got)
+        inside_counted x (moved c x x.phase got) a failed k.few kept.0 kept.1 (fate c x a x.phase got) (inside_moves c x a (inside a e) got)

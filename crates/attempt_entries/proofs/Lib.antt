@@ -4,3 +4,4 @@ mod Looks
 mod Counts
 mod Runs
 mod Beginnings
+mod Failures

@@ -4,7 +4,6 @@ use Rattle.std.specs.Prelude.{◌≡◌, ℕ, ◌+◌, ◌<◌, ◌≤◌, ◌==
 use Rattle.checked_program.specs.MarkedProgram.{MarkedProgram}
 use Rattle.machine_types.specs.Accesses.{found_by}
 use Rattle.machine_types.specs.Core.{Core, Happening, Of, NextPart, happened, start}
-use Rattle.machine_types.specs.Elision.{most_attempts}
 use Rattle.machine_types.specs.Events.{wanted, moved}
 use Rattle.machine_types.specs.History.{Fate, Fails, fate}
 use Rattle.machine_types.specs.Parts.{has_finished}
@@ -15,20 +14,21 @@ use Rattle.machine_types.specs.declared.config.Config.{Config}
 use Rattle.machine_types.specs.declared.phase.Phase.{Phase}
 use Rattle.machine_types.specs.declared.phase.Phase.TheVariants as phases
 
--- a thread is to enter a monitor
-abbrev pub is_entering : Phase → Bool
-is_entering (phases.Enter m tried) = true
-is_entering phase = false
+-- an instruction brings a thread to a monitor
+abbrev pub comes_to_enter : (was now : Phase) → Bool
+comes_to_enter phases.Run (phases.Enter m tried) = true
+comes_to_enter was now = false
 
 abbrev pub fails_more : Fate → (failed : ℕ) → ℕ
 fails_more Fails failed = failed + 1
 fails_more fate failed = failed
 
--- Behind an event of a thread: inside an attempt one more where that fails; outside, none yet where the event brings the thread
--- to a monitor. What is entered inside an attempt is the monitor of that attempt, and no entry of its own.
+-- Behind an event of a thread: inside an attempt one more where that fails; outside, none yet where an instruction brings the
+-- thread to a monitor. Whatever else leads back to that monitor is of the same entry. What is entered inside an attempt is the
+-- monitor of that attempt, and no entry of its own.
 abbrev pub failed_after : MarkedProgram → Thread → Option Attempt → (got failed : ℕ) → ℕ
 failed_after c x (Some a) got failed = fails_more (fate c x a x.phase got) failed
-failed_after c x None got failed = if is_entering (moved c x x.phase got).phase then 0 else failed
+failed_after c x None got failed = if comes_to_enter x.phase (moved c x x.phase got).phase then 0 else failed
 
 abbrev pub failed_of : MarkedProgram → Core → Option Thread → (failed : ℕ) → ℕ
 failed_of c s None failed = failed
@@ -50,13 +50,13 @@ failed_here c cfg hs t = failed_from c (start c cfg) t 0 hs
 
 -- at an entry how many have been tried, and in an attempt which one it is
 abbrev pub KeepsCount : Option Attempt → Phase → (failed : ℕ) → Type 0
-KeepsCount (Some a) phase failed = (a.number ≡ failed + 1) × (failed < most_attempts)
+KeepsCount (Some a) phase failed = (a.number ≡ failed + 1) × (failed < 2)
 KeepsCount None (phases.Enter m tried) failed = tried ≡ failed
 KeepsCount None phase failed = Unit {0}
 
 -- thread t keeps that so many have failed, and these are no more than may
 pub record IsCounted (s : Core) (t failed : ℕ) : Type 0 where
-  pub few : failed ≤ most_attempts
+  pub few : failed ≤ 2
   pub kept : (x : Thread) → slice_get s.threads t ≡ Some x → KeepsCount x.attempt x.phase failed
 
 -- ---- what an event inside an attempt accesses

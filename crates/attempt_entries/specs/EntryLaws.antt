@@ -1,14 +1,17 @@
--- In every run: where an attempt begins, how many fail at one entry, and what an event inside one accesses (PLDI 2010
--- publication, of read-only sections without their lock; how often a section is tried is the machine's own).
-use Rattle.std.specs.Prelude.{◌≡◌, ℕ, ◌+◌, ◌<◌, ◌≤◌, true, List, Some, None, slice_get, slice_index}
+-- In every run: where an attempt begins, how many fail at one entry, what a failure leaves, and what an event inside an attempt
+-- accesses (PLDI 2010 publication, of read-only sections without their lock; how often a section is tried is the machine's own).
+use Rattle.std.specs.Prelude.{◌≡◌, ℕ, ◌+◌, ◌<◌, ◌≤◌, true, List, ◌∷◌, length, Some, None, slice_get, slice_index}
 use Rattle.checked_program.specs.MarkedProgram.{MarkedProgram, IsMarked}
+use Rattle.machine_types.specs.Accesses.{found_by}
 use Rattle.machine_types.specs.Core.{Core, Happening, core, event}
-use Rattle.machine_types.specs.Elision.{most_attempts, enters_marked, put_back}
+use Rattle.machine_types.specs.Elision.{enters_marked, put_back}
 use Rattle.machine_types.specs.Events.{wanted}
 use Rattle.machine_types.specs.HeldMonitors.{held_at}
+use Rattle.machine_types.specs.History.{Fate, Fails, fate}
 use Rattle.machine_types.specs.LockWords.{word_of_lock}
 use Rattle.machine_types.specs.Settings.{AreSettings}
-use Rattle.machine_types.specs.Threads.{Attempt, Thread}
+use Rattle.machine_types.specs.Threads.{Attempt, Frame, Thread}
+use Rattle.machine_types.specs.declared.access.Access.TheVariants.{Load}
 use Rattle.machine_types.specs.declared.config.Config.{Config}
 use Rattle.machine_types.specs.declared.lock.LockWord.TheVariants as locks
 use Rattle.machine_types.specs.declared.phase.Phase.TheVariants as phases
@@ -22,12 +25,12 @@ abbrev pub ThreadsKeepCount : Type 0
 ThreadsKeepCount = (c : MarkedProgram) (cfg : Config) (hs : List Happening) (t : ℕ) → IsMarked c → HaveWidth cfg → AreSettings cfg → IsCounted (core c cfg hs) t (failed_here c cfg hs t)
 
 abbrev pub FewFail : Type 0
-FewFail = (c : MarkedProgram) (cfg : Config) (hs : List Happening) (t : ℕ) → IsMarked c → HaveWidth cfg → AreSettings cfg → failed_here c cfg hs t ≤ most_attempts
+FewFail = (c : MarkedProgram) (cfg : Config) (hs : List Happening) (t : ℕ) → IsMarked c → HaveWidth cfg → AreSettings cfg → failed_here c cfg hs t ≤ 2
 
 -- ---- where one begins
 
 -- Thread x is at the entry of a marked section, with attempts turned on; it neither holds the monitor nor is in an attempt, and
--- fewer have failed at this entry than may; and the monitor is free, with a count below the last one.
+-- fewer than two have failed at this entry; and the monitor is free, with a count below the last one.
 pub record IsDue (c : MarkedProgram) (cfg : Config) (s : Core) (x : Thread) (failed m count : ℕ) : Type 0 where
   pub tried : ℕ
   pub enters : x.phase ≡ phases.Enter m tried
@@ -35,39 +38,72 @@ pub record IsDue (c : MarkedProgram) (cfg : Config) (s : Core) (x : Thread) (fai
   pub elides : cfg.elide ≡ true
   pub not_held : held_at x.held m ≡ None
   pub outside : x.attempt ≡ None
-  pub few : failed < most_attempts
+  pub few : failed < 2
   pub is_free : slice_index s.words m ≡ word_of_lock (locks.Free count)
   pub not_last : count < cfg.range
 
--- Thread x, which is y behind its event, has begun an attempt on m: it notes the count and the frame that enters, and has its
--- frames as they were.
-pub record HasBegun (x y : Thread) (failed m count : ℕ) : Type 0 where
+-- Thread x, which is y behind its event, has begun an attempt on m by a load of its lock word: it notes the count and the frame
+-- that enters, and has its frames and the monitors that it holds as they were.
+pub record HasBegun (c : MarkedProgram) (x y : Thread) (failed m count : ℕ) : Type 0 where
+  pub loads : wanted c x x.phase ≡ Some (Load m)
   pub attempt : Attempt
   pub is : y.attempt ≡ Some attempt
   pub monitor : attempt.monitor ≡ m
   pub noted : attempt.noted ≡ count
   pub number : attempt.number ≡ failed + 1
   pub inner : attempt.inner ≡ 0
+  pub below : List Frame
+  pub entry : x.frames ≡ attempt.entry ∷ below
+  pub base : attempt.base ≡ length below
   pub frames : y.frames ≡ x.frames
-  pub entry : put_back attempt x.frames ≡ x.frames
+  pub held : y.held ≡ x.held
 
 -- where it is due, one begins
 abbrev pub DueBegin : Type 0
 DueBegin = (c : MarkedProgram) (cfg : Config) (hs : List Happening) (t : ℕ) (x y : Thread) (m count : ℕ) → IsMarked c → HaveWidth cfg → AreSettings cfg
     → slice_get (core c cfg hs).threads t ≡ Some x → slice_get (event c (core c cfg hs) t).threads t ≡ Some y
-    → IsDue c cfg (core c cfg hs) x (failed_here c cfg hs t) m count → HasBegun x y (failed_here c cfg hs t) m count
+    → IsDue c cfg (core c cfg hs) x (failed_here c cfg hs t) m count → HasBegun c x y (failed_here c cfg hs t) m count
 
--- and nowhere else
+-- and nowhere else, and by nothing but a load of the lock word
 abbrev pub BegunAreDue : Type 0
 BegunAreDue = (c : MarkedProgram) (cfg : Config) (hs : List Happening) (t : ℕ) (x y : Thread) (a : Attempt) → IsMarked c → HaveWidth cfg → AreSettings cfg
     → slice_get (core c cfg hs).threads t ≡ Some x → slice_get (event c (core c cfg hs) t).threads t ≡ Some y
-    → x.attempt ≡ None → y.attempt ≡ Some a → IsDue c cfg (core c cfg hs) x (failed_here c cfg hs t) a.monitor a.noted
+    → x.attempt ≡ None → y.attempt ≡ Some a
+    → IsDue c cfg (core c cfg hs) x (failed_here c cfg hs t) a.monitor a.noted × (wanted c x x.phase ≡ Some (Load a.monitor))
 
 -- an attempt that is open stays the same one, but for how often its monitor was entered inside, until it ends
 abbrev pub AttemptsStay : Type 0
 AttemptsStay = (c : MarkedProgram) (cfg : Config) (hs : List Happening) (t : ℕ) (x y : Thread) (a b : Attempt) → IsMarked c → HaveWidth cfg → AreSettings cfg
     → slice_get (core c cfg hs).threads t ≡ Some x → slice_get (event c (core c cfg hs) t).threads t ≡ Some y
     → x.attempt ≡ Some a → y.attempt ≡ Some b → b ≡ record a { inner = b.inner }
+
+-- ---- what a failure leaves
+
+-- Thread x, which is y behind its event, has failed in the attempt a: its frames are as they were where that began, it holds what
+-- it held, and it is to enter again.
+pub record HasFailed (x y : Thread) (a : Attempt) : Type 0 where
+  pub outside : y.attempt ≡ None
+  pub enters : y.phase ≡ phases.Enter a.monitor a.number
+  pub frames : y.frames ≡ put_back a x.frames
+  pub held : y.held ≡ x.held
+  pub counted : y.counts.failed ≡ x.counts.failed + 1
+
+-- what the next event of a thread does with its attempt
+abbrev pub fate_here : MarkedProgram → Core → Thread → Attempt → Fate
+fate_here c s x a = fate c x a x.phase (found_by s.words (wanted c x x.phase))
+
+-- the words stay too
+abbrev pub FailuresPutBack : Type 0
+FailuresPutBack = (c : MarkedProgram) (cfg : Config) (hs : List Happening) (t : ℕ) (x y : Thread) (a : Attempt) → IsMarked c → HaveWidth cfg → AreSettings cfg
+    → slice_get (core c cfg hs).threads t ≡ Some x → slice_get (event c (core c cfg hs) t).threads t ≡ Some y
+    → x.attempt ≡ Some a → fate_here c (core c cfg hs) x a ≡ Fails
+    → HasFailed x y a × ((event c (core c cfg hs) t).words ≡ (core c cfg hs).words)
+
+-- an event that fails no attempt is counted as no failure
+abbrev pub OnlyFailuresCount : Type 0
+OnlyFailuresCount = (c : MarkedProgram) (cfg : Config) (hs : List Happening) (t : ℕ) (x y : Thread) → IsMarked c → HaveWidth cfg → AreSettings cfg
+    → slice_get (core c cfg hs).threads t ≡ Some x → slice_get (event c (core c cfg hs) t).threads t ≡ Some y
+    → ((a : Attempt) → x.attempt ≡ Some a → fate_here c (core c cfg hs) x a ≡ Fails → ⊥) → y.counts.failed ≡ x.counts.failed
 
 -- ---- what an event inside one accesses
 

@@ -1,6 +1,6 @@
 //! Where attempts begin, how many fail at one entry, and what they access.
 
-ghost use Rattle.attempt_entries.specs.EntryLaws.{AttemptsOnlyLook, AttemptsStay, BegunAreDue, DueBegin, FewFail, ThreadsKeepCount};
+ghost use Rattle.attempt_entries.specs.EntryLaws.{AttemptsOnlyLook, AttemptsStay, BegunAreDue, DueBegin, FailuresPutBack, FewFail, OnlyFailuresCount, ThreadsKeepCount};
 
 use lock_laws::{inside_may_do, no_element_inside};
 use state_laws::{parts_keep_threads, runs_have_state};
@@ -32,7 +32,7 @@ pub fn due_begin()
     threads_keep_count();
 }
 
-/// It begins nowhere else.
+/// It begins nowhere else, and always by a load of the lock word.
 pub fn begun_are_due()
     ensures { BegunAreDue }
 {
@@ -44,6 +44,27 @@ pub fn begun_are_due()
 /// An attempt that is open stays the same one until it ends, but for how often its monitor was entered inside.
 pub fn attempts_stay()
     ensures { AttemptsStay }
+{
+    inside_may_do();
+    no_element_inside();
+    runs_have_state();
+    parts_keep_threads();
+}
+
+/// An attempt that fails leaves the thread at the entry again, with its frames as they were there, what it held and all words as
+/// they are, and one failure more counted.
+pub fn failures_put_back()
+    ensures { FailuresPutBack }
+{
+    inside_may_do();
+    no_element_inside();
+    runs_have_state();
+    parts_keep_threads();
+}
+
+/// Nothing but a failure is counted as one.
+pub fn only_failures_count()
+    ensures { OnlyFailuresCount }
 {
     inside_may_do();
     no_element_inside();

@@ -1,0 +1,54 @@
+-- What a failure leaves, and that nothing else is counted as one.
+use Rattle.std.proofs.Common.{◌≡◌, ℕ, ◌+◌, Option, Some, None, refl, sym, ap, ◌∙◌, subst}
+use Rattle.std.specs.Prelude.{slice_get}
+use Rattle.checked_program.specs.MarkedProgram.{MarkedProgram, IsMarked}
+use Rattle.machine_types.specs.Accesses.{found_by}
+use Rattle.machine_types.specs.Core.{Core, core, event, event_of}
+use Rattle.machine_types.specs.Events.{wanted, moved}
+use Rattle.machine_types.specs.History.{Fate, GoesOn, Fails, Finishes, fate}
+use Rattle.machine_types.specs.Threads.{Attempt, Thread}
+use Rattle.lock_laws.specs.InsideEffects.{InsideMayDo}
+use Rattle.lock_laws.specs.InsideMoves.{NoElementInside}
+use Rattle.state_laws.specs.StateLaws.{ProgramsKeepThreads, RunsHaveState}
+use Rattle.elided_steps.proofs.Inside.{Inside}
+use Rattle.elided_steps.proofs.InsideWords.{words_stay}
+use Rattle.attempt_entries.specs.EntryLaws.{HasFailed, FailuresPutBack, OnlyFailuresCount}
+use Rattle.attempt_entries.proofs.Beginnings.{is_moved, in_attempt}
+use Rattle.attempt_entries.proofs.Outside.{MovesTo, outside_moves}
+use Rattle.attempt_entries.proofs.Within.{HasFate, inside_moves}
+
+module _ (c : MarkedProgram) (x y : Thread) (got : ℕ) where
+  outside_counts : (o : Option Attempt) → MovesTo c x y got o → y.counts.failed ≡ x.counts.failed
+  outside_counts None k = k.1
+  outside_counts (Some a) k = k.failed
+
+  inside_counts : (a : Attempt) (f : Fate) → (f ≡ Fails → ⊥) → HasFate x y a f → y.counts.failed ≡ x.counts.failed
+  inside_counts a GoesOn never k = k.2
+  inside_counts a Fails never k = absurd (never refl)
+  inside_counts a Finishes never k = k.2
+
+module _ (may_do : InsideMayDo) (no_element : NoElementInside) (runs : RunsHaveState) (parts : ProgramsKeepThreads) where
+  pub failures_put_back : FailuresPutBack
+  failures_put_back c cfg hs t x y a marked width settings here there tries fails =
+      let s : Core = core c cfg hs in
+      let got : ℕ = found_by s.words (wanted c x x.phase) in
+      let inside : Inside c x a = in_attempt may_do no_element runs parts c cfg hs t x a marked width settings here tries in
+      let failed : HasFailed x (moved c x x.phase got) a = subst (HasFate x (moved c x x.phase got) a) fails (inside_moves c x a inside got) in
+      (subst (λ (z : Thread). HasFailed x z a) (is_moved c s t x y here there) failed,
+          ap (λ (o : Option Thread). (event_of c s t o).words) here ∙ words_stay s.words c x a inside)
+
+  pub only_failures_count : OnlyFailuresCount
+  only_failures_count c cfg hs t x y marked width settings here there never =
+      subst (λ (z : Thread). z.counts.failed ≡ x.counts.failed) (is_moved c s t x y here there) (by_attempt x.attempt refl)
+    where
+      s : Core
+      s = core c cfg hs
+
+      got : ℕ
+      got = found_by s.words (wanted c x x.phase)
+
+      by_attempt : (o : Option Attempt) → x.attempt ≡ o → (moved c x x.phase got).counts.failed ≡ x.counts.failed
+      by_attempt None e = outside_counts c x (moved c x x.phase got) got (moved c x x.phase got).attempt (outside_moves c x got e x.phase refl)
+      by_attempt (Some a) e =
+          inside_counts c x (moved c x x.phase got) got a (fate c x a x.phase got) (never a e)
+          (inside_moves c x a (in_attempt may_do no_element runs parts c cfg hs t x a marked width settings here e) got)
