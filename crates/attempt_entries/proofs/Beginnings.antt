@@ -33,6 +33,7 @@ use Rattle.elided_steps.proofs.Inside.{Inside, is_inside}
 use Rattle.attempt_entries.specs.Entries.{failed_here, KeepsCount}
 use Rattle.attempt_entries.specs.EntryLaws.{ThreadsKeepCount, FewFail, IsDue, HasBegun, DueBegin, BegunAreDue, AttemptsStay, AttemptsOnlyLook}
 use Rattle.attempt_entries.proofs.Counts.{is_below}
+use Rattle.attempt_entries.proofs.MarkedEntries.{at_mark, enters_by_mark}
 use Rattle.attempt_entries.proofs.Looks.{only_looks}
 use Rattle.attempt_entries.proofs.Outside.{Begins, MovesTo, outside_moves}
 use Rattle.attempt_entries.proofs.Within.{HasFate, inside_moves}
@@ -75,20 +76,23 @@ free_word word count e = by_kind (word % 4) (word / 4) refl refl e
 is_above : (n m : ℕ) → n < m → nat_lt n m ≡ true
 is_above n m e = grind (arith, nat_tests, e)
 
-module _ (c : MarkedProgram) (cfg : Config) (s : Core) (x : Thread) (failed m count : ℕ) (settings : x.cfg ≡ cfg) (kept : KeepsCount x.attempt x.phase failed) (due : IsDue c cfg s x failed m count) where
+module _ (c : MarkedProgram) (cfg : Config) (s : Core) (x : Thread) (failed m count : ℕ) (settings : x.cfg ≡ cfg) (kept : KeepsCount x.attempt x.phase failed) (is_marked : IsMarked c) (due : IsDue c cfg s x failed m count) where
+  marked_there : enters_marked c x.frames ≡ true
+  marked_there = enters_by_mark c is_marked x.frames due.marked
+
   same_count : due.tried ≡ failed
   same_count = subst (λ (phase : Phase). KeepsCount None phase failed) due.enters (subst (λ (o : Option Attempt). KeepsCount o x.phase failed) due.outside kept)
 
   may : may_try c x due.tried ≡ true
   may =
       both_true (x.cfg.elide && nat_lt due.tried 2) (enters_marked c x.frames)
-      (both_true x.cfg.elide (nat_lt due.tried 2) (ap (λ (k : Config). k.elide) settings ∙ due.elides) (is_above due.tried 2 (subst (λ (n : ℕ). n < 2) (sym same_count) due.few))) due.marked
+      (both_true x.cfg.elide (nat_lt due.tried 2) (ap (λ (k : Config). k.elide) settings ∙ due.elides) (is_above due.tried 2 (subst (λ (n : ℕ). n < 2) (sym same_count) due.few))) marked_there
 
   loads : wanted c x x.phase ≡ Some (Load m)
   loads = wants_load c x m due.tried due.enters due.outside due.not_held
 
   begun_at : (fs : List Frame) → x.frames ≡ fs → HasBegun c x (begins x fs m count (due.tried + 1)) failed m count
-  begun_at [] e = let bad : false ≡ true = subst (λ (gs : List Frame). enters_marked c gs ≡ true) e due.marked in absurd (cc)
+  begun_at [] e = let bad : false ≡ true = subst (λ (gs : List Frame). enters_marked c gs ≡ true) e marked_there in absurd (cc)
   begun_at (f ∷ below) e =
       let new : Attempt = record { monitor = m; noted = count; base = length below; number = due.tried + 1; inner = 0; entry = f } in
       record {
@@ -132,7 +136,7 @@ due_begin runs parts counted c cfg hs t x y m count marked width settings here t
     let state : IsInState c cfg s = runs c cfg hs marked width (parts c cfg marked settings) in
     let kept = (counted c cfg hs t marked width settings).kept x here in
     subst (λ (z : Thread). HasBegun c x z (failed_here c cfg hs t) m count) (is_moved c s t x y here there)
-    (begun c cfg s x (failed_here c cfg hs t) m count (state.facts.threads.own t x here).settings kept due)
+    (begun c cfg s x (failed_here c cfg hs t) m count (state.facts.threads.own t x here).settings kept marked due)
 
 -- ---- where one has begun
 
@@ -145,7 +149,7 @@ module _ (c : MarkedProgram) (cfg : Config) (s : Core) (x y : Thread) (a : Attem
       record {
         tried = b.tried;
         enters = b.enters;
-        marked = elides_few.1;
+        marked = at_mark c x.frames elides_few.1;
         elides = ap (λ (k : Config). k.elide) (sym settings) ∙ elides.0;
         not_held = b.not_held;
         outside = outside;

@@ -3,5 +3,6 @@ mod Within
 mod Looks
 mod Counts
 mod Runs
+mod MarkedEntries
 mod Beginnings
 mod Failures

@@ -1,10 +1,13 @@
 -- In every run: where an attempt begins, how many fail at one entry, what a failure leaves, and what an event inside an attempt
 -- accesses (PLDI 2010 publication, of read-only sections without their lock; how often a section is tried is the machine's own).
-use Rattle.std.specs.Prelude.{◌≡◌, ℕ, ◌+◌, ◌<◌, ◌≤◌, true, List, ◌∷◌, length, Some, None, slice_get, slice_index}
+use Rattle.std.specs.Prelude.{◌≡◌, ℕ, ◌+◌, ◌<◌, ◌≤◌, true, List, ◌∷◌, length, Contains, Some, None, slice_get, slice_index}
 use Rattle.checked_program.specs.MarkedProgram.{MarkedProgram, IsMarked}
+use Rattle.checked_program.specs.declared.section.SectionMark.{SectionMark}
+use Rattle.checked_program.specs.declared.section.Spot.{Spot}
+use Rattle.checked_program.specs.declared.section.Spot.TheVariants.{Method, Block}
 use Rattle.machine_types.specs.Accesses.{found_by}
 use Rattle.machine_types.specs.Core.{Core, Happening, core, event}
-use Rattle.machine_types.specs.Elision.{enters_marked, put_back}
+use Rattle.machine_types.specs.Elision.{put_back}
 use Rattle.machine_types.specs.Events.{wanted}
 use Rattle.machine_types.specs.HeldMonitors.{held_at}
 use Rattle.machine_types.specs.History.{Fate, Fails, fate}
@@ -29,12 +32,28 @@ FewFail = (c : MarkedProgram) (cfg : Config) (hs : List Happening) (t : ℕ) →
 
 -- ---- where one begins
 
+-- The pc at which a section begins: that of a method is 0, and a block begins behind its `monitorenter`, which is one byte long.
+abbrev pub BeginsBehind : Spot → (pc : ℕ) → Type 0
+BeginsBehind Method pc = pc ≡ 0
+BeginsBehind (Block enter) pc = pc ≡ enter + 1
+
+-- the top frame is at the begin of a section with the mark 0
+pub record IsAtMarked (c : MarkedProgram) (frames : List Frame) : Type 0 where
+  pub frame : Frame
+  pub below : List Frame
+  pub is : frames ≡ frame ∷ below
+  pub mark : SectionMark
+  pub there : Contains c.marks mark
+  pub of_method : mark.method ≡ frame.method
+  pub spot : BeginsBehind mark.spot frame.pc
+  pub none : mark.mark ≡ 0
+
 -- Thread x is at the entry of a marked section, with attempts turned on; it neither holds the monitor nor is in an attempt, and
 -- fewer than two have failed at this entry; and the monitor is free, with a count below the last one.
 pub record IsDue (c : MarkedProgram) (cfg : Config) (s : Core) (x : Thread) (failed m count : ℕ) : Type 0 where
   pub tried : ℕ
   pub enters : x.phase ≡ phases.Enter m tried
-  pub marked : enters_marked c x.frames ≡ true
+  pub marked : IsAtMarked c x.frames
   pub elides : cfg.elide ≡ true
   pub not_held : held_at x.held m ≡ None
   pub outside : x.attempt ≡ None
