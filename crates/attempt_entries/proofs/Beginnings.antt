@@ -166,9 +166,10 @@ begun_are_due runs parts counted c cfg hs t x y a marked width settings here the
     let state : IsInState c cfg s = runs c cfg hs marked width (parts c cfg marked settings) in
     let same : z ≡ y = is_moved c s t x y here there in
     let tries : z.attempt ≡ Some a = ap (λ (k : Thread). k.attempt) same ∙ begins in
-    let begun : Begins c x z got a = subst (MovesTo c x z got) tries (outside_moves c x got outside x.phase refl) in
-    (was_due c cfg s x z a (failed_here c cfg hs t) (state.facts.threads.own t x here).settings ((counted c cfg hs t marked width settings).kept x here) outside begun,
-        wants_load c x a.monitor begun.tried begun.enters outside begun.not_held)
+    let begun : Begins c x z got a = subst (MovesTo c x z got) tries (outside_moves c x got outside x.phase refl) in (
+      was_due c cfg s x z a (failed_here c cfg hs t) (state.facts.threads.own t x here).settings ((counted c cfg hs t marked width settings).kept x here) outside begun,
+      wants_load c x a.monitor begun.tried begun.enters outside begun.not_held,
+    )
 
 -- ---- one that is open
 

@@ -1,9 +1,8 @@
 -- What a failure leaves, and that nothing else is counted as one.
-use Rattle.std.proofs.Common.{◌≡◌, ℕ, ◌+◌, Option, Some, None, refl, sym, ap, ◌∙◌, subst}
-use Rattle.std.specs.Prelude.{slice_get}
-use Rattle.checked_program.specs.MarkedProgram.{MarkedProgram, IsMarked}
+use Rattle.std.proofs.Common.{◌≡◌, ℕ, Option, Some, None, refl, ap, ◌∙◌, subst}
+use Rattle.checked_program.specs.MarkedProgram.{MarkedProgram}
 use Rattle.machine_types.specs.Accesses.{found_by}
-use Rattle.machine_types.specs.Core.{Core, core, event, event_of}
+use Rattle.machine_types.specs.Core.{Core, core, event_of}
 use Rattle.machine_types.specs.Events.{wanted, moved}
 use Rattle.machine_types.specs.History.{Fate, GoesOn, Fails, Finishes, fate}
 use Rattle.machine_types.specs.Threads.{Attempt, Thread}
@@ -33,9 +32,10 @@ module _ (may_do : InsideMayDo) (no_element : NoElementInside) (runs : RunsHaveS
       let s : Core = core c cfg hs in
       let got : ℕ = found_by s.words (wanted c x x.phase) in
       let inside : Inside c x a = in_attempt may_do no_element runs parts c cfg hs t x a marked width settings here tries in
-      let failed : HasFailed x (moved c x x.phase got) a = subst (HasFate x (moved c x x.phase got) a) fails (inside_moves c x a inside got) in
-      (subst (λ (z : Thread). HasFailed x z a) (is_moved c s t x y here there) failed,
-          ap (λ (o : Option Thread). (event_of c s t o).words) here ∙ words_stay s.words c x a inside)
+      let failed : HasFailed x (moved c x x.phase got) a = subst (HasFate x (moved c x x.phase got) a) fails (inside_moves c x a inside got) in (
+        subst (λ (z : Thread). HasFailed x z a) (is_moved c s t x y here there) failed,
+        ap (λ (o : Option Thread). (event_of c s t o).words) here ∙ words_stay s.words c x a inside,
+      )
 
   pub only_failures_count : OnlyFailuresCount
   only_failures_count c cfg hs t x y marked width settings here there never =

@@ -1,5 +1,5 @@
 -- The test by which a thread tries a section finds the mark 0 of the section that its top frame enters, and nothing else.
-use Rattle.std.proofs.Common.{◌≡◌, ℕ, zero, suc, ◌+◌, ◌<◌, Bool, true, false, cond, List, [], ◌∷◌, length, refl, sym, ap, ◌∙◌, subst, arith}
+use Rattle.std.proofs.Common.{◌≡◌, ℕ, zero, suc, ◌<◌, Bool, true, false, cond, List, [], ◌∷◌, length, refl, sym, ap, ◌∙◌, subst, arith}
 use Rattle.std.specs.Prelude.{◌==◌, ◌&&◌, Contains, slice_index_or}
 use Rattle.std.specs.List.{AllZip}
 use Rattle.lists.proofs.TestLaws.{both_true, both_are_true, same_number}
