@@ -1,19 +1,20 @@
--- What a failure leaves, and that nothing else is counted as one.
-use Rattle.std.proofs.Common.{◌≡◌, ℕ, Option, Some, None, refl, ap, ◌∙◌, subst}
+-- How an attempt ends, what a failure leaves, and that nothing else is counted as one.
+use Rattle.std.proofs.Common.{◌≡◌, ℕ, true, false, Option, Some, None, refl, sym, ap, ◌∙◌, subst}
 use Rattle.checked_program.specs.MarkedProgram.{MarkedProgram}
 use Rattle.machine_types.specs.Accesses.{found_by}
 use Rattle.machine_types.specs.Core.{Core, core, event_of}
 use Rattle.machine_types.specs.Events.{wanted, moved}
 use Rattle.machine_types.specs.History.{Fate, GoesOn, Fails, Finishes, fate}
 use Rattle.machine_types.specs.Threads.{Attempt, Thread}
+use Rattle.machine_types.specs.declared.phase.Phase.TheVariants as phases
 use Rattle.lock_laws.specs.InsideEffects.{InsideMayDo}
 use Rattle.lock_laws.specs.InsideMoves.{NoElementInside}
 use Rattle.state_laws.specs.StateLaws.{ProgramsKeepThreads, RunsHaveState}
 use Rattle.elided_steps.proofs.Inside.{Inside}
 use Rattle.elided_steps.proofs.InsideWords.{words_stay}
-use Rattle.attempt_entries.specs.EntryLaws.{HasFailed, FailuresPutBack, OnlyFailuresCount}
+use Rattle.attempt_entries.specs.EntryLaws.{EndsBy, HasFailed, AttemptsEnd, FailuresPutBack, OnlyFailuresCount}
 use Rattle.attempt_entries.proofs.Beginnings.{is_moved, in_attempt}
-use Rattle.attempt_entries.proofs.Outside.{MovesTo, outside_moves}
+use Rattle.attempt_entries.proofs.Outside.{is_entering, MovesTo, outside_moves}
 use Rattle.attempt_entries.proofs.Within.{HasFate, inside_moves}
 
 module _ (c : MarkedProgram) (x y : Thread) (got : ℕ) where
@@ -26,7 +27,22 @@ module _ (c : MarkedProgram) (x y : Thread) (got : ℕ) where
   inside_counts a Fails never k = absurd (never refl)
   inside_counts a Finishes never k = k.2
 
+  not_entering : is_entering y.phase ≡ false → (m tried : ℕ) → y.phase ≡ phases.Enter m tried → ⊥
+  not_entering out m tried e = let bad : true ≡ false = ap is_entering (sym e) ∙ out in absurd (cc)
+
+  ends_by : (a : Attempt) (f : Fate) → HasFate x y a f → EndsBy f a y
+  ends_by a GoesOn k = (k.0, k.1)
+  ends_by a Fails k = k.outside
+  ends_by a Finishes k = (k.0, not_entering k.1)
+
 module _ (may_do : InsideMayDo) (no_element : NoElementInside) (runs : RunsHaveState) (parts : ProgramsKeepThreads) where
+  pub attempts_end : AttemptsEnd
+  attempts_end c cfg hs t x y a marked width settings here there tries =
+      let got : ℕ = found_by (core c cfg hs).words (wanted c x x.phase) in
+      let inside : Inside c x a = in_attempt may_do no_element runs parts c cfg hs t x a marked width settings here tries in
+      let z : Thread = moved c x x.phase got in
+      subst (EndsBy (fate c x a x.phase got) a) (is_moved c (core c cfg hs) t x y here there) (ends_by c x z got a (fate c x a x.phase got) (inside_moves c x a inside got))
+
   pub failures_put_back : FailuresPutBack
   failures_put_back c cfg hs t x y a marked width settings here there tries fails =
       let s : Core = core c cfg hs in

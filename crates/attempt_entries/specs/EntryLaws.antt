@@ -1,5 +1,5 @@
--- In every run: where an attempt begins, how many fail at one entry, what a failure leaves, and what an event inside an attempt
--- accesses (PLDI 2010 publication, of read-only sections without their lock; how often a section is tried is the machine's own).
+-- In every run: where an attempt begins, how many fail at one entry, how one ends and what a failure leaves, and what an event inside an
+-- attempt accesses (PLDI 2010 publication, of read-only sections without their lock; how often a section is tried is the machine's own).
 use Rattle.std.specs.Prelude.{◌≡◌, ℕ, ◌+◌, ◌<◌, ◌≤◌, true, List, ◌∷◌, length, Contains, Some, None, slice_get, slice_index}
 use Rattle.checked_program.specs.MarkedProgram.{MarkedProgram, IsMarked}
 use Rattle.checked_program.specs.declared.section.SectionMark.{SectionMark}
@@ -10,7 +10,7 @@ use Rattle.machine_types.specs.Core.{Core, Happening, core, event}
 use Rattle.machine_types.specs.Elision.{put_back}
 use Rattle.machine_types.specs.Events.{wanted}
 use Rattle.machine_types.specs.HeldMonitors.{held_at}
-use Rattle.machine_types.specs.History.{Fate, Fails, fate}
+use Rattle.machine_types.specs.History.{Fate, GoesOn, Fails, Finishes, fate}
 use Rattle.machine_types.specs.LockWords.{word_of_lock}
 use Rattle.machine_types.specs.Settings.{AreSettings}
 use Rattle.machine_types.specs.Threads.{Attempt, Frame, Thread}
@@ -96,20 +96,35 @@ AttemptsStay = (c : MarkedProgram) (cfg : Config) (hs : List Happening) (t : ℕ
     → slice_get (core c cfg hs).threads t ≡ Some x → slice_get (event c (core c cfg hs) t).threads t ≡ Some y
     → x.attempt ≡ Some a → y.attempt ≡ Some b → b ≡ record a { inner = b.inner }
 
+-- ---- how one ends
+
+-- what the next event of a thread does with its attempt
+abbrev pub fate_here : MarkedProgram → Core → Thread → Attempt → Fate
+fate_here c s x a = fate c x a x.phase (found_by s.words (wanted c x x.phase))
+
+-- of a thread that is y behind its event: the attempt a is open still, or it is over, and where its section is done the thread is
+-- at no entry
+abbrev pub EndsBy : Fate → Attempt → (y : Thread) → Type 0
+EndsBy GoesOn a y = (inner : ℕ) × (y.attempt ≡ Some (record a { inner = inner }))
+EndsBy Fails a y = y.attempt ≡ None
+EndsBy Finishes a y = (y.attempt ≡ None) × ((m tried : ℕ) → y.phase ≡ phases.Enter m tried → ⊥)
+
+-- an attempt is open until it fails, or its section is done
+abbrev pub AttemptsEnd : Type 0
+AttemptsEnd = (c : MarkedProgram) (cfg : Config) (hs : List Happening) (t : ℕ) (x y : Thread) (a : Attempt) → IsMarked c → HaveWidth cfg → AreSettings cfg
+    → slice_get (core c cfg hs).threads t ≡ Some x → slice_get (event c (core c cfg hs) t).threads t ≡ Some y
+    → x.attempt ≡ Some a → EndsBy (fate_here c (core c cfg hs) x a) a y
+
 -- ---- what a failure leaves
 
--- Thread x, which is y behind its event, has failed in the attempt a: its frames are as they were where that began, it holds what
--- it held, and it is to enter again.
+-- Thread x, which is y behind its event, has failed in the attempt a: the frames above the one that entered are dropped, and that
+-- is as it was; it holds what it held, and it is to enter again.
 pub record HasFailed (x y : Thread) (a : Attempt) : Type 0 where
   pub outside : y.attempt ≡ None
   pub enters : y.phase ≡ phases.Enter a.monitor a.number
   pub frames : y.frames ≡ put_back a x.frames
   pub held : y.held ≡ x.held
   pub counted : y.counts.failed ≡ x.counts.failed + 1
-
--- what the next event of a thread does with its attempt
-abbrev pub fate_here : MarkedProgram → Core → Thread → Attempt → Fate
-fate_here c s x a = fate c x a x.phase (found_by s.words (wanted c x x.phase))
 
 -- the words stay too
 abbrev pub FailuresPutBack : Type 0

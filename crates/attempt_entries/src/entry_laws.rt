@@ -1,6 +1,6 @@
-//! Where attempts begin, how many fail at one entry, and what they access.
+//! Where attempts begin, how many fail at one entry, how they end, and what they access.
 
-ghost use Rattle.attempt_entries.specs.EntryLaws.{AttemptsOnlyLook, AttemptsStay, BegunAreDue, DueBegin, FailuresPutBack, FewFail, OnlyFailuresCount, ThreadsKeepCount};
+ghost use Rattle.attempt_entries.specs.EntryLaws.{AttemptsEnd, AttemptsOnlyLook, AttemptsStay, BegunAreDue, DueBegin, FailuresPutBack, FewFail, OnlyFailuresCount, ThreadsKeepCount};
 
 use lock_laws::{inside_may_do, no_element_inside};
 use state_laws::{parts_keep_threads, runs_have_state};
@@ -44,6 +44,16 @@ pub fn begun_are_due()
 /// An attempt that is open stays the same one until it ends, but for how often its monitor was entered inside.
 pub fn attempts_stay()
     ensures { AttemptsStay }
+{
+    inside_may_do();
+    no_element_inside();
+    runs_have_state();
+    parts_keep_threads();
+}
+
+/// An attempt is open until it fails or its section is done; where that is done, the thread is at no entry.
+pub fn attempts_end()
+    ensures { AttemptsEnd }
 {
     inside_may_do();
     no_element_inside();
