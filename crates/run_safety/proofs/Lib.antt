@@ -1,3 +1,4 @@
 mod HeldOrTried
+mod NextChanges
 mod NextEvents
 mod SafeStates

@@ -117,7 +117,8 @@ module _ (c : MarkedProgram) (marked : IsMarked c) where
       let at = top_here c f fs hold.0.stands in
       let found = stand_top c marked f fs hold.0.stands in
       (at, found, has_caller c.program fs _ (returns_fit c (f ∷ fs) at marked hold found (ap is_return (same_op c marked (within c.program) f hold.0.stands shows.0) ∙ shows.2)))
-  has_after m (Unwind x class) fs hold shows = refl
+  has_after m (Unwind x class) [] hold shows = absurd shows
+  has_after m (Unwind x class) (f ∷ fs) hold shows = let k = thrown_stand c (f ∷ fs) marked hold.1 (some_frames (f ∷ fs) tt) in there _ _ k.1.found
 
   -- ---- all phases
 

@@ -1,8 +1,12 @@
 -- Every thread of a state that a run reaches is safe.
+use Rattle.std.proofs.Common.{refl}
+use Rattle.machine_types.specs.Accesses.{found_by}
 use Rattle.machine_types.specs.Core.{core}
+use Rattle.machine_types.specs.Events.{wanted}
 use Rattle.state_laws.specs.RunLaws.{ReachedFits}
 use Rattle.state_laws.specs.StateLaws.{ProgramsKeepThreads, RunsHaveState, StatesHaveFacts}
 use Rattle.run_safety.specs.RunSafety.{RunsAreSafe}
+use Rattle.run_safety.proofs.NextChanges.{changed}
 use Rattle.run_safety.proofs.NextEvents.{has_event}
 
 pub runs_are_safe : ProgramsKeepThreads → RunsHaveState → StatesHaveFacts → ReachedFits → RunsAreSafe
@@ -13,4 +17,5 @@ runs_are_safe keep reach facts fits c cfg hs t x marked width set e =
       lawful = lawful;
       access = fits c cfg (core c cfg hs) t x marked width k.facts.threads (facts c cfg k.objects k.was (core c cfg hs) k.facts) e;
       goes = has_event c x marked lawful;
+      moves = λ live. changed c x x.phase (found_by (core c cfg hs).words (wanted c x x.phase)) refl (has_event c x marked lawful live);
     }

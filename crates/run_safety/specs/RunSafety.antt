@@ -1,8 +1,11 @@
--- Every run is safe: in each state that it reaches the threads are lawful, their accesses fit, and no live thread is stuck.
+-- Every run is safe: in each state that it reaches the threads are lawful, their accesses fit, and no live thread is stuck or
+-- stands still.
 use Rattle.std.specs.Prelude.{◌≡◌, ◌≢◌, ℕ, true, List, [], ◌∷◌, Some, IsSome, slice_get}
 use Rattle.jvm_types.specs.declared.program.Program.{Program}
 use Rattle.checked_program.specs.MarkedProgram.{MarkedProgram, IsMarked}
+use Rattle.machine_types.specs.Accesses.{found_by}
 use Rattle.machine_types.specs.Core.{Core, Happening, core, is_live}
+use Rattle.machine_types.specs.Events.{wanted, moved}
 use Rattle.machine_types.specs.FoundWords.{WordFits, effect_content}
 use Rattle.machine_types.specs.Frames.{Top, top_of, effect_at}
 use Rattle.machine_types.specs.HeldMonitors.{held_at}
@@ -16,7 +19,7 @@ use Rattle.machine_types.specs.declared.config.Config.{Config}
 use Rattle.machine_types.specs.declared.effect.Effect.{Effect}
 use Rattle.machine_types.specs.declared.effect.Effect.TheVariants.{Indexes, Makes, Returns, Waits, Notifies, NotifiesAll}
 use Rattle.machine_types.specs.declared.phase.After.{After}
-use Rattle.machine_types.specs.declared.phase.After.TheVariants.{Return}
+use Rattle.machine_types.specs.declared.phase.After.TheVariants.{Return, Unwind}
 use Rattle.machine_types.specs.declared.phase.Phase.{Phase}
 use Rattle.machine_types.specs.declared.phase.Phase.TheVariants as phases
 use Rattle.value_laws.specs.TopFrames.{IsAllowed}
@@ -53,6 +56,7 @@ pub record HasInstruction (p : Program) (frames : List Frame) : Type 0 where
 
 abbrev pub HasAfter : Program → After → List Frame → Type 0
 HasAfter p Return frames = (at : Top) × (top_of p frames ≡ Some at) × HasCaller p at.below
+HasAfter p (Unwind x class) frames = IsSome (top_of p frames)
 HasAfter p a frames = IsSome (after p frames a)
 
 -- ---- all phases
@@ -86,6 +90,8 @@ pub record IsSafe (c : MarkedProgram) (s : Core) (x : Thread) : Type 0 where
   pub lawful : IsLawful c x
   pub access : AccessFits c s x
   pub goes : is_live x.phase ≡ true → HasEvent c x x.phase
+  -- and its next event changes it; a turn that failed is counted, too
+  pub moves : is_live x.phase ≡ true → moved c x x.phase (found_by s.words (wanted c x x.phase)) ≢ x
 
 -- in every state that a run reaches
 abbrev pub RunsAreSafe : Type 0
