@@ -1,3 +1,6 @@
+mod EventBits
+mod EventLocks
+mod FollowedEvents
 mod HeldOrTried
 mod NextChanges
 mod NextEvents

@@ -1,0 +1,219 @@
+-- Whatever event happens, a fat lock stays fat, and a lock gets free by its holder alone.
+use Rattle.std.proofs.Common.{◌≡◌, ◌⊎◌, inl, inr, ℕ, zero, suc, ◌+◌, ◌<◌, nat_lt, Bool, true, false, cond, List, Option, Some, None, refl, sym, ap, ◌∙◌, subst}
+use Rattle.std.specs.Prelude.{◌≢◌, ◌==◌, slice_get, slice_index, slice_set}
+use Rattle.checked_program.specs.MarkedProgram.{MarkedProgram, IsMarked}
+use Rattle.machine_types.specs.Accesses.{words_after}
+use Rattle.machine_types.specs.declared.access.Access.TheVariants.{Store, Cas}
+use Rattle.machine_types.specs.Bounds.{PhaseFits}
+use Rattle.machine_types.specs.Core.{Core}
+use Rattle.machine_types.specs.Elision.{looks}
+use Rattle.machine_types.specs.Events.{wanted}
+use Rattle.machine_types.specs.FoundWords.{leave_content, content_at}
+use Rattle.machine_types.specs.HeldMonitors.{held_at}
+use Rattle.machine_types.specs.Lawful.{IsLawful}
+use Rattle.machine_types.specs.LockWords.{word_of_lock, lock_of, next_count}
+use Rattle.machine_types.specs.Monitors.{Claim, Has, Tries, HasNot, claim, claim_by, enter_wants, freed, count_kept, release, finish_wants, leave_wants}
+use Rattle.machine_types.specs.Owners.{Locks, hold_by_kept, hold_by_list, Owns, locks_in, references_of}
+use Rattle.machine_types.specs.PlainMemory.{Object}
+use Rattle.machine_types.specs.Structure.{IsAs, IsFlat, PhaseShows, IsStructured}
+use Rattle.machine_types.specs.Threads.{Attempt, Thread}
+use Rattle.machine_types.specs.Words.{owner_word, bits_word}
+use Rattle.machine_types.specs.declared.config.Config.{Config}
+use Rattle.machine_types.specs.declared.lock.Held.{Held}
+use Rattle.machine_types.specs.declared.lock.Kept.{Kept}
+use Rattle.machine_types.specs.declared.lock.Kept.TheVariants as keeps
+use Rattle.machine_types.specs.declared.lock.LockWord.{LockWord}
+use Rattle.machine_types.specs.declared.lock.LockWord.TheVariants as locks
+use Rattle.machine_types.specs.declared.phase.Phase.{Phase}
+use Rattle.machine_types.specs.declared.phase.Phase.TheVariants as phases
+use Rattle.jvm_types.specs.declared.fixed_words.TheConstants.{NEXT_RECORD_WORD, MONITOR_RECORDS}
+use Rattle.state_laws.specs.HeapFacts.{objects_by}
+use Rattle.state_laws.specs.SiteLaws.{EventsReachSites, SitesDiffer, SitesLieInside}
+use Rattle.state_laws.specs.Sites.{HasObject, ReachesIf}
+use Rattle.state_laws.specs.StateFacts.{StateFacts}
+use Rattle.state_laws.proofs.LockPhases.{lock_reached}
+use Rattle.state_laws.proofs.LockViews.{set_lock, is_there, fatly, thin_if_flat}
+use Rattle.state_laws.proofs.QuietWords.{IsQuiet, quiet_view}
+use Rattle.state_laws.proofs.WordViews.{lock_of_word, object_has, set_self, lock_view, owner_view, next_view}
+use Rattle.run_safety.specs.FollowLaws.{IsFreed, LocksFollow}
+
+-- ---- one lock is written, or none
+
+same_locks : (v w : Locks) (range : ℕ) (held : List Held) → ((m : ℕ) → w.lock m ≡ v.lock m) → LocksFollow v w range held
+same_locks v w range held same = record { fat = λ m r e. same m ∙ e; freed = λ m seen e. inl (sym (same m) ∙ e) }
+
+one_lock : (v : Locks) (range : ℕ) (held : List Held) (n : ℕ) (l : LockWord) → ((r : ℕ) → v.lock n ≢ locks.Fat r) → ((seen : ℕ) → l ≡ locks.Free seen → IsFreed (held_at held n) range seen) → LocksFollow v (set_lock n l v) range held
+one_lock v range held n l thin frees = record { fat = λ m r. fat m r (n == m) refl; freed = λ m seen. free m seen (n == m) refl }
+  where
+    fat : (m r : ℕ) (b : Bool) → (n == m) ≡ b → v.lock m ≡ locks.Fat r → cond b l (v.lock m) ≡ locks.Fat r
+    fat m r true e f = absurd (thin r (ap v.lock (is_there n m e) ∙ f))
+    fat m r false e f = f
+
+    free : (m seen : ℕ) (b : Bool) → (n == m) ≡ b → cond b l (v.lock m) ≡ locks.Free seen → (v.lock m ≡ locks.Free seen) ⊎ IsFreed (held_at held m) range seen
+    free m seen true e f = inr (subst (λ (i : ℕ). IsFreed (held_at held i) range seen) (is_there n m e) (frees seen f))
+    free m seen false e f = inl f
+
+not_fat : (l k : LockWord) → l ≡ k → ((r : ℕ) → k ≢ locks.Fat r) → (r : ℕ) → l ≢ locks.Fat r
+not_fat l k e thin r f = thin r (sym e ∙ f)
+
+-- ---- all phases
+
+module _ (differ : SitesDiffer) (inside : SitesLieInside) (reach : EventsReachSites) (c : MarkedProgram) (cfg : Config) (objects : List Object) (was : ℕ → Phase) (s : Core) (t : ℕ) (x : Thread) (marked : IsMarked c)
+    (facts : StateFacts c cfg objects was s) (there_is : slice_get s.threads t ≡ Some x) where
+  abbrev v : Locks
+  v = locks_in (references_of objects) s.words
+
+  lawful : IsLawful c x
+  lawful = facts.threads.lawful t x there_is
+
+  structured : IsStructured c (was t) x
+  structured = facts.structure t x there_is
+
+  own : Owns (locks_in (references_of objects) s.words) facts.owners.count t (was t) x
+  own = facts.owners.each t x there_is
+
+  settings : x.cfg ≡ cfg
+  settings = (facts.threads.own t x there_is).settings
+
+  fits : (phase : Phase) → x.phase ≡ phase → PhaseFits phase
+  fits phase e = subst PhaseFits e lawful.bounded.phase
+
+  shows : (phase : Phase) → was t ≡ phase → PhaseShows c phase x.frames structured.stands.shown x.held x.attempt
+  shows phase k = subst (λ (p : Phase). PhaseShows c p x.frames structured.stands.shown x.held x.attempt) k structured.stands.phase_shows
+
+  reached : (phase : Phase) → x.phase ≡ phase → ReachesIf c.program objects s (content_at c x phase) (wanted c x phase)
+  reached phase e = subst (λ (p : Phase). ReachesIf c.program objects s (content_at c x p) (wanted c x p)) e (reach c objects s t x marked facts.heap there_is lawful)
+
+  -- an event that leaves these words, where no header is stored for the first time
+  abbrev Leaves : List ℕ → Type 0
+  Leaves words = LocksFollow (locks_in (references_of objects) s.words) (locks_in (references_of objects) words) cfg.range x.held
+
+  abbrev Done : Phase → Type 0
+  Done phase = LocksFollow (locks_in (references_of objects) s.words) (locks_in (references_of (objects_by c.program phase objects)) (words_after s.words (wanted c x phase))) cfg.range x.held
+
+  unchanged : Leaves s.words
+  unchanged = same_locks _ _ cfg.range x.held (λ m. refl)
+
+  loaded : (w : ℕ) → Leaves (slice_set s.words w (slice_index s.words w))
+  loaded w = subst (λ (words : List ℕ). Leaves words) (sym (set_self s.words w)) unchanged
+
+  quietly : (phase : Phase) → x.phase ≡ phase → IsQuiet phase → Done phase
+  quietly phase e is = same_locks _ _ cfg.range x.held (λ m. ap (λ (w : Locks). w.lock m) (view is))
+    where
+      view : IsQuiet phase → locks_in (references_of (objects_by c.program phase objects)) (words_after s.words (wanted c x phase)) ≡ locks_in (references_of objects) s.words
+      view = subst (λ (p : Phase). IsQuiet p → locks_in (references_of (objects_by c.program p objects)) (words_after s.words (wanted c x p)) ≡ locks_in (references_of objects) s.words) e
+          (λ q. quiet_view differ inside reach c objects s t x marked facts.heap there_is lawful q)
+
+  owner_written : (r value : ℕ) → r < MONITOR_RECORDS → Leaves (slice_set s.words (owner_word r) value)
+  owner_written r value low = same_locks _ _ cfg.range x.held (λ m. ap (λ (w : Locks). w.lock m) (owner_view differ inside c objects s marked facts.heap r value low))
+
+  lock_written : (m : ℕ) (l : LockWord) → HasObject objects m → ((r : ℕ) → (locks_in (references_of objects) s.words).lock m ≢ locks.Fat r) → ((seen : ℕ) → l ≡ locks.Free seen → IsFreed (held_at x.held m) cfg.range seen)
+      → Leaves (slice_set s.words m (word_of_lock l))
+  lock_written m l is thin frees = subst (λ (w : Locks). LocksFollow (locks_in (references_of objects) s.words) w cfg.range x.held)
+      (sym (lock_view differ inside c objects s marked facts.heap m (word_of_lock l) is ∙ ap (λ (k : LockWord). set_lock m k (locks_in (references_of objects) s.words)) (lock_of_word l)))
+      (one_lock (locks_in (references_of objects) s.words) cfg.range x.held m l thin frees)
+
+  lock_is : (m : ℕ) (l : LockWord) → HasObject objects m → (slice_index s.words m == word_of_lock l) ≡ true → (locks_in (references_of objects) s.words).lock m ≡ l
+  lock_is m l is e = ap (λ (b : Bool). cond b (lock_of (slice_index s.words m)) (locks.Free 0)) (object_has objects m is) ∙ ap lock_of (is_there (slice_index s.words m) (word_of_lock l) e) ∙ lock_of_word l
+
+  -- ---- a lock is taken or flagged
+
+  exchanged : (m : ℕ) (l k : LockWord) → HasObject objects m → ((r : ℕ) → l ≢ locks.Fat r) → ((seen : ℕ) → k ≢ locks.Free seen) → (b : Bool) → (slice_index s.words m == word_of_lock l) ≡ b
+      → Leaves (slice_set s.words m (cond b (word_of_lock k) (slice_index s.words m)))
+  exchanged m l k is thin held true e = lock_written m k is (not_fat _ l (lock_is m l is e) thin) (λ seen f. absurd (held seen f))
+  exchanged m l k is thin held false e = loaded m
+
+  -- ---- a lock that its thread holds
+
+  module _ (m : ℕ) (h : Held) (at : held_at x.held m ≡ Some h) where
+    thin : (n : ℕ) → h.kept ≡ keeps.Flat n → (r : ℕ) → (locks_in (references_of objects) s.words).lock m ≢ locks.Fat r
+    thin n kept = thin_if_flat t ((locks_in (references_of objects) s.words).lock m) (locks_in (references_of objects) s.words).owner (own.holds m ∙ ap hold_by_list at ∙ ap hold_by_kept kept)
+
+    let_go : (n : ℕ) → h.kept ≡ keeps.Flat n → HasObject objects m → Leaves (slice_set s.words m (freed x n))
+    let_go n kept is = lock_written m (locks.Free (next_count n x.cfg.range)) is (thin n kept)
+        (λ seen e. subst (λ (o : Option Held). IsFreed o cfg.range seen) (sym at) (n, kept, sym (same seen e) ∙ ap (λ (g : Config). next_count n g.range) settings))
+      where
+        same : (seen : ℕ) → locks.Free (next_count n x.cfg.range) ≡ locks.Free seen → next_count n x.cfg.range ≡ seen
+        same seen e = cc
+
+    record_low : (r : ℕ) → h.kept ≡ keeps.Fat r → r < MONITOR_RECORDS
+    record_low r kept =
+        let fat = fatly t ((locks_in (references_of objects) s.words).lock m) (locks_in (references_of objects) s.words).owner r (own.holds m ∙ ap hold_by_list at ∙ ap hold_by_kept kept) in
+        (facts.owners.locks_are.below m r fat.0).1
+
+    by_kept : (k : Kept) → h.kept ≡ k → ReachesIf c.program objects s (leave_content (Has (record h { kept = k }))) (Some (release x m k)) → Leaves (words_after s.words (Some (release x m k)))
+    by_kept (keeps.Flat n) kept k = by_test (slice_index s.words m == word_of_lock (locks.Held x.number))
+      where
+        by_test : (b : Bool) → Leaves (slice_set s.words m (cond b (freed x n) (slice_index s.words m)))
+        by_test true = let_go n kept (lock_reached c.program objects s (Cas m (word_of_lock (locks.Held x.number)) (freed x n)) k)
+        by_test false = loaded m
+    by_kept (keeps.Fat r) kept k = owner_written r 0 (record_low r kept)
+
+    by_depth : (b : Bool) → ReachesIf c.program objects s (leave_content (Has h)) (cond b None (Some (release x m h.kept))) → Leaves (words_after s.words (cond b None (Some (release x m h.kept))))
+    by_depth true k = unchanged
+    by_depth false k = by_kept h.kept refl k
+
+  finished : (m inner : ℕ) → Leaves (words_after s.words (finish_wants m inner))
+  finished m zero = loaded m
+  finished m (suc inner) = unchanged
+
+  left : (m : ℕ) (held : Option Held) (attempt : Option Attempt) → held_at x.held m ≡ held → ReachesIf c.program objects s (leave_content (claim_by m held attempt)) (leave_wants x m (claim_by m held attempt))
+      → Leaves (words_after s.words (leave_wants x m (claim_by m held attempt)))
+  left m (Some h) attempt at k = by_depth m h at (nat_lt 1 h.depth) k
+  left m None None at k = unchanged
+  left m None (Some q) at k = by_attempt (q.monitor == m)
+    where
+      by_attempt : (b : Bool) → Leaves (words_after s.words (leave_wants x m (cond b (Tries q) HasNot)))
+      by_attempt true = finished m q.inner
+      by_attempt false = unchanged
+
+  entered : (m : ℕ) (k : Claim) → Leaves (words_after s.words (enter_wants m k))
+  entered m (Has h) = unchanged
+  entered m (Tries a) = unchanged
+  entered m HasNot = loaded m
+
+  looked : (a : Option Attempt) → Leaves (words_after s.words (looks a))
+  looked None = unchanged
+  looked (Some a) = loaded a.monitor
+
+  -- ---- a flat lock is let go, or made fat
+
+  let_out : (m : ℕ) (o : Option Held) → held_at x.held m ≡ o → IsFlat o → HasObject objects m → Leaves (slice_set s.words m (freed x (count_kept o)))
+  let_out m None at flat is = absurd flat
+  let_out m (Some h) at flat is =
+      let same : count_kept (Some h) ≡ flat.0 = ap (λ (k : Kept). count_kept (Some (record h { kept = k }))) flat.1 in
+      subst (λ (n : ℕ). Leaves (slice_set s.words m (freed x n))) (sym same) (let_go m h at flat.0 flat.1 is)
+
+  made_fat : (m r : ℕ) (o : Option Held) → held_at x.held m ≡ o → IsFlat o → HasObject objects m → Leaves (slice_set s.words m (word_of_lock (locks.Fat r)))
+  made_fat m r None at flat is = absurd flat
+  made_fat m r (Some h) at flat is = lock_written m (locks.Fat r) is (thin m h at flat.0 flat.1) (λ seen e. absurd (cc))
+
+  pub locks_by_phase : (phase : Phase) → x.phase ≡ phase → IsAs phase (was t) → Done phase
+  locks_by_phase phases.Idle e k = unchanged
+  locks_by_phase phases.Start e k = unchanged
+  locks_by_phase phases.Run e k = quietly phases.Run e tt
+  locks_by_phase (phases.Element word stored) e k = quietly (phases.Element word stored) e tt
+  locks_by_phase (phases.Made a word) e k = quietly (phases.Made a word) e tt
+  locks_by_phase (phases.Throw z class) e k = looked x.attempt
+  locks_by_phase (phases.Enter m n) e k = entered m (claim x m)
+  locks_by_phase (phases.Acquire m) e k = loaded m
+  locks_by_phase (phases.Take m seen) e k =
+      exchanged m (locks.Free seen) (locks.Held x.number) (lock_reached c.program objects s (Cas m (word_of_lock (locks.Free seen)) (word_of_lock (locks.Held x.number))) (reached (phases.Take m seen) e)) (λ r q. cc) (λ count q. cc) _ refl
+  locks_by_phase (phases.Flag m u) e k =
+      exchanged m (locks.Held u) (locks.Flagged u) (lock_reached c.program objects s (Cas m (word_of_lock (locks.Held u)) (word_of_lock (locks.Flagged u))) (reached (phases.Flag m u) e)) (λ r q. cc) (λ count q. cc) _ refl
+  locks_by_phase (phases.TakeFat m r) e k = owner_written r _ (fits (phases.TakeFat m r) e)
+  locks_by_phase (phases.Leave m after) e k = left m (held_at x.held m) x.attempt refl (reached (phases.Leave m after) e)
+  locks_by_phase (phases.Grow m toward) e k = same_locks _ _ cfg.range x.held (λ n. ap (λ (w : Locks). w.lock n) (next_view differ inside c objects s marked facts.heap (slice_index s.words NEXT_RECORD_WORD + 1)))
+  locks_by_phase (phases.FlatOut m after) e k = let_out m (held_at x.held m) refl (shows (phases.FlatOut m after) k).flat
+      (lock_reached c.program objects s (Store m (freed x (count_kept (held_at x.held m)))) (reached (phases.FlatOut m after) e))
+  locks_by_phase (phases.Own m r toward) e k = owner_written r _ (fits (phases.Own m r toward) e)
+  locks_by_phase (phases.FatIn m r toward) e k = made_fat m r (held_at x.held m) refl (shows (phases.FatIn m r toward) k).flat (lock_reached c.program objects s (Store m (word_of_lock (locks.Fat r))) (reached (phases.FatIn m r toward) e))
+  locks_by_phase (phases.WaitBit m r) e k = quietly (phases.WaitBit m r) e tt
+  locks_by_phase (phases.WaitOut m r) e k = owner_written r 0 (fits (phases.WaitOut m r) e)
+  locks_by_phase (phases.WaitLook m r depth) e k = loaded (bits_word r)
+  locks_by_phase (phases.Retake m r depth) e k = owner_written r _ (fits (phases.Retake m r depth) e)
+  locks_by_phase (phases.NotifyLook m r) e k = loaded (bits_word r)
+  locks_by_phase (phases.NotifyOne m r u) e k = quietly (phases.NotifyOne m r u) e tt
+  locks_by_phase (phases.NotifyAll m r) e k = quietly (phases.NotifyAll m r) e tt
+  locks_by_phase (phases.Ending reason) e k = unchanged
+  locks_by_phase (phases.Ended reason) e k = unchanged

@@ -1,0 +1,75 @@
+-- From one state of a run to the one behind an event: a fat lock stays fat, a lock gets free by its holder alone, which raises the
+-- count up to the last one, and the waiting bits of a record are changed by its owner alone.
+use Rattle.std.specs.Prelude.{◌≡◌, ◌⊎◌, ℕ, ◌+◌, ◌<◌, true, false, List, Option, Some, None, slice_get}
+use Rattle.checked_program.specs.MarkedProgram.{MarkedProgram, IsMarked}
+use Rattle.machine_types.specs.Core.{Core, Happening, core, event}
+use Rattle.machine_types.specs.HeldMonitors.{held_at}
+use Rattle.machine_types.specs.LockWords.{next_count}
+use Rattle.machine_types.specs.Owners.{Locks, owner_at, locks_in, references_of}
+use Rattle.machine_types.specs.PlainMemory.{Object}
+use Rattle.machine_types.specs.Settings.{AreSettings}
+use Rattle.machine_types.specs.Threads.{Thread}
+use Rattle.machine_types.specs.Waiting.{is_bit_set}
+use Rattle.machine_types.specs.declared.config.Config.{Config}
+use Rattle.machine_types.specs.declared.lock.Held.{Held}
+use Rattle.machine_types.specs.declared.lock.Kept.TheVariants as keeps
+use Rattle.machine_types.specs.declared.lock.LockWord.TheVariants as locks
+use Rattle.machine_types.specs.declared.phase.Phase.{Phase}
+use Rattle.machine_types.specs.declared.phase.Phase.TheVariants as phases
+use Rattle.jvm_types.specs.declared.fixed_words.TheConstants.{MONITOR_RECORDS}
+use Rattle.state_laws.specs.HeapFacts.{objects_after}
+use Rattle.state_laws.specs.RunFacts.{HaveWidth}
+use Rattle.state_laws.specs.StateFacts.{StateFacts}
+
+-- ---- locks
+
+-- the thread held it flat, and the count is the one behind the count that it kept
+abbrev pub IsFreed : Option Held → (range seen : ℕ) → Type 0
+IsFreed None range seen = ⊥
+IsFreed (Some h) range seen = (kept : ℕ) × (h.kept ≡ keeps.Flat kept) × (seen ≡ next_count kept range)
+
+-- by an event of a thread that held these monitors
+pub record LocksFollow (v w : Locks) (range : ℕ) (held : List Held) : Type 0 where
+  -- with its record
+  pub fat : (m r : ℕ) → v.lock m ≡ locks.Fat r → w.lock m ≡ locks.Fat r
+  -- a free lock was free before with the same count, or the thread has let it go
+  pub freed : (m seen : ℕ) → w.lock m ≡ locks.Free seen → (v.lock m ≡ locks.Free seen) ⊎ IsFreed (held_at held m) range seen
+
+-- ---- waiting bits
+
+abbrev pub Sets : Phase → (r : ℕ) → Type 0
+Sets (phases.WaitBit m k) r = k ≡ r
+Sets phase r = ⊥
+
+abbrev pub Clears : Phase → (r u : ℕ) → Type 0
+Clears (phases.NotifyOne m k w) r u = (k ≡ r) × (w ≡ u)
+Clears (phases.NotifyAll m k) r u = k ≡ r
+Clears phase r u = ⊥
+
+-- by an event of thread t in this phase: it owns each record whose bits it changes, and sets its own bit alone
+pub record BitsFollow (words after : List ℕ) (t : ℕ) (phase : Phase) : Type 0 where
+  pub set : (r u : ℕ) → r < MONITOR_RECORDS → is_bit_set words r u ≡ false → is_bit_set after r u ≡ true → (u ≡ t) × (owner_at words r ≡ t + 1) × Sets phase r
+  pub cleared : (r u : ℕ) → r < MONITOR_RECORDS → is_bit_set words r u ≡ true → is_bit_set after r u ≡ false → (owner_at words r ≡ t + 1) × Clears phase r u
+
+-- ---- an event of a thread of a state
+
+pub record IsFollowed (c : MarkedProgram) (cfg : Config) (objects : List Object) (s : Core) (t : ℕ) (x : Thread) : Type 0 where
+  pub locks_follow : LocksFollow (locks_in (references_of objects) s.words) (locks_in (references_of (objects_after c.program s t objects)) (event c s t).words) cfg.range x.held
+  pub bits_follow : BitsFollow s.words (event c s t).words t x.phase
+
+-- of every state of which the facts hold
+abbrev pub EventsFollow : Type 0
+EventsFollow = (c : MarkedProgram) (cfg : Config) (objects : List Object) (was : ℕ → Phase) (s : Core) (t : ℕ) (x : Thread) → IsMarked c → StateFacts c cfg objects was s → slice_get s.threads t ≡ Some x → IsFollowed c cfg objects s t x
+
+-- ---- every run
+
+-- with the objects whose header is stored
+pub record IsFollowedInRun (c : MarkedProgram) (cfg : Config) (s : Core) (t : ℕ) (x : Thread) : Type 0 where
+  pub objects : List Object
+  pub was : ℕ → Phase
+  pub facts : StateFacts c cfg objects was s
+  pub followed : IsFollowed c cfg objects s t x
+
+-- from every state that a run reaches, by an event of any thread
+abbrev pub RunsFollow : Type 0
+RunsFollow = (c : MarkedProgram) (cfg : Config) (hs : List Happening) (t : ℕ) (x : Thread) → IsMarked c → HaveWidth cfg → AreSettings cfg → slice_get (core c cfg hs).threads t ≡ Some x → IsFollowedInRun c cfg (core c cfg hs) t x
