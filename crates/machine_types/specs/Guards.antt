@@ -14,7 +14,7 @@ use Rattle.machine_types.specs.declared.lock.Held.{Held}
 use Rattle.machine_types.specs.Words.{value_word}
 use Rattle.machine_types.specs.Standing.{tags_of}
 
--- the top frame is that of an `<init>` of its class, on the object o
+-- the top frame is that of an `<init>` on the object o
 abbrev pub MakesObject : MarkedProgram → (o : ℕ) → List Frame → Type 0
 MakesObject c o [] = ⊥
 MakesObject c o (f ∷ fs) = (m : MethodInfo) × (slice_get c.program.methods f.method ≡ Some m) × (is_init m ≡ true) × (f.receiver ≡ o)

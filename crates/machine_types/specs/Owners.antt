@@ -149,10 +149,3 @@ pub record Owners (references : List ℕ) (was : ℕ → Phase) (s : Core) : Typ
   pub within : (m t : ℕ) (x : Thread) → slice_get s.threads t ≡ Some x → count m ≤ x.cfg.range
   -- a count is a number of releases, each of a lock that was taken
   pub few : (m : ℕ) → count m + flat_holders m s.threads ≤ sum_by (λ x. x.counts.locked) s.threads
-
--- ---- from one state to a later one
-
--- a lock that is fat stays fat, with its record, and no count falls
-pub record LocksGoOn (v w : Locks) (count later : ℕ → ℕ) : Type 0 where
-  pub fat : (m r : ℕ) → v.lock m ≡ locks.Fat r → w.lock m ≡ locks.Fat r
-  pub counts : (m : ℕ) → count m ≤ later m

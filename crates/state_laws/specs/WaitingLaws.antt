@@ -14,7 +14,7 @@ use Rattle.state_laws.specs.HeapFacts.{HeapFacts}
 use Rattle.state_laws.specs.RunFacts.{AreThreads}
 use Rattle.state_laws.specs.SharedWords.{RecordsFit}
 
--- a thread sets its own bit alone, and who clears bits owns the record
+-- an event that sets or clears bits leaves them those of threads that wait
 abbrev pub EventsKeepWaiting : Type 0
 EventsKeepWaiting = (c : MarkedProgram) (cfg : Config) (objects : List Object) (was : ℕ → Phase) (s : Core) (t : ℕ) → IsMarked c → HeapFacts c objects s → AreThreads c cfg s → RecordsFit s.words → Structure c was s.threads
     → Owners (references_of objects) was s → Waiting was s → Waiting (counted_after c was s t) (event c s t)
