@@ -106,8 +106,10 @@ module _ (c : MarkedProgram) (cfg : Config) (s : Core) (x : Thread) (failed m co
         below = below;
         entry = e;
         base = refl;
+        phase = refl;
         frames = refl;
         held = refl;
+        turns = refl;
       }
 
   found : lock_of (found_by s.words (wanted c x x.phase)) ≡ locks.Free count

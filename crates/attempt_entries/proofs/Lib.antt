@@ -6,3 +6,4 @@ mod Runs
 mod MarkedEntries
 mod Beginnings
 mod Failures
+mod ComingToEnter

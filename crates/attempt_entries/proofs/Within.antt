@@ -80,9 +80,9 @@ module _ (c : MarkedProgram) (x : Thread) (a : Attempt) (tries : x.attempt ≡ S
   same : (y : Thread) → y.attempt ≡ x.attempt → y.counts.failed ≡ x.counts.failed → HasFate x y a GoesOn
   same y e f = (a.inner, e ∙ tries, f)
 
-  -- a thread that fails in the frames and with the monitors of x, and after as many failures
-  put_back_to : (z : Thread) → z.frames ≡ x.frames → z.held ≡ x.held → z.counts.failed ≡ x.counts.failed → HasFailed x (fails z a) a
-  put_back_to z frames held failed = record { outside = refl; enters = refl; frames = ap (put_back a) frames; held = held; counted = ap (λ (n : ℕ). n + 1) failed }
+  -- a thread that fails in the frames and with the monitors and turns of x, and after as many failures
+  put_back_to : (z : Thread) → z.frames ≡ x.frames → z.held ≡ x.held → z.turns ≡ x.turns → z.counts.failed ≡ x.counts.failed → HasFailed x (fails z a) a
+  put_back_to z frames held turns failed = record { outside = refl; enters = refl; frames = ap (put_back a) frames; held = held; turns = turns; counted = ap (λ (n : ℕ). n + 1) failed }
 
   -- behind a check
   checked : (z y : Thread) → HasFailed x (fails z a) a → HasFate x y a GoesOn → HasFate x (if_same z x.attempt got y) a (fate_by (is_same a got) GoesOn)
@@ -120,7 +120,7 @@ module _ (c : MarkedProgram) (x : Thread) (a : Attempt) (tries : x.attempt ≡ S
       on = same (did c.program (begun x) at e got) (did_inside at e may) (did_no_failure at e may)
 
       by_check : (b : Bool) → HasFate x (cond b (if_same (begun x) x.attempt got (did c.program (begun x) at e got)) (did c.program (begun x) at e got)) a (cond b (fate_by (is_same a got) GoesOn) GoesOn)
-      by_check true = checked (begun x) _ (put_back_to (begun x) refl refl refl) on
+      by_check true = checked (begun x) _ (put_back_to (begun x) refl refl refl refl) on
       by_check false = on
 
   -- an exit, which may be the last
@@ -129,7 +129,7 @@ module _ (c : MarkedProgram) (x : Thread) (a : Attempt) (tries : x.attempt ≡ S
     where
       by_test : (b : Bool) → HasFate x (cond b (goes_after c.program (elided x) e) (fails x a)) a (fate_by b Finishes)
       by_test true = (goes_attempt (elided x) (after c.program x.frames e), after_elsewhere (elided x) c.program x.frames e k, goes_failed (elided x) (after c.program x.frames e))
-      by_test false = put_back_to x refl refl refl
+      by_test false = put_back_to x refl refl refl refl
   finishes_inside e (suc inner) k =
       let z : Thread = record x { attempt = Some (record a { inner = inner }) } in
       subst (λ (some : Bool). HasFate x (goes_after c.program z e) a (cond some GoesOn (fate_by (is_same a got) Finishes))) (sym (is_some inner)) (inner, goes_attempt z (after c.program x.frames e), goes_failed z (after c.program x.frames e))
@@ -138,7 +138,7 @@ module _ (c : MarkedProgram) (x : Thread) (a : Attempt) (tries : x.attempt ≡ S
   moves_at phases.Run e k = subst (λ (o : Option Top). HasFate x (ran c.program x o got) a (run_fate c a o got)) (sym k.found) (instructed_inside k.at (effect_at c.program k.at) k.may)
   moves_at (phases.Throw r class) e k =
       let o : Option Onward = dispatched c.program r class x.frames in
-      checked x (goes_on_if x o) (put_back_to x refl refl refl) (same (goes_on_if x o) (goes_attempt x o) (goes_failed x o))
+      checked x (goes_on_if x o) (put_back_to x refl refl refl refl) (same (goes_on_if x o) (goes_attempt x o) (goes_failed x o))
   moves_at (phases.Enter n number) e k = subst (λ (claim : Claim). HasFate x (enter_moves x n number (may_try c x number) claim got) a GoesOn) (sym k) (a.inner + 1, refl, refl)
   moves_at (phases.Leave n b) e k = subst (λ (claim : Claim). HasFate x (leave_moves c.program x n b claim got) a (leave_fate claim got)) (sym k) (finishes_inside b a.inner (subst (λ (phase : Phase). is_entering phase ≡ false) (sym e) refl))
   moves_at (phases.Ending reason) e k = same (with_phase x (phases.Ended reason)) refl refl

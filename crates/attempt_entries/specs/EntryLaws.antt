@@ -1,5 +1,6 @@
--- In every run: where an attempt begins, how many fail at one entry, how one ends and what a failure leaves, and what an event inside an
--- attempt accesses (PLDI 2010 publication, of read-only sections without their lock; how often a section is tried is the machine's own).
+-- In every run: where an attempt begins, how many fail at one entry, how one ends and what a failure leaves, that an instruction brings
+-- a thread to its entry, and what an event inside an attempt accesses (PLDI 2010 publication, of read-only sections without their lock;
+-- how often a section is tried is the machine's own).
 use Rattle.std.specs.Prelude.{◌≡◌, ℕ, ◌+◌, ◌<◌, ◌≤◌, true, List, ◌∷◌, length, Contains, Some, None, slice_get, slice_index}
 use Rattle.checked_program.specs.MarkedProgram.{MarkedProgram, IsMarked}
 use Rattle.checked_program.specs.declared.section.SectionMark.{SectionMark}
@@ -9,9 +10,12 @@ use Rattle.machine_types.specs.Accesses.{found_by}
 use Rattle.machine_types.specs.Core.{Core, Happening, core, event}
 use Rattle.machine_types.specs.Elision.{put_back}
 use Rattle.machine_types.specs.Events.{wanted}
+use Rattle.machine_types.specs.Frames.{Top, top_of, effect_at}
+use Rattle.machine_types.specs.Going.{runs}
 use Rattle.machine_types.specs.HeldMonitors.{held_at}
 use Rattle.machine_types.specs.History.{Fate, GoesOn, Fails, Finishes, fate}
 use Rattle.machine_types.specs.LockWords.{word_of_lock}
+use Rattle.machine_types.specs.Onward.{Entering, done}
 use Rattle.machine_types.specs.Settings.{AreSettings}
 use Rattle.machine_types.specs.Threads.{Attempt, Frame, Thread}
 use Rattle.machine_types.specs.declared.access.Access.TheVariants.{Load}
@@ -62,7 +66,8 @@ pub record IsDue (c : MarkedProgram) (cfg : Config) (s : Core) (x : Thread) (fai
   pub not_last : count < cfg.range
 
 -- Thread x, which is y behind its event, has begun an attempt on m by a load of its lock word: it notes the count and the frame
--- that enters, and has its frames and the monitors that it holds as they were.
+-- that enters, runs on within the limit of instructions, and has its frames, the monitors that it holds and its count of turns as
+-- they were.
 pub record HasBegun (c : MarkedProgram) (x y : Thread) (failed m count : ℕ) : Type 0 where
   pub loads : wanted c x x.phase ≡ Some (Load m)
   pub attempt : Attempt
@@ -74,8 +79,10 @@ pub record HasBegun (c : MarkedProgram) (x y : Thread) (failed m count : ℕ) : 
   pub below : List Frame
   pub entry : x.frames ≡ attempt.entry ∷ below
   pub base : attempt.base ≡ length below
+  pub phase : y.phase ≡ (runs x).phase
   pub frames : y.frames ≡ x.frames
   pub held : y.held ≡ x.held
+  pub turns : y.turns ≡ x.turns
 
 -- where it is due, one begins
 abbrev pub DueBegin : Type 0
@@ -118,12 +125,13 @@ AttemptsEnd = (c : MarkedProgram) (cfg : Config) (hs : List Happening) (t : ℕ)
 -- ---- what a failure leaves
 
 -- Thread x, which is y behind its event, has failed in the attempt a: the frames above the one that entered are dropped, and that
--- is as it was; it holds what it held, and it is to enter again.
+-- is as it was; it holds what it held, has its count of turns, and is to enter again.
 pub record HasFailed (x y : Thread) (a : Attempt) : Type 0 where
   pub outside : y.attempt ≡ None
   pub enters : y.phase ≡ phases.Enter a.monitor a.number
   pub frames : y.frames ≡ put_back a x.frames
   pub held : y.held ≡ x.held
+  pub turns : y.turns ≡ x.turns
   pub counted : y.counts.failed ≡ x.counts.failed + 1
 
 -- the words stay too
@@ -138,6 +146,26 @@ abbrev pub OnlyFailuresCount : Type 0
 OnlyFailuresCount = (c : MarkedProgram) (cfg : Config) (hs : List Happening) (t : ℕ) (x y : Thread) → IsMarked c → HaveWidth cfg → AreSettings cfg
     → slice_get (core c cfg hs).threads t ≡ Some x → slice_get (event c (core c cfg hs) t).threads t ≡ Some y
     → ((a : Attempt) → x.attempt ≡ Some a → fate_here c (core c cfg hs) x a ≡ Fails → ⊥) → y.counts.failed ≡ x.counts.failed
+
+-- ---- how a thread comes to an entry
+
+-- Thread x, which is y behind its event, is about to enter m in these frames, with nothing tried there and no turn counted. It holds
+-- what it held, and is in the same attempt, or in none.
+pub record IsToEnter (x y : Thread) (m : ℕ) (fs : List Frame) : Type 0 where
+  pub enters : y.phase ≡ phases.Enter m 0
+  pub frames : y.frames ≡ fs
+  pub turns : y.turns ≡ 0
+  pub held : y.held ≡ x.held
+  pub attempt : y.attempt ≡ x.attempt
+
+-- An instruction that comes to a monitor, by the definition that the plain machine shares, leaves its thread at the entry, unless an
+-- attempt fails by it.
+abbrev pub InstructionsEnter : Type 0
+InstructionsEnter = (c : MarkedProgram) (cfg : Config) (hs : List Happening) (t : ℕ) (x y : Thread) (at : Top) (m : ℕ) (fs : List Frame)
+    → slice_get (core c cfg hs).threads t ≡ Some x → slice_get (event c (core c cfg hs) t).threads t ≡ Some y
+    → x.phase ≡ phases.Run → top_of c.program x.frames ≡ Some at
+    → done c.program at (effect_at c.program at) (found_by (core c cfg hs).words (wanted c x x.phase)) ≡ Some (Entering m fs)
+    → ((a : Attempt) → x.attempt ≡ Some a → fate_here c (core c cfg hs) x a ≡ Fails → ⊥) → IsToEnter x y m fs
 
 -- ---- what an event inside one accesses
 

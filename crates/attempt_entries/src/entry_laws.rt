@@ -1,6 +1,6 @@
-//! Where attempts begin, how many fail at one entry, how they end, and what they access.
+//! How a thread comes to an entry, where attempts begin, how many fail at one entry, how they end, and what they access.
 
-ghost use Rattle.attempt_entries.specs.EntryLaws.{AttemptsEnd, AttemptsOnlyLook, AttemptsStay, BegunAreDue, DueBegin, FailuresPutBack, FewFail, OnlyFailuresCount, ThreadsKeepCount};
+ghost use Rattle.attempt_entries.specs.EntryLaws.{AttemptsEnd, AttemptsOnlyLook, AttemptsStay, BegunAreDue, DueBegin, FailuresPutBack, FewFail, InstructionsEnter, OnlyFailuresCount, ThreadsKeepCount};
 
 use lock_laws::{inside_may_do, no_element_inside};
 use state_laws::{parts_keep_threads, runs_have_state};
@@ -22,8 +22,15 @@ pub fn few_fail()
     threads_keep_count();
 }
 
-/// At the entry of a marked section an attempt begins where attempts are turned on, the thread is in none and does not hold the
-/// monitor, fewer than two have failed at this entry, and the lock word is found free with a count below the last one.
+/// An instruction that comes to a monitor leaves its thread about to enter it, with nothing tried there, unless an attempt fails
+/// by it.
+pub fn instructions_enter()
+    ensures { InstructionsEnter }
+{}
+
+/// A thread in no attempt that is about to enter a monitor (phase `Enter`, before it goes to the lock) begins one where attempts
+/// are turned on, it is at the begin of a marked section and does not hold the monitor, fewer than two have failed at this entry,
+/// and the lock word is found free with a count below the last one.
 pub fn due_begin()
     ensures { DueBegin }
 {
@@ -61,8 +68,8 @@ pub fn attempts_end()
     parts_keep_threads();
 }
 
-/// An attempt that fails leaves the thread at the entry again, with its frames as they were there, what it held and all words as
-/// they are, and one failure more counted.
+/// An attempt that fails leaves the thread at the entry again, with the frames above the one that entered dropped and that one as
+/// it was, what it held and all words as they are, and one failure more counted.
 pub fn failures_put_back()
     ensures { FailuresPutBack }
 {

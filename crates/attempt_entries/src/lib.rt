@@ -5,5 +5,5 @@ pub mod entry_laws;
 
 pub use entry_laws::{
     attempts_end, attempts_only_look, attempts_stay, begun_are_due, due_begin, failures_put_back,
-    few_fail, only_failures_count, threads_keep_count,
+    few_fail, instructions_enter, only_failures_count, threads_keep_count,
 };
