@@ -81,7 +81,7 @@ module _ (differ : SitesDiffer) (inside : SitesLieInside) (reach : EventsReachSi
   shows : (phase : Phase) → was t ≡ phase → PhaseShows c phase x.frames structured.stands.shown x.held x.attempt
   shows phase k = subst (λ (p : Phase). PhaseShows c p x.frames structured.stands.shown x.held x.attempt) k structured.stands.phase_shows
 
-  reached : (phase : Phase) → x.phase ≡ phase → ReachesIf c.program objects s (content_at c x phase) (wanted c x phase)
+  pub reached : (phase : Phase) → x.phase ≡ phase → ReachesIf c.program objects s (content_at c x phase) (wanted c x phase)
   reached phase e = subst (λ (p : Phase). ReachesIf c.program objects s (content_at c x p) (wanted c x p)) e (reach c objects s t x marked facts.heap there_is lawful)
 
   -- an event that leaves these words, where no header is stored for the first time
@@ -113,7 +113,7 @@ module _ (differ : SitesDiffer) (inside : SitesLieInside) (reach : EventsReachSi
       (sym (lock_view differ inside c objects s marked facts.heap m (word_of_lock l) is ∙ ap (λ (k : LockWord). set_lock m k (locks_in (references_of objects) s.words)) (lock_of_word l)))
       (one_lock (locks_in (references_of objects) s.words) cfg.range x.held m l thin frees)
 
-  lock_is : (m : ℕ) (l : LockWord) → HasObject objects m → (slice_index s.words m == word_of_lock l) ≡ true → (locks_in (references_of objects) s.words).lock m ≡ l
+  pub lock_is : (m : ℕ) (l : LockWord) → HasObject objects m → (slice_index s.words m == word_of_lock l) ≡ true → (locks_in (references_of objects) s.words).lock m ≡ l
   lock_is m l is e = ap (λ (b : Bool). cond b (lock_of (slice_index s.words m)) (locks.Free 0)) (object_has objects m is) ∙ ap lock_of (is_there (slice_index s.words m) (word_of_lock l) e) ∙ lock_of_word l
 
   -- ---- a lock is taken or flagged

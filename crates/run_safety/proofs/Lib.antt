@@ -1,4 +1,5 @@
 mod EventBits
+mod EventCounts
 mod EventLocks
 mod FollowedEvents
 mod HeldOrTried

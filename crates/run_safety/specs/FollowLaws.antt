@@ -23,10 +23,14 @@ use Rattle.state_laws.specs.StateFacts.{StateFacts}
 
 -- ---- locks
 
--- the thread held it flat, and the count is the one behind the count that it kept
+-- a thread holds a flat lock, and has kept this count of it
+abbrev pub KeepsFlat : Option Held → (n : ℕ) → Type 0
+KeepsFlat None n = ⊥
+KeepsFlat (Some h) n = h.kept ≡ keeps.Flat n
+
+-- the count is the one behind the count that it kept
 abbrev pub IsFreed : Option Held → (range seen : ℕ) → Type 0
-IsFreed None range seen = ⊥
-IsFreed (Some h) range seen = (kept : ℕ) × (h.kept ≡ keeps.Flat kept) × (seen ≡ next_count kept range)
+IsFreed held range seen = (n : ℕ) × KeepsFlat held n × (seen ≡ next_count n range)
 
 -- by an event of a thread that held these monitors
 pub record LocksFollow (v w : Locks) (range : ℕ) (held : List Held) : Type 0 where
@@ -34,6 +38,10 @@ pub record LocksFollow (v w : Locks) (range : ℕ) (held : List Held) : Type 0 w
   pub fat : (m r : ℕ) → v.lock m ≡ locks.Fat r → w.lock m ≡ locks.Fat r
   -- a free lock was free before with the same count, or the thread has let it go
   pub freed : (m seen : ℕ) → w.lock m ≡ locks.Free seen → (v.lock m ≡ locks.Free seen) ⊎ IsFreed (held_at held m) range seen
+
+-- what its thread keeps afterwards it kept before, or it is the count that the free lock had
+abbrev pub CountsFollow : (v : Locks) (held later : List Held) → Type 0
+CountsFollow v held later = (m n : ℕ) → KeepsFlat (held_at later m) n → KeepsFlat (held_at held m) n ⊎ (v.lock m ≡ locks.Free n)
 
 -- ---- waiting bits
 
@@ -55,6 +63,7 @@ pub record BitsFollow (words after : List ℕ) (t : ℕ) (phase : Phase) : Type 
 
 pub record IsFollowed (c : MarkedProgram) (cfg : Config) (objects : List Object) (s : Core) (t : ℕ) (x : Thread) : Type 0 where
   pub locks_follow : LocksFollow (locks_in (references_of objects) s.words) (locks_in (references_of (objects_after c.program s t objects)) (event c s t).words) cfg.range x.held
+  pub counts_follow : (y : Thread) → slice_get (event c s t).threads t ≡ Some y → CountsFollow (locks_in (references_of objects) s.words) x.held y.held
   pub bits_follow : BitsFollow s.words (event c s t).words t x.phase
 
 -- of every state of which the facts hold
