@@ -15,7 +15,7 @@ use Rattle.machine_types.specs.Instructions.{ran}
 use Rattle.machine_types.specs.LockWords.{word_of_lock, lock_of}
 use Rattle.machine_types.specs.Monitors.{Tries, HasNot, claim_by, acquires, enter_moves, takes, finishes, released, leave_moves, lets_go, grows_not, fattens, bit_of, goes_to_wait, retakes, lowest_of}
 use Rattle.machine_types.specs.Onward.{Onward, after}
-use Rattle.machine_types.specs.Owners.{Locks, locks_in, references_of}
+use Rattle.machine_types.specs.Owners.{locks_in, references_of}
 use Rattle.machine_types.specs.PlainMemory.{Object}
 use Rattle.machine_types.specs.Structure.{AreHeldOnce}
 use Rattle.machine_types.specs.Threads.{Attempt, Thread}

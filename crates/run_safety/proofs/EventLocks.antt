@@ -1,6 +1,6 @@
 -- Whatever event happens, a fat lock stays fat, and a lock gets free by its holder alone.
 use Rattle.std.proofs.Common.{◌≡◌, ◌⊎◌, inl, inr, ℕ, zero, suc, ◌+◌, ◌<◌, nat_lt, Bool, true, false, cond, List, Option, Some, None, refl, sym, ap, ◌∙◌, subst}
-use Rattle.std.specs.Prelude.{◌≢◌, ◌==◌, slice_get, slice_index, slice_set}
+use Rattle.std.specs.Prelude.{◌==◌, slice_get, slice_index, slice_set}
 use Rattle.checked_program.specs.MarkedProgram.{MarkedProgram, IsMarked}
 use Rattle.machine_types.specs.Accesses.{words_after}
 use Rattle.machine_types.specs.declared.access.Access.TheVariants.{Store, Cas}
@@ -32,29 +32,45 @@ use Rattle.state_laws.specs.SiteLaws.{EventsReachSites, SitesDiffer, SitesLieIns
 use Rattle.state_laws.specs.Sites.{HasObject, ReachesIf}
 use Rattle.state_laws.specs.StateFacts.{StateFacts}
 use Rattle.state_laws.proofs.LockPhases.{lock_reached}
-use Rattle.state_laws.proofs.LockViews.{set_lock, is_there, fatly, thin_if_flat}
+use Rattle.state_laws.proofs.LockViews.{set_lock, is_there, flatly, fatly}
 use Rattle.state_laws.proofs.QuietWords.{IsQuiet, quiet_view}
 use Rattle.state_laws.proofs.WordViews.{lock_of_word, object_has, set_self, lock_view, owner_view, next_view}
-use Rattle.run_safety.specs.FollowLaws.{IsFreed, LocksFollow}
+use Rattle.run_safety.specs.FollowLaws.{IsFreed, LockGoes, LocksFollow}
 
--- ---- one lock is written, or none
+-- ---- how one lock goes on
 
-same_locks : (v w : Locks) (range : ℕ) (held : List Held) → ((m : ℕ) → w.lock m ≡ v.lock m) → LocksFollow v w range held
-same_locks v w range held same = record { fat = λ m r e. same m ∙ e; freed = λ m seen e. inl (sym (same m) ∙ e) }
+stays_fat : (t range : ℕ) (held : Option Held) (was now : LockWord) → (now ≡ was) ⊎ LockGoes t range held was now → (r : ℕ) → was ≡ locks.Fat r → now ≡ locks.Fat r
+stays_fat t range held was now (inl e) r f = e ∙ f
+stays_fat t range held was now (inr g) r f = absurd (subst (λ (l : LockWord). LockGoes t range held l now) f g)
 
-one_lock : (v : Locks) (range : ℕ) (held : List Held) (n : ℕ) (l : LockWord) → ((r : ℕ) → v.lock n ≢ locks.Fat r) → ((seen : ℕ) → l ≡ locks.Free seen → IsFreed (held_at held n) range seen) → LocksFollow v (set_lock n l v) range held
-one_lock v range held n l thin frees = record { fat = λ m r. fat m r (n == m) refl; freed = λ m seen. free m seen (n == m) refl }
+frees : (t range : ℕ) (held : Option Held) (was : LockWord) (seen : ℕ) → LockGoes t range held was (locks.Free seen) → IsFreed held range seen
+frees t range held (locks.Free n) seen g = absurd g
+frees t range held (locks.Held u) seen g = g.1
+frees t range held (locks.Flagged u) seen g = g.1
+frees t range held (locks.Fat r) seen g = absurd g
+
+was_freed : (t range : ℕ) (held : Option Held) (was now : LockWord) → (now ≡ was) ⊎ LockGoes t range held was now → (seen : ℕ) → now ≡ locks.Free seen → (was ≡ locks.Free seen) ⊎ IsFreed held range seen
+was_freed t range held was now (inl e) seen f = inl (sym e ∙ f)
+was_freed t range held was now (inr g) seen f = inr (frees t range held was seen (subst (λ (l : LockWord). LockGoes t range held was l) f g))
+
+-- ---- all locks
+
+all_follow : (v w : Locks) (t range : ℕ) (held : List Held) → ((m : ℕ) → (w.lock m ≡ v.lock m) ⊎ LockGoes t range (held_at held m) (v.lock m) (w.lock m)) → LocksFollow v w t range held
+all_follow v w t range held goes = record {
+  goes = goes;
+  fat = λ m r. stays_fat t range (held_at held m) (v.lock m) (w.lock m) (goes m) r;
+  freed = λ m seen. was_freed t range (held_at held m) (v.lock m) (w.lock m) (goes m) seen;
+}
+
+same_locks : (v w : Locks) (t range : ℕ) (held : List Held) → ((m : ℕ) → w.lock m ≡ v.lock m) → LocksFollow v w t range held
+same_locks v w t range held same = all_follow v w t range held (λ m. inl (same m))
+
+one_lock : (v : Locks) (t range : ℕ) (held : List Held) (n : ℕ) (l : LockWord) → LockGoes t range (held_at held n) (v.lock n) l → LocksFollow v (set_lock n l v) t range held
+one_lock v t range held n l go = all_follow v (set_lock n l v) t range held (λ m. by_test m (n == m) refl)
   where
-    fat : (m r : ℕ) (b : Bool) → (n == m) ≡ b → v.lock m ≡ locks.Fat r → cond b l (v.lock m) ≡ locks.Fat r
-    fat m r true e f = absurd (thin r (ap v.lock (is_there n m e) ∙ f))
-    fat m r false e f = f
-
-    free : (m seen : ℕ) (b : Bool) → (n == m) ≡ b → cond b l (v.lock m) ≡ locks.Free seen → (v.lock m ≡ locks.Free seen) ⊎ IsFreed (held_at held m) range seen
-    free m seen true e f = inr (subst (λ (i : ℕ). IsFreed (held_at held i) range seen) (is_there n m e) (frees seen f))
-    free m seen false e f = inl f
-
-not_fat : (l k : LockWord) → l ≡ k → ((r : ℕ) → k ≢ locks.Fat r) → (r : ℕ) → l ≢ locks.Fat r
-not_fat l k e thin r f = thin r (sym e ∙ f)
+    by_test : (m : ℕ) (b : Bool) → (n == m) ≡ b → (cond b l (v.lock m) ≡ v.lock m) ⊎ LockGoes t range (held_at held m) (v.lock m) (cond b l (v.lock m))
+    by_test m true e = inr (subst (λ (i : ℕ). LockGoes t range (held_at held i) (v.lock i) l) (is_there n m e) go)
+    by_test m false e = inl refl
 
 -- ---- all phases
 
@@ -72,6 +88,9 @@ module _ (differ : SitesDiffer) (inside : SitesLieInside) (reach : EventsReachSi
   own : Owns (locks_in (references_of objects) s.words) facts.owners.count t (was t) x
   own = facts.owners.each t x there_is
 
+  number : x.number ≡ t
+  number = (facts.threads.own t x there_is).number
+
   settings : x.cfg ≡ cfg
   settings = (facts.threads.own t x there_is).settings
 
@@ -86,55 +105,68 @@ module _ (differ : SitesDiffer) (inside : SitesLieInside) (reach : EventsReachSi
 
   -- an event that leaves these words, where no header is stored for the first time
   abbrev Leaves : List ℕ → Type 0
-  Leaves words = LocksFollow (locks_in (references_of objects) s.words) (locks_in (references_of objects) words) cfg.range x.held
+  Leaves words = LocksFollow (locks_in (references_of objects) s.words) (locks_in (references_of objects) words) t cfg.range x.held
 
   abbrev Done : Phase → Type 0
-  Done phase = LocksFollow (locks_in (references_of objects) s.words) (locks_in (references_of (objects_by c.program phase objects)) (words_after s.words (wanted c x phase))) cfg.range x.held
+  Done phase = LocksFollow (locks_in (references_of objects) s.words) (locks_in (references_of (objects_by c.program phase objects)) (words_after s.words (wanted c x phase))) t cfg.range x.held
 
   unchanged : Leaves s.words
-  unchanged = same_locks _ _ cfg.range x.held (λ m. refl)
+  unchanged = same_locks _ _ t cfg.range x.held (λ m. refl)
 
   loaded : (w : ℕ) → Leaves (slice_set s.words w (slice_index s.words w))
   loaded w = subst (λ (words : List ℕ). Leaves words) (sym (set_self s.words w)) unchanged
 
   quietly : (phase : Phase) → x.phase ≡ phase → IsQuiet phase → Done phase
-  quietly phase e is = same_locks _ _ cfg.range x.held (λ m. ap (λ (w : Locks). w.lock m) (view is))
+  quietly phase e is = same_locks _ _ t cfg.range x.held (λ m. ap (λ (w : Locks). w.lock m) (view is))
     where
       view : IsQuiet phase → locks_in (references_of (objects_by c.program phase objects)) (words_after s.words (wanted c x phase)) ≡ locks_in (references_of objects) s.words
       view = subst (λ (p : Phase). IsQuiet p → locks_in (references_of (objects_by c.program p objects)) (words_after s.words (wanted c x p)) ≡ locks_in (references_of objects) s.words) e
           (λ q. quiet_view differ inside reach c objects s t x marked facts.heap there_is lawful q)
 
   owner_written : (r value : ℕ) → r < MONITOR_RECORDS → Leaves (slice_set s.words (owner_word r) value)
-  owner_written r value low = same_locks _ _ cfg.range x.held (λ m. ap (λ (w : Locks). w.lock m) (owner_view differ inside c objects s marked facts.heap r value low))
+  owner_written r value low = same_locks _ _ t cfg.range x.held (λ m. ap (λ (w : Locks). w.lock m) (owner_view differ inside c objects s marked facts.heap r value low))
 
-  lock_written : (m : ℕ) (l : LockWord) → HasObject objects m → ((r : ℕ) → (locks_in (references_of objects) s.words).lock m ≢ locks.Fat r) → ((seen : ℕ) → l ≡ locks.Free seen → IsFreed (held_at x.held m) cfg.range seen)
-      → Leaves (slice_set s.words m (word_of_lock l))
-  lock_written m l is thin frees = subst (λ (w : Locks). LocksFollow (locks_in (references_of objects) s.words) w cfg.range x.held)
+  lock_written : (m : ℕ) (l : LockWord) → HasObject objects m → LockGoes t cfg.range (held_at x.held m) ((locks_in (references_of objects) s.words).lock m) l → Leaves (slice_set s.words m (word_of_lock l))
+  lock_written m l is go = subst (λ (w : Locks). LocksFollow (locks_in (references_of objects) s.words) w t cfg.range x.held)
       (sym (lock_view differ inside c objects s marked facts.heap m (word_of_lock l) is ∙ ap (λ (k : LockWord). set_lock m k (locks_in (references_of objects) s.words)) (lock_of_word l)))
-      (one_lock (locks_in (references_of objects) s.words) cfg.range x.held m l thin frees)
+      (one_lock (locks_in (references_of objects) s.words) t cfg.range x.held m l go)
+
+  -- from what the lock was
+  lock_from : (m : ℕ) (was_it l : LockWord) → HasObject objects m → (locks_in (references_of objects) s.words).lock m ≡ was_it → LockGoes t cfg.range (held_at x.held m) was_it l → Leaves (slice_set s.words m (word_of_lock l))
+  lock_from m was_it l is e go = lock_written m l is (subst (λ (k : LockWord). LockGoes t cfg.range (held_at x.held m) k l) (sym e) go)
 
   pub lock_is : (m : ℕ) (l : LockWord) → HasObject objects m → (slice_index s.words m == word_of_lock l) ≡ true → (locks_in (references_of objects) s.words).lock m ≡ l
   lock_is m l is e = ap (λ (b : Bool). cond b (lock_of (slice_index s.words m)) (locks.Free 0)) (object_has objects m is) ∙ ap lock_of (is_there (slice_index s.words m) (word_of_lock l) e) ∙ lock_of_word l
 
   -- ---- a lock is taken or flagged
 
-  exchanged : (m : ℕ) (l k : LockWord) → HasObject objects m → ((r : ℕ) → l ≢ locks.Fat r) → ((seen : ℕ) → k ≢ locks.Free seen) → (b : Bool) → (slice_index s.words m == word_of_lock l) ≡ b
-      → Leaves (slice_set s.words m (cond b (word_of_lock k) (slice_index s.words m)))
-  exchanged m l k is thin held true e = lock_written m k is (not_fat _ l (lock_is m l is e) thin) (λ seen f. absurd (held seen f))
-  exchanged m l k is thin held false e = loaded m
+  exchanged : (m : ℕ) (l k : LockWord) → HasObject objects m → LockGoes t cfg.range (held_at x.held m) l k → (b : Bool) → (slice_index s.words m == word_of_lock l) ≡ b → Leaves (slice_set s.words m (cond b (word_of_lock k) (slice_index s.words m)))
+  exchanged m l k is go true e = lock_from m l k is (lock_is m l is e) go
+  exchanged m l k is go false e = loaded m
 
   -- ---- a lock that its thread holds
 
   module _ (m : ℕ) (h : Held) (at : held_at x.held m ≡ Some h) where
-    thin : (n : ℕ) → h.kept ≡ keeps.Flat n → (r : ℕ) → (locks_in (references_of objects) s.words).lock m ≢ locks.Fat r
-    thin n kept = thin_if_flat t ((locks_in (references_of objects) s.words).lock m) (locks_in (references_of objects) s.words).owner (own.holds m ∙ ap hold_by_list at ∙ ap hold_by_kept kept)
+    -- flagged or not
+    own_lock : (n : ℕ) → h.kept ≡ keeps.Flat n → ((locks_in (references_of objects) s.words).lock m ≡ locks.Held t) ⊎ ((locks_in (references_of objects) s.words).lock m ≡ locks.Flagged t)
+    own_lock n kept = flatly t ((locks_in (references_of objects) s.words).lock m) (locks_in (references_of objects) s.words).owner (own.holds m ∙ ap hold_by_list at ∙ ap hold_by_kept kept)
 
     let_go : (n : ℕ) → h.kept ≡ keeps.Flat n → HasObject objects m → Leaves (slice_set s.words m (freed x n))
-    let_go n kept is = lock_written m (locks.Free (next_count n x.cfg.range)) is (thin n kept)
-        (λ seen e. subst (λ (o : Option Held). IsFreed o cfg.range seen) (sym at) (n, kept, sym (same seen e) ∙ ap (λ (g : Config). next_count n g.range) settings))
+    let_go n kept is = by_lock (own_lock n kept)
       where
-        same : (seen : ℕ) → locks.Free (next_count n x.cfg.range) ≡ locks.Free seen → next_count n x.cfg.range ≡ seen
-        same seen e = cc
+        count : IsFreed (held_at x.held m) cfg.range (next_count n x.cfg.range)
+        count = subst (λ (o : Option Held). IsFreed o cfg.range (next_count n x.cfg.range)) (sym at) (n, kept, ap (λ (g : Config). next_count n g.range) settings)
+
+        by_lock : ((locks_in (references_of objects) s.words).lock m ≡ locks.Held t) ⊎ ((locks_in (references_of objects) s.words).lock m ≡ locks.Flagged t) → Leaves (slice_set s.words m (freed x n))
+        by_lock (inl e) = lock_from m (locks.Held t) (locks.Free (next_count n x.cfg.range)) is e (refl, count)
+        by_lock (inr e) = lock_from m (locks.Flagged t) (locks.Free (next_count n x.cfg.range)) is e (refl, count)
+
+    grows : (n r : ℕ) → h.kept ≡ keeps.Flat n → HasObject objects m → Leaves (slice_set s.words m (word_of_lock (locks.Fat r)))
+    grows n r kept is = by_lock (own_lock n kept)
+      where
+        by_lock : ((locks_in (references_of objects) s.words).lock m ≡ locks.Held t) ⊎ ((locks_in (references_of objects) s.words).lock m ≡ locks.Flagged t) → Leaves (slice_set s.words m (word_of_lock (locks.Fat r)))
+        by_lock (inl e) = lock_from m (locks.Held t) (locks.Fat r) is e refl
+        by_lock (inr e) = lock_from m (locks.Flagged t) (locks.Fat r) is e refl
 
     record_low : (r : ℕ) → h.kept ≡ keeps.Fat r → r < MONITOR_RECORDS
     record_low r kept =
@@ -186,7 +218,7 @@ module _ (differ : SitesDiffer) (inside : SitesLieInside) (reach : EventsReachSi
 
   made_fat : (m r : ℕ) (o : Option Held) → held_at x.held m ≡ o → IsFlat o → HasObject objects m → Leaves (slice_set s.words m (word_of_lock (locks.Fat r)))
   made_fat m r None at flat is = absurd flat
-  made_fat m r (Some h) at flat is = lock_written m (locks.Fat r) is (thin m h at flat.0 flat.1) (λ seen e. absurd (cc))
+  made_fat m r (Some h) at flat is = grows m h at flat.0 r flat.1 is
 
   pub locks_by_phase : (phase : Phase) → x.phase ≡ phase → IsAs phase (was t) → Done phase
   locks_by_phase phases.Idle e k = unchanged
@@ -198,12 +230,12 @@ module _ (differ : SitesDiffer) (inside : SitesLieInside) (reach : EventsReachSi
   locks_by_phase (phases.Enter m n) e k = entered m (claim x m)
   locks_by_phase (phases.Acquire m) e k = loaded m
   locks_by_phase (phases.Take m seen) e k =
-      exchanged m (locks.Free seen) (locks.Held x.number) (lock_reached c.program objects s (Cas m (word_of_lock (locks.Free seen)) (word_of_lock (locks.Held x.number))) (reached (phases.Take m seen) e)) (λ r q. cc) (λ count q. cc) _ refl
+      exchanged m (locks.Free seen) (locks.Held x.number) (lock_reached c.program objects s (Cas m (word_of_lock (locks.Free seen)) (word_of_lock (locks.Held x.number))) (reached (phases.Take m seen) e)) number _ refl
   locks_by_phase (phases.Flag m u) e k =
-      exchanged m (locks.Held u) (locks.Flagged u) (lock_reached c.program objects s (Cas m (word_of_lock (locks.Held u)) (word_of_lock (locks.Flagged u))) (reached (phases.Flag m u) e)) (λ r q. cc) (λ count q. cc) _ refl
+      exchanged m (locks.Held u) (locks.Flagged u) (lock_reached c.program objects s (Cas m (word_of_lock (locks.Held u)) (word_of_lock (locks.Flagged u))) (reached (phases.Flag m u) e)) refl _ refl
   locks_by_phase (phases.TakeFat m r) e k = owner_written r _ (fits (phases.TakeFat m r) e)
   locks_by_phase (phases.Leave m after) e k = left m (held_at x.held m) x.attempt refl (reached (phases.Leave m after) e)
-  locks_by_phase (phases.Grow m toward) e k = same_locks _ _ cfg.range x.held (λ n. ap (λ (w : Locks). w.lock n) (next_view differ inside c objects s marked facts.heap (slice_index s.words NEXT_RECORD_WORD + 1)))
+  locks_by_phase (phases.Grow m toward) e k = same_locks _ _ t cfg.range x.held (λ n. ap (λ (w : Locks). w.lock n) (next_view differ inside c objects s marked facts.heap (slice_index s.words NEXT_RECORD_WORD + 1)))
   locks_by_phase (phases.FlatOut m after) e k = let_out m (held_at x.held m) refl (shows (phases.FlatOut m after) k).flat
       (lock_reached c.program objects s (Store m (freed x (count_kept (held_at x.held m)))) (reached (phases.FlatOut m after) e))
   locks_by_phase (phases.Own m r toward) e k = owner_written r _ (fits (phases.Own m r toward) e)

@@ -19,7 +19,7 @@ pub events_follow : SitesDiffer → SitesLieInside → EventsReachSites → Even
 events_follow differ inside reach c cfg objects was s t x marked facts e =
     let is_as = (facts.structure t x e).is_as in
     record {
-      locks_follow = subst (λ (o : Option Thread). LocksFollow (locks_in (references_of objects) s.words) (locks_in (references_of (objects_of c.program o objects)) (event_of c s t o).words) cfg.range x.held) (sym e)
+      locks_follow = subst (λ (o : Option Thread). LocksFollow (locks_in (references_of objects) s.words) (locks_in (references_of (objects_of c.program o objects)) (event_of c s t o).words) t cfg.range x.held) (sym e)
           (locks_by_phase differ inside reach c cfg objects was s t x marked facts e x.phase refl is_as);
       counts_follow = λ y at. subst (λ (z : Thread). CountsFollow (locks_in (references_of objects) s.words) x.held z.held)
           (set_there s.threads t x (moved c x x.phase (found_by s.words (wanted c x x.phase))) y e (subst (λ (o : Option Thread). slice_get (event_of c s t o).threads t ≡ Some y) e at))

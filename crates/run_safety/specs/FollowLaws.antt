@@ -13,6 +13,7 @@ use Rattle.machine_types.specs.Waiting.{is_bit_set}
 use Rattle.machine_types.specs.declared.config.Config.{Config}
 use Rattle.machine_types.specs.declared.lock.Held.{Held}
 use Rattle.machine_types.specs.declared.lock.Kept.TheVariants as keeps
+use Rattle.machine_types.specs.declared.lock.LockWord.{LockWord}
 use Rattle.machine_types.specs.declared.lock.LockWord.TheVariants as locks
 use Rattle.machine_types.specs.declared.phase.Phase.{Phase}
 use Rattle.machine_types.specs.declared.phase.Phase.TheVariants as phases
@@ -32,8 +33,20 @@ KeepsFlat (Some h) n = h.kept ≡ keeps.Flat n
 abbrev pub IsFreed : Option Held → (range seen : ℕ) → Type 0
 IsFreed held range seen = (n : ℕ) × KeepsFlat held n × (seen ≡ next_count n range)
 
--- by an event of a thread that held these monitors
-pub record LocksFollow (v w : Locks) (range : ℕ) (held : List Held) : Type 0 where
+-- What an event of thread t, with this entry of what it holds, may make of a lock word: it takes a free lock, flags one that is held,
+-- and lets its own go or makes it fat.
+abbrev pub LockGoes : (t range : ℕ) → Option Held → (was now : LockWord) → Type 0
+LockGoes t range held (locks.Free n) (locks.Held u) = u ≡ t
+LockGoes t range held (locks.Held u) (locks.Flagged w) = w ≡ u
+LockGoes t range held (locks.Held u) (locks.Free n) = (u ≡ t) × IsFreed held range n
+LockGoes t range held (locks.Held u) (locks.Fat r) = u ≡ t
+LockGoes t range held (locks.Flagged u) (locks.Free n) = (u ≡ t) × IsFreed held range n
+LockGoes t range held (locks.Flagged u) (locks.Fat r) = u ≡ t
+LockGoes t range held was now = ⊥
+
+-- by an event of thread t, which held these monitors
+pub record LocksFollow (v w : Locks) (t range : ℕ) (held : List Held) : Type 0 where
+  pub goes : (m : ℕ) → (w.lock m ≡ v.lock m) ⊎ LockGoes t range (held_at held m) (v.lock m) (w.lock m)
   -- with its record
   pub fat : (m r : ℕ) → v.lock m ≡ locks.Fat r → w.lock m ≡ locks.Fat r
   -- a free lock was free before with the same count, or the thread has let it go
@@ -62,7 +75,7 @@ pub record BitsFollow (words after : List ℕ) (t : ℕ) (phase : Phase) : Type 
 -- ---- an event of a thread of a state
 
 pub record IsFollowed (c : MarkedProgram) (cfg : Config) (objects : List Object) (s : Core) (t : ℕ) (x : Thread) : Type 0 where
-  pub locks_follow : LocksFollow (locks_in (references_of objects) s.words) (locks_in (references_of (objects_after c.program s t objects)) (event c s t).words) cfg.range x.held
+  pub locks_follow : LocksFollow (locks_in (references_of objects) s.words) (locks_in (references_of (objects_after c.program s t objects)) (event c s t).words) t cfg.range x.held
   pub counts_follow : (y : Thread) → slice_get (event c s t).threads t ≡ Some y → CountsFollow (locks_in (references_of objects) s.words) x.held y.held
   pub bits_follow : BitsFollow s.words (event c s t).words t x.phase
 
