@@ -1,16 +1,26 @@
 -- Every event of a run leaves locks and waiting bits as it should.
-use Rattle.std.proofs.Common.{◌≡◌, Option, Some, refl, sym, subst}
+use Rattle.std.proofs.Common.{◌≡◌, ℕ, List, [], ◌∷◌, Option, Some, refl, sym, subst}
 use Rattle.std.specs.Prelude.{slice_get}
 use Rattle.machine_types.specs.Accesses.{found_by}
-use Rattle.machine_types.specs.Core.{core, event_of}
+use Rattle.machine_types.specs.Core.{Core, Happening, Of, NextPart, all_happened, core, start, event, event_of, next}
 use Rattle.machine_types.specs.Events.{wanted, moved}
 use Rattle.machine_types.specs.Owners.{locks_in, references_of}
 use Rattle.machine_types.specs.Threads.{Thread}
-use Rattle.state_laws.specs.HeapFacts.{objects_of}
+use Rattle.machine_types.specs.PlainMemory.{Object, start_objects}
+use Rattle.machine_types.specs.StartLaws.{phase_at_start}
+use Rattle.machine_types.specs.declared.config.Config.{Config}
+use Rattle.machine_types.specs.declared.phase.Phase.{Phase}
+use Rattle.checked_program.specs.MarkedProgram.{MarkedProgram, IsMarked}
+use Rattle.lock_laws.specs.PartLaws.{counted_next}
+use Rattle.lock_laws.specs.StateLaws.{counted_after}
+use Rattle.state_laws.specs.HeapFacts.{objects_of, objects_after}
 use Rattle.state_laws.specs.SiteLaws.{EventsReachSites, SitesDiffer, SitesLieInside}
-use Rattle.state_laws.specs.StateLaws.{ProgramsKeepThreads, RunsHaveState}
+use Rattle.state_laws.specs.RunFacts.{HaveWidth}
+use Rattle.state_laws.specs.RunLaws.{PartsKeepThreads}
+use Rattle.state_laws.specs.StateFacts.{StateFacts}
+use Rattle.state_laws.specs.StateLaws.{ProgramsKeepThreads, StartHasState, EventsKeepState, NextKeepsState}
 use Rattle.state_laws.proofs.OwnersStep.{set_there}
-use Rattle.run_safety.specs.FollowLaws.{LocksFollow, CountsFollow, BitsFollow, EventsFollow, RunsFollow}
+use Rattle.run_safety.specs.FollowLaws.{all_objects, run_objects, LocksFollow, CountsFollow, BitsFollow, EventsFollow, RunsFollow}
 use Rattle.run_safety.proofs.EventBits.{bits_by_phase}
 use Rattle.run_safety.proofs.EventCounts.{counts_by_phase}
 use Rattle.run_safety.proofs.EventLocks.{locks_by_phase}
@@ -27,7 +37,18 @@ events_follow differ inside reach c cfg objects was s t x marked facts e =
       bits_follow = subst (λ (o : Option Thread). BitsFollow s.words (event_of c s t o).words t x.phase) (sym e) (bits_by_phase differ inside reach c cfg objects was s t x marked facts e x.phase refl is_as);
     }
 
-pub runs_follow : ProgramsKeepThreads → RunsHaveState → EventsFollow → RunsFollow
-runs_follow keep reach follow c cfg hs t x marked width set e =
-    let k = reach c cfg hs marked width (keep c cfg marked set) in
-    record { objects = k.objects; was = k.was; facts = k.facts; followed = follow c cfg k.objects k.was (core c cfg hs) t x marked k.facts e }
+module _ (on_event : EventsKeepState) (on_next : NextKeepsState) (c : MarkedProgram) (cfg : Config) (marked : IsMarked c) (width : HaveWidth cfg) (parts : PartsKeepThreads c cfg) where
+  -- the facts go along a list of events, with the objects
+  facts_behind : (hs : List Happening) (s : Core) (objects : List Object) (was : ℕ → Phase) → StateFacts c cfg objects was s → (now : ℕ → Phase) × StateFacts c cfg (all_objects c s objects hs) now (all_happened c s hs)
+  facts_behind [] s objects was k = (was, k)
+  facts_behind (Of t ∷ hs) s objects was k = facts_behind hs (event c s t) (objects_after c.program s t objects) (counted_after c was s t) (on_event c cfg objects was s t marked width k)
+  facts_behind (NextPart ∷ hs) s objects was k = facts_behind hs (next c s) objects (counted_next c was s) (on_next c cfg objects was s marked parts k)
+
+  facts_in : StartHasState → (hs : List Happening) → (now : ℕ → Phase) × StateFacts c cfg (run_objects c cfg hs) now (core c cfg hs)
+  unfolding core
+  facts_in begin hs = facts_behind hs (start c cfg) (start_objects c.program) (phase_at_start c cfg) (begin c cfg marked parts)
+
+pub runs_follow : ProgramsKeepThreads → StartHasState → EventsKeepState → NextKeepsState → EventsFollow → RunsFollow
+runs_follow keep begin on_event on_next follow c cfg hs t x marked width set e =
+    let k = facts_in on_event on_next c cfg marked width (keep c cfg marked set) begin hs in
+    follow c cfg (run_objects c cfg hs) k.0 (core c cfg hs) t x marked k.1 e

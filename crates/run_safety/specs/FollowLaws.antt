@@ -1,12 +1,12 @@
 -- From one state of a run to the one behind an event: a fat lock stays fat, a lock gets free by its holder alone, which raises the
 -- count up to the last one, and the waiting bits of a record are changed by its owner alone.
-use Rattle.std.specs.Prelude.{◌≡◌, ◌⊎◌, ℕ, ◌+◌, ◌<◌, true, false, List, Option, Some, None, slice_get}
+use Rattle.std.specs.Prelude.{◌≡◌, ◌⊎◌, ℕ, ◌+◌, ◌<◌, true, false, List, [], ◌∷◌, Option, Some, None, slice_get}
 use Rattle.checked_program.specs.MarkedProgram.{MarkedProgram, IsMarked}
-use Rattle.machine_types.specs.Core.{Core, Happening, core, event}
+use Rattle.machine_types.specs.Core.{Core, Happening, Of, NextPart, happened, core, start, event}
 use Rattle.machine_types.specs.HeldMonitors.{held_at}
 use Rattle.machine_types.specs.LockWords.{next_count}
 use Rattle.machine_types.specs.Owners.{Locks, owner_at, locks_in, references_of}
-use Rattle.machine_types.specs.PlainMemory.{Object}
+use Rattle.machine_types.specs.PlainMemory.{Object, start_objects}
 use Rattle.machine_types.specs.Settings.{AreSettings}
 use Rattle.machine_types.specs.Threads.{Thread}
 use Rattle.machine_types.specs.Waiting.{is_bit_set}
@@ -85,13 +85,18 @@ EventsFollow = (c : MarkedProgram) (cfg : Config) (objects : List Object) (was :
 
 -- ---- every run
 
--- with the objects whose header is stored
-pub record IsFollowedInRun (c : MarkedProgram) (cfg : Config) (s : Core) (t : ℕ) (x : Thread) : Type 0 where
-  pub objects : List Object
-  pub was : ℕ → Phase
-  pub facts : StateFacts c cfg objects was s
-  pub followed : IsFollowed c cfg objects s t x
+-- the objects whose header is stored: those of the start, and one more with each header
+abbrev pub objects_behind : MarkedProgram → Core → Happening → List Object → List Object
+objects_behind c s (Of t) objects = objects_after c.program s t objects
+objects_behind c s NextPart objects = objects
+
+abbrev pub all_objects : MarkedProgram → Core → List Object → List Happening → List Object
+all_objects c s objects [] = objects
+all_objects c s objects (h ∷ hs) = all_objects c (happened c s h) (objects_behind c s h objects) hs
+
+abbrev pub run_objects : MarkedProgram → Config → List Happening → List Object
+run_objects c cfg hs = all_objects c (start c cfg) (start_objects c.program) hs
 
 -- from every state that a run reaches, by an event of any thread
 abbrev pub RunsFollow : Type 0
-RunsFollow = (c : MarkedProgram) (cfg : Config) (hs : List Happening) (t : ℕ) (x : Thread) → IsMarked c → HaveWidth cfg → AreSettings cfg → slice_get (core c cfg hs).threads t ≡ Some x → IsFollowedInRun c cfg (core c cfg hs) t x
+RunsFollow = (c : MarkedProgram) (cfg : Config) (hs : List Happening) (t : ℕ) (x : Thread) → IsMarked c → HaveWidth cfg → AreSettings cfg → slice_get (core c cfg hs).threads t ≡ Some x → IsFollowed c cfg (run_objects c cfg hs) (core c cfg hs) t x

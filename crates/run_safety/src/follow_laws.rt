@@ -3,7 +3,8 @@
 ghost use Rattle.run_safety.specs.FollowLaws.{EventsFollow, RunsFollow};
 
 use state_laws::{
-    events_reach_sites, parts_keep_threads, runs_have_state, sites_differ, sites_lie_inside,
+    events_keep_state, events_reach_sites, next_keeps_state, parts_keep_threads, sites_differ,
+    sites_lie_inside, start_has_state,
 };
 
 /// A fat lock stays fat, with its record; a lock gets free by its holder alone, with the count behind the one that it kept; and
@@ -21,6 +22,8 @@ pub fn runs_follow()
     ensures { RunsFollow }
 {
     parts_keep_threads();
-    runs_have_state();
+    start_has_state();
+    events_keep_state();
+    next_keeps_state();
     events_follow();
 }
