@@ -31,7 +31,7 @@ use Rattle.state_laws.proofs.Lists.{same_or_not, set_here, set_there}
 use Rattle.state_laws.proofs.StillBits.{IsStill, still_bits}
 use Rattle.state_laws.proofs.WaitingBits.{set_keeps, set_other, left_was_set}
 use Rattle.state_laws.proofs.WaitingStep.{record_of, OwnsRecord, owned_record}
-use Rattle.run_safety.specs.FollowLaws.{Sets, Clears, BitsFollow}
+use Rattle.run_safety.specs.ChangeLaws.{Sets, Clears, BitsFollow}
 
 -- ---- a bit is cleared
 

@@ -38,7 +38,7 @@ use Rattle.state_laws.proofs.LockPhases.{lock_reached}
 use Rattle.state_laws.proofs.LockViews.{is_there}
 use Rattle.state_laws.proofs.SameTally.{Tally, tally_of}
 use Rattle.state_laws.proofs.SameTally as tallies
-use Rattle.run_safety.specs.FollowLaws.{KeepsFlat, CountsFollow}
+use Rattle.run_safety.specs.ChangeLaws.{KeepsFlat, CountsFollow}
 use Rattle.run_safety.proofs.EventLocks.{reached, lock_is}
 
 module _ (differ : SitesDiffer) (inside : SitesLieInside) (reach : EventsReachSites) (c : MarkedProgram) (cfg : Config) (objects : List Object) (was : ℕ → Phase) (s : Core) (t : ℕ) (x : Thread) (marked : IsMarked c)

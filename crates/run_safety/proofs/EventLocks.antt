@@ -35,7 +35,7 @@ use Rattle.state_laws.proofs.LockPhases.{lock_reached}
 use Rattle.state_laws.proofs.LockViews.{set_lock, is_there, flatly, fatly}
 use Rattle.state_laws.proofs.QuietWords.{IsQuiet, quiet_view}
 use Rattle.state_laws.proofs.WordViews.{lock_of_word, object_has, set_self, lock_view, owner_view, next_view}
-use Rattle.run_safety.specs.FollowLaws.{IsFreed, LockGoes, LocksFollow}
+use Rattle.run_safety.specs.ChangeLaws.{IsFreed, LockGoes, LocksFollow}
 
 -- ---- how one lock goes on
 

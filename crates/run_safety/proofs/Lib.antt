@@ -1,8 +1,9 @@
 mod EventBits
 mod EventCounts
 mod EventLocks
-mod FollowedEvents
 mod HeldOrTried
+mod LeftAsTheyWere
 mod NextChanges
 mod NextEvents
+mod RespectedOwners
 mod SafeStates

@@ -1,2 +1,2 @@
-pub mod FollowLaws
+pub mod ChangeLaws
 pub mod RunSafety

@@ -67,8 +67,8 @@ HasRoot p [] = ⊥
 HasRoot p (number ∷ roots) = IsSome (slice_get p.methods number)
 
 -- What the next event of a thread takes, beside what its phase has, is there. The definitions answer without it too, and so hide
--- the want: the thread stays as it is, or a return or an exception ends its root, or a lock is left with count 0. An attempt, which
--- an entry may begin, copies the top frame.
+-- the want: the thread stays as it is, or a return or an exception ends its root, or a lock is released as from the count 0. An
+-- attempt, which an entry may begin, copies the top frame.
 abbrev pub HasEvent : MarkedProgram → Thread → Phase → Type 0
 HasEvent c x phases.Idle = ⊥
 HasEvent c x (phases.Ended e) = ⊥

@@ -1,9 +1,10 @@
-//! Every run is safe, and what its events leave of locks and of waiting bits: laws, each the contract of a function that does
-//! nothing.
+//! Every run is safe, and who may change what in it: laws, each the contract of a function that does nothing.
 #![tactic(auto)]
 
-pub mod follow_laws;
+pub mod change_laws;
 pub mod safety_laws;
 
-pub use follow_laws::{events_follow, runs_follow};
+pub use change_laws::{
+    events_leave_others, events_respect_owners, parts_leave_words, runs_respect_owners,
+};
 pub use safety_laws::runs_are_safe;

@@ -20,13 +20,13 @@ use Rattle.state_laws.specs.RunLaws.{PartsKeepThreads}
 use Rattle.state_laws.specs.StateFacts.{StateFacts}
 use Rattle.state_laws.specs.StateLaws.{ProgramsKeepThreads, StartHasState, EventsKeepState, NextKeepsState}
 use Rattle.state_laws.proofs.OwnersStep.{set_there}
-use Rattle.run_safety.specs.FollowLaws.{all_objects, run_objects, LocksFollow, CountsFollow, BitsFollow, EventsFollow, RunsFollow}
+use Rattle.run_safety.specs.ChangeLaws.{all_objects, run_objects, LocksFollow, CountsFollow, BitsFollow, EventsRespectOwners, RunsRespectOwners}
 use Rattle.run_safety.proofs.EventBits.{bits_by_phase}
 use Rattle.run_safety.proofs.EventCounts.{counts_by_phase}
 use Rattle.run_safety.proofs.EventLocks.{locks_by_phase}
 
-pub events_follow : SitesDiffer → SitesLieInside → EventsReachSites → EventsFollow
-events_follow differ inside reach c cfg objects was s t x marked facts e =
+pub events_respect_owners : SitesDiffer → SitesLieInside → EventsReachSites → EventsRespectOwners
+events_respect_owners differ inside reach c cfg objects was s t x marked facts e =
     let is_as = (facts.structure t x e).is_as in
     record {
       locks_follow = subst (λ (o : Option Thread). LocksFollow (locks_in (references_of objects) s.words) (locks_in (references_of (objects_of c.program o objects)) (event_of c s t o).words) t cfg.range x.held) (sym e)
@@ -48,7 +48,7 @@ module _ (on_event : EventsKeepState) (on_next : NextKeepsState) (c : MarkedProg
   unfolding core
   facts_in begin hs = facts_behind hs (start c cfg) (start_objects c.program) (phase_at_start c cfg) (begin c cfg marked parts)
 
-pub runs_follow : ProgramsKeepThreads → StartHasState → EventsKeepState → NextKeepsState → EventsFollow → RunsFollow
-runs_follow keep begin on_event on_next follow c cfg hs t x marked width set e =
+pub runs_respect_owners : ProgramsKeepThreads → StartHasState → EventsKeepState → NextKeepsState → EventsRespectOwners → RunsRespectOwners
+runs_respect_owners keep begin on_event on_next follow c cfg hs t x marked width set e =
     let k = facts_in on_event on_next c cfg marked width (keep c cfg marked set) begin hs in
     follow c cfg (run_objects c cfg hs) k.0 (core c cfg hs) t x marked k.1 e

@@ -1,14 +1,15 @@
--- From one state of a run to the one behind an event: a fat lock stays fat, a lock gets free by its holder alone, which raises the
--- count up to the last one, and the waiting bits of a record are changed by its owner alone.
-use Rattle.std.specs.Prelude.{◌≡◌, ◌⊎◌, ℕ, ◌+◌, ◌<◌, true, false, List, [], ◌∷◌, Option, Some, None, slice_get}
+-- Who may change what. From one state of a run to the one behind an event: a fat lock stays fat, a lock gets free by its holder
+-- alone, which raises the count up to the last one, and the waiting bits of a record are changed by its owner alone. From any
+-- state: an event changes no other thread, and the begin of a part changes no word, no attempt and nothing that is held.
+use Rattle.std.specs.Prelude.{◌≡◌, ◌≢◌, ◌⊎◌, ℕ, ◌+◌, ◌<◌, true, false, List, [], ◌∷◌, map, Option, Some, None, slice_get}
 use Rattle.checked_program.specs.MarkedProgram.{MarkedProgram, IsMarked}
-use Rattle.machine_types.specs.Core.{Core, Happening, Of, NextPart, happened, core, start, event}
+use Rattle.machine_types.specs.Core.{Core, Happening, Of, NextPart, happened, core, start, event, next}
 use Rattle.machine_types.specs.HeldMonitors.{held_at}
 use Rattle.machine_types.specs.LockWords.{next_count}
 use Rattle.machine_types.specs.Owners.{Locks, owner_at, locks_in, references_of}
 use Rattle.machine_types.specs.PlainMemory.{Object, start_objects}
 use Rattle.machine_types.specs.Settings.{AreSettings}
-use Rattle.machine_types.specs.Threads.{Thread}
+use Rattle.machine_types.specs.Threads.{Attempt, Thread}
 use Rattle.machine_types.specs.Waiting.{is_bit_set}
 use Rattle.machine_types.specs.declared.config.Config.{Config}
 use Rattle.machine_types.specs.declared.lock.Held.{Held}
@@ -80,8 +81,8 @@ pub record IsFollowed (c : MarkedProgram) (cfg : Config) (objects : List Object)
   pub bits_follow : BitsFollow s.words (event c s t).words t x.phase
 
 -- of every state of which the facts hold
-abbrev pub EventsFollow : Type 0
-EventsFollow = (c : MarkedProgram) (cfg : Config) (objects : List Object) (was : ℕ → Phase) (s : Core) (t : ℕ) (x : Thread) → IsMarked c → StateFacts c cfg objects was s → slice_get s.threads t ≡ Some x → IsFollowed c cfg objects s t x
+abbrev pub EventsRespectOwners : Type 0
+EventsRespectOwners = (c : MarkedProgram) (cfg : Config) (objects : List Object) (was : ℕ → Phase) (s : Core) (t : ℕ) (x : Thread) → IsMarked c → StateFacts c cfg objects was s → slice_get s.threads t ≡ Some x → IsFollowed c cfg objects s t x
 
 -- ---- every run
 
@@ -98,5 +99,25 @@ abbrev pub run_objects : MarkedProgram → Config → List Happening → List Ob
 run_objects c cfg hs = all_objects c (start c cfg) (start_objects c.program) hs
 
 -- from every state that a run reaches, by an event of any thread
-abbrev pub RunsFollow : Type 0
-RunsFollow = (c : MarkedProgram) (cfg : Config) (hs : List Happening) (t : ℕ) (x : Thread) → IsMarked c → HaveWidth cfg → AreSettings cfg → slice_get (core c cfg hs).threads t ≡ Some x → IsFollowed c cfg (run_objects c cfg hs) (core c cfg hs) t x
+abbrev pub RunsRespectOwners : Type 0
+RunsRespectOwners = (c : MarkedProgram) (cfg : Config) (hs : List Happening) (t : ℕ) (x : Thread) → IsMarked c → HaveWidth cfg → AreSettings cfg → slice_get (core c cfg hs).threads t ≡ Some x → IsFollowed c cfg (run_objects c cfg hs) (core c cfg hs) t x
+
+-- ---- every state, whatever its threads and words
+
+abbrev pub EventsLeaveOthers : Type 0
+EventsLeaveOthers = (c : MarkedProgram) (s : Core) (t u : ℕ) → u ≢ t → slice_get (event c s t).threads u ≡ slice_get s.threads u
+
+abbrev pub attempts : List Thread → List (Option Attempt)
+attempts threads = map (λ (x : Thread). x.attempt) threads
+
+abbrev pub held_lists : List Thread → List (List Held)
+held_lists threads = map (λ (x : Thread). x.held) threads
+
+-- as they were: all words, and of each thread its attempt and what it holds
+pub record IsLeft (s after : Core) : Type 0 where
+  pub words : after.words ≡ s.words
+  pub attempts_left : attempts after.threads ≡ attempts s.threads
+  pub held_left : held_lists after.threads ≡ held_lists s.threads
+
+abbrev pub PartsLeaveWords : Type 0
+PartsLeaveWords = (c : MarkedProgram) (s : Core) → IsLeft s (next c s)
