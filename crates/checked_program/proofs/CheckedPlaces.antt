@@ -20,16 +20,16 @@ use Rattle.jvm_types.specs.declared.program.Row.{Row}
 use Rattle.jvm_types.specs.declared.program.Target.{Target}
 use Rattle.jvm_types.specs.declared.program.Target.TheVariants as targets
 use Rattle.jvm_types.specs.declared.typing.Typing.{Typing}
-use Rattle.program_laws.specs.TargetLaws.{HasRow}
-use Rattle.program_laws.proofs.CodeOrder.{laid_out, have_targets}
-use Rattle.program_laws.proofs.TargetRows.{rows_stand}
-use Rattle.typing_laws.specs.EdgeLaws.{Stands}
-use Rattle.typing_laws.proofs.EdgeTargets.{found}
-use Rattle.typing_laws.proofs.EntryFrame.{arguments_fit_all}
-use Rattle.typing_laws.proofs.FrameLast.{frame_law}
-use Rattle.typing_laws.proofs.LocalGoing.{local_law}
-use Rattle.typing_laws.proofs.NewVisits.{new_behind}
-use Rattle.typing_laws.proofs.RuleUses.{hold, arguments_suit_all, receiver_good}
+use Rattle.laws_programs.specs.TargetLaws.{HasRow}
+use Rattle.laws_programs.proofs.CodeOrder.{laid_out, have_targets}
+use Rattle.laws_programs.proofs.TargetRows.{rows_stand}
+use Rattle.laws_programs.specs.EdgeLaws.{Stands}
+use Rattle.laws_programs.proofs.EdgeTargets.{found}
+use Rattle.laws_programs.proofs.EntryFrame.{arguments_fit_all}
+use Rattle.laws_programs.proofs.FrameLast.{frame_law}
+use Rattle.laws_programs.proofs.LocalGoing.{local_law}
+use Rattle.laws_programs.proofs.NewVisits.{new_behind}
+use Rattle.laws_programs.proofs.RuleUses.{hold, arguments_suit_all, receiver_good}
 use Rattle.checked_program.specs.CheckedProgram.{CheckedProgram, IsChecked, AreTypings}
 use Rattle.checked_program.specs.Marks.{called_method}
 use Rattle.checked_program.specs.Tagging.{catches_all, until_all}

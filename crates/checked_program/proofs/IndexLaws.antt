@@ -6,7 +6,7 @@ use Rattle.jvm_types.specs.declared.program.FieldInfo.{FieldInfo}
 use Rattle.jvm_types.specs.declared.program.MethodInfo.{MethodInfo}
 use Rattle.jvm_types.specs.declared.program.Program.{Program}
 use Rattle.code_table.proofs.LaidOut.{ascend}
-use Rattle.program_laws.proofs.CodeOrder.{methods_laid_out}
+use Rattle.laws_programs.proofs.CodeOrder.{methods_laid_out}
 use Rattle.checked_program.specs.CodeIndex.{number_in, words_of_object, AllAscend, ArePcTables, AreSizes, FewInstances}
 use Rattle.checked_program.proofs.FewFields.{few_fields}
 

@@ -16,10 +16,10 @@ use Rattle.jvm_types.specs.declared.program.Row.{Row}
 use Rattle.jvm_types.specs.declared.program.Target.{Target}
 use Rattle.jvm_types.specs.declared.typing.Typing.{Typing}
 use Rattle.jvm_types.specs.declared.typing.VType.{VType}
-use Rattle.program_laws.specs.TargetLaws.{HasRow}
-use Rattle.typing_laws.specs.EntryLaws.{receiver_count}
-use Rattle.typing_laws.specs.NewLaws.{AreBehind}
-use Rattle.typing_laws.specs.RuleLaws.{RulesHold, IsGood}
+use Rattle.laws_programs.specs.TargetLaws.{HasRow}
+use Rattle.laws_programs.specs.EntryLaws.{receiver_count}
+use Rattle.laws_programs.specs.NewLaws.{AreBehind}
+use Rattle.laws_programs.specs.RuleLaws.{RulesHold, IsGood}
 use Rattle.checked_program.specs.CheckedProgram.{CheckedProgram, IsChecked}
 use Rattle.checked_program.specs.Marks.{called_method}
 use Rattle.checked_program.specs.Tagging.{catches_all, until_all}

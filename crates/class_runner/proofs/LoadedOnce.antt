@@ -31,9 +31,9 @@ use Rattle.jvm_types.specs.declared.refusal.Place.{Place}
 use Rattle.jvm_types.proofs.ClassLawProofs.{one_class, read_if_spelled}
 use Rattle.jvm_types.proofs.CodeLaws.{faultless}
 use Rattle.jvm_types.proofs.CodeOnce.{once}
-use Rattle.typing_laws.proofs.OneTyping.{one_typing, no_refusal}
-use Rattle.tag_laws.proofs.TagAnswers.{one_tagging_all, no_refusal as no_tag_refusal}
-use Rattle.section_laws.proofs.OneMarks.{one_mark}
+use Rattle.laws_programs.proofs.OneTyping.{one_typing, no_refusal}
+use Rattle.laws_sections.proofs.TagAnswers.{one_tagging_all, no_refusal as no_tag_refusal}
+use Rattle.laws_sections.proofs.OneMarks.{one_mark}
 use Rattle.class_runner.specs.Loading.{AreRead, IsLoaded, IsAccepted, IsFirstRefused, IsFirstUntyped, IsFirstUntagged, IsUntyped, IsUntagged, IsRefusedBy, IsNotLoaded, read_fault, decode_fault}
 use Rattle.class_runner.specs.LoadingLaws.{LoadedAccepted, AcceptedNotRefused}
 use Rattle.class_runner.specs.Stages.{IsLinkedFrom}

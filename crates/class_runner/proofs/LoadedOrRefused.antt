@@ -36,9 +36,9 @@ use Rattle.jvm_types.specs.declared.refusal.Place.{Place}
 use Rattle.jvm_types.proofs.ClassLawProofs.{spelled_or_faulty}
 use Rattle.jvm_types.proofs.CodeExact.{exact}
 use Rattle.jvm_types.proofs.LinkedLaws.{linked_is_program}
-use Rattle.typing_laws.proofs.VisitsEndAnswer.{typed_or_refused}
-use Rattle.tag_laws.proofs.TagAnswers.{tagged_or_refused_all as tagged_or_refused}
-use Rattle.program_laws.proofs.CodeOrder.{laid_out}
+use Rattle.laws_programs.proofs.VisitsEndAnswer.{typed_or_refused}
+use Rattle.laws_sections.proofs.TagAnswers.{tagged_or_refused_all as tagged_or_refused}
+use Rattle.laws_programs.proofs.CodeOrder.{laid_out}
 use Rattle.class_runner.specs.Loading.{AreRead, ArePassed, IsAccepted, IsFirstRefused, IsUnlinked, IsUntyped, IsUntagged, IsRefusedBy, read_fault, decode_fault}
 use Rattle.class_runner.specs.LoadingLaws.{IsLoadable, AcceptedOrRefused}
 use Rattle.class_runner.proofs.LoadedOnce.{spelled_long, spelled_classes, linked_long}

@@ -19,8 +19,8 @@ use Rattle.jvm_types.specs.declared.refusal.SRule.{SRule}
 use Rattle.jvm_types.specs.declared.refusal.Rule.{Rule}
 use Rattle.jvm_types.specs.declared.refusal.Rule.TheVariants.{C, K, L, V, S}
 use Rattle.jvm_types.specs.declared.refusal.Place.{Place}
-use Rattle.typing_laws.proofs.OneTyping.{no_refusal, one_refusal}
-use Rattle.tag_laws.proofs.TagAnswers.{no_refusal as no_tag_refusal, one_refusal_all}
+use Rattle.laws_programs.proofs.OneTyping.{no_refusal, one_refusal}
+use Rattle.laws_sections.proofs.TagAnswers.{no_refusal as no_tag_refusal, one_refusal_all}
 use Rattle.class_runner.specs.Loading.{AreRead, IsFirstRefused, IsFirstUntyped, IsFirstUntagged, IsUnlinked, IsUntyped, IsUntagged, IsRefusedBy, read_fault, decode_fault}
 use Rattle.class_runner.specs.LoadingLaws.{OneRefusal}
 use Rattle.class_runner.proofs.LoadedOnce.{classes_once, read_once, same_program, never_both, no_read_fault, no_decode_fault, none_untyped}

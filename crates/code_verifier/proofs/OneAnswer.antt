@@ -6,8 +6,8 @@ use Rattle.jvm_types.specs.Verifying.{IsTypingOf}
 use Rattle.jvm_types.specs.declared.typing.Typing.{Typing}
 use Rattle.jvm_types.specs.declared.program.MethodInfo.{MethodInfo}
 use Rattle.jvm_types.specs.declared.program.Program.{Program}
-use Rattle.typing_laws.proofs.KnownTyping.{typing_of_one}
-use Rattle.typing_laws.proofs.OneTyping.{no_refusal}
+use Rattle.laws_programs.proofs.KnownTyping.{typing_of_one}
+use Rattle.laws_programs.proofs.OneTyping.{no_refusal}
 use Rattle.code_verifier.specs.declared.error.VerifyError.{VerifyError}
 use Rattle.code_verifier.specs.declared.error.VerifyError.TheVariants.{Memory, Refused}
 use Rattle.code_verifier.specs.Settling.{IsRefusal}

@@ -6,7 +6,7 @@ use Rattle.std.proofs.lemmas.Bool.Decides.{nat_tests}
 use Rattle.jvm_types.specs.Types.{TypeFrame, filled, same_type, same_ready, same_frame, all_pairs, if_same_place, meet, meets, meet_frames}
 use Rattle.jvm_types.specs.declared.typing.VType.{VType}
 use Rattle.jvm_types.specs.declared.typing.VType.TheVariants.{Ref, New}
-use Rattle.typing_laws.proofs.LocalRisen.{same_frames}
+use Rattle.laws_programs.proofs.LocalRisen.{same_frames}
 use Rattle.code_table.proofs.MeetLaws.{meet_same_class}
 
 -- ---- the same types

@@ -15,7 +15,7 @@ use Rattle.jvm_types.specs.declared.refusal.VRule.{VRule}
 use Rattle.jvm_types.specs.declared.refusal.VRule.TheVariants.{V1, V2, V3, V4, V7}
 use Rattle.jvm_types.specs.declared.typing.VType.{VType}
 use Rattle.jvm_types.specs.declared.typing.VType.TheVariants.{Top}
-use Rattle.typing_laws.proofs.FrameBounds.{unbroken}
+use Rattle.laws_programs.proofs.FrameBounds.{unbroken}
 use Rattle.code_verifier.specs.declared.error.VerifyError.{VerifyError}
 use Rattle.code_verifier.specs.declared.error.VerifyError.TheVariants.{Memory, Refused}
 use Rattle.code_verifier.specs.Visiting.{HasLocals, AreLevel, Leaves, Keeps, IsPrepared, Prepares}

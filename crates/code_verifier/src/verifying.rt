@@ -4,7 +4,7 @@ ghost use Rattle.std.specs.Prelude.{◌≡◌, ◌<◌, ◌≤◌, length, slice
 ghost use Rattle.jvm_types.specs.ProgramInvariant.{IsProgram};
 ghost use Rattle.jvm_types.specs.Verifying.{first_nodes, IsLaidOut, IsTypingOf};
 ghost use Rattle.jvm_types.specs.declared.typing.Typing.{Typing as MethodTyping};
-ghost use Rattle.typing_laws.proofs.VisitsEnd.{IsKept};
+ghost use Rattle.laws_programs.proofs.VisitsEnd.{IsKept};
 ghost use Rattle.code_verifier.specs.Visiting.{AreLevel};
 ghost use Rattle.code_verifier.specs.Settling.{Settle, IsBreak, IsRefusal};
 ghost use Rattle.code_verifier.specs.declared.error.VerifyError.TheVariants.{Memory};

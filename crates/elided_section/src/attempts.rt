@@ -8,8 +8,7 @@ ghost use Rattle.elided_section.specs.Checkups.{checkup, finished};
 ghost use Rattle.elided_section.specs.declared.checkup.Checkup.TheVariants.{Differs};
 
 use crate::checkup::{Checkup, compare};
-use frames::ThreadState;
-use going::{count_elided, count_failed, runs};
+use frames::{ThreadState, count_elided, count_failed, runs};
 use machine_types::Phase;
 
 /// Begins attempt `number` of an entry of the monitor, whose free lock word was found with the count `noted`. The top

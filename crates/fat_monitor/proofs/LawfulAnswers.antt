@@ -15,7 +15,7 @@ use Rattle.machine_types.specs.declared.lock.Kept.TheVariants as keeps
 use Rattle.machine_types.specs.declared.phase.Phase.{Phase}
 use Rattle.machine_types.specs.declared.phase.Phase.TheVariants as phases
 use Rattle.machine_types.specs.declared.phase.Toward.{Toward}
-use Rattle.lock_laws.specs.HeldLaws.{AddsHeld, HeldHasRoom}
+use Rattle.laws_threads.specs.HeldLaws.{AddsHeld, HeldHasRoom}
 use Rattle.fat_monitor.specs.Answering.{CanAnswer}
 
 -- what is known of a lawful thread in a phase

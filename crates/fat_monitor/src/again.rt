@@ -6,8 +6,7 @@ ghost use Rattle.machine_types.specs.HeldMonitors.{deeper, held_at, shallower, w
 ghost use Rattle.fat_monitor.specs.Answering.{CanGoOn};
 
 use checked_program::Checked;
-use frames::ThreadState;
-use going::runs;
+use frames::{ThreadState, runs};
 use instr_steps::go_after;
 use machine_types::{After, Held};
 

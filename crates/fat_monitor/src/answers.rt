@@ -12,9 +12,8 @@ use crate::leaving::{exit_last, fatten, grow, let_go};
 use crate::taking::{acquire, take_fat, take_flat};
 use crate::waiting::{choose, give_up, look, retake};
 use checked_program::Checked;
-use frames::ThreadState;
-use going::runs;
-use lock_laws::held_has_room;
+use frames::{ThreadState, runs};
+use laws_threads::held_has_room;
 use machine_types::Phase;
 
 /// In a phase that asks for a word.

@@ -10,8 +10,7 @@ ghost use Rattle.fat_monitor.specs.Asking.{is_last_exit};
 ghost use Rattle.fat_monitor.specs.Answering.{CanGoOn};
 
 use checked_program::Checked;
-use frames::ThreadState;
-use going::count_inflated;
+use frames::{ThreadState, count_inflated};
 use instr_steps::go_after;
 use jvm_types::End;
 use jvm_types::fixed_words::MONITOR_RECORDS;

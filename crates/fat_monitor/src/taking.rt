@@ -10,8 +10,7 @@ ghost use Rattle.machine_types.specs.declared.lock.LockWord.TheVariants.{Free};
 ghost use Rattle.machine_types.specs.declared.phase.Phase.TheVariants.{Acquire, TakeFat};
 ghost use Rattle.fat_monitor.specs.Answering.{CanTake, HasPlaceFor, HasTurn};
 
-use frames::ThreadState;
-use going::{count_locked, fail_turn, runs};
+use frames::{ThreadState, count_locked, fail_turn, runs};
 use lock_word::{LockWord, read, word};
 use machine_types::{Held, Kept, Phase};
 

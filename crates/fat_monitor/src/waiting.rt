@@ -10,8 +10,7 @@ ghost use Rattle.machine_types.specs.declared.phase.Phase.TheVariants.{NotifyOne
 ghost use Rattle.fat_monitor.specs.Answering.{HasPlaceFor, HasTurn};
 
 use crate::bits::{has_bit, lowest_of};
-use frames::ThreadState;
-use going::{fail_turn, runs};
+use frames::{ThreadState, fail_turn, runs};
 use machine_types::{Held, Kept, Phase};
 
 /// The monitor is given up, and the depth at which it was held is kept in mind.

@@ -7,7 +7,7 @@ use Rattle.std.proofs.lemmas.Option.{slice_get_within}
 use Rattle.jvm_types.specs.ProgramInvariant.{IsProgram}
 use Rattle.jvm_types.specs.declared.program.MethodInfo.{MethodInfo}
 use Rattle.jvm_types.specs.declared.program.Program.{Program}
-use Rattle.program_laws.proofs.CodeOrder.{methods_laid_out, starts}
+use Rattle.laws_programs.proofs.CodeOrder.{methods_laid_out, starts}
 
 counted : (ms : List MethodInfo) → ((i : ℕ) (m : MethodInfo) → slice_get ms i ≡ Some m → 0 < length m.code) → length ms ≤ sum_by (λ m. length m.code) ms
 counted [] some = omega arith

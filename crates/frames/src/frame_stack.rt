@@ -10,9 +10,9 @@ use crate::laying::{copy_slots, lay, lay_root, receiver_at};
 use jvm_types::flags::is_static;
 use jvm_types::limits::MOST_FRAMES;
 use jvm_types::{MethodInfo, Program};
+use lists::Told;
 use std::alloc::{AllocError, Global};
 use std::marker::Model;
-use told::Told;
 
 /// The frames of methods of one program, which contracts see as a list with the top frame first.
 ///

@@ -19,10 +19,10 @@ use crate::held::{entry_of, place_of, places};
 use crate::roots::Roots;
 use checked_program::{Checked, SectionMark, Tags};
 use jvm_types::{Counts, End, Print, Room, Rows, ThreadReport, Typing};
+use lists::Told;
 use machine_types::{AttemptHead, Config, Held, Phase};
 use std::alloc::{AllocError, Global};
 use std::marker::Model;
-use told::Told;
 
 /// The state of a thread of one program. Contracts see its parts by themselves, its frames as a list with the top
 /// frame first and each stack with its top first.

@@ -11,7 +11,7 @@ use Rattle.jvm_types.specs.CodeTable.{is_init}
 use Rattle.jvm_types.specs.ProgramInvariant.{IsProgram}
 use Rattle.jvm_types.specs.declared.program.MethodInfo.{MethodInfo}
 use Rattle.jvm_types.specs.declared.program.Program.{Program}
-use Rattle.program_laws.proofs.CodeOrder.{methods_laid_out}
+use Rattle.laws_programs.proofs.CodeOrder.{methods_laid_out}
 use Rattle.checked_program.specs.MarkedProgram.{AreTaggings}
 use Rattle.checked_program.specs.TaggedCode.{tagged_by}
 use Rattle.checked_program.specs.FrozenPlaces.{KeepsInside, IsFrozenClass}

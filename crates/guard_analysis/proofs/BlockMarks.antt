@@ -16,7 +16,7 @@ use Rattle.jvm_types.specs.declared.program.MethodInfo.{MethodInfo}
 use Rattle.jvm_types.specs.declared.program.Program.{Program}
 use Rattle.code_table.specs.PcTables.{number_at}
 use Rattle.code_table.proofs.NumbersExact.{exact}
-use Rattle.program_laws.proofs.CodeOrder.{methods_laid_out, one_number}
+use Rattle.laws_programs.proofs.CodeOrder.{methods_laid_out, one_number}
 use Rattle.checked_program.specs.LockTags.{TagShape, is_this}
 use Rattle.checked_program.specs.Tagging.{catches_all, until_all, catchers, tags_after, tags_at_handler}
 use Rattle.checked_program.specs.TaggedCode.{tagged_by, IsAt, IsEdge, Goes, onward, caught, row_of}
@@ -27,7 +27,7 @@ use Rattle.checked_program.specs.declared.tag.Tag.TheVariants.{Untagged, This, A
 use Rattle.checked_program.specs.declared.tag.Tags.{Tags}
 use Rattle.checked_program.specs.declared.section.Spot.TheVariants.{Block}
 use Rattle.checked_program.specs.declared.section.FieldUse.{FieldUse}
-use Rattle.spread.specs.Chains.{IsIn}
+use Rattle.graph_closure.specs.Chains.{IsIn}
 use Rattle.guard_analysis.specs.BlockWalks.{handler_pcs, catch_pcs, way_pcs, ways_from, ways_at, deep_at, is_deep, Stays, IsInside}
 use Rattle.guard_analysis.specs.SectionGrades.{depth_on_this, depth_at, AreGrades, IsBlockMark, section_in}
 use Rattle.guard_analysis.proofs.CallEdges.{with_tags, frames_there}

@@ -9,7 +9,7 @@ use Rattle.std.proofs.lemmas.Option.{slice_get_within}
 use Rattle.jvm_types.specs.declared.code.Insn.{Insn}
 use Rattle.jvm_types.specs.declared.program.MethodInfo.{MethodInfo}
 use Rattle.checked_program.specs.LockTags.{TagShape}
-use Rattle.spread.specs.Chains.{IsIn}
+use Rattle.graph_closure.specs.Chains.{IsIn}
 use Rattle.guard_analysis.specs.BlockWalks.{ways_from, deep_at, is_deep, visited, all_visited, Stays, IsInside, Has, Walked, unseen, left_of, IsExplored}
 use Rattle.guard_analysis.specs.declared.block_walk.Walk.{Walk}
 

@@ -13,7 +13,7 @@ use Rattle.jvm_types.specs.declared.program.Target.{Target}
 use Rattle.jvm_types.specs.declared.program.Target.TheVariants as targets
 use Rattle.jvm_types.specs.declared.program.MethodInfo.{MethodInfo}
 use Rattle.jvm_types.specs.declared.program.Program.{Program}
-use Rattle.program_laws.proofs.CodeOrder.{have_targets}
+use Rattle.laws_programs.proofs.CodeOrder.{have_targets}
 use Rattle.checked_program.specs.LockTags.{TagShape}
 use Rattle.checked_program.specs.TaggedCode.{Tagged, tagged_by}
 use Rattle.checked_program.specs.Marks.{Callee, callee, Calls, called_method, receiver_tag, is_own_object, mode_if}

@@ -17,8 +17,8 @@ use Rattle.checked_program.specs.declared.tag.Tags.{Tags}
 use Rattle.checked_program.specs.declared.section.Mode.{Mode}
 use Rattle.checked_program.specs.declared.section.Mode.TheVariants.{OnThis, OffThis}
 use Rattle.checked_program.specs.declared.section.FieldUse.{FieldUse}
-use Rattle.spread.specs.Walks.{IsEdge, Walks, Leads, AreLeading, AreRecurring}
-use Rattle.spread.specs.LeastSet.{IsGraph}
+use Rattle.graph_closure.specs.Walks.{IsEdge, Walks, Leads, AreLeading, AreRecurring}
+use Rattle.graph_closure.specs.LeastSet.{IsGraph}
 use Rattle.guard_analysis.specs.declared.call_graph.Graph.{Graph}
 use Rattle.guard_analysis.specs.CallGraph.{node_of, mode_at, AreCalls, call_graph}
 use Rattle.guard_analysis.specs.Faults.{fault_at, breaks_before, node_breaks, breaking_nodes, LeadsToBreak, LeadsToItself, AreCallees}

@@ -8,11 +8,11 @@ use Rattle.std.proofs.lemmas.Option.{slice_get_within}
 use Rattle.jvm_types.specs.ProgramInvariant.{IsProgram}
 use Rattle.jvm_types.specs.declared.program.MethodInfo.{MethodInfo}
 use Rattle.jvm_types.specs.declared.program.Program.{Program}
-use Rattle.program_laws.proofs.CodeOrder.{methods_laid_out, starts}
+use Rattle.laws_programs.proofs.CodeOrder.{methods_laid_out, starts}
 use Rattle.checked_program.specs.LockTags.{TagShape}
 use Rattle.checked_program.specs.Reach.{size_of}
 use Rattle.checked_program.specs.declared.tag.Tags.{Tags}
-use Rattle.spread.specs.LeastSet.{IsGraph}
+use Rattle.graph_closure.specs.LeastSet.{IsGraph}
 use Rattle.guard_analysis.specs.CallGraph.{with_edge, edges_before, node_edges, graph_before, call_graph}
 use Rattle.guard_analysis.specs.declared.call_graph.Graph.{Graph}
 use Rattle.guard_analysis.proofs.GraphEdges.{graph_alike, graph_old, the_call}

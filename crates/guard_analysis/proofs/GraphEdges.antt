@@ -9,7 +9,7 @@ use Rattle.jvm_types.specs.declared.program.MethodInfo.{MethodInfo}
 use Rattle.jvm_types.specs.declared.program.Program.{Program}
 use Rattle.checked_program.specs.LockTags.{TagShape}
 use Rattle.checked_program.specs.declared.tag.Tags.{Tags}
-use Rattle.spread.specs.Walks.{IsEdge}
+use Rattle.graph_closure.specs.Walks.{IsEdge}
 use Rattle.guard_analysis.specs.CallGraph.{mode_at, call_at, with_edge, edges_before, node_edges, graph_before}
 use Rattle.guard_analysis.specs.declared.call_graph.Graph.{Graph}
 

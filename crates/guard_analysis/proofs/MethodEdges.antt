@@ -11,11 +11,11 @@ use Rattle.jvm_types.specs.declared.code.Insn.{Insn}
 use Rattle.jvm_types.specs.declared.program.Target.{Target}
 use Rattle.jvm_types.specs.declared.program.MethodInfo.{MethodInfo}
 use Rattle.jvm_types.specs.declared.program.Program.{Program}
-use Rattle.program_laws.proofs.CodeOrder.{have_targets}
+use Rattle.laws_programs.proofs.CodeOrder.{have_targets}
 use Rattle.checked_program.specs.Marks.{called_method}
 use Rattle.checked_program.specs.Reach.{HasCall, size_of}
-use Rattle.spread.specs.LeastSet.{IsGraph}
-use Rattle.spread.specs.Walks.{IsEdge}
+use Rattle.graph_closure.specs.LeastSet.{IsGraph}
+use Rattle.graph_closure.specs.Walks.{IsEdge}
 use Rattle.guard_analysis.specs.MethodCalls.{called_by, among, method_call, calls_before, calls_from, method_calls}
 use Rattle.guard_analysis.specs.declared.call_graph.Graph.{Graph}
 use Rattle.guard_analysis.proofs.GraphEdges.{IsAlike, with_alike, with_kept, with_added, with_old}

@@ -10,9 +10,9 @@ use Rattle.jvm_types.specs.ProgramInvariant.{IsProgram}
 use Rattle.jvm_types.specs.declared.program.MethodInfo.{MethodInfo}
 use Rattle.jvm_types.specs.declared.program.Program.{Program}
 use Rattle.checked_program.specs.Reach.{HasCall, HasCalls, IsReach, size_of}
-use Rattle.spread.specs.LeastSet.{IsGraph}
-use Rattle.spread.specs.Walks.{Walks, Leads, AreLeading}
-use Rattle.spread.proofs.WalkLaws.{leads_more}
+use Rattle.graph_closure.specs.LeastSet.{IsGraph}
+use Rattle.graph_closure.specs.Walks.{Walks, Leads, AreLeading}
+use Rattle.graph_closure.proofs.WalkLaws.{leads_more}
 use Rattle.guard_analysis.specs.MethodCalls.{method_calls, only_one, size_found, size_if, AreReached}
 use Rattle.guard_analysis.specs.declared.call_graph.Graph.{Graph}
 use Rattle.guard_analysis.proofs.MethodEdges.{size_before, size_before-le, turned_is_graph, call_inside, edge_of, call_of}

@@ -10,7 +10,7 @@ use Rattle.jvm_types.specs.declared.program.MethodInfo.{MethodInfo}
 use Rattle.code_table.specs.PcTables.{number_at}
 use Rattle.checked_program.specs.LockTags.{TagShape}
 use Rattle.checked_program.specs.Tagging.{catches_all}
-use Rattle.spread.specs.Chains.{IsIn}
+use Rattle.graph_closure.specs.Chains.{IsIn}
 use Rattle.guard_analysis.specs.declared.block_walk.Walk.{Walk}
 
 -- ---- where an instruction leads

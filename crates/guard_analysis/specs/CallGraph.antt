@@ -13,7 +13,7 @@ use Rattle.checked_program.specs.declared.tag.Tag.{Tag}
 use Rattle.checked_program.specs.declared.tag.Tags.{Tags}
 use Rattle.checked_program.specs.declared.section.Mode.{Mode}
 use Rattle.checked_program.specs.declared.section.Mode.TheVariants.{OnThis, OffThis}
-use Rattle.spread.specs.Walks.{IsEdge}
+use Rattle.graph_closure.specs.Walks.{IsEdge}
 use Rattle.guard_analysis.specs.declared.call_graph.Graph.{Graph}
 
 -- ---- nodes

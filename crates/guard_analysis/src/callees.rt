@@ -6,14 +6,14 @@ ghost use Rattle.jvm_types.specs.declared.limits.TheConstants.{MOST_INSTRUCTIONS
 ghost use Rattle.checked_program.specs.TaggedCode.{tagged_by};
 ghost use Rattle.guard_analysis.specs.CallGraph.{call_graph};
 ghost use Rattle.guard_analysis.specs.Faults.{AreCallees, breaking_nodes, grade_at, grade_of, grades_before};
-ghost use Rattle.spread.specs.LeastSet.{IsGraph};
+ghost use Rattle.graph_closure.specs.LeastSet.{IsGraph};
 
 use crate::call_graph::{call_graph, mode_at};
 use crate::calls::call_at;
 use crate::faults::{fault_at, node_breaks};
 use checked_program::{FieldUse, Mode, Tags};
+use graph_closure::{leading, recurring};
 use jvm_types::{MethodInfo, Program, Rows};
-use spread::{leading, recurring};
 use std::alloc::{AllocError, Global};
 
 /// Of each node of the graph of calls: whether calls lead from it to a method that breaks a rule, and whether they

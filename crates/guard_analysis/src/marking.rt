@@ -11,7 +11,7 @@ ghost use Rattle.checked_program.specs.TaggedCode.{tagged_by};
 ghost use Rattle.checked_program.specs.Sections.{block_at, sections, spots_of};
 ghost use Rattle.checked_program.specs.Marks.{AreMarks, IsMarkOf};
 ghost use Rattle.jvm_types.specs.Verifying.{IsLaidOut};
-ghost use Rattle.spread.specs.LeastSet.{IsGraph};
+ghost use Rattle.graph_closure.specs.LeastSet.{IsGraph};
 ghost use Rattle.guard_analysis.specs.CallGraph.{call_graph};
 ghost use Rattle.guard_analysis.specs.BlockWalks.{IsExplored};
 ghost use Rattle.guard_analysis.specs.Faults.{AreCallees, grades_before};

@@ -10,8 +10,8 @@ ghost use Rattle.guard_analysis.specs.MethodCalls.{among, called_by, calls_befor
 
 use crate::call_graph::{Graph, add_edge};
 use crate::calls::called_method;
+use graph_closure::leading;
 use jvm_types::{MethodInfo, Program, Rows};
-use spread::leading;
 use std::alloc::{AllocError, Global};
 
 fn called_by(m: &MethodInfo, i: usize) -> Option<u32>

@@ -13,9 +13,9 @@ use Rattle.machine_types.specs.Typed.{FramesHold, FramesThrown, PhaseHolds}
 use Rattle.machine_types.specs.declared.phase.Phase.{Phase}
 use Rattle.machine_types.specs.declared.phase.Phase.TheVariants.{Element, Made, Throw}
 use Rattle.frames.specs.FrameLists.{top, max_stack}
-use Rattle.value_laws.specs.TopFrames.{StandsAt}
-use Rattle.value_laws.proofs.Callers.{handlers_fit}
-use Rattle.value_laws.proofs.TopStand.{made_stand, thrown_stand}
+use Rattle.laws_threads.specs.TopFrames.{StandsAt}
+use Rattle.laws_threads.proofs.Callers.{handlers_fit}
+use Rattle.laws_threads.proofs.TopStand.{made_stand, thrown_stand}
 use Rattle.instr_steps.specs.Places.{IsAt, Place, at_place}
 
 some_frame_in : (phase : Phase) (frames : List Frame) (roots : List ℕ) → (FramesFit phase [] roots → ⊥) → FramesFit phase frames roots → 0 < length frames

@@ -6,7 +6,7 @@ ghost use Rattle.machine_types.specs.FoundWords.{WordFits, effect_content};
 ghost use Rattle.machine_types.specs.Instructions.{begun, did, instructed};
 ghost use Rattle.machine_types.specs.declared.phase.Phase.TheVariants.{Run};
 ghost use Rattle.frames.specs.FrameLists.{top};
-ghost use Rattle.value_laws.specs.TopFrames.{IsAllowed};
+ghost use Rattle.laws_threads.specs.TopFrames.{IsAllowed};
 ghost use Rattle.instr_steps.specs.Effecting.{CallerFitsAfter, CanFail};
 ghost use Rattle.instr_steps.specs.Places.{CanGo, IsAt, at_place};
 
@@ -17,8 +17,7 @@ use crate::moves::{run_on, run_to, throw};
 use crate::objects::{index, make, measure, print, raise};
 use crate::places::Place;
 use checked_program::Checked;
-use frames::ThreadState;
-use going::count_instruction;
+use frames::{ThreadState, count_instruction};
 use heap_words::header;
 use instr_effects::{effect, is_checked};
 use jvm_types::{Op, Target};

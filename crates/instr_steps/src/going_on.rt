@@ -4,7 +4,7 @@ ghost use Rattle.std.specs.Prelude.{◌≡◌, ◌<◌, ◌≤◌, ◌+◌, ◌-
 ghost use Rattle.jvm_types.specs.CodeTable.{row, constant_row, result_of, value_of};
 ghost use Rattle.jvm_types.specs.declared.program.Target.TheVariants as targets;
 ghost use Rattle.frames.specs.FrameLists.{top, max_stack};
-ghost use Rattle.value_laws.specs.Allowed.{HasLocal};
+ghost use Rattle.laws_threads.specs.Allowed.{HasLocal};
 ghost use Rattle.instr_steps.specs.Going.{HasRoom, HasTaken, frame_went, stack_went};
 
 use frames::ThreadState;

@@ -13,8 +13,7 @@ ghost use Rattle.instr_steps.specs.Places.{CanGo, IsAt, at_place};
 use crate::moves::{move_on, throw};
 use crate::places::Place;
 use checked_program::Checked;
-use frames::ThreadState;
-use going::runs;
+use frames::{ThreadState, runs};
 use jvm_types::Thrown;
 use machine_types::{After, Kept, Phase, Toward};
 

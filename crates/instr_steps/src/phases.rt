@@ -19,8 +19,7 @@ use crate::exceptions::{hand, unwind};
 use crate::moves::go_on;
 use crate::places::place_of;
 use checked_program::Checked;
-use frames::ThreadState;
-use going::runs;
+use frames::{ThreadState, runs};
 use machine_types::{After, Phase};
 
 /// The next root of a thread begins.

@@ -1,3 +1,4 @@
 pub mod ListLaws
 pub mod StackLaws
 pub mod TestLaws
+pub mod ToldWalks

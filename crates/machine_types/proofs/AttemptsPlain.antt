@@ -11,7 +11,7 @@ use Rattle.jvm_types.specs.ProgramInvariant.{IsProgram, instances_among}
 use Rattle.jvm_types.specs.declared.outcome.End.{End}
 use Rattle.jvm_types.specs.declared.program.FieldInfo.{FieldInfo}
 use Rattle.jvm_types.specs.declared.program.Program.{Program}
-use Rattle.program_laws.proofs.FieldOrder.{instances_inside}
+use Rattle.laws_programs.proofs.FieldOrder.{instances_inside}
 use Rattle.checked_program.specs.MarkedProgram.{MarkedProgram}
 use Rattle.machine_types.specs.Agreement.{IsPending, AttemptFits, ThreadFits, has_wait_bit, depth_for, depth_of}
 use Rattle.machine_types.specs.AttemptLaws.{ReachesPresent, AttemptsArePlain}

@@ -14,7 +14,7 @@ use Rattle.jvm_types.specs.ProgramInvariant.{IsProgram, instances_among, statics
 use Rattle.jvm_types.specs.declared.program.FieldInfo.{FieldInfo}
 use Rattle.jvm_types.specs.declared.program.Program.{Program}
 use Rattle.jvm_types.proofs.EachAfter.{sum_first}
-use Rattle.program_laws.proofs.FieldOrder.{before_at, statics_inside, statics_apart}
+use Rattle.laws_programs.proofs.FieldOrder.{before_at, statics_inside, statics_apart}
 use Rattle.machine_types.specs.Ints.{word_of}
 use Rattle.machine_types.specs.ObjectsApart.{IsBeside, IsOutside}
 use Rattle.machine_types.specs.PlainMemory.{Object, StaticValue, object_end, objects_from, class_objects, start_objects, start_statics}

@@ -6,7 +6,7 @@ use Rattle.jvm_types.specs.declared.program.MethodInfo.{MethodInfo}
 use Rattle.jvm_types.specs.declared.program.Program.{Program}
 use Rattle.checked_program.specs.Tagging.{IsTaggingOf}
 use Rattle.checked_program.specs.declared.tag.Tags.{Tags}
-use Rattle.tag_laws.proofs.TagAnswers.{one_tagging_all, no_refusal}
+use Rattle.laws_sections.proofs.TagAnswers.{one_tagging_all, no_refusal}
 use Rattle.monitor_tags.specs.declared.error.TagError.{TagError}
 use Rattle.monitor_tags.specs.declared.error.TagError.TheVariants.{Memory, Refused}
 use Rattle.monitor_tags.specs.Visiting.{IsRefusal}

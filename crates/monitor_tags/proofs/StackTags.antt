@@ -8,7 +8,7 @@ use Rattle.checked_program.specs.Tagging.{tag_meeting}
 use Rattle.checked_program.specs.declared.tag.Tag.{Tag}
 use Rattle.checked_program.specs.declared.tag.Tag.TheVariants.{Untagged}
 use Rattle.checked_program.proofs.FilledTags.{told_filled}
-use Rattle.tag_laws.proofs.TagOrder.{own_tags}
+use Rattle.laws_sections.proofs.TagOrder.{own_tags}
 
 -- ---- the same tags
 

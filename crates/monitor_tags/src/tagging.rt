@@ -7,9 +7,9 @@ ghost use Rattle.checked_program.specs.LockTags.{entry_tags};
 ghost use Rattle.checked_program.specs.Tagging.{tag_plan, IsTaggingOf};
 ghost use Rattle.checked_program.specs.Visits.{first_nodes};
 ghost use Rattle.checked_program.specs.declared.tag.Tags.{Tags as MethodTags};
-ghost use Rattle.tag_laws.proofs.TagRanks.{tag_ranks};
-ghost use Rattle.tag_laws.proofs.VisitAnswers.{Settle};
-ghost use Rattle.tag_laws.proofs.VisitsEnd.{IsKept};
+ghost use Rattle.laws_sections.proofs.TagRanks.{tag_ranks};
+ghost use Rattle.laws_sections.proofs.VisitAnswers.{Settle};
+ghost use Rattle.laws_sections.proofs.VisitsEnd.{IsKept};
 ghost use Rattle.monitor_tags.specs.Visiting.{IsBreak, IsRefusal};
 ghost use Rattle.monitor_tags.specs.declared.error.TagError.TheVariants.{Memory};
 

@@ -6,21 +6,21 @@ ghost use Rattle.machine_types.specs.Core.{done_end, ended_by, event, is_live, l
 ghost use Rattle.machine_types.specs.Parts.{has_finished, has_returned};
 ghost use Rattle.machine_types.specs.Settings.{AreSettings};
 ghost use Rattle.jvm_types.specs.declared.limits.TheConstants.{MOST_WORKERS};
-ghost use Rattle.state_laws.specs.RunFacts.{HaveWidth};
+ghost use Rattle.laws_states.specs.RunFacts.{HaveWidth};
 ghost use Rattle.replay_runner.specs.Running.{IsThreadOf, Running, own_begun, run_on};
 
 use crate::start_words::start_words;
 use checked_program::Checked;
 use frames::ThreadState;
 use jvm_types::{End, Outcome, Room, Rows, ThreadReport};
-use machine_types::Config;
-use state_laws::{
+use laws_states::{
     reached_fits, run_facts_event, run_facts_next, run_facts_start, threads_are_kept,
 };
+use lists::Told;
+use machine_types::Config;
 use std::alloc::{AllocError, Global};
 use std::marker::Model;
 use step_core::event;
-use told::Told;
 
 /// A machine that runs a checked program. Contracts see the program, the settings, and its state.
 ///

@@ -8,7 +8,7 @@ use Rattle.solero.specs.Command.{Asked}
 use Rattle.solero.specs.Answer.{AreAccepted, IsDue, IsRefusal, contents_of, first_long, status_of}
 use Rattle.solero.specs.Delivery.{Delivers}
 use Rattle.solero.specs.declared.finish.Finish.TheVariants.{Returned, Uncaught, Limited}
-use Rattle.outside.specs.declared.shelf.NamedFile.{NamedFile}
+use Rattle.host_io.specs.declared.shelf.NamedFile.{NamedFile}
 use Rattle.solero.specs.declared.answer.Due.{Due}
 use Rattle.solero.specs.declared.answer.Due.TheVariants.{Report, Marks, Usage, Refusal, CannotRead, OutOfMemory}
 

@@ -5,7 +5,7 @@ use Rattle.jvm_types.specs.declared.refusal.Rule.TheVariants as rules
 use Rattle.jvm_types.specs.declared.refusal.CRule.TheVariants.{C10}
 use Rattle.jvm_types.specs.declared.refusal.Rule.{Rule}
 use Rattle.jvm_types.specs.declared.refusal.Place.{Place}
-use Rattle.outside.specs.Faults.{CountsFault}
+use Rattle.host_io.specs.Faults.{CountsFault}
 use Rattle.checked_program.specs.MarkedProgram.{MarkedProgram}
 use Rattle.class_runner.specs.Loading.{IsLoaded, IsRefusedBy}
 use Rattle.class_runner.specs.Refusal.{refusal_text}
@@ -14,9 +14,9 @@ use Rattle.solero.specs.Answer.{IsDue, IsMade, Refuses, first_long}
 use Rattle.jvm_types.specs.declared.limits.TheConstants.{MOST_FILE_BYTES}
 use Rattle.solero.specs.Reading.{IsUnread}
 use Rattle.solero.specs.Parts.{IsLine, IsMadeBy, IsRun, IsUnreadDue}
-use Rattle.outside.specs.declared.shelf.NamedFile.{NamedFile}
-use Rattle.outside.specs.declared.shelf.ShelfError.{ShelfError}
-use Rattle.outside.specs.declared.shelf.ShelfError.TheVariants.{Memory, Failed, TooLong}
+use Rattle.host_io.specs.declared.shelf.NamedFile.{NamedFile}
+use Rattle.host_io.specs.declared.shelf.ShelfError.{ShelfError}
+use Rattle.host_io.specs.declared.shelf.ShelfError.TheVariants.{Memory, Failed, TooLong}
 use Rattle.solero.specs.declared.request.Mode.{Mode}
 use Rattle.solero.specs.declared.request.Mode.TheVariants.{Replay, Mark}
 use Rattle.solero.specs.declared.answer.Due.{Due}

@@ -4,13 +4,13 @@ use Rattle.std.proofs.lemmas.Bool.{le-ltb, lt-ltb}
 use Rattle.std.proofs.lemmas.List.{length-map, length-append, length-replicate, take_at}
 use Rattle.std.specs.Prelude.{IfSome, Err}
 use Rattle.std.specs.List.{AllByRecursion}
-use Rattle.outside.specs.Shelf.{IsRead, content_of}
+use Rattle.host_io.specs.Shelf.{IsRead, content_of}
 use Rattle.solero.specs.Answer.{first_long, contents_of}
 use Rattle.jvm_types.specs.declared.limits.TheConstants.{MOST_FILE_BYTES}
 use Rattle.solero.specs.Reading.{IsLong, IsUnread}
-use Rattle.outside.specs.declared.shelf.NamedFile.{NamedFile}
-use Rattle.outside.specs.declared.shelf.ShelfError.{ShelfError}
-use Rattle.outside.specs.declared.shelf.ShelfError.TheVariants.{Memory, Failed, TooLong}
+use Rattle.host_io.specs.declared.shelf.NamedFile.{NamedFile}
+use Rattle.host_io.specs.declared.shelf.ShelfError.{ShelfError}
+use Rattle.host_io.specs.declared.shelf.ShelfError.TheVariants.{Memory, Failed, TooLong}
 
 -- so many files are read, and these are their contents; these names are left of all
 pub record SoFar (files : Option (List NamedFile)) (all left : List (List ℕ)) (before after file : ℕ) (contents : List (List ℕ)) : Type 0 where

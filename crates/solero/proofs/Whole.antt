@@ -5,8 +5,8 @@ use Rattle.solero.specs.Answer.{AreAccepted, IsDue, IsMadeOf, contents_of}
 use Rattle.solero.specs.Delivery.{Delivers, IsWritten}
 use Rattle.solero.specs.Whole.{AnswersWhole, IsCalm, IsOwed}
 use Rattle.solero.proofs.Accepted.{no_refusal}
-use Rattle.outside.specs.Faults.{CountsFault}
-use Rattle.outside.specs.declared.shelf.NamedFile.{NamedFile}
+use Rattle.host_io.specs.Faults.{CountsFault}
+use Rattle.host_io.specs.declared.shelf.NamedFile.{NamedFile}
 use Rattle.solero.specs.declared.answer.Due.{Due}
 use Rattle.solero.specs.declared.answer.Due.TheVariants.{Report, Marks, Usage, Refusal, CannotRead, OutOfMemory}
 

@@ -18,9 +18,9 @@ use Rattle.class_runner.specs.MarksText.{marks_text}
 use Rattle.class_runner.specs.Loading.{IsAccepted, IsLoaded, IsRefusedBy}
 use Rattle.solero.specs.Command.{Asked}
 use Rattle.solero.specs.Finish.{finish_of}
-use Rattle.outside.specs.Faults.{CountsFault}
-use Rattle.outside.specs.Shelf.{content_of}
-use Rattle.outside.specs.declared.shelf.NamedFile.{NamedFile}
+use Rattle.host_io.specs.Faults.{CountsFault}
+use Rattle.host_io.specs.Shelf.{content_of}
+use Rattle.host_io.specs.declared.shelf.NamedFile.{NamedFile}
 use Rattle.solero.specs.declared.finish.Finish.{Finish}
 use Rattle.solero.specs.declared.finish.Finish.TheVariants.{Returned, Uncaught, Limited}
 use Rattle.solero.specs.declared.request.Mode.{Mode}

@@ -1,9 +1,9 @@
 -- How a text reaches a sink.
 use Rattle.std.specs.Prelude.{◌≡◌, ℕ, ◌<◌, List, ◌++◌, length, take, Option, Result, Ok, Err}
 use Rattle.std.specs.Option.{option_map}
-use Rattle.outside.specs.Faults.{CountsFault}
+use Rattle.host_io.specs.Faults.{CountsFault}
 use Rattle.solero.specs.Answer.{text_of, status_of}
-use Rattle.outside.specs.declared.sink.SinkFailed.{SinkFailed}
+use Rattle.host_io.specs.declared.sink.SinkFailed.{SinkFailed}
 use Rattle.solero.specs.declared.answer.Due.{Due}
 
 -- A text is written to a sink that told some bytes, and tells the bytes now. Its count of faults goes from before to

@@ -11,8 +11,8 @@ use Rattle.class_runner.specs.MarksText.{marks_text}
 use Rattle.solero.specs.Command.{Asked}
 use Rattle.solero.specs.Answer.{IsMade, Refuses, ReportsRun}
 use Rattle.jvm_types.specs.declared.limits.TheConstants.{MOST_FILE_BYTES}
-use Rattle.outside.specs.declared.shelf.ShelfError.{ShelfError}
-use Rattle.outside.specs.declared.shelf.ShelfError.TheVariants.{Failed, TooLong}
+use Rattle.host_io.specs.declared.shelf.ShelfError.{ShelfError}
+use Rattle.host_io.specs.declared.shelf.ShelfError.TheVariants.{Failed, TooLong}
 use Rattle.solero.specs.declared.request.Mode.{Mode}
 use Rattle.solero.specs.declared.request.Mode.TheVariants.{Replay, Mark}
 use Rattle.solero.specs.declared.answer.Due.{Due}

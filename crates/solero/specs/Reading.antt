@@ -1,13 +1,13 @@
 -- Files that are read from a shelf by their names, in order, until one is not read.
 use Rattle.std.specs.Prelude.{◌≡◌, ℕ, ◌<◌, ◌≤◌, List, [], ◌∷◌, ◌++◌, length, take, Option, Some, None, IfSome, Result, Ok, Err}
 use Rattle.std.specs.List.{AllByRecursion}
-use Rattle.outside.specs.Faults.{CountsFault}
-use Rattle.outside.specs.Shelf.{IsRead}
+use Rattle.host_io.specs.Faults.{CountsFault}
+use Rattle.host_io.specs.Shelf.{IsRead}
 use Rattle.solero.specs.Answer.{first_long, contents_of}
 use Rattle.jvm_types.specs.declared.limits.TheConstants.{MOST_FILE_BYTES}
-use Rattle.outside.specs.declared.shelf.NamedFile.{NamedFile}
-use Rattle.outside.specs.declared.shelf.ShelfError.{ShelfError}
-use Rattle.outside.specs.declared.shelf.ShelfError.TheVariants.{Memory, Failed, TooLong}
+use Rattle.host_io.specs.declared.shelf.NamedFile.{NamedFile}
+use Rattle.host_io.specs.declared.shelf.ShelfError.{ShelfError}
+use Rattle.host_io.specs.declared.shelf.ShelfError.TheVariants.{Memory, Failed, TooLong}
 
 -- All are read, and these are their contents. The shelf tells its files, or tells none at None, and its count of faults goes
 -- from before to after.

@@ -4,7 +4,7 @@ use Rattle.std.specs.Prelude.{◌≡◌, ℕ, ◌-◌, ◌<◌, ◌^◌, List, �
 use Rattle.std.specs.Option.{option_map}
 use Rattle.solero.specs.Answer.{IsMadeOf, status_of, text_of}
 use Rattle.solero.specs.Command.{Asked}
-use Rattle.outside.specs.declared.shelf.NamedFile.{NamedFile}
+use Rattle.host_io.specs.declared.shelf.NamedFile.{NamedFile}
 use Rattle.solero.specs.declared.answer.Due.{Due}
 use Rattle.solero.specs.declared.answer.Due.TheVariants.{OutOfMemory}
 

@@ -2,7 +2,7 @@ ghost use Rattle.std.specs.Prelude.{◌≡◌};
 ghost use Rattle.solero.specs.Delivery.{IsWritten, Delivers};
 
 use crate::answer::Due;
-use outside::sink::{Sink, SinkFailed};
+use host_io::sink::{Sink, SinkFailed};
 
 /// The status where the sink failed.
 const SINK_FAILED: u8 = 5;

@@ -17,8 +17,8 @@ mod tests;
 mod values;
 
 use answer::Due;
+use host_io::adapters::{FileShelf, OutputSink};
 use jvm_types::OpenGate;
-use outside::adapters::{FileShelf, OutputSink};
 use std::io::ErrorKind;
 use std::process::ExitCode;
 use std::rt::Env;

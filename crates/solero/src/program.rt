@@ -3,7 +3,7 @@ ghost use Rattle.machine_types.specs.Core.{Happening, core};
 ghost use Rattle.machine_types.specs.Faithful.{IsFaithful, IsOver};
 ghost use Rattle.machine_types.specs.Schedules.{IsScheduleOf};
 ghost use Rattle.machine_types.specs.Settings.{AreSettings};
-ghost use Rattle.outside.specs.Faults.{CountsFault};
+ghost use Rattle.host_io.specs.Faults.{CountsFault};
 ghost use Rattle.solero.specs.Command.{Asked, texts, command};
 ghost use Rattle.solero.specs.Requests.{asked_by};
 ghost use Rattle.solero.specs.Answer.{AreAccepted, IsDue, first_long};
@@ -11,7 +11,7 @@ ghost use Rattle.solero.specs.Delivery.{Delivers};
 ghost use Rattle.solero.specs.Parts.{IsMadeBy, IsRun, IsUnreadDue};
 ghost use Rattle.solero.specs.Whole.{AnswersWhole, IsCalm};
 ghost use Rattle.solero.specs.declared.request.Mode.TheVariants.{Replay};
-ghost use Rattle.outside.specs.declared.shelf.NamedFile.{NamedFile as File};
+ghost use Rattle.host_io.specs.declared.shelf.NamedFile.{NamedFile as File};
 ghost use Rattle.solero.specs.declared.answer.Due.{Due as TheDue};
 
 use crate::answer::{Due, cannot_read, refused, too_long};
@@ -22,14 +22,13 @@ use crate::reading::{Unread, read_files};
 use crate::request::{Mode, Request};
 use checked_program::Checked;
 use class_runner::{FileError, load_program, mark_text, report};
-use faithful_runs::runs_are_faithful;
+use host_io::shelf::{Shelf, ShelfError};
+use host_io::sink::Sink;
 use jvm_types::limits::MOST_FILES;
 use jvm_types::{Bytes, Gate, Rows};
+use laws_refinement::{runs_are_faithful, schedules_end_over};
 use machine_types::Config;
-use outside::shelf::{Shelf, ShelfError};
-use outside::sink::Sink;
 use replay_runner::{have_width, replay};
-use schedule_laws::schedules_end_over;
 use std::alloc::{AllocError, Global};
 
 /// Does what the words ask for: reads the files from the shelf, in order, then loads them, and runs the program or finds the

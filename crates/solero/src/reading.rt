@@ -3,9 +3,9 @@ ghost use Rattle.std.specs.Prelude.{◌≡◌, ◌≤◌, length, IfOk, IfErr};
 ghost use Rattle.solero.specs.Command.{texts};
 ghost use Rattle.solero.specs.Reading.{AreRead, IsUnread, IsNextRead};
 
+use host_io::shelf::{Shelf, ShelfError};
 use jvm_types::limits::{MOST_FILE_BYTES, MOST_FILES};
 use jvm_types::{Bytes, Rows};
-use outside::shelf::{Shelf, ShelfError};
 use std::alloc::Global;
 
 /// The first file that was not read.

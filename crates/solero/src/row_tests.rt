@@ -10,9 +10,9 @@ mod overflows;
 mod sections;
 
 use crate::program::top;
+use host_io::shelf::{ListShelf, NamedFile};
+use host_io::sink::ListSink;
 use jvm_types::{Bytes, OpenGate, Rows};
-use outside::shelf::{ListShelf, NamedFile};
-use outside::sink::ListSink;
 use std::alloc::{AllocError, Global};
 use std::process::Abort;
 use std::test::Fail;

@@ -1,10 +1,10 @@
 //! Runs over files and sinks in memory, and the edge of the system once.
 
 use crate::program::top;
+use host_io::adapters::{FileShelf, OutputSink};
+use host_io::shelf::{CalmShelf, ListShelf, NamedFile, Shelf, ShelfError};
+use host_io::sink::{CalmSink, ListSink, Sink, SinkFailed};
 use jvm_types::{Bytes, OpenGate, Rows};
-use outside::adapters::{FileShelf, OutputSink};
-use outside::shelf::{CalmShelf, ListShelf, NamedFile, Shelf, ShelfError};
-use outside::sink::{CalmSink, ListSink, Sink, SinkFailed};
 use std::alloc::{AllocError, Global};
 use std::process::Abort;
 use std::test::Fail;

@@ -9,8 +9,7 @@ ghost use Rattle.step_core.specs.Claims.{CanFail, CanLeave};
 
 use checked_program::Checked;
 use elided_section::{Checkup, check, fail, finish};
-use frames::ThreadState;
-use going::runs;
+use frames::{ThreadState, runs};
 use instr_steps::go_after;
 use machine_types::{Access, After};
 

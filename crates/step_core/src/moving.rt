@@ -20,8 +20,7 @@ use frames::ThreadState;
 use instr_effects::perform;
 use instr_steps::{begin_root, dispatch, finish_element, run, run_with, store_header};
 use jvm_types::Rows;
-use limit_laws::lawful_is_kept;
-use lock_laws::attempts_are_based;
+use laws_threads::{attempts_are_based, lawful_is_kept};
 use machine_types::Phase;
 
 /// One frame and the exception that the thread throws, behind a check in an attempt.

@@ -4,7 +4,7 @@ use Rattle.std.proofs.lemmas.Result.{err_from_is_err_and}
 use Rattle.jvm_types.specs.Verifying.{Node, node_at, next_visit, visited, visited_insn}
 use Rattle.jvm_types.specs.declared.program.MethodInfo.{MethodInfo}
 use Rattle.jvm_types.specs.declared.program.Program.{Program}
-use Rattle.typing_laws.proofs.VisitsEnd.{visit_keeps, visit_works}
+use Rattle.laws_programs.proofs.VisitsEnd.{visit_keeps, visit_works}
 use Rattle.code_verifier.specs.declared.error.VerifyError.{VerifyError}
 use Rattle.code_verifier.specs.declared.error.VerifyError.TheVariants.{Memory, Refused}
 use Rattle.code_verifier.specs.Visiting.{Leaves}

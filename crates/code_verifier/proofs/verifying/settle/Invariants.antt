@@ -1,4 +1,4 @@
-use Rattle.typing_laws.proofs.VisitsEnd.{IsKept, work}
+use Rattle.laws_programs.proofs.VisitsEnd.{IsKept, work}
 use Rattle.code_verifier.specs.Visiting.{AreLevel}
 use Rattle.code_verifier.proofs.SettlingLaws.{Continues}
 use Rattle.code_verifier.proofs.verifying.settle.Given as goal

@@ -1,4 +1,4 @@
-use Rattle.typing_laws.proofs.VisitsEnd.{first_kept}
+use Rattle.laws_programs.proofs.VisitsEnd.{first_kept}
 use Rattle.code_verifier.proofs.LaidOut.{first_level}
 use Rattle.code_verifier.proofs.verifying.verify_method.Goals as goal
 

@@ -4,7 +4,7 @@ use Rattle.jvm_types.specs.Verifying.{IsTypingOf}
 use Rattle.jvm_types.specs.declared.typing.Typing.{Typing}
 use Rattle.jvm_types.specs.declared.program.MethodInfo.{MethodInfo}
 use Rattle.code_verifier.specs.declared.error.VerifyError.TheVariants.{Memory}
-use Rattle.program_laws.proofs.CodeOrder.{laid_out}
+use Rattle.laws_programs.proofs.CodeOrder.{laid_out}
 use Rattle.code_verifier.proofs.OneAnswer.{only_by, typed_by}
 use Rattle.code_verifier.proofs.verifying.verify_within.Goals as goal
 

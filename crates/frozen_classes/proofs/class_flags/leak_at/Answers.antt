@@ -1,6 +1,6 @@
 use Rattle.std.proofs.Common.{sym, ap, ◌∙◌}
 use Rattle.std.specs.Option.{option_copied}
-use Rattle.program_laws.proofs.CodeOrder.{methods_laid_out}
+use Rattle.laws_programs.proofs.CodeOrder.{methods_laid_out}
 use Rattle.frozen_classes.proofs.class_flags.leak_at.Goals as goal
 
 pub leak_of-requires : goal.leak_of-requires

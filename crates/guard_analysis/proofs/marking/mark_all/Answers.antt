@@ -2,7 +2,7 @@ use Rattle.std.proofs.Common.{◌≡◌, ◌<◌, ◌≤◌, ◌∙◌, length, 
 use Rattle.std.specs.Prelude.{slice_get}
 use Rattle.std.proofs.lemmas.Option.{slice_get_read}
 use Rattle.checked_program.specs.TaggedCode.{tagged_by}
-use Rattle.program_laws.proofs.CodeOrder.{methods_laid_out}
+use Rattle.laws_programs.proofs.CodeOrder.{methods_laid_out}
 use Rattle.guard_analysis.proofs.MarkLists.{methods_go_on, methods_end}
 use Rattle.guard_analysis.proofs.marking.mark_all.Goals as goal
 

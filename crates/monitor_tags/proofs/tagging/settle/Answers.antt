@@ -6,9 +6,9 @@ use Rattle.jvm_types.specs.declared.program.MethodInfo.{MethodInfo}
 use Rattle.jvm_types.specs.declared.program.Program.{Program}
 use Rattle.checked_program.specs.Tagging.{tag_plan}
 use Rattle.checked_program.specs.Visits.{acts_on, next_visit, visited}
-use Rattle.tag_laws.proofs.TagRanks.{tag_ranks}
-use Rattle.tag_laws.proofs.VisitAnswers.{Continues, continues_more, broken}
-use Rattle.tag_laws.proofs.VisitsEnd.{visit_keeps, visit_works}
+use Rattle.laws_sections.proofs.TagRanks.{tag_ranks}
+use Rattle.laws_sections.proofs.VisitAnswers.{Continues, continues_more, broken}
+use Rattle.laws_sections.proofs.VisitsEnd.{visit_keeps, visit_works}
 use Rattle.monitor_tags.specs.declared.error.TagError.{TagError}
 use Rattle.monitor_tags.specs.declared.error.TagError.TheVariants.{Memory, Refused}
 use Rattle.monitor_tags.specs.Waiting.{node_at}

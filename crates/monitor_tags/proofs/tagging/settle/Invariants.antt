@@ -1,8 +1,8 @@
 use Rattle.std.proofs.Common.{◌≡◌, length}
 use Rattle.checked_program.specs.Tagging.{tag_plan}
-use Rattle.tag_laws.proofs.TagRanks.{tag_ranks}
-use Rattle.tag_laws.proofs.VisitAnswers.{Continues}
-use Rattle.tag_laws.proofs.VisitsEnd.{IsKept, work}
+use Rattle.laws_sections.proofs.TagRanks.{tag_ranks}
+use Rattle.laws_sections.proofs.VisitAnswers.{Continues}
+use Rattle.laws_sections.proofs.VisitsEnd.{IsKept, work}
 use Rattle.monitor_tags.proofs.tagging.settle.Given as goal
 
 abbrev pub invariant-loop-i : goal.invariant-loop-i

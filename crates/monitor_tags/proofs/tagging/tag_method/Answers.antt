@@ -1,7 +1,7 @@
 use Rattle.checked_program.specs.LockTags.{entry_tags}
 use Rattle.checked_program.specs.Tagging.{tag_plan}
-use Rattle.tag_laws.proofs.TagRanks.{tag_ranks}
-use Rattle.tag_laws.proofs.VisitsEnd.{first_kept}
+use Rattle.laws_sections.proofs.TagRanks.{tag_ranks}
+use Rattle.laws_sections.proofs.VisitsEnd.{first_kept}
 use Rattle.monitor_tags.proofs.FirstNodes.{first_long}
 use Rattle.monitor_tags.proofs.tagging.tag_method.Goals as goal
 

@@ -4,7 +4,7 @@ use Rattle.checked_program.specs.Tagging.{IsTaggingOf}
 use Rattle.checked_program.specs.declared.tag.Tags.{Tags}
 use Rattle.jvm_types.specs.declared.program.MethodInfo.{MethodInfo}
 use Rattle.monitor_tags.specs.declared.error.TagError.TheVariants.{Memory}
-use Rattle.program_laws.proofs.CodeOrder.{laid_out}
+use Rattle.laws_programs.proofs.CodeOrder.{laid_out}
 use Rattle.monitor_tags.proofs.OneAnswer.{only_by, tagged_by}
 use Rattle.monitor_tags.proofs.tagging.tag_within.Goals as goal
 

@@ -2,7 +2,7 @@ use Rattle.std.proofs.Common.{◌≡◌, ◌+◌, ◌∷◌, drop, Err, sym, ap,
 use Rattle.std.proofs.lemmas.List.{drop_more}
 use Rattle.std.specs.Prelude.{string_bytes}
 use Rattle.solero.specs.Command.{texts}
-use Rattle.outside.specs.Shelf.{IsRead}
+use Rattle.host_io.specs.Shelf.{IsRead}
 use Rattle.jvm_types.specs.declared.limits.TheConstants.{MOST_FILE_BYTES}
 use Rattle.solero.proofs.SoFar.{next_unread}
 use Rattle.solero.proofs.reading.read_files.Goals as goal

@@ -1,2 +1,0 @@
-pub mod StandsBeside
-pub mod StepsBeside

@@ -1,9 +1,0 @@
-mod Outside
-mod Within
-mod Looks
-mod Counts
-mod Runs
-mod MarkedEntries
-mod Beginnings
-mod Failures
-mod ComingToEnter

@@ -1,5 +1,0 @@
-use Rattle.attempt_entries.proofs.Failures.{attempts_end}
-use Rattle.attempt_entries.proofs.entry_laws.attempts_end.Goals as goal
-
-pub returns : goal.returns
-returns c = attempts_end c.inside_may_do.ensures c.no_element_inside.ensures c.runs_have_state.ensures c.parts_keep_threads.ensures

@@ -1,5 +1,0 @@
-use Rattle.attempt_entries.proofs.Beginnings.{begun_are_due}
-use Rattle.attempt_entries.proofs.entry_laws.begun_are_due.Goals as goal
-
-pub returns : goal.returns
-returns c = begun_are_due c.runs_have_state.ensures c.parts_keep_threads.ensures c.threads_keep_count.ensures

@@ -1,5 +1,0 @@
-use Rattle.attempt_entries.proofs.Failures.{failures_put_back}
-use Rattle.attempt_entries.proofs.entry_laws.failures_put_back.Goals as goal
-
-pub returns : goal.returns
-returns c = failures_put_back c.inside_may_do.ensures c.no_element_inside.ensures c.runs_have_state.ensures c.parts_keep_threads.ensures

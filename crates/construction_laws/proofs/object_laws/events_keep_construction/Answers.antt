@@ -1,5 +1,0 @@
-use Rattle.construction_laws.proofs.Events.{events_keep}
-use Rattle.construction_laws.proofs.object_laws.events_keep_construction.Goals as goal
-
-pub returns : goal.returns
-returns c = events_keep c.start_lies_apart.ensures c.structure_is_kept.ensures

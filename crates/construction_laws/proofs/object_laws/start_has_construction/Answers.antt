@@ -1,5 +1,0 @@
-use Rattle.construction_laws.proofs.AtStart.{start_has_construction}
-use Rattle.construction_laws.proofs.object_laws.start_has_construction.Goals as goal
-
-pub returns : goal.returns
-returns c = start_has_construction c.start_has_heap.ensures

@@ -1,5 +1,0 @@
-use Rattle.elided_steps.proofs.Growth.{own_keeps_attempt}
-use Rattle.elided_steps.proofs.growth_laws.own_keeps_attempt.Goals as goal
-
-pub returns : goal.returns
-returns c = own_keeps_attempt c.heap_words_fit.ensures c.effects_are_allowed.ensures

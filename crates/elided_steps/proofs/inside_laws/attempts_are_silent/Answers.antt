@@ -1,5 +1,0 @@
-use Rattle.elided_steps.proofs.InsideWords.{attempts_are_silent}
-use Rattle.elided_steps.proofs.inside_laws.attempts_are_silent.Goals as goal
-
-pub returns : goal.returns
-returns c = attempts_are_silent c.inside_may_do.ensures c.no_element_inside.ensures

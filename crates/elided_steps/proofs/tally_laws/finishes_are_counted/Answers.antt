@@ -1,5 +1,0 @@
-use Rattle.elided_steps.proofs.InsideTallies.{finishes_are_counted}
-use Rattle.elided_steps.proofs.tally_laws.finishes_are_counted.Goals as goal
-
-pub returns : goal.returns
-returns c = finishes_are_counted c.inside_may_do.ensures c.no_element_inside.ensures c.steps_keep_entry.ensures c.throws_keep_entry.ensures c.leaves_keep_entry.ensures

@@ -1,4 +1,0 @@
-pub mod Pasts
-pub mod NextUntried
-pub mod EventMoves
-pub mod FaithfulRuns

@@ -1,2 +1,0 @@
-pub mod FaithfulRuns
-pub mod RunsStand

@@ -1,0 +1,13 @@
+use Rattle.std.proofs.Common.{◌≡◌, map, subst}
+use Rattle.std.specs.Prelude.{◌==◌}
+use Rattle.std.proofs.lemmas.Result.{IfOk-weaker}
+use Rattle.graph_closure.specs.LeastSet.{IsSpread}
+use Rattle.graph_closure.specs.Walks.{AreLeading}
+use Rattle.graph_closure.proofs.WalkLaws.{leads_shown}
+use Rattle.graph_closure.proofs.walks.leading.Goals as goal
+
+pub returns : goal.returns
+returns c = IfOk-weaker c.without_need.result (λ v. v.items ≡ map (λ n. n == 0) c.as_slice.result.now) (λ v. AreLeading c.args.from.now c.args.to.now c.args.into.now v.items)
+    (λ v f. leads_shown c.args.from.now c.args.to.now c.args.into.now c.in_ok-need.need.len c.in_ok-need.need.items c.spread.new.need c.as_slice.result.now v.items c.requires.graph c.in_ok-need.ensures c.in_ok-need.need.ok.0
+    (subst (λ l. IsSpread c.args.from.now c.args.to.now l c.spread.new.need) c.as_mut_slice.ensures.value c.in_ok-spread.ensures) c.as_slice.ensures.value f)
+    c.without_need.ensures

@@ -1,4 +1,0 @@
-pub mod WrittenFields
-pub mod FieldWriters
-pub mod ShownMonitors
-pub mod GuardsKept

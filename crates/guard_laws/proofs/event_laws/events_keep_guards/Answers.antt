@@ -1,5 +1,0 @@
-use Rattle.guard_laws.proofs.GuardsKept.{events_keep_guards}
-use Rattle.guard_laws.proofs.event_laws.events_keep_guards.Goals as goal
-
-pub returns : goal.returns
-returns c = events_keep_guards c.guarded_written_locked.ensures c.finals_written_inside.ensures c.sites_differ.ensures c.sites_lie_inside.ensures c.events_reach_sites.ensures

@@ -1,0 +1,216 @@
+-- A call: the caller waits, and the called frame has what the caller gave it. An `<init>` of a frozen class begins on what a
+-- `new` of the caller made.
+use Rattle.std.proofs.Common.{◌≡◌, ◌≢◌, ℕ, suc, ◌<◌, Bool, true, false, not, List, [], ◌∷◌, ◌++◌, length, map, drop, Option, Some, None, refl, sym, ap, ◌∙◌, subst, arith}
+use Rattle.std.specs.Prelude.{◌==◌, slice_get, slice_index_or, reverse}
+use Rattle.std.specs.List.{AllByRecursion}
+use Rattle.std.proofs.lemmas.Bool.{or_parts}
+use Rattle.lists.proofs.TestLaws.{is_true}
+use Rattle.jvm_types.specs.CodeTable.{arguments, want_of}
+use Rattle.jvm_types.specs.Verifying.{suits, some_taken, started}
+use Rattle.jvm_types.specs.declared.op_row.Want.{Want}
+use Rattle.jvm_types.specs.declared.op_row.Want.TheVariants.{AnyValue, AnInt, AnObject, AnyReference, AHolder, ToStart}
+use Rattle.jvm_types.specs.declared.program.Kind.{Kind}
+use Rattle.jvm_types.specs.declared.program.Kind.TheVariants as kinds
+use Rattle.jvm_types.specs.declared.program.MethodInfo.{MethodInfo}
+use Rattle.jvm_types.specs.declared.typing.VType.{VType}
+use Rattle.jvm_types.specs.declared.typing.VType.TheVariants as types
+use Rattle.checked_program.specs.MarkedProgram.{MarkedProgram}
+use Rattle.checked_program.specs.Marks.{called_method}
+use Rattle.checked_program.specs.declared.tag.Tag.{Tag}
+use Rattle.checked_program.specs.declared.tag.Tag.TheVariants.{Untagged}
+use Rattle.machine_types.specs.Construction.{builds, makes_frozen, if_so, SlotsAre, Runs, WaitsFor, FreshAtCall, IsFresh, ReceiverIs, SlotOf, FrameKeeps, WaitKeeps, KeepBelow}
+use Rattle.machine_types.specs.Standing.{Standing, row_at}
+use Rattle.machine_types.specs.Threads.{Frame}
+use Rattle.machine_types.specs.Worlds.{Made, Begun, Lost, Builder, builder, World, IsFinished, with_builder}
+use Rattle.laws_objects.proofs.BuiltEffects.{StartsNone}
+use Rattle.laws_objects.proofs.KeptFrames.{KeepsUnder, below_kept}
+use Rattle.laws_objects.proofs.Moves.{StartsOld, Suit, suits_later}
+use Rattle.laws_objects.proofs.Slots.{slots_map, slots_drop, slot_later}
+use Rattle.laws_objects.proofs.WorldChanges.{same_from, other_from, item_is, none_some, given_keeps, given_none}
+
+-- ---- below a frame it counts which method it is of, and its receiver
+
+pub below_moved : (c : MarkedProgram) (frozen : ℕ → Bool) (w : World) (next t : ℕ) (f : Frame) (pc : ℕ) (stack locals : List ℕ) (fs : List Frame) → KeepBelow c frozen w next t f fs → KeepBelow c frozen w next t (record f { pc = pc; stack = stack; locals = locals }) fs
+below_moved c frozen w next t f pc stack locals [] k = tt
+below_moved c frozen w next t f pc stack locals (g ∷ fs) k = k
+
+-- ---- the caller
+
+abbrev pub waits_on : (c : MarkedProgram) (f : Frame) → Standing c f → Frame
+waits_on c f k = record f { stack = drop (length (row_at c f k).takes) f.stack }
+
+abbrev pub stands_waiting : (c : MarkedProgram) (f : Frame) (k : Standing c f) → Standing c (waits_on c f k)
+stands_waiting c f k = record { number = k.number; method = k.method; insn = k.insn; target = k.target; tags = k.tags; at = k.at; frames = k.frames; types_of_method = k.types_of_method; types = k.types; types_are = k.types_are; pc_is = k.pc_is }
+
+module _ (c : MarkedProgram) (frozen : ℕ → Bool) (w : World) (next t h : ℕ) (f : Frame) (k : FrameKeeps c frozen w next t h Runs f) (callee : ℕ) (calls : called_method k.stands.insn.op k.stands.target ≡ Some callee) where
+  -- of a method that is no `<init>` of a frozen class, or of one on `this`
+  wait_fresh : (young : ℕ → Bool) (receiver : ℕ) (o : Option (VType × ℕ)) → StartsOld young o → (q v : ℕ) → young q ≡ true → w v ≡ Some (builder t h (Made q)) → FreshAtCall w t h receiver o q v
+  wait_fresh young receiver None s q v y e = e
+  wait_fresh young receiver (Some (types.New r, class)) s q v y e = by_test (q == r) refl
+    where
+      by_test : (b : Bool) → (q == r) ≡ b → if_so b (v ≡ receiver) (w v ≡ Some (builder t h (Made q)))
+      by_test true z = absurd (let bad : true ≡ false = sym y ∙ ap young (same_from q r z) ∙ s in cc)
+      by_test false z = e
+  wait_fresh young receiver (Some (types.This, class)) s q v y e = e
+  wait_fresh young receiver (Some (types.Int, class)) s q v y e = e
+  wait_fresh young receiver (Some (types.Null, class)) s q v y e = e
+  wait_fresh young receiver (Some (types.Ref d, class)) s q v y e = e
+  wait_fresh young receiver (Some (types.Top, class)) s q v y e = e
+
+  pub caller_waits : (receiver : ℕ) → StartsOld (makes_frozen frozen k.stands.method) (started k.stands.method.class (row_at c f k.stands).takes k.stands.types.stack)
+      → WaitKeeps c frozen w next t h callee receiver (waits_on c f k.stands)
+  caller_waits receiver old = record {
+    begun = started k.stands.method.class (row_at c f k.stands).takes k.stands.types.stack;
+    keeps = record {
+      stands = stands_waiting c f k.stands;
+      receiver = k.receiver;
+      stack = moved (drop n k.stands.types.stack) (drop n k.stands.tags.stack) (drop n f.stack) (slots_drop (SlotOf frozen w next t h Runs k.stands.method f.receiver) n k.stands.types.stack k.stands.tags.stack f.stack k.stack);
+      locals = moved k.stands.types.locals k.stands.tags.locals f.locals k.locals;
+    };
+    calls = calls;
+    begun_is = refl;
+  }
+    where
+      n : ℕ
+      n = length (row_at c f k.stands).takes
+
+      moved : (ts : List VType) (gs : List Tag) (vs : List ℕ) → SlotsAre (SlotOf frozen w next t h Runs k.stands.method f.receiver) ts gs vs
+          → SlotsAre (SlotOf frozen w next t h (WaitsFor receiver (started k.stands.method.class (row_at c f k.stands).takes k.stands.types.stack)) k.stands.method f.receiver) ts gs vs
+      moved = slots_map (SlotOf frozen w next t h Runs k.stands.method f.receiver) (SlotOf frozen w next t h (WaitsFor receiver (started k.stands.method.class (row_at c f k.stands).takes k.stands.types.stack)) k.stands.method f.receiver)
+          (slot_later (IsFinished w next) (IsFinished w next) (IsFresh w t h Runs) (IsFresh w t h (WaitsFor receiver (started k.stands.method.class (row_at c f k.stands).takes k.stands.types.stack))) (λ v o. o) (makes_frozen frozen k.stands.method)
+          (wait_fresh (makes_frozen frozen k.stands.method) receiver (started k.stands.method.class (row_at c f k.stands).takes k.stands.types.stack) old) (builds frozen k.stands.method) f.receiver)
+
+-- ---- in the world where an object of the caller is begun
+
+module _ (c : MarkedProgram) (frozen : ℕ → Bool) (w : World) (next t h a q : ℕ) (one : (v u : ℕ) (b : Builder) → b.item ≢ Lost → w v ≡ Some b → w u ≡ Some b → v ≡ u) (is : w a ≡ Some (builder t h (Made q))) where
+  abbrev pub begun_world : World
+  begun_world = with_builder w a (builder t (suc h) Begun)
+
+  pub old_begun : (v : ℕ) → IsFinished w next v → IsFinished begun_world next v
+  old_begun v o = (o.0, given_none w a (builder t (suc h) Begun) v o.1 (λ e. none_some (w a) (builder t h (Made q)) (subst (λ (x : ℕ). w x ≡ None) e o.1) is))
+
+  fresh_begun : (r v : ℕ) → w v ≡ Some (builder t h (Made r)) → if_so (r == q) (v ≡ a) (begun_world v ≡ Some (builder t h (Made r)))
+  fresh_begun r v e = by_test (r == q) refl
+    where
+      by_test : (b : Bool) → (r == q) ≡ b → if_so b (v ≡ a) (begun_world v ≡ Some (builder t h (Made r)))
+      by_test true z = one v a (builder t h (Made q)) (λ i. cc) (subst (λ (x : ℕ). w v ≡ Some (builder t h (Made x))) (same_from r q z) e) is
+      by_test false z = given_keeps w a (builder t (suc h) Begun) v (builder t h (Made r)) e
+          (λ s. other_from r q z (let k = item_is (w a) t h t h (Made r) (Made q) (subst (λ (x : ℕ). w x ≡ Some (builder t h (Made r))) s e) is in (let i = k.1 in cc)))
+          (λ s. (let i : Made r ≡ Begun = ap (λ (b : Builder). b.item) s in cc))
+
+  receiver_begun : (own : Bool) (b : ℕ) → ReceiverIs w next t h own b → ReceiverIs begun_world next t h own b
+  receiver_begun true b r = given_keeps w a (builder t (suc h) Begun) b (builder t h Begun) r
+      (λ s. (let k = item_is (w a) t h t h Begun (Made q) (subst (λ (x : ℕ). w x ≡ Some (builder t h Begun)) s r) is in (let i = k.1 in cc)))
+      (λ s. (let i : h ≡ suc h = ap (λ (b : Builder). b.height) s in omega (arith, i)))
+  receiver_begun false b r = old_begun b r
+
+  pub young_waits : (f : Frame) (k : FrameKeeps c frozen w next t h Runs f) (callee class : ℕ) → called_method k.stands.insn.op k.stands.target ≡ Some callee
+      → started k.stands.method.class (row_at c f k.stands).takes k.stands.types.stack ≡ Some (types.New q, class) → WaitKeeps c frozen begun_world next t h callee a (waits_on c f k.stands)
+  young_waits f k callee class calls begun = record {
+    begun = Some (types.New q, class);
+    keeps = record {
+      stands = stands_waiting c f k.stands;
+      receiver = receiver_begun (builds frozen k.stands.method) f.receiver k.receiver;
+      stack = moved (drop n k.stands.types.stack) (drop n k.stands.tags.stack) (drop n f.stack) (slots_drop (SlotOf frozen w next t h Runs k.stands.method f.receiver) n k.stands.types.stack k.stands.tags.stack f.stack k.stack);
+      locals = moved k.stands.types.locals k.stands.tags.locals f.locals k.locals;
+    };
+    calls = calls;
+    begun_is = sym begun;
+  }
+    where
+      n : ℕ
+      n = length (row_at c f k.stands).takes
+
+      moved : (ts : List VType) (gs : List Tag) (vs : List ℕ) → SlotsAre (SlotOf frozen w next t h Runs k.stands.method f.receiver) ts gs vs
+          → SlotsAre (SlotOf frozen begun_world next t h (WaitsFor a (Some (types.New q, class))) k.stands.method f.receiver) ts gs vs
+      moved = slots_map (SlotOf frozen w next t h Runs k.stands.method f.receiver) (SlotOf frozen begun_world next t h (WaitsFor a (Some (types.New q, class))) k.stands.method f.receiver)
+          (slot_later (IsFinished w next) (IsFinished begun_world next) (IsFresh w t h Runs) (IsFresh begun_world t h (WaitsFor a (Some (types.New q, class)))) old_begun (makes_frozen frozen k.stands.method)
+          (λ r v y e. fresh_begun r v e) (builds frozen k.stands.method) f.receiver)
+
+  -- the frames below wait on
+  pub below_begun : (g : Frame) (fs : List Frame) → length fs ≡ h → KeepBelow c frozen w next t g fs → KeepBelow c frozen begun_world next t g fs
+  below_begun g fs l k = below_kept c frozen w begun_world next next t old_begun g fs keeps k
+    where
+      keeps : KeepsUnder w begun_world t (length fs)
+      keeps i less v x e = given_keeps w a (builder t (suc h) Begun) v (builder t i x) e
+          (λ s. (let u = item_is (w a) t i t h x (Made q) (subst (λ (y : ℕ). w y ≡ Some (builder t i x)) s e) is in (let z = u.0 in omega (arith, z, l, less))))
+          (λ s. (let z : i ≡ suc h = ap (λ (b : Builder). b.height) s in omega (arith, z, l, less)))
+
+-- ---- the receiver stands below the arguments
+
+pub record ReceiverAt (m : MethodInfo) (R : VType → Tag → ℕ → Type 0) (own class : ℕ) (n : ℕ) (us : List VType) (gs : List Tag) (vs : List ℕ) (o : Option (VType × ℕ)) : Type 0 where
+  pub type : VType
+  pub tag : Tag
+  pub value : ℕ
+  pub type_is : slice_get us n ≡ Some type
+  pub tag_is : slice_index_or gs n Untagged ≡ tag
+  pub value_is : slice_get vs n ≡ Some value
+  pub slot : R type tag value
+  pub suits_it : suits m (ToStart class) type ≡ true
+  pub begun : o ≡ started own (ToStart class ∷ []) (type ∷ [])
+
+pub start_slot : (m : MethodInfo) (R : VType → Tag → ℕ → Type 0) (own class : ℕ) (front : List Want) (us : List VType) (gs : List Tag) (vs : List ℕ) → AllByRecursion StartsNone front → length front < length vs → SlotsAre R us gs vs
+    → Suit m (front ++ ToStart class ∷ []) us → ReceiverAt m R own class (length front) us gs vs (started own (front ++ ToStart class ∷ []) us)
+start_slot m R own class [] (u ∷ us) (g ∷ gs) (v ∷ vs) none l slots s = record {
+  type = u;
+  tag = g;
+  value = v;
+  type_is = refl;
+  tag_is = refl;
+  value_is = refl;
+  slot = slots.0;
+  suits_it = is_true (suits m (ToStart class) u) (or_parts (not (suits m (ToStart class) u)) (some_taken (λ want u. not (suits m want u)) [] us) s).0;
+  begun = same u;
+}
+  where
+    same : (u : VType) → started own (ToStart class ∷ []) (u ∷ us) ≡ started own (ToStart class ∷ []) (u ∷ [])
+    same types.This = refl
+    same types.Int = refl
+    same types.Null = refl
+    same types.Top = refl
+    same (types.Ref d) = refl
+    same (types.New q) = refl
+start_slot m R own class (ToStart d ∷ front) us gs vs none l slots s = absurd none.0
+start_slot m R own class (AnyValue ∷ front) (u ∷ us) (g ∷ gs) (v ∷ vs) none l slots s = let k = start_slot m R own class front us gs vs none.1 (omega (arith, l)) slots.1 (suits_later m AnyValue u (front ++ ToStart class ∷ []) us s) in
+    record { type = k.type; tag = k.tag; value = k.value; type_is = k.type_is; tag_is = k.tag_is; value_is = k.value_is; slot = k.slot; suits_it = k.suits_it; begun = k.begun }
+start_slot m R own class (AnInt ∷ front) (u ∷ us) (g ∷ gs) (v ∷ vs) none l slots s = let k = start_slot m R own class front us gs vs none.1 (omega (arith, l)) slots.1 (suits_later m AnInt u (front ++ ToStart class ∷ []) us s) in
+    record { type = k.type; tag = k.tag; value = k.value; type_is = k.type_is; tag_is = k.tag_is; value_is = k.value_is; slot = k.slot; suits_it = k.suits_it; begun = k.begun }
+start_slot m R own class (AnObject d ∷ front) (u ∷ us) (g ∷ gs) (v ∷ vs) none l slots s = let k = start_slot m R own class front us gs vs none.1 (omega (arith, l)) slots.1 (suits_later m (AnObject d) u (front ++ ToStart class ∷ []) us s) in
+    record { type = k.type; tag = k.tag; value = k.value; type_is = k.type_is; tag_is = k.tag_is; value_is = k.value_is; slot = k.slot; suits_it = k.suits_it; begun = k.begun }
+start_slot m R own class (AnyReference ∷ front) (u ∷ us) (g ∷ gs) (v ∷ vs) none l slots s = let k = start_slot m R own class front us gs vs none.1 (omega (arith, l)) slots.1 (suits_later m AnyReference u (front ++ ToStart class ∷ []) us s) in
+    record { type = k.type; tag = k.tag; value = k.value; type_is = k.type_is; tag_is = k.tag_is; value_is = k.value_is; slot = k.slot; suits_it = k.suits_it; begun = k.begun }
+start_slot m R own class (AHolder d ∷ front) (u ∷ us) (g ∷ gs) (v ∷ vs) none l slots s = let k = start_slot m R own class front us gs vs none.1 (omega (arith, l)) slots.1 (suits_later m (AHolder d) u (front ++ ToStart class ∷ []) us s) in
+    record { type = k.type; tag = k.tag; value = k.value; type_is = k.type_is; tag_is = k.tag_is; value_is = k.value_is; slot = k.slot; suits_it = k.suits_it; begun = k.begun }
+start_slot m R own class front us gs [] none l slots s = absurd (omega (arith, l))
+start_slot m R own class front [] [] (v ∷ vs) none l slots s = absurd slots
+start_slot m R own class front [] (g ∷ gs) (v ∷ vs) none l slots s = absurd slots
+start_slot m R own class front (u ∷ us) [] (v ∷ vs) none l slots s = absurd slots
+
+-- the arguments start nothing
+kinds_start : (ks : List Kind) → AllByRecursion StartsNone (map want_of ks)
+kinds_start [] = tt
+kinds_start (kinds.Int ∷ ks) = (tt, kinds_start ks)
+kinds_start (kinds.Bool ∷ ks) = (tt, kinds_start ks)
+kinds_start (kinds.Ref class ∷ ks) = (tt, kinds_start ks)
+
+pub arguments_start : (called : MethodInfo) → AllByRecursion StartsNone (arguments called)
+arguments_start called = kinds_start (reverse called.args)
+
+-- a row that starts nothing
+pub none_started : (own : ℕ) (wants : List Want) (us : List VType) → AllByRecursion StartsNone wants → started own wants us ≡ None
+none_started own [] us n = refl
+none_started own (ToStart class ∷ wants) us n = absurd n.0
+none_started own (AnyValue ∷ wants) [] n = refl
+none_started own (AnInt ∷ wants) [] n = refl
+none_started own (AnObject d ∷ wants) [] n = refl
+none_started own (AnyReference ∷ wants) [] n = refl
+none_started own (AHolder d ∷ wants) [] n = refl
+none_started own (AnyValue ∷ wants) (u ∷ us) n = none_started own wants us n.1
+none_started own (AnInt ∷ wants) (u ∷ us) n = none_started own wants us n.1
+none_started own (AnObject d ∷ wants) (u ∷ us) n = none_started own wants us n.1
+none_started own (AnyReference ∷ wants) (u ∷ us) n = none_started own wants us n.1
+none_started own (AHolder d ∷ wants) (u ∷ us) n = none_started own wants us n.1
+
+pub none_append : (front : List Want) (want : Want) → AllByRecursion StartsNone front → StartsNone want → AllByRecursion StartsNone (front ++ want ∷ [])
+none_append [] want a n = (n, tt)
+none_append (x ∷ front) want a n = (a.0, none_append front want a.1 n)

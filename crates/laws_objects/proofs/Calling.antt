@@ -1,0 +1,312 @@
+-- A method is called: the caller waits below the frame of the called method.
+use Rattle.std.proofs.Common.{◌≡◌, ◌≢◌, ℕ, zero, suc, ◌+◌, ◌<◌, ◌≤◌, ◌⊎◌, inl, inr, Bool, true, false, not, ◌&&◌, ◌||◌, List, [], ◌∷◌, ◌++◌, length, Option, Some, None, refl, sym, ap, ◌∙◌, subst, arith}
+use Rattle.std.specs.Prelude.{◌==◌, nat_lt, slice_get, slice_index_or, reverse, take, if◌then◌else◌}
+use Rattle.std.specs.List.{AllByRecursion}
+use Rattle.std.proofs.lemmas.Bool.Decides.{nat_tests}
+use Rattle.std.proofs.lemmas.List.{length-append}
+use Rattle.lists.proofs.ListLaws.{same_some}
+use Rattle.jvm_types.specs.CodeTable.{arguments, is_init}
+use Rattle.jvm_types.specs.Members.{Site, is_static, is_init_name, is_class_init_name}
+use Rattle.jvm_types.specs.ProgramInvariant.{site_in}
+use Rattle.jvm_types.specs.Verifying.{suits, new_class, is_class, started}
+use Rattle.jvm_types.specs.declared.class_numbers.TheConstants.{OBJECT_CLASS}
+use Rattle.jvm_types.specs.declared.code.Op.{Op}
+use Rattle.jvm_types.specs.declared.code.Op.TheVariants as ops
+use Rattle.jvm_types.specs.declared.op_row.OpRow.{OpRow}
+use Rattle.jvm_types.specs.declared.op_row.Want.{Want}
+use Rattle.jvm_types.specs.declared.op_row.Want.TheVariants.{AnObject, ToStart}
+use Rattle.jvm_types.specs.declared.program.MethodInfo.{MethodInfo}
+use Rattle.jvm_types.specs.declared.program.Program.{Program}
+use Rattle.jvm_types.specs.declared.program.Target.{Target}
+use Rattle.jvm_types.specs.declared.program.Target.TheVariants as targets
+use Rattle.jvm_types.specs.declared.typing.VType.{VType}
+use Rattle.jvm_types.specs.declared.typing.VType.TheVariants as types
+use Rattle.laws_programs.specs.TargetLaws.{HasRow}
+use Rattle.laws_programs.specs.EntryLaws.{receiver_count}
+use Rattle.checked_program.specs.CheckedLaws.{receiver_want}
+use Rattle.checked_program.specs.FrozenPlaces.{may_take}
+use Rattle.checked_program.specs.MarkedProgram.{MarkedProgram, IsMarked, checked_part}
+use Rattle.checked_program.specs.Marks.{called_method}
+use Rattle.checked_program.specs.declared.tag.Tag.{Tag}
+use Rattle.checked_program.specs.declared.tag.Tag.TheVariants.{Untagged, This}
+use Rattle.checked_program.proofs.CheckedPlaces.{called_fit_all}
+use Rattle.machine_types.specs.Construction.{AreFrozen, is_frozen_class, builds, makes_frozen, if_so, SlotByType, SlotIs, SlotsAre, Runs, IsFresh, ReceiverIs, SlotOf, FrameKeeps, WaitKeeps, KeepBelow, FramesKeep}
+use Rattle.machine_types.specs.Frames.{entry_frame, first_or_null}
+use Rattle.machine_types.specs.Standing.{row_at}
+use Rattle.machine_types.specs.Threads.{Frame}
+use Rattle.machine_types.specs.Worlds.{Made, Begun, Builder, builder, World, IsFinished, IsOwnOrFinished, IsWorld, with_builder}
+use Rattle.laws_threads.proofs.Callers.{row_of_call}
+use Rattle.laws_threads.proofs.Calls.{CallRow, deepest_first}
+use Rattle.laws_threads.proofs.Landing.{rules_at}
+use Rattle.laws_threads.proofs.Lists.{all_get}
+use Rattle.laws_objects.proofs.BuiltEffects.{StartsNone}
+use Rattle.laws_objects.proofs.CalledFrames.{below_moved, waits_on, caller_waits, begun_world, old_begun, young_waits, below_begun, ReceiverAt, start_slot, arguments_start, none_started, none_append}
+use Rattle.laws_objects.proofs.EnteredFrames.{ArgsOld, args_map, static_args, instance_args, static_enters, instance_enters}
+use Rattle.laws_objects.proofs.Landing.{inside_at, no_this_at}
+use Rattle.laws_objects.proofs.Moves.{Steps, stays, StartsOld, Suit, suit_at}
+use Rattle.laws_objects.proofs.Operands.{TakenOld, is_getfield, takes_old}
+use Rattle.laws_objects.proofs.Slots.{plainly}
+use Rattle.laws_objects.proofs.WorldChanges.{none_some, given_here, world_given, goes_given}
+
+-- ---- calls
+
+calls_no_getfield : (op : Op) (target : Target) (number : ℕ) → called_method op target ≡ Some number → is_getfield op ≡ false
+calls_no_getfield (ops.Getfield i) target number e = absurd (let bad : None ≡ Some number = e in cc)
+calls_no_getfield op target number e = refl
+
+calls_take_none : (p : Program) (class : ℕ) (op : Op) (target : Target) (number k : ℕ) → called_method op target ≡ Some number → may_take p class op target k ≡ false
+calls_take_none p class (ops.Invokevirtual i) (targets.Method u) number k e = refl
+calls_take_none p class (ops.Invokespecial i) (targets.Method u) number k e = refl
+calls_take_none p class (ops.Invokestatic i) (targets.Method u) number k e = refl
+calls_take_none p class op target number k e = absurd (let bad : None ≡ Some number = e in cc)
+
+slots_long : (R : VType → Tag → ℕ → Type 0) (us : List VType) (gs : List Tag) (vs : List ℕ) → SlotsAre R us gs vs → length us ≡ length vs
+slots_long R [] [] [] a = refl
+slots_long R (u ∷ us) (g ∷ gs) (v ∷ vs) a = ap suc (slots_long R us gs vs a.1)
+slots_long R us gs vs a = absurd a
+
+taken_at : (Old : ℕ → Type 0) (front : List Want) (class : ℕ) (s : List ℕ) (v : ℕ) → TakenOld Old (front ++ AnObject class ∷ []) s → slice_get s (length front) ≡ Some v → Old v
+taken_at Old [] class [] v h e = absurd (cc)
+taken_at Old [] class (x ∷ s) v h e = subst Old (same_some e) h.0
+taken_at Old (want ∷ front) class [] v h e = absurd (cc)
+taken_at Old (want ∷ front) class (x ∷ s) v h e = taken_at Old front class s v h.1 e
+
+-- a static method that is called is no `<init>`
+static_no_init : (p : Program) (site : Site) (pc number : ℕ) (op : Op) (target : Target) (r : OpRow) (called : MethodInfo) → called_method op target ≡ Some number → slice_get p.methods number ≡ Some called → HasRow p site pc target op r
+    → is_static called.flags ≡ true → is_init called ≡ false
+static_no_init p site pc number (ops.Invokevirtual i) (targets.Method u) r called e there h s =
+    let same : h.method ≡ called = same_some (sym h.there ∙ ap (slice_get p.methods) (same_some e) ∙ there) in
+    let bad : true ≡ false = sym s ∙ sym (ap (λ (m : MethodInfo). is_static m.flags) same) ∙ h.sort in absurd (cc)
+static_no_init p site pc number (ops.Invokespecial i) (targets.Method u) r called e there h s =
+    let same : h.method ≡ called = same_some (sym h.there ∙ ap (slice_get p.methods) (same_some e) ∙ there) in
+    let bad : true ≡ false = sym s ∙ sym (ap (λ (m : MethodInfo). is_static m.flags) same) ∙ h.sort in absurd (cc)
+static_no_init p site pc number (ops.Invokestatic i) (targets.Method u) r called e there h s =
+    let same : h.method ≡ called = same_some (sym h.there ∙ ap (slice_get p.methods) (same_some e) ∙ there) in
+    subst (λ (m : MethodInfo). is_init m ≡ false) same (no_init (is_static h.method.flags) (is_init_name h.method.name) (is_class_init_name h.method.name) h.fits)
+  where
+    no_init : (a b d : Bool) → (a && not (b || d)) ≡ true → b ≡ false
+    no_init true false d e = refl
+    no_init true true d e = absurd (cc)
+    no_init false b d e = absurd (cc)
+static_no_init p site pc number op target r called e there h s = absurd (let bad : None ≡ Some number = e in cc)
+
+pub not_built : (frozen : ℕ → Bool) (m : MethodInfo) → is_init m ≡ false → builds frozen m ≡ false
+not_built frozen m e = ap (λ (b : Bool). b && frozen m.class) e
+
+built : (frozen : ℕ → Bool) (m : MethodInfo) → is_init m ≡ true → builds frozen m ≡ frozen m.class
+built frozen m e = ap (λ (b : Bool). b && frozen m.class) e
+
+class_frozen : (frozen : ℕ → Bool) (o : Option ℕ) (class : ℕ) → is_class o class ≡ true → is_frozen_class frozen o ≡ frozen class
+class_frozen frozen None class e = absurd (cc)
+class_frozen frozen (Some d) class e = ap frozen (same d class e)
+  where
+    same : (d class : ℕ) → (d == class) ≡ true → d ≡ class
+    same d class e = grind (arith, nat_tests)
+
+module _ (c : MarkedProgram) (marked : IsMarked c) (frozen : ℕ → Bool) (are : AreFrozen c frozen) (w : World) (next t : ℕ) (null : IsFinished w next 0) (first : ℕ) (is_world : IsWorld w first next)
+    (f : Frame) (fs : List Frame) (k : FrameKeeps c frozen w next t (length fs) Runs f) (below : KeepBelow c frozen w next t f fs)
+    (number : ℕ) (called : MethodInfo) (there : slice_get c.program.methods number ≡ Some called) (calls : called_method k.stands.insn.op k.stands.target ≡ Some number) where
+  abbrev pub CallKeeps : (args : List ℕ) → World → Type 0
+  CallKeeps args z = FramesKeep c frozen z next t Runs (entry_frame number called args ∷ waits_on c f k.stands ∷ fs) × IsOwnOrFinished z next t (entry_frame number called args).receiver
+
+  abbrev m : MethodInfo
+  m = k.stands.method
+
+  abbrev r : OpRow
+  r = row_at c f k.stands
+
+  call : CallRow called r
+  call = row_of_call c marked f k.stands number called calls there
+
+  tall : length r.takes ≤ length f.stack
+  tall = at_least (length k.stands.types.stack) (length r.takes) (length f.stack) (rules_at c marked f k.stands).rules.takes (slots_long (SlotOf frozen w next t (length fs) Runs m f.receiver) k.stands.types.stack k.stands.tags.stack f.stack k.stack)
+    where
+      at_least : (a b d : ℕ) → nat_lt a b ≡ false → a ≡ d → b ≤ d
+      at_least a b d e s = grind (arith, nat_tests, e, s)
+
+  taken : TakenOld (IsFinished w next) r.takes f.stack
+  taken = takes_old c marked frozen are w next t (length fs) f k null (calls_no_getfield k.stands.insn.op k.stands.target number calls)
+
+  fits : receiver_count called + length called.args ≤ called.max_locals
+  fits = called_fit_all (checked_part c) number called marked.checked there
+
+  -- the frames below the caller
+  waits_below : KeepBelow c frozen w next t (waits_on c f k.stands) fs
+  waits_below = below_moved c frozen w next t f f.pc (waits_on c f k.stands).stack f.locals fs below
+
+  -- in the same world
+  same_world : (args : List ℕ) → StartsOld (makes_frozen frozen m) (started m.class r.takes k.stands.types.stack) → FrameKeeps c frozen w next t (suc (length fs)) Runs (entry_frame number called args)
+      → IsOwnOrFinished w next t (entry_frame number called args).receiver → Steps w next t (CallKeeps args)
+  same_world args old callee known = stays w next t (CallKeeps args) ((callee, (caller_waits c frozen w next t (length fs) f k number calls (entry_frame number called args).receiver old, waits_below)), known)
+
+  finished_known : (v : ℕ) → IsFinished w next v → IsOwnOrFinished w next t v
+  finished_known v o = (o.0, λ b e. absurd (none_some (w v) b o.1 e))
+
+  nothing_started : AllByRecursion StartsNone r.takes → StartsOld (makes_frozen frozen m) (started m.class r.takes k.stands.types.stack)
+  nothing_started none = subst (StartsOld (makes_frozen frozen m)) (sym (none_started m.class r.takes k.stands.types.stack none)) tt
+
+  -- ---- a static method
+
+  calls_static : is_static called.flags ≡ true → r.takes ≡ arguments called → Steps w next t (CallKeeps (reverse (take (length r.takes) f.stack)))
+  calls_static static takes =
+      let init = static_no_init c.program (site_in m) k.stands.insn.pc number k.stands.insn.op k.stands.target r called calls there (rules_at c marked f k.stands).has_row static in
+      let args_old : ArgsOld (IsFinished w next) called.args (reverse (take (length r.takes) f.stack)) =
+      subst (λ (n : ℕ). ArgsOld (IsFinished w next) called.args (reverse (take n f.stack))) (sym (ap (length {A = Want}) takes))
+      (static_args (IsFinished w next) called f.stack (subst (λ (ws : List Want). length ws ≤ length f.stack) takes tall) (subst (λ (ws : List Want). TakenOld (IsFinished w next) ws f.stack) takes taken)) in
+      same_world (reverse (take (length r.takes) f.stack)) (nothing_started (subst (AllByRecursion StartsNone) (sym takes) (arguments_start called)))
+      (static_enters c marked frozen are w next t (suc (length fs)) null number called there (reverse (take (length r.takes) f.stack)) static (not_built frozen called init) (omega (arith, fits)) args_old)
+      (subst (IsOwnOrFinished w next t) (sym (ap (λ (b : Bool). if b then 0 else first_or_null (reverse (take (length r.takes) f.stack))) static)) (finished_known 0 null))
+
+  -- ---- an instance method
+
+  module _ (static : is_static called.flags ≡ false) (takes : r.takes ≡ arguments called ++ receiver_want (is_init called) called.class ∷ []) (a : ℕ) (rest : List ℕ) (at : slice_get f.stack (length (arguments called)) ≡ Some a) (args : reverse (take (length r.takes) f.stack) ≡ a ∷ rest) where
+    receiver_is : (entry_frame number called (a ∷ rest)).receiver ≡ a
+    receiver_is = ap (λ (b : Bool). if b then 0 else a) static
+
+    rest_old : ArgsOld (IsFinished w next) called.args rest
+    rest_old = instance_args (IsFinished w next) called (receiver_want (is_init called) called.class) f.stack rest a (subst (λ (ws : List Want). length ws ≤ length f.stack) takes tall) (subst (λ (ws : List Want). TakenOld (IsFinished w next) ws f.stack) takes taken)
+        (ap (λ (ws : List Want). reverse (take (length ws) f.stack)) (sym takes) ∙ args)
+
+    one_more : 1 + length called.args ≤ called.max_locals
+    one_more = let one : receiver_count called ≡ 1 = ap (λ (b : Bool). if b then 0 else 1) static in omega (arith, fits, one)
+
+    -- a receiver that is finished
+    calls_old : builds frozen called ≡ false → IsFinished w next a → StartsOld (makes_frozen frozen m) (started m.class r.takes k.stands.types.stack) → Steps w next t (CallKeeps (a ∷ rest))
+    calls_old own old starts =
+        same_world (a ∷ rest) starts (instance_enters c marked frozen are w next t (suc (length fs)) null number called there a rest static one_more rest_old (subst (λ (b : Bool). ReceiverIs w next t (suc (length fs)) b a) (sym own) old))
+        (subst (IsOwnOrFinished w next t) (sym receiver_is) (finished_known a old))
+
+    calls_plain : is_init called ≡ false → Steps w next t (CallKeeps (a ∷ rest))
+    calls_plain init =
+        let takes_object : r.takes ≡ arguments called ++ AnObject called.class ∷ [] = takes ∙ ap (λ (b : Bool). arguments called ++ receiver_want b called.class ∷ []) init in
+        calls_old (not_built frozen called init) (taken_at (IsFinished w next) (arguments called) called.class f.stack a (subst (λ (ws : List Want). TakenOld (IsFinished w next) ws f.stack) takes_object taken) at)
+        (nothing_started (subst (AllByRecursion StartsNone) (sym takes_object) (none_append (arguments called) (AnObject called.class) (arguments_start called) tt)))
+
+    -- an `<init>`
+    module _ (init : is_init called ≡ true) where
+      takes_start : r.takes ≡ arguments called ++ ToStart called.class ∷ []
+      takes_start = takes ∙ ap (λ (b : Bool). arguments called ++ receiver_want b called.class ∷ []) init
+
+      place : ReceiverAt m (SlotOf frozen w next t (length fs) Runs m f.receiver) m.class called.class (length (arguments called)) k.stands.types.stack k.stands.tags.stack f.stack (started m.class (arguments called ++ ToStart called.class ∷ []) k.stands.types.stack)
+      place = start_slot m (SlotOf frozen w next t (length fs) Runs m f.receiver) m.class called.class (arguments called) k.stands.types.stack k.stands.tags.stack f.stack (arguments_start called)
+          (omega (arith, tall, ap (length {A = Want}) takes_start, length-append (arguments called) (ToStart called.class ∷ []))) k.stack
+          (subst (λ (ws : List Want). Suit m ws k.stands.types.stack) takes_start (suit_at c marked f k.stands))
+
+      -- in an `<init>` of a frozen class it is not `this`
+      other_tag : builds frozen m ≡ true → (g : Tag) → slice_index_or k.stands.tags.stack (length (arguments called)) Untagged ≡ g → g ≢ This
+      other_tag own g e s =
+          let inside : length (arguments called) < length r.takes = omega (arith, ap (length {A = Want}) takes_start, length-append (arguments called) (ToStart called.class ∷ [])) in
+          let may = (inside_at c marked frozen are f k.stands own).taken k.stands.number k.stands.insn k.stands.target k.stands.tags k.stands.at (length (arguments called)) inside (e ∙ s) in
+          let free = calls_take_none c.program m.class k.stands.insn.op k.stands.target number (length (arguments called)) calls in
+          (let bad : true ≡ false = sym may ∙ free in cc)
+
+      -- so the slot goes by its type, which is not `this` there
+      plain : (own : Bool) → builds frozen m ≡ own → (u : VType) (g : Tag) (v : ℕ) → (own ≡ true → g ≢ This) → SlotIs (IsFinished w next) (IsFresh w t (length fs) Runs) own (makes_frozen frozen m) f.receiver u g v
+          → (own ≡ true → u ≢ types.This) × SlotByType (IsFinished w next) (IsFresh w t (length fs) Runs) (makes_frozen frozen m) u v
+      plain true e u g v n s = let p = plainly (IsFinished w next) null (IsFresh w t (length fs) Runs) true (makes_frozen frozen m) f.receiver u g v (n refl) s in (λ o. p.0, p.1)
+      plain false e u g v n s = (λ o. absurd (let bad : false ≡ true = o in cc), s)
+
+      begun_is : (o : Option (VType × ℕ)) → started m.class (arguments called ++ ToStart called.class ∷ []) k.stands.types.stack ≡ o → started m.class r.takes k.stands.types.stack ≡ o
+      begun_is o e = ap (λ (ws : List Want). started m.class ws k.stands.types.stack) takes_start ∙ e
+
+      -- what a `new` of the caller made
+      calls_new : (y : Bool) → frozen called.class ≡ y → (q : ℕ) → is_class (new_class m.code m.targets q) called.class ≡ true → started m.class r.takes k.stands.types.stack ≡ Some (types.New q, called.class)
+          → SlotByType (IsFinished w next) (IsFresh w t (length fs) Runs) (makes_frozen frozen m) (types.New q) a → Steps w next t (CallKeeps (a ∷ rest))
+      calls_new false e q of begun s =
+          let young : makes_frozen frozen m q ≡ false = class_frozen frozen (new_class m.code m.targets q) called.class of ∙ e in
+          calls_old (built frozen called init ∙ e) (subst (λ (b : Bool). if_so b (w a ≡ Some (builder t (length fs) (Made q))) (IsFinished w next a)) young s)
+          (subst (StartsOld (makes_frozen frozen m)) (sym begun) young)
+      calls_new true e q of begun s =
+          let young : makes_frozen frozen m q ≡ true = class_frozen frozen (new_class m.code m.targets q) called.class of ∙ e in
+          let is : w a ≡ Some (builder t (length fs) (Made q)) = subst (λ (b : Bool). if_so b (w a ≡ Some (builder t (length fs) (Made q))) (IsFinished w next a)) young s in
+          let now : begun_world c frozen w next t (length fs) a q is_world.one is a ≡ Some (builder t (suc (length fs)) Begun) = given_here w a (builder t (suc (length fs)) Begun) in
+          let old = old_begun c frozen w next t (length fs) a q is_world.one is in
+          let inside = is_world.inside a (builder t (length fs) (Made q)) is in
+          record {
+            later = with_builder w a (builder t (suc (length fs)) Begun);
+            goes = goes_given w next next t a (builder t (suc (length fs)) Begun) (omega arith) refl (λ o. none_some (w a) (builder t (length fs) (Made q)) o.1 is) (λ j h. (let same : builder t (length fs) (Made q) ≡ j = cc in ap (λ (b : Builder). b.thread) (sym same)));
+            world = λ least z. let i = z.inside a (builder t (length fs) (Made q)) is in world_given w least next next a (builder t (suc (length fs)) Begun) z (omega arith) i.0 i.1;
+            keeps = (
+              (
+                instance_enters c marked frozen are (with_builder w a (builder t (suc (length fs)) Begun)) next t (suc (length fs)) (old 0 null) number called there a rest static one_more (args_map (IsFinished w next) (IsFinished (with_builder w a (builder t (suc (length fs)) Begun)) next) old called.args rest rest_old)
+                    (subst (λ (b : Bool). ReceiverIs (with_builder w a (builder t (suc (length fs)) Begun)) next t (suc (length fs)) b a) (sym (built frozen called init ∙ e)) now),
+                (
+                  subst (λ (x : ℕ). WaitKeeps c frozen (with_builder w a (builder t (suc (length fs)) Begun)) next t (length fs) number x (waits_on c f k.stands)) (sym receiver_is)
+                      (young_waits c frozen w next t (length fs) a q is_world.one is f k number called.class calls begun),
+                  below_begun c frozen w next t (length fs) a q is_world.one is (waits_on c f k.stands) fs refl waits_below,
+                ),
+              ),
+              subst (IsOwnOrFinished (with_builder w a (builder t (suc (length fs)) Begun)) next t) (sym receiver_is) (inside.1, λ b h. (let same : builder t (suc (length fs)) Begun ≡ b = cc in ap (λ (x : Builder). x.thread) (sym same))),
+            );
+          }
+
+      -- on `this`
+      calls_this : (y : Bool) → frozen called.class ≡ y → started m.class r.takes k.stands.types.stack ≡ Some (types.This, m.class) → slice_get k.stands.types.stack (length (arguments called)) ≡ Some types.This
+          → ((called.class == m.class) || (called.class == OBJECT_CLASS)) ≡ true → (builds frozen m ≡ true → ⊥) → IsFinished w next a → Steps w next t (CallKeeps (a ∷ rest))
+      calls_this false e begun type suits_it own old = calls_old (built frozen called init ∙ e) old (subst (StartsOld (makes_frozen frozen m)) (sym begun) tt)
+      calls_this true e begun type suits_it own old = absurd (by_class (called.class == m.class) refl suits_it)
+        where
+          by_class : (b : Bool) → (called.class == m.class) ≡ b → (b || (called.class == OBJECT_CLASS)) ≡ true → ⊥
+          by_class true q h = by_init (is_init m) refl
+            where
+              same : called.class ≡ m.class
+              same = grind (arith, nat_tests, q)
+
+              by_init : (b : Bool) → is_init m ≡ b → ⊥
+              by_init true i = own (built frozen m i ∙ sym (ap frozen same) ∙ e)
+              by_init false i = all_get (λ u. u ≢ types.This) k.stands.types.stack (length (arguments called)) types.This (no_this_at c marked frozen are f k.stands i).stack type refl
+          by_class false q h =
+              let object : called.class ≡ OBJECT_CLASS = grind (arith, nat_tests, h) in
+              let file : 17 ≤ called.class = (marked.checked.program.methods number called there).class.0 in
+              absurd (omega (arith, object, file))
+
+      calls_init : Steps w next t (CallKeeps (a ∷ rest))
+      calls_init = by_type p.type refl p.suits_it
+        where
+          p : ReceiverAt m (SlotOf frozen w next t (length fs) Runs m f.receiver) m.class called.class (length (arguments called)) k.stands.types.stack k.stands.tags.stack f.stack (started m.class (arguments called ++ ToStart called.class ∷ []) k.stands.types.stack)
+          p = place
+
+          same_value : p.value ≡ a
+          same_value = same_some (sym p.value_is ∙ at)
+
+          by_plain : (builds frozen m ≡ true → p.type ≢ types.This) × SlotByType (IsFinished w next) (IsFresh w t (length fs) Runs) (makes_frozen frozen m) p.type a
+          by_plain = subst (λ (v : ℕ). (builds frozen m ≡ true → p.type ≢ types.This) × SlotByType (IsFinished w next) (IsFresh w t (length fs) Runs) (makes_frozen frozen m) p.type v) same_value
+              (plain (builds frozen m) refl p.type p.tag p.value (λ own. other_tag own p.tag p.tag_is) p.slot)
+
+          by_type : (u : VType) → p.type ≡ u → suits m (ToStart called.class) u ≡ true → Steps w next t (CallKeeps (a ∷ rest))
+          by_type types.This e s =
+              calls_this (frozen called.class) refl (begun_is (Some (types.This, m.class)) (p.begun ∙ ap (λ (x : VType). started m.class (ToStart called.class ∷ []) (x ∷ [])) e)) (p.type_is ∙ ap (λ (x : VType). Some x) e) s
+              (λ own. by_plain.0 own e) (subst (λ (x : VType). SlotByType (IsFinished w next) (IsFresh w t (length fs) Runs) (makes_frozen frozen m) x a) e by_plain.1)
+          by_type (types.New q) e s =
+              calls_new (frozen called.class) refl q s (begun_is (Some (types.New q, called.class)) (p.begun ∙ ap (λ (x : VType). started m.class (ToStart called.class ∷ []) (x ∷ [])) e))
+              (subst (λ (x : VType). SlotByType (IsFinished w next) (IsFresh w t (length fs) Runs) (makes_frozen frozen m) x a) e by_plain.1)
+          by_type u e s = absurd (cc)
+
+    calls_instance : Steps w next t (CallKeeps (a ∷ rest))
+    calls_instance = by_init (is_init called) refl
+      where
+        by_init : (b : Bool) → is_init called ≡ b → Steps w next t (CallKeeps (a ∷ rest))
+        by_init true e = calls_init e
+        by_init false e = calls_plain e
+
+  pub calls_it : Steps w next t (CallKeeps (reverse (take (length r.takes) f.stack)))
+  calls_it = by_kind call.by
+    where
+      takes_are : (ws : List Want) → call.takes ≡ ws → r.takes ≡ ws
+      takes_are ws e = ap (λ (x : OpRow). x.takes) call.is ∙ e
+
+      got : (n : ℕ) (s : List ℕ) → n < length s → (v : ℕ) × (slice_get s n ≡ Some v)
+      got n [] l = absurd (omega (arith, l))
+      got zero (v ∷ s) l = (v, refl)
+      got (suc n) (v ∷ s) l = got n s (omega (arith, l))
+
+      by_kind : ((is_static called.flags ≡ false) × (call.takes ≡ arguments called ++ receiver_want (is_init called) called.class ∷ [])) ⊎ ((is_static called.flags ≡ true) × (call.takes ≡ arguments called))
+          → Steps w next t (CallKeeps (reverse (take (length r.takes) f.stack)))
+      by_kind (inl s) =
+          let takes = takes_are (arguments called ++ receiver_want (is_init called) called.class ∷ []) s.1 in
+          let count : length r.takes ≡ suc (length (arguments called)) = omega (arith, ap (length {A = Want}) takes, length-append (arguments called) (receiver_want (is_init called) called.class ∷ [])) in
+          let v = got (length (arguments called)) f.stack (omega (arith, tall, count)) in
+          let deepest = deepest_first (length (arguments called)) f.stack v.0 v.1 in
+          let args : reverse (take (length r.takes) f.stack) ≡ v.0 ∷ deepest.0 = ap (λ (n : ℕ). reverse (take n f.stack)) count ∙ deepest.1 in
+          subst (λ (xs : List ℕ). Steps w next t (CallKeeps xs)) (sym args) (calls_instance s.0 takes v.0 deepest.0 v.1 args)
+      by_kind (inr s) = calls_static s.0 (takes_are (arguments called) s.1)

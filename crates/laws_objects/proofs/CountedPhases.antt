@@ -1,0 +1,45 @@
+-- What a phase says of the frames and of what it carries, the phase that counts says too.
+use Rattle.std.proofs.Common.{ℕ, Bool, List, subst}
+use Rattle.jvm_types.specs.declared.outcome.End.{End}
+use Rattle.jvm_types.specs.declared.outcome.End.TheVariants as ends
+use Rattle.checked_program.specs.MarkedProgram.{MarkedProgram}
+use Rattle.machine_types.specs.Construction.{PhaseKeepsFrames, PhaseKeeps}
+use Rattle.machine_types.specs.Structure.{IsLimitAt, IsAs, CountsTurns}
+use Rattle.machine_types.specs.Threads.{Frame}
+use Rattle.machine_types.specs.Worlds.{World}
+use Rattle.machine_types.specs.declared.phase.Phase.{Phase}
+use Rattle.machine_types.specs.declared.phase.Phase.TheVariants as phases
+use Rattle.laws_threads.specs.StructureLaws.{counted_by, turned_from}
+
+-- of frames in a world
+abbrev pub PhaseFits : MarkedProgram → (frozen : ℕ → Bool) → World → (next t : ℕ) → List Frame → Phase → Type 0
+PhaseFits c frozen w next t fs phase = PhaseKeepsFrames c frozen w next t phase fs × PhaseKeeps w next t phase
+
+module _ (c : MarkedProgram) (frozen : ℕ → Bool) (w : World) (next t : ℕ) (fs : List Frame) where
+  turned_fits : (was : Phase) → CountsTurns was → PhaseFits c frozen w next t fs was → PhaseFits c frozen w next t fs (turned_from was)
+  turned_fits (phases.Acquire m) is k = k
+  turned_fits (phases.Take m count) is k = (k.0, k.1)
+  turned_fits (phases.Flag m u) is k = k
+  turned_fits (phases.TakeFat m r) is k = k
+  turned_fits (phases.WaitLook m r depth) is k = k
+  turned_fits (phases.Retake m r depth) is k = k
+  turned_fits was is k = absurd is
+
+  pub counted_fits : (was phase : Phase) → IsAs phase was → PhaseFits c frozen w next t fs was → PhaseFits c frozen w next t fs (counted_by was phase)
+  counted_fits was (phases.Ending e) is k = at_end e is
+    where
+      at_end : (e : End) → IsLimitAt e (phases.Ending e) was → PhaseFits c frozen w next t fs (counted_by was (phases.Ending e))
+      at_end ends.Steps is = subst (PhaseFits c frozen w next t fs) is k
+      at_end ends.Prints is = subst (PhaseFits c frozen w next t fs) is k
+      at_end ends.Turns is = turned_fits was is k
+      at_end ends.Records is = k
+      at_end e is = subst (PhaseFits c frozen w next t fs) is k
+  counted_fits was (phases.Ended e) is k = at_end e is
+    where
+      at_end : (e : End) → IsLimitAt e (phases.Ended e) was → PhaseFits c frozen w next t fs (counted_by was (phases.Ended e))
+      at_end ends.Steps is = k
+      at_end ends.Prints is = k
+      at_end ends.Turns is = k
+      at_end ends.Records is = k
+      at_end e is = subst (PhaseFits c frozen w next t fs) is k
+  counted_fits was phase is k = subst (PhaseFits c frozen w next t fs) is k

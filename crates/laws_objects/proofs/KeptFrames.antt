@@ -1,0 +1,162 @@
+-- Frames and threads that an event does not touch stand as they did in the world that it leaves.
+use Rattle.std.proofs.Common.{◌≡◌, ℕ, ◌-◌, ◌<◌, ◌≤◌, inl, inr, Bool, true, false, List, [], ◌∷◌, length, drop, Option, Some, None, refl, sym, ap, ◌∙◌, subst, arith}
+use Rattle.std.specs.Prelude.{◌==◌, if◌then◌else◌}
+use Rattle.jvm_types.specs.declared.program.MethodInfo.{MethodInfo}
+use Rattle.jvm_types.specs.declared.typing.VType.{VType}
+use Rattle.jvm_types.specs.declared.typing.VType.TheVariants as types
+use Rattle.checked_program.specs.MarkedProgram.{MarkedProgram}
+use Rattle.checked_program.specs.declared.tag.Tag.{Tag}
+use Rattle.machine_types.specs.Construction.{if_so, builds, makes_frozen, SlotsAre, Turn, Runs, WaitsFor, Throws, FreshAtCall, IsFresh, ReceiverIs, SlotOf, StackIs, FrameKeeps, WaitKeeps, KeepBelow, FramesKeep, made_world, MadeKeeps, PhaseKeepsFrames, turn_by, AfterKeeps, TowardKeeps, PhaseKeeps, AttemptKeepsIn}
+use Rattle.machine_types.specs.Elision.{put_back}
+use Rattle.machine_types.specs.Frames.{pushed}
+use Rattle.machine_types.specs.Standing.{row_at}
+use Rattle.machine_types.specs.Structure.{operands_in}
+use Rattle.machine_types.specs.Threads.{Frame, Attempt}
+use Rattle.machine_types.specs.Worlds.{Item, Header, Made, Begun, Builder, builder, World, IsFinished, IsOwnOrFinished, with_builder}
+use Rattle.machine_types.specs.declared.phase.After.{After}
+use Rattle.machine_types.specs.declared.phase.After.TheVariants as afters
+use Rattle.machine_types.specs.declared.phase.Phase.{Phase}
+use Rattle.machine_types.specs.declared.phase.Phase.TheVariants as phases
+use Rattle.machine_types.specs.declared.phase.Toward.{Toward}
+use Rattle.machine_types.specs.declared.phase.Toward.TheVariants as towards
+use Rattle.laws_objects.proofs.Slots.{slots_map, slot_later}
+use Rattle.laws_objects.proofs.WorldChanges.{given_here, given_keeps, given_none, given_gone, given_back, given_none_back, GivenBack}
+
+-- what the thread t builds at a height
+abbrev pub KeepsAt : World → World → (t h : ℕ) → Type 0
+KeepsAt w z t h = (v : ℕ) (x : Item) → w v ≡ Some (builder t h x) → z v ≡ Some (builder t h x)
+
+-- at each height below this one
+abbrev pub KeepsUnder : World → World → (t height : ℕ) → Type 0
+KeepsUnder w z t height = (h : ℕ) → h < height → KeepsAt w z t h
+
+-- ---- frames
+
+module _ (c : MarkedProgram) (frozen : ℕ → Bool) (w z : World) (next more t : ℕ) (old : (v : ℕ) → IsFinished w next v → IsFinished z more v) where
+  at_call_kept : (h receiver : ℕ) (begun : Option (VType × ℕ)) → KeepsAt w z t h → (q v : ℕ) → FreshAtCall w t h receiver begun q v → FreshAtCall z t h receiver begun q v
+  at_call_kept h receiver (Some (types.New r, class)) keeps q v f = by_test (q == r) f
+    where
+      by_test : (b : Bool) → if_so b (v ≡ receiver) (w v ≡ Some (builder t h (Made q))) → if_so b (v ≡ receiver) (z v ≡ Some (builder t h (Made q)))
+      by_test true f = f
+      by_test false f = keeps v (Made q) f
+  at_call_kept h receiver None keeps q v f = keeps v (Made q) f
+  at_call_kept h receiver (Some (types.This, class)) keeps q v f = keeps v (Made q) f
+  at_call_kept h receiver (Some (types.Int, class)) keeps q v f = keeps v (Made q) f
+  at_call_kept h receiver (Some (types.Null, class)) keeps q v f = keeps v (Made q) f
+  at_call_kept h receiver (Some (types.Ref d, class)) keeps q v f = keeps v (Made q) f
+  at_call_kept h receiver (Some (types.Top, class)) keeps q v f = keeps v (Made q) f
+
+  fresh_kept : (h : ℕ) (turn : Turn) → KeepsAt w z t h → (q v : ℕ) → IsFresh w t h turn q v → IsFresh z t h turn q v
+  fresh_kept h Runs keeps q v f = keeps v (Made q) f
+  fresh_kept h (WaitsFor receiver begun) keeps q v f = at_call_kept h receiver begun keeps q v f
+  fresh_kept h Throws keeps q v f = tt
+
+  slots_kept : (h : ℕ) (turn : Turn) → KeepsAt w z t h → (m : MethodInfo) (receiver : ℕ) (ts : List VType) (gs : List Tag) (vs : List ℕ)
+      → SlotsAre (SlotOf frozen w next t h turn m receiver) ts gs vs → SlotsAre (SlotOf frozen z more t h turn m receiver) ts gs vs
+  slots_kept h turn keeps m receiver ts gs vs a = slots_map (SlotOf frozen w next t h turn m receiver) (SlotOf frozen z more t h turn m receiver)
+      (slot_later (IsFinished w next) (IsFinished z more) (IsFresh w t h turn) (IsFresh z t h turn) old (makes_frozen frozen m) (λ q v y f. fresh_kept h turn keeps q v f) (builds frozen m) receiver) ts gs vs a
+
+  receiver_kept : (h : ℕ) → KeepsAt w z t h → (own : Bool) (a : ℕ) → ReceiverIs w next t h own a → ReceiverIs z more t h own a
+  receiver_kept h keeps true a r = keeps a Begun r
+  receiver_kept h keeps false a r = old a r
+
+  stack_kept : (h : ℕ) (turn : Turn) → KeepsAt w z t h → (m : MethodInfo) (receiver n : ℕ) (ts : List VType) (gs : List Tag) (vs : List ℕ)
+      → StackIs (SlotOf frozen w next t h turn m receiver) turn n ts gs vs → StackIs (SlotOf frozen z more t h turn m receiver) turn n ts gs vs
+  stack_kept h Throws keeps m receiver n ts gs vs a = tt
+  stack_kept h Runs keeps m receiver n ts gs vs a = slots_kept h Runs keeps m receiver ts gs vs a
+  stack_kept h (WaitsFor b o) keeps m receiver n ts gs vs a = slots_kept h (WaitsFor b o) keeps m receiver (drop n ts) (drop n gs) vs a
+
+  pub frame_kept : (h : ℕ) (turn : Turn) (f : Frame) → KeepsAt w z t h → FrameKeeps c frozen w next t h turn f → FrameKeeps c frozen z more t h turn f
+  frame_kept h turn f keeps k = record {
+    stands = k.stands;
+    receiver = receiver_kept h keeps (builds frozen k.stands.method) f.receiver k.receiver;
+    stack = stack_kept h turn keeps k.stands.method f.receiver (length (row_at c f k.stands).takes) k.stands.types.stack k.stands.tags.stack f.stack k.stack;
+    locals = slots_kept h turn keeps k.stands.method f.receiver k.stands.types.locals k.stands.tags.locals f.locals k.locals;
+  }
+
+  pub wait_kept : (h callee receiver : ℕ) (f : Frame) → KeepsAt w z t h → WaitKeeps c frozen w next t h callee receiver f → WaitKeeps c frozen z more t h callee receiver f
+  unfolding frame_kept
+  wait_kept h callee receiver f keeps k = record { begun = k.begun; keeps = frame_kept h (WaitsFor receiver k.begun) f keeps k.keeps; calls = k.calls; begun_is = k.begun_is }
+
+  pub below_kept : (g : Frame) (fs : List Frame) → KeepsUnder w z t (length fs) → KeepBelow c frozen w next t g fs → KeepBelow c frozen z more t g fs
+  below_kept g [] keeps k = tt
+  below_kept g (f ∷ fs) keeps k = (wait_kept (length fs) g.method g.receiver f (keeps (length fs) (omega arith)) k.0, below_kept f fs (λ h l. keeps h (omega (arith, l))) k.1)
+
+  pub frames_kept : (turn : Turn) (fs : List Frame) → KeepsUnder w z t (length fs) → FramesKeep c frozen w next t turn fs → FramesKeep c frozen z more t turn fs
+  frames_kept turn [] keeps k = tt
+  frames_kept turn (f ∷ fs) keeps k = (frame_kept (length fs) turn f (keeps (length fs) (omega arith)) k.0, below_kept f fs (λ h l. keeps h (omega (arith, l))) k.1)
+
+-- ---- the same with the object of a header that is still to be stored
+
+made_keeps : (w z : World) (t h a : ℕ) (young : Bool) (k : Builder) → KeepsAt w z t h → KeepsAt (made_world w a young k) (made_world z a young k) t h
+made_keeps w z t h a true k keeps v x e = by_given (given_back w a k v (builder t h x) e)
+  where
+    by_given : GivenBack w a k v (builder t h x) → with_builder z a k v ≡ Some (builder t h x)
+    by_given (inl g) = rw (g.0, g.1) (given_here z a k)
+    by_given (inr (inl g)) = given_keeps z a k v (builder t h x) (keeps v x g.1) g.0 g.2
+    by_given (inr (inr g)) =
+        let is : builder t h k.item ≡ k = rw (ap (λ (i : Builder). i.thread) g.2, ap (λ (i : Builder). i.height) g.2) refl in
+        given_gone z a k v (subst (λ (i : Builder). z v ≡ Some i) is (keeps v k.item (subst (λ (i : Builder). w v ≡ Some i) (sym is) g.1))) g.0 ∙ ap (λ (i : Builder). Some i) (sym g.2)
+made_keeps w z t h a false k keeps v x e = by_test (v == a) e
+  where
+    by_test : (b : Bool) → (if b then None else w v) ≡ Some (builder t h x) → (if b then None else z v) ≡ Some (builder t h x)
+    by_test true e = e
+    by_test false e = keeps v x e
+
+made_old : (w z : World) (next more a : ℕ) (young : Bool) (k : Builder) → ((v : ℕ) → IsFinished w next v → IsFinished z more v) → next ≤ more → (v : ℕ) → IsFinished (made_world w a young k) next v → IsFinished (made_world z a young k) more v
+made_old w z next more a true k old grows v o = ((let l = o.0 in omega (arith, l, grows)), (let e = given_none_back w a k v o.1 in given_none z a k v (old v (o.0, e.1)).1 e.0))
+made_old w z next more a false k old grows v o = ((let l = o.0 in omega (arith, l, grows)), by_test (v == a) o.1)
+  where
+    by_test : (b : Bool) → (if b then None else w v) ≡ None → (if b then None else z v) ≡ None
+    by_test true e = refl
+    by_test false e = (old v (o.0, e)).1
+
+-- ---- what a thread holds
+
+module _ (c : MarkedProgram) (frozen : ℕ → Bool) (w z : World) (next more t : ℕ) (grows : next ≤ more) (old : (v : ℕ) → IsFinished w next v → IsFinished z more v) (keeps : (h : ℕ) → KeepsAt w z t h)
+    (known : (v : ℕ) → IsOwnOrFinished w next t v → IsOwnOrFinished z more t v) where
+  made_kept : (a height : ℕ) (fs : List Frame) → MadeKeeps c frozen w next t a height fs → MadeKeeps c frozen z more t a height fs
+  made_kept a height fs k = record {
+    pc = k.pc;
+    young = k.young;
+    now = keeps height a Header k.now;
+    keep = frames_kept c frozen (made_world w a k.young (builder t height (Made k.pc))) (made_world z a k.young (builder t height (Made k.pc))) next more t
+        (made_old w z next more a k.young (builder t height (Made k.pc)) old grows) Runs (pushed a fs) (λ h l. made_keeps w z t h a k.young (builder t height (Made k.pc)) (keeps h)) k.keep;
+  }
+
+  pub phase_frames_kept : (phase : Phase) (fs : List Frame) → PhaseKeepsFrames c frozen w next t phase fs → PhaseKeepsFrames c frozen z more t phase fs
+  phase_frames_kept (phases.Made a word) fs k = made_kept a (length fs - 1) fs k
+  phase_frames_kept phase fs k = frames_kept c frozen w z next more t old (turn_by (operands_in phase)) fs (λ h l. keeps h) k
+
+  after_kept : (a : After) → AfterKeeps w next a → AfterKeeps z more a
+  after_kept (afters.Unwind x class) k = old x k
+  after_kept a k = tt
+
+  toward_kept : (d : Toward) → TowardKeeps w next d → TowardKeeps z more d
+  toward_kept (towards.Leave a) k = after_kept a k
+  toward_kept towards.Wait k = tt
+
+  pub phase_kept : (phase : Phase) → PhaseKeeps w next t phase → PhaseKeeps z more t phase
+  phase_kept (phases.Throw x class) k = old x k
+  phase_kept (phases.Enter m tried) k = known m k
+  phase_kept (phases.Acquire m) k = known m k
+  phase_kept (phases.Take m count) k = known m k
+  phase_kept (phases.Flag m u) k = known m k
+  phase_kept (phases.TakeFat m r) k = known m k
+  phase_kept (phases.Leave m a) k = (known m k.0, after_kept a k.1)
+  phase_kept (phases.Grow m toward) k = (known m k.0, toward_kept toward k.1)
+  phase_kept (phases.FlatOut m a) k = (known m k.0, after_kept a k.1)
+  phase_kept (phases.Own m r toward) k = (known m k.0, toward_kept toward k.1)
+  phase_kept (phases.FatIn m r toward) k = (known m k.0, toward_kept toward k.1)
+  phase_kept (phases.WaitBit m r) k = known m k
+  phase_kept (phases.WaitOut m r) k = known m k
+  phase_kept (phases.WaitLook m r depth) k = known m k
+  phase_kept (phases.Retake m r depth) k = known m k
+  phase_kept (phases.NotifyLook m r) k = known m k
+  phase_kept (phases.NotifyOne m r u) k = known m k
+  phase_kept (phases.NotifyAll m r) k = known m k
+  phase_kept phase k = tt
+
+  pub attempt_kept : (fs : List Frame) (o : Option Attempt) → AttemptKeepsIn c frozen w next t fs o → AttemptKeepsIn c frozen z more t fs o
+  attempt_kept fs None k = tt
+  attempt_kept fs (Some a) k = record { monitor = known a.monitor k.monitor; goes_back = frames_kept c frozen w z next more t old Runs (put_back a fs) (λ h l. keeps h) k.goes_back }

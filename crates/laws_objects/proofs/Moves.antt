@@ -1,0 +1,314 @@
+-- A frame that goes on behind its instruction. An `<init>` of a class that no file has, as that of Object, finishes its object.
+use Rattle.std.proofs.Common.{◌≡◌, ◌≢◌, ℕ, ◌<◌, ◌⊎◌, inl, inr, Bool, true, false, not, ◌||◌, List, [], ◌∷◌, Option, Some, None, refl, sym, ap, ◌∙◌, subst, arith}
+use Rattle.std.specs.Prelude.{◌==◌, if◌then◌else◌}
+use Rattle.std.specs.List.{AllByRecursion}
+use Rattle.std.proofs.lemmas.Bool.{or_parts}
+use Rattle.std.proofs.lemmas.Bool.Decides.{nat_tests}
+use Rattle.jvm_types.specs.CodeTable.{row, stack_after, locals_after}
+use Rattle.jvm_types.specs.Numbers.{has_number}
+use Rattle.jvm_types.specs.Types.{TypeFrame, same_type}
+use Rattle.jvm_types.specs.Verifying.{suits, some_taken, some_read, new_class, is_class, started, initialised, after_start, frame_after, edges}
+use Rattle.jvm_types.specs.declared.code.Op.{Op}
+use Rattle.jvm_types.specs.declared.code.Op.TheVariants as ops
+use Rattle.jvm_types.specs.declared.op_row.OpRow.{OpRow}
+use Rattle.jvm_types.specs.declared.op_row.Want.{Want}
+use Rattle.jvm_types.specs.declared.op_row.Want.TheVariants.{AnyValue, AnInt, AnObject, AnyReference, AHolder, ToStart}
+use Rattle.jvm_types.specs.declared.program.MethodInfo.{MethodInfo}
+use Rattle.jvm_types.specs.declared.program.Program.{Program}
+use Rattle.jvm_types.specs.declared.program.Target.{Target}
+use Rattle.jvm_types.specs.declared.typing.VType.{VType}
+use Rattle.jvm_types.specs.declared.typing.VType.TheVariants as types
+use Rattle.lists.proofs.TestLaws.{is_true}
+use Rattle.checked_program.specs.LockTags.{TagShape}
+use Rattle.checked_program.specs.MarkedProgram.{MarkedProgram, IsMarked}
+use Rattle.checked_program.specs.Tagging.{moved_tags, tags_by_op, tags_after}
+use Rattle.checked_program.specs.declared.tag.Tag.{Tag}
+use Rattle.checked_program.specs.declared.tag.Tag.TheVariants.{Untagged, This, At}
+use Rattle.machine_types.specs.Construction.{AreFrozen, builds, makes_frozen, if_so, SlotByType, OwnSlot, SlotIs, SlotsAre, Runs, IsFresh, ReceiverIs, SlotOf, FrameKeeps}
+use Rattle.machine_types.specs.Frames.{frame_on}
+use Rattle.machine_types.specs.Standing.{Standing, row_at}
+use Rattle.machine_types.specs.Threads.{Frame}
+use Rattle.machine_types.specs.Worlds.{Made, Begun, Builder, builder, World, IsFinished, IsWorld, GoesOn}
+use Rattle.laws_threads.proofs.FrameMoves.{edge_fits}
+use Rattle.laws_threads.specs.Allowed.{OneOf}
+use Rattle.laws_threads.proofs.Landing.{rules_at}
+use Rattle.laws_threads.proofs.Typing.{edge_at}
+use Rattle.machine_types.specs.Lawful.{within}
+use Rattle.laws_objects.proofs.KeptFrames.{KeepsUnder}
+use Rattle.laws_objects.proofs.Landing.{land, joined_onward}
+use Rattle.laws_objects.proofs.Slots.{IsMade, IsWriteMade, stack_moves, local_moves, top_slot, plainly, plain_slot, not_this, slots_started, slot_retag, slots_without, StartOk}
+use Rattle.laws_objects.proofs.WorldChanges.{same_from, other_from, without, without_gone, without_keeps, without_none, world_without, goes_without, goes_same}
+
+-- ---- the object that is started
+
+-- one that is finished as the world has it, or `this` of an `<init>` of a frozen class
+abbrev pub StartsOld : (young : ℕ → Bool) → Option (VType × ℕ) → Type 0
+StartsOld young None = Unit {0}
+StartsOld young (Some (types.This, class)) = Unit {0}
+StartsOld young (Some (types.New q, class)) = young q ≡ false
+StartsOld young (Some (t, class)) = ⊥
+
+-- one of a frozen class that a `new` of the frame made
+pub record StartsYoung (m : MethodInfo) (young : ℕ → Bool) (o : Option (VType × ℕ)) : Type 0 where
+  pub pc : ℕ
+  pub class : ℕ
+  pub is : o ≡ Some (types.New pc, class)
+  pub young_is : young pc ≡ true
+  pub of_class : is_class (new_class m.code m.targets pc) class ≡ true
+
+abbrev pub Suit : MethodInfo → List Want → List VType → Type 0
+Suit m wants ts = some_taken (λ want t. not (suits m want t)) wants ts ≡ false
+
+pub suits_later : (m : MethodInfo) (want : Want) (t : VType) (wants : List Want) (ts : List VType) → Suit m (want ∷ wants) (t ∷ ts) → Suit m wants ts
+suits_later m want t wants ts h = (or_parts (not (suits m want t)) (some_taken (λ want t. not (suits m want t)) wants ts) h).1
+
+module _ (m : MethodInfo) (young : ℕ → Bool) where
+  abbrev pub Starts : Option (VType × ℕ) → Type 0
+  Starts o = StartsOld young o ⊎ StartsYoung m young o
+
+  new_starts : (q class : ℕ) → is_class (new_class m.code m.targets q) class ≡ true → Starts (Some (types.New q, class))
+  new_starts q class e = by_test (young q) refl
+    where
+      by_test : (b : Bool) → young q ≡ b → Starts (Some (types.New q, class))
+      by_test true y = inr (record { pc = q; class = class; is = refl; young_is = y; of_class = e })
+      by_test false y = inl y
+
+  pub starts : (wants : List Want) (ts : List VType) → Suit m wants ts → Starts (started m.class wants ts)
+  starts [] ts h = inl tt
+  starts (ToStart class ∷ wants) (types.This ∷ ts) h = inl tt
+  starts (ToStart class ∷ wants) (types.New q ∷ ts) h =
+      new_starts q class (is_true (is_class (new_class m.code m.targets q) class) (or_parts (not (is_class (new_class m.code m.targets q) class)) (some_taken (λ want t. not (suits m want t)) wants ts) h).0)
+  starts (AnyValue ∷ wants) (t ∷ ts) h = starts wants ts (suits_later m AnyValue t wants ts h)
+  starts (AnInt ∷ wants) (t ∷ ts) h = starts wants ts (suits_later m AnInt t wants ts h)
+  starts (AnyReference ∷ wants) (t ∷ ts) h = starts wants ts (suits_later m AnyReference t wants ts h)
+  starts (AnObject class ∷ wants) (t ∷ ts) h = starts wants ts (suits_later m (AnObject class) t wants ts h)
+  starts (AHolder class ∷ wants) (t ∷ ts) h = starts wants ts (suits_later m (AHolder class) t wants ts h)
+  starts (ToStart class ∷ wants) (t ∷ ts) h = absurd (cc)
+  starts (ToStart class ∷ wants) [] h = inl tt
+  starts (AnyValue ∷ wants) [] h = inl tt
+  starts (AnInt ∷ wants) [] h = inl tt
+  starts (AnObject class ∷ wants) [] h = inl tt
+  starts (AnyReference ∷ wants) [] h = inl tt
+  starts (AHolder class ∷ wants) [] h = inl tt
+
+pub suit_at : (c : MarkedProgram) (marked : IsMarked c) (f : Frame) (k : Standing c f) → Suit k.method (row_at c f k).takes k.types.stack
+suit_at c marked f k =
+    let r : OpRow = row_at c f k in
+    (or_parts (some_taken (λ want t. not (suits k.method want t)) r.takes k.types.stack) (some_read (λ want t. not (suits k.method want t)) r.reads k.types.locals) (rules_at c marked f k).rules.types).0
+
+-- ---- the tags behind an instruction
+
+module _ (Old : ℕ → Type 0) (null : Old 0) (Fresh : ℕ → ℕ → Type 0) (own : Bool) (young : ℕ → Bool) (receiver : ℕ) where
+  abbrev R : VType → Tag → ℕ → Type 0
+  R = SlotIs Old Fresh own young receiver
+
+  abbrev TagsFine : List VType → List VType → List ℕ → List ℕ → TagShape → Type 0
+  TagsFine ts ls vs us f = SlotsAre R ts f.stack vs × SlotsAre R ls f.locals us
+
+  dup_fine : (pc : ℕ) (ts ls : List VType) (s l held : List Tag) (vs us : List ℕ) → SlotsAre R ts (Untagged ∷ Untagged ∷ s) vs → SlotsAre R ls l us
+      → TagsFine ts ls vs us (record { stack = At pc ∷ At pc ∷ Rattle.checked_program.specs.LockTags.without pc s; locals = Rattle.checked_program.specs.LockTags.without pc l; held = held })
+  dup_fine pc (t ∷ u ∷ ts) ls s l held (v ∷ x ∷ vs) us h k = (
+    (slot_retag Old null Fresh own young receiver own t Untagged (At pc) v (λ e. cc) (λ e. cc) h.0, (slot_retag Old null Fresh own young receiver own u Untagged (At pc) x (λ e. cc) (λ e. cc) h.1.0, slots_without Old null Fresh own young receiver pc ts s vs h.1.1)),
+    slots_without Old null Fresh own young receiver pc ls l us k,
+  )
+  dup_fine pc (t ∷ []) ls s l held (v ∷ vs) us h k = absurd h.1
+  dup_fine pc (t ∷ u ∷ ts) ls s l held (v ∷ []) us h k = absurd h.1
+  dup_fine pc (t ∷ ts) ls s l held [] us h k = absurd h
+  dup_fine pc [] ls s l held vs us h k = absurd h
+
+  pub tags_fine : (p : Program) (m : MethodInfo) (pc : ℕ) (target : Target) (op : Op) (s l held : List Tag) (ts ls : List VType) (vs us : List ℕ)
+      → TagsFine ts ls vs us (moved_tags (row p m pc target op) (record { stack = s; locals = l; held = held })) → TagsFine ts ls vs us (tags_by_op pc (row p m pc target op) op s (record { stack = s; locals = l; held = held }))
+  tags_fine p m pc target ops.Dup (Untagged ∷ s) l held ts ls vs us h = dup_fine pc ts ls s l held vs us h.0 h.1
+  tags_fine p m pc target ops.Monitorenter (g ∷ s) l held ts ls vs us h = h
+  tags_fine p m pc target ops.Monitorexit s l held ts ls vs us h = h
+  tags_fine p m pc target op s l held ts ls vs us h = h
+
+  -- ---- by the row
+
+  abbrev pub RowMakes : OpRow → (made : ℕ) → Type 0
+  RowMakes r made = AllByRecursion (IsMade R made) r.gives × IsWriteMade R made r.writes
+
+  pub row_moves : (r : OpRow) (made : ℕ) (ts ls : List VType) (f : TagShape) (vs us : List ℕ) → SlotsAre R ts f.stack vs → SlotsAre R ls f.locals us → RowMakes r made
+      → TagsFine (stack_after types.Top (λ t. t) r ts ls) (locals_after types.Top (λ t. t) r.writes ts ls) (stack_after 0 (λ t. made) r vs us) (locals_after 0 (λ t. made) r.writes vs us) (moved_tags r f)
+  row_moves r made ts ls f vs us s l h =
+      let top = top_slot Old null Fresh own young receiver own in
+      (stack_moves R top made ts ls f.stack f.locals vs us s l r h.0, local_moves R top made ts ls f.stack f.locals vs us s l r.writes h.1)
+
+  -- ---- what is started, in the same world
+
+  pub start_ok : (b : Bool) (o : VType) (class : ℕ) → StartsOld young (Some (o, class)) → StartOk Old null Fresh own young receiver b o
+  start_ok true types.This class s = inl refl
+  start_ok true (types.New q) class s = inr (λ v h. subst (λ (x : Bool). if_so x (Fresh q v) (Old v)) s h)
+  start_ok false types.This class s = λ v h. h
+  start_ok false (types.New q) class s = λ v h. subst (λ (x : Bool). if_so x (Fresh q v) (Old v)) s h
+  start_ok true types.Int class s = absurd s
+  start_ok true types.Null class s = absurd s
+  start_ok true (types.Ref d) class s = absurd s
+  start_ok true types.Top class s = absurd s
+  start_ok false types.Int class s = absurd s
+  start_ok false types.Null class s = absurd s
+  start_ok false (types.Ref d) class s = absurd s
+  start_ok false types.Top class s = absurd s
+
+  pub old_started : (o : Option (VType × ℕ)) → StartsOld young o → (g : TypeFrame) (f : TagShape) (vs us : List ℕ) → TagsFine g.stack g.locals vs us f → TagsFine (after_start o g).stack (after_start o g).locals vs us f
+  old_started None s g f vs us h = h
+  old_started (Some x) s g f vs us h = (
+    slots_started Old null Fresh own young receiver x.0 x.1 g.stack f.stack vs (start_ok own x.0 x.1 s) h.0,
+    slots_started Old null Fresh own young receiver x.0 x.1 g.locals f.locals us (start_ok own x.0 x.1 s) h.1,
+  )
+
+-- ---- what is started, in a world where it is finished
+
+-- from slots in one world to slots in another, where those of the `new` at q are finished
+module _ (Old More : ℕ → Type 0) (null : Old 0) (Fresh Later : ℕ → ℕ → Type 0) (young : ℕ → Bool) (receiver q class : ℕ) (old : (v : ℕ) → Old v → More v) (here : (v : ℕ) → young q ≡ true → Fresh q v → More v) (there : (r v : ℕ) → r ≢ q → young r ≡ true → Fresh r v → Later r v) where
+  abbrev pub after_type : VType → VType
+  after_type u = if same_type (types.New q) u then types.Ref class else u
+
+  new_finished : (r v : ℕ) (b : Bool) → (q == r) ≡ b → (y : Bool) → young r ≡ y → if_so y (Fresh r v) (Old v) → SlotByType More Later young (if b then types.Ref class else types.New r) v
+  new_finished r v true e true z f = let same : r ≡ q = sym (same_from q r e) in here v (sym (ap young same) ∙ z) (subst (λ (x : ℕ). Fresh x v) same f)
+  new_finished r v true e false z f = old v f
+  new_finished r v false e true z f = rw z (there r v (λ s. other_from q r e (sym s)) z f)
+  new_finished r v false e false z f = rw z (old v f)
+
+  type_finished : (u : VType) (v : ℕ) → SlotByType Old Fresh young u v → SlotByType More Later young (after_type u) v
+  type_finished (types.New r) v f = new_finished r v (q == r) refl (young r) refl f
+  type_finished types.Null v f = f
+  type_finished (types.Ref d) v f = old v f
+  type_finished types.This v f = old v f
+  type_finished types.Int v f = tt
+  type_finished types.Top v f = tt
+
+  not_this_after : (u : VType) → u ≢ types.This → after_type u ≢ types.This
+  not_this_after u n = by_test (same_type (types.New q) u)
+    where
+      by_test : (b : Bool) → (if b then types.Ref class else u) ≢ types.This
+      by_test true = λ e. cc
+      by_test false = n
+
+  own_finished : (u : VType) (g : Tag) (v : ℕ) → OwnSlot Old Fresh young receiver u g v → OwnSlot More Later young receiver (after_type u) g v
+  own_finished u g v f = by_tag (not_this Old null Fresh true young receiver g)
+    where
+      by_tag : (g ≡ This) ⊎ (g ≢ This) → OwnSlot More Later young receiver (after_type u) g v
+      by_tag (inl e) = rw e (subst (λ (x : Tag). OwnSlot Old Fresh young receiver u x v) e f)
+      by_tag (inr n) =
+          let k = plainly Old null Fresh true young receiver u g v n f in
+          plain_slot More (old 0 null) Later true young receiver (after_type u) g v n (not_this_after u k.0) (type_finished u v k.1)
+
+  slot_finished : (own : Bool) (u : VType) (g : Tag) (v : ℕ) → SlotIs Old Fresh own young receiver u g v → SlotIs More Later own young receiver (after_type u) g v
+  slot_finished true u g v f = own_finished u g v f
+  slot_finished false u g v f = type_finished u v f
+
+  pub slots_finished : (own : Bool) (us : List VType) (gs : List Tag) (vs : List ℕ) → SlotsAre (SlotIs Old Fresh own young receiver) us gs vs → SlotsAre (SlotIs More Later own young receiver) (initialised (types.New q) class us) gs vs
+  slots_finished own [] [] [] f = tt
+  slots_finished own (u ∷ us) (g ∷ gs) (v ∷ vs) f = (slot_finished own u g v f.0, slots_finished own us gs vs f.1)
+  slots_finished own us gs vs f = absurd f
+
+-- ---- a frame goes on
+
+-- in a world that the thread leaves
+pub record Steps (w : World) (next t : ℕ) (P : World → Type 0) : Type 0 where
+  pub later : World
+  pub goes : GoesOn w later next next t 0
+  pub world : (first : ℕ) → IsWorld w first next → IsWorld later first next
+  pub keeps : P later
+
+pub stays : (w : World) (next t : ℕ) (P : World → Type 0) → P w → Steps w next t P
+stays w next t P k = record { later = w; goes = goes_same w next next t (omega arith); world = λ first is. is; keeps = k }
+
+pub steps_map : (w : World) (next t : ℕ) (P Q : World → Type 0) → ((v : World) → GoesOn w v next next t 0 → P v → Q v) → Steps w next t P → Steps w next t Q
+steps_map w next t P Q f k = record { later = k.later; goes = k.goes; world = k.world; keeps = f k.later k.goes k.keeps }
+
+number_in : (tos : List ℕ) (to : ℕ) → OneOf tos to → has_number tos to ≡ true
+number_in [] to h = absurd h
+number_in (x ∷ xs) to (inl e) = first (x == to) (has_number xs to) (grind (arith, nat_tests, e))
+  where
+    first : (a b : Bool) → a ≡ true → (a || b) ≡ true
+    first true b e = refl
+    first false b e = absurd (cc)
+number_in (x ∷ xs) to (inr h) = second (x == to) (has_number xs to) (number_in xs to h)
+  where
+    second : (a b : Bool) → b ≡ true → (a || b) ≡ true
+    second true b e = refl
+    second false b e = e
+
+module _ (c : MarkedProgram) (marked : IsMarked c) (frozen : ℕ → Bool) (are : AreFrozen c frozen) (w : World) (next t h : ℕ) (null : IsFinished w next 0) (inside : (v : ℕ) (b : Builder) → w v ≡ Some b → v < next) where
+  module _ (f : Frame) (k : FrameKeeps c frozen w next t h Runs f) (to made : ℕ) (edge : OneOf (edges k.stands.insn) to) where
+    abbrev m : MethodInfo
+    m = k.stands.method
+
+    abbrev r : OpRow
+    r = row_at c f k.stands
+
+    abbrev Row : Type 0
+    Row = RowMakes (IsFinished w next) null (IsFresh w t h Runs) (builds frozen k.stands.method) (makes_frozen frozen k.stands.method) f.receiver (row_at c f k.stands) made
+
+    moved : Row → SlotsAre (SlotOf frozen w next t h Runs m f.receiver) (stack_after types.Top (λ t. t) r k.stands.types.stack k.stands.types.locals) (moved_tags r k.stands.tags).stack (frame_on r to made f).stack
+        × SlotsAre (SlotOf frozen w next t h Runs m f.receiver) (locals_after types.Top (λ t. t) r.writes k.stands.types.stack k.stands.types.locals) (moved_tags r k.stands.tags).locals (frame_on r to made f).locals
+    moved makes = row_moves (IsFinished w next) null (IsFresh w t h Runs) (builds frozen m) (makes_frozen frozen m) f.receiver r made k.stands.types.stack k.stands.types.locals k.stands.tags f.stack f.locals k.stack k.locals makes
+
+    -- in a world where the slots are of the types behind the instruction
+    landed : (z : World) → IsFinished z next 0 → ReceiverIs z next t h (builds frozen m) f.receiver
+        → SlotsAre (SlotOf frozen z next t h Runs m f.receiver) (frame_after m r k.stands.types).stack (moved_tags r k.stands.tags).stack (frame_on r to made f).stack
+        → SlotsAre (SlotOf frozen z next t h Runs m f.receiver) (frame_after m r k.stands.types).locals (moved_tags r k.stands.tags).locals (frame_on r to made f).locals
+        → FrameKeeps c frozen z next t h Runs (frame_on r to made f)
+    landed z none receiver stack locals =
+        let edge_is : has_number (edges k.stands.insn) to ≡ true = number_in (edges k.stands.insn) to edge in
+        let fine = tags_fine (IsFinished z next) none (IsFresh z t h Runs) (builds frozen m) (makes_frozen frozen m) f.receiver c.program m k.stands.insn.pc k.stands.target k.stands.insn.op k.stands.tags.stack k.stands.tags.locals k.stands.tags.held
+        (frame_after m r k.stands.types).stack (frame_after m r k.stands.types).locals (frame_on r to made f).stack (frame_on r to made f).locals (stack, locals) in
+        land c marked frozen are z next t h none (frame_on r to made f) m k.stands.frames k.stands.at.frames (frame_after m r k.stands.types) (tags_after k.stands.insn r k.stands.tags) k.stands.at.in_program k.stands.types_of_method k.stands.at.of_method
+        (edge_at m (within c.program) m.code k.stands.frames (frame_after m r k.stands.types) (edges k.stands.insn) to (rules_at c marked f k.stands).sound.edges_fit edge)
+        (edge_fits c marked f k.stands to edge_is)
+        (joined_onward c marked frozen are f (frame_on r to made f) k.stands refl edge_is) receiver fine.0 fine.1
+
+    pub goes_old : Row → StartsOld (makes_frozen frozen m) (started m.class r.takes k.stands.types.stack) → FrameKeeps c frozen w next t h Runs (frame_on r to made f)
+    goes_old makes old =
+        let s = moved makes in
+        let after = old_started (IsFinished w next) null (IsFresh w t h Runs) (builds frozen m) (makes_frozen frozen m) f.receiver (started m.class r.takes k.stands.types.stack) old
+        (record { stack = stack_after types.Top (λ t. t) r k.stands.types.stack k.stands.types.locals; locals = locals_after types.Top (λ t. t) r.writes k.stands.types.stack k.stands.types.locals; ready = k.stands.types.ready })
+        (moved_tags r k.stands.tags) (frame_on r to made f).stack (frame_on r to made f).locals s in
+        landed w null k.receiver after.0 after.1
+
+    module _ (y : StartsYoung m (makes_frozen frozen m) (started m.class r.takes k.stands.types.stack)) where
+      abbrev gone : Builder
+      gone = builder t h (Made y.pc)
+
+      abbrev z : World
+      z = without w (builder t h (Made y.pc))
+
+      old_on : (v : ℕ) → IsFinished w next v → IsFinished z next v
+      old_on v o = (o.0, without_none w gone v o.1)
+
+      receiver_on : (own : Bool) → ReceiverIs w next t h own f.receiver → ReceiverIs z next t h own f.receiver
+      receiver_on true e = without_keeps w gone f.receiver (builder t h Begun) e (λ s. (let i : Begun ≡ Made y.pc = ap (λ (b : Builder). b.item) s in cc))
+      receiver_on false e = old_on f.receiver e
+
+      finish : (us : List VType) (gs : List Tag) (vs : List ℕ) → SlotsAre (SlotOf frozen w next t h Runs m f.receiver) us gs vs → SlotsAre (SlotOf frozen z next t h Runs m f.receiver) (initialised (types.New y.pc) y.class us) gs vs
+      finish us gs vs s = slots_finished (IsFinished w next) (IsFinished z next) null (IsFresh w t h Runs) (IsFresh z t h Runs) (makes_frozen frozen m) f.receiver y.pc y.class old_on
+          (λ v young e. (inside v gone e, without_gone w gone v e))
+          (λ r v n young e. without_keeps w gone v (builder t h (Made r)) e (λ s. n (let i : Made r ≡ Made y.pc = ap (λ (b : Builder). b.item) s in cc)))
+          (builds frozen m) us gs vs s
+
+      goes_young : Row → FrameKeeps c frozen z next t h Runs (frame_on r to made f)
+      goes_young makes =
+          let s = moved makes in
+          let after : (a : TypeFrame) × (a ≡ frame_after m r k.stands.types) × SlotsAre (SlotOf frozen z next t h Runs m f.receiver) a.stack (moved_tags r k.stands.tags).stack (frame_on r to made f).stack × SlotsAre (SlotOf frozen z next t h Runs m f.receiver) a.locals (moved_tags r k.stands.tags).locals (frame_on r to made f).locals = (
+            after_start (Some (types.New y.pc, y.class)) (record { stack = stack_after types.Top (λ t. t) r k.stands.types.stack k.stands.types.locals; locals = locals_after types.Top (λ t. t) r.writes k.stands.types.stack k.stands.types.locals; ready = k.stands.types.ready }),
+            ap (λ o. after_start o (record { stack = stack_after types.Top (λ t. t) r k.stands.types.stack k.stands.types.locals; locals = locals_after types.Top (λ t. t) r.writes k.stands.types.stack k.stands.types.locals; ready = k.stands.types.ready })) (sym y.is),
+            finish _ _ _ s.0,
+            finish _ _ _ s.1,
+          ) in
+          landed z (old_on 0 null) (receiver_on (builds frozen m) k.receiver)
+          (subst (λ (a : TypeFrame). SlotsAre (SlotOf frozen z next t h Runs m f.receiver) a.stack (moved_tags r k.stands.tags).stack (frame_on r to made f).stack) after.1 after.2)
+          (subst (λ (a : TypeFrame). SlotsAre (SlotOf frozen z next t h Runs m f.receiver) a.locals (moved_tags r k.stands.tags).locals (frame_on r to made f).locals) after.1 after.3)
+
+    pub goes : Row → Steps w next t (λ z. FrameKeeps c frozen z next t h Runs (frame_on r to made f) × KeepsUnder w z t h)
+    goes makes = by_start (starts m (makes_frozen frozen m) r.takes k.stands.types.stack (suit_at c marked f k.stands))
+      where
+        by_start : Starts m (makes_frozen frozen m) (started m.class r.takes k.stands.types.stack) → Steps w next t (λ z. FrameKeeps c frozen z next t h Runs (frame_on r to made f) × KeepsUnder w z t h)
+        by_start (inl old) = stays w next t (λ z. FrameKeeps c frozen z next t h Runs (frame_on r to made f) × KeepsUnder w z t h) (goes_old makes old, λ i l v x e. e)
+        by_start (inr y) = record {
+          later = without w (builder t h (Made y.pc));
+          goes = goes_without w next t (builder t h (Made y.pc)) refl;
+          world = λ first is. world_without w first next (builder t h (Made y.pc)) is;
+          keeps = (goes_young y makes, λ i l v x e. without_keeps w (builder t h (Made y.pc)) v (builder t i x) e (λ s. (let same : i ≡ h = ap (λ (b : Builder). b.height) s in omega (arith, same, l))));
+        }

@@ -1,0 +1,91 @@
+-- Outside an `<init>` no value has the type of an uninitialised `this`.
+use Rattle.std.proofs.Common.{◌≡◌, ◌≢◌, ℕ, zero, suc, ◌-◌, Bool, true, false, cond, ◌&&◌, List, [], ◌∷◌, ◌++◌, length, map, replicate, Option, Some, refl}
+use Rattle.std.specs.Prelude.{slice_get}
+use Rattle.std.specs.List.{AllByRecursion}
+use Rattle.jvm_types.specs.CodeTable.{row, is_init, type_of}
+use Rattle.jvm_types.specs.Members.{is_static}
+use Rattle.jvm_types.specs.Types.{TypeFrame, is_below, all_pairs, entry_frame, receiver_types}
+use Rattle.jvm_types.specs.Verifying.{frame_after, HasTyping, IsLaidOut}
+use Rattle.jvm_types.specs.declared.code.Insn.{Insn}
+use Rattle.jvm_types.specs.declared.program.Kind.{Kind}
+use Rattle.jvm_types.specs.declared.program.Kind.TheVariants as kinds
+use Rattle.jvm_types.specs.declared.program.MethodInfo.{MethodInfo}
+use Rattle.jvm_types.specs.declared.program.Program.{Program}
+use Rattle.jvm_types.specs.declared.program.Target.{Target}
+use Rattle.jvm_types.specs.declared.typing.VType.{VType}
+use Rattle.jvm_types.specs.declared.typing.VType.TheVariants.{Int, Null, Ref, This, New, Top}
+use Rattle.jvm_types.proofs.EachAfter.{all_append}
+use Rattle.jvm_types.proofs.FrameOrder.{stack_below, locals_below}
+use Rattle.laws_programs.proofs.RowsKeep.{types_fine, row_fine}
+use Rattle.checked_program.specs.LockTags.{TagShape}
+use Rattle.checked_program.specs.Tagging.{HasTagging}
+use Rattle.laws_objects.proofs.TaggedTypes.{all_have}
+
+abbrev pub IsOther : VType → Type 0
+IsOther t = t ≢ This
+
+pub record HaveNoThis (g : TypeFrame) : Type 0 where
+  pub stack : AllByRecursion IsOther g.stack
+  pub locals : AllByRecursion IsOther g.locals
+
+-- only `this` is below `this`
+pub other_above : (t u : VType) → is_below t u ≡ true → t ≢ This → u ≢ This
+other_above This u b n = absurd (n refl)
+other_above t Int b n = λ e. cc
+other_above t Null b n = λ e. cc
+other_above t (Ref c) b n = λ e. cc
+other_above t (New q) b n = λ e. cc
+other_above t Top b n = λ e. cc
+other_above Int This b n = absurd (cc)
+other_above Null This b n = absurd (cc)
+other_above (Ref c) This b n = absurd (cc)
+other_above (New q) This b n = absurd (cc)
+other_above Top This b n = absurd (cc)
+
+others_above : (ts us : List VType) → all_pairs is_below ts us ≡ true → AllByRecursion IsOther ts → AllByRecursion IsOther us
+others_above [] [] e a = tt
+others_above (t ∷ ts) (u ∷ us) e a = let parts = both (is_below t u) (all_pairs is_below ts us) e in (other_above t u parts.0 a.0, others_above ts us parts.1 a.1)
+  where
+    both : (a b : Bool) → (a && b) ≡ true → (a ≡ true) × (b ≡ true)
+    both true b e = (refl, e)
+    both false b e = absurd (cc)
+others_above [] (u ∷ us) e a = absurd (cc)
+others_above (t ∷ ts) [] e a = absurd (cc)
+
+kind_other : (kind : Kind) → IsOther (type_of kind)
+kind_other kinds.Int = λ e. cc
+kind_other kinds.Bool = λ e. cc
+kind_other (kinds.Ref class) = λ e. cc
+
+kinds_other : (ks : List Kind) → AllByRecursion IsOther (map type_of ks)
+kinds_other [] = tt
+kinds_other (kind ∷ ks) = (kind_other kind, kinds_other ks)
+
+tops_other : (n : ℕ) → AllByRecursion IsOther (replicate n Top)
+tops_other zero = tt
+tops_other (suc n) = ((λ e. cc), tops_other n)
+
+receiver_other : (static init : Bool) (class : ℕ) → init ≡ false → AllByRecursion IsOther (cond static [] (cond init This (Ref class) ∷ []))
+receiver_other true init class e = tt
+receiver_other false true class e = absurd (cc)
+receiver_other false false class e = ((λ h. cc), tt)
+
+entry_other : (m : MethodInfo) → is_init m ≡ false → HaveNoThis (entry_frame m)
+entry_other m e = record {
+  stack = tt;
+  locals = all_append IsOther (receiver_types m ++ map type_of m.args) _ (all_append IsOther (receiver_types m) (map type_of m.args) (receiver_other (is_static m.flags) (is_init m) m.class e) (kinds_other m.args))
+      (tops_other (m.max_locals - length (receiver_types m ++ map type_of m.args)));
+}
+
+after_other : (p : Program) (m : MethodInfo) (insn : Insn) (target : Target) (g : TypeFrame) → HaveNoThis g → HaveNoThis (frame_after m (row p m insn.pc target insn.op) g)
+after_other p m insn target g k =
+    let fine = row_fine IsOther (λ e. cc) (λ e. cc) (λ e. cc) (λ c e. cc) p m insn.pc (λ e. cc) target insn.op in
+    let h = types_fine IsOther (λ e. cc) (λ c e. cc) m (row p m insn.pc target insn.op) g fine.0 fine.1 k.stack k.locals in
+    record { stack = h.0; locals = h.1 }
+
+-- wherever tagging reaches
+pub no_this : (p : Program) (m : MethodInfo) (frames : List (Option TypeFrame)) (tags : List (Option TagShape)) → IsLaidOut m → HasTyping p m frames → HasTagging p m tags → is_init m ≡ false
+    → (i : ℕ) (g : TypeFrame) (f : TagShape) → slice_get frames i ≡ Some (Some g) → slice_get tags i ≡ Some (Some f) → HaveNoThis g
+no_this p m frames tags laid typed tagged init =
+    all_have p m frames laid typed (λ g f. HaveNoThis g) (entry_other m init) (λ g h f e k. record { stack = others_above g.stack h.stack (stack_below g h e) k.stack; locals = others_above g.locals h.locals (locals_below g h e) k.locals })
+    (λ g f h a b. a) (λ insn target g f k. after_other p m insn target g k) (λ handler g f k. record { stack = ((λ e. cc), tt); locals = k.locals }) tags tagged

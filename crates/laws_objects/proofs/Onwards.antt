@@ -1,0 +1,284 @@
+-- How a thread goes on keeps what construction says of its frames and of what it carries.
+use Rattle.std.proofs.Common.{◌≡◌, ◌≢◌, ℕ, ◌<◌, Bool, true, false, List, [], ◌∷◌, length, Option, Some, None, refl, sym, ap, ◌∙◌, subst, arith}
+use Rattle.std.specs.Prelude.{slice_get, option_map, reverse, take, if◌then◌else◌}
+use Rattle.std.specs.List.{AllByRecursion}
+use Rattle.lists.proofs.ListLaws.{same_some}
+use Rattle.jvm_types.specs.CodeTable.{can_throw, row}
+use Rattle.jvm_types.specs.Members.{Site, is_synchronized}
+use Rattle.jvm_types.specs.ProgramInvariant.{words_of, site_in}
+use Rattle.jvm_types.specs.Verifying.{edges, is_return}
+use Rattle.jvm_types.specs.declared.code.Op.{Op}
+use Rattle.jvm_types.specs.declared.code.Op.TheVariants as ops
+use Rattle.jvm_types.specs.declared.op_row.Given.{Given}
+use Rattle.jvm_types.specs.declared.op_row.Given.TheVariants.{Fresh as Anew, Taken, Local}
+use Rattle.jvm_types.specs.declared.op_row.OpRow.{OpRow}
+use Rattle.jvm_types.specs.declared.outcome.Thrown.{Thrown}
+use Rattle.jvm_types.specs.declared.outcome.Thrown.TheVariants as thrown
+use Rattle.jvm_types.specs.declared.program.FieldInfo.{FieldInfo}
+use Rattle.jvm_types.specs.declared.program.MethodInfo.{MethodInfo}
+use Rattle.jvm_types.specs.declared.program.Program.{Program}
+use Rattle.jvm_types.specs.declared.program.Row.{Row}
+use Rattle.jvm_types.specs.declared.program.Target.{Target}
+use Rattle.jvm_types.specs.declared.program.Target.TheVariants as targets
+use Rattle.jvm_types.specs.declared.typing.VType.{VType}
+use Rattle.jvm_types.specs.declared.typing.VType.TheVariants as types
+use Rattle.laws_programs.specs.TargetLaws.{HasRow}
+use Rattle.checked_program.specs.MarkedProgram.{MarkedProgram, IsMarked}
+use Rattle.checked_program.specs.Marks.{called_method}
+use Rattle.checked_program.specs.declared.tag.Tag.TheVariants.{Untagged}
+use Rattle.machine_types.specs.Construction.{AreFrozen, builds, makes_frozen, SlotByType, Runs, Throws as Loose, IsFresh, ReceiverIs, SlotOf, FrameKeeps, KeepBelow, FramesKeep, turn_by, AfterKeeps}
+use Rattle.machine_types.specs.declared.effect.Effect.{Effect}
+use Rattle.machine_types.specs.declared.effect.Effect.TheVariants.{Goes, Throws, Reads, Writes, Indexes, Measures, Raises, Makes, Prints, Calls, Returns, Enters, Leaves, Waits, Notifies, NotifiesAll, Stuck}
+use Rattle.machine_types.specs.Frames.{Top, effect_at, frame_on, went, went_on, waiting, has_room, entry_frame, arguments_of, monitor_of, given_back, given, returned, handler_of, handler_at}
+use Rattle.machine_types.specs.Onward.{Onward, Running, Throwing, Entering, Leaving, RootReturned, Uncaught, threw, entered, called, returns, back, unwound, handed, dispatched, after, done}
+use Rattle.machine_types.specs.ReadyObjects.{ready, class_of, thrown_of, out_object}
+use Rattle.machine_types.specs.Standing.{Standing, row_at}
+use Rattle.machine_types.specs.Structure.{TopIs, AfterShows, operands_after}
+use Rattle.machine_types.specs.Threads.{Frame}
+use Rattle.machine_types.specs.Typed.{Classes}
+use Rattle.machine_types.specs.Words.{header_class, header_length}
+use Rattle.machine_types.specs.Worlds.{Begun, Builder, builder, World, IsFinished, IsOwnOrFinished, IsWorld, GoesOn}
+use Rattle.machine_types.specs.declared.phase.After.{After}
+use Rattle.machine_types.specs.declared.phase.After.TheVariants.{Next, Return, Unwind}
+use Rattle.laws_threads.specs.Allowed.{OneOf, IsFieldAt, IsByMachine, Allowed}
+use Rattle.laws_threads.proofs.Landing.{stand_top, rules_at}
+use Rattle.laws_threads.proofs.TopStand.{top_here}
+use Rattle.laws_objects.proofs.BuiltEffects.{KindOld, TypeOld, GivenOld, RowOld, Built, effect_built, NamesField}
+use Rattle.laws_objects.proofs.CalledFrames.{below_moved}
+use Rattle.laws_objects.proofs.Calling.{CallKeeps, calls_it}
+use Rattle.laws_objects.proofs.KeptFrames.{KeepsUnder, below_kept}
+use Rattle.laws_objects.proofs.Moves.{RowMakes, Steps, stays, steps_map, goes}
+use Rattle.laws_objects.proofs.Operands.{is_getfield, takes_old}
+use Rattle.laws_objects.proofs.ReturnedFrames.{result_old, resumes}
+use Rattle.laws_objects.proofs.Slots.{IsMade, made_slot}
+use Rattle.laws_objects.proofs.ThrowingFrames.{frames_throw, frames_unwound, handled}
+use Rattle.laws_objects.proofs.Views.{finished_on}
+use Rattle.laws_objects.proofs.WorldChanges.{none_some}
+
+-- ---- what is kept
+
+abbrev pub OnwardKeeps : MarkedProgram → (frozen : ℕ → Bool) → World → (next t : ℕ) → Onward → Type 0
+OnwardKeeps c frozen w next t (Running fs) = FramesKeep c frozen w next t Runs fs
+OnwardKeeps c frozen w next t (Throwing x class fs) = IsFinished w next x × FramesKeep c frozen w next t Loose fs
+OnwardKeeps c frozen w next t (Entering m fs) = IsOwnOrFinished w next t m × FramesKeep c frozen w next t Runs fs
+OnwardKeeps c frozen w next t (Leaving m a fs) = IsOwnOrFinished w next t m × AfterKeeps w next a × FramesKeep c frozen w next t (turn_by (operands_after a)) fs
+OnwardKeeps c frozen w next t RootReturned = Unit {0}
+OnwardKeeps c frozen w next t (Uncaught class) = Unit {0}
+
+abbrev pub IfKeeps : MarkedProgram → (frozen : ℕ → Bool) → World → (next t : ℕ) → Option Onward → Type 0
+IfKeeps c frozen w next t None = Unit {0}
+IfKeeps c frozen w next t (Some o) = Steps w next t (λ z. OnwardKeeps c frozen z next t o)
+
+-- what is there from the start is finished
+pub first_finished : (w : World) (first next v : ℕ) → IsWorld w first next → v < first → IsFinished w next v
+first_finished w first next v is l = ((let r = is.room in omega (arith, r, l)), by_was (w v) refl)
+  where
+    by_was : (o : Option Builder) → w v ≡ o → w v ≡ None
+    by_was None e = e
+    by_was (Some b) e = absurd (let i = (is.inside v b e).0 in omega (arith, i, l))
+
+pub ready_first : (p : Program) (x : Thrown) → IsByMachine x → ready x < words_of p
+ready_first p thrown.ArithmeticException own = omega arith
+ready_first p thrown.NullPointerException own = omega arith
+ready_first p thrown.ArrayIndexOutOfBoundsException own = omega arith
+ready_first p thrown.NegativeArraySizeException own = omega arith
+ready_first p thrown.IllegalMonitorStateException own = omega arith
+ready_first p thrown.OutOfMemoryError own = omega arith
+ready_first p thrown.StackOverflowError own = omega arith
+ready_first p x own = absurd own
+
+pub out_first : (p : Program) → out_object < words_of p
+out_first p = omega arith
+
+pub finished_known : (w : World) (next t v : ℕ) → IsFinished w next v → IsOwnOrFinished w next t v
+finished_known w next t v o = (o.0, λ b e. absurd (none_some (w v) b o.1 e))
+
+-- a `getfield` names a field
+getfield_names : (p : Program) (site : Site) (pc : ℕ) (target : Target) (op : Op) (r : OpRow) → HasRow p site pc target op r → is_getfield op ≡ true → (number : ℕ) × (target ≡ targets.Field number)
+getfield_names p site pc (targets.Field number) (ops.Getfield i) r h e = (number, refl)
+getfield_names p site pc targets.Nothing (ops.Getfield i) r h e = absurd (let bad : true ≡ false = h in cc)
+getfield_names p site pc target (ops.Getfield i) r h e = absurd h
+getfield_names p site pc target op r h e = absurd (let bad : false ≡ true = e in cc)
+
+module _ (c : MarkedProgram) (marked : IsMarked c) (frozen : ℕ → Bool) (are : AreFrozen c frozen) (w : World) (next t : ℕ) (is_world : IsWorld w (words_of c.program) next) where
+  pub null : IsFinished w next 0
+  null = first_finished w (words_of c.program) next 0 is_world (omega arith)
+
+  inside : (v : ℕ) (b : Builder) → w v ≡ Some b → v < next
+  inside v b e = (is_world.inside v b e).1
+
+  pub receiver_known : (h : ℕ) (own : Bool) (v : ℕ) → ReceiverIs w next t h own v → IsOwnOrFinished w next t v
+  receiver_known h true v e = (inside v (builder t h Begun) e, λ b g. (let same : builder t h Begun ≡ b = cc in ap (λ (x : Builder). x.thread) (sym same)))
+  receiver_known h false v o = finished_known w next t v o
+
+  -- ---- exceptions
+
+  pub ends_above : (x : ℕ) (class : Thrown) (f : Frame) (fs : List Frame) → IsFinished w next x → KeepBelow c frozen w next t f fs → OnwardKeeps c frozen w next t (unwound x class fs)
+  ends_above x class f [] old b = tt
+  ends_above x class f (g ∷ gs) old b = (old, frames_unwound c frozen w next t f (g ∷ gs) b)
+
+  hands : (x : ℕ) (class : Thrown) (f : Frame) (fs : List Frame) (k : FrameKeeps c frozen w next t (length fs) Loose f) → KeepBelow c frozen w next t f fs → IsFinished w next x → can_throw k.stands.insn.op ≡ true
+      → (o : Option Row) → handler_of f.pc (class_of class) k.stands.method.rows ≡ o → OnwardKeeps c frozen w next t (handed x class (top_here c f fs k.stands) o)
+  hands x class f fs k b old throws (Some r) e = (handled c marked frozen are w next t (length fs) null f k x (class_of class) r throws old e, below_moved c frozen w next t f r.handler (x ∷ []) f.locals fs b)
+  hands x class f fs k b old throws None e = by_flag (is_synchronized k.stands.method.flags)
+    where
+      by_flag : (s : Bool) → OnwardKeeps c frozen w next t (if s then Leaving (monitor_of k.stands.method f) (Unwind x class) (f ∷ fs) else unwound x class fs)
+      by_flag true = (receiver_known (length fs) (builds frozen k.stands.method) f.receiver k.receiver, old, (k, b))
+      by_flag false = ends_above x class f fs old b
+
+  -- two places of a frame are one
+  pub same_op : (f : Frame) (k h : Standing c f) → k.insn.op ≡ h.insn.op
+  same_op f k h =
+      let same : top_here c f [] k ≡ top_here c f [] h = same_some (sym (stand_top c marked f [] k) ∙ stand_top c marked f [] h) in
+      ap (λ (at : Top). at.insn.op) same
+
+  pub dispatches : (x : ℕ) (class : Thrown) (fs : List Frame) → IsFinished w next x → FramesKeep c frozen w next t Loose fs → TopIs c can_throw fs → IfKeeps c frozen w next t (dispatched c.program x class fs)
+  dispatches x class [] old k top = absurd top
+  dispatches x class (f ∷ fs) old k top =
+      subst (λ o. IfKeeps c frozen w next t (option_map (λ at. handed x class at (handler_at (class_of class) at)) o)) (sym (stand_top c marked f fs k.0.stands))
+      (stays w next t (λ z. OnwardKeeps c frozen z next t (handed x class (top_here c f fs k.0.stands) (handler_of f.pc (class_of class) k.0.stands.method.rows)))
+      (hands x class f fs k.0 k.1 old (ap can_throw (same_op f k.0.stands top.0) ∙ top.1) (handler_of f.pc (class_of class) k.0.stands.method.rows) refl))
+
+  -- ---- returns
+
+  pub goes_below : (f : Frame) (fs : List Frame) (k : FrameKeeps c frozen w next t (length fs) Runs f) → KeepBelow c frozen w next t f fs → is_return k.stands.insn.op ≡ true
+      → Steps w next t (λ z. OnwardKeeps c frozen z next t (back (returned c.program (top_here c f fs k.stands))))
+  goes_below f [] k b r = stays w next t (λ z. OnwardKeeps c frozen z next t RootReturned) tt
+  goes_below f (g ∷ gs) k b r =
+      let result : List ℕ = given_back k.stands.insn.op f.stack in
+      subst (λ o. Steps w next t (λ z. OnwardKeeps c frozen z next t (back (given result o)))) (sym (stand_top c marked g gs b.0.keeps.stands))
+      (resumes c marked frozen are w next t null inside f.method f.receiver k.stands.method k.stands.at.in_program g gs b.0 b.1 k.receiver result (result_old c marked frozen are w next t (length (g ∷ gs)) null f k r))
+
+  pub goes_out : (f : Frame) (fs : List Frame) (k : FrameKeeps c frozen w next t (length fs) Runs f) → KeepBelow c frozen w next t f fs → is_return k.stands.insn.op ≡ true
+      → Steps w next t (λ z. OnwardKeeps c frozen z next t (returns c.program (top_here c f fs k.stands)))
+  goes_out f fs k b r = by_flag (is_synchronized k.stands.method.flags)
+    where
+      by_flag : (s : Bool) → Steps w next t (λ z. OnwardKeeps c frozen z next t (if s then Leaving (monitor_of k.stands.method f) Return (f ∷ fs) else back (returned c.program (top_here c f fs k.stands))))
+      by_flag true = stays w next t (λ z. OnwardKeeps c frozen z next t (Leaving (monitor_of k.stands.method f) Return (f ∷ fs))) (receiver_known (length fs) (builds frozen k.stands.method) f.receiver k.receiver, tt, (k, b))
+      by_flag false = goes_below f fs k b r
+
+  -- ---- when a monitor was left
+
+  pub goes_after_it : (m : ℕ) (a : After) (fs : List Frame) → AfterKeeps w next a → FramesKeep c frozen w next t (turn_by (operands_after a)) fs → AfterShows c m a fs → IfKeeps c frozen w next t (after c.program fs a)
+  goes_after_it m Next fs old k s = stays w next t (λ z. OnwardKeeps c frozen z next t (Running fs)) k
+  goes_after_it m Return [] old k s = tt
+  goes_after_it m Return (f ∷ fs) old k s =
+      subst (λ o. IfKeeps c frozen w next t (option_map (λ at. back (returned c.program at)) o)) (sym (stand_top c marked f fs k.0.stands)) (goes_below f fs k.0 k.1 (ap is_return (same_op f k.0.stands s.0) ∙ s.2))
+  goes_after_it m (Unwind x class) [] old k s = stays w next t (λ z. OnwardKeeps c frozen z next t (Uncaught class)) tt
+  goes_after_it m (Unwind x class) (f ∷ fs) old k s = stays w next t (λ z. OnwardKeeps c frozen z next t (unwound x class fs)) (ends_above x class f fs old k.1)
+
+  -- ---- one instruction
+
+  -- the word that an instruction finds in a field is one that it may hold
+  abbrev pub FoundOld : Classes → Target → Effect → (got : ℕ) → Type 0
+  FoundOld is target (Reads v) got = (f : FieldInfo) → IsFieldAt c.program is target v f → KindOld (IsFinished w next) f.kind got
+  FoundOld is target e got = Unit {0}
+
+  module _ (f : Frame) (fs : List Frame) (k : FrameKeeps c frozen w next t (length fs) Runs f) (b : KeepBelow c frozen w next t f fs) where
+    abbrev pub at : Top
+    at = top_here c f fs k.stands
+
+    abbrev pub r : OpRow
+    r = row_at c f k.stands
+
+    given_made : (made : ℕ) (x : Given) → GivenOld (IsFinished w next) made x → IsMade (SlotOf frozen w next t (length fs) Runs k.stands.method f.receiver) made x
+    given_made made (Anew type) h = of_type type h
+      where
+        slot : (type : VType) → type ≢ types.This → SlotByType (IsFinished w next) (IsFresh w t (length fs) Runs) (makes_frozen frozen k.stands.method) type made → SlotOf frozen w next t (length fs) Runs k.stands.method f.receiver type Untagged made
+        slot type n s = made_slot (IsFinished w next) null (IsFresh w t (length fs) Runs) (builds frozen k.stands.method) (makes_frozen frozen k.stands.method) f.receiver (builds frozen k.stands.method) type made n s
+
+        of_type : (type : VType) → TypeOld (IsFinished w next) type made → SlotOf frozen w next t (length fs) Runs k.stands.method f.receiver type Untagged made
+        of_type types.Null h = slot types.Null (λ e. cc) h
+        of_type (types.Ref class) h = slot (types.Ref class) (λ e. cc) h
+        of_type types.Int h = slot types.Int (λ e. cc) tt
+        of_type types.Top h = slot types.Top (λ e. cc) tt
+        of_type types.This h = absurd h
+        of_type (types.New pc) h = absurd h
+    given_made made (Taken place) h = tt
+    given_made made (Local i) h = tt
+
+    all_made : (made : ℕ) (xs : List Given) → AllByRecursion (GivenOld (IsFinished w next) made) xs → AllByRecursion (IsMade (SlotOf frozen w next t (length fs) Runs k.stands.method f.receiver) made) xs
+    all_made made [] h = tt
+    all_made made (x ∷ xs) h = (given_made made x h.0, all_made made xs h.1)
+
+    row_made : (made : ℕ) → RowOld (IsFinished w next) r made → RowMakes (IsFinished w next) null (IsFresh w t (length fs) Runs) (builds frozen k.stands.method) (makes_frozen frozen k.stands.method) f.receiver r made
+    row_made made h = (all_made made r.gives h.0, write r.writes h.1)
+      where
+        write : (o : Option (ℕ × Given)) → Rattle.laws_objects.proofs.BuiltEffects.WriteOld (IsFinished w next) made o → Rattle.laws_objects.proofs.Slots.IsWriteMade (SlotOf frozen w next t (length fs) Runs k.stands.method f.receiver) made o
+        write None h = tt
+        write (Some x) h = given_made made x.1 h
+
+    pub runs_on : (to made : ℕ) → OneOf (edges k.stands.insn) to → RowOld (IsFinished w next) r made → Steps w next t (λ z. FramesKeep c frozen z next t Runs (went c.program at to made))
+    runs_on to made edge old =
+        steps_map w next t (λ z. FrameKeeps c frozen z next t (length fs) Runs (frame_on r to made f) × KeepsUnder w z t (length fs)) (λ z. FramesKeep c frozen z next t Runs (went c.program at to made))
+        (λ z g p. (p.0, below_moved c frozen z next t f to (frame_on r to made f).stack (frame_on r to made f).locals fs (below_kept c frozen w z next next t (finished_on w z next next t g) f fs p.1 b)))
+        (goes c marked frozen are w next t (length fs) null inside f k to made edge (row_made made old))
+
+    pub throws_it : (x : Thrown) → IsByMachine x → OnwardKeeps c frozen w next t (threw x at)
+    throws_it x own = (first_finished w (words_of c.program) next (ready x) is_world (ready_first c.program x own), frames_throw c frozen w next t Runs (f ∷ fs) (k, b))
+
+    pub built_here : Built (IsFinished w next) c.program k.stands.target r (effect_at c.program at)
+    built_here = effect_built (IsFinished w next) (first_finished w (words_of c.program) next out_object is_world (out_first c.program)) c.program k.stands.method k.stands.insn.pc k.stands.insn.next k.stands.target k.stands.insn.op f.locals f.stack
+        (getfield_names c.program (site_in k.stands.method) k.stands.insn.pc k.stands.target k.stands.insn.op r (rules_at c marked f k.stands).has_row)
+        (λ get. takes_old c marked frozen are w next t (length fs) f k null get)
+
+    -- a call
+    calls_keep : (number : ℕ) (m : MethodInfo) → slice_get c.program.methods number ≡ Some m → called_method k.stands.insn.op k.stands.target ≡ Some number → Steps w next t (λ z. OnwardKeeps c frozen z next t (called c.program at number m))
+    calls_keep number m there calls = by_room (has_room c.program (f ∷ fs) m)
+      where
+        args : List ℕ
+        args = reverse (take (length r.takes) f.stack)
+
+        by_flag : (s : Bool) → Steps w next t (λ z. OnwardKeeps c frozen z next t (if s then Entering (entry_frame number m (arguments_of c.program at)).receiver (entry_frame number m (arguments_of c.program at) ∷ waiting c.program at)
+            else Running (entry_frame number m (arguments_of c.program at) ∷ waiting c.program at)))
+        by_flag true = steps_map w next t (CallKeeps c marked frozen are w next t null (words_of c.program) is_world f fs k b number m there calls (arguments_of c.program at)) (λ z. OnwardKeeps c frozen z next t (Entering (entry_frame number m (arguments_of c.program at)).receiver (entry_frame number m (arguments_of c.program at) ∷ waiting c.program at)))
+            (λ z g p. (p.1, p.0)) (calls_it c marked frozen are w next t null (words_of c.program) is_world f fs k b number m there calls)
+        by_flag false = steps_map w next t (CallKeeps c marked frozen are w next t null (words_of c.program) is_world f fs k b number m there calls (arguments_of c.program at)) (λ z. OnwardKeeps c frozen z next t (Running (entry_frame number m (arguments_of c.program at) ∷ waiting c.program at)))
+            (λ z g p. p.0) (calls_it c marked frozen are w next t null (words_of c.program) is_world f fs k b number m there calls)
+
+        by_room : (room : Bool) → Steps w next t (λ z. OnwardKeeps c frozen z next t (if room then entered m (entry_frame number m (arguments_of c.program at)) (waiting c.program at) else threw thrown.StackOverflowError at))
+        by_room true = by_flag (is_synchronized m.flags)
+        by_room false = stays w next t (λ z. OnwardKeeps c frozen z next t (threw thrown.StackOverflowError at)) (throws_it thrown.StackOverflowError tt)
+
+    call_named : (site : Site) (pc number : ℕ) (op : Op) (target : Target) (row : OpRow) → HasRow c.program site pc target op row → target ≡ targets.Method number → called_method op target ≡ Some number
+    call_named site pc number op target row h e = subst (λ (x : Target). called_method op x ≡ Some number) (sym e) (by_op op (subst (λ (x : Target). HasRow c.program site pc x op row) e h))
+      where
+        by_op : (op : Op) → HasRow c.program site pc (targets.Method number) op row → called_method op (targets.Method number) ≡ Some number
+        by_op (ops.Invokevirtual i) h = refl
+        by_op (ops.Invokespecial i) h = refl
+        by_op (ops.Invokestatic i) h = refl
+        by_op op h = absurd (assumption)
+
+    raises_it : (x got : ℕ) (o : Option Thrown) → IsFinished w next x → IfKeeps c frozen w next t (option_map (λ class. Throwing x class (f ∷ fs)) o)
+    raises_it x got None old = tt
+    raises_it x got (Some class) old = stays w next t (λ z. OnwardKeeps c frozen z next t (Throwing x class (f ∷ fs))) (old, frames_throw c frozen w next t Runs (f ∷ fs) (k, b))
+
+    abbrev AllowedAs : Classes → Effect → Type 0
+    AllowedAs is e = Allowed c.program k.stands.method is k.stands.insn k.stands.target (row_at c f k.stands) f.stack e
+
+    known_on : (m : ℕ) (z : World) → GoesOn w z next next t 0 → IsFinished w next m → IsOwnOrFinished z next t m
+    known_on m z g old = finished_known z next t m (finished_on w z next next t g m old)
+
+    pub does_it : (is : Classes) (e : Effect) (got : ℕ) → AllowedAs is e → Built (IsFinished w next) c.program k.stands.target r e → FoundOld is k.stands.target e got → IfKeeps c frozen w next t (done c.program at e got)
+    does_it is (Goes to made) got a built found = runs_on to made a.0 built
+    does_it is (Throws x) got a built found = stays w next t (λ z. OnwardKeeps c frozen z next t (threw x at)) (throws_it x a.1)
+    does_it is (Reads v) got a built found =
+        let field = a.2 in
+        runs_on k.stands.insn.next got a.0 (built field.number a.1 field.named field.there got (found a.1 a.2))
+    does_it is (Writes v word) got a built found = runs_on k.stands.insn.next 0 a.0 built.1
+    does_it is (Measures x) got a built found = runs_on k.stands.insn.next (header_length got) a.0 (built (header_length got))
+    does_it is (Raises x) got a built found = raises_it x got (thrown_of (header_class got)) built
+    does_it is (Prints n) got a built found = runs_on k.stands.insn.next 0 a.0 built
+    does_it is (Calls number) got a built found = subst (λ o. IfKeeps c frozen w next t (option_map (called c.program at number) o)) (sym a.2)
+        (calls_keep number a.0 a.2 (call_named (site_in k.stands.method) k.stands.insn.pc number k.stands.insn.op k.stands.target r (rules_at c marked f k.stands).has_row a.1))
+    does_it is Returns got a built found = goes_out f fs k b a
+    does_it is (Enters m) got a built found = steps_map w next t (λ z. FramesKeep c frozen z next t Runs (went_on c.program at 0)) (λ z. OnwardKeeps c frozen z next t (Entering m (went_on c.program at 0)))
+        (λ z g p. (known_on m z g built.0, p)) (runs_on k.stands.insn.next 0 a.0 built.1)
+    does_it is (Leaves m) got a built found = steps_map w next t (λ z. FramesKeep c frozen z next t Runs (went_on c.program at 0)) (λ z. OnwardKeeps c frozen z next t (Leaving m Next (went_on c.program at 0)))
+        (λ z g p. (known_on m z g built.0, tt, p)) (runs_on k.stands.insn.next 0 a.0 built.1)
+    does_it is (Indexes x i stored) got a built found = tt
+    does_it is (Makes word size) got a built found = tt
+    does_it is (Waits m) got a built found = tt
+    does_it is (Notifies m) got a built found = tt
+    does_it is (NotifiesAll m) got a built found = tt
+    does_it is Stuck got a built found = tt

@@ -1,0 +1,149 @@
+-- Values that an instruction takes as references to objects are finished: an `<init>` of a frozen class gives its `this` to none.
+use Rattle.std.proofs.Common.{◌≡◌, ◌≢◌, ℕ, zero, suc, ◌<◌, Bool, true, false, not, ◌&&◌, List, [], ◌∷◌, length, Option, Some, None, refl, subst, sym, arith}
+use Rattle.std.specs.Prelude.{◌==◌, slice_get, slice_index_or}
+use Rattle.std.proofs.lemmas.Bool.{or_parts}
+use Rattle.lists.proofs.TestLaws.{is_true}
+use Rattle.jvm_types.specs.CodeTable.{put_row, row}
+use Rattle.jvm_types.specs.Types.{is_below}
+use Rattle.jvm_types.specs.Verifying.{suits, some_taken}
+use Rattle.jvm_types.specs.declared.code.Op.{Op}
+use Rattle.jvm_types.specs.declared.code.Op.TheVariants as ops
+use Rattle.jvm_types.specs.declared.op_row.Want.{Want}
+use Rattle.jvm_types.specs.declared.op_row.Want.TheVariants.{AnyValue, AnInt, AnObject, AnyReference, AHolder, ToStart}
+use Rattle.jvm_types.specs.declared.program.FieldInfo.{FieldInfo}
+use Rattle.jvm_types.specs.declared.program.MethodInfo.{MethodInfo}
+use Rattle.jvm_types.specs.declared.program.Program.{Program}
+use Rattle.jvm_types.specs.declared.program.Target.{Target}
+use Rattle.jvm_types.specs.declared.program.Target.TheVariants as targets
+use Rattle.jvm_types.specs.declared.typing.VType.{VType}
+use Rattle.jvm_types.specs.declared.typing.VType.TheVariants as types
+use Rattle.checked_program.specs.FrozenPlaces.{may_take}
+use Rattle.checked_program.specs.MarkedProgram.{MarkedProgram, IsMarked}
+use Rattle.checked_program.specs.declared.tag.Tag.{Tag}
+use Rattle.checked_program.specs.declared.tag.Tag.TheVariants.{Untagged, This}
+use Rattle.machine_types.specs.Construction.{AreFrozen, builds, makes_frozen, SlotByType, SlotIs, SlotsAre, Runs, IsFresh, FrameKeeps}
+use Rattle.machine_types.specs.Standing.{Standing, row_at}
+use Rattle.machine_types.specs.Threads.{Frame}
+use Rattle.machine_types.specs.Worlds.{World, IsFinished}
+use Rattle.laws_objects.proofs.Landing.{inside_at}
+use Rattle.laws_objects.proofs.Moves.{Suit, suit_at}
+use Rattle.laws_objects.proofs.Slots.{plainly}
+
+-- ---- what is taken
+
+abbrev pub WantOld : (ℕ → Type 0) → Want → (v : ℕ) → Type 0
+WantOld Old (AnObject class) v = Old v
+WantOld Old want v = Unit {0}
+
+abbrev pub TakenOld : (ℕ → Type 0) → List Want → List ℕ → Type 0
+TakenOld Old (want ∷ wants) (v ∷ vs) = WantOld Old want v × TakenOld Old wants vs
+TakenOld Old wants vs = Unit {0}
+
+-- an `<init>` of a frozen class takes no `this` as an object
+abbrev pub NoThis : Want → Tag → Type 0
+NoThis (AnObject class) g = g ≢ This
+NoThis want g = Unit {0}
+
+abbrev pub TakesNoThis : List Want → List Tag → Type 0
+TakesNoThis (want ∷ wants) (g ∷ gs) = NoThis want g × TakesNoThis wants gs
+TakesNoThis wants gs = Unit {0}
+
+module _ (m : MethodInfo) (Old : ℕ → Type 0) (null : Old 0) (Fresh : ℕ → ℕ → Type 0) (own : Bool) (young : ℕ → Bool) (receiver : ℕ) where
+  ref_old : (u : VType) (class v : ℕ) → is_below u (types.Ref class) ≡ true → SlotByType Old Fresh young u v → Old v
+  ref_old types.Null class v b h = subst Old (sym h) null
+  ref_old (types.Ref d) class v b h = h
+  ref_old u class v b h = absurd (cc)
+
+  object_old : (o : Bool) (u : VType) (g : Tag) (class v : ℕ) → (o ≡ true → g ≢ This) → is_below u (types.Ref class) ≡ true → SlotIs Old Fresh o young receiver u g v → Old v
+  object_old true u g class v n b h = ref_old u class v b (plainly Old null Fresh true young receiver u g v (n refl) h).1
+  object_old false u g class v n b h = ref_old u class v b h
+
+  want_old : (want : Want) (u : VType) (g : Tag) (v : ℕ) → (own ≡ true → NoThis want g) → suits m want u ≡ true → SlotIs Old Fresh own young receiver u g v → WantOld Old want v
+  want_old (AnObject class) u g v n s h = object_old own u g class v n s h
+  want_old AnyValue u g v n s h = tt
+  want_old AnInt u g v n s h = tt
+  want_old AnyReference u g v n s h = tt
+  want_old (AHolder class) u g v n s h = tt
+  want_old (ToStart class) u g v n s h = tt
+
+  pub taken_old : (wants : List Want) (us : List VType) (gs : List Tag) (vs : List ℕ) → (own ≡ true → TakesNoThis wants gs) → Suit m wants us → SlotsAre (SlotIs Old Fresh own young receiver) us gs vs → TakenOld Old wants vs
+  taken_old [] us gs vs n s h = tt
+  taken_old (want ∷ wants) [] [] [] n s h = tt
+  taken_old (want ∷ wants) (u ∷ us) (g ∷ gs) (v ∷ vs) n s h =
+      let parts = or_parts (not (suits m want u)) (some_taken (λ want u. not (suits m want u)) wants us) s in
+      (want_old want u g v (λ o. (n o).0) (is_true (suits m want u) parts.0) h.0, taken_old wants us gs vs (λ o. (n o).1) parts.1 h.1)
+  taken_old wants us gs vs n s h = absurd h
+
+-- ---- `this` is taken as an object by `getfield` alone
+
+abbrev pub is_object : Want → Bool
+is_object (AnObject class) = true
+is_object want = false
+
+abbrev pub object_at : List Want → ℕ → Bool
+object_at [] k = false
+object_at (want ∷ wants) zero = is_object want
+object_at (want ∷ wants) (suc k) = object_at wants k
+
+abbrev pub is_getfield : Op → Bool
+is_getfield (ops.Getfield i) = true
+is_getfield op = false
+
+module _ (p : Program) (m : MethodInfo) (pc class : ℕ) where
+  any_one : (k : ℕ) → object_at (AnyValue ∷ []) k ≡ false
+  any_one zero = refl
+  any_one (suc k) = refl
+
+  any_two : (k : ℕ) → object_at (AnyValue ∷ AnyValue ∷ []) k ≡ false
+  any_two zero = refl
+  any_two (suc k) = any_one k
+
+  any_three : (k : ℕ) → object_at (AnyValue ∷ AnyValue ∷ AnyValue ∷ []) k ≡ false
+  any_three zero = refl
+  any_three (suc k) = any_two k
+
+  put_free : (f : Option FieldInfo) (o : Bool) (k : ℕ) → object_at (put_row f).takes k ≡ true → ((k == 1) && o) ≡ false
+  put_free None o k e = absurd (cc)
+  put_free (Some f) o zero e = refl
+  put_free (Some f) o (suc zero) e = absurd (cc)
+  put_free (Some f) o (suc (suc k)) e = absurd (cc)
+
+  object_free : (op : Op) (target : Target) (k : ℕ) → is_getfield op ≡ false → object_at (row p m pc target op).takes k ≡ true → may_take p class op target k ≡ false
+  object_free ops.Dup target k g e = absurd (let z = any_one k in cc)
+  object_free ops.DupX1 target k g e = absurd (let z = any_two k in cc)
+  object_free ops.DupX2 target k g e = absurd (let z = any_three k in cc)
+  object_free ops.Dup2 target k g e = absurd (let z = any_two k in cc)
+  object_free ops.Swap target k g e = absurd (let z = any_two k in cc)
+  object_free ops.Pop target k g e = absurd (let z = any_one k in cc)
+  object_free ops.Pop2 target k g e = absurd (let z = any_two k in cc)
+  object_free (ops.Getfield i) target k g e = absurd (cc)
+  object_free (ops.Putfield i) (targets.Field f) k g e = put_free (slice_get p.fields f) _ k e
+  object_free (ops.Invokespecial i) (targets.Init started) zero g e = absurd (cc)
+  object_free (ops.Invokespecial i) (targets.Init started) (suc k) g e = absurd (cc)
+  object_free op target k g e = refl
+
+takes_no_this : (wants : List Want) (gs : List Tag) → ((k : ℕ) → k < length wants → object_at wants k ≡ true → slice_index_or gs k Untagged ≢ This) → TakesNoThis wants gs
+takes_no_this [] gs f = tt
+takes_no_this (want ∷ wants) [] f = tt
+takes_no_this (want ∷ wants) (g ∷ gs) f = (one want (λ e. f 0 (omega arith) e), takes_no_this wants gs (λ k l e. f (suc k) (omega (arith, l)) e))
+  where
+    one : (want : Want) → (is_object want ≡ true → g ≢ This) → NoThis want g
+    one (AnObject class) f = f refl
+    one AnyValue f = tt
+    one AnInt f = tt
+    one AnyReference f = tt
+    one (AHolder class) f = tt
+    one (ToStart class) f = tt
+
+module _ (c : MarkedProgram) (marked : IsMarked c) (frozen : ℕ → Bool) (are : AreFrozen c frozen) where
+  own_takes_no_this : (f : Frame) (k : Standing c f) → is_getfield k.insn.op ≡ false → builds frozen k.method ≡ true → TakesNoThis (row_at c f k).takes k.tags.stack
+  own_takes_no_this f k get own =
+      takes_no_this (row_at c f k).takes k.tags.stack
+      (λ n l e this. (let may = (inside_at c marked frozen are f k own).taken k.number k.insn k.target k.tags k.at n l this in
+      let free = object_free c.program k.method k.insn.pc k.method.class k.insn.op k.target n get e in cc))
+
+  -- so each object that is taken is finished
+  pub takes_old : (w : World) (next t h : ℕ) (f : Frame) (k : FrameKeeps c frozen w next t h Runs f) → IsFinished w next 0 → is_getfield k.stands.insn.op ≡ false → TakenOld (IsFinished w next) (row_at c f k.stands).takes f.stack
+  takes_old w next t h f k null get =
+      taken_old k.stands.method (IsFinished w next) null (IsFresh w t h Runs) (builds frozen k.stands.method) (makes_frozen frozen k.stands.method) f.receiver (row_at c f k.stands).takes k.stands.types.stack k.stands.tags.stack f.stack
+      (λ own. own_takes_no_this f k.stands get own) (suit_at c marked f k.stands) k.stack

@@ -1,0 +1,121 @@
+-- Where a part of the run begins, no object is made or finished.
+use Rattle.std.proofs.Common.{◌≡◌, ◌⊎◌, inl, inr, ℕ, zero, suc, Bool, true, false, List, [], ◌∷◌, map, Some, refl, ap, sym, subst}
+use Rattle.std.specs.Prelude.{Contains, slice_get, slice_index, if◌then◌else◌}
+use Rattle.lists.proofs.ListLaws.{same_some}
+use Rattle.jvm_types.specs.declared.fixed_words.TheConstants.{NEXT_FREE_WORD}
+use Rattle.jvm_types.specs.declared.outcome.End.TheVariants as ends
+use Rattle.jvm_types.specs.declared.program.Program.{Program}
+use Rattle.checked_program.specs.MarkedProgram.{MarkedProgram}
+use Rattle.machine_types.specs.Construction.{ThreadKeeps, AttemptKeepsIn}
+use Rattle.machine_types.specs.Core.{part_phase, may_begin, with_roots, part_begins, next_threads, next}
+use Rattle.machine_types.specs.Parts.{run_roots, done_roots}
+use Rattle.machine_types.specs.Structure.{IsAs, IsStructured, Structure}
+use Rattle.machine_types.specs.Threads.{Frame, Thread}
+use Rattle.machine_types.specs.Worlds.{World, IsViewOf, IsOwnOrFinished}
+use Rattle.machine_types.specs.declared.lock.Held.{Held}
+use Rattle.machine_types.specs.declared.phase.Phase.{Phase}
+use Rattle.machine_types.specs.declared.phase.Phase.TheVariants as phases
+use Rattle.laws_threads.specs.PartLaws.{NextKeepsStructure, counted_next}
+use Rattle.laws_threads.specs.StateLaws.{counted_of}
+use Rattle.laws_threads.specs.StructureLaws.{counted_by}
+use Rattle.laws_objects.specs.ConstructionLaws.{NextKeepsConstruction}
+use Rattle.laws_objects.proofs.CountedPhases.{PhaseFits, counted_fits}
+
+-- ---- a thread is as it was, but for the roots and the phase that its part begins with
+
+abbrev StartsOrEnded : Phase → Type 0
+StartsOrEnded phases.Start = Unit {0}
+StartsOrEnded (phases.Ended ends.Returned) = Unit {0}
+StartsOrEnded phase = ⊥
+
+record Begins (x y : Thread) : Type 0 where
+  frames : y.frames ≡ x.frames
+  held : y.held ≡ x.held
+  attempt : y.attempt ≡ x.attempt
+  phase : (y.phase ≡ x.phase) ⊎ StartsOrEnded y.phase
+
+same_thread : (x : Thread) → Begins x x
+same_thread x = record { frames = refl; held = refl; attempt = refl; phase = inl refl }
+
+fresh_phase : (roots : List ℕ) → StartsOrEnded (part_phase roots)
+fresh_phase [] = tt
+fresh_phase (number ∷ roots) = tt
+
+with_part : (x y : Thread) (roots : List ℕ) → y.frames ≡ x.frames → y.held ≡ x.held → y.attempt ≡ x.attempt → Begins x (with_roots roots y)
+with_part x y roots f h a = record { frames = f; held = h; attempt = a; phase = inr (fresh_phase roots) }
+
+mapped : (roots : List ℕ) (xs : List Thread) (u : ℕ) (y : Thread) → slice_get (map (with_roots roots) xs) u ≡ Some y → (x : Thread) × (slice_get xs u ≡ Some x) × Begins x y
+mapped roots [] u y e = absurd (cc)
+mapped roots (x ∷ xs) zero y e = (x, refl, subst (Begins x) (same_some e) (with_part x x roots refl refl refl))
+mapped roots (x ∷ xs) (suc u) y e = mapped roots xs u y e
+
+part_begun : (p : Program) (part : ℕ) (x : Thread) (workers : List Thread) (u : ℕ) (y : Thread) → slice_get (part_begins p part x workers) u ≡ Some y → (z : Thread) × (slice_get (x ∷ workers) u ≡ Some z) × Begins z y
+part_begun p zero x workers zero y e = (x, refl, subst (Begins x) (same_some e) (record { frames = refl; held = refl; attempt = refl; phase = inl refl }))
+part_begun p zero x workers (suc u) y e = mapped (run_roots p) workers u y e
+part_begun p (suc part) x workers zero y e = (x, refl, subst (Begins x) (same_some e) (with_part x (record x { part = 2 }) (done_roots p) refl refl refl))
+part_begun p (suc part) x workers (suc u) y e = (y, e, same_thread y)
+
+begun : (p : Program) (threads : List Thread) (u : ℕ) (y : Thread) → slice_get (next_threads p threads) u ≡ Some y → (z : Thread) × (slice_get threads u ≡ Some z) × Begins z y
+begun p [] u y e = absurd (cc)
+begun p (x ∷ workers) u y e = by_test (may_begin (x ∷ workers)) e
+  where
+    by_test : (b : Bool) → slice_get (if b then part_begins p x.part x workers else x ∷ workers) u ≡ Some y → (z : Thread) × (slice_get (x ∷ workers) u ≡ Some z) × Begins z y
+    by_test true e = part_begun p x.part x workers u y e
+    by_test false e = (y, e, same_thread y)
+
+-- ---- one thread
+
+module _ (c : MarkedProgram) (frozen : ℕ → Bool) (w : World) (next t : ℕ) (was : Phase) (z y : Thread) (begins : Begins z y) (k : ThreadKeeps c frozen w next t was z) where
+  stays : (now : Phase) → PhaseFits c frozen k.now next t y.frames now → ThreadKeeps c frozen w next t now y
+  stays now fits = record {
+    now = k.now;
+    now_is = subst (IsViewOf k.now w t) (sym begins.attempt) k.now_is;
+    now_world = k.now_world;
+    frames = fits.0;
+    phase = fits.1;
+    held = subst (λ (held : List Held). (h : Held) → Contains held h → IsOwnOrFinished w next t h.monitor) (sym begins.held) k.held;
+    attempt = subst (λ (fs : List Frame). AttemptKeepsIn c frozen w next t fs y.attempt) (sym begins.frames) (subst (AttemptKeepsIn c frozen w next t z.frames) (sym begins.attempt) k.attempt);
+  }
+
+  same_fits : (phase : Phase) → PhaseFits c frozen k.now next t z.frames phase → PhaseFits c frozen k.now next t y.frames phase
+  same_fits phase = subst (λ (fs : List Frame). PhaseFits c frozen k.now next t fs phase) (sym begins.frames)
+
+  -- of the same phase, or without frames
+  fits_now : IsAs z.phase was → IsStructured c (counted_by was y.phase) y → PhaseFits c frozen k.now next t y.frames (counted_by was y.phase)
+  fits_now is_as stands = by_side begins.phase
+    where
+      fresh : (phase : Phase) → y.phase ≡ phase → StartsOrEnded phase → IsStructured c (counted_by was phase) y → PhaseFits c frozen k.now next t y.frames (counted_by was phase)
+      fresh phases.Start e f s = subst (λ (fs : List Frame). PhaseFits c frozen k.now next t fs phases.Start) (sym s.stands.phase_shows) (tt, tt)
+      fresh (phases.Ended ends.Returned) e f s = subst (λ (fs : List Frame). PhaseFits c frozen k.now next t fs (phases.Ended ends.Returned)) (sym s.stands.phase_shows) (tt, tt)
+      fresh phase e f s = absurd f
+
+      by_side : (y.phase ≡ z.phase) ⊎ StartsOrEnded y.phase → PhaseFits c frozen k.now next t y.frames (counted_by was y.phase)
+      by_side (inl e) = subst (λ (phase : Phase). PhaseFits c frozen k.now next t y.frames (counted_by was phase)) (sym e) (same_fits (counted_by was z.phase) (counted_fits c frozen k.now next t z.frames was z.phase is_as (k.frames, k.phase)))
+      by_side (inr f) = fresh y.phase refl f stands
+
+-- ---- all of them
+
+pub next_keeps : NextKeepsStructure → NextKeepsConstruction
+next_keeps structured c cfg objects was s frozen w marked facts k = record { frozen_are = k.frozen_are; world = k.world; each = each; places = k.places }
+  where
+    free : ℕ
+    free = slice_index s.words NEXT_FREE_WORD
+
+    structure : Structure c (counted_next c was s) (next c s).threads
+    structure = structured c was s facts.threads.parts facts.structure
+
+    each : (u : ℕ) (y : Thread) → slice_get (next c s).threads u ≡ Some y → ThreadKeeps c frozen w (slice_index s.words NEXT_FREE_WORD) u (counted_next c was s u) y
+    each u y e =
+        let b = begun c.program s.threads u y e in
+        by_test (may_begin s.threads) b.0 b.1 b.2 (structure u y e)
+      where
+        by_test : (may : Bool) (z : Thread) → slice_get s.threads u ≡ Some z → Begins z y → IsStructured c (if may then counted_of (was u) (slice_get (next c s).threads u) else was u) y
+            → ThreadKeeps c frozen w (slice_index s.words NEXT_FREE_WORD) u (if may then counted_of (was u) (slice_get (next c s).threads u) else was u) y
+        by_test true z g b stands =
+            let counted = ap (counted_of (was u)) e in
+            subst (λ (phase : Phase). ThreadKeeps c frozen w (slice_index s.words NEXT_FREE_WORD) u phase y) (sym counted)
+            (stays c frozen w (slice_index s.words NEXT_FREE_WORD) u (was u) z y b (k.each u z g) (counted_by (was u) y.phase)
+            (fits_now c frozen w (slice_index s.words NEXT_FREE_WORD) u (was u) z y b (k.each u z g) (facts.structure u z g).is_as (subst (λ (phase : Phase). IsStructured c phase y) counted stands)))
+        by_test false z g b stands =
+            let j = k.each u z g in
+            stays c frozen w (slice_index s.words NEXT_FREE_WORD) u (was u) z y b j (was u) (same_fits c frozen w (slice_index s.words NEXT_FREE_WORD) u (was u) z y b j (was u) (j.frames, j.phase))

@@ -1,0 +1,259 @@
+-- No place has an unfinished object after an event.
+use Rattle.std.proofs.Common.{◌≡◌, ◌≢◌, ℕ, zero, suc, ◌+◌, ◌<◌, ◌⊎◌, inl, inr, Bool, true, false, List, [], ◌∷◌, length, Option, Some, None, refl, sym, ap, ◌∙◌, subst, arith}
+use Rattle.std.specs.Prelude.{◌==◌, nat_le, bit_or, bit_and, Contains, slice_get, slice_set, slice_index, if◌then◌else◌}
+use Rattle.lists.proofs.ListLaws.{same_some}
+use Rattle.jvm_types.specs.Members.{is_static}
+use Rattle.jvm_types.specs.ProgramInvariant.{IsProgram, words_of, instances_among}
+use Rattle.jvm_types.specs.declared.class_numbers.TheConstants.{INT_ARRAY_CLASS}
+use Rattle.jvm_types.specs.declared.code.Insn.{Insn}
+use Rattle.jvm_types.specs.declared.fixed_words.TheConstants.{NEXT_FREE_WORD, NEXT_TICKET_WORD}
+use Rattle.jvm_types.specs.declared.op_row.OpRow.{OpRow}
+use Rattle.jvm_types.specs.declared.program.FieldInfo.{FieldInfo}
+use Rattle.jvm_types.specs.declared.program.Kind.{Kind}
+use Rattle.jvm_types.specs.declared.program.Kind.TheVariants as kinds
+use Rattle.jvm_types.specs.declared.program.MethodInfo.{MethodInfo}
+use Rattle.jvm_types.specs.declared.program.Target.{Target}
+use Rattle.laws_programs.proofs.ClassTreeLaws.{files_alone}
+use Rattle.laws_programs.proofs.FieldOrder.{instances_inside, one_instance_field, one_static_field}
+use Rattle.checked_program.specs.MarkedProgram.{MarkedProgram, IsMarked}
+use Rattle.machine_types.specs.Accesses.{words_after}
+use Rattle.machine_types.specs.Construction.{ThreadKeeps, KindKeeps, PlacesKeep}
+use Rattle.machine_types.specs.Core.{Core}
+use Rattle.machine_types.specs.Elision.{looks}
+use Rattle.machine_types.specs.Events.{element_wants}
+use Rattle.machine_types.specs.FoundWords.{Content, IntPlace, ReferencePlace, leave_content}
+use Rattle.machine_types.specs.Instructions.{has_print_left, effect_wants}
+use Rattle.machine_types.specs.Monitors.{Claim, Has, Tries, HasNot}
+use Rattle.machine_types.specs.NewObjects.{size_by}
+use Rattle.machine_types.specs.PlainMemory.{Object, new_object}
+use Rattle.machine_types.specs.StartLaws.{StartLiesApart}
+use Rattle.machine_types.specs.Threads.{Attempt, Thread}
+use Rattle.machine_types.specs.Typed.{HasClass}
+use Rattle.machine_types.specs.Words.{header_word, header_class, value_word, variable_word, object_size, array_size}
+use Rattle.machine_types.specs.Words as words
+use Rattle.machine_types.specs.Worlds.{World, IsFinished, IsWorld, GoesOn}
+use Rattle.machine_types.specs.declared.access.Access.{Access}
+use Rattle.machine_types.specs.declared.access.Access.TheVariants.{Load, Store, Cas, Add, Or, And, Rest}
+use Rattle.machine_types.specs.declared.effect.Effect.{Effect}
+use Rattle.machine_types.specs.declared.effect.Effect.TheVariants.{Goes, Reads, Writes, Indexes, Measures, Raises, Makes, Prints, Calls}
+use Rattle.machine_types.specs.declared.effect.Variable.{Variable}
+use Rattle.machine_types.specs.declared.effect.Variable.TheVariants.{Instance, Static}
+use Rattle.machine_types.specs.declared.lock.Kept.{Kept}
+use Rattle.machine_types.specs.declared.lock.Kept.TheVariants as keeps
+use Rattle.machine_types.specs.declared.phase.Phase.{Phase}
+use Rattle.machine_types.specs.declared.phase.Phase.TheVariants as phases
+use Rattle.laws_states.specs.HeapFacts.{HeapFacts}
+use Rattle.laws_states.specs.Sites.{Site, Counter, OwnerOf, BitsOf, LockOf, HeaderOf, ValueOf, NewHeaderOf, StaticAt, site_word, IsThere, Suits, ReachesIf}
+use Rattle.laws_states.proofs.Accesses.{ElementSite}
+use Rattle.laws_states.proofs.Lists.{contained_got, got_contains, same_or_not, set_here, set_there}
+use Rattle.laws_states.proofs.Places.{same_object}
+use Rattle.laws_states.proofs.Sites.{sites_apart, sites_inside}
+use Rattle.laws_threads.specs.Allowed.{IsFieldAt, Allowed}
+use Rattle.laws_objects.proofs.BuiltEffects.{KindOld, Built}
+use Rattle.laws_objects.proofs.InstructionMoves.{IsOutside}
+use Rattle.laws_objects.proofs.Onwards.{first_finished}
+use Rattle.laws_objects.proofs.Views.{finished_on}
+use Rattle.laws_objects.proofs.WorldChanges.{other_to}
+
+set_same : (xs : List ℕ) (w : ℕ) → slice_set xs w (slice_index xs w) ≡ xs
+set_same [] w = refl
+set_same (x ∷ xs) zero = refl
+set_same (x ∷ xs) (suc w) = ap (λ (ys : List ℕ). x ∷ ys) (set_same xs w)
+
+-- what is neither a field nor an element
+abbrev pub IsPlain : Content → Type 0
+IsPlain IntPlace = ⊥
+IsPlain ReferencePlace = ⊥
+IsPlain content = Unit {0}
+
+pub leave_plain : (claim : Claim) → IsPlain (leave_content claim)
+leave_plain (Has h) = by_kept h.kept
+  where
+    by_kept : (kept : Kept) → IsPlain (leave_content (Has (record h { kept = kept })))
+    by_kept (keeps.Flat n) = tt
+    by_kept (keeps.Fat r) = tt
+leave_plain (Tries a) = tt
+leave_plain HasNot = tt
+
+module _ (lies : StartLiesApart) (c : MarkedProgram) (marked : IsMarked c) (objects : List Object) (s : Core) (facts : HeapFacts c objects s) (w later : World) (more t : ℕ) (goes : GoesOn w later (slice_index s.words NEXT_FREE_WORD) more t 0)
+    (places : PlacesKeep c w (slice_index s.words NEXT_FREE_WORD) objects s.words) where
+  is_program : IsProgram c.program
+  is_program = marked.checked.program
+
+  -- what a word has to be where it stands
+  abbrev LeftKeeps : Site → (v : ℕ) → Type 0
+  LeftKeeps (ValueOf r i) v = (o : Object) (number : ℕ) (f : FieldInfo) → Contains objects o → slice_get c.program.fields number ≡ Some f → is_static f.flags ≡ false → o.class ≡ f.class → o.reference ≡ r → f.index ≡ i → KindKeeps later more f.kind v
+  LeftKeeps (StaticAt word) v = (number : ℕ) (f : FieldInfo) → slice_get c.program.fields number ≡ Some f → is_static f.flags ≡ true → f.index ≡ word → KindKeeps later more f.kind v
+  LeftKeeps site v = Unit {0}
+
+  kind_on : (kind : Kind) (v : ℕ) → KindKeeps w (slice_index s.words NEXT_FREE_WORD) kind v → KindKeeps later more kind v
+  kind_on (kinds.Ref class) v k = finished_on w later (slice_index s.words NEXT_FREE_WORD) more t goes v k
+  kind_on kinds.Int v k = tt
+  kind_on kinds.Bool v k = tt
+
+  old_kind : (kind : Kind) (v : ℕ) → KindOld (IsFinished w (slice_index s.words NEXT_FREE_WORD)) kind v → KindKeeps later more kind v
+  old_kind (kinds.Ref class) v k = finished_on w later (slice_index s.words NEXT_FREE_WORD) more t goes v k
+  old_kind kinds.Int v k = tt
+  old_kind kinds.Bool v k = tt
+
+  pub same_words : PlacesKeep c later more objects s.words
+  same_words = record {
+    fields = λ o number f k g n class. kind_on f.kind (slice_index s.words (value_word o.reference f.index)) (places.fields o number f k g n class);
+    statics = λ number f g n. kind_on f.kind (slice_index s.words f.index) (places.statics number f g n);
+  }
+
+  pub loaded : (word : ℕ) → PlacesKeep c later more objects (words_after s.words (Some (Load word)))
+  loaded word = subst (PlacesKeep c later more objects) (sym (set_same s.words word)) same_words
+
+  field_there : (o : Object) (number : ℕ) (f : FieldInfo) → Contains objects o → slice_get c.program.fields number ≡ Some f → is_static f.flags ≡ false → o.class ≡ f.class → f.index < length o.values
+  field_there o number f k g n class =
+      let from = (is_program.fields number f g).class.0 in
+      let sized = facts.apart.sized k.0 o (contained_got objects o k) (λ array. absurd (omega (arith, array, class, from))) in
+      subst (λ (i : ℕ). f.index < i) (sym sized) (subst (λ (d : ℕ). f.index < instances_among d c.program.fields) (sym class) (instances_inside c.program number f is_program g n))
+
+  -- a word is stored
+  module _ (word value : ℕ) (site : Site) (there : IsThere c.program objects s site) (word_is : word ≡ site_word site) (left : LeftKeeps site value) where
+    abbrev set : List ℕ
+    set = slice_set s.words word value
+
+    there_to : word < length s.words
+    there_to = subst (λ (n : ℕ). n < length s.words) (sym word_is) (sites_inside lies c objects s site marked facts there)
+
+    -- at another site than this one the word stays
+    at : (kind : Kind) (mine : Site) → IsThere c.program objects s mine → KindKeeps later more kind (slice_index s.words (site_word mine)) → (LeftKeeps mine value → KindKeeps later more kind value) → KindKeeps later more kind (slice_index (slice_set s.words word value) (site_word mine))
+    at kind mine is old new = by_word (same_or_not (site_word mine) word)
+      where
+        by_word : (site_word mine ≡ word) ⊎ (site_word mine ≢ word) → KindKeeps later more kind (slice_index (slice_set s.words word value) (site_word mine))
+        by_word (inl e) =
+            let one : mine ≡ site = sites_apart lies c objects s mine site marked facts is there (e ∙ word_is) in
+            subst (KindKeeps later more kind) (sym (ap (slice_index (slice_set s.words word value)) e ∙ set_here s.words word value there_to)) (new (subst (λ (x : Site). LeftKeeps x value) (sym one) left))
+        by_word (inr n) = subst (KindKeeps later more kind) (sym (set_there s.words word (site_word mine) value n)) old
+
+    pub stored : PlacesKeep c later more objects (slice_set s.words word value)
+    stored = record {
+      fields = λ o number f k g n class. at f.kind (ValueOf o.reference f.index) (o, k, refl, field_there o number f k g n class) (same_words.fields o number f k g n class) (λ l. l o number f k g n class refl refl);
+      statics = λ number f g n. (let v = facts.apart.there number f g n in at f.kind (StaticAt f.index) (v.0, v.1, v.2) (same_words.statics number f g n) (λ l. l number f g n refl));
+    }
+
+  -- ---- at no place
+
+  plain_left : (content : Content) (site : Site) (v : ℕ) → IsPlain content → Suits content site → LeftKeeps site v
+  plain_left IntPlace site v p u = absurd p
+  plain_left ReferencePlace site v p u = absurd p
+  plain_left content (Counter word) v p u = tt
+  plain_left content (OwnerOf r) v p u = tt
+  plain_left content (BitsOf r) v p u = tt
+  plain_left content (LockOf a) v p u = tt
+  plain_left content (HeaderOf a) v p u = tt
+  plain_left content (NewHeaderOf a) v p u = tt
+  plain_left content (ValueOf a i) v p u = absurd u
+  plain_left content (StaticAt word) v p u = absurd u
+
+  pub plain : (content : Content) → IsPlain content → (access : Option Access) → ReachesIf c.program objects s content access → PlacesKeep c later more objects (words_after s.words access)
+  plain content p None r = same_words
+  plain content p (Some Rest) r = same_words
+  plain content p (Some (Load word)) r = loaded word
+  plain content p (Some (Store word v)) r = stored word v r.site r.there r.word (plain_left content r.site v p r.suits)
+  plain content p (Some (Cas word is v)) r = let value = if slice_index s.words word == is then v else slice_index s.words word in stored word value r.site r.there r.word (plain_left content r.site value p r.suits)
+  plain content p (Some (Add word v)) r = let value = slice_index s.words word + v in stored word value r.site r.there r.word (plain_left content r.site value p r.suits)
+  plain content p (Some (Or word v)) r = let value = bit_or (slice_index s.words word) v in stored word value r.site r.there r.word (plain_left content r.site value p r.suits)
+  plain content p (Some (And word v)) r = let value = bit_and (slice_index s.words word) v in stored word value r.site r.there r.word (plain_left content r.site value p r.suits)
+
+  -- ---- an element
+
+  pub element : (word : ℕ) (put : Option ℕ) → ElementSite c marked objects s facts word put → PlacesKeep c later more objects (words_after s.words (Some (element_wants word put)))
+  element word None k = loaded word
+  element word (Some v) k = stored word v (ValueOf k.array.reference k.index) (k.array, k.there, refl, k.below) k.word_is (λ o number f l g n class same index.
+      absurd (let one : o ≡ k.array = same_object c.program objects (slice_index s.words NEXT_FREE_WORD) facts.apart o k.array l k.there same in
+      let from = (is_program.fields number f g).class.0 in
+      let array = k.class in
+      omega (arith, from, class, array, ap (λ (x : Object). x.class) one)))
+
+  -- ---- a field
+
+  field_written : (target : Target) (v : Variable) (f : FieldInfo) (n : ℕ) → IsFieldAt c.program (HasClass objects) target v f → KindKeeps later more f.kind n → PlacesKeep c later more objects (words_after s.words (Some (Store (variable_word v) n)))
+  field_written target v f n at old = subst (λ (u : Variable). PlacesKeep c later more objects (words_after s.words (Some (Store (variable_word u) n)))) (sym at.variable) (by_flag (is_static f.flags) refl)
+    where
+      same_field : (other : ℕ) (g : FieldInfo) → slice_get c.program.fields other ≡ Some g → other ≡ at.number → KindKeeps later more g.kind n
+      same_field other g e same = subst (λ (x : FieldInfo). KindKeeps later more x.kind n) (sym (same_some (sym e ∙ (ap (slice_get c.program.fields) same ∙ at.there)))) old
+
+      by_flag : (b : Bool) → is_static f.flags ≡ b → PlacesKeep c later more objects (words_after s.words (Some (Store (variable_word (if b then Static f.index else Instance at.reference f.index)) n)))
+      by_flag true e =
+          let k = facts.apart.there at.number f at.there e in
+          stored f.index n (StaticAt f.index) (k.0, k.1, k.2) refl (λ other g there static index. same_field other g there (one_static_field c.program other at.number g f is_program there at.there static e index))
+      by_flag false e =
+          let holder = at.holder e in
+          let from = (is_program.fields at.number f at.there).class.0 in
+          let object = holder.2.0 in
+          let there : Contains objects object = holder.2.1 in
+          let of_class : object.class ≡ f.class = holder.2.3 ∙ files_alone holder.1 f.class from holder.3 in
+          stored (value_word at.reference f.index) n (ValueOf at.reference f.index) (object, there, holder.2.2, field_there object at.number f there at.there e of_class) refl (λ o other g l there_too instance class same index.
+          (let one : o ≡ object = same_object c.program objects (slice_index s.words NEXT_FREE_WORD) facts.apart o object l there (same ∙ sym holder.2.2) in
+          let classes : g.class ≡ f.class = sym class ∙ (ap (λ (x : Object). x.class) one ∙ of_class) in
+          same_field other g there_too (one_instance_field c.program other at.number g f is_program there_too at.there classes instance e index)))
+
+  -- ---- the event that begins an instruction
+
+  looked : (o : Option Attempt) → PlacesKeep c later more objects (words_after s.words (looks o))
+  looked None = same_words
+  looked (Some a) = loaded a.monitor
+
+  module _ (frozen : ℕ → Bool) (was : Phase) (x : Thread) (k : ThreadKeeps c frozen w (slice_index s.words NEXT_FREE_WORD) t was x) where
+    pub effect_places : (m : MethodInfo) (insn : Insn) (target : Target) (r : OpRow) (stack : List ℕ) (pc : ℕ) (e : Effect) → Allowed c.program m (HasClass objects) insn target r stack e → Built (IsFinished k.now (slice_index s.words NEXT_FREE_WORD)) c.program target r e
+        → (IsOutside e → x.attempt ≡ None) → PlacesKeep c later more objects (words_after s.words (effect_wants x pc e))
+    effect_places m insn target r stack pc (Goes to made) al built out = by_test (nat_le to pc)
+      where
+        by_test : (b : Bool) → PlacesKeep c later more objects (words_after s.words (if b then looks x.attempt else None))
+        by_test true = looked x.attempt
+        by_test false = same_words
+    effect_places m insn target r stack pc (Calls number) al built out = looked x.attempt
+    effect_places m insn target r stack pc (Reads v) al built out = loaded (variable_word v)
+    effect_places m insn target r stack pc (Writes v n) al built out =
+        let f = al.1 in
+        let at = al.2 in
+        field_written target v f n at (old_kind f.kind n (in_world f.kind (built.0 at.number f at.named at.there)))
+      where
+        none : x.attempt ≡ None
+        none = out tt
+
+        in_world : (kind : Kind) → KindOld (IsFinished k.now (slice_index s.words NEXT_FREE_WORD)) kind n → KindOld (IsFinished w (slice_index s.words NEXT_FREE_WORD)) kind n
+        in_world (kinds.Ref class) o = (o.0, sym (k.now_is.same none n) ∙ o.1)
+        in_world kinds.Int o = tt
+        in_world kinds.Bool o = tt
+    effect_places m insn target r stack pc (Indexes a i put) al built out = loaded (header_word a)
+    effect_places m insn target r stack pc (Measures a) al built out = loaded (header_word a)
+    effect_places m insn target r stack pc (Raises a) al built out = loaded (header_word a)
+    effect_places m insn target r stack pc (Makes word size) al built out = stored NEXT_FREE_WORD (slice_index s.words NEXT_FREE_WORD + size) (Counter NEXT_FREE_WORD) (omega arith, omega arith) refl tt
+    effect_places m insn target r stack pc (Prints n) al built out = by_test (has_print_left x)
+      where
+        by_test : (b : Bool) → PlacesKeep c later more objects (words_after s.words (if b then Some (Add NEXT_TICKET_WORD 1) else None))
+        by_test true = stored NEXT_TICKET_WORD (slice_index s.words NEXT_TICKET_WORD + 1) (Counter NEXT_TICKET_WORD) (omega arith, omega arith) refl tt
+        by_test false = same_words
+    effect_places m insn target r stack pc e al built out = same_words
+
+  -- ---- a new object
+
+  pub made_places : (x : Thread) (a word : ℕ) → IsWorld later (words_of c.program) more → slice_get s.threads t ≡ Some x → x.phase ≡ phases.Made a word → PlacesKeep c later more (new_object a word (size_by c.program word) ∷ objects) (slice_set s.words (header_word a) word)
+  made_places x a word is there made = record { fields = λ o number f l g n class. fields_of l.0 o number f (contained_got (new_object a word (size_by c.program word) ∷ objects) o l) g n class; statics = old.statics }
+    where
+      old : PlacesKeep c later more objects (slice_set s.words (header_word a) word)
+      old = stored (header_word a) word (NewHeaderOf a) (t, x, word, there, made) refl tt
+
+      null_kind : (kind : Kind) (v : ℕ) → v ≡ 0 → KindKeeps later more kind v
+      null_kind (kinds.Ref class) v e = subst (IsFinished later more) (sym e) (first_finished later (words_of c.program) more 0 is (omega arith))
+      null_kind kinds.Int v e = tt
+      null_kind kinds.Bool v e = tt
+
+      fields_of : (j : ℕ) (o : Object) (number : ℕ) (f : FieldInfo) → slice_get (new_object a word (size_by c.program word) ∷ objects) j ≡ Some o → slice_get c.program.fields number ≡ Some f → is_static f.flags ≡ false → o.class ≡ f.class
+          → KindKeeps later more f.kind (slice_index (slice_set s.words (header_word a) word) (value_word o.reference f.index))
+      fields_of zero o number f e g n class =
+          let same : new_object a word (size_by c.program word) ≡ o = same_some e in
+          let from = (is_program.fields number f g).class.0 in
+          let of_class : header_class word ≡ f.class = ap (λ (z : Object). z.class) same ∙ class in
+          let other : (header_class word == INT_ARRAY_CLASS) ≡ false = other_to (header_class word) INT_ARRAY_CLASS (λ array. absurd (omega (arith, array, of_class, from))) in
+          let sized : size_by c.program word ≡ object_size c.program (header_class word) = ap (λ (b : Bool). if b then array_size (words.header_length word) else object_size c.program (header_class word)) other in
+          let inside : f.index < instances_among (header_class word) c.program.fields = subst (λ (d : ℕ). f.index < instances_among d c.program.fields) (sym of_class) (instances_inside c.program number f is_program g n) in
+          let new = facts.new_objects.each t x a word there made in
+          let zero_is : slice_index (slice_set s.words (header_word a) word) (value_word a f.index) ≡ 0 = set_there s.words (header_word a) (value_word a f.index) word (λ q. omega (arith, q)) ∙ new.empty (value_word a f.index) (omega arith) (omega (arith, sized, inside)) in
+          subst (λ (z : Object). KindKeeps later more f.kind (slice_index (slice_set s.words (header_word a) word) (value_word z.reference f.index))) same (null_kind f.kind (slice_index (slice_set s.words (header_word a) word) (value_word a f.index)) zero_is)
+      fields_of (suc j) o number f e g n class = old.fields o number f (got_contains objects j o e) g n class

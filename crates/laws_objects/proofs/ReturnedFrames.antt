@@ -1,0 +1,349 @@
+-- A return: the caller goes on behind its call. Where an `<init>` of a frozen class returns, its object is finished.
+use Rattle.std.proofs.Common.{◌≡◌, ◌≢◌, ℕ, suc, ◌<◌, ◌⊎◌, inl, inr, Bool, true, false, not, ◌&&◌, List, [], ◌∷◌, ◌++◌, length, map, drop, Option, Some, None, refl, sym, ap, ◌∙◌, subst, arith}
+use Rattle.std.specs.Prelude.{◌==◌, slice_get}
+use Rattle.std.specs.List.{AllByRecursion}
+use Rattle.std.specs.Option.{option_map, option_to_list}
+use Rattle.std.proofs.lemmas.Bool.{or_parts}
+use Rattle.std.proofs.lemmas.Bool.Decides.{nat_tests}
+use Rattle.lists.proofs.ListLaws.{same_some}
+use Rattle.lists.proofs.TestLaws.{is_true}
+use Rattle.jvm_types.specs.CodeTable.{type_of, arguments, is_init, result_of, value_of, stack_after, locals_after, row}
+use Rattle.jvm_types.specs.Members.{is_static}
+use Rattle.jvm_types.specs.Numbers.{has_number}
+use Rattle.jvm_types.specs.Types.{TypeFrame, is_below}
+use Rattle.jvm_types.specs.Verifying.{suits, some_taken, new_class, is_class, started, initialised, after_start, frame_after, edges, is_return}
+use Rattle.jvm_types.specs.declared.code.Op.{Op}
+use Rattle.jvm_types.specs.declared.code.Op.TheVariants as ops
+use Rattle.jvm_types.specs.declared.op_row.Given.{Given}
+use Rattle.jvm_types.specs.declared.op_row.Given.TheVariants.{Fresh as Anew}
+use Rattle.jvm_types.specs.declared.op_row.OpRow.{OpRow}
+use Rattle.jvm_types.specs.declared.op_row.Want.{Want}
+use Rattle.jvm_types.specs.declared.op_row.Want.TheVariants.{AnyValue, AnInt, AnObject, AnyReference, AHolder, ToStart}
+use Rattle.jvm_types.specs.declared.program.Kind.{Kind}
+use Rattle.jvm_types.specs.declared.program.Kind.TheVariants as kinds
+use Rattle.jvm_types.specs.declared.program.MethodInfo.{MethodInfo}
+use Rattle.jvm_types.specs.declared.typing.VType.{VType}
+use Rattle.jvm_types.specs.declared.typing.VType.TheVariants as types
+use Rattle.laws_programs.specs.RuleLaws.{ReturnsWell, ReturnsTop}
+use Rattle.laws_programs.proofs.RuleUses.{returns_suit_all}
+use Rattle.checked_program.specs.CheckedLaws.{receiver_want}
+use Rattle.checked_program.specs.MarkedProgram.{MarkedProgram, IsMarked}
+use Rattle.checked_program.specs.Tagging.{moved_tags, tags_after}
+use Rattle.checked_program.specs.declared.tag.Tag.{Tag}
+use Rattle.checked_program.specs.declared.tag.Tag.TheVariants.{Untagged}
+use Rattle.machine_types.specs.Construction.{AreFrozen, is_frozen_class, builds, makes_frozen, if_so, SlotsAre, Runs, WaitsFor, FreshAtCall, IsFresh, ReceiverIs, SlotOf, FrameKeeps, WaitKeeps, KeepBelow, FramesKeep}
+use Rattle.machine_types.specs.Frames.{given_back}
+use Rattle.machine_types.specs.Lawful.{within}
+use Rattle.machine_types.specs.Standing.{Standing, row_at}
+use Rattle.machine_types.specs.Threads.{Frame}
+use Rattle.machine_types.specs.Worlds.{Made, Begun, Builder, builder, World, IsFinished}
+use Rattle.laws_threads.proofs.FrameMoves.{edge_fits}
+use Rattle.laws_threads.specs.Allowed.{OneOf}
+use Rattle.laws_threads.proofs.Callers.{call_edge, row_of_call}
+use Rattle.laws_threads.proofs.Calls.{CallRow}
+use Rattle.laws_threads.proofs.Landing.{rules_at}
+use Rattle.laws_threads.proofs.Typing.{edge_at}
+use Rattle.laws_objects.proofs.BuiltEffects.{KindOld, StartsNone}
+use Rattle.laws_objects.proofs.CalledFrames.{below_moved, arguments_start, none_started, none_append}
+use Rattle.laws_objects.proofs.KeptFrames.{below_kept}
+use Rattle.laws_objects.proofs.Landing.{land, joined_onward}
+use Rattle.laws_objects.proofs.Moves.{Steps, stays, StartsOld, StartsYoung, Starts, starts, Suit, suit_at, tags_fine, old_started, slots_finished}
+use Rattle.laws_objects.proofs.Operands.{TakenOld, is_getfield, takes_old}
+use Rattle.laws_objects.proofs.Slots.{slots_map, slot_later, made_slot}
+use Rattle.laws_objects.proofs.WorldChanges.{same_to, other_to, same_from, without, without_gone, without_keeps, without_none, world_without, goes_without}
+
+-- ---- results
+
+-- a reference that is returned is finished, or null
+abbrev pub ResultOld : (ℕ → Type 0) → Option Kind → List ℕ → Type 0
+ResultOld Old None [] = Unit {0}
+ResultOld Old (Some kind) (v ∷ []) = KindOld Old kind v
+ResultOld Old result vs = ⊥
+
+top_result : (m : MethodInfo) (Old : ℕ → Type 0) (R : VType → Tag → ℕ → Type 0) (us : List VType) (gs : List Tag) (s : List ℕ) → ReturnsTop m us → SlotsAre R us gs s → ((kind : Kind) (a : ℕ) (rest : List ℕ) → m.result ≡ Some kind → s ≡ a ∷ rest → KindOld Old kind a)
+    → (a : ℕ) × (rest : List ℕ) × (s ≡ a ∷ rest) × ResultOld Old m.result (a ∷ [])
+top_result m Old R [] gs s w slots k = absurd (let e = w.top in cc)
+top_result m Old R (u ∷ us) gs [] w slots k = absurd (none gs slots)
+  where
+    none : (gs : List Tag) → SlotsAre R (u ∷ us) gs [] → ⊥
+    none [] h = h
+    none (g ∷ gs) h = h
+top_result m Old R (u ∷ us) gs (a ∷ s) w slots k = (a, s, refl, subst (λ (o : Option Kind). ResultOld Old o (a ∷ [])) (sym w.described) (k w.kind a s w.described refl))
+
+module _ (c : MarkedProgram) (marked : IsMarked c) (frozen : ℕ → Bool) (are : AreFrozen c frozen) (w : World) (next t h : ℕ) (null : IsFinished w next 0) (f : Frame) (k : FrameKeeps c frozen w next t h Runs f) where
+  abbrev m : MethodInfo
+  m = k.stands.method
+
+  returns_well : ReturnsWell m k.stands.insn.op k.stands.types.stack
+  returns_well =
+      let rules = rules_at c marked f k.stands in
+      returns_suit_all c.program m k.stands.insn k.stands.target k.stands.types rules.rules rules.sound.after
+
+  result_of_op : (op : Op) → is_return op ≡ true → ReturnsWell m op k.stands.types.stack → TakenOld (IsFinished w next) (row c.program m k.stands.insn.pc k.stands.target op).takes f.stack
+      → Suit m (row c.program m k.stands.insn.pc k.stands.target op).takes k.stands.types.stack → ResultOld (IsFinished w next) m.result (given_back op f.stack)
+  result_of_op ops.Return r well old suit = subst (λ (o : Option Kind). ResultOld (IsFinished w next) o []) (sym well) tt
+  result_of_op ops.Ireturn r well old suit =
+      let top = top_result m (IsFinished w next) (SlotOf frozen w next t h Runs m f.receiver) k.stands.types.stack k.stands.tags.stack f.stack well k.stack (λ kind a rest e s. an_int kind a e) in
+      subst (λ (s : List ℕ). ResultOld (IsFinished w next) m.result (given_back ops.Ireturn s)) (sym top.2) top.3
+    where
+      an_int : (kind : Kind) (a : ℕ) → m.result ≡ Some kind → KindOld (IsFinished w next) kind a
+      an_int kinds.Int a e = tt
+      an_int kinds.Bool a e = tt
+      an_int (kinds.Ref class) a e = absurd (no_reference k.stands.types.stack well suit)
+        where
+          below_both : (u : VType) → is_below u types.Int ≡ true → is_below u (types.Ref class) ≡ true → ⊥
+          below_both types.Int i b = cc
+          below_both types.Null i b = cc
+          below_both types.This i b = cc
+          below_both types.Top i b = cc
+          below_both (types.Ref d) i b = cc
+          below_both (types.New q) i b = cc
+
+          no_reference : (us : List VType) → ReturnsTop m us → Suit m (AnInt ∷ []) us → ⊥
+          no_reference [] w s = (let e = w.top in cc)
+          no_reference (u ∷ us) w s =
+              let same : u ≡ w.type = same_some w.top in
+              let kind : w.kind ≡ kinds.Ref class = same_some (sym w.described ∙ e) in
+              let int : is_below u types.Int ≡ true = is_true (is_below u types.Int) (or_parts (not (is_below u types.Int)) (some_taken (λ want t. not (suits m want t)) [] us) s).0 in
+              below_both u int (subst (λ (x : VType). is_below x (types.Ref class) ≡ true) (sym same) (subst (λ (x : Kind). is_below w.type (type_of x) ≡ true) kind w.fits))
+  result_of_op ops.Areturn r well old suit =
+      let top = top_result m (IsFinished w next) (SlotOf frozen w next t h Runs m f.receiver) k.stands.types.stack k.stands.tags.stack f.stack well k.stack (λ kind a rest e s. an_object kind a rest s (subst (λ (o : Option Kind). TakenOld (IsFinished w next) (Rattle.jvm_types.specs.CodeTable.returned o ∷ []) f.stack) e old)) in
+      subst (λ (s : List ℕ). ResultOld (IsFinished w next) m.result (given_back ops.Areturn s)) (sym top.2) top.3
+    where
+      an_object : (kind : Kind) (a : ℕ) (rest : List ℕ) → f.stack ≡ a ∷ rest → TakenOld (IsFinished w next) (Rattle.jvm_types.specs.CodeTable.returned (Some kind) ∷ []) f.stack → KindOld (IsFinished w next) kind a
+      an_object kinds.Int a rest e h = tt
+      an_object kinds.Bool a rest e h = tt
+      an_object (kinds.Ref class) a rest e h = (subst (TakenOld (IsFinished w next) (AnObject class ∷ [])) e h).0
+  result_of_op op r well old suit = absurd (let bad : false ≡ true = r in cc)
+
+  return_no_getfield : (op : Op) → is_return op ≡ true → is_getfield op ≡ false
+  return_no_getfield (ops.Getfield i) r = absurd (cc)
+  return_no_getfield op r = refl
+
+  -- what a return gives back is finished
+  pub result_old : is_return k.stands.insn.op ≡ true → ResultOld (IsFinished w next) m.result (given_back k.stands.insn.op f.stack)
+  result_old r = result_of_op k.stands.insn.op r returns_well (takes_old c marked frozen are w next t h f k null (return_no_getfield k.stands.insn.op r)) (suit_at c marked f k.stands)
+
+-- ---- what started stands below the arguments
+
+started_class : (own q d class : ℕ) (front : List Want) (us : List VType) → AllByRecursion StartsNone front → started own (front ++ ToStart class ∷ []) us ≡ Some (types.New q, d) → d ≡ class
+started_class own q d class [] [] n e = absurd (cc)
+started_class own q d class [] (types.This ∷ us) n e = absurd (let same : types.This ≡ types.New q = ap first_of e in cc)
+  where
+    first_of : Option (VType × ℕ) → VType
+    first_of None = types.This
+    first_of (Some x) = x.0
+started_class own q d class [] (types.New r ∷ us) n e = ap second_of (sym e)
+  where
+    second_of : Option (VType × ℕ) → ℕ
+    second_of None = class
+    second_of (Some x) = x.1
+started_class own q d class [] (types.Int ∷ us) n e = ap second_of (sym e)
+  where
+    second_of : Option (VType × ℕ) → ℕ
+    second_of None = class
+    second_of (Some x) = x.1
+started_class own q d class [] (types.Null ∷ us) n e = ap second_of (sym e)
+  where
+    second_of : Option (VType × ℕ) → ℕ
+    second_of None = class
+    second_of (Some x) = x.1
+started_class own q d class [] (types.Ref r ∷ us) n e = ap second_of (sym e)
+  where
+    second_of : Option (VType × ℕ) → ℕ
+    second_of None = class
+    second_of (Some x) = x.1
+started_class own q d class [] (types.Top ∷ us) n e = ap second_of (sym e)
+  where
+    second_of : Option (VType × ℕ) → ℕ
+    second_of None = class
+    second_of (Some x) = x.1
+started_class own q d class (ToStart x ∷ front) us n e = absurd n.0
+started_class own q d class (AnyValue ∷ front) [] n e = absurd (cc)
+started_class own q d class (AnInt ∷ front) [] n e = absurd (cc)
+started_class own q d class (AnObject x ∷ front) [] n e = absurd (cc)
+started_class own q d class (AnyReference ∷ front) [] n e = absurd (cc)
+started_class own q d class (AHolder x ∷ front) [] n e = absurd (cc)
+started_class own q d class (AnyValue ∷ front) (u ∷ us) n e = started_class own q d class front us n.1 e
+started_class own q d class (AnInt ∷ front) (u ∷ us) n e = started_class own q d class front us n.1 e
+started_class own q d class (AnObject x ∷ front) (u ∷ us) n e = started_class own q d class front us n.1 e
+started_class own q d class (AnyReference ∷ front) (u ∷ us) n e = started_class own q d class front us n.1 e
+started_class own q d class (AHolder x ∷ front) (u ∷ us) n e = started_class own q d class front us n.1 e
+
+-- ---- the caller
+
+module _ (c : MarkedProgram) (marked : IsMarked c) (frozen : ℕ → Bool) (are : AreFrozen c frozen) (w : World) (next t : ℕ) (null : IsFinished w next 0) (inside : (v : ℕ) (b : Builder) → w v ≡ Some b → v < next)
+    (number receiver : ℕ) (called : MethodInfo) (there : slice_get c.program.methods number ≡ Some called) (g : Frame) (gs : List Frame) (wait : WaitKeeps c frozen w next t (length gs) number receiver g) (below : KeepBelow c frozen w next t g gs)
+    (stands : ReceiverIs w next t (suc (length gs)) (builds frozen called) receiver) (result : List ℕ) (old_result : ResultOld (IsFinished w next) called.result result) where
+  abbrev k : Standing c g
+  k = wait.keeps.stands
+
+  abbrev r : OpRow
+  r = row_at c g wait.keeps.stands
+
+  abbrev h : ℕ
+  h = length gs
+
+  abbrev resumed : Frame
+  resumed = record g { pc = wait.keeps.stands.insn.next; stack = result ++ g.stack }
+
+  call : CallRow called r
+  call = row_of_call c marked g k number called wait.calls there
+
+  -- with the result on the stack
+  abbrev IsWaiting : VType → Tag → ℕ → Type 0
+  IsWaiting = SlotOf frozen w next t (length gs) (WaitsFor receiver wait.begun) wait.keeps.stands.method g.receiver
+
+  kind_slot : (kind : Kind) (v : ℕ) → KindOld (IsFinished w next) kind v → IsWaiting (type_of kind) Untagged v
+  kind_slot kinds.Int v o = made_slot (IsFinished w next) null (IsFresh w t (length gs) (WaitsFor receiver wait.begun)) (builds frozen k.method) (makes_frozen frozen k.method) g.receiver (builds frozen k.method) types.Int v (λ e. cc) tt
+  kind_slot kinds.Bool v o = made_slot (IsFinished w next) null (IsFresh w t (length gs) (WaitsFor receiver wait.begun)) (builds frozen k.method) (makes_frozen frozen k.method) g.receiver (builds frozen k.method) types.Int v (λ e. cc) tt
+  kind_slot (kinds.Ref class) v o = made_slot (IsFinished w next) null (IsFresh w t (length gs) (WaitsFor receiver wait.begun)) (builds frozen k.method) (makes_frozen frozen k.method) g.receiver (builds frozen k.method) (types.Ref class) v (λ e. cc) o
+
+  pushed : (o : Option Kind) (vs : List ℕ) → ResultOld (IsFinished w next) o vs → (st lt : List VType) (sg lg : List Tag) (us : List VType) (hs : List Tag) (ns : List ℕ) → SlotsAre IsWaiting us hs ns
+      → SlotsAre IsWaiting (map (value_of types.Top (λ t. t) st lt) (option_to_list (option_map (λ kind. Anew (type_of kind)) o)) ++ us) (map (value_of Untagged (λ t. Untagged) sg lg) (option_to_list (option_map (λ kind. Anew (type_of kind)) o)) ++ hs) (vs ++ ns)
+  pushed None [] e st lt sg lg us hs ns s = s
+  pushed None (v ∷ vs) e st lt sg lg us hs ns s = absurd e
+  pushed (Some kind) [] e st lt sg lg us hs ns s = absurd e
+  pushed (Some kind) (v ∷ []) e st lt sg lg us hs ns s = (kind_slot kind v e, s)
+  pushed (Some kind) (v ∷ x ∷ vs) e st lt sg lg us hs ns s = absurd e
+
+  stack_waits : SlotsAre IsWaiting (stack_after types.Top (λ t. t) r k.types.stack k.types.locals) (moved_tags r k.tags).stack (result ++ g.stack)
+  stack_waits =
+      let gives : r.gives ≡ result_of called = ap (λ (x : OpRow). x.gives) call.is in
+      subst (λ (xs : List Given). SlotsAre IsWaiting (map (value_of types.Top (λ t. t) k.types.stack k.types.locals) xs ++ drop (length r.takes) k.types.stack) (map (value_of Untagged (λ t. Untagged) k.tags.stack k.tags.locals) xs ++ drop (length r.takes) k.tags.stack) (result ++ g.stack)) (sym gives)
+      (pushed called.result result old_result k.types.stack k.types.locals k.tags.stack k.tags.locals (drop (length r.takes) k.types.stack) (drop (length r.takes) k.tags.stack) g.stack wait.keeps.stack)
+
+  locals_wait : SlotsAre IsWaiting (locals_after types.Top (λ t. t) r.writes k.types.stack k.types.locals) (moved_tags r k.tags).locals g.locals
+  locals_wait =
+      let none : r.writes ≡ None = ap (λ (x : OpRow). x.writes) call.is in
+      subst (λ (o : Option (ℕ × Given)). SlotsAre IsWaiting (locals_after types.Top (λ t. t) o k.types.stack k.types.locals) (locals_after Untagged (λ t. Untagged) o k.tags.stack k.tags.locals) g.locals) (sym none) wait.keeps.locals
+
+  -- in a world where the slots are of the types behind the call
+  landed : (z : World) → IsFinished z next 0 → ReceiverIs z next t (length gs) (builds frozen k.method) g.receiver
+      → SlotsAre (SlotOf frozen z next t (length gs) Runs k.method g.receiver) (frame_after k.method r k.types).stack (moved_tags r k.tags).stack (result ++ g.stack)
+      → SlotsAre (SlotOf frozen z next t (length gs) Runs k.method g.receiver) (frame_after k.method r k.types).locals (moved_tags r k.tags).locals g.locals → FrameKeeps c frozen z next t (length gs) Runs resumed
+  landed z none own stack locals =
+      let edge = call_edge k.insn k.target number wait.calls in
+      let edge_is : has_number (edges k.insn) k.insn.next ≡ true = edge_has (edges k.insn) k.insn.next edge in
+      let fine = tags_fine (IsFinished z next) none (IsFresh z t (length gs) Runs) (builds frozen k.method) (makes_frozen frozen k.method) g.receiver c.program k.method k.insn.pc k.target k.insn.op k.tags.stack k.tags.locals k.tags.held
+      (frame_after k.method r k.types).stack (frame_after k.method r k.types).locals (result ++ g.stack) g.locals (stack, locals) in
+      land c marked frozen are z next t (length gs) none resumed k.method k.frames k.at.frames (frame_after k.method r k.types) (tags_after k.insn r k.tags) k.at.in_program k.types_of_method k.at.of_method
+      (edge_at k.method (within c.program) k.method.code k.frames (frame_after k.method r k.types) (edges k.insn) k.insn.next (rules_at c marked g k).sound.edges_fit edge)
+      (edge_fits c marked g k k.insn.next edge_is) (joined_onward c marked frozen are g resumed k refl edge_is) own fine.0 fine.1
+    where
+      edge_has : (tos : List ℕ) (to : ℕ) → OneOf tos to → has_number tos to ≡ true
+      edge_has [] to h = absurd h
+      edge_has (x ∷ xs) to (inl e) = Rattle.lists.proofs.TestLaws.first_true (x == to) (has_number xs to) (grind (arith, nat_tests, e))
+      edge_has (x ∷ xs) to (inr h) = Rattle.lists.proofs.TestLaws.second_true (x == to) (has_number xs to) (edge_has xs to h)
+
+  -- ---- of a method that is no `<init>` of a frozen class, or of one on `this`
+
+  again : (o : Option (VType × ℕ)) → StartsOld (makes_frozen frozen k.method) o → (q v : ℕ) → makes_frozen frozen k.method q ≡ true → FreshAtCall w t (length gs) receiver o q v → w v ≡ Some (builder t (length gs) (Made q))
+  again None s q v y e = e
+  again (Some (types.New x, class)) s q v y e = by_test (q == x) refl e
+    where
+      by_test : (b : Bool) → (q == x) ≡ b → if_so b (v ≡ receiver) (w v ≡ Some (builder t (length gs) (Made q))) → w v ≡ Some (builder t (length gs) (Made q))
+      by_test true z e = absurd (let bad : true ≡ false = sym y ∙ ap (makes_frozen frozen k.method) (same_from q x z) ∙ s in cc)
+      by_test false z e = e
+  again (Some (types.This, class)) s q v y e = e
+  again (Some (types.Int, class)) s q v y e = e
+  again (Some (types.Null, class)) s q v y e = e
+  again (Some (types.Ref d, class)) s q v y e = e
+  again (Some (types.Top, class)) s q v y e = e
+
+  resumes_old : StartsOld (makes_frozen frozen k.method) (started k.method.class r.takes k.types.stack) → FrameKeeps c frozen w next t (length gs) Runs resumed
+  resumes_old old =
+      let after = old_started (IsFinished w next) null (IsFresh w t (length gs) Runs) (builds frozen k.method) (makes_frozen frozen k.method) g.receiver (started k.method.class r.takes k.types.stack) old
+      (record { stack = stack_after types.Top (λ t. t) r k.types.stack k.types.locals; locals = locals_after types.Top (λ t. t) r.writes k.types.stack k.types.locals; ready = k.types.ready })
+      (moved_tags r k.tags) (result ++ g.stack) g.locals (runs _ _ _ stack_waits, runs _ _ _ locals_wait) in
+      landed w null wait.keeps.receiver after.0 after.1
+    where
+      runs : (us : List VType) (hs : List Tag) (ns : List ℕ) → SlotsAre IsWaiting us hs ns → SlotsAre (SlotOf frozen w next t (length gs) Runs k.method g.receiver) us hs ns
+      runs = slots_map IsWaiting (SlotOf frozen w next t (length gs) Runs k.method g.receiver)
+          (slot_later (IsFinished w next) (IsFinished w next) (IsFresh w t (length gs) (WaitsFor receiver wait.begun)) (IsFresh w t (length gs) Runs) (λ v o. o) (makes_frozen frozen k.method)
+          (again wait.begun (subst (StartsOld (makes_frozen frozen k.method)) (sym wait.begun_is) old)) (builds frozen k.method) g.receiver)
+
+  -- ---- of an `<init>` on what a `new` of the caller made
+
+  module _ (y : StartsYoung k.method (makes_frozen frozen k.method) (started k.method.class r.takes k.types.stack)) where
+    abbrev gone : Builder
+    gone = builder t (suc (length gs)) Begun
+
+    abbrev z : World
+    z = without w (builder t (suc (length gs)) Begun)
+
+    -- the method is such an `<init>`
+    called_builds : builds frozen called ≡ true
+    called_builds = by_kind call.by
+      where
+        takes_are : (ws : List Want) → call.takes ≡ ws → r.takes ≡ ws
+        takes_are ws e = ap (λ (x : OpRow). x.takes) call.is ∙ e
+
+        nothing : AllByRecursion StartsNone r.takes → ⊥
+        nothing n = let none = none_started k.method.class r.takes k.types.stack n in (let bad : None ≡ Some (types.New y.pc, y.class) = sym none ∙ y.is in cc)
+
+        by_init : (b : Bool) → is_init called ≡ b → r.takes ≡ arguments called ++ receiver_want b called.class ∷ [] → builds frozen called ≡ true
+        by_init false e takes = absurd (nothing (subst (AllByRecursion StartsNone) (sym takes) (none_append (arguments called) (AnObject called.class) (arguments_start called) tt)))
+        by_init true e takes =
+            let class : y.class ≡ called.class = started_class k.method.class y.pc y.class called.class (arguments called) k.types.stack (arguments_start called) (ap (λ (ws : List Want). started k.method.class ws k.types.stack) (sym takes) ∙ y.is) in
+            ap (λ (b : Bool). b && frozen called.class) e ∙ sym (ap frozen class) ∙ sym (class_frozen (new_class k.method.code k.method.targets y.pc) y.class y.of_class) ∙ y.young_is
+          where
+            class_frozen : (o : Option ℕ) (class : ℕ) → is_class o class ≡ true → is_frozen_class frozen o ≡ frozen class
+            class_frozen None class e = absurd (cc)
+            class_frozen (Some d) class e = ap frozen (same d class e)
+              where
+                same : (d class : ℕ) → (d == class) ≡ true → d ≡ class
+                same d class e = grind (arith, nat_tests)
+
+        by_kind : ((is_static called.flags ≡ false) × (call.takes ≡ arguments called ++ receiver_want (is_init called) called.class ∷ [])) ⊎ ((is_static called.flags ≡ true) × (call.takes ≡ arguments called)) → builds frozen called ≡ true
+        by_kind (inl s) = by_init (is_init called) refl (takes_are (arguments called ++ receiver_want (is_init called) called.class ∷ []) s.1)
+        by_kind (inr s) = absurd (nothing (subst (AllByRecursion StartsNone) (sym (takes_are (arguments called) s.1)) (arguments_start called)))
+
+    is_begun : w receiver ≡ Some (builder t (suc (length gs)) Begun)
+    is_begun = subst (λ (b : Bool). ReceiverIs w next t (suc (length gs)) b receiver) called_builds stands
+
+    old_on : (v : ℕ) → IsFinished w next v → IsFinished z next v
+    old_on v o = (o.0, without_none w gone v o.1)
+
+    receiver_on : (own : Bool) → ReceiverIs w next t (length gs) own g.receiver → ReceiverIs z next t (length gs) own g.receiver
+    receiver_on true e = without_keeps w gone g.receiver (builder t (length gs) Begun) e (λ s. (let i : length gs ≡ suc (length gs) = ap (λ (b : Builder). b.height) s in omega (arith, i)))
+    receiver_on false e = old_on g.receiver e
+
+    finish : (us : List VType) (hs : List Tag) (ns : List ℕ) → SlotsAre IsWaiting us hs ns → SlotsAre (SlotOf frozen z next t (length gs) Runs k.method g.receiver) (initialised (types.New y.pc) y.class us) hs ns
+    finish us hs ns s =
+        slots_finished (IsFinished w next) (IsFinished z next) null (IsFresh w t (length gs) (WaitsFor receiver (Some (types.New y.pc, y.class)))) (IsFresh z t (length gs) Runs) (makes_frozen frozen k.method) g.receiver y.pc y.class old_on
+        (λ v young e. here v e) (λ x v n young e. others x v n e) (builds frozen k.method) us hs ns
+        (subst (λ (o : Option (VType × ℕ)). SlotsAre (SlotOf frozen w next t (length gs) (WaitsFor receiver o) k.method g.receiver) us hs ns) (wait.begun_is ∙ y.is) s)
+      where
+        here : (v : ℕ) → if_so (y.pc == y.pc) (v ≡ receiver) (w v ≡ Some (builder t (length gs) (Made y.pc))) → IsFinished z next v
+        here v e =
+            let same : v ≡ receiver = subst (λ (b : Bool). if_so b (v ≡ receiver) (w v ≡ Some (builder t (length gs) (Made y.pc)))) (same_to y.pc y.pc refl) e in
+            subst (IsFinished z next) (sym same) (inside receiver gone is_begun, without_gone w gone receiver is_begun)
+
+        others : (x v : ℕ) → x ≢ y.pc → if_so (x == y.pc) (v ≡ receiver) (w v ≡ Some (builder t (length gs) (Made x))) → z v ≡ Some (builder t (length gs) (Made x))
+        others x v n e =
+            let built = subst (λ (b : Bool). if_so b (v ≡ receiver) (w v ≡ Some (builder t (length gs) (Made x)))) (other_to x y.pc n) e in
+            without_keeps w gone v (builder t (length gs) (Made x)) built (λ s. (let i : length gs ≡ suc (length gs) = ap (λ (b : Builder). b.height) s in omega (arith, i)))
+
+    resumes_young : FrameKeeps c frozen z next t (length gs) Runs resumed
+    resumes_young =
+        let before : TypeFrame = record { stack = stack_after types.Top (λ t. t) r k.types.stack k.types.locals; locals = locals_after types.Top (λ t. t) r.writes k.types.stack k.types.locals; ready = k.types.ready } in
+        let same : after_start (Some (types.New y.pc, y.class)) before ≡ frame_after k.method r k.types = ap (λ o. after_start o before) (sym y.is) in
+        landed z (old_on 0 null) (receiver_on (builds frozen k.method) wait.keeps.receiver)
+        (subst (λ (a : TypeFrame). SlotsAre (SlotOf frozen z next t (length gs) Runs k.method g.receiver) a.stack (moved_tags r k.tags).stack (result ++ g.stack)) same (finish _ _ _ stack_waits))
+        (subst (λ (a : TypeFrame). SlotsAre (SlotOf frozen z next t (length gs) Runs k.method g.receiver) a.locals (moved_tags r k.tags).locals g.locals) same (finish _ _ _ locals_wait))
+
+    below_on : KeepBelow c frozen z next t g gs
+    below_on = below_kept c frozen w z next next t old_on g gs (λ i less v x e. without_keeps w gone v (builder t i x) e (λ s. (let n : i ≡ suc (length gs) = ap (λ (b : Builder). b.height) s in omega (arith, n, less)))) below
+
+  pub resumes : Steps w next t (λ z. FramesKeep c frozen z next t Runs (resumed ∷ gs))
+  resumes = by_start (starts k.method (makes_frozen frozen k.method) r.takes k.types.stack (suit_at c marked g k))
+    where
+      by_start : Starts k.method (makes_frozen frozen k.method) (started k.method.class r.takes k.types.stack) → Steps w next t (λ z. FramesKeep c frozen z next t Runs (resumed ∷ gs))
+      by_start (inl old) = stays w next t (λ z. FramesKeep c frozen z next t Runs (resumed ∷ gs)) (resumes_old old, below_moved c frozen w next t g k.insn.next (result ++ g.stack) g.locals gs below)
+      by_start (inr y) = record {
+        later = without w (builder t (suc (length gs)) Begun);
+        goes = goes_without w next t (builder t (suc (length gs)) Begun) refl;
+        world = λ first is. world_without w first next (builder t (suc (length gs)) Begun) is;
+        keeps = (resumes_young y, below_moved c frozen (without w (builder t (suc (length gs)) Begun)) next t g k.insn.next (result ++ g.stack) g.locals gs (below_on y));
+      }

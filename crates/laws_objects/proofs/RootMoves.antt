@@ -1,0 +1,141 @@
+-- The frame of a root keeps what construction says: it is a static method, no `<init>`, and takes nothing or an int.
+use Rattle.std.proofs.Common.{◌≡◌, ℕ, zero, suc, ◌+◌, ◌≤◌, inl, inr, Bool, true, false, ◌&&◌, ◌||◌, List, [], ◌∷◌, ◌++◌, length, Option, Some, None, refl, ap, sym, subst, ◌∙◌, arith}
+use Rattle.std.specs.Prelude.{◌==◌, nat_lt, codes, bytes_eq, slice_get, option_map, if◌then◌else◌, IsTrue}
+use Rattle.std.specs.List.{AllByRecursion}
+use Rattle.std.proofs.lemmas.Bool.Decides.{nat_tests}
+use Rattle.std.proofs.lemmas.Slice.Eq.{bytes_eq-Decides}
+use Rattle.lists.proofs.ListLaws.{same_some}
+use Rattle.lists.proofs.TestLaws.{both_are_true, second_true, first_true}
+use Rattle.jvm_types.specs.ClassNames.{file_class}
+use Rattle.jvm_types.specs.CodeTable.{is_init}
+use Rattle.jvm_types.specs.Members.{is_static, is_class_init_name}
+use Rattle.jvm_types.specs.Numbers.{has_number}
+use Rattle.jvm_types.specs.ProgramInvariant.{words_of}
+use Rattle.jvm_types.specs.declared.outcome.Thrown.TheVariants.{StackOverflowError}
+use Rattle.jvm_types.specs.declared.program.Kind.{Kind}
+use Rattle.jvm_types.specs.declared.program.MethodInfo.{MethodInfo}
+use Rattle.jvm_types.specs.declared.program.Program.{Program}
+use Rattle.checked_program.proofs.CheckedPlaces.{called_fit_all}
+use Rattle.checked_program.specs.MarkedProgram.{MarkedProgram, IsMarked, checked_part}
+use Rattle.machine_types.specs.Bounds.{part_roots}
+use Rattle.machine_types.specs.Construction.{AreFrozen, ThreadKeeps}
+use Rattle.machine_types.specs.Events.{started}
+use Rattle.machine_types.specs.Frames.{has_room, entry_frame}
+use Rattle.machine_types.specs.Onward.{Running, Uncaught, root_arguments, rooted}
+use Rattle.machine_types.specs.Parts.{numbers_of, is_entry_named, entries_named, init_roots}
+use Rattle.machine_types.specs.Structure.{IsStructured}
+use Rattle.machine_types.specs.Threads.{Thread}
+use Rattle.machine_types.specs.Worlds.{World, IsFinished, IsWorld}
+use Rattle.machine_types.specs.declared.phase.Phase.{Phase}
+use Rattle.machine_types.specs.declared.phase.Phase.TheVariants as phases
+use Rattle.laws_threads.specs.StructureLaws.{StaysStructured}
+use Rattle.laws_programs.specs.EntryLaws.{receiver_count}
+use Rattle.laws_threads.proofs.Roots.{IsSomeRoot, part_root}
+use Rattle.laws_objects.proofs.Calling.{not_built}
+use Rattle.laws_objects.proofs.EnteredFrames.{ArgsOld, static_enters}
+use Rattle.laws_objects.proofs.MonitorMoves.{Goal, none_in, held, unmoved, goes_if, never}
+use Rattle.laws_objects.proofs.Moves.{stays}
+use Rattle.laws_objects.proofs.Onwards.{OnwardKeeps, IfKeeps, null}
+use Rattle.laws_objects.proofs.ThreadMoves.{from_same, now_world}
+
+-- ---- the methods with these numbers
+
+record Numbered (test : MethodInfo → Bool) (ms : List MethodInfo) (n k : ℕ) : Type 0 where
+  at : ℕ
+  method : MethodInfo
+  number : k ≡ n + at
+  there : slice_get ms at ≡ Some method
+  passes : test method ≡ true
+
+numbered : (test : MethodInfo → Bool) (ms : List MethodInfo) (n k : ℕ) → has_number (numbers_of test n ms) k ≡ true → Numbered test ms n k
+numbered test [] n k e = absurd (cc)
+numbered test (m ∷ ms) n k e = by_test (test m) refl e (numbered test ms (suc n) k)
+  where
+    later : Numbered test ms (suc n) k → Numbered test (m ∷ ms) n k
+    later x = record { at = suc x.at; method = x.method; number = omega (arith, x.number); there = x.there; passes = x.passes }
+
+    here : (n == k) ≡ true → k ≡ n + 0
+    here h = grind (arith, nat_tests, h)
+
+    by_here : (b : Bool) → (n == k) ≡ b → test m ≡ true → (b || has_number (numbers_of test (suc n) ms) k) ≡ true → (has_number (numbers_of test (suc n) ms) k ≡ true → Numbered test ms (suc n) k) → Numbered test (m ∷ ms) n k
+    by_here true h t e more = record { at = 0; method = m; number = here h; there = refl; passes = t }
+    by_here false h t e more = later (more e)
+
+    by_test : (b : Bool) → test m ≡ b → has_number (if b then n ∷ numbers_of test (suc n) ms else numbers_of test (suc n) ms) k ≡ true → (has_number (numbers_of test (suc n) ms) k ≡ true → Numbered test ms (suc n) k) → Numbered test (m ∷ ms) n k
+    by_test true t e more = by_here (n == k) refl t e more
+    by_test false t e more = later (more e)
+
+module _ (p : Program) where
+  abbrev NoInits : List ℕ → Type 0
+  NoInits numbers = (k : ℕ) (m : MethodInfo) → has_number numbers k ≡ true → slice_get p.methods k ≡ Some m → is_init m ≡ false
+
+  of_numbers : (test : MethodInfo → Bool) → ((m : MethodInfo) → test m ≡ true → is_init m ≡ false) → NoInits (numbers_of test 0 p.methods)
+  of_numbers test other k m h e =
+      let x = numbered test p.methods 0 k h in
+      let there : slice_get p.methods k ≡ Some x.method = ap (slice_get p.methods) (omega (arith, x.number)) ∙ x.there in
+      let same : x.method ≡ m = same_some (sym there ∙ e) in
+      other m (subst (λ (y : MethodInfo). test y ≡ true) same x.passes)
+
+  either : (xs ys : List ℕ) → NoInits xs → NoInits ys → NoInits (xs ++ ys)
+  either [] ys f g k m h e = g k m h e
+  either (x ∷ xs) ys f g k m h e = by_first (x == k) refl h (λ rest. either xs ys (λ k m h e. f k m (second_true (x == k) (has_number xs k) h) e) g k m rest e)
+    where
+      by_first : (b : Bool) → (x == k) ≡ b → (b || has_number (xs ++ ys) k) ≡ true → (has_number (xs ++ ys) k ≡ true → is_init m ≡ false) → is_init m ≡ false
+      by_first true t h more = f k m (first_true (x == k) (has_number xs k) t) e
+      by_first false t h more = more h
+
+  -- another name
+  named : (name : List ℕ) → bytes_eq name (codes "<init>") ≡ false → (m : MethodInfo) → bytes_eq m.name name ≡ true → is_init m ≡ false
+  named name other m e = ap (λ (n : List ℕ). bytes_eq n (codes "<init>")) ((bytes_eq-Decides m.name name).0 e) ∙ other
+
+  entries : (name descriptor : List ℕ) → bytes_eq name (codes "<init>") ≡ false → NoInits (entries_named p name descriptor)
+  entries name descriptor other = of_numbers (is_entry_named name descriptor) (λ m e.
+      (let parts = both_are_true ((m.class == file_class 0) && bytes_eq m.name name) (bytes_eq m.descriptor descriptor) e in
+      named name other m (both_are_true (m.class == file_class 0) (bytes_eq m.name name) parts.0).1))
+
+  inits : NoInits (init_roots p)
+  inits = either (numbers_of (λ m. is_class_init_name m.name) 0 p.methods) (entries_named p (codes "init") (codes "()V")) (of_numbers (λ m. is_class_init_name m.name) (named (codes "<clinit>") refl)) (entries (codes "init") (codes "()V") refl)
+
+  pub no_init : (number part k : ℕ) (m : MethodInfo) → has_number (part_roots p number part) k ≡ true → slice_get p.methods k ≡ Some m → is_init m ≡ false
+  no_init zero zero k m h e = inits k m h e
+  no_init zero (suc zero) k m h e = inits k m h e
+  no_init zero (suc (suc part)) k m h e = entries (codes "done") (codes "()V") refl k m h e
+  no_init (suc number) part k m h e = entries (codes "run") (codes "(I)V") refl k m h e
+
+-- ---- their frames
+
+module _ (c : MarkedProgram) (marked : IsMarked c) (frozen : ℕ → Bool) (are : AreFrozen c frozen) (w : World) (next t : ℕ) (is_world : IsWorld w (words_of c.program) next) where
+  root_keeps : (thread part number : ℕ) (m : MethodInfo) → has_number (part_roots c.program thread part) number ≡ true → slice_get c.program.methods number ≡ Some m → OnwardKeeps c frozen w next t (rooted c.program thread number m)
+  root_keeps thread part number m h e = by_room (has_room c.program [] m)
+    where
+      fits : receiver_count m + length m.args ≤ m.max_locals
+      fits = called_fit_all (checked_part c) number m marked.checked e
+
+      given : IsSomeRoot m → (is_static m.flags ≡ true) × ArgsOld (IsFinished w next) m.args (root_arguments thread m)
+      given (inl r) = (r.static, subst (λ (args : List Kind). ArgsOld (IsFinished w next) args (if nat_lt 0 (length args) then thread ∷ [] else [])) (sym r.args) tt)
+      given (inr r) = (r.static, subst (λ (args : List Kind). ArgsOld (IsFinished w next) args (if nat_lt 0 (length args) then thread ∷ [] else [])) (sym r.args) tt)
+
+      by_room : (b : Bool) → OnwardKeeps c frozen w next t (if b then Running (entry_frame number m (root_arguments thread m) ∷ []) else Uncaught StackOverflowError)
+      by_room true =
+          let g = given (part_root c.program marked.checked.program thread part number m h e) in
+          (static_enters c marked frozen are w next t 0 (null c marked frozen are w next t is_world) number m e (root_arguments thread m) g.0 (not_built frozen m (no_init c.program thread part number m h e)) (omega (arith, fits)) g.1, tt)
+      by_room false = tt
+
+  root_if : (thread part number : ℕ) → has_number (part_roots c.program thread part) number ≡ true → IfKeeps c frozen w next t (option_map (rooted c.program thread number) (slice_get c.program.methods number))
+  root_if thread part number h = by_method (slice_get c.program.methods number) refl
+    where
+      by_method : (o : Option MethodInfo) → slice_get c.program.methods number ≡ o → IfKeeps c frozen w next t (option_map (rooted c.program thread number) o)
+      by_method None e = tt
+      by_method (Some m) e = stays w next t (λ z. OnwardKeeps c frozen z next t (rooted c.program thread number m)) (root_keeps thread part number m h e)
+
+-- ---- a part begins with them
+
+module _ (c : MarkedProgram) (marked : IsMarked c) (frozen : ℕ → Bool) (are : AreFrozen c frozen) (w : World) (next more t : ℕ) (was : Phase) (x : Thread) (k : ThreadKeeps c frozen w next t was x) (is_world : IsWorld w (words_of c.program) next) (grows : next ≤ more) (stood : IsStructured c was x) where
+  pub starts_as : (roots : List ℕ) → AllByRecursion (λ (number : ℕ). IsTrue (has_number (part_roots c.program x.number x.part) number)) roots → was ≡ phases.Start → StaysStructured c was (started c.program x roots)
+      → Goal c marked frozen are w next more t was x k is_world grows stood (started c.program x roots)
+  starts_as [] all e stands = unmoved c marked frozen are w next more t was x k is_world grows stood
+  starts_as (number ∷ roots) all e stands =
+      let o = option_map (rooted c.program x.number number) (slice_get c.program.methods number) in
+      goes_if c marked frozen are w next more t was x k is_world grows stood (record x { roots = roots }) o refl refl (from_same x.attempt) (held c marked frozen are w next more t was x k is_world grows stood) stands
+      (never c marked frozen are w next more t was x k is_world grows stood o (none_in c marked frozen are w next more t was x k is_world grows stood phases.Start (λ m q. q) e))
+      (root_if c marked frozen are k.now next t (now_world c frozen w next t was x k is_world) x.number x.part number all.0)

@@ -1,0 +1,94 @@
+-- Where an instruction begins outside attempts, the thread holds each monitor that its top frame shows: that of its receiver where
+-- a tag of `this` is held, and where the method is synchronized on it.
+use Rattle.std.proofs.Common.{◌≡◌, ◌⊎◌, inl, inr, ℕ, ◌+◌, ◌<◌, Bool, true, false, not, List, [], ◌∷◌, ◌++◌, map, Option, Some, None, refl, sym, subst, arith}
+use Rattle.std.specs.Prelude.{◌==◌, if◌then◌else◌}
+use Rattle.std.specs.List.{list_any}
+use Rattle.std.proofs.lemmas.Bool.{and_parts}
+use Rattle.std.proofs.lemmas.Bool.Decides.{nat_tests}
+use Rattle.jvm_types.specs.Members.{is_static, is_synchronized}
+use Rattle.jvm_types.specs.declared.program.MethodInfo.{MethodInfo}
+use Rattle.checked_program.specs.FrozenPlaces.{locks_this}
+use Rattle.checked_program.specs.LockTags.{TagShape, is_this}
+use Rattle.checked_program.specs.MarkedProgram.{MarkedProgram, IsMarked}
+use Rattle.checked_program.specs.declared.tag.Tag.{Tag}
+use Rattle.checked_program.specs.declared.tag.Tag.TheVariants.{Untagged, This, At}
+use Rattle.machine_types.specs.HeldMonitors.{held_at}
+use Rattle.machine_types.specs.Shown.{tag_value, own_entry, entries_of, Shows}
+use Rattle.machine_types.specs.Standing.{Standing, Whole}
+use Rattle.machine_types.specs.Structure.{Stands, count_in, held_depth}
+use Rattle.machine_types.specs.Threads.{Frame}
+use Rattle.machine_types.specs.declared.lock.Held.{Held}
+use Rattle.machine_types.specs.declared.phase.Phase.TheVariants as phases
+use Rattle.laws_threads.proofs.HeldLists.{depth_none}
+use Rattle.laws_threads.proofs.FramePlaces.{one_standing}
+
+-- ---- counts
+
+is_same : (n : ℕ) → (n == n) ≡ true
+is_same n = grind (arith, nat_tests)
+
+first_counted : (m : ℕ) (more : List ℕ) → 0 < count_in m (m ∷ more)
+first_counted m more = subst (λ (b : Bool). 0 < (if b then 1 else 0) + count_in m more) (sym (is_same m)) (omega arith)
+
+later_counted : (m n : ℕ) (more : List ℕ) → 0 < count_in m more → 0 < count_in m (n ∷ more)
+later_counted m n more l = omega (arith, l)
+
+pub front_counted : (m : ℕ) (ns more : List ℕ) → 0 < count_in m ns → 0 < count_in m (ns ++ more)
+front_counted m [] more l = absurd (omega (arith, l))
+front_counted m (n ∷ ns) more l = by_test (n == m) (λ less. front_counted m ns more less) l
+  where
+    by_test : (b : Bool) → (0 < count_in m ns → 0 < count_in m (ns ++ more)) → 0 < (if b then 1 else 0) + count_in m ns → 0 < (if b then 1 else 0) + count_in m (ns ++ more)
+    by_test true on l = omega arith
+    by_test false on l = let less : 0 < count_in m ns = omega (arith, l) in let k = on less in omega (arith, k)
+
+pub back_counted : (m : ℕ) (ns more : List ℕ) → 0 < count_in m more → 0 < count_in m (ns ++ more)
+back_counted m [] more l = l
+back_counted m (n ∷ ns) more l = later_counted m n (ns ++ more) (back_counted m ns more l)
+
+-- ---- what a frame shows of its receiver
+
+tag_counted : (choice : ℕ → ℕ) (receiver : ℕ) (held : List Tag) → list_any is_this held ≡ true → 0 < count_in receiver (map (tag_value choice receiver) held)
+tag_counted choice receiver [] e = absurd (cc)
+tag_counted choice receiver (This ∷ held) e = first_counted receiver (map (tag_value choice receiver) held)
+tag_counted choice receiver (Untagged ∷ held) e = later_counted receiver 0 (map (tag_value choice receiver) held) (tag_counted choice receiver held e)
+tag_counted choice receiver (At pc ∷ held) e = later_counted receiver (choice pc) (map (tag_value choice receiver) held) (tag_counted choice receiver held e)
+
+method_counted : (m : MethodInfo) (f : Frame) → locks_this m ≡ true → 0 < count_in f.receiver (own_entry m f)
+method_counted m f e = by_flag (is_synchronized m.flags) (and_parts (is_synchronized m.flags) (not (is_static m.flags)) e).0
+  where
+    by_flag : (b : Bool) → b ≡ true → 0 < count_in f.receiver (if b then f.receiver ∷ [] else [])
+    by_flag true e = first_counted f.receiver []
+    by_flag false e = absurd (cc)
+
+pub entries_counted : (choice : ℕ → ℕ) (m : MethodInfo) (tags : TagShape) (f : Frame) → (list_any is_this tags.held ≡ true) ⊎ (locks_this m ≡ true) → 0 < count_in f.receiver (entries_of choice m tags f)
+entries_counted choice m tags f (inl e) = front_counted f.receiver (map (tag_value choice f.receiver) tags.held) (own_entry m f) (tag_counted choice f.receiver tags.held e)
+entries_counted choice m tags f (inr e) = back_counted f.receiver (map (tag_value choice f.receiver) tags.held) (own_entry m f) (method_counted m f e)
+
+-- ---- what is shown is held
+
+held_of : (m : ℕ) (held : List Held) → 0 < held_depth m held → (h : Held) × (held_at held m ≡ Some h)
+held_of m held l = by_held (held_at held m) refl
+  where
+    by_held : (o : Option Held) → held_at held m ≡ o → (h : Held) × (held_at held m ≡ Some h)
+    by_held None e = absurd (omega (arith, l, depth_none m held e))
+    by_held (Some h) e = (h, e)
+
+module _ (c : MarkedProgram) (marked : IsMarked c) where
+  pub holds_receiver : (f : Frame) (fs : List Frame) (held : List Held) (k : Standing c f) → Stands c phases.Run (f ∷ fs) held None → (list_any is_this k.tags.held ≡ true) ⊎ (locks_this k.method ≡ true)
+      → (h : Held) × (held_at held f.receiver ≡ Some h)
+  holds_receiver f fs held k stands shows = held_of f.receiver held (omega (arith, stands.depths f.receiver, counted))
+    where
+      top : Shows c Whole f stands.show.0
+      top = stands.show.3
+
+      shows_there : (list_any is_this top.stands.tags.held ≡ true) ⊎ (locks_this top.stands.method ≡ true)
+      shows_there =
+          let one = one_standing c marked f k top.stands in
+          subst (λ (m : MethodInfo). (list_any is_this top.stands.tags.held ≡ true) ⊎ (locks_this m ≡ true)) one.method
+          (subst (λ (tags : TagShape). (list_any is_this tags.held ≡ true) ⊎ (locks_this k.method ≡ true)) one.tags shows)
+
+      own : 0 < count_in f.receiver stands.show.0
+      own = subst (λ (ns : List ℕ). 0 < count_in f.receiver ns) (sym top.shown_are) (entries_counted top.choice top.stands.method top.stands.tags f shows_there)
+
+      counted : 0 < count_in f.receiver stands.shown
+      counted = subst (λ (ns : List ℕ). 0 < count_in f.receiver ns) (sym stands.show.2) (front_counted f.receiver stands.show.0 stands.show.1 own)

@@ -1,0 +1,280 @@
+-- What slots are along moves, starts and edges.
+use Rattle.std.proofs.Common.{◌≡◌, ◌≢◌, ℕ, zero, suc, ◌⊎◌, inl, inr, Bool, true, false, ◌&&◌, List, [], ◌∷◌, ◌++◌, length, map, drop, Option, Some, None, refl, sym, ap, ◌∙◌, subst, arith}
+use Rattle.std.specs.Prelude.{◌==◌, if◌then◌else◌, slice_set, slice_index_or}
+use Rattle.std.specs.List.{AllByRecursion}
+use Rattle.std.proofs.lemmas.Bool.Decides.{nat_tests}
+use Rattle.jvm_types.specs.CodeTable.{value_of, stack_after, locals_after}
+use Rattle.jvm_types.specs.Types.{is_below, same_type, all_pairs}
+use Rattle.jvm_types.specs.Verifying.{initialised}
+use Rattle.jvm_types.specs.declared.op_row.Given.{Given}
+use Rattle.jvm_types.specs.declared.op_row.Given.TheVariants.{Fresh as Anew, Taken, Local}
+use Rattle.jvm_types.specs.declared.op_row.OpRow.{OpRow}
+use Rattle.jvm_types.specs.declared.typing.VType.{VType}
+use Rattle.jvm_types.specs.declared.typing.VType.TheVariants as types
+use Rattle.checked_program.specs.FrozenPlaces.{KeepThis}
+use Rattle.checked_program.specs.LockTags.{same_tag, without, IsTagBelow, AreTagsBelow}
+use Rattle.checked_program.specs.declared.tag.Tag.{Tag}
+use Rattle.checked_program.specs.declared.tag.Tag.TheVariants.{Untagged, This, At}
+use Rattle.machine_types.specs.Construction.{if_so, SlotByType, OwnSlot, SlotIs, SlotsAre}
+use Rattle.laws_objects.proofs.NoThis.{other_above}
+
+-- ---- lists of slots
+
+pub slots_map : (R S : VType → Tag → ℕ → Type 0) → ((t : VType) (g : Tag) (v : ℕ) → R t g v → S t g v) → (ts : List VType) (gs : List Tag) (vs : List ℕ) → SlotsAre R ts gs vs → SlotsAre S ts gs vs
+slots_map R S f [] [] [] a = tt
+slots_map R S f (t ∷ ts) (g ∷ gs) (v ∷ vs) a = (f t g v a.0, slots_map R S f ts gs vs a.1)
+slots_map R S f ts gs vs a = absurd a
+
+-- those of types that pass a test
+pub slots_map_if : (P : VType → Type 0) (R S : VType → Tag → ℕ → Type 0) → ((u : VType) (g : Tag) (v : ℕ) → P u → R u g v → S u g v) → (us : List VType) (gs : List Tag) (vs : List ℕ) → AllByRecursion P us → SlotsAre R us gs vs → SlotsAre S us gs vs
+slots_map_if P R S f [] [] [] all a = tt
+slots_map_if P R S f (u ∷ us) (g ∷ gs) (v ∷ vs) all a = (f u g v all.0 a.0, slots_map_if P R S f us gs vs all.1 a.1)
+slots_map_if P R S f us gs vs all a = absurd a
+
+pub slots_drop : (R : VType → Tag → ℕ → Type 0) (k : ℕ) (ts : List VType) (gs : List Tag) (vs : List ℕ) → SlotsAre R ts gs vs → SlotsAre R (drop k ts) (drop k gs) (drop k vs)
+slots_drop R zero ts gs vs a = a
+slots_drop R (suc k) [] [] [] a = tt
+slots_drop R (suc k) (t ∷ ts) (g ∷ gs) (v ∷ vs) a = slots_drop R k ts gs vs a.1
+slots_drop R (suc k) ts gs vs a = absurd a
+
+-- what a row makes anew
+abbrev pub IsMade : (VType → Tag → ℕ → Type 0) → (made : ℕ) → Given → Type 0
+IsMade R made (Anew t) = R t Untagged made
+IsMade R made g = Unit {0}
+
+abbrev pub IsWriteMade : (VType → Tag → ℕ → Type 0) → (made : ℕ) → Option (ℕ × Given) → Type 0
+IsWriteMade R made None = Unit {0}
+IsWriteMade R made (Some w) = IsMade R made w.1
+
+module _ (R : VType → Tag → ℕ → Type 0) (top : R types.Top Untagged 0) where
+  slot_at : (ts : List VType) (gs : List Tag) (vs : List ℕ) (k : ℕ) → SlotsAre R ts gs vs → R (slice_index_or ts k types.Top) (slice_index_or gs k Untagged) (slice_index_or vs k 0)
+  slot_at [] [] [] k a = top
+  slot_at (t ∷ ts) (g ∷ gs) (v ∷ vs) zero a = a.0
+  slot_at (t ∷ ts) (g ∷ gs) (v ∷ vs) (suc k) a = slot_at ts gs vs k a.1
+  slot_at ts gs vs k a = absurd a
+
+  pub slots_append : (ts us : List VType) (gs hs : List Tag) (vs ws : List ℕ) → SlotsAre R ts gs vs → SlotsAre R us hs ws → SlotsAre R (ts ++ us) (gs ++ hs) (vs ++ ws)
+  slots_append [] us [] hs [] ws a b = b
+  slots_append (t ∷ ts) us (g ∷ gs) hs (v ∷ vs) ws a b = (a.0, slots_append ts us gs hs vs ws a.1 b)
+  slots_append ts us gs hs vs ws a b = absurd a
+
+  slots_set : (ts : List VType) (gs : List Tag) (vs : List ℕ) (k : ℕ) (t : VType) (g : Tag) (v : ℕ) → R t g v → SlotsAre R ts gs vs → SlotsAre R (slice_set ts k t) (slice_set gs k g) (slice_set vs k v)
+  slots_set [] [] [] k t g v h a = tt
+  slots_set (x ∷ ts) (y ∷ gs) (z ∷ vs) zero t g v h a = (h, a.1)
+  slots_set (x ∷ ts) (y ∷ gs) (z ∷ vs) (suc k) t g v h a = (a.0, slots_set ts gs vs k t g v h a.1)
+  slots_set ts gs vs k t g v h a = absurd a
+
+  module _ (made : ℕ) (st lt : List VType) (sg lg : List Tag) (sv lv : List ℕ) (s : SlotsAre R st sg sv) (l : SlotsAre R lt lg lv) where
+    given : (x : Given) → IsMade R made x → R (value_of types.Top (λ t. t) st lt x) (value_of Untagged (λ t. Untagged) sg lg x) (value_of 0 (λ t. made) sv lv x)
+    given (Anew t) h = h
+    given (Taken k) h = slot_at st sg sv k s
+    given (Local k) h = slot_at lt lg lv k l
+
+    givens : (xs : List Given) → AllByRecursion (IsMade R made) xs → SlotsAre R (map (value_of types.Top (λ t. t) st lt) xs) (map (value_of Untagged (λ t. Untagged) sg lg) xs) (map (value_of 0 (λ t. made) sv lv) xs)
+    givens [] h = tt
+    givens (x ∷ xs) h = (given x h.0, givens xs h.1)
+
+    pub stack_moves : (r : OpRow) → AllByRecursion (IsMade R made) r.gives → SlotsAre R (stack_after types.Top (λ t. t) r st lt) (stack_after Untagged (λ t. Untagged) r sg lg) (stack_after 0 (λ t. made) r sv lv)
+    stack_moves r h = slots_append (map (value_of types.Top (λ t. t) st lt) r.gives) (drop (length r.takes) st) (map (value_of Untagged (λ t. Untagged) sg lg) r.gives) (drop (length r.takes) sg) (map (value_of 0 (λ t. made) sv lv) r.gives) (drop (length r.takes) sv)
+        (givens r.gives h) (slots_drop R (length r.takes) st sg sv s)
+
+    pub local_moves : (w : Option (ℕ × Given)) → IsWriteMade R made w → SlotsAre R (locals_after types.Top (λ t. t) w st lt) (locals_after Untagged (λ t. Untagged) w sg lg) (locals_after 0 (λ t. made) w sv lv)
+    local_moves None h = l
+    local_moves (Some x) h = slots_set lt lg lv x.0 (value_of types.Top (λ t. t) st lt x.1) (value_of Untagged (λ t. Untagged) sg lg x.1) (value_of 0 (λ t. made) sv lv x.1) (given x.1 h) l
+
+-- ---- one slot in another world
+
+module _ (Old More : ℕ → Type 0) (Fresh Later : ℕ → ℕ → Type 0) (old : (v : ℕ) → Old v → More v) (young : ℕ → Bool) (fresh : (q v : ℕ) → young q ≡ true → Fresh q v → Later q v) where
+  new_slot : (b : Bool) (q v : ℕ) → young q ≡ b → if_so b (Fresh q v) (Old v) → if_so b (Later q v) (More v)
+  new_slot true q v e h = fresh q v e h
+  new_slot false q v e h = old v h
+
+  pub by_type : (t : VType) (v : ℕ) → SlotByType Old Fresh young t v → SlotByType More Later young t v
+  by_type types.Null v h = h
+  by_type (types.Ref c) v h = old v h
+  by_type types.This v h = old v h
+  by_type (types.New q) v h = new_slot (young q) q v refl h
+  by_type types.Int v h = tt
+  by_type types.Top v h = tt
+
+  own_slot : (receiver : ℕ) (t : VType) (g : Tag) (v : ℕ) → OwnSlot Old Fresh young receiver t g v → OwnSlot More Later young receiver t g v
+  own_slot receiver t This v h = h
+  own_slot receiver types.This Untagged v h = h
+  own_slot receiver types.This (At pc) v h = h
+  own_slot receiver types.Null Untagged v h = h
+  own_slot receiver types.Null (At pc) v h = h
+  own_slot receiver (types.Ref c) Untagged v h = old v h
+  own_slot receiver (types.Ref c) (At pc) v h = old v h
+  own_slot receiver (types.New q) Untagged v h = new_slot (young q) q v refl h
+  own_slot receiver (types.New q) (At pc) v h = new_slot (young q) q v refl h
+  own_slot receiver types.Int Untagged v h = tt
+  own_slot receiver types.Int (At pc) v h = tt
+  own_slot receiver types.Top Untagged v h = tt
+  own_slot receiver types.Top (At pc) v h = tt
+
+  pub slot_later : (own : Bool) (receiver : ℕ) (t : VType) (g : Tag) (v : ℕ) → SlotIs Old Fresh own young receiver t g v → SlotIs More Later own young receiver t g v
+  slot_later true receiver t g v h = own_slot receiver t g v h
+  slot_later false receiver t g v h = by_type t v h
+
+-- ---- edges
+
+module _ (Old : ℕ → Type 0) (null : Old 0) (Fresh : ℕ → ℕ → Type 0) (own : Bool) (young : ℕ → Bool) (receiver : ℕ) where
+  abbrev pub R : VType → Tag → ℕ → Type 0
+  R = SlotIs Old Fresh own young receiver
+
+  pub top_slot : (o : Bool) → SlotIs Old Fresh o young receiver types.Top Untagged 0
+  top_slot true = tt
+  top_slot false = tt
+
+  type_edge : (t u : VType) (v : ℕ) → is_below t u ≡ true → SlotByType Old Fresh young t v → SlotByType Old Fresh young u v
+  type_edge t types.Top v b h = tt
+  type_edge types.Int types.Int v b h = tt
+  type_edge types.Null types.Null v b h = h
+  type_edge types.Null (types.Ref c) v b h = subst Old (sym h) null
+  type_edge (types.Ref c) (types.Ref d) v b h = h
+  type_edge types.This types.This v b h = h
+  type_edge (types.New p) (types.New q) v b h = subst (λ (r : ℕ). if_so (young r) (Fresh r v) (Old v)) (grind (arith, nat_tests, b)) h
+  type_edge t u v b h = absurd (cc)
+
+  -- slots with no `this` go by their type, which is not `this`
+  pub plainly : (t : VType) (g : Tag) (v : ℕ) → g ≢ This → OwnSlot Old Fresh young receiver t g v → (t ≢ types.This) × SlotByType Old Fresh young t v
+  plainly t This v n h = absurd (n refl)
+  plainly types.This Untagged v n h = absurd h
+  plainly types.This (At p) v n h = absurd h
+  plainly types.Null Untagged v n h = (λ e. cc, h)
+  plainly types.Null (At p) v n h = (λ e. cc, h)
+  plainly (types.Ref c) Untagged v n h = (λ e. cc, h)
+  plainly (types.Ref c) (At p) v n h = (λ e. cc, h)
+  plainly (types.New c) Untagged v n h = (λ e. cc, h)
+  plainly (types.New c) (At p) v n h = (λ e. cc, h)
+  plainly types.Int Untagged v n h = (λ e. cc, h)
+  plainly types.Int (At p) v n h = (λ e. cc, h)
+  plainly types.Top Untagged v n h = (λ e. cc, h)
+  plainly types.Top (At p) v n h = (λ e. cc, h)
+
+  pub plain_slot : (t : VType) (g : Tag) (v : ℕ) → g ≢ This → t ≢ types.This → SlotByType Old Fresh young t v → OwnSlot Old Fresh young receiver t g v
+  plain_slot t This v n m h = absurd (n refl)
+  plain_slot types.This g v n m h = absurd (m refl)
+  plain_slot types.Null Untagged v n m h = h
+  plain_slot types.Null (At p) v n m h = h
+  plain_slot (types.Ref c) Untagged v n m h = h
+  plain_slot (types.Ref c) (At p) v n m h = h
+  plain_slot (types.New c) Untagged v n m h = h
+  plain_slot (types.New c) (At p) v n m h = h
+  plain_slot types.Int Untagged v n m h = h
+  plain_slot types.Int (At p) v n m h = h
+  plain_slot types.Top Untagged v n m h = h
+  plain_slot types.Top (At p) v n m h = h
+
+  pub not_this : (k : Tag) → (k ≡ This) ⊎ (k ≢ This)
+  not_this Untagged = inr (λ e. cc)
+  not_this This = inl refl
+  not_this (At p) = inr (λ e. cc)
+
+  kept_this : (g : Tag) → IsTagBelow g This → g ≡ This
+  kept_this g e = e
+
+  own_edge : (t u : VType) (g k : Tag) (v : ℕ) → is_below t u ≡ true → IsTagBelow g k → (g ≡ This → k ≡ This) → OwnSlot Old Fresh young receiver t g v → OwnSlot Old Fresh young receiver u k v
+  own_edge t u g k v b kept keeps h = by_tag (not_this g)
+    where
+      by_tag : (g ≡ This) ⊎ (g ≢ This) → OwnSlot Old Fresh young receiver u k v
+      by_tag (inl e) = rw (keeps e) (subst (λ (x : Tag). OwnSlot Old Fresh young receiver t x v) e h)
+      by_tag (inr n) =
+          let p = plainly t g v n h in
+          plain_slot u k v (λ e. n (kept_this g (subst (λ (x : Tag). IsTagBelow g x) e kept))) (other_above t u b p.0) (type_edge t u v b p.1)
+
+  slot_edge : (o : Bool) (t u : VType) (g k : Tag) (v : ℕ) → is_below t u ≡ true → IsTagBelow g k → (o ≡ true → g ≡ This → k ≡ This) → SlotIs Old Fresh o young receiver t g v → SlotIs Old Fresh o young receiver u k v
+  slot_edge true t u g k v b kept keeps h = own_edge t u g k v b kept (keeps refl) h
+  slot_edge false t u g k v b kept keeps h = type_edge t u v b h
+
+  pub slots_edge : (ts us : List VType) (gs ks : List Tag) (vs : List ℕ) → all_pairs is_below ts us ≡ true → AreTagsBelow gs ks → length ks ≡ length us → (own ≡ true → KeepThis gs ks) → SlotsAre R ts gs vs → SlotsAre R us ks vs
+  slots_edge [] [] [] [] [] b kept long keeps h = tt
+  slots_edge (t ∷ ts) (u ∷ us) (g ∷ gs) (k ∷ ks) (v ∷ vs) b kept long keeps h =
+      let parts = both (is_below t u) (all_pairs is_below ts us) b in
+      (slot_edge own t u g k v parts.0 kept.0 (λ o e. keeps o 0 e) h.0, slots_edge ts us gs ks vs parts.1 kept.1 (omega (arith, long)) (λ o n e. keeps o (suc n) e) h.1)
+    where
+      both : (a b : Bool) → (a && b) ≡ true → (a ≡ true) × (b ≡ true)
+      both true b e = (refl, e)
+      both false b e = absurd (cc)
+  slots_edge ts us gs [] (v ∷ vs) b kept long keeps h = absurd (first_of (assumption, cc, omega (arith, long)))
+  slots_edge ts us gs ks vs b kept long keeps h = absurd (first_of (assumption, cc, omega (arith, long)))
+
+  -- ---- an `<init>` that is started: its object is finished, or `this` of an `<init>` of a frozen class
+
+  -- a start of a type: where slots of that type go to a class, they are what a finished reference is, or have the tag of `this`
+  abbrev pub StartFine : VType → Type 0
+  StartFine o = (v : ℕ) → SlotByType Old Fresh young o v → Old v
+
+  same_is : (o t : VType) → same_type o t ≡ true → o ≡ t
+  same_is types.Int types.Int e = refl
+  same_is types.Null types.Null e = refl
+  same_is (types.Ref c) (types.Ref d) e = ap types.Ref (grind (arith, nat_tests, e))
+  same_is types.This types.This e = refl
+  same_is (types.New p) (types.New q) e = ap types.New (grind (arith, nat_tests, e))
+  same_is types.Top types.Top e = refl
+  same_is o t e = absurd (cc)
+
+  type_started : (o : VType) (class : ℕ) (t : VType) (v : ℕ) → StartFine o → SlotByType Old Fresh young t v → SlotByType Old Fresh young (if same_type o t then types.Ref class else t) v
+  type_started o class t v fine h = by_test (same_type o t) refl
+    where
+      by_test : (b : Bool) → same_type o t ≡ b → SlotByType Old Fresh young (if b then types.Ref class else t) v
+      by_test true e = fine v (subst (λ (x : VType). SlotByType Old Fresh young x v) (sym (same_is o t e)) h)
+      by_test false e = h
+
+  own_started : (o : VType) (class : ℕ) (t : VType) (g : Tag) (v : ℕ) → ((o ≡ types.This) ⊎ StartFine o) → OwnSlot Old Fresh young receiver t g v → OwnSlot Old Fresh young receiver (if same_type o t then types.Ref class else t) g v
+  own_started o class t g v fine h = by_tag (not_this g)
+    where
+      start : (b : Bool) → same_type o t ≡ b → g ≢ This → (t ≢ types.This) × SlotByType Old Fresh young t v → (o ≡ types.This) ⊎ StartFine o → OwnSlot Old Fresh young receiver (if b then types.Ref class else t) g v
+      start true e n p (inl is) = absurd (p.0 (sym (same_is o t e) ∙ is))
+      start true e n p (inr f) = plain_slot (types.Ref class) g v n (λ x. cc) (f v (subst (λ (x : VType). SlotByType Old Fresh young x v) (sym (same_is o t e)) p.1))
+      start false e n p f = plain_slot t g v n p.0 p.1
+
+      by_tag : (g ≡ This) ⊎ (g ≢ This) → OwnSlot Old Fresh young receiver (if same_type o t then types.Ref class else t) g v
+      by_tag (inl e) = rw e (subst (λ (x : Tag). OwnSlot Old Fresh young receiver t x v) e h)
+      by_tag (inr n) = start (same_type o t) refl n (plainly t g v n h) fine
+
+  abbrev pub StartOk : Bool → VType → Type 0
+  StartOk true o = (o ≡ types.This) ⊎ StartFine o
+  StartOk false o = StartFine o
+
+  slot_started : (b : Bool) (o : VType) (class : ℕ) (t : VType) (g : Tag) (v : ℕ) → StartOk b o → SlotIs Old Fresh b young receiver t g v → SlotIs Old Fresh b young receiver (if same_type o t then types.Ref class else t) g v
+  slot_started true o class t g v fine h = own_started o class t g v fine h
+  slot_started false o class t g v fine h = type_started o class t v fine h
+
+  pub slots_started : (o : VType) (class : ℕ) (ts : List VType) (gs : List Tag) (vs : List ℕ) → StartOk own o → SlotsAre R ts gs vs → SlotsAre R (initialised o class ts) gs vs
+  slots_started o class [] [] [] fine h = tt
+  slots_started o class (t ∷ ts) (g ∷ gs) (v ∷ vs) fine h = (slot_started own o class t g v fine h.0, slots_started o class ts gs vs fine h.1)
+  slots_started o class ts gs vs fine h = absurd h
+
+  -- ---- tags that a `dup` makes and takes away
+
+  untag : (t : VType) (g k : Tag) (v : ℕ) → g ≢ This → k ≢ This → OwnSlot Old Fresh young receiver t g v → OwnSlot Old Fresh young receiver t k v
+  untag t g k v n m h = let p = plainly t g v n h in plain_slot t k v m p.0 p.1
+
+  pub slot_retag : (b : Bool) (t : VType) (g k : Tag) (v : ℕ) → g ≢ This → k ≢ This → SlotIs Old Fresh b young receiver t g v → SlotIs Old Fresh b young receiver t k v
+  slot_retag true t g k v n m h = untag t g k v n m h
+  slot_retag false t g k v n m h = h
+
+  without_slot : (pc : ℕ) (b : Bool) (t : VType) (g : Tag) (v : ℕ) → SlotIs Old Fresh b young receiver t g v → SlotIs Old Fresh b young receiver t (if same_tag g (At pc) then Untagged else g) v
+  without_slot pc b t Untagged v h = h
+  without_slot pc b t This v h = h
+  without_slot pc b t (At q) v h = by_test (q == pc)
+    where
+      by_test : (x : Bool) → SlotIs Old Fresh b young receiver t (if x then Untagged else At q) v
+      by_test true = slot_retag b t (At q) Untagged v (λ e. cc) (λ e. cc) h
+      by_test false = h
+
+  pub slots_without : (pc : ℕ) (ts : List VType) (gs : List Tag) (vs : List ℕ) → SlotsAre R ts gs vs → SlotsAre R ts (without pc gs) vs
+  slots_without pc [] [] [] h = tt
+  slots_without pc (t ∷ ts) (g ∷ gs) (v ∷ vs) h = (without_slot pc own t g v h.0, slots_without pc ts gs vs h.1)
+  slots_without pc ts gs vs h = absurd h
+
+  -- ---- a value that is made
+
+  pub made_slot : (o : Bool) (t : VType) (v : ℕ) → t ≢ types.This → SlotByType Old Fresh young t v → SlotIs Old Fresh o young receiver t Untagged v
+  made_slot true t v n h = plain_slot t Untagged v (λ e. cc) n h
+  made_slot false t v n h = h
+
+  pub ref_slot : (o : Bool) (c v : ℕ) → Old v → SlotIs Old Fresh o young receiver (types.Ref c) Untagged v
+  ref_slot true c v h = h
+  ref_slot false c v h = h

@@ -1,0 +1,219 @@
+-- What holds of the types and the tags at pc 0 together, and along each edge, holds wherever tagging reaches: so there are as
+-- many tags as types, and outside an `<init>` no value has the type of an uninitialised `this`.
+use Rattle.std.proofs.Common.{◌≡◌, ℕ, suc, ◌+◌, ◌-◌, Bool, true, false, cond, ◌&&◌, List, [], ◌∷◌, ◌++◌, length, map, drop, replicate, Option, Some, None, refl, sym, ap, ◌∙◌, subst, arith}
+use Rattle.std.specs.Prelude.{if◌then◌else◌, slice_get}
+use Rattle.std.specs.List.{AllByRecursion}
+use Rattle.std.proofs.lemmas.List.{length-append, length-map, length-drop, length-set, length-replicate}
+use Rattle.jvm_types.specs.CodeGrammar.{is_start}
+use Rattle.jvm_types.specs.CodeTable.{row, is_init, type_of, value_of, stack_after, locals_after}
+use Rattle.jvm_types.specs.Members.{is_static}
+use Rattle.jvm_types.specs.Types.{TypeFrame, is_below, all_pairs, frame_below, entry_frame, receiver_types}
+use Rattle.jvm_types.specs.Verifying.{edges, covering, started, after_start, initialised, frame_after, frame_at_handler, HasTyping, IsLaidOut}
+use Rattle.jvm_types.specs.Verifying as types
+use Rattle.jvm_types.specs.declared.code.Insn.{Insn}
+use Rattle.jvm_types.specs.declared.code.Op.{Op}
+use Rattle.jvm_types.specs.declared.code.Op.TheVariants as ops
+use Rattle.jvm_types.specs.declared.op_row.Given.{Given}
+use Rattle.jvm_types.specs.declared.op_row.OpRow.{OpRow}
+use Rattle.jvm_types.specs.declared.program.MethodInfo.{MethodInfo}
+use Rattle.jvm_types.specs.declared.program.Program.{Program}
+use Rattle.jvm_types.specs.declared.program.Row.{Row}
+use Rattle.jvm_types.specs.declared.program.Target.{Target}
+use Rattle.jvm_types.specs.declared.typing.VType.{VType}
+use Rattle.jvm_types.specs.declared.typing.VType.TheVariants.{Ref, This, Top}
+use Rattle.jvm_types.proofs.EachAfter.{all_weaker}
+use Rattle.jvm_types.proofs.FrameOrder.{stack_below, locals_below}
+use Rattle.laws_programs.proofs.CodeOrder.{one_number}
+use Rattle.laws_programs.proofs.EdgeTargets.{lands}
+use Rattle.laws_programs.proofs.LocalGoing.{begins, local_law}
+use Rattle.checked_program.specs.LockTags.{TagShape, entry_tags, meet_tags, without, IsShapeBelow}
+use Rattle.checked_program.specs.Tagging.{moved_tags, tags_by_op, tags_after, catches_all, until_all, catchers, tags_at_handler, acts_at, tag_plan, tag_meeting, HasTagging}
+use Rattle.checked_program.specs.declared.tag.Tag.{Tag}
+use Rattle.checked_program.specs.declared.tag.Tag.TheVariants.{Untagged, This as Own, At}
+use Rattle.laws_sections.proofs.TagLocal.{acts_land, start_at}
+use Rattle.laws_sections.proofs.TagOrder.{tag_order}
+use Rattle.laws_sections.proofs.VisitsLocal.{Lands, ActLands, IsClosed, local}
+
+-- ---- any such fact
+
+module _ (p : Program) (m : MethodInfo) (frames : List (Option TypeFrame)) (laid : IsLaidOut m) (typed : HasTyping p m frames) (P : TypeFrame → TagShape → Type 0)
+    (start : P (entry_frame m) (entry_tags m)) (rises : (g h : TypeFrame) (f : TagShape) → frame_below g h ≡ true → P g f → P h f) (meets : (g : TypeFrame) (f h : TagShape) → P g f → P g h → P g (tag_meeting.meet f h))
+    (onward : (insn : Insn) (target : Target) (g : TypeFrame) (f : TagShape) → P g f → P (frame_after m (row p m insn.pc target insn.op) g) (tags_after insn (row p m insn.pc target insn.op) f))
+    (caught : (handler : Row) (g : TypeFrame) (f : TagShape) → P g f → P (frame_at_handler handler g) (tags_at_handler f)) where
+  typing : types.IsAssignment p m frames
+  typing = local_law p m frames laid typed
+
+  abbrev pub HasIt : ℕ → TagShape → Type 0
+  HasIt i f = (g : TypeFrame) × (slice_get frames i ≡ Some (Some g)) × P g f
+
+  fit_lands : (g : TypeFrame) (f : TagShape) (to : ℕ) → P g f → types.Fits m.code frames g to → Lands HasIt m.code f to
+  fit_lands g f to k h =
+      let l = lands m frames g to h in
+      record {
+        starts = subst (λ (pc : ℕ). is_start m.code pc ≡ true) l.starts (start_at m.code l.number l.insn l.there);
+        live = λ j insn e at. (l.frame, ap (slice_get frames) (one_number m j l.number insn l.insn laid e l.there (at ∙ sym l.starts)) ∙ l.has, rises g l.frame f l.fits k);
+      }
+
+  rows_land : (g : TypeFrame) (f : TagShape) (rows : List Row) → P g f → AllByRecursion (λ handler. types.Fits m.code frames (frame_at_handler handler g) handler.handler) rows
+      → AllByRecursion (λ handler. Lands HasIt m.code (tags_at_handler f) handler.handler) (until_all rows)
+  rows_land g f [] k h = tt
+  rows_land g f (handler ∷ rows) k h = by_test (catches_all handler) (fit_lands (frame_at_handler handler g) (tags_at_handler f) handler.handler (caught handler g f k) h.0) (rows_land g f rows k h.1)
+    where
+      by_test : (b : Bool) → Lands HasIt m.code (tags_at_handler f) handler.handler → AllByRecursion (λ handler. Lands HasIt m.code (tags_at_handler f) handler.handler) (until_all rows)
+          → AllByRecursion (λ handler. Lands HasIt m.code (tags_at_handler f) handler.handler) (if b then handler ∷ [] else handler ∷ until_all rows)
+      by_test true one more = (one, tt)
+      by_test false one more = (one, more)
+
+  catchers_land : (insn : Insn) (g : TypeFrame) (f : TagShape) → P g f → AllByRecursion (λ handler. types.Fits m.code frames (frame_at_handler handler g) handler.handler) (covering m insn.pc)
+      → AllByRecursion (λ handler. Lands HasIt m.code (tags_at_handler f) handler.handler) (catchers m insn)
+  catchers_land insn g f k h = by_test (types_throw insn)
+    where
+      types_throw : Insn → Bool
+      types_throw i = Rattle.jvm_types.specs.CodeTable.can_throw i.op
+
+      by_test : (b : Bool) → AllByRecursion (λ handler. Lands HasIt m.code (tags_at_handler f) handler.handler) (if b then until_all (covering m insn.pc) else [])
+      by_test true = rows_land g f (covering m insn.pc) k h
+      by_test false = tt
+
+  plan_lands : (i : ℕ) (f : TagShape) → HasIt i f → AllByRecursion (ActLands HasIt m.code) ((tag_plan p m).acts i f)
+  plan_lands i f has = by_both (slice_get m.code i) refl (slice_get m.targets i) refl
+    where
+      insn_lands : (insn : Insn) (target : Target) → slice_get m.code i ≡ Some insn → slice_get m.targets i ≡ Some target → AllByRecursion (ActLands HasIt m.code) (acts_at p m (Some insn) (Some target) f)
+      insn_lands insn target c t =
+          let g : TypeFrame = has.0 in
+          let r : OpRow = row p m insn.pc target insn.op in
+          let sound = typing.sound i insn target g c t has.1 in
+          acts_land HasIt m insn r f
+          (all_weaker (types.Fits m.code frames (frame_after m r g)) (Lands HasIt m.code (tags_after insn r f)) (λ to h. fit_lands (frame_after m r g) (tags_after insn r f) to (onward insn target g f has.2) h) (edges insn) sound.edges_fit)
+          (catchers_land insn g f has.2 sound.handlers_fit)
+
+      by_both : (o : Option Insn) → slice_get m.code i ≡ o → (q : Option Target) → slice_get m.targets i ≡ q → AllByRecursion (ActLands HasIt m.code) (acts_at p m o q f)
+      by_both None c q t = tt
+      by_both (Some insn) c None t = tt
+      by_both (Some insn) c (Some target) t = insn_lands insn target c t
+
+  first_has : HasIt 0 (entry_tags m)
+  first_has =
+      let l = lands m frames (entry_frame m) 0 typing.entry in
+      let b = begins m laid in
+      (l.frame, ap (slice_get frames) (one_number m 0 l.number b.0 l.insn laid (ap (λ (code : List Insn). slice_get code 0) b.2) l.there (b.3 ∙ sym l.starts)) ∙ l.has, rises (entry_frame m) l.frame (entry_tags m) l.fits start)
+
+  meets_have : (i : ℕ) (g f : TagShape) → HasIt i g → HasIt i f → HasIt i (tag_meeting.meet g f)
+  meets_have i g f a b =
+      let same : b.0 ≡ a.0 = one_there (slice_get frames i) b.0 a.0 b.1 a.1 in
+      (a.0, a.1, meets a.0 g f a.2 (subst (λ (x : TypeFrame). P x f) same b.2))
+    where
+      one_there : (o : Option (Option TypeFrame)) (x y : TypeFrame) → o ≡ Some (Some x) → o ≡ Some (Some y) → x ≡ y
+      one_there o x y d e = cc
+
+  pub all_have : (tags : List (Option TagShape)) → HasTagging p m tags → (i : ℕ) (g : TypeFrame) (f : TagShape) → slice_get frames i ≡ Some (Some g) → slice_get tags i ≡ Some (Some f) → P g f
+  all_have tags tagged i g f t e =
+      let closed : IsClosed (tag_plan p m) HasIt = record { first = first_has; meets = meets_have; lands = plan_lands } in
+      let has = (local (tag_plan p m) IsShapeBelow tag_order HasIt closed (begins m laid) tags tagged).live i f e in
+      let same : has.0 ≡ g = one_there (slice_get frames i) has.0 g has.1 t in
+      subst (λ (x : TypeFrame). P x f) same has.2
+    where
+      one_there : (o : Option (Option TypeFrame)) (x y : TypeFrame) → o ≡ Some (Some x) → o ≡ Some (Some y) → x ≡ y
+      one_there o x y d e = cc
+
+-- ---- there are as many tags as types
+
+pub record AreAsMany (g : TypeFrame) (f : TagShape) : Type 0 where
+  pub stack : length f.stack ≡ length g.stack
+  pub locals : length f.locals ≡ length g.locals
+
+pairs_many : (ts us : List VType) → all_pairs is_below ts us ≡ true → length ts ≡ length us
+pairs_many [] [] e = refl
+pairs_many (t ∷ ts) (u ∷ us) e = ap suc (pairs_many ts us (second (is_below t u) (all_pairs is_below ts us) e))
+  where
+    second : (a b : Bool) → (a && b) ≡ true → b ≡ true
+    second true b e = e
+    second false b e = absurd (cc)
+pairs_many [] (u ∷ us) e = absurd (cc)
+pairs_many (t ∷ ts) [] e = absurd (cc)
+
+rises_many : (g h : TypeFrame) (f : TagShape) → frame_below g h ≡ true → AreAsMany g f → AreAsMany h f
+rises_many g h f e k = record { stack = k.stack ∙ pairs_many g.stack h.stack (stack_below g h e); locals = k.locals ∙ pairs_many g.locals h.locals (locals_below g h e) }
+
+meets_long : (ts us : List Tag) → length ts ≡ length us → length (meet_tags ts us) ≡ length ts
+meets_long [] us e = refl
+meets_long (t ∷ ts) [] e = absurd (omega (arith, e))
+meets_long (t ∷ ts) (u ∷ us) e = ap suc (meets_long ts us (omega (arith, e)))
+
+meets_many : (g : TypeFrame) (f h : TagShape) → AreAsMany g f → AreAsMany g h → AreAsMany g (tag_meeting.meet f h)
+meets_many g f h a b = record { stack = meets_long f.stack h.stack (a.stack ∙ sym b.stack) ∙ a.stack; locals = meets_long f.locals h.locals (a.locals ∙ sym b.locals) ∙ a.locals }
+
+initialised_long : (t : VType) (class : ℕ) (ts : List VType) → length (initialised t class ts) ≡ length ts
+initialised_long t class ts = length-map ts _
+
+after_start_many : (o : Option (VType × ℕ)) (g : TypeFrame) (f : TagShape) → AreAsMany g f → AreAsMany (after_start o g) f
+after_start_many None g f k = k
+after_start_many (Some object) g f k = record { stack = k.stack ∙ sym (initialised_long object.0 object.1 g.stack); locals = k.locals ∙ sym (initialised_long object.0 object.1 g.locals) }
+
+module _ {A B : Type 0} (a : A) (x : VType → A) (b : B) (y : VType → B) where
+  stack_many : (r : OpRow) (s l : List A) (t k : List B) → length s ≡ length t → length (stack_after a x r s l) ≡ length (stack_after b y r t k)
+  stack_many r s l t k e =
+      length-append (map (value_of a x s l) r.gives) (drop (length r.takes) s) ∙ ap (λ (n : ℕ). n + length (drop (length r.takes) s)) (length-map r.gives (value_of a x s l))
+      ∙ ap (λ (n : ℕ). length r.gives + n) (length-drop (length r.takes) s ∙ ap (λ (n : ℕ). n - length r.takes) e ∙ sym (length-drop (length r.takes) t))
+      ∙ sym (length-append (map (value_of b y t k) r.gives) (drop (length r.takes) t) ∙ ap (λ (n : ℕ). n + length (drop (length r.takes) t)) (length-map r.gives (value_of b y t k)))
+
+  locals_many : (w : Option (ℕ × Given)) (s l : List A) (t k : List B) → length l ≡ length k → length (locals_after a x w s l) ≡ length (locals_after b y w t k)
+  locals_many None s l t k e = e
+  locals_many (Some w) s l t k e = length-set l w.0 (value_of a x s l w.1) ∙ e ∙ sym (length-set k w.0 (value_of b y t k w.1))
+
+moved_many : (r : OpRow) (g : TypeFrame) (f : TagShape) → AreAsMany g f → AreAsMany (record { stack = stack_after Top (λ t. t) r g.stack g.locals; locals = locals_after Top (λ t. t) r.writes g.stack g.locals; ready = g.ready }) (moved_tags r f)
+moved_many r g f k = record {
+  stack = stack_many Untagged (λ type. Untagged) Top (λ t. t) r f.stack f.locals g.stack g.locals k.stack;
+  locals = locals_many Untagged (λ type. Untagged) Top (λ t. t) r.writes f.stack f.locals g.stack g.locals k.locals;
+}
+
+without_long : (pc : ℕ) (ts : List Tag) → length (without pc ts) ≡ length ts
+without_long pc ts = length-map ts _
+
+by_op_many : (p : Program) (m : MethodInfo) (pc : ℕ) (target : Target) (op : Op) (g : TypeFrame) (f : TagShape) → AreAsMany g f
+    → AreAsMany (record { stack = stack_after Top (λ t. t) (row p m pc target op) g.stack g.locals; locals = locals_after Top (λ t. t) (row p m pc target op).writes g.stack g.locals; ready = g.ready }) (tags_by_op pc (row p m pc target op) op f.stack f)
+by_op_many p m pc target ops.Dup g f k = by_tags f.stack refl
+  where
+    moved : AreAsMany (record { stack = stack_after Top (λ t. t) (row p m pc target ops.Dup) g.stack g.locals; locals = g.locals; ready = g.ready }) (moved_tags (row p m pc target ops.Dup) f)
+    moved = moved_many (row p m pc target ops.Dup) g f k
+
+    by_tags : (ts : List Tag) → f.stack ≡ ts → AreAsMany (record { stack = stack_after Top (λ t. t) (row p m pc target ops.Dup) g.stack g.locals; locals = g.locals; ready = g.ready }) (tags_by_op pc (row p m pc target ops.Dup) ops.Dup ts f)
+    by_tags [] e = moved
+    by_tags (Own ∷ ts) e = moved
+    by_tags (At q ∷ ts) e = moved
+    by_tags (Untagged ∷ ts) e = record {
+      stack = ap (λ (n : ℕ). suc (suc n)) (without_long pc ts) ∙ (let long : length g.stack ≡ suc (length ts) = sym k.stack ∙ ap (length {A = Tag}) e in ap (λ (n : ℕ). suc (suc n)) (omega (arith, long, length-drop 1 g.stack)));
+      locals = without_long pc f.locals ∙ k.locals;
+    }
+by_op_many p m pc target ops.Monitorenter g f k = by_tags f.stack
+  where
+    moved : AreAsMany (record { stack = stack_after Top (λ t. t) (row p m pc target ops.Monitorenter) g.stack g.locals; locals = g.locals; ready = g.ready }) (moved_tags (row p m pc target ops.Monitorenter) f)
+    moved = moved_many (row p m pc target ops.Monitorenter) g f k
+
+    by_tags : (ts : List Tag) → AreAsMany (record { stack = stack_after Top (λ t. t) (row p m pc target ops.Monitorenter) g.stack g.locals; locals = g.locals; ready = g.ready }) (tags_by_op pc (row p m pc target ops.Monitorenter) ops.Monitorenter ts f)
+    by_tags [] = moved
+    by_tags (t ∷ ts) = record { stack = moved.stack; locals = moved.locals }
+by_op_many p m pc target ops.Monitorexit g f k = let moved = moved_many (row p m pc target ops.Monitorexit) g f k in record { stack = moved.stack; locals = moved.locals }
+by_op_many p m pc target op g f k = moved_many (row p m pc target op) g f k
+
+onward_many : (p : Program) (m : MethodInfo) (insn : Insn) (target : Target) (g : TypeFrame) (f : TagShape) → AreAsMany g f → AreAsMany (frame_after m (row p m insn.pc target insn.op) g) (tags_after insn (row p m insn.pc target insn.op) f)
+onward_many p m insn target g f k =
+    let r : OpRow = row p m insn.pc target insn.op in
+    after_start_many (started m.class r.takes g.stack) _ (tags_after insn r f) (by_op_many p m insn.pc target insn.op g f k)
+
+entry_many : (m : MethodInfo) → length (entry_frame m).locals ≡ m.max_locals → AreAsMany (entry_frame m) (entry_tags m)
+entry_many m fits = record { stack = refl; locals = by_flag (is_static m.flags) refl ∙ sym fits }
+  where
+    by_flag : (b : Bool) → is_static m.flags ≡ b → length (if b then replicate m.max_locals Untagged else Own ∷ replicate (m.max_locals - 1) Untagged) ≡ m.max_locals
+    by_flag true e = length-replicate m.max_locals Untagged
+    by_flag false e =
+        let l = length-append (receiver_types m ++ map type_of m.args) (replicate (m.max_locals - length (receiver_types m ++ map type_of m.args)) Top) in
+        let k = length-append (receiver_types m) (map type_of m.args) in
+        let one : length (receiver_types m) ≡ 1 = ap (λ (b : Bool). length (cond b [] (cond (is_init m) This (Ref m.class) ∷ []))) e in
+        ap suc (length-replicate (m.max_locals - 1) Untagged) ∙ omega (arith, l, k, one, fits)
+
+-- where the arguments fit in the locals
+pub tags_many : (p : Program) (m : MethodInfo) (frames : List (Option TypeFrame)) (tags : List (Option TagShape)) → IsLaidOut m → HasTyping p m frames → HasTagging p m tags → length (entry_frame m).locals ≡ m.max_locals
+    → (i : ℕ) (g : TypeFrame) (f : TagShape) → slice_get frames i ≡ Some (Some g) → slice_get tags i ≡ Some (Some f) → AreAsMany g f
+tags_many p m frames tags laid typed tagged fits =
+    all_have p m frames laid typed AreAsMany (entry_many m fits) rises_many meets_many (onward_many p m) (λ handler g f k. record { stack = refl; locals = k.locals }) tags tagged

@@ -1,0 +1,357 @@
+-- A thread that has moved keeps what construction says of it, in and outside of an attempt.
+use Rattle.std.proofs.Common.{◌≡◌, ◌≢◌, ℕ, ◌-◌, ◌<◌, ◌≤◌, ◌⊎◌, inl, inr, Bool, true, false, cond, List, [], ◌∷◌, length, drop, Option, Some, None, refl, sym, ap, ◌∙◌, subst, arith}
+use Rattle.std.specs.Prelude.{◌==◌, nat_lt, Contains}
+use Rattle.std.specs.List.{AllByRecursion}
+use Rattle.jvm_types.specs.ProgramInvariant.{words_of}
+use Rattle.jvm_types.specs.declared.outcome.End.TheVariants as ends
+use Rattle.checked_program.specs.MarkedProgram.{MarkedProgram}
+use Rattle.machine_types.specs.Construction.{Runs, FramesKeep, PhaseKeepsFrames, PhaseKeeps, AttemptKeeps, AttemptKeepsIn, ThreadKeeps}
+use Rattle.machine_types.specs.Elision.{put_back}
+use Rattle.machine_types.specs.Going.{root_over, runs, goes_on}
+use Rattle.machine_types.specs.HeldMonitors.{held_at, with_held, without_held}
+use Rattle.machine_types.specs.Onward.{Onward, Running, Throwing, Entering, Leaving, RootReturned, Uncaught}
+use Rattle.machine_types.specs.Structure.{IsStructured, AttemptStandsIn}
+use Rattle.machine_types.specs.Threads.{Frame, Attempt, Thread}
+use Rattle.machine_types.specs.Worlds.{Builder, World, IsFinished, IsOwnOrFinished, IsWorld, IsViewOf, GoesOn}
+use Rattle.machine_types.specs.declared.lock.Held.{Held}
+use Rattle.machine_types.specs.declared.phase.Phase.{Phase}
+use Rattle.machine_types.specs.declared.phase.Phase.TheVariants as phases
+use Rattle.laws_threads.specs.EntryFrames.{frames_in, KeepsEntry}
+use Rattle.laws_threads.specs.StructureLaws.{counted_by}
+use Rattle.laws_threads.proofs.Lists.{all_get}
+use Rattle.laws_states.proofs.Lists.{contained_got, contains_first, contains_more}
+use Rattle.laws_objects.proofs.CountedPhases.{PhaseFits}
+use Rattle.laws_objects.proofs.KeptFrames.{KeepsAt, phase_frames_kept, phase_kept, attempt_kept}
+use Rattle.laws_objects.proofs.Moves.{Steps}
+use Rattle.laws_objects.proofs.Onwards.{OnwardKeeps}
+use Rattle.laws_objects.proofs.Views.{IsOwnIn, IsNoneOf, own_or_not, known_on}
+use Rattle.laws_objects.proofs.WorldChanges.{same_from, other_from, none_some, goes_same, goes_both, world_same}
+
+-- ---- what is kept of a thread, in a world that it leaves
+
+pub record Moved (c : MarkedProgram) (frozen : ℕ → Bool) (w : World) (next more t : ℕ) (was : Phase) (y : Thread) : Type 0 where
+  pub later : World
+  pub goes : GoesOn w later next more t 0
+  pub world : IsWorld w (words_of c.program) next → IsWorld later (words_of c.program) more
+  pub keeps : ThreadKeeps c frozen later more t was y
+
+-- as the thread sees it
+pub record Sees (c : MarkedProgram) (frozen : ℕ → Bool) (now : World) (next more t : ℕ) (was : Phase) (y : Thread) : Type 0 where
+  pub later : World
+  pub goes : GoesOn now later next more t 0
+  pub world : IsWorld now (words_of c.program) next → IsWorld later (words_of c.program) more
+  pub fits : PhaseFits c frozen later more t y.frames was
+
+-- ---- monitors that are held
+
+abbrev pub AreKnown : World → (next t : ℕ) → List Held → Type 0
+AreKnown w next t hs = AllByRecursion (λ (h : Held). IsOwnOrFinished w next t h.monitor) hs
+
+all_of : {A : Type 0} (P : A → Type 0) (xs : List A) → ((x : A) → Contains xs x → P x) → AllByRecursion P xs
+all_of P [] f = tt
+all_of P (x ∷ xs) f = (f x (contains_first x xs), all_of P xs (λ y k. f y (contains_more x xs y k)))
+
+of_all : {A : Type 0} (P : A → Type 0) (xs : List A) → AllByRecursion P xs → (x : A) → Contains xs x → P x
+of_all P xs all x k = all_get P xs k.0 x all (contained_got xs x k)
+
+pub known_at : (w : World) (next t m : ℕ) (hs : List Held) (h : Held) → AreKnown w next t hs → held_at hs m ≡ Some h → IsOwnOrFinished w next t h.monitor
+known_at w next t m [] h k e = absurd (cc)
+known_at w next t m (g ∷ hs) h k e = by_test (g.monitor == m) e (known_at w next t m hs h k.1)
+  where
+    by_test : (b : Bool) → cond b (Some g) (held_at hs m) ≡ Some h → (held_at hs m ≡ Some h → IsOwnOrFinished w next t h.monitor) → IsOwnOrFinished w next t h.monitor
+    by_test true e more = let same : g ≡ h = cc in subst (λ (x : Held). IsOwnOrFinished w next t x.monitor) same k.0
+    by_test false e more = more e
+
+pub known_with : (w : World) (next t : ℕ) (h : Held) (hs : List Held) → IsOwnOrFinished w next t h.monitor → AreKnown w next t hs → AreKnown w next t (with_held h hs)
+known_with w next t h [] n k = (n, tt)
+known_with w next t h (g ∷ hs) n k = by_test (g.monitor == h.monitor) (known_with w next t h hs n k.1)
+  where
+    by_test : (b : Bool) → AreKnown w next t (with_held h hs) → AreKnown w next t (cond b (h ∷ hs) (g ∷ with_held h hs))
+    by_test true more = (n, k.1)
+    by_test false more = (k.0, more)
+
+pub known_without : (w : World) (next t m : ℕ) (hs : List Held) → AreKnown w next t hs → AreKnown w next t (without_held m hs)
+known_without w next t m [] k = tt
+known_without w next t m (g ∷ hs) k = by_test (g.monitor == m) (known_without w next t m hs k.1)
+  where
+    by_test : (b : Bool) → AreKnown w next t (without_held m hs) → AreKnown w next t (cond b hs (g ∷ without_held m hs))
+    by_test true more = k.1
+    by_test false more = (k.0, more)
+
+-- ---- attempts
+
+-- it is as it was but for its nested entries; or it has ended
+abbrev pub AttemptFrom : Option Attempt → Option Attempt → Type 0
+AttemptFrom None None = Unit {0}
+AttemptFrom None (Some b) = ⊥
+AttemptFrom (Some a) None = Unit {0}
+AttemptFrom (Some a) (Some b) = (b.monitor ≡ a.monitor) × (b.base ≡ a.base) × (b.entry ≡ a.entry)
+
+pub from_same : (o : Option Attempt) → AttemptFrom o o
+from_same None = tt
+from_same (Some a) = (refl, refl, refl)
+
+pub from_none : (o p : Option Attempt) → o ≡ None → p ≡ None → AttemptFrom o p
+from_none None None e f = tt
+from_none None (Some b) e f = absurd (cc)
+from_none (Some a) p e f = absurd (cc)
+
+-- the frames below its section are the same
+abbrev pub EntryKept : Option Attempt → Option Attempt → (fs gs : List Frame) → Type 0
+EntryKept (Some a) (Some b) fs gs = put_back a gs ≡ put_back a fs
+EntryKept o p fs gs = Unit {0}
+
+pub entry_same : (o p : Option Attempt) (fs : List Frame) → EntryKept o p fs fs
+entry_same (Some a) (Some b) fs = refl
+entry_same (Some a) None fs = tt
+entry_same None p fs = tt
+
+-- ---- worlds
+
+same_view : (w : World) (t : ℕ) (o : Option Attempt) → IsViewOf w w t o
+same_view w t o = record { same = λ e v. refl; others = λ v n. refl; own = λ v b d e m f. (let same : b ≡ d = cc in sym (ap (λ (x : Builder). x.thread) same) ∙ m) }
+
+module _ (w now : World) (t : ℕ) (o : Option Attempt) (view : IsViewOf now w t o) where
+  view_goes : (next : ℕ) → GoesOn w now next next t 0
+  view_goes next = record {
+    grows = omega arith;
+    finished = λ v k. view.others v (λ b e. absurd (none_some (w v) b k.1 e)) ∙ k.1;
+    others = λ v b n e. view.others v (λ d f. (let same : b ≡ d = cc in λ s. n (ap (λ (x : Builder). x.thread) same ∙ s))) ∙ e;
+    no_more = λ v b n e. by_own v b n e (own_or_not w t v);
+    lower = λ v b m l e. absurd (omega (arith, l));
+  }
+    where
+      by_own : (v : ℕ) (b : Builder) → b.thread ≢ t → now v ≡ Some b → IsOwnIn w t v ⊎ IsNoneOf w t v → w v ≡ Some b
+      by_own v b n e (inl k) = absurd (n (view.own v k.0 b k.1 k.2 e))
+      by_own v b n e (inr k) = sym (view.others v k) ∙ e
+
+  -- as long as the attempt goes on
+  view_on : (later : World) (first next : ℕ) (b : Attempt) → GoesOn now later next next t 0 → IsWorld later first next → IsViewOf later w t (Some b)
+  view_on later first next b goes is = record { same = λ e. absurd (cc); others = λ v n. by_was v n (w v) refl; own = λ v d x e m f. by_thread v d x e m f (x.thread == t) refl }
+    where
+      by_later : (v : ℕ) → now v ≡ None → (o : Option Builder) → later v ≡ o → later v ≡ None
+      by_later v e None f = f
+      by_later v e (Some d) f = goes.finished v ((is.inside v d f).1, e)
+
+      by_was : (v : ℕ) → ((d : Builder) → w v ≡ Some d → d.thread ≢ t) → (o : Option Builder) → w v ≡ o → later v ≡ w v
+      by_was v n None e = by_later v (view.others v n ∙ e) (later v) refl ∙ sym e
+      by_was v n (Some d) e = goes.others v d (n d e) (view.others v n ∙ e) ∙ sym e
+
+      by_thread : (v : ℕ) (d x : Builder) → w v ≡ Some d → d.thread ≡ t → later v ≡ Some x → (y : Bool) → (x.thread == t) ≡ y → x.thread ≡ t
+      by_thread v d x e m f true s = same_from x.thread t s
+      by_thread v d x e m f false s = view.own v d x e m (goes.no_more v x (other_from x.thread t s) f)
+
+  view_same : o ≡ None → now ≡ w
+  view_same e = λ i. λ v. view.same e v i
+
+-- ---- a thread
+
+module _ (c : MarkedProgram) (frozen : ℕ → Bool) (w : World) (next t : ℕ) (was : Phase) (x : Thread) (k : ThreadKeeps c frozen w next t was x) (is_world : IsWorld w (words_of c.program) next) where
+  pub held_known : AreKnown w next t x.held
+  held_known = all_of (λ (h : Held). IsOwnOrFinished w next t h.monitor) x.held k.held
+
+  pub now_world : IsWorld k.now (words_of c.program) next
+  now_world = k.now_world is_world
+
+  -- outside an attempt; more words may be taken then
+  pub outside : (more : ℕ) (now : Phase) (y : Thread) → x.attempt ≡ None → y.attempt ≡ None → AreKnown w next t y.held → Sees c frozen k.now next more t now y → Moved c frozen w next more t now y
+  outside more now y none still held s = by_world w (view_same w k.now t x.attempt k.now_is none) is_world
+    where
+      by_world : (v : World) → k.now ≡ v → IsWorld v (words_of c.program) next → Moved c frozen w next more t now y
+      by_world v e is =
+          let back : k.now ≡ w = view_same w k.now t x.attempt k.now_is none in
+          let goes : GoesOn w s.later next more t 0 = subst (λ (z : World). GoesOn z s.later next more t 0) back s.goes in
+          record {
+            later = s.later;
+            goes = goes;
+            world = λ z. s.world (subst (λ (u : World). IsWorld u (words_of c.program) next) (sym back) z);
+            keeps = record {
+              now = s.later;
+              now_is = same_view s.later t y.attempt;
+              now_world = λ z. z;
+              frames = s.fits.0;
+              phase = s.fits.1;
+              held = λ h there. known_on w s.later next more t t goes h.monitor (of_all (λ (h : Held). IsOwnOrFinished w next t h.monitor) y.held held h there);
+              attempt = subst (AttemptKeepsIn c frozen s.later more t y.frames) (sym still) tt;
+            };
+          }
+
+  pub moved_on : (now : Phase) (y : Thread) → AreKnown w next t y.held → AttemptFrom x.attempt y.attempt → EntryKept x.attempt y.attempt x.frames y.frames → Sees c frozen k.now next next t now y → Moved c frozen w next next t now y
+  moved_on now y held from entry s = by_both x.attempt refl y.attempt refl from entry
+    where
+      by_both : (o : Option Attempt) → x.attempt ≡ o → (p : Option Attempt) → y.attempt ≡ p → AttemptFrom o p → EntryKept o p x.frames y.frames → Moved c frozen w next next t now y
+      by_both None e None f from entry = outside next now y e f held s
+      by_both None e (Some b) f from entry = absurd from
+      by_both (Some a) e None f from entry =
+          let goes = goes_both w k.now s.later next next next t (view_goes w k.now t x.attempt k.now_is next) s.goes in
+          record {
+            later = s.later;
+            goes = goes;
+            world = λ z. s.world now_world;
+            keeps = record {
+              now = s.later;
+              now_is = same_view s.later t y.attempt;
+              now_world = λ z. z;
+              frames = s.fits.0;
+              phase = s.fits.1;
+              held = λ h there. known_on w s.later next next t t goes h.monitor (of_all (λ (h : Held). IsOwnOrFinished w next t h.monitor) y.held held h there);
+              attempt = subst (AttemptKeepsIn c frozen s.later next t y.frames) (sym f) tt;
+            };
+          }
+      by_both (Some a) e (Some b) f from entry =
+          let kept : AttemptKeeps c frozen w next t x.frames a = subst (AttemptKeepsIn c frozen w next t x.frames) e k.attempt in
+          let same : put_back b y.frames ≡ put_back a y.frames = λ i. from.2 i ∷ drop (length y.frames - from.1 i) y.frames in
+          record {
+            later = w;
+            goes = goes_same w next next t (omega arith);
+            world = λ z. z;
+            keeps = record {
+              now = s.later;
+              now_is = subst (IsViewOf s.later w t) (sym f) (view_on w k.now t x.attempt k.now_is s.later (words_of c.program) next b s.goes (s.world now_world));
+              now_world = λ z. s.world now_world;
+              frames = s.fits.0;
+              phase = s.fits.1;
+              held = of_all (λ (h : Held). IsOwnOrFinished w next t h.monitor) y.held held;
+              attempt = subst (AttemptKeepsIn c frozen w next t y.frames) (sym f) (record { monitor = subst (IsOwnOrFinished w next t) (sym from.0) kept.monitor; goes_back = subst (FramesKeep c frozen w next t Runs) (sym (same ∙ entry)) kept.goes_back });
+            };
+          }
+
+  -- an attempt fails
+  pub failed : (a : Attempt) (y : Thread) → x.attempt ≡ Some a → y.frames ≡ put_back a x.frames → y.held ≡ x.held → y.attempt ≡ None → Moved c frozen w next next t (phases.Enter a.monitor a.number) y
+  failed a y e frames held none =
+      let kept : AttemptKeeps c frozen w next t x.frames a = subst (AttemptKeepsIn c frozen w next t x.frames) e k.attempt in
+      record {
+        later = w;
+        goes = goes_same w next next t (omega arith);
+        world = λ z. z;
+        keeps = record {
+          now = w;
+          now_is = same_view w t y.attempt;
+          now_world = λ z. z;
+          frames = subst (FramesKeep c frozen w next t Runs) (sym frames) kept.goes_back;
+          phase = kept.monitor;
+          held = subst (λ (hs : List Held). (h : Held) → Contains hs h → IsOwnOrFinished w next t h.monitor) (sym held) k.held;
+          attempt = subst (AttemptKeepsIn c frozen w next t y.frames) (sym none) tt;
+        };
+      }
+
+  -- an attempt begins
+  pub begun : (m tried : ℕ) (a : Attempt) (f : Frame) (below : List Frame) (y : Thread) → was ≡ phases.Enter m tried → x.attempt ≡ None → x.frames ≡ f ∷ below → y.frames ≡ x.frames → y.held ≡ x.held → y.attempt ≡ Some a → a.monitor ≡ m → a.base ≡ length below → a.entry ≡ f
+      → Moved c frozen w next next t phases.Run y
+  begun m tried a f below y is none there frames held e monitor base entry =
+      let back : k.now ≡ w = view_same w k.now t x.attempt k.now_is none in
+      let stood : FramesKeep c frozen w next t Runs x.frames = subst (λ (z : World). FramesKeep c frozen z next t Runs x.frames) back (subst (λ (phase : Phase). PhaseKeepsFrames c frozen k.now next t phase x.frames) is k.frames) in
+      let known : IsOwnOrFinished w next t m = subst (λ (z : World). IsOwnOrFinished z next t m) back (subst (PhaseKeeps k.now next t) is k.phase) in
+      let one : length (f ∷ below) - length below ≡ 1 = omega arith in
+      let whole : put_back a y.frames ≡ x.frames = ap (put_back a) (frames ∙ there) ∙ (λ i. entry i ∷ drop (length (f ∷ below) - base i) (f ∷ below)) ∙ ap (λ (n : ℕ). f ∷ drop n (f ∷ below)) one ∙ sym there in
+      record {
+        later = w;
+        goes = goes_same w next next t (omega arith);
+        world = λ z. z;
+        keeps = record {
+          now = w;
+          now_is = same_view w t y.attempt;
+          now_world = λ z. z;
+          frames = subst (FramesKeep c frozen w next t Runs) (sym frames) stood;
+          phase = tt;
+          held = subst (λ (hs : List Held). (h : Held) → Contains hs h → IsOwnOrFinished w next t h.monitor) (sym held) k.held;
+          attempt = subst (AttemptKeepsIn c frozen w next t y.frames) (sym e) (record { monitor = subst (IsOwnOrFinished w next t) (sym monitor) known; goes_back = subst (FramesKeep c frozen w next t Runs) (sym whole) stood });
+        };
+      }
+
+  -- ---- it goes on
+
+  runs_sees : (s : Thread) (fs : List Frame) → Steps k.now next t (λ z. FramesKeep c frozen z next t Runs fs) → Sees c frozen k.now next next t (counted_by was (runs (record s { frames = fs })).phase) (runs (record s { frames = fs }))
+  runs_sees s fs o = by_limit (nat_lt s.counts.instructions s.cfg.steps)
+    where
+      by_limit : (left : Bool) → Sees c frozen k.now next next t (counted_by was (cond left phases.Run (phases.Ending ends.Steps))) (record s { frames = fs; phase = cond left phases.Run (phases.Ending ends.Steps) })
+      by_limit true = record { later = o.later; goes = o.goes; world = o.world (words_of c.program); fits = (o.keeps, tt) }
+      by_limit false = record { later = o.later; goes = o.goes; world = o.world (words_of c.program); fits = (o.keeps, tt) }
+
+  pub onward_sees : (s : Thread) (o : Onward) → Steps k.now next t (λ z. OnwardKeeps c frozen z next t o) → Sees c frozen k.now next next t (counted_by was (goes_on s o).phase) (goes_on s o)
+  onward_sees s (Running fs) o = runs_sees s fs o
+  onward_sees s (Throwing e class fs) o = record { later = o.later; goes = o.goes; world = o.world (words_of c.program); fits = (o.keeps.1, o.keeps.0) }
+  onward_sees s (Entering m fs) o = record { later = o.later; goes = o.goes; world = o.world (words_of c.program); fits = (o.keeps.1, o.keeps.0) }
+  onward_sees s (Leaving m a fs) o = record { later = o.later; goes = o.goes; world = o.world (words_of c.program); fits = (o.keeps.2, (o.keeps.0, o.keeps.1)) }
+  onward_sees s RootReturned o = by_roots s.roots
+    where
+      by_roots : (roots : List ℕ) → Sees c frozen k.now next next t (counted_by was (root_over roots)) (record s { frames = []; phase = root_over roots })
+      by_roots [] = record { later = o.later; goes = o.goes; world = o.world (words_of c.program); fits = (tt, tt) }
+      by_roots (number ∷ roots) = record { later = o.later; goes = o.goes; world = o.world (words_of c.program); fits = (tt, tt) }
+  onward_sees s (Uncaught class) o = record { later = o.later; goes = o.goes; world = o.world (words_of c.program); fits = (tt, tt) }
+
+  goes_frames : (s : Thread) (o : Onward) → (goes_on s o).frames ≡ frames_in o
+  goes_frames s (Running fs) = refl
+  goes_frames s (Throwing e class fs) = refl
+  goes_frames s (Entering m fs) = refl
+  goes_frames s (Leaving m a fs) = refl
+  goes_frames s RootReturned = refl
+  goes_frames s (Uncaught class) = refl
+
+  goes_attempt : (s : Thread) (o : Onward) → (goes_on s o).attempt ≡ s.attempt
+  goes_attempt s (Running fs) = refl
+  goes_attempt s (Throwing e class fs) = refl
+  goes_attempt s (Entering m fs) = refl
+  goes_attempt s (Leaving m a fs) = refl
+  goes_attempt s RootReturned = refl
+  goes_attempt s (Uncaught class) = refl
+
+  goes_held : (s : Thread) (o : Onward) → (goes_on s o).held ≡ s.held
+  goes_held s (Running fs) = refl
+  goes_held s (Throwing e class fs) = refl
+  goes_held s (Entering m fs) = refl
+  goes_held s (Leaving m a fs) = refl
+  goes_held s RootReturned = refl
+  goes_held s (Uncaught class) = refl
+
+  abbrev BasedIn : Option Attempt → List Frame → Type 0
+  BasedIn None fs = Unit {0}
+  BasedIn (Some a) fs = a.base < length fs
+
+  based_in : (phase : Phase) (fs : List Frame) (held : List Held) (o : Option Attempt) → AttemptStandsIn c phase fs held o → BasedIn o fs
+  based_in phase fs held None a = tt
+  based_in phase fs held (Some b) a = a.based
+
+  pub onward_moves : (s : Thread) (o : Onward) → IsStructured c was x → IsStructured c (counted_by was (goes_on s o).phase) (goes_on s o) → AreKnown w next t s.held → AttemptFrom x.attempt s.attempt → ((a : Attempt) → x.attempt ≡ Some a → KeepsEntry a x.frames o)
+      → Steps k.now next t (λ z. OnwardKeeps c frozen z next t o) → Moved c frozen w next next t (counted_by was (goes_on s o).phase) (goes_on s o)
+  onward_moves s o stood stands held from keeps step =
+      moved_on (counted_by was (goes_on s o).phase) (goes_on s o) (subst (AreKnown w next t) (sym (goes_held s o)) held) (subst (AttemptFrom x.attempt) (sym (goes_attempt s o)) from)
+      (entry x.attempt refl (goes_on s o).attempt (subst (AttemptFrom x.attempt) (sym (goes_attempt s o)) from) (based_in was x.frames x.held x.attempt stood.attempt) (based_in (counted_by was (goes_on s o).phase) (goes_on s o).frames (goes_on s o).held (goes_on s o).attempt stands.attempt))
+      (onward_sees s o step)
+    where
+      entry : (p : Option Attempt) → x.attempt ≡ p → (q : Option Attempt) → AttemptFrom p q → BasedIn p x.frames → BasedIn q (goes_on s o).frames → EntryKept p q x.frames (goes_on s o).frames
+      entry None e q from low high = tt
+      entry (Some a) e None from low high = tt
+      entry (Some a) e (Some b) from low high =
+          let there : a.base < length (frames_in o) = subst (λ (fs : List Frame). a.base < length fs) (goes_frames s o) (subst (λ (n : ℕ). n < length (goes_on s o).frames) from.1 high) in
+          subst (λ (fs : List Frame). put_back a fs ≡ put_back a x.frames) (sym (goes_frames s o)) (keeps a e low there)
+
+  -- ---- it changes its phase alone
+
+  pub phase_moves : (now : Phase) (y : Thread) → y.frames ≡ x.frames → y.attempt ≡ x.attempt → AreKnown w next t y.held → PhaseFits c frozen k.now next t x.frames now → Moved c frozen w next next t now y
+  phase_moves now y frames attempt held fits =
+      moved_on now y held (subst (AttemptFrom x.attempt) (sym attempt) (from_same x.attempt)) (subst (λ (fs : List Frame). EntryKept x.attempt y.attempt x.frames fs) (sym frames) (entry_same x.attempt y.attempt x.frames))
+      (record { later = k.now; goes = goes_same k.now next next t (omega arith); world = λ z. z; fits = subst (λ (fs : List Frame). PhaseFits c frozen k.now next t fs now) (sym frames) fits })
+
+-- ---- more words are taken meanwhile
+
+pub moved_more : (c : MarkedProgram) (frozen : ℕ → Bool) (w : World) (next more t : ℕ) (was : Phase) (y : Thread) → IsWorld w (words_of c.program) next → next ≤ more → Moved c frozen w next next t was y → Moved c frozen w next more t was y
+moved_more c frozen w next more t was y is grows m =
+    let k = m.keeps in
+    let old : (v : World) (u : ℕ) → IsFinished v next u → IsFinished v more u = λ v u o. ((let l = o.0 in omega (arith, l, grows)), o.1) in
+    let known : (v : World) (u : ℕ) → IsOwnOrFinished v next t u → IsOwnOrFinished v more t u = λ v u o. ((let l = o.0 in omega (arith, l, grows)), o.1) in
+    let same : (v : World) (h : ℕ) → KeepsAt v v t h = λ v h u i e. e in
+    record {
+      later = m.later;
+      goes = record { grows = grows; finished = m.goes.finished; others = m.goes.others; no_more = m.goes.no_more; lower = m.goes.lower };
+      world = λ z. world_same m.later (words_of c.program) next more (m.world is) grows;
+      keeps = record {
+        now = k.now;
+        now_is = k.now_is;
+        now_world = λ z. world_same k.now (words_of c.program) next more (k.now_world (m.world is)) grows;
+        frames = phase_frames_kept c frozen k.now k.now next more t grows (old k.now) (same k.now) (known k.now) was y.frames k.frames;
+        phase = phase_kept c frozen k.now k.now next more t grows (old k.now) (same k.now) (known k.now) was k.phase;
+        held = λ h there. known m.later h.monitor (k.held h there);
+        attempt = attempt_kept c frozen m.later m.later next more t grows (old m.later) (same m.later) (known m.later) y.frames y.attempt k.attempt;
+      };
+    }

@@ -1,0 +1,151 @@
+-- Exceptions: a frame that throws, the frame below it, and a handler.
+use Rattle.std.proofs.Common.{◌≡◌, ℕ, zero, suc, Bool, true, false, cond, ◌||◌, ◌&&◌, not, List, [], ◌∷◌, length, Some, refl, sym, ap, ◌∙◌, subst, arith}
+use Rattle.std.specs.Prelude.{◌==◌, slice_get, if◌then◌else◌}
+use Rattle.std.specs.List.{AllByRecursion, list_any, find}
+use Rattle.std.proofs.lemmas.Bool.{or_parts}
+use Rattle.std.proofs.lemmas.Bool.Decides.{nat_tests}
+use Rattle.lists.proofs.ListLaws.{same_some}
+use Rattle.lists.proofs.TestLaws.{first_true, second_true}
+use Rattle.jvm_types.specs.ClassTree.{is_subclass}
+use Rattle.jvm_types.specs.CodeTable.{can_throw, row}
+use Rattle.jvm_types.specs.Types.{is_new, is_uninitialised}
+use Rattle.jvm_types.specs.Verifying.{some_operand, misuses, frame_at_handler, caught_class, covers, covering, is_return}
+use Rattle.jvm_types.specs.Verifying as types
+use Rattle.jvm_types.specs.CodeTable as table
+use Rattle.jvm_types.specs.declared.op_row.OpRow.{OpRow}
+use Rattle.jvm_types.specs.declared.program.Row.{Row}
+use Rattle.jvm_types.specs.declared.typing.VType.{VType}
+use Rattle.jvm_types.specs.declared.typing.VType.TheVariants as vtypes
+use Rattle.checked_program.specs.LockTags.{IsShapeBelow}
+use Rattle.checked_program.specs.MarkedProgram.{MarkedProgram, IsMarked}
+use Rattle.checked_program.specs.TaggedCode.{caught}
+use Rattle.checked_program.specs.Tagging.{catches_all, until_all, catchers, tags_at_handler}
+use Rattle.checked_program.specs.Visits as visits
+use Rattle.checked_program.specs.declared.tag.Tag.{Tag}
+use Rattle.checked_program.specs.declared.tag.Tag.TheVariants.{Untagged, This, At}
+use Rattle.checked_program.proofs.CheckedPlaces.{catchers_among}
+use Rattle.machine_types.specs.Construction.{AreFrozen, builds, makes_frozen, SlotByType, OwnSlot, SlotIs, Turn, Runs, WaitsFor, Throws, IsFresh, SlotOf, FrameKeeps, KeepBelow, FramesKeep}
+use Rattle.machine_types.specs.Frames.{handler_of}
+use Rattle.machine_types.specs.Standing.{Standing, row_at}
+use Rattle.machine_types.specs.Threads.{Frame}
+use Rattle.machine_types.specs.Worlds.{World, IsFinished}
+use Rattle.laws_threads.proofs.Callers.{handler_in}
+use Rattle.laws_threads.proofs.Landing.{rules_at, tag_rules_at}
+use Rattle.laws_threads.proofs.Lists.{all_get}
+use Rattle.laws_objects.proofs.Landing.{inside_at, IsJoined, land}
+use Rattle.laws_objects.proofs.Slots.{slots_map, slots_map_if, slot_later, ref_slot}
+
+-- whatever the frame was about to do, its stack says nothing more, nor do its slots with what a `new` made
+pub loosened : (c : MarkedProgram) (frozen : ℕ → Bool) (w : World) (next t h : ℕ) (turn : Turn) (f : Frame) → FrameKeeps c frozen w next t h turn f → FrameKeeps c frozen w next t h Throws f
+loosened c frozen w next t h turn f k = record {
+  stands = k.stands;
+  receiver = k.receiver;
+  stack = tt;
+  locals = slots_map (SlotOf frozen w next t h turn k.stands.method f.receiver) (SlotOf frozen w next t h Throws k.stands.method f.receiver)
+      (slot_later (IsFinished w next) (IsFinished w next) (IsFresh w t h turn) (IsFresh w t h Throws) (λ v o. o) (makes_frozen frozen k.stands.method) (λ q v y f. tt) (builds frozen k.stands.method) f.receiver)
+      k.stands.types.locals k.stands.tags.locals f.locals k.locals;
+}
+
+-- an instruction throws
+pub frames_throw : (c : MarkedProgram) (frozen : ℕ → Bool) (w : World) (next t : ℕ) (turn : Turn) (fs : List Frame) → FramesKeep c frozen w next t turn fs → FramesKeep c frozen w next t Throws fs
+frames_throw c frozen w next t turn [] k = tt
+frames_throw c frozen w next t turn (f ∷ fs) k = (loosened c frozen w next t (length fs) turn f k.0, k.1)
+
+-- an exception leaves the top frame, also one of an `<init>`: the world stays as it is
+pub frames_unwound : (c : MarkedProgram) (frozen : ℕ → Bool) (w : World) (next t : ℕ) (f : Frame) (fs : List Frame) → KeepBelow c frozen w next t f fs → FramesKeep c frozen w next t Throws fs
+frames_unwound c frozen w next t f [] k = tt
+frames_unwound c frozen w next t f (g ∷ fs) k = (loosened c frozen w next t (length fs) (WaitsFor f.receiver k.0.begun) g k.0.keeps, k.1)
+
+-- ---- where a row covers no local has what a `new` made
+
+none_of : (test : VType → Bool) (ts : List VType) → list_any test ts ≡ false → AllByRecursion (λ t. test t ≡ false) ts
+none_of test [] e = tt
+none_of test (t ∷ ts) e = let h = or_parts (test t) (list_any test ts) e in (h.0, none_of test ts h.1)
+
+and_false : (x y : Bool) → (x && y) ≡ false → x ≡ true → y ≡ false
+and_false true y e h = e
+and_false false y e h = absurd (let bad : false ≡ true = h in cc)
+
+found_covers : (pc class : ℕ) (rows : List Row) (r : Row) → handler_of pc class rows ≡ Some r → list_any (covers pc) rows ≡ true
+found_covers pc class [] r e = absurd (cc)
+found_covers pc class (q ∷ rows) r e = by_tests (covers pc q) (q.catch_class == 0 || is_subclass class q.catch_class) e (found_covers pc class rows r)
+  where
+    by_tests : (a b : Bool) → (if a && b then Some q else handler_of pc class rows) ≡ Some r → (handler_of pc class rows ≡ Some r → list_any (covers pc) rows ≡ true) → (a || list_any (covers pc) rows) ≡ true
+    by_tests true b e more = refl
+    by_tests false b e more = more e
+
+module _ (Old : ℕ → Type 0) (Fresh Later : ℕ → ℕ → Type 0) (young : ℕ → Bool) (receiver : ℕ) where
+  type_if : (u : VType) (v : ℕ) → is_new u ≡ false → SlotByType Old Fresh young u v → SlotByType Old Later young u v
+  type_if (vtypes.New q) v n h = absurd (cc)
+  type_if vtypes.Null v n h = h
+  type_if (vtypes.Ref c) v n h = h
+  type_if vtypes.This v n h = h
+  type_if vtypes.Int v n h = tt
+  type_if vtypes.Top v n h = tt
+
+  own_if : (u : VType) (g : Tag) (v : ℕ) → is_new u ≡ false → OwnSlot Old Fresh young receiver u g v → OwnSlot Old Later young receiver u g v
+  own_if u This v n h = h
+  own_if (vtypes.New q) Untagged v n h = absurd (cc)
+  own_if (vtypes.New q) (At pc) v n h = absurd (cc)
+  own_if vtypes.Null Untagged v n h = h
+  own_if vtypes.Null (At pc) v n h = h
+  own_if (vtypes.Ref c) Untagged v n h = h
+  own_if (vtypes.Ref c) (At pc) v n h = h
+  own_if vtypes.This Untagged v n h = h
+  own_if vtypes.This (At pc) v n h = h
+  own_if vtypes.Int Untagged v n h = tt
+  own_if vtypes.Int (At pc) v n h = tt
+  own_if vtypes.Top Untagged v n h = tt
+  own_if vtypes.Top (At pc) v n h = tt
+
+  slot_if : (own : Bool) (u : VType) (g : Tag) (v : ℕ) → is_new u ≡ false → SlotIs Old Fresh own young receiver u g v → SlotIs Old Later own young receiver u g v
+  slot_if true u g v n h = own_if u g v n h
+  slot_if false u g v n h = type_if u v n h
+
+-- ---- a handler
+
+handler_found : (pc class : ℕ) (rows : List Row) → handler_of pc class rows ≡ find (λ r. covers pc r && (catches_all r || is_subclass class r.catch_class)) rows
+handler_found pc class [] = refl
+handler_found pc class (r ∷ rows) = ap (cond (covers pc r && (catches_all r || is_subclass class r.catch_class)) (Some r)) (handler_found pc class rows)
+
+any_got : (test : Row → Bool) (rows : List Row) (i : ℕ) (r : Row) → slice_get rows i ≡ Some r → test r ≡ true → list_any test rows ≡ true
+any_got test [] i r e h = absurd (cc)
+any_got test (q ∷ rows) zero r e h = let same : q ≡ r = same_some e in first_true (test q) (list_any test rows) (subst (λ (x : Row). test x ≡ true) (sym same) h)
+any_got test (q ∷ rows) (suc i) r e h = second_true (test q) (list_any test rows) (any_got test rows i r e h)
+
+module _ (c : MarkedProgram) (marked : IsMarked c) (frozen : ℕ → Bool) (are : AreFrozen c frozen) (w : World) (next t h : ℕ) (null : IsFinished w next 0) where
+  no_new : (f : Frame) (k : Standing c f) (class : ℕ) (r : Row) → handler_of k.insn.pc class k.method.rows ≡ Some r → AllByRecursion (λ u. is_new u ≡ false) k.types.locals
+  no_new f k class r e =
+      let row : OpRow = row_at c f k in
+      let s = some_operand (misuses k.method) row k.types in
+      let a = list_any (λ to. Rattle.std.specs.Prelude.nat_le to k.insn.pc) (table.branches_to k.insn.op) && (list_any is_uninitialised k.types.stack || list_any is_uninitialised k.types.locals) in
+      let b = list_any (covers k.insn.pc) k.method.rows && list_any is_new k.types.locals in
+      let x = or_parts ((s || a) || b) (is_return k.insn.op && not k.types.ready) (rules_at c marked f k).rules.objects in
+      let y = or_parts (s || a) b x.0 in
+      none_of is_new k.types.locals (and_false (list_any (covers k.insn.pc) k.method.rows) (list_any is_new k.types.locals) y.1 (found_covers k.insn.pc class k.method.rows r e))
+
+  pub handled : (f : Frame) (k : FrameKeeps c frozen w next t h Throws f) (x class : ℕ) (r : Row) → can_throw k.stands.insn.op ≡ true → IsFinished w next x → handler_of f.pc class k.stands.method.rows ≡ Some r
+      → FrameKeeps c frozen w next t h Runs (record f { pc = r.handler; stack = x ∷ [] })
+  handled f k x class r throws old e =
+      let s = k.stands in
+      let rules = rules_at c marked f s in
+      let tags = tag_rules_at c marked f s in
+      let here : handler_of s.insn.pc class s.method.rows ≡ Some r = subst (λ (pc : ℕ). handler_of pc class s.method.rows ≡ Some r) (sym s.pc_is) e in
+      let found = handler_in (λ h. types.Fits s.method.code s.frames (frame_at_handler h s.types) h.handler) s.insn.pc class s.method.rows r rules.sound.handlers_fit here in
+      let among = catchers_among s.method s.insn.pc class r (sym (handler_found s.insn.pc class s.method.rows) ∙ here) in
+      let handlers : AllByRecursion (λ handler. visits.Fits IsShapeBelow s.method.code s.at.frames (tags_at_handler s.tags) handler.handler) (until_all (covering s.method s.insn.pc)) =
+      subst (λ b. AllByRecursion (λ handler. visits.Fits IsShapeBelow s.method.code s.at.frames (tags_at_handler s.tags) handler.handler) (if b then until_all (covering s.method s.insn.pc) else [])) throws tags.handlers_fit in
+      land c marked frozen are w next t h null (record f { pc = r.handler; stack = x ∷ [] }) s.method s.frames s.at.frames (frame_at_handler r s.types) (tags_at_handler s.tags) s.at.in_program s.types_of_method s.at.of_method
+      found.0
+      (all_get (λ (handler : Row). visits.Fits IsShapeBelow s.method.code s.at.frames (tags_at_handler s.tags) handler.handler) (until_all (covering s.method s.insn.pc)) among.0 r handlers among.1)
+      (joined among.0 among.1) k.receiver
+      (ref_slot (IsFinished w next) null (IsFresh w t h Runs) (builds frozen s.method) (makes_frozen frozen s.method) f.receiver (builds frozen s.method) (caught_class r) x old, tt)
+      (slots_map_if (λ u. is_new u ≡ false) (SlotOf frozen w next t h Throws s.method f.receiver) (SlotOf frozen w next t h Runs s.method f.receiver)
+      (slot_if (IsFinished w next) (IsFresh w t h Throws) (IsFresh w t h Runs) (makes_frozen frozen s.method) f.receiver (builds frozen s.method)) s.types.locals s.tags.locals f.locals (no_new f s class r here) k.locals)
+    where
+      joined : (i : ℕ) → slice_get (until_all (covering k.stands.method k.stands.insn.pc)) i ≡ Some r → IsJoined c marked frozen are (record f { pc = r.handler; stack = x ∷ [] }) k.stands.method (tags_at_handler k.stands.tags)
+      joined i got own j other next u at starts =
+          let s = k.stands in
+          let any : list_any (λ handler. handler.handler == other.pc) (until_all (covering s.method s.insn.pc)) ≡ true = any_got (λ handler. handler.handler == other.pc) (until_all (covering s.method s.insn.pc)) i r got (grind (arith, nat_tests, starts)) in
+          let throws_there : list_any (λ handler. handler.handler == other.pc) (catchers s.method s.insn) ≡ true = subst (λ b. list_any (λ handler. handler.handler == other.pc) (if b then until_all (covering s.method s.insn.pc) else []) ≡ true) (sym throws) any in
+          (inside_at c marked frozen are f s own).joined s.number j s.insn other s.target next s.tags u (tags_at_handler s.tags) s.at at (caught other throws_there)

@@ -1,0 +1,165 @@
+-- What a thread sees of the world, as another thread's event or one of its own changes it.
+use Rattle.std.proofs.Common.{◌≡◌, ◌≢◌, ℕ, ◌≤◌, ◌<◌, ◌⊎◌, inl, inr, Bool, true, false, Option, Some, None, refl, sym, ap, ◌∙◌, arith}
+use Rattle.std.specs.Prelude.{◌==◌, if◌then◌else◌}
+use Rattle.jvm_types.specs.ProgramInvariant.{words_of}
+use Rattle.checked_program.specs.MarkedProgram.{MarkedProgram}
+use Rattle.machine_types.specs.Construction.{ThreadKeeps}
+use Rattle.machine_types.specs.Threads.{Attempt, Thread}
+use Rattle.machine_types.specs.Worlds.{Lost, Builder, builder, World, IsFinished, IsOwnOrFinished, IsWorld, IsViewOf, GoesOn}
+use Rattle.machine_types.specs.declared.phase.Phase.{Phase}
+use Rattle.laws_objects.proofs.KeptFrames.{KeepsAt, phase_frames_kept, phase_kept, attempt_kept}
+use Rattle.laws_objects.proofs.WorldChanges.{same_to, other_to, same_from, other_from, none_some}
+
+-- ---- whether a thread builds an object
+
+abbrev pub IsOwnIn : World → (u v : ℕ) → Type 0
+IsOwnIn w u v = (b : Builder) × (w v ≡ Some b) × (b.thread ≡ u)
+
+abbrev pub IsNoneOf : World → (u v : ℕ) → Type 0
+IsNoneOf w u v = (b : Builder) → w v ≡ Some b → b.thread ≢ u
+
+pub own_or_not : (w : World) (u v : ℕ) → IsOwnIn w u v ⊎ IsNoneOf w u v
+own_or_not w u v = by_was (w v) refl
+  where
+    by_was : (o : Option Builder) → w v ≡ o → IsOwnIn w u v ⊎ IsNoneOf w u v
+    by_was None e = inr (λ b f. absurd (none_some (w v) b e f))
+    by_was (Some b) e = by_test (b.thread == u) refl
+      where
+        by_test : (x : Bool) → (b.thread == u) ≡ x → IsOwnIn w u v ⊎ IsNoneOf w u v
+        by_test true t = inl (b, e, same_from b.thread u t)
+        by_test false t = inr (λ d f s. other_from b.thread u t (let same : b ≡ d = cc in ap (λ (x : Builder). x.thread) same ∙ s))
+
+-- a number below the next word is known to a thread or another builds it
+pub known_on : (w later : World) (next more t u : ℕ) → GoesOn w later next more t 0 → (v : ℕ) → IsOwnOrFinished w next u v → IsOwnOrFinished later more u v
+known_on w later next more t u goes v k = ((let l = k.0 in let g = goes.grows in omega (arith, l, g)), λ b e. by_thread b e (b.thread == u) refl)
+  where
+    was : (b : Builder) → b.thread ≢ u → later v ≡ Some b → (o : Option Builder) → w v ≡ o → ⊥
+    was b n e None f = none_some (later v) b (goes.finished v (k.0, f)) e
+    was b n e (Some d) f = by_own (d.thread == t) refl
+      where
+        mine : d.thread ≡ u
+        mine = k.1 d f
+
+        by_own : (x : Bool) → (d.thread == t) ≡ x → ⊥
+        by_own false o =
+            let stays = goes.others v d (other_from d.thread t o) f in
+            let same : d ≡ b = cc in
+            n (sym (ap (λ (x : Builder). x.thread) same) ∙ mine)
+        by_own true o =
+            -- its builder is t, and so u is; b is another's, who built it before
+            let before = goes.no_more v b (λ s. n (s ∙ sym (same_from d.thread t o) ∙ mine)) e in
+            let same : d ≡ b = cc in
+            n (sym (ap (λ (x : Builder). x.thread) same) ∙ mine)
+
+    by_thread : (b : Builder) → later v ≡ Some b → (x : Bool) → (b.thread == u) ≡ x → b.thread ≡ u
+    by_thread b e true t = same_from b.thread u t
+    by_thread b e false t = absurd (was b (other_from b.thread u t) e (w v) refl)
+
+pub finished_on : (w later : World) (next more t : ℕ) → GoesOn w later next more t 0 → (v : ℕ) → IsFinished w next v → IsFinished later more v
+finished_on w later next more t goes v k = ((let l = k.0 in let g = goes.grows in omega (arith, l, g)), goes.finished v k)
+
+-- ---- what another thread sees then: what it builds as it saw that, all else as it is now
+
+abbrev pub own_or : (u : ℕ) → Option Builder → (mine rest : Option Builder) → Option Builder
+own_or u None mine rest = rest
+own_or u (Some b) mine rest = if b.thread == u then mine else rest
+
+abbrev pub merged : (u : ℕ) (w now later : World) → World
+merged u w now later v = own_or u (w v) (now v) (later v)
+
+module _ (w now later : World) (next more t u first : ℕ) (goes : GoesOn w later next more t 0) (differ : u ≢ t) (attempt : Option Attempt) (view : IsViewOf now w u attempt) where
+  merged_own : (v : ℕ) → IsOwnIn w u v → merged u w now later v ≡ now v
+  merged_own v k = ap (λ o. own_or u o (now v) (later v)) k.1 ∙ ap (λ (x : Bool). if x then now v else later v) (same_to k.0.thread u k.2)
+
+  merged_rest : (v : ℕ) → IsNoneOf w u v → merged u w now later v ≡ later v
+  merged_rest v n = by_was (w v) refl
+    where
+      by_was : (o : Option Builder) → w v ≡ o → own_or u o (now v) (later v) ≡ later v
+      by_was None e = refl
+      by_was (Some b) e = ap (λ (x : Bool). if x then now v else later v) (other_to b.thread u (n b e))
+
+  -- what u builds stays
+  own_later : (v : ℕ) (b : Builder) → b.thread ≡ u → w v ≡ Some b → later v ≡ Some b
+  own_later v b m e = goes.others v b (λ s. differ (sym m ∙ s)) e
+
+  own_before : (v : ℕ) (b : Builder) → b.thread ≡ u → later v ≡ Some b → w v ≡ Some b
+  own_before v b m e = goes.no_more v b (λ s. differ (sym m ∙ s)) e
+
+  none_later : (v : ℕ) → IsNoneOf later u v → IsNoneOf w u v
+  none_later v n b e m = n b (own_later v b m e) m
+
+  merged_view : IsViewOf (merged u w now later) later u attempt
+  merged_view = record {
+    same = λ none v. by_own v none (own_or_not w u v);
+    others = λ v n. merged_rest v (none_later v n);
+    own = λ v b d e m f. let was = own_before v b m e in view.own v b d was m (sym (merged_own v (b, was, m)) ∙ f);
+  }
+    where
+      by_own : (v : ℕ) → attempt ≡ None → IsOwnIn w u v ⊎ IsNoneOf w u v → merged u w now later v ≡ later v
+      by_own v none (inl k) = merged_own v k ∙ view.same none v ∙ k.1 ∙ sym (own_later v k.0 k.2 k.1)
+      by_own v none (inr n) = merged_rest v n
+
+  merged_world : IsWorld now first next → IsWorld later first more → IsWorld (merged u w now later) first more
+  merged_world a b = record {
+    one = λ v x d n e f. both v x d n (own_or_not w u v) (own_or_not w u x) e f;
+    inside = λ v d e. inside v d (own_or_not w u v) e;
+    room = b.room;
+  }
+    where
+      mixed : (v x : ℕ) (d : Builder) → IsOwnIn w u v → IsNoneOf w u x → merged u w now later v ≡ Some d → merged u w now later x ≡ Some d → ⊥
+      mixed v x d k n e f =
+          let mine : d.thread ≡ u = view.own v k.0 d k.1 k.2 (sym (merged_own v k) ∙ e) in
+          n d (own_before x d mine (sym (merged_rest x n) ∙ f)) mine
+
+      both : (v x : ℕ) (d : Builder) → d.item ≢ Lost → IsOwnIn w u v ⊎ IsNoneOf w u v → IsOwnIn w u x ⊎ IsNoneOf w u x → merged u w now later v ≡ Some d → merged u w now later x ≡ Some d → v ≡ x
+      both v x d n (inl k) (inl l) e f = a.one v x d n (sym (merged_own v k) ∙ e) (sym (merged_own x l) ∙ f)
+      both v x d n (inl k) (inr l) e f = absurd (mixed v x d k l e f)
+      both v x d n (inr k) (inl l) e f = absurd (mixed x v d l k f e)
+      both v x d n (inr k) (inr l) e f = b.one v x d n (sym (merged_rest v k) ∙ e) (sym (merged_rest x l) ∙ f)
+
+      inside : (v : ℕ) (d : Builder) → IsOwnIn w u v ⊎ IsNoneOf w u v → merged u w now later v ≡ Some d → (first ≤ v) × (v < more)
+      inside v d (inl k) e = let i = a.inside v d (sym (merged_own v k) ∙ e) in (i.0, (let l = i.1 in let g = goes.grows in omega (arith, l, g)))
+      inside v d (inr n) e = b.inside v d (sym (merged_rest v n) ∙ e)
+
+  merged_keeps : (h : ℕ) → KeepsAt now (merged u w now later) u h
+  merged_keeps h v x e = by_own (own_or_not w u v)
+    where
+      by_own : IsOwnIn w u v ⊎ IsNoneOf w u v → merged u w now later v ≡ Some (builder u h x)
+      by_own (inl k) = merged_own v k ∙ e
+      by_own (inr n) = absurd (n (builder u h x) (sym (view.others v n) ∙ e) refl)
+
+  merged_old : (v : ℕ) → IsFinished now next v → IsFinished (merged u w now later) more v
+  merged_old v k = ((let l = k.0 in let g = goes.grows in omega (arith, l, g)), by_own (own_or_not w u v))
+    where
+      by_own : IsOwnIn w u v ⊎ IsNoneOf w u v → merged u w now later v ≡ None
+      by_own (inl o) = merged_own v o ∙ k.1
+      by_own (inr n) = merged_rest v n ∙ goes.finished v (k.0, sym (view.others v n) ∙ k.1)
+
+  merged_known : (v : ℕ) → IsOwnOrFinished now next u v → IsOwnOrFinished (merged u w now later) more u v
+  merged_known v k = ((let l = k.0 in let g = goes.grows in omega (arith, l, g)), λ b e. by_own b (own_or_not w u v) e)
+    where
+      by_own : (b : Builder) → IsOwnIn w u v ⊎ IsNoneOf w u v → merged u w now later v ≡ Some b → b.thread ≡ u
+      by_own b (inl o) e = k.1 b (sym (merged_own v o) ∙ e)
+      by_own b (inr n) e = by_now (now v) refl
+        where
+          by_now : (o : Option Builder) → now v ≡ o → b.thread ≡ u
+          by_now None f = absurd (none_some (later v) b (goes.finished v (k.0, sym (view.others v n) ∙ f)) (sym (merged_rest v n) ∙ e))
+          by_now (Some d) f = absurd (n d (sym (view.others v n) ∙ f) (k.1 d f))
+
+-- ---- so another thread keeps what it has
+
+pub other_keeps : (c : MarkedProgram) (frozen : ℕ → Bool) (w later : World) (next more t u : ℕ) (was : Phase) (x : Thread) → GoesOn w later next more t 0 → u ≢ t → IsWorld w (words_of c.program) next
+    → ThreadKeeps c frozen w next u was x → ThreadKeeps c frozen later more u was x
+other_keeps c frozen w later next more t u was x goes differ world k =
+    let old = merged_old w k.now later next more t u (words_of c.program) goes differ x.attempt k.now_is in
+    let keeps = merged_keeps w k.now later next more t u (words_of c.program) goes differ x.attempt k.now_is in
+    let known = merged_known w k.now later next more t u (words_of c.program) goes differ x.attempt k.now_is in
+    record {
+      now = merged u w k.now later;
+      now_is = merged_view w k.now later next more t u (words_of c.program) goes differ x.attempt k.now_is;
+      now_world = λ is. merged_world w k.now later next more t u (words_of c.program) goes differ x.attempt k.now_is (k.now_world world) is;
+      frames = phase_frames_kept c frozen k.now (merged u w k.now later) next more u goes.grows old keeps known was x.frames k.frames;
+      phase = phase_kept c frozen k.now (merged u w k.now later) next more u goes.grows old keeps known was k.phase;
+      held = λ h there. known_on w later next more t u goes h.monitor (k.held h there);
+      attempt = attempt_kept c frozen w later next more u goes.grows (finished_on w later next more t goes) (λ h v i e. goes.others v (builder u h i) differ e) (known_on w later next more t u goes) x.frames x.attempt k.attempt;
+    }

@@ -1,0 +1,19 @@
+-- An event of a thread outside attempts changes a guarded field only where the thread holds the monitor of the field's object, or
+-- runs an `<init>` on that object, and a final field of a frozen class only in such an `<init>` (PLDI 2010 publication, of read-only
+-- sections without their lock).
+use Rattle.std.specs.Prelude.{◌≡◌, ℕ, Bool, List, Some, None, slice_get}
+use Rattle.checked_program.specs.MarkedProgram.{MarkedProgram, IsMarked}
+use Rattle.machine_types.specs.Construction.{Construction}
+use Rattle.machine_types.specs.Core.{Core, event}
+use Rattle.machine_types.specs.Guards.{KeepsGuards}
+use Rattle.machine_types.specs.PlainMemory.{Object}
+use Rattle.machine_types.specs.Threads.{Thread}
+use Rattle.machine_types.specs.Worlds.{World}
+use Rattle.machine_types.specs.declared.config.Config.{Config}
+use Rattle.machine_types.specs.declared.phase.Phase.{Phase}
+use Rattle.laws_states.specs.RunFacts.{HaveWidth}
+use Rattle.laws_states.specs.StateFacts.{StateFacts}
+
+abbrev pub EventsKeepGuards : Type 0
+EventsKeepGuards = (c : MarkedProgram) (cfg : Config) (objects : List Object) (was : ℕ → Phase) (frozen : ℕ → Bool) (w : World) (s : Core) (t : ℕ) (x : Thread) → IsMarked c → HaveWidth cfg → StateFacts c cfg objects was s
+    → Construction c frozen w was objects s → slice_get s.threads t ≡ Some x → x.attempt ≡ None → KeepsGuards c objects s (event c s t) x

@@ -1,0 +1,2 @@
+pub mod ConstructionLaws
+pub mod GuardLaws

@@ -1,0 +1,8 @@
+//! Laws of objects under construction, and of the fields that sections read without their lock; each the contract of a function that does nothing.
+#![tactic(auto)]
+
+pub mod event_laws;
+pub mod object_laws;
+
+pub use event_laws::events_keep_guards;
+pub use object_laws::{events_keep_construction, next_keeps_construction, start_has_construction};

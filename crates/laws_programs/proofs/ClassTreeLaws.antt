@@ -1,0 +1,44 @@
+-- The tree of classes, class by class.
+use Rattle.std.proofs.Common.{◌≡◌, ℕ, ◌≤◌, Bool, true, false, ◌&&◌, ◌||◌, refl, sym, subst, arith}
+use Rattle.std.specs.Prelude.{◌==◌, nat_le, nat_lt}
+use Rattle.std.proofs.lemmas.Bool.Decides.{nat_tests}
+use Rattle.jvm_types.specs.Numbers.{has_number}
+use Rattle.jvm_types.specs.ClassTree.{super_class, ancestors, is_subclass, built_in_supers}
+use Rattle.jvm_types.proofs.ClassCases.{behind, by_class}
+use Rattle.jvm_types.proofs.TypeOrder.{pick}
+use Rattle.laws_programs.specs.ClassLaws.{LeavesStandAlone, FileClassesStandAlone, ThrowablesAreBelow}
+use Rattle.jvm_types.specs.declared.class_numbers.TheConstants.{THROWABLE_CLASS}
+
+-- ---- classes that are just above none
+
+pub super_in : (c : ℕ) → has_number built_in_supers (super_class c) ≡ true
+super_in = by_class (λ c. has_number built_in_supers (super_class c) ≡ true) (refl, (refl, (refl, (refl, (refl, (refl, (refl, (refl, (refl, (refl, (refl, (refl, (refl, (refl, (refl, (refl, tt)))))))))))))))) (λ c. refl)
+
+no_super : (c d : ℕ) → has_number built_in_supers d ≡ false → super_class c ≡ d → ⊥
+no_super c d n e = let is : has_number built_in_supers d ≡ true = subst (λ (x : ℕ). has_number built_in_supers x ≡ true) e (super_in c) in absurd (cc)
+
+pub leaves_alone : LeavesStandAlone
+unfolding is_subclass
+leaves_alone c d n h = pick (ancestors c) d h (λ e. e, (λ e. absurd (no_super c d n e), (λ e. absurd (no_super (super_class c) d n e), (λ e. absurd (no_super (super_class (super_class c)) d n e), (λ e. absurd (no_super (super_class (super_class (super_class c))) d n e), tt)))))
+
+-- no class of a file is just above another
+past_supers : (c : ℕ) → 17 ≤ c → has_number built_in_supers c ≡ false
+past_supers c h = grind (arith, nat_tests, h)
+
+pub files_alone : FileClassesStandAlone
+files_alone c d n h = leaves_alone c d (past_supers d n) h
+
+-- ---- throwables
+
+-- a class behind the built-in ones
+past : (c : ℕ) → 16 ≤ c → (c == 4) || false ≡ (nat_le 4 c && nat_lt c 16)
+past c h = both (c == 4) (nat_le 4 c) (nat_lt c 16) (grind (arith, nat_tests, h)) (grind (arith, nat_tests, h))
+  where
+    both : (t u v : Bool) → t ≡ false → v ≡ false → t || false ≡ (u && v)
+    both true u v e f = absurd (cc)
+    both false true v e f = sym f
+    both false false v e f = refl
+
+pub throwables_below : ThrowablesAreBelow
+unfolding is_subclass
+throwables_below = by_class (λ c. is_subclass c THROWABLE_CLASS ≡ (nat_le 4 c && nat_lt c 16)) (refl, (refl, (refl, (refl, (refl, (refl, (refl, (refl, (refl, (refl, (refl, (refl, (refl, (refl, (refl, (refl, tt)))))))))))))))) (λ c. past (behind 16 c) (omega arith))

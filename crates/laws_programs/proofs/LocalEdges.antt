@@ -1,0 +1,128 @@
+-- What the nodes are after the normal edges of an instruction, and after those to its handlers.
+use Rattle.std.proofs.Common.{◌≡◌, ℕ, Bool, true, false, cond, not, ◌&&◌, ◌||◌, List, [], ◌∷◌, length, Option, Some, None, Result, Ok, refl, sym, ◌∙◌, subst, arith}
+use Rattle.std.specs.Prelude.{◌==◌}
+use Rattle.std.specs.List.{AllByRecursion}
+use Rattle.std.proofs.lemmas.Bool.Decides.{nat_tests}
+use Rattle.jvm_types.specs.Numbers.{has_number}
+use Rattle.jvm_types.specs.CodeGrammar.{is_start}
+use Rattle.jvm_types.specs.Types.{TypeFrame}
+use Rattle.jvm_types.specs.Verifying.{Node, brought, all_brought, has_other_depth, clash, unless_caught, catch_fault, frame_at_handler, handled, frame_at, Fits}
+use Rattle.jvm_types.specs.declared.code.Insn.{Insn}
+use Rattle.jvm_types.specs.declared.program.MethodInfo.{MethodInfo}
+use Rattle.jvm_types.specs.declared.program.Row.{Row}
+use Rattle.jvm_types.specs.declared.refusal.VRule.{VRule}
+use Rattle.laws_programs.proofs.FrameBounds.{IsBounded, handler_bounded}
+use Rattle.laws_programs.proofs.LocalRisen.{AreRisen, all_risen_self, all_risen_trans, risen_length, frames_of, fits_risen}
+use Rattle.laws_programs.proofs.LocalBrought.{AreBounded, IsDeep, brought_risen, brought_bounded, brought_deep, brought_fits}
+
+-- ---- several edges
+
+-- what edges leave of the nodes
+pub record Carries (m : MethodInfo) (nodes mid : List Node) : Type 0 where
+  pub risen : AreRisen nodes mid
+  pub bounded : AreBounded m mid
+
+-- a frame of this depth may be brought to each of these pcs
+abbrev AreDeep : List Insn → ℕ → List Node → List ℕ → Type 0
+AreDeep code depth nodes tos = AllByRecursion (λ to. IsDeep depth (frame_at code (frames_of nodes) to)) tos
+
+module _ (m : MethodInfo) (f : TypeFrame) (b : IsBounded m f) (code : List Insn) where
+  deep_kept : (to : ℕ) (nodes : List Node) (tos : List ℕ) → AreDeep code (length f.stack) nodes tos → AreDeep code (length f.stack) (brought code to f nodes) tos
+  deep_kept to nodes [] d = tt
+  deep_kept to nodes (pc ∷ tos) d = (brought_deep m f b to (length f.stack) pc refl code nodes d.0, deep_kept to nodes tos d.1)
+
+  pub all_carried : (tos : List ℕ) (nodes : List Node) → AreBounded m nodes → AreDeep code (length f.stack) nodes tos → Carries m nodes (all_brought code tos f nodes)
+  all_carried [] nodes c d = record { risen = all_risen_self nodes; bounded = c }
+  all_carried (to ∷ tos) nodes c d =
+      let next : List Node = brought code to f nodes in
+      let one : AreRisen nodes next = brought_risen m f b to code nodes c d.0 in
+      let more : Carries m next (all_brought code tos f next) = all_carried tos next (brought_bounded m f b to code nodes c) (deep_kept to nodes tos d.1) in
+      record { risen = all_risen_trans nodes next (all_brought code tos f next) one more.risen; bounded = more.bounded }
+
+  pub all_fit : (tos : List ℕ) (nodes : List Node) → AreBounded m nodes → length nodes ≡ length code → AllByRecursion (λ to. is_start code to ≡ true) tos → AreDeep code (length f.stack) nodes tos
+      → AllByRecursion (Fits code (frames_of (all_brought code tos f nodes)) f) tos
+  all_fit [] nodes c l s d = tt
+  all_fit (to ∷ tos) nodes c l s d =
+      let next : List Node = brought code to f nodes in
+      let bounded : AreBounded m next = brought_bounded m f b to code nodes c in
+      let long : length next ≡ length code = sym (risen_length nodes next (brought_risen m f b to code nodes c d.0)) ∙ l in
+      let deep : AreDeep code (length f.stack) next tos = deep_kept to nodes tos d.1 in
+      let one : Fits code (frames_of next) f to = brought_fits m f b to code nodes c s.0 l d.0 in
+      (fits_risen code next (all_brought code tos f next) f to (all_carried tos next bounded deep).risen one, all_fit tos next bounded long s.1 deep)
+
+-- ---- where V5 holds
+
+pub picks : (P : ℕ → Type 0) (tos : List ℕ) → ((to : ℕ) → has_number tos to ≡ true → P to) → AllByRecursion P tos
+picks P [] h = tt
+picks P (to ∷ tos) h = (h to (here (to == to) (grind (arith, nat_tests))), picks P tos (λ x e. h x (there (to == x) (has_number tos x) e)))
+  where
+    here : (t : Bool) → t ≡ true → (t || has_number tos to) ≡ true
+    here t e = rw e refl
+
+    there : (t u : Bool) → u ≡ true → (t || u) ≡ true
+    there true u e = refl
+    there false u e = e
+
+same_depth : (frame : Option TypeFrame) (depth : ℕ) → has_other_depth frame depth ≡ false → IsDeep depth frame
+same_depth None depth e = tt
+same_depth (Some g) depth e = equal (length g.stack) e
+  where
+    equal : (n : ℕ) → not (n == depth) ≡ false → n ≡ depth
+    equal n e = grind (arith, nat_tests, e)
+
+unclashed : (t : Bool) (pc : ℕ) (more : Option ℕ) → cond t (Some pc) more ≡ None → (t ≡ false) × (more ≡ None)
+unclashed true pc more e = absurd (cc)
+unclashed false pc more e = (refl, e)
+
+second_false : (t u : Bool) → (t && u) ≡ false → t ≡ true → u ≡ false
+second_false true u e f = e
+second_false false u e f = absurd (cc)
+
+clash_deep : (tos : List ℕ) (depth to : ℕ) → has_number tos to ≡ true → (code : List Insn) (nodes : List Node) → clash code tos depth nodes ≡ None → IsDeep depth (frame_at code (frames_of nodes) to)
+clash_deep tos depth to h [] nodes e = tt
+clash_deep tos depth to h (insn ∷ code) [] e = tt
+clash_deep tos depth to h (insn ∷ code) (node ∷ nodes) e =
+    let parts = unclashed (has_number tos insn.pc && has_other_depth node.frame depth) insn.pc (clash code tos depth nodes) e in
+    by_test (insn.pc == to) refl parts.0 (clash_deep tos depth to h code nodes parts.1)
+  where
+    by_test : (t : Bool) → (insn.pc == to) ≡ t → (has_number tos insn.pc && has_other_depth node.frame depth) ≡ false → IsDeep depth (frame_at code (frames_of nodes) to)
+        → IsDeep depth (cond t node.frame (frame_at code (frames_of nodes) to))
+    by_test true e g more =
+        let same : to ≡ insn.pc = grind (arith, nat_tests, e) in
+        same_depth node.frame depth (second_false (has_number tos insn.pc) (has_other_depth node.frame depth) g (subst (λ (pc : ℕ). has_number tos pc ≡ true) same h))
+    by_test false e g more = more
+
+pub edges_deep : (code : List Insn) (tos : List ℕ) (depth : ℕ) (nodes : List Node) → clash code tos depth nodes ≡ None → AreDeep code depth nodes tos
+edges_deep code tos depth nodes e = picks (λ to. IsDeep depth (frame_at code (frames_of nodes) to)) tos (λ to h. clash_deep tos depth to h code nodes e)
+
+-- ---- the edges to handlers
+
+pub record Handles (m : MethodInfo) (pc : ℕ) (f : TypeFrame) (handlers : List Row) (nodes mid : List Node) : Type 0 where
+  pub carries : Carries m nodes mid
+  pub hold : AllByRecursion (λ handler. catch_fault m pc handler ≡ None) handlers
+  pub fit : AllByRecursion (λ handler. Fits m.code (frames_of mid) (frame_at_handler handler f) handler.handler) handlers
+
+pub uncaught : (fault : Option (VRule × ℕ)) (at : Option ℕ) (more : Result (List Node) (VRule × ℕ)) (mid : List Node) → unless_caught fault at more ≡ Ok mid → (fault ≡ None) × (at ≡ None) × (more ≡ Ok mid)
+uncaught (Some fault) at more mid e = absurd (cc)
+uncaught None (Some at) more mid e = absurd (cc)
+uncaught None None more mid e = (refl, refl, e)
+
+pub handles : (m : MethodInfo) (pc : ℕ) (f : TypeFrame) → IsBounded m f → (handlers : List Row) (nodes mid : List Node) → AreBounded m nodes → length nodes ≡ length m.code
+    → AllByRecursion (λ handler. is_start m.code handler.handler ≡ true) handlers → handled m pc f handlers nodes ≡ Ok mid → Handles m pc f handlers nodes mid
+handles m pc f b [] nodes mid c l s e = let same : nodes ≡ mid = cc in
+    record { carries = record { risen = subst (λ (ns : List Node). AreRisen nodes ns) same (all_risen_self nodes); bounded = subst (λ (ns : List Node). AreBounded m ns) same c }; hold = tt; fit = tt }
+handles m pc f b (handler ∷ handlers) nodes mid c l s e =
+    let g : TypeFrame = frame_at_handler handler f in
+    let to : ℕ = handler.handler in
+    let next : List Node = brought m.code to g nodes in
+    let parts = uncaught (catch_fault m pc handler) (clash m.code (to ∷ []) 1 nodes) (handled m pc f handlers next) mid e in
+    let bound : IsBounded m g = handler_bounded m pc handler f parts.0 b in
+    let deep : IsDeep 1 (frame_at m.code (frames_of nodes) to) = (edges_deep m.code (to ∷ []) 1 nodes parts.1).0 in
+    let one : AreRisen nodes next = brought_risen m g bound to m.code nodes c deep in
+    let long : length next ≡ length m.code = sym (risen_length nodes next one) ∙ l in
+    let more : Handles m pc f handlers next mid = handles m pc f b handlers next mid (brought_bounded m g bound to m.code nodes c) long s.1 parts.2 in
+    record {
+      carries = record { risen = all_risen_trans nodes next mid one more.carries.risen; bounded = more.carries.bounded };
+      hold = (parts.0, more.hold);
+      fit = (fits_risen m.code next mid g to more.carries.risen (brought_fits m g bound to m.code nodes c s.0 l deep), more.fit);
+    }

@@ -1,0 +1,11 @@
+pub mod ClassLaws
+pub mod FieldLaws
+pub mod CodeLaws
+pub mod RootLaws
+pub mod TargetLaws
+pub mod OrderLaws
+pub mod VisitLaws
+pub mod EdgeLaws
+pub mod RuleLaws
+pub mod EntryLaws
+pub mod NewLaws

@@ -1,0 +1,200 @@
+-- In every run an attempt begins where it is due, and nowhere else; then it stays the same one until it ends, and its events only
+-- look.
+use Rattle.std.proofs.Common.{◌≡◌, ℕ, zero, suc, ◌+◌, ◌*◌, ◌/◌, ◌%◌, ◌<◌, nat_lt, Bool, true, false, cond, List, [], ◌∷◌, length, Option, Some, None, refl, sym, ap, ◌∙◌, subst, arith}
+use Rattle.std.specs.Prelude.{◌&&◌, slice_get, slice_index}
+use Rattle.std.proofs.lemmas.Bool.Decides.{nat_tests}
+use Rattle.lists.proofs.ListLaws.{same_some}
+use Rattle.lists.proofs.TestLaws.{both_true, both_are_true}
+use Rattle.checked_program.specs.MarkedProgram.{MarkedProgram, IsMarked}
+use Rattle.machine_types.specs.Accesses.{found_by}
+use Rattle.machine_types.specs.Core.{Core, Happening, core, event, event_of}
+use Rattle.machine_types.specs.Elision.{begins, tries, may_try, enters_marked}
+use Rattle.machine_types.specs.Events.{wanted, moved}
+use Rattle.machine_types.specs.Going.{with_phase}
+use Rattle.machine_types.specs.HeldMonitors.{held_at}
+use Rattle.machine_types.specs.History.{Fate, GoesOn, Fails, Finishes, fate}
+use Rattle.machine_types.specs.LockWords.{word_of_lock, lock_by, lock_of}
+use Rattle.machine_types.specs.Monitors.{Claim, HasNot, claim, claim_by, enter_wants, enter_moves}
+use Rattle.machine_types.specs.Settings.{AreSettings}
+use Rattle.machine_types.specs.Threads.{Attempt, Frame, Thread}
+use Rattle.machine_types.specs.declared.access.Access.TheVariants.{Load}
+use Rattle.machine_types.specs.declared.config.Config.{Config}
+use Rattle.machine_types.specs.declared.lock.Held.{Held}
+use Rattle.machine_types.specs.declared.lock.LockWord.TheVariants as locks
+use Rattle.machine_types.specs.declared.phase.Phase.{Phase}
+use Rattle.machine_types.specs.declared.phase.Phase.TheVariants as phases
+use Rattle.laws_threads.specs.InsideEffects.{InsideMayDo}
+use Rattle.laws_threads.specs.InsideMoves.{NoElementInside}
+use Rattle.laws_states.specs.RunFacts.{HaveWidth}
+use Rattle.laws_states.proofs.WordViews.{lock_of_word}
+use Rattle.laws_states.specs.StateLaws.{ProgramsKeepThreads, RunsHaveState, IsInState}
+use Rattle.laws_simulation.proofs.Assembled.{got_when_set}
+use Rattle.laws_refinement.proofs.Inside.{Inside, is_inside}
+use Rattle.laws_refinement.specs.Entries.{failed_here, KeepsCount}
+use Rattle.laws_refinement.specs.EntryLaws.{ThreadsKeepCount, FewFail, IsDue, HasBegun, DueBegin, BegunAreDue, AttemptsStay, AttemptsOnlyLook}
+use Rattle.laws_refinement.proofs.Counts.{is_below}
+use Rattle.laws_refinement.proofs.MarkedEntries.{at_mark, enters_by_mark}
+use Rattle.laws_refinement.proofs.Looks.{only_looks}
+use Rattle.laws_refinement.proofs.OutsideEntries.{Begins, MovesTo, outside_moves}
+use Rattle.laws_refinement.proofs.Within.{HasFate, inside_moves}
+
+pub few_fail : ThreadsKeepCount → FewFail
+few_fail counted c cfg hs t marked width settings = (counted c cfg hs t marked width settings).few
+
+-- ---- a thread behind its event
+
+pub is_moved : (c : MarkedProgram) (s : Core) (t : ℕ) (x y : Thread) → slice_get s.threads t ≡ Some x → slice_get (event c s t).threads t ≡ Some y → moved c x x.phase (found_by s.words (wanted c x x.phase)) ≡ y
+is_moved c s t x y here there =
+    same_some (sym (got_when_set s.threads t x (moved c x x.phase (found_by s.words (wanted c x x.phase))) here) ∙ subst (λ (o : Option Thread). slice_get (event_of c s t o).threads t ≡ Some y) here there)
+
+-- ---- the lock word of an entry
+
+-- a thread that neither holds a monitor nor tries it
+claims_none : (x : Thread) (m : ℕ) → x.attempt ≡ None → held_at x.held m ≡ None → claim x m ≡ HasNot
+claims_none x m outside not_held = ap (λ (h : Option Held). claim_by m h x.attempt) not_held ∙ ap (claim_by m None) outside
+
+wants_load : (c : MarkedProgram) (x : Thread) (m tried : ℕ) → x.phase ≡ phases.Enter m tried → x.attempt ≡ None → held_at x.held m ≡ None → wanted c x x.phase ≡ Some (Load m)
+wants_load c x m tried enters outside not_held =
+    ap (λ (phase : Phase). wanted c x phase) enters
+    ∙ ap (λ (q : Claim). enter_wants m q) (claims_none x m outside not_held)
+
+at_entry : (c : MarkedProgram) (s : Core) (x : Thread) (m tried : ℕ) → x.phase ≡ phases.Enter m tried → x.attempt ≡ None → held_at x.held m ≡ None → found_by s.words (wanted c x x.phase) ≡ slice_index s.words m
+at_entry c s x m tried enters outside not_held = ap (found_by s.words) (wants_load c x m tried enters outside not_held)
+
+-- a word that is read as free is that of a free lock
+free_word : (word count : ℕ) → lock_of word ≡ locks.Free count → word ≡ word_of_lock (locks.Free count)
+free_word word count e = by_kind (word % 4) (word / 4) refl refl e
+  where
+    by_kind : (kind upper : ℕ) → word % 4 ≡ kind → word / 4 ≡ upper → lock_by kind upper ≡ locks.Free count → word ≡ 4 * count
+    by_kind zero upper k u f = let same : upper ≡ count = cc in omega (arith, k, u, same)
+    by_kind (suc zero) upper k u f = absurd (cc)
+    by_kind (suc (suc zero)) upper k u f = absurd (cc)
+    by_kind (suc (suc (suc kind))) upper k u f = absurd (cc)
+
+-- ---- where one is due
+
+is_above : (n m : ℕ) → n < m → nat_lt n m ≡ true
+is_above n m e = grind (arith, nat_tests, e)
+
+module _ (c : MarkedProgram) (cfg : Config) (s : Core) (x : Thread) (failed m count : ℕ) (settings : x.cfg ≡ cfg) (kept : KeepsCount x.attempt x.phase failed) (is_marked : IsMarked c) (due : IsDue c cfg s x failed m count) where
+  marked_there : enters_marked c x.frames ≡ true
+  marked_there = enters_by_mark c is_marked x.frames due.marked
+
+  same_count : due.tried ≡ failed
+  same_count = subst (λ (phase : Phase). KeepsCount None phase failed) due.enters (subst (λ (o : Option Attempt). KeepsCount o x.phase failed) due.outside kept)
+
+  may : may_try c x due.tried ≡ true
+  may =
+      both_true (x.cfg.elide && nat_lt due.tried 2) (enters_marked c x.frames)
+      (both_true x.cfg.elide (nat_lt due.tried 2) (ap (λ (k : Config). k.elide) settings ∙ due.elides) (is_above due.tried 2 (subst (λ (n : ℕ). n < 2) (sym same_count) due.few))) marked_there
+
+  loads : wanted c x x.phase ≡ Some (Load m)
+  loads = wants_load c x m due.tried due.enters due.outside due.not_held
+
+  begun_at : (fs : List Frame) → x.frames ≡ fs → HasBegun c x (begins x fs m count (due.tried + 1)) failed m count
+  begun_at [] e = let bad : false ≡ true = subst (λ (gs : List Frame). enters_marked c gs ≡ true) e marked_there in absurd (cc)
+  begun_at (f ∷ below) e =
+      let new : Attempt = record { monitor = m; noted = count; base = length below; number = due.tried + 1; inner = 0; entry = f } in
+      record {
+        loads = loads;
+        attempt = new;
+        is = refl;
+        monitor = refl;
+        noted = refl;
+        number = ap (λ (n : ℕ). n + 1) same_count;
+        inner = refl;
+        below = below;
+        entry = e;
+        base = refl;
+        phase = refl;
+        frames = refl;
+        held = refl;
+        turns = refl;
+      }
+
+  found : lock_of (found_by s.words (wanted c x x.phase)) ≡ locks.Free count
+  found = ap lock_of (at_entry c s x m due.tried due.enters due.outside due.not_held ∙ due.is_free) ∙ lock_of_word (locks.Free count)
+
+  below_last : nat_lt count x.cfg.range ≡ true
+  below_last = is_above count x.cfg.range (subst (λ (k : Config). count < k.range) (sym settings) due.not_last)
+
+  moves : moved c x x.phase (found_by s.words (wanted c x x.phase)) ≡ begins x x.frames m count (due.tried + 1)
+  moves = by_found (found_by s.words (wanted c x x.phase)) found
+    where
+      by_found : (got : ℕ) → lock_of got ≡ locks.Free count → moved c x x.phase got ≡ begins x x.frames m count (due.tried + 1)
+      by_found got free =
+          ap (λ (phase : Phase). moved c x phase got) due.enters
+          ∙ ap (λ (q : Claim). enter_moves x m due.tried (may_try c x due.tried) q got) (claims_none x m due.outside due.not_held)
+          ∙ ap (λ (b : Bool). enter_moves x m due.tried b HasNot got) may
+          ∙ ap (tries x m due.tried) free
+          ∙ ap (λ (b : Bool). cond b (begins x x.frames m count (due.tried + 1)) (with_phase x (phases.Acquire m))) below_last
+
+  pub begun : HasBegun c x (moved c x x.phase (found_by s.words (wanted c x x.phase))) failed m count
+  begun = subst (λ (y : Thread). HasBegun c x y failed m count) (sym moves) (begun_at x.frames refl)
+
+pub due_begin : RunsHaveState → ProgramsKeepThreads → ThreadsKeepCount → DueBegin
+due_begin runs parts counted c cfg hs t x y m count marked width settings here there due =
+    let s : Core = core c cfg hs in
+    let state : IsInState c cfg s = runs c cfg hs marked width (parts c cfg marked settings) in
+    let kept = (counted c cfg hs t marked width settings).kept x here in
+    subst (λ (z : Thread). HasBegun c x z (failed_here c cfg hs t) m count) (is_moved c s t x y here there)
+    (begun c cfg s x (failed_here c cfg hs t) m count (state.facts.threads.own t x here).settings kept marked due)
+
+-- ---- where one has begun
+
+module _ (c : MarkedProgram) (cfg : Config) (s : Core) (x y : Thread) (a : Attempt) (failed : ℕ) (settings : x.cfg ≡ cfg) (kept : KeepsCount x.attempt x.phase failed) (outside : x.attempt ≡ None) where
+  was_due : Begins c x y (found_by s.words (wanted c x x.phase)) a → IsDue c cfg s x failed a.monitor a.noted
+  was_due b =
+      let elides_few = both_are_true (x.cfg.elide && nat_lt b.tried 2) (enters_marked c x.frames) b.may in
+      let elides = both_are_true x.cfg.elide (nat_lt b.tried 2) elides_few.0 in
+      let same : b.tried ≡ failed = subst (λ (phase : Phase). KeepsCount None phase failed) b.enters (subst (λ (o : Option Attempt). KeepsCount o x.phase failed) outside kept) in
+      record {
+        tried = b.tried;
+        enters = b.enters;
+        marked = at_mark c x.frames elides_few.1;
+        elides = ap (λ (k : Config). k.elide) (sym settings) ∙ elides.0;
+        not_held = b.not_held;
+        outside = outside;
+        few = subst (λ (n : ℕ). n < 2) same (is_below b.tried 2 elides.1);
+        is_free = sym (at_entry c s x a.monitor b.tried b.enters outside b.not_held) ∙ free_word (found_by s.words (wanted c x x.phase)) a.noted b.is_free;
+        not_last = subst (λ (k : Config). a.noted < k.range) settings (is_below a.noted x.cfg.range b.not_last);
+      }
+
+pub begun_are_due : RunsHaveState → ProgramsKeepThreads → ThreadsKeepCount → BegunAreDue
+begun_are_due runs parts counted c cfg hs t x y a marked width settings here there outside begins =
+    let s : Core = core c cfg hs in
+    let got : ℕ = found_by s.words (wanted c x x.phase) in
+    let z : Thread = moved c x x.phase got in
+    let state : IsInState c cfg s = runs c cfg hs marked width (parts c cfg marked settings) in
+    let same : z ≡ y = is_moved c s t x y here there in
+    let tries : z.attempt ≡ Some a = ap (λ (k : Thread). k.attempt) same ∙ begins in
+    let begun : Begins c x z got a = subst (MovesTo c x z got) tries (outside_moves c x got outside x.phase refl) in (
+      was_due c cfg s x z a (failed_here c cfg hs t) (state.facts.threads.own t x here).settings ((counted c cfg hs t marked width settings).kept x here) outside begun,
+      wants_load c x a.monitor begun.tried begun.enters outside begun.not_held,
+    )
+
+-- ---- one that is open
+
+module _ (x : Thread) (a b : Attempt) (y : Thread) (still : y.attempt ≡ Some b) where
+  stays : (f : Fate) → HasFate x y a f → b ≡ record a { inner = b.inner }
+  stays GoesOn k =
+      let same : b ≡ record a { inner = k.0 } = same_some (sym still ∙ k.1) in
+      same ∙ ap (λ (n : ℕ). let now : Attempt = record a { inner = n } in now) (sym (ap (λ (d : Attempt). d.inner) same))
+  stays Fails k = absurd (let bad : Some b ≡ None = sym still ∙ k.outside in cc)
+  stays Finishes k = absurd (let bad : Some b ≡ None = sym still ∙ k.0 in cc)
+
+module _ (may_do : InsideMayDo) (no_element : NoElementInside) (runs : RunsHaveState) (parts : ProgramsKeepThreads) where
+  pub in_attempt : (c : MarkedProgram) (cfg : Config) (hs : List Happening) (t : ℕ) (x : Thread) (a : Attempt) → IsMarked c → HaveWidth cfg → AreSettings cfg → slice_get (core c cfg hs).threads t ≡ Some x → x.attempt ≡ Some a → Inside c x a
+  in_attempt c cfg hs t x a marked width settings here tries =
+      let state : IsInState c cfg (core c cfg hs) = runs c cfg hs marked width (parts c cfg marked settings) in
+      is_inside may_do no_element c marked x a tries (state.was t) (state.facts.structure t x here)
+
+  pub attempts_stay : AttemptsStay
+  attempts_stay c cfg hs t x y a b marked width settings here there tries still =
+      let s : Core = core c cfg hs in
+      let got : ℕ = found_by s.words (wanted c x x.phase) in
+      let same : moved c x x.phase got ≡ y = is_moved c s t x y here there in
+      stays x a b (moved c x x.phase got) (ap (λ (k : Thread). k.attempt) same ∙ still) (fate c x a x.phase got) (inside_moves c x a (in_attempt c cfg hs t x a marked width settings here tries) got)
+
+  pub attempts_only_look : AttemptsOnlyLook
+  attempts_only_look c cfg hs t x a marked width settings here tries = only_looks c x a x.phase (in_attempt c cfg hs t x a marked width settings here tries).known

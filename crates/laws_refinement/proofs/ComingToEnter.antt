@@ -1,0 +1,66 @@
+-- An instruction that comes to a monitor leaves its thread at the entry, unless an attempt fails by it.
+use Rattle.std.proofs.Common.{◌≡◌, ℕ, Bool, true, false, cond, List, Option, Some, None, refl, sym, ap, ◌∙◌, subst}
+use Rattle.jvm_types.specs.declared.program.Program.{Program}
+use Rattle.checked_program.specs.MarkedProgram.{MarkedProgram}
+use Rattle.machine_types.specs.Accesses.{found_by}
+use Rattle.machine_types.specs.Core.{Core, core}
+use Rattle.machine_types.specs.Elision.{is_same, is_checked, if_same, fails}
+use Rattle.machine_types.specs.Events.{wanted, moved}
+use Rattle.machine_types.specs.Frames.{Top, top_of, effect_at, went_on}
+use Rattle.machine_types.specs.Going.{goes_on, goes_on_if}
+use Rattle.machine_types.specs.History.{GoesOn, Fails, fate, fate_by, run_fate}
+use Rattle.machine_types.specs.Instructions.{begun, did, instructed, ran}
+use Rattle.machine_types.specs.Onward.{Running, Entering, done}
+use Rattle.machine_types.specs.Threads.{Attempt, Frame, Thread}
+use Rattle.machine_types.specs.declared.effect.Effect.{Effect}
+use Rattle.machine_types.specs.declared.effect.Effect.TheVariants.{Indexes, Makes, Prints, Waits, Notifies, NotifiesAll}
+use Rattle.machine_types.specs.declared.phase.Phase.{Phase}
+use Rattle.machine_types.specs.declared.phase.Phase.TheVariants as phases
+use Rattle.laws_refinement.specs.EntryLaws.{IsToEnter, InstructionsEnter}
+use Rattle.laws_refinement.proofs.Beginnings.{is_moved}
+
+-- behind a check that fails no attempt
+if_same_goes : (z y : Thread) (o : Option Attempt) (got : ℕ) → ((a : Attempt) → o ≡ Some a → fate_by (is_same a got) GoesOn ≡ Fails → ⊥) → if_same z o got y ≡ y
+if_same_goes z y None got never = refl
+if_same_goes z y (Some a) got never = by_test (is_same a got) (never a refl)
+  where
+    by_test : (b : Bool) → (fate_by b GoesOn ≡ Fails → ⊥) → cond b y (fails z a) ≡ y
+    by_test true passes = refl
+    by_test false passes = absurd (passes refl)
+
+module _ (p : Program) (at : Top) (got m : ℕ) (fs : List Frame) where
+  did_enter : (s : Thread) (e : Effect) → done p at e got ≡ Some (Entering m fs) → did p s at e got ≡ goes_on s (Entering m fs)
+  did_enter s (Indexes array index stored) k = absurd (let bad : None ≡ Some (Entering m fs) = k in cc)
+  did_enter s (Makes word size) k = absurd (let bad : None ≡ Some (Entering m fs) = k in cc)
+  did_enter s (Prints n) k = absurd (let bad : Some (Running (went_on p at 0)) ≡ Some (Entering m fs) = k in cc)
+  did_enter s (Waits n) k = absurd (let bad : None ≡ Some (Entering m fs) = k in cc)
+  did_enter s (Notifies n) k = absurd (let bad : None ≡ Some (Entering m fs) = k in cc)
+  did_enter s (NotifiesAll n) k = absurd (let bad : None ≡ Some (Entering m fs) = k in cc)
+  did_enter s e k = ap (goes_on_if s) k
+
+  instructed_goes : (x : Thread) (e : Effect) → ((a : Attempt) → x.attempt ≡ Some a → cond (is_checked at.frame.pc e) (fate_by (is_same a got) GoesOn) GoesOn ≡ Fails → ⊥) → instructed p (begun x) at e got ≡ did p (begun x) at e got
+  instructed_goes x e = by_check (is_checked at.frame.pc e)
+    where
+      by_check : (b : Bool) → ((a : Attempt) → x.attempt ≡ Some a → cond b (fate_by (is_same a got) GoesOn) GoesOn ≡ Fails → ⊥) → cond b (if_same (begun x) x.attempt got (did p (begun x) at e got)) (did p (begun x) at e got) ≡ did p (begun x) at e got
+      by_check true never = if_same_goes (begun x) (did p (begun x) at e got) x.attempt got never
+      by_check false never = refl
+
+module _ (c : MarkedProgram) (x : Thread) (got : ℕ) (at : Top) (m : ℕ) (fs : List Frame) (is_run : x.phase ≡ phases.Run) (top : top_of c.program x.frames ≡ Some at) where
+  fate_there : (a : Attempt) → fate c x a x.phase got ≡ run_fate c a (Some at) got
+  fate_there a = ap (λ (phase : Phase). fate c x a phase got) is_run ∙ ap (λ (o : Option Top). run_fate c a o got) top
+
+  to_enter : done c.program at (effect_at c.program at) got ≡ Some (Entering m fs) → ((a : Attempt) → x.attempt ≡ Some a → fate c x a x.phase got ≡ Fails → ⊥) → IsToEnter x (moved c x x.phase got) m fs
+  to_enter comes never = subst (λ (y : Thread). IsToEnter x y m fs) (sym moves) (record { enters = refl; frames = refl; turns = refl; held = refl; attempt = refl })
+    where
+      moves : moved c x x.phase got ≡ goes_on (begun x) (Entering m fs)
+      moves =
+          ap (λ (phase : Phase). moved c x phase got) is_run
+          ∙ ap (λ (o : Option Top). ran c.program x o got) top
+          ∙ instructed_goes c.program at got m fs x (effect_at c.program at) (λ a tries failed. never a tries (fate_there a ∙ failed))
+          ∙ did_enter c.program at got m fs (begun x) (effect_at c.program at) comes
+
+pub instructions_enter : InstructionsEnter
+instructions_enter c cfg hs t x y at m fs here there is_run top comes never =
+    let s : Core = core c cfg hs in
+    subst (λ (z : Thread). IsToEnter x z m fs) (is_moved c s t x y here there)
+    (to_enter c x (found_by s.words (wanted c x x.phase)) at m fs is_run top comes never)

@@ -1,0 +1,103 @@
+-- What one act of a replay counts in the plain machine: an instruction that it begins, and no monitor that it takes.
+use Rattle.std.proofs.Common.{◌≡◌, ◌≢◌, ℕ, zero, suc, ◌+◌, Bool, true, false, cond, [], ◌∷◌, Option, Some, None, refl, sym, ap, ◌∙◌, arith}
+use Rattle.std.specs.Prelude.{◌==◌, option_and_then}
+use Rattle.lists.proofs.ListLaws.{same_some}
+use Rattle.jvm_types.specs.declared.program.Program.{Program}
+use Rattle.machine_types.specs.Counting.{is_free, one_if, run_at, take_at}
+use Rattle.machine_types.specs.Effects.{read_by}
+use Rattle.machine_types.specs.Frames.{Top, top_of, effect_at}
+use Rattle.machine_types.specs.Onward.{Onward, after, dispatched}
+use Rattle.machine_types.specs.PlainInstructions.{got_by}
+use Rattle.machine_types.specs.PlainState.{Plain, PlainThread, Holding, Status, value_at, holding_at}
+use Rattle.machine_types.specs.PlainState as plain
+use Rattle.machine_types.specs.PlainSteps.{plain_run, plain_step}
+use Rattle.machine_types.specs.Replay.{Alone, only_on, reads_only, goes, instructs, enters, leaves, replay_act, replayed}
+use Rattle.machine_types.specs.declared.phase.After.{After}
+use Rattle.machine_types.specs.declared.plain.Act.{Act}
+use Rattle.machine_types.specs.declared.plain.Act.TheVariants as acts
+use Rattle.machine_types.specs.declared.plain.PlainStep.{PlainStep}
+use Rattle.machine_types.proofs.AttemptReplay.{stands_as, Stands, played}
+use Rattle.laws_simulation.proofs.HoldingsAlike.{are_same}
+use Rattle.laws_simulation.proofs.PlainCounts.{did_run, did_throw, did_enter, not_run, not_taken}
+
+-- ---- instructions that an act begins
+
+abbrev step_by : ℕ → Act → PlainStep
+step_by t act = record { thread = t; act = act }
+
+goes_begun : (x z : Alone) (o : Option Onward) → goes x o ≡ Some z → z.begun ≡ x.begun
+goes_begun x z None e = absurd (cc)
+goes_begun x z (Some o) e = sym (ap (λ (y : Alone). y.begun) (same_some e))
+
+instructs_begun : (p : Program) (m : ℕ) (memory : ℕ → Option ℕ) (x z : Alone) (o : Option Top) → instructs p m memory x o ≡ Some z → z.begun ≡ x.begun + 1
+instructs_begun p m memory x z None e = absurd (cc)
+instructs_begun p m memory x z (Some at) e =
+    goes_begun (record x { begun = x.begun + 1 }) z (option_and_then (λ got. option_and_then (only_on m) (reads_only p at (effect_at p at) got)) (got_by memory (read_by (effect_at p at)))) e
+
+enters_begun : (x z : Alone) (b : Bool) → cond b (Some (enters x)) None ≡ Some z → z.begun ≡ x.begun
+enters_begun x z true e = sym (ap (λ (y : Alone). y.begun) (same_some e))
+enters_begun x z false e = absurd (cc)
+
+leaves_begun : (p : Program) (x z : Alone) (a : After) (depth : ℕ) → leaves p x a depth ≡ Some z → z.begun ≡ x.begun
+leaves_begun p x z a (suc (suc depth)) e = goes_begun (record x { depth = suc depth }) z (after p x.thread.frames a) e
+leaves_begun p x z a (suc zero) e = absurd (cc)
+leaves_begun p x z a zero e = absurd (cc)
+
+if_leaves_begun : (p : Program) (x z : Alone) (a : After) (depth : ℕ) (b : Bool) → cond b (leaves p x a depth) None ≡ Some z → z.begun ≡ x.begun
+if_leaves_begun p x z a depth true e = leaves_begun p x z a depth e
+if_leaves_begun p x z a depth false e = absurd (cc)
+
+runs_by : (p : Program) (q : Plain) (t m : ℕ) (x z : Alone) (act : Act) (status : Status) → Stands q t m x → x.thread.status ≡ status → replay_act p m (value_at q) x act status ≡ Some z → run_at t q (step_by t act) + x.begun ≡ z.begun
+runs_by p q t m x z acts.Do plain.Run f s e =
+    let one = did_run t q x.thread f.thread s in
+    let more = instructs_begun p m (value_at q) x z (top_of p x.thread.frames) e in
+    omega (arith, one, more)
+runs_by p q t m x z acts.Do (plain.Throw r class) f s e =
+    let none = did_throw t q x.thread r class f.thread s in
+    let same = goes_begun x z (option_and_then (only_on m) (dispatched p r class x.thread.frames)) e in
+    omega (arith, none, same)
+runs_by p q t m x z acts.Enter (plain.Enter n) f s e =
+    let none = not_run t q acts.Enter refl in
+    let same = enters_begun x z (n == m) e in
+    omega (arith, none, same)
+runs_by p q t m x z acts.Exit (plain.Leave n a) f s e =
+    let none = not_run t q acts.Exit refl in
+    let same = if_leaves_begun p x z a x.depth (n == m) e in
+    omega (arith, none, same)
+runs_by p q t m x z act status f s e = absurd (cc)
+
+-- ---- monitors that it takes
+
+-- it holds the monitor that it enters
+held_already : (q : Plain) (t m n : ℕ) (x z : Alone) (b : Bool) → (n == m) ≡ b → Stands q t m x → cond b (Some (enters x)) None ≡ Some z → one_if (is_free (holding_at q.holdings n)) ≡ 0
+held_already q t m n x z true k f e = ap (λ (i : ℕ). one_if (is_free (holding_at q.holdings i))) (are_same n m k) ∙ ap (λ (h : Option Holding). one_if (is_free h)) f.holding
+held_already q t m n x z false k f e = absurd (cc)
+
+takes_by : (p : Program) (q : Plain) (t m : ℕ) (x z : Alone) (act : Act) (status : Status) → Stands q t m x → x.thread.status ≡ status → replay_act p m (value_at q) x act status ≡ Some z → take_at t q (step_by t act) ≡ 0
+takes_by p q t m x z acts.Do status f s e = not_taken t q acts.Do refl
+takes_by p q t m x z acts.Enter (plain.Enter n) f s e = did_enter t n q x.thread f.thread s ∙ held_already q t m n x z (n == m) refl f e
+takes_by p q t m x z acts.Exit status f s e = not_taken t q acts.Exit refl
+takes_by p q t m x z act status f s e = absurd (cc)
+
+-- ---- the act
+
+-- a run of one step
+only_step : (p : Program) (o : Option Plain) (r : Plain) → option_and_then (λ v. plain_run p v []) o ≡ Some r → o ≡ Some r
+only_step p None r e = absurd (cc)
+only_step p (Some v) r e = e
+
+steps_to : (p : Program) (q : Plain) (t m : ℕ) (x z : Alone) (act : Act) → Stands q t m x → m ≢ 0 → replay_act p m (value_at q) x act x.thread.status ≡ Some z → plain_step p q (step_by t act) ≡ Some (stands_as q t m z)
+steps_to p q t m x z act f some e = only_step p (plain_step p q (step_by t act)) (stands_as q t m z) (played p q t m (act ∷ []) x z f some (ap (option_and_then (replayed p m (value_at q) [])) e))
+
+-- it leads to where the replay does, and counts what that begins
+pub record Does (p : Program) (q : Plain) (t m : ℕ) (x z : Alone) (act : Act) : Type 0 where
+  pub step : plain_step p q (record { thread = t; act = act }) ≡ Some (stands_as q t m z)
+  pub runs : run_at t q (record { thread = t; act = act }) + x.begun ≡ z.begun
+  pub takes : take_at t q (record { thread = t; act = act }) ≡ 0
+
+pub does : (p : Program) (q : Plain) (t m : ℕ) (x z : Alone) (act : Act) → Stands q t m x → m ≢ 0 → replay_act p m (value_at q) x act x.thread.status ≡ Some z → Does p q t m x z act
+does p q t m x z act f some e = record {
+  step = steps_to p q t m x z act f some e;
+  runs = runs_by p q t m x z act x.thread.status f refl e;
+  takes = takes_by p q t m x z act x.thread.status f refl e;
+}

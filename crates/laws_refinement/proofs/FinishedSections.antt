@@ -1,0 +1,200 @@
+-- Where a section is done that ran without its lock, its entry, what it did and its exit are a run of the plain machine, to a state
+-- that the new one stands beside.
+use Rattle.std.proofs.Common.{◌≡◌, ◌≢◌, ◌⊎◌, inl, inr, ℕ, suc, ◌≤◌, false, cond, List, [], ◌∷◌, Option, Some, None, refl, sym, ap, ◌∙◌, subst, arith}
+use Rattle.std.specs.Prelude.{slice_get, slice_index, slice_set}
+use Rattle.jvm_types.specs.declared.fixed_words.TheConstants.{FIRST_READY_WORD, NEXT_FREE_WORD}
+use Rattle.jvm_types.specs.declared.outcome.End.TheVariants as ends
+use Rattle.checked_program.specs.MarkedProgram.{MarkedProgram, IsMarked}
+use Rattle.machine_types.specs.Accesses.{found_by}
+use Rattle.machine_types.specs.Agreement.{AttemptFits, ThreadFits, depth_for, has_wait_bit}
+use Rattle.machine_types.specs.Attempts.{Owes}
+use Rattle.machine_types.specs.Core.{Core, event}
+use Rattle.machine_types.specs.Counting.{run_at, take_at, count_along}
+use Rattle.machine_types.specs.Elision.{elided}
+use Rattle.machine_types.specs.Events.{wanted}
+use Rattle.machine_types.specs.Going.{goes_on}
+use Rattle.machine_types.specs.HeldMonitors.{depth_at, held_at}
+use Rattle.machine_types.specs.History.{Fate, Finishes, Past, fate, shown_at, shown_by, steps_of}
+use Rattle.machine_types.specs.LockWords.{lock_of}
+use Rattle.machine_types.specs.Onward.{Onward, after}
+use Rattle.machine_types.specs.Owners.{hold_by_word, lock_at, owner_at, references_of}
+use Rattle.machine_types.specs.PlainMemory.{Object}
+use Rattle.machine_types.specs.PlainState.{Plain, PlainThread, Holding, value_at, holding_at}
+use Rattle.machine_types.specs.PlainState as plain
+use Rattle.machine_types.specs.PlainSteps.{plain_run}
+use Rattle.machine_types.specs.Replay.{replayed, at_entry, at_present}
+use Rattle.machine_types.specs.Structure.{IsAs, Stands}
+use Rattle.machine_types.specs.Threads.{Attempt, Thread}
+use Rattle.machine_types.specs.Typed.{AttemptHolds, HasClass, PhaseHolds}
+use Rattle.machine_types.specs.Worlds.{World}
+use Rattle.machine_types.specs.declared.config.Config.{Config}
+use Rattle.machine_types.specs.declared.lock.Held.{Held}
+use Rattle.machine_types.specs.declared.lock.LockWord.{LockWord}
+use Rattle.machine_types.specs.declared.lock.LockWord.TheVariants as locks
+use Rattle.machine_types.specs.declared.phase.Phase.{Phase}
+use Rattle.machine_types.specs.declared.phase.Phase.TheVariants as phases
+use Rattle.machine_types.specs.declared.plain.Act.{Act}
+use Rattle.machine_types.proofs.AttemptReplay.{hold}
+use Rattle.laws_threads.proofs.Releases.{goes_behind}
+use Rattle.laws_states.specs.HeapFacts.{objects_after, objects_by, objects_of}
+use Rattle.laws_states.specs.SiteLaws.{SitesDiffer}
+use Rattle.laws_states.specs.Sites.{HasObject}
+use Rattle.laws_states.proofs.Lists.{contained_got, same_or_not}
+use Rattle.laws_states.proofs.Phases.{IsOldPhase}
+use Rattle.laws_states.proofs.LockViews.{not_held}
+use Rattle.laws_states.proofs.WordViews.{lock_of_word, object_has}
+use Rattle.laws_states.specs.StateFacts.{StateFacts}
+use Rattle.laws_simulation.specs.StandsBeside.{StandsBeside, end_of_done}
+use Rattle.laws_simulation.proofs.Assembled.{got_same_length, moved_beside}
+use Rattle.laws_simulation.proofs.GoingOnAlike.{IsUnderWay, OwnFits, going_alike, none_ends}
+use Rattle.laws_simulation.proofs.HoldingsAlike.{depth_is_held, free_then, put_else, without_else, without_here}
+use Rattle.laws_simulation.proofs.OwnBits.{IsAwake, no_own_bit}
+use Rattle.laws_simulation.proofs.WaitBits.{same_wait_bit}
+use Rattle.laws_simulation.proofs.Moving.{goes_attempt, goes_held, goes_old, goes_part}
+use Rattle.laws_refinement.specs.ElidedSteps.{FinishesBeside, SectionsFinish, found_of}
+use Rattle.laws_refinement.proofs.DoneSections.{IsDone, is_done, as_noted, event_is}
+use Rattle.laws_refinement.proofs.PartsUnderWay.{part_runs}
+use Rattle.laws_refinement.proofs.FinishedPlaces.{staying_value}
+use Rattle.laws_refinement.proofs.WholeSections.{IsWhole, whole, holdings_behind, at_end, behind_section, section_acts}
+
+-- ---- holdings: the monitor is free before and behind, and the others are as they were
+
+same_behind : (hs : List Holding) (m t inner n : ℕ) → holding_at hs m ≡ None → holding_at (holdings_behind hs m t inner) n ≡ holding_at hs n
+same_behind hs m t inner n free = by_monitor (same_or_not m n)
+  where
+    by_monitor : (m ≡ n) ⊎ (m ≢ n) → holding_at (holdings_behind hs m t inner) n ≡ holding_at hs n
+    by_monitor (inl e) = subst (λ (i : ℕ). holding_at (holdings_behind hs m t inner) i ≡ holding_at hs i) e (without_here m _ ∙ sym free)
+    by_monitor (inr d) = without_else n m _ d ∙ put_else n (hold m t (suc inner)) _ d ∙ put_else n (hold m t 1) hs d
+
+never_old : (phase : Phase) (a word : ℕ) → IsOldPhase phase → phase ≡ phases.Made a word → ⊥
+never_old phase a word old e = subst IsOldPhase e old
+
+module _ (differ : SitesDiffer) (c : MarkedProgram) (cfg : Config) (objects : List Object) (was : ℕ → Phase) (s : Core) (t : ℕ) (x : Thread) (a : Attempt) (q : Plain) (marked : IsMarked c) (facts : StateFacts c cfg objects was s)
+    (beside : StandsBeside c.program objects s q) (there : slice_get s.threads t ≡ Some x) (tries : x.attempt ≡ Some a) (d : IsDone x a x.phase (found_by s.words (wanted c x x.phase))) where
+  -- ---- the phase that counts
+
+  counts : was t ≡ phases.Leave a.monitor d.after_it
+  counts = let st = facts.structure t x there in subst (λ (phase : Phase). IsAs phase (was t)) d.leaves st.is_as
+
+  -- ---- the monitor is an object, and free
+
+  monitor_object : HasObject objects a.monitor
+  monitor_object =
+      let typed = facts.heap.typed.threads t x there in
+      let holds : AttemptHolds c (HasClass objects) x.frames (Some a) = subst (λ (o : Option Attempt). AttemptHolds c (HasClass objects) x.frames o) tries typed.attempt in
+      let object = holds.0.1 in
+      (object.0, object.1, object.2)
+
+  some_monitor : a.monitor ≢ 0
+  some_monitor none =
+      let k = monitor_object in
+      let begins : FIRST_READY_WORD ≤ k.0.reference = facts.heap.apart.begin k.1.0 k.0 (contained_got objects k.0 k.1) in
+      omega (arith, begins, k.2, none)
+
+  lock_is : lock_at (references_of objects) s.words a.monitor ≡ locks.Free a.noted
+  lock_is = ap (λ b. cond b (lock_of (slice_index s.words a.monitor)) (locks.Free 0)) (object_has objects a.monitor monitor_object) ∙ ap lock_of (as_noted c s t x a there d) ∙ lock_of_word (locks.Free a.noted)
+
+  free : holding_at q.holdings a.monitor ≡ None
+  free = free_then q.holdings s.threads beside.agrees.monitors a.monitor
+      (λ u y here. let owns = facts.owners.each u y here in not_held (held_at y.held a.monitor) (sym (owns.holds a.monitor) ∙ ap (λ (l : LockWord). hold_by_word u l (owner_at s.words)) lock_is))
+
+  -- ---- its plain thread
+
+  plain_there : (z : PlainThread) × (slice_get q.threads t ≡ Some z)
+  plain_there = got_same_length s.threads q.threads t x beside.agrees.many there
+
+  fits : AttemptFits x a plain_there.0
+  fits = subst (λ (o : Option Attempt). ThreadFits c.program (has_wait_bit (references_of q.objects) s.words t) x o plain_there.0) tries (beside.agrees.threads t x plain_there.0 there plain_there.1)
+
+  awake : (m : ℕ) → has_wait_bit (references_of q.objects) s.words t m ≡ false
+  awake m = same_wait_bit c.program objects s q beside.known beside.others facts.heap.new_objects t m
+      ∙ no_own_bit (references_of objects) was s facts.owners facts.waiting t x there (subst IsAwake (sym counts) tt) m
+
+  under_way : (n : Past) → IsUnderWay c.program x.part x.roots (at_end x a (was t) n plain_there.0.ended)
+  under_way n =
+      let runs = part_runs c cfg objects was s t x q facts beside there a.monitor d.after_it d.leaves in
+      record {
+        roots = refl;
+        ended = beside.ends t x plain_there.0 there plain_there.1 ∙ none_ends c.program x.part x.roots x.phase runs (ap (λ (phase : Phase). end_of_done (0 ∷ []) phase) d.leaves);
+        runs = runs;
+      }
+
+  -- ---- how it goes on
+
+  goes : (o : Onward) × (after c.program x.frames d.after_it ≡ Some o)
+  goes =
+      let st = facts.structure t x there in
+      let stands : Stands c (phases.Leave a.monitor d.after_it) x.frames x.held x.attempt = subst (λ (phase : Phase). Stands c phase x.frames x.held x.attempt) counts st.stands in
+      let typed = facts.heap.typed.threads t x there in
+      let holds : PhaseHolds c (HasClass objects) (phases.Leave a.monitor d.after_it) x.frames = subst (λ (phase : Phase). PhaseHolds c (HasClass objects) phase x.frames) d.leaves typed.phase in
+      let g = goes_behind (HasClass objects) c marked a.monitor stands.shown d.after_it x.frames stands.show stands.phase_shows holds in
+      (g.onward, g.is)
+
+  -- ---- the state behind the section
+
+  module _ (n : Past) where
+    abbrev after_all : Plain
+    after_all = behind_section q t x a (was t) n plain_there.0.ended goes.0
+
+    abbrev behind : Thread
+    behind = goes_on (elided x) goes.0
+
+    alike : OwnFits c.program (has_wait_bit (references_of q.objects) s.words t) behind (plain.goes_on (at_end x a (was t) n plain_there.0.ended) goes.0)
+    alike = going_alike c.program (has_wait_bit (references_of q.objects) s.words t) awake (elided x) (at_end x a (was t) n plain_there.0.ended) goes.0 (under_way n)
+
+    fits_behind : (b : Option Attempt) → b ≡ None → ThreadFits c.program (has_wait_bit (references_of q.objects) s.words t) behind b (plain.goes_on (at_end x a (was t) n plain_there.0.ended) goes.0)
+    fits_behind b e = subst (λ (o : Option Attempt). ThreadFits c.program (has_wait_bit (references_of q.objects) s.words t) behind o (plain.goes_on (at_end x a (was t) n plain_there.0.ended) goes.0)) (sym e) alike.outside
+
+    not_left : (phase : Phase) → phase ≡ phases.Leave a.monitor d.after_it → IsOldPhase phase
+    not_left phase e = subst IsOldPhase (sym e) tt
+
+    stands_then : StandsBeside c.program objects (record { words = s.words; threads = slice_set s.threads t behind }) after_all
+    stands_then = moved_beside c.program objects s q t s.words x behind (holdings_behind q.holdings a.monitor t a.inner) (plain.goes_on (at_end x a (was t) n plain_there.0.ended) goes.0) q.prints beside there (record {
+      fits = fits_behind behind.attempt (goes_attempt (elided x) goes.0);
+      ended = alike.ended;
+      places = λ i v e. refl;
+      next = refl;
+      printed = beside.agrees.prints;
+      bits = λ u m e. refl;
+      depths = λ m. ap (depth_for t) (same_behind q.holdings a.monitor t a.inner m free) ∙ depth_is_held q.holdings s.threads beside.agrees.monitors t m x there ∙ ap (λ (hs : List Held). depth_at hs m) (sym (goes_held (elided x) goes.0));
+      other_depths = λ u m e. ap (depth_for u) (same_behind q.holdings a.monitor t a.inner m free);
+      old = λ i word e. never_old x.phase i word (not_left x.phase d.leaves) e;
+      new = λ i word e. never_old behind.phase i word (goes_old (elided x) goes.0) e;
+      part = goes_part (elided x) goes.0;
+      rests = λ e. absurd (let bad : phases.Leave a.monitor d.after_it ≡ phases.Ended ends.Returned = sym d.leaves ∙ e in cc);
+    })
+
+    stands_behind : StandsBeside c.program (objects_after c.program s t objects) (event c s t) after_all
+    stands_behind =
+        let same : objects_after c.program s t objects ≡ objects = ap (λ (o : Option Thread). objects_of c.program o objects) there ∙ ap (λ (phase : Phase). objects_by c.program phase objects) d.leaves in
+        let is : event c s t ≡ record { words = s.words; threads = slice_set s.threads t behind } = event_is c s t x a there d goes.0 goes.1 in
+        subst (λ (os : List Object). StandsBeside c.program os (event c s t) after_all) (sym same) (subst (λ (r : Core). StandsBeside c.program objects r after_all) (sym is) stands_then)
+
+    -- ---- the section as a whole
+
+    module _ (w : World) (owes : Owes c objects w s t (was t) x x.attempt n) where
+      leads : replayed c.program a.monitor (value_at q) n.due (at_entry x a plain_there.0.ended) ≡ Some (at_present x a (was t) n.pending plain_there.0.ended)
+      leads =
+          let due : Owes c objects w s t (was t) x (Some a) n = subst (λ (o : Option Attempt). Owes c objects w s t (was t) x o n) tries owes in
+          due (as_noted c s t x a there d) (value_at q) (λ i k. staying_value differ c objects s q marked facts.heap beside w (slice_index s.words NEXT_FREE_WORD) t a.monitor i k) plain_there.0.ended
+
+      is_whole : IsWhole c.program q t x a (was t) n plain_there.0.ended goes.0
+      is_whole = whole c.program q t x a plain_there.0 plain_there.1 fits free some_monitor (was t) n leads d.after_it goes.0 counts d.outermost goes.1
+
+      pub finishes_beside : fate c x a x.phase (found_by s.words (wanted c x x.phase)) ≡ Finishes → FinishesBeside c objects s t x n q
+      finishes_beside ends_so =
+          let got : ℕ = found_by s.words (wanted c x x.phase) in
+          let acts_are : section_acts n ≡ shown_at c x x.attempt got n = sym (ap (λ (o : Option Attempt). shown_at c x o got n) tries ∙ ap (λ (f : Fate). shown_by f n) ends_so) in
+          record {
+            after = after_all;
+            run = subst (λ (acts : List Act). plain_run c.program q (steps_of t acts) ≡ Some after_all) acts_are is_whole.run;
+            beside = stands_behind;
+            prints = refl;
+            instructions = subst (λ (acts : List Act). count_along c.program (run_at t) (steps_of t acts) q ≡ n.pending) acts_are is_whole.instructions;
+            sections = subst (λ (acts : List Act). count_along c.program (take_at t) (steps_of t acts) q ≡ 1) acts_are is_whole.sections;
+          }
+
+pub sections_finish : SitesDiffer → SectionsFinish
+sections_finish differ c cfg objects was frozen w later s t x a d q k beside tries owes ends_so =
+    let done = is_done c x a x.phase (found_of c s x) tries ends_so in
+    finishes_beside differ c cfg objects was s t x a q k.marked k.facts beside k.thread tries done d w owes ends_so

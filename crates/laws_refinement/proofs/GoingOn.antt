@@ -1,0 +1,120 @@
+-- A thread inside an attempt goes on as its replay does.
+use Rattle.std.proofs.Common.{◌≡◌, ℕ, ◌<◌, Bool, true, false, cond, List, [], ◌∷◌, ◌++◌, length, Option, Some, None, refl, sym, ap, ◌∙◌, subst, arith}
+use Rattle.std.specs.Prelude.{◌==◌, nat_lt, option_and_then, slice_index}
+use Rattle.std.proofs.lemmas.Bool.Decides.{nat_tests}
+use Rattle.jvm_types.specs.declared.outcome.End.{End}
+use Rattle.jvm_types.specs.declared.outcome.End.TheVariants as ends
+use Rattle.jvm_types.specs.declared.program.Program.{Program}
+use Rattle.checked_program.specs.MarkedProgram.{MarkedProgram}
+use Rattle.machine_types.specs.Elision.{put_back}
+use Rattle.machine_types.specs.Going.{goes_on}
+use Rattle.machine_types.specs.History.{with_begun}
+use Rattle.machine_types.specs.Onward.{Onward, Running, Throwing, Entering, Leaving, RootReturned, Uncaught}
+use Rattle.machine_types.specs.PlainState.{PlainThread, Status}
+use Rattle.machine_types.specs.PlainState as plain
+use Rattle.machine_types.specs.Replay.{Alone, only_on, replay_act, replayed, status_inside, at_entry, at_present}
+use Rattle.machine_types.specs.Structure.{IsAs, IsStructured, IsPhaseInside, AttemptStands, AttemptStandsIn}
+use Rattle.machine_types.specs.Threads.{Attempt, Thread}
+use Rattle.machine_types.specs.declared.phase.Phase.{Phase}
+use Rattle.machine_types.specs.declared.phase.Phase.TheVariants as phases
+use Rattle.machine_types.specs.declared.plain.Act.{Act}
+use Rattle.laws_threads.specs.EntryFrames.{KeepsEntry}
+use Rattle.laws_states.proofs.PlainMoves.{goes_attempt}
+
+-- ---- the same attempt, with so many entries inside
+
+abbrev pub inner_as : Attempt → ℕ → Attempt
+inner_as a i = record a { inner = i }
+
+-- ---- what an event makes of the replay
+
+-- the memory has at the places that stay what the words have
+abbrev pub Knows : (Keeps : (n : ℕ) → Type 0) → (words : List ℕ) → (memory : ℕ → Option ℕ) → Type 0
+Knows Keeps words memory = (n : ℕ) → Keeps n → memory n ≡ Some (slice_index words n)
+
+-- The thread x in the attempt a becomes y, in the same attempt: the acts lead from where x is to where y is, and the entry stays.
+-- was and now are the phases that count.
+pub record Grows (p : Program) (Keeps : (n : ℕ) → Type 0) (words : List ℕ) (x : Thread) (a : Attempt) (was now phase : Phase) (y : Thread) (acts : List Act) : Type 0 where
+  pub inner : ℕ
+  pub attempt : y.attempt ≡ Some (inner_as a inner)
+  pub entry : (ended : List End) → at_entry y (inner_as a inner) ended ≡ at_entry x a ended
+  pub replays : (memory : ℕ → Option ℕ) → Knows Keeps words memory → (n : ℕ) (ended : List End)
+      → replayed p a.monitor memory acts (at_present x a was n ended) ≡ Some (at_present y (inner_as a inner) now (with_begun n phase) ended)
+
+-- ---- one act, and a list with more acts
+
+pub one_act : (p : Program) (m : ℕ) (memory : ℕ → Option ℕ) (act : Act) (x y : Alone) → replay_act p m memory x act x.thread.status ≡ Some y → replayed p m memory (act ∷ []) x ≡ Some y
+one_act p m memory act x y e = ap (option_and_then (replayed p m memory [])) e
+
+pub replayed_more : (p : Program) (m : ℕ) (memory : ℕ → Option ℕ) (due acts : List Act) (x y : Alone) → replayed p m memory due x ≡ Some y → replayed p m memory (due ++ acts) x ≡ replayed p m memory acts y
+replayed_more p m memory [] acts x y e = let same : x ≡ y = cc in ap (replayed p m memory acts) same
+replayed_more p m memory (act ∷ due) acts x y e = by_act (replay_act p m memory x act x.thread.status) (λ z. replayed_more p m memory due acts z y) e
+  where
+    by_act : (o : Option Alone) → ((z : Alone) → replayed p m memory due z ≡ Some y → replayed p m memory (due ++ acts) z ≡ replayed p m memory acts y)
+        → option_and_then (replayed p m memory due) o ≡ Some y → option_and_then (replayed p m memory (due ++ acts)) o ≡ replayed p m memory acts y
+    by_act None more f = absurd (cc)
+    by_act (Some z) more f = more z f
+
+-- ---- how a thread goes on
+
+pub is_same : (n m : ℕ) → n ≡ m → (n == m) ≡ true
+is_same n m e = grind (arith, nat_tests, e)
+
+pub running_now : (b : Bool) (now : Phase) → IsAs (cond b phases.Run (phases.Ending ends.Steps)) now → now ≡ phases.Run
+running_now true now e = e
+running_now false now e = e
+
+abbrev pub plain_as : Thread → Status → (ended : List End) → PlainThread
+plain_as x status ended = record { frames = x.frames; status = status; roots = x.roots; ended = ended }
+
+module _ (c : MarkedProgram) (x : Thread) (a : Attempt) (now : Phase) where
+  -- z, which is x in all that the plain machine knows of it, goes on, and x alike
+  pub record GoesAlike (z : Thread) (o : Onward) : Type 0 where
+    pub only : only_on a.monitor o ≡ Some o
+    pub thread : (status : Status) (ended : List End) → plain.goes_on (plain_as x status ended) o ≡ plain_as (goes_on z o) (status_inside now) ended
+    pub frames : put_back a (goes_on z o).frames ≡ put_back a x.frames
+    pub roots : (goes_on z o).roots ≡ x.roots
+
+  module _ (z : Thread) (i : ℕ) (same_roots : z.roots ≡ x.roots) (based : a.base < length x.frames) where
+    only_if : (m : ℕ) (o : Onward) → m ≡ a.monitor → cond (m == a.monitor) (Some o) None ≡ Some o
+    only_if m o e = ap (λ (b : Bool). cond b (Some o) None) (is_same m a.monitor e)
+
+    inside_as : (phase : Phase) → now ≡ phase → IsPhaseInside a.monitor now → IsPhaseInside a.monitor phase
+    inside_as phase e k = subst (IsPhaseInside a.monitor) e k
+
+    status_is : (phase : Phase) → now ≡ phase → status_inside phase ≡ status_inside now
+    status_is phase e = ap status_inside (sym e)
+
+    by_onward : (o : Onward) → AttemptStands c now (goes_on z o).frames (goes_on z o).held (inner_as a i) → IsAs (goes_on z o).phase now → KeepsEntry a x.frames o → GoesAlike z o
+    by_onward (Running frames) k is_as keeps =
+        let phase = running_now (nat_lt z.counts.instructions z.cfg.steps) now is_as in
+        record {
+          only = refl;
+          thread = λ status ended j. record { frames = frames; status = status_is phases.Run phase j; roots = sym same_roots j; ended = ended };
+          frames = keeps based k.based;
+          roots = same_roots;
+        }
+    by_onward (Throwing y class frames) k is_as keeps = record {
+      only = refl;
+      thread = λ status ended j. record { frames = frames; status = status_is (phases.Throw y class) is_as j; roots = sym same_roots j; ended = ended };
+      frames = keeps based k.based;
+      roots = same_roots;
+    }
+    by_onward (Entering m frames) k is_as keeps = record {
+      only = only_if m (Entering m frames) (inside_as (phases.Enter m 0) is_as k.inside);
+      thread = λ status ended j. record { frames = frames; status = status_is (phases.Enter m 0) is_as j; roots = sym same_roots j; ended = ended };
+      frames = keeps based k.based;
+      roots = same_roots;
+    }
+    by_onward (Leaving m e frames) k is_as keeps = record {
+      only = only_if m (Leaving m e frames) (inside_as (phases.Leave m e) is_as k.inside);
+      thread = λ status ended j. record { frames = frames; status = status_is (phases.Leave m e) is_as j; roots = sym same_roots j; ended = ended };
+      frames = keeps based k.based;
+      roots = same_roots;
+    }
+    by_onward RootReturned k is_as keeps = let none = k.based in absurd (omega (arith, none))
+    by_onward (Uncaught class) k is_as keeps = let none = k.based in absurd (omega (arith, none))
+
+    pub going_alike : (o : Onward) → z.attempt ≡ Some (inner_as a i) → KeepsEntry a x.frames o → IsStructured c now (goes_on z o) → GoesAlike z o
+    going_alike o tries keeps k =
+        by_onward o (subst (λ (q : Option Attempt). AttemptStandsIn c now (goes_on z o).frames (goes_on z o).held q) (goes_attempt z (Some o) ∙ tries) k.attempt) k.is_as keeps

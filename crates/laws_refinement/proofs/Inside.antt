@@ -1,0 +1,100 @@
+-- What is known of a thread inside an attempt: its phase, how it stands to the monitor that it enters or leaves there, and what
+-- the instruction of its top frame may do.
+use Rattle.std.proofs.Common.{◌≡◌, ℕ, ◌<◌, Bool, true, false, cond, List, [], ◌∷◌, length, Option, Some, None, refl, ap, ◌∙◌, subst, arith}
+use Rattle.std.specs.Prelude.{◌==◌}
+use Rattle.std.proofs.lemmas.Bool.Decides.{nat_tests}
+use Rattle.jvm_types.specs.declared.outcome.End.{End}
+use Rattle.jvm_types.specs.declared.outcome.End.TheVariants as ends
+use Rattle.checked_program.specs.MarkedProgram.{MarkedProgram, IsMarked}
+use Rattle.machine_types.specs.Frames.{Top, top_of, effect_at}
+use Rattle.machine_types.specs.HeldMonitors.{held_at}
+use Rattle.machine_types.specs.Monitors.{Tries, HasNot, claim, claim_by}
+use Rattle.machine_types.specs.Parts.{has_finished}
+use Rattle.machine_types.specs.Shown.{Show}
+use Rattle.machine_types.specs.Standing.{Whole}
+use Rattle.machine_types.specs.Structure.{AttemptStands, AttemptStandsIn, IsAs, IsLimitAt, IsStructured, Stands}
+use Rattle.machine_types.specs.Threads.{Attempt, Frame, Thread}
+use Rattle.machine_types.specs.declared.lock.Held.{Held}
+use Rattle.machine_types.specs.declared.phase.Phase.{Phase}
+use Rattle.machine_types.specs.declared.phase.Phase.TheVariants as phases
+use Rattle.laws_threads.proofs.FramePlaces.{has_top}
+use Rattle.laws_threads.specs.InsideEffects.{InsideMayDo, MayDo}
+use Rattle.laws_threads.specs.InsideMoves.{NoElementInside}
+
+-- ---- what is known
+
+-- the top frame, with what its instruction may do
+pub record AtInstruction (c : MarkedProgram) (x : Thread) (a : Attempt) : Type 0 where
+  pub at : Top
+  pub found : top_of c.program x.frames ≡ Some at
+  pub may : MayDo c a.monitor at (effect_at c.program at)
+
+-- a part that ended there was ended by a limit
+abbrev pub KnownInside : MarkedProgram → Thread → Attempt → Phase → Type 0
+KnownInside c x a phases.Run = AtInstruction c x a
+KnownInside c x a (phases.Throw r class) = Unit {0}
+KnownInside c x a (phases.Enter n tried) = claim x n ≡ Tries a
+KnownInside c x a (phases.Leave n b) = claim x n ≡ Tries a
+KnownInside c x a (phases.Ending e) = has_finished e ≡ false
+KnownInside c x a (phases.Ended e) = has_finished e ≡ false
+KnownInside c x a phase = ⊥
+
+pub record Inside (c : MarkedProgram) (x : Thread) (a : Attempt) : Type 0 where
+  pub attempt : x.attempt ≡ Some a
+  pub based : a.base < length x.frames
+  pub known : KnownInside c x a x.phase
+
+-- ---- its monitor, and its top frame
+
+same_number : (n : ℕ) → (n == n) ≡ true
+same_number n = grind (arith, nat_tests)
+
+tries_it : (x : Thread) (a : Attempt) (n : ℕ) → x.attempt ≡ Some a → held_at x.held a.monitor ≡ None → n ≡ a.monitor → claim x n ≡ Tries a
+tries_it x a n attempt none is =
+    ap (λ (k : ℕ). claim x k) is
+    ∙ ap (λ (o : Option Held). claim_by a.monitor o x.attempt) none
+    ∙ ap (λ (o : Option Attempt). claim_by a.monitor None o) attempt
+    ∙ ap (λ (b : Bool). cond b (Tries a) HasNot) (same_number a.monitor)
+
+top_there : (c : MarkedProgram) → IsMarked c → (fs : List Frame) (shown : List ℕ) (base : ℕ) → Show c Whole fs shown → base < length fs → (at : Top) × (top_of c.program fs ≡ Some at)
+top_there c marked [] shown base show some = absurd (omega (arith, some))
+top_there c marked (f ∷ fs) shown base show some = let k = show.3.stands in (_, has_top c marked f fs k)
+
+-- ---- by its phase
+
+by_limit : (e : End) (phase was : Phase) → IsLimitAt e phase was → (was ≡ phase → ⊥) → has_finished e ≡ false
+by_limit ends.Returned phase was is never = absurd (never is)
+by_limit (ends.Uncaught class) phase was is never = absurd (never is)
+by_limit e phase was is never = refl
+
+module _ (may_do : InsideMayDo) (no_element : NoElementInside) (c : MarkedProgram) (marked : IsMarked c) (x : Thread) (a : Attempt) (attempt : x.attempt ≡ Some a) where
+  abbrev StandsAt : Phase → Type 0
+  StandsAt phase = Stands c phase x.frames x.held (Some a) × AttemptStands c phase x.frames x.held a
+
+  at_instruction : StandsAt phases.Run → AtInstruction c x a
+  at_instruction k =
+      let top = top_there c marked x.frames k.0.shown a.base k.0.show k.1.based in
+      record { at = top.0; found = top.1; may = may_do c x.frames x.held a top.0 marked k.1 k.0 top.1 }
+
+  -- a part that ended has no frame
+  not_ending : (e : End) → StandsAt (phases.Ending e) → ⊥
+  not_ending e k = let none : length x.frames ≡ 0 = ap length k.0.phase_shows in let some = k.1.based in omega (arith, none, some)
+
+  not_ended : (e : End) → StandsAt (phases.Ended e) → ⊥
+  not_ended e k = let none : length x.frames ≡ 0 = ap length k.0.phase_shows in let some = k.1.based in omega (arith, none, some)
+
+  known_at : (phase was : Phase) → IsAs phase was → StandsAt was → KnownInside c x a phase
+  known_at phases.Run was is k = at_instruction (subst StandsAt is k)
+  known_at (phases.Element word stored) was is k = let now = subst StandsAt is k in no_element c word stored x.frames x.held a marked now.1 now.0
+  known_at (phases.Throw r class) was is k = tt
+  known_at (phases.Enter n tried) was is k = let now = subst StandsAt is k in tries_it x a n attempt now.1.not_held now.1.inside
+  known_at (phases.Leave n b) was is k = let now = subst StandsAt is k in tries_it x a n attempt now.1.not_held now.1.inside
+  known_at (phases.Ending e) was is k = by_limit e (phases.Ending e) was is (λ same. not_ending e (subst StandsAt same k))
+  known_at (phases.Ended e) was is k = by_limit e (phases.Ended e) was is (λ same. not_ended e (subst StandsAt same k))
+  known_at phase was is k = let now = subst StandsAt is k in now.1.inside
+
+  pub is_inside : (was : Phase) → IsStructured c was x → Inside c x a
+  is_inside was k =
+      let stands = subst (λ (o : Option Attempt). Stands c was x.frames x.held o) attempt k.stands in
+      let tried = subst (λ (o : Option Attempt). AttemptStandsIn c was x.frames x.held o) attempt k.attempt in
+      record { attempt = attempt; based = tried.based; known = known_at x.phase was k.is_as (stands, tried) }

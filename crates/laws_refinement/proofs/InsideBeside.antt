@@ -1,0 +1,138 @@
+-- While a section that was entered without its lock is not done, its thread stands for one that is still about to enter: the same
+-- plain state stands beside.
+use Rattle.std.proofs.Common.{◌≡◌, ℕ, zero, suc, ◌<◌, Bool, true, false, List, [], ◌∷◌, length, Option, Some, refl, sym, ap, ◌∙◌, subst}
+use Rattle.std.specs.Prelude.{slice_get, slice_set, if◌then◌else◌}
+use Rattle.jvm_types.specs.declared.outcome.End.{End}
+use Rattle.jvm_types.specs.declared.outcome.End.TheVariants as ends
+use Rattle.jvm_types.specs.declared.program.Program.{Program}
+use Rattle.checked_program.specs.MarkedProgram.{MarkedProgram}
+use Rattle.machine_types.specs.Agreement.{AttemptFits, StatusFits, ThreadFits, depth_of, frames_shown, has_wait_bit, roots_shown}
+use Rattle.machine_types.specs.Core.{Core, event, event_of}
+use Rattle.machine_types.specs.Events.{moved}
+use Rattle.machine_types.specs.HeldMonitors.{depth_at}
+use Rattle.machine_types.specs.History.{Fate, GoesOn, Fails, Finishes, fate}
+use Rattle.machine_types.specs.Owners.{references_of}
+use Rattle.machine_types.specs.Parts.{done_roots, has_finished}
+use Rattle.machine_types.specs.PlainMemory.{Object}
+use Rattle.machine_types.specs.PlainState.{Plain, PlainThread}
+use Rattle.machine_types.specs.PlainState as plain
+use Rattle.machine_types.specs.Threads.{Attempt, Thread}
+use Rattle.machine_types.specs.declared.lock.Held.{Held}
+use Rattle.machine_types.specs.declared.phase.Phase.{Phase}
+use Rattle.machine_types.specs.declared.phase.Phase.TheVariants as phases
+use Rattle.laws_threads.specs.EntryFrames.{StepsKeepEntry, ThrowsKeepEntry, LeavesKeepEntry}
+use Rattle.laws_threads.specs.InsideEffects.{InsideMayDo}
+use Rattle.laws_threads.specs.InsideMoves.{NoElementInside}
+use Rattle.laws_threads.specs.StateLaws.{counted_after}
+use Rattle.laws_states.specs.HeapFacts.{objects_by, objects_of}
+use Rattle.laws_states.specs.StateLaws.{EventsKeepState}
+use Rattle.laws_simulation.specs.StandsBeside.{StandsBeside, end_of_done, ends_shown, own_end}
+use Rattle.laws_simulation.proofs.Assembled.{got_same_length, got_when_set, moved_beside, set_as_it_is}
+use Rattle.laws_refinement.specs.ElidedSteps.{AttemptsStandBeside, IsNotFinished, found_of}
+use Rattle.laws_refinement.proofs.Inside.{Inside, KnownInside, is_inside}
+use Rattle.laws_refinement.proofs.InsideMoves.{Moves, moves_inside}
+use Rattle.laws_refinement.proofs.InsideWords.{words_stay}
+
+-- ---- inside an attempt a part neither ends by itself nor makes an object
+
+ends_alike : (p : Program) (part : ℕ) (later before : Phase) → own_end later ≡ [] → own_end before ≡ [] → ends_shown p part later ≡ ends_shown p part before
+ends_alike p zero later before e f = e ∙ sym f
+ends_alike p (suc zero) later before e f = refl
+ends_alike p (suc (suc part)) later before e f = ap (λ (es : List End). ends.Returned ∷ es) (by_roots (done_roots p))
+  where
+    by_roots : (roots : List ℕ) → end_of_done roots later ≡ end_of_done roots before
+    by_roots [] = refl
+    by_roots (number ∷ roots) = e ∙ sym f
+
+pub record IsStill (p : Program) (objects : List Object) (phase : Phase) : Type 0 where
+  pub own : own_end phase ≡ []
+  pub makes : (r word : ℕ) → phase ≡ phases.Made r word → ⊥
+  pub rests : phase ≡ phases.Ended ends.Returned → ⊥
+  pub same : objects_by p phase objects ≡ objects
+
+not_finished : (e : End) → has_finished e ≡ false → e ≡ ends.Returned → ⊥
+not_finished e k same = let clash : true ≡ false = sym (ap has_finished same) ∙ k in cc
+
+by_end : (e : End) → has_finished e ≡ false → (if has_finished e then e ∷ [] else []) ≡ []
+by_end e k = ap (λ (b : Bool). if b then e ∷ [] else []) k
+
+still_inside : (c : MarkedProgram) (objects : List Object) (x : Thread) (a : Attempt) (phase : Phase) → KnownInside c x a phase → IsStill c.program objects phase
+still_inside c objects x a phases.Run k = record { own = refl; makes = λ r word e. cc; rests = λ e. cc; same = refl }
+still_inside c objects x a (phases.Throw r class) k = record { own = refl; makes = λ r word e. cc; rests = λ e. cc; same = refl }
+still_inside c objects x a (phases.Enter n tried) k = record { own = refl; makes = λ r word e. cc; rests = λ e. cc; same = refl }
+still_inside c objects x a (phases.Leave n b) k = record { own = refl; makes = λ r word e. cc; rests = λ e. cc; same = refl }
+still_inside c objects x a (phases.Ending e) k = record { own = by_end e k; makes = λ r word e. cc; rests = λ e. cc; same = refl }
+still_inside c objects x a (phases.Ended e) k = record { own = by_end e k; makes = λ r word e. cc; rests = λ same. not_finished e k (ended_by same); same = refl }
+  where
+    ended_by : phases.Ended e ≡ phases.Ended ends.Returned → e ≡ ends.Returned
+    ended_by same = cc
+still_inside c objects x a phase k = absurd k
+
+-- ---- the thread still fits its plain thread
+
+fits_still : (p : Program) (bit : ℕ → Bool) (c : MarkedProgram) (x y : Thread) (a : Attempt) (f : Fate) (v : PlainThread) → IsNotFinished f → Moves c x y a x.phase f → ((b : Attempt) → y.attempt ≡ Some b → b.base < length y.frames)
+    → AttemptFits x a v → ThreadFits p bit y y.attempt v
+fits_still p bit c x y a GoesOn v way m based fits = subst (λ (o : Option Attempt). ThreadFits p bit y o v) (sym m.has.is) (record {
+  frames = fits.frames ∙ sym (m.has.frames (based m.has.attempt m.has.is));
+  status = fits.status ∙ ap plain.Enter (sym m.has.monitor);
+  roots = fits.roots ∙ sym m.keeps.roots;
+})
+fits_still p bit c x y a Fails v way m based fits = subst (λ (o : Option Attempt). ThreadFits p bit y o v) (sym m.has.attempt) (record {
+  frames = fits.frames ∙ sym m.has.frames ∙ ap (λ (phase : Phase). frames_shown phase y.frames) (sym m.has.phase);
+  status = subst (λ (phase : Phase). StatusFits bit y phase v.status) (sym m.has.phase) fits.status;
+  roots = fits.roots ∙ sym m.keeps.roots ∙ ap (λ (phase : Phase). roots_shown p y.part phase y.roots) (sym m.has.phase);
+})
+fits_still p bit c x y a Finishes v way m based fits = absurd way
+
+-- ---- the whole
+
+module _ (c : MarkedProgram) (objects : List Object) (s : Core) (t : ℕ) (x y : Thread) (a : Attempt) (f : Fate) (q : Plain) (v : PlainThread) (beside : StandsBeside c.program objects s q) (here : slice_get s.threads t ≡ Some x)
+    (twin : slice_get q.threads t ≡ Some v) (tried : x.attempt ≡ Some a) (before : IsStill c.program objects x.phase) (m : Moves c x y a x.phase f) where
+  abbrev bit_now : ℕ → Bool
+  bit_now = has_wait_bit (references_of q.objects) s.words t
+
+  pub same_beside : IsNotFinished f → ((b : Attempt) → y.attempt ≡ Some b → b.base < length y.frames) → IsStill c.program objects y.phase → StandsBeside c.program objects (record { words = s.words; threads = slice_set s.threads t y }) q
+  same_beside way based still =
+      subst (λ (plains : List PlainThread). StandsBeside c.program objects (record { words = s.words; threads = slice_set s.threads t y }) (record q { threads = plains })) (set_as_it_is q.threads t v twin)
+      (moved_beside c.program objects s q t s.words x y q.holdings v q.prints beside here (record {
+        fits = fits_still c.program bit_now c x y a f v way m based (subst (λ (o : Option Attempt). ThreadFits c.program bit_now x o v) tried (beside.agrees.threads t x v here twin));
+        ended = beside.ends t x v here twin ∙ sym (ap (λ (part : ℕ). ends_shown c.program part y.phase) m.keeps.part ∙ ends_alike c.program x.part y.phase x.phase still.own before.own);
+        places = λ n w e. refl;
+        next = refl;
+        printed = beside.agrees.prints;
+        bits = λ u n d. refl;
+        depths = λ n. beside.agrees.monitors t n ∙ ap (λ (o : Option Thread). depth_of o n) here ∙ ap (λ (hs : List Held). depth_at hs n) (sym m.keeps.held);
+        other_depths = λ u n d. refl;
+        old = before.makes;
+        new = still.makes;
+        part = m.keeps.part;
+        rests = λ e. absurd (before.rests e);
+      }))
+
+-- the thread as it is later
+pub record Later (c : MarkedProgram) (objects : List Object) (y : Thread) : Type 0 where
+  pub based : (b : Attempt) → y.attempt ≡ Some b → b.base < length y.frames
+  pub still : IsStill c.program objects y.phase
+
+later_by : (c : MarkedProgram) (objects : List Object) (x y : Thread) (a : Attempt) (phase : Phase) (f : Fate) → IsNotFinished f → Moves c x y a phase f → ((b : Attempt) → y.attempt ≡ Some b → Inside c y b) → Later c objects y
+later_by c objects x y a phase GoesOn way m inside = record { based = λ b e. (inside b e).based; still = still_inside c objects y m.has.attempt y.phase (inside m.has.attempt m.has.is).known }
+later_by c objects x y a phase Fails way m inside = record {
+  based = λ b e. (inside b e).based;
+  still = subst (IsStill c.program objects) (sym m.has.phase) (record { own = refl; makes = λ r word e. cc; rests = λ e. cc; same = refl });
+}
+later_by c objects x y a phase Finishes way m inside = absurd way
+
+pub attempts_stand_beside : InsideMayDo → NoElementInside → StepsKeepEntry → ThrowsKeepEntry → LeavesKeepEntry → EventsKeepState → AttemptsStandBeside
+attempts_stand_beside may_do no_element steps throws leaves keep c cfg objects was s t x a q marked width facts beside here tried way =
+    let y = moved c x x.phase (found_of c s x) in
+    let inside = is_inside may_do no_element c marked x a tried (was t) (facts.structure t x here) in
+    let m = moves_inside steps throws leaves c x a inside (found_of c s x) in
+    let before = still_inside c objects x a x.phase inside.known in
+    let after = keep c cfg objects was s t marked width facts in
+    let there : slice_get (event c s t).threads t ≡ Some y = ap (λ (o : Option Thread). slice_get (event_of c s t o).threads t) here ∙ got_when_set s.threads t x y here in
+    let later = later_by c objects x y a x.phase (fate c x a x.phase (found_of c s x)) way m (λ b e. is_inside may_do no_element c marked y b e (counted_after c was s t t) (after.structure t y there)) in
+    let twin = got_same_length s.threads q.threads t x beside.agrees.many here in
+    let stands = same_beside c objects s t x y a (fate c x a x.phase (found_of c s x)) q twin.0 beside here twin.1 tried before m way later.based later.still in
+    subst (λ (os : List Object). StandsBeside c.program os (event c s t) q) (sym (ap (λ (o : Option Thread). objects_of c.program o objects) here ∙ before.same))
+    (subst (λ (r : Core). StandsBeside c.program objects r q) (sym (ap (event_of c s t) here))
+    (subst (λ (words : List ℕ). StandsBeside c.program objects (record { words = words; threads = slice_set s.threads t y }) q) (sym (words_stay s.words c x a inside)) stands))

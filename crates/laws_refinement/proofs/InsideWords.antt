@@ -1,0 +1,62 @@
+-- An event inside an attempt at most loads a word.
+use Rattle.std.proofs.Common.{ℕ, zero, suc, Bool, true, false, cond, List, Option, Some, None, refl, sym, ap, ◌∙◌, subst}
+use Rattle.checked_program.specs.MarkedProgram.{MarkedProgram}
+use Rattle.machine_types.specs.Core.{event_of}
+use Rattle.machine_types.specs.Elision.{looks, is_checked}
+use Rattle.machine_types.specs.Events.{wanted}
+use Rattle.machine_types.specs.Frames.{Top, effect_at}
+use Rattle.machine_types.specs.Instructions.{effect_wants, run_wants}
+use Rattle.machine_types.specs.Monitors.{Claim, enter_wants, leave_wants, finish_wants}
+use Rattle.machine_types.specs.Threads.{Attempt, Thread}
+use Rattle.machine_types.specs.declared.access.Access.{Access}
+use Rattle.machine_types.specs.declared.effect.Effect.{Effect}
+use Rattle.machine_types.specs.declared.effect.Effect.TheVariants.{Goes, Reads, Writes, Indexes, Measures, Raises, Makes, Prints, Calls}
+use Rattle.machine_types.specs.declared.phase.Phase.{Phase}
+use Rattle.machine_types.specs.declared.phase.Phase.TheVariants as phases
+use Rattle.laws_threads.specs.InsideEffects.{InsideMayDo, MayDo}
+use Rattle.laws_threads.specs.InsideMoves.{NoElementInside}
+use Rattle.laws_simulation.proofs.EventSteps.{LeavesWords, load_leaves}
+use Rattle.laws_refinement.specs.ElidedSteps.{AttemptsAreSilent}
+use Rattle.laws_refinement.proofs.Inside.{KnownInside, Inside, is_inside}
+
+module _ (words : List ℕ) where
+  look_leaves : (o : Option Attempt) → LeavesWords words (looks o)
+  look_leaves None = refl
+  look_leaves (Some a) = load_leaves words a.monitor
+
+  finish_leaves : (m inner : ℕ) → LeavesWords words (finish_wants m inner)
+  finish_leaves m zero = load_leaves words m
+  finish_leaves m (suc inner) = refl
+
+  if_leaves : (b : Bool) (access : Option Access) → LeavesWords words access → LeavesWords words (cond b access None)
+  if_leaves true access k = k
+  if_leaves false access k = refl
+
+  module _ (c : MarkedProgram) (x : Thread) (a : Attempt) where
+    effect_leaves : (pc : ℕ) (at : Top) (e : Effect) → MayDo c a.monitor at e → LeavesWords words (effect_wants x pc e)
+    effect_leaves pc at (Goes to made) may = if_leaves (is_checked pc (Goes to made)) (looks x.attempt) (look_leaves x.attempt)
+    effect_leaves pc at (Calls number) may = look_leaves x.attempt
+    effect_leaves pc at (Reads v) may = load_leaves words _
+    effect_leaves pc at (Measures array) may = load_leaves words _
+    effect_leaves pc at (Raises r) may = load_leaves words _
+    effect_leaves pc at (Writes v word) may = absurd may
+    effect_leaves pc at (Indexes array index stored) may = absurd may
+    effect_leaves pc at (Makes word size) may = absurd may
+    effect_leaves pc at (Prints n) may = absurd may
+    effect_leaves pc at e may = refl
+
+    wanted_leaves : (phase : Phase) → KnownInside c x a phase → LeavesWords words (wanted c x phase)
+    wanted_leaves phases.Run k = subst (λ (o : Option Top). LeavesWords words (run_wants c.program x o)) (sym k.found) (effect_leaves k.at.frame.pc k.at (effect_at c.program k.at) k.may)
+    wanted_leaves (phases.Throw r class) k = look_leaves x.attempt
+    wanted_leaves (phases.Enter n tried) k = subst (λ (claim : Claim). LeavesWords words (enter_wants n claim)) (sym k) refl
+    wanted_leaves (phases.Leave n b) k = subst (λ (claim : Claim). LeavesWords words (leave_wants x n claim)) (sym k) (finish_leaves n a.inner)
+    wanted_leaves (phases.Ending e) k = refl
+    wanted_leaves (phases.Ended e) k = refl
+    wanted_leaves phase k = absurd k
+
+    pub words_stay : Inside c x a → LeavesWords words (wanted c x x.phase)
+    words_stay k = wanted_leaves x.phase k.known
+
+pub attempts_are_silent : InsideMayDo → NoElementInside → AttemptsAreSilent
+attempts_are_silent may_do no_element c cfg objects was s t x a marked width facts here attempt =
+    ap (λ (o : Option Thread). (event_of c s t o).words) here ∙ words_stay s.words c x a (is_inside may_do no_element c marked x a attempt (was t) (facts.structure t x here))

@@ -1,0 +1,261 @@
+-- An instruction inside an attempt: it leaves the words, and it is one more act of the replay, which finds in every memory that
+-- has the places that stay what the thread found.
+use Rattle.std.proofs.Common.{◌≡◌, ℕ, suc, ◌+◌, nat_le, Bool, true, false, cond, List, [], ◌∷◌, Option, Some, None, refl, sym, ap, ◌∙◌, subst}
+use Rattle.std.specs.Prelude.{IsSome, slice_get, slice_index, option_map, option_and_then, if◌then◌else◌}
+use Rattle.jvm_types.specs.declared.fixed_words.TheConstants.{NEXT_FREE_WORD}
+use Rattle.jvm_types.specs.declared.outcome.End.{End}
+use Rattle.jvm_types.specs.declared.outcome.Thrown.{Thrown}
+use Rattle.jvm_types.specs.declared.program.MethodInfo.{MethodInfo}
+use Rattle.jvm_types.specs.declared.program.Program.{Program}
+use Rattle.checked_program.specs.MarkedProgram.{MarkedProgram, IsMarked}
+use Rattle.machine_types.specs.Accesses.{found_by}
+use Rattle.machine_types.specs.Attempts.{Stays}
+use Rattle.machine_types.specs.Construction.{Construction}
+use Rattle.machine_types.specs.Core.{Core}
+use Rattle.machine_types.specs.Effects.{read_by}
+use Rattle.machine_types.specs.Elision.{is_checked, is_same, looks, if_same, fails}
+use Rattle.machine_types.specs.Events.{wanted}
+use Rattle.machine_types.specs.FoundWords.{WordFits, effect_content, run_content, content_at}
+use Rattle.machine_types.specs.Frames.{Top, frames_of, top_of, effect_at, went, went_on}
+use Rattle.machine_types.specs.Going.{goes_on, goes_on_if}
+use Rattle.machine_types.specs.History.{Fate, GoesOn, Fails, Finishes, fate_by, run_fate, instruction_acts, run_acts}
+use Rattle.machine_types.specs.Instructions.{effect_wants, run_wants, begun, did, instructed, ran}
+use Rattle.machine_types.specs.Lawful.{within}
+use Rattle.machine_types.specs.Onward.{Onward, Running, Throwing, Entering, Leaving, threw, called, returns, done}
+use Rattle.machine_types.specs.PlainInstructions.{got_by}
+use Rattle.machine_types.specs.PlainMemory.{Object}
+use Rattle.machine_types.specs.PlainState.{PlainThread, Status}
+use Rattle.machine_types.specs.PlainState as plain
+use Rattle.machine_types.specs.ReadyObjects.{thrown_of}
+use Rattle.machine_types.specs.Replay.{Alone, only_on, reads_only, goes, instructs, replay_act, status_inside, at_present}
+use Rattle.machine_types.specs.Structure.{IsAs, IsStructured, Stands, AttemptStands, AttemptStandsIn}
+use Rattle.machine_types.specs.Threads.{Attempt, Thread}
+use Rattle.machine_types.specs.Typed.{FramesHold, PhaseHolds, HasClass}
+use Rattle.machine_types.specs.Words.{header_class, header_length, header_word, variable_word}
+use Rattle.machine_types.specs.Worlds.{World}
+use Rattle.machine_types.specs.declared.config.Config.{Config}
+use Rattle.machine_types.specs.declared.effect.Effect.{Effect}
+use Rattle.machine_types.specs.declared.effect.Effect.TheVariants.{Goes, Throws, Reads, Writes, Indexes, Measures, Raises, Makes, Prints, Calls, Returns, Enters, Leaves, Waits, Notifies, NotifiesAll, Stuck}
+use Rattle.machine_types.specs.declared.phase.After.TheVariants as afters
+use Rattle.machine_types.specs.declared.phase.Phase.{Phase}
+use Rattle.machine_types.specs.declared.phase.Phase.TheVariants as phases
+use Rattle.machine_types.specs.declared.plain.Act.{Act}
+use Rattle.machine_types.specs.declared.plain.Act.TheVariants as acts
+use Rattle.laws_threads.specs.Allowed.{Allowed}
+use Rattle.laws_threads.specs.TopFrames.{IsAllowed, EffectsAreAllowed}
+use Rattle.laws_threads.specs.InsideEffects.{MayDo}
+use Rattle.laws_threads.proofs.EntryKept.{steps_kept}
+use Rattle.laws_threads.proofs.Inside.{inside_may}
+use Rattle.laws_states.specs.FoundLaws.{IsOfHeap, HeapWordsFit}
+use Rattle.laws_states.proofs.PlainMoves.{goes_attempt}
+use Rattle.laws_states.specs.StateFacts.{StateFacts}
+use Rattle.laws_simulation.proofs.EventSteps.{LeavesWords, load_leaves}
+use Rattle.laws_simulation.proofs.TopPlaces as agreement
+use Rattle.laws_refinement.proofs.GoingOn.{Grows, GoesAlike, Knows, going_alike, one_act}
+use Rattle.laws_refinement.proofs.StayPlaces.{TopReads, top_reads, variable_stays, header_stays}
+
+-- ---- what an event makes of the attempt: it goes on with it, or ends it
+
+abbrev pub ByFate : Program → (Keeps : (n : ℕ) → Type 0) → (words : List ℕ) → Thread → Attempt → (was now phase : Phase) → Fate → Thread → List Act → Type 0
+ByFate p Keeps words x a was now phase GoesOn y acts = Grows p Keeps words x a was now phase y acts
+ByFate p Keeps words x a was now phase Fails y acts = y.attempt ≡ None
+ByFate p Keeps words x a was now phase Finishes y acts = y.attempt ≡ None
+
+-- ---- the lock word is looked at
+
+pub look_leaves : (words : List ℕ) (o : Option Attempt) → LeavesWords words (looks o)
+look_leaves words None = refl
+look_leaves words (Some a) = load_leaves words a.monitor
+
+look_leaves_if : (words : List ℕ) (b : Bool) (o : Option Attempt) → LeavesWords words (if b then looks o else None)
+look_leaves_if words true o = look_leaves words o
+look_leaves_if words false o = refl
+
+is_some_thrown : (o : Option Thrown) → IsSome o → (class : Thrown) × (o ≡ Some class)
+is_some_thrown None k = absurd (cc)
+is_some_thrown (Some class) k = (class, refl)
+
+-- ---- one effect
+
+-- it goes on, and so does a replay with the word that it reads in its memory
+pub record DoesAlike (p : Program) (Keeps : (n : ℕ) → Type 0) (words : List ℕ) (x : Thread) (at : Top) (e : Effect) : Type 0 where
+  pub onward : Onward
+  pub leaves : LeavesWords words (effect_wants x at.frame.pc e)
+  pub moves : did p (begun x) at e (found_by words (effect_wants x at.frame.pc e)) ≡ goes_on (begun x) onward
+  pub step : done p at e (found_by words (effect_wants x at.frame.pc e)) ≡ Some onward
+  pub act : instruction_acts x e (found_by words (effect_wants x at.frame.pc e)) ≡ acts.Do ∷ []
+  pub reads : (memory : ℕ → Option ℕ) → Knows Keeps words memory → (got : ℕ) × (got_by memory (read_by e) ≡ Some got) × (reads_only p at e got ≡ Some onward)
+
+-- ---- of a thread in an attempt, whose instruction begins
+
+module _ (fit : HeapWordsFit) (allowed : EffectsAreAllowed) (c : MarkedProgram) (cfg : Config) (objects : List Object) (was : ℕ → Phase) (frozen : ℕ → Bool) (w : World) (s : Core) (t : ℕ) (x : Thread) (marked : IsMarked c)
+    (facts : StateFacts c cfg objects was s) (built : Construction c frozen w was objects s) (here : slice_get s.threads t ≡ Some x) (a : Attempt) (tries : x.attempt ≡ Some a) (runs : x.phase ≡ phases.Run) (at : Top)
+    (at_top : top_of c.program x.frames ≡ Some at) where
+  abbrev pub StaysNow : (n : ℕ) → Type 0
+  StaysNow n = Stays c objects w (slice_index s.words NEXT_FREE_WORD) t a.monitor n
+
+  counted : was t ≡ phases.Run
+  counted = subst (λ (now : Phase). IsAs now (was t)) runs (facts.structure t x here).is_as
+
+  stands : Stands c phases.Run x.frames x.held (Some a)
+  stands = subst (λ (o : Option Attempt). Stands c phases.Run x.frames x.held o) tries (subst (λ (now : Phase). Stands c now x.frames x.held x.attempt) counted (facts.structure t x here).stands)
+
+  attempt_stands : AttemptStands c phases.Run x.frames x.held a
+  attempt_stands = subst (λ (o : Option Attempt). AttemptStandsIn c phases.Run x.frames x.held o) tries (subst (λ (now : Phase). AttemptStandsIn c now x.frames x.held x.attempt) counted (facts.structure t x here).attempt)
+
+  marks : TopReads c a.monitor at
+  marks = top_reads c x.frames x.held a at marked attempt_stands stands at_top
+
+  frames_hold : FramesHold c (HasClass objects) x.frames
+  frames_hold = subst (λ (now : Phase). PhaseHolds c (HasClass objects) now x.frames) runs (facts.heap.typed.threads t x here).phase
+
+  top : agreement.MayDo c objects at
+  top = agreement.may_do c objects s x.frames at marked facts.heap frames_hold at_top
+
+  -- what it may do
+  does_at : (e : Effect) → effect_at c.program at ≡ e → Allowed c.program at.method (HasClass objects) at.insn at.target top.row at.frame.stack e
+  does_at e f = subst (Allowed c.program at.method (HasClass objects) at.insn at.target top.row at.frame.stack) f top.allowed
+
+  allowed_at : (e : Effect) → effect_at c.program at ≡ e → IsAllowed c.program at e
+  allowed_at e f =
+      let frames : FramesHold c (within c.program) x.frames = subst (λ (now : Phase). PhaseHolds c (within c.program) now x.frames) runs (facts.threads.lawful t x here).typed.values.phase in
+      subst (IsAllowed c.program at) f (allowed c x.frames at marked frames at_top)
+
+  may_do_at : (e : Effect) → effect_at c.program at ≡ e → MayDo c a.monitor at e
+  may_do_at e f = subst (MayDo c a.monitor at) f (inside_may c x.frames x.held a at marked attempt_stands stands at_top)
+
+  -- what is found fits
+  fits_phase : (now : Phase) → x.phase ≡ now → IsOfHeap (content_at c x now) → WordFits c.program (content_at c x now) (found_by s.words (wanted c x now))
+  fits_phase now e = subst (λ (phase : Phase). IsOfHeap (content_at c x phase) → WordFits c.program (content_at c x phase) (found_by s.words (wanted c x phase))) e (fit c objects s t x marked facts.heap here (facts.threads.lawful t x here))
+
+  fits_top : IsOfHeap (effect_content c.program at.target (effect_at c.program at)) → WordFits c.program (effect_content c.program at.target (effect_at c.program at)) (found_by s.words (effect_wants x at.frame.pc (effect_at c.program at)))
+  fits_top = subst (λ (o : Option Top). IsOfHeap (run_content c.program o) → WordFits c.program (run_content c.program o) (found_by s.words (run_wants c.program x o))) at_top (fits_phase phases.Run runs)
+
+  raised : (v : ℕ) → effect_at c.program at ≡ Raises v → IsSome (thrown_of (header_class (slice_index s.words (header_word v))))
+  raised v f = (subst (λ (e : Effect). IsOfHeap (effect_content c.program at.target e) → WordFits c.program (effect_content c.program at.target e) (found_by s.words (effect_wants x at.frame.pc e))) f fits_top tt).1
+
+  -- ---- by its effect
+
+  abbrev DoesSo : Effect → Type 0
+  DoesSo e = DoesAlike c.program StaysNow s.words x at e
+
+  does : (e : Effect) → effect_at c.program at ≡ e → MayDo c a.monitor at e → DoesSo e
+  does (Goes to made) f k = record { onward = Running (went c.program at to made); leaves = look_leaves_if s.words (nat_le to at.frame.pc) x.attempt; moves = refl; step = refl; act = refl; reads = λ memory knows. (0, refl, refl) }
+  does (Throws class) f k = record { onward = threw class at; leaves = refl; moves = refl; step = refl; act = refl; reads = λ memory knows. (0, refl, refl) }
+  does (Reads v) f k =
+      let named = (does_at (Reads v) f) in
+      record {
+        onward = Running (went_on c.program at (slice_index s.words (variable_word v)));
+        leaves = load_leaves s.words (variable_word v);
+        moves = refl;
+        step = refl;
+        act = refl;
+        reads = λ memory knows. (slice_index s.words (variable_word v), knows (variable_word v) (variable_stays c marked frozen w was objects s built t x here a counted at at_top v named.1 marks f named.2), refl);
+      }
+  does (Measures v) f k =
+      let named = does_at (Measures v) f in
+      record {
+        onward = Running (went_on c.program at (header_length (slice_index s.words (header_word v))));
+        leaves = load_leaves s.words (header_word v);
+        moves = refl;
+        step = refl;
+        act = refl;
+        reads = λ memory knows. (slice_index s.words (header_word v), knows (header_word v) (header_stays c marked frozen w was objects s built t x here a counted at at_top _ v named.1), refl);
+      }
+  does (Raises v) f k =
+      let named = does_at (Raises v) f in
+      let class = is_some_thrown (thrown_of (header_class (slice_index s.words (header_word v)))) (raised v f) in
+      record {
+        onward = Throwing v class.0 (frames_of at);
+        leaves = load_leaves s.words (header_word v);
+        moves = ap (λ (o : Option Thrown). goes_on_if (begun x) (option_map (λ kind. Throwing v kind (frames_of at)) o)) class.1;
+        step = ap (λ (o : Option Thrown). option_map (λ kind. Throwing v kind (frames_of at)) o) class.1;
+        act = refl;
+        reads = λ memory knows. (
+          slice_index s.words (header_word v),
+          knows (header_word v) (header_stays c marked frozen w was objects s built t x here a counted at at_top _ v named.1),
+          ap (λ (o : Option Thrown). option_map (λ kind. Throwing v kind (frames_of at)) o) class.1,
+        );
+      }
+  does (Calls number) f k =
+      let call = allowed_at (Calls number) f in
+      let step : option_map (called c.program at number) (slice_get c.program.methods number) ≡ Some (called c.program at number call.called) = ap (λ (o : Option MethodInfo). option_map (called c.program at number) o) call.there in
+      record { onward = called c.program at number call.called; leaves = look_leaves s.words x.attempt; moves = ap (goes_on_if (begun x)) step; step = step; act = refl; reads = λ memory knows. (0, refl, step) }
+  does Returns f k = record { onward = returns c.program at; leaves = refl; moves = refl; step = refl; act = refl; reads = λ memory knows. (0, refl, refl) }
+  does (Enters m) f k = record { onward = Entering m (went_on c.program at 0); leaves = refl; moves = refl; step = refl; act = refl; reads = λ memory knows. (0, refl, refl) }
+  does (Leaves m) f k = record { onward = Leaving m afters.Next (went_on c.program at 0); leaves = refl; moves = refl; step = refl; act = refl; reads = λ memory knows. (0, refl, refl) }
+  does Stuck f k = absurd (allowed_at Stuck f)
+  does (Writes v word) f k = absurd k
+  does (Indexes array index stored) f k = absurd k
+  does (Makes word size) f k = absurd k
+  does (Prints n) f k = absurd k
+  does (Waits m) f k = absurd k
+  does (Notifies m) f k = absurd k
+  does (NotifiesAll m) f k = absurd k
+
+  -- ---- the instruction
+
+  abbrev its : Effect
+  its = effect_at c.program at
+
+  done_so : DoesSo its
+  done_so = does its refl (may_do_at its refl)
+
+  abbrev got : ℕ
+  got = found_by s.words (effect_wants x at.frame.pc its)
+
+  pub leaves_words : LeavesWords s.words (run_wants c.program x (top_of c.program x.frames))
+  leaves_words = subst (λ (o : Option Top). LeavesWords s.words (run_wants c.program x o)) (sym at_top) done_so.leaves
+
+  module _ (now : Phase) where
+    did_grow : IsStructured c now (did c.program (begun x) at its got) → Grows c.program StaysNow s.words x a (was t) now phases.Run (did c.program (begun x) at its got) (instruction_acts x its got)
+    did_grow k = subst (λ (y : Thread). Grows c.program StaysNow s.words x a (was t) now phases.Run y (instruction_acts x its got)) (sym done_so.moves)
+        (subst (λ (act : List Act). Grows c.program StaysNow s.words x a (was t) now phases.Run (goes_on (begun x) done_so.onward) act) (sym done_so.act) grown)
+      where
+        alike : GoesAlike c x a now (begun x) done_so.onward
+        alike = going_alike c x a now (begun x) a.inner refl attempt_stands.based done_so.onward tries (steps_kept c.program x.frames a at its got done_so.onward at_top done_so.step) (subst (IsStructured c now) done_so.moves k)
+
+        acted : (memory : ℕ → Option ℕ) (n : ℕ) (ended : List End) (word : ℕ) → got_by memory (read_by its) ≡ Some word → reads_only c.program at its word ≡ Some done_so.onward
+            → replay_act c.program a.monitor memory (at_present x a (was t) n ended) acts.Do (status_inside (was t)) ≡ Some (at_present (goes_on (begun x) done_so.onward) a now (n + 1) ended)
+        acted memory n ended word read only =
+            let z : Alone = at_present x a (was t) n ended in
+            let more : Alone = record z { begun = n + 1 } in
+            ap (λ (phase : Phase). replay_act c.program a.monitor memory z acts.Do (status_inside phase)) counted
+            ∙ ap (instructs c.program a.monitor memory z) at_top
+            ∙ ap (λ (o : Option ℕ). goes more (option_and_then (λ word. option_and_then (only_on a.monitor) (reads_only c.program at its word)) o)) read
+            ∙ ap (λ (o : Option Onward). goes more (option_and_then (only_on a.monitor) o)) only
+            ∙ ap (goes more) alike.only
+            ∙ ap (λ (y : PlainThread). Some (let next : Alone = record { thread = y; depth = suc a.inner; begun = n + 1 } in next)) (alike.thread (status_inside (was t)) ended)
+
+        grown : Grows c.program StaysNow s.words x a (was t) now phases.Run (goes_on (begun x) done_so.onward) (acts.Do ∷ [])
+        grown = record {
+          inner = a.inner;
+          attempt = goes_attempt (begun x) (Some done_so.onward) ∙ tries;
+          entry = λ ended i. record { thread = record { frames = alike.frames i; status = plain.Run; roots = alike.roots i; ended = ended }; depth = 1; begun = 0 };
+          replays = λ memory knows n ended. (let read = done_so.reads memory knows in one_act c.program a.monitor memory acts.Do (at_present x a (was t) n ended) _ (acted memory n ended read.0 read.1 read.2));
+        }
+
+    abbrev By : Fate → Thread → Type 0
+    By fate y = ByFate c.program StaysNow s.words x a (was t) now phases.Run fate y (instruction_acts x its got)
+
+    by_look : (b : Bool) → is_same a got ≡ b → IsStructured c now (cond b (did c.program (begun x) at its got) (fails (begun x) a)) → By (fate_by b GoesOn) (cond b (did c.program (begun x) at its got) (fails (begun x) a))
+    by_look true e k = did_grow k
+    by_look false e k = refl
+
+    by_check : (b : Bool) → IsStructured c now (cond b (if_same (begun x) (Some a) got (did c.program (begun x) at its got)) (did c.program (begun x) at its got))
+        → By (cond b (fate_by (is_same a got) GoesOn) GoesOn) (cond b (if_same (begun x) (Some a) got (did c.program (begun x) at its got)) (did c.program (begun x) at its got))
+    by_check true k = by_look (is_same a got) refl k
+    by_check false k = did_grow k
+
+    at_the_top : IsStructured c now (instructed c.program (begun x) at its got) → By (run_fate c a (Some at) got) (instructed c.program (begun x) at its got)
+    at_the_top k =
+        subst (λ (o : Option Attempt). IsStructured c now (cond (is_checked at.frame.pc its) (if_same (begun x) o got (did c.program (begun x) at its got)) (did c.program (begun x) at its got))
+        → By (cond (is_checked at.frame.pc its) (fate_by (is_same a got) GoesOn) GoesOn) (cond (is_checked at.frame.pc its) (if_same (begun x) o got (did c.program (begun x) at its got)) (did c.program (begun x) at its got)))
+        (sym tries) (by_check (is_checked at.frame.pc its)) k
+
+    abbrev RunsBy : Option Top → Type 0
+    RunsBy o = IsStructured c now (ran c.program x o (found_by s.words (run_wants c.program x o)))
+        → ByFate c.program StaysNow s.words x a (was t) now phases.Run (run_fate c a o (found_by s.words (run_wants c.program x o))) (ran c.program x o (found_by s.words (run_wants c.program x o))) (run_acts c x o (found_by s.words (run_wants c.program x o)))
+
+    pub runs_by_fate : RunsBy (top_of c.program x.frames)
+    runs_by_fate = subst RunsBy (sym at_top) at_the_top

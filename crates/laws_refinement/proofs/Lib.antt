@@ -1,0 +1,47 @@
+mod OutsideAttempts
+mod GoingOn
+mod ReadPlaces
+mod StayPlaces
+mod Instructions
+mod Phases
+mod Growth
+pub mod SilentAttempts
+pub mod FreeLocks
+pub mod FieldRules
+pub mod FieldWriters
+pub mod OwnBuilders
+pub mod LockNoted
+pub mod StayingPlaces
+pub mod OthersKeep
+pub mod Inside
+pub mod InsideWords
+pub mod InsideMoves
+pub mod InsideBeside
+pub mod InsideTallies
+mod CountedActs
+mod PlayedDue
+mod WholeSections
+mod FinishedPlaces
+mod DoneSections
+mod PartsUnderWay
+mod FinishedSections
+mod OutsideEntries
+mod Within
+mod Looks
+mod Counts
+mod Runs
+mod MarkedEntries
+mod Beginnings
+mod Failures
+mod ComingToEnter
+mod StageFits
+mod EventsKeep
+mod TurnsKeep
+mod ScheduleEnds
+pub mod EventSteps
+pub mod SameCounts
+pub mod MoreSteps
+pub mod Pasts
+pub mod NextUntried
+pub mod EventMoves
+pub mod FaithfulRuns

@@ -1,0 +1,97 @@
+-- Where the lock word of an attempt's monitor is as the attempt noted it after an event of another thread, it was so before; and
+-- where it is so, no thread holds the monitor.
+use Rattle.std.proofs.Common.{◌≡◌, ◌≢◌, ◌⊎◌, inl, inr, ℕ, ◌<◌, ◌≤◌, Bool, true, false, List, Option, Some, None, refl, sym, ap, ◌∙◌, subst, arith}
+use Rattle.std.specs.Prelude.{slice_get, slice_index, if◌then◌else◌}
+use Rattle.jvm_types.specs.Numbers.{has_number}
+use Rattle.checked_program.specs.MarkedProgram.{MarkedProgram, IsMarked}
+use Rattle.machine_types.specs.Accesses.{words_after}
+use Rattle.machine_types.specs.Attempts.{IsAsNoted}
+use Rattle.machine_types.specs.Core.{Core}
+use Rattle.machine_types.specs.Events.{wanted}
+use Rattle.machine_types.specs.Guards.{HoldsMonitor}
+use Rattle.machine_types.specs.HeldMonitors.{held_at}
+use Rattle.machine_types.specs.LockWords.{word_of_lock, lock_of}
+use Rattle.machine_types.specs.Owners.{Locks, NotHeld, HeldFlat, hold_by_word, hold_by_kept, hold_by_list, IsSeen, AttemptSawIn, IsKeptCount, IsKeptIn, lock_at, locks_in, references_of}
+use Rattle.machine_types.specs.PlainMemory.{Object}
+use Rattle.machine_types.specs.Structure.{IsFlat, IsStructured, Stands}
+use Rattle.machine_types.specs.Threads.{Attempt, Thread}
+use Rattle.machine_types.specs.Typed.{HasClass, AttemptHolds, IsObject}
+use Rattle.machine_types.specs.declared.config.Config.{Config}
+use Rattle.machine_types.specs.declared.lock.Held.{Held}
+use Rattle.machine_types.specs.declared.lock.Kept.{Kept}
+use Rattle.machine_types.specs.declared.lock.Kept.TheVariants as keeps
+use Rattle.machine_types.specs.declared.lock.LockWord.{LockWord}
+use Rattle.machine_types.specs.declared.lock.LockWord.TheVariants as locks
+use Rattle.machine_types.specs.declared.phase.Phase.{Phase}
+use Rattle.machine_types.specs.declared.phase.Phase.TheVariants as phases
+use Rattle.laws_states.specs.SiteLaws.{EventsReachSites, SitesDiffer, SitesLieInside}
+use Rattle.laws_states.specs.Sites.{LockOf, HasObject}
+use Rattle.laws_states.proofs.EventWords.{IsLeft, word_at}
+use Rattle.laws_states.specs.StateFacts.{StateFacts}
+use Rattle.laws_states.proofs.LockViews.{not_held, thin_if_flat}
+use Rattle.laws_states.proofs.WordViews.{lock_of_word}
+use Rattle.laws_refinement.proofs.FreeLocks.{phase_leaves}
+
+thin_seen : (l : LockWord) (seen count : ℕ) → ((r : ℕ) → l ≢ locks.Fat r) → IsSeen l seen count → seen ≤ count
+thin_seen (locks.Free c) seen count thin h = h
+thin_seen (locks.Held u) seen count thin h = h
+thin_seen (locks.Flagged u) seen count thin h = h
+thin_seen (locks.Fat r) seen count thin h = absurd (thin r refl)
+
+-- ---- nobody holds a free lock
+
+free_at : (references words : List ℕ) (m n : ℕ) → slice_index words m ≡ word_of_lock (locks.Free n) → (l : ℕ) × (lock_at references words m ≡ locks.Free l)
+free_at references words m n e = by_test (has_number references m)
+  where
+    by_test : (b : Bool) → (l : ℕ) × ((if b then lock_of (slice_index words m) else locks.Free 0) ≡ locks.Free l)
+    by_test true = (n, ap lock_of e ∙ lock_of_word (locks.Free n))
+    by_test false = (0, refl)
+
+module _ (c : MarkedProgram) (cfg : Config) (objects : List Object) (was : ℕ → Phase) (s : Core) (t : ℕ) (x : Thread) (facts : StateFacts c cfg objects was s) (there : slice_get s.threads t ≡ Some x) where
+  abbrev v : Locks
+  v = locks_in (references_of objects) s.words
+
+  pub held_not : (m n : ℕ) → slice_index s.words m ≡ word_of_lock (locks.Free n) → HoldsMonitor m x → ⊥
+  held_not m n e (h, has) =
+      let free = free_at (references_of objects) s.words m n e in
+      let by_word : hold_by_word t (v.lock m) v.owner ≡ NotHeld = ap (λ (l : LockWord). hold_by_word t l v.owner) free.1 in
+      let none : held_at x.held m ≡ None = not_held (held_at x.held m) (sym ((facts.owners.each t x there).holds m) ∙ by_word) in
+      absurd (cc)
+
+  -- ---- the attempt of another thread
+
+  module _ (u : ℕ) (y : Thread) (there_too : slice_get s.threads u ≡ Some y) (a : Attempt) (tries : y.attempt ≡ Some a) where
+    has_monitor : HasObject objects a.monitor
+    has_monitor =
+        let k : AttemptHolds c (HasClass objects) y.frames (Some a) = subst (AttemptHolds c (HasClass objects) y.frames) tries (facts.heap.typed.threads u y there_too).attempt in
+        let m : IsObject (HasClass objects) a.monitor = k.0 in
+        (m.1.0, m.1.1, m.1.2)
+
+    saw : AttemptSawIn v facts.owners.count y.cfg (Some a)
+    saw = subst (AttemptSawIn v facts.owners.count y.cfg) tries (facts.owners.each u y there_too).attempt
+
+    last : a.noted < x.cfg.range
+    last = subst (λ (g : Config). a.noted < g.range) ((facts.threads.own u y there_too).settings ∙ sym (facts.threads.own t x there).settings) saw.not_last
+
+    -- what the thread keeps of the monitor is no earlier count
+    kept : (h : Held) (count : ℕ) → held_at x.held a.monitor ≡ Some h → h.kept ≡ keeps.Flat count → a.noted ≤ count
+    kept h count e flat =
+        let own = facts.owners.each t x there in
+        let hold : hold_by_word t (v.lock a.monitor) v.owner ≡ HeldFlat = own.holds a.monitor ∙ ap hold_by_list e ∙ ap hold_by_kept flat in
+        let seen : a.noted ≤ facts.owners.count a.monitor = thin_seen (v.lock a.monitor) a.noted (facts.owners.count a.monitor) (thin_if_flat t (v.lock a.monitor) v.owner hold) saw.seen in
+        let same : count ≡ facts.owners.count a.monitor = subst (λ (k : Kept). IsKeptCount k (facts.owners.count a.monitor)) flat (subst (λ (o : Option Held). IsKeptIn o (facts.owners.count a.monitor)) e (own.keeps_count a.monitor)) in
+        omega (arith, seen, same)
+
+    flat_out : (b : ℕ) (after : _) → x.phase ≡ phases.FlatOut b after → IsFlat (held_at x.held b)
+    flat_out b after e =
+        let st : IsStructured c (was t) (record x { phase = phases.FlatOut b after }) = subst (λ (phase : Phase). IsStructured c (was t) (record x { phase = phase })) e (facts.structure t x there) in
+        let stands : Stands c (phases.FlatOut b after) x.frames x.held x.attempt = subst (λ (phase : Phase). Stands c phase x.frames x.held x.attempt) st.is_as st.stands in
+        stands.phase_shows.flat
+
+    pub noted_before : SitesDiffer → SitesLieInside → EventsReachSites → IsMarked c → IsAsNoted (words_after s.words (wanted c x x.phase)) a → IsAsNoted s.words a
+    noted_before differ inside reach marked now = by_cases (word_at c objects s t x marked facts.heap there (facts.threads.lawful t x there) differ inside reach (LockOf a.monitor) has_monitor)
+      where
+        by_cases : (slice_index (words_after s.words (wanted c x x.phase)) a.monitor ≡ slice_index s.words a.monitor) ⊎ IsLeft c objects s t x marked facts.heap there (facts.threads.lawful t x there) (LockOf a.monitor)
+            → IsAsNoted s.words a
+        by_cases (inl e) = sym e ∙ now
+        by_cases (inr k) = phase_leaves c x a.monitor a.noted (slice_index s.words a.monitor) last kept k.access k.word x.phase flat_out k.wants k.suits (sym k.left ∙ now)

@@ -1,0 +1,51 @@
+-- An event inside an attempt wants a load or no word at all, or rests where a limit has ended its thread.
+use Rattle.std.proofs.Common.{ℕ, zero, suc, Bool, true, false, cond, Option, Some, None, refl, sym, subst}
+use Rattle.checked_program.specs.MarkedProgram.{MarkedProgram}
+use Rattle.machine_types.specs.Elision.{looks, is_checked}
+use Rattle.machine_types.specs.Events.{wanted}
+use Rattle.machine_types.specs.Frames.{Top, effect_at}
+use Rattle.machine_types.specs.Instructions.{effect_wants, run_wants}
+use Rattle.machine_types.specs.Monitors.{Claim, enter_wants, leave_wants, finish_wants}
+use Rattle.machine_types.specs.Threads.{Attempt, Thread}
+use Rattle.machine_types.specs.declared.access.Access.{Access}
+use Rattle.machine_types.specs.declared.effect.Effect.{Effect}
+use Rattle.machine_types.specs.declared.effect.Effect.TheVariants.{Goes, Reads, Writes, Indexes, Measures, Raises, Makes, Prints, Calls}
+use Rattle.machine_types.specs.declared.phase.Phase.{Phase}
+use Rattle.machine_types.specs.declared.phase.Phase.TheVariants as phases
+use Rattle.laws_threads.specs.InsideEffects.{MayDo}
+use Rattle.laws_refinement.proofs.Inside.{KnownInside}
+use Rattle.laws_refinement.specs.Entries.{IsLook, OnlyLooks}
+
+attempt_look : (o : Option Attempt) → IsLook (looks o)
+attempt_look None = tt
+attempt_look (Some a) = tt
+
+finish_look : (m inner : ℕ) → IsLook (finish_wants m inner)
+finish_look m zero = tt
+finish_look m (suc inner) = tt
+
+look_if : (b : Bool) (access : Option Access) → IsLook access → IsLook (cond b access None)
+look_if true access k = k
+look_if false access k = tt
+
+module _ (c : MarkedProgram) (x : Thread) (a : Attempt) where
+  effect_look : (pc : ℕ) (at : Top) (e : Effect) → MayDo c a.monitor at e → IsLook (effect_wants x pc e)
+  effect_look pc at (Goes to made) may = look_if (is_checked pc (Goes to made)) (looks x.attempt) (attempt_look x.attempt)
+  effect_look pc at (Calls number) may = attempt_look x.attempt
+  effect_look pc at (Reads v) may = tt
+  effect_look pc at (Measures array) may = tt
+  effect_look pc at (Raises r) may = tt
+  effect_look pc at (Writes v word) may = absurd may
+  effect_look pc at (Indexes array index stored) may = absurd may
+  effect_look pc at (Makes word size) may = absurd may
+  effect_look pc at (Prints n) may = absurd may
+  effect_look pc at e may = tt
+
+  pub only_looks : (phase : Phase) → KnownInside c x a phase → OnlyLooks phase (wanted c x phase)
+  only_looks phases.Run k = subst (λ (o : Option Top). IsLook (run_wants c.program x o)) (sym k.found) (effect_look k.at.frame.pc k.at (effect_at c.program k.at) k.may)
+  only_looks (phases.Throw r class) k = attempt_look x.attempt
+  only_looks (phases.Enter n tried) k = subst (λ (claim : Claim). IsLook (enter_wants n claim)) (sym k) tt
+  only_looks (phases.Leave n b) k = subst (λ (claim : Claim). IsLook (leave_wants x n claim)) (sym k) (finish_look n a.inner)
+  only_looks (phases.Ending e) k = (refl, k)
+  only_looks (phases.Ended e) k = tt
+  only_looks phase k = absurd k

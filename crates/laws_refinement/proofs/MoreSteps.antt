@@ -1,0 +1,53 @@
+-- What behind some steps of the plain machine, or at the start, is known of steps and counts.
+use Rattle.std.proofs.Common.{◌≡◌, ℕ, zero, suc, ◌+◌, List, [], ◌∷◌, ◌++◌, map, Option, Some, None, refl, ap, subst, arith}
+use Rattle.std.specs.Prelude.{replicate, option_and_then, slice_get, slice_index_or}
+use Rattle.lists.proofs.ListLaws.{same_some}
+use Rattle.jvm_types.specs.declared.program.Program.{Program}
+use Rattle.checked_program.specs.MarkedProgram.{MarkedProgram}
+use Rattle.machine_types.specs.Core.{start_thread}
+use Rattle.machine_types.specs.Counting.{count_from, count_along, CountsFit}
+use Rattle.machine_types.specs.History.{Past, no_past}
+use Rattle.machine_types.specs.Parts.{init_roots}
+use Rattle.machine_types.specs.PlainState.{Plain}
+use Rattle.machine_types.specs.PlainSteps.{plain_step, plain_run}
+use Rattle.machine_types.specs.Threads.{Thread}
+use Rattle.machine_types.specs.declared.config.Config.{Config}
+use Rattle.machine_types.specs.declared.plain.PlainStep.{PlainStep}
+use Rattle.laws_simulation.proofs.PlainCounts.{counts_append}
+use Rattle.laws_refinement.proofs.SameCounts.{part_extra}
+
+-- ---- runs that go on
+
+pub run_on : (p : Program) (xs ys : List PlainStep) (q r : Plain) → plain_run p q xs ≡ Some r → plain_run p q (xs ++ ys) ≡ plain_run p r ys
+run_on p [] ys q r e = ap (λ (z : Plain). plain_run p z ys) (same_some e)
+run_on p (step ∷ xs) ys q r e = by_step (plain_step p q step) e (λ z f. run_on p xs ys z r f)
+  where
+    by_step : (o : Option Plain) → option_and_then (λ z. plain_run p z xs) o ≡ Some r → ((z : Plain) → plain_run p z xs ≡ Some r → plain_run p z (xs ++ ys) ≡ plain_run p r ys)
+        → option_and_then (λ z. plain_run p z (xs ++ ys)) o ≡ plain_run p r ys
+    by_step None f more = absurd (cc)
+    by_step (Some z) f more = more z f
+
+pub count_on : (p : Program) (count : Plain → PlainStep → ℕ) (xs ys : List PlainStep) (q r : Plain) → plain_run p q xs ≡ Some r → count_along p count (xs ++ ys) q ≡ count_along p count xs q + count_along p count ys r
+count_on p count xs ys q r e =
+    let more = counts_append p count xs ys q in
+    let rest : count_from (count_along p count ys) (plain_run p q xs) ≡ count_along p count ys r = ap (count_from (count_along p count ys)) e in
+    omega (arith, more, rest)
+
+pub recounted : {d : Past} {runs takes more most : ℕ} (x : Thread) → CountsFit x d runs takes → runs ≡ more → takes ≡ most → CountsFit x d more most
+recounted x k e f = let i = k.instructions in let n = k.sections in record { instructions = omega (arith, i, e); sections = omega (arith, n, f) }
+
+-- ---- the start
+
+pub all_one : (n t : ℕ) (d : Past) → slice_index_or (replicate n d) t d ≡ d
+all_one zero t d = refl
+all_one (suc n) zero d = refl
+all_one (suc n) (suc t) d = all_one n t d
+
+fits_at_start : (c : MarkedProgram) (cfg : Config) (n : ℕ) → CountsFit (start_thread c cfg n) no_past 0 0
+fits_at_start c cfg zero = let none = part_extra (init_roots c.program) in record { instructions = omega (arith, none); sections = refl }
+fits_at_start c cfg (suc n) = record { instructions = refl; sections = refl }
+
+pub counted_at_start : (c : MarkedProgram) (cfg : Config) (ns : List ℕ) (t : ℕ) (x : Thread) → slice_get (map (start_thread c cfg) ns) t ≡ Some x → CountsFit x no_past 0 0
+counted_at_start c cfg [] t x e = absurd (cc)
+counted_at_start c cfg (n ∷ ns) zero x e = subst (λ (z : Thread). CountsFit z no_past 0 0) (same_some e) (fits_at_start c cfg n)
+counted_at_start c cfg (n ∷ ns) (suc t) x e = counted_at_start c cfg ns t x e

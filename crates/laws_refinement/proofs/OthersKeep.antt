@@ -1,0 +1,39 @@
+-- An event of one thread keeps what is known of the attempts of the others.
+use Rattle.std.proofs.Common.{◌≡◌, ◌≢◌, ℕ, Bool, List, Option, Some, None, refl, sym, ap, ◌∙◌, subst}
+use Rattle.std.specs.Prelude.{slice_get, slice_index, if◌then◌else◌}
+use Rattle.checked_program.specs.MarkedProgram.{MarkedProgram}
+use Rattle.machine_types.specs.Attempts.{IsAsNoted, Leads, Owes, Stays}
+use Rattle.machine_types.specs.Core.{Core, event}
+use Rattle.machine_types.specs.Replay.{replayed, at_entry, at_present}
+use Rattle.machine_types.specs.Threads.{Attempt}
+use Rattle.machine_types.specs.declared.phase.Phase.{Phase}
+use Rattle.laws_threads.specs.InsideEffects.{InsideMayDo}
+use Rattle.laws_threads.specs.InsideMoves.{NoElementInside}
+use Rattle.laws_threads.specs.StateLaws.{counted_of, counted_after}
+use Rattle.laws_states.specs.HeapFacts.{objects_after}
+use Rattle.laws_states.specs.SiteLaws.{EventsReachSites, SitesDiffer, SitesLieInside}
+use Rattle.laws_states.proofs.LockViews.{not_there}
+use Rattle.laws_refinement.specs.ElidedSteps.{OthersKeepAttempts, next_free}
+use Rattle.laws_refinement.proofs.LockNoted.{noted_before}
+use Rattle.laws_refinement.proofs.StayingPlaces.{event_words, still_stays, still_word}
+
+-- the phase that counts of another thread is as it was
+same_phase : (c : MarkedProgram) (was : ℕ → Phase) (s : Core) (t u : ℕ) → u ≢ t → counted_after c was s t u ≡ was u
+same_phase c was s t u other = ap (λ (b : Bool). if b then counted_of (was t) (slice_get (event c s t).threads t) else was u) (not_there u t other)
+
+pub others_keep_attempts : InsideMayDo → NoElementInside → SitesDiffer → SitesLieInside → EventsReachSites → OthersKeepAttempts
+others_keep_attempts may_do no_element differ inside reach c cfg objects was frozen w later s t u x y d turns other there owes = by_attempt y.attempt refl owes
+  where
+    leads : (a : Attempt) → y.attempt ≡ Some a → Leads c (Stays c objects w (next_free s) u a.monitor) s.words (was u) y a d
+        → Leads c (Stays c (objects_after c.program s t objects) later (next_free (event c s t)) u a.monitor) (event c s t).words (counted_after c was s t u) y a d
+    leads a e before noted memory agrees ended =
+        let noted_then : IsAsNoted s.words a =
+        noted_before c cfg objects was s t x turns.facts turns.thread u y there a e differ inside reach turns.marked (subst (λ (words : List ℕ). IsAsNoted words a) (event_words c cfg objects was frozen w later s t x turns) noted) in
+        let agrees_then : (z : ℕ) → Stays c objects w (next_free s) u a.monitor z → memory z ≡ Some (slice_index s.words z) =
+        λ z stays. agrees z (still_stays c cfg objects was frozen w later s t x turns u other a.monitor z stays)
+        ∙ ap Some (still_word c cfg objects was frozen w later s t x turns u other may_do no_element differ inside reach a.monitor a.noted z noted_then stays) in
+        subst (λ (phase : Phase). replayed c.program a.monitor memory d.due (at_entry y a ended) ≡ Some (at_present y a phase d.pending ended)) (sym (same_phase c was s t u other)) (before noted_then memory agrees_then ended)
+
+    by_attempt : (o : Option Attempt) → y.attempt ≡ o → Owes c objects w s u (was u) y o d → Owes c (objects_after c.program s t objects) later (event c s t) u (counted_after c was s t u) y o d
+    by_attempt None e owes = owes
+    by_attempt (Some a) e owes = leads a e owes

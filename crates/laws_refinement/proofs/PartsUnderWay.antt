@@ -1,0 +1,50 @@
+-- The part of a thread in an attempt is under way.
+use Rattle.std.proofs.Common.{◌≡◌, ◌≢◌, ◌⊎◌, inl, inr, ℕ, zero, suc, List, [], ◌∷◌, Some, refl, sym, ap, ◌∙◌, subst, arith}
+use Rattle.std.specs.Prelude.{slice_get}
+use Rattle.checked_program.specs.MarkedProgram.{MarkedProgram}
+use Rattle.jvm_types.specs.declared.outcome.End.TheVariants as ends
+use Rattle.machine_types.specs.Core.{Core}
+use Rattle.machine_types.specs.PlainMemory.{Object}
+use Rattle.machine_types.specs.PlainState.{Plain}
+use Rattle.machine_types.specs.Threads.{Thread}
+use Rattle.machine_types.specs.declared.config.Config.{Config}
+use Rattle.machine_types.specs.declared.phase.After.{After}
+use Rattle.machine_types.specs.declared.phase.Phase.{Phase}
+use Rattle.machine_types.specs.declared.phase.Phase.TheVariants as phases
+use Rattle.laws_threads.specs.PartLaws.{PartFits, PartsFit}
+use Rattle.laws_states.proofs.Lists.{same_or_not}
+use Rattle.laws_states.specs.PartsStand.{DoneRoots}
+use Rattle.laws_states.specs.StateFacts.{StateFacts}
+use Rattle.laws_simulation.specs.StandsBeside.{StandsBeside}
+use Rattle.laws_simulation.proofs.GoingOnAlike.{PartRuns}
+
+-- between two parts it would have ended
+rests_between : (threads : List Thread) (x : Thread) → PartsFit threads → slice_get threads 0 ≡ Some x → x.part ≡ 1 → x.phase ≡ phases.Ended ends.Returned
+rests_between [] x fit e f = absurd (cc)
+rests_between (z ∷ workers) x fit e f =
+    let one : z ≡ x = cc in
+    subst (λ (n : ℕ). PartFits n x.phase workers) f (subst (λ (w : Thread). PartFits w.part w.phase workers) one fit)
+
+module _ (c : MarkedProgram) (cfg : Config) (objects : List Object) (was : ℕ → Phase) (s : Core) (t : ℕ) (x : Thread) (q : Plain) (facts : StateFacts c cfg objects was s) (beside : StandsBeside c.program objects s q)
+    (there : slice_get s.threads t ≡ Some x) (m : ℕ) (a : After) (leaves : x.phase ≡ phases.Leave m a) where
+  not_ended : x.phase ≡ phases.Ended ends.Returned → ⊥
+  not_ended e = let bad : phases.Leave m a ≡ phases.Ended ends.Returned = sym leaves ∙ e in cc
+
+  -- where it leaves a monitor
+  pub part_runs : PartRuns c.program x.part x.roots
+  part_runs = by_number (same_or_not t 0)
+    where
+      first : t ≡ 0 → slice_get s.threads 0 ≡ Some x
+      first e = ap (slice_get s.threads) (sym e) ∙ there
+
+      by_part : (part : ℕ) → x.part ≡ part → t ≡ 0 → PartRuns c.program part x.roots
+      by_part zero e z = tt
+      by_part (suc zero) e z = absurd (not_ended (rests_between s.threads x facts.threads.parts (first z) e))
+      by_part (suc (suc part)) e z = (
+        subst (λ (phase : Phase). DoneRoots c.program phase x.roots) leaves (facts.parts.done x (first z) (omega (arith, e))),
+        λ none. not_ended (beside.done x (first z) (omega (arith, e)) none),
+      )
+
+      by_number : (t ≡ 0) ⊎ (t ≢ 0) → PartRuns c.program x.part x.roots
+      by_number (inl e) = by_part x.part refl e
+      by_number (inr n) = subst (λ (part : ℕ). PartRuns c.program part x.roots) (sym ((facts.threads.own t x there).part n)) tt

@@ -1,0 +1,101 @@
+-- The field that an instruction reads inside an attempt is one that stays: frozen, or guarded and of the section's object; and
+-- its object is built by no other thread.
+use Rattle.std.proofs.Common.{◌≡◌, ◌≢◌, ◌⊎◌, inl, inr, ℕ, ◌<◌, Bool, true, false, List, Option, Some, None, refl, sym, ap, ◌∙◌, subst, arith, ⊎_elim}
+use Rattle.std.specs.Prelude.{slice_get, slice_index}
+use Rattle.lists.proofs.ListLaws.{same_some}
+use Rattle.jvm_types.specs.CodeTable.{get_row}
+use Rattle.jvm_types.specs.Members.{Site, is_static}
+use Rattle.jvm_types.specs.Types.{is_below}
+use Rattle.jvm_types.specs.declared.code.Op.{Op}
+use Rattle.jvm_types.specs.declared.code.Op.TheVariants as ops
+use Rattle.jvm_types.specs.declared.op_row.OpRow.{OpRow}
+use Rattle.jvm_types.specs.declared.program.FieldInfo.{FieldInfo}
+use Rattle.jvm_types.specs.declared.program.Program.{Program}
+use Rattle.jvm_types.specs.declared.program.Target.TheVariants as targets
+use Rattle.jvm_types.specs.declared.typing.VType.{VType}
+use Rattle.jvm_types.specs.declared.typing.VType.TheVariants as types
+use Rattle.laws_programs.specs.TargetLaws.{HasRow}
+use Rattle.checked_program.specs.FrozenPlaces.{IsFrozenField, IsGuardedField}
+use Rattle.checked_program.specs.SectionLaws.{ReadsOnly}
+use Rattle.checked_program.specs.TaggedCode.{Tagged}
+use Rattle.checked_program.specs.declared.tag.Tag.{Tag}
+use Rattle.checked_program.specs.declared.tag.Tag.TheVariants.{This}
+use Rattle.machine_types.specs.Construction.{SlotByType, OwnSlot, SlotIs}
+use Rattle.machine_types.specs.Threads.{Attempt}
+use Rattle.machine_types.specs.Worlds.{Builder, World, IsOwnOrFinished, IsViewOf}
+use Rattle.laws_states.proofs.Lists.{same_or_not}
+
+-- ---- which field
+
+-- a frozen field, or a guarded one of the object m
+abbrev pub MayStay : Program → Tagged → (number reference m : ℕ) → Type 0
+MayStay p tags number reference m = IsFrozenField p tags number ⊎ (IsGuardedField p tags number × (reference ≡ m))
+
+-- the only instruction of a section that names a field is a read of it
+pub record GetsField (p : Program) (tags : Tagged) (m number : ℕ) (op : Op) (r : OpRow) (stack : List ℕ) : Type 0 where
+  pub field : FieldInfo
+  pub is : slice_get p.fields number ≡ Some field
+  pub instance : is_static field.flags ≡ false
+  pub constant : ℕ
+  pub gets : op ≡ ops.Getfield constant
+  pub row : r ≡ get_row (Some field)
+  pub stays : MayStay p tags number (slice_index stack 0) m
+
+pub gets_field : (p : Program) (tags : Tagged) (site : Site) (pc m number : ℕ) (op : Op) (r : OpRow) (stack : List ℕ) → HasRow p site pc (targets.Field number) op r → ReadsOnly p tags m op (targets.Field number) stack → GetsField p tags m number op r stack
+gets_field p tags site pc m number (ops.Getfield i) r stack k h = record { field = k.field; is = k.there; instance = k.sort; constant = i; gets = refl; row = k.its; stays = h }
+gets_field p tags site pc m number (ops.Getstatic i) r stack k h = absurd h
+gets_field p tags site pc m number (ops.Putstatic i) r stack k h = absurd h
+gets_field p tags site pc m number (ops.Putfield i) r stack k h = absurd h
+gets_field p tags site pc m number op r stack k h = absurd k
+
+-- ---- who builds its object
+
+-- in a world that the thread t sees: nobody, or t
+abbrev pub IsOwnIn : World → (t v : ℕ) → Type 0
+IsOwnIn now t v = (now v ≡ None) ⊎ ((d : Builder) × (now v ≡ Some d) × (d.thread ≡ t))
+
+-- so it is in the world of all
+pub own_in_all : (now w : World) (t : ℕ) (o : Option Attempt) (next v : ℕ) → IsViewOf now w t o → v < next → IsOwnIn now t v → IsOwnOrFinished w next t v
+own_in_all now w t o next v view below own = (below, by_builder)
+  where
+    by_builder : (b : Builder) → w v ≡ Some b → b.thread ≡ t
+    by_builder b e = ⊎_elim (λ q. q) (λ other. absurd (not_other other)) (same_or_not b.thread t)
+      where
+        not_other : b.thread ≢ t → ⊥
+        not_other other =
+            let same : now v ≡ Some b = view.others v (λ d f. subst (λ (n : Builder). n.thread ≢ t) (same_some (sym e ∙ f)) other) ∙ e in
+            ⊎_elim (λ none. (let bad : Some b ≡ None = sym same ∙ none in cc)) (λ k. other (ap (λ (n : Builder). n.thread) (same_some (sym same ∙ k.1)) ∙ k.2)) own
+
+-- ---- the object on top of the stack
+
+-- a type of references, and not one of objects that are still to be started
+abbrev pub IsOfObject : VType → Type 0
+IsOfObject types.Null = Unit {0}
+IsOfObject (types.Ref class) = Unit {0}
+IsOfObject type = ⊥
+
+pub of_object : (type : VType) (class : ℕ) → is_below type (types.Ref class) ≡ true → IsOfObject type
+of_object types.Null class e = tt
+of_object (types.Ref d) class e = tt
+of_object types.Int class e = absurd (cc)
+of_object types.This class e = absurd (cc)
+of_object (types.New pc) class e = absurd (cc)
+of_object types.Top class e = absurd (cc)
+
+module _ (Old : ℕ → Type 0) (Fresh : (pc v : ℕ) → Type 0) (young : ℕ → Bool) (receiver v : ℕ) (some : 0 < v) where
+  typed_slot : (type : VType) → IsOfObject type → SlotByType Old Fresh young type v → Old v
+  typed_slot types.Null k h = absurd (omega (arith, some, h))
+  typed_slot (types.Ref class) k h = h
+  typed_slot types.Int k h = absurd k
+  typed_slot types.This k h = absurd k
+  typed_slot (types.New pc) k h = absurd k
+  typed_slot types.Top k h = absurd k
+
+  own_slot : (type : VType) (tag : Tag) → IsOfObject type → OwnSlot Old Fresh young receiver type tag v → (v ≡ receiver) ⊎ Old v
+  own_slot type This k h = inl h
+  own_slot types.This tag k h = absurd k
+  own_slot type tag k h = inr (typed_slot type k h)
+
+  pub slot : (own : Bool) (type : VType) (tag : Tag) → IsOfObject type → SlotIs Old Fresh own young receiver type tag v → (v ≡ receiver) ⊎ Old v
+  slot true type tag k h = own_slot type tag k h
+  slot false type tag k h = inr (typed_slot type k h)

@@ -1,0 +1,240 @@
+-- Where a thread reads inside an attempt, the place stays as long as the monitor of the section is free.
+use Rattle.std.proofs.Common.{◌≡◌, ◌⊎◌, inl, inr, ℕ, ◌<◌, Bool, true, false, not, List, [], ◌∷◌, length, Option, Some, refl, sym, ap, ◌∙◌, subst, arith}
+use Rattle.std.specs.Prelude.{◌==◌, slice_get, slice_index, if◌then◌else◌}
+use Rattle.std.proofs.lemmas.Bool.{or_parts}
+use Rattle.std.proofs.lemmas.Bool.Decides.{nat_tests}
+use Rattle.lists.proofs.ListLaws.{same_some}
+use Rattle.lists.proofs.TestLaws.{is_true}
+use Rattle.jvm_types.specs.CodeTable.{get_row}
+use Rattle.jvm_types.specs.Members.{is_static}
+use Rattle.jvm_types.specs.ProgramInvariant.{IsProgram, site_in}
+use Rattle.jvm_types.specs.Types.{TypeFrame, is_below}
+use Rattle.jvm_types.specs.Verifying.{suits, some_taken, some_read, mistypes}
+use Rattle.jvm_types.specs.declared.code.Op.{Op}
+use Rattle.jvm_types.specs.declared.code.Op.TheVariants as ops
+use Rattle.jvm_types.specs.declared.fixed_words.TheConstants.{NEXT_FREE_WORD}
+use Rattle.jvm_types.specs.declared.op_row.OpRow.{OpRow}
+use Rattle.jvm_types.specs.declared.outcome.Thrown.TheVariants as thrown
+use Rattle.jvm_types.specs.declared.program.FieldInfo.{FieldInfo}
+use Rattle.jvm_types.specs.declared.program.MethodInfo.{MethodInfo}
+use Rattle.jvm_types.specs.declared.program.Program.{Program}
+use Rattle.jvm_types.specs.declared.program.Target.{Target}
+use Rattle.jvm_types.specs.declared.program.Target.TheVariants as targets
+use Rattle.jvm_types.specs.declared.typing.VType.{VType}
+use Rattle.jvm_types.specs.declared.typing.VType.TheVariants as types
+use Rattle.laws_programs.proofs.ClassTreeLaws.{files_alone}
+use Rattle.laws_programs.specs.TargetLaws.{HasRow}
+use Rattle.checked_program.specs.LockTags.{TagShape}
+use Rattle.checked_program.specs.MarkedProgram.{MarkedProgram, IsMarked}
+use Rattle.checked_program.specs.SectionLaws.{ReadsOnly}
+use Rattle.checked_program.specs.declared.tag.Tag.{Tag}
+use Rattle.machine_types.specs.Attempts.{IsFieldAt, Stays}
+use Rattle.machine_types.specs.Attempts as attempts
+use Rattle.machine_types.specs.Construction.{Construction, FramesKeep, PhaseKeepsFrames, ReceiverIs, Runs, SlotOf, SlotsAre, IsFresh, ThreadKeeps, builds, makes_frozen}
+use Rattle.machine_types.specs.Core.{Core}
+use Rattle.machine_types.specs.Effects.{gets, effect, variable_of}
+use Rattle.machine_types.specs.Frames.{Top, top_of, effect_at, row_at}
+use Rattle.machine_types.specs.PlainMemory.{Object}
+use Rattle.machine_types.specs.Standing.{Whole, tags_of}
+use Rattle.machine_types.specs.Structure.{Stands, AttemptStands, frames_inside}
+use Rattle.machine_types.specs.Threads.{Frame, Attempt, Thread}
+use Rattle.machine_types.specs.Typed.{HasClass}
+use Rattle.machine_types.specs.Words.{header_word, value_word, variable_word}
+use Rattle.machine_types.specs.Worlds.{Begun, World, IsFinished, IsOwnOrFinished, builder}
+use Rattle.machine_types.specs.declared.effect.Effect.TheVariants.{Reads, Throws}
+use Rattle.machine_types.specs.declared.effect.Variable.{Variable}
+use Rattle.machine_types.specs.declared.effect.Variable.TheVariants.{Instance, Static}
+use Rattle.machine_types.specs.declared.lock.Held.{Held}
+use Rattle.machine_types.specs.declared.phase.Phase.{Phase}
+use Rattle.machine_types.specs.declared.phase.Phase.TheVariants as phases
+use Rattle.laws_threads.specs.Allowed as allowed
+use Rattle.laws_threads.proofs.Landing.{rules_at, stand_top}
+use Rattle.laws_threads.proofs.Inside.{runs_inside, not_finished, top_shows, stack_this}
+use Rattle.laws_threads.proofs.SectionFrames.{reads, row_stands}
+use Rattle.laws_threads.proofs.Standings.{top_here, top_at_standing}
+use Rattle.laws_refinement.proofs.ReadPlaces.{MayStay, GetsField, gets_field, IsOwnIn, own_in_all, of_object, slot}
+
+-- ---- what the marks say of the instruction at which the top frame stands
+
+pub record TopReads (c : MarkedProgram) (m : ℕ) (at : Top) : Type 0 where
+  pub row : HasRow c.program (site_in at.method) at.insn.pc at.target at.insn.op (row_at c.program at)
+  pub only : ReadsOnly c.program (tags_of c) m at.insn.op at.target at.frame.stack
+
+pub top_reads : (c : MarkedProgram) (fs : List Frame) (held : List Held) (a : Attempt) (at : Top) → IsMarked c → AttemptStands c phases.Run fs held a → Stands c phases.Run fs held (Some a) → top_of c.program fs ≡ Some at → TopReads c a.monitor at
+top_reads c [] held a at marked k s e = absurd (cc)
+top_reads c (f ∷ below) held a at marked k s e =
+    let r = runs_inside c phases.Run f below held a k (not_finished a (frames_inside a (f ∷ below))) in
+    let shows = top_shows c marked Whole f below s.shown s.show in
+    let this = stack_this c marked f r.stands shows.0 shows.1 in
+    let l = r.stands in
+    let one : TopReads c a.monitor (top_here c f below l) = record {
+      row = row_stands c marked f.method l.number l.method l.insn l.target l.tags l.at;
+      only = reads c marked a k.uses k.are_uses k.marked f (frames_inside a below) r f.stack this;
+    } in
+    subst (λ (top : Top). TopReads c a.monitor top) (top_at_standing c marked f below l at e) one
+
+-- ---- what is known of its operands
+
+pub record TopSlots (c : MarkedProgram) (frozen : ℕ → Bool) (now : World) (next t : ℕ) (at : Top) : Type 0 where
+  pub height : ℕ
+  pub types : TypeFrame
+  pub tags : TagShape
+  pub receiver : ReceiverIs now next t height (builds frozen at.method) at.frame.receiver
+  pub stack : SlotsAre (SlotOf frozen now next t height Runs at.method at.frame.receiver) types.stack tags.stack at.frame.stack
+  pub suit : mistypes at.method (row_at c.program at) types ≡ false
+
+pub top_slots : (c : MarkedProgram) (frozen : ℕ → Bool) (now : World) (next t : ℕ) (fs : List Frame) (at : Top) → IsMarked c → FramesKeep c frozen now next t Runs fs → top_of c.program fs ≡ Some at → TopSlots c frozen now next t at
+top_slots c frozen now next t [] at marked k e = absurd (cc)
+top_slots c frozen now next t (f ∷ below) at marked k e =
+    let l = k.0.stands in
+    let one : TopSlots c frozen now next t (top_here c f below l) = record { height = length below; types = l.types; tags = l.tags; receiver = k.0.receiver; stack = k.0.stack; suit = (rules_at c marked f l).rules.types } in
+    subst (λ (top : Top). TopSlots c frozen now next t top) (same_some (sym (stand_top c marked f below l) ∙ e)) one
+
+-- ---- the slot on top of the stack
+
+record FirstSlot (Is : VType → Tag → (v : ℕ) → Type 0) (ts : List VType) (v : ℕ) : Type 0 where
+  pub type : VType
+  pub tag : Tag
+  pub more : List VType
+  pub first : ts ≡ type ∷ more
+  pub is : Is type tag v
+
+first_slot : (Is : VType → Tag → (v : ℕ) → Type 0) (ts : List VType) (tags : List Tag) (v : ℕ) (vs : List ℕ) → SlotsAre Is ts tags (v ∷ vs) → FirstSlot Is ts v
+first_slot Is (type ∷ ts) (tag ∷ tags) v vs h = record { type = type; tag = tag; more = ts; first = refl; is = h.0 }
+first_slot Is [] [] v vs h = absurd h
+first_slot Is [] (tag ∷ tags) v vs h = absurd h
+first_slot Is (type ∷ ts) [] v vs h = absurd h
+
+-- the object of a field is an object on the stack
+top_suits : (m : MethodInfo) (r : OpRow) (field : FieldInfo) (g : TypeFrame) (type : VType) (more : List VType) → r ≡ get_row (Some field) → g.stack ≡ type ∷ more → mistypes m r g ≡ false → is_below type (types.Ref field.class) ≡ true
+top_suits m r field g type more row first suit =
+    let takes : some_taken (λ want t. not (suits m want t)) r.takes g.stack ≡ false = (or_parts (some_taken (λ want t. not (suits m want t)) r.takes g.stack) (some_read (λ want t. not (suits m want t)) r.reads g.locals) suit).0 in
+    let one : some_taken (λ want t. not (suits m want t)) (get_row (Some field)).takes (type ∷ more) ≡ false
+    = subst (λ (ts : List VType). some_taken (λ want t. not (suits m want t)) (get_row (Some field)).takes ts ≡ false) first (subst (λ (o : OpRow). some_taken (λ want t. not (suits m want t)) o.takes g.stack ≡ false) row takes) in
+    is_true (is_below type (types.Ref field.class)) (or_parts (not (is_below type (types.Ref field.class))) false one).0
+
+-- ---- the object that is read
+
+pub record ReadObject (p : Program) (field : FieldInfo) (stack : List ℕ) (v : Variable) : Type 0 where
+  pub value : ℕ
+  pub rest : List ℕ
+  pub top : stack ≡ value ∷ rest
+  pub some : 0 < value
+  pub variable : v ≡ variable_of field value
+
+is_some : (a : ℕ) → (a == 0) ≡ false → 0 < a
+is_some a e = grind (arith, nat_tests, e)
+
+read_by_gets : (p : Program) (field : FieldInfo) (stack : List ℕ) (v : Variable) → gets (Some field) stack ≡ Reads v → ReadObject p field stack v
+read_by_gets p field [] v e = absurd (cc)
+read_by_gets p field (value ∷ rest) v e = by_test (value == 0) refl e
+  where
+    by_test : (b : Bool) → (value == 0) ≡ b → (if b then Throws thrown.NullPointerException else Reads (variable_of field value)) ≡ Reads v → ReadObject p field (value ∷ rest) v
+    by_test true g f = absurd (cc)
+    by_test false g f = record { value = value; rest = rest; top = refl; some = is_some value g; variable = same_variable f }
+      where
+        same_variable : {u n : Variable} → Reads u ≡ Reads n → n ≡ u
+        same_variable q = cc
+
+read_object : (p : Program) (at : Top) (number i : ℕ) (field : FieldInfo) (v : Variable) → at.target ≡ targets.Field number → at.insn.op ≡ ops.Getfield i → slice_get p.fields number ≡ Some field → effect_at p at ≡ Reads v → ReadObject p field at.frame.stack v
+read_object p at number i field v target op is e =
+    let named : effect p at.insn.next (targets.Field number) (ops.Getfield i) at.frame.locals at.frame.stack ≡ Reads v
+    = subst (λ (q : Op). effect p at.insn.next (targets.Field number) q at.frame.locals at.frame.stack ≡ Reads v) op (subst (λ (q : Target). effect p at.insn.next q at.insn.op at.frame.locals at.frame.stack ≡ Reads v) target e) in
+    read_by_gets p field at.frame.stack v (subst (λ (o : Option FieldInfo). gets o at.frame.stack ≡ Reads v) is named)
+
+same_instance : (n m i j : ℕ) → Instance n i ≡ Instance m j → n ≡ m
+same_instance n m i j e = ap reference_of e
+  where
+    reference_of : Variable → ℕ
+    reference_of (Instance r k) = r
+    reference_of (Static w) = 0
+
+instance_of : (field : FieldInfo) (reference : ℕ) → is_static field.flags ≡ false → variable_of field reference ≡ Instance reference field.index
+instance_of field reference e = ap (λ (b : Bool). if b then Static field.index else Instance reference field.index) e
+
+-- ---- of a thread in an attempt, whose instruction begins
+
+module _ (c : MarkedProgram) (marked : IsMarked c) (frozen : ℕ → Bool) (w : World) (was : ℕ → Phase) (objects : List Object) (s : Core) (built : Construction c frozen w was objects s) (t : ℕ) (x : Thread) (here : slice_get s.threads t ≡ Some x)
+    (a : Attempt) (counted : was t ≡ phases.Run) (at : Top) (at_top : top_of c.program x.frames ≡ Some at) where
+  abbrev next : ℕ
+  next = slice_index s.words NEXT_FREE_WORD
+
+  abbrev keeps : ThreadKeeps c frozen w next t (was t) x
+  keeps = built.each t x here
+
+  slots : TopSlots c frozen keeps.now next t at
+  slots = top_slots c frozen keeps.now next t x.frames at marked (subst (λ (phase : Phase). PhaseKeepsFrames c frozen keeps.now next t phase x.frames) counted keeps.frames) at_top
+
+  receiver_known : (own : Bool) → ReceiverIs keeps.now next t slots.height own at.frame.receiver → (at.frame.receiver < next) × IsOwnIn keeps.now t at.frame.receiver
+  receiver_known true e = let inside = (keeps.now_world built.world).inside at.frame.receiver (builder t slots.height Begun) e in (inside.1, inr (builder t slots.height Begun, e, refl))
+  receiver_known false e = (e.0, inl e.1)
+
+  known : (v : ℕ) → (v ≡ at.frame.receiver) ⊎ IsFinished keeps.now next v → IsOwnOrFinished w next t v
+  known v (inl e) = subst (IsOwnOrFinished w next t) (sym e) (let k = receiver_known (builds frozen at.method) slots.receiver in own_in_all keeps.now w t x.attempt next at.frame.receiver keeps.now_is k.0 k.1)
+  known v (inr k) = own_in_all keeps.now w t x.attempt next v keeps.now_is k.0 (inl k.1)
+
+  -- the object on top of the stack, where a field of it is read
+  top_known : (field : FieldInfo) (v : ℕ) (rest : List ℕ) → row_at c.program at ≡ get_row (Some field) → at.frame.stack ≡ v ∷ rest → 0 < v → IsOwnOrFinished w next t v
+  top_known field v rest row top some =
+      let first = first_slot (SlotOf frozen keeps.now next t slots.height Runs at.method at.frame.receiver) slots.types.stack slots.tags.stack v rest
+      (subst (λ (vs : List ℕ). SlotsAre (SlotOf frozen keeps.now next t slots.height Runs at.method at.frame.receiver) slots.types.stack slots.tags.stack vs) top slots.stack) in
+      let below = top_suits at.method (row_at c.program at) field slots.types first.type first.more row first.first slots.suit in
+      known v (slot (IsFinished keeps.now next) (IsFresh keeps.now t slots.height Runs) (makes_frozen frozen at.method) at.frame.receiver v some (builds frozen at.method) first.type first.tag (of_object first.type field.class below) first.is)
+
+  -- the variable that is read
+  module _ (v : Variable) (f : FieldInfo) (marks : TopReads c a.monitor at) (e : effect_at c.program at ≡ Reads v) (named : allowed.IsFieldAt c.program (HasClass objects) at.target v f) where
+    abbrev names : GetsField c.program (tags_of c) a.monitor named.number at.insn.op (row_at c.program at) at.frame.stack
+    names = gets_field c.program (tags_of c) (site_in at.method) at.insn.pc a.monitor named.number at.insn.op (row_at c.program at) at.frame.stack
+        (subst (λ (target : Target). HasRow c.program (site_in at.method) at.insn.pc target at.insn.op (row_at c.program at)) named.named marks.row)
+        (subst (λ (target : Target). ReadsOnly c.program (tags_of c) a.monitor at.insn.op target at.frame.stack) named.named marks.only)
+
+    abbrev read : ReadObject c.program names.field at.frame.stack v
+    read = read_object c.program at named.number names.constant names.field v named.named names.gets names.is e
+
+    one_field : f ≡ names.field
+    one_field = same_some (sym named.there ∙ names.is)
+
+    instance : is_static f.flags ≡ false
+    instance = ap (λ (g : FieldInfo). is_static g.flags) one_field ∙ names.instance
+
+    is_variable : v ≡ Instance read.value names.field.index
+    is_variable = read.variable ∙ instance_of names.field read.value names.instance
+
+    one_object : named.reference ≡ read.value
+    one_object = same_instance named.reference read.value f.index names.field.index (sym (instance_of f named.reference instance) ∙ sym named.variable ∙ is_variable)
+
+    holder : allowed.IsOf (HasClass objects) f.class named.reference
+    holder = named.holder instance
+
+    program : IsProgram c.program
+    program = marked.checked.program
+
+    abbrev object : Object
+    object = holder.2.0
+
+    is_object : object.reference ≡ read.value
+    is_object = holder.2.2 ∙ one_object
+
+    of_class : object.class ≡ names.field.class
+    of_class = holder.2.3 ∙ files_alone holder.1 f.class (program.fields named.number f named.there).class.0 holder.3 ∙ ap (λ (g : FieldInfo). g.class) one_field
+
+    field_at : IsFieldAt c objects w next t named.number (variable_word v) object
+    field_at = record {
+      there = holder.2.1;
+      field = names.field;
+      is = names.is;
+      of_class = of_class;
+      known = subst (IsOwnOrFinished w next t) (sym is_object) (top_known names.field read.value read.rest names.row read.top read.some);
+      place = ap (λ (u : Variable). variable_word u) is_variable ∙ ap (λ (r : ℕ). value_word r names.field.index) (sym is_object);
+    }
+
+    by_stay : MayStay c.program (tags_of c) named.number (slice_index at.frame.stack 0) a.monitor → Stays c objects w next t a.monitor (variable_word v)
+    by_stay (inl k) = attempts.frozen named.number object k field_at
+    by_stay (inr k) = attempts.guarded named.number object k.0 (is_object ∙ sym (ap (λ (vs : List ℕ). slice_index vs 0) read.top) ∙ k.1) field_at
+
+    pub variable_stays : Stays c objects w next t a.monitor (variable_word v)
+    variable_stays = by_stay names.stays
+
+  -- the header of an object
+  pub header_stays : (class v : ℕ) → allowed.IsOf (HasClass objects) class v → Stays c objects w next t a.monitor (header_word v)
+  header_stays class v k = attempts.header k.2.0 k.2.1 (ap header_word (sym k.2.2))

@@ -1,0 +1,141 @@
+-- The places that stay for a thread stay so after an event of another thread, and keep their words.
+use Rattle.std.proofs.Common.{◌≡◌, ◌≢◌, ◌⊎◌, inl, inr, ℕ, Bool, true, false, List, Option, Some, None, refl, sym, ap, ◌∙◌, subst, arith}
+use Rattle.std.specs.Prelude.{Contains, slice_get, slice_index}
+use Rattle.lists.proofs.ListLaws.{same_some}
+use Rattle.jvm_types.specs.Members.{is_final, is_private, is_static}
+use Rattle.jvm_types.specs.declared.program.FieldInfo.{FieldInfo}
+use Rattle.jvm_types.specs.declared.program.Program.{Program}
+use Rattle.checked_program.specs.MarkedProgram.{MarkedProgram}
+use Rattle.machine_types.specs.Accesses.{words_after}
+use Rattle.machine_types.specs.Attempts.{IsFieldAt, Stays, header, frozen, guarded}
+use Rattle.machine_types.specs.Core.{Core, event, event_of}
+use Rattle.machine_types.specs.Events.{wanted}
+use Rattle.machine_types.specs.Guards.{Changes, HoldsMonitor, KeepsGuards, MakesObject}
+use Rattle.machine_types.specs.LockWords.{word_of_lock}
+use Rattle.machine_types.specs.NewObjects.{size_by}
+use Rattle.machine_types.specs.PlainMemory.{Object, new_object}
+use Rattle.machine_types.specs.Threads.{Attempt, Thread}
+use Rattle.machine_types.specs.Words.{value_word}
+use Rattle.machine_types.specs.Worlds.{Builder, World, IsOwnOrFinished}
+use Rattle.machine_types.specs.declared.config.Config.{Config}
+use Rattle.machine_types.specs.declared.lock.LockWord.TheVariants as locks
+use Rattle.machine_types.specs.declared.phase.Phase.{Phase}
+use Rattle.machine_types.specs.declared.phase.Phase.TheVariants as phases
+use Rattle.laws_threads.specs.InsideEffects.{InsideMayDo}
+use Rattle.laws_threads.specs.InsideMoves.{NoElementInside}
+use Rattle.laws_states.specs.HeapFacts.{objects_after, objects_by, objects_of}
+use Rattle.laws_states.specs.SiteLaws.{EventsReachSites, SitesDiffer, SitesLieInside}
+use Rattle.laws_states.proofs.Lists.{contains_more, same_or_not}
+use Rattle.laws_refinement.specs.ElidedSteps.{EventStands, next_free}
+use Rattle.laws_refinement.proofs.FieldWriters.{TopIsOf, field_writer}
+use Rattle.laws_refinement.proofs.LockNoted.{held_not}
+use Rattle.laws_refinement.proofs.OwnBuilders.{IsOwn, makes_own}
+use Rattle.laws_refinement.proofs.SilentAttempts.{silent}
+
+-- ---- objects stay
+
+more_objects : (p : Program) (phase : Phase) (objects : List Object) (o : Object) → Contains objects o → Contains (objects_by p phase objects) o
+more_objects p (phases.Made a word) objects o k = contains_more (new_object a word (size_by p word)) objects o k
+more_objects p phase objects o k = k
+
+module _ (c : MarkedProgram) (cfg : Config) (objects : List Object) (was : ℕ → Phase) (is_frozen : ℕ → Bool) (w later : World) (s : Core) (t : ℕ) (x : Thread) (turns : EventStands c cfg objects was is_frozen w later s t x) where
+  abbrev pub after : List ℕ
+  after = words_after s.words (wanted c x x.phase)
+
+  pub event_words : (event c s t).words ≡ words_after s.words (wanted c x x.phase)
+  event_words = ap (λ (o : Option Thread). (event_of c s t o).words) turns.thread
+
+  still_object : (o : Object) → Contains objects o → Contains (objects_after c.program s t objects) o
+  still_object o k = subst (λ (q : Option Thread). Contains (objects_of c.program q objects) o) (sym turns.thread) (more_objects c.program x.phase objects o k)
+
+  -- ---- places stay
+
+  module _ (u : ℕ) (other : u ≢ t) where
+    still_own : (v : ℕ) → IsOwnOrFinished w (next_free s) u v → IsOwnOrFinished later (next_free (event c s t)) u v
+    still_own v (below, own) = (let grows = turns.goes_on.grows in omega (arith, below, grows), λ b e. by_thread b e (same_or_not b.thread t))
+      where
+        by_world : (b : Builder) → later v ≡ Some b → b.thread ≡ t → (o : Option Builder) → w v ≡ o → b.thread ≡ u
+        by_world b e same None f = let none : later v ≡ None = turns.goes_on.finished v (below, f) in absurd (cc)
+        by_world b e same (Some d) f =
+            let mine : d.thread ≡ u = own d f in
+            let stays : later v ≡ Some d = turns.goes_on.others v d (λ g. other (sym mine ∙ g)) f in
+            let one : b ≡ d = same_some (sym e ∙ stays) in
+            ap (λ (g : Builder). g.thread) one ∙ mine
+
+        by_thread : (b : Builder) → later v ≡ Some b → (b.thread ≡ t) ⊎ (b.thread ≢ t) → b.thread ≡ u
+        by_thread b e (inl same) = by_world b e same (w v) refl
+        by_thread b e (inr d) = own b (turns.goes_on.no_more v b d e)
+
+    still_field : (fi z : ℕ) (o : Object) → IsFieldAt c objects w (next_free s) u fi z o → IsFieldAt c (objects_after c.program s t objects) later (next_free (event c s t)) u fi z o
+    still_field fi z o k = record { there = still_object o k.there; field = k.field; is = k.is; of_class = k.of_class; known = still_own o.reference k.known; place = k.place }
+
+    pub still_stays : (m z : ℕ) → Stays c objects w (next_free s) u m z → Stays c (objects_after c.program s t objects) later (next_free (event c s t)) u m z
+    still_stays m z (header o there at) = header o (still_object o there) at
+    still_stays m z (frozen fi o is k) = frozen fi o is (still_field fi z o k)
+    still_stays m z (guarded fi o is at k) = guarded fi o is at (still_field fi z o k)
+
+    -- ---- their words stay
+
+    module _ (may_do : InsideMayDo) (no_element : NoElementInside) (differ : SitesDiffer) (inside : SitesLieInside) (reach : EventsReachSites) where
+      -- no `<init>` that another thread runs is on an object that this one knows
+      not_made : (v class : ℕ) → IsOwnOrFinished w (next_free s) u v → is_frozen class ≡ true → x.attempt ≡ None → MakesObject c v x.frames → TopIsOf c.program class x.frames → ⊥
+      not_made v class known is outside makes top =
+          let own : IsOwn w t v = makes_own c is_frozen (next_free s) t v class is w (was t) x (turns.built.each t x turns.thread) outside makes top in
+          other (sym (known.1 own.0 own.1) ∙ own.2)
+
+      -- a field of a frozen class that changes only where its object is made
+      module _ (fi z : ℕ) (o : Object) (k : IsFieldAt c objects w (next_free s) u fi z o) (instance : is_static k.field.flags ≡ false) (restricted : (is_private k.field.flags ≡ true) ⊎ (is_final k.field.flags ≡ true))
+          (is : is_frozen k.field.class ≡ true) where
+        abbrev place : ℕ
+        place = value_word o.reference k.field.index
+
+        abbrev pub IsStill : Type 0
+        IsStill = slice_index after place ≡ slice_index s.words place
+
+        field_stays : (KeepsGuards c objects s (event c s t) x → Changes fi c o s (event c s t) → MakesObject c o.reference x.frames) → IsStill
+        field_stays guards = by_attempt x.attempt refl
+          where
+            changes : (IsStill → ⊥) → Changes fi c o s (event c s t)
+            changes d = record { field = k.field; is = k.is; of_class = k.of_class; changes = λ e. d (ap (λ (words : List ℕ). slice_index words place) (sym event_words) ∙ e) }
+
+            by_writer : x.attempt ≡ None → (IsStill → ⊥) → IsStill ⊎ TopIsOf c.program k.field.class x.frames → MakesObject c o.reference x.frames → ⊥
+            by_writer e d (inl same) makes = d same
+            by_writer e d (inr top) makes = not_made o.reference k.field.class k.known is e makes top
+
+            by_test : x.attempt ≡ None → IsStill ⊎ (IsStill → ⊥) → IsStill
+            by_test e (inl same) = same
+            by_test e (inr d) = absurd (by_writer e d
+                (field_writer differ c objects s t x turns.marked turns.facts.heap turns.thread fi k.field k.is instance o k.there k.of_class inside reach restricted (turns.facts.threads.lawful t x turns.thread) (was t)
+                (turns.facts.structure t x turns.thread))
+                (guards (turns.guards e) (changes d)))
+
+            by_attempt : (a : Option Attempt) → x.attempt ≡ a → IsStill
+            by_attempt None e = by_test e (same_or_not _ _)
+            by_attempt (Some a) e = ap (λ (words : List ℕ). slice_index words place) (silent may_do no_element c turns.marked x a (was t) s.words (turns.facts.structure t x turns.thread) e)
+
+      same_word : (z y : ℕ) → z ≡ y → slice_index after y ≡ slice_index s.words y → slice_index (event c s t).words z ≡ slice_index s.words z
+      same_word z y at e = ap (λ (words : List ℕ). slice_index words z) event_words ∙ subst (λ (n : ℕ). slice_index after n ≡ slice_index s.words n) (sym at) e
+
+      -- one number names one field
+      same_field : (fi : ℕ) (f g : FieldInfo) → slice_get c.program.fields fi ≡ Some f → slice_get c.program.fields fi ≡ Some g → f ≡ g
+      same_field fi f g e h = same_some (sym e ∙ h)
+
+      pub still_word : (m n z : ℕ) → slice_index s.words m ≡ word_of_lock (locks.Free n) → Stays c objects w (next_free s) u m z → slice_index (event c s t).words z ≡ slice_index s.words z
+      still_word m n z free (header o there at) =
+          ap (slice_index (event c s t).words) at ∙ turns.facts_after.heap.typed.places.headers o (still_object o there) ∙ sym (ap (slice_index s.words) at ∙ turns.facts.heap.typed.places.headers o there)
+      still_word m n z free (frozen fi o is k) =
+          let one : is.field ≡ k.field = same_field fi is.field k.field is.is k.is in
+          same_word z (value_word o.reference k.field.index) k.place
+          (field_stays fi z o k (subst (λ (f : FieldInfo). is_static f.flags ≡ false) one is.instance) (inr (subst (λ (f : FieldInfo). is_final f.flags ≡ true) one is.final))
+          (subst (λ (f : FieldInfo). is_frozen f.class ≡ true) one (turns.built.frozen_are.with_frozen fi is))
+          (λ guards changes. guards.frozen fi o k.there is changes))
+      still_word m n z free (guarded fi o is at k) =
+          let one : is.field ≡ k.field = same_field fi is.field k.field is.is k.is in
+          same_word z (value_word o.reference k.field.index) k.place
+          (field_stays fi z o k (subst (λ (f : FieldInfo). is_static f.flags ≡ false) one is.instance) (inl (subst (λ (f : FieldInfo). is_private f.flags ≡ true) one is.private))
+          (subst (λ (f : FieldInfo). is_frozen f.class ≡ true) one (turns.built.frozen_are.with_guarded fi is))
+          (λ guards changes. by_guard (guards.guarded fi o k.there is changes)))
+        where
+          by_guard : HoldsMonitor o.reference x ⊎ MakesObject c o.reference x.frames → MakesObject c o.reference x.frames
+          by_guard (inl holds) = absurd (held_not c cfg objects was s t x turns.facts turns.thread m n free (subst (λ (r : ℕ). HoldsMonitor r x) at holds))
+          by_guard (inr makes) = makes

@@ -1,0 +1,160 @@
+-- Each turn of a stage keeps what holds there, or comes to the next stage; and where no turn comes, the run is over.
+use Rattle.std.proofs.Common.{◌≡◌, ◌≤◌, ◌<◌, ℕ, zero, suc, ◌+◌, Bool, true, false, List, [], ◌∷◌, length, Option, Some, None, refl, sym, ap, subst, ◌∙◌, arith}
+use Rattle.std.specs.Prelude.{nat_le, nat_lt, ◌&&◌, if◌then◌else◌, find, slice_get}
+use Rattle.std.specs.List.{range_with_len}
+use Rattle.std.specs.Option.{option_or}
+use Rattle.std.proofs.lemmas.Bool.Decides.{nat_tests}
+use Rattle.jvm_types.specs.declared.program.Program.{Program}
+use Rattle.checked_program.specs.MarkedProgram.{MarkedProgram}
+use Rattle.machine_types.specs.Core.{Core, Of, NextPart, event, is_live_thread, lives, may_begin, may_begin_by, next, next_threads, part_begins}
+use Rattle.machine_types.specs.Faithful.{IsOver}
+use Rattle.machine_types.specs.Schedules.{Stage, First, Ordered, Rounds, Last, turn_of, turn_at, part_turn, ordered, rounds, round_turn, is_live_worker, live_from}
+use Rattle.machine_types.specs.Threads.{Thread}
+use Rattle.laws_threads.specs.GivenThread.{GivenIsKept}
+use Rattle.laws_refinement.proofs.EventsKeep.{none_wakes, keeps_part}
+use Rattle.laws_refinement.proofs.StageFits.{PartIs, NoWorkerLives, IsAlone, IsWaiting, StageFits, TurnFits}
+
+-- ---- an event
+
+event_alone : GivenIsKept → (P : ℕ → Type 0) (c : MarkedProgram) (s : Core) (t : ℕ) → IsAlone P s → IsAlone P (event c s t)
+event_alone given P c s t h = record { part = keeps_part given P c s t h.part; workers = λ u. none_wakes c s t (suc u) (h.workers u) }
+
+event_waits : GivenIsKept → (c : MarkedProgram) (s : Core) (t : ℕ) → IsWaiting s → IsWaiting (event c s t)
+event_waits given c s t h = record { part = keeps_part given (λ n. n ≡ 1) c s t h.part; first = none_wakes c s t 0 h.first }
+
+-- ---- the begin of a part
+
+abbrev part_of : Option Thread → ℕ
+part_of None = 0
+part_of (Some x) = x.part
+
+abbrev with_threads : Core → List Thread → Core
+with_threads s xs = record s { threads = xs }
+
+-- the threads behind it, where the number of the part is known
+begun : (p : Program) (x : Thread) (workers : List Thread) (n : ℕ) → may_begin (x ∷ workers) ≡ true → x.part ≡ n → part_begins p n x workers ≡ next_threads p (x ∷ workers)
+begun p x workers n may e =
+    ap (λ (k : ℕ). part_begins p k x workers) (sym e) ∙ sym (ap (λ (b : Bool). if b then part_begins p x.part x workers else x ∷ workers) may)
+
+workers_begin : (c : MarkedProgram) (s : Core) → IsAlone (λ n. n ≡ 0) s → lives s 0 ≡ false → may_begin s.threads ≡ true → IsWaiting (next c s)
+workers_begin c s h dead may = by_threads s.threads h.part dead may
+  where
+    by_threads : (xs : List Thread) → PartIs (λ n. n ≡ 0) (with_threads s xs) → lives (with_threads s xs) 0 ≡ false → may_begin xs ≡ true → IsWaiting (next c (with_threads s xs))
+    by_threads [] part dead may = absurd (cc)
+    by_threads (x ∷ workers) part dead may =
+        subst (λ (ys : List Thread). IsWaiting (with_threads s ys)) (begun c.program x workers 0 may (part x refl))
+        (record { part = λ y e. ap part_of (sym e); first = dead })
+
+done_begins : (c : MarkedProgram) (s : Core) → IsWaiting s → NoWorkerLives s → may_begin s.threads ≡ true → IsAlone (λ n. 2 ≤ n) (next c s)
+done_begins c s h dead may = by_threads s.threads h.part dead may
+  where
+    by_threads : (xs : List Thread) → PartIs (λ n. n ≡ 1) (with_threads s xs) → NoWorkerLives (with_threads s xs) → may_begin xs ≡ true → IsAlone (λ n. 2 ≤ n) (next c (with_threads s xs))
+    by_threads [] part dead may = absurd (cc)
+    by_threads (x ∷ workers) part dead may =
+        subst (λ (ys : List Thread). IsAlone (λ n. 2 ≤ n) (with_threads s ys)) (begun c.program x workers 1 may (part x refl))
+        (record { part = λ y e. let two : y.part ≡ 2 = ap part_of (sym e) in omega (arith, two); workers = dead })
+
+-- ---- workers of whom none lives
+
+none_passes : (test : ℕ → Bool) (from n i : ℕ) → find test (range_with_len from n) ≡ None → i < n → test (from + i) ≡ false
+none_passes test from zero i e h = absurd (omega (arith, h))
+none_passes test from (suc n) i e h = by_test (test from) refl e (λ k rest room. none_passes test (from + 1) n k rest room)
+  where
+    behind : (i : ℕ) → i < suc n → test from ≡ false → ((k : ℕ) → k < n → test ((from + 1) + k) ≡ false) → test (from + i) ≡ false
+    behind zero h fails on = let same : from + 0 ≡ from = omega arith in ap test same ∙ fails
+    behind (suc i) h fails on = let same : from + suc i ≡ (from + 1) + i = omega arith in ap test same ∙ on i (omega (arith, h))
+
+    by_test : (b : Bool) → test from ≡ b → (if b then Some from else find test (range_with_len (from + 1) n)) ≡ None
+        → ((k : ℕ) → find test (range_with_len (from + 1) n) ≡ None → k < n → test ((from + 1) + k) ≡ false) → test (from + i) ≡ false
+    by_test true g e on = absurd (cc)
+    by_test false g e on = behind i h g (λ k room. on k e room)
+
+past_end : (xs : List Thread) (i : ℕ) → length xs ≤ i → slice_get xs i ≡ None
+past_end [] i h = refl
+past_end (x ∷ xs) zero h = absurd (omega (arith, h))
+past_end (x ∷ xs) (suc i) h = past_end xs i (omega (arith, h))
+
+none_live : (s : Core) → live_from s 1 ≡ None → NoWorkerLives s
+none_live s e u = by_room (nat_lt u (length s.threads)) refl
+  where
+    one : nat_le 1 (suc u) ≡ true
+    one = grind (arith, nat_tests)
+
+    next : 1 + u ≡ suc u
+    next = omega arith
+
+    by_room : (b : Bool) → nat_lt u (length s.threads) ≡ b → lives s (suc u) ≡ false
+    by_room true h =
+        ap (λ (b : Bool). b && lives s (suc u)) (sym one)
+        ∙ ap (λ (t : ℕ). nat_le 1 t && lives s t) (sym next)
+        ∙ none_passes (λ t. nat_le 1 t && lives s t) 1 (length s.threads) u e (grind (arith, nat_tests, h))
+    by_room false h = ap is_live_thread (past_end s.threads (suc u) (grind (arith, nat_tests, h)))
+
+second_none : (a b : Option ℕ) → option_or a b ≡ None → b ≡ None
+second_none None b e = e
+second_none (Some x) b e = absurd (cc)
+
+-- ---- where no part may begin
+
+all_dead : (s : Core) → lives s 0 ≡ false → NoWorkerLives s → (t : ℕ) → lives s t ≡ false
+all_dead s first workers zero = first
+all_dead s first workers (suc u) = workers u
+
+over : (s : Core) → lives s 0 ≡ false → NoWorkerLives s → may_begin s.threads ≡ false → IsOver s
+over s first workers last = record { dead = all_dead s first workers; last = last }
+
+-- behind `done` comes no part
+none_after : (xs : List Thread) → ((x : Thread) → slice_get xs 0 ≡ Some x → 2 ≤ x.part) → may_begin xs ≡ false
+none_after [] part = refl
+none_after (x ∷ workers) part = by_part x.part (part x refl)
+  where
+    by_part : (n : ℕ) → 2 ≤ n → may_begin_by n x.phase workers ≡ false
+    by_part zero two = absurd (omega (arith, two))
+    by_part (suc zero) two = absurd (omega (arith, two))
+    by_part (suc (suc n)) two = refl
+
+-- ---- the turns of each stage
+
+module _ (given : GivenIsKept) (c : MarkedProgram) (s : Core) where
+  init_turn : (order : List ℕ) → IsAlone (λ n. n ≡ 0) s → TurnFits c s (turn_at (First order) s)
+  init_turn order h = by_live (lives s 0) refl
+    where
+      by_begin : (b : Bool) → lives s 0 ≡ false → may_begin s.threads ≡ b → TurnFits c s (if b then turn_of NextPart (Ordered order) else None)
+      by_begin true dead may = workers_begin c s h dead may
+      by_begin false dead may = over s dead h.workers may
+
+      by_live : (b : Bool) → lives s 0 ≡ b → TurnFits c s (if b then turn_of (Of 0) (First order) else part_turn s (Ordered order))
+      by_live true live = event_alone given (λ n. n ≡ 0) c s 0 h
+      by_live false dead = by_begin (may_begin s.threads) dead refl
+
+  round_fits : (from : ℕ) → IsWaiting s → TurnFits c s (rounds s from)
+  round_fits from h = by_worker (option_or (live_from s from) (live_from s 1)) refl
+    where
+      by_begin : (b : Bool) → NoWorkerLives s → may_begin s.threads ≡ b → TurnFits c s (if b then turn_of NextPart Last else None)
+      by_begin true dead may = done_begins c s h dead may
+      by_begin false dead may = over s h.first dead may
+
+      by_worker : (o : Option ℕ) → option_or (live_from s from) (live_from s 1) ≡ o → TurnFits c s (round_turn s o)
+      by_worker None e = by_begin (may_begin s.threads) (none_live s (second_none (live_from s from) (live_from s 1) e)) refl
+      by_worker (Some t) e = event_waits given c s t h
+
+  ordered_fits : (order : List ℕ) → IsWaiting s → TurnFits c s (ordered s order)
+  ordered_fits [] h = round_fits 1 h
+  ordered_fits (t ∷ order) h = by_live (is_live_worker s t) (ordered_fits order h)
+    where
+      by_live : (b : Bool) → TurnFits c s (ordered s order) → TurnFits c s (if b then turn_of (Of t) (Ordered order) else ordered s order)
+      by_live true rest = event_waits given c s t h
+      by_live false rest = rest
+
+  done_turn : IsAlone (λ n. 2 ≤ n) s → TurnFits c s (turn_at Last s)
+  done_turn h = by_live (lives s 0) refl
+    where
+      by_live : (b : Bool) → lives s 0 ≡ b → TurnFits c s (if b then turn_of (Of 0) Last else None)
+      by_live true live = event_alone given (λ n. 2 ≤ n) c s 0 h
+      by_live false dead = over s dead h.workers (none_after s.threads h.part)
+
+  pub turn_fits : (stage : Stage) → StageFits stage s → TurnFits c s (turn_at stage s)
+  turn_fits (First order) h = init_turn order h
+  turn_fits (Ordered order) h = ordered_fits order h
+  turn_fits (Rounds from) h = round_fits from h
+  turn_fits Last h = done_turn h

@@ -1,0 +1,150 @@
+-- What an event inside an attempt makes of it: the thread goes on in the same one, or is about to enter again, or goes on behind
+-- the section, and is then at no entry.
+use Rattle.std.proofs.Common.{◌≡◌, ℕ, zero, suc, ◌+◌, nat_lt, Bool, true, false, cond, drop, List, [], ◌∷◌, Option, Some, None, refl, sym, ap, ◌∙◌, subst, arith}
+use Rattle.std.specs.Prelude.{option_map}
+use Rattle.std.proofs.lemmas.Bool.Decides.{nat_tests}
+use Rattle.jvm_types.specs.declared.outcome.Thrown.{Thrown}
+use Rattle.jvm_types.specs.declared.program.Program.{Program}
+use Rattle.checked_program.specs.MarkedProgram.{MarkedProgram}
+use Rattle.machine_types.specs.Elision.{may_try, is_same, is_checked, if_same, put_back, fails, elided}
+use Rattle.machine_types.specs.Events.{moved}
+use Rattle.machine_types.specs.Frames.{Top, top_of, effect_at, returned}
+use Rattle.machine_types.specs.Going.{with_phase, goes_on, goes_on_if, goes_after, root_over}
+use Rattle.machine_types.specs.History.{Fate, GoesOn, Fails, Finishes, fate, fate_by, run_fate, leave_fate}
+use Rattle.machine_types.specs.Instructions.{begun, did, instructed, ran}
+use Rattle.machine_types.specs.Monitors.{Claim, finishes, enter_moves, leave_moves}
+use Rattle.machine_types.specs.Onward.{Onward, Running, Throwing, Entering, Leaving, RootReturned, Uncaught, back, unwound, dispatched, after, done}
+use Rattle.machine_types.specs.Threads.{Attempt, Frame, Thread}
+use Rattle.machine_types.specs.declared.effect.Effect.{Effect}
+use Rattle.machine_types.specs.declared.effect.Effect.TheVariants.{Writes, Indexes, Makes, Prints, Waits, Notifies, NotifiesAll}
+use Rattle.machine_types.specs.declared.phase.After.{After}
+use Rattle.machine_types.specs.declared.phase.After.TheVariants as afters
+use Rattle.machine_types.specs.declared.phase.Phase.{Phase}
+use Rattle.machine_types.specs.declared.phase.Phase.TheVariants as phases
+use Rattle.laws_threads.specs.InsideEffects.{MayDo}
+use Rattle.laws_states.proofs.PlainMoves.{goes_attempt}
+use Rattle.laws_refinement.proofs.Inside.{Inside, KnownInside}
+use Rattle.laws_refinement.specs.EntryLaws.{HasFailed}
+use Rattle.laws_refinement.proofs.OutsideEntries.{is_entering, in_run}
+
+-- x is the thread before
+abbrev pub HasFate : (x y : Thread) → Attempt → Fate → Type 0
+HasFate x y a GoesOn = (inner : ℕ) × (y.attempt ≡ Some (record a { inner = inner })) × (y.counts.failed ≡ x.counts.failed)
+HasFate x y a Fails = HasFailed x y a
+HasFate x y a Finishes = (y.attempt ≡ None) × (is_entering y.phase ≡ false) × (y.counts.failed ≡ x.counts.failed)
+
+-- ---- a thread that has left a monitor enters none
+
+abbrev IsElsewhere : Thread → Type 0
+IsElsewhere y = is_entering y.phase ≡ false
+
+module _ (s : Thread) where
+  over_elsewhere : (roots : List ℕ) → is_entering (root_over roots) ≡ false
+  over_elsewhere [] = refl
+  over_elsewhere (number ∷ roots) = refl
+
+  back_elsewhere : (fs : List Frame) → IsElsewhere (goes_on s (back fs))
+  back_elsewhere [] = over_elsewhere s.roots
+  back_elsewhere (f ∷ fs) = in_run (nat_lt s.counts.instructions s.cfg.steps)
+
+  unwound_elsewhere : (x : ℕ) (class : Thrown) (fs : List Frame) → IsElsewhere (goes_on s (unwound x class fs))
+  unwound_elsewhere x class [] = refl
+  unwound_elsewhere x class (f ∷ fs) = refl
+
+  after_elsewhere : (p : Program) (fs : List Frame) (a : After) → IsElsewhere s → IsElsewhere (goes_on_if s (after p fs a))
+  after_elsewhere p fs afters.Next k = in_run (nat_lt s.counts.instructions s.cfg.steps)
+  after_elsewhere p fs afters.Return k = by_top (top_of p fs)
+    where
+      by_top : (top : Option Top) → IsElsewhere (goes_on_if s (option_map (λ at. back (returned p at)) top))
+      by_top None = k
+      by_top (Some at) = back_elsewhere (returned p at)
+  after_elsewhere p fs (afters.Unwind x class) k = unwound_elsewhere x class (drop 1 fs)
+
+-- ---- a thread that goes on counts no failure
+
+goes_failed : (s : Thread) (o : Option Onward) → (goes_on_if s o).counts.failed ≡ s.counts.failed
+goes_failed s None = refl
+goes_failed s (Some (Running frames)) = refl
+goes_failed s (Some (Throwing x class frames)) = refl
+goes_failed s (Some (Entering m frames)) = refl
+goes_failed s (Some (Leaving m a frames)) = refl
+goes_failed s (Some RootReturned) = refl
+goes_failed s (Some (Uncaught class)) = refl
+
+-- ---- all phases
+
+is_some : (n : ℕ) → nat_lt 0 (suc n) ≡ true
+is_some n = grind (arith, nat_tests)
+
+module _ (c : MarkedProgram) (x : Thread) (a : Attempt) (tries : x.attempt ≡ Some a) (got : ℕ) where
+  same : (y : Thread) → y.attempt ≡ x.attempt → y.counts.failed ≡ x.counts.failed → HasFate x y a GoesOn
+  same y e f = (a.inner, e ∙ tries, f)
+
+  -- a thread that fails in the frames and with the monitors and turns of x, and after as many failures
+  put_back_to : (z : Thread) → z.frames ≡ x.frames → z.held ≡ x.held → z.turns ≡ x.turns → z.counts.failed ≡ x.counts.failed → HasFailed x (fails z a) a
+  put_back_to z frames held turns failed = record { outside = refl; enters = refl; frames = ap (put_back a) frames; held = held; turns = turns; counted = ap (λ (n : ℕ). n + 1) failed }
+
+  -- behind a check
+  checked : (z y : Thread) → HasFailed x (fails z a) a → HasFate x y a GoesOn → HasFate x (if_same z x.attempt got y) a (fate_by (is_same a got) GoesOn)
+  checked z y back k = subst (λ (o : Option Attempt). HasFate x (if_same z o got y) a (fate_by (is_same a got) GoesOn)) (sym tries) (by_test (is_same a got))
+    where
+      by_test : (b : Bool) → HasFate x (cond b y (fails z a)) a (fate_by b GoesOn)
+      by_test true = k
+      by_test false = back
+
+  -- an instruction, but for its check
+  did_inside : (at : Top) (e : Effect) → MayDo c a.monitor at e → (did c.program (begun x) at e got).attempt ≡ x.attempt
+  did_inside at (Writes v word) may = absurd may
+  did_inside at (Indexes array index stored) may = absurd may
+  did_inside at (Makes word size) may = absurd may
+  did_inside at (Prints n) may = absurd may
+  did_inside at (Waits m) may = absurd may
+  did_inside at (Notifies m) may = absurd may
+  did_inside at (NotifiesAll m) may = absurd may
+  did_inside at e may = goes_attempt (begun x) (done c.program at e got)
+
+  did_no_failure : (at : Top) (e : Effect) → MayDo c a.monitor at e → (did c.program (begun x) at e got).counts.failed ≡ x.counts.failed
+  did_no_failure at (Writes v word) may = absurd may
+  did_no_failure at (Indexes array index stored) may = absurd may
+  did_no_failure at (Makes word size) may = absurd may
+  did_no_failure at (Prints n) may = absurd may
+  did_no_failure at (Waits m) may = absurd may
+  did_no_failure at (Notifies m) may = absurd may
+  did_no_failure at (NotifiesAll m) may = absurd may
+  did_no_failure at e may = goes_failed (begun x) (done c.program at e got)
+
+  instructed_inside : (at : Top) (e : Effect) → MayDo c a.monitor at e → HasFate x (instructed c.program (begun x) at e got) a (cond (is_checked at.frame.pc e) (fate_by (is_same a got) GoesOn) GoesOn)
+  instructed_inside at e may = by_check (is_checked at.frame.pc e)
+    where
+      on : HasFate x (did c.program (begun x) at e got) a GoesOn
+      on = same (did c.program (begun x) at e got) (did_inside at e may) (did_no_failure at e may)
+
+      by_check : (b : Bool) → HasFate x (cond b (if_same (begun x) x.attempt got (did c.program (begun x) at e got)) (did c.program (begun x) at e got)) a (cond b (fate_by (is_same a got) GoesOn) GoesOn)
+      by_check true = checked (begun x) _ (put_back_to (begun x) refl refl refl refl) on
+      by_check false = on
+
+  -- an exit, which may be the last
+  finishes_inside : (e : After) (inner : ℕ) → is_entering x.phase ≡ false → HasFate x (finishes c.program x e a inner got) a (cond (nat_lt 0 inner) GoesOn (fate_by (is_same a got) Finishes))
+  finishes_inside e zero k = by_test (is_same a got)
+    where
+      by_test : (b : Bool) → HasFate x (cond b (goes_after c.program (elided x) e) (fails x a)) a (fate_by b Finishes)
+      by_test true = (goes_attempt (elided x) (after c.program x.frames e), after_elsewhere (elided x) c.program x.frames e k, goes_failed (elided x) (after c.program x.frames e))
+      by_test false = put_back_to x refl refl refl refl
+  finishes_inside e (suc inner) k =
+      let z : Thread = record x { attempt = Some (record a { inner = inner }) } in
+      subst (λ (some : Bool). HasFate x (goes_after c.program z e) a (cond some GoesOn (fate_by (is_same a got) Finishes))) (sym (is_some inner)) (inner, goes_attempt z (after c.program x.frames e), goes_failed z (after c.program x.frames e))
+
+  moves_at : (phase : Phase) → x.phase ≡ phase → KnownInside c x a phase → HasFate x (moved c x phase got) a (fate c x a phase got)
+  moves_at phases.Run e k = subst (λ (o : Option Top). HasFate x (ran c.program x o got) a (run_fate c a o got)) (sym k.found) (instructed_inside k.at (effect_at c.program k.at) k.may)
+  moves_at (phases.Throw r class) e k =
+      let o : Option Onward = dispatched c.program r class x.frames in
+      checked x (goes_on_if x o) (put_back_to x refl refl refl refl) (same (goes_on_if x o) (goes_attempt x o) (goes_failed x o))
+  moves_at (phases.Enter n number) e k = subst (λ (claim : Claim). HasFate x (enter_moves x n number (may_try c x number) claim got) a GoesOn) (sym k) (a.inner + 1, refl, refl)
+  moves_at (phases.Leave n b) e k = subst (λ (claim : Claim). HasFate x (leave_moves c.program x n b claim got) a (leave_fate claim got)) (sym k) (finishes_inside b a.inner (subst (λ (phase : Phase). is_entering phase ≡ false) (sym e) refl))
+  moves_at (phases.Ending reason) e k = same (with_phase x (phases.Ended reason)) refl refl
+  moves_at (phases.Ended reason) e k = same x refl refl
+  moves_at phase e k = absurd k
+
+-- the event of a thread inside an attempt
+pub inside_moves : (c : MarkedProgram) (x : Thread) (a : Attempt) → Inside c x a → (got : ℕ) → HasFate x (moved c x x.phase got) a (fate c x a x.phase got)
+inside_moves c x a k got = moves_at c x a k.attempt got x.phase refl k.known

@@ -1,0 +1,73 @@
+-- Where guarded fields, and final fields of frozen classes, are written.
+use Rattle.std.proofs.Common.{◌≡◌, ℕ, Bool, true, false, not, ◌&&◌, ◌||◌, [], ◌∷◌, Some, None, refl, sym, ◌∙◌, subst, inl, inr, ◌⊎◌, arith}
+use Rattle.std.specs.Prelude.{◌==◌, slice_get, IsSomeAnd}
+use Rattle.std.specs.List.{list_any}
+use Rattle.std.proofs.lemmas.Bool.{and_parts}
+use Rattle.std.proofs.lemmas.Bool.Decides.{nat_tests}
+use Rattle.jvm_types.specs.CodeTable.{is_init}
+use Rattle.jvm_types.specs.Members.{is_final, is_static, is_hidden, first_rule, field_rule}
+use Rattle.jvm_types.specs.declared.refusal.LRule.TheVariants.{L2, L3, L7}
+use Rattle.jvm_types.specs.ProgramInvariant.{IsTargetOf, site_in}
+use Rattle.jvm_types.specs.declared.code.Op.TheVariants as ops
+use Rattle.jvm_types.specs.declared.program.FieldInfo.{FieldInfo}
+use Rattle.jvm_types.specs.declared.program.Target.{Target}
+use Rattle.jvm_types.specs.declared.program.Target.TheVariants as targets
+use Rattle.jvm_types.specs.declared.program.MethodInfo.{MethodInfo}
+use Rattle.jvm_types.specs.declared.program.Program.{Program}
+use Rattle.checked_program.specs.LockTags.{is_this}
+use Rattle.checked_program.specs.FrozenPlaces.{locks_this, PutsGuarded, WritesGuarded, PutsOnThis, is_final_of}
+use Rattle.checked_program.specs.SectionLaws.{WriteLaw, FinalLaw}
+use Rattle.laws_programs.proofs.CodeOrder.{have_targets}
+
+or_three : (x y z : Bool) → (x || (y || z)) ≡ true → (x ≡ true) ⊎ (y ≡ true) ⊎ (z ≡ true)
+or_three true y z e = inl refl
+or_three false true z e = inr (inl refl)
+or_three false false z e = inr (inr e)
+
+pub write_law : WriteLaw
+write_law p tags fi mi i index receiver m insn target f stack g at is names_field this =
+    let here : PutsGuarded fi m (ops.Putfield index) (targets.Field fi) f = subst (λ t. PutsGuarded fi m (ops.Putfield index) t f) names_field (subst (λ op. PutsGuarded fi m op target f) is (g.written mi i m insn target f at)) in
+    let written : WritesGuarded m f = here refl in
+    (this 1 written.0, or_three (is_init m) (list_any is_this f.held) (locks_this m) written.1)
+
+-- ---- a final field is written in an `<init>` of its class
+
+-- only a rule that does not stand lets the others be tested
+last_rule : (a b c : Bool) → first_rule ((a, L2) ∷ (b, L3) ∷ (c, L7) ∷ []) ≡ None → c ≡ false
+last_rule true b c e = absurd (cc)
+last_rule false true c e = absurd (cc)
+last_rule false false true e = absurd (cc)
+last_rule false false false e = refl
+
+in_init : (final initializes : Bool) → (final && not initializes) ≡ false → final ≡ true → initializes ≡ true
+in_init true true e f = refl
+in_init true false e f = absurd (cc)
+in_init false initializes e f = absurd (cc)
+
+may_write : (class flags : ℕ) (m : MethodInfo) → field_rule false true (site_in m) class flags ≡ None → is_final flags ≡ true → (class ≡ m.class) × (is_init m ≡ true)
+may_write class flags m rule final =
+    let last = last_rule (is_static flags) (is_hidden (site_in m) class flags) (is_final flags && not ((class == m.class) && is_init m)) rule in
+    let both = and_parts (class == m.class) (is_init m) (in_init (is_final flags) ((class == m.class) && is_init m) last final) in
+    (grind (arith, nat_tests, both.0), both.1)
+
+of_field : (p : Program) (fi : ℕ) (field : FieldInfo) (m : MethodInfo) → IsSomeAnd (slice_get p.fields fi) (λ f. field_rule false true (site_in m) f.class f.flags ≡ None) → slice_get p.fields fi ≡ Some field → field_rule false true (site_in m) field.class field.flags ≡ None
+of_field p fi field m h e = subst (λ o. IsSomeAnd o (λ (f : FieldInfo). field_rule false true (site_in m) f.class f.flags ≡ None)) e h
+
+is_final_field : (class : ℕ) (field : FieldInfo) → field.class ≡ class → is_final field.flags ≡ true → is_final_of class (Some field) ≡ true
+is_final_field class field same final = both (field.class == class) (is_final field.flags) (grind (arith, nat_tests, same)) final
+  where
+    both : (t u : Bool) → t ≡ true → u ≡ true → (t && u) ≡ true
+    both true u e f = f
+    both false u e f = e
+
+pub final_law : FinalLaw
+final_law p tags fi mi i index receiver m insn target f stack program g at is names_field this =
+    let fits : (t : Target) × (slice_get m.targets i ≡ Some t) × IsTargetOf p (site_in m) insn.op t = have_targets p mi i m insn program at.in_program at.in_code in
+    let same : fits.0 ≡ targets.Field fi = (let e : Some fits.0 ≡ Some target = sym fits.1 ∙ at.names in let k : fits.0 ≡ target = cc in k ∙ names_field) in
+    let named : IsTargetOf p (site_in m) (ops.Putfield index) (targets.Field fi) = subst (λ t. IsTargetOf p (site_in m) (ops.Putfield index) t) same (subst (λ op. IsTargetOf p (site_in m) op fits.0) is fits.2) in
+    let allowed = may_write g.field.class g.field.flags m (of_field p fi g.field m named g.is) g.final in
+    let inside = g.frozen mi m at.in_program (sym allowed.0) allowed.1 in
+    let here : PutsOnThis p m insn.op target f = inside.finals i insn target f at in
+    let here : PutsOnThis p m (ops.Putfield index) (targets.Field fi) f = subst (λ t. PutsOnThis p m (ops.Putfield index) t f) names_field (subst (λ op. PutsOnThis p m op target f) is here) in
+    let final : is_final_of m.class (slice_get p.fields fi) ≡ true = subst (λ o. is_final_of m.class o ≡ true) (sym g.is) (is_final_field m.class g.field allowed.0 g.final) in
+    (allowed.1, this 1 (here final))

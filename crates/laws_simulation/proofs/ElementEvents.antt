@@ -1,0 +1,287 @@
+-- The event that reads or stores an element: the plain machine does the whole instruction with it.
+use Rattle.std.proofs.Common.{◌≡◌, ℕ, ◌<◌, nat_lt, Bool, true, false, List, [], ◌∷◌, length, Option, Some, None, refl, sym, ap, subst, ◌∙◌, arith}
+use Rattle.std.specs.Prelude.{Contains, slice_index, slice_set, option_map, option_and_then, ◌==◌, if◌then◌else◌}
+use Rattle.std.proofs.lemmas.Bool.Decides.{nat_tests}
+use Rattle.jvm_types.specs.declared.class_numbers.TheConstants.{INT_ARRAY_CLASS}
+use Rattle.jvm_types.specs.declared.code.Insn.{Insn}
+use Rattle.jvm_types.specs.declared.code.Op.{Op}
+use Rattle.jvm_types.specs.declared.code.Op.TheVariants as ops
+use Rattle.jvm_types.specs.declared.fixed_words.TheConstants.{NEXT_FREE_WORD}
+use Rattle.jvm_types.specs.declared.outcome.End.TheVariants as ends
+use Rattle.jvm_types.specs.declared.outcome.Thrown.TheVariants as thrown
+use Rattle.jvm_types.specs.declared.outcome.Thrown.TheVariants.{ArrayIndexOutOfBoundsException}
+use Rattle.jvm_types.specs.declared.op_row.OpRow.{OpRow}
+use Rattle.jvm_types.specs.declared.program.MethodInfo.{MethodInfo}
+use Rattle.jvm_types.specs.declared.program.Program.{Program}
+use Rattle.jvm_types.specs.declared.program.Target.{Target}
+use Rattle.checked_program.specs.MarkedProgram.{MarkedProgram}
+use Rattle.checked_program.specs.TaggedCode.{row_of}
+use Rattle.machine_types.specs.Agreement.{has_wait_bit}
+use Rattle.machine_types.specs.Core.{Core}
+use Rattle.machine_types.specs.Effects.{effect}
+use Rattle.machine_types.specs.Events.{element_made, wanted, moved}
+use Rattle.machine_types.specs.Frames.{Top, top_of, effect_at, went_on}
+use Rattle.machine_types.specs.Going.{goes_on, goes_on_if}
+use Rattle.machine_types.specs.History.{acts_of}
+use Rattle.machine_types.specs.Ints.{low}
+use Rattle.machine_types.specs.Onward.{Running, threw}
+use Rattle.machine_types.specs.Owners.{references_of}
+use Rattle.machine_types.specs.PlainInstructions.{did, indexed_in, instructed, instructed_by}
+use Rattle.machine_types.specs.PlainMemory.{Object}
+use Rattle.machine_types.specs.PlainState.{Plain, PlainThread, value_at, written, with_thread}
+use Rattle.machine_types.specs.PlainState as plain
+use Rattle.machine_types.specs.PlainSteps.{step_at, plain_run}
+use Rattle.machine_types.specs.History.{steps_of}
+use Rattle.machine_types.specs.Structure.{PhaseShows, TopIs, is_element_op}
+use Rattle.machine_types.specs.Threads.{Frame, Thread}
+use Rattle.machine_types.specs.Typed.{FramesHold, HasClass, IsElementOn, ElementStands, HasElement, HasElementOn, HasElementIn}
+use Rattle.machine_types.specs.Waiting.{MayWait}
+use Rattle.machine_types.specs.Words.{header_length, header_word, value_word}
+use Rattle.machine_types.specs.declared.access.Access.TheVariants.{Load, Store}
+use Rattle.machine_types.specs.declared.config.Config.{Config}
+use Rattle.machine_types.specs.declared.effect.Effect.{Effect}
+use Rattle.machine_types.specs.declared.effect.Effect.TheVariants.{Throws, Indexes}
+use Rattle.machine_types.specs.declared.phase.Phase.{Phase}
+use Rattle.machine_types.specs.declared.phase.Phase.TheVariants as phases
+use Rattle.machine_types.specs.declared.plain.Act.TheVariants as acts
+use Rattle.laws_threads.specs.Allowed.{Allowed, IsOf}
+use Rattle.laws_threads.proofs.Landing.{stand_top}
+use Rattle.laws_threads.proofs.TopStand.{top_here}
+use Rattle.laws_threads.proofs.TopEffects.{allowed_here}
+use Rattle.laws_threads.proofs.Onwards.{same_op}
+use Rattle.laws_states.specs.HeapFacts.{objects_by}
+use Rattle.laws_states.specs.Sites.{HeaderOf, ValueOf}
+use Rattle.laws_states.proofs.Accesses.{out_there}
+use Rattle.laws_states.proofs.Found.{length_found}
+use Rattle.laws_states.proofs.Lists.{contained_got}
+use Rattle.laws_states.proofs.Places.{same_object}
+use Rattle.laws_simulation.specs.StepsBeside.{StepsBeside}
+use Rattle.laws_simulation.proofs.Assembled.{one_step}
+use Rattle.laws_simulation.proofs.OwnThread.{IsBusy}
+use Rattle.laws_simulation.proofs.PlainValues.{value_found}
+use Rattle.laws_simulation.proofs.Scene.{Scene, GoesOn, Memory, awake, counts_as, going, none_on, comes_beside, steps_of_event, looked}
+use Rattle.laws_simulation.proofs.MemoryParts.{stays, writes}
+use Rattle.laws_simulation.proofs.RunScene.{twin, runs_on, frames_are, status_fits, values}
+
+-- ---- the element that the stack names
+
+pub record Names (objects : List Object) (p : Program) (next : ℕ) (target : Target) (op : Op) (locals stack : List ℕ) (word : ℕ) (stored : Option ℕ) : Type 0 where
+  pub array : ℕ
+  pub index : ℕ
+  pub effect_is : effect p next target op locals stack ≡ Indexes array index stored
+  pub word_is : word ≡ value_word array index
+  pub element : HasElement objects array index
+
+null_or_not : (a i : ℕ) (stored : Option ℕ) → 0 < a → (if a == 0 then Throws thrown.NullPointerException else Indexes a i stored) ≡ Indexes a i stored
+null_or_not a i stored h = by_test (a == 0) refl
+  where
+    by_test : (b : Bool) → (a == 0) ≡ b → (if b then Throws thrown.NullPointerException else Indexes a i stored) ≡ Indexes a i stored
+    by_test true e = absurd (grind (arith, nat_tests, e, h))
+    by_test false e = refl
+
+names : (objects : List Object) (p : Program) (next : ℕ) (target : Target) (op : Op) (locals stack : List ℕ) (word : ℕ) (stored : Option ℕ) → is_element_op stored op ≡ true → IsElementOn word stored stack → HasElementOn objects stored stack
+    → ((o : Object) → Contains objects o → 0 < o.reference) → Names objects p next target op locals stack word stored
+names objects p next target ops.Iaload locals (i ∷ a ∷ stack) word None t on k some =
+    record { array = a; index = i; effect_is = null_or_not a i None (subst (λ (n : ℕ). 0 < n) k.is (some k.object k.there)); word_is = on; element = k }
+names objects p next target ops.Iastore locals (w ∷ i ∷ a ∷ stack) word (Some v) t on k some = record {
+  array = a;
+  index = i;
+  effect_is = null_or_not a i (Some w) (subst (λ (n : ℕ). 0 < n) k.is (some k.object k.there)) ∙ ap (λ (n : ℕ). Indexes a i (Some n)) (sym on.1);
+  word_is = on.0;
+  element = k;
+}
+names objects p next target ops.Iaload locals [] word None t on k some = absurd on
+names objects p next target ops.Iaload locals (i ∷ []) word None t on k some = absurd on
+names objects p next target ops.Iastore locals [] word (Some v) t on k some = absurd on
+names objects p next target ops.Iastore locals (w ∷ []) word (Some v) t on k some = absurd on
+names objects p next target ops.Iastore locals (w ∷ i ∷ []) word (Some v) t on k some = absurd on
+names objects p next target op locals stack word None t on k some = absurd (cc)
+names objects p next target op locals stack word (Some v) t on k some = absurd (cc)
+
+-- one word stands there
+one_on : (w v : ℕ) (stored : Option ℕ) (stack : List ℕ) → IsElementOn w stored stack → IsElementOn v stored stack → w ≡ v
+one_on w v None (i ∷ a ∷ stack) e f = e ∙ sym f
+one_on w v (Some n) (u ∷ i ∷ a ∷ stack) e f = e.0 ∙ sym f.0
+one_on w v None [] e f = absurd e
+one_on w v None (i ∷ []) e f = absurd e
+one_on w v (Some n) [] e f = absurd e
+one_on w v (Some n) (u ∷ []) e f = absurd e
+one_on w v (Some n) (u ∷ i ∷ []) e f = absurd e
+
+module _ (c : MarkedProgram) (cfg : Config) (objects : List Object) (was : ℕ → Phase) (s : Core) (t : ℕ) (x : Thread) (q : Plain) (scene : Scene c cfg objects was s t x q) where
+  -- the instruction that the event ends, with the element at the word
+  pub record Element (word : ℕ) (stored : Option ℕ) : Type 0 where
+    pub at : Top
+    pub found : top_of c.program x.frames ≡ Some at
+    pub array : ℕ
+    pub index : ℕ
+    pub effect_is : effect_at c.program at ≡ Indexes array index stored
+    pub word_is : word ≡ value_word array (low index)
+    pub element : HasElement objects array (low index)
+    pub is_array : IsOf (HasClass objects) INT_ARRAY_CLASS array
+
+  some_object : (o : Object) → Contains objects o → 0 < o.reference
+  some_object o k = omega (arith, scene.facts.heap.apart.begin k.0 o (contained_got objects o k))
+
+  element_in : (word : ℕ) (stored : Option ℕ) (fs : List Frame) → x.frames ≡ fs → ElementStands word stored fs → FramesHold c (HasClass objects) fs → HasElementIn objects stored fs → (test : TopIs c (is_element_op stored) fs) → Element word stored
+  element_in word stored [] e on h k top = absurd on
+  element_in word stored (f ∷ fs) e on h k top =
+      let j = h.0.stands in
+      let op = ap (is_element_op stored) (same_op c scene.marked (HasClass objects) f j top.0) ∙ top.1 in
+      let n = names objects c.program j.insn.next j.target j.insn.op f.locals f.stack word stored op on k some_object in
+      let found : top_of c.program (f ∷ fs) ≡ Some (top_here c f fs j) = stand_top c scene.marked f fs j in
+      let al = allowed_here c scene.marked (HasClass objects) (out_there c scene.marked objects s scene.facts.heap) f h.0 in
+      named f fs e on n.array n.index n.element n.word_is (top_here c f fs j) found n.effect_is (allows n.array n.index (effect_at c.program (top_here c f fs j)) n.effect_is j.method j.insn j.target (row_of c.program j.method j.insn j.target) al)
+    where
+      allows : (array index : ℕ) (z : Effect) → z ≡ Indexes array index stored → (m : MethodInfo) (insn : Insn) (target : Target) (r : OpRow) → Allowed c.program m (HasClass objects) insn target r f.stack z
+          → IsOf (HasClass objects) INT_ARRAY_CLASS array × IsElementOn (value_word array (low index)) stored f.stack
+      allows array index z e m insn target r al = let k : Allowed c.program m (HasClass objects) insn target r f.stack (Indexes array index stored) = subst (λ (w : Effect). Allowed c.program m (HasClass objects) insn target r f.stack w) e al in (k.1, k.2)
+
+      named : (f : Frame) (fs : List Frame) → x.frames ≡ f ∷ fs → IsElementOn word stored f.stack → (array index : ℕ) → HasElement objects array index → word ≡ value_word array index
+          → (at : Top) → top_of c.program (f ∷ fs) ≡ Some at → effect_at c.program at ≡ Indexes array index stored → IsOf (HasClass objects) INT_ARRAY_CLASS array × IsElementOn (value_word array (low index)) stored f.stack → Element word stored
+      named f fs e on array index k is at found effect_is al =
+          let here : word ≡ value_word array (low index) = one_on word (value_word array (low index)) stored f.stack on al.1 in
+          let same : low index ≡ index = omega (arith, here, is) in
+          record {
+            at = at;
+            found = ap (top_of c.program) e ∙ found;
+            array = array;
+            index = index;
+            effect_is = effect_is;
+            word_is = here;
+            element = subst (λ (n : ℕ). HasElement objects array n) (sym same) k;
+            is_array = al.0;
+          }
+
+  module _ (word : ℕ) (stored : Option ℕ) (phase_is : x.phase ≡ phases.Element word stored) where
+    was_so : was t ≡ phases.Element word stored
+    was_so = counts_as c cfg objects was s t x q scene (phases.Element word stored) phase_is
+
+    k : Element word stored
+    k =
+        let own = scene.facts.structure t x scene.here in
+        let stands = own.stands in
+        let shows : PhaseShows c (phases.Element word stored) x.frames stands.shown x.held x.attempt = subst (λ (z : Phase). PhaseShows c z x.frames stands.shown x.held x.attempt) was_so stands.phase_shows in
+        let holds = values c cfg objects was s t x q scene (phases.Element word stored) phase_is in
+        element_in word stored x.frames refl holds.0 holds.1 (scene.facts.heap.typed.elements t x word stored scene.here phase_is) shows
+
+    abbrev y : PlainThread
+    y = (twin c cfg objects was s t x q scene).plain
+
+    abbrev place : ℕ
+    place = value_word k.array (low k.index)
+
+    abbrev header : ℕ
+    header = slice_index s.words (header_word k.array)
+
+    header_stands : value_at q (header_word k.array) ≡ Some header
+    header_stands = let object = k.is_array.2 in value_found scene.differ c objects s q scene.marked scene.facts.heap scene.beside (HeaderOf k.array) tt (object.0, object.1, object.2)
+
+    stands : value_at q place ≡ Some (slice_index s.words place)
+    stands = value_found scene.differ c objects s q scene.marked scene.facts.heap scene.beside (ValueOf k.array (low k.index)) tt (k.element.object, k.element.there, k.element.is, k.element.below)
+
+    -- the array has the element
+    has_it : nat_lt (low k.index) (header_length header) ≡ true
+    has_it =
+        let object : Object = k.is_array.2.0 in
+        let one : k.element.object ≡ object = same_object c.program objects (slice_index s.words NEXT_FREE_WORD) scene.facts.heap.apart k.element.object object k.element.there k.is_array.2.1 (k.element.is ∙ sym k.is_array.2.2) in
+        let long : header_length header ≡ length object.values = length_found c scene.marked objects s scene.facts.heap k.array k.is_array in
+        let below : low k.index < header_length header = omega (arith, k.element.below, long, ap (λ (o : Object). length o.values) one) in
+        grind (arith, nat_tests, below)
+
+    lives : x.phase ≡ phases.Ended ends.Returned → ⊥
+    lives h = let both : phases.Element word stored ≡ phases.Ended ends.Returned = sym phase_is ∙ h in cc
+
+    makes_none : (a header : ℕ) → x.phase ≡ phases.Made a header → ⊥
+    makes_none a header h = let both : phases.Element word stored ≡ phases.Made a header = sym phase_is ∙ h in cc
+
+    goes : (made : ℕ) → GoesOn c.program (has_wait_bit (references_of q.objects) s.words t) x (goes_on x (Running (went_on c.program k.at made))) (plain.goes_on y (Running (went_on c.program k.at made)))
+    goes made = going c.program (has_wait_bit (references_of q.objects) s.words t) x x y (Running (went_on c.program k.at made)) refl scene.outside refl
+        (awake c cfg objects was s t x q scene (λ r h. subst (λ (z : Phase). MayWait z r) was_so h)) (runs_on c cfg objects was s t x q scene (subst IsBusy (sym phase_is) tt))
+
+    same_frames : y.frames ≡ x.frames
+    same_frames = frames_are c cfg objects was s t x q scene (phases.Element word stored) phase_is
+
+    same_status : y.status ≡ plain.Run
+    same_status = status_fits c cfg objects was s t x q scene (phases.Element word stored) phase_is
+
+    run_is : plain_run c.program q (steps_of t (acts.Do ∷ [])) ≡ Some (indexed_in c.program q t y k.at place stored (slice_index s.words place))
+    run_is = one_step c.program q (indexed_in c.program q t y k.at place stored (slice_index s.words place)) t y acts.Do (twin c cfg objects was s t x q scene).here
+        (ap (step_at c.program q t y acts.Do) same_status
+        ∙ (ap (λ (fs : List Frame). instructed c.program q t y (top_of c.program fs)) same_frames
+        ∙ (ap (instructed c.program q t y) k.found
+        ∙ (ap (instructed_by c.program q t y k.at) k.effect_is
+        ∙ (ap (option_and_then (λ (n : ℕ). did c.program q t y k.at (Indexes k.array k.index stored) n)) header_stands
+        ∙ (ap (λ (b : Bool). if b then option_map (indexed_in c.program q t y k.at place stored) (value_at q place) else Some (with_thread q t (plain.goes_on y (threw ArrayIndexOutOfBoundsException k.at)))) has_it
+        ∙ ap (option_map (indexed_in c.program q t y k.at place stored)) stands))))))
+
+    moves : (got : ℕ) → moved c x x.phase got ≡ goes_on x (Running (went_on c.program k.at (element_made stored got)))
+    moves got = ap (λ (z : Phase). moved c x z got) phase_is ∙ ap (λ (o : Option Top). goes_on_if x (option_map (λ (at : Top). Running (went_on c.program at (element_made stored got))) o)) k.found
+
+  -- ---- an element that is read
+
+  module _ (word : ℕ) (phase_is : x.phase ≡ phases.Element word None) where
+    abbrev read : Element word None
+    read = k word None phase_is
+
+    abbrev value : ℕ
+    value = slice_index s.words word
+
+    word_value : slice_index s.words (value_word read.array (low read.index)) ≡ slice_index s.words word
+    word_value = ap (slice_index s.words) (sym read.word_is)
+
+    abbrev read_now : Thread
+    read_now = goes_on x (Running (went_on c.program read.at value))
+
+    abbrev read_shown : PlainThread
+    read_shown = plain.goes_on (y word None phase_is) (Running (went_on c.program read.at value))
+
+    pub read_steps : StepsBeside c objects s t x q
+    read_steps = steps_of_event c cfg objects was s t x q scene objects (Some (Load word)) (acts.Do ∷ []) read_now
+        (ap (λ (z : Phase). objects_by c.program z objects) phase_is)
+        (ap (wanted c x) phase_is)
+        (ap (λ (z : Phase). acts_of c x z value) phase_is)
+        (moves word None phase_is value)
+        (record {
+          after = with_thread q t read_shown;
+          run = run_is word None phase_is ∙ ap (λ (n : ℕ). Some (with_thread q t (plain.goes_on (y word None phase_is) (Running (went_on c.program read.at n))))) word_value;
+          beside = comes_beside c cfg objects was s t x q scene objects (slice_set s.words word value) q read_now (y word None phase_is) read_shown (twin c cfg objects was s t x q scene).here (lives word None phase_is) (goes word None phase_is value)
+              (stays c cfg objects was s t x q scene (slice_set s.words word value) read_now (looked s.words word) (makes_none word None phase_is) (none_on x (Running (went_on c.program read.at value))));
+        })
+
+  -- ---- an element that is stored
+
+  module _ (word v : ℕ) (phase_is : x.phase ≡ phases.Element word (Some v)) where
+    abbrev store : Element word (Some v)
+    store = k word (Some v) phase_is
+
+    abbrev at_word : ℕ
+    at_word = value_word store.array (low store.index)
+
+    abbrev store_now : Thread
+    store_now = goes_on x (Running (went_on c.program store.at 0))
+
+    abbrev store_shown : PlainThread
+    store_shown = plain.goes_on (y word (Some v) phase_is) (Running (went_on c.program store.at 0))
+
+    store_memory : Memory c.program objects s (slice_set s.words word v) q (written q word v) t store_now
+    store_memory = subst (λ (n : ℕ). Memory c.program objects s (slice_set s.words n v) q (written q n v) t store_now) (sym store.word_is)
+        (writes c cfg objects was s t x q scene (ValueOf store.array (low store.index)) tt (store.element.object, store.element.there, store.element.is, store.element.below) v (slice_index s.words at_word) (stands word (Some v) phase_is) store_now
+        (makes_none word (Some v) phase_is) (none_on x (Running (went_on c.program store.at 0))))
+
+    pub store_steps : StepsBeside c objects s t x q
+    store_steps = steps_of_event c cfg objects was s t x q scene objects (Some (Store word v)) (acts.Do ∷ []) store_now
+        (ap (λ (z : Phase). objects_by c.program z objects) phase_is)
+        (ap (wanted c x) phase_is)
+        (ap (λ (z : Phase). acts_of c x z (slice_index s.words word)) phase_is)
+        (moves word (Some v) phase_is (slice_index s.words word))
+        (record {
+          after = with_thread (written q word v) t store_shown;
+          run = run_is word (Some v) phase_is ∙ ap (λ (n : ℕ). Some (with_thread (written q n v) t store_shown)) (sym store.word_is);
+          beside = comes_beside c cfg objects was s t x q scene objects (slice_set s.words word v) (written q word v) store_now (y word (Some v) phase_is) store_shown (twin c cfg objects was s t x q scene).here (lives word (Some v) phase_is)
+              (goes word (Some v) phase_is 0) store_memory;
+        })
+
+  pub element_steps : (word : ℕ) (stored : Option ℕ) → x.phase ≡ phases.Element word stored → StepsBeside c objects s t x q
+  element_steps word None phase_is = read_steps word phase_is
+  element_steps word (Some v) phase_is = store_steps word v phase_is

@@ -1,0 +1,30 @@
+-- A thread that ends, has ended, or has not begun: the plain machine makes no step.
+use Rattle.std.proofs.Common.{◌≡◌, ℕ, List, [], refl, ◌∙◌}
+use Rattle.jvm_types.specs.declared.outcome.End.{End}
+use Rattle.checked_program.specs.MarkedProgram.{MarkedProgram}
+use Rattle.machine_types.specs.Core.{Core}
+use Rattle.machine_types.specs.Going.{with_phase}
+use Rattle.machine_types.specs.PlainMemory.{Object}
+use Rattle.machine_types.specs.PlainState.{Plain, PlainThread}
+use Rattle.machine_types.specs.Threads.{Thread}
+use Rattle.machine_types.specs.declared.config.Config.{Config}
+use Rattle.machine_types.specs.declared.phase.Phase.{Phase}
+use Rattle.machine_types.specs.declared.phase.Phase.TheVariants as phases
+use Rattle.laws_simulation.specs.StepsBeside.{StepsBeside}
+use Rattle.laws_simulation.proofs.Moments.{Moment, same_words, own_fits, own_status, own_frames, own_roots, own_ends, stepped}
+use Rattle.laws_simulation.proofs.Moved.{ends_alike, quiet_beside}
+
+module _ {c : MarkedProgram} {cfg : Config} {objects : List Object} {was : ℕ → Phase} {s : Core} {t : ℕ} {x : Thread} {q : Plain} {y : PlainThread} where
+  pub idle_stays : Moment c cfg objects was s t x q phases.Idle y → StepsBeside c objects s t x q
+  idle_stays k = stepped k s.words x [] q refl refl refl refl refl
+      (quiet_beside k s.words x (same_words s.words) (λ a word e. cc) (λ a word e. let f : x.phase ≡ phases.Idle = k.phase_is in cc) refl (λ e. cc) refl k.free (own_fits k) (k.beside.ends t x y k.got k.twin) (λ u m d. refl))
+
+  pub ended_stays : (e : End) → Moment c cfg objects was s t x q (phases.Ended e) y → StepsBeside c objects s t x q
+  ended_stays e k = stepped k s.words x [] q refl refl refl refl refl
+      (quiet_beside k s.words x (same_words s.words) (λ a word f. cc) (λ a word f. let g : x.phase ≡ phases.Ended e = k.phase_is in cc) refl (λ f. k.phase_is ∙ f) refl k.free (own_fits k) (k.beside.ends t x y k.got k.twin) (λ u m d. refl))
+
+  pub ending_ends : (e : End) → Moment c cfg objects was s t x q (phases.Ending e) y → StepsBeside c objects s t x q
+  ending_ends e k = stepped k s.words (with_phase x (phases.Ended e)) [] q refl refl refl refl refl
+      (quiet_beside k s.words (with_phase x (phases.Ended e)) (same_words s.words) (λ a word f. cc) (λ a word f. cc) refl (λ f. cc) refl k.free
+      (record { frames = own_frames k; status = own_status k; roots = own_roots k })
+      (own_ends k ∙ ends_alike c.program x.part (phases.Ending e) (phases.Ended e) refl) (λ u m d. refl))

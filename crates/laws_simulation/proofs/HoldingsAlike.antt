@@ -1,0 +1,230 @@
+-- What the plain machine's holdings say of who holds a monitor is what the threads' own lists say, also where a thread takes a
+-- monitor or lets it go.
+use Rattle.std.proofs.Common.{◌≡◌, ◌≢◌, ◌⊎◌, inl, inr, ℕ, zero, suc, Bool, true, false, cond, List, [], ◌∷◌, Option, Some, None, refl, sym, ap, ◌∙◌, subst, arith}
+use Rattle.std.specs.Prelude.{not, ◌==◌, option_map, slice_get, slice_set}
+use Rattle.std.proofs.lemmas.Bool.Decides.{nat_tests}
+use Rattle.machine_types.specs.Agreement.{depth_for, depth_of}
+use Rattle.machine_types.specs.HeldMonitors.{held_at, depth_at, with_held, without_held}
+use Rattle.machine_types.specs.PlainState.{Holding, holding_at, with_holding, without_holding, is_holder}
+use Rattle.machine_types.specs.Structure.{AreHeldOnce}
+use Rattle.machine_types.specs.Threads.{Thread}
+use Rattle.machine_types.specs.declared.lock.Held.{Held}
+use Rattle.laws_threads.proofs.HeldLists.{held_put, held_without}
+use Rattle.laws_states.proofs.Lists.{same_or_not}
+
+-- of each thread and each monitor
+abbrev pub HoldAlike : List Holding → List Thread → Type 0
+HoldAlike holdings threads = (t m : ℕ) → depth_for t (holding_at holdings m) ≡ depth_of (slice_get threads t) m
+
+-- ---- numbers
+
+pub itself : (n : ℕ) → (n == n) ≡ true
+itself n = grind (arith, nat_tests)
+
+pub is_other : (n k : ℕ) → n ≢ k → (n == k) ≡ false
+is_other n k d = by_test (n == k) refl
+  where
+    by_test : (b : Bool) → (n == k) ≡ b → b ≡ false
+    by_test true e = let same : n ≡ k = grind (arith, nat_tests, e) in absurd (d same)
+    by_test false e = refl
+
+pub are_same : (n k : ℕ) → (n == k) ≡ true → n ≡ k
+are_same n k e = grind (arith, nat_tests, e)
+
+-- ---- one thread of a list is changed
+
+pub set_got : {A : Type 0} (xs : List A) (i : ℕ) (x y : A) → slice_get xs i ≡ Some x → slice_get (slice_set xs i y) i ≡ Some y
+set_got [] i x y e = absurd (cc)
+set_got (z ∷ zs) zero x y e = refl
+set_got (z ∷ zs) (suc i) x y e = set_got zs i x y e
+
+pub set_else : {A : Type 0} (xs : List A) (i j : ℕ) (y : A) → j ≢ i → slice_get (slice_set xs i y) j ≡ slice_get xs j
+set_else [] i j y d = refl
+set_else (z ∷ zs) zero zero y d = absurd (d refl)
+set_else (z ∷ zs) zero (suc j) y d = refl
+set_else (z ∷ zs) (suc i) zero y d = refl
+set_else (z ∷ zs) (suc i) (suc j) y d = set_else zs i j y (λ e. d (ap suc e))
+
+-- ---- holdings, where one is put or taken away
+
+pub holding_put : (m : ℕ) (h : Holding) (hs : List Holding) → holding_at (with_holding h hs) m ≡ cond (h.monitor == m) (Some h) (holding_at hs m)
+holding_put m h [] = refl
+holding_put m h (g ∷ hs) = by_test (g.monitor == h.monitor) refl (g.monitor == m) refl (holding_put m h hs)
+  where
+    by_test : (b : Bool) → (g.monitor == h.monitor) ≡ b → (d : Bool) → (g.monitor == m) ≡ d → holding_at (with_holding h hs) m ≡ cond (h.monitor == m) (Some h) (holding_at hs m)
+        → holding_at (cond b (h ∷ hs) (g ∷ with_holding h hs)) m ≡ cond (h.monitor == m) (Some h) (cond d (Some g) (holding_at hs m))
+    by_test true t d u more = at (h.monitor == m) d (same (h.monitor == m) refl d u)
+      where
+        same : (x : Bool) → (h.monitor == m) ≡ x → (d : Bool) → (g.monitor == m) ≡ d → x ≡ d
+        same x e d u = let one : g.monitor ≡ h.monitor = grind (arith, nat_tests, t) in sym e ∙ ap (λ (n : ℕ). n == m) (sym one) ∙ u
+
+        at : (x d : Bool) → x ≡ d → cond x (Some h) (holding_at hs m) ≡ cond x (Some h) (cond d (Some g) (holding_at hs m))
+        at true d e = refl
+        at false true e = absurd (cc)
+        at false false e = refl
+    by_test false t true u more = other (h.monitor == m) refl
+      where
+        other : (x : Bool) → (h.monitor == m) ≡ x → cond (g.monitor == m) (Some g) (holding_at (with_holding h hs) m) ≡ cond x (Some h) (Some g)
+        other true e = let one : h.monitor ≡ m = grind (arith, nat_tests, e) in let two : g.monitor ≡ m = grind (arith, nat_tests, u) in absurd (grind (arith, nat_tests, t, one, two))
+        other false e = ap (λ (b : Bool). cond b (Some g) (holding_at (with_holding h hs) m)) u
+    by_test false t false u more = ap (λ (b : Bool). cond b (Some g) (holding_at (with_holding h hs) m)) u ∙ more
+
+pub holding_without : (m n : ℕ) (hs : List Holding) → holding_at (without_holding n hs) m ≡ cond (n == m) None (holding_at hs m)
+holding_without m n [] = by_test (n == m)
+  where
+    by_test : (b : Bool) → holding_at [] m ≡ cond b (holding_at [] m) (holding_at [] m)
+    by_test true = refl
+    by_test false = refl
+holding_without m n (h ∷ hs) = by_test (h.monitor == n) refl (h.monitor == m) refl (n == m) refl (holding_without m n hs)
+  where
+    by_test : (b : Bool) → (h.monitor == n) ≡ b → (d : Bool) → (h.monitor == m) ≡ d → (x : Bool) → (n == m) ≡ x → holding_at (without_holding n hs) m ≡ cond (n == m) None (holding_at hs m)
+        → holding_at (cond (not b) (h ∷ without_holding n hs) (without_holding n hs)) m ≡ cond x None (cond d (Some h) (holding_at hs m))
+    by_test true t d u true v more = more ∙ ap (λ (b : Bool). cond b None (holding_at hs m)) v
+    by_test true t true u false v more = let one : h.monitor ≡ n = grind (arith, nat_tests, t) in let two : h.monitor ≡ m = grind (arith, nat_tests, u) in absurd (grind (arith, nat_tests, v, one, two))
+    by_test true t false u false v more = more ∙ ap (λ (b : Bool). cond b None (holding_at hs m)) v
+    by_test false t true u true v more = let one : n ≡ m = grind (arith, nat_tests, v) in let two : h.monitor ≡ m = grind (arith, nat_tests, u) in absurd (grind (arith, nat_tests, t, one, two))
+    by_test false t true u false v more = ap (λ (b : Bool). cond b (Some h) (holding_at (without_holding n hs) m)) u
+    by_test false t false u x v more = ap (λ (b : Bool). cond b (Some h) (holding_at (without_holding n hs) m)) u ∙ more ∙ ap (λ (b : Bool). cond b None (holding_at hs m)) v
+
+pub put_here : (h : Holding) (hs : List Holding) → holding_at (with_holding h hs) h.monitor ≡ Some h
+put_here h hs = holding_put h.monitor h hs ∙ ap (λ (b : Bool). cond b (Some h) (holding_at hs h.monitor)) (itself h.monitor)
+
+pub put_else : (m : ℕ) (h : Holding) (hs : List Holding) → h.monitor ≢ m → holding_at (with_holding h hs) m ≡ holding_at hs m
+put_else m h hs d = holding_put m h hs ∙ ap (λ (b : Bool). cond b (Some h) (holding_at hs m)) (is_other h.monitor m d)
+
+pub without_here : (n : ℕ) (hs : List Holding) → holding_at (without_holding n hs) n ≡ None
+without_here n hs = holding_without n n hs ∙ ap (λ (b : Bool). cond b None (holding_at hs n)) (itself n)
+
+pub without_else : (m n : ℕ) (hs : List Holding) → n ≢ m → holding_at (without_holding n hs) m ≡ holding_at hs m
+without_else m n hs d = holding_without m n hs ∙ ap (λ (b : Bool). cond b None (holding_at hs m)) (is_other n m d)
+
+-- ---- the holder
+
+pub own_depth : (t : ℕ) (h : Holding) → h.holder ≡ t → depth_for t (Some h) ≡ Some h.depth
+own_depth t h e = ap (λ (b : Bool). cond b (Some h.depth) None) (ap (λ (n : ℕ). n == t) e ∙ itself t)
+
+pub other_depth : (u : ℕ) (h : Holding) → h.holder ≢ u → depth_for u (Some h) ≡ None
+other_depth u h d = ap (λ (b : Bool). cond b (Some h.depth) None) (is_other h.holder u d)
+
+-- a thread that has a depth is the holder
+pub record IsHolding (o : Option Holding) (t m depth : ℕ) : Type 0 where
+  pub holding : Holding
+  pub is : o ≡ Some holding
+  pub holder : holding.holder ≡ t
+  pub depth_is : holding.depth ≡ depth
+
+pub holding_is : (o : Option Holding) (t m depth : ℕ) → depth_for t o ≡ Some depth → IsHolding o t m depth
+holding_is None t m depth e = absurd (cc)
+holding_is (Some h) t m depth e = by_test (h.holder == t) refl e
+  where
+    by_test : (b : Bool) → (h.holder == t) ≡ b → cond b (Some h.depth) None ≡ Some depth → IsHolding (Some h) t m depth
+    by_test true g f = record { holding = h; is = refl; holder = are_same h.holder t g; depth_is = cc }
+    by_test false g f = absurd (cc)
+
+-- where no thread has a depth nobody holds
+pub nobody_holds : (o : Option Holding) → ((t : ℕ) → depth_for t o ≡ None) → o ≡ None
+nobody_holds None e = refl
+nobody_holds (Some h) e = let own = own_depth h.holder h refl in let none = e h.holder in absurd (let bad : Some h.depth ≡ None = sym own ∙ none in cc)
+
+pub holder_is : (o : Option Holding) (t depth : ℕ) → depth_for t o ≡ Some depth → is_holder t o ≡ true
+holder_is o t depth e = let h = holding_is o t 0 depth e in ap (is_holder t) h.is ∙ ap (λ (n : ℕ). n == t) h.holder ∙ itself t
+
+pub no_holder : (o : Option Holding) (t : ℕ) → depth_for t o ≡ None → is_holder t o ≡ false
+no_holder None t e = refl
+no_holder (Some h) t e = by_test (h.holder == t) refl e
+  where
+    by_test : (b : Bool) → (h.holder == t) ≡ b → cond b (Some h.depth) None ≡ None → (h.holder == t) ≡ false
+    by_test true g f = absurd (cc)
+    by_test false g f = g
+
+-- no other thread than the holder has a depth
+pub alone : (o : Option Holding) (t u depth : ℕ) → depth_for t o ≡ Some depth → u ≢ t → depth_for u o ≡ None
+alone o t u depth e d = let h = holding_is o t 0 depth e in ap (depth_for u) h.is ∙ other_depth u h.holding (λ f. d (sym f ∙ h.holder))
+
+-- ---- a thread's list against the holdings
+
+module _ (holdings : List Holding) (threads : List Thread) (alike : HoldAlike holdings threads) where
+  pub depth_is_held : (t m : ℕ) (x : Thread) → slice_get threads t ≡ Some x → depth_for t (holding_at holdings m) ≡ depth_at x.held m
+  depth_is_held t m x there = alike t m ∙ ap (λ (o : Option Thread). depth_of o m) there
+
+  pub held_depth_is : (t m : ℕ) (x : Thread) (h : Held) → slice_get threads t ≡ Some x → held_at x.held m ≡ Some h → depth_for t (holding_at holdings m) ≡ Some h.depth
+  held_depth_is t m x h there e = depth_is_held t m x there ∙ ap (option_map (λ (g : Held). g.depth)) e
+
+  pub holds_then : (t m : ℕ) (x : Thread) (h : Held) → slice_get threads t ≡ Some x → held_at x.held m ≡ Some h → IsHolding (holding_at holdings m) t m h.depth
+  holds_then t m x h there e = holding_is (holding_at holdings m) t m h.depth (held_depth_is t m x h there e)
+
+  pub is_holder_then : (t m : ℕ) (x : Thread) (h : Held) → slice_get threads t ≡ Some x → held_at x.held m ≡ Some h → is_holder t (holding_at holdings m) ≡ true
+  is_holder_then t m x h there e = holder_is (holding_at holdings m) t h.depth (held_depth_is t m x h there e)
+
+  pub no_holder_then : (t m : ℕ) (x : Thread) → slice_get threads t ≡ Some x → held_at x.held m ≡ None → is_holder t (holding_at holdings m) ≡ false
+  no_holder_then t m x there e = no_holder (holding_at holdings m) t (depth_is_held t m x there ∙ ap (option_map (λ (g : Held). g.depth)) e)
+
+  -- a monitor that no thread has is held by nobody
+  pub free_then : (m : ℕ) → ((t : ℕ) (x : Thread) → slice_get threads t ≡ Some x → held_at x.held m ≡ None) → holding_at holdings m ≡ None
+  free_then m none = nobody_holds (holding_at holdings m) (λ t. alike t m ∙ by_thread t (slice_get threads t) refl)
+    where
+      by_thread : (t : ℕ) (o : Option Thread) → slice_get threads t ≡ o → depth_of o m ≡ None
+      by_thread t None e = refl
+      by_thread t (Some x) e = ap (option_map (λ (g : Held). g.depth)) (none t x e)
+
+  -- ---- thread t has moved from x to y
+
+  module _ (t : ℕ) (x y : Thread) (there : slice_get threads t ≡ Some x) where
+    now_own : (later : List Holding) (m : ℕ) → depth_for t (holding_at later m) ≡ depth_at y.held m → depth_for t (holding_at later m) ≡ depth_of (slice_get (slice_set threads t y) t) m
+    now_own later m e = e ∙ ap (λ (o : Option Thread). depth_of o m) (sym (set_got threads t x y there))
+
+    now_else : (later : List Holding) (u m : ℕ) → u ≢ t → depth_for u (holding_at later m) ≡ depth_for u (holding_at holdings m) → depth_for u (holding_at later m) ≡ depth_of (slice_get (slice_set threads t y) u) m
+    now_else later u m d e = e ∙ alike u m ∙ ap (λ (o : Option Thread). depth_of o m) (sym (set_else threads t u y d))
+
+    -- by cases on the thread
+    pub alike_by : (later : List Holding) → ((m : ℕ) → depth_for t (holding_at later m) ≡ depth_at y.held m) → ((u m : ℕ) → u ≢ t → depth_for u (holding_at later m) ≡ depth_for u (holding_at holdings m))
+        → HoldAlike later (slice_set threads t y)
+    alike_by later own others u m = by_thread (same_or_not u t)
+      where
+        by_thread : (u ≡ t) ⊎ (u ≢ t) → depth_for u (holding_at later m) ≡ depth_of (slice_get (slice_set threads t y) u) m
+        by_thread (inl e) = subst (λ (k : ℕ). depth_for k (holding_at later m) ≡ depth_of (slice_get (slice_set threads t y) k) m) (sym e) (now_own later m (own m))
+        by_thread (inr d) = now_else later u m d (others u m d)
+
+    -- it holds what it held
+    pub alike_kept : y.held ≡ x.held → HoldAlike holdings (slice_set threads t y)
+    alike_kept e = alike_by holdings (λ m. depth_is_held t m x there ∙ ap (λ (hs : List Held). depth_at hs m) (sym e)) (λ u m d. refl)
+
+    -- it holds n at another depth, and no other thread does
+    pub alike_put : (n : ℕ) (h : Held) → h.monitor ≡ n → y.held ≡ with_held h x.held → ((u : ℕ) → u ≢ t → depth_for u (holding_at holdings n) ≡ None)
+        → HoldAlike (with_holding (record { monitor = n; holder = t; depth = h.depth }) holdings) (slice_set threads t y)
+    alike_put n h at e none = alike_by (with_holding (record { monitor = n; holder = t; depth = h.depth }) holdings) (λ m. own m (n == m) refl) (λ u m d. others u m d (n == m) refl)
+      where
+        one : Holding
+        one = record { monitor = n; holder = t; depth = h.depth }
+
+        held : (m : ℕ) (b : Bool) → (n == m) ≡ b → depth_at y.held m ≡ option_map (λ (g : Held). g.depth) (cond b (Some h) (held_at x.held m))
+        held m b f = ap (λ (hs : List Held). depth_at hs m) e ∙ ap (option_map (λ (g : Held). g.depth)) (held_put m h x.held ∙ ap (λ (d : Bool). cond d (Some h) (held_at x.held m)) (ap (λ (k : ℕ). k == m) at ∙ f))
+
+        now : (m : ℕ) (b : Bool) → (n == m) ≡ b → holding_at (with_holding (record { monitor = n; holder = t; depth = h.depth }) holdings) m ≡ cond b (Some (record { monitor = n; holder = t; depth = h.depth })) (holding_at holdings m)
+        now m b f = holding_put m (record { monitor = n; holder = t; depth = h.depth }) holdings ∙ ap (λ (d : Bool). cond d (Some (record { monitor = n; holder = t; depth = h.depth })) (holding_at holdings m)) f
+
+        own : (m : ℕ) (b : Bool) → (n == m) ≡ b → depth_for t (holding_at (with_holding (record { monitor = n; holder = t; depth = h.depth }) holdings) m) ≡ depth_at y.held m
+        own m true f = ap (depth_for t) (now m true f) ∙ own_depth t (record { monitor = n; holder = t; depth = h.depth }) refl ∙ sym (held m true f)
+        own m false f = ap (depth_for t) (now m false f) ∙ depth_is_held t m x there ∙ sym (held m false f)
+
+        others : (u m : ℕ) → u ≢ t → (b : Bool) → (n == m) ≡ b → depth_for u (holding_at (with_holding (record { monitor = n; holder = t; depth = h.depth }) holdings) m) ≡ depth_for u (holding_at holdings m)
+        others u m d true f = ap (depth_for u) (now m true f) ∙ other_depth u (record { monitor = n; holder = t; depth = h.depth }) (λ g. d (sym g)) ∙ sym (ap (λ (k : ℕ). depth_for u (holding_at holdings k)) (sym (are_same n m f)) ∙ none u d)
+        others u m d false f = ap (depth_for u) (now m false f)
+
+    -- it has let n go
+    pub alike_dropped : (n : ℕ) → y.held ≡ without_held n x.held → AreHeldOnce x.held → ((u : ℕ) → u ≢ t → depth_for u (holding_at holdings n) ≡ None) → HoldAlike (without_holding n holdings) (slice_set threads t y)
+    alike_dropped n e once none = alike_by (without_holding n holdings) (λ m. own m (n == m) refl) (λ u m d. others u m d (n == m) refl)
+      where
+        held : (m : ℕ) (b : Bool) → (n == m) ≡ b → depth_at y.held m ≡ option_map (λ (g : Held). g.depth) (cond b None (held_at x.held m))
+        held m b f = ap (λ (hs : List Held). depth_at hs m) e ∙ ap (option_map (λ (g : Held). g.depth)) (held_without m n x.held once ∙ ap (λ (d : Bool). cond d None (held_at x.held m)) f)
+
+        now : (m : ℕ) (b : Bool) → (n == m) ≡ b → holding_at (without_holding n holdings) m ≡ cond b None (holding_at holdings m)
+        now m b f = holding_without m n holdings ∙ ap (λ (d : Bool). cond d None (holding_at holdings m)) f
+
+        own : (m : ℕ) (b : Bool) → (n == m) ≡ b → depth_for t (holding_at (without_holding n holdings) m) ≡ depth_at y.held m
+        own m true f = ap (depth_for t) (now m true f) ∙ sym (held m true f)
+        own m false f = ap (depth_for t) (now m false f) ∙ depth_is_held t m x there ∙ sym (held m false f)
+
+        others : (u m : ℕ) → u ≢ t → (b : Bool) → (n == m) ≡ b → depth_for u (holding_at (without_holding n holdings) m) ≡ depth_for u (holding_at holdings m)
+        others u m d true f = ap (depth_for u) (now m true f) ∙ sym (ap (λ (k : ℕ). depth_for u (holding_at holdings k)) (sym (are_same n m f)) ∙ none u d)
+        others u m d false f = ap (depth_for u) (now m false f)

@@ -1,0 +1,97 @@
+-- The state that an event leads to stands beside a plain state, where the event changes one thread and words of which the plain
+-- machine knows nothing.
+use Rattle.std.proofs.Common.{◌≡◌, ℕ, List, [], ◌∷◌, Option, Some, refl, sym, ap, ◌∙◌, subst}
+use Rattle.std.specs.Prelude.{slice_get, slice_index, slice_set}
+use Rattle.jvm_types.specs.declared.fixed_words.TheConstants.{NEXT_FREE_WORD, NEXT_TICKET_WORD}
+use Rattle.jvm_types.specs.declared.outcome.End.TheVariants as ends
+use Rattle.jvm_types.specs.declared.program.Program.{Program}
+use Rattle.machine_types.specs.Agreement.{has_wait_bit, ThreadFits, depth_of}
+use Rattle.machine_types.specs.Core.{Core}
+use Rattle.machine_types.specs.History.{steps_of}
+use Rattle.machine_types.specs.NewObjects.{NewObjects}
+use Rattle.machine_types.specs.Owners.{references_of}
+use Rattle.machine_types.specs.PlainMemory.{Object}
+use Rattle.machine_types.specs.PlainState.{Plain, PlainThread, Holding, value_at}
+use Rattle.machine_types.specs.PlainSteps.{plain_run}
+use Rattle.machine_types.specs.Threads.{Thread}
+use Rattle.machine_types.specs.declared.phase.Phase.{Phase}
+use Rattle.machine_types.specs.declared.phase.Phase.TheVariants as phases
+use Rattle.machine_types.specs.declared.plain.Act.{Act}
+use Rattle.laws_states.proofs.Phases.{IsOldPhase}
+use Rattle.laws_simulation.specs.StandsBeside.{StandsBeside, IsBeingMade, ends_shown}
+use Rattle.laws_simulation.proofs.Assembled.{set_as_it_is, moved_beside}
+use Rattle.laws_simulation.proofs.OwnThread.{IsBusy}
+use Rattle.laws_simulation.proofs.HoldingsAlike.{HoldAlike, set_got, set_else}
+use Rattle.laws_simulation.proofs.WaitBits.{fits_by, new_lock, same_wait_bit_in}
+
+-- ---- words in which all stands that the plain machine has
+
+pub record WordsStay (objects : List Object) (s : Core) (q : Plain) (words : List ℕ) : Type 0 where
+  pub places : (a v : ℕ) → value_at q a ≡ Some v → slice_index words a ≡ slice_index s.words a
+  pub free : slice_index words NEXT_FREE_WORD ≡ slice_index s.words NEXT_FREE_WORD
+  pub tickets : slice_index words NEXT_TICKET_WORD ≡ slice_index s.words NEXT_TICKET_WORD
+  -- the lock word of an object that is being made
+  pub new : (m : ℕ) → IsBeingMade s.threads m → slice_index words m ≡ slice_index s.words m
+  pub bits : (u m : ℕ) → has_wait_bit (references_of objects) words u m ≡ has_wait_bit (references_of objects) s.words u m
+
+pub words_stay : (objects : List Object) (s : Core) (q : Plain) → WordsStay objects s q s.words
+words_stay objects s q = record { places = λ a v e. refl; free = refl; tickets = refl; new = λ m k. refl; bits = λ u m. refl }
+
+never_made : (phase : Phase) (a word : ℕ) → IsOldPhase phase → phase ≡ phases.Made a word → ⊥
+never_made phase a word old e = subst IsOldPhase e old
+
+never_rests : (phase : Phase) → IsBusy phase → phase ≡ phases.Ended ends.Returned → ⊥
+never_rests phase busy e = subst IsBusy e busy
+
+-- ---- thread t, which was x and z, becomes y and w
+
+module _ (p : Program) (objects : List Object) (s : Core) (q : Plain) (beside : StandsBeside p objects s q) (new : NewObjects p objects s) (t : ℕ) (x : Thread) (z : PlainThread) (there : slice_get s.threads t ≡ Some x) (here : slice_get q.threads t ≡ Some z)
+    (busy : IsBusy x.phase) (old : IsOldPhase x.phase) where
+  pub record Lands (words : List ℕ) (y : Thread) (later : List Holding) (w : PlainThread) : Type 0 where
+    pub stay : WordsStay objects s q words
+    pub holds : HoldAlike later (slice_set s.threads t y)
+    pub fits : ThreadFits p (has_wait_bit (references_of q.objects) s.words t) y y.attempt w
+    pub ended : w.ended ≡ ends_shown p y.part y.phase
+    pub now : IsOldPhase y.phase
+    pub part : y.part ≡ x.part
+
+  module _ (words : List ℕ) (y : Thread) (later : List Holding) (w : PlainThread) (k : Lands words y later w) where
+    bits_same : (u m : ℕ) → has_wait_bit (references_of q.objects) words u m ≡ has_wait_bit (references_of q.objects) s.words u m
+    bits_same u m =
+        same_wait_bit_in objects s.threads words q beside.known beside.others (λ a h. k.stay.new a h ∙ new_lock p objects s new a h) u m
+        ∙ k.stay.bits u m
+        ∙ sym (same_wait_bit_in objects s.threads s.words q beside.known beside.others (new_lock p objects s new) u m)
+
+    pub lands : StandsBeside p objects (record { words = words; threads = slice_set s.threads t y }) (record q { holdings = later; threads = slice_set q.threads t w })
+    lands = moved_beside p objects s q t words x y later w q.prints beside there (record {
+      fits = fits_by p (has_wait_bit (references_of q.objects) s.words t) (has_wait_bit (references_of q.objects) words t) y y.attempt w (bits_same t) k.fits;
+      ended = k.ended;
+      places = k.stay.places;
+      next = k.stay.free;
+      printed = k.stay.tickets ∙ beside.agrees.prints;
+      bits = λ u m d. bits_same u m;
+      depths = λ m. k.holds t m ∙ ap (λ (o : Option Thread). depth_of o m) (set_got s.threads t x y there);
+      other_depths = λ u m d. k.holds u m ∙ ap (λ (o : Option Thread). depth_of o m) (set_else s.threads t u y d) ∙ sym (beside.agrees.monitors u m);
+      old = λ a word e. never_made x.phase a word old e;
+      new = λ a word e. never_made y.phase a word k.now e;
+      part = k.part;
+      rests = λ e. absurd (never_rests x.phase busy e);
+    })
+
+  -- ---- the event, with the acts that it stands for
+
+  pub record Does (acts : List Act) (words : List ℕ) (y : Thread) : Type 0 where
+    pub after : Plain
+    pub run : plain_run p q (steps_of t acts) ≡ Some after
+    pub beside_it : StandsBeside p objects (record { words = words; threads = slice_set s.threads t y }) after
+
+  -- no plain step
+  pub stays : (words : List ℕ) (y : Thread) → Lands words y q.holdings z → Does [] words y
+  stays words y k =
+      let same : record q { holdings = q.holdings; threads = slice_set q.threads t z } ≡ q = λ i. record q { threads = set_as_it_is q.threads t z here i } in
+      record { after = q; run = refl; beside_it = subst (λ (r : Plain). StandsBeside p objects (record { words = words; threads = slice_set s.threads t y }) r) same (lands words y q.holdings z k) }
+
+  -- one
+  pub steps : (act : Act) (words : List ℕ) (y : Thread) (later : List Holding) (w : PlainThread) → plain_run p q (steps_of t (act ∷ [])) ≡ Some (record q { holdings = later; threads = slice_set q.threads t w }) → Lands words y later w
+      → Does (act ∷ []) words y
+  steps act words y later w run k = record { after = record q { holdings = later; threads = slice_set q.threads t w }; run = run; beside_it = lands words y later w k }

@@ -1,0 +1,182 @@
+-- A thread in no attempt that is about to move, in a reached state, beside the plain thread that it stands for; and what stands
+-- beside when it has moved, and wrote at most a word of a monitor record.
+use Rattle.std.proofs.Common.{◌≡◌, ◌≢◌, ◌⊎◌, inl, inr, ℕ, ◌<◌, ◌≤◌, Bool, true, false, cond, List, ◌∷◌, length, Option, Some, None, refl, sym, ap, ◌∙◌, subst, arith}
+use Rattle.std.specs.Prelude.{slice_get, slice_index, slice_set, option_and_then}
+use Rattle.jvm_types.specs.Numbers.{has_number}
+use Rattle.jvm_types.specs.declared.fixed_words.TheConstants.{NEXT_FREE_WORD, NEXT_TICKET_WORD, FIRST_RECORD_WORD, FIRST_READY_WORD}
+use Rattle.jvm_types.specs.declared.outcome.End.TheVariants as ends
+use Rattle.jvm_types.specs.declared.program.Program.{Program}
+use Rattle.checked_program.specs.MarkedProgram.{MarkedProgram}
+use Rattle.machine_types.specs.Accesses.{found_by, words_after}
+use Rattle.machine_types.specs.Agreement.{has_wait_bit, StatusFits, OutsideFits, ThreadFits, frames_shown, roots_shown}
+use Rattle.machine_types.specs.Core.{Core, accessed_by}
+use Rattle.machine_types.specs.Events.{wanted, moved}
+use Rattle.machine_types.specs.History.{acts_of, steps_of}
+use Rattle.machine_types.specs.LockWords.{lock_of}
+use Rattle.machine_types.specs.Owners.{lock_at, references_of}
+use Rattle.machine_types.specs.PlainMemory.{Object}
+use Rattle.machine_types.specs.PlainState.{Status, Plain, PlainThread, Holding}
+use Rattle.machine_types.specs.PlainSteps.{step_at, step_of, plain_run}
+use Rattle.machine_types.specs.Structure.{IsAs}
+use Rattle.machine_types.specs.Threads.{Attempt, Thread}
+use Rattle.machine_types.specs.declared.config.Config.{Config}
+use Rattle.machine_types.specs.declared.lock.LockWord.TheVariants as locks
+use Rattle.machine_types.specs.declared.phase.Phase.{Phase}
+use Rattle.machine_types.specs.declared.phase.Phase.TheVariants as phases
+use Rattle.machine_types.specs.declared.plain.Act.{Act}
+use Rattle.laws_states.specs.HeapFacts.{objects_by}
+use Rattle.laws_states.specs.Sites.{HasObject}
+use Rattle.laws_states.proofs.Assembled.{got_set}
+use Rattle.laws_states.proofs.Lists.{set_there, contained_got}
+use Rattle.laws_states.proofs.WordViews.{has_object}
+use Rattle.laws_states.specs.StateFacts.{StateFacts}
+use Rattle.laws_simulation.specs.StandsBeside.{StandsBeside, ends_shown}
+use Rattle.laws_simulation.specs.StepsBeside.{StepsBeside}
+use Rattle.laws_simulation.proofs.Assembled.{got_same_length, stands_beside, steps_beside}
+use Rattle.laws_simulation.proofs.HoldingsAlike.{HoldAlike}
+use Rattle.laws_simulation.proofs.PlainPlaces.{place_low}
+use Rattle.laws_simulation.proofs.WaitBits.{same_lock}
+
+-- ---- words
+
+-- where at most words of monitor records were written
+pub record AreRecordsWritten (words later : List ℕ) : Type 0 where
+  pub counters : (i : ℕ) → i < FIRST_RECORD_WORD → slice_index later i ≡ slice_index words i
+  pub places : (i : ℕ) → FIRST_READY_WORD ≤ i → slice_index later i ≡ slice_index words i
+
+pub same_words : (words : List ℕ) → AreRecordsWritten words words
+same_words words = record { counters = λ i h. refl; places = λ i h. refl }
+
+pub record_written : (words : List ℕ) (w v : ℕ) → FIRST_RECORD_WORD ≤ w → w < FIRST_READY_WORD → AreRecordsWritten words (slice_set words w v)
+record_written words w v l h = record {
+  counters = λ i k. set_there words w i v (λ e. absurd (omega (arith, l, h, k, e)));
+  places = λ i k. set_there words w i v (λ e. absurd (omega (arith, l, h, k, e)));
+}
+
+-- ---- before
+
+pub record Moment (c : MarkedProgram) (cfg : Config) (objects : List Object) (was : ℕ → Phase) (s : Core) (t : ℕ) (x : Thread) (q : Plain) (phase : Phase) (y : PlainThread) : Type 0 where
+  pub facts : StateFacts c cfg objects was s
+  pub beside : StandsBeside c.program objects s q
+  pub got : slice_get s.threads t ≡ Some x
+  pub free : x.attempt ≡ None
+  pub phase_is : x.phase ≡ phase
+  pub twin : slice_get q.threads t ≡ Some y
+
+-- ---- a run of the plain machine begins with a step
+
+pub first_step : (p : Program) (q r : Plain) (t : ℕ) (y : PlainThread) (act : Act) (acts : List Act) (status : Status) → slice_get q.threads t ≡ Some y → y.status ≡ status → step_at p q t y act status ≡ Some r
+    → plain_run p q (steps_of t (act ∷ acts)) ≡ plain_run p r (steps_of t acts)
+first_step p q r t y act acts status g w e =
+    ap (λ (o : Option PlainThread). option_and_then (λ (z : Plain). plain_run p z (steps_of t acts)) (step_of p q t act o)) g
+    ∙ ap (λ (k : Status). option_and_then (λ (z : Plain). plain_run p z (steps_of t acts)) (step_at p q t y act k)) w
+    ∙ ap (option_and_then (λ (z : Plain). plain_run p z (steps_of t acts))) e
+
+-- ---- what stands beside when the thread has moved
+
+-- thread u of the plain state, which was y, fits the words that were left
+pub record IsLater (p : Program) (q : Plain) (words : List ℕ) (threads : List PlainThread) (u : ℕ) (z : Thread) (ended : PlainThread) : Type 0 where
+  pub now : PlainThread
+  pub twin : slice_get threads u ≡ Some now
+  pub fits : ThreadFits p (has_wait_bit (references_of q.objects) words u) z z.attempt now
+  pub ends : now.ended ≡ ended.ended
+
+module _ {c : MarkedProgram} {cfg : Config} {objects : List Object} {was : ℕ → Phase} {s : Core} {t : ℕ} {x : Thread} {q : Plain} {phase : Phase} {y : PlainThread} (k : Moment c cfg objects was s t x q phase y) where
+  -- ---- what is known of the thread
+
+  pub own_fits : OutsideFits c.program (has_wait_bit (references_of q.objects) s.words t) x y
+  own_fits = subst (λ (a : Option Attempt). ThreadFits c.program (has_wait_bit (references_of q.objects) s.words t) x a y) k.free (k.beside.agrees.threads t x y k.got k.twin)
+
+  pub own_status : StatusFits (has_wait_bit (references_of q.objects) s.words t) x phase y.status
+  own_status = subst (λ (f : Phase). StatusFits (has_wait_bit (references_of q.objects) s.words t) x f y.status) k.phase_is own_fits.status
+
+  pub own_frames : y.frames ≡ frames_shown phase x.frames
+  own_frames = own_fits.frames ∙ ap (λ (f : Phase). frames_shown f x.frames) k.phase_is
+
+  pub own_roots : y.roots ≡ roots_shown c.program x.part phase x.roots
+  own_roots = own_fits.roots ∙ ap (λ (f : Phase). roots_shown c.program x.part f x.roots) k.phase_is
+
+  pub own_ends : y.ended ≡ ends_shown c.program x.part phase
+  own_ends = k.beside.ends t x y k.got k.twin ∙ ap (λ (f : Phase). ends_shown c.program x.part f) k.phase_is
+
+  pub own_number : x.number ≡ t
+  own_number = (k.facts.threads.own t x k.got).number
+
+  pub own_as : IsAs phase (was t)
+  own_as = subst (λ (f : Phase). IsAs f (was t)) k.phase_is (k.facts.structure t x k.got).is_as
+
+  pub lock_same : (m : ℕ) → lock_at (references_of q.objects) s.words m ≡ lock_at (references_of objects) s.words m
+  lock_same m = same_lock c.program objects s q k.beside.known k.beside.others k.facts.heap.new_objects m
+
+  pub holdings_alike : HoldAlike q.holdings s.threads
+  holdings_alike u m = k.beside.agrees.monitors u m
+
+  -- ---- the locks stay
+
+  pub lock_kept : (later : List ℕ) → AreRecordsWritten s.words later → (m : ℕ) → lock_at (references_of q.objects) later m ≡ lock_at (references_of q.objects) s.words m
+  lock_kept later w m = by_test (has_number (references_of q.objects) m) refl
+    where
+      high : HasObject q.objects m → FIRST_READY_WORD ≤ m
+      high h = let low : FIRST_READY_WORD ≤ h.0.reference = k.beside.apart.begin h.1.0 h.0 (contained_got q.objects h.0 h.1) in subst (λ (i : ℕ). FIRST_READY_WORD ≤ i) h.2 low
+
+      by_test : (b : Bool) → has_number (references_of q.objects) m ≡ b → cond b (lock_of (slice_index later m)) (locks.Free 0) ≡ cond b (lock_of (slice_index s.words m)) (locks.Free 0)
+      by_test true e = ap lock_of (w.places m (high (has_object q.objects m e)))
+      by_test false e = refl
+
+  -- ---- the whole
+
+  module _ (later : List ℕ) (x2 : Thread) (holdings : List Holding) (threads : List PlainThread) (y2 : PlainThread)
+      (written : AreRecordsWritten s.words later) (old : (a word : ℕ) → phase ≢ phases.Made a word) (new : (a word : ℕ) → x2.phase ≢ phases.Made a word)
+      (part : x2.part ≡ x.part) (rests : phase ≡ phases.Ended ends.Returned → x2.phase ≡ phases.Ended ends.Returned)
+      (alike : HoldAlike holdings (slice_set s.threads t x2)) (many : length threads ≡ length q.threads)
+      (own : slice_get threads t ≡ Some y2) (free : x2.attempt ≡ None) (fits : OutsideFits c.program (has_wait_bit (references_of q.objects) later t) x2 y2) (ended : y2.ended ≡ ends_shown c.program x2.part x2.phase)
+      (others : (u : ℕ) (z : Thread) (w : PlainThread) → u ≢ t → slice_get s.threads u ≡ Some z → slice_get q.threads u ≡ Some w → IsLater c.program q later threads u z w) where
+    abbrev Both : (u : ℕ) → Thread → PlainThread → Type 0
+    Both u z w = ThreadFits c.program (has_wait_bit (references_of q.objects) later u) z z.attempt w × (w.ended ≡ ends_shown c.program z.part z.phase)
+
+    thread_fits : (u : ℕ) (z : Thread) (w : PlainThread) → slice_get (slice_set s.threads t x2) u ≡ Some z → slice_get threads u ≡ Some w → Both u z w
+    thread_fits u z w g h = by_thread (got_set s.threads t u x2 z g)
+      where
+        own_both : Both t x2 y2
+        own_both = (subst (λ (a : Option Attempt). ThreadFits c.program (has_wait_bit (references_of q.objects) later t) x2 a y2) (sym free) fits, ended)
+
+        by_thread : ((u ≡ t) × (z ≡ x2)) ⊎ ((u ≢ t) × (slice_get s.threads u ≡ Some z)) → Both u z w
+        by_thread (inl e) =
+            let at : slice_get threads t ≡ Some w = subst (λ (i : ℕ). slice_get threads i ≡ Some w) e.0 h in
+            let here : slice_get threads t ≡ Some y2 = own in
+            let same : w ≡ y2 = cc in
+            let one : Both t z w = subst (λ (v : Thread). Both t v w) (sym e.1) (subst (λ (v : PlainThread). Both t x2 v) (sym same) own_both) in
+            subst (λ (i : ℕ). Both i z w) (sym e.0) one
+        by_thread (inr e) =
+            let first = got_same_length threads q.threads u w (sym many) h in
+            let l : IsLater c.program q later threads u z first.0 = others u z first.0 e.0 e.1 first.1 in
+            let there : slice_get threads u ≡ Some l.now = l.twin in
+            let same : l.now ≡ w = cc in
+            subst (λ (v : PlainThread). Both u z v) same (l.fits, l.ends ∙ k.beside.ends u z first.0 e.1 first.1)
+
+    pub moved_beside : StandsBeside c.program objects (record { words = later; threads = slice_set s.threads t x2 }) (record q { holdings = holdings; threads = threads })
+    moved_beside = stands_beside c.program objects s q t later x x2 holdings threads q.prints k.beside k.got (record {
+      places = λ i v e. written.places i (place_low c.program q k.beside.apart i v e).0;
+      next = written.counters NEXT_FREE_WORD (omega arith);
+      printed = written.counters NEXT_TICKET_WORD (omega arith) ∙ k.beside.agrees.prints;
+      monitors = alike;
+      many = many;
+      each = thread_fits;
+      old = λ a word e. old a word (sym k.phase_is ∙ e);
+      new = new;
+      part = part;
+      rests = λ e. rests (sym k.phase_is ∙ e);
+    })
+
+  -- ---- the steps
+
+  pub stepped : (later : List ℕ) (x2 : Thread) (acts : List Act) (behind : Plain) → objects_by c.program phase objects ≡ objects → acts_of c x phase (found_by s.words (wanted c x phase)) ≡ acts
+      → words_after s.words (wanted c x phase) ≡ later → moved c x phase (found_by s.words (wanted c x phase)) ≡ x2 → plain_run c.program q (steps_of t acts) ≡ Some behind
+      → StandsBeside c.program objects (record { words = later; threads = slice_set s.threads t x2 }) behind → StepsBeside c objects s t x q
+  stepped later x2 acts behind none ea ew em run beside =
+      steps_beside c objects s t x q behind k.got (ap (λ (f : Phase). objects_by c.program f objects) k.phase_is ∙ none)
+      (ap (λ (f : Phase). plain_run c.program q (steps_of t (acts_of c x f (found_by s.words (wanted c x f))))) k.phase_is ∙ ap (λ (l : List Act). plain_run c.program q (steps_of t l)) ea ∙ run)
+      (subst (λ (r : Core). StandsBeside c.program objects r behind) (sym state_is) beside)
+    where
+      state_is : accessed_by s t (wanted c x x.phase) (moved c x x.phase (found_by s.words (wanted c x x.phase))) ≡ record { words = later; threads = slice_set s.threads t x2 }
+      state_is = ap (λ (f : Phase). accessed_by s t (wanted c x f) (moved c x f (found_by s.words (wanted c x f)))) k.phase_is ∙ λ i. record { words = ew i; threads = slice_set s.threads t (em i) }

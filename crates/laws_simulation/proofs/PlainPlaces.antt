@@ -1,0 +1,250 @@
+-- Where the plain machine has values: the header and the values of an object, and the static fields. All of these lie behind
+-- the monitor records and below the number for the next reference, and none is a reference, where the lock word stands.
+use Rattle.std.proofs.Common.{◌≡◌, ◌≢◌, ◌⊎◌, inl, inr, ℕ, zero, suc, ◌-◌, ◌<◌, ◌≤◌, nat_lt, nat_le, Bool, true, false, List, [], ◌∷◌, length, Option, Some, None, refl, sym, ap, ◌∙◌, subst, arith}
+use Rattle.std.specs.Prelude.{Contains, slice_get, ◌==◌, ◌&&◌, if◌then◌else◌}
+use Rattle.std.specs.Option.{option_or}
+use Rattle.std.proofs.lemmas.Bool.Decides.{nat_tests}
+use Rattle.lists.proofs.ListLaws.{same_some}
+use Rattle.jvm_types.specs.declared.fixed_words.TheConstants.{FIRST_READY_WORD}
+use Rattle.jvm_types.specs.declared.program.Program.{Program}
+use Rattle.machine_types.specs.ObjectsApart.{IsBeside, IsOutside, LieApart}
+use Rattle.machine_types.specs.PlainMemory.{Object, StaticValue, header_of, first_value, object_end, has_value, value_in, object_value, static_value}
+use Rattle.machine_types.specs.PlainState.{Plain, value_at}
+use Rattle.machine_types.specs.Words.{header_word, value_word}
+use Rattle.laws_states.proofs.Lists.{contained_got, same_or_not}
+
+-- ---- tests
+
+are_same : (n m : ℕ) → (n == m) ≡ true → n ≡ m
+are_same n m e = grind (arith, nat_tests, e)
+
+is_itself : (n : ℕ) → (n == n) ≡ true
+is_itself n = grind (arith, nat_tests)
+
+no_other : (n m : ℕ) → n ≢ m → (n == m) ≡ false
+no_other n m d = by_test (n == m) refl
+  where
+    by_test : (b : Bool) → (n == m) ≡ b → b ≡ false
+    by_test true e = absurd (d (are_same n m e))
+    by_test false e = refl
+
+-- ---- one object
+
+module _ (o : Object) (x : ℕ) where
+  is_within : has_value o x ≡ true → (first_value o ≤ x) × (x < object_end o)
+  is_within e = both (nat_le (first_value o) x) (nat_lt x (object_end o)) refl refl e
+    where
+      both : (a b : Bool) → nat_le (first_value o) x ≡ a → nat_lt x (object_end o) ≡ b → (a && b) ≡ true → (first_value o ≤ x) × (x < object_end o)
+      both true true f g h = (grind (arith, nat_tests, f), grind (arith, nat_tests, g))
+      both true false f g h = absurd (cc)
+      both false b f g h = absurd (cc)
+
+  not_within : (object_end o ≤ x) ⊎ (x < first_value o) → has_value o x ≡ false
+  not_within k = by_test (has_value o x) refl k
+    where
+      by_test : (b : Bool) → has_value o x ≡ b → (object_end o ≤ x) ⊎ (x < first_value o) → b ≡ false
+      by_test true e (inl h) = let l = is_within e in absurd (omega (arith, h, l.0, l.1))
+      by_test true e (inr h) = let l = is_within e in absurd (omega (arith, h, l.0, l.1))
+      by_test false e k = refl
+
+  -- the place of a value lies inside its object, and not at its reference
+  pub lies_inside : (v : ℕ) → value_in o x ≡ Some v → (o.reference < x) × (x < object_end o)
+  lies_inside v e = by_header (x == header_word o.reference) refl e
+    where
+      by_value : (b : Bool) → has_value o x ≡ b → (if b then slice_get o.values (x - first_value o) else None) ≡ Some v → (o.reference < x) × (x < object_end o)
+      by_value true f e = let l = is_within f in (omega (arith, l.0), l.1)
+      by_value false f e = absurd (cc)
+
+      by_header : (b : Bool) → (x == header_word o.reference) ≡ b → (if b then Some (header_of o) else if has_value o x then slice_get o.values (x - first_value o) else None) ≡ Some v → (o.reference < x) × (x < object_end o)
+      by_header true f e = let same = are_same x (header_word o.reference) f in (omega (arith, same), omega (arith, same))
+      by_header false f e = by_value (has_value o x) refl e
+
+  pub none_outside : (x ≤ o.reference) ⊎ (object_end o ≤ x) → value_in o x ≡ None
+  none_outside k = by_option (value_in o x) refl
+    where
+      by_side : (v : ℕ) → value_in o x ≡ Some v → (x ≤ o.reference) ⊎ (object_end o ≤ x) → ⊥
+      by_side v e (inl h) = let l = lies_inside v e in omega (arith, h, l.0)
+      by_side v e (inr h) = let l = lies_inside v e in omega (arith, h, l.1)
+
+      by_option : (w : Option ℕ) → value_in o x ≡ w → w ≡ None
+      by_option None e = refl
+      by_option (Some v) e = absurd (by_side v e k)
+
+pub header_in : (o : Object) → value_in o (header_word o.reference) ≡ Some (header_of o)
+header_in o = ap (λ (b : Bool). if b then Some (header_of o) else if has_value o (header_word o.reference) then slice_get o.values (header_word o.reference - first_value o) else None) (is_itself (header_word o.reference))
+
+pub got_some : (xs : List ℕ) (i : ℕ) → i < length xs → (v : ℕ) × (slice_get xs i ≡ Some v)
+got_some [] i lt = absurd (omega (arith, lt))
+got_some (x ∷ xs) zero lt = (x, refl)
+got_some (x ∷ xs) (suc i) lt = got_some xs i (omega (arith, lt))
+
+pub value_in_object : (o : Object) (i : ℕ) → i < length o.values → value_in o (value_word o.reference i) ≡ slice_get o.values i
+value_in_object o i lt =
+    ap (λ (b : Bool). if b then Some (header_of o) else if has_value o at then slice_get o.values (at - first_value o) else None) (no_other at (header_word o.reference) (λ e. omega (arith, e)))
+    ∙ ap (λ (b : Bool). if b then slice_get o.values (at - first_value o) else None) (has_it (has_value o at) refl)
+    ∙ ap (slice_get o.values) index
+  where
+    at : ℕ
+    at = value_word o.reference i
+
+    index : value_word o.reference i - first_value o ≡ i
+    index = omega arith
+
+    le : nat_le (first_value o) (value_word o.reference i) ≡ true
+    le = grind (arith, nat_tests)
+
+    below : nat_lt (value_word o.reference i) (object_end o) ≡ true
+    below = let l : value_word o.reference i < object_end o = omega (arith, lt) in grind (arith, nat_tests, l)
+
+    has_it : (b : Bool) → has_value o at ≡ b → b ≡ true
+    has_it b e = sym e ∙ ap (λ (d : Bool). d && nat_lt (value_word o.reference i) (object_end o)) le ∙ below
+
+-- ---- some objects
+
+pub record IsIn (objects : List Object) (x v : ℕ) : Type 0 where
+  pub index : ℕ
+  pub object : Object
+  pub there : slice_get objects index ≡ Some object
+  pub has : value_in object x ≡ Some v
+
+found_object : (os : List Object) (x v : ℕ) → object_value os x ≡ Some v → IsIn os x v
+found_object [] x v e = absurd (cc)
+found_object (o ∷ os) x v e = by_first (value_in o x) refl e (λ f. found_object os x v f)
+  where
+    by_first : (w : Option ℕ) → value_in o x ≡ w → option_or w (object_value os x) ≡ Some v → (object_value os x ≡ Some v → IsIn os x v) → IsIn (o ∷ os) x v
+    by_first (Some u) f g more = record { index = 0; object = o; there = refl; has = f ∙ g }
+    by_first None f g more = let k = more g in record { index = suc k.index; object = k.object; there = k.there; has = k.has }
+
+-- the one that has the place, where no other does
+first_object : (os : List Object) (x v i : ℕ) (o : Object) → slice_get os i ≡ Some o → value_in o x ≡ Some v → ((j : ℕ) (e : Object) → slice_get os j ≡ Some e → j ≢ i → value_in e x ≡ None) → object_value os x ≡ Some v
+first_object [] x v i o g e apart = absurd (cc)
+first_object (p ∷ os) x v zero o g e apart =
+    let one : p ≡ o = cc in
+    ap (λ (w : Option ℕ). option_or w (object_value os x)) (subst (λ (z : Object). value_in z x ≡ Some v) (sym one) e)
+first_object (p ∷ os) x v (suc i) o g e apart =
+    ap (λ (w : Option ℕ). option_or w (object_value os x)) (apart 0 p refl (λ h. omega (arith, h)))
+    ∙ first_object os x v i o g e (λ j d h n. apart (suc j) d h (λ k. n (omega (arith, k))))
+
+pub no_object : (os : List Object) (x : ℕ) → ((j : ℕ) (e : Object) → slice_get os j ≡ Some e → value_in e x ≡ None) → object_value os x ≡ None
+no_object [] x none = refl
+no_object (o ∷ os) x none = ap (λ (w : Option ℕ). option_or w (object_value os x)) (none 0 o refl) ∙ no_object os x (λ j e h. none (suc j) e h)
+
+-- ---- static fields
+
+pub record IsAt (statics : List StaticValue) (x v : ℕ) : Type 0 where
+  pub index : ℕ
+  pub static : StaticValue
+  pub there : slice_get statics index ≡ Some static
+  pub word : static.word ≡ x
+  pub value : static.value ≡ v
+
+found_static : (ss : List StaticValue) (x v : ℕ) → static_value ss x ≡ Some v → IsAt ss x v
+found_static [] x v e = absurd (cc)
+found_static (s ∷ ss) x v e = by_first (s.word == x) refl e (λ f. found_static ss x v f)
+  where
+    by_first : (b : Bool) → (s.word == x) ≡ b → (if b then Some s.value else static_value ss x) ≡ Some v → (static_value ss x ≡ Some v → IsAt ss x v) → IsAt (s ∷ ss) x v
+    by_first true f g more = record { index = 0; static = s; there = refl; word = are_same s.word x f; value = same_some g }
+    by_first false f g more = let k = more g in record { index = suc k.index; static = k.static; there = k.there; word = k.word; value = k.value }
+
+first_static : (ss : List StaticValue) (i : ℕ) (s : StaticValue) → slice_get ss i ≡ Some s → (v : ℕ) × (static_value ss s.word ≡ Some v)
+first_static [] i s e = absurd (cc)
+first_static (r ∷ ss) zero s e =
+    let one : r ≡ s = cc in
+    (r.value, ap (λ (b : Bool). if b then Some r.value else static_value ss s.word) (ap (λ (z : StaticValue). z.word == s.word) one ∙ is_itself s.word))
+first_static (r ∷ ss) (suc i) s e = by_first (r.word == s.word) refl (first_static ss i s e)
+  where
+    by_first : (b : Bool) → (r.word == s.word) ≡ b → (v : ℕ) × (static_value ss s.word ≡ Some v) → (v : ℕ) × ((if b then Some r.value else static_value ss s.word) ≡ Some v)
+    by_first true f k = (r.value, refl)
+    by_first false f k = k
+
+-- ---- all places
+
+module _ (p : Program) (q : Plain) (apart : LieApart p q.objects q.statics q.next) where
+  -- where a value was found
+  pub found_place : (x v : ℕ) → value_at q x ≡ Some v → IsIn q.objects x v ⊎ IsAt q.statics x v
+  found_place x v e = by_objects (object_value q.objects x) refl e
+    where
+      by_objects : (w : Option ℕ) → object_value q.objects x ≡ w → option_or w (static_value q.statics x) ≡ Some v → IsIn q.objects x v ⊎ IsAt q.statics x v
+      by_objects (Some u) f g = inl (found_object q.objects x v (f ∙ g))
+      by_objects None f g = inr (found_static q.statics x v g)
+
+  -- behind the monitor records, and below the number for the next reference
+  pub place_low : (x v : ℕ) → value_at q x ≡ Some v → (FIRST_READY_WORD ≤ x) × (x < q.next)
+  place_low x v e = by_place (found_place x v e)
+    where
+      by_place : IsIn q.objects x v ⊎ IsAt q.statics x v → (FIRST_READY_WORD ≤ x) × (x < q.next)
+      by_place (inl k) =
+          let l = lies_inside k.object x v k.has in
+          (omega (arith, apart.begin k.index k.object k.there, l.0), omega (arith, apart.below k.index k.object k.there, l.1))
+      by_place (inr k) =
+          let low = apart.statics_begin k.index k.static k.there in
+          let high = (apart.statics_below k.index k.static k.there).0 in
+          (omega (arith, low, k.word), omega (arith, high, k.word))
+
+  other_object : (i j : ℕ) (o e : Object) (x : ℕ) → slice_get q.objects i ≡ Some o → slice_get q.objects j ≡ Some e → i ≢ j → o.reference ≤ x → x < object_end o → (x < e.reference) ⊎ (object_end e ≤ x)
+  other_object i j o e x f g n from to = by_side (apart.beside i j o e f g n)
+    where
+      by_side : IsBeside o e → (x < e.reference) ⊎ (object_end e ≤ x)
+      by_side (inl h) = inl (omega (arith, h, to))
+      by_side (inr h) = inr (omega (arith, h, from))
+
+  none_in_other : (i j : ℕ) (o e : Object) (x : ℕ) → slice_get q.objects i ≡ Some o → slice_get q.objects j ≡ Some e → i ≢ j → o.reference ≤ x → x < object_end o → value_in e x ≡ None
+  none_in_other i j o e x f g n from to = by_side (other_object i j o e x f g n from to)
+    where
+      by_side : (x < e.reference) ⊎ (object_end e ≤ x) → value_in e x ≡ None
+      by_side (inl h) = none_outside e x (inl (omega (arith, h)))
+      by_side (inr h) = none_outside e x (inr h)
+
+  -- the lock word of an object is no place
+  pub no_lock_place : (o : Object) (v : ℕ) → Contains q.objects o → value_at q o.reference ≡ Some v → ⊥
+  no_lock_place o v c e = by_place (found_place o.reference v e)
+    where
+      there : slice_get q.objects c.0 ≡ Some o
+      there = contained_got q.objects o c
+
+      by_place : IsIn q.objects o.reference v ⊎ IsAt q.statics o.reference v → ⊥
+      by_place (inl k) = by_index (same_or_not c.0 k.index)
+        where
+          by_index : (c.0 ≡ k.index) ⊎ (c.0 ≢ k.index) → ⊥
+          by_index (inl same) =
+              let one : o ≡ k.object = same_some (sym there ∙ ap (slice_get q.objects) same ∙ k.there) in
+              let l = lies_inside k.object o.reference v k.has in
+              omega (arith, l.0, ap (λ (z : Object). z.reference) one)
+          by_index (inr n) =
+              let l = lies_inside k.object o.reference v k.has in
+              by_side (other_object c.0 k.index o k.object o.reference there k.there n (omega arith) (omega arith)) l.0 l.1
+            where
+              by_side : (o.reference < k.object.reference) ⊎ (object_end k.object ≤ o.reference) → k.object.reference < o.reference → o.reference < object_end k.object → ⊥
+              by_side (inl h) a b = omega (arith, h, a)
+              by_side (inr h) a b = omega (arith, h, b)
+      by_place (inr k) = by_side (apart.mixed c.0 k.index o k.static there k.there)
+        where
+          by_side : IsOutside o k.static.word → ⊥
+          by_side (inl h) = omega (arith, h, k.word)
+          by_side (inr h) = omega (arith, h, k.word)
+
+  -- a place of an object has its value
+  pub value_of_object : (o : Object) (x v : ℕ) → Contains q.objects o → value_in o x ≡ Some v → value_at q x ≡ Some v
+  value_of_object o x v c e =
+      ap (λ (w : Option ℕ). option_or w (static_value q.statics x))
+      (first_object q.objects x v c.0 o there e (λ j d h n. none_in_other c.0 j o d x there h (λ k. n (sym k)) (omega (arith, l.0)) l.1))
+    where
+      there : slice_get q.objects c.0 ≡ Some o
+      there = contained_got q.objects o c
+
+      l : (o.reference < x) × (x < object_end o)
+      l = lies_inside o x v e
+
+  pub value_of_header : (o : Object) → Contains q.objects o → value_at q (header_word o.reference) ≡ Some (header_of o)
+  value_of_header o c = value_of_object o (header_word o.reference) (header_of o) c (header_in o)
+
+  -- a static field has one
+  pub value_of_static : (s : StaticValue) → Contains q.statics s → (v : ℕ) × (value_at q s.word ≡ Some v)
+  value_of_static s c =
+      let there = contained_got q.statics s c in
+      let k = first_static q.statics c.0 s there in
+      (k.0, ap (λ (w : Option ℕ). option_or w (static_value q.statics s.word)) (no_object q.objects s.word (λ j e h. outside e (apart.mixed j c.0 e s h there))) ∙ k.1)
+    where
+      outside : (e : Object) → IsOutside e s.word → value_in e s.word ≡ None
+      outside e (inl h) = none_outside e s.word (inl (omega (arith, h)))
+      outside e (inr h) = none_outside e s.word (inr h)

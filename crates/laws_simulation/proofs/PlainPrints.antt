@@ -1,0 +1,256 @@
+-- What the plain steps of an event print.
+use Rattle.std.proofs.Common.{◌≡◌, ℕ, ℤ, ◌+◌, nat_lt, Bool, true, false, cond, List, [], ◌∷◌, ◌++◌, Option, Some, None, refl, sym, ap, ◌∙◌, subst}
+use Rattle.std.specs.Prelude.{◌==◌, nat_le, option_map, option_and_then, slice_get}
+use Rattle.std.specs.List.{AllByRecursion}
+use Rattle.lists.proofs.ListLaws.{same_some}
+use Rattle.jvm_types.specs.declared.code.Op.{Op}
+use Rattle.jvm_types.specs.declared.code.Op.TheVariants as ops
+use Rattle.jvm_types.specs.declared.outcome.Print.{Print}
+use Rattle.jvm_types.specs.declared.outcome.Thrown.TheVariants.{NullPointerException}
+use Rattle.jvm_types.specs.declared.program.Program.{Program}
+use Rattle.jvm_types.specs.declared.program.Target.{Target}
+use Rattle.checked_program.specs.MarkedProgram.{MarkedProgram, IsMarked}
+use Rattle.machine_types.specs.Agreement.{StatusFits, frames_shown}
+use Rattle.machine_types.specs.Effects.{effect, unless_null, read_by}
+use Rattle.machine_types.specs.Frames.{Top, top_of, effect_at}
+use Rattle.machine_types.specs.HeldMonitors.{held_at}
+use Rattle.machine_types.specs.History.{acts_of, steps_of, if_so, notified_by, release_acts}
+use Rattle.machine_types.specs.History as history
+use Rattle.machine_types.specs.Instructions.{has_print_left}
+use Rattle.machine_types.specs.Ints.{low, int_of}
+use Rattle.machine_types.specs.LockWords.{word_of_lock}
+use Rattle.machine_types.specs.Monitors.{claim_by}
+use Rattle.machine_types.specs.Onward.{done}
+use Rattle.machine_types.specs.PlainInstructions.{did, indexed_in, instructed, got_by}
+use Rattle.machine_types.specs.PlainLaws.{InstructionsChangeMemory}
+use Rattle.machine_types.specs.PlainState.{Plain, PlainThread, Printed, Status, value_at, with_thread, goes_on}
+use Rattle.machine_types.specs.PlainState as plain
+use Rattle.machine_types.specs.PlainSteps.{plain_run, step_of}
+use Rattle.machine_types.specs.Structure.{TopIs, is_element_op}
+use Rattle.machine_types.specs.Threads.{Frame, Thread}
+use Rattle.machine_types.specs.Words.{header_length, value_word, variable_word}
+use Rattle.machine_types.specs.declared.effect.Effect.{Effect}
+use Rattle.machine_types.specs.declared.effect.Effect.TheVariants.{Writes, Indexes, Makes, Prints, Returns, Leaves, Waits, Notifies, NotifiesAll, Stuck, Throws}
+use Rattle.machine_types.specs.declared.lock.Held.{Held}
+use Rattle.machine_types.specs.declared.lock.Kept.{Kept}
+use Rattle.machine_types.specs.declared.lock.Kept.TheVariants as keeps
+use Rattle.machine_types.specs.declared.lock.LockWord.TheVariants as locks
+use Rattle.machine_types.specs.declared.phase.Phase.{Phase}
+use Rattle.machine_types.specs.declared.phase.Phase.TheVariants as phases
+use Rattle.machine_types.specs.declared.plain.Act.{Act}
+use Rattle.machine_types.specs.declared.plain.Act.TheVariants as acts
+use Rattle.laws_threads.proofs.Landing.{stand_top}
+use Rattle.laws_simulation.proofs.CountedEvents.{first_by, first_step, effect_print, top_print, new_print}
+use Rattle.laws_simulation.proofs.PlainCounts.{is_do}
+
+-- ---- one instruction
+
+abbrev pub with_printed : (t : ℕ) → List Printed → Option ℤ → List Printed
+with_printed t ps None = ps
+with_printed t ps (Some v) = ps ++ record { thread = t; value = v } ∷ []
+
+abbrev pub value_of : Effect → Option ℤ
+value_of (Prints n) = Some (int_of n)
+value_of e = None
+
+-- q and r have printed the same
+kept_put : (q r z : Plain) (t : ℕ) (y : PlainThread) → with_thread z t y ≡ r → z.prints ≡ q.prints → r.prints ≡ q.prints
+kept_put q r z t y e k = sym (ap (λ (w : Plain). w.prints) e) ∙ k
+
+kept_mapped : {X : Type 0} (q r z : Plain) (t : ℕ) (f : X → PlainThread) (o : Option X) → option_map (λ v. with_thread z t (f v)) o ≡ Some r → z.prints ≡ q.prints → r.prints ≡ q.prints
+kept_mapped q r z t f None e k = absurd (cc)
+kept_mapped q r z t f (Some v) e k = kept_put q r z t (f v) (same_some e) k
+
+kept_written : {X : Type 0} (q r z : Plain) (t : ℕ) (y : PlainThread) (o : Option X) → option_map (λ v. with_thread z t y) o ≡ Some r → z.prints ≡ q.prints → r.prints ≡ q.prints
+kept_written q r z t y None e k = absurd (cc)
+kept_written q r z t y (Some v) e k = kept_put q r z t y (same_some e) k
+
+kept_element : (p : Program) (q r : Plain) (t : ℕ) (x : PlainThread) (at : Top) (word : ℕ) (stored : Option ℕ) (o : Option ℕ) → option_map (indexed_in p q t x at word stored) o ≡ Some r → r.prints ≡ q.prints
+kept_element p q r t x at word stored None e = absurd (cc)
+kept_element p q r t x at word None (Some v) e = sym (ap (λ (w : Plain). w.prints) (same_some e))
+kept_element p q r t x at word (Some new) (Some v) e = sym (ap (λ (w : Plain). w.prints) (same_some e))
+
+kept_indexed : (q r : Plain) (b : Bool) (o : Option Plain) (z : Plain) → cond b o (Some z) ≡ Some r → (o ≡ Some r → r.prints ≡ q.prints) → z.prints ≡ q.prints → r.prints ≡ q.prints
+kept_indexed q r true o z e more k = more e
+kept_indexed q r false o z e more k = sym (ap (λ (w : Plain). w.prints) (same_some e)) ∙ k
+
+kept_made : (q y z r : Plain) (b : Bool) → cond b y z ≡ r → y.prints ≡ q.prints → z.prints ≡ q.prints → r.prints ≡ q.prints
+kept_made q y z r true e k l = sym (ap (λ (w : Plain). w.prints) e) ∙ k
+kept_made q y z r false e k l = sym (ap (λ (w : Plain). w.prints) e) ∙ l
+
+did_print : (p : Program) (q r : Plain) (t : ℕ) (x : PlainThread) (at : Top) (e : Effect) (got : ℕ) → did p q t x at e got ≡ Some r → r.prints ≡ with_printed t q.prints (value_of e)
+did_print p q r t x at (Writes v word) got s = kept_written q r _ t _ (value_at q (variable_word v)) s refl
+did_print p q r t x at (Indexes array index stored) got s = kept_indexed q r (nat_lt (low index) (header_length got)) _ _ s (λ k. kept_element p q r t x at (value_word array (low index)) stored _ k) refl
+did_print p q r t x at (Makes word size) got s = kept_made q _ _ r (nat_le (q.next + size) p.heap) (same_some s) refl refl
+did_print p q r t x at (Prints n) got s = sym (ap (λ (w : Plain). w.prints) (same_some s))
+did_print p q r t x at Returns got s = kept_put q r q t _ (same_some s) refl
+did_print p q r t x at (Leaves m) got s = kept_put q r q t _ (same_some s) refl
+did_print p q r t x at (Waits m) got s = kept_put q r q t _ (same_some s) refl
+did_print p q r t x at (Notifies m) got s = kept_put q r q t _ (same_some s) refl
+did_print p q r t x at (NotifiesAll m) got s = kept_put q r q t _ (same_some s) refl
+did_print p q r t x at e got s = kept_mapped q r q t (goes_on x) (done p at e got) s refl
+
+got_print : (p : Program) (q r : Plain) (t : ℕ) (x : PlainThread) (at : Top) (e : Effect) (o : Option ℕ) → option_and_then (λ got. did p q t x at e got) o ≡ Some r → r.prints ≡ with_printed t q.prints (value_of e)
+got_print p q r t x at e None s = absurd (cc)
+got_print p q r t x at e (Some got) s = did_print p q r t x at e got s
+
+pub instruction_prints : (p : Program) (q r : Plain) (t : ℕ) (x : PlainThread) (at : Top) → instructed p q t x (Some at) ≡ Some r → r.prints ≡ with_printed t q.prints (value_of (effect_at p at))
+instruction_prints p q r t x at s = got_print p q r t x at (effect_at p at) (got_by (value_at q) (read_by (effect_at p at))) s
+
+-- ---- acts that are no instructions
+
+abbrev AreOthers : List Act → Type 0
+AreOthers acts = AllByRecursion (λ act. is_do act ≡ false) acts
+
+other_prints : (memory : InstructionsChangeMemory) (p : Program) (q r : Plain) (t : ℕ) (act : Act) (o : Option PlainThread) → slice_get q.threads t ≡ o → step_of p q t act o ≡ Some r → is_do act ≡ false → r.prints ≡ q.prints
+other_prints memory p q r t act None e s d = absurd (cc)
+other_prints memory p q r t act (Some x) e s d = (memory p q r t x act (record { thread = e; to = ap (step_of p q t act) e ∙ s }) (λ k. no_do act d k.0)).prints
+  where
+    no_do : (act : Act) → is_do act ≡ false → act ≡ acts.Do → ⊥
+    no_do act d k = let is : is_do act ≡ true = ap is_do k in cc
+
+others_print : (memory : InstructionsChangeMemory) (p : Program) (t : ℕ) (more : List Act) (q r : Plain) → plain_run p q (steps_of t more) ≡ Some r → AreOthers more → r.prints ≡ q.prints
+others_print memory p t [] q r run k = sym (ap (λ (w : Plain). w.prints) (same_some run))
+others_print memory p t (act ∷ more) q r run k =
+    let f = first_step p q r (record { thread = t; act = act }) (steps_of t more) run in
+    others_print memory p t more f.to r f.rest k.1 ∙ other_prints memory p q f.to t act (slice_get q.threads t) refl f.first k.0
+
+other_if : (b : Bool) (act : Act) → is_do act ≡ false → AreOthers (if_so b act)
+other_if true act d = (d, tt)
+other_if false act d = tt
+
+-- ---- no element is printed
+
+abbrev PrintsNot : Effect → Type 0
+PrintsNot e = value_of e ≡ None
+
+null_prints_not : (a : ℕ) (e : Effect) → PrintsNot e → PrintsNot (unless_null a e)
+null_prints_not a e k = by_test (a == 0)
+  where
+    by_test : (b : Bool) → PrintsNot (cond b (Throws NullPointerException) e)
+    by_test true = refl
+    by_test false = k
+
+element_prints_not : (p : Program) (next : ℕ) (target : Target) (op : Op) (stored : Option ℕ) (l s : List ℕ) → is_element_op stored op ≡ true → PrintsNot (effect p next target op l s)
+element_prints_not p next target ops.Iaload stored l (i ∷ a ∷ s) k = null_prints_not a (Indexes a i None) refl
+element_prints_not p next target ops.Iaload stored l (i ∷ []) k = refl
+element_prints_not p next target ops.Iaload stored l [] k = refl
+element_prints_not p next target ops.Iastore stored l (v ∷ i ∷ a ∷ s) k = null_prints_not a (Indexes a i (Some v)) refl
+element_prints_not p next target ops.Iastore stored l (v ∷ i ∷ []) k = refl
+element_prints_not p next target ops.Iastore stored l (v ∷ []) k = refl
+element_prints_not p next target ops.Iastore stored l [] k = refl
+element_prints_not p next target op None l s k = absurd (cc)
+element_prints_not p next target op (Some v) l s k = absurd (cc)
+
+abbrev pub ElementShows : Program → Phase → List Frame → Type 0
+ElementShows p (phases.Element word stored) frames = (at : Top) → top_of p frames ≡ Some at → value_of (effect_at p at) ≡ None
+ElementShows p phase frames = Unit {0}
+
+pub element_shows : (c : MarkedProgram) (word : ℕ) (stored : Option ℕ) (frames : List Frame) → IsMarked c → TopIs c (is_element_op stored) frames → ElementShows c.program (phases.Element word stored) frames
+element_shows c word stored [] marked top at e = absurd top
+element_shows c word stored (f ∷ fs) marked top at e =
+    subst (λ (z : Top). value_of (effect_at c.program z) ≡ None) (same_some (sym (stand_top c marked f fs top.0) ∙ e)) (element_prints_not c.program top.0.insn.next top.0.target top.0.insn.op stored f.locals f.stack top.1)
+
+-- ---- all phases
+
+module _ (memory : InstructionsChangeMemory) (c : MarkedProgram) (bit : ℕ → Bool) (t : ℕ) (s : Thread) (q after : Plain) (x : PlainThread) (there : slice_get q.threads t ≡ Some x) (got : ℕ) where
+  abbrev at_phase : Phase → Thread
+  at_phase phase = record s { attempt = None; phase = phase }
+
+  others : (more : List Act) → plain_run c.program q (steps_of t more) ≡ Some after → AreOthers more → after.prints ≡ q.prints
+  others more run k = others_print memory c.program t more q after run k
+
+  instruction : (at : Top) (more : List Act) → x.status ≡ plain.Run → top_of c.program x.frames ≡ Some at → plain_run c.program q (steps_of t (acts.Do ∷ more)) ≡ Some after → AreOthers more
+      → after.prints ≡ with_printed t q.prints (value_of (effect_at c.program at))
+  instruction at more status top run k =
+      let step = first_by c.program q after t x acts.Do plain.Run more there status run in
+      others_print memory c.program t more step.0 after step.2 k ∙ instruction_prints c.program q step.0 t x at (ap (instructed c.program q t x) (sym top) ∙ step.1)
+
+  by_effect : (at : Top) (e : Effect) → effect_at c.program at ≡ e → x.status ≡ plain.Run → top_of c.program x.frames ≡ Some at → plain_run c.program q (steps_of t (history.instruction_acts (at_phase phases.Run) e got)) ≡ Some after
+      → after.prints ≡ with_printed t q.prints (option_map (λ (p : Print). p.value) (effect_print (at_phase phases.Run) e got))
+  by_effect at (Indexes array index stored) is status top run = by_test (nat_lt (low index) (header_length got)) run
+    where
+      by_test : (b : Bool) → plain_run c.program q (steps_of t (cond b [] (acts.Do ∷ []))) ≡ Some after → after.prints ≡ q.prints
+      by_test true r = others [] r tt
+      by_test false r = instruction at [] status top r tt ∙ ap (λ (e : Effect). with_printed t q.prints (value_of e)) is
+  by_effect at (Prints n) is status top run = by_test (has_print_left s) run
+    where
+      by_test : (b : Bool) → plain_run c.program q (steps_of t (if_so b acts.Do)) ≡ Some after → after.prints ≡ with_printed t q.prints (option_map (λ (p : Print). p.value) (cond b (Some (record { ticket = got; value = int_of n })) None))
+      by_test true r = instruction at [] status top r tt ∙ ap (λ (e : Effect). with_printed t q.prints (value_of e)) is
+      by_test false r = others [] r tt
+  by_effect at (Notifies m) is status top run = by_held (held_at s.held m) run
+    where
+      by_held : (o : Option Held) → plain_run c.program q (steps_of t (history.notified o (acts.Notify None))) ≡ Some after → after.prints ≡ q.prints
+      by_held None r = instruction at [] status top r tt ∙ ap (λ (e : Effect). with_printed t q.prints (value_of e)) is
+      by_held (Some h) r = by_kept h.kept r
+        where
+          by_kept : (k : Kept) → plain_run c.program q (steps_of t (notified_by k (acts.Notify None))) ≡ Some after → after.prints ≡ q.prints
+          by_kept (keeps.Flat n) r = instruction at (acts.Notify None ∷ []) status top r (refl, tt) ∙ ap (λ (e : Effect). with_printed t q.prints (value_of e)) is
+          by_kept (keeps.Fat i) r = instruction at [] status top r tt ∙ ap (λ (e : Effect). with_printed t q.prints (value_of e)) is
+  by_effect at (NotifiesAll m) is status top run = by_held (held_at s.held m) run
+    where
+      by_held : (o : Option Held) → plain_run c.program q (steps_of t (history.notified o acts.NotifyAll)) ≡ Some after → after.prints ≡ q.prints
+      by_held None r = instruction at [] status top r tt ∙ ap (λ (e : Effect). with_printed t q.prints (value_of e)) is
+      by_held (Some h) r = by_kept h.kept r
+        where
+          by_kept : (k : Kept) → plain_run c.program q (steps_of t (notified_by k acts.NotifyAll)) ≡ Some after → after.prints ≡ q.prints
+          by_kept (keeps.Flat n) r = instruction at (acts.NotifyAll ∷ []) status top r (refl, tt) ∙ ap (λ (e : Effect). with_printed t q.prints (value_of e)) is
+          by_kept (keeps.Fat i) r = instruction at [] status top r tt ∙ ap (λ (e : Effect). with_printed t q.prints (value_of e)) is
+  by_effect at Stuck is status top run = others [] run tt
+  by_effect at e is status top run = instruction at [] status top run tt ∙ ap (λ (e : Effect). with_printed t q.prints (value_of e)) is
+
+  by_top : (o : Option Top) → top_of c.program x.frames ≡ o → x.status ≡ plain.Run → plain_run c.program q (steps_of t (history.run_acts c (at_phase phases.Run) o got)) ≡ Some after
+      → after.prints ≡ with_printed t q.prints (option_map (λ (p : Print). p.value) (top_print c.program (at_phase phases.Run) o got))
+  by_top None top status run = others [] run tt
+  by_top (Some at) top status run = by_effect at (effect_at c.program at) refl status top run
+
+  element : (o : Option Top) → top_of c.program x.frames ≡ o → ((at : Top) → o ≡ Some at → value_of (effect_at c.program at) ≡ None) → x.status ≡ plain.Run → plain_run c.program q (steps_of t (acts.Do ∷ [])) ≡ Some after → after.prints ≡ q.prints
+  element None top shows status run =
+      let step = first_by c.program q after t x acts.Do plain.Run [] there status run in
+      let none : instructed c.program q t x None ≡ Some step.0 = ap (instructed c.program q t x) (sym top) ∙ step.1 in
+      absurd (cc)
+  element (Some at) top shows status run = instruction at [] status top run tt ∙ ap (with_printed t q.prints) (shows at refl)
+
+  thrown : (r : ℕ) (class : _) → x.status ≡ plain.Throw r class → plain_run c.program q (steps_of t (acts.Do ∷ [])) ≡ Some after → after.prints ≡ q.prints
+  thrown r class status run =
+      let f = first_step c.program q after (record { thread = t; act = acts.Do }) [] run in
+      others_print memory c.program t [] f.to after f.rest tt
+      ∙ (memory c.program q f.to t x acts.Do (record { thread = there; to = f.first }) (λ k. runs_not (sym status ∙ k.1))).prints
+    where
+      runs_not : plain.Throw r class ≡ plain.Run → ⊥
+      runs_not e = cc
+
+  pub printed_at : (phase : Phase) → StatusFits bit (at_phase phase) phase x.status → x.frames ≡ frames_shown phase s.frames → ElementShows c.program phase s.frames
+      → plain_run c.program q (steps_of t (acts_of c (at_phase phase) phase got)) ≡ Some after
+      → after.prints ≡ with_printed t q.prints (option_map (λ (p : Print). p.value) (new_print c.program (at_phase phase) phase got))
+  printed_at phases.Run status frames shows run = by_top (top_of c.program s.frames) (ap (top_of c.program) frames) status run
+  printed_at (phases.Element word stored) status frames shows run = element (top_of c.program s.frames) (ap (top_of c.program) frames) shows status run
+  printed_at (phases.Throw r class) status frames shows run = thrown r class status run
+  printed_at (phases.Enter m number) status frames shows run = by_held (held_at s.held m) run
+    where
+      by_held : (o : Option Held) → plain_run c.program q (steps_of t (history.enter_acts (claim_by m o None))) ≡ Some after → after.prints ≡ q.prints
+      by_held None r = others [] r tt
+      by_held (Some h) r = others (acts.Enter ∷ []) r (refl, tt)
+  printed_at (phases.Take m count) status frames shows run = others _ run (other_if (got == word_of_lock (locks.Free count)) acts.Enter refl)
+  printed_at (phases.TakeFat m r) status frames shows run = others _ run (other_if (got == 0) acts.Enter refl)
+  printed_at (phases.Leave m a) status frames shows run = by_held (held_at s.held m) run
+    where
+      quiet_release : (k : Kept) → AreOthers (release_acts (at_phase (phases.Leave m a)) k got)
+      quiet_release (keeps.Flat n) = other_if (got == word_of_lock (locks.Held s.number)) acts.Exit refl
+      quiet_release (keeps.Fat r) = (refl, tt)
+
+      quiet_leave : (b : Bool) (more : List Act) → AreOthers more → AreOthers (cond b (acts.Exit ∷ []) more)
+      quiet_leave true more k = (refl, tt)
+      quiet_leave false more k = k
+
+      by_held : (o : Option Held) → plain_run c.program q (steps_of t (history.leave_acts (at_phase (phases.Leave m a)) (claim_by m o None) got)) ≡ Some after → after.prints ≡ q.prints
+      by_held None r = others [] r tt
+      by_held (Some h) r = others _ r (quiet_leave (nat_lt 1 h.depth) _ (quiet_release h.kept))
+  printed_at phases.Start status frames shows run = others (acts.Begin ∷ []) run (refl, tt)
+  printed_at (phases.FlatOut m a) status frames shows run = others (acts.Exit ∷ []) run (refl, tt)
+  printed_at (phases.WaitOut m r) status frames shows run = others (acts.Wait ∷ []) run (refl, tt)
+  printed_at (phases.Retake m r depth) status frames shows run = others _ run (other_if (got == 0) acts.Retake refl)
+  printed_at (phases.NotifyLook m r) status frames shows run = others _ run (other_if (got == 0) (acts.Notify None) refl)
+  printed_at (phases.NotifyOne m r u) status frames shows run = others (acts.Notify (Some u) ∷ []) run (refl, tt)
+  printed_at (phases.NotifyAll m r) status frames shows run = others (acts.NotifyAll ∷ []) run (refl, tt)
+  printed_at phase status frames shows run = others [] run tt

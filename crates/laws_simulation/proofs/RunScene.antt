@@ -1,0 +1,119 @@
+-- An instruction of a thread that is in no attempt: what it may do, and the step of its plain thread.
+use Rattle.std.proofs.Common.{◌≡◌, ℕ, List, [], ◌∷◌, Option, Some, refl, sym, ap, subst, ◌∙◌}
+use Rattle.lists.proofs.ListLaws.{same_some}
+use Rattle.jvm_types.specs.declared.code.Insn.{Insn}
+use Rattle.jvm_types.specs.declared.op_row.OpRow.{OpRow}
+use Rattle.jvm_types.specs.declared.outcome.End.TheVariants as ends
+use Rattle.jvm_types.specs.declared.program.MethodInfo.{MethodInfo}
+use Rattle.jvm_types.specs.declared.program.Target.{Target}
+use Rattle.checked_program.specs.MarkedProgram.{MarkedProgram}
+use Rattle.checked_program.specs.TaggedCode.{row_of}
+use Rattle.machine_types.specs.Agreement.{StatusFits, frames_shown, has_wait_bit}
+use Rattle.machine_types.specs.Core.{Core}
+use Rattle.machine_types.specs.Events.{wanted, moved}
+use Rattle.machine_types.specs.Frames.{Top, top_of, effect_at}
+use Rattle.machine_types.specs.History.{instruction_acts, run_acts, acts_of, steps_of}
+use Rattle.machine_types.specs.Instructions.{effect_wants, run_wants, begun, instructed, ran}
+use Rattle.machine_types.specs.Owners.{references_of}
+use Rattle.machine_types.specs.PlainInstructions.{instructed_by}
+use Rattle.machine_types.specs.PlainInstructions as steps
+use Rattle.machine_types.specs.PlainMemory.{Object}
+use Rattle.machine_types.specs.PlainState.{Plain}
+use Rattle.machine_types.specs.PlainSteps.{step_at, plain_run}
+use Rattle.machine_types.specs.Threads.{Frame, Thread}
+use Rattle.machine_types.specs.Typed.{FramesHold, HasClass, PhaseHolds}
+use Rattle.machine_types.specs.Waiting.{MayWait}
+use Rattle.machine_types.specs.declared.config.Config.{Config}
+use Rattle.machine_types.specs.declared.effect.Effect.{Effect}
+use Rattle.machine_types.specs.declared.phase.Phase.{Phase}
+use Rattle.machine_types.specs.declared.phase.Phase.TheVariants as phases
+use Rattle.machine_types.specs.declared.plain.Act.TheVariants as acts
+use Rattle.laws_threads.specs.Allowed.{Allowed}
+use Rattle.laws_threads.proofs.Landing.{stand_top}
+use Rattle.laws_threads.proofs.TopStand.{top_here}
+use Rattle.laws_threads.proofs.TopEffects.{allowed_here}
+use Rattle.laws_states.proofs.Accesses.{out_there}
+use Rattle.laws_simulation.proofs.Assembled.{one_step}
+use Rattle.laws_simulation.proofs.GoingOnAlike.{IsAwake, IsUnderWay}
+use Rattle.laws_simulation.proofs.OwnThread.{IsBusy, Own, own, under_way}
+use Rattle.laws_simulation.proofs.Scene.{Scene, awake, counts_as}
+
+-- ---- what the instruction may do, by the values of its frame
+
+pub record IsAllowed (c : MarkedProgram) (objects : List Object) (at : Top) (e : Effect) : Type 0 where
+  pub method : MethodInfo
+  pub insn : Insn
+  pub target : Target
+  pub row : OpRow
+  pub stack : List ℕ
+  pub target_is : at.target ≡ target
+  pub allowed : Allowed c.program method (HasClass objects) insn target row stack e
+
+module _ (c : MarkedProgram) (cfg : Config) (objects : List Object) (was : ℕ → Phase) (s : Core) (t : ℕ) (x : Thread) (q : Plain) (scene : Scene c cfg objects was s t x q) where
+  pub allowed_at : (fs : List Frame) → FramesHold c (HasClass objects) fs → (at : Top) → top_of c.program fs ≡ Some at → IsAllowed c objects at (effect_at c.program at)
+  allowed_at [] h at e = absurd (cc)
+  allowed_at (f ∷ fs) h at e =
+      let k = h.0.stands in
+      let one : top_here c f fs k ≡ at = same_some (sym (stand_top c scene.marked f fs k) ∙ e) in
+      subst (λ (z : Top). IsAllowed c objects z (effect_at c.program z)) one (record {
+        method = k.method;
+        insn = k.insn;
+        target = k.target;
+        row = row_of c.program k.method k.insn k.target;
+        stack = f.stack;
+        target_is = refl;
+        allowed = allowed_here c scene.marked (HasClass objects) (out_there c scene.marked objects s scene.facts.heap) f h.0;
+      })
+
+  -- ---- its plain thread
+
+  abbrev pub twin : Own c.program s q t x
+  twin = own c cfg objects was s t x q scene.facts scene.beside scene.here scene.outside
+
+  pub runs_on : IsBusy x.phase → IsUnderWay c.program x.part x.roots twin.plain
+  runs_on busy = under_way c cfg objects was s t x q scene.facts scene.beside scene.here scene.outside busy
+
+  pub frames_are : (phase : Phase) → x.phase ≡ phase → twin.plain.frames ≡ frames_shown phase x.frames
+  frames_are phase e = twin.fits.frames ∙ ap (λ (z : Phase). frames_shown z x.frames) e
+
+  pub status_fits : (phase : Phase) → x.phase ≡ phase → StatusFits (has_wait_bit (references_of q.objects) s.words t) x phase twin.plain.status
+  status_fits phase e = subst (λ (z : Phase). StatusFits (has_wait_bit (references_of q.objects) s.words t) x z twin.plain.status) e twin.fits.status
+
+  pub values : (phase : Phase) → x.phase ≡ phase → PhaseHolds c (HasClass objects) phase x.frames
+  values phase e = let k = scene.facts.heap.typed.threads t x scene.here in subst (λ (z : Phase). PhaseHolds c (HasClass objects) z x.frames) e k.phase
+
+  -- ---- an instruction
+
+  module _ (runs : x.phase ≡ phases.Run) (at : Top) (found : top_of c.program x.frames ≡ Some at) (e : Effect) (effect : effect_at c.program at ≡ e) where
+    pub busy : IsBusy x.phase
+    busy = subst IsBusy (sym runs) tt
+
+    pub lives : x.phase ≡ phases.Ended ends.Returned → ⊥
+    lives h = let both : phases.Run ≡ phases.Ended ends.Returned = sym runs ∙ h in cc
+
+    pub makes_none : (a word : ℕ) → x.phase ≡ phases.Made a word → ⊥
+    makes_none a word h = let both : phases.Run ≡ phases.Made a word = sym runs ∙ h in cc
+
+    pub wakes : IsAwake (has_wait_bit (references_of q.objects) s.words t)
+    wakes = awake c cfg objects was s t x q scene (λ r h. let as_it_was : was t ≡ phases.Run = counts_as c cfg objects was s t x q scene phases.Run runs in subst (λ (z : Phase). MayWait z r) as_it_was h)
+
+    pub may : IsAllowed c objects at e
+    may = subst (IsAllowed c objects at) effect (allowed_at x.frames (values phases.Run runs) at found)
+
+    pub wants : wanted c x x.phase ≡ effect_wants x at.frame.pc e
+    wants = ap (wanted c x) runs ∙ (ap (run_wants c.program x) found ∙ ap (effect_wants x at.frame.pc) effect)
+
+    pub acts_are : (got : ℕ) → acts_of c x x.phase got ≡ instruction_acts x e got
+    acts_are got = ap (λ (z : Phase). acts_of c x z got) runs ∙ (ap (λ (o : Option Top). run_acts c x o got) found ∙ ap (λ (z : Effect). instruction_acts x z got) effect)
+
+    pub moves : (got : ℕ) → moved c x x.phase got ≡ instructed c.program (begun x) at e got
+    moves got = ap (λ (z : Phase). moved c x z got) runs ∙ (ap (λ (o : Option Top). ran c.program x o got) found ∙ ap (λ (z : Effect). instructed c.program (begun x) at z got) effect)
+
+    -- the plain instruction
+    pub does : (after : Plain) → instructed_by c.program q t twin.plain at e ≡ Some after → plain_run c.program q (steps_of t (acts.Do ∷ [])) ≡ Some after
+    does after k = one_step c.program q after t twin.plain acts.Do twin.here
+        (ap (step_at c.program q t twin.plain acts.Do) (status_fits phases.Run runs)
+        ∙ (ap (λ (fs : List Frame). steps.instructed c.program q t twin.plain (top_of c.program fs)) (frames_are phases.Run runs)
+        ∙ (ap (steps.instructed c.program q t twin.plain) found
+        ∙ (ap (instructed_by c.program q t twin.plain at) effect
+        ∙ k))))

@@ -1,0 +1,46 @@
+-- The start of a run stands beside the start of the plain machine.
+use Rattle.std.proofs.Common.{◌≡◌, ℕ, zero, suc, ◌+◌, ◌≤◌, List, [], ◌∷◌, Some, refl, sym, subst, inl, arith}
+use Rattle.std.specs.Prelude.{slice_get}
+use Rattle.jvm_types.specs.declared.program.Program.{Program}
+use Rattle.checked_program.specs.MarkedProgram.{MarkedProgram}
+use Rattle.machine_types.specs.Core.{start_thread, part_phase}
+use Rattle.machine_types.specs.Parts.{init_roots}
+use Rattle.machine_types.specs.PlainState.{PlainThread, plain_start, first_thread}
+use Rattle.machine_types.specs.PlainState as plain
+use Rattle.machine_types.specs.StartLaws.{StartAgrees, StartLiesApart}
+use Rattle.machine_types.specs.Threads.{Thread}
+use Rattle.machine_types.specs.declared.config.Config.{Config}
+use Rattle.machine_types.specs.declared.phase.Phase.TheVariants as phases
+use Rattle.machine_types.proofs.AtStart.{thread_in, is_start_thread}
+use Rattle.laws_simulation.specs.StandsBeside.{own_end, ends_shown}
+use Rattle.laws_simulation.specs.StepsBeside.{StartStandsBeside}
+
+plain_thread : (p : Program) (t : ℕ) (y : PlainThread) → slice_get (plain_start p).threads t ≡ Some y → plain.start_thread p t ≡ y
+plain_thread p t y e = let k : 0 + t ≡ t = omega arith in subst (λ (i : ℕ). plain.start_thread p i ≡ y) k (thread_in (plain.start_thread p) 0 (p.workers + 1) t y e)
+
+first_ends : (roots : List ℕ) → (first_thread roots).ended ≡ own_end (part_phase roots)
+first_ends [] = refl
+first_ends (number ∷ roots) = refl
+
+ends : (c : MarkedProgram) (cfg : Config) (t : ℕ) → (plain.start_thread c.program t).ended ≡ ends_shown c.program (start_thread c cfg t).part (start_thread c cfg t).phase
+ends c cfg zero = first_ends (init_roots c.program)
+ends c cfg (suc t) = refl
+
+no_object : (roots : List ℕ) (a word : ℕ) → part_phase roots ≡ phases.Made a word → ⊥
+no_object [] a word e = cc
+no_object (number ∷ roots) a word e = cc
+
+none_made : (c : MarkedProgram) (cfg : Config) (t a word : ℕ) → (start_thread c cfg t).phase ≡ phases.Made a word → ⊥
+none_made c cfg zero a word e = no_object (init_roots c.program) a word e
+none_made c cfg (suc t) a word e = cc
+
+pub start_beside : StartAgrees → StartLiesApart → StartStandsBeside
+start_beside agrees lies c cfg marked = record {
+  agrees = agrees c cfg marked.checked.program;
+  known = λ o k. (o, k, refl, refl, refl);
+  others = λ e k. inl (e, k, refl);
+  new_objects = λ t x a word e m. absurd (none_made c cfg t a word (subst (λ (z : Thread). z.phase ≡ phases.Made a word) (sym (is_start_thread c cfg t x e)) m));
+  apart = lies c.program marked.checked.program;
+  done = λ x e two none. absurd (let k : 2 ≤ (start_thread c cfg 0).part = subst (λ (z : Thread). 2 ≤ z.part) (sym (is_start_thread c cfg 0 x e)) two in omega (arith, k));
+  ends = λ t x y e f. subst (λ (z : PlainThread). z.ended ≡ ends_shown c.program x.part x.phase) (plain_thread c.program t y f) (subst (λ (z : Thread). (plain.start_thread c.program t).ended ≡ ends_shown c.program z.part z.phase) (is_start_thread c cfg t x e) (ends c cfg t));
+}

@@ -1,0 +1,102 @@
+-- The event that goes on with an exception and one frame.
+use Rattle.std.proofs.Common.{◌≡◌, ℕ, Bool, List, [], ◌∷◌, Option, Some, None, refl, sym, ap, subst, ◌∙◌}
+use Rattle.std.specs.Prelude.{option_map}
+use Rattle.jvm_types.specs.CodeTable.{can_throw}
+use Rattle.jvm_types.specs.declared.code.Op.{Op}
+use Rattle.jvm_types.specs.declared.outcome.End.TheVariants as ends
+use Rattle.jvm_types.specs.declared.outcome.Thrown.{Thrown}
+use Rattle.checked_program.specs.MarkedProgram.{MarkedProgram, IsMarked}
+use Rattle.machine_types.specs.Agreement.{has_wait_bit}
+use Rattle.machine_types.specs.Core.{Core}
+use Rattle.machine_types.specs.Elision.{looks, if_same}
+use Rattle.machine_types.specs.Events.{wanted, moved}
+use Rattle.machine_types.specs.Frames.{Top, top_of, handler_at}
+use Rattle.machine_types.specs.Going.{goes_on, goes_on_if}
+use Rattle.machine_types.specs.History.{acts_of}
+use Rattle.machine_types.specs.Onward.{Onward, handed, dispatched}
+use Rattle.machine_types.specs.Owners.{references_of}
+use Rattle.machine_types.specs.PlainMemory.{Object}
+use Rattle.machine_types.specs.PlainState.{Plain, PlainThread, with_thread}
+use Rattle.machine_types.specs.PlainState as plain
+use Rattle.machine_types.specs.PlainSteps.{step_at}
+use Rattle.machine_types.specs.ReadyObjects.{class_of}
+use Rattle.machine_types.specs.Structure.{TopIs, PhaseShows}
+use Rattle.machine_types.specs.Threads.{Frame, Attempt, Thread}
+use Rattle.machine_types.specs.Waiting.{MayWait}
+use Rattle.machine_types.specs.declared.config.Config.{Config}
+use Rattle.machine_types.specs.declared.phase.Phase.{Phase}
+use Rattle.machine_types.specs.declared.phase.Phase.TheVariants as phases
+use Rattle.machine_types.specs.declared.plain.Act.TheVariants as acts
+use Rattle.laws_threads.proofs.Landing.{stand_top}
+use Rattle.laws_threads.proofs.TopStand.{top_here}
+use Rattle.laws_states.specs.HeapFacts.{objects_by}
+use Rattle.laws_simulation.specs.StepsBeside.{StepsBeside}
+use Rattle.laws_simulation.proofs.Assembled.{one_step}
+use Rattle.laws_simulation.proofs.GoingOnAlike.{IsAwake}
+use Rattle.laws_simulation.proofs.OwnThread.{IsBusy}
+use Rattle.laws_simulation.proofs.Scene.{Scene, GoesOn, awake, counts_as, going, none_on, comes_beside, steps_of_event}
+use Rattle.laws_simulation.proofs.MemoryParts.{stays}
+use Rattle.laws_simulation.proofs.RunScene.{twin, runs_on, frames_are, status_fits}
+
+-- frames whose top one stands at an instruction
+pub top_found : (c : MarkedProgram) → IsMarked c → (test : Op → Bool) (fs : List Frame) → TopIs c test fs → (at : Top) × (top_of c.program fs ≡ Some at)
+top_found c marked test [] k = absurd k
+top_found c marked test (f ∷ fs) k = (top_here c f fs k.0, stand_top c marked f fs k.0)
+
+module _ (c : MarkedProgram) (cfg : Config) (objects : List Object) (was : ℕ → Phase) (s : Core) (t : ℕ) (x : Thread) (q : Plain) (scene : Scene c cfg objects was s t x q)
+    (e : ℕ) (class : Thrown) (throws : x.phase ≡ phases.Throw e class) where
+  abbrev y : PlainThread
+  y = (twin c cfg objects was s t x q scene).plain
+
+  was_so : was t ≡ phases.Throw e class
+  was_so = counts_as c cfg objects was s t x q scene (phases.Throw e class) throws
+
+  top : (at : Top) × (top_of c.program x.frames ≡ Some at)
+  top =
+      let k = scene.facts.structure t x scene.here in
+      let stands = k.stands in
+      let shows : PhaseShows c (phases.Throw e class) x.frames stands.shown x.held x.attempt = subst (λ (z : Phase). PhaseShows c z x.frames stands.shown x.held x.attempt) was_so stands.phase_shows in
+      top_found c scene.marked can_throw x.frames shows
+
+  abbrev onward : Onward
+  onward = handed e class top.0 (handler_at (class_of class) top.0)
+
+  dispatches : dispatched c.program e class x.frames ≡ Some onward
+  dispatches = ap (option_map (λ (at : Top). handed e class at (handler_at (class_of class) at))) top.1
+
+  abbrev now : Thread
+  now = goes_on x onward
+
+  abbrev shown : PlainThread
+  shown = plain.goes_on y onward
+
+  lives : x.phase ≡ phases.Ended ends.Returned → ⊥
+  lives h = let both : phases.Throw e class ≡ phases.Ended ends.Returned = sym throws ∙ h in cc
+
+  wakes : IsAwake (has_wait_bit (references_of q.objects) s.words t)
+  wakes = awake c cfg objects was s t x q scene (λ r h. subst (λ (z : Phase). MayWait z r) was_so h)
+
+  goes : GoesOn c.program (has_wait_bit (references_of q.objects) s.words t) x now shown
+  goes = going c.program (has_wait_bit (references_of q.objects) s.words t) x x y onward refl scene.outside refl wakes (runs_on c cfg objects was s t x q scene (subst IsBusy (sym throws) tt))
+
+  same_frames : y.frames ≡ x.frames
+  same_frames = frames_are c cfg objects was s t x q scene (phases.Throw e class) throws
+
+  same_status : y.status ≡ plain.Throw e class
+  same_status = status_fits c cfg objects was s t x q scene (phases.Throw e class) throws
+
+  pub throw_steps : StepsBeside c objects s t x q
+  throw_steps = steps_of_event c cfg objects was s t x q scene objects None (acts.Do ∷ []) now
+      (ap (λ (z : Phase). objects_by c.program z objects) throws)
+      (ap (wanted c x) throws ∙ ap looks scene.outside)
+      (ap (λ (z : Phase). acts_of c x z 0) throws)
+      (ap (λ (z : Phase). moved c x z 0) throws ∙ (ap (λ (a : Option Attempt). if_same x a 0 (goes_on_if x (dispatched c.program e class x.frames))) scene.outside ∙ ap (goes_on_if x) dispatches))
+      (record {
+        after = with_thread q t shown;
+        run = one_step c.program q (with_thread q t shown) t y acts.Do (twin c cfg objects was s t x q scene).here
+            (ap (step_at c.program q t y acts.Do) same_status
+            ∙ (ap (λ (fs : List Frame). option_map (λ o. with_thread q t (plain.goes_on y o)) (dispatched c.program e class fs)) same_frames
+            ∙ ap (option_map (λ o. with_thread q t (plain.goes_on y o))) dispatches));
+        beside = comes_beside c cfg objects was s t x q scene objects s.words q now y shown (twin c cfg objects was s t x q scene).here lives goes
+            (stays c cfg objects was s t x q scene s.words now refl (λ a word h. let both : phases.Throw e class ≡ phases.Made a word = sym throws ∙ h in cc) (none_on x onward));
+      })

@@ -1,0 +1,75 @@
+-- No worker keeps how an earlier part ended.
+use Rattle.std.proofs.Common.{◌≡◌, ℕ, zero, suc, ◌+◌, Bool, true, false, cond, List, [], ◌∷◌, map, Option, Some, None, refl, sym, ap, ◌∙◌, arith}
+use Rattle.std.specs.Prelude.{◌==◌, slice_get, slice_set}
+use Rattle.std.specs.List.{range_with_len}
+use Rattle.lists.proofs.ListLaws.{same_some}
+use Rattle.jvm_types.specs.declared.program.Program.{Program}
+use Rattle.checked_program.specs.MarkedProgram.{MarkedProgram}
+use Rattle.machine_types.specs.Accesses.{found_by}
+use Rattle.machine_types.specs.Core.{Core, start_thread, event_of, may_begin, with_roots, part_begins, next_threads}
+use Rattle.machine_types.specs.Events.{wanted, moved}
+use Rattle.machine_types.specs.Parts.{run_roots}
+use Rattle.machine_types.specs.Threads.{Thread}
+use Rattle.machine_types.specs.declared.config.Config.{Config}
+use Rattle.laws_threads.specs.GivenThread.{Given, GivenIsKept}
+use Rattle.laws_simulation.specs.OutcomeLaws.{WorkersKeepNone, EventsKeepNone, NextKeepsNone, StartKeepsNone}
+use Rattle.laws_simulation.proofs.OutcomePrints.{got_when_set, got_other, is_there}
+
+-- ---- an event
+
+kept_by : (given : GivenIsKept) (c : MarkedProgram) (s : Core) (t : ℕ) (x : Thread) (got : ℕ) → slice_get s.threads t ≡ Some x → WorkersKeepNone s.threads → WorkersKeepNone (slice_set s.threads t (moved c x x.phase got))
+kept_by given c s t x got there h u z e some = by_number (u == t) refl
+  where
+    by_number : (b : Bool) → (u == t) ≡ b → z.first ≡ None
+    by_number true d =
+        let same = is_there u t d in
+        let is : moved c x x.phase got ≡ z = same_some (sym (got_when_set s.threads t x (moved c x x.phase got) there) ∙ ap (slice_get (slice_set s.threads t (moved c x x.phase got))) (sym same) ∙ e) in
+        sym (ap (λ (w : Thread). w.first) is) ∙ ap (λ (g : Given). g.first) (given c x x.phase got) ∙ h u x (ap (slice_get s.threads) same ∙ there) some
+    by_number false d = h u z (sym (got_other s.threads t u (moved c x x.phase got) d) ∙ e) some
+
+pub events_keep_none : GivenIsKept → EventsKeepNone
+events_keep_none given c s t h = by_thread (slice_get s.threads t) refl
+  where
+    by_thread : (o : Option Thread) → slice_get s.threads t ≡ o → WorkersKeepNone (event_of c s t o).threads
+    by_thread None e = h
+    by_thread (Some x) e = kept_by given c s t x (found_by s.words (wanted c x x.phase)) e h
+
+-- ---- where a part begins
+
+begun_first : (roots : List ℕ) (workers : List Thread) (u : ℕ) (z : Thread) → ((v : ℕ) (w : Thread) → slice_get workers v ≡ Some w → w.first ≡ None) → slice_get (map (with_roots roots) workers) u ≡ Some z → z.first ≡ None
+begun_first roots [] u z all e = absurd (cc)
+begun_first roots (x ∷ workers) zero z all e = sym (ap (λ (w : Thread). w.first) (same_some e)) ∙ all 0 x refl
+begun_first roots (x ∷ workers) (suc u) z all e = begun_first roots workers u z (λ v w f. all (suc v) w f) e
+
+workers_of : (x : Thread) (workers : List Thread) → WorkersKeepNone (x ∷ workers) → (v : ℕ) (w : Thread) → slice_get workers v ≡ Some w → w.first ≡ None
+workers_of x workers h v w e = h (suc v) w e (λ d. absurd (omega (arith, d)))
+
+begun : (p : Program) (part : ℕ) (x : Thread) (workers : List Thread) → WorkersKeepNone (x ∷ workers) → WorkersKeepNone (part_begins p part x workers)
+begun p part x workers h zero z e some = absurd (some refl)
+begun p zero x workers h (suc u) z e some = begun_first (run_roots p) workers u z (workers_of x workers h) e
+begun p (suc part) x workers h (suc u) z e some = workers_of x workers h u z e
+
+next_none : (p : Program) (threads : List Thread) → WorkersKeepNone threads → WorkersKeepNone (next_threads p threads)
+next_none p [] h = h
+next_none p (x ∷ workers) h = by_test (may_begin (x ∷ workers))
+  where
+    by_test : (b : Bool) → WorkersKeepNone (cond b (part_begins p x.part x workers) (x ∷ workers))
+    by_test true = begun p x.part x workers h
+    by_test false = h
+
+pub next_keeps_none : NextKeepsNone
+next_keeps_none c s h = next_none c.program s.threads h
+
+-- ---- the start
+
+first_at_start : (c : MarkedProgram) (cfg : Config) (n : ℕ) → (start_thread c cfg n).first ≡ None
+first_at_start c cfg zero = refl
+first_at_start c cfg (suc n) = refl
+
+started : (c : MarkedProgram) (cfg : Config) (ns : List ℕ) (t : ℕ) (x : Thread) → slice_get (map (start_thread c cfg) ns) t ≡ Some x → x.first ≡ None
+started c cfg [] t x e = absurd (cc)
+started c cfg (n ∷ ns) zero x e = sym (ap (λ (w : Thread). w.first) (same_some e)) ∙ first_at_start c cfg n
+started c cfg (n ∷ ns) (suc t) x e = started c cfg ns t x e
+
+pub start_keeps_none : StartKeepsNone
+start_keeps_none c cfg t x e some = started c cfg (range_with_len 0 (c.program.workers + 1)) t x e

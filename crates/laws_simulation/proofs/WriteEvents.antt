@@ -1,0 +1,112 @@
+-- An instruction that writes a field.
+use Rattle.std.proofs.Common.{◌≡◌, ℕ, Bool, List, [], ◌∷◌, Option, Some, refl, sym, ap, subst, ◌∙◌}
+use Rattle.std.specs.Prelude.{slice_index, slice_set, option_map}
+use Rattle.jvm_types.specs.declared.program.Kind.{Kind}
+use Rattle.jvm_types.specs.declared.program.Kind.TheVariants as kinds
+use Rattle.checked_program.specs.MarkedProgram.{MarkedProgram}
+use Rattle.machine_types.specs.Agreement.{has_wait_bit}
+use Rattle.machine_types.specs.Core.{Core}
+use Rattle.machine_types.specs.FoundWords.{Content, kind_content, variable_content, run_content, content_at, effect_content}
+use Rattle.machine_types.specs.Frames.{Top, top_of, effect_at, went_on}
+use Rattle.machine_types.specs.Going.{goes_on}
+use Rattle.machine_types.specs.Instructions.{begun}
+use Rattle.machine_types.specs.Onward.{Running}
+use Rattle.machine_types.specs.Owners.{references_of}
+use Rattle.machine_types.specs.PlainMemory.{Object}
+use Rattle.machine_types.specs.PlainState.{Plain, PlainThread, value_at, written, with_thread}
+use Rattle.machine_types.specs.PlainState as plain
+use Rattle.machine_types.specs.Threads.{Thread}
+use Rattle.machine_types.specs.Words.{variable_word}
+use Rattle.machine_types.specs.declared.access.Access.{Access}
+use Rattle.machine_types.specs.declared.access.Access.TheVariants.{Store}
+use Rattle.machine_types.specs.declared.config.Config.{Config}
+use Rattle.machine_types.specs.declared.effect.Effect.TheVariants.{Writes}
+use Rattle.machine_types.specs.declared.effect.Variable.{Variable}
+use Rattle.machine_types.specs.declared.phase.Phase.{Phase}
+use Rattle.machine_types.specs.declared.phase.Phase.TheVariants as phases
+use Rattle.machine_types.specs.declared.plain.Act.TheVariants as acts
+use Rattle.laws_states.specs.HeapFacts.{objects_by}
+use Rattle.laws_states.specs.Sites.{Site, ValueOf, StaticAt, site_word, Suits, IsAccessOf, ReachesIf}
+use Rattle.laws_states.proofs.Accesses.{content_is}
+use Rattle.laws_states.proofs.Phases.{events_reach}
+use Rattle.laws_simulation.specs.StepsBeside.{StepsBeside}
+use Rattle.laws_simulation.proofs.PlainValues.{IsPlace, value_found}
+use Rattle.laws_simulation.proofs.Scene.{Scene, GoesOn, Memory, going, none_on, comes_beside, steps_of_event}
+use Rattle.laws_simulation.proofs.MemoryParts.{IsValueSite, writes}
+use Rattle.laws_simulation.proofs.RunScene.{twin, runs_on, busy, lives, makes_none, wakes, may, wants, acts_are, moves, does}
+
+-- ---- a variable is a field or a static field
+
+value_site : (kind : Kind) (site : Site) → Suits (kind_content kind) site → IsValueSite site
+value_site kinds.Int (ValueOf reference index) k = tt
+value_site kinds.Int (StaticAt word) k = tt
+value_site kinds.Bool (ValueOf reference index) k = tt
+value_site kinds.Bool (StaticAt word) k = tt
+value_site (kinds.Ref class) (ValueOf reference index) k = tt
+value_site (kinds.Ref class) (StaticAt word) k = tt
+value_site kinds.Int site k = absurd k
+value_site kinds.Bool site k = absurd k
+value_site (kinds.Ref class) site k = absurd k
+
+pub is_place : (site : Site) → IsValueSite site → IsPlace site
+is_place (ValueOf reference index) k = tt
+is_place (StaticAt word) k = tt
+is_place site k = absurd k
+
+module _ (c : MarkedProgram) (cfg : Config) (objects : List Object) (was : ℕ → Phase) (s : Core) (t : ℕ) (x : Thread) (q : Plain) (scene : Scene c cfg objects was s t x q)
+    (runs : x.phase ≡ phases.Run) (at : Top) (found : top_of c.program x.frames ≡ Some at) where
+  abbrev bit : ℕ → Bool
+  bit = has_wait_bit (references_of q.objects) s.words t
+
+  abbrev y : PlainThread
+  y = (twin c cfg objects was s t x q scene).plain
+
+  -- ---- a place is written
+
+  module _ (v : Variable) (word : ℕ) (effect : effect_at c.program at ≡ Writes v word) where
+    reach : IsAccessOf c.program objects s (variable_content c.program at.target) (Store (variable_word v) word)
+    reach =
+        let k = events_reach c objects s t x scene.marked scene.facts.heap scene.here (scene.facts.threads.lawful t x scene.here) in
+        let content : content_at c x x.phase ≡ variable_content c.program at.target =
+        ap (content_at c x) runs ∙ (ap (run_content c.program) found ∙ ap (effect_content c.program at.target) effect) in
+        subst (λ (k : Content). ReachesIf c.program objects s k (Some (Store (variable_word v) word))) content
+        (subst (λ (a : Option Access). ReachesIf c.program objects s (content_at c x x.phase) a) (wants c cfg objects was s t x q scene runs at found (Writes v word) effect) k)
+
+    value : IsValueSite reach.site
+    value =
+        let k = may c cfg objects was s t x q scene runs at found (Writes v word) effect in
+        let f = k.allowed.1 in
+        let same : variable_content c.program at.target ≡ kind_content f.kind = ap (variable_content c.program) k.target_is ∙ content_is c scene.marked objects s scene.facts.heap k.target v f k.allowed.2 in
+        value_site f.kind reach.site (subst (λ (z : Content). Suits z reach.site) same reach.suits)
+
+    stands : value_at q (site_word reach.site) ≡ Some (slice_index s.words (site_word reach.site))
+    stands = value_found scene.differ c objects s q scene.marked scene.facts.heap scene.beside reach.site (is_place reach.site value) reach.there
+
+    abbrev now : Thread
+    now = goes_on (begun x) (Running (went_on c.program at 0))
+
+    abbrev shown : PlainThread
+    shown = plain.goes_on y (Running (went_on c.program at 0))
+
+    memory : Memory c.program objects s (slice_set s.words (variable_word v) word) q (written q (variable_word v) word) t now
+    memory = subst (λ (n : ℕ). Memory c.program objects s (slice_set s.words n word) q (written q n word) t now) (sym reach.word)
+        (writes c cfg objects was s t x q scene reach.site value reach.there word (slice_index s.words (site_word reach.site)) stands now
+        (makes_none c cfg objects was s t x q scene runs at found (Writes v word) effect) (none_on (begun x) (Running (went_on c.program at 0))))
+
+    goes : GoesOn c.program bit x now shown
+    goes = going c.program bit x (begun x) y (Running (went_on c.program at 0)) refl scene.outside refl (wakes c cfg objects was s t x q scene runs at found (Writes v word) effect)
+        (runs_on c cfg objects was s t x q scene (busy c cfg objects was s t x q scene runs at found (Writes v word) effect))
+
+    pub write_steps : StepsBeside c objects s t x q
+    write_steps = steps_of_event c cfg objects was s t x q scene objects (Some (Store (variable_word v) word)) (acts.Do ∷ []) now
+        (ap (λ (z : Phase). objects_by c.program z objects) runs)
+        (wants c cfg objects was s t x q scene runs at found (Writes v word) effect)
+        (acts_are c cfg objects was s t x q scene runs at found (Writes v word) effect (slice_index s.words (variable_word v)))
+        (moves c cfg objects was s t x q scene runs at found (Writes v word) effect (slice_index s.words (variable_word v)))
+        (record {
+          after = with_thread (written q (variable_word v) word) t shown;
+          run = does c cfg objects was s t x q scene runs at found (Writes v word) effect (with_thread (written q (variable_word v) word) t shown)
+              (ap (option_map (λ (w : ℕ). with_thread (written q (variable_word v) word) t shown)) (ap (value_at q) reach.word ∙ stands));
+          beside = comes_beside c cfg objects was s t x q scene objects (slice_set s.words (variable_word v) word) (written q (variable_word v) word) now y shown (twin c cfg objects was s t x q scene).here
+              (lives c cfg objects was s t x q scene runs at found (Writes v word) effect) goes memory;
+        })

@@ -1,0 +1,3 @@
+pub mod StandsBeside
+pub mod StepsBeside
+pub mod OutcomeLaws

@@ -1,0 +1,158 @@
+-- Whatever event happens, the waiting bits of a record are changed by its owner alone.
+use Rattle.std.proofs.Common.{◌≡◌, ◌⊎◌, inl, inr, ℕ, ◌+◌, ◌-◌, ◌*◌, ◌^◌, ◌<◌, ◌≤◌, nat_lt, Bool, true, false, not, List, length, Some, refl, sym, ap, ◌∙◌, subst, arith}
+use Rattle.std.specs.Prelude.{◌≢◌, ◌==◌, bit_and, bit_or, slice_get, slice_index, slice_set}
+use Rattle.std.specs.Int.{bit_at}
+use Rattle.std.proofs.lemmas.Bool.Decides.{nat_tests}
+use Rattle.std.proofs.lemmas.Grind.{and_not_bit}
+use Rattle.std.proofs.lemmas.Nat.{pow_below}
+use Rattle.std.proofs.lemmas.Nat.Bits.{and_pow, bit_at_above, bit_at-pow_other}
+use Rattle.jvm_types.specs.Numbers.{has_flag}
+use Rattle.checked_program.specs.MarkedProgram.{MarkedProgram, IsMarked}
+use Rattle.machine_types.specs.Accesses.{words_after}
+use Rattle.machine_types.specs.Bounds.{PhaseFits}
+use Rattle.machine_types.specs.Core.{Core}
+use Rattle.machine_types.specs.Events.{wanted}
+use Rattle.machine_types.specs.Lawful.{IsLawful}
+use Rattle.machine_types.specs.Monitors.{bit_of}
+use Rattle.machine_types.specs.Owners.{owner_at, locks_in, references_of}
+use Rattle.machine_types.specs.PlainMemory.{Object}
+use Rattle.machine_types.specs.Structure.{IsAs, IsStructured}
+use Rattle.machine_types.specs.Threads.{Thread}
+use Rattle.machine_types.specs.Waiting.{is_bit_set}
+use Rattle.machine_types.specs.Words.{bits_word}
+use Rattle.machine_types.specs.declared.config.Config.{Config}
+use Rattle.machine_types.specs.declared.phase.Phase.{Phase}
+use Rattle.machine_types.specs.declared.phase.Phase.TheVariants as phases
+use Rattle.jvm_types.specs.declared.fixed_words.TheConstants.{MONITOR_RECORDS}
+use Rattle.laws_states.specs.SiteLaws.{EventsReachSites, SitesDiffer, SitesLieInside}
+use Rattle.laws_states.specs.Sites.{BitsOf}
+use Rattle.laws_states.specs.StateFacts.{StateFacts}
+use Rattle.laws_states.proofs.Lists.{same_or_not, set_here, set_there}
+use Rattle.laws_states.proofs.StillBits.{IsStill, still_bits}
+use Rattle.laws_states.proofs.WaitingBits.{set_keeps, set_other, left_was_set}
+use Rattle.laws_states.proofs.WaitingStep.{record_of, OwnsRecord, owned_record}
+use Rattle.laws_states.specs.ChangeLaws.{Sets, Clears, BitsFollow}
+
+-- ---- a bit is cleared
+
+none_of : (u : ℕ) → 0 * 2 ^ u ≡ 0
+none_of u = omega arith
+
+no_flag : (n u : ℕ) → bit_at n u ≡ 0 → has_flag (bit_of u) n ≡ false
+no_flag n u e =
+    let none : bit_and n (2 ^ u) ≡ 0 = and_pow n u ∙ ap (λ (b : ℕ). b * 2 ^ u) e ∙ none_of u in
+    ap (λ (k : ℕ). not (k == 0)) none
+
+-- the bits of few threads
+few_set : (n u : ℕ) → n < 2 ^ 9 → has_flag (bit_of u) n ≡ true → u < 9
+few_set n u few set = by_place (nat_lt u 9) refl
+  where
+    by_place : (b : Bool) → nat_lt u 9 ≡ b → u < 9
+    by_place true e = grind (arith, nat_tests, e)
+    by_place false e =
+        let high : 9 ≤ u = grind (arith, nat_tests, e) in
+        let bad : true ≡ false = sym set ∙ no_flag n u (bit_at_above n 9 u few high) in
+        absurd (cc)
+
+-- the others stay
+others_stay : (n u w : ℕ) → u < 9 → w < 9 → u ≢ w → has_flag (bit_of u) n ≡ true → has_flag (bit_of u) (bit_and n (2 ^ 64 - 1 - bit_of w)) ≡ true
+others_stay n u w few low differ set =
+    let mask : 2 ^ w ≤ 2 ^ 64 - 1 = omega (arith, pow_below w 64 (omega (arith, low))) in
+    let apart : bit_and (2 ^ w) (2 ^ u) ≡ 0 = and_pow (2 ^ w) u ∙ ap (λ (b : ℕ). b * 2 ^ u) (bit_at-pow_other w u differ) ∙ none_of u in
+    ap (λ (k : ℕ). not (k == 0)) (and_not_bit n (2 ^ 64 - 1) (2 ^ w) u refl mask (omega (arith, few)) apart) ∙ set
+
+-- ---- the bits of one record are written
+
+module _ (words : List ℕ) (r value t : ℕ) (phase : Phase) (low : bits_word r < length words) (owner : owner_at words r ≡ t + 1)
+    (sets : (u : ℕ) → has_flag (bit_of u) (slice_index words (bits_word r)) ≡ false → has_flag (bit_of u) value ≡ true → (u ≡ t) × Sets phase r)
+    (clears : (u : ℕ) → has_flag (bit_of u) (slice_index words (bits_word r)) ≡ true → has_flag (bit_of u) value ≡ false → Clears phase r u) where
+  here : slice_index (slice_set words (bits_word r) value) (bits_word r) ≡ value
+  here = set_here words (bits_word r) value low
+
+  there : (k : ℕ) → k ≢ r → slice_index (slice_set words (bits_word r) value) (bits_word k) ≡ slice_index words (bits_word k)
+  there k other = set_there words (bits_word r) (bits_word k) value (λ e. other (omega (arith, e)))
+
+  set_at : (k u : ℕ) → (k ≡ r) ⊎ (k ≢ r) → is_bit_set words k u ≡ false → is_bit_set (slice_set words (bits_word r) value) k u ≡ true → (u ≡ t) × (owner_at words k ≡ t + 1) × Sets phase k
+  set_at k u (inl same) out in' = subst (λ (n : ℕ). is_bit_set words n u ≡ false → is_bit_set (slice_set words (bits_word r) value) n u ≡ true → (u ≡ t) × (owner_at words n ≡ t + 1) × Sets phase n) (sym same) at_record out in'
+    where
+      at_record : is_bit_set words r u ≡ false → is_bit_set (slice_set words (bits_word r) value) r u ≡ true → (u ≡ t) × (owner_at words r ≡ t + 1) × Sets phase r
+      at_record o i = let k = sets u o (ap (has_flag (bit_of u)) (sym here) ∙ i) in (k.0, owner, k.1)
+  set_at k u (inr other) out in' = let bad : false ≡ true = sym out ∙ ap (has_flag (bit_of u)) (sym (there k other)) ∙ in' in absurd (cc)
+
+  cleared_at : (k u : ℕ) → (k ≡ r) ⊎ (k ≢ r) → is_bit_set words k u ≡ true → is_bit_set (slice_set words (bits_word r) value) k u ≡ false → (owner_at words k ≡ t + 1) × Clears phase k u
+  cleared_at k u (inl same) in' out = subst (λ (n : ℕ). is_bit_set words n u ≡ true → is_bit_set (slice_set words (bits_word r) value) n u ≡ false → (owner_at words n ≡ t + 1) × Clears phase n u) (sym same) at_record in' out
+    where
+      at_record : is_bit_set words r u ≡ true → is_bit_set (slice_set words (bits_word r) value) r u ≡ false → (owner_at words r ≡ t + 1) × Clears phase r u
+      at_record i o = (owner, clears u i (ap (has_flag (bit_of u)) (sym here) ∙ o))
+  cleared_at k u (inr other) in' out = let bad : true ≡ false = sym in' ∙ ap (has_flag (bit_of u)) (sym (there k other)) ∙ out in absurd (cc)
+
+  written : BitsFollow words (slice_set words (bits_word r) value) t phase
+  written = record { set = λ k u few. set_at k u (same_or_not k r); cleared = λ k u few. cleared_at k u (same_or_not k r) }
+
+-- ---- all phases
+
+module _ (differ : SitesDiffer) (inside : SitesLieInside) (reach : EventsReachSites) (c : MarkedProgram) (cfg : Config) (objects : List Object) (was : ℕ → Phase) (s : Core) (t : ℕ) (x : Thread) (marked : IsMarked c)
+    (facts : StateFacts c cfg objects was s) (there_is : slice_get s.threads t ≡ Some x) where
+  lawful : IsLawful c x
+  lawful = facts.threads.lawful t x there_is
+
+  structured : IsStructured c (was t) x
+  structured = facts.structure t x there_is
+
+  number : x.number ≡ t
+  number = (facts.threads.own t x there_is).number
+
+  abbrev Done : Phase → Type 0
+  Done phase = BitsFollow s.words (words_after s.words (wanted c x phase)) t phase
+
+  fits : (phase : Phase) → x.phase ≡ phase → PhaseFits phase
+  fits phase e = subst PhaseFits e lawful.bounded.phase
+
+  there_inside : (r : ℕ) → r < MONITOR_RECORDS → bits_word r < length s.words
+  there_inside r few = inside c objects s (BitsOf r) marked facts.heap few
+
+  owner : (phase : Phase) (r : ℕ) → was t ≡ phase → record_of phase ≡ Some r → owner_at s.words r ≡ t + 1
+  owner phase r k of =
+      let o : OwnsRecord (locks_in (references_of objects) s.words) t r = owned_record c (locks_in (references_of objects) s.words) facts.owners.count facts.owners.locks_are t x structured.stands.shown (was t) r (ap record_of k ∙ of)
+      structured.stands.phase_shows (facts.owners.each t x there_is) in
+      o.owner
+
+  still : (phase : Phase) → x.phase ≡ phase → IsStill phase → Done phase
+  still phase e is = record { set = λ r u few out in'. absurd (apart r u few false true (λ q. cc) out in'); cleared = λ r u few in' out. absurd (apart r u few true false (λ q. cc) in' out) }
+    where
+      apart : (r u : ℕ) → r < MONITOR_RECORDS → (a b : Bool) → a ≢ b → is_bit_set s.words r u ≡ a → is_bit_set (words_after s.words (wanted c x phase)) r u ≡ b → ⊥
+      apart r u few a b differ' f g = differ' (sym f ∙ ap (has_flag (bit_of u)) (sym (still_bits differ inside reach c objects s t x marked facts.heap there_is lawful phase e is r few)) ∙ g)
+
+  wait_set : (m r : ℕ) → x.phase ≡ phases.WaitBit m r → was t ≡ phases.WaitBit m r → Done (phases.WaitBit m r)
+  wait_set m r e k = written s.words r (bit_or (slice_index s.words (bits_word r)) (bit_of x.number)) t (phases.WaitBit m r) (there_inside r (fits (phases.WaitBit m r) e)) (owner (phases.WaitBit m r) r k refl)
+      (λ u out in'. (by_number u (same_or_not u t) out in', refl))
+      (λ u in' out. let bad : true ≡ false = sym (set_keeps (slice_index s.words (bits_word r)) x.number u in') ∙ out in absurd (cc))
+    where
+      by_number : (u : ℕ) → (u ≡ t) ⊎ (u ≢ t) → has_flag (bit_of u) (slice_index s.words (bits_word r)) ≡ false → has_flag (bit_of u) (bit_or (slice_index s.words (bits_word r)) (bit_of x.number)) ≡ true → u ≡ t
+      by_number u (inl same) out in' = same
+      by_number u (inr other) out in' = let bad : false ≡ true = sym out ∙ set_other (slice_index s.words (bits_word r)) x.number u (λ q. other (q ∙ number)) in' in absurd (cc)
+
+  one_cleared : (m r w : ℕ) → x.phase ≡ phases.NotifyOne m r w → was t ≡ phases.NotifyOne m r w → Done (phases.NotifyOne m r w)
+  one_cleared m r w e k = written s.words r (bit_and (slice_index s.words (bits_word r)) (2 ^ 64 - 1 - bit_of w)) t (phases.NotifyOne m r w) (there_inside r low) (owner (phases.NotifyOne m r w) r k refl)
+      (λ u out in'. let bad : false ≡ true = sym out ∙ left_was_set (slice_index s.words (bits_word r)) (2 ^ 64 - 1 - bit_of w) u in' in absurd (cc))
+      (λ u in' out. (refl, by_number u (same_or_not w u) in' out))
+    where
+      low : r < MONITOR_RECORDS
+      low = (fits (phases.NotifyOne m r w) e).0
+
+      by_number : (u : ℕ) → (w ≡ u) ⊎ (w ≢ u) → has_flag (bit_of u) (slice_index s.words (bits_word r)) ≡ true → has_flag (bit_of u) (bit_and (slice_index s.words (bits_word r)) (2 ^ 64 - 1 - bit_of w)) ≡ false → w ≡ u
+      by_number u (inl same) in' out = same
+      by_number u (inr other) in' out =
+          let few = few_set (slice_index s.words (bits_word r)) u (facts.records.bits r low) in' in
+          let stays = others_stay (slice_index s.words (bits_word r)) u w few (omega (arith, (fits (phases.NotifyOne m r w) e).1)) (λ q. other (sym q)) in' in
+          let bad : true ≡ false = sym stays ∙ out in
+          absurd (cc)
+
+  all_cleared : (m r : ℕ) → x.phase ≡ phases.NotifyAll m r → was t ≡ phases.NotifyAll m r → Done (phases.NotifyAll m r)
+  all_cleared m r e k = written s.words r 0 t (phases.NotifyAll m r) (there_inside r (fits (phases.NotifyAll m r) e)) (owner (phases.NotifyAll m r) r k refl) (λ u out in'. absurd (cc)) (λ u in' out. refl)
+
+  pub bits_by_phase : (phase : Phase) → x.phase ≡ phase → IsAs phase (was t) → Done phase
+  bits_by_phase (phases.WaitBit m r) e k = wait_set m r e k
+  bits_by_phase (phases.NotifyOne m r u) e k = one_cleared m r u e k
+  bits_by_phase (phases.NotifyAll m r) e k = all_cleared m r e k
+  bits_by_phase phase e k = still phase e tt

@@ -1,0 +1,249 @@
+-- Whatever event happens, who holds which lock is as the words and the threads say.
+use Rattle.std.proofs.Common.{◌≡◌, ℕ, ◌≤◌, nat_lt, Bool, true, false, cond, List, Option, Some, None, refl, sym, ap, ◌∙◌, subst, arith}
+use Rattle.std.specs.Prelude.{slice_get, slice_index, ◌==◌}
+use Rattle.jvm_types.specs.Numbers.{has_flag}
+use Rattle.jvm_types.specs.declared.outcome.End.{End}
+use Rattle.jvm_types.specs.declared.outcome.End.TheVariants as ends
+use Rattle.checked_program.specs.MarkedProgram.{MarkedProgram, IsMarked}
+use Rattle.machine_types.specs.Accesses.{found_by, words_after}
+use Rattle.machine_types.specs.declared.access.Access.TheVariants.{Load}
+use Rattle.machine_types.specs.Bounds.{PhaseFits}
+use Rattle.machine_types.specs.Core.{Core, event_of}
+use Rattle.machine_types.specs.Elision.{looks, may_try}
+use Rattle.machine_types.specs.Events.{wanted, moved}
+use Rattle.machine_types.specs.FoundWords.{content_at}
+use Rattle.machine_types.specs.Frames.{Top, top_of, pushed}
+use Rattle.machine_types.specs.Going.{runs, with_phase}
+use Rattle.machine_types.specs.HeldMonitors.{held_at}
+use Rattle.machine_types.specs.Instructions.{ran}
+use Rattle.machine_types.specs.Lawful.{IsLawful}
+use Rattle.machine_types.specs.LockWords.{lock_of}
+use Rattle.machine_types.specs.Monitors.{bit_of, lowest_of}
+use Rattle.machine_types.specs.Onward.{Running}
+use Rattle.machine_types.specs.Owners.{Locks, drawn_by, Knows, PhaseSaw, Owns, locks_in, references_of, Owners}
+use Rattle.machine_types.specs.PlainMemory.{Object}
+use Rattle.machine_types.specs.Structure.{AreHeldOnce, IsAs, PhaseShows, IsStructured, Structure}
+use Rattle.machine_types.specs.Threads.{Attempt, Thread}
+use Rattle.machine_types.specs.Words.{bits_word}
+use Rattle.machine_types.specs.declared.config.Config.{Config}
+use Rattle.machine_types.specs.declared.phase.Phase.{Phase}
+use Rattle.machine_types.specs.declared.phase.Phase.TheVariants as phases
+use Rattle.laws_threads.specs.StructureLaws.{counted_by}
+use Rattle.laws_threads.specs.StateLaws.{counted_of, counted_at}
+use Rattle.laws_threads.specs.GivenThread.{Given, GivenIsKept}
+use Rattle.laws_states.specs.HeapFacts.{HeapFacts, objects_by, objects_of}
+use Rattle.laws_states.specs.SiteLaws.{EventsReachSites, SitesDiffer, SitesLieInside}
+use Rattle.laws_states.specs.Sites.{ReachesIf}
+use Rattle.laws_states.specs.RunFacts.{AreThreads}
+use Rattle.laws_states.proofs.SameTally.{Tally, tally_of}
+use Rattle.laws_states.proofs.SameTally as tallies
+use Rattle.laws_states.specs.OwnersLaws.{EventsKeepOwners}
+use Rattle.laws_states.proofs.CountedPhases.{IsPlain, counted_plain}
+use Rattle.laws_states.proofs.LockPhases.{plain, knowing, loaded, lock_here, lock_reached, acquired, entered}
+use Rattle.laws_states.proofs.LockViews.{is_there}
+use Rattle.laws_states.proofs.OwnerPhases.{runs_counted, took, flagged, took_fat, retook, waited, left, flat_out, drawn, owned, fattened, gone_out}
+use Rattle.laws_states.proofs.OwnersStep.{Owes, owned_on}
+use Rattle.laws_states.proofs.PlainMoves.{same_look, Plainly, run, goes, goes_if, checked, begun_root}
+use Rattle.laws_states.proofs.QuietWords.{IsQuiet, quiet_view}
+
+-- ---- the end of a thread
+
+pub ended_keeps : (P : Phase → Type 0) (was : Phase) (e : End) → P was → P (phases.Ended e) → P (counted_by was (phases.Ended e))
+ended_keeps P was ends.Steps k m = k
+ended_keeps P was ends.Prints k m = k
+ended_keeps P was ends.Turns k m = k
+ended_keeps P was ends.Records k m = k
+ended_keeps P was e k m = m
+
+-- ---- what an instruction leaves of a thread
+
+record Kept (x y : Thread) : Type 0 where
+  held : y.held ≡ x.held
+  locked : x.counts.locked ≤ y.counts.locked
+
+ran_keeps : (c : MarkedProgram) (x : Thread) (top : Option Top) (got : ℕ) → Kept x (ran c.program x top got)
+ran_keeps c x None got = record { held = refl; locked = omega arith }
+ran_keeps c x (Some at) got =
+    let same = tallies.run c.program x at got in
+    let locked : (ran c.program x (Some at) got).counts.locked ≡ x.counts.locked = ap (λ (g : Tally). g.locked) same in
+    record { held = ap (λ (g : Tally). g.held) same; locked = omega (arith, locked) }
+
+module _ (differ : SitesDiffer) (inside : SitesLieInside) (reach : EventsReachSites) (given : GivenIsKept) (c : MarkedProgram) (cfg : Config) (objects : List Object) (was : ℕ → Phase) (s : Core) (t : ℕ) (marked : IsMarked c)
+    (heap : HeapFacts c objects s) (threads : AreThreads c cfg s) (structure : Structure c was s.threads) (owners : Owners (references_of objects) was s) where
+  module _ (x : Thread) (there : slice_get s.threads t ≡ Some x) where
+    lawful : IsLawful c x
+    lawful = threads.lawful t x there
+
+    structured : IsStructured c (was t) x
+    structured = structure t x there
+
+    abbrev OwnsAs : Phase → Type 0
+    OwnsAs phase = Owns (locks_in (references_of objects) s.words) owners.count t phase x
+
+    own : OwnsAs (was t)
+    own = owners.each t x there
+
+    most : (m : ℕ) → owners.count m ≤ x.cfg.range
+    most m = owners.within m t x there
+
+    number : x.number ≡ t
+    number = (threads.own t x there).number
+
+    once : AreHeldOnce x.held
+    once = structured.stands.once
+
+    settings : (u : ℕ) (z : Thread) → slice_get s.threads u ≡ Some z → z.cfg ≡ x.cfg
+    settings u z e = (threads.own u z e).settings ∙ sym (threads.own t x there).settings
+
+    same_cfg : (phase : Phase) (got : ℕ) → (moved c x phase got).cfg ≡ x.cfg
+    same_cfg phase got = ap (λ (g : Given). g.cfg) (given c x phase got)
+
+    abbrev OwesOf : (phase : Phase) (w : Locks) → Thread → Type 0
+    OwesOf phase w y = (more : ℕ → ℕ) × Owes (locks_in (references_of objects) s.words) w owners.count more t phase (counted_by phase y.phase) x y
+
+    -- what the event owes in a phase
+    abbrev Done : Phase → Type 0
+    Done phase = OwesOf (was t) (locks_in (references_of (objects_by c.program phase objects)) (words_after s.words (wanted c x phase))) (moved c x phase (found_by s.words (wanted c x phase)))
+
+    -- in a phase that counts itself
+    from : (phase : Phase) (w : Locks) (y : Thread) → was t ≡ phase → OwesOf phase w y → OwesOf (was t) w y
+    from phase w y k h = subst (λ (p : Phase). OwesOf p w y) (sym k) h
+
+    own_as : (phase : Phase) → was t ≡ phase → OwnsAs phase
+    own_as phase k = subst (λ (p : Phase). Owns (locks_in (references_of objects) s.words) owners.count t p x) k own
+
+    reached : (phase : Phase) → x.phase ≡ phase → ReachesIf c.program objects s (content_at c x phase) (wanted c x phase)
+    reached phase e = subst (λ (p : Phase). ReachesIf c.program objects s (content_at c x p) (wanted c x p)) e (reach c objects s t x marked heap there lawful)
+
+    low : (phase : Phase) → x.phase ≡ phase → PhaseFits phase
+    low phase e = subst PhaseFits e lawful.bounded.phase
+
+    shows : (phase : Phase) → was t ≡ phase → PhaseShows c phase x.frames structured.stands.shown x.held x.attempt
+    shows phase k = subst (λ (p : Phase). PhaseShows c p x.frames structured.stands.shown x.held x.attempt) k structured.stands.phase_shows
+
+    now_plain : (phase : Phase) → x.phase ≡ phase → IsPlain phase → IsPlain x.phase
+    now_plain phase e is = subst IsPlain (sym e) is
+
+    -- ---- quiet phases
+
+    quiet_at : (phase : Phase) → x.phase ≡ phase → IsQuiet phase → locks_in (references_of (objects_by c.program phase objects)) (words_after s.words (wanted c x phase)) ≡ locks_in (references_of objects) s.words
+    quiet_at phase e = subst (λ (p : Phase). IsQuiet p → locks_in (references_of (objects_by c.program p objects)) (words_after s.words (wanted c x p)) ≡ locks_in (references_of objects) s.words) e
+        (λ q. quiet_view differ inside reach c objects s t x marked heap there lawful q)
+
+    quietly : (phase : Phase) → x.phase ≡ phase → IsQuiet phase → OwesOf (was t) (locks_in (references_of objects) s.words) (moved c x phase (found_by s.words (wanted c x phase))) → Done phase
+    quietly phase e is h = subst (λ (w : Locks). OwesOf (was t) w (moved c x phase (found_by s.words (wanted c x phase)))) (sym (quiet_at phase e is)) h
+
+    plainly : (phase : Phase) → was t ≡ phase → (got : ℕ) → (moved c x phase got).held ≡ x.held → x.counts.locked ≤ (moved c x phase got).counts.locked → Plainly x.attempt (moved c x phase got) → IsPlain phase
+        → OwesOf (was t) (locks_in (references_of objects) s.words) (moved c x phase got)
+    plainly phase k got held locked p is = from phase (locks_in (references_of objects) s.words) (moved c x phase got) k
+        (plain differ inside c objects s marked heap owners.count t x owners.locks_are most number once phase (own_as phase k) (moved c x phase got) held (same_cfg phase got) locked p.attempt (counted_plain phase (moved c x phase got).phase is p.phase))
+
+    by_same : (phase : Phase) → was t ≡ phase → (got : ℕ) → tally_of (moved c x phase got) ≡ tally_of x → Plainly x.attempt (moved c x phase got) → IsPlain phase → OwesOf (was t) (locks_in (references_of objects) s.words) (moved c x phase got)
+    by_same phase k got same p is =
+        let locked : (moved c x phase got).counts.locked ≡ x.counts.locked = ap (λ (g : Tally). g.locked) same in
+        plainly phase k got (ap (λ (g : Tally). g.held) same) (omega (arith, locked)) p is
+
+    -- where an attempt's lock word is looked at
+    looked : (q : Option Attempt) (y : Thread) → OwesOf (was t) (locks_in (references_of objects) s.words) y → OwesOf (was t) (locks_in (references_of objects) (words_after s.words (looks q))) y
+    looked None y h = h
+    looked (Some q) y h = loaded differ inside c objects s marked heap owners.count t x owners.locks_are most number once (was t) own q.monitor y h
+
+    -- it runs on, from any phase
+    runs_on : (phase : Phase) → was t ≡ phase → OwesOf (was t) (locks_in (references_of objects) s.words) (runs x)
+    runs_on phase k = from phase (locks_in (references_of objects) s.words) (runs x) k
+        (plain differ inside c objects s marked heap owners.count t x owners.locks_are most number once phase (own_as phase k) (runs x) refl refl (omega arith) (same_look x.attempt) (runs_counted phase (nat_lt x.counts.instructions x.cfg.steps)))
+
+    notify_looks : (m r : ℕ) → was t ≡ phases.NotifyLook m r → (b : Bool) (u : ℕ) → OwesOf (was t) (locks_in (references_of objects) s.words) (cond b (runs x) (with_phase x (phases.NotifyOne m r u)))
+    notify_looks m r k true u = runs_on (phases.NotifyLook m r) k
+    notify_looks m r k false u = from (phases.NotifyLook m r) (locks_in (references_of objects) s.words) (with_phase x (phases.NotifyOne m r u)) k
+        (knowing differ inside c objects s marked heap owners.count t x owners.locks_are most number once (phases.NotifyLook m r) (own_as (phases.NotifyLook m r) k) (with_phase x (phases.NotifyOne m r u)) refl refl refl refl tt tt (λ i d. absurd (cc)))
+
+    over : (e : End) (y : Thread) → y.phase ≡ phases.Ended e → y.held ≡ x.held → y.cfg ≡ x.cfg → y.counts.locked ≡ x.counts.locked → y.attempt ≡ x.attempt → OwesOf (was t) (locks_in (references_of objects) s.words) y
+    over e y ph held cfg_is locked attempt = knowing differ inside c objects s marked heap owners.count t x owners.locks_are most number once (was t) own y held cfg_is locked attempt
+        (at (λ p. Knows (locks_in (references_of objects) s.words) t p) own.knows tt) (at (λ p. PhaseSaw (locks_in (references_of objects) s.words) owners.count p) own.take tt) (at (λ p. (i : ℕ) → drawn_by p ≡ Some i → drawn_by (was t) ≡ Some i) (λ i d. d) (λ i d. absurd (cc)))
+      where
+        at : (P : Phase → Type 0) → P (was t) → P (phases.Ended e) → P (counted_by (was t) y.phase)
+        at P k m = subst (λ (p : Phase). P (counted_by (was t) p)) (sym ph) (ended_keeps P (was t) e k m)
+
+    -- ---- all phases
+
+    by_phase : (phase : Phase) → x.phase ≡ phase → IsAs phase (was t) → Done phase
+    by_phase phases.Idle e k = by_same phases.Idle k 0 refl (record { phase = now_plain phases.Idle e tt; attempt = same_look x.attempt }) tt
+    by_phase phases.Start e k = by_same phases.Start k 0 (tallies.begun_root c.program x x.roots) (begun_root x.attempt c.program x x.roots (now_plain phases.Start e tt) (same_look x.attempt)) tt
+    by_phase phases.Run e k =
+        let got = found_by s.words (wanted c x phases.Run) in
+        let keeps = ran_keeps c x (top_of c.program x.frames) got in
+        quietly phases.Run e tt (plainly phases.Run k got keeps.held keeps.locked (run x.attempt c.program x (top_of c.program x.frames) got (now_plain phases.Run e tt) (same_look x.attempt)) tt)
+    by_phase (phases.Element word stored) e k =
+        quietly (phases.Element word stored) e tt (by_same (phases.Element word stored) k _ (tallies.goes_if x _) (goes_if x.attempt x _ (now_plain (phases.Element word stored) e tt) (same_look x.attempt)) tt)
+    by_phase (phases.Made a word) e k =
+        let got = found_by s.words (wanted c x (phases.Made a word)) in
+        quietly (phases.Made a word) e tt (by_same (phases.Made a word) k got (tallies.goes x (Running (pushed a x.frames))) (goes x.attempt x (Running (pushed a x.frames)) (same_look x.attempt)) tt)
+    by_phase (phases.Throw z class) e k =
+        looked x.attempt _ (by_same (phases.Throw z class) k _ (tallies.checked x x.attempt _ _ (tallies.goes_if x _)) (checked x.attempt x x.attempt _ _ (goes_if x.attempt x _ (now_plain (phases.Throw z class) e tt) (same_look x.attempt))) tt)
+    by_phase (phases.Enter m n) e k = from (phases.Enter m n) _ _ k
+        (entered differ inside c objects s marked heap owners.count t x owners.locks_are most number once (phases.Enter m n) (own_as (phases.Enter m n) k) m n (may_try c x n) (held_at x.held m) x.attempt tt (now_plain (phases.Enter m n) e tt) refl refl (reached (phases.Enter m n) e))
+    by_phase (phases.Acquire m) e k = from (phases.Acquire m) _ _ k
+        (loaded differ inside c objects s marked heap owners.count t x owners.locks_are most number once (phases.Acquire m) (own_as (phases.Acquire m) k) m _
+        (acquired differ inside c objects s marked heap owners.count t x owners.locks_are most number once (phases.Acquire m) (own_as (phases.Acquire m) k) m (lock_of (slice_index s.words m)) tt
+        (lock_here differ inside c objects s marked heap owners.count t x owners.locks_are most number once (phases.Acquire m) (own_as (phases.Acquire m) k) m (lock_reached c.program objects s (Load m) (reached (phases.Acquire m) e)))))
+    by_phase (phases.Take m seen) e k = from (phases.Take m seen) _ _ k (took differ inside c objects s marked heap owners.count t x owners.locks_are most number once m seen (own_as (phases.Take m seen) k) (reached (phases.Take m seen) e))
+    by_phase (phases.Flag m u) e k = from (phases.Flag m u) _ _ k (flagged differ inside c objects s marked heap owners.count t x owners.locks_are most number once m u (own_as (phases.Flag m u) k) (reached (phases.Flag m u) e))
+    by_phase (phases.TakeFat m r) e k = from (phases.TakeFat m r) _ _ k (took_fat differ inside c objects s marked heap owners.count t x owners.locks_are most number once m r (own_as (phases.TakeFat m r) k))
+    by_phase (phases.Leave m after) e k = from (phases.Leave m after) _ _ k
+        (left differ inside c objects s marked heap owners.count t x owners.locks_are most number once m after (held_at x.held m) x.attempt (own_as (phases.Leave m after) k) (now_plain (phases.Leave m after) e tt) refl refl (reached (phases.Leave m after) e))
+    by_phase (phases.Grow m toward) e k = from (phases.Grow m toward) _ _ k (drawn differ inside c objects s marked heap owners.count t x owners.locks_are most number once m toward (own_as (phases.Grow m toward) k))
+    by_phase (phases.FlatOut m after) e k = from (phases.FlatOut m after) _ _ k
+        (flat_out differ inside c objects s marked heap owners.count t x owners.locks_are most number once m after (held_at x.held m) (own_as (phases.FlatOut m after) k) (now_plain (phases.FlatOut m after) e tt) refl
+        (shows (phases.FlatOut m after) k).flat (reached (phases.FlatOut m after) e))
+    by_phase (phases.Own m r toward) e k = from (phases.Own m r toward) _ _ k (owned differ inside c objects s marked heap owners.count t x owners.locks_are most number once m r toward (own_as (phases.Own m r toward) k) (low (phases.Own m r toward) e))
+    by_phase (phases.FatIn m r toward) e k = from (phases.FatIn m r toward) _ _ k
+        (fattened differ inside c objects s marked heap owners.count t x owners.locks_are most number once m r toward (held_at x.held m) (own_as (phases.FatIn m r toward) k) (low (phases.FatIn m r toward) e) refl
+        (shows (phases.FatIn m r toward) k).flat (reached (phases.FatIn m r toward) e))
+    by_phase (phases.WaitBit m r) e k = quietly (phases.WaitBit m r) e tt (from (phases.WaitBit m r) _ _ k
+        (knowing differ inside c objects s marked heap owners.count t x owners.locks_are most number once (phases.WaitBit m r) (own_as (phases.WaitBit m r) k) (with_phase x (phases.WaitOut m r)) refl refl refl refl tt tt (λ i d. absurd (cc))))
+    by_phase (phases.WaitOut m r) e k = from (phases.WaitOut m r) _ _ k
+        (gone_out differ inside c objects s marked heap owners.count t x owners.locks_are most number once m r (held_at x.held m) (own_as (phases.WaitOut m r) k) (low (phases.WaitOut m r) e) refl (shows (phases.WaitOut m r) k).1)
+    by_phase (phases.WaitLook m r depth) e k = from (phases.WaitLook m r depth) _ _ k
+        (loaded differ inside c objects s marked heap owners.count t x owners.locks_are most number once (phases.WaitLook m r depth) (own_as (phases.WaitLook m r depth) k) (bits_word r) _
+        (waited differ inside c objects s marked heap owners.count t x owners.locks_are most number once m r depth (has_flag (bit_of x.number) (slice_index s.words (bits_word r))) (own_as (phases.WaitLook m r depth) k)))
+    by_phase (phases.Retake m r depth) e k = from (phases.Retake m r depth) _ _ k (retook differ inside c objects s marked heap owners.count t x owners.locks_are most number once m r depth (own_as (phases.Retake m r depth) k))
+    by_phase (phases.NotifyLook m r) e k = loaded differ inside c objects s marked heap owners.count t x owners.locks_are most number once (was t) own (bits_word r) _
+        (notify_looks m r k (slice_index s.words (bits_word r) == 0) (lowest_of (slice_index s.words (bits_word r))))
+    by_phase (phases.NotifyOne m r u) e k = quietly (phases.NotifyOne m r u) e tt (runs_on (phases.NotifyOne m r u) k)
+    by_phase (phases.NotifyAll m r) e k = quietly (phases.NotifyAll m r) e tt (runs_on (phases.NotifyAll m r) k)
+    by_phase (phases.Ending reason) e k = over reason (with_phase x (phases.Ended reason)) refl refl refl refl refl
+    by_phase (phases.Ended reason) e k = over reason x e refl refl refl refl
+
+    thread_kept : Owners (references_of (objects_of c.program (Some x) objects)) (counted_at was t (event_of c s t (Some x)).threads) (event_of c s t (Some x))
+    thread_kept = by_owes (by_phase x.phase refl structured.is_as)
+      where
+        by_owes : Done x.phase → Owners (references_of (objects_of c.program (Some x) objects)) (counted_at was t (event_of c s t (Some x)).threads) (event_of c s t (Some x))
+        by_owes h = owned_on c (references_of objects) (references_of (objects_by c.program x.phase objects)) was s owners structure t (words_after s.words (wanted c x x.phase)) x
+            (moved c x x.phase (found_by s.words (wanted c x x.phase))) there settings (same_cfg x.phase (found_by s.words (wanted c x x.phase))) h.0 h.1
+
+  -- ---- no thread
+
+  unmoved : slice_get s.threads t ≡ None → Owners (references_of objects) (counted_at was t s.threads) s
+  unmoved e = record {
+    count = owners.count;
+    locks_are = owners.locks_are;
+    each = each;
+    apart = owners.apart;
+    within = owners.within;
+    few = owners.few;
+  }
+    where
+      each : (u : ℕ) (y : Thread) → slice_get s.threads u ≡ Some y → Owns (locks_in (references_of objects) s.words) owners.count u (counted_at was t s.threads u) y
+      each u y f = by_number (u == t) refl
+        where
+          by_number : (b : Bool) → (u == t) ≡ b → Owns (locks_in (references_of objects) s.words) owners.count u (cond b (counted_of (was t) (slice_get s.threads t)) (was u)) y
+          by_number true g = let bad : Some y ≡ None = sym f ∙ ap (slice_get s.threads) (is_there u t g) ∙ e in absurd (cc)
+          by_number false g = owners.each u y f
+
+  event_kept : (o : Option Thread) → slice_get s.threads t ≡ o → Owners (references_of (objects_of c.program o objects)) (counted_at was t (event_of c s t o).threads) (event_of c s t o)
+  event_kept None e = unmoved e
+  event_kept (Some x) e = thread_kept x e
+
+pub events_keep_owners : SitesDiffer → SitesLieInside → EventsReachSites → GivenIsKept → EventsKeepOwners
+events_keep_owners differ inside reach given c cfg objects was s t marked heap threads structure owners = event_kept differ inside reach given c cfg objects was s t marked heap threads structure owners (slice_get s.threads t) refl

@@ -1,0 +1,259 @@
+-- Whatever event happens, who waits is as the waiting bits and the threads say.
+use Rattle.std.proofs.Common.{◌≡◌, ◌≢◌, ◌⊎◌, inl, inr, ℕ, ◌+◌, ◌-◌, ◌^◌, ◌<◌, nat_lt, Bool, true, false, cond, List, length, Option, Some, None, refl, sym, ap, ◌∙◌, subst, arith}
+use Rattle.std.specs.Prelude.{◌==◌, bit_and, bit_or, slice_get, slice_index, slice_set}
+use Rattle.jvm_types.specs.Numbers.{has_flag}
+use Rattle.jvm_types.specs.declared.outcome.End.TheVariants as ends
+use Rattle.checked_program.specs.MarkedProgram.{MarkedProgram, IsMarked}
+use Rattle.machine_types.specs.Accesses.{found_by, words_after}
+use Rattle.machine_types.specs.Bounds.{PhaseFits}
+use Rattle.machine_types.specs.Core.{Core, event_of}
+use Rattle.machine_types.specs.Events.{wanted, moved}
+use Rattle.machine_types.specs.Going.{runs, failed_turn, with_phase}
+use Rattle.machine_types.specs.HeldMonitors.{held_at}
+use Rattle.machine_types.specs.Lawful.{IsLawful}
+use Rattle.machine_types.specs.Monitors.{bit_of, goes_to_wait, lowest_of}
+use Rattle.machine_types.specs.Owners.{locks_in, references_of, Owners}
+use Rattle.machine_types.specs.PlainMemory.{Object}
+use Rattle.machine_types.specs.Structure.{IsAs, IsFat, PhaseShows, IsStructured, Structure}
+use Rattle.machine_types.specs.Threads.{Thread}
+use Rattle.machine_types.specs.Waiting.{is_bit_set, MayWait, MustWait, Waits, Waiting}
+use Rattle.machine_types.specs.Words.{bits_word}
+use Rattle.jvm_types.specs.declared.fixed_words.TheConstants.{MONITOR_RECORDS}
+use Rattle.machine_types.specs.declared.config.Config.{Config}
+use Rattle.machine_types.specs.declared.lock.Held.{Held}
+use Rattle.machine_types.specs.declared.phase.Phase.{Phase}
+use Rattle.machine_types.specs.declared.phase.Phase.TheVariants as phases
+use Rattle.laws_threads.specs.StructureLaws.{counted_by}
+use Rattle.laws_threads.specs.StateLaws.{counted_of, counted_at}
+use Rattle.laws_states.specs.HeapFacts.{HeapFacts}
+use Rattle.laws_states.specs.SiteLaws.{EventsReachSites, SitesDiffer, SitesLieInside}
+use Rattle.laws_states.specs.Sites.{BitsOf}
+use Rattle.laws_states.proofs.Lists.{same_or_not, set_here, set_there}
+use Rattle.laws_states.specs.RunFacts.{AreThreads}
+use Rattle.laws_states.specs.SharedWords.{RecordsFit}
+use Rattle.laws_states.specs.WaitingLaws.{EventsKeepWaiting}
+use Rattle.laws_states.proofs.CalmMoves.{IsCalm, GoesCalm, counted_calm, moved_calm, runs_counted}
+use Rattle.laws_states.proofs.LockViews.{is_there, not_same}
+use Rattle.laws_states.proofs.PartWaiting.{counted_waits, ended_waits}
+use Rattle.laws_states.proofs.StillBits.{IsStill, same_changes, still_bits}
+use Rattle.laws_states.proofs.WaitingBits.{set_sets, set_keeps, set_other, left_was_set, lowest_set}
+use Rattle.laws_states.proofs.WaitingStep.{record_of, OwnsRecord, owned_record, Changes, waited_on}
+
+-- ---- the bits of one record are written
+
+record Written (words : List ℕ) (r value i : ℕ) : Type 0 where
+  is : i ≡ r
+  word : slice_index (slice_set words (bits_word r) value) (bits_word i) ≡ value
+
+module _ (words : List ℕ) (r value : ℕ) (inside : bits_word r < length words) where
+  bits_at : (i : ℕ) → Written words r value i ⊎ (slice_index (slice_set words (bits_word r) value) (bits_word i) ≡ slice_index words (bits_word i))
+  bits_at i = by_number (same_or_not i r)
+    where
+      by_number : (i ≡ r) ⊎ (i ≢ r) → Written words r value i ⊎ (slice_index (slice_set words (bits_word r) value) (bits_word i) ≡ slice_index words (bits_word i))
+      by_number (inl e) = inl (record { is = e; word = ap (λ (n : ℕ). slice_index (slice_set words (bits_word r) value) (bits_word n)) e ∙ set_here words (bits_word r) value inside })
+      by_number (inr d) = inr (set_there words (bits_word r) (bits_word i) value (λ e. d (omega (arith, e))))
+
+  bits_less : (i u : ℕ) → (has_flag (bit_of u) value ≡ true → has_flag (bit_of u) (slice_index words (bits_word r)) ≡ true) → is_bit_set (slice_set words (bits_word r) value) i u ≡ true → is_bit_set words i u ≡ true
+  bits_less i u less set = by_record (bits_at i)
+    where
+      by_record : Written words r value i ⊎ (slice_index (slice_set words (bits_word r) value) (bits_word i) ≡ slice_index words (bits_word i)) → is_bit_set words i u ≡ true
+      by_record (inl k) = subst (λ (n : ℕ). is_bit_set words n u ≡ true) (sym k.is) (less (ap (has_flag (bit_of u)) (sym k.word) ∙ set))
+      by_record (inr e) = ap (has_flag (bit_of u)) (sym e) ∙ set
+
+  bits_stay : (i u : ℕ) → (i ≡ r → has_flag (bit_of u) (slice_index words (bits_word r)) ≡ true → has_flag (bit_of u) value ≡ true) → is_bit_set words i u ≡ true → is_bit_set (slice_set words (bits_word r) value) i u ≡ true
+  bits_stay i u stay set = by_record (bits_at i)
+    where
+      by_record : Written words r value i ⊎ (slice_index (slice_set words (bits_word r) value) (bits_word i) ≡ slice_index words (bits_word i)) → is_bit_set (slice_set words (bits_word r) value) i u ≡ true
+      by_record (inl k) = ap (has_flag (bit_of u)) k.word ∙ stay k.is (subst (λ (n : ℕ). is_bit_set words n u ≡ true) k.is set)
+      by_record (inr e) = ap (has_flag (bit_of u)) e ∙ set
+
+calm_must : (words : List ℕ) (t : ℕ) (phase : Phase) → IsCalm phase → MustWait words t phase
+calm_must words t (phases.WaitOut m r) k = absurd k
+calm_must words t (phases.NotifyOne m r u) k = absurd k
+calm_must words t phase k = tt
+
+module _ (differ : SitesDiffer) (inside : SitesLieInside) (reach : EventsReachSites) (c : MarkedProgram) (cfg : Config) (objects : List Object) (was : ℕ → Phase) (s : Core) (t : ℕ) (marked : IsMarked c)
+    (heap : HeapFacts c objects s) (threads : AreThreads c cfg s) (records : RecordsFit s.words) (structure : Structure c was s.threads) (owners : Owners (references_of objects) was s) (waiting : Waiting was s) where
+  module _ (x : Thread) (there : slice_get s.threads t ≡ Some x) where
+    lawful : IsLawful c x
+    lawful = threads.lawful t x there
+
+    structured : IsStructured c (was t) x
+    structured = structure t x there
+
+    number : x.number ≡ t
+    number = (threads.own t x there).number
+
+    waits : Waits s.words t (was t)
+    waits = waiting.each t x there
+
+    -- what the event owes in a phase
+    abbrev Owes : (after : List ℕ) → (now : Phase) → Type 0
+    Owes after now = Changes (locks_in (references_of objects) s.words) s.words after t × Waits after t now
+
+    abbrev Done : Phase → Type 0
+    Done phase = Owes (words_after s.words (wanted c x phase)) (counted_by (was t) (moved c x phase (found_by s.words (wanted c x phase))).phase)
+
+    -- in a phase that counts itself
+    from : (phase : Phase) (after : List ℕ) (now : Phase) → was t ≡ phase → Owes after (counted_by phase now) → Owes after (counted_by (was t) now)
+    from phase after now k h = subst (λ (p : Phase). Owes after (counted_by p now)) (sym k) h
+
+    waits_as : (phase : Phase) → was t ≡ phase → Waits s.words t phase
+    waits_as phase k = subst (Waits s.words t) k waits
+
+    shows : (phase : Phase) → was t ≡ phase → PhaseShows c phase x.frames structured.stands.shown x.held x.attempt
+    shows phase k = subst (λ (p : Phase). PhaseShows c p x.frames structured.stands.shown x.held x.attempt) k structured.stands.phase_shows
+
+    low : (phase : Phase) → x.phase ≡ phase → PhaseFits phase
+    low phase e = subst PhaseFits e lawful.bounded.phase
+
+    there_inside : (r : ℕ) → r < MONITOR_RECORDS → bits_word r < length s.words
+    there_inside r few = inside c objects s (BitsOf r) marked heap few
+
+    owns_record : (r : ℕ) → record_of (was t) ≡ Some r → OwnsRecord (locks_in (references_of objects) s.words) t r
+    owns_record r e = owned_record c (locks_in (references_of objects) s.words) owners.count owners.locks_are t x structured.stands.shown (was t) r e structured.stands.phase_shows (owners.each t x there)
+
+    -- ---- the bits stay
+
+    still : (phase now : Phase) → x.phase ≡ phase → IsStill phase → Waits (words_after s.words (wanted c x phase)) t now → Owes (words_after s.words (wanted c x phase)) now
+    still phase now e is h = (same_changes (locks_in (references_of objects) s.words) s.words (words_after s.words (wanted c x phase)) t (still_bits differ inside reach c objects s t x marked heap there lawful phase e is), h)
+
+    set_before : (phase : Phase) → x.phase ≡ phase → IsStill phase → (r u : ℕ) → r < MONITOR_RECORDS → is_bit_set (words_after s.words (wanted c x phase)) r u ≡ true → is_bit_set s.words r u ≡ true
+    set_before phase e is r u few set = ap (has_flag (bit_of u)) (sym (still_bits differ inside reach c objects s t x marked heap there lawful phase e is r few)) ∙ set
+
+    set_after : (phase : Phase) → x.phase ≡ phase → IsStill phase → (r u : ℕ) → r < MONITOR_RECORDS → is_bit_set s.words r u ≡ true → is_bit_set (words_after s.words (wanted c x phase)) r u ≡ true
+    set_after phase e is r u few set = ap (has_flag (bit_of u)) (still_bits differ inside reach c objects s t x marked heap there lawful phase e is r few) ∙ set
+
+    -- a thread that did not wait
+    calmly : (phase : Phase) → x.phase ≡ phase → was t ≡ phase → IsStill phase → GoesCalm phase → IsCalm phase → ((r : ℕ) → MayWait phase r → ⊥) → Done phase
+    calmly phase e k is goes calm none =
+        let got = found_by s.words (wanted c x phase) in
+        let now : IsCalm (counted_by phase (moved c x phase got).phase) = counted_calm phase (moved c x phase got).phase calm (moved_calm c x phase got goes (sym e)) in
+        from phase (words_after s.words (wanted c x phase)) (moved c x phase got).phase k
+        (still phase (counted_by phase (moved c x phase got).phase) e is (record {
+          only = λ r few set. absurd (none r ((waits_as phase k).only r few (set_before phase e is r t few set)));
+          must = calm_must (words_after s.words (wanted c x phase)) t (counted_by phase (moved c x phase got).phase) now;
+        }))
+
+    -- ---- a wait
+
+    wait_begins : (m r : ℕ) → x.phase ≡ phases.WaitBit m r → was t ≡ phases.WaitBit m r → Owes (slice_set s.words (bits_word r) (bit_or (slice_index s.words (bits_word r)) (bit_of x.number))) (phases.WaitOut m r)
+    wait_begins m r e k = (record { less = less; stays = stays }, record { only = only; must = must })
+      where
+        few : r < MONITOR_RECORDS
+        few = low (phases.WaitBit m r) e
+
+        less : (i u : ℕ) → i < MONITOR_RECORDS → u ≢ t → is_bit_set (slice_set s.words (bits_word r) (bit_or (slice_index s.words (bits_word r)) (bit_of x.number))) i u ≡ true → is_bit_set s.words i u ≡ true
+        less i u small d set = bits_less s.words r (bit_or (slice_index s.words (bits_word r)) (bit_of x.number)) (there_inside r few) i u (set_other (slice_index s.words (bits_word r)) x.number u (λ q. d (q ∙ number))) set
+
+        stays : (i u : ℕ) → i < MONITOR_RECORDS → (locks_in (references_of objects) s.words).owner i ≢ t + 1 → is_bit_set s.words i u ≡ true
+            → is_bit_set (slice_set s.words (bits_word r) (bit_or (slice_index s.words (bits_word r)) (bit_of x.number))) i u ≡ true
+        stays i u small d set = bits_stay s.words r (bit_or (slice_index s.words (bits_word r)) (bit_of x.number)) (there_inside r few) i u (λ g. set_keeps (slice_index s.words (bits_word r)) x.number u) set
+
+        only : (i : ℕ) → i < MONITOR_RECORDS → is_bit_set (slice_set s.words (bits_word r) (bit_or (slice_index s.words (bits_word r)) (bit_of x.number))) i t ≡ true → i ≡ r
+        only i small set = by_record (bits_at s.words r (bit_or (slice_index s.words (bits_word r)) (bit_of x.number)) (there_inside r few) i)
+          where
+            by_record : Written s.words r (bit_or (slice_index s.words (bits_word r)) (bit_of x.number)) i
+                ⊎ (slice_index (slice_set s.words (bits_word r) (bit_or (slice_index s.words (bits_word r)) (bit_of x.number))) (bits_word i) ≡ slice_index s.words (bits_word i)) → i ≡ r
+            by_record (inl w) = w.is
+            by_record (inr same) = absurd ((waits_as (phases.WaitBit m r) k).only i small (ap (has_flag (bit_of t)) (sym same) ∙ set))
+
+        must : is_bit_set (slice_set s.words (bits_word r) (bit_or (slice_index s.words (bits_word r)) (bit_of x.number))) r t ≡ true
+        must = ap (has_flag (bit_of t)) (set_here s.words (bits_word r) (bit_or (slice_index s.words (bits_word r)) (bit_of x.number)) (there_inside r few))
+            ∙ subst (λ (n : ℕ). has_flag (bit_of n) (bit_or (slice_index s.words (bits_word r)) (bit_of x.number)) ≡ true) number (set_sets (slice_index s.words (bits_word r)) x.number)
+
+    gone_out : (m r : ℕ) (after : List ℕ) (held : Option Held) → was t ≡ phases.WaitOut m r → IsFat r held → ((i : ℕ) → i < MONITOR_RECORDS → is_bit_set after i t ≡ true → is_bit_set s.words i t ≡ true)
+        → Waits after t (counted_by (phases.WaitOut m r) (goes_to_wait x m r held).phase)
+    gone_out m r after None k fat before = absurd fat
+    gone_out m r after (Some h) k fat before = record { only = λ i few set. (waits_as (phases.WaitOut m r) k).only i few (before i few set); must = tt }
+
+    looked : (m r depth : ℕ) (after : List ℕ) (b : Bool) → has_flag (bit_of x.number) (slice_index s.words (bits_word r)) ≡ b → was t ≡ phases.WaitLook m r depth → ((i : ℕ) → i < MONITOR_RECORDS → is_bit_set after i t ≡ true → is_bit_set s.words i t ≡ true)
+        → Waits after t (counted_by (phases.WaitLook m r depth) (cond b (failed_turn x (phases.WaitLook m r depth)) (with_phase x (phases.Retake m r depth))).phase)
+    looked m r depth after true g k before = by_turns (nat_lt (x.turns + 1) x.cfg.turns)
+      where
+        by_turns : (b : Bool) → Waits after t (counted_by (phases.WaitLook m r depth) (cond b (phases.WaitLook m r depth) (phases.Ending ends.Turns)))
+        by_turns true = record { only = λ i few set. (waits_as (phases.WaitLook m r depth) k).only i few (before i few set); must = tt }
+        by_turns false = record { only = λ i few set. (waits_as (phases.WaitLook m r depth) k).only i few (before i few set); must = tt }
+    looked m r depth after false g k before = record { only = λ i few set. no_more i few (before i few set); must = tt }
+      where
+        no_more : (i : ℕ) → i < MONITOR_RECORDS → is_bit_set s.words i t ≡ true → ⊥
+        no_more i few set =
+            let here : i ≡ r = (waits_as (phases.WaitLook m r depth) k).only i few set in
+            let at : is_bit_set s.words r t ≡ true = subst (λ (n : ℕ). is_bit_set s.words n t ≡ true) here set in
+            let not_at : is_bit_set s.words r t ≡ false = subst (λ (n : ℕ). is_bit_set s.words r n ≡ false) number g in
+            absurd (cc)
+
+    -- ---- a notification
+
+    notify_looks : (m r : ℕ) (after : List ℕ) (b : Bool) → (slice_index s.words (bits_word r) == 0) ≡ b → x.phase ≡ phases.NotifyLook m r → was t ≡ phases.NotifyLook m r
+        → ((i u : ℕ) → i < MONITOR_RECORDS → is_bit_set after i u ≡ true → is_bit_set s.words i u ≡ true) → ((i u : ℕ) → i < MONITOR_RECORDS → is_bit_set s.words i u ≡ true → is_bit_set after i u ≡ true)
+        → Waits after t (counted_by (phases.NotifyLook m r) (cond b (runs x) (with_phase x (phases.NotifyOne m r (lowest_of (slice_index s.words (bits_word r)))))).phase)
+    notify_looks m r after true g e k before behind = record {
+      only = λ i few set. absurd ((waits_as (phases.NotifyLook m r) k).only i few (before i t few set));
+      must = calm_must after t (counted_by (phases.NotifyLook m r) (runs x).phase) (runs_counted (phases.NotifyLook m r) x);
+    }
+    notify_looks m r after false g e k before behind = record {
+      only = λ i few set. absurd ((waits_as (phases.NotifyLook m r) k).only i few (before i t few set));
+      must = behind r (lowest_of (slice_index s.words (bits_word r))) (low (phases.NotifyLook m r) e)
+          (lowest_set (slice_index s.words (bits_word r)) (records.bits r (low (phases.NotifyLook m r) e)) (not_same (slice_index s.words (bits_word r)) 0 g));
+    }
+
+    -- a thread that owns the record clears bits
+    cleared : (phase : Phase) (r value : ℕ) → was t ≡ phase → record_of phase ≡ Some r → r < MONITOR_RECORDS → ((i : ℕ) → MayWait phase i → ⊥)
+        → ((u : ℕ) → has_flag (bit_of u) value ≡ true → has_flag (bit_of u) (slice_index s.words (bits_word r)) ≡ true) → Owes (slice_set s.words (bits_word r) value) (counted_by phase (runs x).phase)
+    cleared phase r value k of few none less = (
+      record {
+        less = λ i u small d set. bits_less s.words r value (there_inside r few) i u (less u) set;
+        stays = λ i u small d set. bits_stay s.words r value (there_inside r few) i u (λ g was_set. absurd (d (ap (locks_in (references_of objects) s.words).owner g ∙ owner))) set;
+      },
+      record {
+        only = λ i small set. absurd (none i ((waits_as phase k).only i small (bits_less s.words r value (there_inside r few) i t (less t) set)));
+        must = calm_must (slice_set s.words (bits_word r) value) t (counted_by phase (runs x).phase) (runs_counted phase x);
+      },
+    )
+      where
+        owner : (locks_in (references_of objects) s.words).owner r ≡ t + 1
+        owner = (owns_record r (ap record_of k ∙ of)).owner
+
+    -- ---- all phases
+
+    by_phase : (phase : Phase) → x.phase ≡ phase → IsAs phase (was t) → Done phase
+    by_phase (phases.WaitBit m r) e k = from (phases.WaitBit m r) _ (phases.WaitOut m r) k (wait_begins m r e k)
+    by_phase (phases.WaitOut m r) e k = from (phases.WaitOut m r) _ _ k (still (phases.WaitOut m r) _ e tt
+        (gone_out m r (words_after s.words (wanted c x (phases.WaitOut m r))) (held_at x.held m) k (shows (phases.WaitOut m r) k).1 (λ i few set. set_before (phases.WaitOut m r) e tt i t few set)))
+    by_phase (phases.WaitLook m r depth) e k = from (phases.WaitLook m r depth) _ _ k (still (phases.WaitLook m r depth) _ e tt
+        (looked m r depth (words_after s.words (wanted c x (phases.WaitLook m r depth))) (has_flag (bit_of x.number) (slice_index s.words (bits_word r))) refl k (λ i few set. set_before (phases.WaitLook m r depth) e tt i t few set)))
+    by_phase (phases.NotifyLook m r) e k = from (phases.NotifyLook m r) _ _ k (still (phases.NotifyLook m r) _ e tt
+        (notify_looks m r (words_after s.words (wanted c x (phases.NotifyLook m r))) (slice_index s.words (bits_word r) == 0) refl e k (λ i u few set. set_before (phases.NotifyLook m r) e tt i u few set)
+        (λ i u few set. set_after (phases.NotifyLook m r) e tt i u few set)))
+    by_phase (phases.NotifyOne m r u) e k = from (phases.NotifyOne m r u) _ _ k
+        (cleared (phases.NotifyOne m r u) r (bit_and (slice_index s.words (bits_word r)) (2 ^ 64 - 1 - bit_of u)) k refl (low (phases.NotifyOne m r u) e).0 (λ i h. h) (λ w set. left_was_set (slice_index s.words (bits_word r)) (2 ^ 64 - 1 - bit_of u) w set))
+    by_phase (phases.NotifyAll m r) e k = from (phases.NotifyAll m r) _ _ k (cleared (phases.NotifyAll m r) r 0 k refl (low (phases.NotifyAll m r) e) (λ i h. h) (λ w set. absurd (cc)))
+    by_phase (phases.Ending reason) e k = still (phases.Ending reason) _ e tt (ended_waits s.words t (was t) reason k waits)
+    by_phase (phases.Ended reason) e k = still (phases.Ended reason) _ e tt (subst (λ (p : Phase). Waits s.words t (counted_by (was t) p)) (sym e) (counted_waits s.words t (was t) (phases.Ended reason) k waits))
+    by_phase phase e k = calmly phase e k tt tt tt (λ r h. h)
+
+    thread_kept : Waiting (counted_at was t (event_of c s t (Some x)).threads) (event_of c s t (Some x))
+    thread_kept = by_owes (by_phase x.phase refl structured.is_as)
+      where
+        by_owes : Done x.phase → Waiting (counted_at was t (event_of c s t (Some x)).threads) (event_of c s t (Some x))
+        by_owes h = waited_on c (references_of objects) was s owners structure waiting t x (moved c x x.phase (found_by s.words (wanted c x x.phase))) there (words_after s.words (wanted c x x.phase)) h.0 h.1
+
+  -- ---- no thread
+
+  unmoved : slice_get s.threads t ≡ None → Waiting (counted_at was t s.threads) s
+  unmoved e = record { each = each; others = waiting.others }
+    where
+      each : (u : ℕ) (y : Thread) → slice_get s.threads u ≡ Some y → Waits s.words u (counted_at was t s.threads u)
+      each u y f = by_number (u == t) refl
+        where
+          by_number : (b : Bool) → (u == t) ≡ b → Waits s.words u (cond b (counted_of (was t) (slice_get s.threads t)) (was u))
+          by_number true g = let bad : Some y ≡ None = sym f ∙ ap (slice_get s.threads) (is_there u t g) ∙ e in absurd (cc)
+          by_number false g = waiting.each u y f
+
+  event_kept : (o : Option Thread) → slice_get s.threads t ≡ o → Waiting (counted_at was t (event_of c s t o).threads) (event_of c s t o)
+  event_kept None e = unmoved e
+  event_kept (Some x) e = thread_kept x e
+
+pub events_keep_waiting : SitesDiffer → SitesLieInside → EventsReachSites → EventsKeepWaiting
+events_keep_waiting differ inside reach c cfg objects was s t marked heap threads records structure owners waiting = event_kept differ inside reach c cfg objects was s t marked heap threads records structure owners waiting (slice_get s.threads t) refl

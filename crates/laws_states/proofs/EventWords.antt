@@ -1,0 +1,229 @@
+-- What an event leaves of the words for locking and of the counters.
+use Rattle.std.proofs.Common.{◌≡◌, ◌≢◌, ◌⊎◌, inl, inr, ℕ, zero, suc, ◌+◌, ◌*◌, ◌<◌, ◌≤◌, ◌^◌, Bool, true, false, List, ◌∷◌, length, Option, Some, None, refl, ap, sym, subst, ◌∙◌, arith}
+use Rattle.std.specs.Prelude.{Contains, slice_get, slice_index, slice_set, ◌==◌, if◌then◌else◌}
+use Rattle.lists.proofs.ListLaws.{same_some}
+use Rattle.jvm_types.specs.ProgramInvariant.{IsProgram}
+use Rattle.jvm_types.specs.declared.class_numbers.TheConstants.{INT_ARRAY_CLASS}
+use Rattle.jvm_types.specs.declared.program.Program.{Program}
+use Rattle.checked_program.specs.MarkedProgram.{MarkedProgram, IsMarked}
+use Rattle.machine_types.specs.Accesses.{accessed, left_by, performed, words_after}
+use Rattle.machine_types.specs.declared.access.Access.{Access}
+use Rattle.machine_types.specs.declared.access.Access.TheVariants.{Load, Store, Cas, Add, Or, And, Rest}
+use Rattle.machine_types.specs.Core.{Core}
+use Rattle.machine_types.specs.Events.{wanted}
+use Rattle.machine_types.specs.FoundWords.{Content, Lock, Owner, Bits, Any, content_at, IsHeader}
+use Rattle.machine_types.specs.Frames.{top_of}
+use Rattle.machine_types.specs.Lawful.{IsLawful}
+use Rattle.machine_types.specs.PlainMemory.{Object, new_object}
+use Rattle.machine_types.specs.NewObjects.{size_by}
+use Rattle.machine_types.specs.Structure.{IsStructured, Stands}
+use Rattle.machine_types.specs.Threads.{Thread}
+use Rattle.machine_types.specs.Typed.{PhaseHolds}
+use Rattle.machine_types.specs.Lawful.{within}
+use Rattle.machine_types.specs.Words.{header_word, header_class, header_length, array_size, object_size}
+use Rattle.jvm_types.specs.declared.fixed_words.TheConstants.{NEXT_FREE_WORD, NEXT_TICKET_WORD, NEXT_RECORD_WORD}
+use Rattle.machine_types.specs.declared.lock.LockWord.TheVariants as locks
+use Rattle.machine_types.specs.declared.phase.Phase.{Phase}
+use Rattle.machine_types.specs.declared.phase.Phase.TheVariants as phases
+use Rattle.laws_states.specs.HeapFacts.{HeapFacts, objects_by}
+use Rattle.laws_states.specs.SiteLaws.{EventsReachSites, SitesDiffer, SitesLieInside}
+use Rattle.laws_states.specs.Sites.{Site, Counter, OwnerOf, BitsOf, LockOf, NewHeaderOf, site_word, IsThere, Suits, IsAccessOf, ReachesIf}
+use Rattle.laws_states.proofs.Lists.{same_or_not, set_here, set_there}
+use Rattle.laws_states.specs.Counters.{most_size}
+use Rattle.laws_states.specs.LeftWords.{LeftMayStand}
+use Rattle.laws_states.specs.SharedWords.{IsLock, MayStand, LocksFit, RecordsFit}
+use Rattle.laws_states.proofs.CountedEvents.{begun_by, drawn_by}
+use Rattle.laws_states.proofs.LeftSmall.{PhaseStores, IsMade, only_adds, added, adds_few, AddsFew}
+use Rattle.laws_states.proofs.LeftStands.{word_is_lock}
+use Rattle.laws_states.proofs.TopStores.{stores_fit, stored_small}
+
+-- ---- what suits a site
+
+lock_suits : (content : Content) (r : ℕ) → Suits content (LockOf r) → content ≡ Lock
+lock_suits Lock r h = refl
+lock_suits content r h = absurd h
+
+owner_suits : (content : Content) (r : ℕ) → Suits content (OwnerOf r) → content ≡ Owner
+owner_suits Owner r h = refl
+owner_suits content r h = absurd h
+
+bits_suit : (content : Content) (r : ℕ) → Suits content (BitsOf r) → content ≡ Bits
+bits_suit Bits r h = refl
+bits_suit content r h = absurd h
+
+counter_suits : (content : Content) (w : ℕ) → Suits content (Counter w) → content ≡ Any
+counter_suits Any w h = refl
+counter_suits content w h = absurd h
+
+-- ---- what a thread stores
+
+some_words : (a : ℕ) (p : Program) (word : ℕ) → a < a + size_by p word
+some_words a p word = by_test (header_class word == INT_ARRAY_CLASS)
+  where
+    by_test : (b : Bool) → a < a + (if b then array_size (header_length word) else object_size p (header_class word))
+    by_test true = omega arith
+    by_test false = omega arith
+
+header_small : (c : MarkedProgram) (word : ℕ) → IsProgram c.program → IsHeader c.program word → word < 2 ^ 64
+header_small c word is h = omega (arith, h.fits, is.heap_to)
+
+module _ (c : MarkedProgram) (objects : List Object) (s : Core) (t : ℕ) (x : Thread) (marked : IsMarked c) (heap : HeapFacts c objects s) (there : slice_get s.threads t ≡ Some x) (lawful : IsLawful c x) where
+  pub phase_stores : PhaseStores c x x.phase
+  phase_stores = by_phase x.phase refl lawful.structured lawful.typed.values.phase
+    where
+      by_phase : (phase : Phase) → x.phase ≡ phase → IsStructured c lawful.was (record x { phase = phase }) → PhaseHolds c (within c.program) phase x.frames → PhaseStores c x phase
+      by_phase phases.Run e st h = λ at top. stores_fit c marked x.frames at h top
+      by_phase (phases.Element word stored) e st h =
+          let stands : Stands c (phases.Element word stored) x.frames x.held x.attempt = subst (λ (phase : Phase). Stands c phase x.frames x.held x.attempt) st.is_as st.stands in
+          by_stored word stored stands h
+        where
+          by_stored : (word : ℕ) (stored : Option ℕ) → Stands c (phases.Element word stored) x.frames x.held x.attempt → PhaseHolds c (within c.program) (phases.Element word stored) x.frames → (v : ℕ) → stored ≡ Some v → v < 2 ^ 64
+          by_stored word None stands h v e = absurd (cc)
+          by_stored word (Some u) stands h v e = let same : u ≡ v = cc in subst (λ (n : ℕ). n < 2 ^ 64) same (stored_small c marked x.frames word u h.1 stands.phase_shows h.0)
+      by_phase (phases.Made a word) e st h = header_small c word marked.checked.program (heap.new_headers t x a word there e)
+      by_phase phase e st h = tt
+
+  abbrev pub after : List ℕ
+  after = words_after s.words (wanted c x x.phase)
+
+  -- ---- the word of a site is as it was, or its thread has left it so
+
+  pub record IsLeft (site : Site) : Type 0 where
+    pub access : Access
+    pub wants : wanted c x x.phase ≡ Some access
+    pub suits : Suits (content_at c x x.phase) site
+    pub word : accessed access ≡ site_word site
+    pub left : slice_index after (site_word site) ≡ left_by access (slice_index s.words (site_word site))
+
+  module _ (differ : SitesDiffer) (inside : SitesLieInside) (reach : EventsReachSites) where
+    touched : (a : Access) → wanted c x x.phase ≡ Some a → performed s.words a ≡ slice_set s.words (accessed a) (left_by a (slice_index s.words (accessed a)))
+        → IsAccessOf c.program objects s (content_at c x x.phase) a → (site : Site) → IsThere c.program objects s site
+        → (slice_index after (site_word site) ≡ slice_index s.words (site_word site)) ⊎ IsLeft site
+    touched a e p k site is = by_word (same_or_not (site_word site) (accessed a))
+      where
+        sets : after ≡ slice_set s.words (accessed a) (left_by a (slice_index s.words (accessed a)))
+        sets = ap (words_after s.words) e ∙ p
+
+        by_word : (site_word site ≡ accessed a) ⊎ (site_word site ≢ accessed a) → (slice_index after (site_word site) ≡ slice_index s.words (site_word site)) ⊎ IsLeft site
+        by_word (inr d) = inl (ap (λ (ws : List ℕ). slice_index ws (site_word site)) sets ∙ set_there s.words (accessed a) (site_word site) (left_by a (slice_index s.words (accessed a))) d)
+        by_word (inl d) =
+            let same : k.site ≡ site = differ c objects s k.site site marked heap k.there is (sym k.word ∙ sym d) in
+            let here : slice_index (slice_set s.words (accessed a) (left_by a (slice_index s.words (accessed a)))) (accessed a) ≡ left_by a (slice_index s.words (accessed a)) =
+            set_here s.words (accessed a) _ (subst (λ (n : ℕ). n < length s.words) (sym k.word) (inside c objects s k.site marked heap k.there)) in
+            inr (record {
+              access = a;
+              wants = e;
+              suits = subst (Suits (content_at c x x.phase)) same k.suits;
+              word = sym d;
+              left = ap (λ (ws : List ℕ). slice_index ws (site_word site)) sets
+                  ∙ subst (λ (n : ℕ). slice_index (slice_set s.words (accessed a) (left_by a (slice_index s.words (accessed a)))) n ≡ left_by a (slice_index s.words n)) (sym d) here;
+            })
+
+    pub word_at : (site : Site) → IsThere c.program objects s site → (slice_index after (site_word site) ≡ slice_index s.words (site_word site)) ⊎ IsLeft site
+    word_at site is = by_access (wanted c x x.phase) refl (reach c objects s t x marked heap there lawful)
+      where
+        by_access : (a : Option Access) → wanted c x x.phase ≡ a → ReachesIf c.program objects s (content_at c x x.phase) a → (slice_index after (site_word site) ≡ slice_index s.words (site_word site)) ⊎ IsLeft site
+        by_access None e k = inl (ap (λ (a : Option Access). slice_index (words_after s.words a) (site_word site)) e)
+        by_access (Some Rest) e k = inl (ap (λ (a : Option Access). slice_index (words_after s.words a) (site_word site)) e)
+        by_access (Some (Load w)) e k = touched (Load w) e refl k site is
+        by_access (Some (Store w v)) e k = touched (Store w v) e refl k site is
+        by_access (Some (Cas w n v)) e k = touched (Cas w n v) e refl k site is
+        by_access (Some (Add w v)) e k = touched (Add w v) e refl k site is
+        by_access (Some (Or w v)) e k = touched (Or w v) e refl k site is
+        by_access (Some (And w v)) e k = touched (And w v) e refl k site is
+
+    -- ---- words for locking
+
+    module _ (leaves : LeftMayStand) (few : x.number ≤ 8) where
+      -- where the content of the event's access is that of the site
+      stands : (site : Site) (content : Content) → IsThere c.program objects s site → (Suits (content_at c x x.phase) site → content_at c x x.phase ≡ content)
+          → MayStand x.cfg.range content (slice_index s.words (site_word site)) → MayStand x.cfg.range content (slice_index after (site_word site))
+      stands site content is suits may = by_cases (word_at site is)
+        where
+          by_cases : (slice_index after (site_word site) ≡ slice_index s.words (site_word site)) ⊎ IsLeft site → MayStand x.cfg.range content (slice_index after (site_word site))
+          by_cases (inl e) = subst (MayStand x.cfg.range content) (sym e) may
+          by_cases (inr k) =
+              let same : content_at c x x.phase ≡ content = suits k.suits in
+              let found : MayStand x.cfg.range (content_at c x x.phase) (slice_index s.words (site_word site)) = subst (λ (n : Content). MayStand x.cfg.range n (slice_index s.words (site_word site))) (sym same) may in
+              subst (MayStand x.cfg.range content) (sym k.left) (subst (λ (n : Content). MayStand x.cfg.range n (left_by k.access (slice_index s.words (site_word site)))) same
+              (leaves c x k.access (slice_index s.words (site_word site)) few lawful.bounded k.wants found))
+
+      pub records_fit : RecordsFit s.words → RecordsFit after
+      records_fit h = record {
+        owners = λ r is. stands (OwnerOf r) Owner is (owner_suits (content_at c x x.phase) r) (h.owners r is);
+        bits = λ r is. stands (BitsOf r) Bits is (bits_suit (content_at c x x.phase) r) (h.bits r is);
+      }
+
+      old_lock : (o : Object) → Contains objects o → IsLock x.cfg.range (slice_index s.words o.reference) → IsLock x.cfg.range (slice_index after o.reference)
+      old_lock o is h = stands (LockOf o.reference) Lock (o, is, refl) (lock_suits (content_at c x x.phase) o.reference) h
+
+      -- the lock of a new object is free
+      new_lock : (a word : ℕ) → x.phase ≡ phases.Made a word → IsLock x.cfg.range (slice_index after a)
+      new_lock a word e =
+          let new = heap.new_objects.each t x a word there e in
+          let zero_there : slice_index s.words a ≡ 0 = new.empty a (omega arith) (some_words a c.program word) in
+          let stays : slice_index after a ≡ slice_index s.words a = ap (λ (phase : Phase). slice_index (words_after s.words (wanted c x phase)) a) e ∙ set_there s.words (header_word a) a word (λ k. omega (arith, k)) in
+          subst (IsLock x.cfg.range) (sym (stays ∙ zero_there)) (word_is_lock x.cfg.range (locks.Free 0) (omega arith))
+
+      pub locks_fit : LocksFit x.cfg.range objects s.words → LocksFit x.cfg.range (objects_by c.program x.phase objects) after
+      locks_fit h = by_phase x.phase refl
+        where
+          old : (o : Object) → Contains objects o → IsLock x.cfg.range (slice_index after o.reference)
+          old o is = old_lock o is (h o is)
+
+          more : (a word : ℕ) → x.phase ≡ phases.Made a word → (o : Object) → Contains (new_object a word (size_by c.program word) ∷ objects) o → IsLock x.cfg.range (slice_index after o.reference)
+          more a word e o (zero, lt, is) = let same : new_object a word (size_by c.program word) ≡ o = is in subst (λ (y : Object). IsLock x.cfg.range (slice_index after y.reference)) same (new_lock a word e)
+          more a word e o (suc i, lt, is) = old o (i, omega (arith, lt), is)
+
+          by_phase : (phase : Phase) → x.phase ≡ phase → LocksFit x.cfg.range (objects_by c.program phase objects) after
+          by_phase (phases.Made a word) e = more a word e
+          by_phase phase e = old
+
+    -- ---- counters
+
+    -- it is added to, or nothing is done to it
+    counter_left : (w : ℕ) → IsThere c.program objects s (Counter w) → (slice_index after w ≡ slice_index s.words w)
+        ⊎ ((access : Access) × (wanted c x x.phase ≡ Some access) × (accessed access ≡ w) × (slice_index after w ≤ slice_index s.words w + added access))
+    counter_left w is = by_cases (word_at (Counter w) is)
+      where
+        made_not : IsLeft (Counter w) → (phase : Phase) → x.phase ≡ phase → IsMade phase → ⊥
+        made_not k (phases.Made a word) e made =
+            let wants : Some (Store (header_word a) word) ≡ Some k.access = ap (λ (phase : Phase). wanted c x phase) (sym e) ∙ k.wants in
+            let same : header_word a ≡ w = ap accessed (same_some wants) ∙ k.word in
+            let sites : NewHeaderOf a ≡ Counter w = differ c objects s (NewHeaderOf a) (Counter w) marked heap (t, x, word, there, e) is same in
+            absurd (cc)
+        made_not k phase e made = absurd made
+
+        by_cases : (slice_index after w ≡ slice_index s.words w) ⊎ IsLeft (Counter w) → (slice_index after w ≡ slice_index s.words w)
+            ⊎ ((access : Access) × (wanted c x x.phase ≡ Some access) × (accessed access ≡ w) × (slice_index after w ≤ slice_index s.words w + added access))
+        by_cases (inl e) = inl e
+        by_cases (inr k) =
+            let only = only_adds c x x.phase k.access (slice_index s.words w) k.wants phase_stores (counter_suits (content_at c x x.phase) w k.suits) (made_not k x.phase refl) in
+            inr (k.access, k.wants, k.word, subst (λ (n : ℕ). n ≤ slice_index s.words w + added k.access) (sym k.left) only)
+
+    grows : (w most : ℕ) → IsThere c.program objects s (Counter w) → ((access : Access) → wanted c x x.phase ≡ Some access → accessed access ≡ w → added access ≤ most) → slice_index after w ≤ slice_index s.words w + most
+    grows w most is few = by_cases (counter_left w is)
+      where
+        by_cases : (slice_index after w ≡ slice_index s.words w) ⊎ ((access : Access) × (wanted c x x.phase ≡ Some access) × (accessed access ≡ w) × (slice_index after w ≤ slice_index s.words w + added access))
+            → slice_index after w ≤ slice_index s.words w + most
+        by_cases (inl e) = omega (arith, e)
+        by_cases (inr k) = let less : added k.0 ≤ most = few k.0 k.1 k.2 in let left = k.3 in omega (arith, left, less)
+
+    abbrev pub began : ℕ
+    began = begun_by x.phase (top_of c.program x.frames)
+
+    adds : (access : Access) → wanted c x x.phase ≡ Some access → AddsFew access began (drawn_by x.phase)
+    adds access w = adds_few c x x.phase access w phase_stores
+
+    -- how far each counter comes
+    pub record CountersGrow : Type 0 where
+      pub free : slice_index after NEXT_FREE_WORD ≤ slice_index s.words NEXT_FREE_WORD + most_size * began
+      pub tickets : slice_index after NEXT_TICKET_WORD ≤ slice_index s.words NEXT_TICKET_WORD + began
+      pub records : slice_index after NEXT_RECORD_WORD ≤ slice_index s.words NEXT_RECORD_WORD + drawn_by x.phase
+
+    pub counters_grow : CountersGrow
+    counters_grow = record {
+      free = grows NEXT_FREE_WORD (most_size * began) (omega arith, omega arith) (λ access w at. (adds access w).free at);
+      tickets = grows NEXT_TICKET_WORD began (omega arith, omega arith) (λ access w at. (adds access w).tickets at);
+      records = grows NEXT_RECORD_WORD (drawn_by x.phase) (omega arith, omega arith) (λ access w at. (adds access w).records at);
+    }

@@ -1,0 +1,38 @@
+-- A monitor that a thread is to leave is one that it holds, or that of its attempt.
+use Rattle.std.proofs.Common.{◌≡◌, ℕ, ◌+◌, ◌<◌, Bool, true, false, Option, Some, None, List, arith}
+use Rattle.std.specs.Prelude.{◌==◌, ◌≢◌, if◌then◌else◌}
+use Rattle.std.proofs.lemmas.Bool.Decides.{nat_tests}
+use Rattle.checked_program.specs.MarkedProgram.{MarkedProgram, IsMarked}
+use Rattle.machine_types.specs.HeldMonitors.{held_at}
+use Rattle.machine_types.specs.Monitors.{Tries, HasNot, claim_by}
+use Rattle.machine_types.specs.Structure.{Stands, tried_depth, once_at}
+use Rattle.machine_types.specs.Threads.{Frame, Attempt}
+use Rattle.machine_types.specs.Typed.{Classes, AfterHolds}
+use Rattle.machine_types.specs.declared.lock.Held.{Held}
+use Rattle.machine_types.specs.declared.phase.After.{After}
+use Rattle.machine_types.specs.declared.phase.Phase.TheVariants.{Leave}
+use Rattle.laws_threads.proofs.HeldLists.{depth_by}
+use Rattle.laws_threads.proofs.Releases.{goes_behind}
+
+once_here : (m : ℕ) → 0 < once_at m m
+once_here m = by_test (m == m) (grind (arith, nat_tests))
+  where
+    by_test : (b : Bool) → b ≡ true → 0 < (if b then 1 else 0)
+    by_test true e = omega arith
+    by_test false e = absurd (cc)
+
+claimed : (m : ℕ) (held : Option Held) (attempt : Option Attempt) → 0 < depth_by held + tried_depth m attempt → claim_by m held attempt ≢ HasNot
+claimed m (Some h) attempt some = λ e. cc
+claimed m None None some = absurd (omega (arith, some))
+claimed m None (Some a) some = by_test (a.monitor == m) some
+  where
+    by_test : (b : Bool) → 0 < 0 + (if b then a.inner + 1 else 0) → (if b then Tries a else HasNot) ≢ HasNot
+    by_test true some = λ e. cc
+    by_test false some = absurd (omega (arith, some))
+
+-- its entry is shown, or it is the exit's own
+pub leaves_claimed : (is : Classes) (c : MarkedProgram) (m : ℕ) (a : After) (fs : List Frame) (held : List Held) (attempt : Option Attempt) → IsMarked c → Stands c (Leave m a) fs held attempt → AfterHolds c is a fs
+    → claim_by m (held_at held m) attempt ≢ HasNot
+leaves_claimed is c m a fs held attempt marked k holds =
+    let g = goes_behind is c marked m k.shown a fs k.show k.phase_shows holds in
+    claimed m (held_at held m) attempt (omega (arith, once_here m, g.counts m, k.depths m))

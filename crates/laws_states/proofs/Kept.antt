@@ -1,0 +1,287 @@
+-- An event, and the begin of a part, keep what the words hold of objects and places.
+use Rattle.std.proofs.Common.{◌≡◌, ◌⊎◌, inl, inr, ℕ, zero, suc, Bool, true, false, List, [], ◌∷◌, map, Option, Some, None, refl, ap, sym, subst, ◌∙◌}
+use Rattle.std.specs.Prelude.{slice_get, slice_index, slice_set, if◌then◌else◌}
+use Rattle.lists.proofs.ListLaws.{same_some}
+use Rattle.jvm_types.specs.declared.outcome.End.TheVariants as ends
+use Rattle.jvm_types.specs.declared.program.Program.{Program}
+use Rattle.checked_program.specs.MarkedProgram.{MarkedProgram, IsMarked}
+use Rattle.machine_types.specs.Accesses.{found_by, words_after}
+use Rattle.machine_types.specs.Core.{Core, event_of, part_phase, may_begin, with_roots, part_begins, next_threads, next}
+use Rattle.machine_types.specs.Events.{wanted, moved}
+use Rattle.machine_types.specs.FoundWords.{content_at}
+use Rattle.machine_types.specs.Lawful.{IsLawful}
+use Rattle.machine_types.specs.NewObjects.{size_by, IsNewObject}
+use Rattle.machine_types.specs.Parts.{run_roots, done_roots}
+use Rattle.machine_types.specs.PlainMemory.{Object, new_object}
+use Rattle.machine_types.specs.StartLaws.{StartLiesApart}
+use Rattle.machine_types.specs.Structure.{IsAs, PhaseShows, IsStructured, Structure}
+use Rattle.machine_types.specs.Threads.{Frame, Thread}
+use Rattle.machine_types.specs.Typed.{Classes, HasClass, HasElementIn, FramesHold, AttemptHolds, PhaseHolds, ThreadHolds}
+use Rattle.machine_types.specs.Words.{header_word}
+use Rattle.jvm_types.specs.declared.fixed_words.TheConstants.{NEXT_FREE_WORD}
+use Rattle.laws_threads.proofs.KeptPhases.{PhaseFinds}
+use Rattle.laws_states.proofs.Quiet.{AllHeld}
+use Rattle.machine_types.specs.declared.phase.Phase.{Phase}
+use Rattle.machine_types.specs.declared.phase.Phase.TheVariants as phases
+use Rattle.laws_threads.specs.StructureLaws.{StructureIsKept}
+use Rattle.laws_states.specs.HeapFacts.{IsWaitOn, HoldsObjects, HeapFacts, objects_by, objects_of}
+use Rattle.laws_states.specs.HeapLaws.{EventsKeepHeap, NextKeepsHeap}
+use Rattle.laws_states.proofs.Phases.{IsOldPhase, old_fits}
+use Rattle.laws_states.proofs.Lifted.{thread_up, monitors_up, element_up}
+use Rattle.laws_states.proofs.Leads.{Leads, phase_leads}
+use Rattle.laws_states.proofs.WordSteps.{WordsGoOn, words_go_on}
+use Rattle.laws_states.proofs.Assembled.{Behind, Became, assembled}
+use Rattle.laws_states.proofs.Moves.{has_objects, old_finds, moved_values}
+use Rattle.laws_states.proofs.NewHeader.{behind_new, class_new}
+
+-- ---- an event
+
+objects_old : (p : Program) (phase : Phase) (objects : List Object) → IsOldPhase phase → objects_by p phase objects ≡ objects
+objects_old p (phases.Made a word) objects old = absurd old
+objects_old p phase objects old = refl
+
+new_or_old : (phase : Phase) → IsOldPhase phase ⊎ ((a : ℕ) × (word : ℕ) × (phase ≡ phases.Made a word))
+new_or_old (phases.Made a word) = inr (a, word, refl)
+new_or_old phase = inl tt
+
+module _ (keeps : StructureIsKept) (lies : StartLiesApart) (c : MarkedProgram) (marked : IsMarked c) (objects : List Object) (s : Core) (facts : HeapFacts c objects s) (t : ℕ) where
+  module _ (x : Thread) (there : slice_get s.threads t ≡ Some x) (lawful : IsLawful c x) where
+    abbrev after : List ℕ
+    after = words_after s.words (wanted c x x.phase)
+
+    abbrev got : ℕ
+    got = found_by s.words (wanted c x x.phase)
+
+    abbrev now : Thread
+    now = moved c x x.phase (found_by s.words (wanted c x x.phase))
+
+    abbrev state : Core
+    state = record { words = words_after s.words (wanted c x x.phase); threads = slice_set s.threads t (moved c x x.phase (found_by s.words (wanted c x x.phase))) }
+
+    leads : Leads c objects s after now
+    leads = let monitors = facts.monitors t x there in let typed = facts.typed.threads t x there in phase_leads c marked objects s facts x x.phase refl monitors.held typed.phase monitors.waits
+
+    -- ---- where no header is stored for the first time
+
+    old_behind : IsOldPhase x.phase → Behind c objects objects s t after
+    old_behind old =
+        let w : WordsGoOn c objects s after =
+        words_go_on lies c marked objects s facts (content_at c x x.phase) (wanted c x x.phase) (old_fits c marked objects s facts t x there lawful old) in
+        record {
+          up = λ o k. k;
+          long = w.long;
+          free = w.free;
+          unused = w.unused;
+          apart = facts.apart;
+          places = w.places;
+          headers = facts.headers;
+          new = λ u z a word n differ e m from to. w.new a n (record { t = u; thread = z; word = word; there = e; made = m; from = from; to = to });
+          beside = λ u z a word differ e m o k. let new = facts.new_objects.each u z a word e m in new.beside o k;
+        }
+
+    old_became : IsOldPhase x.phase → Became c objects s after now
+    old_became old =
+        let typed = facts.typed.threads t x there in
+        let has = has_objects c marked objects s facts objects (slice_index s.words NEXT_FREE_WORD) (λ o k. k) facts.apart in
+        let l = leads in
+        record {
+          values = moved_values keeps c marked (HasClass objects) has x lawful typed got (old_finds c marked objects s facts t x there lawful x.phase refl old typed.phase);
+          monitors = l.monitors;
+          element = l.element;
+          made = l.made;
+        }
+
+    old_kept : IsOldPhase x.phase → HeapFacts c (objects_by c.program x.phase objects) state
+    old_kept old =
+        subst (λ os. HeapFacts c os state) (sym (objects_old c.program x.phase objects old))
+        (assembled c marked objects objects s facts t after now (old_behind old) (old_became old))
+
+    -- ---- where one is
+
+    module _ (a word : ℕ) (made : x.phase ≡ phases.Made a word) where
+      abbrev later : List Object
+      later = new_object a word (size_by c.program word) ∷ objects
+
+      words_are : after ≡ slice_set s.words (header_word a) word
+      words_are = ap (λ phase. words_after s.words (wanted c x phase)) made
+
+      behind : Behind c objects later s t (slice_set s.words (header_word a) word)
+      behind = behind_new lies c marked objects s facts t x there a word made
+
+      up : (class v : ℕ) → HasClass objects class v → HasClass later class v
+      up class v k = let b = behind in (k.0, b.up k.0 k.1, k.2, k.3)
+
+      new_became : Became c later s after now
+      new_became =
+          let b = behind in
+          let has = has_objects c marked objects s facts later (slice_index s.words NEXT_FREE_WORD) b.up b.apart in
+          let values = thread_up (HasClass objects) (HasClass later) up c x (facts.typed.threads t x there) in
+          let finds = subst (λ phase. PhaseFinds c (HasClass later) phase x.frames got) (sym made) (class_new lies c marked objects s facts t x there a word made) in
+          let l = leads in
+          record {
+            values = moved_values keeps c marked (HasClass later) has x lawful values got finds;
+            monitors = monitors_up (HasClass objects) (HasClass later) up now l.monitors;
+            element = λ w stored e. element_up objects later b.up stored now.frames (l.element w stored e);
+            made = l.made;
+          }
+
+      new_kept : HeapFacts c (objects_by c.program x.phase objects) state
+      new_kept =
+          subst (λ os. HeapFacts c os state) (sym (ap (λ phase. objects_by c.program phase objects) made))
+          (assembled c marked objects later s facts t after now
+          (subst (Behind c objects later s t) (sym words_are) behind) new_became)
+
+    thread_kept : HeapFacts c (objects_by c.program x.phase objects) state
+    thread_kept = by_phase (new_or_old x.phase)
+      where
+        by_phase : IsOldPhase x.phase ⊎ ((a : ℕ) × (word : ℕ) × (x.phase ≡ phases.Made a word))
+            → HeapFacts c (objects_by c.program x.phase objects) state
+        by_phase (inl old) = old_kept old
+        by_phase (inr k) = new_kept k.0 k.1 k.2
+
+  event_kept : (o : Option Thread) → slice_get s.threads t ≡ o → ((x : Thread) → o ≡ Some x → IsLawful c x) → HeapFacts c (objects_of c.program o objects) (event_of c s t o)
+  event_kept None e lawful = facts
+  event_kept (Some x) e lawful = thread_kept x e (lawful x refl)
+
+pub events_keep : StructureIsKept → StartLiesApart → EventsKeepHeap
+events_keep keeps lies c objects s t marked facts lawful = event_kept keeps lies c marked objects s facts t (slice_get s.threads t) refl lawful
+
+-- ---- the begin of a part
+
+abbrev StartsOrEnded : Phase → Type 0
+StartsOrEnded phases.Start = Unit {0}
+StartsOrEnded (phases.Ended ends.Returned) = Unit {0}
+StartsOrEnded phase = ⊥
+
+-- a thread is as it was, but for the roots and the phase that its part begins with
+record Begins (x y : Thread) : Type 0 where
+  frames : y.frames ≡ x.frames
+  held : y.held ≡ x.held
+  attempt : y.attempt ≡ x.attempt
+  phase : (y.phase ≡ x.phase) ⊎ StartsOrEnded y.phase
+
+same_thread : (x : Thread) → Begins x x
+same_thread x = record { frames = refl; held = refl; attempt = refl; phase = inl refl }
+
+fresh_phase : (roots : List ℕ) → StartsOrEnded (part_phase roots)
+fresh_phase [] = tt
+fresh_phase (number ∷ roots) = tt
+
+with_part : (x y : Thread) (roots : List ℕ) → y.frames ≡ x.frames → y.held ≡ x.held → y.attempt ≡ x.attempt → Begins x (with_roots roots y)
+with_part x y roots f h a = record { frames = f; held = h; attempt = a; phase = inr (fresh_phase roots) }
+
+mapped : (roots : List ℕ) (xs : List Thread) (u : ℕ) (y : Thread) → slice_get (map (with_roots roots) xs) u ≡ Some y → (x : Thread) × (slice_get xs u ≡ Some x) × Begins x y
+mapped roots [] u y e = absurd (cc)
+mapped roots (x ∷ xs) zero y e = (x, refl, subst (Begins x) (same_some e) (with_part x x roots refl refl refl))
+mapped roots (x ∷ xs) (suc u) y e = mapped roots xs u y e
+
+part_begun : (p : Program) (part : ℕ) (x : Thread) (workers : List Thread) (u : ℕ) (y : Thread) → slice_get (part_begins p part x workers) u ≡ Some y → (z : Thread) × (slice_get (x ∷ workers) u ≡ Some z) × Begins z y
+part_begun p zero x workers zero y e = (x, refl, subst (Begins x) (same_some e) (record { frames = refl; held = refl; attempt = refl; phase = inl refl }))
+part_begun p zero x workers (suc u) y e = mapped (run_roots p) workers u y e
+part_begun p (suc part) x workers zero y e = (x, refl, subst (Begins x) (same_some e) (with_part x (record x { part = 2 }) (done_roots p) refl refl refl))
+part_begun p (suc part) x workers (suc u) y e = (y, e, same_thread y)
+
+begun : (p : Program) (threads : List Thread) (u : ℕ) (y : Thread) → slice_get (next_threads p threads) u ≡ Some y → (z : Thread) × (slice_get threads u ≡ Some z) × Begins z y
+begun p [] u y e = absurd (cc)
+begun p (x ∷ workers) u y e = by_test (may_begin (x ∷ workers)) e
+  where
+    by_test : (b : Bool) → slice_get (if b then part_begins p x.part x workers else x ∷ workers) u ≡ Some y → (z : Thread) × (slice_get (x ∷ workers) u ≡ Some z) × Begins z y
+    by_test true e = part_begun p x.part x workers u y e
+    by_test false e = (y, e, same_thread y)
+
+-- where a part begins there is no frame
+no_frame : (c : MarkedProgram) (was : Phase) (y : Thread) → IsStructured c was y → StartsOrEnded y.phase → (is : Classes) → PhaseHolds c is y.phase y.frames
+no_frame c was y k fresh is = by_phase y.phase k.is_as fresh
+  where
+    nothing : (fs : List Frame) → fs ≡ [] → FramesHold c is fs
+    nothing fs e = subst (FramesHold c is) (sym e) tt
+
+    shown : (phase : Phase) → was ≡ phase → PhaseShows c phase y.frames k.stands.shown y.held y.attempt
+    shown phase e = subst (λ z. PhaseShows c z y.frames k.stands.shown y.held y.attempt) e k.stands.phase_shows
+
+    by_phase : (phase : Phase) → IsAs phase was → StartsOrEnded phase → PhaseHolds c is phase y.frames
+    by_phase phases.Start e fresh = nothing y.frames (shown phases.Start e)
+    by_phase (phases.Ended ends.Returned) e fresh = nothing y.frames (shown (phases.Ended ends.Returned) e)
+    by_phase phase e fresh = absurd fresh
+
+no_element : (phase : Phase) (word : ℕ) (stored : Option ℕ) → StartsOrEnded phase → phase ≡ phases.Element word stored → ⊥
+no_element phase word stored fresh e = subst StartsOrEnded e fresh
+
+no_object : (phase : Phase) (a word : ℕ) → StartsOrEnded phase → phase ≡ phases.Made a word → ⊥
+no_object phase a word fresh e = subst StartsOrEnded e fresh
+
+no_wait : (is : Classes) (phase : Phase) → StartsOrEnded phase → IsWaitOn is phase
+no_wait is phases.Start fresh = tt
+no_wait is (phases.Ended ends.Returned) fresh = tt
+no_wait is phase fresh = absurd fresh
+
+module _ (c : MarkedProgram) (objects : List Object) (was : ℕ → Phase) (s : Core) (facts : HeapFacts c objects s) (structure : Structure c was (next c s).threads) where
+  before : (u : ℕ) (y : Thread) → slice_get (next c s).threads u ≡ Some y → (z : Thread) × (slice_get s.threads u ≡ Some z) × Begins z y
+  before u y e = begun c.program s.threads u y e
+
+  made_before : (z y : Thread) (a word : ℕ) → Begins z y → y.phase ≡ phases.Made a word → z.phase ≡ phases.Made a word
+  made_before z y a word k m = by_side k.phase
+    where
+      by_side : (y.phase ≡ z.phase) ⊎ StartsOrEnded y.phase → z.phase ≡ phases.Made a word
+      by_side (inl e) = sym e ∙ m
+      by_side (inr fresh) = absurd (no_object y.phase a word fresh m)
+
+  values : (u : ℕ) (y z : Thread) → slice_get (next c s).threads u ≡ Some y → slice_get s.threads u ≡ Some z → Begins z y → ThreadHolds c (HasClass objects) y
+  values u y z e g k =
+      let typed = facts.typed.threads u z g in
+      record {
+        phase = by_side k.phase;
+        attempt = subst (λ attempt. AttemptHolds c (HasClass objects) y.frames attempt) (sym k.attempt) (subst (λ fs. AttemptHolds c (HasClass objects) fs z.attempt) (sym k.frames) typed.attempt);
+      }
+    where
+      by_side : (y.phase ≡ z.phase) ⊎ StartsOrEnded y.phase → PhaseHolds c (HasClass objects) y.phase y.frames
+      by_side (inl same) = let typed = facts.typed.threads u z g in subst (λ phase. PhaseHolds c (HasClass objects) phase y.frames) (sym same) (subst (PhaseHolds c (HasClass objects) z.phase) (sym k.frames) typed.phase)
+      by_side (inr fresh) = no_frame c (was u) y (structure u y e) fresh (HasClass objects)
+
+  element : (u : ℕ) (y z : Thread) (word : ℕ) (stored : Option ℕ) → slice_get s.threads u ≡ Some z → Begins z y → y.phase ≡ phases.Element word stored → HasElementIn objects stored y.frames
+  element u y z word stored g k m = by_side k.phase
+    where
+      by_side : (y.phase ≡ z.phase) ⊎ StartsOrEnded y.phase → HasElementIn objects stored y.frames
+      by_side (inl same) = subst (HasElementIn objects stored) (sym k.frames) (facts.typed.elements u z word stored g (sym same ∙ m))
+      by_side (inr fresh) = absurd (no_element y.phase word stored fresh m)
+
+  monitors : (u : ℕ) (y z : Thread) → slice_get s.threads u ≡ Some z → Begins z y → HoldsObjects (HasClass objects) y
+  monitors u y z g k =
+      let m = facts.monitors u z g in
+      record { held = subst (AllHeld (HasClass objects)) (sym k.held) m.held; waits = by_side k.phase }
+    where
+      by_side : (y.phase ≡ z.phase) ⊎ StartsOrEnded y.phase → IsWaitOn (HasClass objects) y.phase
+      by_side (inl same) = let m = facts.monitors u z g in subst (IsWaitOn (HasClass objects)) (sym same) m.waits
+      by_side (inr fresh) = no_wait (HasClass objects) y.phase fresh
+
+  new_object_kept : (u : ℕ) (y : Thread) (a word : ℕ) → slice_get (next c s).threads u ≡ Some y → y.phase ≡ phases.Made a word → IsNewObject c.program objects (next c s) a (size_by c.program word)
+  new_object_kept u y a word e m =
+      let b = before u y e in
+      let k = facts.new_objects.each u b.0 a word b.1 (made_before b.0 y a word b.2 m) in
+      record { begins = k.begins; below = k.below; inside = k.inside; beside = k.beside; empty = k.empty }
+
+  next_kept : HeapFacts c objects (next c s)
+  next_kept = record {
+    started = facts.started;
+    apart = facts.apart;
+    unused = record { many = facts.unused.many; empty = facts.unused.empty };
+    begins = facts.begins;
+    typed = record {
+      threads = λ u y e. let b = before u y e in values u y b.0 e b.1 b.2;
+      elements = λ u y word stored e m. let b = before u y e in element u y b.0 word stored b.1 b.2 m;
+      places = facts.typed.places;
+    };
+    new_objects = record {
+      each = new_object_kept;
+      apart = λ t u x y a b word other e f n m l.
+          let i = before t x e in
+          let j = before u y f in
+          facts.new_objects.apart t u i.0 j.0 a b word other i.1 j.1 n (made_before i.0 x a word i.2 m) (made_before j.0 y b other j.2 l);
+    };
+    headers = facts.headers;
+    new_headers = λ u y a word e m. let b = before u y e in facts.new_headers u b.0 a word b.1 (made_before b.0 y a word b.2 m);
+    monitors = λ u y e. let b = before u y e in monitors u y b.0 b.1 b.2;
+  }
+
+pub next_keeps : NextKeepsHeap
+next_keeps c objects was s facts structure = next_kept c objects was s facts structure

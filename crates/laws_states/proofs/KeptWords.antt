@@ -1,0 +1,71 @@
+-- An event keeps what stands in the words for locking, and how far the counters have come.
+use Rattle.std.proofs.Common.{◌≡◌, ℕ, ◌≤◌, List, Option, Some, None, refl, ap, sym, subst, arith}
+use Rattle.std.specs.Prelude.{slice_get}
+use Rattle.checked_program.specs.MarkedProgram.{MarkedProgram, IsMarked}
+use Rattle.machine_types.specs.Accesses.{found_by, words_after}
+use Rattle.machine_types.specs.declared.access.Access.TheVariants.{Add}
+use Rattle.machine_types.specs.Core.{Core, event_of}
+use Rattle.machine_types.specs.Events.{wanted, moved}
+use Rattle.machine_types.specs.Frames.{top_of}
+use Rattle.machine_types.specs.Lawful.{IsLawful}
+use Rattle.machine_types.specs.PlainMemory.{Object}
+use Rattle.machine_types.specs.Threads.{Thread}
+use Rattle.machine_types.specs.declared.config.Config.{Config}
+use Rattle.laws_states.specs.HeapFacts.{HeapFacts, objects_of}
+use Rattle.laws_states.specs.SiteLaws.{EventsReachSites, SitesDiffer, SitesLieInside}
+use Rattle.laws_states.specs.Counters.{CountersFit}
+use Rattle.laws_states.specs.KeptWords.{EventsKeepLocks, EventsKeepRecords, EventsKeepCounters, SumsFit}
+use Rattle.laws_states.specs.LeftWords.{LeftMayStand}
+use Rattle.laws_states.specs.RunFacts.{AreThreads}
+use Rattle.laws_states.specs.SharedWords.{LocksFit, RecordsFit}
+use Rattle.laws_states.proofs.CountedEvents.{holds_flat, event_counts}
+use Rattle.laws_states.proofs.EventWords.{phase_stores, records_fit, locks_fit, counters_grow}
+use Rattle.laws_states.proofs.LeftSmall.{adds_few}
+use Rattle.laws_states.proofs.Sums.{begun_once, drawn_now_once, sums_fit, counters_after}
+
+module _ (c : MarkedProgram) (cfg : Config) (objects : List Object) (s : Core) (t : ℕ) (marked : IsMarked c) (heap : HeapFacts c objects s) (threads : AreThreads c cfg s) where
+  module _ (x : Thread) (there : slice_get s.threads t ≡ Some x) where
+    lawful : IsLawful c x
+    lawful = threads.lawful t x there
+
+    settings : x.cfg.range ≡ cfg.range
+    settings = ap (λ (k : Config). k.range) (threads.own t x there).settings
+
+    few_threads : x.number ≤ 8
+    few_threads = omega (arith, lawful.bounded.number, marked.checked.program.workers)
+
+  module _ (differ : SitesDiffer) (inside : SitesLieInside) (reach : EventsReachSites) where
+    counters_kept : (o : Option Thread) → slice_get s.threads t ≡ o → CountersFit c.program s → CountersFit c.program (event_of c s t o)
+    counters_kept None there fit = fit
+    counters_kept (Some x) there fit =
+        let k : IsLawful c x = threads.lawful t x there in
+        let grow = counters_grow c objects s t x marked heap there k differ inside reach in
+        counters_after c.program s.threads s.words (words_after s.words (wanted c x x.phase)) t x (moved c x x.phase (found_by s.words (wanted c x x.phase))) x.phase _ there refl fit
+        (event_counts c x x.phase (found_by s.words (wanted c x x.phase)) refl (holds_flat c k.was x k.structured)) grow.free grow.tickets grow.records
+
+    module _ (leaves : LeftMayStand) where
+      locks_kept : (o : Option Thread) → slice_get s.threads t ≡ o → LocksFit cfg.range objects s.words → LocksFit cfg.range (objects_of c.program o objects) (event_of c s t o).words
+      locks_kept None there fit = fit
+      locks_kept (Some x) there fit =
+          let same = settings x there in
+          let before = subst (λ (n : ℕ). LocksFit n objects s.words) (sym same) fit in
+          subst (λ (n : ℕ). LocksFit n (objects_of c.program (Some x) objects) (words_after s.words (wanted c x x.phase))) same
+          (locks_fit c objects s t x marked heap there (threads.lawful t x there) differ inside reach leaves (few_threads x there) before)
+
+      records_kept : (o : Option Thread) → slice_get s.threads t ≡ o → RecordsFit s.words → RecordsFit (event_of c s t o).words
+      records_kept None there fit = fit
+      records_kept (Some x) there fit = records_fit c objects s t x marked heap there (threads.lawful t x there) differ inside reach leaves (few_threads x there) fit
+
+pub events_keep_locks : SitesDiffer → SitesLieInside → EventsReachSites → LeftMayStand → EventsKeepLocks
+events_keep_locks differ inside reach leaves c cfg objects s t marked heap threads = locks_kept c cfg objects s t marked heap threads differ inside reach leaves (slice_get s.threads t) refl
+
+pub events_keep_records : SitesDiffer → SitesLieInside → EventsReachSites → LeftMayStand → EventsKeepRecords
+events_keep_records differ inside reach leaves c cfg objects s t marked heap threads = records_kept c cfg objects s t marked heap threads differ inside reach leaves (slice_get s.threads t) refl
+
+pub events_keep_counters : SitesDiffer → SitesLieInside → EventsReachSites → EventsKeepCounters
+events_keep_counters differ inside reach c cfg objects s t marked heap threads = counters_kept c cfg objects s t marked heap threads differ inside reach (slice_get s.threads t) refl
+
+pub all_sums_fit : SumsFit
+all_sums_fit c cfg objects s t x word v marked width heap threads fit there wants =
+    let adds = adds_few c x x.phase (Add word v) wants (phase_stores c objects s t x marked heap there (threads.lawful t x there)) in
+    sums_fit c cfg s marked width threads fit (Add word v) _ _ (begun_once x.phase (top_of c.program x.frames)) (drawn_now_once x.phase) adds word v refl

@@ -1,0 +1,308 @@
+-- What an event leaves of a word is below 2^64, and what it adds to a counter is little.
+use Rattle.std.proofs.Common.{◌≡◌, ◌⊎◌, inl, inr, ℕ, zero, suc, ◌+◌, ◌*◌, ◌/◌, ◌%◌, ◌^◌, ◌<◌, ◌≤◌, nat_lt, nat_le, Bool, true, false, Option, Some, None, refl, subst, arith}
+use Rattle.std.specs.Prelude.{option_map, if◌then◌else◌}
+use Rattle.std.proofs.lemmas.Bool.Decides.{nat_tests}
+use Rattle.lists.proofs.ListLaws.{same_some}
+use Rattle.jvm_types.specs.declared.program.Program.{Program}
+use Rattle.jvm_types.specs.declared.program.Target.{Target}
+use Rattle.checked_program.specs.MarkedProgram.{MarkedProgram}
+use Rattle.machine_types.specs.Accesses.{accessed, left_by}
+use Rattle.machine_types.specs.declared.access.Access.{Access}
+use Rattle.machine_types.specs.declared.access.Access.TheVariants.{Load, Add}
+use Rattle.machine_types.specs.Elision.{looks}
+use Rattle.machine_types.specs.Events.{element_wants, wanted}
+use Rattle.machine_types.specs.FoundWords.{Content, Lock, Owner, Bits, Any, effect_content, run_content, leave_content, content_at}
+use Rattle.machine_types.specs.Frames.{Top, top_of, effect_at}
+use Rattle.machine_types.specs.Instructions.{has_print_left, effect_wants, run_wants}
+use Rattle.machine_types.specs.LockWords.{lock_by, is_lock_by}
+use Rattle.machine_types.specs.Monitors.{Claim, Has, Tries, HasNot, claim, enter_wants, finish_wants, leave_wants, release}
+use Rattle.machine_types.specs.Threads.{Attempt, Thread}
+use Rattle.jvm_types.specs.declared.fixed_words.TheConstants.{NEXT_FREE_WORD, NEXT_TICKET_WORD, NEXT_RECORD_WORD}
+use Rattle.machine_types.specs.declared.effect.Effect.{Effect}
+use Rattle.machine_types.specs.declared.effect.Effect.TheVariants.{Goes, Reads, Writes, Indexes, Measures, Raises, Makes, Prints, Calls}
+use Rattle.machine_types.specs.declared.lock.Kept.{Kept}
+use Rattle.machine_types.specs.declared.lock.Kept.TheVariants as keeps
+use Rattle.machine_types.specs.declared.phase.Phase.{Phase}
+use Rattle.machine_types.specs.declared.phase.Phase.TheVariants as phases
+use Rattle.laws_states.specs.Counters.{most_size}
+use Rattle.laws_states.specs.SharedWords.{CountsTo, IsLock, MayStand}
+use Rattle.laws_states.proofs.CountedEvents.{begun_by, drawn_by}
+use Rattle.laws_states.proofs.LeftStands.{leaves, no_access, loaded, looked, checked}
+use Rattle.laws_states.proofs.TopStores.{IsPlace, StoresFit}
+
+-- ---- words for locking
+
+upper_small : (range kind upper : ℕ) → range < 2 ^ 61 → is_lock_by kind upper ≡ true → CountsTo range (lock_by kind upper) → upper < 2 ^ 61
+upper_small range zero n few is counts = omega (arith, few, counts)
+upper_small range (suc zero) n few is counts = let h : n < 1024 = grind (arith, nat_tests, is) in omega (arith, h)
+upper_small range (suc (suc zero)) n few is counts = let h : n ≤ 9 = grind (arith, nat_tests, is) in omega (arith, h)
+upper_small range (suc (suc (suc kind))) n few is counts = let h : n ≤ 9 = grind (arith, nat_tests, is) in omega (arith, h)
+
+pub lock_small : (range word : ℕ) → range < 2 ^ 61 → IsLock range word → word < 2 ^ 64
+lock_small range word few h = let upper : word / 4 < 2 ^ 61 = upper_small range (word % 4) (word / 4) few h.is h.counts in omega (arith, upper)
+
+-- ---- accesses
+
+abbrev pub Small : ℕ → Type 0
+Small n = n < 2 ^ 64
+
+-- what is added has to fit
+abbrev pub SumFits : Access → (got : ℕ) → Type 0
+SumFits access got = (w v : ℕ) → Some (Add w v) ≡ Some access → got + v < 2 ^ 64
+
+module _ (s : Thread) (access : Access) (got : ℕ) (small : got < 2 ^ 64) (sum : SumFits access got) where
+  added_small : (w v : ℕ) → Some (Add w v) ≡ Some access → Small (left_by access got)
+  added_small w v e = leaves Small access got small (Add w v) e (sum w v e)
+
+  print_small : (b : Bool) → (if b then Some (Add NEXT_TICKET_WORD 1) else None) ≡ Some access → Small (left_by access got)
+  print_small true e = added_small NEXT_TICKET_WORD 1 e
+  print_small false e = no_access Small access got small e
+
+  effect_small : (p : Program) (target : Target) (pc : ℕ) (e : Effect) → StoresFit p target e → effect_wants s pc e ≡ Some access → Small (left_by access got)
+  effect_small p target pc (Goes to made) fits w = checked Small access got small (nat_le to pc) s.attempt w
+  effect_small p target pc (Calls number) fits w = looked Small access got small s.attempt w
+  effect_small p target pc (Reads v) fits w = loaded Small access got small _ w
+  effect_small p target pc (Writes v word) fits w = leaves Small access got small _ w fits.1
+  effect_small p target pc (Indexes array index stored) fits w = loaded Small access got small _ w
+  effect_small p target pc (Measures array) fits w = loaded Small access got small _ w
+  effect_small p target pc (Raises x) fits w = loaded Small access got small _ w
+  effect_small p target pc (Makes word size) fits w = added_small NEXT_FREE_WORD size w
+  effect_small p target pc (Prints n) fits w = print_small (has_print_left s) w
+  effect_small p target pc e fits w = no_access Small access got small w
+
+  run_small : (p : Program) (at : Option Top) → ((x : Top) → at ≡ Some x → StoresFit p x.target (effect_at p x)) → run_wants p s at ≡ Some access → Small (left_by access got)
+  run_small p None fits w = no_access Small access got small w
+  run_small p (Some at) fits w = effect_small p at.target at.frame.pc (effect_at p at) (fits at refl) w
+
+  element_small : (word : ℕ) (stored : Option ℕ) → ((v : ℕ) → stored ≡ Some v → v < 2 ^ 64) → Some (element_wants word stored) ≡ Some access → Small (left_by access got)
+  element_small word None fits w = loaded Small access got small word w
+  element_small word (Some v) fits w = leaves Small access got small _ w (fits v refl)
+
+-- what a phase stores fits a word
+abbrev pub PhaseStores : MarkedProgram → Thread → Phase → Type 0
+PhaseStores c s phases.Run = (at : Top) → top_of c.program s.frames ≡ Some at → StoresFit c.program at.target (effect_at c.program at)
+PhaseStores c s (phases.Element word stored) = (v : ℕ) → stored ≡ Some v → v < 2 ^ 64
+PhaseStores c s (phases.Made a word) = word < 2 ^ 64
+PhaseStores c s phase = Unit {0}
+
+abbrev pub IsLocking : Content → Type 0
+IsLocking Lock = Unit {0}
+IsLocking Owner = Unit {0}
+IsLocking Bits = Unit {0}
+IsLocking content = ⊥
+
+may_small : (range n : ℕ) (content : Content) → range < 2 ^ 61 → IsLocking content → MayStand range content n → n < 2 ^ 64
+may_small range n Lock few is h = lock_small range n few h
+may_small range n Owner few is h = omega (arith, h)
+may_small range n Bits few is h = omega (arith, h)
+may_small range n content few is h = absurd is
+
+-- the phases whose access is of a word for locking
+abbrev pub IsLockingPhase : Phase → Type 0
+IsLockingPhase phases.Idle = ⊥
+IsLockingPhase phases.Start = ⊥
+IsLockingPhase phases.Run = ⊥
+IsLockingPhase (phases.Element word stored) = ⊥
+IsLockingPhase (phases.Made a word) = ⊥
+IsLockingPhase (phases.Grow m toward) = ⊥
+IsLockingPhase (phases.Ending e) = ⊥
+IsLockingPhase (phases.Ended e) = ⊥
+IsLockingPhase phase = Unit {0}
+
+leave_is_locking : (claimed : Claim) → IsLocking (leave_content claimed)
+leave_is_locking (Has h) = by_kept h.kept
+  where
+    by_kept : (k : Kept) → IsLocking (leave_content (Has (record h { kept = k })))
+    by_kept (keeps.Flat n) = tt
+    by_kept (keeps.Fat r) = tt
+leave_is_locking (Tries a) = tt
+leave_is_locking HasNot = tt
+
+pub content_is_locking : (c : MarkedProgram) (s : Thread) (phase : Phase) → IsLockingPhase phase → IsLocking (content_at c s phase)
+content_is_locking c s phases.Idle is = absurd is
+content_is_locking c s phases.Start is = absurd is
+content_is_locking c s phases.Run is = absurd is
+content_is_locking c s (phases.Element word stored) is = absurd is
+content_is_locking c s (phases.Made a word) is = absurd is
+content_is_locking c s (phases.Grow m toward) is = absurd is
+content_is_locking c s (phases.Ending e) is = absurd is
+content_is_locking c s (phases.Ended e) is = absurd is
+content_is_locking c s (phases.Leave m a) is = leave_is_locking (claim s m)
+content_is_locking c s phase is = tt
+
+-- where a word for locking is left as one
+pub left_small : (c : MarkedProgram) (s : Thread) (phase : Phase) (access : Access) (got : ℕ) → s.cfg.range < 2 ^ 61 → wanted c s phase ≡ Some access → Small got → SumFits access got → PhaseStores c s phase
+    → MayStand s.cfg.range (content_at c s phase) (left_by access got) → Small (left_by access got)
+left_small c s phases.Idle access got few w small sum fits left = no_access Small access got small w
+left_small c s phases.Start access got few w small sum fits left = no_access Small access got small w
+left_small c s phases.Run access got few w small sum fits left = run_small s access got small sum c.program (top_of c.program s.frames) fits w
+left_small c s (phases.Element word stored) access got few w small sum fits left = element_small s access got small sum word stored fits w
+left_small c s (phases.Made a word) access got few w small sum fits left = leaves Small access got small _ w fits
+left_small c s (phases.Grow m toward) access got few w small sum fits left = added_small s access got small sum NEXT_RECORD_WORD 1 w
+left_small c s (phases.Ending e) access got few w small sum fits left = leaves Small access got small _ w small
+left_small c s (phases.Ended e) access got few w small sum fits left = no_access Small access got small w
+left_small c s phase access got few w small sum fits left = may_small s.cfg.range (left_by access got) (content_at c s phase) few (content_is_locking c s phase tt) left
+
+-- ---- what is added
+
+abbrev pub added : Access → ℕ
+added (Add w v) = v
+added access = 0
+
+-- only counters are added to
+abbrev pub IsCounted : Access → Type 0
+IsCounted (Add w v) = (w ≡ NEXT_FREE_WORD) ⊎ (w ≡ NEXT_TICKET_WORD) ⊎ (w ≡ NEXT_RECORD_WORD)
+IsCounted access = Unit {0}
+
+pub record AddsFew (access : Access) (began drew : ℕ) : Type 0 where
+  pub counted : IsCounted access
+  pub free : accessed access ≡ NEXT_FREE_WORD → added access ≤ most_size * began
+  pub tickets : accessed access ≡ NEXT_TICKET_WORD → added access ≤ began
+  pub records : accessed access ≡ NEXT_RECORD_WORD → added access ≤ drew
+
+module _ (access : Access) (began drew : ℕ) where
+  by_access : (a : Access) → Some a ≡ Some access → AddsFew a began drew → AddsFew access began drew
+  by_access a e h = subst (λ (x : Access). AddsFew x began drew) (same_some e) h
+
+  no_sum : (a : Access) → Some a ≡ Some access → added a ≡ 0 → IsCounted a → AddsFew access began drew
+  no_sum a e none is = by_access a e (record { counted = is; free = λ k. omega (arith, none); tickets = λ k. omega (arith, none); records = λ k. omega (arith, none) })
+
+  none : None ≡ Some access → AddsFew access began drew
+  none e = absurd (cc)
+
+  looks_adds : (a : Option Attempt) → looks a ≡ Some access → AddsFew access began drew
+  looks_adds None e = none e
+  looks_adds (Some a) e = no_sum _ e refl tt
+
+  checked_adds : (b : Bool) (a : Option Attempt) → (if b then looks a else None) ≡ Some access → AddsFew access began drew
+  checked_adds true a e = looks_adds a e
+  checked_adds false a e = none e
+
+effect_adds : (p : Program) (target : Target) (s : Thread) (access : Access) (pc : ℕ) (e : Effect) → StoresFit p target e → effect_wants s pc e ≡ Some access → AddsFew access 1 0
+effect_adds p target s access pc (Goes to made) fits w = checked_adds access 1 0 (nat_le to pc) s.attempt w
+effect_adds p target s access pc (Calls number) fits w = looks_adds access 1 0 s.attempt w
+effect_adds p target s access pc (Reads v) fits w = no_sum access 1 0 _ w refl tt
+effect_adds p target s access pc (Writes v word) fits w = no_sum access 1 0 _ w refl tt
+effect_adds p target s access pc (Indexes array index stored) fits w = no_sum access 1 0 _ w refl tt
+effect_adds p target s access pc (Measures array) fits w = no_sum access 1 0 _ w refl tt
+effect_adds p target s access pc (Raises x) fits w = no_sum access 1 0 _ w refl tt
+effect_adds p target s access pc (Makes word size) fits w = by_access access 1 0 _ w (record { counted = inl refl; free = λ k. omega (arith, fits); tickets = λ k. absurd (omega (arith, k)); records = λ k. absurd (omega (arith, k)) })
+effect_adds p target s access pc (Prints n) fits w = by_limit (has_print_left s) w
+  where
+    by_limit : (b : Bool) → (if b then Some (Add NEXT_TICKET_WORD 1) else None) ≡ Some access → AddsFew access 1 0
+    by_limit true w = by_access access 1 0 _ w (record { counted = inr (inl refl); free = λ k. absurd (omega (arith, k)); tickets = λ k. omega arith; records = λ k. absurd (omega (arith, k)) })
+    by_limit false w = none access 1 0 w
+effect_adds p target s access pc e fits w = none access 1 0 w
+
+leave_adds : (s : Thread) (m : ℕ) (access : Access) (claimed : Claim) → leave_wants s m claimed ≡ Some access → AddsFew access 0 0
+leave_adds s m access (Has h) w = by_depth (nat_lt 1 h.depth) w
+  where
+    by_kept : (k : Kept) → Some (release s m k) ≡ Some access → AddsFew access 0 0
+    by_kept (keeps.Flat n) w = no_sum access 0 0 _ w refl tt
+    by_kept (keeps.Fat r) w = no_sum access 0 0 _ w refl tt
+
+    by_depth : (b : Bool) → (if b then None else Some (release s m h.kept)) ≡ Some access → AddsFew access 0 0
+    by_depth true w = none access 0 0 w
+    by_depth false w = by_kept h.kept w
+leave_adds s m access (Tries a) w = by_inner a.inner w
+  where
+    by_inner : (inner : ℕ) → finish_wants m inner ≡ Some access → AddsFew access 0 0
+    by_inner zero w = no_sum access 0 0 _ w refl tt
+    by_inner (suc inner) w = none access 0 0 w
+leave_adds s m access HasNot w = none access 0 0 w
+
+enter_adds : (m : ℕ) (access : Access) (claimed : Claim) → enter_wants m claimed ≡ Some access → AddsFew access 0 0
+enter_adds m access (Has h) w = none access 0 0 w
+enter_adds m access (Tries a) w = none access 0 0 w
+enter_adds m access HasNot w = no_sum access 0 0 _ w refl tt
+
+element_adds : (word : ℕ) (access : Access) (stored : Option ℕ) → Some (element_wants word stored) ≡ Some access → AddsFew access 0 0
+element_adds word access None w = no_sum access 0 0 _ w refl tt
+element_adds word access (Some v) w = no_sum access 0 0 _ w refl tt
+
+pub adds_few : (c : MarkedProgram) (s : Thread) (phase : Phase) (access : Access) → wanted c s phase ≡ Some access → PhaseStores c s phase → AddsFew access (begun_by phase (top_of c.program s.frames)) (drawn_by phase)
+adds_few c s phases.Run access w fits = by_top (top_of c.program s.frames) fits w
+  where
+    by_top : (at : Option Top) → ((x : Top) → at ≡ Some x → StoresFit c.program x.target (effect_at c.program x)) → run_wants c.program s at ≡ Some access → AddsFew access (begun_by phases.Run at) 0
+    by_top None fits w = none access 0 0 w
+    by_top (Some at) fits w = effect_adds c.program at.target s access at.frame.pc (effect_at c.program at) (fits at refl) w
+adds_few c s (phases.Element word stored) access w fits = element_adds word access stored w
+adds_few c s (phases.Made a word) access w fits = no_sum access 0 0 _ w refl tt
+adds_few c s (phases.Throw x class) access w fits = looks_adds access 0 0 s.attempt w
+adds_few c s (phases.Enter m n) access w fits = enter_adds m access (claim s m) w
+adds_few c s (phases.Acquire m) access w fits = no_sum access 0 0 _ w refl tt
+adds_few c s (phases.Take m n) access w fits = no_sum access 0 0 _ w refl tt
+adds_few c s (phases.Flag m u) access w fits = no_sum access 0 0 _ w refl tt
+adds_few c s (phases.TakeFat m r) access w fits = no_sum access 0 0 _ w refl tt
+adds_few c s (phases.Leave m a) access w fits = leave_adds s m access (claim s m) w
+adds_few c s (phases.Grow m toward) access w fits = by_access access 0 1 _ w (record { counted = inr (inr refl); free = λ k. absurd (omega (arith, k)); tickets = λ k. absurd (omega (arith, k)); records = λ k. omega arith })
+adds_few c s (phases.FlatOut m a) access w fits = no_sum access 0 0 _ w refl tt
+adds_few c s (phases.Own m r toward) access w fits = no_sum access 0 0 _ w refl tt
+adds_few c s (phases.FatIn m r toward) access w fits = no_sum access 0 0 _ w refl tt
+adds_few c s (phases.WaitBit m r) access w fits = no_sum access 0 0 _ w refl tt
+adds_few c s (phases.WaitOut m r) access w fits = no_sum access 0 0 _ w refl tt
+adds_few c s (phases.WaitLook m r depth) access w fits = no_sum access 0 0 _ w refl tt
+adds_few c s (phases.Retake m r depth) access w fits = no_sum access 0 0 _ w refl tt
+adds_few c s (phases.NotifyLook m r) access w fits = no_sum access 0 0 _ w refl tt
+adds_few c s (phases.NotifyOne m r u) access w fits = no_sum access 0 0 _ w refl tt
+adds_few c s (phases.NotifyAll m r) access w fits = no_sum access 0 0 _ w refl tt
+adds_few c s (phases.Ending e) access w fits = no_sum access 0 0 _ w refl tt
+adds_few c s phase access w fits = absurd (cc)
+
+-- ---- a counter is only added to
+
+abbrev pub OnlyAdds : Access → (got : ℕ) → Type 0
+OnlyAdds access got = left_by access got ≤ got + added access
+
+module _ (access : Access) (got : ℕ) where
+  adds_by : (a : Access) → Some a ≡ Some access → left_by a got ≤ got + added a → OnlyAdds access got
+  adds_by a e h = subst (λ (x : Access). left_by x got ≤ got + added x) (same_some e) h
+
+  nowhere : None ≡ Some access → OnlyAdds access got
+  nowhere e = absurd (cc)
+
+  option_adds : (read : Option ℕ) → option_map Load read ≡ Some access → OnlyAdds access got
+  option_adds None w = nowhere w
+  option_adds (Some word) w = adds_by (Load word) w (omega arith)
+
+not_place : (content : Content) → content ≡ Any → IsPlace content → ⊥
+not_place content e is = subst IsPlace e is
+
+not_locking : (content : Content) → content ≡ Any → IsLocking content → ⊥
+not_locking content e is = subst IsLocking e is
+
+abbrev pub IsMade : Phase → Type 0
+IsMade (phases.Made a word) = Unit {0}
+IsMade phase = ⊥
+
+effect_only_adds : (p : Program) (target : Target) (s : Thread) (access : Access) (got pc : ℕ) (e : Effect) → StoresFit p target e → effect_wants s pc e ≡ Some access → effect_content p target e ≡ Any → OnlyAdds access got
+effect_only_adds p target s access got pc (Goes to made) fits w any = absurd (not_locking Lock any tt)
+effect_only_adds p target s access got pc (Calls number) fits w any = absurd (not_locking Lock any tt)
+effect_only_adds p target s access got pc (Writes v word) fits w any = absurd (not_place (effect_content p target (Writes v word)) any fits.0)
+effect_only_adds p target s access got pc (Makes word size) fits w any = adds_by access got _ w (omega arith)
+effect_only_adds p target s access got pc (Prints n) fits w any = by_limit (has_print_left s) w
+  where
+    by_limit : (b : Bool) → (if b then Some (Add NEXT_TICKET_WORD 1) else None) ≡ Some access → OnlyAdds access got
+    by_limit true w = adds_by access got _ w (omega arith)
+    by_limit false w = nowhere access got w
+effect_only_adds p target s access got pc (Reads v) fits w any = adds_by access got _ w (omega arith)
+effect_only_adds p target s access got pc (Indexes array index stored) fits w any = adds_by access got _ w (omega arith)
+effect_only_adds p target s access got pc (Measures array) fits w any = adds_by access got _ w (omega arith)
+effect_only_adds p target s access got pc (Raises x) fits w any = adds_by access got _ w (omega arith)
+effect_only_adds p target s access got pc e fits w any = nowhere access got w
+
+-- but where a header is stored for the first time
+pub only_adds : (c : MarkedProgram) (s : Thread) (phase : Phase) (access : Access) (got : ℕ) → wanted c s phase ≡ Some access → PhaseStores c s phase → content_at c s phase ≡ Any → (IsMade phase → ⊥) → OnlyAdds access got
+only_adds c s phases.Idle access got w fits any not_made = nowhere access got w
+only_adds c s phases.Start access got w fits any not_made = nowhere access got w
+only_adds c s phases.Run access got w fits any not_made = by_top (top_of c.program s.frames) fits w any
+  where
+    by_top : (at : Option Top) → ((x : Top) → at ≡ Some x → StoresFit c.program x.target (effect_at c.program x)) → run_wants c.program s at ≡ Some access → run_content c.program at ≡ Any → OnlyAdds access got
+    by_top None fits w any = nowhere access got w
+    by_top (Some at) fits w any = effect_only_adds c.program at.target s access got at.frame.pc (effect_at c.program at) (fits at refl) w any
+only_adds c s (phases.Element word stored) access got w fits any not_made = absurd (not_place _ any tt)
+only_adds c s (phases.Made a word) access got w fits any not_made = absurd (not_made tt)
+only_adds c s (phases.Grow m toward) access got w fits any not_made = adds_by access got _ w (omega arith)
+only_adds c s (phases.Ending e) access got w fits any not_made = adds_by access got _ w (omega arith)
+only_adds c s (phases.Ended e) access got w fits any not_made = nowhere access got w
+only_adds c s phase access got w fits any not_made = absurd (not_locking (content_at c s phase) any (content_is_locking c s phase tt))

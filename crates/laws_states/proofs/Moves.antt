@@ -1,0 +1,111 @@
+-- A thread that has moved holds values of the types of verification, by the objects that are there then.
+use Rattle.std.proofs.Common.{◌≡◌, ℕ, List, [], Option, Some, None, refl, subst, ◌∙◌, arith}
+use Rattle.std.specs.Prelude.{Contains, slice_get}
+use Rattle.jvm_types.specs.declared.outcome.Thrown.{Thrown}
+use Rattle.jvm_types.specs.declared.outcome.Thrown.TheVariants as thrown
+use Rattle.jvm_types.specs.declared.class_numbers.TheConstants.{PRINT_STREAM_CLASS}
+use Rattle.checked_program.specs.MarkedProgram.{MarkedProgram, IsMarked}
+use Rattle.machine_types.specs.Accesses.{found_by}
+use Rattle.machine_types.specs.Core.{Core}
+use Rattle.machine_types.specs.Events.{wanted, moved}
+use Rattle.machine_types.specs.Lawful.{IsLawful}
+use Rattle.machine_types.specs.ObjectsApart.{LieApart}
+use Rattle.machine_types.specs.PlainMemory.{Object, start_objects, start_statics}
+use Rattle.machine_types.specs.ReadyObjects.{ready, class_of, out_object}
+use Rattle.machine_types.specs.Structure.{IsAs, Stands, PhaseShows, AttemptStandsIn}
+use Rattle.machine_types.specs.Threads.{Frame, Attempt, Thread}
+use Rattle.machine_types.specs.Typed.{Classes, HasClass, PhaseHolds, ThreadHolds}
+use Rattle.machine_types.specs.declared.lock.Held.{Held}
+use Rattle.machine_types.specs.declared.phase.Phase.{Phase}
+use Rattle.machine_types.specs.declared.phase.Phase.TheVariants as phases
+use Rattle.laws_threads.specs.StructureLaws.{StructureIsKept, counted_by}
+use Rattle.laws_threads.specs.Allowed.{IsByMachine}
+use Rattle.laws_threads.proofs.KeptPhases.{NeedsShown, PhaseFinds, StartTyped, moved_typed}
+use Rattle.laws_threads.proofs.Onwards.{HasObjects}
+use Rattle.laws_threads.proofs.Roots.{starts_typed}
+use Rattle.laws_threads.proofs.ThreadTypes.{IsBasedIn, Rests, TypedBy}
+use Rattle.laws_states.specs.HeapFacts.{HeapFacts}
+use Rattle.laws_states.proofs.Lists.{contained_got, got_contains}
+use Rattle.laws_states.proofs.Accesses.{out_there, element_site}
+use Rattle.laws_states.proofs.Found.{run_finds, element_found}
+use Rattle.laws_states.proofs.Phases.{IsOldPhase, Asks, asked}
+
+-- ---- the objects that are there from the start
+
+module _ (c : MarkedProgram) (marked : IsMarked c) (objects : List Object) (s : Core) (facts : HeapFacts c objects s) where
+  ready_at : (x : Thrown) (i : ℕ) → slice_get (start_objects c.program) i ≡ Some (record { reference = ready x; class = class_of x; values = [] }) → HasClass objects (class_of x) (ready x)
+  ready_at x i e = facts.started (record { reference = ready x; class = class_of x; values = [] }) (got_contains (start_objects c.program) i (record { reference = ready x; class = class_of x; values = [] }) e)
+
+  ready_there : (x : Thrown) → IsByMachine x → HasClass objects (class_of x) (ready x)
+  ready_there thrown.Throwable own = absurd own
+  ready_there thrown.Exception own = absurd own
+  ready_there thrown.Error own = absurd own
+  ready_there thrown.RuntimeException own = absurd own
+  ready_there thrown.InterruptedException own = absurd own
+  ready_there thrown.ArithmeticException own = ready_at thrown.ArithmeticException 0 refl
+  ready_there thrown.NullPointerException own = ready_at thrown.NullPointerException 1 refl
+  ready_there thrown.ArrayIndexOutOfBoundsException own = ready_at thrown.ArrayIndexOutOfBoundsException 2 refl
+  ready_there thrown.NegativeArraySizeException own = ready_at thrown.NegativeArraySizeException 3 refl
+  ready_there thrown.IllegalMonitorStateException own = ready_at thrown.IllegalMonitorStateException 4 refl
+  ready_there thrown.OutOfMemoryError own = ready_at thrown.OutOfMemoryError 5 refl
+  ready_there thrown.StackOverflowError own = ready_at thrown.StackOverflowError 6 refl
+
+  pub has_objects : (later : List Object) (next : ℕ) → ((o : Object) → Contains objects o → Contains later o) → LieApart c.program later (start_statics c.program) next → HasObjects c.program (HasClass later)
+  has_objects later next up apart = record {
+    out = lifted PRINT_STREAM_CLASS out_object (out_there c marked objects s facts);
+    ready = λ x own. lifted (class_of x) (ready x) (ready_there x own);
+    inside = λ class v k. omega (arith, apart.inside k.1.0 k.0 (contained_got later k.0 k.1), k.2);
+  }
+    where
+      lifted : (class v : ℕ) → HasClass objects class v → HasClass later class v
+      lifted class v k = (k.0, up k.0 k.1, k.2, k.3)
+
+  -- ---- what an event finds, but where it stores a header
+
+  module _ (t : ℕ) (x : Thread) (there : slice_get s.threads t ≡ Some x) (lawful : IsLawful c x) where
+    pub old_finds : (phase : Phase) → x.phase ≡ phase → IsOldPhase phase → PhaseHolds c (HasClass objects) phase x.frames → PhaseFinds c (HasClass objects) phase x.frames (found_by s.words (wanted c x phase))
+    old_finds phases.Run e old h = run_finds c marked objects s facts x x.frames h
+    old_finds (phases.Element word stored) e old h =
+        let k : Asks c objects (phases.Element word stored) x.frames x.held = asked c objects lawful.was x.frames x.held x.attempt lawful.structured.stands (phases.Element word stored)
+        (subst (λ y. IsAs y lawful.was) e lawful.structured.is_as) (λ w v g. facts.typed.elements t x w v there (e ∙ g)) in
+        element_found c marked objects s facts word stored (element_site c marked objects s facts word stored x.frames h.0 h.1 k.0 k.1)
+    old_finds (phases.Made a word) e old h = absurd old
+    old_finds phase e old h = tt
+
+-- ---- the thread
+
+based_in : (c : MarkedProgram) (was : Phase) (fs : List Frame) (held : List Held) (attempt : Option Attempt) → AttemptStandsIn c was fs held attempt → IsBasedIn fs attempt
+based_in c was fs held None h = tt
+based_in c was fs held (Some a) h = h.based
+
+needs_shown : (c : MarkedProgram) (was phase : Phase) (fs : List Frame) (held : List Held) (attempt : Option Attempt) → IsAs phase was → Stands c was fs held attempt → NeedsShown c phase fs
+needs_shown c was phases.Start fs held attempt e k = subst (λ x. PhaseShows c x fs k.shown held attempt) e k.phase_shows
+needs_shown c was (phases.Element word stored) fs held attempt e k = subst (λ x. PhaseShows c x fs k.shown held attempt) e k.phase_shows
+needs_shown c was (phases.Throw x class) fs held attempt e k = subst (λ x. PhaseShows c x fs k.shown held attempt) e k.phase_shows
+needs_shown c was (phases.Leave m a) fs held attempt e k = subst (λ x. PhaseShows c x fs k.shown held attempt) e k.phase_shows
+needs_shown c was (phases.FlatOut m a) fs held attempt e k =
+    let grown : PhaseShows c (phases.FlatOut m a) fs k.shown held attempt = subst (λ x. PhaseShows c x fs k.shown held attempt) e k.phase_shows in
+    grown.toward_shows
+needs_shown c was phase fs held attempt e k = tt
+
+module _ (keeps : StructureIsKept) (c : MarkedProgram) (marked : IsMarked c) (is : Classes) (has : HasObjects c.program is) (x : Thread) (lawful : IsLawful c x) (values : ThreadHolds c is x) where
+  stays : TypedBy c is x
+  stays = record { values = values; new = lawful.typed.new; receivers = lawful.typed.receivers; entry = lawful.typed.entry }
+
+  rests : Rests c is x
+  rests = record { attempt = values.attempt; inside = lawful.typed.receivers; entry = lawful.typed.entry }
+
+  based : IsBasedIn x.frames x.attempt
+  based = based_in c lawful.was x.frames x.held x.attempt lawful.structured.attempt
+
+  starts : (phase : Phase) → NeedsShown c phase x.frames → StartTyped c is x phase
+  starts phases.Start shows = λ new. starts_typed c marked is x x.roots shows (omega (arith, lawful.bounded.number, marked.checked.program.workers)) lawful.rooted.roots stays rests based new
+  starts phase shows = tt
+
+  pub moved_values : (got : ℕ) → PhaseFinds c is x.phase x.frames got → ThreadHolds c is (moved c x x.phase got)
+  moved_values got finds =
+      let after = keeps c lawful.was x got marked lawful.structured lawful.typed lawful.rooted in
+      let new = based_in c (counted_by lawful.was (moved c x x.phase got).phase) (moved c x x.phase got).frames (moved c x x.phase got).held (moved c x x.phase got).attempt after.attempt in
+      let shows = needs_shown c lawful.was x.phase x.frames x.held x.attempt lawful.structured.is_as lawful.structured.stands in
+      let t = moved_typed c marked is has x stays rests based x.phase got (starts x.phase shows) values.phase shows finds new in
+      t.values

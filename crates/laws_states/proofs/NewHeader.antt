@@ -1,0 +1,240 @@
+-- The event that stores the header of a new object: from then on the object is there.
+use Rattle.std.proofs.Common.{◌≡◌, ◌≢◌, ◌⊎◌, inl, inr, ℕ, zero, suc, ◌+◌, ◌-◌, ◌<◌, ◌≤◌, ◌^◌, Bool, true, false, List, ◌∷◌, length, Some, refl, ap, sym, subst, ◌∙◌, arith}
+use Rattle.std.specs.Prelude.{◌==◌, Contains, replicate, slice_get, slice_index, slice_set, if◌then◌else◌}
+use Rattle.std.proofs.lemmas.Bool.Decides.{nat_tests}
+use Rattle.std.proofs.lemmas.List.{length-replicate, length-set}
+use Rattle.lists.proofs.ListLaws.{same_some}
+use Rattle.jvm_types.specs.Members.{is_static}
+use Rattle.jvm_types.specs.ProgramInvariant.{IsProgram, instances_among}
+use Rattle.jvm_types.specs.declared.class_numbers.TheConstants.{INT_ARRAY_CLASS}
+use Rattle.jvm_types.specs.declared.fixed_words.TheConstants.{OBJECT_HEAD_WORDS, FIRST_READY_WORD, NEXT_FREE_WORD}
+use Rattle.jvm_types.specs.declared.program.FieldInfo.{FieldInfo}
+use Rattle.jvm_types.specs.declared.program.Kind.{Kind}
+use Rattle.jvm_types.specs.declared.program.Kind.TheVariants as kinds
+use Rattle.laws_programs.proofs.FieldOrder.{instances_inside, statics_inside}
+use Rattle.checked_program.specs.MarkedProgram.{MarkedProgram, IsMarked}
+use Rattle.machine_types.specs.Core.{Core}
+use Rattle.machine_types.specs.FoundWords.{IsHeader}
+use Rattle.machine_types.specs.NewObjects.{size_by, IsNewObject}
+use Rattle.machine_types.specs.ObjectsApart.{IsBeside, IsOutside, LieApart}
+use Rattle.machine_types.specs.PlainMemory.{Object, StaticValue, object_end, header_of, new_object, start_statics}
+use Rattle.machine_types.specs.StartLaws.{StartLiesApart}
+use Rattle.machine_types.specs.Threads.{Thread}
+use Rattle.machine_types.specs.Typed.{Classes, KindHolds, HasClass, PlacesHold}
+use Rattle.machine_types.specs.Words.{header_class, header_length, header_word, value_word, object_size, array_size}
+use Rattle.machine_types.specs.declared.phase.Phase.TheVariants as phases
+use Rattle.laws_states.specs.HeapFacts.{HeapFacts}
+use Rattle.laws_states.proofs.Lists.{contained_got, got_contains, contains_more, contains_first, set_here, set_there}
+use Rattle.laws_states.proofs.Sites.{two_at_least, static_low}
+use Rattle.laws_states.proofs.Headers.{new_header}
+use Rattle.laws_states.proofs.Lifted.{kind_up}
+use Rattle.laws_states.proofs.Assembled.{Behind}
+
+-- null, 0 and false
+zero_holds : (is : Classes) (kind : Kind) (v : ℕ) → v ≡ 0 → KindHolds is kind v
+zero_holds is kinds.Int v e = omega (arith, e)
+zero_holds is kinds.Bool v e = omega (arith, e)
+zero_holds is (kinds.Ref class) v e = inl e
+
+module _ (lies : StartLiesApart) (c : MarkedProgram) (marked : IsMarked c) (objects : List Object) (s : Core) (facts : HeapFacts c objects s) (t : ℕ) (x : Thread) (there : slice_get s.threads t ≡ Some x) (a word : ℕ) (made : x.phase ≡ phases.Made a word) where
+  is_program : IsProgram c.program
+  is_program = marked.checked.program
+
+  abbrev new : Object
+  new = new_object a word (size_by c.program word)
+
+  abbrev later : List Object
+  later = new_object a word (size_by c.program word) ∷ objects
+
+  abbrev after : List ℕ
+  after = slice_set s.words (header_word a) word
+
+  k : IsNewObject c.program objects s a (size_by c.program word)
+  k = facts.new_objects.each t x a word there made
+
+  header : IsHeader c.program word
+  header = facts.new_headers t x a word there made
+
+  long : length new.values ≡ size_by c.program word - OBJECT_HEAD_WORDS
+  long = length-replicate {A = ℕ} (size_by c.program word - OBJECT_HEAD_WORDS) 0
+
+  ends : object_end new ≡ a + size_by c.program word
+  ends = omega (arith, long, two_at_least c.program word)
+
+  unchanged : (n : ℕ) → n ≢ header_word a → slice_index after n ≡ slice_index s.words n
+  unchanged n differ = set_there s.words (header_word a) n word differ
+
+  -- ---- the object lies apart
+
+  beside_new : (e : Object) → Contains objects e → IsBeside new e
+  beside_new e l = by_side (k.beside e l)
+    where
+      by_side : (object_end e ≤ a) ⊎ (a + size_by c.program word ≤ e.reference) → IsBeside new e
+      by_side (inl h) = inr h
+      by_side (inr h) = inl (omega (arith, h, ends))
+
+  turned : (o e : Object) → IsBeside o e → IsBeside e o
+  turned o e (inl h) = inr h
+  turned o e (inr h) = inl h
+
+  sized_new : new.class ≢ INT_ARRAY_CLASS → length new.values ≡ instances_among new.class c.program.fields
+  sized_new other = by_test (header_class word == INT_ARRAY_CLASS) refl
+    where
+      by_test : (b : Bool) → (header_class word == INT_ARRAY_CLASS) ≡ b
+          → length {A = ℕ} (replicate ((if b then array_size (header_length word) else object_size c.program (header_class word)) - OBJECT_HEAD_WORDS) 0) ≡ instances_among (header_class word) c.program.fields
+      by_test true e = absurd (other (grind (arith, nat_tests, e)))
+      by_test false e = length-replicate {A = ℕ} (object_size c.program (header_class word) - OBJECT_HEAD_WORDS) 0 ∙ omega arith
+
+  outside_new : (v : StaticValue) (j : ℕ) → slice_get (start_statics c.program) j ≡ Some v → IsOutside new v.word
+  outside_new v j e = inl (omega (arith, (static_low lies c objects s marked facts v.word (v, got_contains (start_statics c.program) j v e, refl)).1, k.begins))
+
+  -- of the first one of the objects
+  first : (P : Object → Type 0) (o : Object) → slice_get later 0 ≡ Some o → P new → P o
+  first P o e h = subst P (same_some e) h
+
+  apart_new : LieApart c.program later (start_statics c.program) (slice_index s.words NEXT_FREE_WORD)
+  apart_new = record {
+    beside = beside;
+    differ = facts.apart.differ;
+    mixed = mixed;
+    begin = begin;
+    below = below;
+    inside = inside;
+    sized = sized;
+    statics_begin = facts.apart.statics_begin;
+    statics_below = facts.apart.statics_below;
+    there = facts.apart.there;
+  }
+    where
+      beside : (i j : ℕ) (o e : Object) → slice_get later i ≡ Some o → slice_get later j ≡ Some e → i ≢ j → IsBeside o e
+      beside zero zero o e g h n = absurd (n refl)
+      beside zero (suc j) o e g h n = first (λ z. IsBeside z e) o g (beside_new e (got_contains objects j e h))
+      beside (suc i) zero o e g h n = first (λ z. IsBeside o z) e h (turned new o (beside_new o (got_contains objects i o g)))
+      beside (suc i) (suc j) o e g h n = facts.apart.beside i j o e g h (λ same. n (ap suc same))
+
+      mixed : (i j : ℕ) (o : Object) (v : StaticValue) → slice_get later i ≡ Some o → slice_get (start_statics c.program) j ≡ Some v → IsOutside o v.word
+      mixed zero j o v g h = first (λ z. IsOutside z v.word) o g (outside_new v j h)
+      mixed (suc i) j o v g h = facts.apart.mixed i j o v g h
+
+      begin : (i : ℕ) (o : Object) → slice_get later i ≡ Some o → FIRST_READY_WORD ≤ o.reference
+      begin zero o g = first (λ z. FIRST_READY_WORD ≤ z.reference) o g (omega (arith, k.begins))
+      begin (suc i) o g = facts.apart.begin i o g
+
+      below : (i : ℕ) (o : Object) → slice_get later i ≡ Some o → object_end o ≤ slice_index s.words NEXT_FREE_WORD
+      below zero o g = first (λ z. object_end z ≤ slice_index s.words NEXT_FREE_WORD) o g (omega (arith, k.below, ends))
+      below (suc i) o g = facts.apart.below i o g
+
+      inside : (i : ℕ) (o : Object) → slice_get later i ≡ Some o → object_end o ≤ c.program.heap
+      inside zero o g = first (λ z. object_end z ≤ c.program.heap) o g (omega (arith, k.inside, ends))
+      inside (suc i) o g = facts.apart.inside i o g
+
+      sized : (i : ℕ) (o : Object) → slice_get later i ≡ Some o → o.class ≢ INT_ARRAY_CLASS → length o.values ≡ instances_among o.class c.program.fields
+      sized zero o g = first (λ z. z.class ≢ INT_ARRAY_CLASS → length z.values ≡ instances_among z.class c.program.fields) o g sized_new
+      sized (suc i) o g = facts.apart.sized i o g
+
+  -- ---- places
+
+  up : (o : Object) → Contains objects o → Contains later o
+  up o l = contains_more new objects o l
+
+  up_class : (class v : ℕ) → HasClass objects class v → HasClass later class v
+  up_class class v l = (l.0, up l.0 l.1, l.2, l.3)
+
+  -- the words of another object are not the header's
+  elsewhere : (o : Object) (n : ℕ) → Contains objects o → o.reference ≤ n → n < object_end o → n ≢ header_word a
+  elsewhere o n l from to e = by_side (k.beside o l)
+    where
+      by_side : (object_end o ≤ a) ⊎ (a + size_by c.program word ≤ o.reference) → ⊥
+      by_side (inl h) = omega (arith, h, e, to)
+      by_side (inr h) = omega (arith, h, e, from, two_at_least c.program word)
+
+  -- and a field or an element of the new one is 0
+  empty_value : (i : ℕ) → i < length new.values → slice_index after (value_word a i) ≡ 0
+  empty_value i lt = unchanged (value_word a i) (λ e. omega (arith, e)) ∙ k.empty (value_word a i) (omega arith) (omega (arith, lt, ends))
+
+  places_new : PlacesHold c.program later after
+  places_new = record {
+    headers = λ o l. headers_of l.0 o (contained_got later o l);
+    fields = λ o number f l g n class. fields_of l.0 o number f (contained_got later o l) g n class;
+    elements = λ o i l array lt. elements_of l.0 o i (contained_got later o l) array lt;
+    statics = λ number f g e. statics_of number f g e;
+  }
+    where
+      headers_of : (j : ℕ) (o : Object) → slice_get later j ≡ Some o → slice_index after (header_word o.reference) ≡ header_of o
+      headers_of zero o g = first (λ z. slice_index after (header_word z.reference) ≡ header_of z) o g
+          (set_here s.words (header_word a) word (omega (arith, k.inside, two_at_least c.program word, facts.unused.many)) ∙ sym (new_header c.program is_program a word header))
+      headers_of (suc j) o g =
+          let l = got_contains objects j o g in
+          unchanged (header_word o.reference) (elsewhere o (header_word o.reference) l (omega arith) (omega arith)) ∙ facts.typed.places.headers o l
+
+      fields_of : (j : ℕ) (o : Object) (number : ℕ) (f : FieldInfo) → slice_get later j ≡ Some o → slice_get c.program.fields number ≡ Some f → is_static f.flags ≡ false → o.class ≡ f.class
+          → KindHolds (HasClass later) f.kind (slice_index after (value_word o.reference f.index))
+      fields_of zero o number f g e n class = first (λ z. z.class ≡ f.class → KindHolds (HasClass later) f.kind (slice_index after (value_word z.reference f.index))) o g
+          (λ class. zero_holds (HasClass later) f.kind (slice_index after (value_word a f.index)) (empty_value f.index (inside_new class))) class
+        where
+          inside_new : new.class ≡ f.class → f.index < length new.values
+          inside_new class =
+              let from = (is_program.fields number f e).class.0 in
+              let sized = sized_new (λ array. absurd (omega (arith, array, class, from))) in
+              subst (λ i. f.index < i) (sym sized) (subst (λ d. f.index < instances_among d c.program.fields) (sym class) (instances_inside c.program number f is_program e n))
+      fields_of (suc j) o number f g e n class =
+          let l = got_contains objects j o g in
+          let from = (is_program.fields number f e).class.0 in
+          let sized = facts.apart.sized j o g (λ array. absurd (omega (arith, array, class, from))) in
+          let inside : f.index < length o.values = subst (λ i. f.index < i) (sym sized) (subst (λ d. f.index < instances_among d c.program.fields) (sym class) (instances_inside c.program number f is_program e n)) in
+          let same = unchanged (value_word o.reference f.index) (elsewhere o (value_word o.reference f.index) l (omega arith) (omega (arith, inside))) in
+          subst (KindHolds (HasClass later) f.kind) (sym same) (kind_up (HasClass objects) (HasClass later) up_class f.kind (slice_index s.words (value_word o.reference f.index)) (facts.typed.places.fields o number f l e n class))
+
+      elements_of : (j : ℕ) (o : Object) (i : ℕ) → slice_get later j ≡ Some o → o.class ≡ INT_ARRAY_CLASS → i < length o.values → slice_index after (value_word o.reference i) < 2 ^ 32
+      elements_of zero o i g array lt = first (λ z. i < length z.values → slice_index after (value_word z.reference i) < 2 ^ 32) o g (λ lt. omega (arith, empty_value i lt)) lt
+      elements_of (suc j) o i g array lt =
+          let l = got_contains objects j o g in
+          let same = unchanged (value_word o.reference i) (elsewhere o (value_word o.reference i) l (omega arith) (omega (arith, lt))) in
+          subst (λ v. v < 2 ^ 32) (sym same) (facts.typed.places.elements o i l array lt)
+
+      statics_of : (number : ℕ) (f : FieldInfo) → slice_get c.program.fields number ≡ Some f → is_static f.flags ≡ true → KindHolds (HasClass later) f.kind (slice_index after f.index)
+      statics_of number f e s_is =
+          let low = (statics_inside c.program number f is_program e s_is).1 in
+          let same = unchanged f.index (λ q. omega (arith, q, low, k.begins)) in
+          subst (KindHolds (HasClass later) f.kind) (sym same) (kind_up (HasClass objects) (HasClass later) up_class f.kind (slice_index s.words f.index) (facts.typed.places.statics number f e s_is))
+
+  -- ---- the whole
+
+  pub behind_new : Behind c objects later s t after
+  behind_new = record {
+    up = up;
+    long = length-set s.words (header_word a) word;
+    free = omega (arith, unchanged NEXT_FREE_WORD (λ e. omega (arith, e, k.begins)));
+    unused = λ n le. unchanged n (λ e. omega (arith, e, le, k.below, two_at_least c.program word));
+    apart = apart_new;
+    places = places_new;
+    headers = λ o l. headers_of l.0 o (contained_got later o l);
+    new = λ u z b other n differ e m from to. unchanged n (new_elsewhere u z b other n differ e m from to);
+    beside = λ u z b other differ e m o l. beside_of l.0 u z b other differ e m o (contained_got later o l);
+  }
+    where
+      headers_of : (j : ℕ) (o : Object) → slice_get later j ≡ Some o → IsHeader c.program (header_of o)
+      headers_of zero o g = first (λ z. IsHeader c.program (header_of z)) o g (subst (IsHeader c.program) (sym (new_header c.program is_program a word header)) header)
+      headers_of (suc j) o g = facts.headers o (got_contains objects j o g)
+
+      sides : (u : ℕ) (z : Thread) (b other : ℕ) → u ≢ t → slice_get s.threads u ≡ Some z → z.phase ≡ phases.Made b other → (a + size_by c.program word ≤ b) ⊎ (b + size_by c.program other ≤ a)
+      sides u z b other differ e m = facts.new_objects.apart t u x z a b word other there e (λ same. differ (sym same)) made m
+
+      new_elsewhere : (u : ℕ) (z : Thread) (b other n : ℕ) → u ≢ t → slice_get s.threads u ≡ Some z → z.phase ≡ phases.Made b other → b ≤ n → n < b + size_by c.program other → n ≢ header_word a
+      new_elsewhere u z b other n differ e m from to same = by_side (sides u z b other differ e m)
+        where
+          by_side : (a + size_by c.program word ≤ b) ⊎ (b + size_by c.program other ≤ a) → ⊥
+          by_side (inl h) = omega (arith, h, same, from, two_at_least c.program word)
+          by_side (inr h) = omega (arith, h, same, to)
+
+      beside_of : (j u : ℕ) (z : Thread) (b other : ℕ) → u ≢ t → slice_get s.threads u ≡ Some z → z.phase ≡ phases.Made b other → (o : Object) → slice_get later j ≡ Some o
+          → (object_end o ≤ b) ⊎ (b + size_by c.program other ≤ o.reference)
+      beside_of zero u z b other differ e m o g = first (λ y. (object_end y ≤ b) ⊎ (b + size_by c.program other ≤ y.reference)) o g (by_side (sides u z b other differ e m))
+        where
+          by_side : (a + size_by c.program word ≤ b) ⊎ (b + size_by c.program other ≤ a) → (object_end new ≤ b) ⊎ (b + size_by c.program other ≤ new.reference)
+          by_side (inl h) = inl (omega (arith, h, ends))
+          by_side (inr h) = inr h
+      beside_of (suc j) u z b other differ e m o g = let other_new = facts.new_objects.each u z b other e m in other_new.beside o (got_contains objects j o g)
+
+  pub class_new : HasClass later (header_class word) a
+  class_new = (new, contains_first new objects, refl, refl)

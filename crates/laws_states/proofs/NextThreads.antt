@@ -1,0 +1,136 @@
+-- The begin of a part keeps the threads of a run: each is one of the program, and lawful.
+use Rattle.std.proofs.Common.{◌≡◌, ℕ, zero, suc, Bool, true, false, List, [], ◌∷◌, map, Some, refl, sym, ap, subst, ◌∙◌}
+use Rattle.std.specs.Prelude.{slice_get, IsTrue, if◌then◌else◌}
+use Rattle.std.specs.List.{AllByRecursion}
+use Rattle.std.proofs.lemmas.List.{length-map}
+use Rattle.jvm_types.specs.Numbers.{has_number}
+use Rattle.jvm_types.specs.declared.outcome.End.TheVariants as ends
+use Rattle.checked_program.specs.MarkedProgram.{MarkedProgram}
+use Rattle.machine_types.specs.Bounds.{part_roots}
+use Rattle.machine_types.specs.Core.{Core, may_begin, may_begin_by, ended_by, how_ended, next, next_threads, part_begins, with_roots}
+use Rattle.machine_types.specs.Facts.{IsThread}
+use Rattle.machine_types.specs.Lawful.{IsLawful}
+use Rattle.machine_types.specs.Parts.{has_returned, run_roots, done_roots}
+use Rattle.machine_types.specs.Threads.{Thread}
+use Rattle.machine_types.specs.declared.config.Config.{Config}
+use Rattle.machine_types.specs.declared.phase.Phase.{Phase}
+use Rattle.machine_types.specs.declared.phase.Phase.TheVariants as phases
+use Rattle.machine_types.proofs.AtStart.{all_among}
+use Rattle.laws_threads.specs.PartLaws.{PartFits}
+use Rattle.laws_states.specs.RunFacts.{AreThreads}
+use Rattle.laws_states.proofs.PartLawful.{IsBetween, is_idle, has_returned as is_returned, lawful_anew, lawful_seen}
+
+-- how a part ended that lets the next one begin
+ended_returned : (phase : Phase) → ended_by has_returned phase ≡ true → phase ≡ phases.Ended ends.Returned
+ended_returned (phases.Ended ends.Returned) h = refl
+ended_returned phase h = cc
+
+is_among : (ns : List ℕ) → AllByRecursion (λ n. IsTrue (has_number ns n)) ns
+is_among ns = all_among ns ns (λ n e. e)
+
+-- the item of a list of results
+mapped : {X : Type 0} (f : X → X) (xs : List X) (i : ℕ) (y : X) → slice_get (map f xs) i ≡ Some y → (x : X) × (slice_get xs i ≡ Some x) × (f x ≡ y)
+mapped f [] i y e = cc
+mapped f (x ∷ xs) zero y e = (x, refl, cc)
+mapped f (x ∷ xs) (suc i) y e = mapped f xs i y e
+
+all_at : {X : Type 0} (P : X → Type 0) (xs : List X) (i : ℕ) (x : X) → AllByRecursion P xs → slice_get xs i ≡ Some x → P x
+all_at P [] i x h e = cc
+all_at P (y ∷ xs) zero x h e = let same : y ≡ x = cc in subst P same h.0
+all_at P (y ∷ xs) (suc i) x h e = all_at P xs i x h.1 e
+
+between : (phase old : Phase) → IsBetween old → phase ≡ old → IsBetween phase
+between phase old b e = subst IsBetween (sym e) b
+
+-- ---- a worker's part begins
+
+abbrev begun : MarkedProgram → Thread → Thread
+begun c w = with_roots (run_roots c.program) w
+
+run_among : (c : MarkedProgram) (cfg : Config) (i : ℕ) (w : Thread) → IsThread c cfg (suc i) w → AllByRecursion (λ n. IsTrue (has_number (part_roots c.program w.number w.part) n)) (run_roots c.program)
+run_among c cfg i w own = subst (λ (n : ℕ). AllByRecursion (λ k. IsTrue (has_number (part_roots c.program n w.part) k)) (run_roots c.program)) (sym own.number) (is_among (run_roots c.program))
+
+worker_lawful : (c : MarkedProgram) (cfg : Config) (i : ℕ) (w : Thread) → IsThread c cfg (suc i) w → w.phase ≡ phases.Idle → IsLawful c w → IsLawful c (begun c w)
+worker_lawful c cfg i w own idle h = lawful_anew c w w.part w.first (run_roots c.program) (between w.phase phases.Idle is_idle idle) (run_among c cfg i w own) h
+
+worker_is : (c : MarkedProgram) (cfg : Config) (i : ℕ) (w : Thread) → IsThread c cfg (suc i) w → w.phase ≡ phases.Idle → IsLawful c w → IsThread c cfg (suc i) (begun c w)
+worker_is c cfg i w own idle h = record { number = own.number; program = own.program; settings = own.settings; rooted = (worker_lawful c cfg i w own idle h).rooted; part = own.part }
+
+-- ---- thread 0 sees it begin, and begins `done`
+
+abbrev seen : Thread → Thread
+seen x = record x { part = 1; first = how_ended x.phase }
+
+seen_is : (c : MarkedProgram) (cfg : Config) (x : Thread) → IsThread c cfg 0 x → x.part ≡ 0 → IsLawful c x → IsThread c cfg 0 (seen x)
+seen_is c cfg x own e h = record { number = own.number; program = own.program; settings = own.settings; rooted = (lawful_seen c x (how_ended x.phase) own.number e h).rooted; part = λ n. absurd (n refl) }
+
+abbrev last : MarkedProgram → Thread → Thread
+last c x = with_roots (done_roots c.program) (record x { part = 2 })
+
+done_among : (c : MarkedProgram) (cfg : Config) (x : Thread) → IsThread c cfg 0 x → AllByRecursion (λ n. IsTrue (has_number (part_roots c.program x.number 2) n)) (done_roots c.program)
+done_among c cfg x own = subst (λ (n : ℕ). AllByRecursion (λ k. IsTrue (has_number (part_roots c.program n 2) k)) (done_roots c.program)) (sym own.number) (is_among (done_roots c.program))
+
+last_lawful : (c : MarkedProgram) (cfg : Config) (x : Thread) → IsThread c cfg 0 x → x.phase ≡ phases.Ended ends.Returned → IsLawful c x → IsLawful c (last c x)
+last_lawful c cfg x own e h = lawful_anew c x 2 x.first (done_roots c.program) (between x.phase (phases.Ended ends.Returned) is_returned e) (done_among c cfg x own) h
+
+last_is : (c : MarkedProgram) (cfg : Config) (x : Thread) → IsThread c cfg 0 x → x.phase ≡ phases.Ended ends.Returned → IsLawful c x → IsThread c cfg 0 (last c x)
+last_is c cfg x own e h = record { number = own.number; program = own.program; settings = own.settings; rooted = (last_lawful c cfg x own e h).rooted; part = λ n. absurd (n refl) }
+
+-- ---- all of them
+
+abbrev AreThreadsOf : MarkedProgram → Config → Core → List Thread → Type 0
+AreThreadsOf c cfg s ts = AreThreads c cfg (record s { threads = ts })
+
+workers_run : (c : MarkedProgram) (cfg : Config) (s : Core) (x : Thread) (workers : List Thread) → AreThreadsOf c cfg s (x ∷ workers) → x.part ≡ 0 → x.phase ≡ phases.Ended ends.Returned → AreThreadsOf c cfg s (seen x ∷ map (begun c) workers)
+workers_run c cfg s x workers h e over = record {
+  count = ap suc (length-map workers (begun c)) ∙ h.count;
+  own = λ t y g. thread_at t y g;
+  lawful = λ t y g. lawful_at t y g;
+  parts = over;
+}
+  where
+    idle_at : (i : ℕ) (w : Thread) → slice_get workers i ≡ Some w → w.phase ≡ phases.Idle
+    idle_at i w g = all_at (λ w. w.phase ≡ phases.Idle) workers i w (subst (λ (n : ℕ). PartFits n x.phase workers) e h.parts) g
+
+    thread_at : (t : ℕ) (y : Thread) → slice_get (seen x ∷ map (begun c) workers) t ≡ Some y → IsThread c cfg t y
+    thread_at zero y g = let same : seen x ≡ y = cc in subst (IsThread c cfg 0) same (seen_is c cfg x (h.own 0 x refl) e (h.lawful 0 x refl))
+    thread_at (suc i) y g = let w = mapped (begun c) workers i y g in
+        subst (IsThread c cfg (suc i)) w.2 (worker_is c cfg i w.0 (h.own (suc i) w.0 w.1) (idle_at i w.0 w.1) (h.lawful (suc i) w.0 w.1))
+
+    lawful_at : (t : ℕ) (y : Thread) → slice_get (seen x ∷ map (begun c) workers) t ≡ Some y → IsLawful c y
+    lawful_at zero y g = let same : seen x ≡ y = cc in subst (IsLawful c) same (lawful_seen c x (how_ended x.phase) (h.own 0 x refl).number e (h.lawful 0 x refl))
+    lawful_at (suc i) y g = let w = mapped (begun c) workers i y g in
+        subst (IsLawful c) w.2 (worker_lawful c cfg i w.0 (h.own (suc i) w.0 w.1) (idle_at i w.0 w.1) (h.lawful (suc i) w.0 w.1))
+
+done_runs : (c : MarkedProgram) (cfg : Config) (s : Core) (x : Thread) (workers : List Thread) → AreThreadsOf c cfg s (x ∷ workers) → x.phase ≡ phases.Ended ends.Returned → AreThreadsOf c cfg s (last c x ∷ workers)
+done_runs c cfg s x workers h over = record {
+  count = h.count;
+  own = λ t y g. thread_at t y g;
+  lawful = λ t y g. lawful_at t y g;
+  parts = tt;
+}
+  where
+    thread_at : (t : ℕ) (y : Thread) → slice_get (last c x ∷ workers) t ≡ Some y → IsThread c cfg t y
+    thread_at zero y g = let same : last c x ≡ y = cc in subst (IsThread c cfg 0) same (last_is c cfg x (h.own 0 x refl) over (h.lawful 0 x refl))
+    thread_at (suc i) y g = h.own (suc i) y g
+
+    lawful_at : (t : ℕ) (y : Thread) → slice_get (last c x ∷ workers) t ≡ Some y → IsLawful c y
+    lawful_at zero y g = let same : last c x ≡ y = cc in subst (IsLawful c) same (last_lawful c cfg x (h.own 0 x refl) over (h.lawful 0 x refl))
+    lawful_at (suc i) y g = h.lawful (suc i) y g
+
+part_run : (c : MarkedProgram) (cfg : Config) (s : Core) (x : Thread) (workers : List Thread) (n : ℕ) → x.part ≡ n → AreThreadsOf c cfg s (x ∷ workers) → may_begin_by n x.phase workers ≡ true → AreThreadsOf c cfg s (part_begins c.program n x workers)
+part_run c cfg s x workers zero e k may = workers_run c cfg s x workers k e (ended_returned x.phase may)
+part_run c cfg s x workers (suc zero) e k may = done_runs c cfg s x workers k (subst (λ (n : ℕ). PartFits n x.phase workers) e k.parts)
+part_run c cfg s x workers (suc (suc n)) e k may = cc
+
+-- nothing changes where no part may begin
+pub next_threads_are : (c : MarkedProgram) (cfg : Config) (s : Core) → AreThreads c cfg s → AreThreads c cfg (next c s)
+next_threads_are c cfg s h = by_threads s.threads h
+  where
+    by_threads : (ts : List Thread) → AreThreadsOf c cfg s ts → AreThreadsOf c cfg s (next_threads c.program ts)
+    by_threads [] k = k
+    by_threads (x ∷ workers) k = by_test (may_begin (x ∷ workers)) refl
+      where
+        by_test : (b : Bool) → may_begin (x ∷ workers) ≡ b → AreThreadsOf c cfg s (if b then part_begins c.program x.part x workers else x ∷ workers)
+        by_test true may = part_run c cfg s x workers x.part refl k may
+        by_test false may = k

@@ -1,0 +1,40 @@
+-- Where no section may be tried, no event makes an attempt.
+use Rattle.std.proofs.Common.{◌≡◌, ℕ, false, List, [], ◌∷◌, Option, Some, None, refl, ap, subst, ◌∙◌}
+use Rattle.std.specs.Prelude.{option_map, slice_get}
+use Rattle.checked_program.specs.MarkedProgram.{MarkedProgram}
+use Rattle.machine_types.specs.Accesses.{found_by}
+use Rattle.machine_types.specs.Core.{Core, event_of}
+use Rattle.machine_types.specs.Events.{wanted, started, moved}
+use Rattle.machine_types.specs.Onward.{rooted}
+use Rattle.machine_types.specs.Threads.{Thread}
+use Rattle.machine_types.specs.declared.config.Config.{Config}
+use Rattle.machine_types.specs.declared.phase.Phase.{Phase}
+use Rattle.machine_types.specs.declared.phase.Phase.TheVariants as phases
+use Rattle.laws_states.proofs.PlainMoves.{goes_attempt}
+use Rattle.laws_states.specs.RunFacts.{AreThreads}
+use Rattle.laws_states.specs.PartsLaws.{HaveNoAttempts, EventsMakeNoAttempts}
+use Rattle.laws_states.specs.PartsStand.{PartsStand}
+use Rattle.laws_states.proofs.PartsEvents.{at_each, fits_of}
+use Rattle.laws_states.proofs.RootMoves.{RootFits, IsNoStart, moved_stays}
+
+module _ (c : MarkedProgram) (x : Thread) (got : ℕ) (none : x.attempt ≡ None) (never : x.cfg.elide ≡ false) (fits : RootFits x.phase x.roots) where
+  starts_none : (roots : List ℕ) → (started c.program x roots).attempt ≡ None
+  starts_none [] = none
+  starts_none (number ∷ rest) = goes_attempt (record x { roots = rest }) (option_map (rooted c.program x.number number) (slice_get c.program.methods number)) ∙ none
+
+  on : (phase : Phase) → IsNoStart phase → x.phase ≡ phase → (moved c x phase got).attempt ≡ None
+  on phase n e = let k = moved_stays c x got (Unit {0}) (λ q. none) (λ q. never) phase n e (subst (λ (p : Phase). RootFits p x.roots) e fits) in k.keeps.none tt
+
+  moves_none : (phase : Phase) → x.phase ≡ phase → (moved c x phase got).attempt ≡ None
+  moves_none phases.Start e = starts_none x.roots
+  moves_none phase e = on phase tt e
+
+module _ (c : MarkedProgram) (cfg : Config) (s : Core) (t : ℕ) (never : cfg.elide ≡ false) (threads : AreThreads c cfg s) (stand : PartsStand c.program s.threads) (none : HaveNoAttempts s) where
+  all_none : (o : Option Thread) → slice_get s.threads t ≡ o → HaveNoAttempts (event_of c s t o)
+  all_none None e = none
+  all_none (Some x) e = at_each s.threads t x (moved c x x.phase (found_by s.words (wanted c x x.phase))) (λ u y. y.attempt ≡ None) e
+      (moves_none c x (found_by s.words (wanted c x x.phase)) (none t x e) (ap (λ (k : Config). k.elide) (threads.own t x e).settings ∙ never)
+      (fits_of x.phase x.frames x.roots (threads.own t x e).rooted.frames (stand.returned t x e)) x.phase refl) none
+
+pub events_make_none : EventsMakeNoAttempts
+events_make_none c cfg s t never threads stand none = all_none c cfg s t never threads stand none (slice_get s.threads t) refl

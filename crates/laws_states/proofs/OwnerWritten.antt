@@ -1,0 +1,79 @@
+-- A write of the owner of a record by a thread: what it has to show.
+use Rattle.std.proofs.Common.{◌≡◌, ◌≢◌, inl, ℕ, ◌+◌, ◌≤◌, Bool, true, false, cond, Option, Some, None, refl, sym, ap, ◌∙◌, subst}
+use Rattle.std.specs.Prelude.{◌==◌}
+use Rattle.machine_types.specs.HeldMonitors.{held_at}
+use Rattle.machine_types.specs.Owners.{Locks, NotHeld, HeldFat, hold_by_word, hold_by_list, drawn_by, Knows, PhaseSaw, AttemptSawIn, IsKeptIn, Owns, AreLocks}
+use Rattle.machine_types.specs.Threads.{Attempt, Thread}
+use Rattle.machine_types.specs.declared.config.Config.{Config}
+use Rattle.machine_types.specs.declared.lock.LockWord.{LockWord}
+use Rattle.machine_types.specs.declared.lock.LockWord.TheVariants as locks
+use Rattle.machine_types.specs.declared.phase.Phase.{Phase}
+use Rattle.machine_types.specs.declared.phase.Phase.TheVariants as phases
+use Rattle.laws_states.proofs.LockViews.{set_owner, is_there, not_there, same_there}
+use Rattle.laws_states.proofs.OwnersStep.{Owes, flat_in}
+
+module _ (v : Locks) (count : ℕ → ℕ) (one owner : ℕ) where
+  -- a thread that owns the record neither before nor after has all as before
+  words_same : (u : ℕ) (l : LockWord) → (owner == u + 1) ≡ false → (v.owner one == u + 1) ≡ false → hold_by_word u l (set_owner one owner v).owner ≡ hold_by_word u l v.owner
+  words_same u (locks.Free c) e f = refl
+  words_same u (locks.Held i) e f = refl
+  words_same u (locks.Flagged i) e f = refl
+  words_same u (locks.Fat r) e f = by_test (one == r) refl
+    where
+      by_test : (b : Bool) → (one == r) ≡ b → cond (cond b owner (v.owner r) == u + 1) (HeldFat r) NotHeld ≡ cond (v.owner r == u + 1) (HeldFat r) NotHeld
+      by_test true g = ap (λ (b : Bool). cond b (HeldFat r) NotHeld) (e ∙ sym f ∙ ap (λ (i : ℕ). v.owner i == u + 1) (is_there one r g))
+      by_test false g = refl
+
+  -- nor does another record's owner change
+  pub words_apart : (u : ℕ) (l : LockWord) → l ≢ locks.Fat one → hold_by_word u l (set_owner one owner v).owner ≡ hold_by_word u l v.owner
+  words_apart u (locks.Free c) d = refl
+  words_apart u (locks.Held i) d = refl
+  words_apart u (locks.Flagged i) d = refl
+  words_apart u (locks.Fat r) d = ap (λ (b : Bool). cond (cond b owner (v.owner r) == u + 1) (HeldFat r) NotHeld) (not_there one r (λ e. d (ap locks.Fat (sym e))))
+
+  knows_same : (u : ℕ) (phase : Phase) → (v.owner one == u + 1) ≡ false → Knows v u phase → Knows (set_owner one owner v) u phase
+  knows_same u (phases.Own m r toward) f h = record { unnamed = h.unnamed; below = h.below }
+  knows_same u (phases.FatIn m r toward) f h = (record { unnamed = h.0.unnamed; below = h.0.below }, by_test (one == r) refl)
+    where
+      by_test : (b : Bool) → (one == r) ≡ b → cond b owner (v.owner r) ≡ u + 1
+      by_test true g = let owned : (v.owner one == u + 1) ≡ true = ap (λ (i : ℕ). i == u + 1) (ap v.owner (is_there one r g) ∙ h.1) ∙ same_there (u + 1) in absurd (cc)
+      by_test false g = h.1
+  knows_same u (phases.TakeFat m r) f h = h
+  knows_same u (phases.WaitLook m r depth) f h = h
+  knows_same u (phases.Retake m r depth) f h = h
+  knows_same u phase f h = tt
+
+  pub take_same : (phase : Phase) → PhaseSaw v count phase → PhaseSaw (set_owner one owner v) count phase
+  take_same (phases.Take m seen) h = h
+  take_same phase h = tt
+
+  pub attempt_same : (cfg : Config) (a : Option Attempt) → AttemptSawIn v count cfg a → AttemptSawIn (set_owner one owner v) count cfg a
+  attempt_same cfg None h = tt
+  attempt_same cfg (Some a) h = record { seen = h.seen; not_last = h.not_last }
+
+  pub own_attempt : (x y : Thread) → y.cfg ≡ x.cfg → y.attempt ≡ x.attempt → AttemptSawIn v count x.cfg x.attempt → AttemptSawIn (set_owner one owner v) count y.cfg y.attempt
+  own_attempt x y cfg attempt h = subst (λ (g : Config). AttemptSawIn (set_owner one owner v) count g y.attempt) (sym cfg)
+      (subst (λ (q : Option Attempt). AttemptSawIn (set_owner one owner v) count x.cfg q) (sym attempt) (attempt_same x.cfg x.attempt h))
+
+  pub owner_written : (t : ℕ) (was now : Phase) (x y : Thread) → AreLocks v count → Owns v count t was x → y.cfg ≡ x.cfg
+      → ((u : ℕ) → u ≢ t → ((owner == u + 1) ≡ false) × ((v.owner one == u + 1) ≡ false))
+      → ((m : ℕ) → hold_by_word t (v.lock m) (set_owner one owner v).owner ≡ hold_by_list (held_at y.held m))
+      → ((m : ℕ) → IsKeptIn (held_at y.held m) (count m))
+      → Knows (set_owner one owner v) t now → PhaseSaw (set_owner one owner v) count now → y.attempt ≡ x.attempt → ((i : ℕ) → drawn_by now ≡ Some i → drawn_by was ≡ Some i)
+      → ((m : ℕ) → count m ≤ x.cfg.range)
+      → ((m : ℕ) → count m + flat_in m y + x.counts.locked ≤ count m + flat_in m x + y.counts.locked)
+      → Owes v (set_owner one owner v) count count t was now x y
+  owner_written t was now x y a own cfg apart holds keeps knows take attempt draws within few = record {
+    own = record { holds = holds; knows = knows; keeps_count = keeps; take = take; attempt = own_attempt x y cfg attempt own.attempt };
+    others = λ u phase z d owns e. record {
+      holds = λ m. words_same u (v.lock m) (apart u d).0 (apart u d).1 ∙ owns.holds m;
+      knows = knows_same u phase (apart u d).1 owns.knows;
+      keeps_count = owns.keeps_count;
+      take = take_same phase owns.take;
+      attempt = attempt_same z.cfg z.attempt owns.attempt;
+    };
+    words = record { one = a.one; below = a.below; free = a.free };
+    draws = λ i e. inl (draws i e);
+    within = within;
+    few = few;
+  }

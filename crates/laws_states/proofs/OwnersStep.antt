@@ -1,0 +1,132 @@
+-- One event of a thread changes one word: what it has to show of the thread, of the others, and of the words.
+use Rattle.std.proofs.Common.{◌≡◌, ◌≢◌, ◌⊎◌, inl, inr, ℕ, zero, suc, ◌+◌, ◌<◌, ◌≤◌, Bool, true, false, cond, List, [], ◌∷◌, Option, Some, refl, sym, ap, ◌∙◌, subst, arith}
+use Rattle.std.specs.Prelude.{◌==◌, slice_get, slice_set}
+use Rattle.std.specs.List.{sum_by}
+use Rattle.std.proofs.lemmas.Bool.Decides.{nat_tests}
+use Rattle.checked_program.specs.MarkedProgram.{MarkedProgram}
+use Rattle.machine_types.specs.Core.{Core}
+use Rattle.machine_types.specs.HeldMonitors.{held_at}
+use Rattle.machine_types.specs.Owners.{Locks, locks_in, hold_by_list, drawn_by, Knows, Owns, AreLocks, DrewApart, one_if_flat, flat_holders, Owners}
+use Rattle.machine_types.specs.Structure.{Structure}
+use Rattle.machine_types.specs.Threads.{Thread}
+use Rattle.machine_types.specs.declared.config.Config.{Config}
+use Rattle.machine_types.specs.declared.phase.Phase.{Phase}
+use Rattle.machine_types.specs.declared.phase.Phase.TheVariants as phases
+use Rattle.laws_threads.specs.StructureLaws.{counted_by}
+use Rattle.laws_threads.specs.StateLaws.{counted_of, counted_at}
+use Rattle.laws_states.proofs.Sums.{sum_set}
+use Rattle.laws_states.proofs.CountedPhases.{was_draws, phase_draws, counted_draws}
+use Rattle.laws_states.proofs.LockViews.{is_there, not_same}
+
+-- ---- one thread of a list is changed
+
+pub set_there : {A : Type 0} (xs : List A) (i : ℕ) (x y z : A) → slice_get xs i ≡ Some x → slice_get (slice_set xs i y) i ≡ Some z → y ≡ z
+set_there [] i x y z e f = absurd (cc)
+set_there (a ∷ xs) zero x y z e f = cc
+set_there (a ∷ xs) (suc i) x y z e f = set_there xs i x y z e f
+
+pub set_other : {A : Type 0} (xs : List A) (i j : ℕ) (x : A) → (j == i) ≡ false → slice_get (slice_set xs i x) j ≡ slice_get xs j
+set_other [] i j x d = refl
+set_other (a ∷ xs) zero zero x d = absurd (grind (arith, nat_tests, d))
+set_other (a ∷ xs) zero (suc j) x d = refl
+set_other (a ∷ xs) (suc i) zero x d = refl
+set_other (a ∷ xs) (suc i) (suc j) x d = set_other xs i j x (grind (arith, nat_tests, d))
+
+-- ---- what an event owes
+
+-- a thread that holds the flat lock of m
+abbrev pub flat_in : (m : ℕ) → Thread → ℕ
+flat_in m x = one_if_flat (hold_by_list (held_at x.held m))
+
+-- what an event of t owes that made y of x: t's own part, the others' part, and the words
+pub record Owes (v w : Locks) (count more : ℕ → ℕ) (t : ℕ) (was now : Phase) (x y : Thread) : Type 0 where
+  pub own : Owns w more t now y
+  pub others : (u : ℕ) (phase : Phase) (z : Thread) → u ≢ t → Owns v count u phase z → ((r : ℕ) → drawn_by was ≡ Some r → drawn_by phase ≡ Some r → ⊥) → Owns w more u phase z
+  pub words : AreLocks w more
+  -- a record that is drawn now was drawn before, or is the next one
+  pub draws : (r : ℕ) → drawn_by now ≡ Some r → (drawn_by was ≡ Some r) ⊎ (v.next ≤ r)
+  pub within : (m : ℕ) → more m ≤ x.cfg.range
+  pub few : (m : ℕ) → more m + flat_in m y + x.counts.locked ≤ count m + flat_in m x + y.counts.locked
+
+drawn_below : (v : Locks) (u r : ℕ) (phase : Phase) → Knows v u phase → drawn_by phase ≡ Some r → r < v.next
+drawn_below v u r (phases.Own m k toward) h e = let same : k ≡ r = cc in subst (λ (i : ℕ). i < v.next) same h.below
+drawn_below v u r (phases.FatIn m k toward) h e = let same : k ≡ r = cc in subst (λ (i : ℕ). i < v.next) same h.0.below
+drawn_below v u r phase h e = absurd (cc)
+
+module _ (c : MarkedProgram) (references later : List ℕ) (was : ℕ → Phase) (s : Core) (owners : Owners references was s) (structure : Structure c was s.threads) (t : ℕ) (after : List ℕ) (x y : Thread) (there : slice_get s.threads t ≡ Some x)
+    (settings : (u : ℕ) (z : Thread) → slice_get s.threads u ≡ Some z → z.cfg ≡ x.cfg) (same_cfg : y.cfg ≡ x.cfg)
+    (more : ℕ → ℕ) (owes : Owes (locks_in references s.words) (locks_in later after) owners.count more t (was t) (counted_by (was t) y.phase) x y) where
+  abbrev threads : List Thread
+  threads = slice_set s.threads t y
+
+  here : (u : ℕ) (z : Thread) → (u == t) ≡ true → slice_get (slice_set s.threads t y) u ≡ Some z → y ≡ z
+  here u z g e = set_there s.threads t x y z there (ap (λ (n : ℕ). slice_get (slice_set s.threads t y) n) (sym (is_there u t g)) ∙ e)
+
+  there_too : (u : ℕ) (z : Thread) → (u == t) ≡ false → slice_get (slice_set s.threads t y) u ≡ Some z → slice_get s.threads u ≡ Some z
+  there_too u z g e = sym (set_other s.threads t u y g) ∙ e
+
+  was_apart : (u : ℕ) (z : Thread) → (u == t) ≡ false → slice_get s.threads u ≡ Some z → (r : ℕ) → drawn_by (was t) ≡ Some r → drawn_by (was u) ≡ Some r → ⊥
+  was_apart u z g e r a b =
+      let st = structure t x there in
+      let sz = structure u z e in
+      owners.apart t u x z there e (λ q. not_same u t g (sym q)) r (was_draws x.phase (was t) r st.is_as a) (was_draws z.phase (was u) r sz.is_as b)
+
+  each_owns : (u : ℕ) (z : Thread) → slice_get (slice_set s.threads t y) u ≡ Some z → Owns (locks_in later after) more u (counted_at was t (slice_set s.threads t y) u) z
+  each_owns u z e = by_number (u == t) refl
+    where
+      by_number : (b : Bool) → (u == t) ≡ b → Owns (locks_in later after) more u (cond b (counted_of (was t) (slice_get (slice_set s.threads t y) t)) (was u)) z
+      by_number true g =
+          let same : u ≡ t = is_there u t g in
+          let at : slice_get (slice_set s.threads t y) t ≡ Some z = ap (λ (n : ℕ). slice_get (slice_set s.threads t y) n) (sym same) ∙ e in
+          subst (λ (o : Option Thread). Owns (locks_in later after) more u (counted_of (was t) o) z) (sym at)
+          (subst (λ (n : ℕ). Owns (locks_in later after) more n (counted_by (was t) z.phase) z) (sym same)
+          (subst (λ (q : Thread). Owns (locks_in later after) more t (counted_by (was t) q.phase) q) (here u z g e) owes.own))
+      by_number false g =
+          let old = there_too u z g e in
+          owes.others u (was u) z (not_same u t g) (owners.each u z old) (was_apart u z g old)
+
+  drew : (u : ℕ) (z : Thread) → (u == t) ≡ false → slice_get s.threads u ≡ Some z → (r : ℕ) → drawn_by y.phase ≡ Some r → drawn_by z.phase ≡ Some r → ⊥
+  drew u z g e r a b = by_old (owes.draws r (counted_draws (was t) y.phase r a))
+    where
+      by_old : (drawn_by (was t) ≡ Some r) ⊎ ((locks_in references s.words).next ≤ r) → ⊥
+      by_old (inl d) = let st = structure t x there in owners.apart t u x z there e (λ q. not_same u t g (sym q)) r (was_draws x.phase (was t) r st.is_as d) b
+      by_old (inr d) =
+          let sz = structure u z e in
+          let owns = owners.each u z e in
+          let drawn : drawn_by (was u) ≡ Some r = phase_draws z.phase (was u) r sz.is_as b in
+          let below = drawn_below (locks_in references s.words) u r (was u) owns.knows drawn in
+          absurd (omega (arith, below, d))
+
+  pub owned_on : Owners later (counted_at was t (slice_set s.threads t y)) (record { words = after; threads = slice_set s.threads t y })
+  owned_on = record {
+    count = more;
+    locks_are = owes.words;
+    each = each_owns;
+    apart = λ u k a b e f d r g h. apart_at u k a b e f d r g h;
+    within = λ m u z e. within_at m u z e;
+    few = λ m. few_at m;
+  }
+    where
+      apart_at : (u k : ℕ) (a b : Thread) → slice_get (slice_set s.threads t y) u ≡ Some a → slice_get (slice_set s.threads t y) k ≡ Some b → u ≢ k → DrewApart a b
+      apart_at u k a b e f d r g h = by_both (u == t) refl (k == t) refl
+        where
+          by_both : (p : Bool) → (u == t) ≡ p → (q : Bool) → (k == t) ≡ q → ⊥
+          by_both true p true q = d (is_there u t p ∙ sym (is_there k t q))
+          by_both true p false q = drew k b q (there_too k b q f) r (subst (λ (z : Thread). drawn_by z.phase ≡ Some r) (sym (here u a p e)) g) h
+          by_both false p true q = drew u a p (there_too u a p e) r (subst (λ (z : Thread). drawn_by z.phase ≡ Some r) (sym (here k b q f)) h) g
+          by_both false p false q = owners.apart u k a b (there_too u a p e) (there_too k b q f) d r g h
+
+      within_at : (m u : ℕ) (z : Thread) → slice_get (slice_set s.threads t y) u ≡ Some z → more m ≤ z.cfg.range
+      within_at m u z e = by_number (u == t) refl
+        where
+          by_number : (b : Bool) → (u == t) ≡ b → more m ≤ z.cfg.range
+          by_number true g = subst (λ (q : Thread). more m ≤ q.cfg.range) (here u z g e) (subst (λ (cfg : Config). more m ≤ cfg.range) (sym same_cfg) (owes.within m))
+          by_number false g = subst (λ (cfg : Config). more m ≤ cfg.range) (sym (settings u z (there_too u z g e))) (owes.within m)
+
+      few_at : (m : ℕ) → more m + flat_holders m (slice_set s.threads t y) ≤ sum_by (λ z. z.counts.locked) (slice_set s.threads t y)
+      few_at m =
+          let flat = sum_set (flat_in m) s.threads t x y there in
+          let locked = sum_set (λ (z : Thread). z.counts.locked) s.threads t x y there in
+          let few = owners.few m in
+          let now = owes.few m in
+          omega (arith, flat, locked, few, now)

@@ -1,0 +1,161 @@
+-- Where a part of the run begins, each thread holds what it held.
+use Rattle.std.proofs.Common.{◌≡◌, ◌⊎◌, inl, inr, ℕ, zero, suc, ◌≤◌, Bool, true, false, cond, List, [], ◌∷◌, map, Option, Some, refl, ap, sym, subst, ◌∙◌, arith}
+use Rattle.std.specs.Prelude.{slice_get, if◌then◌else◌}
+use Rattle.std.specs.List.{sum_by}
+use Rattle.std.proofs.lemmas.List.Sums.{sum_by-cons}
+use Rattle.lists.proofs.ListLaws.{same_some}
+use Rattle.jvm_types.specs.declared.outcome.End.{End}
+use Rattle.jvm_types.specs.declared.outcome.End.TheVariants as ends
+use Rattle.jvm_types.specs.declared.program.Program.{Program}
+use Rattle.checked_program.specs.MarkedProgram.{MarkedProgram}
+use Rattle.machine_types.specs.Core.{Core, part_phase, may_begin, with_roots, how_ended, part_begins, next_threads, next}
+use Rattle.machine_types.specs.HeldMonitors.{held_at}
+use Rattle.machine_types.specs.Owners.{Locks, locks_in, hold_by_list, drawn_by, Knows, PhaseSaw, AttemptSawIn, IsKeptIn, Owns, one_if_flat, Owners}
+use Rattle.machine_types.specs.Parts.{run_roots, done_roots}
+use Rattle.machine_types.specs.Structure.{IsAs, Structure}
+use Rattle.machine_types.specs.Threads.{Attempt, Thread}
+use Rattle.machine_types.specs.declared.config.Config.{Config}
+use Rattle.machine_types.specs.declared.lock.Held.{Held}
+use Rattle.machine_types.specs.declared.phase.Phase.{Phase}
+use Rattle.machine_types.specs.declared.phase.Phase.TheVariants as phases
+use Rattle.laws_threads.specs.StructureLaws.{counted_by}
+use Rattle.laws_threads.specs.StateLaws.{counted_of}
+use Rattle.laws_threads.specs.PartLaws.{counted_next}
+use Rattle.laws_states.specs.OwnersLaws.{NextKeepsOwners}
+use Rattle.laws_states.proofs.CountedPhases.{counted_keeps, IsPlain, plain_knows, plain_saw}
+
+-- ---- a thread is as it was, but for the roots and the phase that its part begins with
+
+abbrev pub StartsOrEnded : Phase → Type 0
+StartsOrEnded phases.Start = Unit {0}
+StartsOrEnded (phases.Ended ends.Returned) = Unit {0}
+StartsOrEnded phase = ⊥
+
+pub record Begins (x y : Thread) : Type 0 where
+  pub held : y.held ≡ x.held
+  pub attempt : y.attempt ≡ x.attempt
+  pub cfg : y.cfg ≡ x.cfg
+  pub phase : (y.phase ≡ x.phase) ⊎ StartsOrEnded y.phase
+
+same_thread : (x : Thread) → Begins x x
+same_thread x = record { held = refl; attempt = refl; cfg = refl; phase = inl refl }
+
+fresh_phase : (roots : List ℕ) → StartsOrEnded (part_phase roots)
+fresh_phase [] = tt
+fresh_phase (number ∷ roots) = tt
+
+with_part : (x y : Thread) (roots : List ℕ) → y.held ≡ x.held → y.attempt ≡ x.attempt → y.cfg ≡ x.cfg → Begins x (with_roots roots y)
+with_part x y roots h a c = record { held = h; attempt = a; cfg = c; phase = inr (fresh_phase roots) }
+
+mapped : (roots : List ℕ) (xs : List Thread) (u : ℕ) (y : Thread) → slice_get (map (with_roots roots) xs) u ≡ Some y → (x : Thread) × (slice_get xs u ≡ Some x) × Begins x y
+mapped roots [] u y e = absurd (cc)
+mapped roots (x ∷ xs) zero y e = (x, refl, subst (Begins x) (same_some e) (with_part x x roots refl refl refl))
+mapped roots (x ∷ xs) (suc u) y e = mapped roots xs u y e
+
+part_begun : (p : Program) (part : ℕ) (x : Thread) (workers : List Thread) (u : ℕ) (y : Thread) → slice_get (part_begins p part x workers) u ≡ Some y → (z : Thread) × (slice_get (x ∷ workers) u ≡ Some z) × Begins z y
+part_begun p zero x workers zero y e = (x, refl, subst (Begins x) (same_some e) (record { held = refl; attempt = refl; cfg = refl; phase = inl refl }))
+part_begun p zero x workers (suc u) y e = mapped (run_roots p) workers u y e
+part_begun p (suc part) x workers zero y e = (x, refl, subst (Begins x) (same_some e) (with_part x (record x { part = 2 }) (done_roots p) refl refl refl))
+part_begun p (suc part) x workers (suc u) y e = (y, e, same_thread y)
+
+pub begun : (p : Program) (threads : List Thread) (u : ℕ) (y : Thread) → slice_get (next_threads p threads) u ≡ Some y → (z : Thread) × (slice_get threads u ≡ Some z) × Begins z y
+begun p [] u y e = absurd (cc)
+begun p (x ∷ workers) u y e = by_test (may_begin (x ∷ workers)) e
+  where
+    by_test : (b : Bool) → slice_get (if b then part_begins p x.part x workers else x ∷ workers) u ≡ Some y → (z : Thread) × (slice_get (x ∷ workers) u ≡ Some z) × Begins z y
+    by_test true e = part_begun p x.part x workers u y e
+    by_test false e = (y, e, same_thread y)
+
+-- ---- sums over threads stay
+
+module _ (f : Thread → ℕ) (roots_same : (roots : List ℕ) (x : Thread) → f (with_roots roots x) ≡ f x) (part_same : (n : ℕ) (first : Option End) (x : Thread) → f (record x { part = n; first = first }) ≡ f x) where
+  workers_sum : (roots : List ℕ) (xs : List Thread) → sum_by f (map (with_roots roots) xs) ≡ sum_by f xs
+  workers_sum roots [] = refl
+  workers_sum roots (x ∷ xs) = omega (arith, sum_by-cons f x xs, sum_by-cons f (with_roots roots x) (map (with_roots roots) xs), roots_same roots x, workers_sum roots xs)
+
+  part_sum : (p : Program) (part : ℕ) (x : Thread) (workers : List Thread) → sum_by f (part_begins p part x workers) ≡ sum_by f (x ∷ workers)
+  part_sum p zero x workers = omega (arith, sum_by-cons f x workers, sum_by-cons f (record x { part = 1; first = how_ended x.phase }) (map (with_roots (run_roots p)) workers), part_same 1 (how_ended x.phase) x, workers_sum (run_roots p) workers)
+  part_sum p (suc part) x workers =
+      let z : Thread = record x { part = 2 } in
+      omega (arith, sum_by-cons f x workers, sum_by-cons f (with_roots (done_roots p) z) workers, roots_same (done_roots p) z, part_same 2 x.first x)
+
+  pub next_sum : (p : Program) (threads : List Thread) → sum_by f (next_threads p threads) ≡ sum_by f threads
+  next_sum p [] = refl
+  next_sum p (x ∷ workers) = by_test (may_begin (x ∷ workers))
+    where
+      by_test : (b : Bool) → sum_by f (if b then part_begins p x.part x workers else x ∷ workers) ≡ sum_by f (x ∷ workers)
+      by_test true = part_sum p x.part x workers
+      by_test false = refl
+
+-- ---- one thread
+
+fresh_plain : (was phase : Phase) → StartsOrEnded phase → IsPlain (counted_by was phase)
+fresh_plain was phases.Start fresh = tt
+fresh_plain was (phases.Ended ends.Returned) fresh = tt
+fresh_plain was phase fresh = absurd fresh
+
+fresh_draws_none : (phase : Phase) (r : ℕ) → StartsOrEnded phase → drawn_by phase ≡ Some r → ⊥
+fresh_draws_none phases.Start r fresh e = cc
+fresh_draws_none (phases.Ended ends.Returned) r fresh e = cc
+fresh_draws_none phase r fresh e = absurd fresh
+
+module _ (v : Locks) (count : ℕ → ℕ) (u : ℕ) (was : Phase) (z y : Thread) (owns : Owns v count u was z) (begins : Begins z y) where
+  stays : (now : Phase) → Knows v u now → PhaseSaw v count now → Owns v count u now y
+  stays now knows saw = record {
+    holds = λ m. owns.holds m ∙ ap (λ (hs : List Held). hold_by_list (held_at hs m)) (sym begins.held);
+    knows = knows;
+    keeps_count = λ m. subst (λ (hs : List Held). IsKeptIn (held_at hs m) (count m)) (sym begins.held) (owns.keeps_count m);
+    take = saw;
+    attempt = subst (λ (cfg : Config). AttemptSawIn v count cfg y.attempt) (sym begins.cfg) (subst (λ (a : Option Attempt). AttemptSawIn v count z.cfg a) (sym begins.attempt) owns.attempt);
+  }
+
+  counted_stays : IsAs z.phase was → Owns v count u (counted_by was y.phase) y
+  counted_stays is_as = by_side begins.phase
+    where
+      by_side : (y.phase ≡ z.phase) ⊎ StartsOrEnded y.phase → Owns v count u (counted_by was y.phase) y
+      by_side (inl e) = subst (λ (phase : Phase). Owns v count u (counted_by was phase) y) (sym e)
+          (stays (counted_by was z.phase) (counted_keeps (Knows v u) tt (λ m. tt) was z.phase is_as owns.knows) (counted_keeps (PhaseSaw v count) tt (λ m. tt) was z.phase is_as owns.take))
+      by_side (inr fresh) = let plain = fresh_plain was y.phase fresh in stays (counted_by was y.phase) (plain_knows v u (counted_by was y.phase) plain) (plain_saw v count (counted_by was y.phase) plain)
+
+drew_before : (z y : Thread) (r : ℕ) → Begins z y → drawn_by y.phase ≡ Some r → drawn_by z.phase ≡ Some r
+drew_before z y r begins e = by_side begins.phase
+  where
+    by_side : (y.phase ≡ z.phase) ⊎ StartsOrEnded y.phase → drawn_by z.phase ≡ Some r
+    by_side (inl same) = ap drawn_by (sym same) ∙ e
+    by_side (inr fresh) = absurd (fresh_draws_none y.phase r fresh e)
+
+-- ---- all
+
+module _ (c : MarkedProgram) (references : List ℕ) (was : ℕ → Phase) (s : Core) (structure : Structure c was s.threads) (owners : Owners references was s) where
+  each_owns : (u : ℕ) (y : Thread) → slice_get (next_threads c.program s.threads) u ≡ Some y → Owns (locks_in references s.words) owners.count u (counted_next c was s u) y
+  each_owns u y e = by_thread (begun c.program s.threads u y e)
+    where
+      by_thread : (z : Thread) × (slice_get s.threads u ≡ Some z) × Begins z y → Owns (locks_in references s.words) owners.count u (counted_next c was s u) y
+      by_thread k = by_test (may_begin s.threads)
+        where
+          owns : Owns (locks_in references s.words) owners.count u (was u) k.0
+          owns = owners.each u k.0 k.1
+
+          by_test : (b : Bool) → Owns (locks_in references s.words) owners.count u (cond b (counted_of (was u) (slice_get (next c s).threads u)) (was u)) y
+          by_test true = subst (λ (o : Option Thread). Owns (locks_in references s.words) owners.count u (counted_of (was u) o) y) (sym e) (counted_stays (locks_in references s.words) owners.count u (was u) k.0 y owns k.2 (structure u k.0 k.1).is_as)
+          by_test false = stays (locks_in references s.words) owners.count u (was u) k.0 y owns k.2 (was u) owns.knows owns.take
+
+  pub next_owners : Owners references (counted_next c was s) (next c s)
+  next_owners = record {
+    count = owners.count;
+    locks_are = owners.locks_are;
+    each = each_owns;
+    apart = λ t u x y e f d r g h.
+        let k = begun c.program s.threads t x e in
+        let l = begun c.program s.threads u y f in
+        owners.apart t u k.0 l.0 k.1 l.1 d r (drew_before k.0 x r k.2 g) (drew_before l.0 y r l.2 h);
+    within = λ m t x e. let k = begun c.program s.threads t x e in subst (λ (cfg : Config). owners.count m ≤ cfg.range) (sym k.2.cfg) (owners.within m t k.0 k.1);
+    few = λ m.
+        let flat = next_sum (λ x. one_if_flat (hold_by_list (held_at x.held m))) (λ roots x. refl) (λ n first x. refl) c.program s.threads in
+        let locked = next_sum (λ x. x.counts.locked) (λ roots x. refl) (λ n first x. refl) c.program s.threads in
+        let few = owners.few m in
+        omega (arith, flat, locked, few);
+  }
+
+pub next_keeps_owners : NextKeepsOwners
+next_keeps_owners c references was s structure owners = next_owners c references was s structure owners

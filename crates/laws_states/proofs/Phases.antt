@@ -1,0 +1,185 @@
+-- Which word each event accesses, phase by phase.
+use Rattle.std.proofs.Common.{◌≡◌, ℕ, zero, suc, ◌+◌, ◌-◌, ◌^◌, Bool, true, false, List, Option, Some, None, refl, ap, subst, arith}
+use Rattle.std.specs.Prelude.{◌==◌, nat_lt, slice_get, if◌then◌else◌, IfSome}
+use Rattle.std.specs.List.{AllByRecursion}
+use Rattle.std.proofs.lemmas.Bool.Decides.{nat_tests}
+use Rattle.checked_program.specs.MarkedProgram.{MarkedProgram, IsMarked}
+use Rattle.machine_types.specs.Bounds.{KeptFits, PhaseFits}
+use Rattle.machine_types.specs.Core.{Core}
+use Rattle.machine_types.specs.Events.{wanted}
+use Rattle.machine_types.specs.FoundWords.{Content, Lock, leave_content, content_at}
+use Rattle.machine_types.specs.HeldMonitors.{held_at}
+use Rattle.machine_types.specs.Lawful.{IsLawful}
+use Rattle.machine_types.specs.LockWords.{word_of_lock}
+use Rattle.machine_types.specs.Monitors.{Claim, Has, Tries, HasNot, claim_by, claim, enter_wants, finish_wants, release, leave_wants, freed, count_kept, bit_of}
+use Rattle.machine_types.specs.PlainMemory.{Object}
+use Rattle.machine_types.specs.Structure.{TopIs, is_element_op, IsFlat, IsAs, PhaseShows, Stands}
+use Rattle.machine_types.specs.Threads.{Frame, Attempt, Thread}
+use Rattle.machine_types.specs.Typed.{HasElementIn, HasClass, IsObject, AttemptHolds, PhaseHolds}
+use Rattle.machine_types.specs.Words.{owner_word, bits_word}
+use Rattle.machine_types.specs.declared.access.Access.{Access}
+use Rattle.machine_types.specs.declared.access.Access.TheVariants.{Load, Store, Cas, Add, Or, And, Rest}
+use Rattle.machine_types.specs.declared.lock.Held.{Held}
+use Rattle.machine_types.specs.declared.lock.Kept.{Kept}
+use Rattle.machine_types.specs.declared.lock.Kept.TheVariants as keeps
+use Rattle.machine_types.specs.declared.lock.LockWord.TheVariants as locks
+use Rattle.machine_types.specs.declared.phase.Phase.{Phase}
+use Rattle.machine_types.specs.declared.phase.Phase.TheVariants as phases
+use Rattle.laws_threads.proofs.HeldLists.{held_monitor}
+use Rattle.laws_threads.proofs.HeldBounds.{found}
+use Rattle.laws_states.specs.HeapFacts.{HoldsObjects, HeapFacts}
+use Rattle.laws_states.specs.SiteLaws.{EventsReachSites}
+use Rattle.laws_states.specs.Sites.{NewHeaderOf, Reaches, ReachesIf}
+use Rattle.laws_states.proofs.Accesses.{FitsAccess, FitsIf, at_lock, at_owner, at_bits, at_record_word, look_fits, run_fits, element_site, element_fits}
+
+-- ---- claims
+
+pub has_held : (m : ℕ) (held : Option Held) (attempt : Option Attempt) (h : Held) → claim_by m held attempt ≡ Has h → held ≡ Some h
+has_held m (Some g) attempt h e = cc
+has_held m None None h e = absurd (cc)
+has_held m None (Some a) h e = by_test (a.monitor == m) e
+  where
+    by_test : (b : Bool) → (if b then Tries a else HasNot) ≡ Has h → None ≡ Some h
+    by_test true e = absurd (cc)
+    by_test false e = absurd (cc)
+
+tried_at : (m : ℕ) (held : Option Held) (attempt : Option Attempt) (a : Attempt) → claim_by m held attempt ≡ Tries a → (attempt ≡ Some a) × (a.monitor ≡ m)
+tried_at m (Some h) attempt a e = absurd (cc)
+tried_at m None None a e = absurd (cc)
+tried_at m None (Some b) a e = by_test (b.monitor == m) refl e
+  where
+    by_test : (t : Bool) → (b.monitor == m) ≡ t → (if t then Tries b else HasNot) ≡ Tries a → (Some b ≡ Some a) × (a.monitor ≡ m)
+    by_test true t e =
+        let one : b ≡ a = cc in
+        let same : b.monitor ≡ m = grind (arith, nat_tests, t) in
+        (ap Some one, subst (λ (x : Attempt). x.monitor ≡ m) one same)
+    by_test false t e = absurd (cc)
+
+pub some_of : {A : Type 0} (P : A → Type 0) (o : Option A) (a : A) → o ≡ Some a → IfSome o P → P a
+some_of P o a e h = subst (λ x. IfSome x P) e h
+
+-- ---- what a phase asks beside its types
+
+abbrev pub IsOldPhase : Phase → Type 0
+IsOldPhase (phases.Made a word) = ⊥
+IsOldPhase phase = Unit {0}
+
+abbrev pub Asks : MarkedProgram → List Object → Phase → List Frame → List Held → Type 0
+Asks c objects (phases.Element word stored) fs held = HasElementIn objects stored fs × TopIs c (is_element_op stored) fs
+Asks c objects (phases.FlatOut m a) fs held = IsFlat (held_at held m)
+Asks c objects (phases.FatIn m r toward) fs held = IsFlat (held_at held m)
+Asks c objects phase fs held = Unit {0}
+
+module _ (c : MarkedProgram) (marked : IsMarked c) (objects : List Object) (s : Core) (facts : HeapFacts c objects s) (x : Thread) (attempt : AttemptHolds c (HasClass objects) x.frames x.attempt) (monitors : HoldsObjects (HasClass objects) x)
+    (kept : AllByRecursion (λ h. KeptFits h.kept) x.held) where
+  held_object : (m : ℕ) (h : Held) → held_at x.held m ≡ Some h → IsObject (HasClass objects) m
+  held_object m h e =
+      let object = some_of (λ (g : Held). IsObject (HasClass objects) g.monitor) (held_at x.held m) h e (found (λ g. IsObject (HasClass objects) g.monitor) m x.held monitors.held) in
+      subst (IsObject (HasClass objects)) (held_monitor m x.held h e) object
+
+  pub flat_object : (m : ℕ) (o : Option Held) → held_at x.held m ≡ o → IsFlat o → IsObject (HasClass objects) m
+  flat_object m None e h = absurd h
+  flat_object m (Some h) e k = held_object m h e
+
+  leave_fits : (m : ℕ) (claimed : Claim) → claim x m ≡ claimed → FitsIf c.program objects s (leave_content claimed) (leave_wants x m claimed)
+  leave_fits m (Has h) e = by_test (nat_lt 1 h.depth)
+    where
+      there : held_at x.held m ≡ Some h
+      there = has_held m (held_at x.held m) x.attempt h e
+
+      by_kept : (kept : Kept) → KeptFits kept → FitsAccess c.program objects s (leave_content (Has (record h { kept = kept }))) (release x m kept)
+      by_kept (keeps.Flat n) k = at_lock c marked objects s facts m (Cas m (word_of_lock (locks.Held x.number)) (freed x n)) (held_object m h there) refl
+      by_kept (keeps.Fat r) k = at_owner c marked objects s facts r (Store (owner_word r) 0) k refl
+
+      by_test : (b : Bool) → FitsIf c.program objects s (leave_content (Has h)) (if b then None else Some (release x m h.kept))
+      by_test true = tt
+      by_test false = by_kept h.kept (some_of (λ (g : Held). KeptFits g.kept) (held_at x.held m) h there (found (λ g. KeptFits g.kept) m x.held kept))
+  leave_fits m (Tries a) e = by_inner a.inner
+    where
+      at : (x.attempt ≡ Some a) × (a.monitor ≡ m)
+      at = tried_at m (held_at x.held m) x.attempt a e
+
+      object : IsObject (HasClass objects) m
+      object = let h = subst (AttemptHolds c (HasClass objects) x.frames) at.0 attempt in subst (IsObject (HasClass objects)) at.1 h.0
+
+      by_inner : (inner : ℕ) → FitsIf c.program objects s Lock (finish_wants m inner)
+      by_inner zero = at_lock c marked objects s facts m (Load m) object refl
+      by_inner (suc inner) = tt
+  leave_fits m HasNot e = tt
+
+  enter_fits : (m : ℕ) (claimed : Claim) → IsObject (HasClass objects) m → FitsIf c.program objects s Lock (enter_wants m claimed)
+  enter_fits m (Has h) object = tt
+  enter_fits m (Tries a) object = tt
+  enter_fits m HasNot object = at_lock c marked objects s facts m (Load m) object refl
+
+  pub phase_fits : (phase : Phase) → IsOldPhase phase → PhaseHolds c (HasClass objects) phase x.frames → PhaseFits phase → Asks c objects phase x.frames x.held → FitsIf c.program objects s (content_at c x phase) (wanted c x phase)
+  phase_fits phases.Idle old h b k = tt
+  phase_fits phases.Start old h b k = tt
+  phase_fits phases.Run old h b k = run_fits c marked objects s facts x x.frames h attempt
+  phase_fits (phases.Element word stored) old h b k = element_fits c marked objects s facts word stored (element_site c marked objects s facts word stored x.frames h.0 h.1 k.0 k.1)
+  phase_fits (phases.Made a word) old h b k = absurd old
+  phase_fits (phases.Throw e class) old h b k = look_fits c marked objects s facts x.frames x.attempt attempt
+  phase_fits (phases.Enter m tried) old h b k = enter_fits m (claim x m) h.0
+  phase_fits (phases.Acquire m) old h b k = at_lock c marked objects s facts m (Load m) h.0 refl
+  phase_fits (phases.Take m count) old h b k = at_lock c marked objects s facts m (Cas m (word_of_lock (locks.Free count)) (word_of_lock (locks.Held x.number))) h.0 refl
+  phase_fits (phases.Flag m u) old h b k = at_lock c marked objects s facts m (Cas m (word_of_lock (locks.Held u)) (word_of_lock (locks.Flagged u))) h.0 refl
+  phase_fits (phases.TakeFat m r) old h b k = at_owner c marked objects s facts r (Cas (owner_word r) 0 (x.number + 1)) b refl
+  phase_fits (phases.Leave m a) old h b k = leave_fits m (claim x m) refl
+  phase_fits (phases.Grow m toward) old h b k = at_record_word c marked objects s facts
+  phase_fits (phases.FlatOut m a) old h b k = at_lock c marked objects s facts m (Store m (freed x (count_kept (held_at x.held m)))) (flat_object m (held_at x.held m) refl k) refl
+  phase_fits (phases.Own m r toward) old h b k = at_owner c marked objects s facts r (Store (owner_word r) (x.number + 1)) b refl
+  phase_fits (phases.FatIn m r toward) old h b k = at_lock c marked objects s facts m (Store m (word_of_lock (locks.Fat r))) (flat_object m (held_at x.held m) refl k) refl
+  phase_fits (phases.WaitBit m r) old h b k = at_bits c marked objects s facts r (Or (bits_word r) (bit_of x.number)) b refl
+  phase_fits (phases.WaitOut m r) old h b k = at_owner c marked objects s facts r (Store (owner_word r) 0) b refl
+  phase_fits (phases.WaitLook m r depth) old h b k = at_bits c marked objects s facts r (Load (bits_word r)) b refl
+  phase_fits (phases.Retake m r depth) old h b k = at_owner c marked objects s facts r (Cas (owner_word r) 0 (x.number + 1)) b refl
+  phase_fits (phases.NotifyLook m r) old h b k = at_bits c marked objects s facts r (Load (bits_word r)) b refl
+  phase_fits (phases.NotifyOne m r u) old h b k = at_bits c marked objects s facts r (And (bits_word r) (2 ^ 64 - 1 - bit_of u)) b.0 refl
+  phase_fits (phases.NotifyAll m r) old h b k = at_bits c marked objects s facts r (Store (bits_word r) 0) b refl
+  phase_fits (phases.Ending e) old h b k = tt
+  phase_fits (phases.Ended e) old h b k = tt
+
+-- ---- what the phase asks is so
+
+module _ (c : MarkedProgram) (objects : List Object) (was : Phase) (fs : List Frame) (held : List Held) (attempt : Option Attempt) (stands : Stands c was fs held attempt) where
+  pub asked : (phase : Phase) → IsAs phase was → ((word : ℕ) (stored : Option ℕ) → phase ≡ phases.Element word stored → HasElementIn objects stored fs) → Asks c objects phase fs held
+  asked (phases.Element word stored) e elements = (elements word stored refl, subst (λ y. PhaseShows c y fs stands.shown held attempt) e stands.phase_shows)
+  asked (phases.FlatOut m a) e elements = let grown : PhaseShows c (phases.FlatOut m a) fs stands.shown held attempt = subst (λ y. PhaseShows c y fs stands.shown held attempt) e stands.phase_shows in grown.flat
+  asked (phases.FatIn m r toward) e elements = let grown : PhaseShows c (phases.FatIn m r toward) fs stands.shown held attempt = subst (λ y. PhaseShows c y fs stands.shown held attempt) e stands.phase_shows in grown.flat
+  asked phase e elements = tt
+
+-- ---- the law
+
+module _ (c : MarkedProgram) (marked : IsMarked c) (objects : List Object) (s : Core) (facts : HeapFacts c objects s) (t : ℕ) (x : Thread) (there : slice_get s.threads t ≡ Some x) (lawful : IsLawful c x) where
+  pub old_fits : IsOldPhase x.phase → FitsIf c.program objects s (content_at c x x.phase) (wanted c x x.phase)
+  old_fits old =
+      let typed = facts.typed.threads t x there in
+      phase_fits c marked objects s facts x typed.attempt (facts.monitors t x there) lawful.bounded.kept x.phase old typed.phase lawful.bounded.phase
+      (asked c objects lawful.was x.frames x.held x.attempt lawful.structured.stands x.phase lawful.structured.is_as (λ word stored e. facts.typed.elements t x word stored there e))
+
+  reaches : (content : Content) (access : Access) → FitsAccess c.program objects s content access → Reaches c.program objects s content access
+  reaches content Rest f = tt
+  reaches content (Load w) f = record { site = f.site; there = f.there; word = f.word; suits = f.suits }
+  reaches content (Store w v) f = record { site = f.site; there = f.there; word = f.word; suits = f.suits }
+  reaches content (Cas w is v) f = record { site = f.site; there = f.there; word = f.word; suits = f.suits }
+  reaches content (Add w v) f = record { site = f.site; there = f.there; word = f.word; suits = f.suits }
+  reaches content (Or w v) f = record { site = f.site; there = f.there; word = f.word; suits = f.suits }
+  reaches content (And w v) f = record { site = f.site; there = f.there; word = f.word; suits = f.suits }
+
+  reaches_if : (content : Content) (access : Option Access) → FitsIf c.program objects s content access → ReachesIf c.program objects s content access
+  reaches_if content None f = tt
+  reaches_if content (Some access) f = reaches content access f
+
+  by_phase : (phase : Phase) → x.phase ≡ phase → (IsOldPhase phase → FitsIf c.program objects s (content_at c x phase) (wanted c x phase)) → ReachesIf c.program objects s (content_at c x phase) (wanted c x phase)
+  by_phase (phases.Made a word) e fits = record { site = NewHeaderOf a; there = (t, x, word, there, e); word = refl; suits = tt }
+  by_phase phases.Idle e fits = tt
+  by_phase phases.Start e fits = tt
+  by_phase phases.Run e fits = reaches_if (content_at c x phases.Run) (wanted c x phases.Run) (fits tt)
+  by_phase (phases.Element word stored) e fits = reaches_if (content_at c x (phases.Element word stored)) (wanted c x (phases.Element word stored)) (fits tt)
+  by_phase phase e fits = reaches_if (content_at c x phase) (wanted c x phase) (fits tt)
+
+  pub event_reaches : ReachesIf c.program objects s (content_at c x x.phase) (wanted c x x.phase)
+  event_reaches = by_phase x.phase refl old_fits
+
+pub events_reach : EventsReachSites
+events_reach c objects s t x marked facts there lawful = event_reaches c marked objects s facts t x there lawful

@@ -1,0 +1,191 @@
+-- Most events change nothing of what the words say of locks.
+use Rattle.std.proofs.Common.{◌≡◌, ◌≢◌, ◌⊎◌, inl, inr, ℕ, ◌+◌, ◌<◌, nat_lt, nat_le, Bool, true, false, cond, List, ◌∷◌, Option, Some, None, refl, sym, ap, ◌∙◌, arith}
+use Rattle.std.specs.Prelude.{slice_get, slice_index, ◌==◌, ◌||◌, if◌then◌else◌}
+use Rattle.std.proofs.lemmas.Bool.Decides.{nat_tests}
+use Rattle.jvm_types.specs.Numbers.{has_number}
+use Rattle.jvm_types.specs.declared.class_numbers.TheConstants.{INT_ARRAY_CLASS}
+use Rattle.jvm_types.specs.declared.program.Program.{Program}
+use Rattle.jvm_types.specs.declared.program.Target.{Target}
+use Rattle.checked_program.specs.MarkedProgram.{MarkedProgram, IsMarked}
+use Rattle.machine_types.specs.Accesses.{accessed, left_by, words_after}
+use Rattle.machine_types.specs.declared.access.Access.{Access}
+use Rattle.machine_types.specs.declared.access.Access.TheVariants.{Store, Add}
+use Rattle.machine_types.specs.Core.{Core}
+use Rattle.machine_types.specs.Events.{wanted}
+use Rattle.machine_types.specs.FoundWords.{Content, Bits, IntPlace, ReferencePlace, Any, effect_content, run_content, content_at}
+use Rattle.machine_types.specs.Frames.{Top, top_of, effect_at}
+use Rattle.machine_types.specs.Instructions.{has_print_left, effect_wants, run_wants}
+use Rattle.machine_types.specs.Lawful.{IsLawful}
+use Rattle.machine_types.specs.LockWords.{lock_of}
+use Rattle.machine_types.specs.NewObjects.{size_by}
+use Rattle.machine_types.specs.Owners.{lock_at, owner_at, locks_in, references_of}
+use Rattle.machine_types.specs.PlainMemory.{Object}
+use Rattle.machine_types.specs.Threads.{Thread}
+use Rattle.machine_types.specs.Words.{owner_word, header_word, header_class, header_length, array_size, object_size}
+use Rattle.jvm_types.specs.declared.fixed_words.TheConstants.{NEXT_FREE_WORD, NEXT_TICKET_WORD, NEXT_RECORD_WORD, MONITOR_RECORDS}
+use Rattle.machine_types.specs.declared.effect.Effect.{Effect}
+use Rattle.machine_types.specs.declared.effect.Effect.TheVariants.{Goes, Reads, Writes, Calls, Indexes, Measures, Raises, Makes, Prints}
+use Rattle.machine_types.specs.declared.lock.LockWord.TheVariants as locks
+use Rattle.machine_types.specs.declared.phase.Phase.{Phase}
+use Rattle.machine_types.specs.declared.phase.Phase.TheVariants as phases
+use Rattle.laws_states.specs.HeapFacts.{HeapFacts, objects_by}
+use Rattle.laws_states.specs.SiteLaws.{EventsReachSites, SitesDiffer, SitesLieInside}
+use Rattle.laws_states.specs.Sites.{Site, Counter, OwnerOf, LockOf, NewHeaderOf, site_word, IsThere, Suits}
+use Rattle.laws_states.proofs.Lists.{set_there}
+use Rattle.laws_states.proofs.EventWords.{IsLeft, phase_stores, word_at}
+use Rattle.laws_states.proofs.LeftSmall.{PhaseStores}
+use Rattle.laws_states.proofs.LeftStands.{no_access, loaded, looked, checked}
+use Rattle.laws_states.proofs.TopStores.{IsPlace, StoresFit}
+use Rattle.laws_states.proofs.LockViews.{is_there}
+use Rattle.laws_states.proofs.WordViews.{has_object, views_same, record_there}
+
+-- ---- the words that say of locks
+
+abbrev pub IsLockSite : Site → Type 0
+IsLockSite (LockOf reference) = Unit {0}
+IsLockSite (OwnerOf r) = Unit {0}
+IsLockSite (Counter word) = word ≡ NEXT_RECORD_WORD
+IsLockSite site = ⊥
+
+place_suits_none : (content : Content) (site : Site) → IsPlace content → IsLockSite site → Suits content site → ⊥
+place_suits_none IntPlace (LockOf r) is lock suits = suits
+place_suits_none IntPlace (OwnerOf r) is lock suits = suits
+place_suits_none IntPlace (Counter w) is lock suits = suits
+place_suits_none IntPlace site is lock suits = lock
+place_suits_none ReferencePlace (LockOf r) is lock suits = suits
+place_suits_none ReferencePlace (OwnerOf r) is lock suits = suits
+place_suits_none ReferencePlace (Counter w) is lock suits = suits
+place_suits_none ReferencePlace site is lock suits = lock
+place_suits_none content site is lock suits = is
+
+bits_suit_none : (site : Site) → IsLockSite site → Suits Bits site → ⊥
+bits_suit_none (LockOf r) lock suits = suits
+bits_suit_none (OwnerOf r) lock suits = suits
+bits_suit_none (Counter w) lock suits = suits
+bits_suit_none site lock suits = lock
+
+-- another counter, or a header, is none of them
+any_is_record : (site : Site) → IsLockSite site → Suits Any site → site_word site ≡ NEXT_RECORD_WORD
+any_is_record (Counter w) lock suits = lock
+any_is_record (LockOf r) lock suits = absurd suits
+any_is_record (OwnerOf r) lock suits = absurd suits
+any_is_record site lock suits = absurd lock
+
+-- ---- accesses that leave them
+
+abbrev Same : (got : ℕ) → ℕ → Type 0
+Same got n = n ≡ got
+
+module _ (site : Site) (lock : IsLockSite site) (access : Access) (got : ℕ) (at : accessed access ≡ site_word site) where
+  counter_not : (a : Access) → Some a ≡ Some access → accessed a ≢ NEXT_RECORD_WORD → Suits Any site → left_by access got ≡ got
+  counter_not a e d suits = let same : a ≡ access = cc in absurd (d (ap accessed same ∙ at ∙ any_is_record site lock suits))
+
+  effect_leaves : (p : Program) (s : Thread) (pc : ℕ) (target : Target) (e : Effect) → StoresFit p target e → effect_wants s pc e ≡ Some access → Suits (effect_content p target e) site → left_by access got ≡ got
+  effect_leaves p s pc target (Goes to made) fits w suits = checked (Same got) access got refl (nat_le to pc) s.attempt w
+  effect_leaves p s pc target (Calls number) fits w suits = looked (Same got) access got refl s.attempt w
+  effect_leaves p s pc target (Reads v) fits w suits = loaded (Same got) access got refl _ w
+  effect_leaves p s pc target (Writes v word) fits w suits = absurd (place_suits_none (effect_content p target (Writes v word)) site fits.0 lock suits)
+  effect_leaves p s pc target (Indexes array index stored) fits w suits = loaded (Same got) access got refl _ w
+  effect_leaves p s pc target (Measures array) fits w suits = loaded (Same got) access got refl _ w
+  effect_leaves p s pc target (Raises x) fits w suits = loaded (Same got) access got refl _ w
+  effect_leaves p s pc target (Makes word size) fits w suits = counter_not (Add NEXT_FREE_WORD size) w (λ e. absurd (omega (arith, e))) suits
+  effect_leaves p s pc target (Prints n) fits w suits = by_limit (has_print_left s) w
+    where
+      by_limit : (b : Bool) → cond b (Some (Add NEXT_TICKET_WORD 1)) None ≡ Some access → left_by access got ≡ got
+      by_limit true w = counter_not (Add NEXT_TICKET_WORD 1) w (λ e. absurd (omega (arith, e))) suits
+      by_limit false w = no_access (Same got) access got refl w
+  effect_leaves p s pc target e fits w suits = no_access (Same got) access got refl w
+
+  run_leaves : (p : Program) (s : Thread) (top : Option Top) → ((x : Top) → top ≡ Some x → StoresFit p x.target (effect_at p x)) → run_wants p s top ≡ Some access → Suits (run_content p top) site → left_by access got ≡ got
+  run_leaves p s None fits w suits = no_access (Same got) access got refl w
+  run_leaves p s (Some x) fits w suits = effect_leaves p s x.frame.pc x.target (effect_at p x) (fits x refl) w suits
+
+-- ---- phases
+
+abbrev pub IsQuiet : Phase → Type 0
+IsQuiet phases.Run = Unit {0}
+IsQuiet (phases.Element word stored) = Unit {0}
+IsQuiet (phases.Made a word) = Unit {0}
+IsQuiet (phases.WaitBit m r) = Unit {0}
+IsQuiet (phases.NotifyOne m r u) = Unit {0}
+IsQuiet (phases.NotifyAll m r) = Unit {0}
+IsQuiet phase = ⊥
+
+quiet_leaves : (c : MarkedProgram) (s : Thread) (phase : Phase) (site : Site) (access : Access) (got : ℕ) → IsQuiet phase → PhaseStores c s phase → ((a word : ℕ) → phase ≡ phases.Made a word → header_word a ≢ NEXT_RECORD_WORD)
+    → IsLockSite site → wanted c s phase ≡ Some access → Suits (content_at c s phase) site → accessed access ≡ site_word site → left_by access got ≡ got
+quiet_leaves c s phases.Run site access got quiet fits apart lock w suits at = run_leaves site lock access got at c.program s (top_of c.program s.frames) fits w suits
+quiet_leaves c s (phases.Element word stored) site access got quiet fits apart lock w suits at = absurd (place_suits_none IntPlace site tt lock suits)
+quiet_leaves c s (phases.Made a word) site access got quiet fits apart lock w suits at = counter_not site lock access got at (Store (header_word a) word) w (apart a word refl) suits
+quiet_leaves c s (phases.WaitBit m r) site access got quiet fits apart lock w suits at = absurd (bits_suit_none site lock suits)
+quiet_leaves c s (phases.NotifyOne m r u) site access got quiet fits apart lock w suits at = absurd (bits_suit_none site lock suits)
+quiet_leaves c s (phases.NotifyAll m r) site access got quiet fits apart lock w suits at = absurd (bits_suit_none site lock suits)
+quiet_leaves c s phase site access got quiet fits apart lock w suits at = absurd quiet
+
+-- ---- the words
+
+some_words : (a : ℕ) (p : Program) (word : ℕ) → a < a + size_by p word
+some_words a p word = by_test (header_class word == INT_ARRAY_CLASS)
+  where
+    by_test : (b : Bool) → a < a + (if b then array_size (header_length word) else object_size p (header_class word))
+    by_test true = omega arith
+    by_test false = omega arith
+
+module _ (differ : SitesDiffer) (inside : SitesLieInside) (reach : EventsReachSites) (c : MarkedProgram) (objects : List Object) (s : Core) (t : ℕ) (x : Thread) (marked : IsMarked c) (heap : HeapFacts c objects s)
+    (there : slice_get s.threads t ≡ Some x) (lawful : IsLawful c x) (quiet : IsQuiet x.phase) where
+  abbrev after : List ℕ
+  after = words_after s.words (wanted c x x.phase)
+
+  same_word : (site : Site) → IsLockSite site → IsThere c.program objects s site → slice_index (words_after s.words (wanted c x x.phase)) (site_word site) ≡ slice_index s.words (site_word site)
+  same_word site lock is = by_cases (word_at c objects s t x marked heap there lawful differ inside reach site is)
+    where
+      by_cases : (slice_index (words_after s.words (wanted c x x.phase)) (site_word site) ≡ slice_index s.words (site_word site)) ⊎ IsLeft c objects s t x marked heap there lawful site
+          → slice_index (words_after s.words (wanted c x x.phase)) (site_word site) ≡ slice_index s.words (site_word site)
+      by_cases (inl e) = e
+      by_cases (inr k) = k.left ∙ quiet_leaves c x x.phase site k.access (slice_index s.words (site_word site)) quiet (phase_stores c objects s t x marked heap there lawful)
+          (λ a word e f. made_apart a word e f) lock k.wants k.suits k.word
+        where
+          made_apart : (a word : ℕ) → x.phase ≡ phases.Made a word → header_word a ≢ NEXT_RECORD_WORD
+          made_apart a word e f = let same : NewHeaderOf a ≡ Counter NEXT_RECORD_WORD = differ c objects s (NewHeaderOf a) (Counter NEXT_RECORD_WORD) marked heap (t, x, word, there, e) (record_there c objects s) f in cc
+
+  old_lock : (m : ℕ) → lock_at (references_of objects) (words_after s.words (wanted c x x.phase)) m ≡ lock_at (references_of objects) s.words m
+  old_lock m = by_test (has_number (references_of objects) m) refl
+    where
+      by_test : (b : Bool) → has_number (references_of objects) m ≡ b → cond b (lock_of (slice_index (words_after s.words (wanted c x x.phase)) m)) (locks.Free 0) ≡ cond b (lock_of (slice_index s.words m)) (locks.Free 0)
+      by_test true e = ap lock_of (same_word (LockOf m) tt (has_object objects m e))
+      by_test false e = refl
+
+  -- the lock of a new object is free
+  new_lock : (a word : ℕ) → x.phase ≡ phases.Made a word → (m : ℕ) → lock_at (a ∷ references_of objects) (words_after s.words (wanted c x x.phase)) m ≡ lock_at (references_of objects) s.words m
+  new_lock a word e m = by_test (a == m) refl (old_lock m)
+    where
+      zero_there : slice_index s.words a ≡ 0
+      zero_there = let new = heap.new_objects.each t x a word there e in new.empty a (omega arith) (some_words a c.program word)
+
+      stays : slice_index (words_after s.words (wanted c x x.phase)) a ≡ slice_index s.words a
+      stays = ap (λ (phase : Phase). slice_index (words_after s.words (wanted c x phase)) a) e ∙ set_there s.words (header_word a) a word (λ k. omega (arith, k))
+
+      free : (b : Bool) → cond b (lock_of 0) (locks.Free 0) ≡ locks.Free 0
+      free true = refl
+      free false = refl
+
+      by_test : (b : Bool) → (a == m) ≡ b → lock_at (references_of objects) (words_after s.words (wanted c x x.phase)) m ≡ lock_at (references_of objects) s.words m
+          → cond (b || has_number (references_of objects) m) (lock_of (slice_index (words_after s.words (wanted c x x.phase)) m)) (locks.Free 0) ≡ lock_at (references_of objects) s.words m
+      by_test true f old =
+          let same : a ≡ m = is_there a m f in
+          ap (λ (j : ℕ). lock_of (slice_index (words_after s.words (wanted c x x.phase)) j)) (sym same) ∙ ap lock_of (stays ∙ zero_there)
+          ∙ sym (ap (λ (j : ℕ). cond (has_number (references_of objects) m) (lock_of j) (locks.Free 0)) (ap (slice_index s.words) (sym same) ∙ zero_there) ∙ free (has_number (references_of objects) m))
+      by_test false f old = old
+
+  pub quiet_view : locks_in (references_of (objects_by c.program x.phase objects)) (words_after s.words (wanted c x x.phase)) ≡ locks_in (references_of objects) s.words
+  quiet_view = views_same (references_of objects) (references_of (objects_by c.program x.phase objects)) s.words (words_after s.words (wanted c x x.phase)) (by_phase x.phase refl) owner (same_word (Counter NEXT_RECORD_WORD) refl (record_there c objects s))
+    where
+      by_phase : (phase : Phase) → x.phase ≡ phase → (m : ℕ) → lock_at (references_of (objects_by c.program phase objects)) (words_after s.words (wanted c x x.phase)) m ≡ lock_at (references_of objects) s.words m
+      by_phase (phases.Made a word) e m = new_lock a word e m
+      by_phase phase e m = old_lock m
+
+      owner : (r : ℕ) → owner_at (words_after s.words (wanted c x x.phase)) r ≡ owner_at s.words r
+      owner r = by_test (nat_lt r MONITOR_RECORDS) refl
+        where
+          by_test : (b : Bool) → nat_lt r MONITOR_RECORDS ≡ b → cond b (slice_index (words_after s.words (wanted c x x.phase)) (owner_word r)) 0 ≡ cond b (slice_index s.words (owner_word r)) 0
+          by_test true e = let low : r < MONITOR_RECORDS = grind (arith, nat_tests, e) in same_word (OwnerOf r) tt low
+          by_test false e = refl

@@ -1,0 +1,217 @@
+-- No word stands for two things.
+use Rattle.std.proofs.Common.{◌≡◌, ◌≢◌, ◌⊎◌, inl, inr, ℕ, ◌+◌, ◌<◌, ◌≤◌, List, Some, refl, sym, ap, subst, ◌∙◌, arith}
+use Rattle.std.specs.Prelude.{Bool, true, false, Contains, slice_get, slice_index, ◌==◌, if◌then◌else◌}
+use Rattle.lists.proofs.ListLaws.{same_some}
+use Rattle.jvm_types.specs.ProgramInvariant.{IsProgram, words_of}
+use Rattle.jvm_types.specs.declared.class_numbers.TheConstants.{INT_ARRAY_CLASS}
+use Rattle.jvm_types.specs.declared.program.Program.{Program}
+use Rattle.checked_program.specs.MarkedProgram.{MarkedProgram, IsMarked}
+use Rattle.machine_types.specs.Core.{Core}
+use Rattle.machine_types.specs.NewObjects.{size_by, IsNewObject}
+use Rattle.machine_types.specs.ObjectsApart.{IsBeside, IsOutside, LieApart}
+use Rattle.machine_types.specs.PlainMemory.{Object, object_end, start_objects, start_statics}
+use Rattle.jvm_types.specs.declared.fixed_words.TheConstants.{FIRST_READY_WORD, NEXT_FREE_WORD}
+use Rattle.machine_types.specs.Threads.{Thread}
+use Rattle.machine_types.specs.Words.{header_class, header_length, array_size, object_size}
+use Rattle.machine_types.specs.declared.phase.Phase.TheVariants as phases
+use Rattle.machine_types.specs.StartLaws.{StartLiesApart}
+use Rattle.laws_states.specs.HeapFacts.{HeapFacts}
+use Rattle.laws_states.specs.SiteLaws.{SitesDiffer, SitesLieInside}
+use Rattle.laws_states.specs.Sites.{Site, Counter, OwnerOf, BitsOf, LockOf, HeaderOf, ValueOf, NewHeaderOf, StaticAt, site_word, HasStatic, IsThere}
+use Rattle.laws_states.proofs.Lists.{contained_got, same_or_not}
+
+-- ---- the words that belong together
+
+pub data Block : Type 0 where
+  Fixed : Block
+  Old : (reference : ℕ) → Block
+  New : (reference : ℕ) → Block
+  Single : (word : ℕ) → Block
+
+abbrev pub block : Site → Block
+block (Counter word) = Fixed
+block (OwnerOf r) = Fixed
+block (BitsOf r) = Fixed
+block (LockOf reference) = Old reference
+block (HeaderOf reference) = Old reference
+block (ValueOf reference index) = Old reference
+block (NewHeaderOf reference) = New reference
+block (StaticAt word) = Single word
+
+pub record InObject (objects : List Object) (reference x : ℕ) : Type 0 where
+  pub object : Object
+  pub there : Contains objects object
+  pub is : object.reference ≡ reference
+  pub from : reference ≤ x
+  pub to : x < object_end object
+
+pub record InNew (p : Program) (s : Core) (reference x : ℕ) : Type 0 where
+  pub t : ℕ
+  pub thread : Thread
+  pub word : ℕ
+  pub there : slice_get s.threads t ≡ Some thread
+  pub made : thread.phase ≡ phases.Made reference word
+  pub from : reference ≤ x
+  pub to : x < reference + size_by p word
+
+abbrev pub Inside : Program → List Object → Core → Block → (x : ℕ) → Type 0
+Inside p objects s Fixed x = (0 < x) × (x < FIRST_READY_WORD)
+Inside p objects s (Old reference) x = InObject objects reference x
+Inside p objects s (New reference) x = InNew p s reference x
+Inside p objects s (Single word) x = HasStatic p word × (x ≡ word)
+
+pub two_at_least : (p : Program) (word : ℕ) → 2 ≤ size_by p word
+two_at_least p word = by_test (header_class word == INT_ARRAY_CLASS)
+  where
+    by_test : (b : Bool) → 2 ≤ (if b then array_size (header_length word) else object_size p (header_class word))
+    by_test true = omega arith
+    by_test false = omega arith
+
+pub in_block : (p : Program) (objects : List Object) (s : Core) (site : Site) → IsThere p objects s site → Inside p objects s (block site) (site_word site)
+in_block p objects s (Counter word) k = (omega (arith, k.0), omega (arith, k.1))
+in_block p objects s (OwnerOf r) k = (omega arith, omega (arith, k))
+in_block p objects s (BitsOf r) k = (omega arith, omega (arith, k))
+in_block p objects s (LockOf reference) k = record { object = k.0; there = k.1; is = k.2; from = omega arith; to = omega (arith, k.2) }
+in_block p objects s (HeaderOf reference) k = record { object = k.0; there = k.1; is = k.2; from = omega arith; to = omega (arith, k.2) }
+in_block p objects s (ValueOf reference index) k = record { object = k.0; there = k.1; is = k.2; from = omega arith; to = omega (arith, k.2, k.3) }
+in_block p objects s (NewHeaderOf reference) k = record { t = k.0; thread = k.1; word = k.2; there = k.3; made = k.4; from = omega arith; to = omega (arith, two_at_least p k.2) }
+in_block p objects s (StaticAt word) k = (k, refl)
+
+-- ---- blocks are apart
+
+module _ (lies_apart : StartLiesApart) (c : MarkedProgram) (objects : List Object) (s : Core) (marked : IsMarked c) (facts : HeapFacts c objects s) where
+  abbrev In : Block → ℕ → Type 0
+  In b x = Inside c.program objects s b x
+
+  is_program : IsProgram c.program
+  is_program = marked.checked.program
+
+  pub static_low : (word : ℕ) → HasStatic c.program word → (FIRST_READY_WORD ≤ word) × (word < words_of c.program)
+  static_low word k =
+      let start : LieApart c.program (start_objects c.program) (start_statics c.program) (words_of c.program) = lies_apart c.program is_program in
+      let there = contained_got (start_statics c.program) k.0 k.1 in
+      (omega (arith, start.statics_begin k.1.0 k.0 there, k.2), omega (arith, (start.statics_below k.1.0 k.0 there).0, k.2))
+
+  pub new_at : (reference x : ℕ) (k : InNew c.program s reference x) → IsNewObject c.program objects s reference (size_by c.program k.word)
+  new_at reference x k = facts.new_objects.each k.t k.thread reference k.word k.there k.made
+
+  old_begins : (reference x : ℕ) → InObject objects reference x → FIRST_READY_WORD ≤ x
+  old_begins reference x k = omega (arith, facts.apart.begin k.there.0 k.object (contained_got objects k.object k.there), k.is, k.from)
+
+  new_begins : (reference x : ℕ) → InNew c.program s reference x → words_of c.program ≤ x
+  new_begins reference x k = omega (arith, (new_at reference x k).begins, k.from)
+
+  old_old : (a b x : ℕ) → InObject objects a x → InObject objects b x → a ≡ b
+  old_old a b x k l = by_index (same_or_not k.there.0 l.there.0)
+    where
+      by_index : (k.there.0 ≡ l.there.0) ⊎ (k.there.0 ≢ l.there.0) → a ≡ b
+      by_index (inl e) =
+          let one : k.object ≡ l.object = same_some (sym (contained_got objects k.object k.there) ∙ (ap (slice_get objects) e ∙ contained_got objects l.object l.there)) in
+          sym k.is ∙ (ap (λ (o : Object). o.reference) one ∙ l.is)
+      by_index (inr n) = by_side (facts.apart.beside k.there.0 l.there.0 k.object l.object (contained_got objects k.object k.there) (contained_got objects l.object l.there) n)
+        where
+          by_side : IsBeside k.object l.object → a ≡ b
+          by_side (inl h) = absurd (omega (arith, h, k.to, l.from, l.is))
+          by_side (inr h) = absurd (omega (arith, h, l.to, k.from, k.is))
+
+  old_new : (a b x : ℕ) → InObject objects a x → InNew c.program s b x → ⊥
+  old_new a b x k l = by_side ((new_at b x l).beside k.object k.there)
+    where
+      by_side : (object_end k.object ≤ b) ⊎ (b + size_by c.program l.word ≤ k.object.reference) → ⊥
+      by_side (inl h) = omega (arith, h, k.to, l.from)
+      by_side (inr h) = omega (arith, h, l.to, k.from, k.is)
+
+  old_single : (a w x : ℕ) → InObject objects a x → HasStatic c.program w → x ≡ w → ⊥
+  old_single a w x k v e = by_side (facts.apart.mixed k.there.0 v.1.0 k.object v.0 (contained_got objects k.object k.there) (contained_got (start_statics c.program) v.0 v.1))
+    where
+      by_side : IsOutside k.object v.0.word → ⊥
+      by_side (inl h) = omega (arith, h, v.2, e, k.from, k.is)
+      by_side (inr h) = omega (arith, h, v.2, e, k.to)
+
+  made_is : (x y : Thread) (a b word other : ℕ) → x ≡ y → x.phase ≡ phases.Made a word → y.phase ≡ phases.Made b other → a ≡ b
+  made_is x y a b word other e h k = made_same (sym h ∙ (ap (λ (z : Thread). z.phase) e ∙ k))
+    where
+      made_same : phases.Made a word ≡ phases.Made b other → a ≡ b
+      made_same e = cc
+
+  new_new : (a b x : ℕ) → InNew c.program s a x → InNew c.program s b x → a ≡ b
+  new_new a b x k l = by_thread (same_or_not k.t l.t)
+    where
+      by_thread : (k.t ≡ l.t) ⊎ (k.t ≢ l.t) → a ≡ b
+      by_thread (inl e) = made_is k.thread l.thread a b k.word l.word (same_some (sym k.there ∙ (ap (slice_get s.threads) e ∙ l.there))) k.made l.made
+      by_thread (inr n) = by_side (facts.new_objects.apart k.t l.t k.thread l.thread a b k.word l.word k.there l.there n k.made l.made)
+        where
+          by_side : (a + size_by c.program k.word ≤ b) ⊎ (b + size_by c.program l.word ≤ a) → a ≡ b
+          by_side (inl h) = absurd (omega (arith, h, k.to, l.from))
+          by_side (inr h) = absurd (omega (arith, h, l.to, k.from))
+
+  pub same_block : (b d : Block) (x : ℕ) → In b x → In d x → b ≡ d
+  same_block Fixed Fixed x k l = refl
+  same_block Fixed (Old a) x k l = absurd (omega (arith, k.1, old_begins a x l))
+  same_block Fixed (New a) x k l = absurd (omega (arith, k.1, new_begins a x l))
+  same_block Fixed (Single w) x k l = absurd (omega (arith, k.1, l.1, (static_low w l.0).0))
+  same_block (Old a) Fixed x k l = absurd (omega (arith, l.1, old_begins a x k))
+  same_block (Old a) (Old b) x k l = ap Old (old_old a b x k l)
+  same_block (Old a) (New b) x k l = absurd (old_new a b x k l)
+  same_block (Old a) (Single w) x k l = absurd (old_single a w x k l.0 l.1)
+  same_block (New a) Fixed x k l = absurd (omega (arith, l.1, new_begins a x k))
+  same_block (New a) (Old b) x k l = absurd (old_new b a x l k)
+  same_block (New a) (New b) x k l = ap New (new_new a b x k l)
+  same_block (New a) (Single w) x k l = absurd (omega (arith, new_begins a x k, l.1, (static_low w l.0).1))
+  same_block (Single w) Fixed x k l = absurd (omega (arith, l.1, k.1, (static_low w k.0).0))
+  same_block (Single w) (Old a) x k l = absurd (old_single a w x l k.0 k.1)
+  same_block (Single w) (New a) x k l = absurd (omega (arith, new_begins a x l, k.1, (static_low w k.0).1))
+  same_block (Single w) (Single v) x k l = ap Single (sym k.1 ∙ l.1)
+
+  -- ---- and so are the sites of one block
+
+  one_old : (a b : ℕ) → Old a ≡ Old b → a ≡ b
+  one_old a b e = cc
+
+  pub one_site : (site other : Site) → IsThere c.program objects s site → IsThere c.program objects s other → block site ≡ block other → site_word site ≡ site_word other → site ≡ other
+  one_site (Counter w) (Counter v) k l b e = ap Counter e
+  one_site (Counter w) (OwnerOf r) k l b e = absurd (omega (arith, k.1, e))
+  one_site (Counter w) (BitsOf r) k l b e = absurd (omega (arith, k.1, e))
+  one_site (OwnerOf r) (Counter w) k l b e = absurd (omega (arith, l.1, e))
+  one_site (OwnerOf r) (OwnerOf q) k l b e = ap OwnerOf (omega (arith, e))
+  one_site (OwnerOf r) (BitsOf q) k l b e = absurd (omega (arith, e))
+  one_site (BitsOf r) (Counter w) k l b e = absurd (omega (arith, l.1, e))
+  one_site (BitsOf r) (OwnerOf q) k l b e = absurd (omega (arith, e))
+  one_site (BitsOf r) (BitsOf q) k l b e = ap BitsOf (omega (arith, e))
+  one_site (LockOf x) (LockOf y) k l b e = ap LockOf e
+  one_site (LockOf x) (HeaderOf y) k l b e = absurd (omega (arith, one_old x y b, e))
+  one_site (LockOf x) (ValueOf y j) k l b e = absurd (omega (arith, one_old x y b, e))
+  one_site (HeaderOf x) (LockOf y) k l b e = absurd (omega (arith, one_old x y b, e))
+  one_site (HeaderOf x) (HeaderOf y) k l b e = ap HeaderOf (one_old x y b)
+  one_site (HeaderOf x) (ValueOf y j) k l b e = absurd (omega (arith, one_old x y b, e))
+  one_site (ValueOf x i) (LockOf y) k l b e = absurd (omega (arith, one_old x y b, e))
+  one_site (ValueOf x i) (HeaderOf y) k l b e = absurd (omega (arith, one_old x y b, e))
+  one_site (ValueOf x i) (ValueOf y j) k l b e =
+      let one = one_old x y b in
+      let index : i ≡ j = omega (arith, one, e) in
+      ap (λ z. ValueOf z i) one ∙ ap (ValueOf y) index
+  one_site (NewHeaderOf x) (NewHeaderOf y) k l b e = ap NewHeaderOf (omega (arith, e))
+  one_site (StaticAt w) (StaticAt v) k l b e = ap StaticAt e
+  one_site site other k l b e = absurd (cc)
+
+  -- ---- below the next free word
+
+  pub block_low : (b : Block) (x : ℕ) → In b x → (0 < x) × (x < slice_index s.words NEXT_FREE_WORD) × (x < c.program.heap)
+  block_low Fixed x k = (k.0, omega (arith, k.1, facts.begins), omega (arith, k.1, is_program.words))
+  block_low (Old a) x k =
+      let there = contained_got objects k.object k.there in
+      (omega (arith, old_begins a x k), omega (arith, k.to, facts.apart.below k.there.0 k.object there), omega (arith, k.to, facts.apart.inside k.there.0 k.object there))
+  block_low (New a) x k =
+      let new = new_at a x k in
+      (omega (arith, new.begins, k.from), omega (arith, k.to, new.below), omega (arith, k.to, new.inside))
+  block_low (Single w) x k =
+      let low = static_low w k.0 in
+      (omega (arith, low.0, k.1), omega (arith, low.1, k.1, facts.begins), omega (arith, low.1, k.1, is_program.words))
+
+pub sites_apart : StartLiesApart → SitesDiffer
+sites_apart lies c objects s site other marked facts k l e =
+    one_site lies c objects s marked facts site other k l
+    (same_block lies c objects s marked facts (block site) (block other) (site_word site) (in_block c.program objects s site k) (subst (Inside c.program objects s (block other)) (sym e) (in_block c.program objects s other l))) e
+
+pub sites_inside : StartLiesApart → SitesLieInside
+sites_inside lies c objects s site marked facts k = omega (arith, (block_low lies c objects s marked facts (block site) (site_word site) (in_block c.program objects s site k)).2, facts.unused.many)

@@ -1,0 +1,111 @@
+-- The facts on states hold at the start, and stay, so they hold in every state that a run reaches.
+use Rattle.std.proofs.Common.{◌≡◌, false, List, [], ◌∷◌}
+use Rattle.checked_program.specs.MarkedProgram.{MarkedProgram, IsMarked}
+use Rattle.machine_types.specs.Core.{Core, Happening, Of, NextPart, start, happened, all_happened, core}
+use Rattle.machine_types.specs.Owners.{references_of}
+use Rattle.machine_types.specs.PlainMemory.{start_objects}
+use Rattle.machine_types.specs.StartLaws.{phase_at_start, StartIsStructured, StartOwns, StartWaits}
+use Rattle.machine_types.specs.declared.config.Config.{Config}
+use Rattle.laws_threads.specs.PartLaws.{counted_next, NextKeepsStructure}
+use Rattle.laws_threads.specs.StateLaws.{counted_after, EventsKeepStructure}
+use Rattle.laws_states.specs.HeapFacts.{objects_after}
+use Rattle.laws_states.specs.HeapLaws.{StartHasHeap, EventsKeepHeap, NextKeepsHeap}
+use Rattle.laws_states.specs.KeptWords.{StartLocksFit, EventsKeepLocks, StartRecordsFit, EventsKeepRecords, StartCountersFit, EventsKeepCounters, NextKeepsCounters}
+use Rattle.laws_states.specs.RunFacts.{HaveWidth, RunFacts}
+use Rattle.laws_states.specs.RunLaws.{StartHasFacts, EventsKeepFacts, EventsKeepThreads, PartsKeepThreads}
+use Rattle.laws_states.specs.OwnersLaws.{EventsKeepOwners, NextKeepsOwners}
+use Rattle.laws_states.specs.WaitingLaws.{EventsKeepWaiting, NextKeepsWaiting}
+use Rattle.laws_states.specs.PartsLaws.{StartStandsInParts, EventsKeepParts, NextKeepsParts, HaveNoAttempts, StartHasNoAttempts, EventsMakeNoAttempts, NextMakesNoAttempts, NoAttempts}
+use Rattle.laws_states.specs.StateLaws.{StatesHaveFacts, StartHasState, EventsKeepState, NextKeepsState, IsInState, RunsHaveState}
+
+pub states_have_facts : StatesHaveFacts
+states_have_facts c cfg objects was s f = record { objects = objects; heap = f.heap; locks = f.locks; records = f.records; counters = f.counters; small = f.small }
+
+-- ---- the start
+
+pub start_has_state : StartHasFacts → StartStandsInParts → StartHasHeap → StartLocksFit → StartRecordsFit → StartCountersFit → StartIsStructured → StartOwns → StartWaits → StartHasState
+start_has_state facts parts heap locks records counters structure owners waiting c cfg marked keep = record {
+  threads = keep.begin;
+  parts = parts c cfg;
+  heap = heap c cfg marked;
+  locks = locks c cfg;
+  records = records c cfg;
+  counters = counters c cfg;
+  small = (facts c cfg marked).small;
+  structure = structure c cfg;
+  owners = owners c cfg marked.checked.program;
+  waiting = waiting c cfg;
+}
+
+-- ---- an event
+
+pub events_keep_state : EventsKeepFacts → EventsKeepThreads → EventsKeepParts → EventsKeepHeap → EventsKeepLocks → EventsKeepRecords → EventsKeepCounters → EventsKeepStructure → EventsKeepOwners → EventsKeepWaiting → EventsKeepState
+events_keep_state facts threads parts heap locks records counters structure owners waiting c cfg objects was s t marked width f =
+    let old : RunFacts c cfg s = states_have_facts c cfg objects was s f in
+    record {
+      threads = threads c cfg s t marked width f.threads old;
+      parts = parts c cfg s t marked f.threads f.parts;
+      heap = heap c objects s t marked f.heap (f.threads.lawful t);
+      locks = locks c cfg objects s t marked f.heap f.threads f.locks;
+      records = records c cfg objects s t marked f.heap f.threads f.records;
+      counters = counters c cfg objects s t marked f.heap f.threads f.counters;
+      small = (facts c cfg s t marked width f.threads old).small;
+      structure = structure c objects was s t marked f.structure (λ x e. (f.heap.typed.threads t x e, (f.threads.own t x e).rooted));
+      owners = owners c cfg objects was s t marked f.heap f.threads f.structure f.owners;
+      waiting = waiting c cfg objects was s t marked f.heap f.threads f.records f.structure f.owners f.waiting;
+    }
+
+-- ---- where a part begins
+
+pub next_keeps_state : NextKeepsParts → NextKeepsHeap → NextKeepsCounters → NextKeepsStructure → NextKeepsOwners → NextKeepsWaiting → NextKeepsState
+next_keeps_state parts heap counters structure owners waiting c cfg objects was s marked keep f = record {
+  threads = keep.go_on s f.threads;
+  parts = parts c s f.parts;
+  heap = heap c objects (counted_next c was s) s f.heap (structure c was s f.threads.parts f.structure);
+  locks = f.locks;
+  records = f.records;
+  counters = counters c s f.threads.parts f.counters;
+  small = f.small;
+  structure = structure c was s f.threads.parts f.structure;
+  owners = owners c (references_of objects) was s f.structure f.owners;
+  waiting = waiting c was s f.threads.parts f.structure f.waiting;
+}
+
+-- ---- every run
+
+module _ (begin : StartHasState) (on_event : EventsKeepState) (on_next : NextKeepsState) (c : MarkedProgram) (cfg : Config) (marked : IsMarked c) (width : HaveWidth cfg) (parts : PartsKeepThreads c cfg) where
+  at_start : IsInState c cfg (start c cfg)
+  at_start = record { objects = start_objects c.program; was = phase_at_start c cfg; facts = begin c cfg marked parts }
+
+  one : (s : Core) (h : Happening) → IsInState c cfg s → IsInState c cfg (happened c s h)
+  one s (Of t) k = record { objects = objects_after c.program s t k.objects; was = counted_after c k.was s t; facts = on_event c cfg k.objects k.was s t marked width k.facts }
+  one s NextPart k = record { objects = k.objects; was = counted_next c k.was s; facts = on_next c cfg k.objects k.was s marked parts k.facts }
+
+  each : (s : Core) (hs : List Happening) → IsInState c cfg s → IsInState c cfg (all_happened c s hs)
+  each s [] k = k
+  each s (h ∷ hs) k = each (happened c s h) hs (one s h k)
+
+  in_state : (hs : List Happening) → IsInState c cfg (core c cfg hs)
+  unfolding core
+  in_state hs = each (start c cfg) hs at_start
+
+  -- ---- attempts
+
+  module _ (begin_none : StartHasNoAttempts) (event_none : EventsMakeNoAttempts) (next_none : NextMakesNoAttempts) (never : cfg.elide ≡ false) where
+    one_none : (s : Core) (h : Happening) → IsInState c cfg s → HaveNoAttempts s → HaveNoAttempts (happened c s h)
+    one_none s (Of t) k none = event_none c cfg s t never k.facts.threads k.facts.parts none
+    one_none s NextPart k none = next_none c s none
+
+    each_none : (s : Core) (hs : List Happening) → IsInState c cfg s → HaveNoAttempts s → HaveNoAttempts (all_happened c s hs)
+    each_none s [] k none = none
+    each_none s (h ∷ hs) k none = each_none (happened c s h) hs (one s h k) (one_none s h k none)
+
+    none_ever : (hs : List Happening) → HaveNoAttempts (core c cfg hs)
+    unfolding core
+    none_ever hs = each_none (start c cfg) hs at_start (begin_none c cfg)
+
+pub runs_have_state : StartHasState → EventsKeepState → NextKeepsState → RunsHaveState
+runs_have_state begin on_event on_next c cfg hs marked width parts = in_state begin on_event on_next c cfg marked width parts hs
+
+pub no_attempts : StartHasState → EventsKeepState → NextKeepsState → StartHasNoAttempts → EventsMakeNoAttempts → NextMakesNoAttempts → NoAttempts
+no_attempts begin on_event on_next begin_none event_none next_none c cfg hs marked width parts never = none_ever begin on_event on_next c cfg marked width parts begin_none event_none next_none never hs

@@ -1,0 +1,116 @@
+-- Most events leave the waiting bits as they are.
+use Rattle.std.proofs.Common.{◌≡◌, ◌⊎◌, inl, inr, ℕ, ◌<◌, ◌^◌, List, Option, Some, None, sym, ap, ◌∙◌, subst}
+use Rattle.std.specs.Prelude.{slice_get, slice_index}
+use Rattle.jvm_types.specs.Numbers.{has_flag}
+use Rattle.jvm_types.specs.declared.program.FieldInfo.{FieldInfo}
+use Rattle.jvm_types.specs.declared.program.Kind.{Kind}
+use Rattle.jvm_types.specs.declared.program.Kind.TheVariants as kinds
+use Rattle.jvm_types.specs.declared.program.Program.{Program}
+use Rattle.jvm_types.specs.declared.program.Target.{Target}
+use Rattle.jvm_types.specs.declared.program.Target.TheVariants as targets
+use Rattle.checked_program.specs.MarkedProgram.{MarkedProgram, IsMarked}
+use Rattle.machine_types.specs.Accesses.{left_by, words_after}
+use Rattle.machine_types.specs.declared.access.Access.{Access}
+use Rattle.machine_types.specs.declared.access.Access.TheVariants.{Load}
+use Rattle.machine_types.specs.Core.{Core}
+use Rattle.machine_types.specs.Events.{wanted}
+use Rattle.machine_types.specs.FoundWords.{kind_content, field_content, variable_content, effect_content, run_content, leave_content, content_at}
+use Rattle.machine_types.specs.Frames.{Top, top_of, effect_at}
+use Rattle.machine_types.specs.Lawful.{IsLawful}
+use Rattle.machine_types.specs.Monitors.{Claim, Has, Tries, HasNot, claim}
+use Rattle.machine_types.specs.Owners.{Locks}
+use Rattle.machine_types.specs.PlainMemory.{Object}
+use Rattle.machine_types.specs.Threads.{Thread}
+use Rattle.machine_types.specs.Words.{bits_word}
+use Rattle.jvm_types.specs.declared.fixed_words.TheConstants.{MONITOR_RECORDS}
+use Rattle.machine_types.specs.declared.effect.Effect.{Effect}
+use Rattle.machine_types.specs.declared.effect.Effect.TheVariants.{Goes, Reads, Writes, Calls, Indexes, Measures, Raises}
+use Rattle.machine_types.specs.declared.lock.Kept.{Kept}
+use Rattle.machine_types.specs.declared.lock.Kept.TheVariants as keeps
+use Rattle.machine_types.specs.declared.phase.Phase.{Phase}
+use Rattle.machine_types.specs.declared.phase.Phase.TheVariants as phases
+use Rattle.laws_states.specs.HeapFacts.{HeapFacts}
+use Rattle.laws_states.specs.SiteLaws.{EventsReachSites, SitesDiffer, SitesLieInside}
+use Rattle.laws_states.specs.Sites.{BitsOf, Suits}
+use Rattle.laws_states.proofs.EventWords.{IsLeft, word_at}
+use Rattle.laws_states.proofs.WaitingStep.{Changes}
+
+-- ---- no instruction accesses them, nor does a release
+
+kind_not : (k : Kind) (r : ℕ) → Suits (kind_content k) (BitsOf r) → ⊥
+kind_not (kinds.Ref class) r suits = suits
+kind_not k r suits = suits
+
+field_not : (f : Option FieldInfo) (r : ℕ) → Suits (field_content f) (BitsOf r) → ⊥
+field_not None r suits = suits
+field_not (Some f) r suits = kind_not f.kind r suits
+
+variable_not : (p : Program) (target : Target) (r : ℕ) → Suits (variable_content p target) (BitsOf r) → ⊥
+variable_not p (targets.Field number) r suits = field_not (slice_get p.fields number) r suits
+variable_not p target r suits = suits
+
+effect_not : (p : Program) (target : Target) (e : Effect) (r : ℕ) → Suits (effect_content p target e) (BitsOf r) → ⊥
+effect_not p target (Goes to made) r suits = suits
+effect_not p target (Calls number) r suits = suits
+effect_not p target (Reads v) r suits = variable_not p target r suits
+effect_not p target (Writes v word) r suits = variable_not p target r suits
+effect_not p target (Indexes array index stored) r suits = suits
+effect_not p target (Measures array) r suits = suits
+effect_not p target (Raises x) r suits = suits
+effect_not p target e r suits = suits
+
+run_not : (p : Program) (top : Option Top) (r : ℕ) → Suits (run_content p top) (BitsOf r) → ⊥
+run_not p None r suits = suits
+run_not p (Some at) r suits = effect_not p at.target (effect_at p at) r suits
+
+leave_not : (k : Claim) (r : ℕ) → Suits (leave_content k) (BitsOf r) → ⊥
+leave_not (Has h) r suits = by_kept h.kept suits
+  where
+    by_kept : (k : Kept) → Suits (leave_content (Has (record h { kept = k }))) (BitsOf r) → ⊥
+    by_kept (keeps.Flat c) suits = suits
+    by_kept (keeps.Fat k) suits = suits
+leave_not (Tries a) r suits = suits
+leave_not HasNot r suits = suits
+
+-- ---- phases
+
+-- neither sets bits nor clears some
+abbrev pub IsStill : Phase → Type 0
+IsStill (phases.WaitBit m r) = ⊥
+IsStill (phases.NotifyOne m r u) = ⊥
+IsStill (phases.NotifyAll m r) = ⊥
+IsStill phase = Unit {0}
+
+still_leaves : (c : MarkedProgram) (s : Thread) (phase : Phase) (r : ℕ) (access : Access) (n : ℕ) → IsStill phase → Suits (content_at c s phase) (BitsOf r) → wanted c s phase ≡ Some access → left_by access n ≡ n
+still_leaves c s phases.Run r access n is suits w = absurd (run_not c.program (top_of c.program s.frames) r suits)
+still_leaves c s (phases.Leave m a) r access n is suits w = absurd (leave_not (claim s m) r suits)
+still_leaves c s (phases.WaitLook m k depth) r access n is suits w = let same : Load (bits_word k) ≡ access = cc in ap (λ (a : Access). left_by a n) (sym same)
+still_leaves c s (phases.NotifyLook m k) r access n is suits w = let same : Load (bits_word k) ≡ access = cc in ap (λ (a : Access). left_by a n) (sym same)
+still_leaves c s (phases.WaitBit m k) r access n is suits w = absurd is
+still_leaves c s (phases.NotifyOne m k u) r access n is suits w = absurd is
+still_leaves c s (phases.NotifyAll m k) r access n is suits w = absurd is
+still_leaves c s phase r access n is suits w = absurd suits
+
+-- ---- words
+
+abbrev pub SameBits : (words after : List ℕ) → Type 0
+SameBits words after = (r : ℕ) → r < MONITOR_RECORDS → slice_index after (bits_word r) ≡ slice_index words (bits_word r)
+
+pub same_changes : (v : Locks) (words after : List ℕ) (t : ℕ) → SameBits words after → Changes v words after t
+same_changes v words after t same = record {
+  less = λ r u low d set. sym (ap (has_flag (2 ^ u)) (same r low)) ∙ set;
+  stays = λ r k low d set. ap (has_flag (2 ^ k)) (same r low) ∙ set;
+}
+
+module _ (differ : SitesDiffer) (inside : SitesLieInside) (reach : EventsReachSites) (c : MarkedProgram) (objects : List Object) (s : Core) (t : ℕ) (x : Thread) (marked : IsMarked c) (heap : HeapFacts c objects s)
+    (there : slice_get s.threads t ≡ Some x) (lawful : IsLawful c x) where
+  same_here : IsStill x.phase → SameBits s.words (words_after s.words (wanted c x x.phase))
+  same_here still r low = by_cases (word_at c objects s t x marked heap there lawful differ inside reach (BitsOf r) low)
+    where
+      by_cases : (slice_index (words_after s.words (wanted c x x.phase)) (bits_word r) ≡ slice_index s.words (bits_word r)) ⊎ IsLeft c objects s t x marked heap there lawful (BitsOf r)
+          → slice_index (words_after s.words (wanted c x x.phase)) (bits_word r) ≡ slice_index s.words (bits_word r)
+      by_cases (inl e) = e
+      by_cases (inr k) = k.left ∙ still_leaves c x x.phase r k.access (slice_index s.words (bits_word r)) still k.suits k.wants
+
+  pub still_bits : (phase : Phase) → x.phase ≡ phase → IsStill phase → SameBits s.words (words_after s.words (wanted c x phase))
+  still_bits phase e = subst (λ (p : Phase). IsStill p → SameBits s.words (words_after s.words (wanted c x p))) e same_here

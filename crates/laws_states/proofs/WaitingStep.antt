@@ -1,0 +1,114 @@
+-- One event of a thread changes the waiting bits of one record: what it has to show of them, and of the thread.
+use Rattle.std.proofs.Common.{◌≡◌, ◌≢◌, ◌⊎◌, inl, inr, ℕ, zero, suc, ◌+◌, ◌<◌, Bool, true, false, cond, List, [], ◌∷◌, Option, Some, None, refl, sym, ap, ◌∙◌, subst, arith}
+use Rattle.std.specs.Prelude.{◌==◌, IsSome, slice_get, slice_set}
+use Rattle.checked_program.specs.MarkedProgram.{MarkedProgram}
+use Rattle.machine_types.specs.Core.{Core}
+use Rattle.machine_types.specs.HeldMonitors.{held_at}
+use Rattle.machine_types.specs.Owners.{Locks, HeldFat, hold_by_kept, hold_by_list, Owns, AreLocks, locks_in, Owners}
+use Rattle.machine_types.specs.Structure.{IsFat, PhaseShows, Structure}
+use Rattle.machine_types.specs.Threads.{Thread}
+use Rattle.machine_types.specs.Waiting.{is_bit_set, MustWait, Waits, Waiting}
+use Rattle.jvm_types.specs.declared.fixed_words.TheConstants.{MONITOR_RECORDS}
+use Rattle.machine_types.specs.declared.lock.Held.{Held}
+use Rattle.machine_types.specs.declared.phase.Phase.{Phase}
+use Rattle.machine_types.specs.declared.phase.Phase.TheVariants as phases
+use Rattle.laws_threads.specs.StructureLaws.{counted_by}
+use Rattle.laws_threads.specs.StateLaws.{counted_of, counted_at}
+use Rattle.laws_states.proofs.Lists.{same_or_not}
+use Rattle.laws_states.proofs.LockViews.{is_there, not_same, fatly}
+use Rattle.laws_states.proofs.OwnersStep.{set_there, set_other}
+
+-- ---- who owns a record
+
+-- the record whose owner a thread is, by its phase
+abbrev pub record_of : Phase → Option ℕ
+record_of (phases.WaitBit m r) = Some r
+record_of (phases.WaitOut m r) = Some r
+record_of (phases.NotifyLook m r) = Some r
+record_of (phases.NotifyOne m r u) = Some r
+record_of (phases.NotifyAll m r) = Some r
+record_of phase = None
+
+hold_fat : (r : ℕ) (o : Option Held) → IsFat r o → hold_by_list o ≡ HeldFat r
+hold_fat r None k = absurd k
+hold_fat r (Some h) k = ap hold_by_kept k
+
+pub record OwnsRecord (v : Locks) (u r : ℕ) : Type 0 where
+  pub low : r < MONITOR_RECORDS
+  pub owner : v.owner r ≡ u + 1
+
+module _ (c : MarkedProgram) (v : Locks) (count : ℕ → ℕ) (a : AreLocks v count) (u : ℕ) (z : Thread) (shown : List ℕ) where
+  of_fat : (phase : Phase) (m k r : ℕ) → Some k ≡ Some r → IsFat k (held_at z.held m) → Owns v count u phase z → OwnsRecord v u r
+  of_fat phase m k r e fat owns =
+      let same : k ≡ r = cc in
+      let at = fatly u (v.lock m) v.owner k (owns.holds m ∙ hold_fat k (held_at z.held m) fat) in
+      let below = a.below m k at.0 in
+      subst (OwnsRecord v u) same (record { low = below.1; owner = at.1 })
+
+  pub owned_record : (phase : Phase) (r : ℕ) → record_of phase ≡ Some r → PhaseShows c phase z.frames shown z.held z.attempt → Owns v count u phase z → OwnsRecord v u r
+  owned_record (phases.WaitBit m k) r e shows owns = of_fat (phases.WaitBit m k) m k r e shows.1 owns
+  owned_record (phases.WaitOut m k) r e shows owns = of_fat (phases.WaitOut m k) m k r e shows.1 owns
+  owned_record (phases.NotifyLook m k) r e shows owns = of_fat (phases.NotifyLook m k) m k r e shows.1 owns
+  owned_record (phases.NotifyOne m k w) r e shows owns = of_fat (phases.NotifyOne m k w) m k r e shows.1 owns
+  owned_record (phases.NotifyAll m k) r e shows owns = of_fat (phases.NotifyAll m k) m k r e shows.1 owns
+  owned_record phase r e shows owns = absurd (cc)
+
+pub must_stay : (words after : List ℕ) (u : ℕ) (phase : Phase) → ((r k : ℕ) → record_of phase ≡ Some r → is_bit_set words r k ≡ true → is_bit_set after r k ≡ true) → MustWait words u phase → MustWait after u phase
+must_stay words after u (phases.WaitOut m r) stays must = stays r u refl must
+must_stay words after u (phases.NotifyOne m r k) stays must = stays r k refl must
+must_stay words after u phase stays must = tt
+
+-- ---- what an event of t may do to bits
+
+pub record Changes (v : Locks) (words after : List ℕ) (t : ℕ) : Type 0 where
+  -- it sets its own alone
+  pub less : (r u : ℕ) → r < MONITOR_RECORDS → u ≢ t → is_bit_set after r u ≡ true → is_bit_set words r u ≡ true
+  -- and clears those of a record that it owns
+  pub stays : (r k : ℕ) → r < MONITOR_RECORDS → v.owner r ≢ t + 1 → is_bit_set words r k ≡ true → is_bit_set after r k ≡ true
+
+-- ---- all threads
+
+some_stays : {A : Type 0} (xs : List A) (i j : ℕ) (x : A) → IsSome (slice_get xs j) → IsSome (slice_get (slice_set xs i x) j)
+some_stays [] i j x k = k
+some_stays (y ∷ xs) zero zero x k = refl
+some_stays (y ∷ xs) zero (suc j) x k = k
+some_stays (y ∷ xs) (suc i) zero x k = refl
+some_stays (y ∷ xs) (suc i) (suc j) x k = some_stays xs i j x k
+
+module _ (c : MarkedProgram) (references : List ℕ) (was : ℕ → Phase) (s : Core) (owners : Owners references was s) (structure : Structure c was s.threads) (waiting : Waiting was s) (t : ℕ) (x y : Thread) (there : slice_get s.threads t ≡ Some x)
+    (after : List ℕ) (changes : Changes (locks_in references s.words) s.words after t) (own : Waits after t (counted_by (was t) y.phase)) where
+  others_wait : (u : ℕ) (z : Thread) → u ≢ t → slice_get s.threads u ≡ Some z → Waits after u (was u)
+  others_wait u z d e =
+      let w : Waits s.words u (was u) = waiting.each u z e in
+      record {
+        only = λ r low set. w.only r low (changes.less r u low d set);
+        must = must_stay s.words after u (was u) (λ r k at set. stays r k (owned r at) set) w.must;
+      }
+    where
+      owned : (r : ℕ) → record_of (was u) ≡ Some r → OwnsRecord (locks_in references s.words) u r
+      owned r at = owned_record c (locks_in references s.words) owners.count owners.locks_are u z (structure u z e).stands.shown (was u) r at (structure u z e).stands.phase_shows (owners.each u z e)
+
+      stays : (r k : ℕ) → OwnsRecord (locks_in references s.words) u r → is_bit_set s.words r k ≡ true → is_bit_set after r k ≡ true
+      stays r k o set = changes.stays r k o.low (λ q. d (omega (arith, q, o.owner))) set
+
+  each_waits : (u : ℕ) (z : Thread) → slice_get (slice_set s.threads t y) u ≡ Some z → Waits after u (counted_at was t (slice_set s.threads t y) u)
+  each_waits u z e = by_number (u == t) refl
+    where
+      by_number : (b : Bool) → (u == t) ≡ b → Waits after u (cond b (counted_of (was t) (slice_get (slice_set s.threads t y) t)) (was u))
+      by_number true g =
+          let same : u ≡ t = is_there u t g in
+          let at : slice_get (slice_set s.threads t y) t ≡ Some z = ap (λ (n : ℕ). slice_get (slice_set s.threads t y) n) (sym same) ∙ e in
+          let here : y ≡ z = set_there s.threads t x y z there at in
+          subst (λ (o : Option Thread). Waits after u (counted_of (was t) o)) (sym at)
+          (subst (λ (n : ℕ). Waits after n (counted_by (was t) z.phase)) (sym same) (subst (λ (q : Thread). Waits after t (counted_by (was t) q.phase)) here own))
+      by_number false g = others_wait u z (not_same u t g) (sym (set_other s.threads t u y g) ∙ e)
+
+  others_there : (r u : ℕ) → r < MONITOR_RECORDS → is_bit_set after r u ≡ true → IsSome (slice_get (slice_set s.threads t y) u)
+  others_there r u low set = by_number (same_or_not u t)
+    where
+      by_number : (u ≡ t) ⊎ (u ≢ t) → IsSome (slice_get (slice_set s.threads t y) u)
+      by_number (inl same) = some_stays s.threads t u y (subst (λ (n : ℕ). IsSome (slice_get s.threads n)) (sym same) (subst (λ (o : Option Thread). IsSome o) (sym there) refl))
+      by_number (inr d) = some_stays s.threads t u y (waiting.others r u low (changes.less r u low d set))
+
+  pub waited_on : Waiting (counted_at was t (slice_set s.threads t y)) (record { words = after; threads = slice_set s.threads t y })
+  waited_on = record { each = each_waits; others = others_there }

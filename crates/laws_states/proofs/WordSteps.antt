@@ -1,0 +1,111 @@
+-- What an access leaves of all words: places keep their types, unused words and those of new objects stay as they are.
+use Rattle.std.proofs.Common.{◌≡◌, ◌≢◌, ◌⊎◌, inl, inr, ℕ, ◌<◌, ◌≤◌, List, length, Option, Some, None, refl, ap, sym, subst, ◌∙◌, arith}
+use Rattle.std.specs.Prelude.{slice_index, slice_set}
+use Rattle.std.proofs.lemmas.List.{length-set}
+use Rattle.jvm_types.specs.ProgramInvariant.{IsProgram}
+use Rattle.jvm_types.specs.declared.program.Program.{Program}
+use Rattle.checked_program.specs.MarkedProgram.{MarkedProgram, IsMarked}
+use Rattle.machine_types.specs.Accesses.{accessed, left_by, words_after}
+use Rattle.machine_types.specs.Core.{Core}
+use Rattle.machine_types.specs.FoundWords.{Content}
+use Rattle.machine_types.specs.ObjectsApart.{LieApart}
+use Rattle.machine_types.specs.PlainMemory.{Object, StaticValue}
+use Rattle.machine_types.specs.StartLaws.{StartLiesApart}
+use Rattle.machine_types.specs.Typed.{PlacesHold}
+use Rattle.jvm_types.specs.declared.fixed_words.TheConstants.{NEXT_FREE_WORD}
+use Rattle.machine_types.specs.declared.access.Access.{Access}
+use Rattle.machine_types.specs.declared.access.Access.TheVariants.{Load, Store, Cas, Add, Or, And, Rest}
+use Rattle.laws_states.specs.HeapFacts.{HeapFacts}
+use Rattle.laws_states.specs.Sites.{Site, Counter, OwnerOf, BitsOf, LockOf, HeaderOf, ValueOf, NewHeaderOf, StaticAt, site_word, IsThere}
+use Rattle.laws_states.proofs.Lists.{same_or_not, set_here, set_there}
+use Rattle.laws_states.proofs.Sites.{New, block, InNew, Inside, in_block, same_block, block_low, sites_apart}
+use Rattle.laws_states.proofs.Places.{SiteHolds, site_typed, places_typed}
+use Rattle.laws_states.proofs.Accesses.{IsOldSite, FitsAt, FitsAccess, FitsIf}
+
+-- ---- the next free word does not fall
+
+pub apart_on : (p : Program) (objects : List Object) (statics : List StaticValue) (next more : ℕ) → next ≤ more → LieApart p objects statics next → LieApart p objects statics more
+apart_on p objects statics next more le apart = record {
+  beside = apart.beside;
+  differ = apart.differ;
+  mixed = apart.mixed;
+  begin = apart.begin;
+  below = λ i o g. omega (arith, apart.below i o g, le);
+  inside = apart.inside;
+  sized = apart.sized;
+  statics_begin = apart.statics_begin;
+  statics_below = λ j v g. let k = apart.statics_below j v g in (omega (arith, k.0, le), k.1);
+  there = apart.there;
+}
+
+-- ---- words that are kept
+
+pub record WordsGoOn (c : MarkedProgram) (objects : List Object) (s : Core) (after : List ℕ) : Type 0 where
+  pub long : length after ≡ length s.words
+  pub free : slice_index s.words NEXT_FREE_WORD ≤ slice_index after NEXT_FREE_WORD
+  pub unused : (n : ℕ) → slice_index s.words NEXT_FREE_WORD ≤ n → slice_index after n ≡ slice_index s.words n
+  pub places : PlacesHold c.program objects after
+  pub new : (a n : ℕ) → InNew c.program s a n → slice_index after n ≡ slice_index s.words n
+
+no_new_block : (site : Site) (a : ℕ) → IsOldSite site → New a ≡ block site → ⊥
+no_new_block (Counter word) a old e = cc
+no_new_block (OwnerOf r) a old e = cc
+no_new_block (BitsOf r) a old e = cc
+no_new_block (LockOf b) a old e = cc
+no_new_block (HeaderOf b) a old e = cc
+no_new_block (ValueOf b i) a old e = cc
+no_new_block (NewHeaderOf b) a old e = old
+no_new_block (StaticAt word) a old e = cc
+
+module _ (lies : StartLiesApart) (c : MarkedProgram) (marked : IsMarked c) (objects : List Object) (s : Core) (facts : HeapFacts c objects s) where
+  is_program : IsProgram c.program
+  is_program = marked.checked.program
+
+  pub as_they_are : WordsGoOn c objects s s.words
+  as_they_are = record { long = refl; free = omega arith; unused = λ n le. refl; places = facts.typed.places; new = λ a n k. refl }
+
+  module _ (content : Content) (access : Access) (fits : FitsAt c.program objects s content access) where
+    abbrev value : ℕ
+    value = left_by access (slice_index s.words (accessed access))
+
+    abbrev set : List ℕ
+    set = slice_set s.words (accessed access) (left_by access (slice_index s.words (accessed access)))
+
+    site_in : Inside c.program objects s (block fits.site) (accessed access)
+    site_in = subst (Inside c.program objects s (block fits.site)) (sym fits.word) (in_block c.program objects s fits.site fits.there)
+
+    low : (0 < accessed access) × (accessed access < slice_index s.words NEXT_FREE_WORD) × (accessed access < c.program.heap)
+    low = block_low lies c objects s marked facts (block fits.site) (accessed access) site_in
+
+    each_site : (site : Site) → IsThere c.program objects s site → SiteHolds c.program objects (slice_index s.words NEXT_FREE_WORD) site (slice_index set (site_word site))
+    each_site site k = by_word (same_or_not (site_word site) (accessed access))
+      where
+        by_word : (site_word site ≡ accessed access) ⊎ (site_word site ≢ accessed access) → SiteHolds c.program objects (slice_index s.words NEXT_FREE_WORD) site (slice_index set (site_word site))
+        by_word (inl e) =
+            let one : site ≡ fits.site = sites_apart lies c objects s site fits.site marked facts k fits.there (e ∙ fits.word) in
+            let is : slice_index set (site_word site) ≡ value = ap (slice_index set) e ∙ set_here s.words (accessed access) value (omega (arith, low.2, facts.unused.many)) in
+            subst (SiteHolds c.program objects (slice_index s.words NEXT_FREE_WORD) site) (sym is) (subst (λ x. SiteHolds c.program objects (slice_index s.words NEXT_FREE_WORD) x value) (sym one) fits.left)
+        by_word (inr n) =
+            subst (SiteHolds c.program objects (slice_index s.words NEXT_FREE_WORD) site) (sym (set_there s.words (accessed access) (site_word site) value n)) (site_typed c.program is_program objects s.words site facts.typed.places)
+
+    words_set : WordsGoOn c objects s set
+    words_set = record {
+      long = length-set s.words (accessed access) value;
+      free = each_site (Counter NEXT_FREE_WORD) (omega arith, omega arith) refl;
+      unused = λ n le. set_there s.words (accessed access) n value (λ e. omega (arith, e, le, low.1));
+      places = places_typed c.program is_program objects set s (slice_index s.words NEXT_FREE_WORD) (slice_index s.words NEXT_FREE_WORD) facts.apart each_site;
+      new = λ a n k. set_there s.words (accessed access) n value (λ e. no_new_block fits.site a fits.old (same_block lies c objects s marked facts (New a) (block fits.site) n k (subst (Inside c.program objects s (block fits.site)) (sym e) site_in)));
+    }
+
+  access_set : (content : Content) (access : Access) → FitsAccess c.program objects s content access → WordsGoOn c objects s (words_after s.words (Some access))
+  access_set content Rest f = as_they_are
+  access_set content (Load w) f = words_set content (Load w) f
+  access_set content (Store w v) f = words_set content (Store w v) f
+  access_set content (Cas w is v) f = words_set content (Cas w is v) f
+  access_set content (Add w v) f = words_set content (Add w v) f
+  access_set content (Or w v) f = words_set content (Or w v) f
+  access_set content (And w v) f = words_set content (And w v) f
+
+  pub words_go_on : (content : Content) (access : Option Access) → FitsIf c.program objects s content access → WordsGoOn c objects s (words_after s.words access)
+  words_go_on content None f = as_they_are
+  words_go_on content (Some access) f = access_set content access f

@@ -1,0 +1,146 @@
+-- An attempt stands as its top frame goes along an edge, calls, returns to the frame below, or ends by an exception.
+use Rattle.std.proofs.Common.{◌≡◌, ◌≢◌, inr, ⊎_elim, ℕ, ◌-◌, ◌<◌, ◌≤◌, Bool, true, false, List, [], ◌∷◌, ◌++◌, length, take, Some, None, refl, sym, ap, ◌∙◌, subst, arith}
+use Rattle.std.specs.Prelude.{◌==◌, ◌||◌, slice_get, if◌then◌else◌}
+use Rattle.std.proofs.lemmas.Bool.{cases_eq}
+use Rattle.std.proofs.lemmas.Bool.Decides.{nat_tests}
+use Rattle.lists.proofs.ListLaws.{same_some}
+use Rattle.jvm_types.specs.CodeTable.{branches_to, falls_through}
+use Rattle.jvm_types.specs.Numbers.{has_number}
+use Rattle.jvm_types.specs.Verifying.{edges}
+use Rattle.jvm_types.specs.declared.code.Insn.{Insn}
+use Rattle.jvm_types.specs.declared.code.Op.{Op}
+use Rattle.jvm_types.specs.declared.code.Op.TheVariants as ops
+use Rattle.jvm_types.specs.declared.outcome.Thrown.{Thrown}
+use Rattle.jvm_types.specs.declared.program.MethodInfo.{MethodInfo}
+use Rattle.jvm_types.specs.declared.program.Target.{Target}
+use Rattle.checked_program.specs.LockTags.{TagShape}
+use Rattle.checked_program.specs.MarkedProgram.{MarkedProgram, IsMarked}
+use Rattle.checked_program.specs.Marks.{called_method}
+use Rattle.checked_program.specs.Tagging.{tags_after}
+use Rattle.checked_program.specs.TaggedCode.{Goes, onward, row_of}
+use Rattle.machine_types.specs.Elision.{put_back}
+use Rattle.machine_types.specs.Frames.{top_of, given}
+use Rattle.machine_types.specs.Onward.{back, unwound}
+use Rattle.machine_types.specs.Standing.{Standing}
+use Rattle.machine_types.specs.Structure.{IsPhaseInside, Stands, AttemptStands, RunsSection, frames_inside}
+use Rattle.machine_types.specs.Threads.{Frame, Attempt}
+use Rattle.machine_types.specs.declared.lock.Held.{Held}
+use Rattle.machine_types.specs.declared.phase.Phase.{Phase}
+use Rattle.machine_types.specs.declared.phase.Phase.TheVariants as phases
+use Rattle.laws_threads.specs.InsideMoves.{GoesOnInside, OnwardStands}
+use Rattle.laws_threads.proofs.FramesInside.{one_more, put_back_over}
+use Rattle.laws_threads.proofs.Inside.{base_below}
+use Rattle.laws_threads.proofs.SectionFrames.{Runs, Caller, IsExitOf, section_of_runs, moved, caller}
+use Rattle.laws_threads.proofs.Standings.{top_is}
+
+-- ---- edges
+
+last_number : (xs : List ℕ) (n : ℕ) → has_number (xs ++ n ∷ []) n ≡ true
+last_number [] n = let e : (n == n) ≡ true = grind (arith, nat_tests) in rw e refl
+last_number (x ∷ xs) n = or_true (x == n) (has_number (xs ++ n ∷ []) n) (last_number xs n)
+  where
+    or_true : (a b : Bool) → b ≡ true → (a || b) ≡ true
+    or_true true b e = refl
+    or_true false b e = e
+
+-- an instruction that falls through has an edge to the next
+pub next_edge : (insn : Insn) → falls_through insn.op ≡ true → has_number (edges insn) insn.next ≡ true
+next_edge insn e = subst (λ b. has_number (branches_to insn.op ++ (if b then insn.next ∷ [] else [])) insn.next ≡ true) (sym e) (last_number (branches_to insn.op) insn.next)
+
+-- an instruction that calls a method falls through, and is no `monitorexit`
+pub call_falls : (op : Op) (target : Target) (u : ℕ) → called_method op target ≡ Some u → falls_through op ≡ true
+call_falls (ops.Invokevirtual i) target u e = refl
+call_falls (ops.Invokespecial i) target u e = refl
+call_falls (ops.Invokestatic i) target u e = refl
+call_falls op target u e = absurd (cc)
+
+pub call_is_no_exit : (op : Op) (target : Target) (u : ℕ) → called_method op target ≡ Some u → op ≡ ops.Monitorexit → ⊥
+call_is_no_exit op target u e is = let bad : None ≡ Some u = subst (λ o. called_method o target ≡ Some u) is e in cc
+
+-- ---- frames come and go
+
+-- with other frames inside, and so many entries
+pub stands_inner : (c : MarkedProgram) (phase other : Phase) (fs gs : List Frame) (held : List Held) (a : Attempt) (n : ℕ) → AttemptStands c phase fs held a → IsPhaseInside a.monitor other → a.base < length gs → put_back a gs ≡ put_back a fs → RunsSection c a (frames_inside a gs)
+    → AttemptStands c other gs held (record a { inner = n })
+stands_inner c phase other fs gs held a n k inside based same runs = record {
+  inside = inside;
+  not_held = k.not_held;
+  based = based;
+  goes_back = subst (λ hs. Stands c (phases.Enter a.monitor a.number) hs held None) (sym same) k.goes_back;
+  receiver = k.receiver;
+  uses = k.uses;
+  are_uses = k.are_uses;
+  marked = k.marked;
+  frames = inr runs;
+}
+
+-- another top frame in place of one
+pub put_back_top : (a : Attempt) (f g : Frame) (below : List Frame) → a.base ≤ length below → put_back a (g ∷ below) ≡ put_back a (f ∷ below)
+put_back_top a f g below l = put_back_over a g below l ∙ sym (put_back_over a f below l)
+
+-- where the frame of the entry is the top one there is none but it
+pub only_entry : (a : Attempt) (below : List Frame) → a.base ≡ length below → frames_inside a below ≡ []
+only_entry a below e = none (length below - a.base) (omega (arith, e))
+  where
+    none : (n : ℕ) → n ≡ 0 → take n below ≡ []
+    none n z = ap (λ i. take i below) z
+
+module _ (c : MarkedProgram) (marked : IsMarked c) (phase : Phase) (f : Frame) (held : List Held) (a : Attempt) where
+  -- ---- along an edge
+
+  pub along : (below : List Frame) (other : Phase) (k : AttemptStands c phase (f ∷ below) held a) (r : Runs c a f (frames_inside a below)) (g : Frame) (l : Standing c g) (h : TagShape) → g.method ≡ f.method → g.receiver ≡ f.receiver
+      → Goes c.program r.stands.method r.stands.insn r.stands.target r.stands.tags l.insn h → IsPhaseInside a.monitor other → (r.stands.insn.op ≡ ops.Monitorexit → ⊥) → AttemptStands c other (g ∷ below) held a
+  along below other k r g l h same_method same_receiver goes inside never = ⊎_elim
+      (λ (runs : RunsSection c a (g ∷ frames_inside a below)). stands_inner c phase other (f ∷ below) (g ∷ below) held a a.inner k inside k.based (put_back_top a f g below (base_below a f below k.based)) (subst (RunsSection c a) (sym (one_more a g below (base_below a f below k.based))) runs))
+      (λ (x : (frames_inside a below ≡ []) × IsExitOf c marked a f r.stands). absurd (never x.1.exits))
+      (moved c marked a f g (frames_inside a below) r l h same_method same_receiver goes)
+
+  -- ---- to the frame below
+
+  -- the calling frame, at its call
+  below_is : (b : Frame) (more : List Frame) → a.base ≤ length more → Runs c a f (frames_inside a (b ∷ more)) → (upper : Runs c a f (b ∷ frames_inside a more)) × Caller c marked a f b (frames_inside a more) upper
+  below_is b more l r = let upper = subst (Runs c a f) (one_more a b more l) r in (upper, caller c marked a f b (frames_inside a more) upper)
+
+  not_base : (b : Frame) (more : List Frame) → a.base ≤ length (b ∷ more) → (a.base ≡ length (b ∷ more) → ⊥) → a.base ≤ length more
+  not_base b more l never = ⊎_elim (λ (e : a.base ≡ length (b ∷ more)). absurd (never e)) (λ (e : a.base ≢ length (b ∷ more)). omega (arith, l, e)) (cases_eq a.base (length (b ∷ more)))
+
+  pub returned_on : (below : List Frame) (n : ℕ) (result : List ℕ) (k : AttemptStands c phase (f ∷ below) held a) → Runs c a f (frames_inside a below) → (a.base ≡ length below → ⊥) → OnwardStands c (back (given result (top_of c.program below)))
+      → GoesOnInside c (back (given result (top_of c.program below))) held (record a { inner = n })
+  returned_on [] n result k r never st = absurd (never (let l = k.based in omega (arith, l)))
+  returned_on (b ∷ more) n result k r never st = subst (λ o. GoesOnInside c (back (given result o)) held (record a { inner = n })) (sym (top_is c marked b more kb)) (goes (subst (λ o. OnwardStands c (back (given result o))) (top_is c marked b more kb) st))
+    where
+      low : a.base ≤ length more
+      low = not_base b more (base_below a f (b ∷ more) k.based) never
+
+      x : (upper : Runs c a f (b ∷ frames_inside a more)) × Caller c marked a f b (frames_inside a more) upper
+      x = below_is b more low r
+
+      kb : Standing c b
+      kb = x.1.runs.stands
+
+      call : called_method kb.insn.op x.1.call.target ≡ Some f.method
+      call =
+          let z = x.1.call in
+          let method : z.m ≡ kb.method = same_some (sym z.at.in_program ∙ kb.at.in_program) in
+          let same : z.insn ≡ kb.insn = same_some (sym z.at.in_code ∙ ap (λ (m : MethodInfo). slice_get m.code kb.number) method ∙ kb.at.in_code) in
+          subst (λ (i : Insn). called_method i.op z.target ≡ Some f.method) same z.called
+
+      g : Frame
+      g = record b { pc = kb.insn.next; stack = result ++ b.stack }
+
+      goes : Standing c g → AttemptStands c phases.Run (g ∷ more) held (record a { inner = n })
+      goes l =
+          let falls : falls_through kb.insn.op ≡ true = call_falls kb.insn.op x.1.call.target f.method call in
+          let edge : has_number (edges kb.insn) l.insn.pc ≡ true = subst (λ pc. has_number (edges kb.insn) pc ≡ true) (sym l.pc_is) (next_edge kb.insn falls) in
+          ⊎_elim
+          (λ (runs : RunsSection c a (g ∷ frames_inside a more)). stands_inner c phase phases.Run (f ∷ b ∷ more) (g ∷ more) held a n k tt (omega (arith, low))
+          (put_back_over a g more low ∙ sym (put_back_over a f (b ∷ more) (omega (arith, low)) ∙ put_back_over a b more low)) (subst (RunsSection c a) (sym (one_more a g more low)) runs))
+          (λ (y : (frames_inside a more ≡ []) × IsExitOf c marked a b kb). absurd (call_is_no_exit kb.insn.op x.1.call.target f.method call y.1.exits))
+          (moved c marked a b g (frames_inside a more) x.1.runs l (tags_after kb.insn (row_of c.program kb.method kb.insn kb.target) kb.tags) refl refl (onward l.insn edge))
+
+  pub unwound_on : (below : List Frame) (n r : ℕ) (class : Thrown) (k : AttemptStands c phase (f ∷ below) held a) → Runs c a f (frames_inside a below) → (a.base ≡ length below → ⊥) → GoesOnInside c (unwound r class below) held (record a { inner = n })
+  unwound_on [] n o class k r never = absurd (never (let l = k.based in omega (arith, l)))
+  unwound_on (b ∷ more) n o class k r never =
+      let low = not_base b more (base_below a f (b ∷ more) k.based) never in
+      let x = below_is b more low r in
+      stands_inner c phase (phases.Throw o class) (f ∷ b ∷ more) (b ∷ more) held a n k tt (omega (arith, low)) (sym (put_back_over a f (b ∷ more) (omega (arith, low)))) (subst (RunsSection c a) (sym (one_more a b more low)) (section_of_runs c a b (frames_inside a more) x.1.runs))

@@ -1,0 +1,119 @@
+-- The frame that a call enters has the receiver that stood below the arguments; a synchronized method's is the section's object.
+use Rattle.std.proofs.Common.{◌≡◌, ℕ, zero, suc, Bool, true, false, not, ◌&&◌, List, [], ◌∷◌, ◌++◌, length, reverse, take, Some, refl, sym, ap, ◌∙◌, subst, arith}
+use Rattle.std.specs.Prelude.{slice_get, slice_index, if◌then◌else◌}
+use Rattle.std.proofs.lemmas.List.{length-append, length-map, length-reverse, reverse-append}
+use Rattle.lists.proofs.ListLaws.{same_some}
+use Rattle.jvm_types.specs.CodeTable.{arguments, want_of, virtual_row, special_row, static_row}
+use Rattle.jvm_types.specs.Members.{Site, is_static, is_synchronized}
+use Rattle.jvm_types.specs.ProgramInvariant.{IsProgram}
+use Rattle.jvm_types.specs.declared.call.Call.TheVariants.{Virtual, Special, Static}
+use Rattle.jvm_types.specs.declared.code.Op.{Op}
+use Rattle.jvm_types.specs.declared.code.Op.TheVariants as ops
+use Rattle.jvm_types.specs.declared.op_row.OpRow.{OpRow}
+use Rattle.jvm_types.specs.declared.op_row.Want.{Want}
+use Rattle.jvm_types.specs.declared.program.MethodInfo.{MethodInfo}
+use Rattle.jvm_types.specs.declared.program.Program.{Program}
+use Rattle.jvm_types.specs.declared.program.Target.{Target}
+use Rattle.jvm_types.specs.declared.program.Target.TheVariants as targets
+use Rattle.laws_programs.specs.TargetLaws.{NamesMethod, HasRow}
+use Rattle.checked_program.specs.Marks.{args_of, called_method, is_locking}
+use Rattle.checked_program.specs.SectionLaws.{ReadsOnly}
+use Rattle.checked_program.specs.TaggedCode.{Tagged}
+use Rattle.laws_sections.specs.FrameLaws.{IsReceiver}
+use Rattle.machine_types.specs.Frames.{first_or_null, entry_frame}
+use Rattle.laws_threads.proofs.EffectOps.{HasReceiver}
+
+index_is : (s : List ℕ) (n v : ℕ) → slice_get s n ≡ Some v → slice_index s n ≡ v
+index_is [] n v e = absurd (cc)
+index_is (x ∷ s) zero v e = same_some e
+index_is (x ∷ s) (suc n) v e = index_is s n v e
+
+first_of_append : (xs ys : List ℕ) (v : ℕ) → first_or_null xs ≡ v → (xs ≡ [] → ⊥) → first_or_null (xs ++ ys) ≡ v
+first_of_append [] ys v e some = absurd (some refl)
+first_of_append (x ∷ xs) ys v e some = e
+
+-- the last of so many values comes first when they are reversed
+first_taken : (s : List ℕ) (n v : ℕ) → slice_get s n ≡ Some v → (first_or_null (reverse (take (suc n) s)) ≡ v) × (reverse (take (suc n) s) ≡ [] → ⊥)
+first_taken [] n v e = absurd (cc)
+first_taken (x ∷ s) zero v e = (same_some e, λ q. cc)
+first_taken (x ∷ s) (suc n) v e =
+    let r = first_taken s n v e in
+    let split : reverse (x ∷ take (suc n) s) ≡ reverse (take (suc n) s) ++ x ∷ [] = reverse-append (x ∷ []) (take (suc n) s) in (
+      ap first_or_null split ∙ first_of_append (reverse (take (suc n) s)) (x ∷ []) v r.0 r.1,
+      λ q. none (reverse (take (suc n) s)) (sym split ∙ q),
+    )
+  where
+    none : (xs : List ℕ) → xs ++ x ∷ [] ≡ [] → ⊥
+    none [] q = cc
+    none (y ∷ xs) q = cc
+
+many_taken : (called : MethodInfo) (w : Want) → length (arguments called ++ w ∷ []) ≡ suc (length called.args)
+many_taken called w =
+    let args : length (arguments called) ≡ length called.args = length-map (reverse called.args) want_of ∙ length-reverse called.args in
+    let all = length-append (arguments called) (w ∷ []) in
+    omega (arith, args, all)
+
+virtual_takes : (called : MethodInfo) → length (virtual_row (Some called)).takes ≡ suc (length called.args)
+virtual_takes called = many_taken called _
+
+special_takes : (called : MethodInfo) → length (special_row (Some called)).takes ≡ suc (length called.args)
+special_takes called = many_taken called _
+
+module _ (p : Program) (number : ℕ) (called : MethodInfo) (there : slice_get p.methods number ≡ Some called) (s : List ℕ) where
+  abbrev receiver_by : OpRow → ℕ
+  receiver_by r = (entry_frame number called (reverse (take (length r.takes) s))).receiver
+
+  received : (n receiver : ℕ) → n ≡ suc (length called.args) → is_static called.flags ≡ false → slice_get s (length called.args) ≡ Some receiver → (if is_static called.flags then 0 else first_or_null (reverse (take n s))) ≡ receiver
+  received n receiver e instance v =
+      ap (λ (b : Bool). if b then 0 else first_or_null (reverse (take n s))) instance ∙ ap (λ k. first_or_null (reverse (take k s))) e ∙ (first_taken s (length called.args) receiver v).0
+
+  -- by what the row of the call takes
+  below_args : (other : MethodInfo) (receiver : ℕ) (r : OpRow) → slice_get p.methods number ≡ Some other → slice_get s (length other.args) ≡ Some receiver → is_static called.flags ≡ false → length r.takes ≡ suc (length called.args)
+      → receiver_by r ≡ slice_index s (args_of (slice_get p.methods number))
+  below_args other receiver r e v instance long =
+      let same : other ≡ called = same_some (sym e ∙ there) in
+      let value : slice_get s (length called.args) ≡ Some receiver = subst (λ (m : MethodInfo). slice_get s (length m.args) ≡ Some receiver) same v in
+      received (length r.takes) receiver long instance value ∙ sym (ap (λ o. slice_index s (args_of o)) there ∙ index_is s (length called.args) receiver value)
+
+  pub is_receiver : (site : Site) (pc : ℕ) (target : Target) (op : Op) (r : OpRow) → HasRow p site pc target op r → called_method op target ≡ Some number → HasReceiver p op number s → IsReceiver p op number s (receiver_by r)
+  is_receiver site pc (targets.Method u) (ops.Invokevirtual i) r k call at =
+      let k : NamesMethod p site number Virtual false virtual_row r = subst (λ x. NamesMethod p site x Virtual false virtual_row r) (same_some call) k in
+      let same : k.method ≡ called = same_some (sym k.there ∙ there) in
+      below_args at.0 at.1 r at.2 at.3 (subst (λ (m : MethodInfo). is_static m.flags ≡ false) same k.sort) (ap (λ (x : OpRow). length x.takes) (k.its ∙ ap (λ m. virtual_row (Some m)) same) ∙ virtual_takes called)
+  is_receiver site pc (targets.Method u) (ops.Invokespecial i) r k call at =
+      let k : NamesMethod p site number Special false special_row r = subst (λ x. NamesMethod p site x Special false special_row r) (same_some call) k in
+      let same : k.method ≡ called = same_some (sym k.there ∙ there) in
+      below_args at.0 at.1 r at.2 at.3 (subst (λ (m : MethodInfo). is_static m.flags ≡ false) same k.sort) (ap (λ (x : OpRow). length x.takes) (k.its ∙ ap (λ m. special_row (Some m)) same) ∙ special_takes called)
+  is_receiver site pc target (ops.Invokestatic i) r k call at = tt
+  is_receiver site pc target op r k call at = absurd (cc)
+
+  both : (a b : Bool) → a ≡ true → b ≡ false → (a && not b) ≡ true
+  both true false e f = refl
+  both true true e f = cc
+  both false b e f = cc
+
+  never : (a b : Bool) → (a && b) ≡ false → a ≡ true → b ≡ true → ⊥
+  never true true e f g = cc
+  never true false e f g = cc
+  never false b e f g = cc
+
+  -- a synchronized method is called on the section's object
+  pub called_on : (tags : Tagged) (o : ℕ) (site : Site) (pc : ℕ) (op : Op) (target : Target) (r : OpRow) → IsProgram p → HasRow p site pc target op r → called_method op target ≡ Some number → HasReceiver p op number s → ReadsOnly p tags o op target s
+      → is_synchronized called.flags ≡ true → receiver_by r ≡ o
+  called_on tags o site pc (ops.Invokevirtual i) (targets.Method u) r program k call at h synchronized =
+      let k' : NamesMethod p site number Virtual false virtual_row r = subst (λ x. NamesMethod p site x Virtual false virtual_row r) (same_some call) k in
+      let same : k'.method ≡ called = same_some (sym k'.there ∙ there) in
+      let locking : is_locking (slice_get p.methods number) ≡ true = ap is_locking there ∙ both (is_synchronized called.flags) (is_static called.flags) synchronized (subst (λ (m : MethodInfo). is_static m.flags ≡ false) same k'.sort) in
+      let on : is_locking (slice_get p.methods number) ≡ true → slice_index s (args_of (slice_get p.methods number)) ≡ o = subst (λ x. is_locking (slice_get p.methods x) ≡ true → slice_index s (args_of (slice_get p.methods x)) ≡ o) (same_some call) h in
+      is_receiver site pc (targets.Method u) (ops.Invokevirtual i) r k call at ∙ on locking
+  called_on tags o site pc (ops.Invokespecial i) (targets.Method u) r program k call at h synchronized =
+      let k' : NamesMethod p site number Special false special_row r = subst (λ x. NamesMethod p site x Special false special_row r) (same_some call) k in
+      let same : k'.method ≡ called = same_some (sym k'.there ∙ there) in
+      let locking : is_locking (slice_get p.methods number) ≡ true = ap is_locking there ∙ both (is_synchronized called.flags) (is_static called.flags) synchronized (subst (λ (m : MethodInfo). is_static m.flags ≡ false) same k'.sort) in
+      let on : is_locking (slice_get p.methods number) ≡ true → slice_index s (args_of (slice_get p.methods number)) ≡ o = subst (λ x. is_locking (slice_get p.methods x) ≡ true → slice_index s (args_of (slice_get p.methods x)) ≡ o) (same_some call) h in
+      is_receiver site pc (targets.Method u) (ops.Invokespecial i) r k call at ∙ on locking
+  called_on tags o site pc (ops.Invokestatic i) (targets.Method u) r program k call at h synchronized =
+      let k' : NamesMethod p site number Static true static_row r = subst (λ x. NamesMethod p site x Static true static_row r) (same_some call) k in
+      let same : k'.method ≡ called = same_some (sym k'.there ∙ there) in
+      absurd (never (is_static called.flags) (is_synchronized called.flags) (program.methods number called there).unsynchronized (subst (λ (m : MethodInfo). is_static m.flags ≡ true) same k'.sort) synchronized)
+  called_on tags o site pc op target r program k call at h synchronized = absurd (cc)

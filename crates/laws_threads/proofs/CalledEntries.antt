@@ -1,0 +1,156 @@
+-- The frame that a call makes has the types of the called method's start.
+use Rattle.std.proofs.Common.{◌≡◌, ℕ, zero, suc, ◌-◌, ◌<◌, ◌≤◌, ◌⊎◌, inl, inr, Bool, true, false, List, [], ◌∷◌, ◌++◌, length, Some, ap, sym, subst, ◌∙◌, arith}
+use Rattle.std.specs.Prelude.{slice_get, map, reverse, take, replicate, if◌then◌else◌}
+use Rattle.std.specs.List.{AllZip}
+use Rattle.std.proofs.lemmas.List.{reverse-append, length-append}
+use Rattle.jvm_types.specs.CodeTable.{want_of, type_of, arguments, is_init}
+use Rattle.jvm_types.specs.Members.{is_static}
+use Rattle.jvm_types.specs.Types.{TypeFrame, filled, receiver_types}
+use Rattle.jvm_types.specs.Types as types
+use Rattle.jvm_types.specs.declared.op_row.OpRow.{OpRow}
+use Rattle.jvm_types.specs.declared.op_row.Want.{Want}
+use Rattle.jvm_types.specs.declared.program.Kind.{Kind}
+use Rattle.jvm_types.specs.declared.program.Kind.TheVariants as kinds
+use Rattle.jvm_types.specs.declared.program.MethodInfo.{MethodInfo}
+use Rattle.jvm_types.specs.declared.typing.Typing.{Typing}
+use Rattle.jvm_types.specs.declared.typing.VType.{VType}
+use Rattle.jvm_types.specs.declared.typing.VType.TheVariants.{Ref, This, Top}
+use Rattle.jvm_types.proofs.TypeOrder.{subclass_self}
+use Rattle.laws_programs.proofs.ClassTreeLaws.{files_alone}
+use Rattle.checked_program.specs.CheckedLaws.{receiver_want}
+use Rattle.checked_program.specs.LockTags.{entry_tags}
+use Rattle.checked_program.specs.MarkedProgram.{MarkedProgram, IsMarked, checked_part}
+use Rattle.checked_program.specs.Tagging.{IsTaggingOf}
+use Rattle.checked_program.specs.declared.tag.Tags.{Tags}
+use Rattle.checked_program.proofs.CheckedPlaces.{checked_sound}
+use Rattle.machine_types.specs.Frames.{entry_frame}
+use Rattle.machine_types.specs.Typed.{Classes, Holds, FrameHolds}
+use Rattle.laws_threads.specs.Allowed.{WantHolds, TakenHold}
+use Rattle.laws_threads.proofs.Lists.{zip_has, map_at, zip_length, zip_append, zip_reverse, reverse_map}
+use Rattle.laws_threads.proofs.Values.{ValuesHold}
+use Rattle.laws_threads.proofs.Landing.{tags_at, land}
+use Rattle.laws_threads.proofs.Calls.{CallRow, HasReceiver, as_many, deepest_first}
+
+-- ---- arguments
+
+module _ (m : MethodInfo) (is : Classes) where
+  taken_zip : (wants : List Want) (s : List ℕ) → TakenHold m is wants s → AllZip (WantHolds m is) wants (take (length wants) s)
+  taken_zip [] s h = tt
+  taken_zip (want ∷ wants) (v ∷ s) h = (h.0, taken_zip wants s h.1)
+  taken_zip (want ∷ wants) [] h = absurd h
+
+  -- the values that a row takes, in order
+  in_order : (wants : List Want) (s : List ℕ) → TakenHold m is wants s → AllZip (WantHolds m is) (reverse wants) (reverse (take (length wants) s))
+  in_order wants s h = zip_reverse (WantHolds m is) wants (take (length wants) s) (taken_zip wants s h)
+
+  module _ (called : MethodInfo) where
+    zip_fill : (n : ℕ) → AllZip (Holds called is) (replicate n Top) (replicate n 0)
+    zip_fill zero = tt
+    zip_fill (suc n) = (tt, zip_fill n)
+
+    kind_arg : (kind : Kind) (v : ℕ) → WantHolds m is (want_of kind) v → Holds called is (type_of kind) v
+    kind_arg kinds.Int v h = h
+    kind_arg kinds.Bool v h = h
+    kind_arg (kinds.Ref class) v h = h
+
+    kind_args : (args : List Kind) (s : List ℕ) → AllZip (WantHolds m is) (map want_of args) s → AllZip (Holds called is) (map type_of args) s
+    kind_args [] [] h = h
+    kind_args (k ∷ ks) (v ∷ s) h = (kind_arg k v h.0, kind_args ks s h.1)
+    kind_args ks s h = absurd (assumption)
+
+    -- the wants of a call, in order: the receiver, then the arguments
+    wants_in_order : (want : Want) → reverse (arguments called ++ want ∷ []) ≡ want ∷ map want_of called.args
+    wants_in_order want = reverse-append (arguments called) (want ∷ []) ∙ ap (λ (ws : List Want). want ∷ ws) (reverse_map want_of called.args)
+
+    -- the locals that begin with these values
+    pub locals_filled : (ts : List VType) (vs : List ℕ) → AllZip (Holds called is) ts vs → AllZip (Holds called is) (filled called.max_locals ts) (vs ++ replicate (called.max_locals - length vs) 0)
+    locals_filled ts vs zip =
+        zip_append (Holds called is) ts (replicate (called.max_locals - length ts) Top) vs (replicate (called.max_locals - length vs) 0) zip
+        (subst (λ (n : ℕ). AllZip (Holds called is) (replicate (called.max_locals - length ts) Top) (replicate (called.max_locals - n) 0)) (zip_length (Holds called is) ts vs zip)
+        (zip_fill (called.max_locals - length ts)))
+
+    -- the values of the frame of a static method
+    pub static_values : (number : ℕ) (vs : List ℕ) → is_static called.flags ≡ true → AllZip (Holds called is) (map type_of called.args) vs → ValuesHold called is (types.entry_frame called) (entry_frame number called vs)
+    static_values number vs s zip = record {
+      stack = tt;
+      locals = by_flag (is_static called.flags) s;
+      receiver = λ e. absurd (let bad : true ≡ false = sym s ∙ e in cc);
+    }
+      where
+        by_flag : (b : Bool) → b ≡ true
+            → AllZip (Holds called is) (filled called.max_locals ((if b then [] else (if is_init called then This else Ref called.class) ∷ []) ++ map type_of called.args)) (vs ++ replicate (called.max_locals - length vs) 0)
+        by_flag true e = locals_filled (map type_of called.args) vs zip
+        by_flag false e = absurd (cc)
+
+    -- those of the frame of an instance method
+    instance_values : (number v : ℕ) (args : List ℕ) → is_static called.flags ≡ false → is called.class v → AllZip (Holds called is) (map type_of called.args) args
+        → ValuesHold called is (types.entry_frame called) (entry_frame number called (v ∷ args))
+    instance_values number v args s k zip = record {
+      stack = tt;
+      locals = by_flag (is_static called.flags) (is_init called) s;
+      receiver = λ e. by_static (is_static called.flags) s;
+    }
+      where
+        typed : (b : Bool) → Holds called is (if b then This else Ref called.class) v
+        typed true = k
+        typed false = inr (called.class, k, subclass_self called.class)
+
+        by_flag : (b d : Bool) → b ≡ false
+            → AllZip (Holds called is) (filled called.max_locals ((if b then [] else (if d then This else Ref called.class) ∷ []) ++ map type_of called.args)) ((v ∷ args) ++ replicate (called.max_locals - length (v ∷ args)) 0)
+        by_flag true d e = absurd (cc)
+        by_flag false d e = locals_filled ((if d then This else Ref called.class) ∷ map type_of called.args) (v ∷ args) (typed d, zip)
+
+        by_static : (b : Bool) → b ≡ false → is called.class (if b then 0 else v)
+        by_static true e = absurd (cc)
+        by_static false e = k
+
+    -- ---- a call
+
+    module _ (file : 17 ≤ called.class) where
+      receiver_is : (b : Bool) (v : ℕ) → WantHolds m is (receiver_want b called.class) v → 0 < v → is called.class v
+      receiver_is true v (inl k) some = k
+      receiver_is true v (inr e) some = absurd (omega (arith, e, file))
+      receiver_is false v (inl z) some = absurd (omega (arith, z, some))
+      receiver_is false v (inr k) some = subst (λ (d : ℕ). is d v) (files_alone k.0 called.class file k.2) k.1
+
+      on_receiver : (number : ℕ) (vs : List ℕ) (b : Bool) (v : ℕ) (rest : List ℕ) → is_static called.flags ≡ false → vs ≡ v ∷ rest → 0 < v → AllZip (WantHolds m is) (receiver_want b called.class ∷ map want_of called.args) vs
+          → ValuesHold called is (types.entry_frame called) (entry_frame number called vs)
+      on_receiver number [] b v rest s e some h = absurd h
+      on_receiver number (w ∷ ws) b v rest s e some h =
+          let first : w ≡ v = cc in
+          instance_values number w ws s (receiver_is b w h.0 (subst (λ (n : ℕ). 0 < n) (sym first) some)) (kind_args called.args ws h.1)
+
+      pub call_values : (number : ℕ) (r : OpRow) (s : List ℕ) → CallRow called r → TakenHold m is r.takes s → (is_static called.flags ≡ false → HasReceiver called s)
+          → ValuesHold called is (types.entry_frame called) (entry_frame number called (reverse (take (length r.takes) s)))
+      call_values number r s call taken has = by_kind call.by
+        where
+          ordered : (wants : List Want) → call.takes ≡ wants → AllZip (WantHolds m is) (reverse wants) (reverse (take (length r.takes) s))
+          ordered wants e =
+              let takes : r.takes ≡ wants = ap (λ (x : OpRow). x.takes) call.is ∙ e in
+              subst (λ (ws : List Want). AllZip (WantHolds m is) (reverse ws) (reverse (take (length r.takes) s))) takes (in_order r.takes s taken)
+
+          by_kind : ((is_static called.flags ≡ false) × (call.takes ≡ arguments called ++ receiver_want (is_init called) called.class ∷ [])) ⊎ ((is_static called.flags ≡ true) × (call.takes ≡ arguments called))
+              → ValuesHold called is (types.entry_frame called) (entry_frame number called (reverse (take (length r.takes) s)))
+          by_kind (inl k) =
+              let v = has k.0 in
+              let want = receiver_want (is_init called) called.class in
+              let count : length r.takes ≡ suc (length called.args) = ap (λ (x : OpRow). length x.takes) call.is ∙ ap length k.1 ∙ omega (arith, length-append (arguments called) (want ∷ []), as_many called) in
+              let first = deepest_first (length called.args) s v.0 v.1 in
+              let zip = subst (λ (ws : List Want). AllZip (WantHolds m is) ws (reverse (take (length r.takes) s))) (wants_in_order want) (ordered (arguments called ++ want ∷ []) k.1) in
+              on_receiver number (reverse (take (length r.takes) s)) (is_init called) v.0 first.0 k.0 (ap (λ n. reverse (take n s)) count ∙ first.1) v.2 zip
+          by_kind (inr k) =
+              let zip = subst (λ (ws : List Want). AllZip (WantHolds m is) ws (reverse (take (length r.takes) s))) (reverse_map want_of called.args) (ordered (arguments called) k.1) in
+              static_values number (reverse (take (length r.takes) s)) k.0 (kind_args called.args (reverse (take (length r.takes) s)) zip)
+
+-- ---- the frame
+
+module _ (c : MarkedProgram) (marked : IsMarked c) (is : Classes) where
+  -- a frame with the values of a method's start stands at its start
+  pub enters : (number : ℕ) (called : MethodInfo) (vs : List ℕ) → slice_get c.program.methods number ≡ Some called → ValuesHold called is (types.entry_frame called) (entry_frame number called vs)
+      → FrameHolds c is 0 (entry_frame number called vs)
+  enters number called vs e values =
+      let s = checked_sound (checked_part c) number called marked.checked e in
+      let tag = zip_has (IsTaggingOf c.program) c.program.methods c.tags number called marked.tags e in
+      let typings = map_at (λ (t : Typing). t.frames) c.typings number s.0 s.1 in
+      let tags = map_at (λ (t : Tags). t.frames) c.tags number tag.0 tag.1 in
+      land c marked is (entry_frame number called vs) called s.0.frames tag.0.frames (types.entry_frame called) (entry_tags called) e typings tags s.2.sound.entry (tags_at c marked number called tag.0.frames e tags).entry values

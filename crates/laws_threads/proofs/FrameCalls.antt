@@ -1,0 +1,151 @@
+-- A call: the caller waits, and the called method begins.
+use Rattle.std.proofs.Common.{◌≡◌, ℕ, zero, suc, ◌-◌, ◌≤◌, Bool, true, false, cond, ◌&&◌, List, [], ◌∷◌, ◌++◌, drop, take, reverse, length, replicate, Some, inl, refl, sym, ap, ◌∙◌, subst, arith}
+use Rattle.std.specs.Prelude.{slice_get}
+use Rattle.std.proofs.lemmas.List.{length-append, length-replicate}
+use Rattle.jvm_types.specs.CodeTable.{arguments}
+use Rattle.jvm_types.specs.Members.{Site, is_static, is_synchronized}
+use Rattle.jvm_types.specs.ProgramInvariant.{site_in}
+use Rattle.jvm_types.specs.declared.code.Op.{Op}
+use Rattle.jvm_types.specs.declared.code.Op.TheVariants as ops
+use Rattle.jvm_types.specs.declared.op_row.OpRow.{OpRow}
+use Rattle.jvm_types.specs.declared.op_row.Want.{Want}
+use Rattle.jvm_types.specs.declared.program.MethodInfo.{MethodInfo}
+use Rattle.jvm_types.specs.declared.program.Program.{Program}
+use Rattle.jvm_types.specs.declared.program.Target.{Target}
+use Rattle.jvm_types.specs.declared.program.Target.TheVariants as targets
+use Rattle.lists.proofs.ListLaws.{same_some}
+use Rattle.lists.proofs.StackLaws.{reverse_cons}
+use Rattle.laws_programs.specs.TargetLaws.{HasRow}
+use Rattle.checked_program.specs.LockTags.{entry_tags}
+use Rattle.checked_program.specs.MarkedProgram.{MarkedProgram, IsMarked}
+use Rattle.checked_program.specs.Marks.{called_method}
+use Rattle.checked_program.specs.declared.tag.Tag.TheVariants.{Untagged, This}
+use Rattle.machine_types.specs.Frames.{Top, effect_at, waiting, entry_frame, arguments_of, first_or_null, monitor_of}
+use Rattle.machine_types.specs.Onward.{root_arguments}
+use Rattle.machine_types.specs.Shown.{HaveValues, Shows, ShowsAtCall, ShowBelow, Show, own_entry}
+use Rattle.machine_types.specs.Standing.{Standing, Whole, row_at}
+use Rattle.machine_types.specs.Threads.{Frame}
+use Rattle.machine_types.specs.declared.effect.Effect.TheVariants.{Calls}
+use Rattle.laws_threads.specs.CallLaws.{callee_frame, CalledStand, CallsShow, CallsEnter, RootsShow}
+use Rattle.laws_threads.proofs.EffectsOfInsns.{Fits, HasTop, IsCalling}
+use Rattle.laws_threads.proofs.FramePlaces.{Lands, lands, top_by}
+use Rattle.laws_threads.proofs.MarkedMethods.{MethodAt, method_at}
+use Rattle.laws_threads.proofs.ShownFrames.{by_top, fits_at, holds_at, whole_landed}
+use Rattle.laws_threads.proofs.TagValues.{dropped}
+
+-- ---- the locals that a method begins with
+
+untagged_values : (choice : ℕ → ℕ) (receiver n : ℕ) (vs : List ℕ) → n ≤ length vs → HaveValues choice receiver (replicate n Untagged) vs
+untagged_values choice receiver zero vs e = tt
+untagged_values choice receiver (suc n) [] e = absurd (omega (arith, e))
+untagged_values choice receiver (suc n) (v ∷ vs) e = (tt, untagged_values choice receiver n vs (omega (arith, e)))
+
+filled : (n : ℕ) (args : List ℕ) → n ≤ length (args ++ replicate (n - length args) 0)
+filled n args = let all = length-append args (replicate (n - length args) 0) in let more = length-replicate {A = ℕ} (n - length args) 0 in omega (arith, all, more)
+
+entry_values : (choice : ℕ → ℕ) (static : Bool) (n : ℕ) (args : List ℕ) → (static ≡ false → HasTop args)
+    → HaveValues choice (cond static 0 (first_or_null args)) (cond static (replicate n Untagged) (This ∷ replicate (n - 1) Untagged)) (args ++ replicate (n - length args) 0)
+entry_values choice true n args some = untagged_values choice 0 n (args ++ replicate (n - length args) 0) (filled n args)
+entry_values choice false n [] some = absurd (some refl)
+entry_values choice false n (a ∷ args) some =
+    (refl, untagged_values choice a (n - 1) (args ++ replicate (n - suc (length args)) 0) (let all = length-append args (replicate (n - suc (length args)) 0) in let more = length-replicate {A = ℕ} (n - suc (length args)) 0 in omega (arith, all, more)))
+
+-- ---- the arguments of a call
+
+takes_some : (p : Program) (site : Site) (pc : ℕ) (op : Op) (target : Target) (r : OpRow) (number : ℕ) (called : MethodInfo) → called_method op target ≡ Some number → slice_get p.methods number ≡ Some called → is_static called.flags ≡ false
+    → HasRow p site pc target op r → (n : ℕ) × (length r.takes ≡ suc n)
+takes_some p site pc (ops.Invokevirtual i) (targets.Method u) r number called e d s h =
+    (length (arguments h.method), ap (λ (x : OpRow). length x.takes) h.its ∙ length-append (arguments h.method) _ ∙ (omega arith))
+takes_some p site pc (ops.Invokespecial i) (targets.Method u) r number called e d s h =
+    (length (arguments h.method), ap (λ (x : OpRow). length x.takes) h.its ∙ length-append (arguments h.method) _ ∙ (omega arith))
+takes_some p site pc (ops.Invokestatic i) (targets.Method u) r number called e d s h =
+    let same : h.method ≡ called = same_some (sym h.there ∙ ap (slice_get p.methods) (same_some e) ∙ d) in
+    absurd (let bad : true ≡ false = sym h.sort ∙ ap (λ (m : MethodInfo). is_static m.flags) same ∙ s in cc)
+takes_some p site pc op target r number called e d s h = absurd (cc)
+
+top_behind : (xs : List ℕ) (x : ℕ) → HasTop (xs ++ x ∷ [])
+top_behind [] x = tt
+top_behind (y ∷ xs) x = tt
+
+some_taken : (n : ℕ) (takes : List Want) (s : List ℕ) → length takes ≡ suc n → HasTop s → HasTop (reverse (take (length takes) s))
+some_taken n takes [] e h = absurd h
+some_taken n takes (v ∷ s) e h = subst (λ (m : ℕ). HasTop (reverse (take m (v ∷ s)))) (sym e) (subst HasTop (sym (reverse_cons v (take n s))) (top_behind (reverse (take n s)) v))
+
+module _ (c : MarkedProgram) (is : IsMarked c) where
+  -- ---- the frame of a method
+
+  pub entry_lands : (number : ℕ) (m : MethodInfo) (args : List ℕ) → slice_get c.program.methods number ≡ Some m → (a : MethodAt c is number m) → Lands c is (entry_frame number m args) m a.tags (entry_tags m)
+  entry_lands number m args e a = lands c is (entry_frame number m args) m a.tags (entry_tags m) e a.its_tags a.holds.sound.entry
+
+  entry_shows : (number : ℕ) (m : MethodInfo) (args : List ℕ) → slice_get c.program.methods number ≡ Some m → (is_static m.flags ≡ false → HasTop args)
+      → Shows c Whole (entry_frame number m args) (own_entry m (entry_frame number m args))
+  entry_shows number m args e some =
+      let a = method_at c is number m e in
+      whole_landed c is (entry_frame number m args) m a.tags (entry_tags m) (λ pc. 0) (entry_lands number m args e a) (entry_values (λ pc. 0) (is_static m.flags) m.max_locals args some) tt
+
+  -- ---- the caller
+
+  waits : (f : Frame) (own : List ℕ) (top : Shows c Whole f own) (number : ℕ) → called_method top.stands.insn.op top.stands.target ≡ Some number
+      → ShowsAtCall c number (record f { stack = drop (length (row_at c f top.stands).takes) f.stack }) own
+  waits f own top number calls =
+      let k = top.stands in
+      record {
+        count = length (row_at c f k).takes;
+        shows = record {
+          stands = record { number = k.number; method = k.method; insn = k.insn; target = k.target; tags = k.tags; at = k.at; frames = k.frames; types_of_method = k.types_of_method; types = k.types; types_are = k.types_are; pc_is = k.pc_is };
+          made = top.made;
+          choice = top.choice;
+          locals = top.locals;
+          stack = dropped top.choice f.receiver (length (row_at c f k).takes) k.tags.stack f.stack top.stack;
+          shown_are = top.shown_are;
+        };
+        calls = calls;
+        taken = refl;
+      }
+
+  calling : (f : Frame) (below : List Frame) (k : Standing c f) (number : ℕ) → effect_at c.program (top_by c is f below k) ≡ Calls number → IsCalling c.program k.insn k.target f.stack number
+  calling f below k number g = subst (Fits c.program k.method k.insn k.target f.stack) g (fits_at c is f below k)
+
+  pub called_frames : (f : Frame) (below : List Frame) (own rest : List ℕ) (top : Shows c Whole f own) → ShowBelow c f.method below rest → (number : ℕ) (called : MethodInfo) → IsCalling c.program top.stands.insn top.stands.target f.stack number
+      → slice_get c.program.methods number ≡ Some called
+      → Show c Whole (callee_frame c.program (top_by c is f below top.stands) number called ∷ waiting c.program (top_by c is f below top.stands)) (own_entry called (callee_frame c.program (top_by c is f below top.stands) number called) ++ (own ++ rest))
+  called_frames f below own rest top b number called a d =
+      let k = top.stands in
+      let same : a.called ≡ called = same_some (sym a.there ∙ d) in
+      let some : is_static called.flags ≡ false → HasTop (reverse (take (length (row_at c f k).takes) f.stack)) =
+      (λ s.
+      let n = takes_some c.program (site_in k.method) k.insn.pc k.insn.op k.target (row_at c f k) number called a.names d s (holds_at c is f k).has_row in
+      some_taken n.0 (row_at c f k).takes f.stack n.1 (a.receiver (ap (λ (m : MethodInfo). is_static m.flags) same ∙ s))) in
+      (own_entry called (callee_frame c.program (top_by c is f below k) number called), own ++ rest, refl, entry_shows number called (reverse (take (length (row_at c f k).takes) f.stack)) d some, (own, rest, refl, waits f own top number a.names, b))
+
+-- ---- the laws
+
+pub called_law : CalledStand
+called_law c fs shown at number is e s g =
+    by_top c is Whole (λ fs shown (at : Top). effect_at c.program at ≡ Calls number → (called : MethodInfo) × (slice_get c.program.methods number ≡ Some called))
+    (λ f below own rest top b g. let a = calling c is f below top.stands number g in (a.called, a.there)) fs shown at e s g
+
+pub calls_law : CallsShow
+calls_law c fs shown at number called is e s g d =
+    by_top c is Whole (λ fs shown (at : Top). effect_at c.program at ≡ Calls number
+    → Show c Whole (callee_frame c.program at number called ∷ waiting c.program at) (own_entry called (callee_frame c.program at number called) ++ shown))
+    (λ f below own rest top b g. called_frames c is f below own rest top b number called (calling c is f below top.stands number g) d) fs shown at e s g
+
+pub call_enters_law : CallsEnter
+call_enters_law c fs at number called is e d y =
+    let a = method_at c is number called d in
+    let l = entry_lands c is number called (arguments_of c.program at) d a in
+    (l.stands, inl (refl, ap (λ (m : MethodInfo). is_synchronized m.flags) l.method ∙ y, refl))
+
+no_own : (m : MethodInfo) (f : Frame) → is_synchronized m.flags ≡ false → own_entry m f ≡ []
+no_own m f e = ap (λ (b : Bool). cond b (monitor_of m f ∷ []) []) e
+
+static_is_free : (a b : Bool) → (a && b) ≡ false → a ≡ true → b ≡ false
+static_is_free true b e s = e
+static_is_free false b e s = absurd (cc)
+
+pub roots_law : RootsShow
+roots_law c t number m is e s =
+    let free : is_synchronized m.flags ≡ false = static_is_free (is_static m.flags) (is_synchronized m.flags) (is.checked.program.methods number m e).unsynchronized s in
+    let own : own_entry m (entry_frame number m (root_arguments t m)) ≡ [] = no_own m (entry_frame number m (root_arguments t m)) free in
+    (own_entry m (entry_frame number m (root_arguments t m)), [], ap (λ (xs : List ℕ). xs ++ []) (sym own), entry_shows c is number m (root_arguments t m) e (λ q. absurd (let bad : true ≡ false = sym s ∙ q in cc)), refl)

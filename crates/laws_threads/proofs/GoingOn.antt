@@ -1,0 +1,131 @@
+-- A thread goes on in frames that show what it holds.
+use Rattle.std.proofs.Common.{◌≡◌, ℕ, ◌+◌, List, [], ◌∷◌, Option, Some, None, refl, sym, ap, ◌∙◌, arith}
+use Rattle.jvm_types.specs.CodeTable.{can_throw}
+use Rattle.jvm_types.specs.declared.outcome.End.TheVariants as ends
+use Rattle.jvm_types.specs.declared.outcome.Thrown as outcomes
+use Rattle.checked_program.specs.MarkedProgram.{MarkedProgram}
+use Rattle.machine_types.specs.Going.{root_over, goes_on}
+use Rattle.machine_types.specs.Onward.{Onward, Running, Throwing, Entering, Leaving, RootReturned, Uncaught}
+use Rattle.machine_types.specs.Shown.{Show}
+use Rattle.machine_types.specs.Standing.{Operands, Whole, Thrown}
+use Rattle.machine_types.specs.Structure.{HasFrame, TopIs, TopEnters, AfterShows, AreHeldOnce, AttemptStandsIn, count_in, held_depth, tried_depth, left_by, operands_after}
+use Rattle.machine_types.specs.Threads.{Frame, Attempt, Thread}
+use Rattle.machine_types.specs.declared.lock.Held.{Held}
+use Rattle.machine_types.specs.declared.phase.After.{After}
+use Rattle.machine_types.specs.declared.phase.After.TheVariants as afters
+use Rattle.machine_types.specs.declared.phase.Phase.{Phase}
+use Rattle.machine_types.specs.declared.phase.Phase.TheVariants as phases
+use Rattle.laws_threads.specs.StructureLaws.{StaysStructured}
+use Rattle.laws_threads.specs.InsideMoves.{GoesOnInside, OnwardStands, TopStands}
+use Rattle.laws_threads.proofs.Turns.{running}
+
+-- ---- what the frames show, where a thread goes on from some entries that it has
+
+-- a monitor is left: its entry is shown still, or not
+pub record LeavingShows (c : MarkedProgram) (m : ℕ) (a : After) (fs : List Frame) (shown : List ℕ) : Type 0 where
+  pub leaves : AfterShows c m a fs
+  pub now : List ℕ
+  pub counts : (n : ℕ) → count_in n now + left_by a m n ≡ count_in n shown
+  pub show : Show c (operands_after a) fs now
+
+abbrev pub OnwardShows : MarkedProgram → Onward → (shown : List ℕ) → Type 0
+OnwardShows c (Running fs) shown = HasFrame fs × Show c Whole fs shown
+OnwardShows c (Throwing x class fs) shown = TopIs c can_throw fs × Show c Thrown fs shown
+OnwardShows c (Entering m fs) shown = TopEnters c m fs × Show c Whole fs (m ∷ shown)
+OnwardShows c (Leaving m a fs) shown = LeavingShows c m a fs shown
+OnwardShows c RootReturned shown = shown ≡ []
+OnwardShows c (Uncaught class) shown = shown ≡ []
+
+-- ---- each shows a frame that stands
+
+top_stands : (c : MarkedProgram) (operands : Operands) (fs : List Frame) (shown : List ℕ) → HasFrame fs → Show c operands fs shown → TopStands c fs
+top_stands c operands [] shown f k = absurd f
+top_stands c operands (f ∷ fs) shown h k = k.3.stands
+
+pub entered_frame : (c : MarkedProgram) (m : ℕ) (fs : List Frame) → TopEnters c m fs → HasFrame fs
+entered_frame c m [] k = absurd k
+entered_frame c m (f ∷ fs) k = tt
+
+pub left_frame : (c : MarkedProgram) (m : ℕ) (a : After) (fs : List Frame) → AfterShows c m a fs → HasFrame fs
+left_frame c m a (f ∷ fs) k = tt
+left_frame c m afters.Next [] k = absurd k
+left_frame c m afters.Return [] k = absurd k
+left_frame c m (afters.Unwind x class) [] k = absurd k
+
+pub onward_stands : (c : MarkedProgram) (onward : Onward) (shown : List ℕ) → OnwardShows c onward shown → OnwardStands c onward
+onward_stands c (Running fs) shown k = top_stands c Whole fs shown k.0 k.1
+onward_stands c (Throwing x class fs) shown k = tt
+onward_stands c (Entering m fs) shown k = top_stands c Whole fs (m ∷ shown) (entered_frame c m fs k.0) k.1
+onward_stands c (Leaving m a fs) shown k = top_stands c (operands_after a) fs k.now (left_frame c m a fs k.leaves) k.show
+onward_stands c RootReturned shown k = tt
+onward_stands c (Uncaught class) shown k = tt
+
+-- ---- the thread goes on
+
+abbrev pub AttemptGoesOn : MarkedProgram → Onward → List Held → Option Attempt → Type 0
+AttemptGoesOn c onward held None = Unit {0}
+AttemptGoesOn c onward held (Some a) = GoesOnInside c onward held a
+
+pub none_goes_on : (c : MarkedProgram) (onward : Onward) (held : List Held) (o : Option Attempt) → o ≡ None → AttemptGoesOn c onward held o
+none_goes_on c onward held None e = tt
+none_goes_on c onward held (Some a) e = absurd (cc)
+
+running_inside : (c : MarkedProgram) (fs : List Frame) (held : List Held) (o : Option Attempt) → AttemptGoesOn c (Running fs) held o → AttemptStandsIn c phases.Run fs held o
+running_inside c fs held None k = tt
+running_inside c fs held (Some a) k = k
+
+module _ (c : MarkedProgram) (was : Phase) (s : Thread) (once : AreHeldOnce s.held) where
+  throwing_inside : (x : ℕ) (class : outcomes.Thrown) (fs : List Frame) (o : Option Attempt) → AttemptGoesOn c (Throwing x class fs) s.held o → AttemptStandsIn c (phases.Throw x class) fs s.held o
+  throwing_inside x class fs None k = tt
+  throwing_inside x class fs (Some a) k = k
+
+  entering_inside : (m : ℕ) (fs : List Frame) (o : Option Attempt) → AttemptGoesOn c (Entering m fs) s.held o → AttemptStandsIn c (phases.Enter m 0) fs s.held o
+  entering_inside m fs None k = tt
+  entering_inside m fs (Some a) k = k
+
+  leaving_inside : (m : ℕ) (e : After) (fs : List Frame) (o : Option Attempt) → AttemptGoesOn c (Leaving m e fs) s.held o → AttemptStandsIn c (phases.Leave m e) fs s.held o
+  leaving_inside m e fs None k = tt
+  leaving_inside m e fs (Some a) k = k
+
+  over_inside : (phase : Phase) (o : Option Attempt) → AttemptGoesOn c RootReturned s.held o → AttemptStandsIn c phase [] s.held o
+  over_inside phase None k = tt
+  over_inside phase (Some a) k = absurd k
+
+  none_shown : (shown : List ℕ) → shown ≡ [] → ((m : ℕ) → count_in m shown ≡ held_depth m s.held + tried_depth m s.attempt) → (m : ℕ) → 0 ≡ held_depth m s.held + tried_depth m s.attempt
+  none_shown shown e d m = sym (ap (count_in m) e) ∙ d m
+
+  pub going : (onward : Onward) (shown : List ℕ) → OnwardShows c onward shown → ((m : ℕ) → count_in m shown ≡ held_depth m s.held + tried_depth m s.attempt) → AttemptGoesOn c onward s.held s.attempt
+      → StaysStructured c was (goes_on s onward)
+  going (Running fs) shown k d inside = running c was (record s { frames = fs }) (record { shown = shown; show = k.1; depths = λ m. let e = d m in omega arith; once = once; phase_shows = k.0 }) (running_inside c fs s.held s.attempt inside)
+  going (Throwing x class fs) shown k d inside = record {
+    is_as = refl;
+    stands = record { shown = shown; show = k.1; depths = λ m. let e = d m in omega arith; once = once; phase_shows = k.0 };
+    attempt = throwing_inside x class fs s.attempt inside;
+  }
+  going (Entering m fs) shown k d inside = record {
+    is_as = refl;
+    stands = record { shown = m ∷ shown; show = k.1; depths = λ n. let e = d n in omega arith; once = once; phase_shows = record { outer = shown; innermost = refl; enters = k.0 } };
+    attempt = entering_inside m fs s.attempt inside;
+  }
+  going (Leaving m a fs) shown k d inside = record {
+    is_as = refl;
+    stands = record { shown = k.now; show = k.show; depths = λ n. let e = d n in let f = k.counts n in omega arith; once = once; phase_shows = k.leaves };
+    attempt = leaving_inside m a fs s.attempt inside;
+  }
+  going RootReturned shown k d inside = by_roots s.roots
+    where
+      zero_deep : (m : ℕ) → 0 ≡ held_depth m s.held + tried_depth m s.attempt
+      zero_deep = none_shown shown k d
+
+      by_roots : (roots : List ℕ) → StaysStructured c was (record s { frames = []; phase = root_over roots })
+      by_roots [] = record { is_as = refl; stands = record { shown = []; show = refl; depths = λ m. let e = zero_deep m in omega arith; once = once; phase_shows = refl }; attempt = over_inside (phases.Ending ends.Returned) s.attempt inside }
+      by_roots (number ∷ roots) = record { is_as = refl; stands = record { shown = []; show = refl; depths = λ m. let e = zero_deep m in omega arith; once = once; phase_shows = refl }; attempt = over_inside phases.Start s.attempt inside }
+  going (Uncaught class) shown k d inside = record {
+    is_as = refl;
+    stands = record { shown = []; show = refl; depths = λ m. let e = none_shown shown k d m in omega arith; once = once; phase_shows = refl };
+    attempt = over_inside (phases.Ending (ends.Uncaught class)) s.attempt (uncaught_inside s.attempt inside);
+  }
+    where
+      uncaught_inside : (o : Option Attempt) → AttemptGoesOn c (Uncaught class) s.held o → AttemptGoesOn c RootReturned s.held o
+      uncaught_inside None k = tt
+      uncaught_inside (Some a) k = absurd k

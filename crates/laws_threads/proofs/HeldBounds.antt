@@ -1,0 +1,90 @@
+-- The bounds of what a thread holds, when a monitor is put on the held list or taken from it.
+use Rattle.std.proofs.Common.{◌≡◌, ℕ, ◌+◌, ◌≤◌, Bool, true, false, List, [], ◌∷◌, Some, refl, subst, arith}
+use Rattle.std.specs.Prelude.{◌==◌, IfSome, if◌then◌else◌}
+use Rattle.std.specs.List.{AllByRecursion}
+use Rattle.std.proofs.lemmas.Bool.Decides.{nat_tests}
+use Rattle.machine_types.specs.Bounds.{KeptFits, flat_held}
+use Rattle.machine_types.specs.HeldMonitors.{held_at, with_held, without_held}
+use Rattle.machine_types.specs.declared.lock.Held.{Held}
+use Rattle.machine_types.specs.declared.lock.Kept.{Kept}
+use Rattle.machine_types.specs.declared.lock.Kept.TheVariants as keeps
+use Rattle.laws_threads.proofs.HeldLists.{held_monitor}
+
+-- ---- each monitor
+
+module _ (P : Held → Type 0) where
+  pub each_put : (e : Held) (hs : List Held) → P e → AllByRecursion P hs → AllByRecursion P (with_held e hs)
+  each_put e [] h all = (h, tt)
+  each_put e (g ∷ hs) h all = by_test (g.monitor == e.monitor) (each_put e hs h all.1)
+    where
+      by_test : (b : Bool) → AllByRecursion P (with_held e hs) → AllByRecursion P (if b then e ∷ hs else g ∷ with_held e hs)
+      by_test true more = (h, all.1)
+      by_test false more = (all.0, more)
+
+  pub each_without : (m : ℕ) (hs : List Held) → AllByRecursion P hs → AllByRecursion P (without_held m hs)
+  each_without m [] all = tt
+  each_without m (g ∷ hs) all = by_test (g.monitor == m) (each_without m hs all.1)
+    where
+      by_test : (b : Bool) → AllByRecursion P (without_held m hs) → AllByRecursion P (if b then hs else g ∷ without_held m hs)
+      by_test true more = all.1
+      by_test false more = (all.0, more)
+
+  pub found : (m : ℕ) (hs : List Held) → AllByRecursion P hs → IfSome (held_at hs m) P
+  found m [] all = tt
+  found m (g ∷ hs) all = by_test (g.monitor == m) (found m hs all.1)
+    where
+      by_test : (b : Bool) → IfSome (held_at hs m) P → IfSome (if b then Some g else held_at hs m) P
+      by_test true more = all.0
+      by_test false more = more
+
+-- ---- flat locks
+
+abbrev pub flat : Held → ℕ
+flat h = flat_held (h ∷ [])
+
+pub flat_put : (e : Held) (hs : List Held) → flat_held (with_held e hs) ≤ flat e + flat_held hs
+flat_put e [] = omega arith
+flat_put e (g ∷ hs) = by_test (g.monitor == e.monitor) (flat_put e hs)
+  where
+    by_test : (b : Bool) → flat_held (with_held e hs) ≤ flat e + flat_held hs → flat_held (if b then e ∷ hs else g ∷ with_held e hs) ≤ flat e + flat_held (g ∷ hs)
+    by_test true more = omega arith
+    by_test false more = omega arith
+
+pub flat_without : (m : ℕ) (hs : List Held) → flat_held (without_held m hs) ≤ flat_held hs
+flat_without m [] = omega arith
+flat_without m (g ∷ hs) = by_test (g.monitor == m) (flat_without m hs)
+  where
+    by_test : (b : Bool) → flat_held (without_held m hs) ≤ flat_held hs → flat_held (if b then hs else g ∷ without_held m hs) ≤ flat_held (g ∷ hs)
+    by_test true more = omega arith
+    by_test false more = omega arith
+
+-- what stands in place of the entry of its monitor
+pub flat_refit : (m : ℕ) (hs : List Held) (h e : Held) → held_at hs m ≡ Some h → e.monitor ≡ h.monitor → flat_held (with_held e hs) + flat h ≡ flat e + flat_held hs
+flat_refit m [] h e found same = absurd (cc)
+flat_refit m (g ∷ hs) h e found same = by_test (g.monitor == m) refl found (g.monitor == e.monitor) refl (λ found. flat_refit m hs h e found same)
+  where
+    at : e.monitor ≡ m
+    at = subst (λ (i : ℕ). e.monitor ≡ i) (held_monitor m (g ∷ hs) h found) same
+
+    by_test : (b : Bool) → (g.monitor == m) ≡ b → (if b then Some g else held_at hs m) ≡ Some h → (d : Bool) → (g.monitor == e.monitor) ≡ d
+        → (held_at hs m ≡ Some h → flat_held (with_held e hs) + flat h ≡ flat e + flat_held hs) → flat_held (if d then e ∷ hs else g ∷ with_held e hs) + flat h ≡ flat e + flat_held (g ∷ hs)
+    by_test true t f true u more = let one : g ≡ h = cc in subst (λ (x : Held). flat_held (e ∷ hs) + flat x ≡ flat e + flat_held (g ∷ hs)) one (omega arith)
+    by_test true t f false u more = let k = at in absurd (grind (arith, nat_tests, t, u, k))
+    by_test false t f true u more = let k = at in absurd (grind (arith, nat_tests, t, u, k))
+    by_test false t f false u more = let k = more f in omega arith
+
+-- ---- one lock is at most one flat lock
+
+pub flat_at_most_one : (h : Held) → flat h ≤ 1
+flat_at_most_one h = by_kept h.kept
+  where
+    by_kept : (kept : Kept) → flat (record h { kept = kept }) ≤ 1
+    by_kept (keeps.Flat c) = omega arith
+    by_kept (keeps.Fat r) = omega arith
+
+-- ---- all bounds of what is held
+
+pub record HeldFit (held : List Held) (instructions inflated locked : ℕ) : Type 0 where
+  pub kept : AllByRecursion (λ h. KeptFits h.kept) held
+  pub depths : AllByRecursion (λ h. h.depth ≤ instructions) held
+  pub inflated_few : inflated + flat_held held ≤ locked

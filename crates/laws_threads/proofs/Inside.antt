@@ -1,0 +1,116 @@
+-- A thread inside an attempt: its top frame, what that may do, and what stays as frames come and go.
+use Rattle.std.proofs.Common.{◌≡◌, ◌⊎◌, inr, ⊎_elim, ℕ, ◌<◌, ◌≤◌, true, List, [], ◌∷◌, length, None, refl, sym, ◌∙◌, subst, arith}
+use Rattle.jvm_types.specs.Members.{is_synchronized}
+use Rattle.jvm_types.specs.ProgramInvariant.{site_in}
+use Rattle.checked_program.specs.LockTags.{TagShape}
+use Rattle.checked_program.specs.MarkedProgram.{MarkedProgram, IsMarked}
+use Rattle.checked_program.specs.SectionLaws.{HasThis}
+use Rattle.machine_types.specs.Elision.{put_back}
+use Rattle.machine_types.specs.Frames.{Top, effect_at, row_at}
+use Rattle.machine_types.specs.Shown.{Shows, Show}
+use Rattle.machine_types.specs.Standing.{Standing, Operands, Whole, tags_of}
+use Rattle.machine_types.specs.Structure.{IsPhaseInside, Stands, AttemptStands, Finishes, RunsSection, frames_inside}
+use Rattle.machine_types.specs.Threads.{Frame, Attempt}
+use Rattle.machine_types.specs.declared.effect.Effect.{Effect}
+use Rattle.machine_types.specs.declared.effect.Effect.TheVariants.{Goes, Throws, Reads, Writes, Indexes, Measures, Raises, Makes, Prints, Calls, Returns, Enters, Leaves, Waits, Notifies, NotifiesAll, Stuck}
+use Rattle.machine_types.specs.declared.lock.Held.{Held}
+use Rattle.machine_types.specs.declared.phase.Phase.{Phase}
+use Rattle.machine_types.specs.declared.phase.Phase.TheVariants as phases
+use Rattle.laws_threads.specs.InsideEffects.{MayDo, InsideMayDo}
+use Rattle.laws_threads.proofs.CallOps.{called_on}
+use Rattle.laws_threads.proofs.EffectOps.{Does, does}
+use Rattle.laws_threads.proofs.FramesInside.{one_more}
+use Rattle.laws_threads.proofs.SectionFrames.{have_this, Runs, runs_of, row_stands, reads, exits, locking_on}
+use Rattle.laws_threads.proofs.Standings.{top_here, top_at_standing, one_tags}
+
+-- ---- the top frame of an attempt
+
+pub base_below : (a : Attempt) (f : Frame) (below : List Frame) → a.base < length (f ∷ below) → a.base ≤ length below
+base_below a f below l = omega (arith, l)
+
+pub runs_inside : (c : MarkedProgram) (phase : Phase) (f : Frame) (below : List Frame) (held : List Held) (a : Attempt) (k : AttemptStands c phase (f ∷ below) held a) → (Finishes a phase (frames_inside a (f ∷ below)) → ⊥) → Runs c a f (frames_inside a below)
+runs_inside c phase f below held a k never = runs_of c a f (frames_inside a below) (subst (RunsSection c a) (one_more a f below (base_below a f below k.based)) (⊎_elim (λ x. absurd (never x)) (λ x. x) k.frames))
+
+-- in another phase, and with other frames inside
+pub stands_on : (c : MarkedProgram) (phase other : Phase) (fs gs : List Frame) (held : List Held) (a : Attempt) → AttemptStands c phase fs held a → IsPhaseInside a.monitor other → a.base < length gs → put_back a gs ≡ put_back a fs → Finishes a other (frames_inside a gs) ⊎ RunsSection c a (frames_inside a gs)
+    → AttemptStands c other gs held a
+stands_on c phase other fs gs held a k inside based same frames = record {
+  inside = inside;
+  not_held = k.not_held;
+  based = based;
+  goes_back = subst (λ hs. Stands c (phases.Enter a.monitor a.number) hs held None) (sym same) k.goes_back;
+  receiver = k.receiver;
+  uses = k.uses;
+  are_uses = k.are_uses;
+  marked = k.marked;
+  frames = frames;
+}
+
+-- with the same frames
+pub stays : (c : MarkedProgram) (phase other : Phase) (f : Frame) (below : List Frame) (held : List Held) (a : Attempt) → AttemptStands c phase (f ∷ below) held a → IsPhaseInside a.monitor other → (Finishes a phase (frames_inside a (f ∷ below)) → ⊥) → AttemptStands c other (f ∷ below) held a
+stays c phase other f below held a k inside never = stands_on c phase other (f ∷ below) (f ∷ below) held a k inside k.based refl (inr (⊎_elim (λ x. absurd (never x)) (λ x. x) k.frames))
+
+-- ---- what the top frame may do
+
+module _ (c : MarkedProgram) (marked : IsMarked c) where
+  -- the tags of `this` on its stack
+  pub stack_this : (f : Frame) (k : Standing c f) (own : List ℕ) → Shows c Whole f own → HasThis f.receiver k.tags.stack f.stack
+  stack_this f k own s = subst (λ (x : TagShape). HasThis f.receiver x.stack f.stack) (one_tags c marked f s.stands k) (have_this s.choice f.receiver s.stands.tags.stack f.stack s.stack)
+
+  pub top_shows : (o : Operands) (f : Frame) (below : List Frame) (shown : List ℕ) → Show c o (f ∷ below) shown → (own : List ℕ) × Shows c o f own
+  top_shows o f below shown s = (s.0, s.3)
+
+  module _ (phase : Phase) (f : Frame) (below : List Frame) (held : List Held) (a : Attempt) (k : AttemptStands c phase (f ∷ below) held a) (r : Runs c a f (frames_inside a below)) (this : HasThis f.receiver r.stands.tags.stack f.stack) where
+    abbrev top : Top
+    top = top_here c f below r.stands
+
+    pub top_does : Does c a.monitor r.stands.insn.op r.stands.target f.stack (effect_at c.program top)
+    top_does =
+        let s = r.stands in
+        does c a.monitor s.method s.insn.pc s.insn.next (row_at c.program top) s.target s.insn.op f.locals f.stack (row_stands c marked f.method s.number s.method s.insn s.target s.tags s.at)
+        (reads c marked a k.uses k.are_uses k.marked f (frames_inside a below) r f.stack this)
+
+    pub locking : is_synchronized r.stands.method.flags ≡ true → f.receiver ≡ a.monitor
+    locking = locking_on c marked a k.uses k.are_uses k.marked f (frames_inside a below) r
+
+    pub calls_on : (number : ℕ) → Does c a.monitor r.stands.insn.op r.stands.target f.stack (Calls number) → MayDo c a.monitor top (Calls number)
+    calls_on number d called there synchronized =
+        let s = r.stands in
+        called_on c.program number called there f.stack (tags_of c) a.monitor (site_in s.method) s.insn.pc s.insn.op s.target (row_at c.program top) marked.checked.program (row_stands c marked f.method s.number s.method s.insn s.target s.tags s.at) d.0 d.1
+        (reads c marked a k.uses k.are_uses k.marked f (frames_inside a below) r f.stack this) synchronized
+
+    pub leaves_on : (n : ℕ) → Does c a.monitor r.stands.insn.op r.stands.target f.stack (Leaves n) → n ≡ a.monitor
+    leaves_on n d = sym d.1 ∙ exits c marked a k.uses k.are_uses k.marked f (frames_inside a below) r f.stack this d.0
+
+    may : (e : Effect) → Does c a.monitor r.stands.insn.op r.stands.target f.stack e → MayDo c a.monitor top e
+    may (Goes to made) d = tt
+    may (Throws x) d = tt
+    may (Reads v) d = d
+    may (Writes v word) d = d
+    may (Indexes array index stored) d = d
+    may (Measures array) d = tt
+    may (Raises x) d = tt
+    may (Makes word size) d = d
+    may (Prints n) d = d
+    may (Calls number) d = calls_on number d
+    may Returns d = locking
+    may (Enters n) d = d
+    may (Leaves n) d = leaves_on n d
+    may (Waits n) d = d
+    may (Notifies n) d = d
+    may (NotifiesAll n) d = d
+    may Stuck d = tt
+
+    pub top_may : MayDo c a.monitor top (effect_at c.program top)
+    top_may = may (effect_at c.program top) top_does
+
+pub not_finished : (a : Attempt) (fs : List Frame) → Finishes a phases.Run fs → ⊥
+not_finished a fs x = let bad = x.leaves in cc
+
+pub inside_may : InsideMayDo
+inside_may c [] held a at marked k s e = absurd (cc)
+inside_may c (f ∷ below) held a at marked k s e =
+    let r = runs_inside c phases.Run f below held a k (not_finished a (frames_inside a (f ∷ below))) in
+    let shows = top_shows c marked Whole f below s.shown s.show in
+    let this = stack_this c marked f r.stands shows.0 shows.1 in
+    subst (λ t. MayDo c a.monitor t (effect_at c.program t)) (top_at_standing c marked f below r.stands at e) (top_may c marked phases.Run f below held a k r this)

@@ -1,0 +1,297 @@
+-- A thread makes an instruction.
+use Rattle.std.proofs.Common.{◌≡◌, ℕ, ◌+◌, Bool, true, false, cond, List, [], ◌∷◌, ◌++◌, Option, Some, None, refl, sym, ap, ◌∙◌, subst, arith}
+use Rattle.std.specs.Prelude.{nat_lt, nat_le, slice_get, option_map}
+use Rattle.jvm_types.specs.Members.{is_synchronized}
+use Rattle.jvm_types.specs.Verifying.{is_return}
+use Rattle.jvm_types.specs.declared.code.Insn.{Insn}
+use Rattle.jvm_types.specs.declared.outcome.End.TheVariants as ends
+use Rattle.jvm_types.specs.declared.outcome.Thrown as outcomes
+use Rattle.jvm_types.specs.declared.outcome.Thrown.TheVariants.{StackOverflowError, IllegalMonitorStateException, OutOfMemoryError, ArrayIndexOutOfBoundsException}
+use Rattle.jvm_types.specs.declared.program.MethodInfo.{MethodInfo}
+use Rattle.checked_program.specs.MarkedProgram.{MarkedProgram, IsMarked}
+use Rattle.machine_types.specs.Elision.{is_checked, is_same, if_same, fails}
+use Rattle.machine_types.specs.Frames.{Top, top_of, frames_of, effect_at, went, went_on, waiting, making, has_room, monitor_of, returned}
+use Rattle.machine_types.specs.Going.{with_phase, goes_on, goes_on_if}
+use Rattle.machine_types.specs.HeldMonitors.{held_at}
+use Rattle.machine_types.specs.Instructions.{has_print_left, indexed, made, printed, if_held, waits, notifies, did, instructed}
+use Rattle.machine_types.specs.Ints.{low}
+use Rattle.machine_types.specs.Onward.{Onward, Running, Throwing, Entering, Leaving, threw, called, entered, returns, back, done}
+use Rattle.machine_types.specs.ReadyObjects.{thrown_of}
+use Rattle.machine_types.specs.Shown.{Show, own_entry}
+use Rattle.machine_types.specs.Standing.{Whole}
+use Rattle.machine_types.specs.Structure.{TopIs, AreHeldOnce, IsFlat, IsFat, Stands, AttemptStandsIn, is_element_op, count_in, held_depth, tried_depth, once_at}
+use Rattle.machine_types.specs.Threads.{Frame, Attempt, Thread}
+use Rattle.machine_types.specs.Words.{header_class, header_length, value_word}
+use Rattle.machine_types.specs.declared.effect.Effect.{Effect}
+use Rattle.machine_types.specs.declared.effect.Effect.TheVariants as effects
+use Rattle.machine_types.specs.declared.lock.Held.{Held}
+use Rattle.machine_types.specs.declared.lock.Kept.{Kept}
+use Rattle.machine_types.specs.declared.lock.Kept.TheVariants as keeps
+use Rattle.machine_types.specs.declared.phase.After.TheVariants as afters
+use Rattle.machine_types.specs.declared.phase.Phase.{Phase}
+use Rattle.machine_types.specs.declared.phase.Phase.TheVariants as phases
+use Rattle.machine_types.specs.declared.phase.Toward.TheVariants as towards
+use Rattle.laws_threads.specs.StructureLaws.{StaysStructured}
+use Rattle.laws_threads.specs.MoveLaws.{goes_to}
+use Rattle.laws_threads.specs.CallLaws.{IsLeft, callee_frame}
+use Rattle.laws_threads.specs.ThrowLaws.{may_throw}
+use Rattle.laws_threads.specs.InsideMoves.{GoesAlong}
+use Rattle.laws_threads.specs.InsideEffects.{MayDo}
+use Rattle.laws_threads.proofs.FrameCalls.{calls_law, call_enters_law}
+use Rattle.laws_threads.proofs.FramePlaces.{tops_stand_law}
+use Rattle.laws_threads.proofs.FrameReturns.{returns_law}
+use Rattle.laws_threads.proofs.FrameThrows.{effects_throw_law, throws_law}
+use Rattle.laws_threads.proofs.MonitorMoves.{enters_law, leaves_law}
+use Rattle.laws_threads.proofs.MoveProofs.{follow_law, effects_law, making_law}
+use Rattle.laws_threads.proofs.Inside.{inside_may}
+use Rattle.laws_threads.proofs.Steps.{steps_inside}
+use Rattle.laws_threads.proofs.ElementEffects.{element_at}
+use Rattle.laws_threads.proofs.GoingOn.{OnwardShows, AttemptGoesOn, none_goes_on, onward_stands, going}
+use Rattle.laws_threads.proofs.Turns.{running, failing, no_attempt}
+
+-- ---- where there is an onward
+
+abbrev pub OnwardShowsIf : MarkedProgram → Option Onward → (shown : List ℕ) → Type 0
+OnwardShowsIf c None shown = Unit {0}
+OnwardShowsIf c (Some onward) shown = OnwardShows c onward shown
+
+abbrev pub AttemptGoesOnIf : MarkedProgram → Option Onward → List Held → Option Attempt → Type 0
+AttemptGoesOnIf c None held a = Unit {0}
+AttemptGoesOnIf c (Some onward) held a = AttemptGoesOn c onward held a
+
+pub going_if : (c : MarkedProgram) (was : Phase) (s : Thread) → AreHeldOnce s.held → StaysStructured c was s → (o : Option Onward) (shown : List ℕ) → OnwardShowsIf c o shown → ((m : ℕ) → count_in m shown ≡ held_depth m s.held + tried_depth m s.attempt)
+    → AttemptGoesOnIf c o s.held s.attempt → StaysStructured c was (goes_on_if s o)
+going_if c was s once same None shown k d inside = same
+going_if c was s once same (Some onward) shown k d inside = going c was s once onward shown k d inside
+
+-- ---- what an instruction shows, by its effect
+
+module _ (c : MarkedProgram) (marked : IsMarked c) (fs : List Frame) (shown : List ℕ) (at : Top) (t : top_of c.program fs ≡ Some at) (show : Show c Whole fs shown) where
+  is_top : fs ≡ frames_of at
+  is_top = (tops_stand_law c fs Whole shown at marked show t).1.frames
+
+  moved_on : (to made : ℕ) (e : Effect) → effect_at c.program at ≡ e → goes_to at.insn.next e ≡ Some to → OnwardShows c (Running (went c.program at to made)) shown
+  moved_on to made e f g = (tt, effects_law c fs shown at to made marked t show (ap (goes_to at.insn.next) f ∙ g))
+
+  pub threw_shows : (x : outcomes.Thrown) (e : Effect) → effect_at c.program at ≡ e → may_throw e ≡ true → OnwardShows c (threw x at) shown
+  threw_shows x e f g = let k = throws_law c fs shown at marked t show (effects_throw_law c fs shown at marked t show (ap may_throw f ∙ g)) in (k.1, k.0)
+
+  raised_shows : (x : ℕ) → effect_at c.program at ≡ effects.Raises x → (o : Option outcomes.Thrown) → OnwardShowsIf c (option_map (λ class. Throwing x class (frames_of at)) o) shown
+  raised_shows x f None = tt
+  raised_shows x f (Some class) = let k = throws_law c fs shown at marked t show (effects_throw_law c fs shown at marked t show (ap may_throw f)) in (k.1, k.0)
+
+  called_shows : (number : ℕ) → effect_at c.program at ≡ effects.Calls number → (o : Option MethodInfo) → slice_get c.program.methods number ≡ o → OnwardShowsIf c (option_map (called c.program at number) o) shown
+  called_shows number f None g = tt
+  called_shows number f (Some m) g = by_room (has_room c.program (frames_of at) m)
+    where
+      frame : Frame
+      frame = callee_frame c.program at number m
+
+      all_shown : Show c Whole (frame ∷ waiting c.program at) (own_entry m frame ++ shown)
+      all_shown = calls_law c fs shown at number m marked t show f g
+
+      by_flag : (b : Bool) → is_synchronized m.flags ≡ b → Show c Whole (frame ∷ waiting c.program at) (cond b (monitor_of m frame ∷ []) [] ++ shown)
+          → OnwardShows c (cond b (Entering (monitor_of m frame) (frame ∷ waiting c.program at)) (Running (frame ∷ waiting c.program at))) shown
+      by_flag true e k = (call_enters_law c fs at number m marked t g e, k)
+      by_flag false e k = (tt, k)
+
+      by_room : (room : Bool) → OnwardShows c (cond room (entered m frame (waiting c.program at)) (threw StackOverflowError at)) shown
+      by_room true = by_flag (is_synchronized m.flags) refl all_shown
+      by_room false = threw_shows StackOverflowError (effects.Calls number) f refl
+
+  back_shows : (now : List Frame) (rest : List ℕ) → Show c Whole now rest → OnwardShows c (back now) rest
+  back_shows [] rest k = k
+  back_shows (f ∷ now) rest k = (tt, k)
+
+  returns_shows : effect_at c.program at ≡ effects.Returns → OnwardShows c (returns c.program at) shown
+  returns_shows f = by_flag (is_synchronized at.method.flags) refl left.own
+    where
+      left : IsLeft c at is_return Whole (returned c.program at) shown
+      left = returns_law c fs shown at marked t show f
+
+      by_flag : (b : Bool) → is_synchronized at.method.flags ≡ b → shown ≡ cond b (monitor_of at.method at.frame ∷ []) [] ++ left.rest
+          → OnwardShows c (cond b (Leaving (monitor_of at.method at.frame) afters.Return (frames_of at)) (back (returned c.program at))) shown
+      by_flag true e own = record { leaves = left.leaves e; now = shown; counts = λ n. omega arith; show = subst (λ (gs : List Frame). Show c Whole gs shown) is_top show }
+      by_flag false e own = subst (λ (ns : List ℕ). OnwardShows c (back (returned c.program at)) ns) (sym own) (back_shows (returned c.program at) left.rest left.show)
+
+  left_shows : (m : ℕ) → effect_at c.program at ≡ effects.Leaves m → OnwardShows c (Leaving m afters.Next (went_on c.program at 0)) shown
+  left_shows m f = let k = leaves_law c fs shown at m marked t show f in
+      record { leaves = tt; now = k.0; counts = λ n. (let all : count_in n shown ≡ once_at m n + count_in n k.0 = ap (count_in n) k.1 in omega arith); show = k.2 }
+
+  pub done_shows : (e : Effect) → effect_at c.program at ≡ e → (got : ℕ) → OnwardShowsIf c (done c.program at e got) shown
+  done_shows (effects.Goes to made) f got = moved_on to made (effects.Goes to made) f refl
+  done_shows (effects.Throws x) f got = threw_shows x (effects.Throws x) f refl
+  done_shows (effects.Reads v) f got = moved_on at.insn.next got (effects.Reads v) f refl
+  done_shows (effects.Writes v word) f got = moved_on at.insn.next 0 (effects.Writes v word) f refl
+  done_shows (effects.Measures array) f got = moved_on at.insn.next (header_length got) (effects.Measures array) f refl
+  done_shows (effects.Raises x) f got = raised_shows x f (thrown_of (header_class got))
+  done_shows (effects.Prints n) f got = moved_on at.insn.next 0 (effects.Prints n) f refl
+  done_shows (effects.Calls number) f got = called_shows number f (slice_get c.program.methods number) refl
+  done_shows effects.Returns f got = returns_shows f
+  done_shows (effects.Enters m) f got = let k = enters_law c fs shown at m marked t show f in (k.1, k.0)
+  done_shows (effects.Leaves m) f got = left_shows m f
+  done_shows (effects.Indexes array index stored) f got = tt
+  done_shows (effects.Makes word size) f got = tt
+  done_shows (effects.Waits m) f got = tt
+  done_shows (effects.Notifies m) f got = tt
+  done_shows (effects.NotifiesAll m) f got = tt
+  done_shows effects.Stuck f got = tt
+
+-- ---- the instruction of a thread
+
+module _ (c : MarkedProgram) (marked : IsMarked c) (s : Thread) (at : Top) (t : top_of c.program s.frames ≡ Some at) (k : Stands c phases.Run s.frames s.held s.attempt) (inside : AttemptStandsIn c phases.Run s.frames s.held s.attempt)
+    (was : Phase) (same : StaysStructured c was s) where
+  deep : (m : ℕ) → count_in m k.shown ≡ held_depth m s.held + tried_depth m s.attempt
+  deep m = let d = k.depths m in omega arith
+
+  -- in an attempt it may do but little
+  may_do : (a : Attempt) → s.attempt ≡ Some a → (e : Effect) → effect_at c.program at ≡ e → MayDo c a.monitor at e
+  may_do a g e f = subst (λ (x : Effect). MayDo c a.monitor at x) f (inside_may c s.frames s.held a at marked (subst (λ (o : Option Attempt). AttemptStandsIn c phases.Run s.frames s.held o) g inside) (subst (λ (o : Option Attempt). Stands c phases.Run s.frames s.held o) g k) t)
+
+  unless_inside : (e : Effect) → effect_at c.program at ≡ e → ((m : ℕ) → MayDo c m at e → ⊥) → (o : Option Attempt) → s.attempt ≡ o → o ≡ None
+  unless_inside e f never None g = refl
+  unless_inside e f never (Some a) g = absurd (never a.monitor (may_do a g e f))
+
+  along : (e : Effect) → effect_at c.program at ≡ e → GoesAlong at.insn e
+  along (effects.Goes to v) f = (follow_law c s.frames k.shown at to marked t k.show (ap (goes_to at.insn.next) f)).1
+  along e f = tt
+
+  step_inside : (e : Effect) → effect_at c.program at ≡ e → (got : ℕ) (o : Option Onward) → done c.program at e got ≡ o → OnwardShowsIf c o k.shown → (q : Option Attempt) → s.attempt ≡ q → AttemptGoesOnIf c o s.held q
+  step_inside e f got None g shows q h = tt
+  step_inside e f got (Some onward) g shows None h = tt
+  step_inside e f got (Some onward) g shows (Some a) h = steps_inside c s.frames s.held a at got onward marked (subst (λ (o : Option Attempt). AttemptStandsIn c phases.Run s.frames s.held o) h inside) (subst (λ (o : Option Attempt). Stands c phases.Run s.frames s.held o) h k)
+      t (subst (λ (x : Effect). GoesAlong at.insn x) (sym f) (along e f)) (ap (λ (x : Effect). done c.program at x got) f ∙ g) (onward_stands c onward k.shown shows)
+
+  step : (e : Effect) → effect_at c.program at ≡ e → (got : ℕ) → StaysStructured c was (goes_on_if s (done c.program at e got))
+  step e f got = let shows = done_shows c marked s.frames k.shown at t k.show e f got in
+      going_if c was s k.once same (done c.program at e got) k.shown shows deep (step_inside e f got (done c.program at e got) refl shows s.attempt refl)
+
+  threw_on : (x : outcomes.Thrown) (e : Effect) → effect_at c.program at ≡ e → may_throw e ≡ true → s.attempt ≡ None → StaysStructured c was (goes_on s (threw x at))
+  threw_on x e f g none = going c was s k.once (threw x at) k.shown (threw_shows c marked s.frames k.shown at t k.show x e f g) deep (none_goes_on c (threw x at) s.held s.attempt none)
+
+  -- ---- an element
+
+  top_at_element : (array index : ℕ) (stored : Option ℕ) → effect_at c.program at ≡ effects.Indexes array index stored → TopIs c (is_element_op stored) s.frames
+  top_at_element array index stored f = let top = tops_stand_law c s.frames Whole k.shown at marked k.show t in
+      subst (λ (fs : List Frame). TopIs c (is_element_op stored) fs) (sym top.1.frames)
+      (top.0, subst (λ (insn : Insn). is_element_op stored insn.op ≡ true) (sym top.1.insn) (element_at c.program at.insn.next at.target at.insn.op at.frame.locals at.frame.stack array index stored f))
+
+  element_begins : (array index found count : ℕ) (stored : Option ℕ) → effect_at c.program at ≡ effects.Indexes array index stored → s.attempt ≡ None → StaysStructured c was (indexed s at array found stored count)
+  element_begins array index found count stored f none = by_count (nat_lt found count)
+    where
+      by_count : (b : Bool) → StaysStructured c was (cond b (with_phase s (phases.Element (value_word array found) stored)) (goes_on s (threw ArrayIndexOutOfBoundsException at)))
+      by_count true = record {
+        is_as = refl;
+        stands = record { shown = k.shown; show = k.show; depths = k.depths; once = k.once; phase_shows = top_at_element array index stored f };
+        attempt = no_attempt c (phases.Element (value_word array found) stored) s.frames s.held s.attempt none;
+      }
+      by_count false = threw_on ArrayIndexOutOfBoundsException (effects.Indexes array index stored) f refl none
+
+  -- ---- a new object, and a print
+
+  object_begins : (word size got : ℕ) → effect_at c.program at ≡ effects.Makes word size → s.attempt ≡ None → StaysStructured c was (made c.program s at word size got)
+  object_begins word size got f none = by_heap (nat_le (got + size) c.program.heap)
+    where
+      by_heap : (b : Bool) → StaysStructured c was (cond b (record s { frames = making c.program at; phase = phases.Made got word }) (goes_on s (threw OutOfMemoryError at)))
+      by_heap true = record {
+        is_as = refl;
+        stands = record { shown = k.shown; show = making_law c s.frames k.shown at word size marked t k.show f; depths = k.depths; once = k.once; phase_shows = tt };
+        attempt = no_attempt c (phases.Made got word) (making c.program at) s.held s.attempt none;
+      }
+      by_heap false = threw_on OutOfMemoryError (effects.Makes word size) f refl none
+
+  prints_one : (n got : ℕ) → effect_at c.program at ≡ effects.Prints n → s.attempt ≡ None → StaysStructured c was (did c.program s at (effects.Prints n) got)
+  prints_one n got f none = by_limit (has_print_left s)
+    where
+      by_limit : (b : Bool) → StaysStructured c was (cond b (goes_on (printed s got n) (Running (went_on c.program at 0))) (with_phase s (phases.Ending ends.Prints)))
+      by_limit true = going c was (printed s got n) k.once (Running (went_on c.program at 0)) k.shown (done_shows c marked s.frames k.shown at t k.show (effects.Prints n) f got) deep (none_goes_on c (Running (went_on c.program at 0)) s.held s.attempt none)
+      by_limit false = record { is_as = refl; stands = k; attempt = inside }
+
+  -- ---- what asks that a monitor is held
+
+  went_shows : (e : Effect) → effect_at c.program at ≡ e → goes_to at.insn.next e ≡ Some at.insn.next → Show c Whole (went_on c.program at 0) k.shown
+  went_shows e f g = effects_law c s.frames k.shown at at.insn.next 0 marked t k.show (ap (goes_to at.insn.next) f ∙ g)
+
+  waits_for : (m : ℕ) → effect_at c.program at ≡ effects.Waits m → s.attempt ≡ None → (o : Option Held) → held_at s.held m ≡ o → StaysStructured c was (if_held s at o (waits (record s { frames = went_on c.program at 0 }) m))
+  waits_for m f none None e = threw_on IllegalMonitorStateException (effects.Waits m) f refl none
+  waits_for m f none (Some h) e = by_kept h.kept refl
+    where
+      shows : Show c Whole (went_on c.program at 0) k.shown
+      shows = went_shows (effects.Waits m) f refl
+
+      by_kept : (kept : Kept) → h.kept ≡ kept → StaysStructured c was (waits (record s { frames = went_on c.program at 0 }) m kept)
+      by_kept (keeps.Flat count) g = record {
+        is_as = refl;
+        stands = record { shown = k.shown; show = shows; depths = k.depths; once = k.once; phase_shows = record { toward_shows = tt; flat = subst (λ (o : Option Held). IsFlat o) (sym e) (count, g); once = tt } };
+        attempt = no_attempt c (phases.Grow m towards.Wait) (went_on c.program at 0) s.held s.attempt none;
+      }
+      by_kept (keeps.Fat r) g = record {
+        is_as = refl;
+        stands = record { shown = k.shown; show = shows; depths = k.depths; once = k.once; phase_shows = (tt, subst (λ (o : Option Held). IsFat r o) (sym e) g) };
+        attempt = no_attempt c (phases.WaitBit m r) (went_on c.program at 0) s.held s.attempt none;
+      }
+
+  notifies_one : (m : ℕ) → effect_at c.program at ≡ effects.Notifies m → s.attempt ≡ None → (o : Option Held) → held_at s.held m ≡ o → StaysStructured c was (if_held s at o (notifies (record s { frames = went_on c.program at 0 }) (phases.NotifyLook m)))
+  notifies_one m f none None e = threw_on IllegalMonitorStateException (effects.Notifies m) f refl none
+  notifies_one m f none (Some h) e = by_kept h.kept refl
+    where
+      shows : Show c Whole (went_on c.program at 0) k.shown
+      shows = went_shows (effects.Notifies m) f refl
+
+      by_kept : (kept : Kept) → h.kept ≡ kept → StaysStructured c was (notifies (record s { frames = went_on c.program at 0 }) (phases.NotifyLook m) kept)
+      by_kept (keeps.Flat count) g = running c was (record s { frames = went_on c.program at 0 }) (record { shown = k.shown; show = shows; depths = k.depths; once = k.once; phase_shows = tt }) (no_attempt c phases.Run (went_on c.program at 0) s.held s.attempt none)
+      by_kept (keeps.Fat r) g = record {
+        is_as = refl;
+        stands = record { shown = k.shown; show = shows; depths = k.depths; once = k.once; phase_shows = (tt, subst (λ (o : Option Held). IsFat r o) (sym e) g) };
+        attempt = no_attempt c (phases.NotifyLook m r) (went_on c.program at 0) s.held s.attempt none;
+      }
+
+  notifies_each : (m : ℕ) → effect_at c.program at ≡ effects.NotifiesAll m → s.attempt ≡ None → (o : Option Held) → held_at s.held m ≡ o → StaysStructured c was (if_held s at o (notifies (record s { frames = went_on c.program at 0 }) (phases.NotifyAll m)))
+  notifies_each m f none None e = threw_on IllegalMonitorStateException (effects.NotifiesAll m) f refl none
+  notifies_each m f none (Some h) e = by_kept h.kept refl
+    where
+      shows : Show c Whole (went_on c.program at 0) k.shown
+      shows = went_shows (effects.NotifiesAll m) f refl
+
+      by_kept : (kept : Kept) → h.kept ≡ kept → StaysStructured c was (notifies (record s { frames = went_on c.program at 0 }) (phases.NotifyAll m) kept)
+      by_kept (keeps.Flat count) g = running c was (record s { frames = went_on c.program at 0 }) (record { shown = k.shown; show = shows; depths = k.depths; once = k.once; phase_shows = tt }) (no_attempt c phases.Run (went_on c.program at 0) s.held s.attempt none)
+      by_kept (keeps.Fat r) g = record {
+        is_as = refl;
+        stands = record { shown = k.shown; show = shows; depths = k.depths; once = k.once; phase_shows = (tt, subst (λ (o : Option Held). IsFat r o) (sym e) g) };
+        attempt = no_attempt c (phases.NotifyAll m r) (went_on c.program at 0) s.held s.attempt none;
+      }
+
+  -- ---- all of them
+
+  pub did_keeps : (e : Effect) → effect_at c.program at ≡ e → (got : ℕ) → StaysStructured c was (did c.program s at e got)
+  did_keeps (effects.Indexes array index stored) f got = element_begins array index (low index) (header_length got) stored f (unless_inside (effects.Indexes array index stored) f (λ m n. n) s.attempt refl)
+  did_keeps (effects.Makes word size) f got = object_begins word size got f (unless_inside (effects.Makes word size) f (λ m n. n) s.attempt refl)
+  did_keeps (effects.Prints n) f got = prints_one n got f (unless_inside (effects.Prints n) f (λ m n. n) s.attempt refl)
+  did_keeps (effects.Waits m) f got = waits_for m f (unless_inside (effects.Waits m) f (λ m n. n) s.attempt refl) (held_at s.held m) refl
+  did_keeps (effects.Notifies m) f got = notifies_one m f (unless_inside (effects.Notifies m) f (λ m n. n) s.attempt refl) (held_at s.held m) refl
+  did_keeps (effects.NotifiesAll m) f got = notifies_each m f (unless_inside (effects.NotifiesAll m) f (λ m n. n) s.attempt refl) (held_at s.held m) refl
+  did_keeps e f got = step e f got
+
+-- ---- behind the check of an attempt
+
+pub checked : (c : MarkedProgram) (was : Phase) (s : Thread) (phase : Phase) → AttemptStandsIn c phase s.frames s.held s.attempt → (got : ℕ) (more : Thread) → StaysStructured c was more → StaysStructured c was (if_same s s.attempt got more)
+checked c was s phase inside got more on = by_attempt s.attempt inside
+  where
+    by_attempt : (o : Option Attempt) → AttemptStandsIn c phase s.frames s.held o → StaysStructured c was (if_same s o got more)
+    by_attempt None k = on
+    by_attempt (Some a) k = by_word (is_same a got)
+      where
+        by_word : (b : Bool) → StaysStructured c was (cond b more (fails s a))
+        by_word true = on
+        by_word false = failing c was phase s a k
+
+pub instruction_keeps : (c : MarkedProgram) (was : Phase) (s : Thread) → IsMarked c → Stands c phases.Run s.frames s.held s.attempt → AttemptStandsIn c phases.Run s.frames s.held s.attempt → StaysStructured c was s → (at : Top) → top_of c.program s.frames ≡ Some at → (got : ℕ)
+    → StaysStructured c was (instructed c.program s at (effect_at c.program at) got)
+instruction_keeps c was s marked k inside same at t got = by_check (is_checked at.frame.pc (effect_at c.program at))
+  where
+    on : StaysStructured c was (did c.program s at (effect_at c.program at) got)
+    on = did_keeps c marked s at t k inside was same (effect_at c.program at) refl got
+
+    by_check : (b : Bool) → StaysStructured c was (cond b (if_same s s.attempt got (did c.program s at (effect_at c.program at) got)) (did c.program s at (effect_at c.program at) got))
+    by_check true = checked c was s phases.Run inside got (did c.program s at (effect_at c.program at) got) on
+    by_check false = on

@@ -1,0 +1,122 @@
+-- Where a frame stands, and that it stands at the target of an edge when it has gone there.
+use Rattle.std.proofs.Common.{◌≡◌, ℕ, zero, suc, true, false, List, [], ◌∷◌, Option, Some, ap, sym, subst, ◌∙◌, arith}
+use Rattle.std.specs.Prelude.{◌==◌, cond, slice_get, map}
+use Rattle.std.proofs.lemmas.Bool.{or_parts}
+use Rattle.std.proofs.lemmas.Bool.Decides.{nat_tests}
+use Rattle.lists.proofs.ListLaws.{same_some}
+use Rattle.jvm_types.specs.CodeGrammar.{is_start}
+use Rattle.jvm_types.specs.Types.{TypeFrame}
+use Rattle.jvm_types.specs.Verifying.{IsLaidOut, HasTyping, IsAssignment, edges}
+use Rattle.jvm_types.specs.Verifying as types
+use Rattle.jvm_types.specs.declared.code.Insn.{Insn}
+use Rattle.jvm_types.specs.declared.program.MethodInfo.{MethodInfo}
+use Rattle.jvm_types.specs.declared.typing.Typing.{Typing}
+use Rattle.laws_programs.proofs.CodeOrder.{methods_laid_out, one_number, have_targets}
+use Rattle.laws_programs.proofs.EdgeTargets.{lands}
+use Rattle.laws_programs.proofs.LeastFrames.{AreDistinct, distinct}
+use Rattle.checked_program.specs.CheckedLaws.{AreFramesOf, IsPlace, Holds}
+use Rattle.checked_program.specs.LockTags.{TagShape, IsShapeBelow}
+use Rattle.checked_program.specs.MarkedProgram.{MarkedProgram, IsMarked, checked_part}
+use Rattle.checked_program.specs.TaggedCode.{row_of}
+use Rattle.checked_program.specs.Tagging.{IsTagAssignment, IsTaggingOf}
+use Rattle.checked_program.specs.Tagging as tagging
+use Rattle.checked_program.specs.Visits as visits
+use Rattle.checked_program.specs.declared.tag.Tags.{Tags}
+use Rattle.checked_program.proofs.CheckedPlaces.{checked_sound, places_hold_all}
+use Rattle.laws_sections.proofs.TagLocal.{tag_local_law}
+use Rattle.laws_sections.proofs.VisitsLocal.{landing}
+use Rattle.machine_types.specs.Frames.{top_at, top_in, top_of, at_pc}
+use Rattle.machine_types.specs.Standing.{Standing, tags_of}
+use Rattle.machine_types.specs.Threads.{Frame}
+use Rattle.machine_types.specs.Typed.{Classes, FrameHolds}
+use Rattle.laws_threads.proofs.Lists.{zip_at, mapped_at}
+use Rattle.laws_threads.proofs.Values.{ValuesHold, values_below}
+
+-- ---- the item of a pc
+
+not_first : (insns : List Insn) (i : ℕ) (x : Insn) (pc : ℕ) → is_start insns pc ≡ false → slice_get insns i ≡ Some x → (pc == x.pc) ≡ false
+not_first [] i x pc n e = absurd (cc)
+not_first (y ∷ insns) zero x pc n e = let same : y ≡ x = cc in let no : (x.pc == pc) ≡ false = subst (λ (z : Insn). (z.pc == pc) ≡ false) same (or_parts (y.pc == pc) (is_start insns pc) n).0 in grind (arith, nat_tests, no)
+not_first (y ∷ insns) (suc i) x pc n e = not_first insns i x pc (or_parts (y.pc == pc) (is_start insns pc) n).1 e
+
+found_at_pc : {A : Type 0} (code : List Insn) (items : List A) (i : ℕ) (insn : Insn) (x : A) → AreDistinct code → slice_get code i ≡ Some insn → slice_get items i ≡ Some x → at_pc code items insn.pc ≡ Some x
+found_at_pc [] items i insn x d e f = absurd (cc)
+found_at_pc (y ∷ code) [] i insn x d e f = absurd (cc)
+found_at_pc (y ∷ code) (item ∷ items) zero insn x d e f =
+    let same : y ≡ insn = cc in
+    ap (λ t. cond t (Some item) (at_pc code items insn.pc)) (subst (λ (z : Insn). (z.pc == insn.pc) ≡ true) (sym same) (grind (arith, nat_tests))) ∙ f
+found_at_pc (y ∷ code) (item ∷ items) (suc i) insn x d e f =
+    ap (λ t. cond t (Some item) (at_pc code items insn.pc)) (not_first code i insn y.pc d.0 e) ∙ found_at_pc code items i insn x d.1 e f
+
+-- ---- where frames stand
+
+module _ (c : MarkedProgram) (marked : IsMarked c) where
+  pub laid_at : (number : ℕ) (m : MethodInfo) → slice_get c.program.methods number ≡ Some m → IsLaidOut m
+  laid_at number m e = methods_laid_out c.program number m marked.checked.program e
+
+  -- what the frame stands at is found by its pc
+  pub stand_top : (f : Frame) (fs : List Frame) (k : Standing c f) → top_of c.program (f ∷ fs) ≡ Some (record { frame = f; below = fs; method = k.method; insn = k.insn; target = k.target })
+  stand_top f fs k =
+      let d = distinct 0 k.method.code (laid_at f.method k.method k.at.in_program).bytes (laid_at f.method k.method k.at.in_program).code.spelled in
+      let insn : at_pc k.method.code k.method.code f.pc ≡ Some k.insn = subst (λ (pc : ℕ). at_pc k.method.code k.method.code pc ≡ Some k.insn) k.pc_is (found_at_pc k.method.code k.method.code k.number k.insn k.insn d k.at.in_code k.at.in_code) in
+      let target : at_pc k.method.code k.method.targets f.pc ≡ Some k.target = subst (λ (pc : ℕ). at_pc k.method.code k.method.targets pc ≡ Some k.target) k.pc_is (found_at_pc k.method.code k.method.targets k.number k.insn k.target d k.at.in_code k.at.names) in
+      ap (top_in f fs) k.at.in_program ∙ ap (λ o. top_at f fs k.method o (at_pc k.method.code k.method.targets f.pc)) insn ∙ ap (top_at f fs k.method (Some k.insn)) target
+
+  -- ---- what holds there
+
+  pub types_at : (number : ℕ) (m : MethodInfo) (frames : List (Option TypeFrame)) → slice_get c.program.methods number ≡ Some m → slice_get (map (λ t. t.frames) c.typings) number ≡ Some frames
+      → (typing : Typing) × (slice_get c.typings number ≡ Some typing) × (frames ≡ typing.frames) × AreFramesOf c.program m typing
+  types_at number m frames e t =
+      let s = checked_sound (checked_part c) number m marked.checked e in
+      let there = mapped_at (λ (t : Typing). t.frames) c.typings number frames t in
+      let same : there.0 ≡ s.0 = same_some (sym there.1 ∙ s.1) in
+      (s.0, s.1, sym there.2 ∙ ap (λ (t : Typing). t.frames) same, s.2)
+
+  pub tags_at : (number : ℕ) (m : MethodInfo) (frames : List (Option TagShape)) → slice_get c.program.methods number ≡ Some m → slice_get (tags_of c) number ≡ Some frames → IsTagAssignment c.program m frames
+  tags_at number m frames e t =
+      let there = mapped_at (λ (t : Tags). t.frames) c.tags number frames t in
+      let s = checked_sound (checked_part c) number m marked.checked e in
+      let has : IsTaggingOf c.program m there.0 = zip_at (IsTaggingOf c.program) c.program.methods c.tags number m there.0 marked.tags e there.1 in
+      subst (λ (fs : List (Option TagShape)). IsTagAssignment c.program m fs) there.2 (tag_local_law c.program m s.0.frames there.0.frames s.2.laid s.2.typed has)
+
+  pub place_of : (f : Frame) (k : Standing c f) → IsPlace (checked_part c) k.method k.frames k.number k.insn k.target k.types
+  place_of f k =
+      let t = types_at f.method k.method k.frames k.at.in_program k.types_of_method in
+      record { method = f.method; typing = t.0; in_program = k.at.in_program; its_typing = t.1; its_frames = t.2; in_code = k.at.in_code; its_target = k.at.names; has = k.types_are }
+
+  pub rules_at : (f : Frame) (k : Standing c f) → Holds c.program k.method k.frames k.insn k.target k.types
+  rules_at f k = places_hold_all (checked_part c) k.method k.frames k.number k.insn k.target k.types marked.checked (place_of f k)
+
+  pub tag_rules_at : (f : Frame) (k : Standing c f) → tagging.IsSound k.method k.insn (row_of c.program k.method k.insn k.target) k.at.frames k.tags
+  tag_rules_at f k = (tags_at f.method k.method k.at.frames k.at.in_program k.at.of_method).sound k.number k.insn k.target k.tags k.at.in_code k.at.names k.at.frame
+
+  -- ---- where a frame lands
+
+  module _ (is : Classes) where
+    pub land : (g : Frame) (m : MethodInfo) (frames : List (Option TypeFrame)) (tags : List (Option TagShape)) (after : TypeFrame) (h : TagShape) → slice_get c.program.methods g.method ≡ Some m
+        → slice_get (map (λ t. t.frames) c.typings) g.method ≡ Some frames → slice_get (tags_of c) g.method ≡ Some tags → types.Fits m.code frames after g.pc → visits.Fits IsShapeBelow m.code tags h g.pc
+        → ValuesHold m is after g → FrameHolds c is 0 g
+    land g m frames tags after h e t u fits below values =
+        let l = lands m frames after g.pc fits in
+        let n = landing IsShapeBelow m.code tags h g.pc below in
+        let same = one_number m n.number l.number n.insn l.insn (laid_at g.method m e) n.there l.there (n.starts ∙ sym l.starts) in
+        let target = have_targets c.program g.method l.number m l.insn marked.checked.program e l.there in
+        let v = values_below m is after l.frame g l.fits values in
+        record {
+          stands = record {
+            number = l.number;
+            method = m;
+            insn = l.insn;
+            target = target.0;
+            tags = n.frame;
+            at = record { in_program = e; in_code = l.there; names = target.1; frames = tags; of_method = u; frame = subst (λ i. slice_get tags i ≡ Some (Some n.frame)) same n.has };
+            frames = frames;
+            types_of_method = t;
+            types = l.frame;
+            types_are = l.has;
+            pc_is = l.starts;
+          };
+          stack = v.stack;
+          locals = v.locals;
+          receiver = v.receiver;
+        }

@@ -1,0 +1,193 @@
+-- A thread enters a monitor.
+use Rattle.std.proofs.Common.{◌≡◌, ℕ, ◌+◌, Bool, true, false, cond, List, [], ◌∷◌, length, Option, Some, None, refl, sym, ap, subst, arith}
+use Rattle.std.specs.Prelude.{◌==◌, nat_lt}
+use Rattle.std.proofs.lemmas.Bool.Decides.{nat_tests}
+use Rattle.checked_program.specs.MarkedProgram.{MarkedProgram, IsMarked}
+use Rattle.machine_types.specs.Elision.{tries, begins, enters_marked}
+use Rattle.machine_types.specs.Going.{with_phase, runs, failed_turn}
+use Rattle.machine_types.specs.HeldMonitors.{held_at, with_held, deeper}
+use Rattle.machine_types.specs.LockWords.{lock_of}
+use Rattle.machine_types.specs.Monitors.{Tries, HasNot, claim, claim_by, flag_from, acquires, enter_moves, takes}
+use Rattle.machine_types.specs.Structure.{TopEnters, Stands, AttemptStands, AttemptStandsIn, held_depth, tried_depth, once_at}
+use Rattle.machine_types.specs.Threads.{Frame, Attempt, Thread}
+use Rattle.machine_types.specs.declared.lock.Held.{Held}
+use Rattle.machine_types.specs.declared.lock.Kept.{Kept}
+use Rattle.machine_types.specs.declared.lock.LockWord.{LockWord}
+use Rattle.machine_types.specs.declared.lock.LockWord.TheVariants as locks
+use Rattle.machine_types.specs.declared.phase.Phase.{Phase}
+use Rattle.machine_types.specs.declared.phase.Phase.TheVariants as phases
+use Rattle.laws_threads.specs.StructureLaws.{StaysStructured, turned_from}
+use Rattle.laws_threads.proofs.HeldLists.{held_monitor, depth_some, depth_none, raised, once_put}
+use Rattle.laws_threads.specs.InsideMoves.{BeginsAttempt, EntersInside}
+use Rattle.laws_threads.proofs.GoingOn.{entered_frame}
+use Rattle.laws_threads.proofs.Turns.{TurnsIn, running, turning, no_attempt, held_outside}
+
+-- ---- the lock is looked at, taken or flagged: the phases of that are alike
+
+module _ (c : MarkedProgram) (s : Thread) (m : ℕ) where
+  to_take : (count : ℕ) → Stands c (phases.Acquire m) s.frames s.held s.attempt → Stands c (phases.Take m count) s.frames s.held s.attempt
+  to_take count k = record { shown = k.shown; show = k.show; depths = k.depths; once = k.once; phase_shows = k.phase_shows }
+
+  to_flag : (u : ℕ) → Stands c (phases.Acquire m) s.frames s.held s.attempt → Stands c (phases.Flag m u) s.frames s.held s.attempt
+  to_flag u k = record { shown = k.shown; show = k.show; depths = k.depths; once = k.once; phase_shows = k.phase_shows }
+
+  to_take_fat : (r : ℕ) → Stands c (phases.Acquire m) s.frames s.held s.attempt → Stands c (phases.TakeFat m r) s.frames s.held s.attempt
+  to_take_fat r k = record { shown = k.shown; show = k.show; depths = k.depths; once = k.once; phase_shows = k.phase_shows }
+
+  pub from_take : (count : ℕ) → Stands c (phases.Take m count) s.frames s.held s.attempt → Stands c (phases.Acquire m) s.frames s.held s.attempt
+  from_take count k = record { shown = k.shown; show = k.show; depths = k.depths; once = k.once; phase_shows = k.phase_shows }
+
+  pub from_flag : (u : ℕ) → Stands c (phases.Flag m u) s.frames s.held s.attempt → Stands c (phases.Acquire m) s.frames s.held s.attempt
+  from_flag u k = record { shown = k.shown; show = k.show; depths = k.depths; once = k.once; phase_shows = k.phase_shows }
+
+  pub from_take_fat : (r : ℕ) → Stands c (phases.TakeFat m r) s.frames s.held s.attempt → Stands c (phases.Acquire m) s.frames s.held s.attempt
+  from_take_fat r k = record { shown = k.shown; show = k.show; depths = k.depths; once = k.once; phase_shows = k.phase_shows }
+
+  acquire_turns : Stands c (phases.Acquire m) s.frames s.held s.attempt → TurnsIn c (phases.Acquire m) s
+  acquire_turns k = record { counts = tt; stands = k; inside = no_attempt c (phases.Acquire m) s.frames s.held s.attempt k.phase_shows.no_attempt }
+
+  flag_turns : (u : ℕ) → Stands c (phases.Acquire m) s.frames s.held s.attempt → TurnsIn c (phases.Flag m u) s
+  flag_turns u k = record { counts = tt; stands = to_flag u k; inside = no_attempt c (phases.Flag m u) s.frames s.held s.attempt k.phase_shows.no_attempt }
+
+  -- by what the lock word says
+  pub acquiring : (was : Phase) → turned_from was ≡ phases.Acquire m → Stands c (phases.Acquire m) s.frames s.held s.attempt → (lock : LockWord) → StaysStructured c was (acquires s m lock)
+  acquiring was from k (locks.Free count) = record { is_as = refl; stands = to_take count k; attempt = no_attempt c (phases.Take m count) s.frames s.held s.attempt k.phase_shows.no_attempt }
+  acquiring was from k (locks.Held u) = by_turns (nat_lt (s.turns + 1) flag_from)
+    where
+      limit : TurnsIn c (turned_from was) s
+      limit = subst (λ (phase : Phase). TurnsIn c phase s) (sym from) (acquire_turns k)
+
+      by_turns : (few : Bool) → StaysStructured c was (failed_turn s (cond few (phases.Acquire m) (phases.Flag m u)))
+      by_turns true = turning c was s (phases.Acquire m) (acquire_turns k) limit
+      by_turns false = turning c was s (phases.Flag m u) (flag_turns u k) limit
+  acquiring was from k (locks.Flagged u) = turning c was s (phases.Acquire m) (acquire_turns k) (subst (λ (phase : Phase). TurnsIn c phase s) (sym from) (acquire_turns k))
+  acquiring was from k (locks.Fat r) = record { is_as = refl; stands = to_take_fat r k; attempt = no_attempt c (phases.TakeFat m r) s.frames s.held s.attempt k.phase_shows.no_attempt }
+
+  -- the lock was not free
+  pub turned_back : (count : ℕ) → Stands c (phases.Acquire m) s.frames s.held s.attempt → StaysStructured c (phases.Take m count) (failed_turn s (phases.Acquire m))
+  turned_back count k = turning c (phases.Take m count) s (phases.Acquire m) (acquire_turns k) (acquire_turns k)
+
+  pub turned_back_fat : (r : ℕ) → Stands c (phases.Acquire m) s.frames s.held s.attempt → StaysStructured c (phases.TakeFat m r) (failed_turn s (phases.TakeFat m r))
+  turned_back_fat r k = turning c (phases.TakeFat m r) s (phases.TakeFat m r) turns turns
+    where
+      turns : TurnsIn c (phases.TakeFat m r) s
+      turns = record { counts = tt; stands = to_take_fat r k; inside = no_attempt c (phases.TakeFat m r) s.frames s.held s.attempt k.phase_shows.no_attempt }
+
+  pub looks_at_lock : (was : Phase) → Stands c (phases.Acquire m) s.frames s.held s.attempt → StaysStructured c was (with_phase s (phases.Acquire m))
+  looks_at_lock was k = record { is_as = refl; stands = k; attempt = no_attempt c (phases.Acquire m) s.frames s.held s.attempt k.phase_shows.no_attempt }
+
+  -- the entry is made
+  pub taken : (was : Phase) (kept : Kept) → Stands c (phases.Acquire m) s.frames s.held s.attempt → StaysStructured c was (takes s m kept)
+  taken was kept k = running c was (record s { held = with_held entry s.held; counts = record s.counts { locked = s.counts.locked + 1 } }) stands (no_attempt c phases.Run s.frames (with_held entry s.held) s.attempt k.phase_shows.no_attempt)
+    where
+      entry : Held
+      entry = record { monitor = m; kept = kept; depth = 1 }
+
+      raised_at : (n : ℕ) → held_depth n (with_held entry s.held) ≡ held_depth n s.held + once_at m n
+      raised_at n = let none : held_depth m s.held ≡ 0 = depth_none m s.held k.phase_shows.not_held in raised m n entry s.held refl (omega arith)
+
+      stands : Stands c phases.Run s.frames (with_held entry s.held) s.attempt
+      stands = record {
+        shown = k.shown;
+        show = k.show;
+        depths = λ n. let d = k.depths n in let more = raised_at n in omega arith;
+        once = once_put entry s.held (omega arith) k.once;
+        phase_shows = entered_frame c m s.frames k.phase_shows.entry.enters;
+      }
+
+-- ---- an entry begins
+
+tried_once : (b : Bool) → cond b (0 + 1) 0 ≡ cond b 1 0
+tried_once true = refl
+tried_once false = refl
+
+tried_deeper : (b : Bool) (inner : ℕ) → cond b (inner + 1 + 1) 0 ≡ cond b (inner + 1) 0 + cond b 1 0
+tried_deeper true inner = omega arith
+tried_deeper false inner = omega arith
+
+-- the monitor is held
+module _ (begin : BeginsAttempt) (entered_again : EntersInside) (c : MarkedProgram) (s : Thread) (m tried : ℕ) (k : Stands c (phases.Enter m tried) s.frames s.held s.attempt) (inside : AttemptStandsIn c (phases.Enter m tried) s.frames s.held s.attempt) where
+  pub again : (h : Held) → held_at s.held m ≡ Some h → StaysStructured c (phases.Enter m tried) (runs (record s { held = with_held (deeper h) s.held }))
+  again h e = running c (phases.Enter m tried) (record s { held = with_held (deeper h) s.held }) stands (no_attempt c phases.Run s.frames (with_held (deeper h) s.held) s.attempt (held_outside c (phases.Enter m tried) m h s.frames s.held s.attempt (λ n same. same) e inside))
+    where
+      raised_at : (n : ℕ) → held_depth n (with_held (deeper h) s.held) ≡ held_depth n s.held + once_at m n
+      raised_at n = raised m n (deeper h) s.held (held_monitor m s.held h e) (ap (λ (i : ℕ). i + 1) (sym (depth_some m s.held h e)))
+
+      stands : Stands c phases.Run s.frames (with_held (deeper h) s.held) s.attempt
+      stands = record {
+        shown = k.shown;
+        show = k.show;
+        depths = λ n. let d = k.depths n in let more = raised_at n in omega arith;
+        once = once_put (deeper h) s.held (omega arith) k.once;
+        phase_shows = entered_frame c m s.frames k.phase_shows.enters;
+      }
+
+  -- the lock is to be taken
+  pub to_acquire : held_at s.held m ≡ None → s.attempt ≡ None → Stands c (phases.Acquire m) s.frames s.held s.attempt
+  to_acquire e none = record { shown = k.shown; show = k.show; depths = k.depths; once = k.once; phase_shows = record { entry = k.phase_shows; not_held = e; no_attempt = none } }
+
+  -- an attempt begins
+  begun : IsMarked c → held_at s.held m ≡ None → s.attempt ≡ None → enters_marked c s.frames ≡ true → (noted number : ℕ) (fs : List Frame) → s.frames ≡ fs → StaysStructured c (phases.Enter m tried) (begins s fs m noted number)
+  begun marked e none may noted number [] f = absurd (subst (λ (fs : List Frame). TopEnters c m fs) f k.phase_shows.enters)
+  begun marked e none may noted number (f ∷ below) same = running c (phases.Enter m tried) (record s { attempt = Some a }) stands (subst (λ (fs : List Frame). AttemptStands c phases.Run fs s.held a) (sym same) tried_there)
+    where
+      a : Attempt
+      a = record { monitor = m; noted = noted; base = length below; number = number; inner = 0; entry = f }
+
+      before : Stands c (phases.Enter m tried) (f ∷ below) s.held None
+      before = subst (λ (fs : List Frame). Stands c (phases.Enter m tried) fs s.held None) same (subst (λ (o : Option Attempt). Stands c (phases.Enter m tried) s.frames s.held o) none k)
+
+      tried_there : AttemptStands c phases.Run (f ∷ below) s.held a
+      tried_there = begin c m tried noted number f below s.held marked before e (subst (λ (fs : List Frame). enters_marked c fs ≡ true) same may)
+
+      stands : Stands c phases.Run s.frames s.held (Some a)
+      stands = record {
+        shown = k.shown;
+        show = k.show;
+        depths = λ n. let d = k.depths n in let now : tried_depth n s.attempt ≡ 0 = ap (tried_depth n) none in let here = tried_once (m == n) in omega arith;
+        once = k.once;
+        phase_shows = entered_frame c m s.frames k.phase_shows.enters;
+      }
+
+  -- by the lock word that was found
+  trying : IsMarked c → held_at s.held m ≡ None → s.attempt ≡ None → enters_marked c s.frames ≡ true → (lock : LockWord) → StaysStructured c (phases.Enter m tried) (tries s m tried lock)
+  trying marked e none may (locks.Free noted) = by_range (nat_lt noted s.cfg.range)
+    where
+      by_range : (within : Bool) → StaysStructured c (phases.Enter m tried) (cond within (begins s s.frames m noted (tried + 1)) (with_phase s (phases.Acquire m)))
+      by_range true = begun marked e none may noted (tried + 1) s.frames refl
+      by_range false = looks_at_lock c s m (phases.Enter m tried) (to_acquire e none)
+  trying marked e none may (locks.Held u) = looks_at_lock c s m (phases.Enter m tried) (to_acquire e none)
+  trying marked e none may (locks.Flagged u) = looks_at_lock c s m (phases.Enter m tried) (to_acquire e none)
+  trying marked e none may (locks.Fat r) = looks_at_lock c s m (phases.Enter m tried) (to_acquire e none)
+
+  -- inside an attempt on the monitor
+  deeper_inside : (a : Attempt) → s.attempt ≡ Some a → a.monitor ≡ m → StaysStructured c (phases.Enter m tried) (runs (record s { attempt = Some (record a { inner = a.inner + 1 }) }))
+  deeper_inside a e on = running c (phases.Enter m tried) (record s { attempt = Some (record a { inner = a.inner + 1 }) }) stands (entered_again c m tried s.frames s.held a (subst (λ (o : Option Attempt). AttemptStandsIn c (phases.Enter m tried) s.frames s.held o) e inside))
+    where
+      stands : Stands c phases.Run s.frames s.held (Some (record a { inner = a.inner + 1 }))
+      stands = record {
+        shown = k.shown;
+        show = k.show;
+        depths = λ n. let d = k.depths n in let now : tried_depth n s.attempt ≡ tried_depth n (Some a) = ap (tried_depth n) e in let here : once_at m n ≡ once_at a.monitor n = ap (λ (i : ℕ). once_at i n) (sym on) in let more = tried_deeper (a.monitor == n) a.inner in omega arith;
+        once = k.once;
+        phase_shows = entered_frame c m s.frames k.phase_shows.enters;
+      }
+
+  pub entering : IsMarked c → (may : Bool) (got : ℕ) → (may ≡ true → enters_marked c s.frames ≡ true) → StaysStructured c (phases.Enter m tried) (enter_moves s m tried may (claim s m) got)
+  entering marked may got on = by_held (held_at s.held m) refl s.attempt refl
+    where
+      unheld : (b : Bool) → b ≡ may → held_at s.held m ≡ None → s.attempt ≡ None → StaysStructured c (phases.Enter m tried) (enter_moves s m tried b HasNot got)
+      unheld true f e none = trying marked e none (on (sym f)) (lock_of got)
+      unheld false f e none = acquiring c s m (phases.Enter m tried) refl (to_acquire e none) (lock_of got)
+
+      inside_of : (a : Attempt) → s.attempt ≡ Some a → m ≡ a.monitor
+      inside_of a e = (subst (λ (o : Option Attempt). AttemptStandsIn c (phases.Enter m tried) s.frames s.held o) e inside).inside
+
+      by_monitor : (a : Attempt) → s.attempt ≡ Some a → (b : Bool) → (a.monitor == m) ≡ b → StaysStructured c (phases.Enter m tried) (enter_moves s m tried may (cond b (Tries a) HasNot) got)
+      by_monitor a e true f = deeper_inside a e (sym (inside_of a e))
+      by_monitor a e false f = let same : m ≡ a.monitor = inside_of a e in absurd (grind (arith, nat_tests, f, same))
+
+      by_held : (o : Option Held) → held_at s.held m ≡ o → (q : Option Attempt) → s.attempt ≡ q → StaysStructured c (phases.Enter m tried) (enter_moves s m tried may (claim_by m o q) got)
+      by_held (Some h) e q f = again h e
+      by_held None e None f = unheld may refl e f
+      by_held None e (Some a) f = by_monitor a f (a.monitor == m) refl

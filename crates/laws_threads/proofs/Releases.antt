@@ -1,0 +1,179 @@
+-- A thread leaves a monitor.
+use Rattle.std.proofs.Common.{◌≡◌, ℕ, zero, suc, ◌+◌, ◌<◌, Bool, true, false, cond, List, [], ◌∷◌, length, drop, Option, Some, None, refl, sym, ap, ◌∙◌, subst, arith}
+use Rattle.std.specs.Prelude.{◌==◌, nat_lt, option_map}
+use Rattle.std.specs.List.{AllZip}
+use Rattle.std.proofs.lemmas.Bool.Decides.{nat_tests}
+use Rattle.jvm_types.specs.Types.{TypeFrame}
+use Rattle.jvm_types.specs.declared.outcome.Thrown as outcomes
+use Rattle.checked_program.specs.MarkedProgram.{MarkedProgram, IsMarked}
+use Rattle.machine_types.specs.Elision.{is_same, fails, elided}
+use Rattle.machine_types.specs.Frames.{Top, frames_of, returned}
+use Rattle.machine_types.specs.Going.{with_phase, goes_on, goes_on_if, goes_after}
+use Rattle.machine_types.specs.HeldMonitors.{held_at, with_held, without_held, shallower}
+use Rattle.machine_types.specs.LockWords.{word_of_lock}
+use Rattle.machine_types.specs.Monitors.{Tries, HasNot, claim, claim_by, lets_go, released, finishes, leave_moves}
+use Rattle.machine_types.specs.Onward.{Onward, Running, after, back, unwound}
+use Rattle.machine_types.specs.Shown.{Show}
+use Rattle.machine_types.specs.Standing.{Whole, Thrown}
+use Rattle.machine_types.specs.Structure.{AfterShows, AreHeldOnce, IsFlat, Stands, AttemptStandsIn, count_in, held_depth, tried_depth, once_at, left_by, operands_after}
+use Rattle.machine_types.specs.Threads.{Frame, Attempt, Thread}
+use Rattle.machine_types.specs.Typed.{Classes, Holds, AfterHolds, FrameHolds, FramesHold}
+use Rattle.machine_types.specs.declared.lock.Held.{Held}
+use Rattle.machine_types.specs.declared.lock.Kept.{Kept}
+use Rattle.machine_types.specs.declared.lock.Kept.TheVariants as keeps
+use Rattle.machine_types.specs.declared.lock.LockWord.TheVariants as locks
+use Rattle.machine_types.specs.declared.phase.After.{After}
+use Rattle.machine_types.specs.declared.phase.After.TheVariants as afters
+use Rattle.machine_types.specs.declared.phase.Phase.{Phase}
+use Rattle.machine_types.specs.declared.phase.Phase.TheVariants as phases
+use Rattle.machine_types.specs.declared.phase.Toward.TheVariants as towards
+use Rattle.laws_threads.specs.StructureLaws.{StaysStructured}
+use Rattle.laws_threads.specs.CallLaws.{HasHeight}
+use Rattle.laws_threads.specs.ThrowLaws.{ThrowsOn}
+use Rattle.laws_threads.proofs.FramePlaces.{one_standing_law, tops_stand_law, have_tops_law}
+use Rattle.laws_threads.proofs.FrameReturns.{return_behind_law}
+use Rattle.laws_threads.proofs.FrameThrows.{unwind_behind_law}
+use Rattle.laws_threads.proofs.Leaves.{leaves_inside}
+use Rattle.laws_threads.proofs.HeldLists.{OneLess, lowered, depth_some, held_positive}
+use Rattle.laws_threads.proofs.HeldLists as lists
+use Rattle.laws_threads.proofs.GoingOn.{OnwardShows, AttemptGoesOn, none_goes_on, onward_stands, going}
+use Rattle.laws_threads.proofs.Turns.{failing, no_attempt, held_outside}
+
+-- ---- the height of a stack
+
+zipped_length : {A B : Type 0} (R : A → B → Type 0) (xs : List A) (ys : List B) → AllZip R xs ys → length ys ≡ length xs
+zipped_length R [] [] z = refl
+zipped_length R [] (y ∷ ys) z = absurd z
+zipped_length R (x ∷ xs) [] z = absurd z
+zipped_length R (x ∷ xs) (y ∷ ys) z = ap suc (zipped_length R xs ys z.1)
+
+has_height : (c : MarkedProgram) (is : Classes) (f : Frame) → IsMarked c → FrameHolds c is 0 f → HasHeight c f
+has_height c is f marked h k = zipped_length (Holds h.stands.method is) h.stands.types.stack f.stack h.stack ∙ ap (λ (types : TypeFrame). length types.stack) (one_standing_law c f h.stands k marked).types
+
+-- ---- how it goes on behind the monitor: with one entry less, where that is shown still, and with the others
+
+pub record GoesBehind (c : MarkedProgram) (m : ℕ) (a : After) (fs : List Frame) (shown : List ℕ) : Type 0 where
+  pub onward : Onward
+  pub is : after c.program fs a ≡ Some onward
+  pub rest : List ℕ
+  pub counts : (n : ℕ) → count_in n rest + once_at m n ≡ count_in n shown + left_by a m n
+  pub shows : OnwardShows c onward rest
+
+module _ (is : Classes) (c : MarkedProgram) (marked : IsMarked c) (m : ℕ) (shown : List ℕ) where
+  less_shown : (rest : List ℕ) → shown ≡ m ∷ rest → (n : ℕ) → count_in n rest + once_at m n ≡ count_in n shown + 0
+  less_shown rest e n = let all : count_in n shown ≡ once_at m n + count_in n rest = ap (count_in n) e in omega arith
+
+  back_shows : (fs : List Frame) (rest : List ℕ) → Show c Whole fs rest → OnwardShows c (back fs) rest
+  back_shows [] rest k = k
+  back_shows (f ∷ fs) rest k = (tt, k)
+
+  unwound_shows : (x : ℕ) (class : outcomes.Thrown) (fs : List Frame) (rest : List ℕ) → Show c Thrown fs rest → ThrowsOn c fs → OnwardShows c (unwound x class fs) rest
+  unwound_shows x class [] rest k t = k
+  unwound_shows x class (f ∷ fs) rest k t = (t, k)
+
+  pub goes_behind : (a : After) (fs : List Frame) → Show c (operands_after a) fs shown → AfterShows c m a fs → AfterHolds c is a fs → GoesBehind c m a fs shown
+  goes_behind afters.Next fs show leaves holds = record { onward = Running fs; is = refl; rest = shown; counts = λ n. refl; shows = (leaves, show) }
+  goes_behind afters.Return [] show leaves holds = absurd leaves
+  goes_behind afters.Return (f ∷ fs) show leaves holds =
+      let top = have_tops_law c f fs Whole shown marked show in
+      let stands = tops_stand_law c (f ∷ fs) Whole shown top.0 marked show top.1 in
+      let typed : FramesHold c is (frames_of top.0) = subst (λ (gs : List Frame). FramesHold c is gs) stands.1.frames holds in
+      let k = return_behind_law c (f ∷ fs) shown top.0 m marked top.1 show (has_height c is top.0.frame marked typed.0) leaves in
+      record { onward = back (returned c.program top.0); is = ap (λ (o : Option Top). option_map (λ (at : Top). back (returned c.program at)) o) top.1; rest = k.0; counts = less_shown k.0 k.1; shows = back_shows (returned c.program top.0) k.0 k.2 }
+  goes_behind (afters.Unwind x class) fs show leaves holds =
+      let k = unwind_behind_law c fs shown m marked show leaves in
+      record { onward = unwound x class (drop 1 fs); is = refl; rest = k.0; counts = less_shown k.0 k.1; shows = unwound_shows x class (drop 1 fs) k.0 k.2 k.3 }
+
+-- ---- one entry is given up
+
+last_try : (b : Bool) (inner : ℕ) → inner ≡ 0 → cond b (inner + 1) 0 ≡ cond b 1 0
+last_try true inner e = omega arith
+last_try false inner e = refl
+
+one_try : (b : Bool) (inner less : ℕ) → inner ≡ suc less → cond b (inner + 1) 0 ≡ cond b (less + 1) 0 + cond b 1 0
+one_try true inner less e = omega arith
+one_try false inner less e = refl
+
+module _ (is : Classes) (c : MarkedProgram) (marked : IsMarked c) (was : Phase) (m : ℕ) (a : After) (s : Thread) where
+  -- what it has left is what is shown without one entry, and the exit itself
+  pub record Leaves (shown : List ℕ) : Type 0 where
+    pub show : Show c (operands_after a) s.frames shown
+    pub leaves : AfterShows c m a s.frames
+    pub holds : AfterHolds c is a s.frames
+    pub once : AreHeldOnce s.held
+    pub depths : (n : ℕ) → count_in n shown + left_by a m n ≡ held_depth n s.held + tried_depth n s.attempt + once_at m n
+
+  pub left : (shown : List ℕ) → Leaves shown → ((onward : Onward) (rest : List ℕ) → after c.program s.frames a ≡ Some onward → OnwardShows c onward rest → AttemptGoesOn c onward s.held s.attempt) → StaysStructured c was (goes_after c.program s a)
+  left shown k inside =
+      let g = goes_behind is c marked m shown a s.frames k.show k.leaves k.holds in
+      let now : StaysStructured c was (goes_on s g.onward) = going c was s k.once g.onward g.rest g.shows (λ n. let d = k.depths n in let e = g.counts n in omega arith) (inside g.onward g.rest g.is g.shows) in
+      subst (λ (o : Option Onward). StaysStructured c was (goes_on_if s o)) (sym g.is) now
+
+module _ (is : Classes) (c : MarkedProgram) (marked : IsMarked c) (was : Phase) (s : Thread) (m : ℕ) (a : After) (k : Stands c (phases.Leave m a) s.frames s.held s.attempt) (inside : AttemptStandsIn c (phases.Leave m a) s.frames s.held s.attempt)
+    (holds : AfterHolds c is a s.frames) where
+  -- of a monitor that is held
+  pub left_with : (less : List Held) → OneLess m s.held less → s.attempt ≡ None → StaysStructured c was (goes_after c.program (record s { held = less }) a)
+  left_with less one none = left is c marked was m a (record s { held = less }) k.shown
+      (record { show = k.show; leaves = k.phase_shows; holds = holds; once = one.once; depths = λ n. let d = k.depths n in let e = one.depths n in omega arith })
+      (λ onward rest e shows. none_goes_on c onward less s.attempt none)
+
+  released_by : (h : Held) → held_at s.held m ≡ Some h → h.depth ≡ 1 → s.attempt ≡ None → (kept : Kept) → h.kept ≡ kept → (got : ℕ) → StaysStructured c was (released c.program s m a kept got)
+  released_by h e deep none (keeps.Fat r) f got = left_with (without_held m s.held) (lists.released m s.held k.once (depth_some m s.held h e ∙ deep)) none
+  released_by h e deep none (keeps.Flat count) f got = by_word (got == word_of_lock (locks.Held s.number))
+    where
+      grows : Stands c (phases.Grow m (towards.Leave a)) s.frames s.held s.attempt
+      grows = record {
+        shown = k.shown;
+        show = k.show;
+        depths = k.depths;
+        once = k.once;
+        phase_shows = record { toward_shows = k.phase_shows; flat = subst (λ (o : Option Held). IsFlat o) (sym e) (count, f); once = depth_some m s.held h e ∙ deep };
+      }
+
+      by_word : (b : Bool) → StaysStructured c was (cond b (lets_go c.program s m a) (with_phase s (phases.Grow m (towards.Leave a))))
+      by_word true = left_with (without_held m s.held) (lists.released m s.held k.once (depth_some m s.held h e ∙ deep)) none
+      by_word false = record { is_as = refl; stands = grows; attempt = no_attempt c (phases.Grow m (towards.Leave a)) s.frames s.held s.attempt none }
+
+  left_held : (h : Held) → held_at s.held m ≡ Some h → (got : ℕ) → StaysStructured c was (cond (nat_lt 1 h.depth) (goes_after c.program (record s { held = with_held (shallower h) s.held }) a) (released c.program s m a h.kept got))
+  left_held h e got = by_depth (nat_lt 1 h.depth) refl
+    where
+      none : s.attempt ≡ None
+      none = held_outside c (phases.Leave m a) m h s.frames s.held s.attempt (λ n same. same) e inside
+
+      some : 0 < h.depth
+      some = held_positive m s.held h k.once e
+
+      by_depth : (b : Bool) → nat_lt 1 h.depth ≡ b → StaysStructured c was (cond b (goes_after c.program (record s { held = with_held (shallower h) s.held }) a) (released c.program s m a h.kept got))
+      by_depth true f = left_with (with_held (shallower h) s.held) (lowered m s.held h k.once e (grind (arith, nat_tests, f))) none
+      by_depth false f = released_by h e (grind (arith, nat_tests, f, some)) none h.kept refl got
+
+  -- of the monitor of an attempt
+  left_tried : (t : Attempt) → s.attempt ≡ Some t → t.monitor ≡ m → (inner : ℕ) → t.inner ≡ inner → (got : ℕ) → StaysStructured c was (finishes c.program s a t inner got)
+  left_tried t e on zero f got = by_word (is_same t got)
+    where
+      by_word : (b : Bool) → StaysStructured c was (cond b (goes_after c.program (elided s) a) (fails s t))
+      by_word true = left is c marked was m a (elided s) k.shown
+          (record { show = k.show; leaves = k.phase_shows; holds = holds; once = k.once; depths = λ n. let d = k.depths n in let tried : tried_depth n s.attempt ≡ tried_depth n (Some t) = ap (tried_depth n) e in let one = tried_once n in omega arith })
+          (λ onward rest e shows. tt)
+        where
+          tried_once : (n : ℕ) → tried_depth n (Some t) ≡ once_at m n
+          tried_once n = last_try (t.monitor == n) t.inner f ∙ ap (λ (i : ℕ). once_at i n) on
+      by_word false = failing c was (phases.Leave m a) s t (subst (λ (o : Option Attempt). AttemptStandsIn c (phases.Leave m a) s.frames s.held o) e inside)
+  left_tried t e on (suc inner) f got = left is c marked was m a (record s { attempt = Some (record t { inner = inner }) }) k.shown
+      (record { show = k.show; leaves = k.phase_shows; holds = holds; once = k.once; depths = λ n. let d = k.depths n in let tried : tried_depth n s.attempt ≡ tried_depth n (Some t) = ap (tried_depth n) e in let less = tried_less n in omega arith })
+      (λ onward rest g shows. leaves_inside c m a s.frames s.held t inner onward marked (subst (λ (o : Option Attempt). AttemptStandsIn c (phases.Leave m a) s.frames s.held o) e inside) (subst (λ (o : Option Attempt). Stands c (phases.Leave m a) s.frames s.held o) e k) f g (onward_stands c onward rest shows))
+    where
+      tried_less : (n : ℕ) → tried_depth n (Some t) ≡ tried_depth n (Some (record t { inner = inner })) + once_at m n
+      tried_less n = one_try (t.monitor == n) t.inner inner f ∙ ap (λ (i : ℕ). cond (t.monitor == n) (inner + 1) 0 + once_at i n) on
+
+  pub leaving : (same : StaysStructured c was s) (got : ℕ) → StaysStructured c was (leave_moves c.program s m a (claim s m) got)
+  leaving same got = by_held (held_at s.held m) refl s.attempt refl
+    where
+      by_monitor : (t : Attempt) → s.attempt ≡ Some t → (b : Bool) → (t.monitor == m) ≡ b → StaysStructured c was (leave_moves c.program s m a (cond b (Tries t) HasNot) got)
+      by_monitor t e true f = left_tried t e (grind (arith, nat_tests, f)) t.inner refl got
+      by_monitor t e false f = same
+
+      by_held : (o : Option Held) → held_at s.held m ≡ o → (q : Option Attempt) → s.attempt ≡ q → StaysStructured c was (leave_moves c.program s m a (claim_by m o q) got)
+      by_held (Some h) e q f = left_held h e got
+      by_held None e None f = same
+      by_held None e (Some t) f = by_monitor t f (t.monitor == m) refl

@@ -1,0 +1,179 @@
+-- The frame of a root is typed: it is a static method that takes nothing or the number of the thread.
+use Rattle.std.proofs.Common.{◌≡◌, ℕ, zero, suc, ◌+◌, ◌<◌, ◌^◌, ◌⊎◌, inl, inr, Bool, true, false, ◌&&◌, ◌||◌, List, [], ◌∷◌, ◌++◌, length, Option, Some, None, refl, ap, sym, subst, ◌∙◌, arith}
+use Rattle.std.specs.Prelude.{◌==◌, nat_lt, codes, bytes_eq, slice_get, map, option_map, if◌then◌else◌, IsTrue}
+use Rattle.std.specs.List.{AllZip, AllByRecursion}
+use Rattle.std.proofs.lemmas.Bool.Decides.{nat_tests}
+use Rattle.std.proofs.lemmas.Slice.Eq.{bytes_eq-Decides}
+use Rattle.lists.proofs.ListLaws.{same_some}
+use Rattle.lists.proofs.TestLaws.{both_true, both_are_true, first_true, second_true}
+use Rattle.jvm_types.specs.ClassNames.{file_class}
+use Rattle.jvm_types.specs.CodeTable.{type_of}
+use Rattle.jvm_types.specs.LinkFaults.{is_run, is_entry}
+use Rattle.jvm_types.specs.Members.{is_static, is_class_init_name}
+use Rattle.jvm_types.specs.Numbers.{has_number}
+use Rattle.jvm_types.specs.ProgramInvariant.{IsProgram}
+use Rattle.jvm_types.specs.declared.program.Kind.{Kind}
+use Rattle.jvm_types.specs.declared.program.Kind.TheVariants as kinds
+use Rattle.jvm_types.specs.declared.program.MethodInfo.{MethodInfo}
+use Rattle.jvm_types.specs.declared.program.Program.{Program}
+use Rattle.laws_programs.specs.RootLaws.{IsRoot}
+use Rattle.laws_programs.proofs.RootMethods.{class_inits, entries, run_root}
+use Rattle.checked_program.specs.MarkedProgram.{MarkedProgram, IsMarked}
+use Rattle.machine_types.specs.Bounds.{part_roots}
+use Rattle.machine_types.specs.Events.{started}
+use Rattle.machine_types.specs.Frames.{has_room, entry_frame, first_or_null}
+use Rattle.machine_types.specs.Onward.{Running, Uncaught, root_arguments, rooted}
+use Rattle.machine_types.specs.Parts.{numbers_of, is_entry_named, entries_named, init_roots, run_roots, done_roots}
+use Rattle.machine_types.specs.Threads.{Thread}
+use Rattle.machine_types.specs.Typed.{Classes, Holds}
+use Rattle.jvm_types.specs.declared.outcome.Thrown.TheVariants.{StackOverflowError}
+use Rattle.laws_threads.proofs.CalledEntries.{static_values, enters}
+use Rattle.laws_threads.proofs.Onwards.{keeps_none, Onwards, IfOnwards}
+use Rattle.laws_threads.proofs.ThreadTypes.{IsBasedIn, Rests, TypedBy, goes_if_typed}
+
+-- ---- the methods with these numbers
+
+record Numbered (test : MethodInfo → Bool) (ms : List MethodInfo) (n k : ℕ) : Type 0 where
+  at : ℕ
+  method : MethodInfo
+  number : k ≡ n + at
+  there : slice_get ms at ≡ Some method
+  passes : test method ≡ true
+
+numbered : (test : MethodInfo → Bool) (ms : List MethodInfo) (n k : ℕ) → has_number (numbers_of test n ms) k ≡ true → Numbered test ms n k
+numbered test [] n k e = absurd (cc)
+numbered test (m ∷ ms) n k e = by_test (test m) refl e (numbered test ms (suc n) k)
+  where
+    later : Numbered test ms (suc n) k → Numbered test (m ∷ ms) n k
+    later x = record { at = suc x.at; method = x.method; number = omega (arith, x.number); there = x.there; passes = x.passes }
+
+    here : (n == k) ≡ true → k ≡ n + 0
+    here h = grind (arith, nat_tests, h)
+
+    by_here : (b : Bool) → (n == k) ≡ b → test m ≡ true → (b || has_number (numbers_of test (suc n) ms) k) ≡ true → (has_number (numbers_of test (suc n) ms) k ≡ true → Numbered test ms (suc n) k) → Numbered test (m ∷ ms) n k
+    by_here true h t e more = record { at = 0; method = m; number = here h; there = refl; passes = t }
+    by_here false h t e more = later (more e)
+
+    by_test : (b : Bool) → test m ≡ b → has_number (if b then n ∷ numbers_of test (suc n) ms else numbers_of test (suc n) ms) k ≡ true → (has_number (numbers_of test (suc n) ms) k ≡ true → Numbered test ms (suc n) k) → Numbered test (m ∷ ms) n k
+    by_test true t e more = by_here (n == k) refl t e more
+    by_test false t e more = later (more e)
+
+-- ---- what they take
+
+-- nothing, or an int
+abbrev pub IsSomeRoot : MethodInfo → Type 0
+IsSomeRoot m = IsRoot m [] ⊎ IsRoot m (kinds.Int ∷ [])
+
+module _ (p : Program) (is : IsProgram p) where
+  entry_root : (name : List ℕ) (at : ℕ) (m : MethodInfo) → (bytes_eq name (codes "init") || bytes_eq name (codes "done")) ≡ true → (bytes_eq m.name name ≡ true → m.name ≡ name) → slice_get p.methods at ≡ Some m
+      → is_entry_named name (codes "()V") m ≡ true → IsSomeRoot m
+  entry_root name at m one same e h =
+      let parts = both_are_true ((m.class == file_class 0) && bytes_eq m.name name) (bytes_eq m.descriptor (codes "()V")) h in
+      let names = both_are_true (m.class == file_class 0) (bytes_eq m.name name) parts.0 in
+      let class : m.class ≡ file_class 0 = equal m.class (file_class 0) names.0 in
+      let name_is = same names.1 in
+      by_run (is_run m.name m.descriptor) refl class
+      (third (is_run m.name m.descriptor) (bytes_eq m.descriptor (codes "()V")) (bytes_eq m.name (codes "init") || bytes_eq m.name (codes "done")) parts.1 (subst (λ (n : List ℕ). (bytes_eq n (codes "init") || bytes_eq n (codes "done")) ≡ true) (sym name_is) one))
+    where
+      equal : (a b : ℕ) → (a == b) ≡ true → a ≡ b
+      equal a b e = grind (arith, nat_tests, e)
+
+      third : (a b d : Bool) → b ≡ true → d ≡ true → (a || (b && d)) ≡ true
+      third true b d e f = refl
+      third false b d e f = rw (e, f) refl
+
+      by_run : (b : Bool) → is_run m.name m.descriptor ≡ b → m.class ≡ file_class 0 → is_entry m.name m.descriptor ≡ true → IsSomeRoot m
+      by_run true r class entry = inr (run_root p at m is e class r)
+      by_run false r class entry = inl (entries p at m is e class entry r)
+
+  run_root_of : (at : ℕ) (m : MethodInfo) → slice_get p.methods at ≡ Some m → is_entry_named (codes "run") (codes "(I)V") m ≡ true → IsSomeRoot m
+  run_root_of at m e h =
+      let parts = both_are_true ((m.class == file_class 0) && bytes_eq m.name (codes "run")) (bytes_eq m.descriptor (codes "(I)V")) h in
+      let names = both_are_true (m.class == file_class 0) (bytes_eq m.name (codes "run")) parts.0 in
+      inr (run_root p at m is e (equal m.class (file_class 0) names.0) (both_true (bytes_eq m.name (codes "run")) (bytes_eq m.descriptor (codes "(I)V")) names.1 parts.1))
+    where
+      equal : (a b : ℕ) → (a == b) ≡ true → a ≡ b
+      equal a b e = grind (arith, nat_tests, e)
+
+  -- the method of a number that is in a list
+  abbrev Roots : List ℕ → Type 0
+  Roots numbers = (k : ℕ) (m : MethodInfo) → has_number numbers k ≡ true → slice_get p.methods k ≡ Some m → IsSomeRoot m
+
+  of_numbers : (test : MethodInfo → Bool) → ((at : ℕ) (m : MethodInfo) → slice_get p.methods at ≡ Some m → test m ≡ true → IsSomeRoot m) → Roots (numbers_of test 0 p.methods)
+  of_numbers test root k m h e =
+      let x = numbered test p.methods 0 k h in
+      let there : slice_get p.methods k ≡ Some x.method = ap (slice_get p.methods) (omega (arith, x.number)) ∙ x.there in
+      let same : x.method ≡ m = same_some (sym there ∙ e) in
+      root k m e (subst (λ (y : MethodInfo). test y ≡ true) same x.passes)
+
+  either : (xs ys : List ℕ) → Roots xs → Roots ys → Roots (xs ++ ys)
+  either [] ys f g k m h e = g k m h e
+  either (x ∷ xs) ys f g k m h e = by_first (x == k) refl h (λ rest. either xs ys (λ k m h e. f k m (second_true (x == k) (has_number xs k) h) e) g k m rest e)
+    where
+      later : (a b : Bool) → b ≡ true → (a || b) ≡ true
+      later true b e = refl
+      later false b e = e
+
+      first : (a b : Bool) → a ≡ true → (a || b) ≡ true
+      first a b e = rw e refl
+
+      by_first : (b : Bool) → (x == k) ≡ b → (b || has_number (xs ++ ys) k) ≡ true → (has_number (xs ++ ys) k ≡ true → IsSomeRoot m) → IsSomeRoot m
+      by_first true t h more = f k m (first_true (x == k) (has_number xs k) t) e
+      by_first false t h more = more h
+
+  same_text : (text other : List ℕ) → bytes_eq text other ≡ true → text ≡ other
+  same_text text other e = (bytes_eq-Decides text other).0 e
+
+  inits : Roots (init_roots p)
+  inits = either (numbers_of (λ m. is_class_init_name m.name) 0 p.methods) (entries_named p (codes "init") (codes "()V"))
+      (of_numbers (λ m. is_class_init_name m.name) (λ at m e h. inl (class_inits p at m is e h)))
+      (of_numbers (is_entry_named (codes "init") (codes "()V")) (λ at m e h. entry_root (codes "init") at m refl (same_text m.name (codes "init")) e h))
+
+  runs : Roots (run_roots p)
+  runs = of_numbers (is_entry_named (codes "run") (codes "(I)V")) run_root_of
+
+  dones : Roots (done_roots p)
+  dones = of_numbers (is_entry_named (codes "done") (codes "()V")) (λ at m e h. entry_root (codes "done") at m refl (same_text m.name (codes "done")) e h)
+
+  pub part_root : (number part k : ℕ) (m : MethodInfo) → has_number (part_roots p number part) k ≡ true → slice_get p.methods k ≡ Some m → IsSomeRoot m
+  part_root zero zero k m h e = inits k m h e
+  part_root zero (suc zero) k m h e = inits k m h e
+  part_root zero (suc (suc part)) k m h e = dones k m h e
+  part_root (suc number) part k m h e = runs k m h e
+
+-- ---- their frames
+
+module _ (c : MarkedProgram) (marked : IsMarked c) (is : Classes) where
+  root_values : (t number : ℕ) (m : MethodInfo) → t < 2 ^ 32 → IsSomeRoot m → slice_get c.program.methods number ≡ Some m → Onwards c is [] (rooted c.program t number m)
+  root_values t number m small root e = by_room (has_room c.program [] m)
+    where
+      given : IsSomeRoot m → (is_static m.flags ≡ true) × AllZip (Holds m is) (map type_of m.args) (root_arguments t m)
+      given (inl r) = (r.static, subst (λ (args : List Kind). AllZip (Holds m is) (map type_of args) (if nat_lt 0 (length args) then t ∷ [] else [])) (sym r.args) tt)
+      given (inr r) = (r.static, subst (λ (args : List Kind). AllZip (Holds m is) (map type_of args) (if nat_lt 0 (length args) then t ∷ [] else [])) (sym r.args) (small, tt))
+
+      inside : (b : Bool) → b ≡ true → (if b then 0 else first_or_null (root_arguments t m)) < c.program.heap
+      inside true s = omega (arith, marked.checked.program.heap_from)
+      inside false s = absurd (cc)
+
+      by_room : (b : Bool) → Onwards c is [] (if b then Running (entry_frame number m (root_arguments t m) ∷ []) else Uncaught StackOverflowError)
+      by_room true =
+          let g = given root in
+          record {
+            holds = (enters c marked is number m (root_arguments t m) e (static_values m is m number (root_arguments t m) g.0 g.1), tt);
+            keeps = λ base old new. absurd (omega (arith, old));
+            inside = λ all. (inside (is_static m.flags) g.0, tt);
+          }
+      by_room false = record { holds = tt; keeps = keeps_none []; inside = λ all. tt }
+
+  pub starts_typed : (s : Thread) (roots : List ℕ) → s.frames ≡ [] → s.number < 2 ^ 32 → AllByRecursion (λ number. IsTrue (has_number (part_roots c.program s.number s.part) number)) roots → TypedBy c is s → Rests c is s
+      → IsBasedIn s.frames s.attempt → IsBasedIn (started c.program s roots).frames (started c.program s roots).attempt → TypedBy c is (started c.program s roots)
+  starts_typed s [] none small all stays rests old new = stays
+  starts_typed s (number ∷ roots) none small all stays rests old new =
+      goes_if_typed c is (record s { roots = roots }) (option_map (rooted c.program s.number number) (slice_get c.program.methods number))
+      (record { values = record { phase = stays.values.phase; attempt = stays.values.attempt }; new = stays.new; receivers = stays.receivers; entry = stays.entry })
+      (subst (λ fs. IfOnwards c is fs (option_map (rooted c.program s.number number) (slice_get c.program.methods number))) (sym none) (by_method (slice_get c.program.methods number) refl))
+      (record { attempt = rests.attempt; inside = rests.inside; entry = rests.entry }) old new
+    where
+      by_method : (o : Option MethodInfo) → slice_get c.program.methods number ≡ o → IfOnwards c is [] (option_map (rooted c.program s.number number) o)
+      by_method None e = tt
+      by_method (Some m) e = root_values s.number number m small (part_root c.program marked.checked.program s.number s.part number m all.0 e) e

@@ -1,0 +1,210 @@
+-- The frames of a section as their top one moves, calls, returns and ends, and what a mark says of the top one.
+use Rattle.std.proofs.Common.{◌≡◌, ◌⊎◌, inl, inr, ⊎_elim, ℕ, zero, suc, Bool, true, false, not, ◌&&◌, List, [], ◌∷◌, Some, refl, sym, ap, ◌∙◌, subst, arith}
+use Rattle.std.specs.Prelude.{slice_get, slice_index}
+use Rattle.std.specs.List.{AllZip}
+use Rattle.lists.proofs.ListLaws.{same_some}
+use Rattle.jvm_types.specs.Members.{is_static, is_synchronized}
+use Rattle.jvm_types.specs.ProgramInvariant.{IsTargetOf, site_in}
+use Rattle.jvm_types.specs.declared.code.Insn.{Insn}
+use Rattle.jvm_types.specs.declared.code.Op.{Op}
+use Rattle.jvm_types.specs.declared.code.Op.TheVariants as ops
+use Rattle.jvm_types.specs.declared.op_row.OpRow.{OpRow}
+use Rattle.jvm_types.specs.declared.program.MethodInfo.{MethodInfo}
+use Rattle.jvm_types.specs.declared.program.Target.{Target}
+use Rattle.jvm_types.specs.declared.program.Target.TheVariants as targets
+use Rattle.laws_programs.specs.TargetLaws.{HasRow}
+use Rattle.laws_programs.proofs.CodeOrder.{have_targets}
+use Rattle.laws_programs.proofs.TargetRows.{targets_rows}
+use Rattle.checked_program.specs.FrozenPlaces.{AreUses}
+use Rattle.checked_program.specs.LockTags.{TagShape}
+use Rattle.checked_program.specs.MarkedProgram.{MarkedProgram, IsMarked}
+use Rattle.checked_program.specs.Marks.{HasMark, Calls, callee, called_method, is_locking, is_own_object, receiver_tag, mode_if, fault, call_fault, enter_fault}
+use Rattle.checked_program.specs.SectionLaws.{Part, AreParts, IsSectionPart, IsExit, HasThis, ReadsOnly}
+use Rattle.checked_program.specs.TaggedCode.{IsAt, Goes, row_of}
+use Rattle.checked_program.specs.declared.section.FieldUse.{FieldUse}
+use Rattle.checked_program.specs.declared.section.Mode.{Mode}
+use Rattle.checked_program.specs.declared.section.Mode.TheVariants.{OnThis}
+use Rattle.checked_program.specs.declared.tag.Tag.{Tag}
+use Rattle.checked_program.specs.declared.tag.Tag.TheVariants.{Untagged, This}
+use Rattle.laws_sections.proofs.MarkedReads.{own_no_fault, called_no_fault, read_law}
+use Rattle.laws_sections.proofs.MonitorExits.{held_law, exit_law}
+use Rattle.laws_sections.proofs.SectionCalls.{invoke_law}
+use Rattle.laws_sections.proofs.SectionMoves.{move_law}
+use Rattle.laws_sections.specs.FrameLaws.{IsReceiver, mode_of_call}
+use Rattle.machine_types.specs.Shown.{HasValue, HaveValues}
+use Rattle.machine_types.specs.Standing.{Standing, tags_of}
+use Rattle.machine_types.specs.Structure.{IsPart, RunsSection, section_of}
+use Rattle.machine_types.specs.Threads.{Frame, Attempt}
+use Rattle.laws_threads.proofs.Standings.{are_tagged, at_of}
+
+-- ---- values of tags
+
+-- every place with the tag of `this` has the receiver
+pub have_this : (choice : ℕ → ℕ) (receiver : ℕ) (ts : List Tag) (vs : List ℕ) → HaveValues choice receiver ts vs → HasThis receiver ts vs
+have_this choice receiver [] vs h k e = absurd (let bad : Untagged ≡ This = e in cc)
+have_this choice receiver (t ∷ ts) [] h k e = absurd h
+have_this choice receiver (t ∷ ts) (v ∷ vs) h zero e = subst (λ x. HasValue choice receiver x v) e h.0
+have_this choice receiver (t ∷ ts) (v ∷ vs) h (suc k) e = have_this choice receiver ts vs h.1 k e
+
+-- ---- methods and instructions of a program
+
+-- no synchronized method is static
+pub not_static : (c : MarkedProgram) → IsMarked c → (u : ℕ) (m : MethodInfo) → slice_get c.program.methods u ≡ Some m → is_synchronized m.flags ≡ true → is_static m.flags ≡ true → ⊥
+not_static c marked u m there synchronized static = never (is_static m.flags) (is_synchronized m.flags) (marked.checked.program.methods u m there).unsynchronized static synchronized
+  where
+    never : (a b : Bool) → (a && b) ≡ false → a ≡ true → b ≡ true → ⊥
+    never true true e f g = cc
+    never true false e f g = cc
+    never false b e f g = cc
+
+is_locked : (c : MarkedProgram) → IsMarked c → (u : ℕ) (m : MethodInfo) → slice_get c.program.methods u ≡ Some m → is_synchronized m.flags ≡ true → is_locking (slice_get c.program.methods u) ≡ true
+is_locked c marked u m there synchronized = ap is_locking there ∙ both (is_synchronized m.flags) (is_static m.flags) synchronized (not_static c marked u m there synchronized)
+  where
+    both : (a b : Bool) → a ≡ true → (b ≡ true → ⊥) → (a && not b) ≡ true
+    both true false e f = refl
+    both true true e f = absurd (f refl)
+    both false b e f = absurd (cc)
+
+pub row_stands : (c : MarkedProgram) → IsMarked c → (mi i : ℕ) (m : MethodInfo) (insn : Insn) (target : Target) (u : TagShape) → IsAt c.program (tags_of c) mi i m insn target u → HasRow c.program (site_in m) insn.pc target insn.op (row_of c.program m insn target)
+row_stands c marked mi i m insn target u at =
+    let t = have_targets c.program mi i m insn marked.checked.program at.in_program at.in_code in
+    let same : t.0 ≡ target = same_some (sym t.1 ∙ at.names) in
+    targets_rows c.program m insn.pc target insn.op (subst (λ x. IsTargetOf c.program (site_in m) insn.op x) same t.2)
+
+-- ---- the frames of an attempt, the top one apart
+
+abbrev pub part_of : Frame → (number : ℕ) → Part
+part_of f number = record { method = f.method; at = number; receiver = f.receiver }
+
+pub record Runs (c : MarkedProgram) (a : Attempt) (f : Frame) (rest : List Frame) : Type 0 where
+  pub stands : Standing c f
+  pub parts : List Part
+  pub others : AllZip (IsPart c) rest parts
+  pub mode : Mode
+  pub are : AreParts c.program (tags_of c) (section_of a) a.monitor (part_of f stands.number ∷ parts) mode
+
+pub runs_of : (c : MarkedProgram) (a : Attempt) (f : Frame) (rest : List Frame) → RunsSection c a (f ∷ rest) → Runs c a f rest
+runs_of c a f rest (parts, mode, zip, are) = by_parts parts zip are
+  where
+    by_parts : (parts : List Part) → AllZip (IsPart c) (f ∷ rest) parts → AreParts c.program (tags_of c) (section_of a) a.monitor parts mode → Runs c a f rest
+    by_parts [] zip are = absurd zip
+    by_parts (b ∷ bs) zip are = record { stands = zip.0.0; parts = bs; others = zip.1; mode = mode; are = subst (λ x. AreParts c.program (tags_of c) (section_of a) a.monitor (x ∷ bs) mode) zip.0.1 are }
+
+pub section_of_runs : (c : MarkedProgram) (a : Attempt) (f : Frame) (rest : List Frame) → Runs c a f rest → RunsSection c a (f ∷ rest)
+section_of_runs c a f rest r = (part_of f r.stands.number ∷ r.parts, r.mode, ((r.stands, refl), r.others), r.are)
+
+none_left : (c : MarkedProgram) (rest : List Frame) (parts : List Part) → AllZip (IsPart c) rest parts → parts ≡ [] → rest ≡ []
+none_left c [] parts zip e = refl
+none_left c (f ∷ rest) [] zip e = absurd zip
+none_left c (f ∷ rest) (b ∷ parts) zip e = absurd (cc)
+
+module _ (c : MarkedProgram) (marked : IsMarked c) (a : Attempt) where
+  -- ---- moves
+
+  abbrev pub IsExitOf : (f : Frame) → Standing c f → Type 0
+  IsExitOf f k = IsExit c.program (tags_of c) a.entry.method (section_of a).spot k.insn k.tags
+
+  -- the top frame goes along an edge
+  pub moved : (f g : Frame) (rest : List Frame) (r : Runs c a f rest) (l : Standing c g) (h : TagShape) → g.method ≡ f.method → g.receiver ≡ f.receiver
+      → Goes c.program r.stands.method r.stands.insn r.stands.target r.stands.tags l.insn h → RunsSection c a (g ∷ rest) ⊎ ((rest ≡ []) × IsExitOf f r.stands)
+  moved f g rest r l h same_method same_receiver goes =
+      let k = r.stands in
+      let to = at_of c marked f g k l (sym same_method) in
+      let held = held_law c.program (tags_of c) f.method k.number l.number k.method k.insn l.insn k.target l.target k.tags l.tags h (are_tagged c marked) k.at to goes in
+      ⊎_elim
+      (λ (are : AreParts c.program (tags_of c) (section_of a) a.monitor (part_of f l.number ∷ r.parts) r.mode). inl (part_of f l.number ∷ r.parts, r.mode, ((l, λ i. record { method = sym same_method i; at = l.number; receiver = sym same_receiver i }), r.others), are))
+      (λ (x : (r.parts ≡ []) × IsExit c.program (tags_of c) a.entry.method (section_of a).spot k.insn k.tags). inr (none_left c rest r.parts r.others x.0, x.1))
+      (move_law c.program (tags_of c) (section_of a) a.monitor l.number (part_of f k.number) r.parts r.mode k.method k.insn l.insn k.target l.target k.tags l.tags h r.are k.at to goes held)
+
+  -- ---- calls and returns
+
+  pub invoked : (f b g : Frame) (rest : List Frame) (r : Runs c a f rest) (lower : Standing c b) (l : Standing c g) (stack : List ℕ) → b.method ≡ f.method → b.receiver ≡ f.receiver → lower.number ≡ r.stands.number
+      → HasThis f.receiver r.stands.tags.stack stack → called_method r.stands.insn.op r.stands.target ≡ Some g.method → IsReceiver c.program r.stands.insn.op g.method stack g.receiver → RunsSection c a (g ∷ b ∷ rest)
+  invoked f b g rest r lower l stack same_method same_receiver same_number this call is =
+      let k = r.stands in
+      let mode = mode_of_call c.program r.mode k.insn.op k.target k.tags.stack in
+      let are = invoke_law c.program (tags_of c) (section_of a) a.monitor (part_of g l.number) (part_of f k.number) r.parts r.mode k.method k.insn k.target k.tags stack r.are k.at this call is in (
+        part_of g l.number ∷ part_of f k.number ∷ r.parts,
+        mode,
+        ((l, refl), ((lower, λ i. record { method = sym same_method i; at = sym same_number i; receiver = sym same_receiver i }), r.others)),
+        are,
+      )
+
+  -- the calling frame is the top one, and still at its call
+  pub record Caller (f b : Frame) (rest : List Frame) (upper : Runs c a f (b ∷ rest)) : Type 0 where
+    pub runs : Runs c a b rest
+    pub call : Calls c.program (tags_of c) (callee b.method runs.mode) runs.stands.number (callee f.method upper.mode)
+    pub on : upper.mode ≡ OnThis → f.receiver ≡ a.monitor
+
+  pub caller : (f b : Frame) (rest : List Frame) (r : Runs c a f (b ∷ rest)) → Caller f b rest r
+  caller f b rest r = by_parts r.parts r.others r.are
+    where
+      by_parts : (parts : List Part) → AllZip (IsPart c) (b ∷ rest) parts → AreParts c.program (tags_of c) (section_of a) a.monitor (part_of f r.stands.number ∷ parts) r.mode → Caller f b rest r
+      by_parts [] zip are = absurd zip
+      by_parts (x ∷ parts) zip are =
+          let all = subst (λ y. AreParts c.program (tags_of c) (section_of a) a.monitor (part_of f r.stands.number ∷ y ∷ parts) r.mode) zip.0.1 are in
+          record { runs = record { stands = zip.0.0; parts = parts; others = zip.1; mode = all.0; are = all.1 }; call = all.2; on = all.3 }
+
+  -- ---- marks
+
+  module _ (uses : List FieldUse) (are_uses : AreUses c.program (tags_of c) uses) (mark : HasMark c.program (tags_of c) uses (section_of a) 0) where
+    no_fault : (f : Frame) (rest : List Frame) (r : Runs c a f rest) (m : MethodInfo) (insn : Insn) (target : Target) (u : TagShape) → IsAt c.program (tags_of c) f.method r.stands.number m insn target u → fault c.program uses r.mode insn.op target u.stack ≡ 0
+    no_fault f rest r m insn target u at = by_parts r.parts r.are
+      where
+        by_parts : (parts : List Part) → AreParts c.program (tags_of c) (section_of a) a.monitor (part_of f r.stands.number ∷ parts) r.mode → fault c.program uses r.mode insn.op target u.stack ≡ 0
+        by_parts [] are =
+            let last : IsSectionPart c.program (tags_of c) (section_of a) a.monitor (part_of f r.stands.number) r.mode = are in
+            subst (λ was. fault c.program uses was insn.op target u.stack ≡ 0) (sym last.mode_is)
+            (own_no_fault c.program (tags_of c) uses (section_of a) r.stands.number m insn target u mark last.own (subst (λ mi. IsAt c.program (tags_of c) mi r.stands.number m insn target u) last.method at))
+        by_parts (b ∷ parts) are = called_no_fault c.program (tags_of c) uses (section_of a) a.monitor r.stands.number (part_of f r.stands.number) b parts r.mode m insn target u mark are at
+
+    pub reads : (f : Frame) (rest : List Frame) (r : Runs c a f rest) (stack : List ℕ) → HasThis f.receiver r.stands.tags.stack stack → ReadsOnly c.program (tags_of c) a.monitor r.stands.insn.op r.stands.target stack
+    reads f rest r stack this =
+        let k = r.stands in
+        read_law c.program (tags_of c) uses (section_of a) a.monitor (part_of f k.number) r.parts r.mode k.method k.insn k.target k.tags stack are_uses mark r.are k.at this
+
+    on_mode : (f : Frame) (rest : List Frame) (r : Runs c a f rest) → r.mode ≡ OnThis → f.receiver ≡ a.monitor
+    on_mode f rest r e = by_parts r.parts r.are
+      where
+        by_parts : (parts : List Part) → AreParts c.program (tags_of c) (section_of a) a.monitor (part_of f r.stands.number ∷ parts) r.mode → f.receiver ≡ a.monitor
+        by_parts [] are = let last : IsSectionPart c.program (tags_of c) (section_of a) a.monitor (part_of f r.stands.number) r.mode = are in last.receiver
+        by_parts (b ∷ parts) are = are.3 e
+
+    -- a `monitorexit` leaves the section's monitor
+    pub exits : (f : Frame) (rest : List Frame) (r : Runs c a f rest) (stack : List ℕ) → HasThis f.receiver r.stands.tags.stack stack → r.stands.insn.op ≡ ops.Monitorexit → slice_index stack 0 ≡ a.monitor
+    exits f rest r stack this e =
+        let k = r.stands in
+        let x = exit_law c.program (tags_of c) uses (section_of a) a.monitor (part_of f k.number) r.parts r.mode k.method k.insn k.target k.tags are_uses (are_tagged c marked) mark r.are k.at e in
+        this 0 x.1 ∙ on_mode f rest r x.0
+
+    own_true : (b : Bool) → enter_fault b ≡ 0 → b ≡ true
+    own_true true e = refl
+    own_true false e = absurd (omega (arith, e))
+
+    called_own : (locking b : Bool) → locking ≡ true → call_fault locking b ≡ 0 → b ≡ true
+    called_own true b e z = own_true b z
+    called_own false b e z = absurd (cc)
+
+    own_call : (u : ℕ) (called : MethodInfo) (mi : MethodInfo) (pc : ℕ) (op : Op) (target : Target) (row : OpRow) (mode : Mode) (ts : List Tag) → slice_get c.program.methods u ≡ Some called → is_synchronized called.flags ≡ true
+        → called_method op target ≡ Some u → HasRow c.program (site_in mi) pc target op row → fault c.program uses mode op target ts ≡ 0 → is_own_object mode (receiver_tag c.program op target ts) ≡ true
+    own_call u called mi pc (ops.Invokevirtual i) (targets.Method v) row mode ts there synchronized call k z =
+        called_own (is_locking (slice_get c.program.methods v)) _ (ap (λ x. is_locking (slice_get c.program.methods x)) (same_some call) ∙ is_locked c marked u called there synchronized) z
+    own_call u called mi pc (ops.Invokespecial i) (targets.Method v) row mode ts there synchronized call k z =
+        called_own (is_locking (slice_get c.program.methods v)) _ (ap (λ x. is_locking (slice_get c.program.methods x)) (same_some call) ∙ is_locked c marked u called there synchronized) z
+    own_call u called mi pc (ops.Invokestatic i) (targets.Method v) row mode ts there synchronized call k z =
+        absurd (not_static c marked u called there synchronized (subst (λ (m : MethodInfo). is_static m.flags ≡ true) (same_some (sym k.there ∙ ap (λ x. slice_get c.program.methods x) (same_some call) ∙ there)) k.sort))
+    own_call u called mi pc op target row mode ts there synchronized call k z = absurd (cc)
+
+    -- the frame of a synchronized method is on the section's object
+    pub locking_on : (f : Frame) (rest : List Frame) (r : Runs c a f rest) → is_synchronized r.stands.method.flags ≡ true → f.receiver ≡ a.monitor
+    locking_on f [] r synchronized = on_mode f [] r (only r.parts r.others r.are)
+      where
+        only : (parts : List Part) → AllZip (IsPart c) [] parts → AreParts c.program (tags_of c) (section_of a) a.monitor (part_of f r.stands.number ∷ parts) r.mode → r.mode ≡ OnThis
+        only [] zip are = let last : IsSectionPart c.program (tags_of c) (section_of a) a.monitor (part_of f r.stands.number) r.mode = are in last.mode_is
+        only (b ∷ parts) zip are = absurd zip
+    locking_on f (b ∷ rest) r synchronized =
+        let x = caller f b rest r in
+        let z = no_fault b rest x.runs x.call.m x.call.insn x.call.target x.call.f x.call.at in
+        let own = own_call f.method r.stands.method x.call.m x.call.insn.pc x.call.insn.op x.call.target (row_of c.program x.call.m x.call.insn x.call.target) x.runs.mode x.call.f.stack r.stands.at.in_program synchronized x.call.called
+        (row_stands c marked b.method x.runs.stands.number x.call.m x.call.insn x.call.target x.call.f x.call.at) z in
+        x.on (x.call.mode_is ∙ ap mode_if own)

@@ -1,0 +1,101 @@
+-- A thread that goes on keeps the types of all that it holds.
+use Rattle.std.proofs.Common.{◌≡◌, ℕ, zero, suc, ◌+◌, ◌-◌, ◌<◌, Bool, true, false, List, [], ◌∷◌, length, Option, Some, None, sym, subst}
+use Rattle.std.specs.Prelude.{nat_lt, drop, IfSome, if◌then◌else◌}
+use Rattle.jvm_types.specs.declared.outcome.End.TheVariants as ends
+use Rattle.jvm_types.specs.declared.program.Program.{Program}
+use Rattle.checked_program.specs.MarkedProgram.{MarkedProgram}
+use Rattle.machine_types.specs.Elision.{put_back, is_same, fails, if_same}
+use Rattle.machine_types.specs.Going.{with_phase, runs, failed_turn, root_over, goes_on, goes_on_if}
+use Rattle.machine_types.specs.Lawful.{NewFits}
+use Rattle.machine_types.specs.Onward.{Onward, Running, Throwing, Entering, Leaving, RootReturned, Uncaught}
+use Rattle.machine_types.specs.Threads.{Frame, Attempt, Thread}
+use Rattle.machine_types.specs.Typed.{Classes, FramesHold, AttemptHolds, ThreadHolds, PhaseHolds, IsObject}
+use Rattle.machine_types.specs.declared.phase.Phase.{Phase}
+use Rattle.machine_types.specs.declared.phase.Phase.TheVariants as phases
+use Rattle.laws_threads.proofs.Onwards.{Keeps, AreInside, Onwards, IfOnwards}
+
+-- ---- what a thread holds beside its phase
+
+abbrev pub IsBasedIn : List Frame → Option Attempt → Type 0
+IsBasedIn fs None = Unit {0}
+IsBasedIn fs (Some a) = a.base < length fs
+
+abbrev pub EntryInside : Program → Option Attempt → Type 0
+EntryInside p attempt = IfSome attempt (λ a. a.entry.receiver < p.heap)
+
+pub record Rests (c : MarkedProgram) (is : Classes) (s : Thread) : Type 0 where
+  pub attempt : AttemptHolds c is s.frames s.attempt
+  pub inside : AreInside c.program s.frames
+  pub entry : EntryInside c.program s.attempt
+
+-- ---- all that it holds
+
+pub record TypedBy (c : MarkedProgram) (is : Classes) (s : Thread) : Type 0 where
+  pub values : ThreadHolds c is s
+  pub new : NewFits s.phase c.program.heap
+  pub receivers : AreInside c.program s.frames
+  pub entry : EntryInside c.program s.attempt
+
+module _ (c : MarkedProgram) (is : Classes) where
+  pub carries : (attempt : Option Attempt) (fs after : List Frame) → Keeps fs after → IsBasedIn fs attempt → IsBasedIn after attempt → AttemptHolds c is fs attempt → AttemptHolds c is after attempt
+  carries None fs after k old new h = tt
+  carries (Some a) fs after k old new h = (h.0, subst (λ (below : List Frame). FramesHold c is (a.entry ∷ below)) (sym (k a.base old new)) h.1)
+
+  pub runs_typed : (s : Thread) → FramesHold c is s.frames → Rests c is s → TypedBy c is (runs s)
+  runs_typed s h r = by_test (nat_lt s.counts.instructions s.cfg.steps)
+    where
+      by_test : (b : Bool) → TypedBy c is (with_phase s (if b then phases.Run else phases.Ending ends.Steps))
+      by_test true = record { values = record { phase = h; attempt = r.attempt }; new = tt; receivers = r.inside; entry = r.entry }
+      by_test false = record { values = record { phase = h; attempt = r.attempt }; new = tt; receivers = r.inside; entry = r.entry }
+
+  -- to a phase of a monitor
+  pub phase_typed : (s : Thread) (phase : Phase) → PhaseHolds c is phase s.frames → NewFits phase c.program.heap → Rests c is s → TypedBy c is (with_phase s phase)
+  phase_typed s phase h n r = record { values = record { phase = h; attempt = r.attempt }; new = n; receivers = r.inside; entry = r.entry }
+
+  pub turn_typed : (s : Thread) (phase : Phase) → PhaseHolds c is phase s.frames → NewFits phase c.program.heap → FramesHold c is s.frames → Rests c is s → TypedBy c is (failed_turn s phase)
+  turn_typed s phase h n f r = by_test (nat_lt (s.turns + 1) s.cfg.turns)
+    where
+      by_test : (b : Bool) → TypedBy c is (record s { turns = s.turns + 1; phase = if b then phase else phases.Ending ends.Turns })
+      by_test true = record { values = record { phase = h; attempt = r.attempt }; new = n; receivers = r.inside; entry = r.entry }
+      by_test false = record { values = record { phase = f; attempt = r.attempt }; new = tt; receivers = r.inside; entry = r.entry }
+
+  -- ---- how it goes on
+
+  pub goes_typed : (s : Thread) (o : Onward) → Onwards c is s.frames o → Rests c is s → IsBasedIn s.frames s.attempt → IsBasedIn (goes_on s o).frames (goes_on s o).attempt → TypedBy c is (goes_on s o)
+  goes_typed s (Running fs) k r old new =
+      runs_typed (record s { frames = fs }) k.holds (record { attempt = carries s.attempt s.frames fs k.keeps old new r.attempt; inside = k.inside r.inside; entry = r.entry })
+  goes_typed s (Throwing x class fs) k r old new = record { values = record { phase = k.holds; attempt = carries s.attempt s.frames fs k.keeps old new r.attempt }; new = tt; receivers = k.inside r.inside; entry = r.entry }
+  goes_typed s (Entering m fs) k r old new = record { values = record { phase = k.holds; attempt = carries s.attempt s.frames fs k.keeps old new r.attempt }; new = tt; receivers = k.inside r.inside; entry = r.entry }
+  goes_typed s (Leaving m a fs) k r old new = record { values = record { phase = k.holds; attempt = carries s.attempt s.frames fs k.keeps old new r.attempt }; new = tt; receivers = k.inside r.inside; entry = r.entry }
+  goes_typed s RootReturned k r old new = by_roots s.roots
+    where
+      by_roots : (roots : List ℕ) → TypedBy c is (record s { frames = []; phase = root_over roots })
+      by_roots [] = record { values = record { phase = tt; attempt = carries s.attempt s.frames [] k.keeps old new r.attempt }; new = tt; receivers = tt; entry = r.entry }
+      by_roots (number ∷ roots) = record { values = record { phase = tt; attempt = carries s.attempt s.frames [] k.keeps old new r.attempt }; new = tt; receivers = tt; entry = r.entry }
+  goes_typed s (Uncaught class) k r old new = record { values = record { phase = tt; attempt = carries s.attempt s.frames [] k.keeps old new r.attempt }; new = tt; receivers = tt; entry = r.entry }
+
+  pub goes_if_typed : (s : Thread) (o : Option Onward) → TypedBy c is s → IfOnwards c is s.frames o → Rests c is s → IsBasedIn s.frames s.attempt → IsBasedIn (goes_on_if s o).frames (goes_on_if s o).attempt → TypedBy c is (goes_on_if s o)
+  goes_if_typed s None stays k r old new = stays
+  goes_if_typed s (Some o) stays k r old new = goes_typed s o k r old new
+
+  -- ---- an attempt fails, or goes on behind its check
+
+  inside_below : (p : Program) (n : ℕ) (fs : List Frame) → AreInside p fs → AreInside p (drop n fs)
+  inside_below p zero fs h = h
+  inside_below p (suc n) [] h = tt
+  inside_below p (suc n) (f ∷ fs) h = inside_below p n fs h.1
+
+  pub fails_typed : (s : Thread) (a : Attempt) → s.attempt ≡ Some a → Rests c is s → TypedBy c is (fails s a)
+  fails_typed s a e r =
+      let back : IsObject is a.monitor × FramesHold c is (put_back a s.frames) = subst (AttemptHolds c is s.frames) e r.attempt in
+      let entry : a.entry.receiver < c.program.heap = subst (EntryInside c.program) e r.entry in
+      record { values = record { phase = back; attempt = tt }; new = tt; receivers = (entry, inside_below c.program (length s.frames - a.base) s.frames r.inside); entry = tt }
+
+  pub same_typed : (s : Thread) (attempt : Option Attempt) (got : ℕ) (more : Thread) → s.attempt ≡ attempt → Rests c is s → IsBasedIn (if_same s attempt got more).frames (if_same s attempt got more).attempt
+      → (IsBasedIn more.frames more.attempt → TypedBy c is more) → TypedBy c is (if_same s attempt got more)
+  same_typed s None got more e r new typed = typed new
+  same_typed s (Some a) got more e r new typed = by_test (is_same a got) new
+    where
+      by_test : (b : Bool) → IsBasedIn (if b then more else fails s a).frames (if b then more else fails s a).attempt → TypedBy c is (if b then more else fails s a)
+      by_test true new = typed new
+      by_test false new = fails_typed s a e r

@@ -1,0 +1,69 @@
+-- How a thread goes on from an event: to its next instruction, to another turn, or to the limit that it made.
+use Rattle.std.proofs.Common.{◌≡◌, ℕ, ◌+◌, Bool, true, false, cond, List, Option, Some, None, refl, sym, ◌∙◌, subst}
+use Rattle.std.specs.Prelude.{nat_lt}
+use Rattle.checked_program.specs.MarkedProgram.{MarkedProgram}
+use Rattle.machine_types.specs.Elision.{fails}
+use Rattle.machine_types.specs.Going.{with_phase, runs, failed_turn}
+use Rattle.machine_types.specs.HeldMonitors.{held_at}
+use Rattle.machine_types.specs.Structure.{CountsTurns, IsPhaseInside, Stands, AttemptStands, AttemptStandsIn}
+use Rattle.machine_types.specs.Threads.{Frame, Attempt, Thread}
+use Rattle.machine_types.specs.declared.lock.Held.{Held}
+use Rattle.jvm_types.specs.declared.outcome.End.TheVariants as ends
+use Rattle.machine_types.specs.declared.phase.Phase.{Phase}
+use Rattle.machine_types.specs.declared.phase.Phase.TheVariants as phases
+use Rattle.laws_threads.specs.StructureLaws.{StaysStructured, turned_from}
+
+-- ---- to another phase
+
+pub running : (c : MarkedProgram) (was : Phase) (s : Thread) → Stands c phases.Run s.frames s.held s.attempt → AttemptStandsIn c phases.Run s.frames s.held s.attempt → StaysStructured c was (runs s)
+running c was s stands inside = by_limit (nat_lt s.counts.instructions s.cfg.steps)
+  where
+    by_limit : (left : Bool) → StaysStructured c was (with_phase s (cond left phases.Run (phases.Ending ends.Steps)))
+    by_limit true = record { is_as = refl; stands = stands; attempt = inside }
+    by_limit false = record { is_as = refl; stands = stands; attempt = inside }
+
+-- it stands in a phase of turns
+pub record TurnsIn (c : MarkedProgram) (phase : Phase) (s : Thread) : Type 0 where
+  pub counts : CountsTurns phase
+  pub stands : Stands c phase s.frames s.held s.attempt
+  pub inside : AttemptStandsIn c phase s.frames s.held s.attempt
+
+to_turn : (c : MarkedProgram) (was : Phase) (s : Thread) (phase : Phase) → TurnsIn c phase s → StaysStructured c was (with_phase s phase)
+to_turn c was s (phases.Acquire m) k = record { is_as = refl; stands = k.stands; attempt = k.inside }
+to_turn c was s (phases.Take m count) k = record { is_as = refl; stands = k.stands; attempt = k.inside }
+to_turn c was s (phases.Flag m u) k = record { is_as = refl; stands = k.stands; attempt = k.inside }
+to_turn c was s (phases.TakeFat m r) k = record { is_as = refl; stands = k.stands; attempt = k.inside }
+to_turn c was s (phases.WaitLook m r depth) k = record { is_as = refl; stands = k.stands; attempt = k.inside }
+to_turn c was s (phases.Retake m r depth) k = record { is_as = refl; stands = k.stands; attempt = k.inside }
+to_turn c was s phase k = absurd k.counts
+
+pub turning : (c : MarkedProgram) (was : Phase) (s : Thread) (phase : Phase) → TurnsIn c phase s → TurnsIn c (turned_from was) s → StaysStructured c was (failed_turn s phase)
+turning c was s phase k limit = by_limit (nat_lt (s.turns + 1) s.cfg.turns)
+  where
+    counted : Thread
+    counted = record s { turns = s.turns + 1 }
+
+    by_limit : (left : Bool) → StaysStructured c was (with_phase counted (cond left phase (phases.Ending ends.Turns)))
+    by_limit true = to_turn c was counted phase (record { counts = k.counts; stands = k.stands; inside = k.inside })
+    by_limit false = record { is_as = limit.counts; stands = limit.stands; attempt = limit.inside }
+
+-- ---- outside an attempt
+
+pub no_attempt : (c : MarkedProgram) (phase : Phase) (fs : List Frame) (held : List Held) (o : Option Attempt) → o ≡ None → AttemptStandsIn c phase fs held o
+no_attempt c phase fs held None e = tt
+no_attempt c phase fs held (Some a) e = absurd (cc)
+
+-- in a phase that no attempt is in
+pub outside : (c : MarkedProgram) (phase : Phase) (fs : List Frame) (held : List Held) (o : Option Attempt) → ((m : ℕ) → IsPhaseInside m phase → ⊥) → AttemptStandsIn c phase fs held o → o ≡ None
+outside c phase fs held None never k = refl
+outside c phase fs held (Some a) never k = absurd (never a.monitor k.inside)
+
+-- in a phase of a monitor that is held
+pub held_outside : (c : MarkedProgram) (phase : Phase) (m : ℕ) (h : Held) (fs : List Frame) (held : List Held) (o : Option Attempt) → ((n : ℕ) → IsPhaseInside n phase → m ≡ n) → held_at held m ≡ Some h → AttemptStandsIn c phase fs held o → o ≡ None
+held_outside c phase m h fs held None on e k = refl
+held_outside c phase m h fs held (Some a) on e k = let same : m ≡ a.monitor = on a.monitor k.inside in let other : held_at held m ≡ None = subst (λ (n : ℕ). held_at held n ≡ None) (sym same) k.not_held in absurd (let bad : Some h ≡ None = sym e ∙ other in cc)
+
+-- ---- an attempt fails, or goes on by a move that leaves its frames as they are
+
+pub failing : (c : MarkedProgram) (was phase : Phase) (s : Thread) (a : Attempt) → AttemptStands c phase s.frames s.held a → StaysStructured c was (fails s a)
+failing c was phase s a k = record { is_as = refl; stands = k.goes_back; attempt = tt }

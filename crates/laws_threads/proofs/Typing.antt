@@ -1,0 +1,104 @@
+-- The frame after an instruction has the types that verification gives it: generic in the row.
+use Rattle.std.proofs.Common.{◌≡◌, ℕ, inl, inr, Bool, true, false, not, List, [], ◌∷◌, Option, Some, None, refl, sym, subst, arith}
+use Rattle.std.specs.Prelude.{if◌then◌else◌}
+use Rattle.std.specs.List.{AllZip, AllByRecursion}
+use Rattle.std.proofs.lemmas.Bool.{or_parts}
+use Rattle.std.proofs.lemmas.Bool.Decides.{nat_tests}
+use Rattle.lists.proofs.TestLaws.{is_true}
+use Rattle.jvm_types.specs.declared.op_row.OpRow.{OpRow}
+use Rattle.jvm_types.specs.declared.op_row.Want.{Want}
+use Rattle.jvm_types.specs.declared.op_row.Want.TheVariants.{AnyValue, AnInt, AnObject, AnyReference, AHolder, ToStart}
+use Rattle.jvm_types.specs.Types.{TypeFrame, is_uninitialised, same_type}
+use Rattle.jvm_types.specs.Verifying.{suits, some_taken, some_read, new_class, is_class, takes_too_many, mistypes, started, initialised, after_start, frame_after, Fits}
+use Rattle.jvm_types.specs.declared.code.Insn.{Insn}
+use Rattle.jvm_types.specs.declared.typing.VType.{VType}
+use Rattle.jvm_types.specs.declared.typing.VType.TheVariants.{Ref, This, New}
+use Rattle.jvm_types.specs.declared.program.MethodInfo.{MethodInfo}
+use Rattle.jvm_types.proofs.TypeOrder.{subclass_self}
+use Rattle.laws_programs.proofs.MonoTypes.{same_object}
+use Rattle.machine_types.specs.Frames.{frame_on}
+use Rattle.machine_types.specs.Threads.{Frame}
+use Rattle.machine_types.specs.Typed.{Classes, IsMadeAt, Holds}
+use Rattle.laws_threads.specs.Allowed.{TakenHold, Gives, OneOf}
+use Rattle.laws_threads.proofs.Values.{ValuesHold, taken_hold, moved_stack, moved_locals}
+
+module _ (m : MethodInfo) (is : Classes) where
+  -- ---- the object that an `<init>` is called on
+
+  abbrev pub StartHolds : Option (VType × ℕ) → Type 0
+  StartHolds None = Unit {0}
+  StartHolds (Some object) = (is_uninitialised object.0 ≡ true) × ((v : ℕ) → Holds m is object.0 v → is object.1 v)
+
+  same_class : (c : Option ℕ) (d class : ℕ) → c ≡ Some d → is_class c class ≡ true → class ≡ d
+  same_class None d class e h = absurd (cc)
+  same_class (Some c) d class e h = let same : c ≡ d = cc in grind (arith, nat_tests, same, h)
+
+  new_start : (class pc : ℕ) → is_class (new_class m.code m.targets pc) class ≡ true → (v : ℕ) → IsMadeAt m is pc v → is class v
+  new_start class pc h v k = subst (λ (c : ℕ). is c v) (sym (same_class (new_class m.code m.targets pc) k.0 class k.1 h)) k.2
+
+  abbrev pub Suit : List Want → List VType → Type 0
+  Suit wants ts = some_taken (λ want t. not (suits m want t)) wants ts ≡ false
+
+  later : (want : Want) (t : VType) (wants : List Want) (ts : List VType) → Suit (want ∷ wants) (t ∷ ts) → Suit wants ts
+  later want t wants ts h = (or_parts (not (suits m want t)) (some_taken (λ want t. not (suits m want t)) wants ts) h).1
+
+  pub start_holds : (wants : List Want) (ts : List VType) → Suit wants ts → StartHolds (started m.class wants ts)
+  start_holds [] ts h = tt
+  start_holds (ToStart class ∷ wants) (This ∷ ts) h = (refl, λ v k. k)
+  start_holds (ToStart class ∷ wants) (New pc ∷ ts) h = (
+    refl,
+    new_start class pc (is_true (is_class (new_class m.code m.targets pc) class)
+        (or_parts (not (is_class (new_class m.code m.targets pc) class)) (some_taken (λ want t. not (suits m want t)) wants ts) h).0),
+  )
+  start_holds (AnyValue ∷ wants) (t ∷ ts) h = start_holds wants ts (later AnyValue t wants ts h)
+  start_holds (AnInt ∷ wants) (t ∷ ts) h = start_holds wants ts (later AnInt t wants ts h)
+  start_holds (AnObject class ∷ wants) (t ∷ ts) h = start_holds wants ts (later (AnObject class) t wants ts h)
+  start_holds (AnyReference ∷ wants) (t ∷ ts) h = start_holds wants ts (later AnyReference t wants ts h)
+  start_holds (AHolder class ∷ wants) (t ∷ ts) h = start_holds wants ts (later (AHolder class) t wants ts h)
+  start_holds (ToStart class ∷ wants) (t ∷ ts) h = absurd (cc)
+  start_holds (ToStart class ∷ wants) [] h = tt
+  start_holds (AnyValue ∷ wants) [] h = tt
+  start_holds (AnInt ∷ wants) [] h = tt
+  start_holds (AnObject class ∷ wants) [] h = tt
+  start_holds (AnyReference ∷ wants) [] h = tt
+  start_holds (AHolder class ∷ wants) [] h = tt
+
+  one_started : (o : VType) (class : ℕ) (t : VType) (v : ℕ) → is_uninitialised o ≡ true → ((v : ℕ) → Holds m is o v → is class v) → Holds m is t v
+      → Holds m is (if same_type o t then Ref class else t) v
+  one_started o class t v u h k = by_test (same_type o t) refl
+    where
+      by_test : (b : Bool) → same_type o t ≡ b → Holds m is (if b then Ref class else t) v
+      by_test true e = inr (class, h v (subst (λ (x : VType). Holds m is x v) (sym (same_object o t u e)) k), subclass_self class)
+      by_test false e = k
+
+  all_started : (o : VType) (class : ℕ) (ts : List VType) (s : List ℕ) → is_uninitialised o ≡ true → ((v : ℕ) → Holds m is o v → is class v) → AllZip (Holds m is) ts s
+      → AllZip (Holds m is) (initialised o class ts) s
+  all_started o class [] [] u h k = k
+  all_started o class (t ∷ ts) (v ∷ s) u h k = (one_started o class t v u h k.0, all_started o class ts s u h k.1)
+  all_started o class ts s u h k = absurd (assumption)
+
+  pub started_frame : (o : Option (VType × ℕ)) (g : TypeFrame) (f : Frame) → StartHolds o → ValuesHold m is g f → ValuesHold m is (after_start o g) f
+  started_frame None g f h k = k
+  started_frame (Some object) g f h k = record {
+    stack = all_started object.0 object.1 g.stack f.stack h.0 h.1 k.stack;
+    locals = all_started object.0 object.1 g.locals f.locals h.0 h.1 k.locals;
+    receiver = k.receiver;
+  }
+
+  -- ---- a frame after its instruction
+
+  -- the operands of a row that suits the frame are what it takes
+  pub operands : (r : OpRow) (g : TypeFrame) (f : Frame) → takes_too_many r g ≡ false → mistypes m r g ≡ false → ValuesHold m is g f → TakenHold m is r.takes f.stack
+  operands r g f tall types k = taken_hold m is r.takes g.stack f.stack tall
+      (or_parts (some_taken (λ want t. not (suits m want t)) r.takes g.stack) (some_read (λ want t. not (suits m want t)) r.reads g.locals) types).0 k.stack
+
+  pub values_after : (r : OpRow) (g : TypeFrame) (f : Frame) (to made : ℕ) → mistypes m r g ≡ false → ValuesHold m is g f → Gives m is r made
+      → ValuesHold m is (frame_after m r g) (frame_on r to made f)
+  values_after r g f to made types k h = started_frame (started m.class r.takes g.stack) _ (frame_on r to made f)
+      (start_holds r.takes g.stack (or_parts (some_taken (λ want t. not (suits m want t)) r.takes g.stack) (some_read (λ want t. not (suits m want t)) r.reads g.locals) types).0)
+      (record { stack = moved_stack m is r g.stack g.locals f.stack f.locals made k.stack k.locals h; locals = moved_locals m is r g.stack g.locals f.stack f.locals made k.stack k.locals h; receiver = k.receiver })
+
+  pub edge_at : (code : List Insn) (frames : List (Option TypeFrame)) (g : TypeFrame) (tos : List ℕ) (to : ℕ) → AllByRecursion (Fits code frames g) tos → OneOf tos to → Fits code frames g to
+  edge_at code frames g (x ∷ xs) to all (inl e) = subst (Fits code frames g) (sym e) all.0
+  edge_at code frames g (x ∷ xs) to all (inr h) = edge_at code frames g xs to all.1 h
+  edge_at code frames g [] to all h = absurd h

@@ -1,8 +1,0 @@
-pub mod HeldBounds
-pub mod BoundedOnward
-pub mod BoundedInstructions
-pub mod BoundedMonitors
-pub mod KeptBounds
-pub mod KeptRoots
-pub mod LawfulThread
-pub mod SameThread

@@ -1,4 +1,0 @@
-pub mod BoundLaws
-pub mod GivenThread
-pub mod LawfulLaws
-pub mod RootLaws

@@ -1,8 +1,0 @@
-//! The numbers of a thread.
-
-ghost use Rattle.limit_laws.specs.BoundLaws.{BoundsAreKept};
-
-/// An event keeps the numbers of a thread within their bounds.
-pub fn bounds_are_kept()
-    ensures { BoundsAreKept }
-{}

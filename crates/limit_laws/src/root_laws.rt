@@ -1,8 +1,0 @@
-//! The methods that a thread has still to run.
-
-ghost use Rattle.limit_laws.specs.RootLaws.{RootsAreKept};
-
-/// An event leaves a thread roots of its part, and a frame in every phase that needs one.
-pub fn roots_are_kept()
-    ensures { RootsAreKept }
-{}

@@ -1,5 +1,0 @@
-use Rattle.lock_laws.proofs.FrameCalls.{call_enters_law}
-use Rattle.lock_laws.proofs.call_laws.calls_enter.Goals as goal
-
-pub returns : goal.returns
-returns c = call_enters_law

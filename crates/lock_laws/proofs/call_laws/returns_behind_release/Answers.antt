@@ -1,5 +1,0 @@
-use Rattle.lock_laws.proofs.FrameReturns.{return_behind_law}
-use Rattle.lock_laws.proofs.call_laws.returns_behind_release.Goals as goal
-
-pub returns : goal.returns
-returns c = return_behind_law

@@ -1,5 +1,0 @@
-use Rattle.lock_laws.proofs.FramePlaces.{have_tops_law}
-use Rattle.lock_laws.proofs.standing_laws.frames_have_tops.Goals as goal
-
-pub returns : goal.returns
-returns c = have_tops_law

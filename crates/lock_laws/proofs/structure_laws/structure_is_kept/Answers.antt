@@ -1,5 +1,0 @@
-use Rattle.lock_laws.proofs.ThreadSteps.{kept}
-use Rattle.lock_laws.proofs.structure_laws.structure_is_kept.Goals as goal
-
-pub returns : goal.returns
-returns c = kept c.attempt_begins.ensures c.enters_inside.ensures

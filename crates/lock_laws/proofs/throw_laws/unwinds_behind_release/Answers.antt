@@ -1,5 +1,0 @@
-use Rattle.lock_laws.proofs.FrameThrows.{unwind_behind_law}
-use Rattle.lock_laws.proofs.throw_laws.unwinds_behind_release.Goals as goal
-
-pub returns : goal.returns
-returns c = unwind_behind_law

@@ -1,3 +1,0 @@
-pub mod EventSteps
-pub mod SameCounts
-pub mod LockedRuns

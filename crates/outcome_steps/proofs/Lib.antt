@@ -1,9 +1,0 @@
-pub mod PlainCounts
-pub mod CalmEvents
-pub mod CountedEvents
-pub mod EventCounts
-pub mod PlainPrints
-pub mod OutcomePrints
-pub mod EventPrints
-pub mod WorkerEnds
-pub mod Ends

@@ -1,5 +1,0 @@
-use Rattle.outcome_steps.proofs.WorkerEnds.{start_keeps_none}
-use Rattle.outcome_steps.proofs.end_laws.start_keeps_none.Goals as goal
-
-pub returns : goal.returns
-returns c = start_keeps_none

@@ -1,6 +1,0 @@
-pub mod ClassTreeLaws
-pub mod FieldOrder
-pub mod CodeOrder
-pub mod RootMethods
-pub mod TargetRows
-pub mod Orders

@@ -1,5 +1,0 @@
-use Rattle.program_laws.proofs.Orders.{frames_meet_least}
-use Rattle.program_laws.proofs.order_laws.frames_meet.Goals as goal
-
-pub returns : goal.returns
-returns c = frames_meet_least

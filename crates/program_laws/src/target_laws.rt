@@ -1,8 +1,0 @@
-//! The law of what constants name: the function only states it.
-
-ghost use Rattle.program_laws.specs.TargetLaws.{TargetsHaveRows};
-
-/// What a target that fits its instruction names is there, and the row of the instruction is the one of that.
-pub fn targets_have_rows()
-    ensures { TargetsHaveRows }
-{}

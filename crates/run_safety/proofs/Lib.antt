@@ -1,9 +1,0 @@
-mod EventBits
-mod EventCounts
-mod EventLocks
-mod HeldOrTried
-mod LeftAsTheyWere
-mod NextChanges
-mod NextEvents
-mod RespectedOwners
-mod SafeStates

@@ -1,5 +1,0 @@
-use Rattle.run_safety.proofs.LeftAsTheyWere.{parts_leave_words}
-use Rattle.run_safety.proofs.change_laws.parts_leave_words.Goals as goal
-
-pub returns : goal.returns
-returns c = parts_leave_words

@@ -1,4 +1,0 @@
-mod StageFits
-mod EventsKeep
-mod TurnsKeep
-mod ScheduleEnds

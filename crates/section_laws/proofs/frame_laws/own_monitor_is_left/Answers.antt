@@ -1,5 +1,0 @@
-use Rattle.section_laws.proofs.MonitorExits.{exit_law}
-use Rattle.section_laws.proofs.frame_laws.own_monitor_is_left.Goals as goal
-
-pub returns : goal.returns
-returns c = exit_law

@@ -1,6 +1,0 @@
-use Rattle.std.proofs.Common.{◌≡◌, map, take}
-use Rattle.std.specs.Prelude.{◌==◌}
-use Rattle.spread.proofs.walks.without_need.Given as goal
-
-abbrev pub invariant-loop-n : goal.invariant-loop-n
-invariant-loop-n l = l.found.items ≡ map (λ n. n == 0) (take l.n-index l.need)

@@ -1,5 +1,0 @@
-use Rattle.state_laws.proofs.LeftStands.{left_may_stand}
-use Rattle.state_laws.proofs.left_laws.left_words_may_stand.Goals as goal
-
-pub returns : goal.returns
-returns c = left_may_stand

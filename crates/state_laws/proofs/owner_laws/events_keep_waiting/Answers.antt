@@ -1,5 +1,0 @@
-use Rattle.state_laws.proofs.EventWaiting.{events_keep_waiting}
-use Rattle.state_laws.proofs.owner_laws.events_keep_waiting.Goals as goal
-
-pub returns : goal.returns
-returns c = events_keep_waiting c.sites_differ.ensures c.sites_lie_inside.ensures c.events_reach_sites.ensures

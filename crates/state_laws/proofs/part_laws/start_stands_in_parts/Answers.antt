@@ -1,5 +1,0 @@
-use Rattle.state_laws.proofs.PartsBegin.{start_stands}
-use Rattle.state_laws.proofs.part_laws.start_stands_in_parts.Goals as goal
-
-pub returns : goal.returns
-returns c = start_stands

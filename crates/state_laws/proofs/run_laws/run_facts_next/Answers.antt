@@ -1,5 +1,0 @@
-use Rattle.state_laws.proofs.PartFacts.{next_keeps_facts}
-use Rattle.state_laws.proofs.run_laws.run_facts_next.Goals as goal
-
-pub returns : goal.returns
-returns c = next_keeps_facts c.next_keeps_structure.ensures c.next_keeps_heap.ensures c.next_keeps_counters.ensures

@@ -1,5 +1,0 @@
-use Rattle.state_laws.proofs.Runs.{runs_reach}
-use Rattle.state_laws.proofs.run_laws.runs_reach.Goals as goal
-
-pub returns : goal.returns
-returns c = runs_reach c.run_facts_start.ensures c.run_facts_event.ensures c.run_facts_next.ensures c.threads_are_kept.ensures

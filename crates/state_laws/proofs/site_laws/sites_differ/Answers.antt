@@ -1,5 +1,0 @@
-use Rattle.state_laws.proofs.Sites.{sites_apart}
-use Rattle.state_laws.proofs.site_laws.sites_differ.Goals as goal
-
-pub returns : goal.returns
-returns c = sites_apart c.start_lies_apart.ensures

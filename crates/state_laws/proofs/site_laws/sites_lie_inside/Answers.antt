@@ -1,5 +1,0 @@
-use Rattle.state_laws.proofs.Sites.{sites_inside}
-use Rattle.state_laws.proofs.site_laws.sites_lie_inside.Goals as goal
-
-pub returns : goal.returns
-returns c = sites_inside c.start_lies_apart.ensures

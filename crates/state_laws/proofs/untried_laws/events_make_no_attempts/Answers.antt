@@ -1,5 +1,0 @@
-use Rattle.state_laws.proofs.NoAttempts.{events_make_none}
-use Rattle.state_laws.proofs.untried_laws.events_make_no_attempts.Goals as goal
-
-pub returns : goal.returns
-returns c = events_make_none

@@ -1,5 +1,0 @@
-use Rattle.state_laws.proofs.PartsBegin.{start_has_none}
-use Rattle.state_laws.proofs.untried_laws.start_has_no_attempts.Goals as goal
-
-pub returns : goal.returns
-returns c = start_has_none

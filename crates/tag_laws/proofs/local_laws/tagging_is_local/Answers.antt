@@ -1,5 +1,0 @@
-use Rattle.tag_laws.proofs.TagLocal.{tag_local_law}
-use Rattle.tag_laws.proofs.local_laws.tagging_is_local.Goals as goal
-
-pub returns : goal.returns
-returns c = tag_local_law

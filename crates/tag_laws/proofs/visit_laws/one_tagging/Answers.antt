@@ -1,5 +1,0 @@
-use Rattle.tag_laws.proofs.TagAnswers.{one_tagging_all}
-use Rattle.tag_laws.proofs.visit_laws.one_tagging.Goals as goal
-
-pub returns : goal.returns
-returns c = one_tagging_all

@@ -1,5 +1,0 @@
-use Rattle.typing_laws.proofs.KnownTyping.{typing_of_one}
-use Rattle.typing_laws.proofs.visit_laws.one_typing_of.Goals as goal
-
-pub returns : goal.returns
-returns c = typing_of_one

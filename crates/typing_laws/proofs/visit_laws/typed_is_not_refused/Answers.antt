@@ -1,6 +1,0 @@
-use Rattle.typing_laws.proofs.OneTyping.{no_refusal}
-use Rattle.typing_laws.proofs.visit_laws.typed_is_not_refused.Goals as goal
-
--- the law
-pub returns : goal.returns
-returns c = no_refusal

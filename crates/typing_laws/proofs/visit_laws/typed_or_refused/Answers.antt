@@ -1,6 +1,0 @@
-use Rattle.typing_laws.proofs.VisitsEndAnswer.{typed_or_refused}
-use Rattle.typing_laws.proofs.visit_laws.typed_or_refused.Goals as goal
-
--- the law
-pub returns : goal.returns
-returns c = typed_or_refused

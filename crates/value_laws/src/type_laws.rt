@@ -1,8 +1,0 @@
-//! Types are kept by every event of a thread.
-
-ghost use Rattle.value_laws.specs.KeptTypes.{TypesAreKept};
-
-/// Where a thread's locking stays structured, its values stay of their types, as far as a thread alone can tell.
-pub fn types_are_kept()
-    ensures { TypesAreKept }
-{}
