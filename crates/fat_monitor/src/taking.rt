@@ -11,11 +11,9 @@ ghost use Rattle.machine_types.specs.declared.phase.Phase.TheVariants.{Acquire, 
 ghost use Rattle.fat_monitor.specs.Answering.{CanTake, HasPlaceFor, HasTurn};
 
 use frames::{ThreadState, count_locked, fail_turn, runs};
+use jvm_types::limits::FLAG_FROM;
 use lock_word::{LockWord, read, word};
 use machine_types::{Held, Kept, Phase};
-
-/// The failed turn of one entry from which on a flat lock is flagged.
-const FLAG_FROM: u32 = 64;
 
 /// By what the lock word says.
 fn acquire_by(s: &mut ThreadState, monitor: u32, lock: LockWord)

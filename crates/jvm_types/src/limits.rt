@@ -39,6 +39,12 @@ pub const MOST_FRAMES: usize = 256;
 /// The most slots of the frames of one thread, their locals and their stacks.
 pub const MOST_SLOTS: u32 = 16_384;
 
+/// How often a section is tried without its lock at one entry.
+pub const MOST_ATTEMPTS: u8 = 2;
+
+/// The failed turn of one entry from which on a flat lock is flagged.
+pub const FLAG_FROM: u32 = 64;
+
 /// The most prints of one thread that a run may allow.
 pub const MOST_PRINTS: u32 = 1_048_576;
 

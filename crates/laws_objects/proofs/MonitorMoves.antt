@@ -6,6 +6,7 @@ use Rattle.jvm_types.specs.ProgramInvariant.{words_of}
 use Rattle.jvm_types.specs.declared.code.Op.{Op}
 use Rattle.jvm_types.specs.declared.code.Op.TheVariants as ops
 use Rattle.jvm_types.specs.declared.fixed_words.TheConstants.{MONITOR_RECORDS}
+use Rattle.jvm_types.specs.declared.limits.TheConstants.{FLAG_FROM}
 use Rattle.jvm_types.specs.declared.outcome.End.{End}
 use Rattle.jvm_types.specs.declared.outcome.End.TheVariants as ends
 use Rattle.jvm_types.specs.declared.outcome.Thrown as outcomes
@@ -19,7 +20,7 @@ use Rattle.machine_types.specs.Frames.{went_on, top_of, pushed}
 use Rattle.machine_types.specs.Going.{with_phase, runs, failed_turn, goes_on, goes_on_if, goes_after}
 use Rattle.machine_types.specs.HeldMonitors.{held_at, with_held, without_held, deeper, shallower}
 use Rattle.machine_types.specs.LockWords.{word_of_lock, lock_of}
-use Rattle.machine_types.specs.Monitors.{Tries, HasNot, claim_by, claim, flag_from, acquires, enter_moves, takes, lets_go, released, finishes, leave_moves, grows_not, fattens, goes_to_wait, retakes, lowest_of}
+use Rattle.machine_types.specs.Monitors.{Tries, HasNot, claim_by, claim, acquires, enter_moves, takes, lets_go, released, finishes, leave_moves, grows_not, fattens, goes_to_wait, retakes, lowest_of}
 use Rattle.machine_types.specs.Onward.{Onward, Running, dispatched, after}
 use Rattle.machine_types.specs.Structure.{IsStructured, Stands, AttemptStands, AttemptStandsIn, IsPhaseInside, IsLimitAt, TopIs, AfterShows, is_element_op}
 use Rattle.machine_types.specs.Threads.{Frame, Attempt, Thread}
@@ -217,7 +218,7 @@ module _ (c : MarkedProgram) (marked : IsMarked c) (frozen : ℕ → Bool) (are 
 
   acquires_as : (m : ℕ) (lock : LockWord) → Fits (phases.Acquire m) → Fits (turned_from was) → Goal (acquires x m lock)
   acquires_as m (locks.Free n) fit turn = changed (phases.Take m n) fit
-  acquires_as m (locks.Held u) fit turn = by_count (nat_lt (x.turns + 1) flag_from)
+  acquires_as m (locks.Held u) fit turn = by_count (nat_lt (x.turns + 1) FLAG_FROM)
     where
       by_count : (b : Bool) → Goal (failed_turn x (if b then phases.Acquire m else phases.Flag m u))
       by_count true = turns_as (phases.Acquire m) fit turn

@@ -5,6 +5,7 @@ use Rattle.std.specs.Prelude.{◌==◌, ◌&&◌, option_map, slice_get, if◌th
 use Rattle.lists.proofs.TestLaws.{both_are_true}
 use Rattle.jvm_types.specs.Numbers.{has_flag}
 use Rattle.jvm_types.specs.declared.fixed_words.TheConstants.{MONITOR_RECORDS}
+use Rattle.jvm_types.specs.declared.limits.TheConstants.{FLAG_FROM, MOST_ATTEMPTS}
 use Rattle.jvm_types.specs.declared.outcome.End.TheVariants as ends
 use Rattle.jvm_types.specs.declared.outcome.Thrown.{Thrown}
 use Rattle.jvm_types.specs.declared.outcome.Thrown.TheVariants.{ArrayIndexOutOfBoundsException, OutOfMemoryError, IllegalMonitorStateException, StackOverflowError}
@@ -13,7 +14,7 @@ use Rattle.jvm_types.specs.declared.program.Row.{Row}
 use Rattle.jvm_types.specs.Members.{is_synchronized}
 use Rattle.jvm_types.specs.declared.program.Program.{Program}
 use Rattle.checked_program.specs.MarkedProgram.{MarkedProgram}
-use Rattle.machine_types.specs.Elision.{begins, tries, if_same, is_checked, may_try, enters_marked, most_attempts}
+use Rattle.machine_types.specs.Elision.{begins, tries, if_same, is_checked, may_try, enters_marked}
 use Rattle.machine_types.specs.Events.{started, moved, element_made}
 use Rattle.machine_types.specs.Frames.{Top, frames_of, top_of, effect_at, pushed, went_on, has_room, entry_frame, monitor_of, returned, handler_at}
 use Rattle.machine_types.specs.Going.{with_phase, runs, failed_turn, goes_on, goes_on_if, goes_after, root_over}
@@ -21,7 +22,7 @@ use Rattle.machine_types.specs.HeldMonitors.{held_at, with_held, without_held, s
 use Rattle.machine_types.specs.Instructions.{has_print_left, begun, printed, if_held, waits, notifies, did, ran}
 use Rattle.machine_types.specs.Ints.{low}
 use Rattle.machine_types.specs.LockWords.{word_of_lock, lock_of}
-use Rattle.machine_types.specs.Monitors.{claim_by, flag_from, acquires, enter_moves, takes, released, leave_moves, lets_go, grows_not, fattens, goes_to_wait, retakes, bit_of, lowest_of}
+use Rattle.machine_types.specs.Monitors.{claim_by, acquires, enter_moves, takes, released, leave_moves, lets_go, grows_not, fattens, goes_to_wait, retakes, bit_of, lowest_of}
 use Rattle.machine_types.specs.Onward.{Onward, Running, Throwing, Entering, Leaving, RootReturned, Uncaught, threw, done, root_arguments, rooted, back, unwound, handed, dispatched, after}
 use Rattle.machine_types.specs.ReadyObjects.{class_of}
 use Rattle.machine_types.specs.Threads.{Frame, Attempt, Thread}
@@ -241,7 +242,7 @@ module _ (c : MarkedProgram) (x : Thread) (got : ℕ) (none : x.attempt ≡ None
 
   acquired : (m : ℕ) (lock : LockWord) → Stays (acquires x m lock)
   acquired m (locks.Free n) = at_phase (phases.Take m n) tt
-  acquired m (locks.Held u) = turn (if nat_lt (x.turns + 1) flag_from then phases.Acquire m else phases.Flag m u) (flags (nat_lt (x.turns + 1) flag_from))
+  acquired m (locks.Held u) = turn (if nat_lt (x.turns + 1) FLAG_FROM then phases.Acquire m else phases.Flag m u) (flags (nat_lt (x.turns + 1) FLAG_FROM))
     where
       flags : (b : Bool) → ComesNew x.phase (if b then phases.Acquire m else phases.Flag m u)
       flags true = tt
@@ -252,7 +253,7 @@ module _ (c : MarkedProgram) (x : Thread) (got : ℕ) (none : x.attempt ≡ None
   -- an entry of a section that may be tried
   module _ (m number : ℕ) (enters : x.phase ≡ phases.Enter m number) (may : may_try c x number ≡ true) (not_held : held_at x.held m ≡ None) where
     is_marked : enters_marked c x.frames ≡ true
-    is_marked = (both_are_true (x.cfg.elide && nat_lt number most_attempts) (enters_marked c x.frames) may).1
+    is_marked = (both_are_true (x.cfg.elide && nat_lt number MOST_ATTEMPTS) (enters_marked c x.frames) may).1
 
     begun_at : (n : ℕ) (fs : List Frame) → x.frames ≡ fs → lock_of got ≡ locks.Free n → nat_lt n x.cfg.range ≡ true → Moves (begins x fs m n (number + 1))
     begun_at n [] e free below = let bad : false ≡ true = subst (λ (gs : List Frame). enters_marked c gs ≡ true) e is_marked in absurd (cc)

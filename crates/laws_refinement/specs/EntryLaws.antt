@@ -25,7 +25,7 @@ use Rattle.machine_types.specs.declared.phase.Phase.TheVariants as phases
 use Rattle.laws_states.specs.RunFacts.{HaveWidth}
 use Rattle.laws_refinement.specs.Entries.{failed_here, IsCounted, OnlyLooks}
 
--- ---- how many fail
+-- ---- how many fail: the 2 is written out here and in `Entries`, so that a statement says by itself what the limit `MOST_ATTEMPTS` keeps
 
 -- what a thread keeps is what its events tell
 abbrev pub ThreadsKeepCount : Type 0

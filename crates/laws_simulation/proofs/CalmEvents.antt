@@ -5,6 +5,7 @@ use Rattle.jvm_types.specs.declared.outcome.End.{End}
 use Rattle.jvm_types.specs.declared.outcome.End.TheVariants as ends
 use Rattle.jvm_types.specs.declared.outcome.Thrown.TheVariants.{IllegalMonitorStateException}
 use Rattle.jvm_types.specs.declared.program.Program.{Program}
+use Rattle.jvm_types.specs.declared.limits.TheConstants.{FLAG_FROM}
 use Rattle.machine_types.specs.Counting.{extra_of}
 use Rattle.machine_types.specs.Elision.{begins, tries}
 use Rattle.machine_types.specs.Events.{started}
@@ -13,7 +14,7 @@ use Rattle.machine_types.specs.Going.{runs, failed_turn, goes_on, goes_on_if}
 use Rattle.machine_types.specs.HeldMonitors.{without_held}
 use Rattle.machine_types.specs.Instructions.{if_held, waits, notifies}
 use Rattle.machine_types.specs.LockWords.{word_of_lock}
-use Rattle.machine_types.specs.Monitors.{flag_from, acquires, lets_go, released, grows_not, grown, fattens, goes_to_wait}
+use Rattle.machine_types.specs.Monitors.{acquires, lets_go, released, grows_not, grown, fattens, goes_to_wait}
 use Rattle.machine_types.specs.Onward.{Onward, Running, Throwing, Entering, Leaving, RootReturned, Uncaught, threw}
 use Rattle.machine_types.specs.Threads.{Attempt, Frame, Thread}
 use Rattle.machine_types.specs.declared.lock.Held.{Held}
@@ -96,7 +97,7 @@ root_begun p s (number ∷ roots) k = let h = goes_if (record s { roots = roots 
 
 pub acquired : (s : Thread) (m : ℕ) (lock : LockWord) → Calm s (acquires s m lock)
 acquired s m (locks.Free c) = record { instructions = refl; sections = refl; prints = refl; phase = tt }
-acquired s m (locks.Held u) = failed s _ (by_test (nat_lt (s.turns + 1) flag_from))
+acquired s m (locks.Held u) = failed s _ (by_test (nat_lt (s.turns + 1) FLAG_FROM))
   where
     by_test : (b : Bool) → IsCalm (if b then phases.Acquire m else phases.Flag m u)
     by_test true = tt

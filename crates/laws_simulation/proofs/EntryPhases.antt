@@ -3,6 +3,7 @@ use Rattle.std.proofs.Common.{◌≡◌, inl, ℕ, ◌+◌, ◌-◌, ◌<◌, na
 use Rattle.std.specs.Prelude.{slice_index, slice_set, ◌==◌}
 use Rattle.std.proofs.lemmas.Bool.Decides.{nat_tests}
 use Rattle.jvm_types.specs.declared.fixed_words.TheConstants.{MONITOR_RECORDS}
+use Rattle.jvm_types.specs.declared.limits.TheConstants.{FLAG_FROM}
 use Rattle.jvm_types.specs.declared.outcome.End.TheVariants as ends
 use Rattle.checked_program.specs.MarkedProgram.{MarkedProgram}
 use Rattle.machine_types.specs.Accesses.{found_by, words_after}
@@ -13,7 +14,7 @@ use Rattle.machine_types.specs.Going.{failed_turn, with_phase, runs}
 use Rattle.machine_types.specs.HeldMonitors.{held_at, with_held, deeper}
 use Rattle.machine_types.specs.History.{if_so, enter_acts}
 use Rattle.machine_types.specs.LockWords.{word_of_lock, lock_of}
-use Rattle.machine_types.specs.Monitors.{claim_by, enter_wants, enter_moves, acquires, takes, flag_from}
+use Rattle.machine_types.specs.Monitors.{claim_by, enter_wants, enter_moves, acquires, takes}
 use Rattle.machine_types.specs.Owners.{NotHeld, HeldFat, hold_by_word, lock_at, owner_at, references_of}
 use Rattle.machine_types.specs.PlainMemory.{Object}
 use Rattle.machine_types.specs.PlainState.{Plain, PlainThread, Holding, holding_at, with_holding, with_status}
@@ -102,7 +103,7 @@ module _ (lies : StartLiesApart) (differ : SitesDiffer) (inside : SitesLieInside
 
   pub acquires_it : (words : List ℕ) (m : ℕ) (l : LockWord) → WordsStay objects s q words → k.z.status ≡ plain.Enter m → Makes c cfg objects was s t x q k [] words (acquires x m l)
   acquires_it words m (locks.Free seen) stay status = to_phase c cfg objects was s t x q k words (phases.Take m seen) stay tt status
-  acquires_it words m (locks.Held u) stay status = by_test (nat_lt (x.turns + 1) flag_from)
+  acquires_it words m (locks.Held u) stay status = by_test (nat_lt (x.turns + 1) FLAG_FROM)
     where
       by_test : (b : Bool) → Makes c cfg objects was s t x q k [] words (failed_turn x (cond b (phases.Acquire m) (phases.Flag m u)))
       by_test true = to_wait words m (phases.Acquire m) stay tt status status

@@ -12,10 +12,11 @@ use Rattle.machine_types.specs.Frames.{top_of, pushed}
 use Rattle.machine_types.specs.Going.{with_phase, runs, failed_turn, goes_on, goes_on_if, goes_after, root_over}
 use Rattle.machine_types.specs.HeldMonitors.{held_at, with_held, without_held, shallower}
 use Rattle.machine_types.specs.LockWords.{word_of_lock, lock_of}
-use Rattle.machine_types.specs.Monitors.{Claim, Has, Tries, HasNot, claim, flag_from, acquires, enter_moves, takes, released, finishes, leave_moves, lets_go, grows_not, fattens, retakes, bit_of}
+use Rattle.machine_types.specs.Monitors.{Claim, Has, Tries, HasNot, claim, acquires, enter_moves, takes, released, finishes, leave_moves, lets_go, grows_not, fattens, retakes, bit_of}
 use Rattle.machine_types.specs.Onward.{Onward, Running, Throwing, Entering, Leaving, RootReturned, Uncaught, rooted, dispatched, after}
 use Rattle.machine_types.specs.Threads.{Frame, Attempt, Thread}
 use Rattle.jvm_types.specs.declared.fixed_words.TheConstants.{MONITOR_RECORDS}
+use Rattle.jvm_types.specs.declared.limits.TheConstants.{FLAG_FROM}
 use Rattle.machine_types.specs.declared.lock.Held.{Held}
 use Rattle.machine_types.specs.declared.lock.Kept.{Kept}
 use Rattle.machine_types.specs.declared.lock.Kept.TheVariants as keeps
@@ -122,7 +123,7 @@ same_calm s (Some a) got more k = either (is_same a got) more (fails s a) k tt
 
 acquires_calm : (s : Thread) (m : ℕ) (lock : LockWord) → Calm (acquires s m lock)
 acquires_calm s m (locks.Free n) = tt
-acquires_calm s m (locks.Held u) = turn_calm s (if nat_lt (s.turns + 1) flag_from then phases.Acquire m else phases.Flag m u) (by_test (nat_lt (s.turns + 1) flag_from))
+acquires_calm s m (locks.Held u) = turn_calm s (if nat_lt (s.turns + 1) FLAG_FROM then phases.Acquire m else phases.Flag m u) (by_test (nat_lt (s.turns + 1) FLAG_FROM))
   where
     by_test : (b : Bool) → IsCalm (if b then phases.Acquire m else phases.Flag m u)
     by_test true = tt

@@ -13,13 +13,14 @@ use Rattle.machine_types.specs.Elision.{begins, tries}
 use Rattle.machine_types.specs.FoundWords.{Lock}
 use Rattle.machine_types.specs.HeldMonitors.{held_at, with_held, deeper}
 use Rattle.machine_types.specs.LockWords.{word_of_lock, lock_of}
-use Rattle.machine_types.specs.Monitors.{Tries, HasNot, claim_by, enter_wants, enter_moves, acquires, flag_from}
+use Rattle.machine_types.specs.Monitors.{Tries, HasNot, claim_by, enter_wants, enter_moves, acquires}
 use Rattle.machine_types.specs.Owners.{Locks, hold_by_kept, hold_by_list, drawn_by, Knows, IsSeen, PhaseSaw, AttemptSawIn, IsKeptIn, Owns, AreLocks, lock_at, locks_in, references_of}
 use Rattle.machine_types.specs.PlainMemory.{Object}
 use Rattle.machine_types.specs.Structure.{AreHeldOnce}
 use Rattle.machine_types.specs.Threads.{Frame, Attempt, Thread}
 use Rattle.machine_types.specs.Words.{owner_word}
 use Rattle.jvm_types.specs.declared.fixed_words.TheConstants.{MONITOR_RECORDS}
+use Rattle.jvm_types.specs.declared.limits.TheConstants.{FLAG_FROM}
 use Rattle.machine_types.specs.declared.config.Config.{Config}
 use Rattle.machine_types.specs.declared.lock.Held.{Held}
 use Rattle.machine_types.specs.declared.lock.Kept.{Kept}
@@ -136,7 +137,7 @@ module _ (differ : SitesDiffer) (inside : SitesLieInside) (c : MarkedProgram) (o
   pub acquired : (m : ℕ) (l : LockWord) → IsPlain was → (locks_in (references_of objects) s.words).lock m ≡ l → Result s.words (acquires x m l)
   acquired m (locks.Free seen) old e = knowing (acquires x m (locks.Free seen)) refl refl refl refl tt
       (subst (λ (l : LockWord). IsSeen l seen (count m)) (sym e) (let same : seen ≡ count m = a.free m seen e in omega (arith, same))) (λ i d. absurd (cc))
-  acquired m (locks.Held u) old e = plain (acquires x m (locks.Held u)) refl refl (omega arith) (same_look x.attempt) (counted_plain was _ old (turns_plain m u (nat_lt (x.turns + 1) flag_from) (nat_lt (x.turns + 1) x.cfg.turns)))
+  acquired m (locks.Held u) old e = plain (acquires x m (locks.Held u)) refl refl (omega arith) (same_look x.attempt) (counted_plain was _ old (turns_plain m u (nat_lt (x.turns + 1) FLAG_FROM) (nat_lt (x.turns + 1) x.cfg.turns)))
   acquired m (locks.Flagged u) old e = plain (acquires x m (locks.Flagged u)) refl refl (omega arith) (same_look x.attempt) (counted_plain was _ old (turns_plain m u true (nat_lt (x.turns + 1) x.cfg.turns)))
   acquired m (locks.Fat r) old e = knowing (acquires x m (locks.Fat r)) refl refl refl refl e tt (λ i d. absurd (cc))
 

@@ -13,11 +13,12 @@ use Rattle.machine_types.specs.Frames.{pushed}
 use Rattle.machine_types.specs.Going.{with_phase, runs, failed_turn, goes_on, goes_on_if, goes_after, root_over}
 use Rattle.machine_types.specs.HeldMonitors.{held_at, with_held, without_held, deeper, shallower}
 use Rattle.machine_types.specs.LockWords.{word_of_lock, lock_of}
-use Rattle.machine_types.specs.Monitors.{Claim, Has, Tries, HasNot, claim, flag_from, acquires, enter_moves, takes, released, finishes, leave_moves, lets_go, grows_not, fattens, goes_to_wait, retakes, bit_of, lowest_of}
+use Rattle.machine_types.specs.Monitors.{Claim, Has, Tries, HasNot, claim, acquires, enter_moves, takes, released, finishes, leave_moves, lets_go, grows_not, fattens, goes_to_wait, retakes, bit_of, lowest_of}
 use Rattle.machine_types.specs.Onward.{Onward, Running, Throwing, Entering, Leaving, RootReturned, Uncaught, rooted, dispatched, after}
 use Rattle.machine_types.specs.Threads.{Frame, Attempt, Thread}
 use Rattle.machine_types.specs.Typed.{Classes, IsObject}
 use Rattle.jvm_types.specs.declared.fixed_words.TheConstants.{MONITOR_RECORDS}
+use Rattle.jvm_types.specs.declared.limits.TheConstants.{FLAG_FROM}
 use Rattle.machine_types.specs.declared.lock.Held.{Held}
 use Rattle.machine_types.specs.declared.lock.Kept.{Kept}
 use Rattle.machine_types.specs.declared.lock.Kept.TheVariants as keeps
@@ -97,7 +98,7 @@ module _ (is : Classes) where
 
   acquires_quiet : (s : Thread) (m : ℕ) (lock : LockWord) → AllHeld is s.held → Quiet is (acquires s m lock)
   acquires_quiet s m (locks.Free n) h = phase_quiet s (phases.Take m n) h tt
-  acquires_quiet s m (locks.Held u) h = turn_quiet s (if nat_lt (s.turns + 1) flag_from then phases.Acquire m else phases.Flag m u) h (by_test (nat_lt (s.turns + 1) flag_from))
+  acquires_quiet s m (locks.Held u) h = turn_quiet s (if nat_lt (s.turns + 1) FLAG_FROM then phases.Acquire m else phases.Flag m u) h (by_test (nat_lt (s.turns + 1) FLAG_FROM))
     where
       by_test : (b : Bool) → QuietPhase is (if b then phases.Acquire m else phases.Flag m u)
       by_test true = tt

@@ -8,7 +8,7 @@ use Rattle.jvm_types.specs.declared.outcome.Thrown.TheVariants.{ArrayIndexOutOfB
 use Rattle.jvm_types.specs.declared.program.MethodInfo.{MethodInfo}
 use Rattle.jvm_types.specs.declared.program.Program.{Program}
 use Rattle.checked_program.specs.MarkedProgram.{MarkedProgram}
-use Rattle.machine_types.specs.Elision.{begins, tries, is_checked, is_same, fails, if_same, elided, may_try, most_attempts, enters_marked}
+use Rattle.machine_types.specs.Elision.{begins, tries, is_checked, is_same, fails, if_same, elided, may_try, enters_marked}
 use Rattle.machine_types.specs.Events.{moved}
 use Rattle.machine_types.specs.Frames.{Top, top_of, effect_at, pushed, went_on, has_room, entry_frame}
 use Rattle.machine_types.specs.Going.{with_phase, runs, failed_turn, goes_on, goes_on_if, goes_after, root_over}
@@ -16,11 +16,12 @@ use Rattle.machine_types.specs.HeldMonitors.{held_at, with_held, without_held, d
 use Rattle.machine_types.specs.Instructions.{has_print_left, begun, printed, if_held, waits, notifies, did, ran}
 use Rattle.machine_types.specs.Ints.{low}
 use Rattle.machine_types.specs.LockWords.{word_of_lock, lock_of}
-use Rattle.machine_types.specs.Monitors.{Claim, Has, Tries, HasNot, claim, claim_by, flag_from, acquires, enter_moves, takes, released, finishes, leave_moves, lets_go, grows_not, fattens, goes_to_wait, retakes, bit_of, lowest_of}
+use Rattle.machine_types.specs.Monitors.{Claim, Has, Tries, HasNot, claim, claim_by, acquires, enter_moves, takes, released, finishes, leave_moves, lets_go, grows_not, fattens, goes_to_wait, retakes, bit_of, lowest_of}
 use Rattle.machine_types.specs.Onward.{Onward, Running, Throwing, Entering, Leaving, RootReturned, Uncaught, threw, done, rooted, root_arguments, dispatched, after}
 use Rattle.machine_types.specs.Threads.{Frame, Attempt, Thread}
 use Rattle.machine_types.specs.Words.{header_length}
 use Rattle.jvm_types.specs.declared.fixed_words.TheConstants.{MONITOR_RECORDS}
+use Rattle.jvm_types.specs.declared.limits.TheConstants.{FLAG_FROM, MOST_ATTEMPTS}
 use Rattle.machine_types.specs.declared.effect.Effect.{Effect}
 use Rattle.machine_types.specs.declared.effect.Effect.TheVariants.{Goes, Throws, Reads, Writes, Indexes, Measures, Raises, Makes, Prints, Calls, Returns, Enters, Leaves, Waits, Notifies, NotifiesAll, Stuck}
 use Rattle.machine_types.specs.declared.lock.Held.{Held}
@@ -137,7 +138,7 @@ module _ (roots : List ℕ) (Bare : Type 0) where
 
   acquired : (s : Thread) (m : ℕ) (lock : LockWord) → Keeps s.roots s.attempt → Stays (acquires s m lock)
   acquired s m (locks.Free n) k = record { keeps = k; fits = tt }
-  acquired s m (locks.Held u) k = turned s (if nat_lt (s.turns + 1) flag_from then phases.Acquire m else phases.Flag m u) (flags (nat_lt (s.turns + 1) flag_from)) k
+  acquired s m (locks.Held u) k = turned s (if nat_lt (s.turns + 1) FLAG_FROM then phases.Acquire m else phases.Flag m u) (flags (nat_lt (s.turns + 1) FLAG_FROM)) k
     where
       flags : (b : Bool) → RootFits (if b then phases.Acquire m else phases.Flag m u) s.roots
       flags true = tt
@@ -221,7 +222,7 @@ told e roots k = tt
 
 -- where no section may be tried
 never_tries : (c : MarkedProgram) (s : Thread) (n : ℕ) → s.cfg.elide ≡ false → may_try c s n ≡ false
-never_tries c s n e = ap (λ (b : Bool). b && nat_lt n most_attempts && enters_marked c s.frames) e
+never_tries c s n e = ap (λ (b : Bool). b && nat_lt n MOST_ATTEMPTS && enters_marked c s.frames) e
 
 module _ (c : MarkedProgram) (s : Thread) (got : ℕ) (Bare : Type 0) (none : Bare → s.attempt ≡ None) (not : Bare → s.cfg.elide ≡ false) where
   keeps_all : Keeps s.roots Bare s.roots s.attempt

@@ -3,7 +3,7 @@ use Rattle.std.proofs.Common.{◌≡◌, ℕ, zero, suc, ◌+◌, ◌<◌, ◌�
 use Rattle.std.specs.Prelude.{◌==◌, ◌/◌, ◌%◌, if◌then◌else◌, option_map, IfSome}
 use Rattle.std.proofs.lemmas.Bool.Decides.{nat_tests}
 use Rattle.lists.proofs.TestLaws.{both_are_true}
-use Rattle.jvm_types.specs.declared.limits.TheConstants.{MOST_WORKERS}
+use Rattle.jvm_types.specs.declared.limits.TheConstants.{FLAG_FROM, MOST_WORKERS}
 use Rattle.jvm_types.specs.declared.outcome.End.TheVariants as ends
 use Rattle.jvm_types.specs.declared.program.Program.{Program}
 use Rattle.machine_types.specs.Bounds.{KeptFits, EntryFits, IsInner, IsBounded}
@@ -12,7 +12,7 @@ use Rattle.machine_types.specs.FoundWords.{HasCount, most_count}
 use Rattle.machine_types.specs.Going.{with_phase, runs, failed_turn, goes_after}
 use Rattle.machine_types.specs.HeldMonitors.{held_at, with_held, without_held, deeper, shallower}
 use Rattle.machine_types.specs.LockWords.{word_of_lock, lock_by, lock_of, is_lock_by, is_lock_word}
-use Rattle.machine_types.specs.Monitors.{Tries, HasNot, claim_by, acquires, enter_moves, takes, finishes, released, leave_moves, lets_go, grows_not, fattens, goes_to_wait, retakes, flag_from}
+use Rattle.machine_types.specs.Monitors.{Tries, HasNot, claim_by, acquires, enter_moves, takes, finishes, released, leave_moves, lets_go, grows_not, fattens, goes_to_wait, retakes}
 use Rattle.machine_types.specs.Structure.{IsFlat}
 use Rattle.machine_types.specs.Threads.{Frame, Attempt, Thread}
 use Rattle.jvm_types.specs.declared.fixed_words.TheConstants.{MONITOR_RECORDS}
@@ -112,7 +112,7 @@ module _ (p : Program) where
 
       by_lock : (lock : LockWord) → LockFits lock → IsBounded p (acquires s m lock)
       by_lock (locks.Free c) h = bounded p s (phases.Take m c) f h f.limits.few_turns f.limits.few_steps tt tt k
-      by_lock (locks.Held u) h = flags (nat_lt (s.turns + 1) flag_from) u h
+      by_lock (locks.Held u) h = flags (nat_lt (s.turns + 1) FLAG_FROM) u h
       by_lock (locks.Flagged u) h = again
       by_lock (locks.Fat r) h = bounded p s (phases.TakeFat m r) f h f.limits.few_turns f.limits.few_steps tt tt k
 

@@ -22,13 +22,14 @@ use Rattle.machine_types.specs.Instructions.{begun, ran}
 use Rattle.machine_types.specs.LockWords.{word_of_lock, lock_of}
 use Rattle.machine_types.specs.declared.lock.LockWord.{LockWord}
 use Rattle.machine_types.specs.declared.lock.LockWord.TheVariants as locks
-use Rattle.machine_types.specs.Monitors.{Claim, Has, Tries, HasNot, claim_by, claim, flag_from, acquires, enter_moves, takes, released, finishes, leave_moves, lets_go, grows_not, fattens, goes_to_wait, retakes, bit_of, lowest_of}
+use Rattle.machine_types.specs.Monitors.{Claim, Has, Tries, HasNot, claim_by, claim, acquires, enter_moves, takes, released, finishes, leave_moves, lets_go, grows_not, fattens, goes_to_wait, retakes, bit_of, lowest_of}
 use Rattle.machine_types.specs.Onward.{Running, after, dispatched}
 use Rattle.machine_types.specs.Structure.{TopIs, is_element_op, AfterShows}
 use Rattle.machine_types.specs.Threads.{Frame, Attempt, Thread}
 use Rattle.machine_types.specs.Typed.{Classes, FramesHold, FramesThrown, IsException, AfterHolds, TowardHolds, AttemptHolds, PhaseHolds, IsObject, with_object}
 use Rattle.machine_types.specs.Words.{header_class}
 use Rattle.jvm_types.specs.declared.fixed_words.TheConstants.{MONITOR_RECORDS}
+use Rattle.jvm_types.specs.declared.limits.TheConstants.{FLAG_FROM}
 use Rattle.machine_types.specs.declared.lock.Held.{Held}
 use Rattle.machine_types.specs.declared.lock.Kept.{Kept}
 use Rattle.machine_types.specs.declared.lock.Kept.TheVariants as keeps
@@ -104,7 +105,7 @@ module _ (c : MarkedProgram) (marked : IsMarked c) (is : Classes) where
   module _ (s : Thread) (m : ℕ) (object : IsObject is m) (frames : FramesHold c is s.frames) (rests : Rests c is s) where
     pub acquires_typed : (lock : LockWord) → TypedBy c is (acquires s m lock)
     acquires_typed (locks.Free n) = phase_typed c is s (phases.Take m n) (object, frames) tt rests
-    acquires_typed (locks.Held u) = by_test (nat_lt (s.turns + 1) flag_from)
+    acquires_typed (locks.Held u) = by_test (nat_lt (s.turns + 1) FLAG_FROM)
       where
         by_test : (b : Bool) → TypedBy c is (failed_turn s (if b then phases.Acquire m else phases.Flag m u))
         by_test true = turn_typed c is s (phases.Acquire m) (object, frames) tt frames rests

@@ -21,7 +21,7 @@ use Rattle.machine_types.specs.HeldMonitors.{held_at, with_held, without_held, s
 use Rattle.machine_types.specs.Instructions.{has_print_left, begun, made, printed, if_held, waits, notifies, did, ran}
 use Rattle.machine_types.specs.Ints.{low}
 use Rattle.machine_types.specs.LockWords.{word_of_lock, lock_of}
-use Rattle.machine_types.specs.Monitors.{Claim, Has, Tries, HasNot, claim, acquires, enter_moves, finishes, released, leave_moves, lets_go, grows_not, grown, fattens, bit_of, goes_to_wait, lowest_of, flag_from}
+use Rattle.machine_types.specs.Monitors.{Claim, Has, Tries, HasNot, claim, acquires, enter_moves, finishes, released, leave_moves, lets_go, grows_not, grown, fattens, bit_of, goes_to_wait, lowest_of}
 use Rattle.machine_types.specs.Onward.{Onward, Running, Throwing, Entering, Leaving, RootReturned, Uncaught, threw, done, entered, called, rooted, root_arguments, back, returns, unwound, handed, dispatched, after}
 use Rattle.machine_types.specs.Parts.{numbers_of, entries_named, init_roots}
 use Rattle.machine_types.specs.ReadyObjects.{class_of, thrown_of}
@@ -29,6 +29,7 @@ use Rattle.machine_types.specs.Structure.{HasFrame}
 use Rattle.machine_types.specs.Threads.{Frame, Attempt, Thread}
 use Rattle.machine_types.specs.Words.{header_class, header_length}
 use Rattle.jvm_types.specs.declared.fixed_words.TheConstants.{MONITOR_RECORDS}
+use Rattle.jvm_types.specs.declared.limits.TheConstants.{FLAG_FROM}
 use Rattle.machine_types.specs.declared.effect.Effect.{Effect}
 use Rattle.machine_types.specs.declared.effect.Effect.TheVariants.{Goes, Throws, Reads, Writes, Indexes, Measures, Raises, Makes, Prints, Calls, Returns, Enters, Leaves, Waits, Notifies, NotifiesAll, Stuck}
 use Rattle.machine_types.specs.declared.lock.Held.{Held}
@@ -214,7 +215,7 @@ module _ (p : Program) where
 
   acquired : (s : Thread) (m : ℕ) (lock : LockWord) → Stays s → IsRooted p (acquires s m lock)
   acquired s m (locks.Free c) k = in_phase s (phases.Take m c) tt k
-  acquired s m (locks.Held u) k = turned s (if nat_lt (s.turns + 1) flag_from then phases.Acquire m else phases.Flag m u) (by_turns (nat_lt (s.turns + 1) flag_from)) k
+  acquired s m (locks.Held u) k = turned s (if nat_lt (s.turns + 1) FLAG_FROM then phases.Acquire m else phases.Flag m u) (by_turns (nat_lt (s.turns + 1) FLAG_FROM)) k
     where
       by_turns : (b : Bool) → IsNoStart (if b then phases.Acquire m else phases.Flag m u)
       by_turns true = tt

@@ -2,12 +2,13 @@
 use Rattle.std.proofs.Common.{◌≡◌, ℕ, ◌+◌, Bool, true, false, cond, List, [], ◌∷◌, length, Option, Some, None, refl, sym, ap, subst, arith}
 use Rattle.std.specs.Prelude.{◌==◌, nat_lt}
 use Rattle.std.proofs.lemmas.Bool.Decides.{nat_tests}
+use Rattle.jvm_types.specs.declared.limits.TheConstants.{FLAG_FROM}
 use Rattle.checked_program.specs.MarkedProgram.{MarkedProgram, IsMarked}
 use Rattle.machine_types.specs.Elision.{tries, begins, enters_marked}
 use Rattle.machine_types.specs.Going.{with_phase, runs, failed_turn}
 use Rattle.machine_types.specs.HeldMonitors.{held_at, with_held, deeper}
 use Rattle.machine_types.specs.LockWords.{lock_of}
-use Rattle.machine_types.specs.Monitors.{Tries, HasNot, claim, claim_by, flag_from, acquires, enter_moves, takes}
+use Rattle.machine_types.specs.Monitors.{Tries, HasNot, claim, claim_by, acquires, enter_moves, takes}
 use Rattle.machine_types.specs.Structure.{TopEnters, Stands, AttemptStands, AttemptStandsIn, held_depth, tried_depth, once_at}
 use Rattle.machine_types.specs.Threads.{Frame, Attempt, Thread}
 use Rattle.machine_types.specs.declared.lock.Held.{Held}
@@ -52,7 +53,7 @@ module _ (c : MarkedProgram) (s : Thread) (m : ℕ) where
   -- by what the lock word says
   pub acquiring : (was : Phase) → turned_from was ≡ phases.Acquire m → Stands c (phases.Acquire m) s.frames s.held s.attempt → (lock : LockWord) → StaysStructured c was (acquires s m lock)
   acquiring was from k (locks.Free count) = record { is_as = refl; stands = to_take count k; attempt = no_attempt c (phases.Take m count) s.frames s.held s.attempt k.phase_shows.no_attempt }
-  acquiring was from k (locks.Held u) = by_turns (nat_lt (s.turns + 1) flag_from)
+  acquiring was from k (locks.Held u) = by_turns (nat_lt (s.turns + 1) FLAG_FROM)
     where
       limit : TurnsIn c (turned_from was) s
       limit = subst (λ (phase : Phase). TurnsIn c phase s) (sym from) (acquire_turns k)

@@ -12,7 +12,7 @@ use Rattle.jvm_types.specs.declared.outcome.Thrown.TheVariants.{StackOverflowErr
 use Rattle.jvm_types.specs.declared.program.MethodInfo.{MethodInfo}
 use Rattle.jvm_types.specs.declared.program.Row.{Row}
 use Rattle.checked_program.specs.MarkedProgram.{MarkedProgram, IsMarked}
-use Rattle.machine_types.specs.Elision.{may_try, enters_marked, most_attempts}
+use Rattle.machine_types.specs.Elision.{may_try, enters_marked}
 use Rattle.machine_types.specs.Bounds.{IsRooted, part_roots}
 use Rattle.machine_types.specs.Events.{started, element_made, element_done, moved}
 use Rattle.machine_types.specs.Frames.{Top, top_of, frames_of, went_on, pushed, has_room, entry_frame, monitor_of, handler_at}
@@ -30,6 +30,7 @@ use Rattle.machine_types.specs.Structure.{HasFrame, TopIs, Stands, AttemptStands
 use Rattle.machine_types.specs.Threads.{Frame, Attempt, Thread}
 use Rattle.machine_types.specs.Typed.{Classes, AfterHolds, PhaseHolds, ThreadHolds}
 use Rattle.jvm_types.specs.declared.fixed_words.TheConstants.{MONITOR_RECORDS}
+use Rattle.jvm_types.specs.declared.limits.TheConstants.{MOST_ATTEMPTS}
 use Rattle.machine_types.specs.declared.lock.Held.{Held}
 use Rattle.machine_types.specs.declared.lock.Kept.TheVariants as keeps
 use Rattle.machine_types.specs.declared.lock.LockWord.TheVariants as locks
@@ -196,7 +197,7 @@ module _ (begin : BeginsAttempt) (entered_again : EntersInside) (is : Classes) (
       instruction_keeps c was (begun s) marked (at phases.Run e) (within phases.Run e) (record { is_as = k.is_as; stands = k.stands; attempt = k.attempt }) top t got
 
   may_marked : (tried : ℕ) → may_try c s tried ≡ true → enters_marked c s.frames ≡ true
-  may_marked tried e = last_of s.cfg.elide (nat_lt tried most_attempts) (enters_marked c s.frames) e
+  may_marked tried e = last_of s.cfg.elide (nat_lt tried MOST_ATTEMPTS) (enters_marked c s.frames) e
     where
       last_of : (a b d : Bool) → (a && b && d) ≡ true → d ≡ true
       last_of a b true e = refl

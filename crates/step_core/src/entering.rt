@@ -1,6 +1,7 @@
 //! The entry of a monitor (JVMS 2.11.10).
 
 ghost use Rattle.std.specs.Prelude.{◌≡◌, ◌<◌, length, true};
+ghost use Rattle.jvm_types.specs.declared.limits.TheConstants.{MOST_ATTEMPTS};
 ghost use Rattle.machine_types.specs.Elision.{may_try, tries};
 ghost use Rattle.machine_types.specs.Monitors.{HasNot, claim, enter_moves, enter_wants};
 ghost use Rattle.machine_types.specs.Sections.{entered_at};
@@ -12,11 +13,9 @@ use checked_program::{Checked, Spot};
 use elided_section::begin;
 use fat_monitor::{acquire, enter_again};
 use frames::ThreadState;
+use jvm_types::limits::MOST_ATTEMPTS;
 use lock_word::{LockWord, read};
 use machine_types::{Access, Phase};
-
-/// How often a section is tried without its lock.
-const MOST_ATTEMPTS: u8 = 2;
 
 fn entered_at(pc: u32) -> Spot
     ensures { result ≡ entered_at pc }
@@ -32,7 +31,7 @@ fn entered_at(pc: u32) -> Spot
 fn may_try(s: &ThreadState, p: &Checked, tried: u8) -> bool
     requires { 0 < length s.now.frames }
     ensures may { result ≡ may_try p.now s.now tried }
-    ensures few { result ≡ true → tried < 2 }
+    ensures few { result ≡ true → tried < MOST_ATTEMPTS }
 {
     s.config().elide && tried < MOST_ATTEMPTS && is_marked(p, s.method(), entered_at(s.pc()))
 }
@@ -40,7 +39,7 @@ fn may_try(s: &ThreadState, p: &Checked, tried: u8) -> bool
 /// An attempt begins where the lock is free, and its count is not the last one.
 fn try_section(s: &mut ThreadState, monitor: u32, tried: u8, lock: LockWord)
     requires frame { 0 < length s.old.frames }
-    requires tried { tried < 2 }
+    requires tried { tried < MOST_ATTEMPTS }
     ensures { s.new ≡ tries s.old monitor tried lock }
 {
     match lock {
