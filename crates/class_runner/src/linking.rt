@@ -11,7 +11,7 @@ use crate::decoding::decode_files;
 use crate::loading::FileError;
 use jvm_types::limits::{LEAST_HEAP, MOST_FILES, MOST_HEAP, MOST_WORKERS};
 use jvm_types::{ClassFile, Program, Rows, Rule};
-use linker::{LinkError, link};
+use linker::{LinkError, link_owned};
 use std::alloc::Global;
 
 /// The program of some classes. All their methods are decoded before they are linked.
@@ -34,7 +34,7 @@ pub fn link_files(
     ensures refused { IfErr result (λ e. IsUnlinkedFrom classes.now heap workers e) }
 {
     let code = decode_files(alloc, classes.as_slice())?;
-    match link(alloc, classes, &code, heap, workers) {
+    match link_owned(alloc, classes, code, heap, workers) {
         Ok(program) => Ok(program),
         Err(LinkError::Memory) => Err(FileError::Memory),
         Err(LinkError::Refused(rule, place)) => Err(FileError::Refused(Rule::L(rule), place)),

@@ -77,40 +77,37 @@ module _ (s : Scope) where
   or_assoc None b c = refl
   or_assoc (Some x) b c = refl
 
-  linked_append : (xs ys : List Declared) (code : List (List Insn)) → linked (xs ++ ys) code ≡ linked xs code ++ linked ys (drop (length (linked xs code)) code)
+  linked_append : (xs ys : List Declared) (code : List (List Insn)) → linked (xs ++ ys) code ≡ linked xs code ++ linked ys (drop (length xs) code)
   linked_append [] ys code = refl
   linked_append (x ∷ xs) ys [] = sym (none_linked ys)
   linked_append (x ∷ xs) ys (insns ∷ code) = ap (λ ms. linked_method s x insns ∷ ms) (linked_append xs ys code)
 
   faults_append : (xs ys : List Declared) (code : List (List Insn))
-      → use_faults s (xs ++ ys) code ≡ option_or (use_faults s xs code) (use_faults s ys (drop (length (linked xs code)) code))
+      → use_faults s (xs ++ ys) code ≡ option_or (use_faults s xs code) (use_faults s ys (drop (length xs) code))
   faults_append [] ys code = refl
   faults_append (x ∷ xs) ys [] = sym (no_faults ys)
   faults_append (x ∷ xs) ys (insns ∷ code) =
       ap (λ (o : Option LinkFault). option_or (uses_fault s (x, insns)) o) (faults_append xs ys code)
-      ∙ or_assoc (uses_fault s (x, insns)) (use_faults s xs code) (use_faults s ys (drop (length (linked xs code)) code))
-
-  behind : (ms ns : List MethodInfo) (code : List (List Insn)) → drop (length (ms ++ ns)) code ≡ drop (length ns) (drop (length ms) code)
-  behind ms ns code = ap (λ n. drop n code) (length-append ms ns) ∙ sym (drop-drop (length ns) (length ms) code)
+      ∙ or_assoc (uses_fault s (x, insns)) (use_faults s xs code) (use_faults s ys (drop (length xs) code))
 
   -- ---- some methods, and those behind them
 
-  module _ (xs ys : List Declared) (code : List (List Insn)) (old new : List MethodInfo) (are : AreLinked s xs code old new) where
-    rest : drop (length new) code ≡ drop (length (linked xs (drop (length old) code))) (drop (length old) code)
-    rest = ap (λ ms. drop (length ms) code) are.added ∙ behind old (linked xs (drop (length old) code)) code
+  module _ (xs ys : List Declared) (code left : List (List Insn)) (old new : List MethodInfo) (are : AreLinked s xs code left old new) where
+    pub rest_on : drop (length ys) left ≡ drop (length (xs ++ ys)) code
+    rest_on = ap (λ c. drop (length ys) c) are.rest ∙ drop-drop (length ys) (length xs) code ∙ ap (λ n. drop n code) (sym (length-append xs ys))
 
-    pub linked_on : new ++ linked ys (drop (length new) code) ≡ old ++ linked (xs ++ ys) (drop (length old) code)
+    pub linked_on : new ++ linked ys left ≡ old ++ linked (xs ++ ys) code
     linked_on =
-        ap (λ c. new ++ linked ys c) rest
-        ∙ ap (λ ms. ms ++ linked ys (drop (length (linked xs (drop (length old) code))) (drop (length old) code))) are.added
-        ∙ append_assoc old (linked xs (drop (length old) code)) (linked ys (drop (length (linked xs (drop (length old) code))) (drop (length old) code)))
-        ∙ ap (λ ms. old ++ ms) (sym (linked_append xs ys (drop (length old) code)))
+        ap (λ c. new ++ linked ys c) are.rest
+        ∙ ap (λ ms. ms ++ linked ys (drop (length xs) code)) are.added
+        ∙ append_assoc old (linked xs code) (linked ys (drop (length xs) code))
+        ∙ ap (λ ms. old ++ ms) (sym (linked_append xs ys code))
 
-    pub faults_on : use_faults s ys (drop (length new) code) ≡ use_faults s (xs ++ ys) (drop (length old) code)
+    pub faults_on : use_faults s ys left ≡ use_faults s (xs ++ ys) code
     faults_on =
-        ap (λ c. use_faults s ys c) rest
-        ∙ ap (λ o. option_or o (use_faults s ys (drop (length (linked xs (drop (length old) code))) (drop (length old) code)))) (sym are.unrefused)
-        ∙ sym (faults_append xs ys (drop (length old) code))
+        ap (λ c. use_faults s ys c) are.rest
+        ∙ ap (λ o. option_or o (use_faults s ys (drop (length xs) code))) (sym are.unrefused)
+        ∙ sym (faults_append xs ys code)
 
   -- what refuses some methods refuses them with those behind them
   first_error : (o p : Option LinkFault) (e : LinkError) → IsLinkErrorOf o e → IsLinkErrorOf (option_or o p) e
@@ -119,7 +116,7 @@ module _ (s : Scope) where
   first_error (Some fault) p (Refused rule place) h = h
 
   pub error_on : (xs ys : List Declared) (code : List (List Insn)) (e : LinkError) → IsLinkErrorOf (use_faults s xs code) e → IsLinkErrorOf (use_faults s (xs ++ ys) code) e
-  error_on xs ys code e h = subst (λ (o : Option LinkFault). IsLinkErrorOf o e) (sym (faults_append xs ys code)) (first_error (use_faults s xs code) (use_faults s ys (drop (length (linked xs code)) code)) e h)
+  error_on xs ys code e h = subst (λ (o : Option LinkFault). IsLinkErrorOf o e) (sym (faults_append xs ys code)) (first_error (use_faults s xs code) (use_faults s ys (drop (length xs) code)) e h)
 
   -- ---- a method alone
 
@@ -127,50 +124,36 @@ module _ (s : Scope) where
   or_none None = refl
   or_none (Some x) = refl
 
-  pub fault_at : (d : Declared) (code : List (List Insn)) (at : ℕ) (insns : List Insn) → slice_get code at ≡ Some insns → use_faults s (d ∷ []) (drop at code) ≡ uses_fault s (d, insns)
-  fault_at d [] at insns e = absurd cc
-  fault_at d (is ∷ code) zero insns e = let same : is ≡ insns = cc in rw same (or_none (uses_fault s (d, insns)))
-  fault_at d (is ∷ code) (suc n) insns e = fault_at d code n insns e
-
-  pub linked_at : (d : Declared) (code : List (List Insn)) (at : ℕ) (insns : List Insn) → slice_get code at ≡ Some insns → linked (d ∷ []) (drop at code) ≡ linked_method s d insns ∷ []
-  linked_at d [] at insns e = absurd cc
-  linked_at d (is ∷ code) zero insns e = let same : is ≡ insns = cc in rw same refl
-  linked_at d (is ∷ code) (suc n) insns e = linked_at d code n insns e
-
-  past : {X : Type 0} (xs : List X) (at : ℕ) → slice_get xs at ≡ None → drop at xs ≡ []
-  past [] at e = drop-nil at
-  past (x ∷ xs) zero e = absurd cc
-  past (x ∷ xs) (suc n) e = past xs n e
+  pub fault_at : (d : Declared) (insns : List Insn) (code : List (List Insn)) → use_faults s (d ∷ []) (insns ∷ code) ≡ uses_fault s (d, insns)
+  fault_at d insns code = or_none (uses_fault s (d, insns))
 
   -- where there are no instructions for a method, nothing is added
-  pub none_at : (d : Declared) (code : List (List Insn)) (ms : List MethodInfo) → slice_get code (length ms) ≡ None → AreLinked s (d ∷ []) code ms ms
-  none_at d code ms e = record {
-    unrefused = rw (past code (length ms) e) refl;
-    added = rw (past code (length ms) e) (append_nil ms);
-  }
-    where
-      append_nil : (ms : List MethodInfo) → ms ≡ ms ++ []
-      append_nil [] = refl
-      append_nil (m ∷ ms) = ap (λ ns. m ∷ ns) (append_nil ms)
+  pub none_at : (d : Declared) (ms : List MethodInfo) → AreLinked s (d ∷ []) [] [] ms ms
+  none_at d ms = record { unrefused = refl; rest = refl; added = sym (append-nil ms); }
 
-  pub one_at : (d : Declared) (code : List (List Insn)) (ms new : List MethodInfo) (insns : List Insn) (m : MethodInfo) → slice_get code (length ms) ≡ Some insns
-      → uses_fault s (d, insns) ≡ None → m ≡ linked_method s d insns → new ≡ ms ++ m ∷ [] → AreLinked s (d ∷ []) code ms new
-  one_at d code ms new insns m e u is n = record {
-    unrefused = fault_at d code (length ms) insns e ∙ u;
-    added = n ∙ ap (λ (x : MethodInfo). ms ++ x ∷ []) is ∙ ap (λ (xs : List MethodInfo). ms ++ xs) (sym (linked_at d code (length ms) insns e));
+  pub one_at : (d : Declared) (code : List (List Insn)) (ms new : List MethodInfo) (insns : List Insn) (m : MethodInfo)
+      → uses_fault s (d, insns) ≡ None → m ≡ linked_method s d insns → new ≡ ms ++ m ∷ [] → AreLinked s (d ∷ []) (insns ∷ code) code ms new
+  one_at d code ms new insns m u is n = record {
+    unrefused = fault_at d insns code ∙ u;
+    rest = refl;
+    added = n ∙ ap (λ (x : MethodInfo). ms ++ x ∷ []) is;
   }
 
   -- ---- one turn of a loop: the first of all methods that are left were linked, or refused
 
   module _ (all xs ys : List Declared) (code : List (List Insn)) (split : all ≡ xs ++ ys) (old : List MethodInfo) where
-    pub turn_left : (new : List MethodInfo) → AreLinked s xs code old new → (whole : Option LinkFault) → use_faults s all (drop (length old) code) ≡ whole → use_faults s ys (drop (length new) code) ≡ whole
-    turn_left new are whole h = faults_on xs ys code old new are ∙ ap (λ (ds : List Declared). use_faults s ds (drop (length old) code)) (sym split) ∙ h
+    module _ (left : List (List Insn)) (new : List MethodInfo) (are : AreLinked s xs code left old new) where
+      pub turn_left : (whole : Option LinkFault) → use_faults s all code ≡ whole → use_faults s ys left ≡ whole
+      turn_left whole h = faults_on xs ys code left old new are ∙ ap (λ (ds : List Declared). use_faults s ds code) (sym split) ∙ h
 
-    pub turn_made : (new : List MethodInfo) → AreLinked s xs code old new → (whole : List MethodInfo) → old ++ linked all (drop (length old) code) ≡ whole → new ++ linked ys (drop (length new) code) ≡ whole
-    turn_made new are whole h = linked_on xs ys code old new are ∙ ap (λ (ds : List Declared). old ++ linked ds (drop (length old) code)) (sym split) ∙ h
+      pub turn_made : (whole : List MethodInfo) → old ++ linked all code ≡ whole → new ++ linked ys left ≡ whole
+      turn_made whole h = linked_on xs ys code left old new are ∙ ap (λ (ds : List Declared). old ++ linked ds code) (sym split) ∙ h
 
-    pub turn_refused : (e : LinkError) → IsLinkErrorOf (use_faults s xs (drop (length old) code)) e → (whole : Option LinkFault) → use_faults s all (drop (length old) code) ≡ whole → IsLinkErrorOf whole e
-    turn_refused e h whole is = subst (λ (o : Option LinkFault). IsLinkErrorOf o e) (ap (λ (ds : List Declared). use_faults s ds (drop (length old) code)) (sym split) ∙ is) (error_on xs ys (drop (length old) code) e h)
+      pub turn_rest : (whole : List (List Insn)) → drop (length all) code ≡ whole → drop (length ys) left ≡ whole
+      turn_rest whole h = rest_on xs ys code left old new are ∙ ap (λ (ds : List Declared). drop (length ds) code) (sym split) ∙ h
+
+    pub turn_refused : (e : LinkError) → IsLinkErrorOf (use_faults s xs code) e → (whole : Option LinkFault) → use_faults s all code ≡ whole → IsLinkErrorOf whole e
+    turn_refused e h whole is = subst (λ (o : Option LinkFault). IsLinkErrorOf o e) (ap (λ (ds : List Declared). use_faults s ds code) (sym split) ∙ is) (error_on xs ys code e h)
 
 -- ---- the methods that are left at one turn of a loop
 

@@ -39,10 +39,11 @@ method_of f number m = record { file = f.number; place = number; pool = f.class.
 abbrev pub use_faults : Scope → List Declared → List (List Insn) → Option LinkFault
 use_faults s methods code = first_fault (map (uses_fault s) (zip methods code))
 
--- nothing refuses some methods, which stand behind those before them, where `code` has the instructions of all
-pub record AreLinked (s : Scope) (methods : List Declared) (code : List (List Insn)) (old new : List MethodInfo) : Type 0 where
-  pub unrefused : use_faults s methods (drop (length old) code) ≡ None
-  pub added : new ≡ old ++ linked_methods s (zip methods (drop (length old) code))
+-- nothing refuses some methods, which stand behind those before them, with the first instructions of a list; the rest are left
+pub record AreLinked (s : Scope) (methods : List Declared) (code left : List (List Insn)) (old new : List MethodInfo) : Type 0 where
+  pub unrefused : use_faults s methods code ≡ None
+  pub rest : left ≡ drop (length methods) code
+  pub added : new ≡ old ++ linked_methods s (zip methods code)
 
 -- the bytes that a method has of its name, its descriptor and the types of its arguments
 abbrev pub copied_bytes : MethodInfo → ℕ

@@ -86,6 +86,7 @@ fn copy_op(alloc: Global, op: &Op) -> Result<Op, AllocError>
     }
 }
 
+/// A copy of an instruction.
 fn copy_insn(alloc: Global, insn: &Insn) -> Result<Insn, AllocError>
     ensures { IfOk result (λ copy. copy ≡ insn.now) }
 {
@@ -98,12 +99,23 @@ fn copy_insn(alloc: Global, insn: &Insn) -> Result<Insn, AllocError>
 }
 
 /// A copy of the instructions of a method.
-pub fn copy_insns(alloc: Global, insns: &[Insn]) -> Result<Rows<Insn>, AllocError>
+fn copy_insns(alloc: Global, insns: &[Insn]) -> Result<Rows<Insn>, AllocError>
     ensures { IfOk result (λ copy. copy ≡ insns.now) }
 {
     let mut copy = Rows::new(alloc);
     for insn in insns {
         copy.push(copy_insn(alloc, insn)?)?;
+    }
+    Ok(copy)
+}
+
+/// A copy of the instructions of some methods.
+pub fn copy_code(alloc: Global, code: &[Rows<Insn>]) -> Result<Rows<Rows<Insn>>, AllocError>
+    ensures { IfOk result (λ copy. copy ≡ code.now) }
+{
+    let mut copy = Rows::new(alloc);
+    for insns in code {
+        copy.push(copy_insns(alloc, insns.as_slice())?)?;
     }
     Ok(copy)
 }

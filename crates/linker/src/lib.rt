@@ -10,4 +10,4 @@ mod methods;
 
 pub use budget::MOST_COPIED;
 pub use error::LinkError;
-pub use linking::link;
+pub use linking::{link, link_owned};

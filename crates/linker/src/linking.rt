@@ -8,6 +8,7 @@ ghost use Rattle.jvm_types.specs.ProgramInvariant.{IsProgram};
 ghost use Rattle.linker.specs.Linking.{IsLinkErrorOf, copied_bytes};
 
 use crate::budget::MOST_COPIED;
+use crate::copies::copy_code;
 use crate::error::LinkError;
 use crate::layout::lay_out;
 use crate::methods::link_methods;
@@ -24,14 +25,14 @@ use std::alloc::Global;
 fn link_passes(
     alloc: Global,
     scope: &Scope<'_>,
-    code: &Rows<Rows<Insn>>,
+    code: Rows<Rows<Insn>>,
     heap: u32,
     workers: u8,
 ) -> Result<Program, LinkError>
-    requires { IsLinkable scope.now code.now heap workers }
-    ensures ok { IfOk result (λ p. IsLinked scope.now code.now heap workers p) }
+    requires { IsLinkable scope.now code heap workers }
+    ensures ok { IfOk result (λ p. IsLinked scope.now code heap workers p) }
     ensures copied { IfOk result (λ p. sum_by copied_bytes p.methods ≤ MOST_COPIED) }
-    ensures refused { IfErr result (λ e. IsLinkErrorOf (link_fault scope.now code.now heap workers) e) }
+    ensures refused { IfErr result (λ e. IsLinkErrorOf (link_fault scope.now code heap workers) e) }
 {
     class_pass(scope)?;
     member_pass(scope)?;
@@ -52,24 +53,43 @@ fn link_passes(
 fn link_scoped(
     alloc: Global,
     scope: &Scope<'_>,
-    code: &Rows<Rows<Insn>>,
+    code: Rows<Rows<Insn>>,
     heap: u32,
     workers: u8,
 ) -> Result<Program, LinkError>
-    requires { IsLinkable scope.now code.now heap workers }
-    ensures ok { IfOk result (λ p. IsLinked scope.now code.now heap workers p) }
+    requires { IsLinkable scope.now code heap workers }
+    ensures ok { IfOk result (λ p. IsLinked scope.now code heap workers p) }
     ensures program { IfOk result (λ p. IsProgram p) }
     ensures copied { IfOk result (λ p. sum_by copied_bytes p.methods ≤ MOST_COPIED) }
-    ensures refused { IfErr result (λ e. IsLinkErrorOf (link_fault scope.now code.now heap workers) e) }
+    ensures refused { IfErr result (λ e. IsLinkErrorOf (link_fault scope.now code heap workers) e) }
 {
     let program = link_passes(alloc, scope, code, heap, workers)?;
     linked_is_program();
     Ok(program)
 }
 
-/// The program of some files, whose methods have the instructions of `code`, in order of files and methods: names are
+/// The program of some files, whose methods take over the instructions of `code`, in order of files and methods: names are
 /// numbers, and each field has its place (JVMS 5.4). The first rule of L1 to L9 that refuses the files is answered, with its
 /// place.
+pub fn link_owned(
+    alloc: Global,
+    files: &Rows<ClassFile>,
+    code: Rows<Rows<Insn>>,
+    heap: u32,
+    workers: u8,
+) -> Result<Program, LinkError>
+    requires { IsLinkable files.now code heap workers }
+    ensures ok { IfOk result (λ p. IsLinked files.now code heap workers p) }
+    ensures program { IfOk result (λ p. IsProgram p) }
+    // What a program copies of texts and types is bounded.
+    ensures copied { IfOk result (λ p. sum_by copied_bytes p.methods ≤ MOST_COPIED) }
+    ensures refused { IfErr result (λ e. IsLinkErrorOf (link_fault files.now code heap workers) e) }
+{
+    let scope = Scope::of(alloc, files)?;
+    link_scoped(alloc, &scope, code, heap, workers)
+}
+
+/// The same with a copy of the instructions.
 pub fn link(
     alloc: Global,
     files: &Rows<ClassFile>,
@@ -84,6 +104,6 @@ pub fn link(
     ensures copied { IfOk result (λ p. sum_by copied_bytes p.methods ≤ MOST_COPIED) }
     ensures refused { IfErr result (λ e. IsLinkErrorOf (link_fault files.now code.now heap workers) e) }
 {
-    let scope = Scope::of(alloc, files)?;
-    link_scoped(alloc, &scope, code, heap, workers)
+    let copy = copy_code(alloc, code.as_slice())?;
+    link_owned(alloc, files, copy, heap, workers)
 }

@@ -13,7 +13,6 @@ ghost use Rattle.descriptors.specs.Signatures.{meaning};
 ghost use Rattle.linker.specs.Linking.{IsLinkErrorOf, Gives, Links, AreLinked, use_faults, method_of, copied_bytes};
 
 use crate::budget::{Budget, MOST_COPIED};
-use crate::copies::copy_insns;
 use crate::error::LinkError;
 use descriptors::Signature;
 use jvm_types::{
@@ -21,6 +20,7 @@ use jvm_types::{
 };
 use link_rules::{Fault, catch_class, target_of};
 use link_scope::{FileScope, Scope};
+use lists::Stack;
 use std::alloc::{AllocError, Global};
 
 /// The Code attribute of a method (JVMS 4.7.3).
@@ -131,22 +131,22 @@ fn signature_of(
     }
 }
 
-/// A method of a file with its instructions.
+/// A method of a file, which takes over its instructions.
 fn link_method(
     alloc: Global,
     file: &FileScope<'_, '_>,
     number: u16,
     method: &Member,
-    insns: &[Insn],
+    insns: Rows<Insn>,
     budget: &mut Budget,
 ) -> Result<MethodInfo, LinkError>
     requires { IsMethod file.now.class.constants method.now }
-    ensures linked { Links (uses_fault (scope_of file.now.files) (method_of file.now number method.now, insns.now))
-        (linked_method (scope_of file.now.files) (method_of file.now number method.now) insns.now) result }
+    ensures linked { Links (uses_fault (scope_of file.now.files) (method_of file.now number method.now, insns))
+        (linked_method (scope_of file.now.files) (method_of file.now number method.now) insns) result }
     ensures copied { IfOk result (λ m. copied_bytes m + budget.new.left ≡ budget.old.left) }
 {
     let code = own_code(method);
-    let targets = resolve_targets(alloc, file, number, method, insns)?;
+    let targets = resolve_targets(alloc, file, number, method, insns.as_slice())?;
     let rows = resolve_rows(alloc, file, number, method, code.rows.as_slice())?;
     let name = budget.copy_text(alloc, file.text(method.name))?;
     let descriptor = budget.copy_text(alloc, file.text(method.descriptor))?;
@@ -160,30 +160,30 @@ fn link_method(
         result: types.result,
         max_stack: code.max_stack,
         max_locals: code.max_locals,
-        code: copy_insns(alloc, insns)?,
+        code: insns,
         targets,
         rows,
     })
 }
 
-/// Adds a method of a file. `code` has the instructions of all methods, first those of the methods that are there.
+/// Adds a method of a file, with the first instructions of `code`.
 fn link_member(
     alloc: Global,
     file: &FileScope<'_, '_>,
     number: u16,
     method: &Member,
-    code: &Rows<Rows<Insn>>,
+    code: &mut Stack<Rows<Insn>>,
     methods: &mut Rows<MethodInfo>,
     budget: &mut Budget,
 ) -> Result<(), LinkError>
     requires { IsMethod file.now.class.constants method.now }
-    ensures linked { OnOk result (AreLinked (scope_of file.now.files) (method_of file.now number method.now ∷ []) code.now methods.old methods.new) }
-    ensures refused { IfErr result (IsLinkErrorOf (use_faults (scope_of file.now.files) (method_of file.now number method.now ∷ []) (drop (length methods.old) code.now))) }
+    ensures linked { OnOk result (AreLinked (scope_of file.now.files) (method_of file.now number method.now ∷ []) code.old code.new methods.old methods.new) }
+    ensures refused { IfErr result (IsLinkErrorOf (use_faults (scope_of file.now.files) (method_of file.now number method.now ∷ []) code.old)) }
     ensures copied { OnOk result (sum_by copied_bytes methods.new + budget.new.left ≡ sum_by copied_bytes methods.old + budget.old.left) }
 {
-    match code.get(methods.len()) {
+    match code.pop() {
         Some(insns) => {
-            let linked = link_method(alloc, file, number, method, insns.as_slice(), budget)?;
+            let linked = link_method(alloc, file, number, method, insns, budget)?;
             methods.push(linked)?;
             Ok(())
         }
@@ -191,18 +191,18 @@ fn link_member(
     }
 }
 
-/// Adds the methods of a file.
+/// Adds the methods of a file, each with the next instructions of `code`.
 #[tactic(auto, using(crate::proofs::Coding::method_at, crate::proofs::Coding::number_at))]
 fn link_class(
     alloc: Global,
     file: &FileScope<'_, '_>,
-    code: &Rows<Rows<Insn>>,
+    code: &mut Stack<Rows<Insn>>,
     methods: &mut Rows<MethodInfo>,
     budget: &mut Budget,
 ) -> Result<(), LinkError>
-    ensures linked { OnOk result (AreLinked (scope_of file.now.files) (declared_from file.now.number file.now.class.constants 0 file.now.class.methods) code.now methods.old methods.new) }
+    ensures linked { OnOk result (AreLinked (scope_of file.now.files) (declared_from file.now.number file.now.class.constants 0 file.now.class.methods) code.old code.new methods.old methods.new) }
     ensures refused { IfErr result (IsLinkErrorOf (use_faults (scope_of file.now.files)
-        (declared_from file.now.number file.now.class.constants 0 file.now.class.methods) (drop (length methods.old) code.now))) }
+        (declared_from file.now.number file.now.class.constants 0 file.now.class.methods) code.old)) }
     ensures copied { OnOk result (sum_by copied_bytes methods.new + budget.new.left ≡ sum_by copied_bytes methods.old + budget.old.left) }
 {
     let members = file.class().methods.as_slice();
@@ -217,17 +217,18 @@ fn link_class(
 pub fn link_methods(
     alloc: Global,
     scope: &Scope<'_>,
-    code: &Rows<Rows<Insn>>,
+    code: Rows<Rows<Insn>>,
 ) -> Result<Rows<MethodInfo>, LinkError>
-    ensures linked { Links (use_pass scope.now code.now) (linked_methods (scope_of scope.now) (coded_methods scope.now code.now)) result }
+    ensures linked { Links (use_pass scope.now code) (linked_methods (scope_of scope.now) (coded_methods scope.now code)) result }
     ensures copied { IfOk result (λ methods. sum_by copied_bytes methods ≤ MOST_COPIED) }
 {
     let mut methods = Rows::new(alloc);
+    let mut left = Stack::first_on_top(code);
     let mut budget = Budget { left: MOST_COPIED };
     let files = scope.files().as_slice();
     for (number, class) in files.iter().enumerate() {
         let file = scope.file(number, class);
-        link_class(alloc, &file, code, &mut methods, &mut budget)?;
+        link_class(alloc, &file, &mut left, &mut methods, &mut budget)?;
     }
     Ok(methods)
 }

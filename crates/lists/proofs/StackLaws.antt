@@ -1,7 +1,7 @@
 -- Stacks, which are kept with the top last and seen with the top first.
 use Rattle.std.proofs.Common.{◌≡◌, ◌⊎◌, inl, inr, ℕ, suc, ◌-◌, ◌<◌, ◌≤◌, List, [], ◌∷◌, ◌++◌, length, reverse, take, drop, Option, Some, None, MatchOption, refl, sym, ap, ◌∙◌, arith}
 use Rattle.std.specs.Prelude.{slice_get, slice_set}
-use Rattle.std.proofs.lemmas.List.{reverse-append, length-reverse, length-drop, take-append-drop, drop_at, drop_all, get_or-reverse, set-append_left}
+use Rattle.std.proofs.lemmas.List.{reverse-append, reverse-reverse, length-reverse, length-drop, take-append-drop, drop_at, drop_all, get_or-reverse, set-append_left}
 use Rattle.std.proofs.Math.Seq.{set-append_seam}
 use Rattle.std.proofs.lemmas.Option.{slice_get-get_or, slice_get_past}
 use Rattle.std.proofs.lemmas.Bool.{cases_lt}
@@ -13,6 +13,10 @@ reverse_cons x xs = reverse-append (x ∷ []) xs
 pub top_first_none : {A : Type 0} → top_first {A = A} [] ≡ []
 unfolding top_first
 top_first_none = refl
+
+pub first_on_top : {A : Type 0} (xs : List A) → top_first (reverse xs) ≡ xs
+unfolding top_first
+first_on_top xs = reverse-reverse xs
 
 pub top_first_push : {A : Type 0} (xs : List A) (x : A) → top_first (xs ++ x ∷ []) ≡ x ∷ top_first xs
 unfolding top_first

@@ -38,6 +38,16 @@ impl<T> Stack<T> {
         }
     }
 
+    /// The items of a list, with its first on the top.
+    #[tactic(auto, using(crate::proofs::StackLaws::first_on_top))]
+    pub fn first_on_top(items: Rows<T>) -> Self
+        ensures { result ≡ items }
+    {
+        let mut items = items;
+        items.reverse();
+        Stack { items }
+    }
+
     /// How many items there are.
     #[tactic(auto, using(crate::proofs::StackLaws::length_top_first))]
     pub fn len(&self) -> usize

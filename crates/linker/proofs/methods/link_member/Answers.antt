@@ -13,20 +13,17 @@ use Rattle.linker.proofs.methods.link_member.Goals as goal
 
 pub returns-in_err-linked-in-Some-clause-refused : goal.returns-in_err-linked-in-Some-clause-refused
 returns-in_err-linked-in-Some-clause-refused c =
-    let insns : slice_get c.args.code.now (length c.args.methods.now) ≡ Some c.as_slice.result.now =
-    ap (slice_get c.args.code.now) (sym c.len.ensures) ∙ sym c.in-Some.ensures.value ∙ ap (λ (x : List Insn). Some x) (sym c.as_slice.ensures) in
     let p = err_from_is_err_and c.from_residual.result c.from_residual.ensures.1 in
-    rw (p.1, p.2)
+    rw (p.1, p.2, c.in-Some.ensures)
     (subst (λ (o : Option LinkFault). IsLinkErrorOf o c.in_err-linked-in-Some.field-0.0)
-    (sym (fault_at (scope_of c.args.file.now.files) (method_of c.args.file.now c.args.number c.args.method.now) c.args.code.now (length c.args.methods.now) c.as_slice.result.now insns))
+    (sym (fault_at (scope_of c.args.file.now.files) (method_of c.args.file.now c.args.number c.args.method.now) c.in-Some.insns c.pop.new.self))
     c.in_err-linked-in-Some.ensures.linked)
 
 pub returns-in_ok-push-in-Some-clause-linked : goal.returns-in_ok-push-in-Some-clause-linked
 returns-in_ok-push-in-Some-clause-linked c =
-    let insns : slice_get c.args.code.now (length c.args.methods.now) ≡ Some c.as_slice.result.now =
-    ap (slice_get c.args.code.now) (sym c.len.ensures) ∙ sym c.in-Some.ensures.value ∙ ap (λ (x : List Insn). Some x) (sym c.as_slice.ensures) in
-    one_at (scope_of c.args.file.now.files) (method_of c.args.file.now c.args.number c.args.method.now) c.args.code.now c.args.methods.now c.push.new.self c.as_slice.result.now c.in_ok-linked-in-Some.linked insns
-    c.in_ok-linked-in-Some.ensures.linked.0 c.in_ok-linked-in-Some.ensures.linked.1 c.in_ok-push-in-Some.ensures.ok
+    rw c.in-Some.ensures
+    (one_at (scope_of c.args.file.now.files) (method_of c.args.file.now c.args.number c.args.method.now) c.pop.new.self c.args.methods.now c.push.new.self c.in-Some.insns c.in_ok-linked-in-Some.linked
+    c.in_ok-linked-in-Some.ensures.linked.0 c.in_ok-linked-in-Some.ensures.linked.1 c.in_ok-push-in-Some.ensures.ok)
 
 pub returns-in_ok-push-in-Some-clause-copied : goal.returns-in_ok-push-in-Some-clause-copied
 returns-in_ok-push-in-Some-clause-copied c =
@@ -36,5 +33,5 @@ returns-in_ok-push-in-Some-clause-copied c =
 
 pub returns-in-None-clause-linked : goal.returns-in-None-clause-linked
 returns-in-None-clause-linked c =
-    none_at (scope_of c.args.file.now.files) (method_of c.args.file.now c.args.number c.args.method.now) c.args.code.now c.args.methods.now
-    (ap (slice_get c.args.code.now) (sym c.len.ensures) ∙ sym c.in-None.ensures.value)
+    rw (c.in-None.ensures.0, c.in-None.ensures.1)
+    (none_at (scope_of c.args.file.now.files) (method_of c.args.file.now c.args.number c.args.method.now) c.args.methods.now)

@@ -16,8 +16,8 @@ loop-number-preserved c =
     let behind : List Declared = declared_by (λ d. d.methods) (i + 1) (drop (i + 1) files) in
     let linked = rw c.file-file.ensures at c.in_ok-link_class.ensures.linked in
     record {
-      left = turn_left (scope_of files) _ here behind c.args.code.now split c.loop-number.methods c.link_class.new.methods linked _ c.loop-number.invariant.left;
-      made = turn_made (scope_of files) _ here behind c.args.code.now split c.loop-number.methods c.link_class.new.methods linked _ c.loop-number.invariant.made;
+      left = turn_left (scope_of files) _ here behind c.loop-number.left split c.loop-number.methods c.link_class.new.code c.link_class.new.methods linked _ c.loop-number.invariant.left;
+      made = turn_made (scope_of files) _ here behind c.loop-number.left split c.loop-number.methods c.link_class.new.code c.link_class.new.methods linked _ c.loop-number.invariant.made;
       copied = omega (arith, c.in_ok-link_class.ensures.copied, c.loop-number.invariant.copied);
     }
 
@@ -25,6 +25,6 @@ pub returns-in_err-link_class-clause-linked : goal.returns-in_err-link_class-cla
 returns-in_err-link_class-clause-linked c =
     let p = err_from_is_err_and c.from_residual.result c.from_residual.ensures.1 in
     rw (p.1, p.2)
-    (turn_refused (scope_of c.args.scope.now) _ (declared_from c.loop-number.number c.index-files-number.result.constants 0 c.index-files-number.result.methods) _ c.args.code.now
+    (turn_refused (scope_of c.args.scope.now) _ (declared_from c.loop-number.number c.index-files-number.result.constants 0 c.index-files-number.result.methods) _ c.loop-number.left
     (class_split c.args.scope.now _ c.loop-number.number c.index-files-number.result (c.as_slice-files.ensures ∙ c.files.ensures.value) c.loop-number-test.true c.index-files-number.is) c.loop-number.methods
     c.in_err-link_class.field-0.0 (rw c.file-file.ensures at c.in_err-link_class.ensures.refused) _ c.loop-number.invariant.left)
