@@ -1,4 +1,3 @@
-pub mod ByTicket
 pub mod FilesRead
 pub mod MethodsDecoded
 pub mod MethodsFound

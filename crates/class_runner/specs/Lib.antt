@@ -1,6 +1,4 @@
-pub mod Report
-pub mod MarksText
-pub mod Refusal
+pub mod ErrorText
 pub mod Loading
 pub mod LoadingLaws
 pub mod Stages

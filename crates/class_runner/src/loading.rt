@@ -7,12 +7,12 @@ ghost use Rattle.class_runner.specs.Loading.{IsLoaded, IsAccepted, IsNotLoaded};
 use crate::linking::link_files;
 use crate::reading::read_files;
 use crate::tagging::tag_files;
-use crate::texts::RefusalText;
 use crate::verifying::verify_files;
 use checked_program::Checked;
 use guard_analysis::mark;
 use jvm_types::limits::{LEAST_HEAP, MOST_FILES, MOST_HEAP, MOST_WORKERS};
 use jvm_types::{Bytes, Place, Rows, Rule};
+use run_texts::RefusalText;
 use std::alloc::{AllocError, Global};
 use std::fmt;
 use thiserror::Error;
@@ -39,7 +39,7 @@ impl From<AllocError> for FileError {
 
 impl fmt::Display for FileError {
     ghost use Rattle.std.specs.Prelude.{Some};
-    ghost use Rattle.class_runner.specs.Refusal.{error_text};
+    ghost use Rattle.class_runner.specs.ErrorText.{error_text};
 
     ghost output = { λ e. Some (error_text e) };
 

@@ -8,7 +8,7 @@ use Rattle.jvm_types.specs.declared.refusal.Place.{Place}
 use Rattle.host_io.specs.Faults.{CountsFault}
 use Rattle.checked_program.specs.MarkedProgram.{MarkedProgram}
 use Rattle.class_runner.specs.Loading.{IsLoaded, IsRefusedBy}
-use Rattle.class_runner.specs.Refusal.{refusal_text}
+use Rattle.run_texts.specs.Refusal.{refusal_text}
 use Rattle.solero.specs.Command.{Asked}
 use Rattle.solero.specs.Answer.{IsDue, IsMade, Refuses, first_long}
 use Rattle.jvm_types.specs.declared.limits.TheConstants.{MOST_FILE_BYTES}

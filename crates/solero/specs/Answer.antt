@@ -12,9 +12,9 @@ use Rattle.jvm_types.specs.declared.refusal.Place.{Place}
 use Rattle.machine_types.specs.Core.{Happening, core, outcome}
 use Rattle.machine_types.specs.Faithful.{IsFaithful, IsOver}
 use Rattle.machine_types.specs.Schedules.{IsScheduleOf}
-use Rattle.class_runner.specs.Report.{line, report_text}
-use Rattle.class_runner.specs.Refusal.{refusal_text}
-use Rattle.class_runner.specs.MarksText.{marks_text}
+use Rattle.run_texts.specs.Report.{line, report_text}
+use Rattle.run_texts.specs.Refusal.{refusal_text}
+use Rattle.run_texts.specs.MarksText.{marks_text}
 use Rattle.class_runner.specs.Loading.{IsAccepted, IsLoaded, IsRefusedBy}
 use Rattle.solero.specs.Command.{Asked}
 use Rattle.solero.specs.Finish.{finish_of}

@@ -5,9 +5,9 @@ use Rattle.checked_program.specs.MarkedProgram.{MarkedProgram}
 use Rattle.jvm_types.specs.LinkFaults.{in_file}
 use Rattle.jvm_types.specs.declared.refusal.Rule.TheVariants as rules
 use Rattle.jvm_types.specs.declared.refusal.CRule.TheVariants.{C10}
-use Rattle.class_runner.specs.Report.{line}
-use Rattle.class_runner.specs.Refusal.{refusal_text}
-use Rattle.class_runner.specs.MarksText.{marks_text}
+use Rattle.run_texts.specs.Report.{line}
+use Rattle.run_texts.specs.Refusal.{refusal_text}
+use Rattle.run_texts.specs.MarksText.{marks_text}
 use Rattle.solero.specs.Command.{Asked}
 use Rattle.solero.specs.Answer.{IsMade, Refuses, ReportsRun}
 use Rattle.jvm_types.specs.declared.limits.TheConstants.{MOST_FILE_BYTES}

@@ -1,5 +1,5 @@
 ghost use Rattle.std.specs.Prelude.{◌≡◌, IfOk};
-ghost use Rattle.class_runner.specs.Refusal.{refusal_text};
+ghost use Rattle.run_texts.specs.Refusal.{refusal_text};
 ghost use Rattle.solero.specs.Answer.{status_of, text_of};
 ghost use Rattle.solero.specs.Parts.{IsLine, IsUnreadDue, unread_line};
 ghost use Rattle.host_io.specs.declared.shelf.ShelfError.TheVariants.{Failed, TooLong};

@@ -8,7 +8,7 @@ use Rattle.jvm_types.specs.declared.program.Program.{Program}
 use Rattle.checked_program.specs.declared.section.SectionMark.{SectionMark}
 use Rattle.checked_program.specs.declared.section.Spot.{Spot}
 use Rattle.checked_program.specs.declared.section.Spot.TheVariants.{Method, Block}
-use Rattle.class_runner.specs.Report.{line}
+use Rattle.run_texts.specs.Report.{line}
 
 -- a synchronized method's own section, or the block that begins at a pc
 abbrev pub spot_text : Spot → List ℕ

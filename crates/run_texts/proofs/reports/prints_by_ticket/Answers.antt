@@ -1,8 +1,8 @@
 use Rattle.std.proofs.Common.{◌∙◌, ap, rules}
 use Rattle.std.proofs.lemmas.List.Sorted.{answers_always}
-use Rattle.class_runner.specs.Report.{by_ticket}
-use Rattle.class_runner.proofs.ByTicket.{sorted_is_by_ticket}
-use Rattle.class_runner.proofs.texts.prints_by_ticket.Goals as goal
+use Rattle.run_texts.specs.Report.{by_ticket}
+use Rattle.run_texts.proofs.ByTicket.{sorted_is_by_ticket}
+use Rattle.run_texts.proofs.reports.prints_by_ticket.Goals as goal
 
 pub returns : goal.returns
 returns c =

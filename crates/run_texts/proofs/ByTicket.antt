@@ -7,7 +7,7 @@ use Rattle.std.specs.Ordering.{nat_cmp, is_lt}
 use Rattle.std.proofs.lemmas.List.Sorted.{IsNonDecreasingBy-from_sort}
 use Rattle.std.proofs.lemmas.Bool.Decides.{nat_tests}
 use Rattle.jvm_types.specs.declared.outcome.Print.{Print}
-use Rattle.class_runner.specs.Report.{put, by_ticket}
+use Rattle.run_texts.specs.Report.{put, by_ticket}
 
 -- a print has this ticket
 abbrev has : ℕ → Print → Bool

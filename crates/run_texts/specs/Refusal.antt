@@ -1,7 +1,7 @@
 -- The line of a refusal: `refused RULE file I at A`, with ` method J` before ` at` where the place is in a method.
 use Rattle.std.specs.Prelude.{ℕ, ◌==◌, List, ◌++◌, codes, if◌then◌else◌}
 use Rattle.std.specs.Fmt.{decimal}
-use Rattle.class_runner.specs.Report.{line}
+use Rattle.run_texts.specs.Report.{line}
 use Rattle.jvm_types.specs.declared.refusal.Rule.{Rule}
 use Rattle.jvm_types.specs.declared.refusal.Rule.TheVariants as rules
 use Rattle.jvm_types.specs.declared.refusal.CRule.{CRule}
@@ -16,8 +16,6 @@ use Rattle.jvm_types.specs.declared.refusal.SRule.{SRule}
 use Rattle.jvm_types.specs.declared.refusal.SRule.TheVariants.{S1, S2, S3, S4}
 use Rattle.jvm_types.specs.declared.refusal.Place.{Place}
 use Rattle.jvm_types.specs.declared.refusal.TheConstants.{NO_METHOD}
-use Rattle.class_runner.specs.declared.loading.FileError.{FileError}
-use Rattle.class_runner.specs.declared.loading.FileError.TheVariants as errors
 
 abbrev pub c_number : CRule → ℕ
 c_number C1 = 1
@@ -81,8 +79,3 @@ refusal_words rule place = codes "refused " ++ rule_text rule ++ codes " file " 
 
 abbrev pub refusal_text : Rule → Place → List ℕ
 refusal_text rule place = line (refusal_words rule place)
-
--- why files were not loaded
-abbrev pub error_text : FileError → List ℕ
-error_text errors.Memory = codes "out of memory"
-error_text (errors.Refused rule place) = refusal_words rule place

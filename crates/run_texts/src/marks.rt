@@ -1,7 +1,7 @@
 //! The marks of a program as text.
 
 ghost use Rattle.std.specs.Prelude.{◌≡◌, ◌++◌, slice_get, IfOk, OnOk, string_bytes};
-ghost use Rattle.class_runner.specs.MarksText.{class_text, mark_line, marks_text, mark_words, method_words};
+ghost use Rattle.run_texts.specs.MarksText.{class_text, mark_line, marks_text, mark_words, method_words};
 
 use checked_program::{Checked, SectionMark, Spot};
 use jvm_types::class_numbers::FIRST_FILE_CLASS;
@@ -83,7 +83,7 @@ struct SpotText(Spot);
 
 impl fmt::Display for SpotText {
     ghost use Rattle.std.specs.Prelude.{Some};
-    ghost use Rattle.class_runner.specs.MarksText.{spot_text};
+    ghost use Rattle.run_texts.specs.MarksText.{spot_text};
 
     ghost output = { λ s. Some (spot_text s.0) };
 
