@@ -15,6 +15,3 @@ pub use answers::answer;
 pub use asking::{ask, ask_last_exit};
 pub use leaving::exit_last;
 pub use taking::acquire;
-
-#[cfg(test)]
-mod tests;

@@ -6,4 +6,3 @@ pub mod RootLaws
 pub mod FewMethods
 pub mod HeldLaws
 pub mod StartLaws
-pub mod EmptyProgram

@@ -17,6 +17,3 @@ pub use counts::{count_elided, count_failed, count_inflated, count_instruction, 
 pub use head::StackOverflow;
 pub use phases::{fail_turn, runs};
 pub use thread_state::ThreadState;
-
-#[cfg(test)]
-mod tests;

@@ -10,6 +10,3 @@ mod names;
 pub use accesses::{is_checked, perform, read_by, wants};
 pub use effects::effect;
 pub use ints::word_of;
-
-#[cfg(test)]
-mod tests;
