@@ -21,6 +21,7 @@ use Rattle.laws_states.specs.StateLaws.{ProgramsKeepThreads, RunsHaveState, IsIn
 use Rattle.laws_threads.specs.InsideEffects.{InsideMayDo}
 use Rattle.laws_threads.specs.InsideMoves.{NoElementInside}
 use Rattle.laws_states.proofs.LockViews.{is_there, not_same}
+use Rattle.laws_states.proofs.GrowingRuns.{one_more}
 use Rattle.laws_simulation.proofs.Assembled.{got_when_set, got_other}
 use Rattle.laws_refinement.proofs.Inside.{is_inside}
 use Rattle.laws_refinement.specs.Entries.{failed_of, failed_with, failed_from, failed_here, KeepsCount, IsCounted}
@@ -97,21 +98,13 @@ module _ (may_do : InsideMayDo) (no_element : NoElementInside) (runs : RunsHaveS
   one s failed (Of u) k m = event_keeps may_do no_element c marked k.was s k.facts.structure t failed u m
   one s failed NextPart k m = record { few = m.few; kept = next_keeps c.program failed s.threads t m.kept }
 
-  last_of : (s : Core) (front : List Happening) (h : Happening) → all_happened c s (front ++ h ∷ []) ≡ happened c (all_happened c s front) h
-  last_of s [] h = refl
-  last_of s (g ∷ front) h = last_of (happened c s g) front h
-
-  last : (front : List Happening) (h : Happening) → core c cfg (front ++ h ∷ []) ≡ happened c (core c cfg front) h
-  unfolding core
-  last front h = last_of (start c cfg) front h
-
   -- behind a front of the run
   each : (front hs : List Happening) (failed : ℕ) → IsCounted (core c cfg front) t failed → IsCounted (all_happened c (core c cfg front) hs) t (failed_from c (core c cfg front) t failed hs)
   each front [] failed m = m
   each front (h ∷ hs) failed m =
       let more : ℕ = failed_with c (core c cfg front) t failed h in
       let now : IsCounted (happened c (core c cfg front) h) t more = one (core c cfg front) failed h (runs c cfg front marked width parts) m in
-      subst (λ (s : Core). IsCounted (all_happened c s hs) t (failed_from c s t more hs)) (last front h) (each (front ++ h ∷ []) hs more (subst (λ (s : Core). IsCounted s t more) (sym (last front h)) now))
+      subst (λ (s : Core). IsCounted (all_happened c s hs) t (failed_from c s t more hs)) (one_more c cfg front h) (each (front ++ h ∷ []) hs more (subst (λ (s : Core). IsCounted s t more) (sym (one_more c cfg front h)) now))
 
   counted : (hs : List Happening) → IsCounted (core c cfg hs) t (failed_here c cfg hs t)
   unfolding core failed_here

@@ -34,7 +34,7 @@ set_each P (n ∷ ns) zero v h all (suc i) = all (suc i)
 set_each P (n ∷ ns) (suc w) v h all zero = all zero
 set_each P (n ∷ ns) (suc w) v h all (suc i) = set_each P ns w v h (λ j. all (suc j)) i
 
-got_when_set : {A : Type 0} (xs : List A) (i : ℕ) (x y : A) → slice_get xs i ≡ Some x → slice_get (slice_set xs i y) i ≡ Some y
+pub got_when_set : {A : Type 0} (xs : List A) (i : ℕ) (x y : A) → slice_get xs i ≡ Some x → slice_get (slice_set xs i y) i ≡ Some y
 got_when_set [] i x y e = cc
 got_when_set (z ∷ zs) zero x y e = refl
 got_when_set (z ∷ zs) (suc i) x y e = got_when_set zs i x y e

@@ -46,6 +46,7 @@ pub mod WaitingStep
 pub mod PartWaiting
 pub mod StillBits
 pub mod EventWaiting
+pub mod GrowingRuns
 mod RootMoves
 mod DoneRoot
 mod PartsEvents

@@ -15,5 +15,6 @@ pub mod PartsStand
 pub mod StateFacts
 pub mod StateLaws
 pub mod PartsLaws
+pub mod GrowingRuns
 pub mod ChangeLaws
 pub mod RunSafety

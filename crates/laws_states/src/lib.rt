@@ -5,6 +5,7 @@
 
 pub mod change_laws;
 pub mod found_laws;
+pub mod growing_laws;
 pub mod heap_laws;
 pub mod kept_laws;
 pub mod left_laws;
@@ -20,6 +21,7 @@ pub use change_laws::{
     events_leave_others, events_respect_owners, parts_leave_words, runs_respect_owners,
 };
 pub use found_laws::heap_words_fit;
+pub use growing_laws::{one_more_happens, runs_keep_sizes, threads_stay_of_runs};
 pub use heap_laws::{events_keep_heap, next_keeps_heap, start_has_heap};
 pub use kept_laws::{
     counters_are_kept, locks_are_kept, next_keeps_counters, records_are_kept, start_counters_fit,

@@ -24,4 +24,11 @@ impl<T> Told<T> {
     {
         Told { of: PhantomData }
     }
+
+    /// Tells once more of what this one tells of.
+    pub fn again(&self) -> Told<T>
+        ensures { result.told ≡ self.now.told }
+    {
+        Told { of: PhantomData }
+    }
 }

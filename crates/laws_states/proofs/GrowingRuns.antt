@@ -1,0 +1,95 @@
+-- A run with one happening more, and that its states keep their sizes.
+use Rattle.std.proofs.Common.{◌≡◌, ℕ, zero, suc, ◌+◌, Bool, true, false, cond, List, [], ◌∷◌, ◌++◌, length, length-set, map, Option, Some, None, refl, ap, ◌∙◌}
+use Rattle.std.specs.Prelude.{slice_get, slice_set}
+use Rattle.std.proofs.lemmas.List.{length-map}
+use Rattle.std.proofs.lemmas.List.FromFn.{length-map-range_with_len}
+use Rattle.jvm_types.specs.declared.program.Program.{Program}
+use Rattle.checked_program.specs.MarkedProgram.{MarkedProgram}
+use Rattle.machine_types.specs.Accesses.{performed, words_after}
+use Rattle.machine_types.specs.declared.access.Access.{Access}
+use Rattle.machine_types.specs.declared.access.Access.TheVariants.{Load, Store, Cas, Add, Or, And, Rest}
+use Rattle.machine_types.specs.Core.{Core, Happening, Of, NextPart, all_happened, core, event, event_of, happened, may_begin, next_threads, part_begins, start, start_thread, with_roots}
+use Rattle.machine_types.specs.Events.{wanted}
+use Rattle.machine_types.specs.Parts.{run_roots}
+use Rattle.machine_types.specs.Threads.{Thread}
+use Rattle.machine_types.specs.declared.config.Config.{Config}
+use Rattle.laws_states.specs.GrowingRuns.{OneMoreHappens, RunsKeepSizes, HasSizes, IsOfRun, behind, ThreadsStayOfRuns}
+use Rattle.laws_states.proofs.EventFacts.{got_when_set}
+
+-- ---- one happening more
+
+last_of : (c : MarkedProgram) (s : Core) (front : List Happening) (h : Happening) → all_happened c s (front ++ h ∷ []) ≡ happened c (all_happened c s front) h
+last_of c s [] h = refl
+last_of c s (g ∷ front) h = last_of c (happened c s g) front h
+
+pub one_more : OneMoreHappens
+unfolding core
+one_more c cfg front h = last_of c (start c cfg) front h
+
+-- what an event of a thread of a state leaves
+pub event_is : (c : MarkedProgram) (s : Core) (t : ℕ) (x : Thread) → slice_get s.threads t ≡ Some x → event c s t ≡ record { words = words_after s.words (wanted c x x.phase); threads = slice_set s.threads t (behind c s.words x) }
+event_is c s t x e = ap (event_of c s t) e
+
+pub threads_stay : ThreadsStayOfRuns
+threads_stay c cfg hs t x at =
+    (hs ++ Of t ∷ [], ap (λ (s : Core). slice_get s.threads t) (one_more c cfg hs (Of t) ∙ event_is c (core c cfg hs) t x at) ∙ got_when_set (core c cfg hs).threads t x (behind c (core c cfg hs).words x) at)
+
+-- ---- words
+
+performed_long : (words : List ℕ) (a : Access) → length (performed words a) ≡ length words
+performed_long words Rest = refl
+performed_long words (Load w) = length-set words w _
+performed_long words (Store w v) = length-set words w _
+performed_long words (Cas w is v) = length-set words w _
+performed_long words (Add w v) = length-set words w _
+performed_long words (Or w v) = length-set words w _
+performed_long words (And w v) = length-set words w _
+
+after_long : (words : List ℕ) (o : Option Access) → length (words_after words o) ≡ length words
+after_long words None = refl
+after_long words (Some a) = performed_long words a
+
+event_words : (c : MarkedProgram) (s : Core) (t : ℕ) (o : Option Thread) → length (event_of c s t o).words ≡ length s.words
+event_words c s t None = refl
+event_words c s t (Some x) = after_long s.words (wanted c x x.phase)
+
+happened_words : (c : MarkedProgram) (s : Core) (h : Happening) → length (happened c s h).words ≡ length s.words
+happened_words c s (Of t) = event_words c s t (slice_get s.threads t)
+happened_words c s NextPart = refl
+
+all_words : (c : MarkedProgram) (s : Core) (hs : List Happening) → length (all_happened c s hs).words ≡ length s.words
+all_words c s [] = refl
+all_words c s (h ∷ hs) = all_words c (happened c s h) hs ∙ happened_words c s h
+
+-- ---- threads
+
+event_threads : (c : MarkedProgram) (s : Core) (t : ℕ) (o : Option Thread) → length (event_of c s t o).threads ≡ length s.threads
+event_threads c s t None = refl
+event_threads c s t (Some x) = length-set s.threads t _
+
+begins_long : (p : Program) (part : ℕ) (x : Thread) (workers : List Thread) → length (part_begins p part x workers) ≡ length (x ∷ workers)
+begins_long p zero x workers = ap suc (length-map workers (with_roots (run_roots p)))
+begins_long p (suc part) x workers = refl
+
+pub next_long : (p : Program) (threads : List Thread) → length (next_threads p threads) ≡ length threads
+next_long p [] = refl
+next_long p (x ∷ workers) = by_test (may_begin (x ∷ workers))
+  where
+    by_test : (b : Bool) → length (cond b (part_begins p x.part x workers) (x ∷ workers)) ≡ length (x ∷ workers)
+    by_test true = begins_long p x.part x workers
+    by_test false = refl
+
+happened_threads : (c : MarkedProgram) (s : Core) (h : Happening) → length (happened c s h).threads ≡ length s.threads
+happened_threads c s (Of t) = event_threads c s t (slice_get s.threads t)
+happened_threads c s NextPart = next_long c.program s.threads
+
+all_threads : (c : MarkedProgram) (s : Core) (hs : List Happening) → length (all_happened c s hs).threads ≡ length s.threads
+all_threads c s [] = refl
+all_threads c s (h ∷ hs) = all_threads c (happened c s h) hs ∙ happened_threads c s h
+
+pub runs_keep_sizes : RunsKeepSizes
+unfolding core
+runs_keep_sizes c cfg hs = record {
+  words = all_words c (start c cfg) hs;
+  threads = all_threads c (start c cfg) hs ∙ length-map-range_with_len (start_thread c cfg) 0 (c.program.workers + 1);
+}
