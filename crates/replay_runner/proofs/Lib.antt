@@ -1,4 +1,3 @@
-mod StartLaws
 mod LawfulStart
 mod NextPart
 mod NextRuns

@@ -1,23 +1,23 @@
 //! The machine: the words that all threads share, and the threads.
 
 ghost use Rattle.std.specs.Prelude.{◌≡◌, ◌+◌, ◌≤◌, ◌<◌, ℕ, false, length, map, slice_get, slice_set, Some, IfOk, OnOk, OnErr};
-ghost use Rattle.std.specs.List.{list_all, range_with_len};
-ghost use Rattle.machine_types.specs.Core.{done_end, ended_by, event, is_live, lives, may_begin, may_begin_by, next, outcome, start, start_thread};
-ghost use Rattle.machine_types.specs.Parts.{has_finished, has_returned};
+ghost use Rattle.machine_types.specs.Core.{event, is_live, lives, may_begin, next, outcome, start};
 ghost use Rattle.machine_types.specs.Settings.{AreSettings};
 ghost use Rattle.jvm_types.specs.declared.limits.TheConstants.{MOST_WORKERS};
-ghost use Rattle.laws_states.specs.RunFacts.{HaveWidth};
-ghost use Rattle.replay_runner.specs.Running.{IsThreadOf, Running, own_begun, run_on};
+ghost use Rattle.run_parts.specs.Parts.{own_begun};
+ghost use Rattle.replay_runner.specs.Running.{IsThreadOf, Running, run_on};
 
-use crate::start_words::start_words;
 use checked_program::Checked;
 use frames::ThreadState;
-use jvm_types::{End, Outcome, Room, Rows, ThreadReport};
+use jvm_types::{Outcome, Room, Rows, ThreadReport};
 use laws_states::{
     reached_fits, run_facts_event, run_facts_next, run_facts_start, threads_are_kept,
 };
 use lists::Told;
 use machine_types::Config;
+use run_parts::{
+    done_end, have_finished, have_width, may_begin, shares_are_next, start_threads, start_words,
+};
 use std::alloc::{AllocError, Global};
 use std::marker::Model;
 use step_core::event;
@@ -43,60 +43,6 @@ impl Model for Machine {
     ghost view = { λ m. record { program = m.program.told; cfg = m.cfg; core = record { words = m.words; threads = m.threads.items } } };
 
     ghost invariant = { λ m. AreRunning (record { program = m.program.told; cfg = m.cfg; core = record { words = m.words; threads = m.threads.items } }) × (m.reports.items ≡ []) × (length m.threads.items ≤ m.reports.spare) };
-}
-
-/// Tells that the limits are numbers of 32 bits.
-pub fn have_width(_cfg: Config)
-    ensures { HaveWidth _cfg }
-{}
-
-/// The threads at the start.
-fn start_threads(alloc: Global, p: &Checked, cfg: &Config) -> Result<Vec<ThreadState>, AllocError>
-    ensures { IfOk result (λ threads. threads.items ≡ map (start_thread p.now cfg.now) (range_with_len 0 (p.now.program.workers + 1))) }
-{
-    let count = p.workers() as usize + 1;
-    let mut threads = Vec::with_capacity(alloc, count)?;
-    for number in 0..count {
-        threads.push(ThreadState::start(alloc, number as u8, p, cfg)?)?;
-    }
-    Ok(threads)
-}
-
-/// Whether a thread's part has returned.
-fn has_returned(thread: &ThreadState) -> bool
-    ensures { result ≡ ended_by has_returned thread.now.phase }
-{
-    match thread.end() {
-        Some(End::Returned) => true,
-        _ => false,
-    }
-}
-
-/// Whether a thread's part has returned or was ended by an exception.
-fn has_finished(thread: &ThreadState) -> bool
-    ensures { result ≡ ended_by has_finished thread.now.phase }
-{
-    match thread.end() {
-        Some(End::Returned | End::Uncaught(_)) => true,
-        _ => false,
-    }
-}
-
-fn have_finished(workers: &[ThreadState]) -> bool
-    ensures { result ≡ list_all (λ worker. ended_by has_finished worker.phase) workers.now }
-{
-    workers.iter().all(|worker| has_finished(worker))
-}
-
-/// Whether the next part may begin, by thread 0 and the workers.
-fn may_begin(first: &ThreadState, workers: &[ThreadState]) -> bool
-    ensures { result ≡ may_begin_by first.now.part first.now.phase workers.now }
-{
-    match first.part() {
-        0 => has_returned(first),
-        1 => have_finished(workers),
-        _ => false,
-    }
 }
 
 /// Each thread takes its share of the begin of a part.
@@ -137,16 +83,6 @@ fn over(live: bool) -> Result<(), AllocError>
     ensures { OnOk result (live ≡ false) }
 {
     if live { Err(AllocError) } else { Ok(()) }
-}
-
-/// How `done` ended.
-fn done_end(threads: &[ThreadState]) -> End
-    ensures { result ≡ done_end threads.now }
-{
-    match threads {
-        [first, ..] if first.part() >= 2 => first.end().unwrap_or(End::NotRun),
-        _ => End::NotRun,
-    }
 }
 
 impl Machine {
@@ -223,7 +159,7 @@ impl Machine {
         ensures { result ≡ may_begin self.now.core.threads }
     {
         match self.threads.as_slice() {
-            [first, workers @ ..] => may_begin(first, workers),
+            [first, workers @ ..] => may_begin(first, have_finished(workers)),
             [] => false,
         }
     }
@@ -236,6 +172,7 @@ impl Machine {
     {
         let _ = p;
         run_facts_next();
+        shares_are_next();
         if !self.may_begin() {
             return false;
         }
@@ -251,7 +188,7 @@ impl Machine {
     pub fn outcome(self) -> Outcome
         ensures { result ≡ outcome self.core }
     {
-        let done = done_end(self.threads.as_slice());
+        let done = done_end(&self.threads[0]);
         let mut reports = self.reports;
         for thread in self.threads {
             reports.push(thread.into_report());
