@@ -76,4 +76,5 @@ def lines(over):
 
 
 if __name__ == "__main__":
+    measure.answer_help(__doc__)
     measure.measured(RUNS, lines)

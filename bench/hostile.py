@@ -19,7 +19,7 @@ import tempfile
 import time
 
 from loading import STATIC, ClassFile, u1, u2
-from measure import PROGRAM
+from measure import PROGRAM, answer_help
 
 LIMIT = 120
 MOST = 40 * 1024**3
@@ -148,6 +148,7 @@ FILES = (
 
 
 def main():
+    answer_help(__doc__)
     if not os.access(PROGRAM, os.X_OK):
         raise SystemExit("no built program: run ./run --proved examples/A.class first")
     words = sys.argv[1:]

@@ -159,6 +159,7 @@ def events(folder, start):
 
 
 def main():
+    measure.answer_help(__doc__)
     if not os.access(measure.PROGRAM, os.X_OK):
         raise SystemExit("no built program: run ./run --proved examples/A.class first")
     for word in ("java", "javac"):

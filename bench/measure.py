@@ -2,11 +2,19 @@
 import os
 import statistics
 import subprocess
+import sys
 import tempfile
 import time
 
 TOP = os.path.dirname(os.path.dirname(os.path.abspath(__file__)))
 PROGRAM = os.path.join(TOP, "crates", "solero", "out", "solero")
+
+
+def answer_help(text):
+    """Where a word asks for help, prints the text, and ends before anything is measured."""
+    if any(word in ("-h", "--help") for word in sys.argv[1:]):
+        print(text.strip())
+        raise SystemExit(0)
 
 
 def median_and_spread(times):
@@ -72,3 +80,7 @@ def measured(runs, measure):
         median, first, third = over.start
         print(f"start of the program: {median * 1000:.2f} ms, from {first * 1000:.2f} to {third * 1000:.2f}", flush=True)
         measure(over)
+
+
+if __name__ == "__main__":
+    answer_help(__doc__)

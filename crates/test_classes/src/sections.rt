@@ -2,7 +2,7 @@
 //! major version put to 50. They are texts of two digits for each byte.
 
 /// Class Marks, whose sections have each mark that a section's own instructions give. Its source is
-/// examples/Marks.java.
+/// java/Marks.java, beside src/.
 pub fn marks() -> &'static str {
     "\
     cafebabe0000003200550a000200030700040c000500060100106a6176612f6c616e672f4f626a6563740100\
@@ -50,7 +50,7 @@ pub fn marks() -> &'static str {
     0107003b0000"
 }
 
-/// Class Calls, whose sections call methods that change their marks. Its source is examples/Calls.java.
+/// Class Calls, whose sections call methods that change their marks. Its source is java/Calls.java.
 pub fn calls() -> &'static str {
     "\
     cafebabe00000032005c0a000200030700040c000500060100106a6176612f6c616e672f4f626a6563740100\

@@ -82,7 +82,7 @@ pub fn constants() -> &'static str {
 
 /// Class Tally, as `javac --release 8 -g:none` of a current JDK writes it, with the major version put to
 /// 50: two fields, a constructor, a synchronized method and block, a switch, and try with finally. Its
-/// source is examples/Tally.java.
+/// source is java/Tally.java, beside src/.
 pub fn tally() -> &'static str {
     "\
     cafebabe0000003200200a000200030700040c000500060100106a6176612f6c616e672f4f626a6563740100\

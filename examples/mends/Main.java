@@ -1,0 +1,9 @@
+class Main {
+    public static void main(String[] words) {
+    }
+}
+
+class MainMended {
+    public static void init() {
+    }
+}

@@ -1,0 +1,13 @@
+class Starts {
+    static void init() {
+        new Thread().start();
+    }
+}
+
+class StartsMended {
+    static void init() {
+    }
+
+    static void run(int number) {
+    }
+}
