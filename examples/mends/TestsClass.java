@@ -6,7 +6,7 @@ class TestsClass {
 }
 
 class TestsClassMended {
-    final int kind = 1;
+    int kind = 1;
 
     static void init() {
         TestsClassMended value = new TestsClassMended();
