@@ -1,11 +1,9 @@
 -- Methods that take their instructions from one list, one after another.
 use Rattle.std.proofs.Common.{◌≡◌, ℕ, zero, suc, ◌+◌, ◌<◌, ◌^◌, List, [], ◌∷◌, ◌++◌, length, get_or, drop, Option, Some, None, Result, Ok, Err, refl, sym, ap, subst, ◌∙◌, append_assoc, length-append, arith}
-use Rattle.std.proofs.Math.Seq.{drop-nil}
-use Rattle.std.specs.Prelude.{slice_get}
 use Rattle.std.specs.Option.{option_or}
 use Rattle.std.specs.Result.{result_err, result_unwrap_or}
 use Rattle.std.specs.List.{zip, AllByRecursion}
-use Rattle.std.proofs.lemmas.List.{drop-drop, at_drop_more}
+use Rattle.std.proofs.lemmas.List.{append-nil, drop-drop, at_drop_more}
 use Rattle.jvm_types.specs.ClassGrammar.{IsHandler, IsMethod, IsMethodAttr}
 use Rattle.jvm_types.specs.Members.{Declared, declared_from, declared_by}
 use Rattle.jvm_types.specs.Targets.{Scope, target_of}
@@ -129,7 +127,7 @@ module _ (s : Scope) where
 
   -- where there are no instructions for a method, nothing is added
   pub none_at : (d : Declared) (ms : List MethodInfo) → AreLinked s (d ∷ []) [] [] ms ms
-  none_at d ms = record { unrefused = refl; rest = refl; added = sym (append-nil ms); }
+  none_at d ms = record { unrefused = refl; rest = refl; added = sym (append-nil ms) }
 
   pub one_at : (d : Declared) (code : List (List Insn)) (ms new : List MethodInfo) (insns : List Insn) (m : MethodInfo)
       → uses_fault s (d, insns) ≡ None → m ≡ linked_method s d insns → new ≡ ms ++ m ∷ [] → AreLinked s (d ∷ []) (insns ∷ code) code ms new

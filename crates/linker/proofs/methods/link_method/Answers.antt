@@ -8,4 +8,4 @@ use Rattle.linker.proofs.methods.link_method.Goals as goal
 
 pub resolve_rows-requires : goal.resolve_rows-requires
 resolve_rows-requires c = subst (λ (hs : List Handler). AllByRecursion (IsHandler c.args.file.now.class.constants) hs)
-    (sym (c.as_slice.ensures ∙ ap (λ (k : Code). k.rows) c.own_code-code.ensures)) (handlers_of c.args.file.now.class.constants c.args.method.now c.requires)
+    (sym (c.as_slice-2.ensures ∙ ap (λ (k : Code). k.rows) c.own_code-code.ensures)) (handlers_of c.args.file.now.class.constants c.args.method.now c.requires)
