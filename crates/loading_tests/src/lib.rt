@@ -7,13 +7,11 @@ mod files;
 pub use files::{one, two};
 
 #[cfg(test)]
-mod code_rows;
+mod graphs;
 #[cfg(test)]
 mod loading;
 #[cfg(test)]
 mod marking;
-#[cfg(test)]
-mod names;
 #[cfg(test)]
 mod reaches;
 #[cfg(test)]
@@ -23,8 +21,8 @@ mod refusals;
 #[cfg(test)]
 mod reports;
 #[cfg(test)]
-mod shared_lists;
-#[cfg(test)]
 mod tagging;
+#[cfg(test)]
+mod throwables;
 #[cfg(test)]
 mod writing;
