@@ -1,5 +1,5 @@
 -- When a part may begin, and each thread's own share of its begin.
-use Rattle.std.specs.Prelude.{◌≡◌, ◌×◌, ℕ, zero, suc, Bool, true, List, ◌∷◌, map, Some, slice_get}
+use Rattle.std.specs.Prelude.{◌≡◌, ℕ, zero, suc, Bool, true, List, ◌∷◌, map, Some, slice_get}
 use Rattle.std.specs.List.{list_all}
 use Rattle.jvm_types.specs.declared.program.Program.{Program}
 use Rattle.machine_types.specs.Core.{ended_by, may_begin, next_threads}
