@@ -1,0 +1,80 @@
+-- The threads that a view has, by their numbers, and the views of a table.
+use Rattle.std.proofs.Common.{◌≡◌, ◌≢◌, ℕ, zero, suc, ◌<◌, ◌≤◌, List, [], ◌∷◌, map, length, replicate, Option, Some, None, refl, sym, ap, ◌∙◌, arith}
+use Rattle.std.specs.Prelude.{slice_get, slice_set}
+use Rattle.std.proofs.lemmas.List.{get_or-set_same, get_or-set_other, set-get_or}
+use mathlib.Core.Option.{some, some-ne-none}
+use lib.ListN.{get_elem?}
+use Rattle.machine_types.specs.Threads.{Thread}
+use Rattle.table_rule.specs.Views.{View, held_in}
+
+-- ---- a list of threads
+
+module _ {A : Type 0} where
+  pub got_here : (xs : List A) (i : ℕ) (x y : A) → slice_get xs i ≡ Some x → slice_get (slice_set xs i y) i ≡ Some y
+  got_here [] i x y e = cc
+  got_here (z ∷ zs) zero x y e = refl
+  got_here (z ∷ zs) (suc i) x y e = got_here zs i x y e
+
+  pub got_else : (xs : List A) (i j : ℕ) (y : A) → j ≢ i → slice_get (slice_set xs i y) j ≡ slice_get xs j
+  got_else [] i j y n = refl
+  got_else (z ∷ zs) zero zero y n = absurd (n refl)
+  got_else (z ∷ zs) zero (suc j) y n = refl
+  got_else (z ∷ zs) (suc i) zero y n = refl
+  got_else (z ∷ zs) (suc i) (suc j) y n = got_else zs i j y (λ e. n (ap suc e))
+
+  pub got_within : (xs : List A) (i : ℕ) (x : A) → slice_get xs i ≡ Some x → i < length xs
+  got_within [] i x e = cc
+  got_within (y ∷ ys) zero x e = omega arith
+  got_within (y ∷ ys) (suc i) x e = let r = got_within ys i x e in omega arith
+
+  pub got_there : (xs : List A) (i : ℕ) → i < length xs → (x : A) × (slice_get xs i ≡ Some x)
+  got_there [] i lt = absurd (omega arith)
+  got_there (y ∷ ys) zero lt = (y, refl)
+  got_there (y ∷ ys) (suc i) lt = got_there ys i (omega arith)
+
+  pub view_within : (l : List A) (i : ℕ) (a : A) → get_elem? l i ≡ some a → i < length l
+  view_within [] i a e = absurd (some-ne-none a (sym e))
+  view_within (x ∷ xs) zero a e = omega arith
+  view_within (x ∷ xs) (suc i) a e = let r = view_within xs i a e in omega arith
+
+-- ---- a view
+
+pub held_within : (v : View) (t : ℕ) (x : Thread) → held_in v t ≡ Some x → t < length v
+held_within [] t x e = cc
+held_within (o ∷ v) zero x e = omega arith
+held_within (o ∷ v) (suc t) x e = let r = held_within v t x e in omega arith
+
+pub held_beyond : (v : View) (t : ℕ) → length v ≤ t → held_in v t ≡ None
+held_beyond [] t le = refl
+held_beyond (o ∷ v) zero le = absurd (omega arith)
+held_beyond (o ∷ v) (suc t) le = held_beyond v t (omega arith)
+
+-- an entry that is set
+pub held_set : (v : View) (t : ℕ) (o : Option Thread) → t < length v → held_in (slice_set v t o) t ≡ o
+held_set v t o lt = get_or-set_same v t o None lt
+
+pub held_here : (v : View) (t : ℕ) (x y : Thread) → held_in v t ≡ Some x → held_in (slice_set v t (Some y)) t ≡ Some y
+held_here v t x y e = held_set v t (Some y) (held_within v t x e)
+
+pub held_else : (v : View) (t u : ℕ) (o : Option Thread) → u ≢ t → held_in (slice_set v t o) u ≡ held_in v u
+held_else v t u o n = get_or-set_other v t u o None n
+
+-- to what it is
+pub set_held : (v : View) (t : ℕ) (o : Option Thread) → held_in v t ≡ o → slice_set v t o ≡ v
+set_held v t o e = ap (slice_set v t) (sym e) ∙ set-get_or v t None
+
+-- a view of just these threads
+pub some_held : (ts : List Thread) (t : ℕ) → held_in (map Some ts) t ≡ slice_get ts t
+some_held [] t = refl
+some_held (x ∷ xs) zero = refl
+some_held (x ∷ xs) (suc t) = some_held xs t
+
+-- and of none
+pub none_held : (n t : ℕ) → held_in (replicate n None) t ≡ None
+none_held zero t = refl
+none_held (suc n) zero = refl
+none_held (suc n) (suc t) = none_held n t
+
+pub no_two : (o : Option Thread) (x : Thread) → o ≡ None → o ≡ Some x → ⊥
+no_two None x e f = let bad : None ≡ Some x = f in absurd (cc)
+no_two (Some y) x e f = let bad : Some y ≡ None = e in absurd (cc)

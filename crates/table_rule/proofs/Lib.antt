@@ -1,0 +1,6 @@
+pub mod Entries
+pub mod Shown
+pub mod CutViews
+pub mod JoinedViews
+pub mod WholeViews
+pub mod StartViews

@@ -1,0 +1,164 @@
+-- The views of a table show a state of a run, and what an event makes of it.
+use Rattle.std.proofs.Common.{◌≡◌, ◌≢◌, ℕ, zero, suc, ◌⊎◌, inl, inr, ⊎_elim, List, [], ◌∷◌, ◌++◌, Some, None, refl, sym, ap, subst, ◌∙◌}
+use Rattle.std.specs.Prelude.{slice_get, slice_set}
+use Rattle.std.proofs.lemmas.List.{set-set}
+use mathlib.Core.Option.{some, some-injective}
+use mathlib.Core.Logic.{dite}
+use native.Mathlib.Decide.{ℕ_discrete}
+use lib.ListN.{get_elem?}
+use Rattle.atomic_table.proofs.Lists.{at_set, set_here, set_else, set_again}
+use Rattle.checked_program.specs.MarkedProgram.{MarkedProgram}
+use Rattle.machine_types.specs.Accesses.{found_by, words_after}
+use Rattle.machine_types.specs.Core.{Core, Happening, Of, core}
+use Rattle.machine_types.specs.Events.{wanted, moved}
+use Rattle.machine_types.specs.Threads.{Thread}
+use Rattle.machine_types.specs.declared.config.Config.{Config}
+use Rattle.laws_states.specs.GrowingRuns.{behind}
+use Rattle.laws_states.proofs.GrowingRuns.{event_is, one_more}
+use Rattle.table_rule.specs.Views.{View, held_in, IsHeld, AreShown, ShowsRun, StandsIn, AfterLocals, Follows}
+use Rattle.table_rule.specs.TableLaws.{EventsShow, LocalsShow}
+use Rattle.table_rule.proofs.Entries.{got_else, got_here, held_else, held_here, set_held, view_within}
+
+-- ---- the thread of a view goes on
+
+module _ (threads : List Thread) (views : List View) (id t : ℕ) (v : View) (x y : Thread)
+    (shown : AreShown threads views) (at : get_elem? views id ≡ some v) (is : held_in v t ≡ Some x) where
+  abbrev more : View
+  more = slice_set v t (Some y)
+
+  abbrev later : List View
+  later = slice_set views id more
+
+  -- what the views had of the other threads
+  abbrev Stays : (i u : ℕ) → Thread → Type 0
+  Stays i u z = (u ≢ t) × (w : View) × (get_elem? views i ≡ some w) × (held_in w u ≡ Some z)
+
+  abbrev IsNew : (i u : ℕ) → Thread → Type 0
+  IsNew i u z = (i ≡ id) × (u ≡ t) × (z ≡ y)
+
+  held_now : held_in more t ≡ Some y
+  held_now = held_here v t x y is
+
+  in_changed : (i u : ℕ) (z : Thread) → i ≡ id → held_in more u ≡ Some z → Stays i u z ⊎ IsNew i u z
+  in_changed i u z here h = dite (ℕ_discrete u t) same other
+    where
+      same : u ≡ t → Stays i u z ⊎ IsNew i u z
+      same e = let two : Some y ≡ Some z = sym held_now ∙ ap (held_in more) (sym e) ∙ h in let is_new : z ≡ y = cc in inr (here, e, is_new)
+
+      other : u ≢ t → Stays i u z ⊎ IsNew i u z
+      other n = inl (n, v, ap (get_elem? views) here ∙ at, sym (held_else v t u (Some y) n) ∙ h)
+
+  in_kept : (i u : ℕ) (w : View) (z : Thread) → i ≢ id → get_elem? views i ≡ some w → held_in w u ≡ Some z → Stays i u z ⊎ IsNew i u z
+  in_kept i u w z n a h = dite (ℕ_discrete u t) (λ e. absurd (n (shown.once i id t w v z x a at (ap (held_in w) (sym e) ∙ h) is))) (λ m. inl (m, w, a, h))
+
+  in_later : (i u : ℕ) (w : View) (z : Thread) → get_elem? later i ≡ some w → held_in w u ≡ Some z → Stays i u z ⊎ IsNew i u z
+  in_later i u w z a h = ⊎_elim (λ k. in_changed i u z k.0 (ap (λ (r : View). held_in r u) k.1 ∙ h)) (λ k. in_kept i u w z k.0 k.1 h) (at_set views id i more w a)
+
+  here_later : get_elem? later id ≡ some more
+  here_later = set_here views id more (view_within views id v at)
+
+  held_later : (u : ℕ) (z : Thread) → u ≢ t → IsHeld views u z → IsHeld later u z
+  held_later u z n h = dite (ℕ_discrete h.0 id) same other
+    where
+      same : h.0 ≡ id → IsHeld later u z
+      same e = let one : v ≡ h.1 = some-injective v h.1 (sym at ∙ ap (get_elem? views) (sym e) ∙ h.2) in (id, more, here_later, held_else v t u (Some y) n ∙ ap (λ (r : View). held_in r u) one ∙ h.3)
+
+      other : h.0 ≢ id → IsHeld later u z
+      other m = (h.0, h.1, set_else views id h.0 more m ∙ h.2, h.3)
+
+  pub goes_on : AreShown (slice_set threads t y) later
+  goes_on = record {
+    own = λ i u w z a h. ⊎_elim (λ k. got_else threads t u y k.0 ∙ shown.own i u k.1 z k.2 k.3) (λ k. ap (slice_get (slice_set threads t y)) k.1 ∙ got_here threads t x y (shown.own id t v x at is) ∙ ap Some (sym k.2)) (in_later i u w z a h);
+    once = λ i j u w r z q a b h k. ⊎_elim
+        (λ l. ⊎_elim (λ m. shown.once i j u l.1 m.1 z q l.2 m.2 l.3 m.3) (λ m. absurd (l.0 m.1)) (in_later j u r q b k))
+        (λ l. ⊎_elim (λ m. absurd (m.0 l.1)) (λ m. l.0 ∙ sym m.0) (in_later j u r q b k)) (in_later i u w z a h);
+    each = λ u z e. dite (ℕ_discrete u t) (λ m. is_new u z m e) (λ n. held_later u z n (shown.each u z (sym (got_else threads t u y n) ∙ e)));
+  }
+    where
+      is_new : (u : ℕ) (z : Thread) → u ≡ t → slice_get (slice_set threads t y) u ≡ Some z → IsHeld later u z
+      is_new u z m e = let two : Some y ≡ Some z = sym (got_here threads t x y (shown.own id t v x at is)) ∙ ap (slice_get (slice_set threads t y)) (sym m) ∙ e in
+          (id, more, here_later, ap (held_in more) m ∙ held_now ∙ two)
+
+-- ---- an event
+
+module _ (c : MarkedProgram) (cfg : Config) (words : List ℕ) (views : List View) (id t : ℕ) (v : View) (x : Thread)
+    (run : ShowsRun c cfg words views) (at : get_elem? views id ≡ some v) (is : held_in v t ≡ Some x) where
+  hs : List Happening
+  hs = run.happenings
+
+  abbrev next_run : List Happening
+  next_run = run.happenings ++ Of t ∷ []
+
+  stands : slice_get (core c cfg run.happenings).threads t ≡ Some x
+  stands = run.threads_are.own id t v x at is
+
+  comes : core c cfg next_run ≡ record { words = words_after (core c cfg run.happenings).words (wanted c x x.phase); threads = slice_set (core c cfg run.happenings).threads t (behind c (core c cfg run.happenings).words x) }
+  comes = one_more c cfg run.happenings (Of t) ∙ event_is c (core c cfg run.happenings) t x stands
+
+  same_words : (core c cfg run.happenings).words ≡ words
+  same_words = sym run.words_are
+
+  now : behind c (core c cfg run.happenings).words x ≡ behind c words x
+  now = ap (λ ws. behind c ws x) same_words
+
+  -- the thread is there behind the event
+  pub stands_behind : slice_get (core c cfg next_run).threads t ≡ Some (behind c words x)
+  stands_behind = ap (λ (s : Core). slice_get s.threads t) comes ∙ ap (λ y. slice_get (slice_set (core c cfg run.happenings).threads t y) t) now ∙ got_here (core c cfg run.happenings).threads t x (behind c words x) stands
+
+  pub one_event : ShowsRun c cfg (words_after words (wanted c x x.phase)) (slice_set views id (slice_set v t (Some (behind c words x))))
+  one_event = record {
+    happenings = next_run;
+    words_are = ap (λ ws. words_after ws (wanted c x x.phase)) run.words_are ∙ ap (λ (s : Core). s.words) (sym comes);
+    threads_are = subst (λ (ts : List Thread). AreShown ts (slice_set views id (slice_set v t (Some (behind c words x))))) (sym (ap (λ (s : Core). s.threads) comes ∙ ap (λ y. slice_set (core c cfg run.happenings).threads t y) now))
+        (goes_on (core c cfg run.happenings).threads views id t v x (behind c words x) run.threads_are at is);
+  }
+
+-- ---- events without an access, and then one
+
+abbrev Local : MarkedProgram → Config → List ℕ → List View → (id t : ℕ) → View → Thread → Type 0
+Local c cfg words views id t v y = ShowsRun c cfg words (slice_set views id (slice_set v t (Some y))) × StandsIn c cfg words t y
+
+-- nothing has happened yet
+none_yet : (c : MarkedProgram) (cfg : Config) (words : List ℕ) (views : List View) (id t : ℕ) (v : View) (x : Thread) → ShowsRun c cfg words views → get_elem? views id ≡ some v → held_in v t ≡ Some x → Local c cfg words views id t v x
+none_yet c cfg words views id t v x run at is =
+    let same : slice_set v t (Some x) ≡ v = set_held v t (Some x) is in
+    (subst (ShowsRun c cfg words) (sym (ap (slice_set views id) same ∙ set_again views id v at)) run, record { happenings = run.happenings; words_are = run.words_are; at = run.threads_are.own id t v x at is })
+
+many : (k : ℕ) (c : MarkedProgram) (cfg : Config) (words : List ℕ) (views : List View) (id t : ℕ) (v : View) (x y : Thread) → ShowsRun c cfg words views → get_elem? views id ≡ some v → held_in v t ≡ Some x → AfterLocals c x k y → Local c cfg words views id t v y
+many zero c cfg words views id t v x y run at is e = subst (Local c cfg words views id t v) (sym e) (none_yet c cfg words views id t v x run at is)
+many (suc k) c cfg words views id t v x y run at is e =
+    let none : wanted c x x.phase ≡ None = e.0 in
+    let z : Thread = behind c words x in
+    let same : z ≡ moved c x x.phase 0 = ap (λ o. moved c x x.phase (found_by words o)) none in
+    let w : View = slice_set v t (Some z) in
+    let still : ShowsRun c cfg words (slice_set views id w) = subst (λ o. ShowsRun c cfg (words_after words o) (slice_set views id w)) none (one_event c cfg words views id t v x run at is) in
+    let rest : Local c cfg words (slice_set views id w) id t w y = many k c cfg words (slice_set views id w) id t w z y still (set_here views id w (view_within views id v at)) (held_here v t x z is) (subst (λ q. AfterLocals c q k y) (sym same) e.1) in
+    let flat : slice_set (slice_set views id w) id (slice_set w t (Some y)) ≡ slice_set views id (slice_set v t (Some y)) =
+    set-set views id w (slice_set w t (Some y)) ∙ ap (slice_set views id) (set-set v t (Some z) (Some y)) in
+    (subst (ShowsRun c cfg words) flat rest.0, rest.1)
+
+pub locals_show : LocalsShow
+locals_show c cfg words views id t v x y run at is follows = many follows.0 c cfg words views id t v x y run at is follows.1
+
+pub events_show : EventsShow
+events_show c cfg words views id t v x y run at is follows =
+    let local : Local c cfg words views id t v y = locals_show c cfg words views id t v x y run at is follows in
+    let w : View = slice_set v t (Some y) in
+    let here : get_elem? (slice_set views id w) id ≡ some w = set_here views id w (view_within views id v at) in
+    let now : held_in w t ≡ Some y = held_here v t x y is in
+    let flat : slice_set (slice_set views id w) id (slice_set w t (Some (behind c words y))) ≡ slice_set views id (slice_set v t (Some (behind c words y))) =
+    set-set views id w (slice_set w t (Some (behind c words y))) ∙ ap (slice_set views id) (set-set v t (Some y) (Some (behind c words y))) in
+    (subst (ShowsRun c cfg (words_after words (wanted c y y.phase))) flat (one_event c cfg words (slice_set views id w) id t w y local.0 here now), (local.0.happenings ++ Of t ∷ [], stands_behind c cfg words (slice_set views id w) id t w y local.0 here now))
+
+-- ---- one thread by itself
+
+-- one event more without an access
+local_more : (k : ℕ) (c : MarkedProgram) (x y : Thread) → AfterLocals c x k y → wanted c y y.phase ≡ None → AfterLocals c x (suc k) (moved c y y.phase 0)
+local_more zero c x y e none = (ap (λ (z : Thread). wanted c z z.phase) (sym e) ∙ none, ap (λ (z : Thread). moved c z z.phase 0) e)
+local_more (suc k) c x y e none = (e.0, local_more k c (moved c x x.phase 0) y e.1 none)
+
+pub follows_on : (c : MarkedProgram) (x y : Thread) → Follows c x y → wanted c y y.phase ≡ None → Follows c x (moved c y y.phase 0)
+follows_on c x y follows none = (suc follows.0, local_more follows.0 c x y follows.1 none)
+
+pub follows_itself : (c : MarkedProgram) (x : Thread) → Follows c x x
+follows_itself c x = (zero, refl)
