@@ -10,7 +10,8 @@ use Rattle.machine_types.specs.Threads.{Thread}
 use Rattle.table_rule.specs.Views.{View, held_in, IsHeld, AreShown}
 use Rattle.table_rule.proofs.Entries.{no_two, view_within}
 
-at_end : (views : List View) (i : ℕ) (r w : View) → get_elem? (views ++ r ∷ []) i ≡ some w → (get_elem? views i ≡ some w) ⊎ ((i ≡ length views) × (r ≡ w))
+at_end : (views : List View) (i : ℕ) (r w : View) → get_elem? (views ++ r ∷ []) i ≡ some w
+    → (get_elem? views i ≡ some w) ⊎ ((i ≡ length views) × (r ≡ w))
 at_end [] zero r w e = inr (refl, some-injective r w e)
 at_end [] (suc i) r w e = absurd (some-ne-none w (sym e))
 at_end (v ∷ vs) zero r w e = inl e
@@ -42,10 +43,12 @@ module _ (threads : List Thread) (views : List View) (id t : ℕ) (v left right 
       (λ e. absurd (no_two (held_in left u) z (ap (held_in left) e ∙ left_none) (ap (λ (r : View). held_in r u) same ∙ h)))
       (λ n. inl (n, v, ap (get_elem? views) here ∙ at, sym (left_else u n) ∙ ap (λ (r : View). held_in r u) same ∙ h))
 
-  in_kept : (i u : ℕ) (w : View) (z : Thread) → i ≢ id → get_elem? views i ≡ some w → held_in w u ≡ Some z → Was i u z
+  in_kept : (i u : ℕ) (w : View) (z : Thread) → i ≢ id → get_elem? views i ≡ some w → held_in w u ≡ Some z
+      → Was i u z
   in_kept i u w z n a h = dite (ℕ_discrete u t) (λ e. inr (inr (e, n, w, a, h))) (λ m. inl (m, w, a, h))
 
-  in_right : (i u : ℕ) (w : View) (z : Thread) → i ≡ length views → right ≡ w → held_in w u ≡ Some z → Was i u z
+  in_right : (i u : ℕ) (w : View) (z : Thread) → i ≡ length views → right ≡ w → held_in w u ≡ Some z
+      → Was i u z
   in_right i u w z here same h = dite (ℕ_discrete u t)
       (λ e. inr (inl (e, here, sym right_here ∙ ap (held_in right) (sym e) ∙ ap (λ (r : View). held_in r u) same ∙ h)))
       (λ n. absurd (no_two (held_in right u) z (right_else u n) (ap (λ (r : View). held_in r u) same ∙ h)))

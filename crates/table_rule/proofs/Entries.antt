@@ -10,7 +10,8 @@ use Rattle.table_rule.specs.Views.{View, held_in}
 -- ---- a list of threads
 
 module _ {A : Type 0} where
-  pub got_here : (xs : List A) (i : ℕ) (x y : A) → slice_get xs i ≡ Some x → slice_get (slice_set xs i y) i ≡ Some y
+  pub got_here : (xs : List A) (i : ℕ) (x y : A) → slice_get xs i ≡ Some x
+      → slice_get (slice_set xs i y) i ≡ Some y
   got_here [] i x y e = cc
   got_here (z ∷ zs) zero x y e = refl
   got_here (z ∷ zs) (suc i) x y e = got_here zs i x y e
@@ -53,7 +54,8 @@ held_beyond (o ∷ v) (suc t) le = held_beyond v t (omega arith)
 pub held_set : (v : View) (t : ℕ) (o : Option Thread) → t < length v → held_in (slice_set v t o) t ≡ o
 held_set v t o lt = get_or-set_same v t o None lt
 
-pub held_here : (v : View) (t : ℕ) (x y : Thread) → held_in v t ≡ Some x → held_in (slice_set v t (Some y)) t ≡ Some y
+pub held_here : (v : View) (t : ℕ) (x y : Thread) → held_in v t ≡ Some x
+    → held_in (slice_set v t (Some y)) t ≡ Some y
 held_here v t x y e = held_set v t (Some y) (held_within v t x e)
 
 pub held_else : (v : View) (t u : ℕ) (o : Option Thread) → u ≢ t → held_in (slice_set v t o) u ≡ held_in v u

@@ -26,16 +26,19 @@ module _ (threads : List Thread) (views : List View) (id other : ℕ) (v w both 
   abbrev Else : (i u : ℕ) → Thread → Type 0
   Else i u z = (i ≢ id) × (i ≢ other) × (r : View) × (get_elem? views i ≡ some r) × (held_in r u ≡ Some z)
 
-  in_joined : (i u : ℕ) (r : View) (z : Thread) → get_elem? joined i ≡ some r → held_in r u ≡ Some z → Here i u z ⊎ Else i u z
+  in_joined : (i u : ℕ) (r : View) (z : Thread) → get_elem? joined i ≡ some r → held_in r u ≡ Some z
+      → Here i u z ⊎ Else i u z
   in_joined i u r z a h = ⊎_elim
       (λ k. absurd (no_two (held_in r u) z (ap (λ (q : View). held_in q u) (sym k.1) ∙ none u) h))
       (λ k. ⊎_elim (λ m. inl (m.0, from u z (ap (λ (q : View). held_in q u) m.1 ∙ h))) (λ m. inr (m.0, k.0, r, m.1, h)) (at_set views id i both r k.1))
       (at_set (slice_set views id both) other i spent r a)
 
-  own_here : (u : ℕ) (z : Thread) → (held_in v u ≡ Some z) ⊎ (held_in w u ≡ Some z) → slice_get threads u ≡ Some z
+  own_here : (u : ℕ) (z : Thread) → (held_in v u ≡ Some z) ⊎ (held_in w u ≡ Some z)
+      → slice_get threads u ≡ Some z
   own_here u z k = ⊎_elim (λ m. shown.own id u v z at m) (λ m. shown.own other u w z at_other m) k
 
-  not_here : (i u : ℕ) (r : View) (y z : Thread) → i ≢ id → i ≢ other → get_elem? views i ≡ some r → held_in r u ≡ Some y → (held_in v u ≡ Some z) ⊎ (held_in w u ≡ Some z) → ⊥
+  not_here : (i u : ℕ) (r : View) (y z : Thread) → i ≢ id → i ≢ other → get_elem? views i ≡ some r
+      → held_in r u ≡ Some y → (held_in v u ≡ Some z) ⊎ (held_in w u ≡ Some z) → ⊥
   not_here i u r y z n m a h k = ⊎_elim (λ l. n (shown.once i id u r v y z a at h l)) (λ l. m (shown.once i other u r w y z a at_other h l)) k
 
   once_in : (i j u : ℕ) (y z : Thread) → Here i u y ⊎ Else i u y → Here j u z ⊎ Else j u z → i ≡ j
@@ -45,7 +48,8 @@ module _ (threads : List Thread) (views : List View) (id other : ℕ) (v w both 
   once_in i j u y z (inr k) (inr m) = shown.once i j u k.2 m.2 y z k.3 m.3 k.4 m.4
 
   both_there : get_elem? joined id ≡ some both
-  both_there = set_else (slice_set views id both) other id spent (λ e. apart (sym e)) ∙ set_here views id both (view_within views id v at)
+  both_there = set_else (slice_set views id both) other id spent (λ e. apart (sym e))
+      ∙ set_here views id both (view_within views id v at)
 
   held_joined : (u : ℕ) (z : Thread) → IsHeld views u z → IsHeld joined u z
   held_joined u z h = dite (ℕ_discrete h.0 id) here (λ n. dite (ℕ_discrete h.0 other) (there_too n) (else n))

@@ -43,15 +43,18 @@ module _ (threads : List Thread) (views : List View) (id t : ℕ) (v : View) (x 
   in_changed i u z here h = dite (ℕ_discrete u t) same other
     where
       same : u ≡ t → Stays i u z ⊎ IsNew i u z
-      same e = let two : Some y ≡ Some z = sym held_now ∙ ap (held_in more) (sym e) ∙ h in let is_new : z ≡ y = cc in inr (here, e, is_new)
+      same e = let two : Some y ≡ Some z = sym held_now ∙ ap (held_in more) (sym e)
+          ∙ h in let is_new : z ≡ y = cc in inr (here, e, is_new)
 
       other : u ≢ t → Stays i u z ⊎ IsNew i u z
       other n = inl (n, v, ap (get_elem? views) here ∙ at, sym (held_else v t u (Some y) n) ∙ h)
 
-  in_kept : (i u : ℕ) (w : View) (z : Thread) → i ≢ id → get_elem? views i ≡ some w → held_in w u ≡ Some z → Stays i u z ⊎ IsNew i u z
+  in_kept : (i u : ℕ) (w : View) (z : Thread) → i ≢ id → get_elem? views i ≡ some w → held_in w u ≡ Some z
+      → Stays i u z ⊎ IsNew i u z
   in_kept i u w z n a h = dite (ℕ_discrete u t) (λ e. absurd (n (shown.once i id t w v z x a at (ap (held_in w) (sym e) ∙ h) is))) (λ m. inl (m, w, a, h))
 
-  in_later : (i u : ℕ) (w : View) (z : Thread) → get_elem? later i ≡ some w → held_in w u ≡ Some z → Stays i u z ⊎ IsNew i u z
+  in_later : (i u : ℕ) (w : View) (z : Thread) → get_elem? later i ≡ some w → held_in w u ≡ Some z
+      → Stays i u z ⊎ IsNew i u z
   in_later i u w z a h = ⊎_elim (λ k. in_changed i u z k.0 (ap (λ (r : View). held_in r u) k.1 ∙ h)) (λ k. in_kept i u w z k.0 k.1 h) (at_set views id i more w a)
 
   here_later : get_elem? later id ≡ some more
@@ -76,7 +79,8 @@ module _ (threads : List Thread) (views : List View) (id t : ℕ) (v : View) (x 
   }
     where
       is_new : (u : ℕ) (z : Thread) → u ≡ t → slice_get (slice_set threads t y) u ≡ Some z → IsHeld later u z
-      is_new u z m e = let two : Some y ≡ Some z = sym (got_here threads t x y (shown.own id t v x at is)) ∙ ap (slice_get (slice_set threads t y)) (sym m) ∙ e in
+      is_new u z m e = let two : Some y ≡ Some z = sym (got_here threads t x y (shown.own id t v x at is))
+          ∙ ap (slice_get (slice_set threads t y)) (sym m) ∙ e in
           (id, more, here_later, ap (held_in more) m ∙ held_now ∙ two)
 
 -- ---- an event
@@ -92,7 +96,8 @@ module _ (c : MarkedProgram) (cfg : Config) (words : List ℕ) (views : List Vie
   stands : slice_get (core c cfg run.happenings).threads t ≡ Some x
   stands = run.threads_are.own id t v x at is
 
-  comes : core c cfg next_run ≡ record { words = words_after (core c cfg run.happenings).words (wanted c x x.phase); threads = slice_set (core c cfg run.happenings).threads t (behind c (core c cfg run.happenings).words x) }
+  comes :
+      core c cfg next_run ≡ record { words = words_after (core c cfg run.happenings).words (wanted c x x.phase); threads = slice_set (core c cfg run.happenings).threads t (behind c (core c cfg run.happenings).words x) }
   comes = one_more c cfg run.happenings (Of t) ∙ event_is c (core c cfg run.happenings) t x stands
 
   same_words : (core c cfg run.happenings).words ≡ words
@@ -103,12 +108,16 @@ module _ (c : MarkedProgram) (cfg : Config) (words : List ℕ) (views : List Vie
 
   -- the thread is there behind the event
   pub stands_behind : slice_get (core c cfg next_run).threads t ≡ Some (behind c words x)
-  stands_behind = ap (λ (s : Core). slice_get s.threads t) comes ∙ ap (λ y. slice_get (slice_set (core c cfg run.happenings).threads t y) t) now ∙ got_here (core c cfg run.happenings).threads t x (behind c words x) stands
+  stands_behind = ap (λ (s : Core). slice_get s.threads t) comes
+      ∙ ap (λ y. slice_get (slice_set (core c cfg run.happenings).threads t y) t) now
+      ∙ got_here (core c cfg run.happenings).threads t x (behind c words x) stands
 
-  pub one_event : ShowsRun c cfg (words_after words (wanted c x x.phase)) (slice_set views id (slice_set v t (Some (behind c words x))))
+  pub one_event :
+      ShowsRun c cfg (words_after words (wanted c x x.phase)) (slice_set views id (slice_set v t (Some (behind c words x))))
   one_event = record {
     happenings = next_run;
-    words_are = ap (λ ws. words_after ws (wanted c x x.phase)) run.words_are ∙ ap (λ (s : Core). s.words) (sym comes);
+    words_are = ap (λ ws. words_after ws (wanted c x x.phase)) run.words_are
+        ∙ ap (λ (s : Core). s.words) (sym comes);
     threads_are = subst (λ (ts : List Thread). AreShown ts (slice_set views id (slice_set v t (Some (behind c words x))))) (sym (ap (λ (s : Core). s.threads) comes ∙ ap (λ y. slice_set (core c cfg run.happenings).threads t y) now))
         (goes_on (core c cfg run.happenings).threads views id t v x (behind c words x) run.threads_are at is);
   }
@@ -119,12 +128,18 @@ abbrev Local : MarkedProgram → Config → List ℕ → List View → (id t : �
 Local c cfg words views id t v y = ShowsRun c cfg words (slice_set views id (slice_set v t (Some y))) × StandsIn c cfg words t y
 
 -- nothing has happened yet
-none_yet : (c : MarkedProgram) (cfg : Config) (words : List ℕ) (views : List View) (id t : ℕ) (v : View) (x : Thread) → ShowsRun c cfg words views → get_elem? views id ≡ some v → held_in v t ≡ Some x → Local c cfg words views id t v x
+none_yet : (c : MarkedProgram)
+    (cfg : Config) (words : List ℕ) (views : List View) (id t : ℕ) (v : View) (x : Thread)
+    → ShowsRun c cfg words views → get_elem? views id ≡ some v → held_in v t ≡ Some x
+    → Local c cfg words views id t v x
 none_yet c cfg words views id t v x run at is =
     let same : slice_set v t (Some x) ≡ v = set_held v t (Some x) is in
     (subst (ShowsRun c cfg words) (sym (ap (slice_set views id) same ∙ set_again views id v at)) run, record { happenings = run.happenings; words_are = run.words_are; at = run.threads_are.own id t v x at is })
 
-many : (k : ℕ) (c : MarkedProgram) (cfg : Config) (words : List ℕ) (views : List View) (id t : ℕ) (v : View) (x y : Thread) → ShowsRun c cfg words views → get_elem? views id ≡ some v → held_in v t ≡ Some x → AfterLocals c x k y → Local c cfg words views id t v y
+many : (k : ℕ)
+    (c : MarkedProgram) (cfg : Config) (words : List ℕ) (views : List View) (id t : ℕ) (v : View) (x y : Thread)
+    → ShowsRun c cfg words views → get_elem? views id ≡ some v → held_in v t ≡ Some x → AfterLocals c x k y
+    → Local c cfg words views id t v y
 many zero c cfg words views id t v x y run at is e = subst (Local c cfg words views id t v) (sym e) (none_yet c cfg words views id t v x run at is)
 many (suc k) c cfg words views id t v x y run at is e =
     let none : wanted c x x.phase ≡ None = e.0 in
@@ -147,17 +162,20 @@ events_show c cfg words views id t v x y run at is follows =
     let here : get_elem? (slice_set views id w) id ≡ some w = set_here views id w (view_within views id v at) in
     let now : held_in w t ≡ Some y = held_here v t x y is in
     let flat : slice_set (slice_set views id w) id (slice_set w t (Some (behind c words y))) ≡ slice_set views id (slice_set v t (Some (behind c words y))) =
-    set-set views id w (slice_set w t (Some (behind c words y))) ∙ ap (slice_set views id) (set-set v t (Some y) (Some (behind c words y))) in
+    set-set views id w (slice_set w t (Some (behind c words y)))
+    ∙ ap (slice_set views id) (set-set v t (Some y) (Some (behind c words y))) in
     (subst (ShowsRun c cfg (words_after words (wanted c y y.phase))) flat (one_event c cfg words (slice_set views id w) id t w y local.0 here now), (local.0.happenings ++ Of t ∷ [], stands_behind c cfg words (slice_set views id w) id t w y local.0 here now))
 
 -- ---- one thread by itself
 
 -- one event more without an access
-local_more : (k : ℕ) (c : MarkedProgram) (x y : Thread) → AfterLocals c x k y → wanted c y y.phase ≡ None → AfterLocals c x (suc k) (moved c y y.phase 0)
+local_more : (k : ℕ) (c : MarkedProgram) (x y : Thread) → AfterLocals c x k y → wanted c y y.phase ≡ None
+    → AfterLocals c x (suc k) (moved c y y.phase 0)
 local_more zero c x y e none = (ap (λ (z : Thread). wanted c z z.phase) (sym e) ∙ none, ap (λ (z : Thread). moved c z z.phase 0) e)
 local_more (suc k) c x y e none = (e.0, local_more k c (moved c x x.phase 0) y e.1 none)
 
-pub follows_on : (c : MarkedProgram) (x y : Thread) → Follows c x y → wanted c y y.phase ≡ None → Follows c x (moved c y y.phase 0)
+pub follows_on : (c : MarkedProgram) (x y : Thread) → Follows c x y → wanted c y y.phase ≡ None
+    → Follows c x (moved c y y.phase 0)
 follows_on c x y follows none = (suc follows.0, local_more follows.0 c x y follows.1 none)
 
 pub follows_itself : (c : MarkedProgram) (x : Thread) → Follows c x x

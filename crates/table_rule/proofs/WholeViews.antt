@@ -27,7 +27,8 @@ module _ (threads new : List Thread) (views : List View) (id : ℕ) (v w : View)
   abbrev whole : List View
   whole = slice_set views id w
 
-  here_only : (i u : ℕ) (r : View) (z : Thread) → get_elem? whole i ≡ some r → held_in r u ≡ Some z → (i ≡ id) × (held_in w u ≡ Some z)
+  here_only : (i u : ℕ) (r : View) (z : Thread) → get_elem? whole i ≡ some r → held_in r u ≡ Some z
+      → (i ≡ id) × (held_in w u ≡ Some z)
   here_only i u r z a h = ⊎_elim (λ k. (k.0, ap (λ (q : View). held_in q u) k.1 ∙ h)) (λ k. absurd (k.0 (shown.once i id u r v z z k.1 at h (all u z (shown.own i u r z k.1 h))))) (at_set views id i w r a)
 
   pub whole_shows : AreShown new whole
@@ -52,7 +53,8 @@ module _ (c : MarkedProgram) (cfg : Config) (words : List ℕ) (views : List Vie
     pub below : (t : ℕ) → t < n → held_in view t ≡ held_in u t
     pub from : (t : ℕ) → n ≤ t → held_in view t ≡ held_in v t
 
-  further : (n : ℕ) → CaughtUp n → (o p : Option Thread) → held_in v n ≡ o → held_in u n ≡ p → EachFollows c o p → CaughtUp (suc n)
+  further : (n : ℕ) → CaughtUp n → (o p : Option Thread) → held_in v n ≡ o → held_in u n ≡ p
+      → EachFollows c o p → CaughtUp (suc n)
   further n k None None e f m = record {
     view = k.view;
     shows = k.shows;
@@ -69,7 +71,8 @@ module _ (c : MarkedProgram) (cfg : Config) (words : List ℕ) (views : List Vie
         view = slice_set k.view n (Some y);
         shows = subst (ShowsRun c cfg words) (set-set views id k.view (slice_set k.view n (Some y))) local.0;
         below = λ t lt. dite (ℕ_discrete t n) (λ same. ap (held_in (slice_set k.view n (Some y))) same ∙ held_here k.view n x y mine ∙ sym f ∙ ap (held_in u) (sym same)) (λ ne. held_else k.view n t (Some y) ne ∙ k.below t (omega (arith, lt, ne)));
-        from = λ t le. held_else k.view n t (Some y) (λ same. absurd (omega (arith, le, same))) ∙ k.from t (omega (arith, le));
+        from = λ t le. held_else k.view n t (Some y) (λ same. absurd (omega (arith, le, same)))
+            ∙ k.from t (omega (arith, le));
       }
 
   caught_up : (n : ℕ) → CaughtUp n
@@ -92,7 +95,8 @@ module _ (c : MarkedProgram) (cfg : Config) (words : List ℕ) (views : List Vie
       by_place false e =
           let le : length u ≤ t = grind (arith, nat_tests, e) in
           let none : held_in u t ≡ None = held_beyond u t le in
-          (caught_up (length u)).from t le ∙ none_before c (held_in v t) (held_in u t) (follow t) none ∙ sym none
+          (caught_up (length u)).from t le ∙ none_before c (held_in v t) (held_in u t) (follow t) none
+          ∙ sym none
 
 -- ---- all threads of the run
 
@@ -101,7 +105,8 @@ module _ (c : MarkedProgram) (cfg : Config) (words : List ℕ) (views : List Vie
   now_run : ShowsRun c cfg words (slice_set views id (latest c cfg words views id v u run at follow))
   now_run = latest_shows c cfg words views id v u run at follow
 
-  now_here : get_elem? (slice_set views id (latest c cfg words views id v u run at follow)) id ≡ some (latest c cfg words views id v u run at follow)
+  now_here :
+      get_elem? (slice_set views id (latest c cfg words views id v u run at follow)) id ≡ some (latest c cfg words views id v u run at follow)
   now_here = set_here views id (latest c cfg words views id v u run at follow) (view_within views id v at)
 
   -- the run that reaches the words and the states of all its threads
@@ -114,13 +119,17 @@ module _ (c : MarkedProgram) (cfg : Config) (words : List ℕ) (views : List Vie
 
   pub whole_holds : Holds u (core c cfg whole_run).threads
   unfolding whole_run
-  whole_holds t = sym (latest_is c cfg words views id v u run at follow t) ∙ by_entry (held_in (latest c cfg words views id v u run at follow) t) refl
+  whole_holds t = sym (latest_is c cfg words views id v u run at follow t)
+      ∙ by_entry (held_in (latest c cfg words views id v u run at follow) t) refl
     where
-      by_entry : (o : Option Thread) → held_in (latest c cfg words views id v u run at follow) t ≡ o → held_in (latest c cfg words views id v u run at follow) t ≡ slice_get (core c cfg whole_run).threads t
-      by_entry (Some y) e = e ∙ sym (now_run.threads_are.own id t (latest c cfg words views id v u run at follow) y now_here e)
+      by_entry : (o : Option Thread) → held_in (latest c cfg words views id v u run at follow) t ≡ o
+          → held_in (latest c cfg words views id v u run at follow) t ≡ slice_get (core c cfg whole_run).threads t
+      by_entry (Some y) e = e
+          ∙ sym (now_run.threads_are.own id t (latest c cfg words views id v u run at follow) y now_here e)
       by_entry None e = by_thread (slice_get (core c cfg whole_run).threads t) refl
         where
-          by_thread : (p : Option Thread) → slice_get (core c cfg whole_run).threads t ≡ p → held_in (latest c cfg words views id v u run at follow) t ≡ slice_get (core c cfg whole_run).threads t
+          by_thread : (p : Option Thread) → slice_get (core c cfg whole_run).threads t ≡ p
+              → held_in (latest c cfg words views id v u run at follow) t ≡ slice_get (core c cfg whole_run).threads t
           by_thread None f = e ∙ sym f
           by_thread (Some x) f =
               let lt = got_within (core c cfg whole_run).threads t x f in
@@ -128,7 +137,8 @@ module _ (c : MarkedProgram) (cfg : Config) (words : List ℕ) (views : List Vie
               let bad : false ≡ true = subst IsSome (sym (latest_is c cfg words views id v u run at follow t) ∙ e) some in absurd (cc)
 
   -- the begin of a part
-  pub part_shows : (w : View) → Holds w (next_threads c.program (core c cfg whole_run).threads) → ShowsRun c cfg words (slice_set views id w)
+  pub part_shows : (w : View) → Holds w (next_threads c.program (core c cfg whole_run).threads)
+      → ShowsRun c cfg words (slice_set views id w)
   unfolding whole_run
   part_shows w h = record {
     happenings = whole_run ++ NextPart ∷ [];
