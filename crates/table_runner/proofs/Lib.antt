@@ -1,0 +1,13 @@
+mod Accesses
+mod HandedThreads
+mod ManyEvents
+mod SharedViews
+mod HandsApart
+mod SameHands
+mod Reports
+mod WholeHands
+mod NextThreads
+mod NextHands
+mod StartHands
+mod WorkerHands
+mod Stages

@@ -1,0 +1,105 @@
+-- Events of one thread, one after the other, and hands behind them.
+use Rattle.std.proofs.Common.{◌≡◌, ◌≢◌, ℕ, zero, suc, true, false, List, [], ◌∷◌, Option, Some, None, is_some, option_map, refl, sym, ap, subst, ◌∙◌}
+use Rattle.std.specs.Prelude.{slice_set, IsSome}
+use mathlib.Core.Logic.{dite}
+use native.Mathlib.Decide.{ℕ_discrete}
+use Rattle.checked_program.specs.MarkedProgram.{MarkedProgram}
+use Rattle.jvm_types.specs.declared.outcome.ThreadReport.{ThreadReport}
+use Rattle.lists.specs.Stock.{Stock}
+use Rattle.laws_threads.specs.GivenThread.{Given, GivenIsKept, given_of}
+use Rattle.machine_types.specs.Events.{wanted}
+use Rattle.machine_types.specs.Threads.{Thread}
+use Rattle.machine_types.specs.declared.config.Config.{Config}
+use Rattle.table_rule.specs.Views.{View, held_in}
+use Rattle.table_rule.proofs.Entries.{held_here, held_else, set_held}
+use Rattle.table_runner.specs.Accessing.{NextEvent, made, Happens, Stands}
+use Rattle.table_runner.specs.Going.{Goes, GoesOn, GoesOnAt}
+use Rattle.table_runner.specs.Handed.{Handed, AreHands, EachStands, HasRoom, viewed}
+use Rattle.table_runner.specs.Running.{AreSame, IsRunOn}
+use Rattle.table_runner.proofs.HandedThreads.{room_as, stands_after, stands_of, viewed_else}
+
+-- ---- one thread
+
+pub none_yet : (e : NextEvent) (v : View) → Stands e v → GoesOn e v e.state v
+none_yet e v stands = record { stands = stands; given = refl; others = λ u n. refl }
+
+pub one_more : GivenIsKept → (e : NextEvent) (v w z : View) (x y : Thread) → GoesOn e v x w
+    → Goes (record e { state = x }) w y z → GoesOn e v y z
+one_more given e v w z x y on g =
+    let f : NextEvent = record e { state = x } in
+    let each : EachStands e.program e.cfg e.number (held_in (viewed (wanted e.program x x.phase) w e.number (made f g.got)) e.number) (Some (made f g.got)) = stands_after f w (wanted e.program x x.phase) g.got refl on.stands g.happens in
+    let here : Stands (record e { state = made f g.got }) (viewed (wanted e.program x x.phase) w e.number (made f g.got)) = stands_of e.program e.cfg e.number (viewed (wanted e.program x x.phase) w e.number (made f g.got)) (held_in (viewed (wanted e.program x x.phase) w e.number (made f g.got)) e.number) (made f g.got) refl each in
+    record {
+      stands = subst (λ (s : Thread). Stands (record e { state = s }) z) (sym g.state) (subst (Stands (record e { state = made f g.got })) (sym g.view) here);
+      given = ap given_of g.state ∙ given e.program x x.phase g.got ∙ on.given;
+      others = λ u n. ap (λ (r : View). held_in r u) g.view
+          ∙ viewed_else (wanted e.program x x.phase) w e.number u (made f g.got) n ∙ on.others u n;
+    }
+
+-- ---- hands
+
+stands_now : (e : NextEvent) (w : View) → Stands e w
+    → EachStands e.program e.cfg e.number (held_in w e.number) (Some e.state)
+stands_now e w k = subst (λ o. EachStands e.program e.cfg e.number o (Some e.state)) (sym k.held) (k.follows, k.of_run)
+
+module _ (h : Handed) (t : ℕ) (k : AreHands h) where
+  -- where thread t is there
+  each_later : (x y : Thread) (w : View) → held_in h.threads t ≡ Some x
+      → GoesOn (record { program = h.program; cfg = h.cfg; number = t; state = x }) h.view y w
+      → (u : ℕ) → EachStands h.program h.cfg u (held_in w u) (held_in (slice_set h.threads t (Some y)) u)
+  each_later x y w is g u = dite (ℕ_discrete u t) here else
+    where
+      here : u ≡ t → EachStands h.program h.cfg u (held_in w u) (held_in (slice_set h.threads t (Some y)) u)
+      here same =
+          let one : EachStands h.program h.cfg t (held_in w t) (Some y) = stands_now (record { program = h.program; cfg = h.cfg; number = t; state = y }) w g.stands in
+          subst (λ m. EachStands h.program h.cfg m (held_in w m) (held_in (slice_set h.threads t (Some y)) m)) (sym same)
+          (subst (EachStands h.program h.cfg t (held_in w t)) (sym (held_here h.threads t x y is)) one)
+
+      else : u ≢ t → EachStands h.program h.cfg u (held_in w u) (held_in (slice_set h.threads t (Some y)) u)
+      else n = subst (λ p. EachStands h.program h.cfg u p (held_in (slice_set h.threads t (Some y)) u)) (sym (g.others u n))
+          (subst (EachStands h.program h.cfg u (held_in h.view u)) (sym (held_else h.threads t u (Some y) n)) (k.each u))
+
+  pub hands_later : (was now : Option Thread) (w : View) → held_in h.threads t ≡ was
+      → GoesOnAt h.program h.cfg t was h.view now w
+      → AreHands (record h { threads = slice_set h.threads t now; view = w })
+  hands_later None None w is g = subst AreHands (sym (λ i. record h { threads = set_held h.threads t None is i; view = g i })) k
+  hands_later None (Some y) w is g = absurd g
+  hands_later (Some x) None w is g = absurd g
+  hands_later (Some x) (Some y) w is g = record { run = k.run; vacant = k.vacant; each = each_later x y w is g }
+
+  given_at : (was now : Option Thread) (w : View) → held_in h.threads t ≡ was
+      → GoesOnAt h.program h.cfg t was h.view now w
+      → option_map given_of (held_in (slice_set h.threads t now) t) ≡ option_map given_of (held_in h.threads t)
+  given_at None None w is g = ap (λ (v : View). option_map given_of (held_in v t)) (set_held h.threads t None is)
+  given_at None (Some y) w is g = absurd g
+  given_at (Some x) None w is g = absurd g
+  given_at (Some x) (Some y) w is g = ap (option_map given_of) (held_here h.threads t x y is)
+      ∙ ap Some g.given ∙ ap (option_map given_of) (sym is)
+
+some_given : (o p : Option Thread) → option_map given_of o ≡ option_map given_of p → is_some o ≡ is_some p
+some_given None None e = refl
+some_given None (Some y) e = absurd (cc)
+some_given (Some x) None e = absurd (cc)
+some_given (Some x) (Some y) e = refl
+
+numbers_kept : (v : View) (t : ℕ) (now : Option Thread)
+    → option_map given_of (held_in (slice_set v t now) t) ≡ option_map given_of (held_in v t) → (u : ℕ)
+    → is_some (held_in (slice_set v t now) u) ≡ is_some (held_in v u)
+numbers_kept v t now e u = dite (ℕ_discrete u t)
+    (λ same. ap (λ m. is_some (held_in (slice_set v t now) m)) same ∙ some_given (held_in (slice_set v t now) t) (held_in v t) e ∙ ap (λ m. is_some (held_in v m)) (sym same))
+    (λ n. ap is_some (held_else v t u now n))
+
+pub room_later : (h : Handed)
+    (t : ℕ) (was now : Option Thread) (w : View) (room : Option (Stock ThreadReport)) → AreHands h
+    → held_in h.threads t ≡ was → GoesOnAt h.program h.cfg t was h.view now w → HasRoom h.threads room
+    → HasRoom (slice_set h.threads t now) room
+room_later h t was now w room k is g m = room_as (held_in h.threads 0) (held_in (slice_set h.threads t now) 0) room (sym (numbers_kept h.threads t now (given_at h t k was now w is g) 0)) m
+
+pub run_on : (h : Handed) (t : ℕ) (was now : Option Thread) (w : View) → AreHands h
+    → held_in h.threads t ≡ was → GoesOnAt h.program h.cfg t was h.view now w
+    → IsRunOn t h (record h { threads = slice_set h.threads t now; view = w })
+run_on h t was now w k is g = record {
+  same = record { program = refl; cfg = refl; table = refl; numbers = numbers_kept h.threads t now (given_at h t k was now w is g) };
+  others = λ u n. held_else h.threads t u now n;
+  given = given_at h t k was now w is g;
+}

@@ -1,0 +1,33 @@
+use Rattle.std.proofs.Common.{◌≡◌, ◌+◌, List, length, ◌∙◌, ap, sym, subst, arith}
+use Rattle.std.proofs.lemmas.List.FromFn.{length-map-range_with_len}
+use Rattle.checked_program.specs.MarkedProgram.{MarkedProgram}
+use Rattle.machine_types.specs.Core.{start, start_thread}
+use Rattle.machine_types.specs.StartWords.{start_words}
+use Rattle.machine_types.specs.Threads.{Thread}
+use Rattle.machine_types.specs.declared.config.Config.{Config}
+use Rattle.table_rule.specs.Views.{Holds}
+use Rattle.table_runner.specs.Handed.{Handed}
+use Rattle.table_runner.proofs.StartHands.{at_start}
+use Rattle.table_runner.proofs.opening.table.Goals as goal
+
+pub placed-threads-requires : goal.placed-threads-requires
+placed-threads-requires c =
+    let p = c.args.p.now in
+    let long = ap length c.in_ok-start_threads.ensures ∙ length-map-range_with_len (start_thread p c.args.cfg.now) 0 (p.program.workers + 1) in
+    omega (arith, long, c.program.ensures.marked.checked.program.workers)
+
+pub opened-requires : goal.opened-requires
+opened-requires c = c.as_slice.ensures ∙ c.in_ok-words.ensures ∙ ap start_words c.program.ensures.program
+
+pub returns-clause-start : goal.returns-clause-start
+returns-clause-start c =
+    let shared = c.in_ok-table.table.shared in
+    let h : Handed = c.held.result in
+    let run = c.in_ok-table.ensures.run in
+    let placed = c.placed-threads.result in
+    let threads : Holds placed (start c.args.p.now c.args.cfg.now).threads = subst (λ (ts : List Thread). Holds placed ts) c.in_ok-start_threads.ensures c.placed-threads.ensures in
+    let of_program : Holds placed (start shared.key.program.told c.args.cfg.now).threads = subst (λ (q : MarkedProgram). Holds placed (start q c.args.cfg.now).threads) (sym run.0) threads in
+    let of_run : Holds placed (start shared.key.program.told shared.key.cfg).threads = subst (λ (d : Config). Holds placed (start shared.key.program.told d).threads) (sym run.1) of_program in
+    at_start shared.table_id shared.key.program.told shared.key.cfg h
+    (sym c.in_ok-table.ensures.seat.0 ∙ ap (λ (k : Handed). k.table_id) (sym c.held.ensures), run.0 ∙ ap (λ (k : Handed). k.program) (sym c.held.ensures), run.1 ∙ ap (λ (k : Handed). k.cfg) (sym c.held.ensures))
+    (subst (λ (k : Handed). Holds k.threads (start shared.key.program.told shared.key.cfg).threads) (sym c.held.ensures) of_run)

@@ -1,0 +1,7 @@
+pub mod Accessing
+pub mod Handed
+pub mod Going
+pub mod Sharing
+pub mod Parts
+pub mod Ending
+pub mod Running

@@ -1,0 +1,50 @@
+//! The end of a run.
+
+ghost use Rattle.std.specs.Prelude.{◌≡◌, ◌≤◌, ◌∷◌, ℕ, List, [], Option, Some, IsSome};
+ghost use mathlib.Core.Option.{some};
+ghost use lib.ListN.{get_elem?};
+ghost use Rattle.machine_types.specs.Core.{done_end};
+ghost use Rattle.machine_types.specs.Threads.{Thread};
+ghost use Rattle.table_rule.specs.Views.{ShowsRun};
+ghost use Rattle.table_runner.specs.Ending.{reported};
+
+use crate::rule::{CoreTable, MOST_THREADS, View};
+use atomic_table::Seat;
+use frames::ThreadState;
+use jvm_types::{End, Room, Rows, ThreadReport};
+
+/// How `done` ended, by the place of thread 0.
+pub(crate) fn done_end(first: &Option<ThreadState>) -> End
+    requires { IsSome first.now }
+    ensures { (x : Thread) → first.now ≡ Some x → result ≡ done_end (x ∷ []) }
+{
+    match first {
+        Some(first) => run_parts::done_end(first),
+        None => unreachable!(),
+    }
+}
+
+/// The reports of the threads, in order.
+pub(crate) fn reports_of(
+    threads: &mut [Option<ThreadState>; MOST_THREADS],
+    mut room: Room<ThreadReport>,
+) -> Rows<ThreadReport>
+    requires { (room.items ≡ []) × (9 ≤ room.spare) }
+    ensures { result ≡ reported threads.old }
+{
+    for i in 0..MOST_THREADS {
+        if let Some(thread) = threads[i].take() {
+            room.push(thread.into_report());
+        }
+    }
+    room.into_rows()
+}
+
+/// Ends the table: its last words, and the views of its seats, are a state of the run.
+pub(crate) fn end_table(table: CoreTable, seat: Seat<(), View>)
+    requires table { seat.table_id ≡ table.shared.table_id }
+    requires vacant { table.shared.table_id.slots ≡ 0 }
+    ensures shows { (words : List ℕ) × (views : List (List (Option Thread))) × ShowsRun table.shared.key.program.told table.shared.key.cfg words views × (get_elem? views seat.id ≡ some seat.me.0) }
+{
+    table.close_with(seat).free();
+}

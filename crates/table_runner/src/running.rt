@@ -1,0 +1,136 @@
+//! The whole of a run on a table.
+
+ghost use Rattle.std.specs.Prelude.{◌≡◌, ◌≤◌, ◌+◌, IfOk, OnOk, false};
+ghost use Rattle.machine_types.specs.Core.{is_live_thread};
+ghost use Rattle.machine_types.specs.Settings.{AreSettings};
+ghost use Rattle.run_parts.specs.Ended.{IsEndOfRun};
+ghost use Rattle.table_rule.specs.Views.{held_in};
+ghost use Rattle.table_runner.specs.Ending.{IsOutcome};
+ghost use Rattle.table_runner.specs.Running.{AreDeadBelow, AtStart, HaveEnded, IsAlone, IsRunOn, IsWaiting, NoWorkerLives, RunsHere};
+
+use crate::hands::Hands;
+use crate::opening::table;
+use crate::rule::CoreTable;
+use crate::workers::run_apart;
+use checked_program::Checked;
+use jvm_types::{Gate, Outcome};
+use machine_types::Config;
+use std::alloc::{AllocError, Global};
+use std::thread::Threads;
+
+/// The events of thread `t` on this thread of the system, until it is not live.
+fn run_here(hands: &mut Hands, table: &CoreTable, p: &Checked, t: u8) -> Result<(), AllocError>
+    requires here { RunsHere table.now.shared.table_id table.now.shared.key.program.told table.now.shared.key.cfg hands.old }
+    requires number { t ≤ p.now.program.workers }
+    requires program { p.now ≡ table.now.shared.key.program.told }
+    ensures here { RunsHere table.now.shared.table_id table.now.shared.key.program.told table.now.shared.key.cfg hands.new }
+    ensures on { IsRunOn t hands.old hands.new }
+    ensures over { OnOk result (is_live_thread (held_in hands.new.threads t) ≡ false) }
+{
+    if hands.run(table, p, t) {
+        return Err(AllocError);
+    }
+    Ok(())
+}
+
+/// The workers that their threads of the system left live, each until it is not: there are none, as the limits end every worker
+/// before.
+fn run_left(hands: &mut Hands, table: &CoreTable, p: &Checked) -> Result<(), AllocError>
+    requires program { p.now ≡ table.now.shared.key.program.told }
+    requires here { RunsHere table.now.shared.table_id table.now.shared.key.program.told table.now.shared.key.cfg hands.old }
+    ensures here { RunsHere table.now.shared.table_id table.now.shared.key.program.told table.now.shared.key.cfg hands.new }
+    ensures first { held_in hands.new.threads 0 ≡ held_in hands.old.threads 0 }
+    ensures over { OnOk result (AreDeadBelow (p.now.program.workers + 1) hands.new.threads) }
+{
+    let count = p.workers();
+    for i in 0..count {
+        run_here(hands, table, p, i + 1)?;
+    }
+    Ok(())
+}
+
+/// The workers' part.
+fn run_workers<R: Threads + Sync, G: Gate + Sync>(
+    rt: &R,
+    alloc: Global,
+    gate: &G,
+    table: &CoreTable,
+    hands: &mut Hands,
+    p: &Checked,
+) -> Result<(), AllocError>
+    requires program { p.now ≡ table.now.shared.key.program.told }
+    requires here { RunsHere table.now.shared.table_id table.now.shared.key.program.told table.now.shared.key.cfg hands.old }
+    requires waiting { IsWaiting hands.old.threads }
+    ensures here { OnOk result (RunsHere table.now.shared.table_id table.now.shared.key.program.told table.now.shared.key.cfg hands.new) }
+    ensures over { OnOk result (IsWaiting hands.new.threads × NoWorkerLives hands.new.threads) }
+{
+    run_apart(rt, alloc, gate, table, hands, p)?;
+    run_left(hands, table, p)?;
+    hands.hold_no_more();
+    Ok(())
+}
+
+/// `done`, where it may begin.
+fn run_done(table: &CoreTable, hands: &mut Hands, p: &Checked) -> Result<(), AllocError>
+    requires program { p.now ≡ table.now.shared.key.program.told }
+    requires here { RunsHere table.now.shared.table_id table.now.shared.key.program.told table.now.shared.key.cfg hands.old }
+    requires waiting { IsWaiting hands.old.threads × NoWorkerLives hands.old.threads }
+    ensures here { OnOk result (RunsHere table.now.shared.table_id table.now.shared.key.program.told table.now.shared.key.cfg hands.new) }
+    ensures ended { OnOk result (HaveEnded hands.new.threads) }
+{
+    if !hands.next(table, p) {
+        return Ok(());
+    }
+    run_here(hands, table, p, 0)
+}
+
+/// `init`, and then the workers and `done` where they may begin.
+fn run_parts<R: Threads + Sync, G: Gate + Sync>(
+    rt: &R,
+    alloc: Global,
+    gate: &G,
+    table: &CoreTable,
+    hands: &mut Hands,
+    p: &Checked,
+) -> Result<(), AllocError>
+    requires program { p.now ≡ table.now.shared.key.program.told }
+    requires here { RunsHere table.now.shared.table_id table.now.shared.key.program.told table.now.shared.key.cfg hands.old }
+    requires alone { IsAlone 0 hands.old.threads }
+    ensures here { OnOk result (RunsHere table.now.shared.table_id table.now.shared.key.program.told table.now.shared.key.cfg hands.new) }
+    ensures ended { OnOk result (HaveEnded hands.new.threads) }
+{
+    run_here(hands, table, p, 0)?;
+    if !hands.next(table, p) {
+        return Ok(());
+    }
+    run_workers(rt, alloc, gate, table, hands, p)?;
+    run_done(table, hands, p)
+}
+
+/// The outcome of a run that has ended.
+fn close(hands: Hands, table: CoreTable) -> Outcome
+    requires here { RunsHere table.shared.table_id table.shared.key.program.told table.shared.key.cfg hands }
+    requires ended { HaveEnded hands.threads }
+    ensures { IsEndOfRun hands.program hands.cfg result }
+{
+    hands.close(table)
+}
+
+/// Runs a program to its end, its workers on threads of their own, over words that they share without a lock: the outcome of a
+/// state of some run, in which no thread is live and no part may begin. Its error is want of memory.
+///
+/// Worker `t` calls `gate.pass(t)` once, before its first event. `init` and `done` run on the caller's thread.
+pub fn run_table<R: Threads + Sync, G: Gate + Sync>(
+    rt: &R,
+    alloc: Global,
+    gate: &G,
+    p: &Checked,
+    cfg: &Config,
+) -> Result<Outcome, AllocError>
+    requires { AreSettings cfg.now }
+    ensures { IfOk result (IsEndOfRun p.now cfg.now) }
+{
+    let (table, mut hands) = table(alloc, p, cfg)?;
+    run_parts(rt, alloc, gate, &table, &mut hands, p)?;
+    Ok(close(hands, table))
+}
