@@ -34,6 +34,11 @@ mod MarkedEntries
 mod Beginnings
 mod Failures
 mod ComingToEnter
+mod InstructionsAhead
+mod LateEvents
+mod ReachedAhead
+mod NeverReturns
+mod TornRuns
 mod StageFits
 mod EventsKeep
 mod TurnsKeep

@@ -11,6 +11,7 @@ pub mod over_laws;
 pub mod run_laws;
 pub mod stability_laws;
 pub mod tally_laws;
+pub mod torn_laws;
 
 pub use entry_laws::{
     attempts_end, attempts_only_look, attempts_stay, begun_are_due, due_begin, failures_put_back,
@@ -25,3 +26,4 @@ pub use run_laws::{
 };
 pub use stability_laws::others_keep_attempts;
 pub use tally_laws::{attempts_are_counted, attempts_print_nothing, finishes_are_counted};
+pub use torn_laws::{noted_never_returns, torn_runs_are_short};

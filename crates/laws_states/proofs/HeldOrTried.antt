@@ -1,5 +1,5 @@
 -- A monitor that a thread is to leave is one that it holds, or that of its attempt.
-use Rattle.std.proofs.Common.{◌≡◌, ℕ, ◌+◌, ◌<◌, Bool, true, false, Option, Some, None, List, arith}
+use Rattle.std.proofs.Common.{◌≡◌, ℕ, ◌+◌, ◌<◌, Bool, true, false, Option, Some, None, List, refl, ap, subst, arith}
 use Rattle.std.specs.Prelude.{◌==◌, ◌≢◌, if◌then◌else◌}
 use Rattle.std.proofs.lemmas.Bool.Decides.{nat_tests}
 use Rattle.checked_program.specs.MarkedProgram.{MarkedProgram, IsMarked}
@@ -36,3 +36,16 @@ pub leaves_claimed : (is : Classes) (c : MarkedProgram) (m : ℕ) (a : After) (f
 leaves_claimed is c m a fs held attempt marked k holds =
     let g = goes_behind is c marked m k.shown a fs k.show k.phase_shows holds in
     claimed m (held_at held m) attempt (omega (arith, once_here m, g.counts m, k.depths m))
+
+-- that of an attempt is its monitor
+pub tried_at : (m : ℕ) (held : Option Held) (attempt : Option Attempt) (a : Attempt) → claim_by m held attempt ≡ Tries a → (attempt ≡ Some a) × (a.monitor ≡ m)
+tried_at m (Some h) attempt a e = absurd (cc)
+tried_at m None None a e = absurd (cc)
+tried_at m None (Some b) a e = by_test (b.monitor == m) refl e
+  where
+    by_test : (t : Bool) → (b.monitor == m) ≡ t → (if t then Tries b else HasNot) ≡ Tries a → (Some b ≡ Some a) × (a.monitor ≡ m)
+    by_test true t e =
+        let one : b ≡ a = cc in
+        let same : b.monitor ≡ m = grind (arith, nat_tests, t) in
+        (ap Some one, subst (λ (k : Attempt). k.monitor ≡ m) one same)
+    by_test false t e = absurd (cc)

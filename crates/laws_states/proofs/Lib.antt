@@ -59,9 +59,13 @@ mod States
 mod EventBits
 mod EventCounts
 mod EventLocks
-mod HeldOrTried
+pub mod HeldOrTried
 mod LeftAsTheyWere
 mod NextChanges
 mod NextEvents
 mod RespectedOwners
 mod SafeStates
+pub mod InstructionsFollow
+mod WorkFalls
+mod WorkOfStates
+mod OrdersRun

@@ -18,3 +18,5 @@ pub mod PartsLaws
 pub mod GrowingRuns
 pub mod ChangeLaws
 pub mod RunSafety
+pub mod WorkLeft
+pub mod EveryOrder

@@ -16,6 +16,7 @@ pub mod run_laws;
 pub mod safety_laws;
 pub mod site_laws;
 pub mod untried_laws;
+pub mod work_laws;
 
 pub use change_laws::{
     events_leave_others, events_respect_owners, parts_leave_words, runs_respect_owners,
@@ -44,4 +45,7 @@ pub use safety_laws::runs_are_safe;
 pub use site_laws::{events_reach_sites, sites_differ, sites_lie_inside};
 pub use untried_laws::{
     events_make_no_attempts, next_makes_no_attempts, no_attempts, start_has_no_attempts,
+};
+pub use work_laws::{
+    events_lessen_all_work, events_lessen_work, every_order_has_run, work_is_bounded,
 };

@@ -1,0 +1,209 @@
+-- Once the lock word of an attempt is no longer as it was noted, each instruction that it begins takes one away of those ahead of its
+-- frames, whatever happens.
+use Rattle.std.proofs.Common.{◌≡◌, ◌≢◌, ◌⊎◌, inl, inr, ℕ, zero, suc, ◌+◌, ◌≤◌, Bool, true, false, List, [], ◌∷◌, ◌++◌, map, drop, Option, Some, None, refl, sym, ap, subst, ◌∙◌, arith}
+use Rattle.std.specs.Prelude.{◌==◌, slice_get, slice_index, if◌then◌else◌}
+use Rattle.lists.proofs.ListLaws.{same_some}
+use Rattle.jvm_types.specs.declared.program.Program.{Program}
+use Rattle.checked_program.specs.MarkedProgram.{MarkedProgram, IsMarked}
+use Rattle.checked_program.specs.SectionLaws.{ApartLaw}
+use Rattle.machine_types.specs.Accesses.{found_by}
+use Rattle.machine_types.specs.Core.{Core, Happening, Of, NextPart, core, event_of, happened, how_ended, may_begin, next_threads, part_begins, part_phase, with_roots}
+use Rattle.machine_types.specs.Elision.{is_same}
+use Rattle.machine_types.specs.Events.{wanted, moved}
+use Rattle.machine_types.specs.LockWords.{word_of_lock}
+use Rattle.machine_types.specs.Parts.{run_roots, done_roots}
+use Rattle.machine_types.specs.Settings.{AreSettings}
+use Rattle.machine_types.specs.Structure.{AttemptStands, AttemptStandsIn, IsStructured}
+use Rattle.machine_types.specs.Threads.{Attempt, Frame, Thread}
+use Rattle.machine_types.specs.declared.access.Access.TheVariants.{Load}
+use Rattle.machine_types.specs.declared.config.Config.{Config}
+use Rattle.machine_types.specs.declared.lock.LockWord.TheVariants as locks
+use Rattle.machine_types.specs.declared.phase.After.TheVariants as afters
+use Rattle.machine_types.specs.declared.phase.Phase.{Phase}
+use Rattle.machine_types.specs.declared.phase.Phase.TheVariants as phases
+use Rattle.laws_threads.specs.InsideEffects.{InsideMayDo}
+use Rattle.laws_threads.specs.InsideMoves.{NoElementInside}
+use Rattle.laws_states.specs.RunFacts.{HaveWidth}
+use Rattle.laws_states.proofs.LockViews.{is_there, not_same}
+use Rattle.laws_states.specs.RunSafety.{IsSafe, RunsAreSafe}
+use Rattle.laws_simulation.proofs.Assembled.{got_when_set, got_other}
+use Rattle.laws_refinement.proofs.Inside.{Inside, is_inside}
+use Rattle.laws_refinement.specs.TornRuns.{attempt_of, begun_in, begun_of, begun_by, begun_inside, if_open, IsTorn, NotedNeverReturns, TornRunsAreShort}
+use Rattle.laws_refinement.proofs.InstructionsAhead.{all_ahead}
+use Rattle.laws_refinement.proofs.LateEvents.{Falls, goes_on_with, late, left_in}
+use Rattle.laws_refinement.proofs.ReachedAhead.{reached_ahead}
+use Rattle.laws_states.proofs.GrowingRuns.{one_more}
+
+-- ---- an attempt that is over begins nothing
+
+none_begun : (c : MarkedProgram) (s : Core) (t : ℕ) (hs : List Happening) → attempt_of (slice_get s.threads t) ≡ None → begun_inside c s t hs ≡ 0
+none_begun c s t [] e = refl
+none_begun c s t (h ∷ hs) e = ap (λ (o : Option Attempt). if_open o (begun_by s t h + begun_inside c (happened c s h) t hs)) e
+
+-- ---- the begin of a part
+
+-- a thread keeps its attempt and its frames, and its phase, unless a part of its own begins
+pub record IsPassed (x y : Thread) : Type 0 where
+  pub attempt : y.attempt ≡ x.attempt
+  pub frames : y.frames ≡ x.frames
+  pub phase : (y.phase ≡ x.phase) ⊎ ((roots : List ℕ) × (y.phase ≡ part_phase roots))
+
+abbrev HasPassed : List Thread → (t : ℕ) → Thread → Type 0
+HasPassed threads t x = (y : Thread) × (slice_get threads t ≡ Some y) × IsPassed x y
+
+stays : (x y : Thread) → y.attempt ≡ x.attempt → y.frames ≡ x.frames → y.phase ≡ x.phase → IsPassed x y
+stays x y a f p = record { attempt = a; frames = f; phase = inl p }
+
+with_each : (roots : List ℕ) (xs : List Thread) (t : ℕ) (x : Thread) → slice_get xs t ≡ Some x → HasPassed (map (with_roots roots) xs) t x
+with_each roots [] t x e = absurd (cc)
+with_each roots (z ∷ zs) zero x e = (with_roots roots z, refl, subst (λ (w : Thread). IsPassed w (with_roots roots z)) (same_some e) (record { attempt = refl; frames = refl; phase = inr (roots, refl) }))
+with_each roots (z ∷ zs) (suc t) x e = with_each roots zs t x e
+
+passed : (p : Program) (part : ℕ) (z : Thread) (workers : List Thread) (t : ℕ) (x : Thread) → slice_get (z ∷ workers) t ≡ Some x → HasPassed (part_begins p part z workers) t x
+passed p zero z workers zero x e =
+    let y : Thread = record z { part = 1; first = how_ended z.phase } in
+    (y, refl, subst (λ (w : Thread). IsPassed w y) (same_some e) (stays z y refl refl refl))
+passed p zero z workers (suc t) x e = with_each (run_roots p) workers t x e
+passed p (suc part) z workers zero x e =
+    let y : Thread = with_roots (done_roots p) (record z { part = 2 }) in
+    (y, refl, subst (λ (w : Thread). IsPassed w y) (same_some e) (record { attempt = refl; frames = refl; phase = inr (done_roots p, refl) }))
+passed p (suc part) z workers (suc t) x e = (x, e, stays x x refl refl refl)
+
+next_passed : (p : Program) (threads : List Thread) (t : ℕ) (x : Thread) → slice_get threads t ≡ Some x → HasPassed (next_threads p threads) t x
+next_passed p [] t x e = absurd (cc)
+next_passed p (z ∷ workers) t x e = by_test (may_begin (z ∷ workers))
+  where
+    by_test : (b : Bool) → HasPassed (if b then part_begins p z.part z workers else z ∷ workers) t x
+    by_test true = passed p z.part z workers t x e
+    by_test false = (x, e, stays x x refl refl refl)
+
+part_left : (p : Program) (base : ℕ) (x y : Thread) → IsPassed x y → left_in p base y.phase y.frames ≤ left_in p base x.phase x.frames
+part_left p base x y k = rw k.frames (by_phase k.phase)
+  where
+    by_roots : (roots : List ℕ) → left_in p base (part_phase roots) x.frames ≤ left_in p base x.phase x.frames
+    by_roots [] = omega arith
+    by_roots (number ∷ roots) = omega arith
+
+    by_phase : (y.phase ≡ x.phase) ⊎ ((roots : List ℕ) × (y.phase ≡ part_phase roots)) → left_in p base y.phase x.frames ≤ left_in p base x.phase x.frames
+    by_phase (inl e) = rw e (omega arith)
+    by_phase (inr k) = rw k.1 (by_roots k.0)
+
+-- ---- what happens next
+
+differs : (word other : ℕ) → (word ≡ other → ⊥) → (word == other) ≡ false
+differs word other apart = by_test (word == other) refl
+  where
+    by_test : (b : Bool) → (word == other) ≡ b → b ≡ false
+    by_test true e = absurd (apart (is_there word other e))
+    by_test false e = refl
+
+module _ (may_do : InsideMayDo) (no_element : NoElementInside) (safe : RunsAreSafe) (c : MarkedProgram) (cfg : Config) (marked : IsMarked c) (width : HaveWidth cfg) (set : AreSettings cfg) (t : ℕ) where
+  abbrev left_of : Attempt → Thread → ℕ
+  left_of a x = left_in c.program a.base x.phase x.frames
+
+  -- behind it the thread is there, and its attempt goes on so
+  abbrev Leaves : (a : Attempt) (n k : ℕ) → Core → Type 0
+  Leaves a n k s = (y : Thread) × (slice_get s.threads t ≡ Some y) × Falls c.program a n k y
+
+  module _ (front : List Happening) (x : Thread) (a : Attempt) (there : slice_get (core c cfg front).threads t ≡ Some x) (tries : x.attempt ≡ Some a) where
+    abbrev s : Core
+    s = core c cfg front
+
+    as_it_was : (s : Core) → slice_get s.threads t ≡ Some x → Leaves a (left_of a x) 0 s
+    as_it_was s e = (x, e, goes_on_with c.program a (left_of a x) 0 a.inner x tries (omega arith))
+
+    own : IsTorn s.words a → (o : Option Thread) → slice_get s.threads t ≡ o → Leaves a (left_of a x) (begun_of o) (event_of c s t o)
+    own torn None e = absurd (let bad : None ≡ Some x = sym e ∙ there in cc)
+    own torn (Some y) e = subst (λ (z : Thread). Leaves a (left_of a x) (begun_in z.phase) (event_of c s t (Some z))) (same_some (sym there ∙ e)) (now, got_when_set s.threads t x now there, falls)
+      where
+        got : ℕ
+        got = found_by s.words (wanted c x x.phase)
+
+        now : Thread
+        now = moved c x x.phase got
+
+        k : IsSafe c s x
+        k = safe c cfg front t x marked width set there
+
+        inside : Inside c x a
+        inside = is_inside may_do no_element c marked x a tries k.lawful.was k.lawful.structured
+
+        missed : wanted c x x.phase ≡ Some (Load a.monitor) → is_same a got ≡ false
+        missed w =
+            let word : got ≡ slice_index s.words a.monitor = ap (found_by s.words) w in
+            differs got (word_of_lock (locks.Free a.noted)) (λ same. torn (sym word ∙ same))
+
+        falls : Falls c.program a (left_of a x) (begun_in x.phase) now
+        falls = late c marked x a tries x.phase got refl inside.known inside.based k.goes k.access.found missed
+
+    other : (u : ℕ) → t ≢ u → (o : Option Thread) → slice_get s.threads u ≡ o → Leaves a (left_of a x) 0 (event_of c s u o)
+    other u apart None e = as_it_was s there
+    other u apart (Some y) e = as_it_was (event_of c s u (Some y)) (got_other s.threads u t (moved c y y.phase (found_by s.words (wanted c y y.phase))) apart ∙ there)
+
+    one : (h : Happening) → IsTorn s.words a → Leaves a (left_of a x) (begun_by s t h) (happened c s h)
+    one (Of u) torn = by_number (u == t) refl
+      where
+        by_number : (b : Bool) → (u == t) ≡ b → Leaves a (left_of a x) (if b then begun_of (slice_get s.threads t) else 0) (happened c s (Of u))
+        by_number true e = subst (λ (v : ℕ). Leaves a (left_of a x) (begun_of (slice_get s.threads t)) (happened c s (Of v))) (sym (is_there u t e)) (own torn (slice_get s.threads t) refl)
+        by_number false e = other u (λ same. not_same u t e (sym same)) (slice_get s.threads u) refl
+    one NextPart torn =
+        let k = next_passed c.program s.threads t x there in
+        (k.0, k.1, goes_on_with c.program a (left_of a x) 0 a.inner k.0 (k.2.attempt ∙ tries) (omega (arith, part_left c.program a.base x k.0 k.2)))
+
+  -- ---- and so on
+
+  module _ (never : NotedNeverReturns) where
+    each : (more front : List Happening) (x : Thread) (a : Attempt) → slice_get (core c cfg front).threads t ≡ Some x → x.attempt ≡ Some a → IsTorn (core c cfg front).words a → begun_inside c (core c cfg front) t more ≤ left_of a x
+    each [] front x a there tries torn = omega arith
+    each (h ∷ more) front x a there tries torn =
+        let k = one front x a there tries h torn in
+        by_attempt k.0 k.1 k.2 k.0.attempt refl (λ b e away. each more (front ++ h ∷ []) k.0 b (ap (λ (r : Core). slice_get r.threads t) (one_more c cfg front h) ∙ k.1) e away)
+      where
+        s : Core
+        s = core c cfg front
+
+        r : Core
+        r = happened c s h
+
+        opened : begun_inside c s t (h ∷ more) ≡ begun_by s t h + begun_inside c r t more
+        opened = ap (λ (o : Option Thread). if_open (attempt_of o) (begun_by s t h + begun_inside c r t more)) there ∙ ap (λ (o : Option Attempt). if_open o (begun_by s t h + begun_inside c r t more)) tries
+
+        by_attempt : (y : Thread) → slice_get r.threads t ≡ Some y → Falls c.program a (left_of a x) (begun_by s t h) y → (o : Option Attempt) → y.attempt ≡ o
+            → ((b : Attempt) → y.attempt ≡ Some b → IsTorn (core c cfg (front ++ h ∷ [])).words b → begun_inside c (core c cfg (front ++ h ∷ [])) t more ≤ left_of b y) → begun_inside c s t (h ∷ more) ≤ left_of a x
+        by_attempt y e k None over on =
+            let none : begun_inside c r t more ≡ 0 = none_begun c r t more (ap attempt_of e ∙ over) in
+            let few = k.few in
+            rw opened (omega (arith, none, few))
+        by_attempt y e k (Some b) is on =
+            let same = k.same b is in
+            let away : IsTorn (core c cfg (front ++ h ∷ [])).words b =
+            subst (λ (q : Core). IsTorn q.words b) (sym (one_more c cfg front h))
+            (subst (λ (q : Attempt). IsTorn r.words q) (sym same.1) (never c cfg front h t a (record { marked = marked; width = width; settings = set; thread = x; there = there; tries = tries }) torn)) in
+            let later : begun_inside c r t more ≤ left_of b y = subst (λ (q : Core). begun_inside c q t more ≤ left_of b y) (one_more c cfg front h) (on b is away) in
+            let base : left_of b y ≡ left_of a y = ap (λ (q : Attempt). left_of q y) same.1 in
+            let fewer = k.fewer b is in
+            rw opened (omega (arith, later, base, fewer))
+
+-- ---- the whole
+
+standing : (c : MarkedProgram) (was : Phase) (x : Thread) (a : Attempt) → IsStructured c was x → x.attempt ≡ Some a → AttemptStands c was x.frames x.held a
+standing c was x a k tries = subst (λ (o : Option Attempt). AttemptStandsIn c was x.frames x.held o) tries k.attempt
+
+fewer_below : (p : Program) (base : ℕ) (fs : List Frame) → all_ahead p base (drop 1 fs) ≤ all_ahead p base fs
+fewer_below p base [] = omega arith
+fewer_below p base (f ∷ fs) = omega arith
+
+all_within : (p : Program) (base : ℕ) (phase : Phase) (fs : List Frame) (n : ℕ) → all_ahead p base fs ≤ n → left_in p base phase fs ≤ n
+all_within p base phases.Run fs n h = h
+all_within p base (phases.Enter m tried) fs n h = h
+all_within p base (phases.Leave m afters.Next) fs n h = h
+all_within p base (phases.Leave m afters.Return) fs n h = omega (arith, h, fewer_below p base fs)
+all_within p base phase fs n h = omega arith
+
+pub torn_runs_are_short : InsideMayDo → NoElementInside → RunsAreSafe → ApartLaw → NotedNeverReturns → TornRunsAreShort
+torn_runs_are_short may_do no_element safe apart never c cfg hs more t n a k torn reach =
+    let x : Thread = k.thread in
+    let at : IsSafe c (core c cfg hs) x = safe c cfg hs t x k.marked k.width k.settings k.there in
+    let whole = reached_ahead apart c n a reach at.lawful.was x.frames x.held (standing c at.lawful.was x a at.lawful.structured k.tries) in
+    let few = each may_do no_element safe c cfg k.marked k.width k.settings t never more hs x a k.there k.tries torn in
+    omega (arith, few, all_within c.program a.base x.phase x.frames n whole)
