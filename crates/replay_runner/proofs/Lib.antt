@@ -5,3 +5,4 @@ mod Turns
 mod MachineEvents
 mod ManyEvents
 mod LoneWorker
+mod Reaching

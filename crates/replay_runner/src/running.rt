@@ -5,7 +5,7 @@ ghost use Rattle.machine_types.specs.Core.{event, is_live, lives, may_begin, nex
 ghost use Rattle.machine_types.specs.Settings.{AreSettings};
 ghost use Rattle.jvm_types.specs.declared.limits.TheConstants.{MOST_WORKERS};
 ghost use Rattle.run_parts.specs.Parts.{own_begun};
-ghost use Rattle.replay_runner.specs.Running.{IsThreadOf, Running, run_on};
+ghost use Rattle.replay_runner.specs.Running.{IsThreadOf, Running, run_on, turns_of};
 
 use checked_program::Checked;
 use frames::ThreadState;
@@ -123,6 +123,17 @@ impl Machine {
         ensures few { result ≤ MOST_WORKERS }
     {
         (self.threads.len() - 1) as u8
+    }
+
+    /// How many turns thread `t` has failed since its last entry or wait: 0 where there is no such thread.
+    #[inline(always)]
+    pub fn turns(&self, t: u8) -> u32
+        ensures { result ≡ turns_of (slice_get self.now.core.threads t) }
+    {
+        match self.threads.get(t as usize) {
+            Some(thread) => thread.turns(),
+            None => 0,
+        }
     }
 
     /// One event of thread `t`: `false` where it is not live or there is none, and then nothing changes.

@@ -1,0 +1,6 @@
+use Rattle.std.specs.Prelude.{Some}
+use Rattle.replay_runner.proofs.locking.run_locked.Given as goal
+
+-- the run of the machine that was just made
+abbrev pub ghosts-run_named : goal.ghosts-run_named
+ghosts-run_named g a = record { run = Some (record { program = a.machine.program; cfg = a.machine.cfg }) }

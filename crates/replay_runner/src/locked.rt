@@ -1,0 +1,121 @@
+//! The machine under the lock.
+
+ghost use Rattle.std.specs.Prelude.{◌≡◌, ◌≤◌, ◌+◌, ℕ, false, length, slice_get, OnOk};
+ghost use Rattle.jvm_types.specs.declared.limits.TheConstants.{MOST_WORKERS};
+ghost use Rattle.machine_types.specs.Core.{event, lives, may_begin, next};
+ghost use Rattle.machine_types.specs.Faithful.{IsOver};
+ghost use Rattle.replay_runner.specs.Running.{turns_of};
+ghost use Rattle.replay_runner.specs.Locked.{IsEndOf, IsMachineOf, IsOfProgram};
+
+use crate::running::Machine;
+use checked_program::Checked;
+use jvm_types::Outcome;
+use laws_states::one_more_happens;
+use std::alloc::AllocError;
+use std::marker::{Brand, Model, PhantomData};
+
+/// Which run it is: its program and its settings. Each call at `Brand` picks it.
+pub(crate) trait Naming {
+    ghost use Rattle.std.specs.Prelude.{Option};
+    ghost use Rattle.replay_runner.specs.Locked.{Named};
+
+    ghost run: { Option Named };
+}
+
+impl Naming for Brand {
+    ghost use Rattle.std.specs.Prelude.{None};
+
+    ghost run = { None };
+}
+
+/// The machine of the run that `J` names, in a state that this run reaches, whichever thread made the last event. Contracts see
+/// the machine.
+#[derive(Drop)]
+pub(crate) struct Locked<J: Naming> {
+    machine: Machine,
+    of: PhantomData<J>,
+}
+
+impl<J: Naming> Model for Locked<J> {
+    ghost use Rattle.replay_runner.specs.Locked.{IsMachineOf};
+    ghost use Rattle.replay_runner.specs.Running.{Running};
+
+    ghost Value = { Running };
+
+    ghost view = { λ l. l.machine };
+
+    ghost invariant = { λ l. IsMachineOf J.run l.machine };
+}
+
+impl<J: Naming> Locked<J> {
+    /// Keeps a machine for the lock.
+    pub(crate) fn of(machine: Machine) -> Locked<J>
+        requires { IsMachineOf J.run machine }
+        ensures { result ≡ machine }
+    {
+        Locked {
+            machine,
+            of: PhantomData,
+        }
+    }
+
+    /// How many workers there are.
+    pub(crate) fn workers(&self) -> u8
+        ensures count { result + 1 ≡ length self.now.core.threads }
+        ensures few { result ≤ MOST_WORKERS }
+    {
+        self.machine.workers()
+    }
+
+    /// Whether a thread is there and live.
+    pub(crate) fn lives(&self, t: u8) -> bool
+        ensures { result ≡ lives self.now.core t }
+    {
+        self.machine.lives(t)
+    }
+
+    /// How many turns thread `t` has failed since its last entry or wait.
+    pub(crate) fn turns(&self, t: u8) -> u32
+        ensures { result ≡ turns_of (slice_get self.now.core.threads t) }
+    {
+        self.machine.turns(t)
+    }
+
+    /// One event of thread `t`: `false` where it is not live, and then nothing changes.
+    pub(crate) fn event(&mut self, p: &Checked, t: u8) -> bool
+        requires { IsOfProgram J.run p.now }
+        ensures live { result ≡ lives self.old.core t }
+        ensures event { self.new ≡ record self.old { core = event self.old.program self.old.core t } }
+    {
+        one_more_happens();
+        self.machine.event(p, t)
+    }
+
+    /// Events of thread `t` alone, until it is not live.
+    pub(crate) fn run_alone(&mut self, p: &Checked, t: u8) -> Result<(), AllocError>
+        requires { IsOfProgram J.run p.now }
+        ensures { OnOk result (lives self.new.core t ≡ false) }
+    {
+        one_more_happens();
+        self.machine.run_alone(p, t)
+    }
+
+    /// Begins the next part: `false` where it may not begin, and then nothing changes.
+    pub(crate) fn next(&mut self, p: &Checked) -> bool
+        requires { IsOfProgram J.run p.now }
+        ensures may { result ≡ may_begin self.old.core.threads }
+        ensures next { self.new ≡ record self.old { core = next self.old.program self.old.core } }
+        ensures still { result ≡ false → self.new ≡ self.old }
+    {
+        one_more_happens();
+        self.machine.next(p)
+    }
+
+    /// What the run came to, where it is over.
+    pub(crate) fn outcome(self) -> Outcome
+        requires { IsOver self.core }
+        ensures { IsEndOf J.run result }
+    {
+        self.machine.outcome()
+    }
+}
