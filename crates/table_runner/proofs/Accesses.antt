@@ -9,7 +9,7 @@ use Rattle.atomic_table.specs.Table.{State, Me, Allows, keeps}
 use Rattle.checked_program.specs.MarkedProgram.{MarkedProgram}
 use Rattle.machine_types.specs.Accesses.{accessed, found, found_by, left_by, performed, words_after}
 use Rattle.machine_types.specs.Core.{core}
-use Rattle.machine_types.specs.Events.{wanted, moved}
+use Rattle.machine_types.specs.Events.{wanted}
 use Rattle.machine_types.specs.Threads.{Thread}
 use Rattle.machine_types.specs.declared.access.Access.{Access}
 use Rattle.machine_types.specs.declared.access.Access.TheVariants.{Load, Store, Cas, Add, Or, And, Rest}

@@ -1,21 +1,19 @@
 -- Events of one thread, one after the other, and hands behind them.
-use Rattle.std.proofs.Common.{◌≡◌, ◌≢◌, ℕ, zero, suc, true, false, List, [], ◌∷◌, Option, Some, None, is_some, option_map, refl, sym, ap, subst, ◌∙◌}
-use Rattle.std.specs.Prelude.{slice_set, IsSome}
+use Rattle.std.proofs.Common.{◌≡◌, ◌≢◌, ℕ, Option, Some, None, is_some, option_map, refl, sym, ap, subst, ◌∙◌}
+use Rattle.std.specs.Prelude.{slice_set}
 use mathlib.Core.Logic.{dite}
 use native.Mathlib.Decide.{ℕ_discrete}
-use Rattle.checked_program.specs.MarkedProgram.{MarkedProgram}
 use Rattle.jvm_types.specs.declared.outcome.ThreadReport.{ThreadReport}
 use Rattle.lists.specs.Stock.{Stock}
-use Rattle.laws_threads.specs.GivenThread.{Given, GivenIsKept, given_of}
+use Rattle.laws_threads.specs.GivenThread.{GivenIsKept, given_of}
 use Rattle.machine_types.specs.Events.{wanted}
 use Rattle.machine_types.specs.Threads.{Thread}
-use Rattle.machine_types.specs.declared.config.Config.{Config}
 use Rattle.table_rule.specs.Views.{View, held_in}
 use Rattle.table_rule.proofs.Entries.{held_here, held_else, set_held}
-use Rattle.table_runner.specs.Accessing.{NextEvent, made, Happens, Stands}
+use Rattle.table_runner.specs.Accessing.{NextEvent, made, Stands}
 use Rattle.table_runner.specs.Going.{Goes, GoesOn, GoesOnAt}
 use Rattle.table_runner.specs.Handed.{Handed, AreHands, EachStands, HasRoom, viewed}
-use Rattle.table_runner.specs.Running.{AreSame, IsRunOn}
+use Rattle.table_runner.specs.Running.{IsRunOn}
 use Rattle.table_runner.proofs.HandedThreads.{room_as, stands_after, stands_of, viewed_else}
 
 -- ---- one thread

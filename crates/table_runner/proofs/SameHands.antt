@@ -1,6 +1,5 @@
 -- Hands that make events hold the same threads.
 use Rattle.std.proofs.Common.{◌≡◌, ℕ, true, refl, sym, subst, ◌∙◌}
-use Rattle.std.specs.Prelude.{IsSome}
 use Rattle.atomic_table.specs.Seated.{TableId}
 use Rattle.checked_program.specs.MarkedProgram.{MarkedProgram}
 use Rattle.machine_types.specs.declared.config.Config.{Config}

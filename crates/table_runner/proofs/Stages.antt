@@ -1,19 +1,19 @@
 -- How far a run is, along its parts.
-use Rattle.std.proofs.Common.{◌≡◌, ◌≢◌, ℕ, zero, suc, ◌+◌, ◌<◌, ◌≤◌, Bool, true, false, List, [], ◌∷◌, Option, Some, None, option_map, refl, sym, ap, subst, ◌∙◌, arith}
-use Rattle.std.specs.Prelude.{nat_lt, slice_get, IsSome}
+use Rattle.std.proofs.Common.{◌≡◌, ℕ, zero, suc, ◌+◌, ◌<◌, Bool, true, false, List, [], ◌∷◌, Option, Some, None, option_map, refl, sym, ap, subst, ◌∙◌, arith}
+use Rattle.std.specs.Prelude.{nat_lt, slice_get}
 use Rattle.std.proofs.lemmas.Bool.Decides.{nat_tests}
 use mathlib.Core.Logic.{dite}
 use native.Mathlib.Decide.{ℕ_discrete}
 use Rattle.jvm_types.specs.declared.outcome.Outcome.{Outcome}
 use Rattle.jvm_types.specs.declared.program.Program.{Program}
 use Rattle.laws_threads.specs.GivenThread.{Given, given_of}
-use Rattle.machine_types.specs.Core.{core, is_live_thread, lives, may_begin, next_threads, part_begins}
+use Rattle.machine_types.specs.Core.{core, is_live_thread, may_begin, next_threads, part_begins}
 use Rattle.machine_types.specs.Threads.{Thread}
 use Rattle.run_parts.specs.Ended.{IsEndOfRun}
 use Rattle.table_rule.specs.Views.{View, held_in, Holds}
 use Rattle.table_runner.specs.Ending.{IsOutcome}
 use Rattle.table_runner.specs.Handed.{Handed}
-use Rattle.table_runner.specs.Running.{AreDeadBelow, HaveEnded, IsAlone, IsRunOn, IsWaiting, NoWorkerLives, part_in}
+use Rattle.table_runner.specs.Running.{AreDeadBelow, HaveEnded, IsAlone, IsRunOn, IsWaiting, NoWorkerLives}
 use Rattle.table_runner.specs.Sharing.{IsNext}
 
 -- ---- events of one thread

@@ -1,16 +1,16 @@
 -- The hands of the workers, that are split off and joined again.
-use Rattle.std.proofs.Common.{◌≡◌, ◌≢◌, ℕ, zero, suc, ◌+◌, ◌<◌, ◌≤◌, Bool, true, false, List, [], ◌∷◌, ◌++◌, length, length-append, Option, Some, None, is_some, refl, sym, ap, subst, ◌∙◌, arith}
+use Rattle.std.proofs.Common.{◌≡◌, ◌≢◌, ℕ, zero, suc, ◌+◌, ◌<◌, ◌≤◌, Bool, true, false, List, [], ◌∷◌, ◌++◌, length, Option, Some, None, refl, sym, subst, ◌∙◌, arith}
 use Rattle.std.specs.Prelude.{IsSome, nat_le, slice_index_or}
 use Rattle.std.proofs.lemmas.Bool.Decides.{nat_tests}
 use Rattle.atomic_table.specs.Seated.{TableId}
 use Rattle.checked_program.specs.MarkedProgram.{MarkedProgram}
 use Rattle.machine_types.specs.Threads.{Thread}
 use Rattle.machine_types.specs.declared.config.Config.{Config}
-use Rattle.table_rule.specs.Views.{View, held_in}
+use Rattle.table_rule.specs.Views.{held_in}
 use Rattle.table_rule.proofs.Entries.{held_else}
 use Rattle.table_runner.specs.Handed.{Handed, IsTableOf}
 use Rattle.table_runner.specs.Running.{AreWorkers, IsWorker, RestOf, RunsHere}
-use Rattle.table_runner.specs.Sharing.{AreJoined, alone, first_of, merged, thread_alone, without, without_thread}
+use Rattle.table_runner.specs.Sharing.{AreJoined, first_of, thread_alone, without_thread}
 use Rattle.table_runner.proofs.SharedViews.{alone_here}
 
 module _ (table : TableId) (c : MarkedProgram) (cfg : Config) where

@@ -1,4 +1,3 @@
-use Rattle.std.proofs.Common.{ℕ, ◌≡◌}
 use Rattle.machine_types.specs.declared.access.Access.TheVariants.{Load, Store, Cas, Add, Or, And, Rest}
 use Rattle.table_runner.proofs.Accesses.{allows_as, loads, stores, exchanges, adds, ors, ands, rests}
 use Rattle.table_runner.proofs.access.perform.Goals as goal

@@ -1,10 +1,6 @@
-use Rattle.std.proofs.Common.{◌≡◌, sym, ap, subst, ◌∙◌, refl}
-use Rattle.machine_types.specs.Lawful.{IsLawful}
-use Rattle.machine_types.specs.Events.{wanted}
-use Rattle.table_rule.specs.Views.{View}
-use Rattle.table_runner.specs.Accessing.{NextEvent, made}
-use Rattle.table_runner.specs.Handed.{viewed}
-use Rattle.table_runner.proofs.HandedThreads.{is_thread, is_lawful, fits, happens_here}
+use Rattle.std.proofs.Common.{sym}
+use Rattle.table_runner.specs.Accessing.{NextEvent}
+use Rattle.table_runner.proofs.HandedThreads.{is_thread, is_lawful, fits}
 use Rattle.table_runner.proofs.events.go.Goals as goal
 
 pub want-requires-clause-program : goal.want-requires-clause-program

@@ -1,6 +1,6 @@
-use Rattle.std.proofs.Common.{◌≡◌, ◌∙◌}
+use Rattle.std.proofs.Common.{◌∙◌}
 use Rattle.table_runner.specs.Accessing.{NextEvent}
-use Rattle.table_runner.proofs.ManyEvents.{none_yet, one_more}
+use Rattle.table_runner.proofs.ManyEvents.{one_more}
 use Rattle.table_runner.proofs.events.go_on.Goals as goal
 
 pub loop-preserved : goal.loop-preserved

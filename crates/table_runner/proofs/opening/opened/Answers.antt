@@ -1,4 +1,4 @@
-use Rattle.std.proofs.Common.{◌≡◌, Result, Ok, Err, IfOk, refl, sym, ap, subst, ◌∙◌, map, Some, List, ℕ, ◌∷◌, []}
+use Rattle.std.proofs.Common.{Result, Ok, Err, IfOk, sym, ap, subst, ◌∙◌, map, Some, List, ℕ, ◌∷◌, []}
 use Rattle.checked_program.specs.MarkedProgram.{MarkedProgram}
 use Rattle.machine_types.specs.Core.{start}
 use Rattle.table_rule.specs.Views.{ShowsRun}

@@ -1,4 +1,4 @@
-use Rattle.std.proofs.Common.{◌≡◌, length, ap, sym, subst, ◌∙◌, Some}
+use Rattle.std.proofs.Common.{sym, subst, ◌∙◌, Some}
 use Rattle.std.specs.Prelude.{slice_set}
 use Rattle.table_runner.proofs.StartHands.{ArePlaced, next_placed}
 use Rattle.table_runner.proofs.opening.placed.Goals as goal

@@ -1,4 +1,4 @@
-use Rattle.std.proofs.Common.{ℕ, length}
+use Rattle.std.proofs.Common.{length}
 use Rattle.table_runner.proofs.StartHands.{ArePlaced}
 use Rattle.table_runner.proofs.opening.placed.Given as goal
 

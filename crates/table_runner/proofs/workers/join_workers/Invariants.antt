@@ -1,4 +1,4 @@
-use Rattle.std.proofs.Common.{◌≡◌, ◌+◌, length}
+use Rattle.std.proofs.Common.{◌+◌, length}
 use Rattle.table_rule.specs.Views.{held_in}
 use Rattle.table_runner.specs.Running.{AreWorkers, RestOf}
 use Rattle.table_runner.proofs.workers.join_workers.Given as goal

@@ -1,9 +1,9 @@
-use Rattle.std.proofs.Common.{◌≡◌, List, Some, refl, sym, ap, subst, ◌∙◌, arith}
+use Rattle.std.proofs.Common.{◌≡◌, Some, sym, ap, subst, ◌∙◌, arith}
 use Rattle.checked_program.specs.MarkedProgram.{MarkedProgram}
 use Rattle.machine_types.specs.declared.config.Config.{Config}
 use Rattle.jvm_types.specs.declared.outcome.Outcome.{Outcome}
 use Rattle.machine_types.specs.Threads.{Thread}
-use Rattle.table_rule.specs.Views.{View, HoldsAll, ShowsRun, held_in}
+use Rattle.table_rule.specs.Views.{HoldsAll, ShowsRun, held_in}
 use Rattle.table_runner.specs.Handed.{Handed}
 use Rattle.table_runner.specs.Ending.{IsOutcome}
 use Rattle.table_runner.proofs.HandedThreads.{in_place}

@@ -1,6 +1,5 @@
-use Rattle.std.proofs.Common.{◌≡◌, sym, ap, subst, ◌∙◌}
+use Rattle.std.proofs.Common.{sym, ap, subst}
 use Rattle.checked_program.specs.MarkedProgram.{MarkedProgram}
-use Rattle.table_rule.specs.Views.{View}
 use Rattle.table_runner.specs.Handed.{Handed, AreHands}
 use Rattle.table_runner.proofs.StartHands.{are_held, room_held}
 use Rattle.table_runner.proofs.hands.Hands.held.Goals as goal

@@ -1,10 +1,9 @@
-use Rattle.std.proofs.Common.{◌≡◌, List, refl, sym, ap, subst, ◌∙◌, true, false, arith}
+use Rattle.std.proofs.Common.{◌≡◌, refl, sym, ap, subst, ◌∙◌, true, false, arith}
 use Rattle.std.specs.Prelude.{IsSome}
 use Rattle.atomic_table.specs.Seated.{TableId}
 use Rattle.checked_program.specs.MarkedProgram.{MarkedProgram}
-use Rattle.machine_types.specs.Threads.{Thread}
 use Rattle.machine_types.specs.declared.config.Config.{Config}
-use Rattle.table_rule.specs.Views.{View, held_in, Holds, HoldsAll}
+use Rattle.table_rule.specs.Views.{held_in, HoldsAll}
 use Rattle.table_runner.specs.Handed.{Handed, AreHands}
 use Rattle.table_runner.specs.Running.{AreSame}
 use Rattle.table_runner.specs.Sharing.{CanBegin, HasBegun, IsNext}

@@ -1,9 +1,9 @@
-use Rattle.std.proofs.Common.{◌≡◌, refl, sym, ap, subst, ◌∙◌}
+use Rattle.std.proofs.Common.{◌≡◌, sym, ap, subst, ◌∙◌}
 use Rattle.std.specs.Prelude.{slice_set, slice_index_or, IsSome}
 use Rattle.atomic_table.specs.Seated.{TableId}
 use Rattle.checked_program.specs.MarkedProgram.{MarkedProgram}
 use Rattle.machine_types.specs.declared.config.Config.{Config}
-use Rattle.table_rule.specs.Views.{View, held_in}
+use Rattle.table_rule.specs.Views.{held_in}
 use Rattle.table_runner.specs.Going.{GoesOnAt}
 use Rattle.table_runner.specs.Handed.{Handed, AreHands}
 use Rattle.table_runner.specs.Running.{IsRunOn}

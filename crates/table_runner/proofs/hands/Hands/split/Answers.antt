@@ -1,10 +1,10 @@
-use Rattle.std.proofs.Common.{◌≡◌, ◌<◌, true, false, refl, sym, ap, subst, ◌∙◌, arith}
+use Rattle.std.proofs.Common.{◌≡◌, sym, ap, subst, ◌∙◌}
 use Rattle.atomic_table.specs.Seated.{TableId}
 use Rattle.checked_program.specs.MarkedProgram.{MarkedProgram}
 use Rattle.std.specs.Prelude.{replicate, None, slice_set}
-use Rattle.table_rule.specs.Views.{View, held_in}
+use Rattle.table_rule.specs.Views.{View}
 use Rattle.table_runner.specs.Handed.{Handed, AreHands, HasRoom}
-use Rattle.table_runner.specs.Sharing.{alone, thread_alone, without, without_thread}
+use Rattle.table_runner.specs.Sharing.{alone, without}
 use Rattle.table_runner.proofs.HandsApart.{are_alone, are_without, room_alone, room_without}
 use Rattle.table_runner.proofs.hands.Hands.split.Goals as goal
 
