@@ -10,23 +10,32 @@ use Rattle.checked_program.specs.MarkedProgram.{MarkedProgram}
 use Rattle.class_runner.specs.Loading.{IsLoaded, IsRefusedBy}
 use Rattle.run_texts.specs.Refusal.{refusal_text}
 use Rattle.solero.specs.Command.{Asked}
-use Rattle.solero.specs.Answer.{IsDue, IsMade, Refuses, first_long}
+use Rattle.solero.specs.Answer.{IsDue, IsMadeBy, Refuses, first_long}
 use Rattle.jvm_types.specs.declared.limits.TheConstants.{MOST_FILE_BYTES}
 use Rattle.solero.specs.Reading.{IsUnread}
-use Rattle.solero.specs.Parts.{IsLine, IsMadeBy, IsRun, IsUnreadDue}
+use Rattle.solero.specs.Parts.{IsLine, IsRun, IsUnreadDue}
 use Rattle.host_io.specs.declared.shelf.NamedFile.{NamedFile}
 use Rattle.host_io.specs.declared.shelf.ShelfError.{ShelfError}
 use Rattle.host_io.specs.declared.shelf.ShelfError.TheVariants.{Memory, Failed, TooLong}
 use Rattle.solero.specs.declared.request.Mode.{Mode}
-use Rattle.solero.specs.declared.request.Mode.TheVariants.{Replay, Mark}
+use Rattle.solero.specs.declared.request.Mode.TheVariants.{Replay, Run, Mark}
 use Rattle.solero.specs.declared.answer.Due.{Due}
-use Rattle.solero.specs.declared.answer.Due.TheVariants.{Report, Marks, Refusal, CannotRead, OutOfMemory}
+use Rattle.solero.specs.declared.answer.Due.TheVariants.{Report, Marks, Usage, Refusal, CannotRead, OutOfMemory}
+
+-- no mode makes a refusal
+made_no_refusal : (mode : Mode) (asked : Asked) (checked : MarkedProgram) (text : List ℕ) → IsMadeBy mode asked checked (Refusal text) → ⊥
+made_no_refusal Replay asked checked text made = made
+made_no_refusal Run asked checked text made = made
+made_no_refusal Mark asked checked text made = made
 
 -- what the mode makes of the program that the files are loaded to is made of the files
-pub made_of_files : (mode : Mode) (asked : Asked) (contents : List (List ℕ)) (checked : MarkedProgram) (due : Due) → asked.mode ≡ mode → IsLoaded contents asked.heap asked.threads checked → IsMadeBy mode asked checked due → IsRun asked contents due
-made_of_files Replay asked contents checked (Report finish text) is loaded run = subst (λ (m : Mode). IsMade m asked contents (Report finish text)) (sym is) (record { checked = checked; loaded = loaded; run = run })
-made_of_files Mark asked contents checked (Marks text) is loaded m = subst (λ (mode : Mode). IsMade mode asked contents (Marks text)) (sym is) (record { checked = checked; loaded = loaded; marks = m })
-made_of_files mode asked contents checked due is loaded m = absurd m
+pub made_of_files : (asked : Asked) (contents : List (List ℕ)) (checked : MarkedProgram) (due : Due) → IsLoaded contents asked.heap asked.threads checked → IsMadeBy asked.mode asked checked due → IsRun asked contents due
+made_of_files asked contents checked (Refusal text) loaded made = absurd (made_no_refusal asked.mode asked checked text made)
+made_of_files asked contents checked OutOfMemory loaded made = tt
+made_of_files asked contents checked (Report finish text) loaded made = record { checked = checked; loaded = loaded; made = made }
+made_of_files asked contents checked (Marks text) loaded made = record { checked = checked; loaded = loaded; made = made }
+made_of_files asked contents checked Usage loaded made = record { checked = checked; loaded = loaded; made = made }
+made_of_files asked contents checked (CannotRead text) loaded made = record { checked = checked; loaded = loaded; made = made }
 
 -- the line of what refuses files, none of which is too long, is due to them
 pub refused_run : (asked : Asked) (contents : List (List ℕ)) (rule : Rule) (place : Place) (due : Due) → first_long 0 contents ≡ None → IsRefusedBy contents asked.heap asked.threads rule place → IsLine (refusal_text rule place) due → IsRun asked contents due

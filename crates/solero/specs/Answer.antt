@@ -24,7 +24,7 @@ use Rattle.host_io.specs.declared.shelf.NamedFile.{NamedFile}
 use Rattle.solero.specs.declared.finish.Finish.{Finish}
 use Rattle.solero.specs.declared.finish.Finish.TheVariants.{Returned, Uncaught, Limited}
 use Rattle.solero.specs.declared.request.Mode.{Mode}
-use Rattle.solero.specs.declared.request.Mode.TheVariants.{Replay, Mark}
+use Rattle.solero.specs.declared.request.Mode.TheVariants.{Replay, Run, Mark}
 use Rattle.solero.specs.declared.answer.Due.{Due}
 use Rattle.solero.specs.declared.answer.Due.TheVariants.{Report, Marks, Usage, Refusal, CannotRead, OutOfMemory}
 
@@ -55,10 +55,8 @@ first_long file (content ∷ contents) = if nat_lt MOST_FILE_BYTES (length conte
 
 -- ---- what is due to the contents of the files
 
--- the text reports what a program comes to over exactly the schedule of an order, which finishes so
-pub record ReportsRun (asked : Asked) (checked : MarkedProgram) (finish : Finish) (text : List ℕ) : Type 0 where
-  pub happenings : List Happening
-  pub schedule : IsScheduleOf checked asked.cfg asked.order happenings
+-- the text reports what a program comes to over these happenings, and how it finished
+pub record ReportsOver (asked : Asked) (checked : MarkedProgram) (happenings : List Happening) (finish : Finish) (text : List ℕ) : Type 0 where
   -- the run stands for one of the plain machine with ordinary monitors, event by event
   pub plain : IsFaithful checked asked.cfg happenings
   -- and it is over: no thread is live, and no part may begin
@@ -66,23 +64,29 @@ pub record ReportsRun (asked : Asked) (checked : MarkedProgram) (finish : Finish
   pub report : text ≡ report_text (outcome (core checked asked.cfg happenings))
   pub finished : finish ≡ finish_of (outcome (core checked asked.cfg happenings))
 
--- the same of the program that the files are loaded to
-pub record Reports (asked : Asked) (contents : List (List ℕ)) (finish : Finish) (text : List ℕ) : Type 0 where
+-- the same over exactly the schedule of the order that is asked for
+pub record ReportsReplay (asked : Asked) (checked : MarkedProgram) (finish : Finish) (text : List ℕ) : Type 0 where
+  pub happenings : List Happening
+  pub schedule : IsScheduleOf checked asked.cfg asked.order happenings
+  pub run : ReportsOver asked checked happenings finish text
+
+-- the same over some happenings: in which order the threads came, nobody kept
+pub record ReportsRun (asked : Asked) (checked : MarkedProgram) (finish : Finish) (text : List ℕ) : Type 0 where
+  pub happenings : List Happening
+  pub run : ReportsOver asked checked happenings finish text
+
+-- what a mode makes of a program: the report of a replay or of a run, or its marks
+abbrev pub IsMadeBy : Mode → Asked → MarkedProgram → Due → Type 0
+IsMadeBy Replay asked checked (Report finish text) = ReportsReplay asked checked finish text
+IsMadeBy Run asked checked (Report finish text) = ReportsRun asked checked finish text
+IsMadeBy Mark asked checked (Marks text) = text ≡ marks_text checked.program checked.marks
+IsMadeBy mode asked checked due = ⊥
+
+-- what the mode makes of the program that the files are loaded to
+pub record IsMade (asked : Asked) (contents : List (List ℕ)) (due : Due) : Type 0 where
   pub checked : MarkedProgram
   pub loaded : IsLoaded contents asked.heap asked.threads checked
-  pub run : ReportsRun asked checked finish text
-
--- the text has the marks of the program that the files are loaded to
-pub record ListsMarks (asked : Asked) (contents : List (List ℕ)) (text : List ℕ) : Type 0 where
-  pub checked : MarkedProgram
-  pub loaded : IsLoaded contents asked.heap asked.threads checked
-  pub marks : text ≡ marks_text checked.program checked.marks
-
--- what the mode makes of the files: a report, or their marks
-abbrev pub IsMade : Mode → Asked → List (List ℕ) → Due → Type 0
-IsMade Replay asked contents (Report finish text) = Reports asked contents finish text
-IsMade Mark asked contents (Marks text) = ListsMarks asked contents text
-IsMade mode asked contents due = ⊥
+  pub made : IsMadeBy asked.mode asked checked due
 
 -- A rule and a place refuse the files. A file that is too long is refused when it is read from the shelf, before any is read as a
 -- class.
@@ -109,7 +113,7 @@ pub record IsMadeOf (files : Option (List NamedFile)) (asked : Asked) (due : Due
   pub are : IfSome files (λ fs. contents ≡ contents_of fs asked.files)
   pub many : length contents ≡ length asked.files
   pub short : AllByRecursion (λ content. length content ≤ MOST_FILE_BYTES) contents
-  pub made : IsMade asked.mode asked contents due
+  pub made : IsMade asked contents due
 
 -- the line of a refusal of the files that are asked for; where the shelf does not tell its files, of some of which there are as many
 pub record RefusesFiles (files : Option (List NamedFile)) (asked : Asked) (text : List ℕ) : Type 0 where

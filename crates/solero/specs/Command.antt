@@ -10,9 +10,11 @@ use Rattle.clap.specs.Faults.{fault_of}
 use Rattle.clap.specs.declared.builder.action.ArgAction.TheVariants.{Append}
 use Rattle.jvm_types.specs.declared.limits.TheConstants.{LEAST_HEAP, MOST_FILES, MOST_HEAP, MOST_LIMIT, MOST_PRINTS, MOST_WORKERS}
 use Rattle.machine_types.specs.declared.config.Config.{Config}
+use Rattle.solero.specs.declared.request.Memory.{Memory}
 use Rattle.solero.specs.declared.request.Mode.{Mode}
 use Rattle.solero.specs.declared.values.TheConstants.{LONGEST_ORDER, USUAL_HEAP, USUAL_PRINTS, USUAL_STEPS}
-use Rattle.solero.specs.declared.request.Mode.TheVariants.{Replay, Mark}
+use Rattle.solero.specs.declared.request.Memory.TheVariants.{Table, Locked}
+use Rattle.solero.specs.declared.request.Mode.TheVariants.{Replay, Run, Mark}
 
 -- the words as texts
 abbrev pub texts : List (String Global) → List Text
@@ -30,7 +32,7 @@ with_names a name = with_rule a (record (new_rule name) { action = Some Append }
 
 abbrev pub the_command : App
 the_command = with_names (fold with_option (new_app (codes "solero"))
-    (codes "mode" ∷ codes "threads" ∷ codes "order" ∷ codes "steps" ∷ codes "turns" ∷ codes "heap" ∷ codes "prints" ∷ codes "elide" ∷ codes "range" ∷ []))
+    (codes "mode" ∷ codes "threads" ∷ codes "order" ∷ codes "steps" ∷ codes "turns" ∷ codes "heap" ∷ codes "prints" ∷ codes "elide" ∷ codes "range" ∷ codes "memory" ∷ []))
     (codes "FILE")
 
 -- what is found in the words, the first of which is the program's name, where clap finds no fault in them; an option that is given
@@ -57,7 +59,12 @@ number_or unless least most (Some text) = within least most (number text)
 
 abbrev pub mode_or_replay : Option Text → Option Mode
 mode_or_replay None = Some Replay
-mode_or_replay (Some text) = if bytes_eq text (codes "replay") then Some Replay else if bytes_eq text (codes "mark") then Some Mark else None
+mode_or_replay (Some text) =
+    if bytes_eq text (codes "replay") then Some Replay else if bytes_eq text (codes "run") then Some Run else if bytes_eq text (codes "mark") then Some Mark else None
+
+abbrev pub memory_or_table : Option Text → Option Memory
+memory_or_table None = Some Table
+memory_or_table (Some text) = if bytes_eq text (codes "table") then Some Table else if bytes_eq text (codes "locked") then Some Locked else None
 
 abbrev pub on_or_off : Option Text → Option Bool
 on_or_off None = Some true
@@ -87,16 +94,18 @@ pub record Asked : Type 0 where
   pub heap : ℕ
   pub cfg : Config
   pub order : List ℕ
+  pub memory : Memory
 
 infixl 10 ◌>>=◌
 abbrev pub ◌>>=◌ : {A B : Type 0} → Option A → (A → Option B) → Option B
 None >>= f = None
 (Some x) >>= f = f x
 
--- the options that a mode doesn't read
+-- the options that a mode doesn't read: an order is chosen for a replay alone, a memory for a run alone
 abbrev pub not_read : Mode → List Text
-not_read Replay = []
-not_read Mark = codes "order" ∷ codes "steps" ∷ codes "turns" ∷ codes "prints" ∷ codes "elide" ∷ codes "range" ∷ []
+not_read Replay = codes "memory" ∷ []
+not_read Run = codes "order" ∷ []
+not_read Mark = codes "order" ∷ codes "memory" ∷ []
 
 abbrev pub gives_any : List Row → List Text → Bool
 gives_any rows names = list_any (λ name. is_some (first_of name rows)) names
@@ -119,7 +128,8 @@ asked rows = do
   heap ← number_or USUAL_HEAP LEAST_HEAP MOST_HEAP (first_of (codes "heap") rows)
   cfg ← settings rows
   order ← order_or_none (first_of (codes "order") rows)
-  if gives_any rows (not_read mode) then None else Some (record { mode = mode; files = files; threads = threads; heap = heap; cfg = cfg; order = order })
+  memory ← memory_or_table (first_of (codes "memory") rows)
+  if gives_any rows (not_read mode) then None else Some (record { mode = mode; files = files; threads = threads; heap = heap; cfg = cfg; order = order; memory = memory })
 
 -- what the words ask for; None where they are not read
 unfoldable pub command : List Text → Option Asked

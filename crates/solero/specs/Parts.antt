@@ -1,22 +1,18 @@
 -- What the parts of the work find due.
 use Rattle.std.specs.Prelude.{◌≡◌, ℕ, List, ◌++◌, codes}
 use Rattle.std.specs.Fmt.{decimal}
-use Rattle.checked_program.specs.MarkedProgram.{MarkedProgram}
 use Rattle.jvm_types.specs.LinkFaults.{in_file}
 use Rattle.jvm_types.specs.declared.refusal.Rule.TheVariants as rules
 use Rattle.jvm_types.specs.declared.refusal.CRule.TheVariants.{C10}
 use Rattle.run_texts.specs.Report.{line}
 use Rattle.run_texts.specs.Refusal.{refusal_text}
-use Rattle.run_texts.specs.MarksText.{marks_text}
 use Rattle.solero.specs.Command.{Asked}
-use Rattle.solero.specs.Answer.{IsMade, Refuses, ReportsRun}
+use Rattle.solero.specs.Answer.{IsMade, Refuses}
 use Rattle.jvm_types.specs.declared.limits.TheConstants.{MOST_FILE_BYTES}
 use Rattle.host_io.specs.declared.shelf.ShelfError.{ShelfError}
 use Rattle.host_io.specs.declared.shelf.ShelfError.TheVariants.{Failed, TooLong}
-use Rattle.solero.specs.declared.request.Mode.{Mode}
-use Rattle.solero.specs.declared.request.Mode.TheVariants.{Replay, Mark}
 use Rattle.solero.specs.declared.answer.Due.{Due}
-use Rattle.solero.specs.declared.answer.Due.TheVariants.{Report, Marks, Refusal, CannotRead, OutOfMemory}
+use Rattle.solero.specs.declared.answer.Due.TheVariants.{Refusal, CannotRead, OutOfMemory}
 
 -- the line of a refusal, or want of memory
 abbrev pub IsLine : List ℕ → Due → Type 0
@@ -38,10 +34,4 @@ IsUnreadDue file error due = ⊥
 abbrev pub IsRun : Asked → List (List ℕ) → Due → Type 0
 IsRun asked contents (Refusal text) = Refuses asked contents text
 IsRun asked contents OutOfMemory = Unit {0}
-IsRun asked contents due = IsMade asked.mode asked contents due
-
--- what the mode makes of a program
-abbrev pub IsMadeBy : Mode → Asked → MarkedProgram → Due → Type 0
-IsMadeBy Replay asked c (Report finish text) = ReportsRun asked c finish text
-IsMadeBy Mark asked c (Marks text) = text ≡ marks_text c.program c.marks
-IsMadeBy mode asked c due = ⊥
+IsRun asked contents due = IsMade asked contents due

@@ -10,4 +10,5 @@ asked_by r = record {
   heap = r.heap;
   cfg = r.cfg;
   order = r.order;
+  memory = r.memory;
 }

@@ -1,16 +1,15 @@
 //! The words of the command, read by one simple command of `clap`, and then by the rules for the values.
 ghost use Rattle.std.specs.Prelude.{◌≡◌, ◌<◌, ◌≤◌, ◌&&◌, IfOk, IfSome, Some, None, codes, length, is_some, map, nat_le, nat_lt, option_map};
-ghost use Rattle.std.specs.List.{list_any};
 ghost use Rattle.std.specs.Option.{option_copied};
 ghost use Rattle.machine_types.specs.Settings.{AreSettings};
 ghost use Rattle.clap.specs.Words.{all_of, app_of, first_of, found_of, rows_of};
-ghost use Rattle.solero.specs.Command.{asked, command as command_of, found, gives_any as gives_any_of, mode_or_replay as the_mode, not_read, settings as the_settings, some_files, texts, the_command, with_names as names_in, with_option as option_in};
+ghost use Rattle.solero.specs.Command.{asked, command as command_of, found, gives_any as gives_any_of, not_read, settings as the_settings, some_files, texts, the_command, with_names as names_in, with_option as option_in};
 ghost use Rattle.solero.specs.Requests.{asked_by};
 
 use crate::request::{Mode, Request};
 use crate::values::{
-    Numbers, USUAL_HEAP, USUAL_PRINTS, USUAL_STEPS, mode_or_replay, number_or, on_or_off,
-    order_or_none,
+    Numbers, USUAL_HEAP, USUAL_PRINTS, USUAL_STEPS, memory_or_table, mode_or_replay, number_or,
+    on_or_off, order_or_none,
 };
 use clap::error::ErrorKind;
 use clap::{Arg, ArgAction, ArgMatches, Command};
@@ -54,9 +53,6 @@ const RANGE: Numbers = Numbers {
     most: MOST_LIMIT,
 };
 
-/// The options that are read of a run alone.
-static OF_A_RUN: [&str; 6] = ["order", "steps", "turns", "prints", "elide", "range"];
-
 // An option with one value.
 fn with_option<'a>(
     alloc: Global,
@@ -92,6 +88,7 @@ fn simple_command<'a>(alloc: Global) -> Result<Command<'a>, AllocError>
     let command = with_option(alloc, command, "prints")?;
     let command = with_option(alloc, command, "elide")?;
     let command = with_option(alloc, command, "range")?;
+    let command = with_option(alloc, command, "memory")?;
     with_names(alloc, command, "FILE")
 }
 
@@ -163,20 +160,14 @@ fn is_given(matches: &ArgMatches<'_>, name: &str) -> bool
     value(matches, name).is_some()
 }
 
-// Whether one of the options is given.
-fn gives_any(matches: &ArgMatches<'_>, names: &[&str]) -> bool
-    ensures { result ≡ list_any (λ name. is_some (first_of name.now (rows_of (found_of matches.now)))) names.now }
-{
-    names.iter().any(|name| is_given(matches, name))
-}
-
 // Whether an option is given that the mode doesn't read.
 fn gives_unread(matches: &ArgMatches<'_>, mode: Mode) -> bool
     ensures { result ≡ gives_any_of (rows_of (found_of matches.now)) (not_read mode) }
 {
     match mode {
-        Mode::Replay => false,
-        Mode::Mark => gives_any(matches, OF_A_RUN.as_slice()),
+        Mode::Replay => is_given(matches, "memory"),
+        Mode::Run => is_given(matches, "order"),
+        Mode::Mark => is_given(matches, "order") || is_given(matches, "memory"),
     }
 }
 
@@ -223,6 +214,9 @@ fn request(alloc: Global, matches: &ArgMatches<'_>) -> Result<Option<Request>, A
     let Some(order) = order_or_none(alloc, value(matches, "order"))? else {
         return Ok(None);
     };
+    let Some(memory) = memory_or_table(value(matches, "memory")) else {
+        return Ok(None);
+    };
     if gives_unread(matches, mode) {
         return Ok(None);
     }
@@ -233,6 +227,7 @@ fn request(alloc: Global, matches: &ArgMatches<'_>) -> Result<Option<Request>, A
         heap,
         cfg,
         order,
+        memory,
     }))
 }
 

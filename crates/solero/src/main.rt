@@ -7,6 +7,7 @@ mod answer;
 mod command;
 mod delivery;
 mod finish;
+mod making;
 mod program;
 mod reading;
 mod request;
@@ -14,6 +15,8 @@ mod request;
 mod row_tests;
 #[cfg(test)]
 mod tests;
+#[cfg(test)]
+mod thread_tests;
 mod values;
 
 use answer::Due;
@@ -28,7 +31,7 @@ fn main(rt: HostRuntime) -> ExitCode {
     let mut shelf = FileShelf::new(&rt);
     let mut sink = OutputSink::new(&rt);
     let status = match words(&rt) {
-        Ok(words) => program::top(rt.alloc(), &words, &mut shelf, &mut sink, &OpenGate),
+        Ok(words) => program::top(&rt, rt.alloc(), &words, &mut shelf, &mut sink, &OpenGate),
         Err(error) => delivery::deliver(&mut sink, &without_words(error.kind())),
     };
     ExitCode::from(status)

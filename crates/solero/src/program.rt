@@ -1,41 +1,36 @@
-ghost use Rattle.std.specs.Prelude.{◌≡◌, ℕ, ◌<◌, ◌≤◌, ◌≢◌, ◌⊎◌, List, IfOk, Some, None, length};
-ghost use Rattle.machine_types.specs.Core.{Happening, core};
-ghost use Rattle.machine_types.specs.Faithful.{IsFaithful, IsOver};
-ghost use Rattle.machine_types.specs.Schedules.{IsScheduleOf};
-ghost use Rattle.machine_types.specs.Settings.{AreSettings};
+ghost use Rattle.std.specs.Prelude.{◌≡◌, ◌<◌, ◌≤◌, ◌≢◌, ◌⊎◌, List, Some, None, length};
 ghost use Rattle.host_io.specs.Faults.{CountsFault};
 ghost use Rattle.solero.specs.Command.{Asked, texts, command};
 ghost use Rattle.solero.specs.Requests.{asked_by};
 ghost use Rattle.solero.specs.Answer.{AreAccepted, IsDue, first_long};
 ghost use Rattle.solero.specs.Delivery.{Delivers};
-ghost use Rattle.solero.specs.Parts.{IsMadeBy, IsRun, IsUnreadDue};
+ghost use Rattle.solero.specs.Parts.{IsRun, IsUnreadDue};
 ghost use Rattle.solero.specs.Whole.{AnswersWhole, IsCalm};
-ghost use Rattle.solero.specs.declared.request.Mode.TheVariants.{Replay};
 ghost use Rattle.host_io.specs.declared.shelf.NamedFile.{NamedFile as File};
 ghost use Rattle.solero.specs.declared.answer.Due.{Due as TheDue};
 
 use crate::answer::{Due, cannot_read, refused, too_long};
 use crate::command::read_words;
 use crate::delivery::deliver;
-use crate::finish::finish_of;
+use crate::making::made;
 use crate::reading::{Unread, read_files};
-use crate::request::{Mode, Request};
-use checked_program::Checked;
-use class_runner::{FileError, load_program, mark_text, report};
-use host_io::shelf::{Shelf, ShelfError};
-use host_io::sink::Sink;
+use crate::request::Request;
+use class_runner::{FileError, load_program};
 use jvm_types::limits::MOST_FILES;
 use jvm_types::{Bytes, Gate, Rows};
-use laws_refinement::{runs_are_faithful, schedules_end_over};
-use machine_types::Config;
-use replay_runner::{have_width, replay};
+use host_io::shelf::{Shelf, ShelfError};
+use host_io::sink::Sink;
 use std::alloc::{AllocError, Global};
+use std::sync::Wait;
+use std::thread::Threads;
 
 /// Does what the words ask for: reads the files from the shelf, in order, then loads them, and runs the program or finds the
 /// marks of its sections, and writes what came of it to the sink. It answers the status that the process ends with.
 ///
-/// All workers run by turns on one thread, so nobody passes the gate.
-pub fn top<S: Shelf, K: Sink, G: Gate + Sync>(
+/// In mode run each worker runs on a thread of its own, and passes the gate once, before its first event and while it
+/// holds no lock; in the other modes nobody passes it. A run may wait for a lock, so the clauses hold where it returns.
+pub fn top<R: Threads + Wait + Sync, S: Shelf, K: Sink, G: Gate + Sync>(
+    rt: &R,
     alloc: Global,
     words: &Vec<String>,
     shelf: &mut S,
@@ -65,32 +60,43 @@ pub fn top<S: Shelf, K: Sink, G: Gate + Sync>(
     ensures sink_failed { result ≡ 5 → CountsFault (K.faults sink.old) (K.faults sink.new) }
     ensures sink_fault { K.faults sink.old < K.faults sink.new → result ≡ 5 }
 {
-    let _ = gate;
-    let due = work(alloc, words, shelf);
+    let due = work(rt, alloc, words, shelf, gate);
     deliver(sink, &due)
 }
 
 // What is due to the words.
-fn work<S: Shelf>(alloc: Global, words: &Vec<String>, shelf: &mut S) -> Due
+fn work<R: Threads + Wait + Sync, S: Shelf, G: Gate + Sync>(
+    rt: &R,
+    alloc: Global,
+    words: &Vec<String>,
+    shelf: &mut S,
+    gate: &G,
+) -> Due
     ensures due { IsDue (command (texts words.now.items)) (S.files shelf.old)
         (S.faults shelf.old) (S.faults shelf.new) result }
     ensures files { S.files shelf.new ≡ S.files shelf.old }
 {
     match read_words(alloc, words.as_slice()) {
-        Ok(Some(request)) => work_on(alloc, &request, shelf),
+        Ok(Some(request)) => work_on(rt, alloc, &request, shelf, gate),
         Ok(None) => Due::Usage,
         Err(AllocError) => Due::OutOfMemory,
     }
 }
 
 // What is due to the files that are asked for.
-fn work_on<S: Shelf>(alloc: Global, request: &Request, shelf: &mut S) -> Due
+fn work_on<R: Threads + Wait + Sync, S: Shelf, G: Gate + Sync>(
+    rt: &R,
+    alloc: Global,
+    request: &Request,
+    shelf: &mut S,
+    gate: &G,
+) -> Due
     ensures due { IsDue (Some (asked_by request.now)) (S.files shelf.old)
         (S.faults shelf.old) (S.faults shelf.new) result }
     ensures files { S.files shelf.new ≡ S.files shelf.old }
 {
     match read_files(alloc, request.files.as_slice(), shelf) {
-        Ok(contents) => run_files(alloc, request, &contents),
+        Ok(contents) => run_files(rt, alloc, request, &contents, gate),
         Err(unread) => not_read(alloc, unread),
     }
 }
@@ -107,50 +113,24 @@ fn not_read(alloc: Global, unread: Unread) -> Due
 }
 
 // What is due to the contents of the files, none of which is too long.
-fn run_files(alloc: Global, request: &Request, contents: &Rows<Bytes>) -> Due
+fn run_files<R: Threads + Wait + Sync, G: Gate + Sync>(
+    rt: &R,
+    alloc: Global,
+    request: &Request,
+    contents: &Rows<Bytes>,
+    gate: &G,
+) -> Due
     requires some { 0 < length contents.now }
     requires few { length contents.now ≤ MOST_FILES }
     requires short { first_long 0 contents.now ≡ None }
     ensures { IsRun (asked_by request.now) contents.now result }
 {
     match load_program(alloc, contents, request.heap, request.threads) {
-        Ok(checked) => match made(alloc, request, &checked) {
+        Ok(checked) => match made(rt, alloc, gate, request, &checked) {
             Ok(due) => due,
             Err(AllocError) => Due::OutOfMemory,
         },
         Err(FileError::Refused(rule, place)) => refused(alloc, rule, place),
         Err(FileError::Memory) => Due::OutOfMemory,
     }
-}
-
-// What the mode makes of the program.
-fn made(alloc: Global, request: &Request, checked: &Checked) -> Result<Due, AllocError>
-    ensures { IfOk result (λ due. IsMadeBy request.now.mode (asked_by request.now) checked.now due) }
-{
-    match request.mode {
-        Mode::Replay => report_of(alloc, request, checked),
-        Mode::Mark => Ok(Due::Marks(mark_text(alloc, checked)?)),
-    }
-}
-
-// Whatever order it runs in, the run stands for one of the plain machine, and it is over.
-fn is_plain(checked: &Checked, cfg: &Config)
-    requires { AreSettings cfg.now }
-    ensures plain { (hs : List Happening) → IsFaithful checked.now cfg.now hs }
-    ensures over { (order : List ℕ) (hs : List Happening) → IsScheduleOf checked.now cfg.now order hs → IsOver (core checked.now cfg.now hs) }
-{
-    let _program = checked.program();
-    have_width(*cfg);
-    runs_are_faithful();
-    schedules_end_over();
-}
-
-// The report of a run in the order that is asked for.
-fn report_of(alloc: Global, request: &Request, checked: &Checked) -> Result<Due, AllocError>
-    ensures { IfOk result (λ due. IsMadeBy Replay (asked_by request.now) checked.now due) }
-{
-    is_plain(checked, &request.cfg);
-    let outcome = replay(alloc, checked, &request.cfg, &request.order)?;
-    let text = report(alloc, &outcome)?;
-    Ok(Due::Report(finish_of(&outcome), text))
 }

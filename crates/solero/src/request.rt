@@ -9,8 +9,19 @@ use machine_types::Config;
 pub enum Mode {
     /// It runs, in a chosen order of steps, and a report of the run is written.
     Replay,
+    /// It runs, each worker on a thread of the system, and a report of the run is written.
+    Run,
     /// The marks of its sections are written.
     Mark,
+}
+
+/// How the threads of a run share the words of the machine.
+#[derive(Clone, Copy, Debug, PartialEq, Eq)]
+pub enum Memory {
+    /// Each word is atomic, and no thread takes a lock.
+    Table,
+    /// The whole machine stands under one lock, which is taken for each event.
+    Locked,
 }
 
 /// What the words of the command ask for.
@@ -28,5 +39,7 @@ pub struct Request {
     pub cfg: Config,
     /// The workers that make the next steps, each a number from 1 to 8.
     pub order: Bytes,
+    /// How the threads of a run share the words.
+    pub memory: Memory,
     ghost bounds: { AreInBounds (length files.items) threads heap cfg },
 }

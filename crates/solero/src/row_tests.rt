@@ -10,12 +10,14 @@ mod overflows;
 mod sections;
 
 use crate::program::top;
+use jvm_types::{Bytes, Gate, OpenGate, Rows};
 use host_io::shelf::{ListShelf, NamedFile};
 use host_io::sink::ListSink;
-use jvm_types::{Bytes, OpenGate, Rows};
 use std::alloc::{AllocError, Global};
 use std::process::Abort;
+use std::sync::Wait;
 use std::test::Fail;
+use std::thread::Threads;
 use test_classes::changed;
 
 /// A run over one file `A.class`, with what it comes to.
@@ -42,18 +44,24 @@ fn digits(alloc: Global, order: &[(char, usize)]) -> Result<String, AllocError> 
     Ok(digits)
 }
 
-/// The words of the command, the first of which is the program's name.
-fn words(alloc: Global, run: &Run) -> Result<Vec<String>, AllocError> {
+/// The program's name, the options and the file's name.
+pub fn words(alloc: Global, options: &[&str]) -> Result<Vec<String>, AllocError> {
     let mut words = Vec::new(alloc);
     words.push(String::from_str(alloc, "solero")?)?;
-    for option in run.options {
+    for option in options {
         words.push(String::from_str(alloc, option)?)?;
     }
+    words.push(String::from_str(alloc, "A.class")?)?;
+    Ok(words)
+}
+
+/// The words of a run, with its order behind the others.
+fn words_of(alloc: Global, run: &Run) -> Result<Vec<String>, AllocError> {
+    let mut words = words(alloc, run.options)?;
     if !run.order.is_empty() {
         words.push(String::from_str(alloc, "--order")?)?;
         words.push(digits(alloc, run.order)?)?;
     }
-    words.push(String::from_str(alloc, "A.class")?)?;
     Ok(words)
 }
 
@@ -64,17 +72,35 @@ fn shelf(alloc: Global, content: Bytes) -> Result<ListShelf, AllocError> {
     Ok(ListShelf::new(files, Rows::new(alloc)))
 }
 
-fn check(rt: &(impl Abort + AllocGlobal), run: &Run) -> Result<(), AllocError> {
+/// What the words answer over one file `A.class` with that content: the status, and the text that is written.
+pub fn answer<R: Threads + Wait + Sync + AllocGlobal, G: Gate + Sync>(
+    rt: &R,
+    words: &Vec<String>,
+    content: Bytes,
+    gate: &G,
+) -> Result<(u8, ListSink), AllocError> {
     let alloc = rt.alloc();
-    let mut shelf = shelf(alloc, changed(alloc, run.class, run.changes)?)?;
+    let mut shelf = shelf(alloc, content)?;
     let mut sink = ListSink::new(alloc, None, 4096);
-    let status = top(alloc, &words(alloc, run)?, &mut shelf, &mut sink, &OpenGate);
+    let status = top(rt, alloc, words, &mut shelf, &mut sink, gate);
+    Ok((status, sink))
+}
+
+fn check<R: Abort + Threads + Wait + Sync + AllocGlobal>(
+    rt: &R,
+    run: &Run,
+) -> Result<(), AllocError> {
+    let content = changed(rt.alloc(), run.class, run.changes)?;
+    let (status, sink) = answer(rt, &words_of(rt.alloc(), run)?, content, &OpenGate)?;
     assert_eq!(rt; sink.text().as_slice(), run.text.as_bytes());
     assert_eq!(rt; status, run.status);
     Ok(())
 }
 
-fn check_all(rt: &(impl Abort + AllocGlobal), runs: &[Run]) -> Result<(), AllocError> {
+fn check_all<R: Abort + Threads + Wait + Sync + AllocGlobal>(
+    rt: &R,
+    runs: &[Run],
+) -> Result<(), AllocError> {
     for run in runs {
         check(rt, run)?;
     }

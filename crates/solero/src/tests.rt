@@ -7,7 +7,9 @@ use host_io::sink::{CalmSink, ListSink, Sink, SinkFailed};
 use jvm_types::{Bytes, OpenGate, Rows};
 use std::alloc::{AllocError, Global};
 use std::process::Abort;
+use std::sync::Wait;
 use std::test::Fail;
+use std::thread::Threads;
 use std::{fmt, io};
 use test_classes::{SHARED, adds, bytes_of, pair, stores_this};
 
@@ -40,18 +42,19 @@ fn shelf_of(alloc: Global, content: &str, failing: &[u64]) -> Result<ListShelf, 
 }
 
 // Runs the program of these words, before which its name stands.
-fn run<S: Shelf, K: Sink>(
-    alloc: Global,
+fn run<R: Threads + Wait + Sync + AllocGlobal, S: Shelf, K: Sink>(
+    rt: &R,
     words: &[&str],
     shelf: &mut S,
     sink: &mut K,
 ) -> Result<u8, AllocError> {
+    let alloc = rt.alloc();
     let mut all = Vec::new(alloc);
     all.push(String::from_str(alloc, "solero")?)?;
     for word in words {
         all.push(String::from_str(alloc, word)?)?;
     }
-    Ok(top(alloc, &all, shelf, sink, &OpenGate))
+    Ok(top(rt, alloc, &all, shelf, sink, &OpenGate))
 }
 
 // A run over one file `A.class`, with what it has to come to.
@@ -83,19 +86,22 @@ impl<'a> Case<'a> {
 }
 
 // Runs the case over a sink, and compares.
-fn check(
-    rt: &(impl Abort + AllocGlobal),
+fn check<R: Abort + Threads + Wait + Sync + AllocGlobal>(
+    rt: &R,
     mut sink: ListSink,
     case: Case<'_>,
 ) -> Result<(), AllocError> {
     let mut shelf = shelf_of(rt.alloc(), case.content, case.failing)?;
-    let status = run(rt.alloc(), case.words, &mut shelf, &mut sink)?;
+    let status = run(rt, case.words, &mut shelf, &mut sink)?;
     assert_eq!(rt; sink.text().as_slice(), case.text.as_bytes());
     assert_eq!(rt; status, case.status);
     Ok(())
 }
 
-fn check_all(rt: &(impl Abort + AllocGlobal), cases: &[Case<'_>]) -> Result<(), AllocError> {
+fn check_all<R: Abort + Threads + Wait + Sync + AllocGlobal>(
+    rt: &R,
+    cases: &[Case<'_>],
+) -> Result<(), AllocError> {
     for case in cases {
         check(rt, ListSink::new(rt.alloc(), None, 4096), *case)?;
     }
@@ -103,7 +109,7 @@ fn check_all(rt: &(impl Abort + AllocGlobal), cases: &[Case<'_>]) -> Result<(), 
 }
 
 // Words that are not read, each in a line of its own.
-const NOT_READ: [&str; 34] = [
+const NOT_READ: [&str; 33] = [
     "-x A.class",
     "A.class -x",
     "--help",
@@ -116,7 +122,6 @@ const NOT_READ: [&str; 34] = [
     "--threads -1 A.class",
     "--threads one A.class",
     "--threads 1 --threads 1 A.class",
-    "--mode run A.class",
     "--mode load A.class",
     "--mode mark --mode mark A.class",
     "--order 0 A.class",
@@ -132,20 +137,24 @@ const NOT_READ: [&str; 34] = [
     "--elide yes A.class",
     "--range 0 A.class",
     "--range 4294967296 A.class",
+    "--order 12 --mode run A.class",
     "--mode mark --order 1 A.class",
-    "--mode mark --steps 1 A.class",
-    "--mode mark --turns 1 A.class",
-    "--mode mark --prints 1 A.class",
-    "--mode mark --elide on A.class",
-    "--mode mark --range 1 A.class",
+    "--mode replay --memory locked A.class",
+    "--mode mark --memory table A.class",
+    "--mode run --memory none A.class",
+    "--mode run --memory table --memory table A.class",
 ];
 
 // Words that are read.
-const READ: [&str; 7] = [
+const READ: [&str; 11] = [
     "A.class --threads 0 --order 18 --steps 6 --turns 1 --heap 4096 --prints 1 --elide off --range 1",
     "--threads=0 --steps=+0004294967295 --turns=4294967295 A.class",
     "--heap 1048576 --prints 1048576 --elide on --range 4294967295 --mode replay A.class",
     "--mode mark --threads 0 --heap 4096 A.class",
+    "--mode mark --steps 1 --turns 1 --prints 1 --elide on --range 1 A.class",
+    "A.class --mode run --threads 0 --steps 6 --turns 1 --heap 4096 --prints 1 --elide off --range 1",
+    "--mode=run --memory=table A.class",
+    "--memory locked --mode run A.class",
     "-- A.class",
     "--mode=mark A.class",
     "A.class",
@@ -156,19 +165,22 @@ fn words_of(alloc: Global, line: &'static str) -> Result<Vec<&'static str>, Allo
 }
 
 // The status of the words of a line, over one file that adds and prints.
-fn status_of(alloc: Global, line: &'static str) -> Result<u8, AllocError> {
-    let words = words_of(alloc, line)?;
-    let mut shelf = shelf_of(alloc, adds(), &[])?;
-    run(alloc, words.as_slice(), &mut shelf, &mut CalmSink::new())
+fn status_of<R: Threads + Wait + Sync + AllocGlobal>(
+    rt: &R,
+    line: &'static str,
+) -> Result<u8, AllocError> {
+    let words = words_of(rt.alloc(), line)?;
+    let mut shelf = shelf_of(rt.alloc(), adds(), &[])?;
+    run(rt, words.as_slice(), &mut shelf, &mut CalmSink::new())
 }
 
 #[test]
 fn words(rt: HostRuntime) -> Result<(), Fail> {
     for line in NOT_READ {
-        assert_eq!(rt; status_of(rt.alloc(), line)?, 2);
+        assert_eq!(rt; status_of(&rt, line)?, 2);
     }
     for line in READ {
-        assert_eq!(rt; status_of(rt.alloc(), line)?, 0);
+        assert_eq!(rt; status_of(&rt, line)?, 0);
     }
     let more = [
         Case::new(&[], adds(), &[], 2, USAGE),
@@ -280,7 +292,7 @@ fn a_file_that_is_too_long_is_refused(rt: HostRuntime) -> Result<(), Fail> {
     let alloc = rt.alloc();
     let mut calm = CalmShelf::new(one_too_long(alloc)?);
     let mut sink = ListSink::new(alloc, None, 4096);
-    assert_eq!(rt; run(alloc, &["A.class", "long"], &mut calm, &mut sink)?, 3);
+    assert_eq!(rt; run(&rt, &["A.class", "long"], &mut calm, &mut sink)?, 3);
     let refused = "refused C10 file 1 at 1048576\n";
     assert_eq!(rt; sink.text().as_slice(), refused.as_bytes());
     Ok(())
@@ -292,7 +304,7 @@ fn no_file_is_read_behind_one_that_is_too_long(rt: HostRuntime) -> Result<(), Fa
     let failing = Rows::from_slice(alloc, &[2])?;
     let mut list = ListShelf::new(one_too_long(alloc)?, failing);
     let mut sink = ListSink::new(alloc, None, 4096);
-    assert_eq!(rt; run(alloc, &["long", "A.class"], &mut list, &mut sink)?, 3);
+    assert_eq!(rt; run(&rt, &["long", "A.class"], &mut list, &mut sink)?, 3);
     let refused = "refused C10 file 0 at 1048576\n";
     assert_eq!(rt; sink.text().as_slice(), refused.as_bytes());
     Ok(())

@@ -2,9 +2,9 @@
 ghost use Rattle.std.specs.Prelude.{◌≡◌, ◌&&◌, ◌-◌, ◌≤◌, nat_le, nat_lt, IfOk, IfSome, length, map, option_map};
 ghost use Rattle.std.specs.List.{list_all};
 ghost use Rattle.std.specs.Option.{option_copied};
-ghost use Rattle.solero.specs.Command.{is_worker as is_the_worker, mode_or_replay as the_mode, number as the_number, number_or as the_number_or, on_or_off as the_switch, order_or_none as the_order, within as the_number_within};
+ghost use Rattle.solero.specs.Command.{is_worker as is_the_worker, memory_or_table as the_memory, mode_or_replay as the_mode, number as the_number, number_or as the_number_or, on_or_off as the_switch, order_or_none as the_order, within as the_number_within};
 
-use crate::request::Mode;
+use crate::request::{Memory, Mode};
 use jvm_types::Bytes;
 use std::alloc::{AllocError, Global};
 
@@ -64,7 +64,20 @@ pub fn mode_or_replay(given: Option<&str>) -> Option<Mode>
     match given {
         None => Some(Mode::Replay),
         Some(text) if text == "replay" => Some(Mode::Replay),
+        Some(text) if text == "run" => Some(Mode::Run),
         Some(text) if text == "mark" => Some(Mode::Mark),
+        Some(_) => None,
+    }
+}
+
+/// The memory that a text names; `table` where it isn't given.
+pub fn memory_or_table(given: Option<&str>) -> Option<Memory>
+    ensures { result ≡ the_memory (option_copied given.entry) }
+{
+    match given {
+        None => Some(Memory::Table),
+        Some(text) if text == "table" => Some(Memory::Table),
+        Some(text) if text == "locked" => Some(Memory::Locked),
         Some(_) => None,
     }
 }

@@ -1,4 +1,4 @@
-use Rattle.solero.proofs.program.is_plain.Goals as goal
+use Rattle.solero.proofs.making.is_plain.Goals as goal
 
 pub returns-clause-plain : goal.returns-clause-plain
 returns-clause-plain c = λ hs. c.runs_are_faithful.ensures c.args.checked.now c.args.cfg.now hs c.program-program.ensures.marked c.have_width.ensures c.requires

@@ -1,0 +1,106 @@
+//! What a mode makes of a checked program.
+ghost use Rattle.std.specs.Prelude.{◌≡◌, ℕ, ◌<◌, List, IfOk, length};
+ghost use Rattle.run_texts.specs.Report.{report_text};
+ghost use Rattle.machine_types.specs.Core.{Happening, core};
+ghost use Rattle.machine_types.specs.Faithful.{IsFaithful, IsOver};
+ghost use Rattle.machine_types.specs.Schedules.{IsScheduleOf};
+ghost use Rattle.machine_types.specs.Settings.{AreSettings};
+ghost use Rattle.run_parts.specs.Ended.{IsEndOfRun};
+ghost use Rattle.solero.specs.Answer.{IsMadeBy};
+ghost use Rattle.solero.specs.Finish.{finish_of as the_finish};
+ghost use Rattle.solero.specs.Requests.{asked_by};
+ghost use Rattle.solero.specs.declared.answer.Due.TheVariants.{Report};
+ghost use Rattle.solero.specs.declared.request.Mode.TheVariants.{Replay, Run};
+
+use crate::answer::Due;
+use crate::finish::finish_of;
+use crate::request::{Memory, Mode, Request};
+use checked_program::Checked;
+use class_runner::{mark_text, report};
+use jvm_types::{Gate, Outcome};
+use laws_refinement::{runs_are_faithful, schedules_end_over};
+use locked_runner::run_locked;
+use machine_types::Config;
+use replay_runner::{have_width, replay};
+use std::alloc::{AllocError, Global};
+use std::sync::Wait;
+use std::thread::Threads;
+use table_runner::run_table;
+
+/// What the mode makes of the program.
+pub fn made<R: Threads + Wait + Sync, G: Gate + Sync>(
+    rt: &R,
+    alloc: Global,
+    gate: &G,
+    request: &Request,
+    checked: &Checked,
+) -> Result<Due, AllocError>
+    ensures { IfOk result (λ due. IsMadeBy request.now.mode (asked_by request.now) checked.now due) }
+{
+    match request.mode {
+        Mode::Replay => replayed(alloc, request, checked),
+        Mode::Run => ran(rt, alloc, gate, request, checked),
+        Mode::Mark => Ok(Due::Marks(mark_text(alloc, checked)?)),
+    }
+}
+
+// Whatever happens in it, a run stands for one of the plain machine; and over a schedule it is over.
+fn is_plain(checked: &Checked, cfg: &Config)
+    requires { AreSettings cfg.now }
+    ensures plain { (hs : List Happening) → IsFaithful checked.now cfg.now hs }
+    ensures over { (order : List ℕ) (hs : List Happening) → IsScheduleOf checked.now cfg.now order hs → IsOver (core checked.now cfg.now hs) }
+{
+    let _program = checked.program();
+    have_width(*cfg);
+    runs_are_faithful();
+    schedules_end_over();
+}
+
+// The report of what a run came to.
+fn reported(alloc: Global, outcome: &Outcome) -> Result<Due, AllocError>
+    requires { 0 < length outcome.now.threads }
+    ensures { IfOk result (λ due. due ≡ Report (the_finish outcome.now) (report_text outcome.now)) }
+{
+    let text = report(alloc, outcome)?;
+    Ok(Due::Report(finish_of(outcome), text))
+}
+
+// The report of a run in the order that is asked for.
+fn replayed(alloc: Global, request: &Request, checked: &Checked) -> Result<Due, AllocError>
+    ensures { IfOk result (λ due. IsMadeBy Replay (asked_by request.now) checked.now due) }
+{
+    is_plain(checked, &request.cfg);
+    let outcome = replay(alloc, checked, &request.cfg, &request.order)?;
+    reported(alloc, &outcome)
+}
+
+// The report of a run on threads of the system.
+fn ran<R: Threads + Wait + Sync, G: Gate + Sync>(
+    rt: &R,
+    alloc: Global,
+    gate: &G,
+    request: &Request,
+    checked: &Checked,
+) -> Result<Due, AllocError>
+    ensures { IfOk result (λ due. IsMadeBy Run (asked_by request.now) checked.now due) }
+{
+    is_plain(checked, &request.cfg);
+    let outcome = end_of_run(rt, alloc, gate, request, checked)?;
+    reported(alloc, &outcome)
+}
+
+// What a run on threads of the system comes to, over the memory that is asked for.
+fn end_of_run<R: Threads + Wait + Sync, G: Gate + Sync>(
+    rt: &R,
+    alloc: Global,
+    gate: &G,
+    request: &Request,
+    checked: &Checked,
+) -> Result<Outcome, AllocError>
+    ensures { IfOk result (IsEndOfRun checked.now request.now.cfg) }
+{
+    match request.memory {
+        Memory::Table => run_table(rt, alloc, gate, checked, &request.cfg),
+        Memory::Locked => run_locked(rt, alloc, gate, checked, &request.cfg),
+    }
+}
