@@ -10,9 +10,9 @@ mod overflows;
 mod sections;
 
 use crate::program::top;
-use jvm_types::{Bytes, Gate, OpenGate, Rows};
 use host_io::shelf::{ListShelf, NamedFile};
 use host_io::sink::ListSink;
+use jvm_types::{Bytes, Gate, OpenGate, Rows};
 use std::alloc::{AllocError, Global};
 use std::process::Abort;
 use std::sync::Wait;

@@ -11,7 +11,7 @@ use std::sync::Wait;
 use std::test::Fail;
 use std::thread::Threads;
 use std::{fmt, io};
-use test_classes::{SHARED, adds, bytes_of, pair, stores_this};
+use test_classes::{ADDS, PAIR, STORES_THIS, bytes_of};
 
 const REPORT: &str = "5\ninit returned\ndone returned\n\
     counts 0 instructions 6 elided 0 failed 0 locked 0 inflated 0\n";
@@ -58,38 +58,21 @@ fn run<R: Threads + Wait + Sync + AllocGlobal, S: Shelf, K: Sink>(
 }
 
 // A run over one file `A.class`, with what it has to come to.
-#[derive(Clone, Copy)]
-struct Case<'a> {
-    words: &'a [&'a str],
-    content: &'a str,
-    failing: &'a [u64],
+struct Case {
+    words: &'static [&'static str],
+    // The class, two digits for each byte.
+    content: &'static str,
+    // The numbers of the calls of the shelf that fail.
+    failing: &'static [u64],
     status: u8,
-    text: &'a str,
-}
-
-impl<'a> Case<'a> {
-    fn new(
-        words: &'a [&'a str],
-        content: &'a str,
-        failing: &'a [u64],
-        status: u8,
-        text: &'a str,
-    ) -> Self {
-        Case {
-            words,
-            content,
-            failing,
-            status,
-            text,
-        }
-    }
+    text: &'static str,
 }
 
 // Runs the case over a sink, and compares.
 fn check<R: Abort + Threads + Wait + Sync + AllocGlobal>(
     rt: &R,
     mut sink: ListSink,
-    case: Case<'_>,
+    case: &Case,
 ) -> Result<(), AllocError> {
     let mut shelf = shelf_of(rt.alloc(), case.content, case.failing)?;
     let status = run(rt, case.words, &mut shelf, &mut sink)?;
@@ -100,10 +83,10 @@ fn check<R: Abort + Threads + Wait + Sync + AllocGlobal>(
 
 fn check_all<R: Abort + Threads + Wait + Sync + AllocGlobal>(
     rt: &R,
-    cases: &[Case<'_>],
+    cases: &[Case],
 ) -> Result<(), AllocError> {
     for case in cases {
-        check(rt, ListSink::new(rt.alloc(), None, 4096), *case)?;
+        check(rt, ListSink::new(rt.alloc(), None, 4096), case)?;
     }
     Ok(())
 }
@@ -170,7 +153,7 @@ fn status_of<R: Threads + Wait + Sync + AllocGlobal>(
     line: &'static str,
 ) -> Result<u8, AllocError> {
     let words = words_of(rt.alloc(), line)?;
-    let mut shelf = shelf_of(rt.alloc(), adds(), &[])?;
+    let mut shelf = shelf_of(rt.alloc(), ADDS, &[])?;
     run(rt, words.as_slice(), &mut shelf, &mut CalmSink::new())
 }
 
@@ -182,107 +165,131 @@ fn words(rt: HostRuntime) -> Result<(), Fail> {
     for line in READ {
         assert_eq!(rt; status_of(&rt, line)?, 0);
     }
-    let more = [
-        Case::new(&[], adds(), &[], 2, USAGE),
-        Case::new(&["A.class"; 65], adds(), &[], 2, USAGE),
-        Case::new(&["--mode", "mark", "A.class"], adds(), &[], 0, ""),
-    ];
-    check_all(&rt, &more)?;
     Ok(())
 }
 
+const CASES: [Case; 15] = [
+    // Words that are not read.
+    Case {
+        words: &[],
+        content: ADDS,
+        failing: &[],
+        status: 2,
+        text: USAGE,
+    },
+    Case {
+        words: &["A.class"; 65],
+        content: ADDS,
+        failing: &[],
+        status: 2,
+        text: USAGE,
+    },
+    // The shelf fails at a file, or has none of that name.
+    Case {
+        words: &["A.class"],
+        content: ADDS,
+        failing: &[1],
+        status: 4,
+        text: "cannot read file 0\n",
+    },
+    Case {
+        words: &["B.class"],
+        content: ADDS,
+        failing: &[],
+        status: 4,
+        text: "cannot read file 0\n",
+    },
+    Case {
+        words: &["A.class", "A.class"],
+        content: ADDS,
+        failing: &[2],
+        status: 4,
+        text: "cannot read file 1\n",
+    },
+    Case {
+        words: &["A.class"; 64],
+        content: ADDS,
+        failing: &[64],
+        status: 4,
+        text: "cannot read file 63\n",
+    },
+    // It is not asked again.
+    Case {
+        words: &["A.class"],
+        content: ADDS,
+        failing: &[2],
+        status: 0,
+        text: REPORT,
+    },
+    // Files that are refused.
+    Case {
+        words: &["A.class", "A.class"],
+        content: ADDS,
+        failing: &[],
+        status: 3,
+        text: "refused L5 file 1 at 0\n",
+    },
+    Case {
+        words: &["--threads", "1", "A.class"],
+        content: ADDS,
+        failing: &[],
+        status: 3,
+        text: "refused L4 file 0 at 0\n",
+    },
+    Case {
+        words: &["--mode", "run", "--threads", "1", "A.class"],
+        content: ADDS,
+        failing: &[],
+        status: 3,
+        text: "refused L4 file 0 at 0\n",
+    },
+    Case {
+        words: &["A.class"],
+        content: "",
+        failing: &[],
+        status: 3,
+        text: "refused C3 file 0 at 0\n",
+    },
+    Case {
+        words: &["A.class"],
+        content: "cafebabe00000033",
+        failing: &[],
+        status: 3,
+        text: "refused C2 file 0 at 6\n",
+    },
+    // Marks.
+    Case {
+        words: &["--mode", "mark", "A.class"],
+        content: ADDS,
+        failing: &[],
+        status: 0,
+        text: "",
+    },
+    Case {
+        words: &["--mode", "mark", "A.class"],
+        content: PAIR,
+        failing: &[],
+        status: 0,
+        text: "P.set(I)V method M1\nP.sum()I block 3 M0\n",
+    },
+    Case {
+        words: &["--mode", "mark", "A.class"],
+        content: STORES_THIS,
+        failing: &[],
+        status: 0,
+        text: "K.get()I method M5\n",
+    },
+];
+
 #[test]
-fn faults_of_the_shelf(rt: HostRuntime) -> Result<(), Fail> {
-    let cases = [
-        Case::new(&["A.class"], adds(), &[1], 4, "cannot read file 0\n"),
-        Case::new(&["B.class"], adds(), &[], 4, "cannot read file 0\n"),
-        Case::new(
-            &["A.class", "A.class"],
-            adds(),
-            &[2],
-            4,
-            "cannot read file 1\n",
-        ),
-        Case::new(&["A.class"; 64], adds(), &[64], 4, "cannot read file 63\n"),
-    ];
-    check_all(&rt, &cases)?;
-    Ok(())
-}
-
-const STEPS: &str = "5\ninit steps\ndone not run\n\
-    counts 0 instructions 5 elided 0 failed 0 locked 0 inflated 0\n";
-
-const ELIDED: &str = "8\n8\n8\ninit returned\ndone returned\n\
-    counts 0 instructions 66 elided 3 failed 0 locked 1 inflated 0\n";
-
-const LOCKED: &str = "8\n8\n8\ninit returned\ndone returned\n\
-    counts 0 instructions 66 elided 0 failed 0 locked 4 inflated 0\n";
-
-// A reader meets a writer once, and reads again.
-const TORN: &str = "8\ninit returned\nthread 1 returned\nthread 2 returned\ndone returned\n\
-    counts 0 instructions 8 elided 0 failed 0 locked 0 inflated 0\n\
-    counts 1 instructions 27 elided 1 failed 1 locked 0 inflated 0\n\
-    counts 2 instructions 14 elided 0 failed 0 locked 1 inflated 0\n";
-
-const TORN_ORDER: &str = "11111111111112222222222221112222222";
-
-const MARKED: &str = "P.set(I)V method M1\nP.sum()I block 3 M0\n";
-
-#[test]
-fn files_that_are_run_and_refused(rt: HostRuntime) -> Result<(), Fail> {
-    let runs = [
-        Case::new(&["A.class"], adds(), &[2], 0, REPORT),
-        Case::new(&["--steps", "5", "A.class"], adds(), &[], 7, STEPS),
-        Case::new(&["A.class"], pair(), &[], 0, ELIDED),
-        Case::new(&["--elide", "off", "A.class"], pair(), &[], 0, LOCKED),
-        Case::new(
-            &["--threads", "2", "--order", TORN_ORDER, "A.class"],
-            SHARED,
-            &[],
-            0,
-            TORN,
-        ),
-        Case::new(&["--mode", "mark", "A.class"], pair(), &[], 0, MARKED),
-        Case::new(
-            &["--mode", "mark", "A.class"],
-            stores_this(),
-            &[],
-            0,
-            "K.get()I method M5\n",
-        ),
-    ];
-    check_all(&rt, &runs)?;
-    let refusals = [
-        Case::new(
-            &["A.class", "A.class"],
-            adds(),
-            &[],
-            3,
-            "refused L5 file 1 at 0\n",
-        ),
-        Case::new(
-            &["--threads", "1", "A.class"],
-            adds(),
-            &[],
-            3,
-            "refused L4 file 0 at 0\n",
-        ),
-        Case::new(&["A.class"], "", &[], 3, "refused C3 file 0 at 0\n"),
-        Case::new(
-            &["A.class"],
-            "cafebabe00000033",
-            &[],
-            3,
-            "refused C2 file 0 at 6\n",
-        ),
-    ];
-    check_all(&rt, &refusals)?;
+fn cases(rt: HostRuntime) -> Result<(), Fail> {
+    check_all(&rt, &CASES)?;
     Ok(())
 }
 
 // A class, and a file that is one byte too long.
 fn one_too_long(alloc: Global) -> Result<Rows<NamedFile>, AllocError> {
-    let mut files = one_file(alloc, bytes_of(alloc, adds())?)?;
+    let mut files = one_file(alloc, bytes_of(alloc, ADDS)?)?;
     files.push(named(alloc, "long", zeros(alloc, 1_048_577)?)?)?;
     Ok(files)
 }
@@ -310,16 +317,26 @@ fn no_file_is_read_behind_one_that_is_too_long(rt: HostRuntime) -> Result<(), Fa
     Ok(())
 }
 
+const WHOLE: Case = Case {
+    words: &["A.class"],
+    content: ADDS,
+    failing: &[],
+    status: 0,
+    text: REPORT,
+};
+
+const CUT: Case = Case {
+    words: &["A.class"],
+    content: ADDS,
+    failing: &[],
+    status: 5,
+    text: "5\ninit ",
+};
+
 #[test]
 fn a_sink_may_take_any_part(rt: HostRuntime) -> Result<(), Fail> {
-    let slow = ListSink::new(rt.alloc(), None, 1);
-    check(&rt, slow, Case::new(&["A.class"], adds(), &[], 0, REPORT))?;
-    let short = ListSink::new(rt.alloc(), Some(7), 4096);
-    check(
-        &rt,
-        short,
-        Case::new(&["A.class"], adds(), &[], 5, "5\ninit "),
-    )?;
+    check(&rt, ListSink::new(rt.alloc(), None, 1), &WHOLE)?;
+    check(&rt, ListSink::new(rt.alloc(), Some(7), 4096), &CUT)?;
     Ok(())
 }
 

@@ -98,14 +98,17 @@ pub fn calls() -> &'static str {
 
 /// Class K, whose constructor stores `this` in a static field, by the bytes 178 to 181, and then 1 in the private
 /// field `a`, which a synchronized method reads.
-pub fn stores_this() -> &'static str {
-    "\
+pub const STORES_THIS: &str = "\
     cafebabe0000003200140a000200030700040c000500060100106a6176612f6c616e672f4f626a6563740100\
     063c696e69743e010003282956090008000907000a0c000b000c0100014b0100046c6173740100034c4b3b09\
     0008000e0c000f00100100016101000149010004436f64650100036765740100032829490020000800020000\
     00020002000f001000000008000b000c00000002000000050006000100110000001a000200010000000e2ab7\
     00012ab300072a04b5000db100000000002000120013000100110000001100010001000000052ab4000dac00\
-    0000000000"
+    0000000000";
+
+/// The same text.
+pub fn stores_this() -> &'static str {
+    STORES_THIS
 }
 
 /// Class L, whose `q` counts in a block from one private field up to another.
