@@ -1,15 +1,16 @@
 #!/usr/bin/env python3
-"""Runs the worked classes of examples/ on threads of the system, many times, and counts the runs that are wrong.
+"""Runs the worked classes of examples/ on threads of the system, many times, and counts wrong runs.
 
 Run it by hand from the top of the repository, after `./run --proved examples/A.class`:
 
     python3 bench/threads.py [--runs N] [--program PATH]
 
-Each class is run N times (unless said 10) over each memory, with elision on and off, and beside that once in mode replay.
-The order of a run on threads is not known, so what is compared is what holds in every order: the status, the printed
-numbers, whose order each of these classes fixes, how each part ended, and of each thread how many sections it elided
-or locked, together; without elision, that none was elided and none failed. The first wrong run of a class is shown
-whole. The last line has how many runs there were and how many were wrong, and the status is 1 where one was.
+Each class is run N times (unless said 10) over each memory, with elision on and off, and once in
+mode replay. The order of a run on threads is not known, so what is compared with the replay is what
+holds in every order: the status, the printed numbers, whose order each of these classes fixes, how
+each part ended, and of each thread how many sections it elided or locked, together; without
+elision, that none was elided and none failed. The first wrong run of a class is shown whole. The
+last line has how many runs there were and how many were wrong; the status is 1 where one was.
 """
 import argparse
 import os
@@ -21,7 +22,7 @@ from measure import PROGRAM, TOP
 
 LOCKS = os.path.join(TOP, "examples", "locks")
 PROGRAMS = os.path.join(TOP, "examples", "programs")
-COUNTS = re.compile(r"counts (\d+) instructions (\d+) elided (\d+) failed (\d+) locked (\d+) inflated (\d+)")
+COUNTS = re.compile(r"counts \d+ instructions \d+ elided (\d+) failed (\d+) locked (\d+)")
 
 # Words of the classes of examples/locks whose prints are the same in every order.
 ON_LOCKS = [
@@ -55,15 +56,15 @@ def run(program, words):
 
 
 def seen(status, text):
-    """What a run comes to in every order: its status, prints and ends, and how often each thread entered a section."""
+    """What holds in every order: the status, the prints and ends, the entries of each thread."""
     head, _, _ = text.partition("counts ")
-    entries = [int(found[3]) + int(found[5]) for found in COUNTS.finditer(text)]
+    entries = [int(found[1]) + int(found[3]) for found in COUNTS.finditer(text)]
     return status, head, entries
 
 
 def has_elided(text):
     """Whether a section was run without its lock, or tried so."""
-    return any(int(found[3]) + int(found[4]) > 0 for found in COUNTS.finditer(text))
+    return any(int(found[1]) + int(found[2]) > 0 for found in COUNTS.finditer(text))
 
 
 def is_right(words, wanted, status, text):
@@ -71,27 +72,39 @@ def is_right(words, wanted, status, text):
     return seen(status, text) == wanted and not ("off" in words and has_elided(text))
 
 
+def on_threads(words):
+    """The words of a run on threads, over each memory, with elision on and off."""
+    for memory in ("table", "locked"):
+        for elide in ("on", "off"):
+            yield ["--mode", "run", "--memory", memory, "--elide", elide, *words]
+
+
+def wrong_runs(program, words, runs):
+    """How many of so many runs of each kind are wrong."""
+    wanted = seen(*run(program, words))
+    wrong = 0
+    for all_words in on_threads(words):
+        for _ in range(runs):
+            status, text = run(program, all_words)
+            if not is_right(all_words, wanted, status, text):
+                wrong += 1
+                if wrong == 1:
+                    print(*all_words, f"ended with status {status} and said:\n{text}")
+    return wrong
+
+
 def main():
-    options = argparse.ArgumentParser()
-    options.add_argument("--runs", type=int, default=10)
-    options.add_argument("--program", default=PROGRAM)
+    options = argparse.ArgumentParser(description=__doc__.partition("\n")[0])
+    options.add_argument("--runs", type=int, default=10, help="how often each kind is run")
+    options.add_argument("--program", default=PROGRAM, help="the program that is run")
     options = options.parse_args()
     runs = wrong = 0
     for words in cases():
-        wanted = seen(*run(options.program, words))
-        wrong_here = 0
-        for memory in ("table", "locked"):
-            for elide in ("on", "off"):
-                all_words = ["--mode", "run", "--memory", memory, "--elide", elide, *words]
-                for _ in range(options.runs):
-                    runs += 1
-                    status, text = run(options.program, all_words)
-                    if not is_right(all_words, wanted, status, text):
-                        wrong_here += 1
-                        if wrong_here == 1:
-                            print(*all_words, f"ended with status {status} and said:\n{text}")
-        wrong += wrong_here
-        print(os.path.relpath(next(w for w in words if w.endswith(".class")), TOP), f"wrong {wrong_here}", flush=True)
+        of_class = wrong_runs(options.program, words, options.runs)
+        runs += options.runs * len(list(on_threads(words)))
+        wrong += of_class
+        name = next(word for word in words if word.endswith(".class"))
+        print(os.path.relpath(name, TOP), f"wrong {of_class}", flush=True)
     print(f"{runs} runs, {wrong} wrong")
     return 1 if wrong else 0
 

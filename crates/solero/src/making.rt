@@ -45,7 +45,8 @@ pub fn made<R: Threads + Wait + Sync, G: Gate + Sync>(
     }
 }
 
-// Whatever happens in it, a run stands for one of the plain machine; and over a schedule it is over.
+// Whatever happens in it, a run stands for one of the plain machine; at the end of a schedule it is
+// over.
 fn is_plain(checked: &Checked, cfg: &Config)
     requires { AreSettings cfg.now }
     ensures plain { (hs : List Happening) → IsFaithful checked.now cfg.now hs }
