@@ -12,6 +12,7 @@ use Rattle.jvm_types.specs.declared.program.Program.{Program}
 use Rattle.jvm_types.specs.declared.program.Row.{Row}
 use Rattle.jvm_types.specs.declared.fixed_words.TheConstants.{MONITOR_RECORDS}
 use Rattle.checked_program.specs.MarkedProgram.{MarkedProgram}
+use Rattle.jvm_types.specs.declared.limits.TheConstants.{FLAG_FROM}
 use Rattle.machine_types.specs.Bounds.{StepsFit, TurnsFit}
 use Rattle.machine_types.specs.Elision.{may_try, begins, tries, is_same, fails, if_same, elided}
 use Rattle.machine_types.specs.Events.{started, element_made, moved}
@@ -20,7 +21,7 @@ use Rattle.machine_types.specs.Going.{with_phase, runs, failed_turn, root_over, 
 use Rattle.machine_types.specs.HeldMonitors.{held_at, with_held, without_held, deeper, shallower}
 use Rattle.machine_types.specs.Instructions.{begun, ran}
 use Rattle.machine_types.specs.LockWords.{word_of_lock, lock_of}
-use Rattle.machine_types.specs.Monitors.{Claim, Has, Tries, HasNot, claim, flag_from, acquires, enter_moves, finishes, released, leave_moves, grows_not, fattens, bit_of, goes_to_wait, lowest_of}
+use Rattle.machine_types.specs.Monitors.{Claim, Has, Tries, HasNot, claim, acquires, enter_moves, finishes, released, leave_moves, grows_not, fattens, bit_of, goes_to_wait, lowest_of}
 use Rattle.machine_types.specs.Onward.{Running, Leaving, Uncaught, root_arguments, rooted, back, unwound, handed}
 use Rattle.machine_types.specs.ReadyObjects.{class_of}
 use Rattle.machine_types.specs.Structure.{AttemptStandsIn}
@@ -285,7 +286,7 @@ module _ (x : Thread) (m : ℕ) where
   module _ (phase : Phase) (turns : x.turns < x.cfg.turns) (far : 4 + trying x.attempt < chain x.held phase + inside phase x.attempt) where
     acquired : (lock : LockWord) → Lessens x phase (acquires x m lock)
     acquired (locks.Free count) = to_phase x phase (phases.Take m count) far
-    acquired (locks.Held u) = turned x phase (if nat_lt (x.turns + 1) flag_from then phases.Acquire m else phases.Flag m u) turns
+    acquired (locks.Held u) = turned x phase (if nat_lt (x.turns + 1) FLAG_FROM then phases.Acquire m else phases.Flag m u) turns
     acquired (locks.Flagged u) = turned x phase (phases.Acquire m) turns
     acquired (locks.Fat r) = to_phase x phase (phases.TakeFat m r) (omega (arith, far))
 
