@@ -15,20 +15,13 @@ const SETTINGS: Config = Config {
     range: 4,
 };
 
-const ONCE: Held = Held {
-    monitor: 96,
-    kept: Kept::Flat(3),
-    depth: 1,
-};
-
-const TWICE: Held = Held { depth: 2, ..ONCE };
-
 #[test]
 fn a_thread_without_roots_has_returned(rt: HostRuntime) -> Result<(), AllocError> {
     let p = empty(rt.alloc())?;
     let s = ThreadState::start(rt.alloc(), 0, &p, &SETTINGS)?;
-    assert!(rt; s.end() == Some(End::Returned) && s.depth() == 0);
-    assert!(rt; s.into_report().end == End::Returned);
+    assert_eq!(rt; s.end(), Some(End::Returned));
+    assert_eq!(rt; s.depth(), 0);
+    assert_eq!(rt; s.into_report().end, End::Returned);
     Ok(())
 }
 
@@ -36,11 +29,16 @@ fn a_thread_without_roots_has_returned(rt: HostRuntime) -> Result<(), AllocError
 fn what_a_thread_holds_goes_by_the_monitor(rt: HostRuntime) -> Result<(), AllocError> {
     let p = empty(rt.alloc())?;
     let mut s = ThreadState::start(rt.alloc(), 1, &p, &SETTINGS)?;
-    assert!(rt; s.phase() == Phase::Idle);
-    s.put_held(ONCE);
-    s.put_held(TWICE);
-    assert!(rt; s.held(96) == Some(TWICE));
+    assert_eq!(rt; s.phase(), Phase::Idle);
+    let once = Held {
+        monitor: 96,
+        kept: Kept::Flat(3),
+        depth: 1,
+    };
+    s.put_held(once);
+    s.put_held(Held { depth: 2, ..once });
+    assert_eq!(rt; s.held(96), Some(Held { depth: 2, ..once }));
     s.drop_held(96);
-    assert!(rt; s.held(96) == None);
+    assert_eq!(rt; s.held(96), None);
     Ok(())
 }
