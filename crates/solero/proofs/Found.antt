@@ -1,5 +1,5 @@
 -- What clap finds in the words.
-use Rattle.std.proofs.Common.{◌≡◌, ◌∙◌, true, false, length, List, [], ◌∷◌, Option, Some, None, if◌then◌else◌, refl, sym, ap, arith}
+use Rattle.std.proofs.Common.{◌≡◌, ◌∙◌, true, false, length, List, [], ◌∷◌, Some, None, if◌then◌else◌, refl, sym, ap, arith}
 use Rattle.std.proofs.lemmas.Bool.{ne_eqb}
 use Rattle.clap.specs.Walk.{Row, Text, is_empty}
 use Rattle.clap.specs.Simple.{App, is_simple, matches_of}

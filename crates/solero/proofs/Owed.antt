@@ -1,5 +1,5 @@
 -- What is owed to files that were read, and where one was not.
-use Rattle.std.proofs.Common.{◌≡◌, ℕ, ◌≤◌, List, Option, Some, None, refl, sym, subst, inl, inr, arith}
+use Rattle.std.proofs.Common.{◌≡◌, ℕ, ◌≤◌, List, Option, Some, None, refl, inl, inr, arith}
 use Rattle.jvm_types.specs.LinkFaults.{in_file}
 use Rattle.jvm_types.specs.declared.refusal.Rule.TheVariants as rules
 use Rattle.jvm_types.specs.declared.refusal.CRule.TheVariants.{C10}

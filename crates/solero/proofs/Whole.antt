@@ -1,8 +1,8 @@
 -- Files that are accepted are answered in full, where nothing outside fails.
-use Rattle.std.proofs.Common.{◌≡◌, ℕ, ◌<◌, ◌⊎◌, inl, inr, List, Option, Some, None, Result, Ok, Err, sym, subst, ap, ◌∙◌, arith}
+use Rattle.std.proofs.Common.{ℕ, inl, inr, List, Option, Some, Ok, Err, arith}
 use Rattle.solero.specs.Command.{Asked}
-use Rattle.solero.specs.Answer.{AreAccepted, IsDue, IsMadeOf, contents_of}
-use Rattle.solero.specs.Delivery.{Delivers, IsWritten}
+use Rattle.solero.specs.Answer.{AreAccepted, IsDue, contents_of}
+use Rattle.solero.specs.Delivery.{Delivers}
 use Rattle.solero.specs.Whole.{AnswersWhole, IsCalm, IsOwed}
 use Rattle.solero.proofs.Accepted.{no_refusal}
 use Rattle.host_io.specs.Faults.{CountsFault}

@@ -1,7 +1,7 @@
-use Rattle.std.proofs.Common.{◌≡◌, ◌∙◌, ap, codes}
+use Rattle.std.proofs.Common.{◌∙◌, ap, codes}
 use Rattle.std.proofs.lemmas.Result.{IfOk-weaker}
-use Rattle.clap.specs.Words.{App, app_of}
-use Rattle.solero.specs.Command.{the_command, with_names, with_option}
+use Rattle.clap.specs.Words.{App}
+use Rattle.solero.specs.Command.{with_names, with_option}
 use Rattle.solero.proofs.command.simple_command.Goals as goal
 
 pub returns : goal.returns

@@ -1,4 +1,3 @@
-use Rattle.std.proofs.Common.{◌<◌, length, subst}
 use Rattle.solero.proofs.SomeThread.{some_thread}
 use Rattle.solero.proofs.making.replayed.Goals as goal
 

@@ -6,7 +6,7 @@ use Rattle.solero.proofs.SoFar.{none_long}
 use Rattle.solero.proofs.program.work_on.Goals as goal
 
 pub run_files-requires-clause-short : goal.run_files-requires-clause-short
-run_files-requires-clause-short g c = none_long 0 _ c.in-Ok.ensures.ok.short
+run_files-requires-clause-short g c = λ _ _. none_long 0 _ c.in-Ok.ensures.ok.short
 
 pub returns-in-Err-clause-due : goal.returns-in-Err-clause-due
 returns-in-Err-clause-due g c =
