@@ -16,10 +16,12 @@ use std::marker::Model;
 
 /// The frames of methods of one program, which contracts see as a list with the top frame first.
 ///
-/// The heads of the frames and their slots fill two arrays from the end down. Only `new` takes memory.
+/// The heads of the frames and their slots fill two arrays from the end down; the head of the top frame stands apart, so that
+/// a loop which has the frames by value keeps it at hand. Only `new` takes memory.
 #[derive(Drop)]
 pub struct FrameStack {
     program: Told<Program>,
+    top: Head,
     heads: Vec<Head>,
     start: usize,
     slots: Vec<u64>,
@@ -27,15 +29,27 @@ pub struct FrameStack {
 }
 
 impl Model for FrameStack {
-    ghost use Rattle.std.specs.Prelude.{drop};
+    ghost use Rattle.std.specs.Prelude.{drop, slice_set};
     ghost use Rattle.frames.specs.FrameLists.{Frames};
     ghost use Rattle.frames.specs.Laid.{frames_of, Laid};
 
     ghost Value = { Frames };
 
-    ghost view = { λ s. record { program = s.program.told; frames = frames_of (drop s.start s.heads.items) (drop s.free s.slots.items) } };
+    ghost view = { λ s. record { program = s.program.told; frames = frames_of (drop s.start (slice_set s.heads.items s.start s.top)) (drop s.free s.slots.items) } };
 
-    ghost invariant = { λ s. Laid s.program.told s.heads.items s.start s.slots.items s.free };
+    ghost invariant = { λ s. Laid s.program.told (slice_set s.heads.items s.start s.top) s.start s.slots.items s.free };
+}
+
+/// The head at a place, or another one where there is none.
+#[inline(always)]
+fn head_at(heads: &Vec<Head>, place: usize, none: Head) -> Head
+    ensures { slice_set heads.now.items place result ≡ heads.now.items }
+{
+    if place < heads.len() {
+        heads[place]
+    } else {
+        none
+    }
 }
 
 impl FrameStack {
@@ -53,6 +67,7 @@ impl FrameStack {
         };
         Ok(FrameStack {
             program: Told::of(p),
+            top: none,
             heads: vec![in alloc; none; MOST_FRAMES]?,
             start: MOST_FRAMES,
             slots: vec![in alloc; 0u64; SLOTS]?,
@@ -74,7 +89,7 @@ impl FrameStack {
         requires { 0 < length self.now.frames }
         ensures { result ≡ (top self.now.frames).method }
     {
-        self.heads[self.start].method
+        self.top.method
     }
 
     #[inline(always)]
@@ -82,7 +97,7 @@ impl FrameStack {
         requires { 0 < length self.now.frames }
         ensures { result ≡ (top self.now.frames).pc }
     {
-        self.heads[self.start].pc
+        self.top.pc
     }
 
     #[inline(always)]
@@ -90,7 +105,7 @@ impl FrameStack {
         requires { 0 < length self.now.frames }
         ensures { result ≡ (top self.now.frames).receiver }
     {
-        self.heads[self.start].receiver
+        self.top.receiver
     }
 
     #[inline(always)]
@@ -98,7 +113,7 @@ impl FrameStack {
         requires { 0 < length self.old.frames }
         ensures { self.new ≡ record self.old { frames = with_top (record (top self.old.frames) { pc = pc }) self.old.frames } }
     {
-        self.heads[self.start].pc = pc;
+        self.top.pc = pc;
     }
 
     /// The stack of the top frame, its top first.
@@ -107,7 +122,7 @@ impl FrameStack {
         requires { 0 < length self.now.frames }
         ensures { result.now ≡ (top self.now.frames).stack }
     {
-        let head = &self.heads[self.start];
+        let head = &self.top;
         &self.slots[self.free + head.gap..self.free + head.room]
     }
 
@@ -117,7 +132,7 @@ impl FrameStack {
         requires { 0 < length self.now.frames }
         ensures { result.now ≡ (top self.now.frames).locals }
     {
-        let head = &self.heads[self.start];
+        let head = &self.top;
         &self.slots[self.free + head.room..self.free + head.size]
     }
 
@@ -127,7 +142,7 @@ impl FrameStack {
         requires { 0 < length self.now.frames }
         ensures { result ≡ length (top self.now.frames).stack }
     {
-        let head = self.heads[self.start];
+        let head = self.top;
         (head.room - head.gap) as u32
     }
 
@@ -138,7 +153,7 @@ impl FrameStack {
         requires value { down < length (top self.now.frames).stack }
         ensures { result ≡ slice_index (top self.now.frames).stack down }
     {
-        self.slots[self.free + self.heads[self.start].gap + down as usize]
+        self.slots[self.free + self.top.gap + down as usize]
     }
 
     #[inline(always)]
@@ -147,9 +162,9 @@ impl FrameStack {
         requires room { length (top self.old.frames).stack < max_stack self.old.program (top self.old.frames).method }
         ensures { self.new ≡ record self.old { frames = with_top (record (top self.old.frames) { stack = value ∷ (top self.old.frames).stack }) self.old.frames } }
     {
-        let left = self.heads[self.start].gap - 1;
+        let left = self.top.gap - 1;
         self.slots[self.free + left] = value;
-        self.heads[self.start].gap = left;
+        self.top.gap = left;
     }
 
     #[inline(always)]
@@ -159,8 +174,8 @@ impl FrameStack {
         ensures value { result ≡ slice_index (top self.old.frames).stack 0 }
         ensures rest { self.new ≡ record self.old { frames = with_top (record (top self.old.frames) { stack = drop 1 (top self.old.frames).stack }) self.old.frames } }
     {
-        let gap = self.heads[self.start].gap;
-        self.heads[self.start].gap = gap + 1;
+        let gap = self.top.gap;
+        self.top.gap = gap + 1;
         self.slots[self.free + gap]
     }
 
@@ -171,8 +186,8 @@ impl FrameStack {
         requires values { count ≤ length (top self.old.frames).stack }
         ensures { self.new ≡ record self.old { frames = with_top (record (top self.old.frames) { stack = drop count (top self.old.frames).stack }) self.old.frames } }
     {
-        let gap = self.heads[self.start].gap;
-        self.heads[self.start].gap = gap + count as usize;
+        let gap = self.top.gap;
+        self.top.gap = gap + count as usize;
     }
 
     /// Drops all values of the top frame.
@@ -181,8 +196,8 @@ impl FrameStack {
         requires { 0 < length self.old.frames }
         ensures { self.new ≡ record self.old { frames = with_top (record (top self.old.frames) { stack = [] }) self.old.frames } }
     {
-        let room = self.heads[self.start].room;
-        self.heads[self.start].gap = room;
+        let room = self.top.room;
+        self.top.gap = room;
     }
 
     /// A local of the top frame.
@@ -192,7 +207,7 @@ impl FrameStack {
         requires local { i < length (top self.now.frames).locals }
         ensures { result ≡ slice_index (top self.now.frames).locals i }
     {
-        self.slots[self.free + self.heads[self.start].room + i as usize]
+        self.slots[self.free + self.top.room + i as usize]
     }
 
     #[inline(always)]
@@ -201,7 +216,7 @@ impl FrameStack {
         requires local { i < length (top self.old.frames).locals }
         ensures { self.new ≡ record self.old { frames = with_top (record (top self.old.frames) { locals = slice_set (top self.old.frames).locals i value }) self.old.frames } }
     {
-        let at = self.free + self.heads[self.start].room + i as usize;
+        let at = self.free + self.top.room + i as usize;
         self.slots[at] = value;
     }
 
@@ -211,8 +226,9 @@ impl FrameStack {
         requires { 0 < length self.old.frames }
         ensures { self.new ≡ record self.old { frames = below self.old.frames } }
     {
-        self.free += self.heads[self.start].size;
+        self.free += self.top.size;
         self.start += 1;
+        self.top = head_at(&self.heads, self.start, self.top);
     }
 }
 
@@ -222,6 +238,7 @@ impl FrameStack {
     ghost use Rattle.frames.specs.FrameLists.{argument_count, called, rooted, entered, HasArguments};
 
     /// Whether a frame of the method fits on those that are there.
+    #[inline(always)]
     pub fn has_room(&self, m: &MethodInfo) -> bool
         ensures { result ≡ has_room self.now.program self.now.frames m.now }
     {
@@ -229,6 +246,7 @@ impl FrameStack {
     }
 
     /// The frame of a method that the top frame calls, with the arguments from its stack.
+    #[inline(always)]
     fn push_called(&mut self, number: u32, m: &MethodInfo)
         requires method { slice_get self.old.program.methods number ≡ Some m.now }
         requires fits { argument_count m.now ≤ m.now.max_locals }
@@ -241,12 +259,13 @@ impl FrameStack {
         let locals = m.max_locals as usize;
         let at = self.free - (stack + locals);
         let count = argument_count(m);
-        let gap = self.heads[self.start].gap;
+        let gap = self.top.gap;
         lay(&mut self.slots, self.free + gap, count, at + stack, locals);
         let receiver = receiver_at(self.slots.as_slice(), at + stack, is_static(m.flags));
-        self.heads[self.start].gap = gap + count;
+        self.top.gap = gap + count;
+        self.heads[self.start] = self.top;
         self.start -= 1;
-        self.heads[self.start] = Head {
+        self.top = Head {
             method: number,
             pc: 0,
             receiver,
@@ -271,7 +290,7 @@ impl FrameStack {
         lay_root(&mut self.slots, t, m.args.len(), at + stack, locals);
         let receiver = receiver_at(self.slots.as_slice(), at + stack, is_static(m.flags));
         self.start -= 1;
-        self.heads[self.start] = Head {
+        self.top = Head {
             method: number,
             pc: 0,
             receiver,
@@ -283,6 +302,7 @@ impl FrameStack {
     }
 
     /// A frame of the method: of a root of thread `t`, where there is none, else of a call.
+    #[inline(always)]
     pub fn push_frame(&mut self, number: u32, m: &MethodInfo, t: u8) -> Result<(), StackOverflow>
         requires method { slice_get self.old.program.methods number ≡ Some m.now }
         requires fits { argument_count m.now ≤ m.now.max_locals }
@@ -316,7 +336,7 @@ impl FrameStack {
         ensures copy { frame_of result kept.new.items ≡ top self.now.frames }
         ensures fits { HeadFits self.now.program result }
     {
-        let head = self.heads[self.start];
+        let head = self.top;
         copy_slots(self.slots.as_slice(), self.free, kept, 0, head.size);
         head
     }
@@ -329,9 +349,8 @@ impl FrameStack {
         requires alike { head.method ≡ (top self.old.frames).method }
         ensures { self.new ≡ record self.old { frames = with_top (frame_of head kept.now.items) self.old.frames } }
     {
-        let _old = self.heads[self.start];
         copy_slots(kept.as_slice(), 0, &mut self.slots, self.free, head.size);
-        self.heads[self.start] = head;
+        self.top = head;
     }
 
     /// Drops the frames above the deepest `count`.

@@ -23,6 +23,7 @@ use lists::Told;
 use machine_types::{AttemptHead, Config, Held, Phase};
 use std::alloc::{AllocError, Global};
 use std::marker::Model;
+use std::mem::replace;
 
 /// The state of a thread of one program. Contracts see its parts by themselves, its frames as a list with the top
 /// frame first and each stack with its top first.
@@ -37,6 +38,8 @@ pub struct ThreadState {
     number: u8,
     phase: Phase,
     frames: FrameStack,
+    /// What stands in the place of the frames while a loop has them.
+    spare: Option<FrameStack>,
     held: Vec<Held>,
     attempt: Option<AttemptEntry>,
     kept: Vec<u64>,
@@ -49,7 +52,7 @@ pub struct ThreadState {
 }
 
 impl Model for ThreadState {
-    ghost use Rattle.std.specs.Prelude.{◌≡◌, ◌≤◌, ◌+◌, ◌*◌, length, option_map};
+    ghost use Rattle.std.specs.Prelude.{◌≡◌, ◌≤◌, ◌+◌, ◌*◌, length, option_map, IfSome};
     ghost use Rattle.std.specs.Vec.{vec_capacity};
     ghost use Rattle.jvm_types.specs.declared.limits.TheConstants.{MOST_FRAMES};
     ghost use Rattle.machine_types.specs.HeldMonitors.{most_held};
@@ -61,7 +64,7 @@ impl Model for ThreadState {
 
     ghost view = { λ s. record { program = record { program = s.frames.program; typings = s.typings.told; tags = s.tags.told; marks = s.marks.told }; cfg = s.cfg; number = s.number; phase = s.phase; frames = s.frames.frames; held = s.held.items; attempt = option_map (attempt_of s.kept.items) s.attempt; roots = s.roots.left; turns = s.turns; counts = s.counts; prints = s.prints.items; part = s.part; first = s.first } };
 
-    ghost invariant = { λ s. IsKept s.frames.program s.kept.items s.attempt × (MOST_FRAMES * (1 + most_held s.tags.told) ≤ vec_capacity s.held) × (s.cfg.prints ≤ length s.prints.items + s.prints.spare) × (length s.prints.items ≤ s.cfg.prints) × (s.roots.later ≡ later_roots s.frames.program s.number) };
+    ghost invariant = { λ s. IsKept s.frames.program s.kept.items s.attempt × (MOST_FRAMES * (1 + most_held s.tags.told) ≤ vec_capacity s.held) × IfSome s.spare (λ f. f.program ≡ s.frames.program) × (s.cfg.prints ≤ length s.prints.items + s.prints.spare) × (length s.prints.items ≤ s.cfg.prints) × (s.roots.later ≡ later_roots s.frames.program s.number) };
 }
 
 /// The phase of a thread whose part begins with these roots.
@@ -131,6 +134,7 @@ impl ThreadState {
             number,
             phase,
             frames: FrameStack::new(alloc, p.program())?,
+            spare: Some(FrameStack::new(alloc, p.program())?),
             held: Vec::with_capacity(alloc, places(p.tags())?)?,
             attempt: None,
             kept: vec![in alloc; 0u64; SLOTS]?,
@@ -499,6 +503,26 @@ impl ThreadState {
         ensures { self.new ≡ record self.old { frames = below self.old.frames } }
     {
         self.frames.pop_frame();
+    }
+
+    /// Hands out the frames, where they are not out already. Until they are put back others stand in their place.
+    pub fn take_frames(&mut self) -> Option<FrameStack>
+        ensures frames { IfSome result (λ f. f ≡ record { program = self.old.program.program; frames = self.old.frames }) }
+        ensures rest { self.new ≡ record self.old { frames = self.new.frames } }
+        ensures none { result ≡ None → self.new ≡ self.old }
+    {
+        match self.spare.take() {
+            Some(spare) => Some(replace(&mut self.frames, spare)),
+            None => None,
+        }
+    }
+
+    /// Puts frames in the place of those that are there.
+    pub fn put_frames(&mut self, frames: FrameStack)
+        requires { frames.program ≡ self.old.program.program }
+        ensures { self.new ≡ record self.old { frames = frames.frames } }
+    {
+        self.spare = Some(replace(&mut self.frames, frames));
     }
 }
 

@@ -4,9 +4,10 @@
 mod accesses;
 mod before;
 mod effects;
-mod ints;
+pub mod ints;
 mod names;
 
 pub use accesses::{is_checked, perform, read_by, wants};
 pub use effects::effect;
 pub use ints::word_of;
+pub use names::{kept, variable_of, with_method};

@@ -13,8 +13,9 @@ use jvm_types::flags::is_static;
 use jvm_types::{FieldInfo, Kind, MethodInfo, Op, Program, Target, Thrown};
 use machine_types::{Effect, Variable};
 
+/// The variable of a field, of an object where it is no static one.
 #[inline(always)]
-fn variable_of(field: &FieldInfo, reference: u64) -> Variable
+pub fn variable_of(field: &FieldInfo, reference: u64) -> Variable
     ensures { result ≡ variable_of field.now reference }
 {
     if is_static(field.flags) {
@@ -26,7 +27,7 @@ fn variable_of(field: &FieldInfo, reference: u64) -> Variable
 
 /// A field of type Z keeps the low bit.
 #[inline(always)]
-fn kept(kind: Kind, value: u64) -> u64
+pub fn kept(kind: Kind, value: u64) -> u64
     ensures { result ≡ kept kind value }
 {
     match kind {
@@ -109,7 +110,7 @@ fn call_static(called: &MethodInfo, number: u32, stack: &[u64]) -> Effect
 
 /// The instructions that name a method of the program.
 #[inline(always)]
-fn with_method(p: &Program, next: u32, number: u32, op: &Op, stack: &[u64]) -> Effect
+pub fn with_method(p: &Program, next: u32, number: u32, op: &Op, stack: &[u64]) -> Effect
     ensures { result ≡ named p.now next (targets.Method number) op.now stack.now }
 {
     match p.methods.get(number as usize) {

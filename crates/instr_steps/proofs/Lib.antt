@@ -1,5 +1,6 @@
-mod TopPlaces
+pub mod TopPlaces
 mod CallLaws
-mod Ready
+pub mod Ready
+pub mod Near
 mod PhasesReady
 mod RootsThere

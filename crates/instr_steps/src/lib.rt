@@ -15,6 +15,8 @@ mod places;
 mod running;
 mod taking;
 
+pub use calls::given_back;
 pub use did::Did;
 pub use phases::{begin_root, dispatch, finish_element, go_after, store_header};
+pub use places::{Place, method_of};
 pub use running::{local, run, run_local, run_want, run_with};

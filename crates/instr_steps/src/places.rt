@@ -2,10 +2,12 @@
 
 ghost use Rattle.std.specs.Prelude.{◌≡◌, ◌<◌, length, slice_get, slice_index_or, IsSome, Some};
 ghost use Rattle.jvm_types.specs.declared.program.Target.TheVariants.{Nothing};
-ghost use Rattle.jvm_types.specs.declared.code.Insn.{Insn};
 ghost use Rattle.machine_types.specs.Frames.{top_of};
+ghost use Rattle.machine_types.specs.Lawful.{IsLawful};
+ghost use Rattle.machine_types.specs.declared.phase.Phase.TheVariants.{Run};
 ghost use Rattle.checked_program.specs.CodeIndex.{number_in};
 ghost use Rattle.frames.specs.FrameLists.{top};
+ghost use Rattle.instr_steps.specs.NextPlace.{IsNext};
 ghost use Rattle.instr_steps.specs.Places.{at_place};
 
 use checked_program::Checked;
@@ -43,6 +45,22 @@ fn target_at(targets: &Rows<Target>, i: usize) -> Target
 }
 
 impl<'a> Place<'a> {
+    /// The instruction of a number in the code of a method.
+    #[inline(always)]
+    pub fn of(method: &'a MethodInfo, number: usize) -> Place<'a>
+        requires insn { number < length method.now.code }
+        requires target { number < length method.now.targets }
+        ensures method { result.method ≡ method.now }
+        ensures insn { slice_get method.now.code number ≡ Some result.insn }
+        ensures target { result.target ≡ slice_index_or method.now.targets number Nothing }
+    {
+        Place {
+            method,
+            insn: insn_at(&method.code, number),
+            number,
+        }
+    }
+
     #[inline(always)]
     pub fn method(&self) -> &'a MethodInfo
         ensures { result.now ≡ self.now.method }
@@ -67,6 +85,14 @@ impl<'a> Place<'a> {
             insn: self.insn,
             number: self.number,
         }
+    }
+
+    /// The number of the instruction in the code of its method.
+    #[inline(always)]
+    pub fn number(&self) -> usize
+        ensures { result < length self.now.method.targets }
+    {
+        self.number
     }
 
     #[inline(always)]
@@ -115,4 +141,15 @@ pub fn place_of<'a>(s: &ThreadState, p: &'a Checked) -> Place<'a>
         },
         None => unreachable!(),
     }
+}
+
+/// Where the thread makes its next instruction.
+#[inline(always)]
+pub fn next_place<'a>(s: &ThreadState, p: &'a Checked) -> Place<'a>
+    requires lawful { IsLawful p.now s.now }
+    requires phase { s.now.phase ≡ Run }
+    ensures { IsNext p.now s.now result }
+{
+    let _checked = p.program();
+    place_of(s, p)
 }

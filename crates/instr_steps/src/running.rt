@@ -13,7 +13,6 @@ ghost use Rattle.machine_types.specs.declared.access.Access.TheVariants.{Load};
 ghost use Rattle.machine_types.specs.declared.phase.Phase.TheVariants.{Run};
 ghost use Rattle.frames.specs.FrameLists.{top};
 ghost use Rattle.instr_effects.specs.Fitting.{HasPlace};
-ghost use Rattle.instr_steps.specs.NextPlace.{IsNext};
 ghost use Rattle.instr_steps.specs.Places.{CanGo, IsAt, at_place};
 ghost use Rattle.instr_steps.specs.Outcomes.{did_in};
 
@@ -21,7 +20,7 @@ use crate::did::{Did, did_in};
 use crate::effecting::{effect_here, instruct};
 use crate::moves::{keep_running, move_to};
 use crate::objects::has_print_left;
-use crate::places::{Place, place_of};
+use crate::places::{Place, next_place};
 use checked_program::Checked;
 use frames::{ThreadState, count_instruction};
 use instr_effects::{perform, wants};
@@ -66,17 +65,6 @@ fn go_alone(s: &mut ThreadState, p: &Checked, place: &Place, to: u32, made: u64)
     move_to(s, p, place, to, made);
     count_instruction(s);
     keep_running(s);
-}
-
-/// Where the thread makes its next instruction.
-#[inline(always)]
-fn next_place<'a>(s: &ThreadState, p: &'a Checked) -> Place<'a>
-    requires lawful { IsLawful p.now s.now }
-    requires phase { s.now.phase ≡ Run }
-    ensures { IsNext p.now s.now result }
-{
-    let _checked = p.program();
-    place_of(s, p)
 }
 
 /// The access that the next instruction wants.

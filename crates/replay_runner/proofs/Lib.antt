@@ -6,3 +6,4 @@ mod MachineEvents
 mod ManyEvents
 mod LoneWorker
 mod Reaching
+mod RunAhead

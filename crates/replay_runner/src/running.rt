@@ -20,7 +20,7 @@ use run_parts::{
 };
 use std::alloc::{AllocError, Global};
 use std::marker::Model;
-use step_core::event;
+use step_core::{event, run_ahead};
 
 /// A machine that runs a checked program. Contracts see the program, the settings, and its state.
 ///
@@ -55,7 +55,7 @@ fn begin_part(threads: &mut Vec<ThreadState>)
 }
 
 /// Makes so many events of a thread of a machine, of which those behind its end change nothing, and tells whether it is live
-/// then. The one call of `event` stands here, so that its code is part of this loop.
+/// then.
 fn run_thread(s: &mut ThreadState, p: &Checked, words: &mut Rows<u64>, count: u64) -> bool
     requires { (m : Running) × (t : ℕ) × IsThreadOf m p.now t s.old words.old }
     ensures on { (m : Running) (t : ℕ) → IsThreadOf m p.now t s.old words.old → IsThreadOf (run_on m t count) p.now t s.new words.new }
@@ -73,9 +73,31 @@ fn run_thread(s: &mut ThreadState, p: &Checked, words: &mut Rows<u64>, count: u6
     s.is_live()
 }
 
-/// More events than a run has: its limits end it long before.
-fn most_events() -> u64 {
-    u64::MAX
+/// Makes events of a thread of a machine: those that can be made ahead, and one more.
+fn go_far(s: &mut ThreadState, p: &Checked, words: &mut Rows<u64>)
+    requires { (m : Running) × (t : ℕ) × IsThreadOf m p.now t s.old words.old }
+    ensures { (m : Running) (t : ℕ) → IsThreadOf m p.now t s.old words.old → (n : ℕ) × IsThreadOf (run_on m t n) p.now t s.new words.new }
+{
+    reached_fits();
+    threads_are_kept();
+    run_facts_event();
+    let _ahead = run_ahead(s, p, words);
+    event(s, p, words);
+}
+
+/// Makes the events of a thread of a machine until it is not live, and tells whether it is.
+fn run_far(s: &mut ThreadState, p: &Checked, words: &mut Rows<u64>) -> bool
+    requires { (m : Running) × (t : ℕ) × IsThreadOf m p.now t s.old words.old }
+    ensures on { (m : Running) (t : ℕ) → IsThreadOf m p.now t s.old words.old → (n : ℕ) × IsThreadOf (run_on m t n) p.now t s.new words.new }
+    ensures live { result ≡ is_live s.new.phase }
+{
+    for _ in 0..u64::MAX {
+        if !s.is_live() {
+            return false;
+        }
+        go_far(s, p, words);
+    }
+    s.is_live()
 }
 
 /// The answer behind the last event, by whether the thread is live.
@@ -159,8 +181,7 @@ impl Machine {
         if !self.lives(t) {
             return Ok(());
         }
-        let most = most_events();
-        let live = run_thread(&mut self.threads[t as usize], p, &mut self.words, most);
+        let live = run_far(&mut self.threads[t as usize], p, &mut self.words);
         over(live)
     }
 

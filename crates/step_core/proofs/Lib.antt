@@ -2,3 +2,7 @@ pub mod LawfulSteps
 pub mod LocalEvents
 pub mod StaysLawful
 pub mod MarkOrderLaws
+mod WordsKept
+mod FoundPlaces
+mod EventsMore
+mod TakenFrames

@@ -1,2 +1,6 @@
 pub mod Claims
 pub mod MarkOrder
+pub mod Running
+pub mod GoingOn
+pub mod Alone
+pub mod Fields

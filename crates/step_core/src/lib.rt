@@ -1,6 +1,7 @@
 //! One event of a thread: the access that it wants, and what the thread becomes by the word that the access found.
 #![tactic(auto)]
 
+mod ahead;
 mod attempts;
 mod entering;
 mod leaving;
@@ -8,6 +9,7 @@ mod marked;
 mod moving;
 mod wanting;
 
+pub use ahead::run_ahead;
 pub use instr_effects::perform;
 pub use moving::{apply, event, step_local};
 pub use wanting::want;

@@ -1,3 +1,5 @@
+use Rattle.std.proofs.Common.{set}
+use Rattle.frames.proofs.FrameLaws.{held_top}
 use Rattle.frames.proofs.CopyLaws.{copied}
 use Rattle.frames.proofs.frame_stack.FrameStack.copy_top.Goals as goal
 
@@ -6,4 +8,4 @@ returns-clause-copy c =
     let s = c.self.inside in
     let some = rw (← c.self.view_is) at c.requires.frame in
     let same = rw c.as_slice.ensures.value at c.copy_slots.ensures.copied in
-    rw (← c.self.view_is) (copied s.program.told s.heads.items s.start s.slots.items s.free c.index-head.result.now c.copy_slots.new.slots.items c.self.invariant c.index-head.ensures some same).0
+    rw (← c.self.view_is) (copied s.program.told (set s.heads.items s.start s.top) s.start s.slots.items s.free s.top c.copy_slots.new.slots.items c.self.invariant (held_top s.heads.items s.start s.top) some same).0
