@@ -7,6 +7,7 @@ mod did;
 mod effecting;
 mod exceptions;
 mod going_on;
+mod halves;
 mod monitors;
 mod moves;
 mod objects;
@@ -17,6 +18,7 @@ mod taking;
 
 pub use calls::given_back;
 pub use did::Did;
+pub use halves::{InsnWant, run_by, run_or_want};
 pub use phases::{begin_root, dispatch, finish_element, go_after, store_header};
 pub use places::{Place, method_of};
-pub use running::{local, run, run_local, run_want, run_with};
+pub use running::{local, run, run_want, run_with};

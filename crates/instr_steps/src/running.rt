@@ -1,6 +1,6 @@
 //! The next instruction of a lawful thread.
 
-ghost use Rattle.std.specs.Prelude.{◌≡◌, ◌<◌, ◌^◌, ℕ, None, length, is_some, if◌then◌else◌, IfSome, slice_index};
+ghost use Rattle.std.specs.Prelude.{◌≡◌, ◌<◌, ◌^◌, ℕ, None, length, IfSome, slice_index};
 ghost use Rattle.std.specs.Option.{option_map};
 ghost use Rattle.machine_types.specs.Accesses.{accessed, found_by, left_by, words_after};
 ghost use Rattle.machine_types.specs.Elision.{looks};
@@ -40,7 +40,7 @@ fn tried_monitor(s: &ThreadState) -> Option<u32>
 
 /// The access that an effect wants.
 #[inline(always)]
-fn want_of(s: &ThreadState, effect: Effect) -> Option<Access>
+pub(crate) fn want_of(s: &ThreadState, effect: Effect) -> Option<Access>
     requires frame { 0 < length s.now.frames }
     requires place { HasPlace effect }
     ensures { result ≡ effect_wants s.now (top s.now.frames).pc effect }
@@ -51,7 +51,7 @@ fn want_of(s: &ThreadState, effect: Effect) -> Option<Access>
 /// An instruction that only goes on, outside an attempt, where it wants no access. Its count comes last, so that nothing is
 /// written between the looks at the instruction.
 #[inline(always)]
-fn go_alone(s: &mut ThreadState, p: &Checked, place: &Place, to: u32, made: u64)
+pub(crate) fn go_alone(s: &mut ThreadState, p: &Checked, place: &Place, to: u32, made: u64)
     requires phase { s.old.phase ≡ Run }
     requires program { p.now ≡ s.old.program }
     requires stands { IsAt p.now.program s.old.frames place.now }
@@ -90,30 +90,6 @@ pub fn run(s: &mut ThreadState, p: &Checked, got: u64)
     let place = next_place(s, p);
     let effect = effect_here(s, p, &place);
     instruct(s, p, &place, effect, got);
-}
-
-/// The next instruction at once, where it wants no access; else the access that it wants is answered, and nothing changes.
-#[inline(always)]
-pub fn run_local(s: &mut ThreadState, p: &Checked) -> Option<Access>
-    requires program { p.now ≡ s.old.program }
-    requires lawful { IsLawful p.now s.old }
-    requires phase { s.old.phase ≡ Run }
-    ensures want { result ≡ wanted p.now s.old Run }
-    ensures state { s.new ≡ (if is_some result then s.old else moved p.now s.old Run 0) }
-{
-    let place = next_place(s, p);
-    let effect = effect_here(s, p, &place);
-    if let Effect::Goes(to, made) = effect {
-        if s.attempt().is_none() {
-            go_alone(s, p, &place, to, made);
-            return None;
-        }
-    }
-    let want = want_of(s, effect);
-    if want.is_none() {
-        instruct(s, p, &place, effect, 0);
-    }
-    want
 }
 
 /// The next instruction with its access to the words that threads share, which is there, and whose sum fits 64 bits.

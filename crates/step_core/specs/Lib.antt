@@ -4,3 +4,4 @@ pub mod Running
 pub mod GoingOn
 pub mod Alone
 pub mod Fields
+pub mod Wanting

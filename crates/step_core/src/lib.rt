@@ -4,12 +4,14 @@
 mod ahead;
 mod attempts;
 mod entering;
+mod halves;
 mod leaving;
 mod marked;
 mod moving;
 mod wanting;
 
 pub use ahead::run_ahead;
+pub use halves::{Want, apply_effect, step_or_want};
 pub use instr_effects::perform;
 pub use moving::{apply, event, step_local};
 pub use wanting::want;

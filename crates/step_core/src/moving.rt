@@ -38,7 +38,7 @@ fn throw(s: &mut ThreadState, p: &Checked, found: u64)
 
 /// An event that makes no instruction, by the word that its access found, which is 0 where it has none. It stands apart from
 /// `make`, so that an event has one call of the instructions' effects, which the compiler then inlines.
-fn make_between(s: &mut ThreadState, p: &Checked, got: u64)
+pub(crate) fn make_between(s: &mut ThreadState, p: &Checked, got: u64)
     requires program { p.now ≡ s.old.program }
     requires lawful { IsLawful p.now s.old }
     requires fits { Fits p.now s.old got }

@@ -22,7 +22,7 @@ use Rattle.laws_states.proofs.GrowingRuns.{threads_stay}
 use Rattle.table_rule.specs.Views.{View, held_in, Follows}
 use Rattle.table_rule.proofs.Entries.{held_here, held_else, set_held}
 use Rattle.table_rule.proofs.Shown.{follows_on, follows_itself}
-use Rattle.table_runner.specs.Accessing.{NextEvent, made, Happens, CanRun, Stands}
+use Rattle.table_runner.specs.Accessing.{NextEvent, made, Happens, IsMade, CanRun, Stands}
 use Rattle.table_runner.specs.Going.{Goes, GoesAt, StandsAt}
 use Rattle.table_runner.specs.Handed.{Handed, AreHands, EachStands, event_at, viewed, IsEventOf, HasRoom, RoomIsThere}
 
@@ -49,6 +49,31 @@ stays_of_run e got h = subst (λ n. IsOfRun e.program e.cfg e.number (made e n))
 pub happens_here : (e : NextEvent) → IsOfRun e.program e.cfg e.number e.state
     → wanted e.program e.state e.state.phase ≡ None → Happens e 0
 happens_here e of_run none = record { happenings = of_run.0; at = of_run.1; finds = sym (ap (found_by (core e.program e.cfg of_run.0).words) none) }
+
+-- ---- what an event makes of the view
+
+-- an event without an access
+pub goes_alone : (e : NextEvent) (v : View) (after : Thread) → IsOfRun e.program e.cfg e.number e.state
+    → wanted e.program e.state e.state.phase ≡ None → after ≡ made e 0 → Goes e v after v
+goes_alone e v after of_run none moves = record {
+  got = 0;
+  happens = happens_here e of_run none;
+  state = moves;
+  view = ap (λ o. viewed o v e.number (made e 0)) (sym none);
+}
+
+-- one with an access, whose thread was as it is when the access is made
+pub goes_by : (e : NextEvent) (v w : View) (x after : Thread) (a : Access) (got : ℕ)
+    → wanted e.program e.state e.state.phase ≡ Some a → x ≡ e.state → IsMade (record e { state = x }) v got w
+    → after ≡ made (record e { state = x }) got → Goes e v after w
+goes_by e v w x after a got wants same is moves =
+    let its : IsMade e v got w = subst (λ (y : Thread). IsMade (record e { state = y }) v got w) same is in
+    record {
+      got = got;
+      happens = its.happens;
+      state = moves ∙ ap (λ (y : Thread). made (record e { state = y }) got) same;
+      view = its.view ∙ ap (λ o. viewed o v e.number (made e got)) (sym wants);
+    }
 
 -- ---- hands
 

@@ -10,9 +10,11 @@ use crate::rule::{CoreTable, View};
 use atomic_table::Seat;
 use checked_program::Checked;
 use frames::ThreadState;
-use laws_states::{parts_keep_threads, runs_are_safe, runs_have_state};
+use laws_states::{events_lessen_work, parts_keep_threads, runs_are_safe, runs_have_state};
 use laws_threads::given_is_kept;
-use step_core::{apply, step_local, want};
+use std::hint::spin_loop;
+use std::thread::yield_now;
+use step_core::{apply_effect, step_or_want};
 
 /// The next event of thread `t`, which is live, with this state.
 #[inline(always)]
@@ -28,12 +30,9 @@ fn go(s: &mut ThreadState, seat: &mut Seat<(), View>, table: &CoreTable, p: &Che
     runs_are_safe();
     parts_keep_threads();
     runs_have_state();
-    match want(s, p) {
-        Some(a) => {
-            let got = access(table, seat, a, p, s, t);
-            apply(s, p, got);
-        }
-        None => step_local(s, p),
+    if let Some(want) = step_or_want(s, p) {
+        let got = access(table, seat, want.access, p, s, t);
+        apply_effect(s, p, want.effect, got);
     }
 }
 
@@ -67,30 +66,40 @@ pub(crate) fn go_at(
     }
 }
 
-/// The events of thread `t` until it is not live, or more than a run has are made; whether it is live then.
-fn go_on(
-    s: &mut ThreadState,
-    seat: &mut Seat<(), View>,
-    table: &CoreTable,
-    p: &Checked,
-    t: u8,
-) -> bool
+/// So many failed turns in a row are made without a pause of the thread of the system.
+const SPINS: u32 = 16;
+
+/// Lets another thread of the system go on where the last event was one more failed turn: the monitor is another's, who may need
+/// the processor to let it go.
+#[inline(always)]
+fn give_way(before: u32, turns: u32) {
+    if turns > before {
+        if turns <= SPINS {
+            spin_loop();
+        } else {
+            yield_now();
+        }
+    }
+}
+
+/// The events of thread `t` until it is not live. Each of them leaves less for it to do.
+fn go_on(s: &mut ThreadState, seat: &mut Seat<(), View>, table: &CoreTable, p: &Checked, t: u8)
     requires table { seat.old.table_id ≡ table.now.shared.table_id }
     requires program { table.now.shared.key.program.told ≡ p.now }
     requires run { CanRun p.now table.now.shared.key.cfg table.now.shared.table_id.words }
     requires stands { Stands (record { program = p.now; cfg = table.now.shared.key.cfg; number = t; state = s.old }) seat.old.me.0 }
-    ensures live { result ≡ is_live s.new.phase }
+    ensures over { is_live s.new.phase ≡ false }
     ensures seat { (seat.new.table_id ≡ seat.old.table_id) × (seat.new.id ≡ seat.old.id) × (seat.new.me.1 ≡ seat.old.me.1) }
     ensures goes { GoesOn (record { program = p.now; cfg = table.now.shared.key.cfg; number = t; state = s.old }) seat.old.me.0 s.new seat.new.me.0 }
 {
     given_is_kept();
-    for _ in 0..u64::MAX {
-        if !s.is_live() {
-            return false;
-        }
+    runs_are_safe();
+    events_lessen_work();
+    while s.is_live() {
+        let before = s.turns();
         go(s, seat, table, p, t);
+        give_way(before, s.turns());
     }
-    s.is_live()
 }
 
 /// The same where it is here.
@@ -100,17 +109,17 @@ pub(crate) fn go_on_at(
     table: &CoreTable,
     p: &Checked,
     t: u8,
-) -> bool
+)
     requires table { seat.old.table_id ≡ table.now.shared.table_id }
     requires program { table.now.shared.key.program.told ≡ p.now }
     requires run { CanRun p.now table.now.shared.key.cfg table.now.shared.table_id.words }
     requires stands { StandsAt p.now table.now.shared.key.cfg t place.old seat.old.me.0 }
-    ensures live { result ≡ is_live_thread place.new }
+    ensures over { is_live_thread place.new ≡ false }
     ensures seat { (seat.new.table_id ≡ seat.old.table_id) × (seat.new.id ≡ seat.old.id) × (seat.new.me.1 ≡ seat.old.me.1) }
     ensures goes { GoesOnAt p.now table.now.shared.key.cfg t place.old seat.old.me.0 place.new seat.new.me.0 }
 {
     match place {
         Some(s) => go_on(s, seat, table, p, t),
-        None => false,
+        None => {}
     }
 }

@@ -106,15 +106,15 @@ impl Hands {
         go_at(&mut self.threads[t as usize], &mut self.seat, table, p, t)
     }
 
-    /// The events of thread `t` until it is not live, or more than a run has are made; whether it is live then.
-    pub(crate) fn run(&mut self, table: &CoreTable, p: &Checked, t: u8) -> bool
+    /// The events of thread `t` until it is not live.
+    pub(crate) fn run(&mut self, table: &CoreTable, p: &Checked, t: u8)
         requires table { IsTableOf table.now.shared.table_id table.now.shared.key.program.told table.now.shared.key.cfg self.old }
         requires program { p.now ≡ self.old.program }
         requires held { IsSome (held_in self.old.threads t) }
-        ensures live { result ≡ is_live_thread (held_in self.new.threads t) }
+        ensures over { is_live_thread (held_in self.new.threads t) ≡ false }
         ensures on { IsRunOn t self.old self.new }
     {
-        go_on_at(&mut self.threads[t as usize], &mut self.seat, table, p, t)
+        go_on_at(&mut self.threads[t as usize], &mut self.seat, table, p, t);
     }
 
     /// Hands that hold thread `t` alone, which these no longer hold.

@@ -19,34 +19,30 @@ use std::alloc::{AllocError, Global};
 use std::thread::Threads;
 
 /// The events of thread `t` on this thread of the system, until it is not live.
-fn run_here(hands: &mut Hands, table: &CoreTable, p: &Checked, t: u8) -> Result<(), AllocError>
+fn run_here(hands: &mut Hands, table: &CoreTable, p: &Checked, t: u8)
     requires here { RunsHere table.now.shared.table_id table.now.shared.key.program.told table.now.shared.key.cfg hands.old }
     requires number { t ≤ p.now.program.workers }
     requires program { p.now ≡ table.now.shared.key.program.told }
     ensures here { RunsHere table.now.shared.table_id table.now.shared.key.program.told table.now.shared.key.cfg hands.new }
     ensures on { IsRunOn t hands.old hands.new }
-    ensures over { OnOk result (is_live_thread (held_in hands.new.threads t) ≡ false) }
+    ensures over { is_live_thread (held_in hands.new.threads t) ≡ false }
 {
-    if hands.run(table, p, t) {
-        return Err(AllocError);
-    }
-    Ok(())
+    hands.run(table, p, t);
 }
 
-/// The workers that their threads of the system left live, each until it is not: there are none, as the limits end every worker
-/// before.
-fn run_left(hands: &mut Hands, table: &CoreTable, p: &Checked) -> Result<(), AllocError>
+/// The events that the workers have left. There are none: each has made all of its own, which the hands that it gave back do not
+/// tell.
+fn run_left(hands: &mut Hands, table: &CoreTable, p: &Checked)
     requires program { p.now ≡ table.now.shared.key.program.told }
     requires here { RunsHere table.now.shared.table_id table.now.shared.key.program.told table.now.shared.key.cfg hands.old }
     ensures here { RunsHere table.now.shared.table_id table.now.shared.key.program.told table.now.shared.key.cfg hands.new }
     ensures first { held_in hands.new.threads 0 ≡ held_in hands.old.threads 0 }
-    ensures over { OnOk result (AreDeadBelow (p.now.program.workers + 1) hands.new.threads) }
+    ensures over { AreDeadBelow (p.now.program.workers + 1) hands.new.threads }
 {
     let count = p.workers();
     for i in 0..count {
-        run_here(hands, table, p, i + 1)?;
+        run_here(hands, table, p, i + 1);
     }
-    Ok(())
 }
 
 /// The workers' part.
@@ -65,23 +61,22 @@ fn run_workers<R: Threads + Sync, G: Gate + Sync>(
     ensures over { OnOk result (IsWaiting hands.new.threads × NoWorkerLives hands.new.threads) }
 {
     run_apart(rt, alloc, gate, table, hands, p)?;
-    run_left(hands, table, p)?;
+    run_left(hands, table, p);
     hands.hold_no_more();
     Ok(())
 }
 
 /// `done`, where it may begin.
-fn run_done(table: &CoreTable, hands: &mut Hands, p: &Checked) -> Result<(), AllocError>
+fn run_done(table: &CoreTable, hands: &mut Hands, p: &Checked)
     requires program { p.now ≡ table.now.shared.key.program.told }
     requires here { RunsHere table.now.shared.table_id table.now.shared.key.program.told table.now.shared.key.cfg hands.old }
     requires waiting { IsWaiting hands.old.threads × NoWorkerLives hands.old.threads }
-    ensures here { OnOk result (RunsHere table.now.shared.table_id table.now.shared.key.program.told table.now.shared.key.cfg hands.new) }
-    ensures ended { OnOk result (HaveEnded hands.new.threads) }
+    ensures here { RunsHere table.now.shared.table_id table.now.shared.key.program.told table.now.shared.key.cfg hands.new }
+    ensures ended { HaveEnded hands.new.threads }
 {
-    if !hands.next(table, p) {
-        return Ok(());
+    if hands.next(table, p) {
+        run_here(hands, table, p, 0);
     }
-    run_here(hands, table, p, 0)
 }
 
 /// `init`, and then the workers and `done` where they may begin.
@@ -99,12 +94,13 @@ fn run_parts<R: Threads + Sync, G: Gate + Sync>(
     ensures here { OnOk result (RunsHere table.now.shared.table_id table.now.shared.key.program.told table.now.shared.key.cfg hands.new) }
     ensures ended { OnOk result (HaveEnded hands.new.threads) }
 {
-    run_here(hands, table, p, 0)?;
+    run_here(hands, table, p, 0);
     if !hands.next(table, p) {
         return Ok(());
     }
     run_workers(rt, alloc, gate, table, hands, p)?;
-    run_done(table, hands, p)
+    run_done(table, hands, p);
+    Ok(())
 }
 
 /// The outcome of a run that has ended.

@@ -18,7 +18,7 @@ fn work<G: Gate>(hands: &mut Hands, table: &CoreTable, p: &Checked, gate: &G, t:
     ensures same { AreSame hands.old hands.new }
 {
     gate.pass(t);
-    let _live = hands.run(table, p, t);
+    hands.run(table, p, t);
 }
 
 /// Each worker on a thread of its own.
