@@ -173,7 +173,7 @@ impl Machine {
     }
 
     /// Events of thread `t` alone, until it is not live.
-    pub fn run_alone(&mut self, p: &Checked, t: u8) -> Result<(), AllocError>
+    pub(crate) fn run_alone(&mut self, p: &Checked, t: u8) -> Result<(), AllocError>
         requires { p.now ≡ self.old.program }
         ensures on { (n : ℕ) × (self.new ≡ run_on self.old t n) }
         ensures over { OnOk result (lives self.new.core t ≡ false) }

@@ -27,9 +27,10 @@ use std::thread::Threads;
 /// Does what the words ask for: reads the files from the shelf, in order, then loads them, and runs the program or finds the
 /// marks of its sections, and writes what came of it to the sink. It answers the status that the process ends with.
 ///
-/// In mode run each worker runs on a thread of its own, and passes the gate once, before its first
-/// event and while it holds no lock; in the other modes nobody passes it. A run may wait for a
-/// lock, so the clauses hold where it returns.
+/// In mode run each worker runs on a thread of its own, and passes the gate once, before its first event and while it
+/// holds no lock; in the other modes nobody passes it. Nothing is promised of the order, nor that workers run beside each
+/// other: where the system gives no thread, they run one after another. A run may wait for a lock, so the clauses hold where
+/// it returns.
 pub fn top<R: Threads + Wait + Sync, S: Shelf, K: Sink, G: Gate + Sync>(
     rt: &R,
     alloc: Global,

@@ -41,8 +41,8 @@ pub record AreJoined (h others after : Handed) : Type 0 where
 
 -- ---- the begin of a part
 
--- The hands hold just the threads of a state. Whether its next part may begin; and the hands with the threads that this makes of
--- them, of which the seat knows each as it is.
+-- The hands hold just the threads of a state. Whether its next part may begin, and the hands with the threads that this makes of
+-- them.
 pub record IsNext (h after : Handed) (begins : Bool) : Type 0 where
   pub threads : List Thread
   pub held : Holds h.threads threads

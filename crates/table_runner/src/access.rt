@@ -32,7 +32,7 @@ fn perform<B: Making>(
     let shared = &table.shared;
     match a {
         Access::Load(w) => shared.load::<Makes<B>>(seat, w as usize),
-        // a store tells no word, so the store of a run is an exchange
+        // the table's own store does not tell the word that was there, which the clause names
         Access::Store(w, v) => shared.swap::<Makes<B>>(seat, w as usize, v),
         Access::Cas(w, is, v) => shared.compare_exchange::<Makes<B>>(seat, w as usize, is, v),
         Access::Add(w, v) => shared.fetch_add::<Makes<B>>(seat, w as usize, v),

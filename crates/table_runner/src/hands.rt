@@ -178,8 +178,8 @@ impl Hands {
         true
     }
 
-    /// What the run came to, where these hands hold all of its threads: the outcome of a state that it reaches, with the words
-    /// of the table and these threads.
+    /// What the run came to, where these hands hold all of its threads: the outcome of a state that it reaches, whose threads are
+    /// these.
     pub fn close(self, table: CoreTable) -> Outcome
         requires table { IsTableOf table.shared.table_id table.shared.key.program.told table.shared.key.cfg self }
         requires all { HoldsAll self.program self.threads }

@@ -54,8 +54,8 @@ fn opened(
     CoreTable::of_words(alloc, words, &about)
 }
 
-/// The table of a run at its start, and hands that hold all threads. It takes all the memory that the run will use; its error is
-/// want of memory.
+/// The table of a run at its start, and hands that hold all threads. It takes all the memory that the calls of its hands will
+/// use; its error is want of memory.
 pub fn table(alloc: Global, p: &Checked, cfg: &Config) -> Result<(CoreTable, Hands), AllocError>
     requires { AreSettings cfg.now }
     ensures run { IfOk result (λ t. (t.0.shared.key.program.told ≡ p.now) × (t.0.shared.key.cfg ≡ cfg.now)) }

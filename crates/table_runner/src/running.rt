@@ -115,7 +115,8 @@ fn close(hands: Hands, table: CoreTable) -> Outcome
 /// Runs a program to its end, its workers on threads of their own, over words that they share without a lock: the outcome of a
 /// state of some run, in which no thread is live and no part may begin. Its error is want of memory.
 ///
-/// Worker `t` calls `gate.pass(t)` once, before its first event. `init` and `done` run on the caller's thread.
+/// Worker `t` calls `gate.pass(t)` once, before its first event. `init` and `done` run on the caller's thread. Nothing is promised of
+/// the order, nor that workers run beside each other: where the system gives no thread, they run one after another.
 pub fn run_table<R: Threads + Sync, G: Gate + Sync>(
     rt: &R,
     alloc: Global,
