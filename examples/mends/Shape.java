@@ -1,0 +1,29 @@
+class Shape {
+    interface Sized {
+        int size();
+    }
+
+    static class Square implements Sized {
+        public int size() {
+            return 4;
+        }
+    }
+
+    static void init() {
+        Sized sized = new Square();
+        System.out.println(sized.size());
+    }
+}
+
+class ShapeMended {
+    static class Square {
+        public int size() {
+            return 4;
+        }
+    }
+
+    static void init() {
+        Square sized = new Square();
+        System.out.println(sized.size());
+    }
+}
