@@ -11,7 +11,7 @@ class Shape {
 
     static void init() {
         Sized sized = new Square();
-        System.out.println(sized.size());
+        sized.size();
     }
 }
 
@@ -24,6 +24,6 @@ class ShapeMended {
 
     static void init() {
         Square sized = new Square();
-        System.out.println(sized.size());
+        sized.size();
     }
 }
