@@ -7,8 +7,10 @@ Run it by hand from the top of the repository, after `./run --proved examples/A.
 
 Each program is made so that the stage that is measured is the last to be done: its last method, or its first class, breaks
 a rule of that stage, and the line of the refusal is printed beside the time. Programs that are marked pass all rules and
-have no method that would be run; beside each stands the same one without marks, which a rule of tagging refuses. Each line
-has the median of the runs, less the start of the program, and the quartiles, between which half of the runs lie.
+have no method that would be run; beside each stands the same one without marks, which a rule of tagging refuses. `small`
+and `loops` are loaded whole: files with 422 methods each, of constants that are pushed and dropped (50 KB a file), and of loops
+with calls (37 KB). Each line has the median of the runs, less the start of the program, the quartiles, between which half of
+the runs lie, and the most memory that a run had at a time.
 """
 import measure
 
@@ -220,6 +222,50 @@ def shared(constants):
     return [file.content()]
 
 
+def small(files):
+    """Files of 50 KB, with 422 methods each of 81 instructions of one byte."""
+    contents = []
+    for number in range(files):
+        file = ClassFile(f"S{number}")
+        for i in range(422):
+            file.method(STATIC, f"method{i}", "()V", b"\x03\x57" * 40 + b"\xb1")
+        contents.append(file.content())
+    return contents
+
+
+def jump(code, at, to):
+    """Writes where a branch leads that stands at a pc."""
+    code[at + 1 : at + 3] = (to - at & 0xFFFF).to_bytes(2, "big")
+
+
+def loop(called):
+    """A loop over locals 2 and 3, with arithmetic, a branch and a call, of an `(II)I`."""
+    # iconst_0, istore_2, iconst_0, istore_3; iload_3, iload_0, if_icmpge to the end
+    code = bytearray(b"\x03\x3d\x03\x3e\x1d\x1a\xa2\0\0")
+    # iload_2, iload_1, iadd, iload_3, iconst_2, imul, isub, istore_2
+    code += b"\x1c\x1b\x60\x1d\x05\x68\x64\x3d"
+    # iload_2, iconst_3, iand, ifne over the next; iinc 2 1
+    code += b"\x1c\x06\x7e\x9a\0\6\x84\2\1"
+    # iload_2, iload_3, invokestatic, istore_2; iinc 3 1, goto the test
+    code += b"\x1c\x1d\xb8" + u2(called) + b"\x3d\x84\3\1\xa7\0\0"
+    jump(code, len(code) - 3, 4)
+    jump(code, 6, len(code))
+    # iload_2, ireturn
+    return bytes(code + b"\x1c\xac")
+
+
+def loops(files):
+    """Files with 422 methods of such loops, each of which calls the next."""
+    contents = []
+    for number in range(files):
+        file = ClassFile(f"L{number}")
+        for i in range(422):
+            called = file.member(10, f"L{number}", f"method{(i + 1) % 422}", "(II)I")
+            file.method(STATIC, f"method{i}", "(II)I", loop(called), 4, 4)
+        contents.append(file.content())
+    return contents
+
+
 SHAPES = (
     (decoding, "methods", (60, 120, 240, 480)),
     (straight, "methods", (8, 16, 32)),
@@ -230,6 +276,8 @@ SHAPES = (
     (unmarked, "files", (16, 32, 64)),
     (marking, "files", (16, 32, 64)),
     (shared, "constants", (15000, 30000, 60000)),
+    (small, "files", (16, 32, 64)),
+    (loops, "files", (16, 32, 64)),
 )
 
 

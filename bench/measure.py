@@ -1,4 +1,5 @@
-"""Times runs of the built program: medians of repeated runs, with their spread, less the time that starting takes."""
+"""Times runs of the built program: medians of repeated runs, with their spread, less the time that starting takes, and the
+most memory that the last of them had at a time."""
 import os
 import statistics
 import subprocess
@@ -40,6 +41,7 @@ class Runs:
         self.folder = folder
         self.runs = runs
         self.answer = ""
+        self.megabytes = 0
         self.start = self.times([b"\xca"], 3 * runs)
 
     def times(self, contents, runs):
@@ -50,8 +52,11 @@ class Runs:
                 out.write(content)
 
         def run():
-            done = subprocess.run([PROGRAM, *paths], stdout=subprocess.PIPE, check=False)
-            self.answer = done.stdout.decode().split("\n")[0]
+            with subprocess.Popen([PROGRAM, *paths], stdout=subprocess.PIPE) as child:
+                self.answer = child.stdout.read().decode().split("\n")[0]
+                _, status, usage = os.wait4(child.pid, 0)
+                child.returncode = os.waitstatus_to_exitcode(status)
+            self.megabytes = usage.ru_maxrss / 1024
 
         run()
         return repeated(run, runs)
@@ -67,7 +72,7 @@ class Runs:
             return f"{told}   too short to tell from the start of the program  ({self.answer})"
         return (
             f"{told} {net * 1000:9.1f} ms, from {(first - start) * 1000:.1f} to {(third - start) * 1000:.1f}"
-            f" {size / net / 1e6:8.1f} MB/s  ({self.answer})"
+            f" {size / net / 1e6:8.1f} MB/s {self.megabytes:7.0f} MB of memory  ({self.answer})"
         )
 
 
