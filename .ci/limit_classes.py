@@ -1,0 +1,299 @@
+"""Class files that come up to a limit, for `.ci/limits`."""
+import os
+import sys
+
+TOP = os.path.dirname(os.path.dirname(os.path.abspath(__file__)))
+sys.path.insert(0, os.path.join(TOP, "bench"))
+
+from loading import STATIC, ClassFile, u1, u2, u4  # noqa: E402
+from worked import worked  # noqa: E402
+
+OBJECT = "java/lang/Object"
+STREAM = "java/io/PrintStream"
+
+NOP, POP, DUP, IADD = b"\x00", b"\x57", b"\x59", b"\x60"
+ICONST_M1, ICONST_0, ICONST_1, LDC_W = b"\x02", b"\x03", b"\x04", b"\x13"
+ILOAD_0, ILOAD_1, ISTORE_0, ISTORE_1, IINC = b"\x1a", b"\x1b", b"\x3b", b"\x3c", b"\x84"
+ALOAD_0, ALOAD, ASTORE = b"\x2a", b"\x19", b"\x3a"
+IFEQ, IFNE, IF_ICMPNE, GOTO = b"\x99", b"\x9a", b"\xa0", b"\xa7"
+IRETURN, RETURN, ATHROW, ENTER, LEAVE = b"\xac", b"\xb1", b"\xbf", b"\xc2", b"\xc3"
+GETSTATIC, VIRTUAL, SPECIAL, CALL, NEW = b"\xb2", b"\xb6", b"\xb7", b"\xb8", b"\xbb"
+
+
+class Code:
+    """The code of a method, with names for the places that its branches lead to."""
+
+    def __init__(self, file=None):
+        self.file = file or ClassFile("A")
+        self.bytes = bytearray()
+        self.places = {}
+        self.ways = []
+
+    def put(self, *parts):
+        for part in parts:
+            self.bytes += part
+
+    def place(self, name):
+        self.places[name] = len(self.bytes)
+
+    def branch(self, opcode, name):
+        self.ways.append((len(self.bytes), name))
+        self.put(opcode, u2(0))
+
+    def number(self, number):
+        self.put(LDC_W, u2(self.file.add(u1(3) + u4(number))))
+
+    def out(self):
+        self.put(GETSTATIC, u2(self.file.member(9, "java/lang/System", "out", f"L{STREAM};")))
+
+    def println(self):
+        self.put(VIRTUAL, u2(self.file.member(10, STREAM, "println", "(I)V")))
+
+    def call(self, name, descriptor, owner="A"):
+        self.put(CALL, u2(self.file.member(10, owner, name, descriptor)))
+
+    def initialize(self, owner=OBJECT):
+        self.put(SPECIAL, u2(self.file.member(10, owner, "<init>", "()V")))
+
+    def new(self, owner=OBJECT):
+        self.put(NEW, u2(self.file.of_class(owner)), DUP)
+        self.initialize(owner)
+
+    def content(self):
+        for at, name in self.ways:
+            self.bytes[at + 1 : at + 3] = u2((self.places[name] - at) & 0xFFFF)
+        return bytes(self.bytes)
+
+    def method(self, stack=2, local=1, rows=(), flags=STATIC, name="init", descriptor="()V"):
+        """Gives its file a method of this code."""
+        rows = [u2(start) + u2(end) + u2(handler) + u2(kind) for start, end, handler, kind in rows]
+        self.file.method(flags, name, descriptor, self.content(), stack, local, rows)
+        return self.file.content()
+
+
+class Blocks:
+    """Blocks within each other. Each has a row and a handler, which leaves it and throws on."""
+
+    def __init__(self, code):
+        self.code = code
+        self.loads = []
+        self.starts = []
+
+    def enter(self, load, tag=b""):
+        """Enters one more. `load` loads its monitor; `tag` comes between that and the entry."""
+        self.code.put(load, tag, ENTER)
+        self.loads.append(load)
+        self.starts.append(len(self.code.bytes))
+
+    def enter_local(self, number):
+        """The same on a local, which a `dup` gives its tag."""
+        self.enter(ALOAD + u1(number), DUP + ASTORE + u1(number))
+
+    def leave(self, number):
+        """Leaves a block, and tells where its row ends."""
+        end = len(self.code.bytes)
+        self.code.put(self.loads[number], LEAVE)
+        return end
+
+    def rows(self):
+        """Leaves all of them, and returns; tells the rows, the innermost first."""
+        inwards = list(reversed(range(len(self.loads))))
+        ends = {number: self.leave(number) for number in inwards}
+        self.code.put(RETURN)
+        handlers, throws = {}, {}
+        for number in inwards:
+            handlers[number] = self.leave(number)
+            throws[number] = len(self.code.bytes)
+            self.code.put(ATHROW)
+        rows = []
+        for number in inwards:
+            rows.append((self.starts[number], ends[number], handlers[number], 0))
+            if number > 0:
+                rows.append((throws[number], throws[number] + 1, handlers[number - 1], 0))
+        return rows
+
+
+def counts(instructions):
+    """`init` makes so many instructions, a multiple of 3."""
+    code = Code()
+    code.number(instructions // 3 - 1)
+    code.put(ISTORE_0)
+    code.place("again")
+    code.put(IINC, u1(0), u1(255), ILOAD_0)
+    code.branch(IFNE, "again")
+    code.put(RETURN)
+    return code.method()
+
+
+def prints(count, name="init", descriptor="()V"):
+    """A method prints the numbers from `count` to 1."""
+    code = Code()
+    code.number(count)
+    code.put(ISTORE_0)
+    code.place("again")
+    code.out()
+    code.put(ILOAD_0)
+    code.println()
+    code.put(IINC, u1(0), u1(255), ILOAD_0)
+    code.branch(IFNE, "again")
+    code.put(RETURN)
+    return code.method(name=name, descriptor=descriptor)
+
+
+def prints_late():
+    """Worker 1 prints in its 99,994th step, and each other worker in its 7th."""
+    code = Code()
+    code.put(ILOAD_0, ICONST_1)
+    code.branch(IF_ICMPNE, "print")
+    code.number(24996)
+    code.put(ISTORE_1)
+    code.place("again")
+    code.put(IINC, u1(1), u1(255), NOP, ILOAD_1)
+    code.branch(IFNE, "again")
+    code.put(NOP)
+    code.place("print")
+    code.out()
+    code.put(ILOAD_0)
+    code.println()
+    code.put(RETURN)
+    return code.method(local=2, name="run", descriptor="(I)V")
+
+
+def adds(size):
+    """`init` has code of so many bytes, an odd number, and prints as many ones as it adds."""
+    code = Code()
+    code.out()
+    code.put(ICONST_0, (ICONST_1 + IADD) * ((size - 9) // 2), NOP)
+    code.println()
+    code.put(RETURN)
+    return code.method(3, 0)
+
+
+def pushes(ones, stack):
+    """`init` has a local and so many places on its stack. It prints the sum of so many ones."""
+    code = Code()
+    code.out()
+    code.put(ICONST_1 * ones, IADD * (ones - 1))
+    code.println()
+    code.put(RETURN)
+    return code.method(stack, 1)
+
+
+def chain(number, methods, classes):
+    """Class A0, A1, .. of that number with so many methods, each of which adds 1. `init` of A0
+    prints what those of so many classes make of 0, one behind the other."""
+    file = ClassFile(f"A{number}")
+    for method in range(methods):
+        code = Code(file)
+        code.put(ILOAD_0, ICONST_1, IADD, IRETURN)
+        code.method(name=f"m{method}", descriptor="(I)I")
+    if number > 0:
+        return file.content()
+    code = Code(file)
+    code.out()
+    code.put(ICONST_0)
+    for owner in range(classes):
+        for method in range(methods):
+            code.call(f"m{method}", "(I)I", f"A{owner}")
+    code.println()
+    code.put(RETURN)
+    return code.method()
+
+
+def nested(depth):
+    """`init` enters so many new objects, one within the other, and prints the depth."""
+    code = Code()
+    for number in range(depth):
+        code.new()
+        code.put(ASTORE, u1(number))
+    blocks = Blocks(code)
+    for number in range(depth):
+        blocks.enter_local(number)
+    code.out()
+    code.number(depth)
+    code.println()
+    return code.method(2, depth, blocks.rows())
+
+
+def nested_on_this(depth):
+    """`init` calls a method that enters its own object so many times, and prints the depth."""
+    file = ClassFile("A")
+    code = Code(file)
+    code.put(ALOAD_0)
+    code.initialize()
+    code.put(RETURN)
+    code.method(flags=0, name="<init>")
+    code = Code(file)
+    blocks = Blocks(code)
+    for _ in range(depth):
+        blocks.enter(ALOAD_0)
+    code.out()
+    code.number(depth)
+    code.println()
+    code.method(rows=blocks.rows(), flags=0, name="nest")
+    code = Code(file)
+    code.new("A")
+    code.put(VIRTUAL, u2(file.member(10, "A", "nest", "()V")), RETURN)
+    return code.method()
+
+
+def held_in_frames(frames, depth):
+    """`init` calls a method that calls itself until there are so many frames of it, each of which
+    holds so many new objects meanwhile; the last one prints 7."""
+    file = ClassFile("A")
+    code = Code(file)
+    for number in range(1, depth + 1):
+        code.new()
+        code.put(ASTORE, u1(number))
+    blocks = Blocks(code)
+    for number in range(1, depth + 1):
+        blocks.enter_local(number)
+    code.put(ILOAD_0)
+    code.branch(IFEQ, "last")
+    code.put(ILOAD_0, ICONST_M1, IADD)
+    code.call("descend", "(I)V")
+    code.branch(GOTO, "out")
+    code.place("last")
+    code.out()
+    code.number(7)
+    code.println()
+    code.place("out")
+    code.method(2, depth + 1, blocks.rows(), name="descend", descriptor="(I)V")
+    code = Code(file)
+    code.number(frames - 1)
+    code.call("descend", "(I)V")
+    code.put(RETURN)
+    return code.method()
+
+
+def fills_heap():
+    """`init` makes objects until there is no room for one, and prints how many it made."""
+    code = Code()
+    code.put(ICONST_0, ISTORE_0)
+    code.place("again")
+    start = len(code.bytes)
+    code.new()
+    end = len(code.bytes)
+    code.put(POP, IINC, u1(0), u1(1))
+    code.branch(GOTO, "again")
+    handler = len(code.bytes)
+    code.put(POP)
+    code.out()
+    code.put(ILOAD_0)
+    code.println()
+    code.put(RETURN)
+    thrown = code.file.of_class("java/lang/OutOfMemoryError")
+    return code.method(rows=[(start, end, handler, thrown)])
+
+
+def array_of(length):
+    """The worked class whose `init` prints the length of an array, with that length."""
+    content = bytearray(worked("MAKES_ARRAY"))
+    content[122:126] = u4(length)
+    return bytes(content)
+
+
+def adds_in(size):
+    """The worked class that adds, with an attribute by which its file has so many bytes."""
+    body = size - 223 - 6
+    return worked("ADDS")[:-2] + u2(1) + u2(1) + u4(body) + bytes(body)
