@@ -7,3 +7,4 @@ mod ManyEvents
 mod LoneWorker
 mod Reaching
 mod RunAhead
+mod LessWork

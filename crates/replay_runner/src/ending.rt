@@ -1,49 +1,58 @@
 //! The end of a run, on one thread.
 
-ghost use Rattle.std.specs.Prelude.{◌≡◌, ℕ, false, OnOk};
+ghost use Rattle.std.specs.Prelude.{◌≡◌, ◌≤◌, ℕ, true, false, MatchOption};
+ghost use Rattle.jvm_types.specs.declared.limits.TheConstants.{MOST_WORKERS};
 ghost use Rattle.machine_types.specs.Core.{lives};
 ghost use Rattle.machine_types.specs.Faithful.{IsOver};
 ghost use Rattle.replay_runner.specs.Locked.{IsOfProgram};
+ghost use Rattle.replay_runner.specs.Running.{parts_left};
 
 use crate::locked::{Locked, Naming};
 use checked_program::Checked;
-use std::alloc::AllocError;
+use laws_threads::given_is_kept;
 
-/// Whether a thread is live.
-fn is_any_live<J: Naming>(locked: &Locked<J>) -> bool
-    ensures { result ≡ false → (t : ℕ) → lives locked.now.core t ≡ false }
+/// The least live thread of a number at or above, or of all where none is.
+fn next_live<J: Naming>(locked: &Locked<J>, from: u8) -> Option<u8>
+    ensures { MatchOption result ((t : ℕ) → lives locked.now.core t ≡ false) (λ t. (lives locked.now.core t ≡ true) × (t ≤ MOST_WORKERS)) }
 {
-    for t in 0..=locked.workers() {
+    for t in from..=locked.workers() {
         if locked.lives(t) {
-            return true;
+            return Some(t);
         }
     }
-    false
+    for t in 0..=locked.workers() {
+        if locked.lives(t) {
+            return Some(t);
+        }
+    }
+    None
 }
 
-/// Gives each live thread an event, in the order of their numbers.
-fn make_round<J: Naming>(locked: &mut Locked<J>, p: &Checked)
+/// Gives each live thread an event in its turn, in the order of their numbers, until none is live. Each event leaves less for
+/// them to do.
+fn run_live<J: Naming>(locked: &mut Locked<J>, p: &Checked)
     requires { IsOfProgram J.run p.now }
+    ensures dead { (t : ℕ) → lives locked.new.core t ≡ false }
+    ensures parts { parts_left locked.new.core.threads ≡ parts_left locked.old.core.threads }
 {
-    for t in 0..=locked.workers() {
+    given_is_kept();
+    let mut from = 0;
+    while let Some(t) = next_live(locked, from) {
         locked.event(p, t);
+        from = t + 1;
     }
 }
 
 /// Runs what is left of a run: each thread that is still live has its events round by round, and each part that may begin
 /// then begins.
-pub(crate) fn finish<J: Naming>(locked: &mut Locked<J>, p: &Checked) -> Result<(), AllocError>
+pub(crate) fn finish<J: Naming>(locked: &mut Locked<J>, p: &Checked)
     requires { IsOfProgram J.run p.now }
-    ensures { OnOk result (IsOver locked.new.core) }
+    ensures { IsOver locked.new.core }
 {
-    for _ in 0..u64::MAX {
-        if is_any_live(locked) {
-            make_round(locked, p);
-        } else if locked.next(p) {
-            locked.run_alone(p, 0)?;
-        } else {
-            return Ok(());
-        }
+    given_is_kept();
+    run_live(locked, p);
+    while locked.next(p) {
+        locked.run_alone(p, 0);
+        run_live(locked, p);
     }
-    Err(AllocError)
 }

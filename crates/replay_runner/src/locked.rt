@@ -1,17 +1,17 @@
 //! The machine under the lock.
 
-ghost use Rattle.std.specs.Prelude.{◌≡◌, ◌≤◌, ◌+◌, ℕ, false, length, slice_get, OnOk};
+ghost use Rattle.std.specs.Prelude.{◌≡◌, ◌≤◌, ◌+◌, ◌<◌, ℕ, true, false, length, slice_get};
 ghost use Rattle.jvm_types.specs.declared.limits.TheConstants.{MOST_WORKERS};
 ghost use Rattle.machine_types.specs.Core.{event, lives, may_begin, next};
 ghost use Rattle.machine_types.specs.Faithful.{IsOver};
-ghost use Rattle.replay_runner.specs.Running.{turns_of};
+ghost use Rattle.laws_states.specs.WorkLeft.{all_work};
+ghost use Rattle.replay_runner.specs.Running.{run_on, turns_of};
 ghost use Rattle.replay_runner.specs.Locked.{IsEndOf, IsMachineOf, IsOfProgram};
 
 use crate::running::Machine;
 use checked_program::Checked;
 use jvm_types::Outcome;
 use laws_states::one_more_happens;
-use std::alloc::AllocError;
 use std::marker::{Brand, Model, PhantomData};
 
 /// Which run it is: its program and its settings. Each call at `Brand` picks it.
@@ -86,18 +86,20 @@ impl<J: Naming> Locked<J> {
         requires { IsOfProgram J.run p.now }
         ensures live { result ≡ lives self.old.core t }
         ensures event { self.new ≡ record self.old { core = event self.old.program self.old.core t } }
+        ensures less { lives self.old.core t ≡ true → all_work self.new.core < all_work self.old.core }
     {
         one_more_happens();
         self.machine.event(p, t)
     }
 
     /// Events of thread `t` alone, until it is not live.
-    pub(crate) fn run_alone(&mut self, p: &Checked, t: u8) -> Result<(), AllocError>
+    pub(crate) fn run_alone(&mut self, p: &Checked, t: u8)
         requires { IsOfProgram J.run p.now }
-        ensures { OnOk result (lives self.new.core t ≡ false) }
+        ensures on { (n : ℕ) × (self.new ≡ run_on self.old t n) }
+        ensures over { lives self.new.core t ≡ false }
     {
         one_more_happens();
-        self.machine.run_alone(p, t)
+        self.machine.run_alone(p, t);
     }
 
     /// Begins the next part: `false` where it may not begin, and then nothing changes.

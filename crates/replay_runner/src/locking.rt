@@ -24,19 +24,19 @@ fn run_named<J: Naming + Send + Sync, R: Threads + Wait + Sync, G: Gate + Sync>(
     gate: &G,
     machine: Machine,
     p: &Checked,
-) -> Result<Outcome, AllocError>
+) -> Outcome
     requires named { J.run ≡ Some (record { program = machine.program; cfg = machine.cfg }) }
     requires start { machine.core ≡ start machine.program machine.cfg }
     requires program { p.now ≡ machine.program }
-    ensures { IfOk result (IsEndOf J.run) }
+    ensures { IsEndOf J.run result }
 {
     let mut locked = Locked::<J>::of(machine);
-    locked.run_alone(p, 0)?;
+    locked.run_alone(p, 0);
     if locked.next(p) {
         locked = run_workers(rt, gate, locked, p);
     }
-    finish(&mut locked, p)?;
-    Ok(locked.outcome())
+    finish(&mut locked, p);
+    locked.outcome()
 }
 
 /// Runs a program to its end, each worker on a thread of its own, and the machine under one lock: `init` on the caller's thread,
@@ -58,5 +58,5 @@ pub fn run_locked<R: Threads + Wait + Sync, G: Gate + Sync>(
     ensures { IfOk result (IsEndOfRun p.now cfg.now) }
 {
     let machine = Machine::start(alloc, p, cfg)?;
-    run_named::<Brand, R, G>(rt, gate, machine, p)
+    Ok(run_named::<Brand, R, G>(rt, gate, machine, p))
 }

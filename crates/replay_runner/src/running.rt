@@ -1,9 +1,10 @@
 //! The machine: the words that all threads share, and the threads.
 
-ghost use Rattle.std.specs.Prelude.{◌≡◌, ◌+◌, ◌≤◌, ◌<◌, ℕ, false, length, map, slice_get, slice_set, Some, IfOk, OnOk, OnErr};
+ghost use Rattle.std.specs.Prelude.{◌≡◌, ◌+◌, ◌≤◌, ◌<◌, ℕ, true, false, length, map, slice_get, slice_set, Some, IfOk};
 ghost use Rattle.machine_types.specs.Core.{event, is_live, lives, may_begin, next, outcome, start};
 ghost use Rattle.machine_types.specs.Settings.{AreSettings};
 ghost use Rattle.jvm_types.specs.declared.limits.TheConstants.{MOST_WORKERS};
+ghost use Rattle.laws_states.specs.WorkLeft.{all_work, work_left};
 ghost use Rattle.run_parts.specs.Parts.{own_begun};
 ghost use Rattle.replay_runner.specs.Running.{IsThreadOf, Running, run_on, turns_of};
 
@@ -11,7 +12,8 @@ use checked_program::Checked;
 use frames::ThreadState;
 use jvm_types::{Outcome, Room, Rows, ThreadReport};
 use laws_states::{
-    reached_fits, run_facts_event, run_facts_next, run_facts_start, threads_are_kept,
+    events_lessen_all_work, events_lessen_work, reached_fits, run_facts_event, run_facts_next,
+    run_facts_start, threads_are_kept,
 };
 use lists::Told;
 use machine_types::Config;
@@ -54,57 +56,41 @@ fn begin_part(threads: &mut Vec<ThreadState>)
     }
 }
 
-/// Makes so many events of a thread of a machine, of which those behind its end change nothing, and tells whether it is live
-/// then.
-fn run_thread(s: &mut ThreadState, p: &Checked, words: &mut Rows<u64>, count: u64) -> bool
+/// Makes the next event of a thread of a machine.
+fn go(s: &mut ThreadState, p: &Checked, words: &mut Rows<u64>)
     requires { (m : Running) × (t : ℕ) × IsThreadOf m p.now t s.old words.old }
-    ensures on { (m : Running) (t : ℕ) → IsThreadOf m p.now t s.old words.old → IsThreadOf (run_on m t count) p.now t s.new words.new }
-    ensures live { result ≡ is_live s.new.phase }
+    ensures { (m : Running) (t : ℕ) → IsThreadOf m p.now t s.old words.old → IsThreadOf (run_on m t 1) p.now t s.new words.new }
 {
     reached_fits();
     threads_are_kept();
     run_facts_event();
-    for _ in 0..count {
-        if !s.is_live() {
-            return false;
-        }
-        event(s, p, words);
-    }
-    s.is_live()
-}
-
-/// Makes events of a thread of a machine: those that can be made ahead, and one more.
-fn go_far(s: &mut ThreadState, p: &Checked, words: &mut Rows<u64>)
-    requires { (m : Running) × (t : ℕ) × IsThreadOf m p.now t s.old words.old }
-    ensures { (m : Running) (t : ℕ) → IsThreadOf m p.now t s.old words.old → (n : ℕ) × IsThreadOf (run_on m t n) p.now t s.new words.new }
-{
-    reached_fits();
-    threads_are_kept();
-    run_facts_event();
-    let _ahead = run_ahead(s, p, words);
     event(s, p, words);
 }
 
-/// Makes the events of a thread of a machine until it is not live, and tells whether it is.
-fn run_far(s: &mut ThreadState, p: &Checked, words: &mut Rows<u64>) -> bool
-    requires { (m : Running) × (t : ℕ) × IsThreadOf m p.now t s.old words.old }
+/// Makes events of a live thread of a machine: those that can be made ahead, and one more. They leave less for it to do.
+fn go_far(s: &mut ThreadState, p: &Checked, words: &mut Rows<u64>)
+    requires thread { (m : Running) × (t : ℕ) × IsThreadOf m p.now t s.old words.old }
+    requires live { is_live s.old.phase ≡ true }
     ensures on { (m : Running) (t : ℕ) → IsThreadOf m p.now t s.old words.old → (n : ℕ) × IsThreadOf (run_on m t n) p.now t s.new words.new }
-    ensures live { result ≡ is_live s.new.phase }
+    ensures less { work_left s.new < work_left s.old }
 {
-    for _ in 0..u64::MAX {
-        if !s.is_live() {
-            return false;
-        }
-        go_far(s, p, words);
-    }
-    s.is_live()
+    reached_fits();
+    threads_are_kept();
+    run_facts_event();
+    events_lessen_work();
+    let _ahead = run_ahead(s, p, words);
+    go(s, p, words);
 }
 
-/// The answer behind the last event, by whether the thread is live.
-fn over(live: bool) -> Result<(), AllocError>
-    ensures { OnOk result (live ≡ false) }
+/// Makes the events of a thread of a machine until it is not live. Each of them leaves less for it to do.
+fn run_far(s: &mut ThreadState, p: &Checked, words: &mut Rows<u64>)
+    requires { (m : Running) × (t : ℕ) × IsThreadOf m p.now t s.old words.old }
+    ensures on { (m : Running) (t : ℕ) → IsThreadOf m p.now t s.old words.old → (n : ℕ) × IsThreadOf (run_on m t n) p.now t s.new words.new }
+    ensures over { is_live s.new.phase ≡ false }
 {
-    if live { Err(AllocError) } else { Ok(()) }
+    while s.is_live() {
+        go_far(s, p, words);
+    }
 }
 
 impl Machine {
@@ -164,25 +150,29 @@ impl Machine {
         requires { p.now ≡ self.old.program }
         ensures live { result ≡ lives self.old.core t }
         ensures event { self.new ≡ record self.old { core = event self.old.program self.old.core t } }
+        ensures less { lives self.old.core t ≡ true → all_work self.new.core < all_work self.old.core }
     {
+        events_lessen_all_work();
         if !self.lives(t) {
             return false;
         }
-        let _live = run_thread(&mut self.threads[t as usize], p, &mut self.words, 1);
+        go(&mut self.threads[t as usize], p, &mut self.words);
         true
     }
 
     /// Events of thread `t` alone, until it is not live.
-    pub(crate) fn run_alone(&mut self, p: &Checked, t: u8) -> Result<(), AllocError>
+    pub(crate) fn run_alone(&mut self, p: &Checked, t: u8)
         requires { p.now ≡ self.old.program }
         ensures on { (n : ℕ) × (self.new ≡ run_on self.old t n) }
-        ensures over { OnOk result (lives self.new.core t ≡ false) }
+        ensures over { lives self.new.core t ≡ false }
+        ensures less { lives self.old.core t ≡ true → all_work self.new.core < all_work self.old.core }
     {
-        if !self.lives(t) {
-            return Ok(());
+        threads_are_kept();
+        run_facts_event();
+        events_lessen_all_work();
+        if self.lives(t) {
+            run_far(&mut self.threads[t as usize], p, &mut self.words);
         }
-        let live = run_far(&mut self.threads[t as usize], p, &mut self.words);
-        over(live)
     }
 
     /// Whether the next part may begin: that of the workers when `init` has returned, or `done` when each worker has returned

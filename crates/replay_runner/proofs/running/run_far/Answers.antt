@@ -3,16 +3,16 @@ use Rattle.replay_runner.specs.Running.{run_on}
 use Rattle.replay_runner.proofs.RunAhead.{on_again}
 use Rattle.replay_runner.proofs.running.run_far.Goals as goal
 
-pub loop-init : goal.loop-init
-loop-init c = λ m t h. (0, h)
+pub loop-s-init : goal.loop-s-init
+loop-s-init c = λ m t h. (0, h)
 
-pub go_far-requires : goal.go_far-requires
-go_far-requires c =
-    let was = c.loop.invariant c.requires.0 c.requires.1 c.requires.2 in
+pub go_far-requires-clause-thread : goal.go_far-requires-clause-thread
+go_far-requires-clause-thread c =
+    let was = c.loop-s.invariant c.requires.0 c.requires.1 c.requires.2 in
     (run_on c.requires.0 c.requires.1 was.0, c.requires.1, was.1)
 
-pub loop-preserved : goal.loop-preserved
-loop-preserved c = λ m t h.
-    let was = c.loop.invariant m t h in
-    let now = c.go_far.ensures (run_on m t was.0) t was.1 in
+pub loop-s-preserved : goal.loop-s-preserved
+loop-s-preserved c = λ m t h.
+    let was = c.loop-s.invariant m t h in
+    let now = c.go_far.ensures.on (run_on m t was.0) t was.1 in
     (now.0 + was.0, on_again m c.args.p.now t was.0 now.0 c.go_far.new.s c.go_far.new.words now.1)
