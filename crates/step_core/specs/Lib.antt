@@ -5,3 +5,4 @@ pub mod GoingOn
 pub mod Alone
 pub mod Fields
 pub mod Wanting
+pub mod Passing
