@@ -1,0 +1,4 @@
+pub mod Lines
+pub mod CodeLines
+pub mod ClassLines
+pub mod Steps
