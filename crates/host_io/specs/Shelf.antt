@@ -1,5 +1,5 @@
 -- What a shelf answers to a reading.
-use Rattle.std.specs.Prelude.{◌≡◌, ℕ, ◌<◌, ◌≤◌, List, [], length, find, Option, IfSome, Result, Ok, Err}
+use Rattle.std.specs.Prelude.{◌≡◌, ℕ, ◌<◌, ◌≤◌, Bool, true, false, List, [], length, find, Option, IfSome, Result, Ok, Err}
 use Rattle.std.specs.Option.{option_map_or}
 use Rattle.std.specs.Str.{bytes_eq}
 use Rattle.host_io.specs.Faults.{CountsFault}
@@ -26,3 +26,11 @@ IsRead files name limit before after (Ok content) = (after ≡ before) × (lengt
 IsRead files name limit before after (Err TooLong) = (after ≡ before) × IfSome files (λ fs. limit < length (content_of fs name))
 IsRead files name limit before after (Err Failed) = CountsFault before after
 IsRead files name limit before after (Err Memory) = before ≤ after
+
+-- The answer to a reading of a name that the shelf tells whether it can read: it fails where it can't, unless memory runs out
+-- before, and nowhere else.
+abbrev pub FailsBy : {A : Type 0} → (unreadable : Bool) → Result A ShelfError → Type 0
+FailsBy true (Ok content) = ⊥
+FailsBy true (Err TooLong) = ⊥
+FailsBy false (Err Failed) = ⊥
+FailsBy unreadable answer = Unit {0}

@@ -32,6 +32,8 @@ impl<'a, R: Files> Shelf for FileShelf<'a, R> {
 
     ghost faults = { λ s. s.faults };
 
+    ghost unreadable = { λ _. None };
+
     fn read_file(&mut self, alloc: Global, name: &str, limit: u64) -> Result<Bytes, ShelfError> {
         let content = read_path(self.rt, alloc, name, limit);
         if let Err(ShelfError::Failed) = content {

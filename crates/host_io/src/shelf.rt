@@ -1,7 +1,7 @@
-ghost use Rattle.std.specs.Prelude.{◌≡◌, ◌≢◌, ◌↔◌, ◌<◌, ◌≤◌, ℕ, List, Option, Some, None, IsTrue, IfOk, length};
+ghost use Rattle.std.specs.Prelude.{◌≡◌, ◌≢◌, ◌↔◌, ◌<◌, ◌≤◌, ℕ, Bool, false, List, Option, Some, None, IsTrue, IfOk, IfSome, length};
 ghost use Rattle.std.specs.Option.{option_copied};
-ghost use Rattle.host_io.specs.Shelf.{IsRead, file_of, content_of};
-ghost use Rattle.host_io.specs.ListShelf.{fails, after_reading};
+ghost use Rattle.host_io.specs.Shelf.{FailsBy, IsRead, file_of, content_of};
+ghost use Rattle.host_io.specs.ListShelf.{fails, after_reading, unreadable_of};
 ghost use Rattle.host_io.specs.declared.shelf.NamedFile.{NamedFile as File};
 ghost use Rattle.host_io.specs.declared.shelf.ShelfError.TheVariants.{Memory};
 
@@ -36,11 +36,16 @@ pub trait Shelf {
     /// How often the shelf has failed.
     ghost faults: { Self → ℕ };
 
+    /// Of which names it can't read a file; `None` where the shelf does not tell it.
+    ghost unreadable: { Self → Option (List ℕ → Bool) };
+
     /// The content of the file of that name, of at most `limit` bytes.
     fn read_file(&mut self, alloc: Global, name: &str, limit: u64) -> Result<Bytes, ShelfError>
         ensures files { files self.new ≡ files self.old }
+        ensures unreadable { unreadable self.new ≡ unreadable self.old }
         ensures answer { IsRead (files self.old) name.now limit
-            (faults self.old) (faults self.new) result };
+            (faults self.old) (faults self.new) result }
+        ensures fails { IfSome (unreadable self.old) (λ test. FailsBy (test name.now) result) };
 }
 
 /// A file with its name.
@@ -113,10 +118,14 @@ impl Shelf for ListShelf {
 
     ghost faults = { λ s. s.faults };
 
+    ghost unreadable = { λ s. unreadable_of s.files s.failing };
+
     fn read_file(&mut self, alloc: Global, name: &str, limit: u64) -> Result<Bytes, ShelfError>
         ensures files { self.new.files ≡ self.old.files }
+        ensures unreadable { self.new.failing ≡ self.old.failing }
         ensures answer { IsRead (Some self.old.files) name.now limit
             self.old.faults self.new.faults result }
+        ensures fails { IfSome (unreadable_of self.old.files self.old.failing) (λ test. FailsBy (test name.now) result) }
         // Which calls fail, and what they leave.
         ensures failed { (result ≡ Err ShelfError.Failed) ↔ IsTrue (fails self.old name.now) }
         ensures after { self.new ≡ after_reading self.old name.now }
@@ -163,10 +172,12 @@ impl Shelf for CalmShelf {
 
     ghost faults = { λ _. 0 };
 
+    ghost unreadable = { λ _. Some (λ _. false) };
+
     fn read_file(&mut self, alloc: Global, name: &str, limit: u64) -> Result<Bytes, ShelfError>
         ensures files { self.new ≡ self.old }
         ensures answer { IsRead (Some self.old) name.now limit 0 0 result }
-        ensures calm { result ≢ Err ShelfError.Failed }
+        ensures fails { FailsBy false result }
     {
         match file_named(&self.files, name) {
             Some(file) => copied_within(alloc, &file.content, limit),

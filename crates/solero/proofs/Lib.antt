@@ -3,7 +3,10 @@ pub mod Found
 pub mod Numbers
 pub mod Orders
 pub mod Owed
+pub mod PlacedPrints
+pub mod RunPrints
 pub mod SoFar
 pub mod SomeThread
+pub mod Stated
 pub mod Writing
 mod Whole

@@ -1,5 +1,5 @@
 -- What is owed to files that were read, and where one was not.
-use Rattle.std.proofs.Common.{◌≡◌, ℕ, ◌≤◌, List, Option, Some, None, refl, inl, inr, arith}
+use Rattle.std.proofs.Common.{◌≡◌, ℕ, ◌≤◌, Bool, List, Option, Some, None, refl, inl, inr, arith}
 use Rattle.jvm_types.specs.LinkFaults.{in_file}
 use Rattle.jvm_types.specs.declared.refusal.Rule.TheVariants as rules
 use Rattle.jvm_types.specs.declared.refusal.CRule.TheVariants.{C10}
@@ -59,10 +59,10 @@ at_least before after (inl rose) = omega arith
 at_least before after (inr full) = omega arith
 
 -- what is due where a file was not read is due to the names
-pub unread_due : (files : Option (List NamedFile)) (asked : Asked) (before after file : ℕ) (error : ShelfError) (due : Due) → IsUnread files asked.files before after file error → IsUnreadDue file error due → IsDue (Some asked) files before after due
-unread_due files asked before after file TooLong (Refusal text) unread line = (unread.0, record { contents = unread.1.contents; are = unread.1.are; many = unread.1.many; refuses = long_refused asked unread.1.contents file text unread.1.first line })
-unread_due files asked before after file Failed (CannotRead text) unread line = (unread.0, record { file = file; among = unread.1; before = unread.2; is_line = line })
-unread_due files asked before after file TooLong OutOfMemory unread line = omega arith
-unread_due files asked before after file Failed OutOfMemory unread line = at_least before after unread.0
-unread_due files asked before after file Memory OutOfMemory unread line = unread
-unread_due files asked before after file error due unread line = absurd line
+pub unread_due : (files : Option (List NamedFile)) (unreadable : Option (List ℕ → Bool)) (asked : Asked) (before after file : ℕ) (error : ShelfError) (due : Due) → IsUnread files unreadable asked.files before after file error → IsUnreadDue file error due → IsDue (Some asked) files unreadable before after due
+unread_due files unreadable asked before after file TooLong (Refusal text) unread line = (unread.0, record { contents = unread.1.contents; are = unread.1.are; many = unread.1.many; refuses = long_refused asked unread.1.contents file text unread.1.first line })
+unread_due files unreadable asked before after file Failed (CannotRead text) unread line = (unread.0, record { file = file; unread = unread.1; is_line = line })
+unread_due files unreadable asked before after file TooLong OutOfMemory unread line = omega arith
+unread_due files unreadable asked before after file Failed OutOfMemory unread line = at_least before after unread.0
+unread_due files unreadable asked before after file Memory OutOfMemory unread line = unread
+unread_due files unreadable asked before after file error due unread line = absurd line

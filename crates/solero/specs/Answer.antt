@@ -1,18 +1,20 @@
 -- What the program owes to its words and files: a text, and a status with it.
-use Rattle.std.specs.Prelude.{◌≡◌, ℕ, ◌+◌, ◌<◌, ◌≤◌, nat_lt, List, [], ◌∷◌, ◌++◌, length, map, take, codes, Option, Some, None, IfSome, if◌then◌else◌}
-use Rattle.std.specs.Fmt.{decimal}
-use Rattle.std.specs.List.{AllByRecursion}
+use Rattle.std.specs.Prelude.{◌≡◌, ℕ, ◌+◌, ◌<◌, ◌≤◌, nat_lt, Bool, List, [], ◌∷◌, ◌++◌, length, map, take, codes, Option, Some, None, IfSome, if◌then◌else◌}
+use Rattle.std.specs.Fmt.{decimal, signed_decimal}
+use Rattle.std.specs.List.{AllByRecursion, flat_map, position_from}
 use Rattle.checked_program.specs.MarkedProgram.{MarkedProgram}
 use Rattle.jvm_types.specs.LinkFaults.{in_file}
 use Rattle.jvm_types.specs.declared.limits.TheConstants.{MOST_FILE_BYTES}
+use Rattle.jvm_types.specs.declared.outcome.Outcome.{Outcome}
 use Rattle.jvm_types.specs.declared.refusal.Rule.TheVariants as rules
 use Rattle.jvm_types.specs.declared.refusal.CRule.TheVariants.{C10}
 use Rattle.jvm_types.specs.declared.refusal.Rule.{Rule}
 use Rattle.jvm_types.specs.declared.refusal.Place.{Place}
 use Rattle.machine_types.specs.Core.{Happening, core, outcome}
-use Rattle.machine_types.specs.Faithful.{IsFaithful, IsOver}
+use Rattle.machine_types.specs.Faithful.{IsFaithful, IsOver, IsPlainRun}
+use Rattle.machine_types.specs.PlainState.{Printed}
 use Rattle.machine_types.specs.Schedules.{IsScheduleOf}
-use Rattle.run_texts.specs.Report.{line, report_text}
+use Rattle.run_texts.specs.Report.{counts_lines, end_lines, line, report_text}
 use Rattle.run_texts.specs.Refusal.{refusal_text}
 use Rattle.run_texts.specs.MarksText.{marks_text}
 use Rattle.class_runner.specs.Loading.{IsAccepted, IsLoaded, IsRefusedBy}
@@ -55,6 +57,14 @@ first_long file (content ∷ contents) = if nat_lt MOST_FILE_BYTES (length conte
 
 -- ---- what is due to the contents of the files
 
+-- the prints of a plain run, each on a line, in its order
+abbrev pub plain_print_lines : List Printed → List ℕ
+plain_print_lines prints = flat_map (λ x. line (signed_decimal x.value)) prints
+
+-- the text of these prints, behind which stand how each part of a run ended and what its threads counted
+abbrev pub text_with_prints : List Printed → Outcome → List ℕ
+text_with_prints prints o = plain_print_lines prints ++ end_lines o.threads o.done ++ counts_lines 0 o.threads
+
 -- the text reports what a program comes to over these happenings, and how it finished
 pub record ReportsOver (asked : Asked) (checked : MarkedProgram) (happenings : List Happening) (finish : Finish) (text : List ℕ) : Type 0 where
   -- the run stands for one of the plain machine with ordinary monitors, event by event
@@ -62,6 +72,8 @@ pub record ReportsOver (asked : Asked) (checked : MarkedProgram) (happenings : L
   -- and it is over: no thread is live, and no part may begin
   pub over : IsOver (core checked asked.cfg happenings)
   pub report : text ≡ report_text (outcome (core checked asked.cfg happenings))
+  -- its print lines are the prints of that plain run, in its order
+  pub prints : (run : IsPlainRun checked asked.cfg happenings) → text ≡ text_with_prints run.state.prints (outcome (core checked asked.cfg happenings))
   pub finished : finish ≡ finish_of (outcome (core checked asked.cfg happenings))
 
 -- the same over exactly the schedule of the order that is asked for
@@ -122,23 +134,31 @@ pub record RefusesFiles (files : Option (List NamedFile)) (asked : Asked) (text 
   pub many : length contents ≡ length asked.files
   pub refuses : Refuses asked contents text
 
--- The line that one of the files of these names can't be read. None before it is too long, since such a file is refused when it is
--- read.
-pub record SaysUnread (files : Option (List NamedFile)) (names : List (List ℕ)) (text : List ℕ) : Type 0 where
-  pub file : ℕ
-  pub among : file < length names
-  pub before : IfSome files (λ fs. first_long 0 (take file (contents_of fs names)) ≡ None)
-  pub is_line : text ≡ line (codes "cannot read file " ++ decimal file)
+abbrev pub unread_line : ℕ → List ℕ
+unread_line file = line (codes "cannot read file " ++ decimal file)
 
--- What is due to the words, of which None are not read, and to the files, of which None are not told. The shelf's count of faults
--- goes from before to after. Want of memory may come to any words.
-abbrev pub IsDue : Option Asked → Option (List NamedFile) → ℕ → ℕ → Due → Type 0
-IsDue asked files before after OutOfMemory = before ≤ after
-IsDue None files before after due = (due ≡ Usage) × (after ≡ before)
-IsDue (Some asked) files before after Usage = ⊥
-IsDue (Some asked) files before after (CannotRead text) = CountsFault before after × SaysUnread files asked.files text
-IsDue (Some asked) files before after (Refusal text) = (after ≡ before) × RefusesFiles files asked text
-IsDue (Some asked) files before after due = (after ≡ before) × IsMadeOf files asked due
+-- A file of these names can't be read: where the shelf tells which it can't read, the first of these. None before it is too long,
+-- since such a file is refused when it is read.
+pub record CannotBeRead (files : Option (List NamedFile)) (unreadable : Option (List ℕ → Bool)) (names : List (List ℕ)) (file : ℕ) : Type 0 where
+  pub among : file < length names
+  pub first : IfSome unreadable (λ test. position_from test 0 names ≡ Some file)
+  pub before : IfSome files (λ fs. first_long 0 (take file (contents_of fs names)) ≡ None)
+
+-- the line of such a file
+pub record SaysUnread (files : Option (List NamedFile)) (unreadable : Option (List ℕ → Bool)) (names : List (List ℕ)) (text : List ℕ) : Type 0 where
+  pub file : ℕ
+  pub unread : CannotBeRead files unreadable names file
+  pub is_line : text ≡ unread_line file
+
+-- What is due to the words, of which None are not read, and to the files. The shelf tells its files, and which it can't read, or
+-- None of these. Its count of faults goes from before to after. Want of memory may come to any words.
+abbrev pub IsDue : Option Asked → Option (List NamedFile) → Option (List ℕ → Bool) → ℕ → ℕ → Due → Type 0
+IsDue asked files unreadable before after OutOfMemory = before ≤ after
+IsDue None files unreadable before after due = (due ≡ Usage) × (after ≡ before)
+IsDue (Some asked) files unreadable before after Usage = ⊥
+IsDue (Some asked) files unreadable before after (CannotRead text) = CountsFault before after × SaysUnread files unreadable asked.files text
+IsDue (Some asked) files unreadable before after (Refusal text) = (after ≡ before) × RefusesFiles files asked text
+IsDue (Some asked) files unreadable before after due = (after ≡ before) × IsMadeOf files asked due
 
 -- no file that is asked for is too long, and all rules let them pass
 abbrev pub AreAccepted : List NamedFile → Asked → Type 0

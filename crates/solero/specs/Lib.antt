@@ -7,3 +7,4 @@ pub mod Answer
 pub mod Reading
 pub mod Parts
 pub mod Whole
+pub mod Limits

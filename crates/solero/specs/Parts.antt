@@ -1,13 +1,11 @@
 -- What the parts of the work find due.
-use Rattle.std.specs.Prelude.{◌≡◌, ℕ, List, ◌++◌, codes}
-use Rattle.std.specs.Fmt.{decimal}
+use Rattle.std.specs.Prelude.{◌≡◌, ℕ, List}
 use Rattle.jvm_types.specs.LinkFaults.{in_file}
 use Rattle.jvm_types.specs.declared.refusal.Rule.TheVariants as rules
 use Rattle.jvm_types.specs.declared.refusal.CRule.TheVariants.{C10}
-use Rattle.run_texts.specs.Report.{line}
 use Rattle.run_texts.specs.Refusal.{refusal_text}
 use Rattle.solero.specs.Command.{Asked}
-use Rattle.solero.specs.Answer.{IsMade, Refuses}
+use Rattle.solero.specs.Answer.{IsMade, Refuses, unread_line}
 use Rattle.jvm_types.specs.declared.limits.TheConstants.{MOST_FILE_BYTES}
 use Rattle.host_io.specs.declared.shelf.ShelfError.{ShelfError}
 use Rattle.host_io.specs.declared.shelf.ShelfError.TheVariants.{Failed, TooLong}
@@ -19,9 +17,6 @@ abbrev pub IsLine : List ℕ → Due → Type 0
 IsLine refusal (Refusal text) = text ≡ refusal
 IsLine refusal OutOfMemory = Unit {0}
 IsLine refusal due = ⊥
-
-abbrev pub unread_line : ℕ → List ℕ
-unread_line file = line (codes "cannot read file " ++ decimal file)
 
 -- what is due where the file of this number is not read
 abbrev pub IsUnreadDue : ℕ → ShelfError → Due → Type 0

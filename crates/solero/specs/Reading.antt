@@ -1,9 +1,9 @@
 -- Files that are read from a shelf by their names, in order, until one is not read.
-use Rattle.std.specs.Prelude.{◌≡◌, ℕ, ◌<◌, ◌≤◌, List, [], ◌∷◌, ◌++◌, length, take, Option, Some, None, IfSome, Result, Ok, Err}
+use Rattle.std.specs.Prelude.{◌≡◌, ℕ, ◌≤◌, Bool, List, [], ◌∷◌, ◌++◌, length, Option, Some, IfSome, Result, Ok, Err}
 use Rattle.std.specs.List.{AllByRecursion}
 use Rattle.host_io.specs.Faults.{CountsFault}
-use Rattle.host_io.specs.Shelf.{IsRead}
-use Rattle.solero.specs.Answer.{first_long, contents_of}
+use Rattle.host_io.specs.Shelf.{FailsBy, IsRead}
+use Rattle.solero.specs.Answer.{CannotBeRead, first_long, contents_of}
 use Rattle.jvm_types.specs.declared.limits.TheConstants.{MOST_FILE_BYTES}
 use Rattle.host_io.specs.declared.shelf.NamedFile.{NamedFile}
 use Rattle.host_io.specs.declared.shelf.ShelfError.{ShelfError}
@@ -26,10 +26,14 @@ pub record IsLong (files : Option (List NamedFile)) (names : List (List ℕ)) (f
   pub first : first_long 0 contents ≡ Some file
 
 -- the file of this number is the first that is not read, for this reason
-abbrev pub IsUnread : Option (List NamedFile) → List (List ℕ) → (before after file : ℕ) → ShelfError → Type 0
-IsUnread files names before after file TooLong = (after ≡ before) × IsLong files names file
-IsUnread files names before after file Failed = CountsFault before after × (file < length names) × IfSome files (λ fs. first_long 0 (take file (contents_of fs names)) ≡ None)
-IsUnread files names before after file Memory = before ≤ after
+abbrev pub IsUnread : Option (List NamedFile) → Option (List ℕ → Bool) → List (List ℕ) → (before after file : ℕ) → ShelfError → Type 0
+IsUnread files unreadable names before after file TooLong = (after ≡ before) × IsLong files names file
+IsUnread files unreadable names before after file Failed = CountsFault before after × CannotBeRead files unreadable names file
+IsUnread files unreadable names before after file Memory = before ≤ after
+
+-- the shelf fails at a name where it tells that it can't read it
+abbrev pub FailsWhereTold : {A : Type 0} → Option (List ℕ → Bool) → (name : List ℕ) → Result A ShelfError → Type 0
+FailsWhereTold unreadable name answer = IfSome unreadable (λ test. FailsBy (test name) answer)
 
 -- one more file is read: its content stands behind the contents so far
 abbrev pub IsNextRead : {A : Type 0} → Option (List NamedFile) → (name : List ℕ) → (before after : ℕ) → (contents more : List (List ℕ)) → Result A ShelfError → Type 0

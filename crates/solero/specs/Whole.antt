@@ -1,12 +1,12 @@
 -- What is answered in full: where nothing outside fails, files that all rules let pass are answered by what the mode makes of
--- them, written whole, or by the line of want of memory.
+-- them, and others by the line of their refusal, written whole; or by the line of want of memory.
 use Rattle.std.specs.Prelude.{◌≡◌, ℕ, ◌-◌, ◌<◌, ◌^◌, List, ◌++◌, Option, Some}
 use Rattle.std.specs.Option.{option_map}
-use Rattle.solero.specs.Answer.{IsMadeOf, status_of, text_of}
+use Rattle.solero.specs.Answer.{IsMadeOf, RefusesFiles, status_of, text_of}
 use Rattle.solero.specs.Command.{Asked}
 use Rattle.host_io.specs.declared.shelf.NamedFile.{NamedFile}
 use Rattle.solero.specs.declared.answer.Due.{Due}
-use Rattle.solero.specs.declared.answer.Due.TheVariants.{OutOfMemory}
+use Rattle.solero.specs.declared.answer.Due.TheVariants.{Refusal, OutOfMemory}
 
 -- a count of faults stands still below its end, so no fault came
 abbrev pub IsCalm : (before after : ℕ) → Type 0
@@ -17,9 +17,15 @@ abbrev pub IsOwed : Asked → List NamedFile → Due → Type 0
 IsOwed asked files OutOfMemory = Unit {0}
 IsOwed asked files due = IsMadeOf (Some files) asked due
 
--- its text was written whole to a sink that told some bytes, and tells the bytes now; and its status is answered
-pub record AnswersWhole (asked : Asked) (files : List NamedFile) (told now : Option (List ℕ)) (status : ℕ) : Type 0 where
+-- the line of the rule and the place that refuse the files, or want of memory
+abbrev pub IsOwedRefusal : Asked → List NamedFile → Due → Type 0
+IsOwedRefusal asked files (Refusal text) = RefusesFiles (Some files) asked text
+IsOwedRefusal asked files OutOfMemory = Unit {0}
+IsOwedRefusal asked files due = ⊥
+
+-- The text of what is owed was written whole to a sink that told some bytes, and tells the bytes now; and its status is answered.
+pub record AnswersWhole (Owed : Due → Type 0) (told now : Option (List ℕ)) (status : ℕ) : Type 0 where
   pub due : Due
-  pub owed : IsOwed asked files due
+  pub owed : Owed due
   pub written : now ≡ option_map (λ t. t ++ text_of due) told
   pub answered : status ≡ status_of due

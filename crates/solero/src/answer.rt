@@ -1,7 +1,7 @@
 ghost use Rattle.std.specs.Prelude.{◌≡◌, IfOk};
 ghost use Rattle.run_texts.specs.Refusal.{refusal_text};
-ghost use Rattle.solero.specs.Answer.{status_of, text_of};
-ghost use Rattle.solero.specs.Parts.{IsLine, IsUnreadDue, unread_line};
+ghost use Rattle.solero.specs.Answer.{status_of, text_of, unread_line};
+ghost use Rattle.solero.specs.Parts.{IsLine, IsUnreadDue};
 ghost use Rattle.host_io.specs.declared.shelf.ShelfError.TheVariants.{Failed, TooLong};
 
 use crate::finish::Finish;

@@ -7,6 +7,7 @@ mod answer;
 mod command;
 mod delivery;
 mod finish;
+mod limits;
 mod making;
 mod program;
 mod reading;

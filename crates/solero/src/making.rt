@@ -1,12 +1,12 @@
 //! What a mode makes of a checked program.
 ghost use Rattle.std.specs.Prelude.{◌≡◌, ℕ, ◌<◌, List, IfOk, length};
 ghost use Rattle.run_texts.specs.Report.{report_text};
-ghost use Rattle.machine_types.specs.Core.{Happening, core};
-ghost use Rattle.machine_types.specs.Faithful.{IsFaithful, IsOver};
+ghost use Rattle.machine_types.specs.Core.{Happening, core, outcome as outcome_of};
+ghost use Rattle.machine_types.specs.Faithful.{IsFaithful, IsOver, IsPlainRun};
 ghost use Rattle.machine_types.specs.Schedules.{IsScheduleOf};
 ghost use Rattle.machine_types.specs.Settings.{AreSettings};
 ghost use Rattle.run_parts.specs.Ended.{IsEndOfRun};
-ghost use Rattle.solero.specs.Answer.{IsMadeBy};
+ghost use Rattle.solero.specs.Answer.{IsMadeBy, text_with_prints};
 ghost use Rattle.solero.specs.Finish.{finish_of as the_finish};
 ghost use Rattle.solero.specs.Requests.{asked_by};
 ghost use Rattle.solero.specs.declared.answer.Due.TheVariants.{Report};
@@ -44,11 +44,13 @@ pub fn made<R: Threads + Wait + Sync, G: Gate + Sync>(
     }
 }
 
-// Whatever happens in it, a run stands for one of the plain machine; at the end of a schedule it is
-// over.
+// Whatever happens in it, a run stands for one of the plain machine, and its report has the prints of
+// that; at the end of a schedule it is over.
 fn is_plain(checked: &Checked, cfg: &Config)
     requires { AreSettings cfg.now }
     ensures plain { (hs : List Happening) → IsFaithful checked.now cfg.now hs }
+    ensures prints { (hs : List Happening) (run : IsPlainRun checked.now cfg.now hs)
+        → report_text (outcome_of (core checked.now cfg.now hs)) ≡ text_with_prints run.state.prints (outcome_of (core checked.now cfg.now hs)) }
     ensures over { (order : List ℕ) (hs : List Happening) → IsScheduleOf checked.now cfg.now order hs → IsOver (core checked.now cfg.now hs) }
 {
     let _program = checked.program();

@@ -5,7 +5,7 @@ ghost use Rattle.solero.specs.Requests.{asked_by};
 ghost use Rattle.solero.specs.Answer.{AreAccepted, IsDue, first_long};
 ghost use Rattle.solero.specs.Delivery.{Delivers};
 ghost use Rattle.solero.specs.Parts.{IsRun, IsUnreadDue};
-ghost use Rattle.solero.specs.Whole.{AnswersWhole, IsCalm};
+ghost use Rattle.solero.specs.Whole.{AnswersWhole, IsCalm, IsOwed, IsOwedRefusal};
 ghost use Rattle.host_io.specs.declared.shelf.NamedFile.{NamedFile as File};
 ghost use Rattle.solero.specs.declared.answer.Due.{Due as TheDue};
 
@@ -41,22 +41,30 @@ pub fn top<R: Threads + Wait + Sync, S: Shelf, K: Sink, G: Gate + Sync>(
 ) -> u8
     // What the words and the files are owed is written, and answered by its status.
     ensures answer { (due : TheDue)
-        × IsDue (command (texts words.now.items)) (S.files shelf.old) (S.faults shelf.old) (S.faults shelf.new) due
+        × IsDue (command (texts words.now.items)) (S.files shelf.old) (S.unreadable shelf.old) (S.faults shelf.old) (S.faults shelf.new) due
         × Delivers (K.text sink.old) (K.text sink.new) (K.faults sink.old) (K.faults sink.new) due result }
     ensures files { S.files shelf.new ≡ S.files shelf.old }
+    ensures unreadable { S.unreadable shelf.new ≡ S.unreadable shelf.old }
 
     // Each status comes for its cause, and a fault of the sink goes before all.
     ensures status { result ≤ 7 }
     ensures words_read { result ≡ 2 → command (texts words.now.items) ≡ None }
     ensures words_not_read { command (texts words.now.items) ≡ None → (result ≡ 2) ⊎ ((result ≡ 5) ⊎ (result ≡ 6)) }
-    // Files that all rules let pass are not refused.
+    // Files that all rules let pass are not refused, and all others are, where the shelf does not fail.
     ensures accepted { (asked : Asked) (files : List File) → command (texts words.now.items) ≡ Some asked
         → S.files shelf.old ≡ Some files → AreAccepted files asked → result ≢ 3 }
-    // And where nothing fails outside, they are answered in full.
+    ensures not_accepted { (asked : Asked) (files : List File) → command (texts words.now.items) ≡ Some asked
+        → S.files shelf.old ≡ Some files → ¬ AreAccepted files asked
+        → IsCalm (S.faults shelf.old) (S.faults shelf.new) → (result ≡ 3) ⊎ ((result ≡ 5) ⊎ (result ≡ 6)) }
+    // And where nothing fails outside, both are answered in full.
     ensures complete { (asked : Asked) (files : List File) → command (texts words.now.items) ≡ Some asked
         → S.files shelf.old ≡ Some files → AreAccepted files asked
         → IsCalm (S.faults shelf.old) (S.faults shelf.new) → IsCalm (K.faults sink.old) (K.faults sink.new)
-        → AnswersWhole asked files (K.text sink.old) (K.text sink.new) result }
+        → AnswersWhole (IsOwed asked files) (K.text sink.old) (K.text sink.new) result }
+    ensures refused { (asked : Asked) (files : List File) → command (texts words.now.items) ≡ Some asked
+        → S.files shelf.old ≡ Some files → ¬ AreAccepted files asked
+        → IsCalm (S.faults shelf.old) (S.faults shelf.new) → IsCalm (K.faults sink.old) (K.faults sink.new)
+        → AnswersWhole (IsOwedRefusal asked files) (K.text sink.old) (K.text sink.new) result }
     ensures shelf_failed { result ≡ 4 → CountsFault (S.faults shelf.old) (S.faults shelf.new) }
     ensures shelf_fault { S.faults shelf.old < S.faults shelf.new → (4 ≤ result) × (result ≤ 6) }
     ensures sink_failed { result ≡ 5 → CountsFault (K.faults sink.old) (K.faults sink.new) }
@@ -74,9 +82,10 @@ fn work<R: Threads + Wait + Sync, S: Shelf, G: Gate + Sync>(
     shelf: &mut S,
     gate: &G,
 ) -> Due
-    ensures due { IsDue (command (texts words.now.items)) (S.files shelf.old)
+    ensures due { IsDue (command (texts words.now.items)) (S.files shelf.old) (S.unreadable shelf.old)
         (S.faults shelf.old) (S.faults shelf.new) result }
     ensures files { S.files shelf.new ≡ S.files shelf.old }
+    ensures unreadable { S.unreadable shelf.new ≡ S.unreadable shelf.old }
 {
     match read_words(alloc, words.as_slice()) {
         Ok(Some(request)) => work_on(rt, alloc, &request, shelf, gate),
@@ -93,9 +102,10 @@ fn work_on<R: Threads + Wait + Sync, S: Shelf, G: Gate + Sync>(
     shelf: &mut S,
     gate: &G,
 ) -> Due
-    ensures due { IsDue (Some (asked_by request.now)) (S.files shelf.old)
+    ensures due { IsDue (Some (asked_by request.now)) (S.files shelf.old) (S.unreadable shelf.old)
         (S.faults shelf.old) (S.faults shelf.new) result }
     ensures files { S.files shelf.new ≡ S.files shelf.old }
+    ensures unreadable { S.unreadable shelf.new ≡ S.unreadable shelf.old }
 {
     match read_files(alloc, request.files.as_slice(), shelf) {
         Ok(contents) => run_files(rt, alloc, request, &contents, gate),

@@ -1,7 +1,7 @@
 //! The files of a command, read from a shelf.
 ghost use Rattle.std.specs.Prelude.{◌≡◌, ◌≤◌, length, IfOk, IfErr};
 ghost use Rattle.solero.specs.Command.{texts};
-ghost use Rattle.solero.specs.Reading.{AreRead, IsUnread, IsNextRead};
+ghost use Rattle.solero.specs.Reading.{AreRead, FailsWhereTold, IsUnread, IsNextRead};
 
 use host_io::shelf::{Shelf, ShelfError};
 use jvm_types::limits::{MOST_FILE_BYTES, MOST_FILES};
@@ -26,9 +26,10 @@ pub fn read_files<S: Shelf>(
 ) -> Result<Rows<Bytes>, Unread>
     requires { length names.now ≤ MOST_FILES }
     ensures files { S.files shelf.new ≡ S.files shelf.old }
+    ensures unreadable { S.unreadable shelf.new ≡ S.unreadable shelf.old }
     ensures ok { IfOk result (λ contents. AreRead (S.files shelf.old) (texts names.now)
         (S.faults shelf.old) (S.faults shelf.new) contents) }
-    ensures err { IfErr result (λ unread. IsUnread (S.files shelf.old) (texts names.now)
+    ensures err { IfErr result (λ unread. IsUnread (S.files shelf.old) (S.unreadable shelf.old) (texts names.now)
         (S.faults shelf.old) (S.faults shelf.new) unread.file unread.error) }
 {
     let mut contents = Rows::new(alloc);
@@ -49,8 +50,10 @@ fn read_next<S: Shelf>(
     contents: &mut Rows<Bytes>,
 ) -> Result<(), ShelfError>
     ensures files { S.files shelf.new ≡ S.files shelf.old }
+    ensures unreadable { S.unreadable shelf.new ≡ S.unreadable shelf.old }
     ensures answer { IsNextRead (S.files shelf.old) name.now (S.faults shelf.old) (S.faults shelf.new)
         contents.old contents.new result }
+    ensures fails { FailsWhereTold (S.unreadable shelf.old) name.now result }
 {
     let content = shelf.read_file(alloc, name, MOST_FILE_BYTES as u64)?;
     contents.push(content)?;

@@ -11,4 +11,4 @@ run_files-requires-clause-short g c = λ _ _. none_long 0 _ c.in-Ok.ensures.ok.s
 pub returns-in-Err-clause-due : goal.returns-in-Err-clause-due
 returns-in-Err-clause-due g c =
     let names : texts c.as_slice.result.now ≡ texts c.args.request.now.files.items = search rules in
-    unread_due _ (asked_by c.args.request.now) _ _ _ _ _ (rw names at c.in-Err.ensures.err) c.not_read.ensures
+    unread_due _ _ (asked_by c.args.request.now) _ _ _ _ _ (rw names at c.in-Err.ensures.err) c.not_read.ensures

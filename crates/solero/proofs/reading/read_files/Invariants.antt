@@ -7,5 +7,6 @@ use Rattle.solero.proofs.reading.read_files.Given as goal
 abbrev pub invariant-loop-file : goal.invariant-loop-file
 invariant-loop-file g l = record {
   files : g.S.Shelf.files l.shelf ≡ g.S.Shelf.files l.fn.shelf;
-  read : SoFar (g.S.Shelf.files l.fn.shelf) (texts l.names) (texts (drop l.file l.names)) (g.S.Shelf.faults l.fn.shelf) (g.S.Shelf.faults l.shelf) l.file l.contents;
+  unreadable : g.S.Shelf.unreadable l.shelf ≡ g.S.Shelf.unreadable l.fn.shelf;
+  read : SoFar (g.S.Shelf.files l.fn.shelf) (g.S.Shelf.unreadable l.fn.shelf) (texts l.names) (texts (drop l.file l.names)) (g.S.Shelf.faults l.fn.shelf) (g.S.Shelf.faults l.shelf) l.file l.contents;
 }
