@@ -286,6 +286,17 @@ def fills_heap():
     return code.method(rows=[(start, end, handler, thrown)])
 
 
+def with_code(shape, code, rows=()):
+    """A method of this shape (flags, descriptor, places on the stack, locals) has this code, two
+    digits for each byte."""
+    file = ClassFile("A")
+    flags, descriptor, stack, local = shape
+    code = bytes.fromhex(code.replace("OWN", f"{file.this:04x}"))
+    rows = [b"".join(map(u2, row)) for row in rows]
+    file.method(flags, "m", descriptor, code, stack, local, rows)
+    return file.content()
+
+
 def array_of(length):
     """The worked class whose `init` prints the length of an array, with that length."""
     content = bytearray(worked("MAKES_ARRAY"))
