@@ -14,7 +14,7 @@ pub struct PairRefusal {
 }
 
 /// What is no class file: changes of the class that adds.
-pub const UNREADABLE: [Refusal; 8] = [
+pub const UNREADABLE: [Refusal; 13] = [
     // the magic number
     Refusal {
         changes: &[(0, 0)],
@@ -53,6 +53,27 @@ pub const UNREADABLE: [Refusal; 8] = [
     Refusal {
         changes: &[(185, 1), (186, 9)],
         line: "refused C9 file 0 at 185",
+    },
+    // more constants than there are, more methods, a longer attribute, longer code, more rows
+    Refusal {
+        changes: &[(8, 0xff), (9, 0xff)],
+        line: "refused C4 file 0 at 173",
+    },
+    Refusal {
+        changes: &[(183, 0xff), (184, 0xff)],
+        line: "refused C3 file 0 at 223",
+    },
+    Refusal {
+        changes: &[(195, 0xff), (196, 0xff), (197, 0xff), (198, 0xff)],
+        line: "refused C3 file 0 at 199",
+    },
+    Refusal {
+        changes: &[(203, 0xff), (204, 0xff), (205, 0xff), (206, 0xff)],
+        line: "refused C7 file 0 at 195",
+    },
+    Refusal {
+        changes: &[(217, 0xff), (218, 0xff)],
+        line: "refused C7 file 0 at 195",
     },
 ];
 
