@@ -1,16 +1,14 @@
-//! Runs over files and sinks in memory, and the edge of the system once.
+//! Runs over files and sinks in memory.
 
 use crate::program::top;
-use host_io::adapters::{FileShelf, OutputSink};
 use host_io::shelf::{CalmShelf, ListShelf, NamedFile, Shelf, ShelfError};
-use host_io::sink::{CalmSink, ListSink, Sink, SinkFailed};
+use host_io::sink::{CalmSink, ListSink, Sink};
 use jvm_types::{Bytes, OpenGate, Rows};
 use std::alloc::{AllocError, Global};
 use std::process::Abort;
 use std::sync::Wait;
 use std::test::Fail;
 use std::thread::Threads;
-use std::{fmt, io};
 use test_classes::{ADDS, PAIR, STORES_THIS, bytes_of};
 
 const REPORT: &str = "5\ninit returned\ndone returned\n\
@@ -368,48 +366,5 @@ fn shelves_give_their_files(rt: HostRuntime) -> Result<(), Fail> {
     let mut calm = CalmShelf::new(one_file(alloc, bytes_of(alloc, "cafe")?)?);
     assert!(rt; is_content(&calm.read_file(alloc, "A.class", 2), &bytes));
     assert!(rt; is_content(&calm.read_file(alloc, "B.class", 2), &[]));
-    Ok(())
-}
-
-// An output that takes nothing.
-struct Stuck;
-
-impl Print for Stuck {
-    fn print<D: fmt::Display + Drop>(&self, _value: D) -> io::Result<()> {
-        Ok(())
-    }
-
-    fn println<D: fmt::Display + Drop>(&self, _value: D) -> io::Result<()> {
-        Ok(())
-    }
-
-    fn write_all(&self, _bytes: &[u8]) -> io::Result<()> {
-        Ok(())
-    }
-
-    fn write_some(&self, _bytes: &[u8]) -> io::Result<usize> {
-        Ok(0)
-    }
-}
-
-#[test]
-fn the_edge_of_the_system(rt: HostRuntime) -> Result<(), Fail> {
-    let alloc = rt.alloc();
-    let mut files = FileShelf::new(&rt);
-    assert!(rt; is_content(&files.read_file(alloc, "/dev/null", 0), &[]));
-    assert!(rt;
-        matches!(
-            &files.read_file(alloc, "/dev/zero", 5000),
-            Err(ShelfError::TooLong)
-        )
-    );
-    assert!(rt;
-        matches!(
-            &files.read_file(alloc, "/dev/null/A.class", 5000),
-            Err(ShelfError::Failed)
-        )
-    );
-    assert!(rt; matches!(&OutputSink::new(&Stuck).write_some(&[53]), Err(SinkFailed)));
-    assert!(rt; matches!(&CalmSink::new().write_some(&[53]), Ok(1)));
     Ok(())
 }
