@@ -1,0 +1,128 @@
+-- How far a call is, as its view goes on.
+use Rattle.std.proofs.Common.{◌≡◌, ◌≢◌, ℕ, zero, suc, ◌*◌, ◌<◌, ◌≤◌, List, [], ◌∷◌, ◌++◌, length, take, drop, Bool, true, false, Some, None, refl, sym, ap, subst, ◌∙◌}
+use Rattle.std.specs.Prelude.{slice_get, slice_set, is_some, unwrap_or, if◌then◌else◌}
+use Rattle.std.proofs.lemmas.List.{length-take-le}
+use Rattle.std.proofs.Math.Seq.{take-suc-set}
+use Rattle.atomic_table.specs.Seated.{TableId}
+use Rattle.solero_cell.specs.declared.views.Record.{Record}
+use Rattle.solero_cell.specs.declared.views.Storing.{Storing}
+use Rattle.solero_cell.specs.declared.views.View.{View}
+use Rattle.solero_cell.specs.Histories.{AllStand, AreOfOne, IsLast, IsSeen, Stands}
+use Rattle.solero_cell.specs.CellViews.{IsStill, record_of, has_failed, has_loaded, forgot, has_read, has_stored, one_stored, taken_in}
+use Rattle.solero_cell.specs.Attempts.{IsBehindGot, IsBehindChanged}
+use Rattle.solero_cell.specs.Stages.{IsSeatAt, IsLoading, IsStoring}
+use Rattle.solero_cell.proofs.Standing.{all_left, all_right}
+use Rattle.solero_cell.specs.Steps.{HasCompared, HasRead, note_of, storing_of, ended}
+
+-- ---- the seat stays at its table
+
+pub seat_on : (table : TableId) (o : Record) (seat seat' : TableId) (v w : View) → seat' ≡ seat → w.opening ≡ v.opening → w.share ≡ v.share
+    → IsSeatAt table o seat v → IsSeatAt table o seat' w
+seat_on table o seat seat' v w e opening share s = record {
+  of = e ∙ s.of;
+  opening_is = opening ∙ s.opening_is;
+  share = subst (λ n. 0 < n) (ap (λ z. z.parts) (sym share)) s.share;
+  words = s.words;
+  few = s.few;
+}
+
+-- ---- loads
+
+pub loading_on : (i : ℕ) (xs : List ℕ) (v w : View) → w ≡ record v { loaded = take i xs } → i ≤ length xs → IsLoading 0 v → IsLoading i w
+loading_on i xs v w e le is = subst (IsLoading i) (sym e) (record { noted = is.noted; loaded = length-take-le i xs le; storing = is.storing; joining = is.joining })
+
+pub load_on : (i x : ℕ) (xs : List ℕ) (v w w' : View) → w ≡ record v { loaded = take i xs } → i < length xs → w' ≡ has_loaded x w
+    → w' ≡ record v { loaded = take (suc i) (slice_set xs i x) }
+load_on i x xs v w w' e lt e' = e' ∙ ap (has_loaded x) e ∙ ap (λ l. record v { loaded = l }) (sym (take-suc-set xs i x lt))
+
+-- ---- stores
+
+drop_first : (xs : List ℕ) (i x : ℕ) → slice_get xs i ≡ Some x → drop i xs ≡ x ∷ drop (suc i) xs
+drop_first [] i x e = let bad : None ≡ Some x = e in absurd (cc)
+drop_first (y ∷ ys) zero x e = let same : y ≡ x = cc in ap (λ z. z ∷ ys) same
+drop_first (y ∷ ys) (suc i) x e = drop_first ys i x e
+
+take_next : (xs : List ℕ) (i x : ℕ) → slice_get xs i ≡ Some x → take i xs ++ x ∷ [] ≡ take (suc i) xs
+take_next [] i x e = let bad : None ≡ Some x = e in absurd (cc)
+take_next (y ∷ ys) zero x e = let same : y ≡ x = cc in ap (λ z. z ∷ []) (sym same)
+take_next (y ∷ ys) (suc i) x e = ap (λ l. y ∷ l) (take_next ys i x e)
+
+abbrev pair : (stored left : List ℕ) → Storing
+pair stored left = record { stored = stored; left = left }
+
+abbrev at : (i : ℕ) → List ℕ → View → View
+at i xs v = record v { storing = Some (pair (take i xs) (drop i xs)) }
+
+pub storing_on : (i x : ℕ) (xs : List ℕ) (v w : View) → w ≡ at i xs v → slice_get xs i ≡ Some x → i ≤ length xs → IsStoring 0 v
+    → IsStoring i w × (slice_get (storing_of w).left 0 ≡ Some x)
+storing_on i x xs v w e g le is = subst (λ u. IsStoring i u × (slice_get (storing_of u).left 0 ≡ Some x)) (sym e) (
+  record { noted = is.noted; storing = refl; stored = length-take-le i xs le; loaded = is.loaded; joining = is.joining },
+  ap (λ l. slice_get l 0) (drop_first xs i x g),
+)
+
+pub store_on : (i x : ℕ) (xs : List ℕ) (v w w' : View) → w ≡ at i xs v → slice_get xs i ≡ Some x → w' ≡ has_stored (storing_of w) w
+    → w' ≡ at (suc i) xs v
+store_on i x xs v w w' e g e' =
+    let one : one_stored (pair (take i xs) (drop i xs)) ≡ pair (take (suc i) xs) (drop (suc i) xs) =
+    ap (λ l. one_stored (pair (take i xs) l)) (drop_first xs i x g) ∙ ap (λ l. pair l (drop (suc i) xs)) (take_next xs i x g) in
+    e' ∙ ap (λ u. has_stored (storing_of u) u) e ∙ ap (λ (q : Storing). record v { storing = Some q }) one
+
+-- ---- what is seen stays so for a view with the same records
+
+pub seen_as : (v w : View) (r : Record) → v.opening ≡ w.opening → v.writes ≡ w.writes → v.latest ≡ w.latest → IsSeen v r → IsSeen w r
+seen_as v w r opening writes latest s = record {
+  history = s.history;
+  own = record {
+    writes = subst (λ l. AllStand w.opening s.history l) writes (subst (λ o. AllStand o s.history v.writes) opening s.own.writes);
+    latest = subst (λ l. Stands w.opening s.history l) latest (subst (λ o. Stands o s.history v.latest) opening s.own.latest);
+  };
+  last = subst (λ o. IsLast o s.history r) opening s.last;
+}
+
+-- what was loaded is no more there
+pub forgot_still : (v : View) → v.loaded ≡ [] → forgot v ≡ v
+forgot_still v e = ap (λ l. record v { loaded = l }) (sym e)
+
+-- ---- an attempt
+
+pub begin_loading : (v : View) (c : ℕ) → v.note ≡ Some c → IsStill v → IsLoading 0 v
+begin_loading v c n still = record { noted = ap is_some n; loaded = ap length still.loaded; storing = still.storing; joining = still.joining }
+
+pub all_loaded : (n : ℕ) (xs : List ℕ) (v w : View) (c : ℕ) → w ≡ record v { loaded = xs } → length xs ≡ n → v.note ≡ Some c → IsStill v → IsLoading n w
+all_loaded n xs v w c e l note still = subst (IsLoading n) (sym e) (record { noted = ap is_some note; loaded = l; storing = still.storing; joining = still.joining })
+
+note_is : (v : View) (c : ℕ) → v.note ≡ Some c → note_of v ≡ c
+note_is v c n = ap (λ p. unwrap_or p 0) n
+
+pub behind_got : (v u now : View) (c : ℕ) (xs : List ℕ) → u ≡ record v { loaded = xs } → v.note ≡ Some c → IsStill v → HasRead u now → IsBehindGot v c xs now
+behind_got v u now c xs e n still h =
+    let k : HasRead (record v { loaded = xs }) now = subst (λ (x : View). HasRead x now) e h in
+    let count = note_is v c n in
+    let seen : IsSeen (record v { loaded = xs }) (record_of c xs) = subst (λ (m : ℕ). IsSeen (record v { loaded = xs }) (record_of m xs)) count k.seen in
+    record {
+      view = k.view ∙ ap (λ (m : ℕ). has_read (record_of m xs) (forgot v)) count ∙ ap (has_read (record_of c xs)) (forgot_still v still.loaded);
+      seen = seen_as (record v { loaded = xs }) v (record_of c xs) refl refl refl seen;
+    }
+
+ended_by : (b : Bool) (found : ℕ) (v : View) → forgot v ≡ v → ended b found v ≡ (if b then has_failed found v else v)
+ended_by true found v e = ap (has_failed found) e
+ended_by false found v e = e
+
+pub behind_changed : (b : Bool) (v u now : View) (c word found : ℕ) (xs : List ℕ) → u ≡ record v { loaded = xs } → IsStill v
+    → now ≡ ended b found u → word ≡ 4 * c → word ≢ found → IsBehindChanged b v c word found now
+behind_changed b v u now c word found xs e still h w d = record {
+  view = h ∙ ap (ended b found) e ∙ ended_by b found v (forgot_still v still.loaded);
+  word_is = w;
+  differ = d;
+}
+
+-- ---- a join
+
+pub of_one : (v w u now : View) → u ≡ taken_in v w → HasCompared u now → AreOfOne v w
+of_one v w u now e h =
+    let k : HasCompared (taken_in v w) now = subst (λ (x : View). HasCompared x now) e h in
+    record {
+      history = k.history;
+      mine = record { writes = all_left v.opening k.history v.writes w.writes k.own.writes; latest = k.own.latest };
+      other = record { writes = all_right v.opening k.history v.writes w.writes k.own.writes; latest = k.other };
+    }

@@ -1,0 +1,10 @@
+mod Sums
+mod Standing
+mod Shares
+mod Words
+mod Knowing
+mod Made
+mod ReadSteps
+mod WriteSteps
+mod SeatSteps
+mod Going

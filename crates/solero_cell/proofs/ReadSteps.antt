@@ -1,0 +1,158 @@
+-- The steps of a read keep the rule: its loads, and what they tell. And the second load of a join.
+use Rattle.std.proofs.Common.{◌≡◌, ◌≢◌, ℕ, suc, ◌*◌, ◌<◌, ⊎_elim, List, [], ◌∷◌, ◌++◌, length, length-append, take, Bool, true, false, Option, Some, None, refl, sym, ap, subst, ◌∙◌, arith}
+use Rattle.std.specs.Prelude.{slice_index, slice_set, IsSome, unwrap_or}
+use Rattle.std.proofs.lemmas.List.{set-get_or}
+use mathlib.Core.Option.{some}
+use mathlib.Core.Logic.{dite}
+use native.Mathlib.Decide.{ℕ_discrete}
+use lib.ListN.{get_elem?}
+use Rattle.atomic_table.specs.Table.{State, Me, Allows, keeps}
+use Rattle.machine_types.specs.LockWords.{lock_of, is_lock_word}
+use Rattle.machine_types.specs.declared.lock.LockWord.{LockWord}
+use Rattle.solero_cell.specs.declared.views.Record.{Record}
+use Rattle.solero_cell.specs.declared.views.View.{View}
+use Rattle.solero_cell.specs.Histories.{last_count, Stands, IsLast, OwnStand}
+use Rattle.solero_cell.specs.CellViews.{record_of, noted, has_failed, has_loaded, forgot, has_read, has_compared, IsStill}
+use Rattle.solero_cell.specs.CellRules.{values_of, Knows, IsAtRest, IsHeld, Shows}
+use Rattle.solero_cell.specs.Steps.{note_of, joining_of, NotedBy, TellsNote, ended, TellsFinish, HasCompared}
+use Rattle.solero_cell.specs.Stages.{IsLoading, IsJoining}
+use Rattle.solero_cell.proofs.Standing.{at_most_last, last_stands, newest_stands}
+use Rattle.solero_cell.proofs.Words.{free_word, free_is_lock, next_taken, value_index, values_long, all_taken}
+use Rattle.solero_cell.proofs.Knowing.{calm, knows_of, none_loaded, if_some}
+use Rattle.solero_cell.proofs.Made.{looked}
+
+abbrev pub rule : {S : Type 0} → Record → State S View → Type 0
+rule o s = Shows o s.words s.views
+
+-- what a step that leaves the words leads to: the rule holds with another view, and it tells this
+abbrev pub Looks : (o : Record) (ws : List ℕ) (views : List View) (id : ℕ) → (View → Type 0) → Type 0
+Looks o ws views id told = (w : View) × Shows o ws (slice_set views id w) × told w
+
+pub load_allows : {S : Type 0} (o : Record) (slots id i : ℕ) (me : Me S View) (told : ℕ → View → Type 0)
+    → ((ws : List ℕ) (views : List View) → Shows o ws views → get_elem? views id ≡ some me.0 → Looks o ws views id (told (slice_index ws i)))
+    → Allows (rule o) slots id me i (λ n. n) (λ n w. told n w.0 × (w.1 ≡ me.1))
+load_allows o slots id i me told f s run long at small =
+    let r = f s.words s.views run at in
+    (r.0, keeps, tt, subst (λ ws. Shows o ws (slice_set s.views id r.0)) (sym (set-get_or s.words i 0)) r.1, (r.2, refl))
+
+pub some_note : (p : Option ℕ) → IsSome p → p ≡ Some (unwrap_or p 0)
+some_note None n = let bad : false ≡ true = n in absurd (cc)
+some_note (Some c) n = refl
+
+some_record : (p : Option Record) → IsSome p → p ≡ Some (unwrap_or p (record_of 0 []))
+some_record None n = let bad : false ≡ true = n in absurd (cc)
+some_record (Some r) n = refl
+
+module _ (o : Record) (id : ℕ) (v : View) (parts : 0 < v.share.parts) (ws : List ℕ) (views : List View) (s : Shows o ws views) (at : get_elem? views id ≡ some v) where
+  pub its : Knows o s.history ws v
+  its = knows_of o s.history ws v parts (s.each id v at)
+
+  -- ---- a note load
+
+  pub note_step : IsStill v → Looks o ws views id (TellsNote v (slice_index ws 0))
+  note_step still = ⊎_elim at_rest held s.lock
+    where
+      at_rest : IsAtRest o s.history ws views → Looks o ws views id (TellsNote v (slice_index ws 0))
+      at_rest r =
+          let c : ℕ = last_count o s.history in
+          let by : NotedBy (lock_of (4 * c)) (4 * c) v (noted c v) = subst (λ (l : LockWord). NotedBy l (4 * c) v (noted c v)) (sym (free_word c)) (refl, at_most_last o s.history v.latest its.own.latest) in (
+            noted c v,
+            looked o ws views id v (noted c v) s at refl parts refl refl (calm o s.history ws (noted c v) its.opening_is (record { writes = its.own.writes; latest = its.own.latest }) (omega arith) (none_loaded ws (Some c) v.loaded still.loaded) still.storing still.joining),
+            record {
+              lock = subst (λ x. is_lock_word x ≡ true) (sym r.word) (free_is_lock c);
+              noted = subst (λ x. NotedBy (lock_of x) x v (noted c v)) (sym r.word) by;
+            },
+          )
+
+      held : IsHeld ws views → Looks o ws views id (TellsNote v (slice_index ws 0))
+      held r = (
+        has_failed (slice_index ws 0) v,
+        looked o ws views id v (has_failed (slice_index ws 0) v) s at refl parts refl refl (calm o s.history ws (has_failed (slice_index ws 0) v) its.opening_is (record { writes = its.own.writes; latest = its.own.latest }) its.note its.loaded still.storing still.joining),
+        record {
+          lock = subst (λ x. is_lock_word x ≡ true) (sym r.word) refl;
+          noted = subst (λ x. NotedBy (lock_of x) (slice_index ws 0) v (has_failed (slice_index ws 0) v)) (sym r.word) refl;
+        },
+      )
+
+  -- ---- a value load
+
+  pub load_step : (i : ℕ) → IsLoading i v → i < length o.values → Looks o ws views id (λ w. w ≡ has_loaded (slice_index ws (suc i)) v)
+  load_step i is lt =
+      let x : ℕ = slice_index ws (suc i) in (
+        has_loaded x v,
+        looked o ws views id v (has_loaded x v) s at refl parts refl refl (calm o s.history ws (has_loaded x v) its.opening_is (record { writes = its.own.writes; latest = its.own.latest }) its.note more is.storing is.joining),
+        refl,
+      )
+    where
+      more : (c : ℕ) → v.note ≡ Some c → slice_index ws 0 ≡ 4 * c
+          → v.loaded ++ slice_index ws (suc i) ∷ [] ≡ take (length (v.loaded ++ slice_index ws (suc i) ∷ [])) (values_of ws)
+      more c n w =
+          let one : length (v.loaded ++ slice_index ws (suc i) ∷ []) ≡ suc i = omega (arith, length-append v.loaded (slice_index ws (suc i) ∷ []), is.loaded) in
+          let so_far : v.loaded ≡ take i (values_of ws) = its.loaded c n w ∙ ap (λ k. take k (values_of ws)) is.loaded in
+          let long = values_long ws (length o.values) s.long in
+          ap (λ l. l ++ slice_index ws (suc i) ∷ []) so_far
+          ∙ ap (λ x. take i (values_of ws) ++ x ∷ []) (sym (value_index ws i))
+          ∙ sym (next_taken (values_of ws) i (omega (arith, long, lt)))
+          ∙ ap (λ k. take k (values_of ws)) (sym one)
+
+  pub load_step_at : (i j : ℕ) → j ≡ suc i → IsLoading i v → i < length o.values → Looks o ws views id (λ w. w ≡ has_loaded (slice_index ws j) v)
+  load_step_at i j e is lt = subst (λ k. Looks o ws views id (λ w. w ≡ has_loaded (slice_index ws k) v)) (sym e) (load_step i is lt)
+
+  -- ---- a finish load
+
+  pub finish_step : (is_last : Bool) → IsLoading (length o.values) v → Looks o ws views id (TellsFinish is_last v (slice_index ws 0))
+  finish_step is_last is = dite (ℕ_discrete (slice_index ws 0) (4 * note_of v)) same other
+    where
+      note : v.note ≡ Some (note_of v)
+      note = some_note v.note is.noted
+
+      got : Record
+      got = record_of (note_of v) v.loaded
+
+      same_at : slice_index ws 0 ≡ 4 * note_of v → IsAtRest o s.history ws views → Looks o ws views id (TellsFinish is_last v (slice_index ws 0))
+      same_at e r =
+          let c : note_of v ≡ last_count o s.history = omega (arith, e, r.word) in
+          let all : v.loaded ≡ values_of ws = all_taken v.loaded (values_of ws) (its.loaded (note_of v) note e) (is.loaded ∙ sym (values_long ws (length o.values) s.long)) in
+          let last : IsLast o s.history got = record { count = c; values = r.values.values ∙ ap Some (sym all) } in
+          let w : View = has_read got (forgot v) in (
+            w,
+            looked o ws views id v w s at refl parts refl refl (calm o s.history ws w its.opening_is (record { writes = its.own.writes; latest = last_stands o s.history got last }) its.note (none_loaded ws v.note [] refl) is.storing is.joining),
+            record {
+              same = λ e'. record {
+                view = refl;
+                seen = record {
+                  history = s.history;
+                  own = subst (λ (q : Record). OwnStand q s.history v) (sym its.opening_is) its.own;
+                  last = subst (λ (q : Record). IsLast q s.history got) (sym its.opening_is) last;
+                };
+              };
+              other = λ n. absurd (n e);
+            },
+          )
+
+      same : slice_index ws 0 ≡ 4 * note_of v → Looks o ws views id (TellsFinish is_last v (slice_index ws 0))
+      same e = ⊎_elim (same_at e) (λ r. absurd (omega (arith, e, r.word))) s.lock
+
+      ended_step : (b : Bool) → Shows o ws (slice_set views id (ended b (slice_index ws 0) v))
+      ended_step true = looked o ws views id v (ended true (slice_index ws 0) v) s at refl parts refl refl (calm o s.history ws (ended true (slice_index ws 0) v) its.opening_is (record { writes = its.own.writes; latest = its.own.latest }) its.note (none_loaded ws v.note [] refl) is.storing is.joining)
+      ended_step false = looked o ws views id v (ended false (slice_index ws 0) v) s at refl parts refl refl (calm o s.history ws (ended false (slice_index ws 0) v) its.opening_is (record { writes = its.own.writes; latest = its.own.latest }) its.note (none_loaded ws v.note [] refl) is.storing is.joining)
+
+      other : slice_index ws 0 ≢ 4 * note_of v → Looks o ws views id (TellsFinish is_last v (slice_index ws 0))
+      other n = (ended is_last (slice_index ws 0) v, ended_step is_last, record { same = λ e. absurd (n e); other = λ m. refl })
+
+  -- ---- the second load of a join
+
+  pub compare_step : IsJoining v → Looks o ws views id (HasCompared v)
+  compare_step is =
+      let r : Record = joining_of v in
+      let there : Stands o s.history r = if_some (Stands o s.history) v.joining r (some_record v.joining is.joining) its.joining in
+      let w : View = has_compared r v in (
+        w,
+        looked o ws views id v w s at refl parts refl refl (calm o s.history ws w its.opening_is (record { writes = its.own.writes; latest = newest_stands o s.history v.latest r its.own.latest there }) its.note (none_loaded ws v.note v.loaded is.loaded) is.storing refl),
+        record {
+          view = refl;
+          history = s.history;
+          own = subst (λ (q : Record). OwnStand q s.history v) (sym its.opening_is) its.own;
+          other = subst (λ (q : Record). Stands q s.history r) (sym its.opening_is) there;
+        },
+      )

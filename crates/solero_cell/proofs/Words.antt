@@ -1,0 +1,60 @@
+-- The words of a cell when one of them changes, and lock words as numbers.
+use Rattle.std.proofs.Common.{◌≡◌, ℕ, zero, suc, ◌*◌, ◌/◌, ◌%◌, ◌<◌, List, [], ◌∷◌, ◌++◌, length, take, true, refl, ap, ◌∙◌, arith}
+use Rattle.std.specs.Prelude.{slice_index, slice_set}
+use Rattle.std.proofs.lemmas.List.{get_or-set_same, get_or-set_other, drop-set-lt}
+use Rattle.std.proofs.Math.Seq.{take-suc-set, take-length}
+use Rattle.machine_types.specs.LockWords.{lock_by, lock_of, is_lock_by, is_lock_word}
+use Rattle.machine_types.specs.declared.lock.LockWord.TheVariants.{Free}
+use Rattle.solero_cell.specs.CellRules.{values_of}
+
+-- ---- lock words
+
+pub free_word : (c : ℕ) → lock_of (4 * c) ≡ Free c
+free_word c =
+    let kind : (4 * c) % 4 ≡ 0 = omega arith in
+    let upper : (4 * c) / 4 ≡ c = omega arith in
+    ap (λ (k : ℕ). lock_by k ((4 * c) / 4)) kind ∙ ap Free upper
+
+pub free_is_lock : (c : ℕ) → is_lock_word (4 * c) ≡ true
+free_is_lock c =
+    let kind : (4 * c) % 4 ≡ 0 = omega arith in
+    ap (λ (k : ℕ). is_lock_by k ((4 * c) / 4)) kind
+
+-- ---- values
+
+pub next_taken : (ys : List ℕ) (n : ℕ) → n < length ys → take (suc n) ys ≡ take n ys ++ slice_index ys n ∷ []
+next_taken [] n lt = absurd (omega arith)
+next_taken (y ∷ ys) zero lt = refl
+next_taken (y ∷ ys) (suc n) lt = ap (λ l. y ∷ l) (next_taken ys n (omega arith))
+
+pub value_index : (ws : List ℕ) (n : ℕ) → slice_index (values_of ws) n ≡ slice_index ws (suc n)
+value_index [] n = refl
+value_index (w ∷ ws) n = refl
+
+pub values_long : (ws : List ℕ) (n : ℕ) → length ws ≡ suc n → length (values_of ws) ≡ n
+values_long [] n e = absurd (omega arith)
+values_long (w ∷ ws) n e = omega arith
+
+pub all_taken : (xs ys : List ℕ) → xs ≡ take (length xs) ys → length xs ≡ length ys → xs ≡ ys
+all_taken xs ys e l = e ∙ ap (λ n. take n ys) l ∙ take-length ys
+
+-- ---- the lock word changes
+
+pub lock_set : (ws : List ℕ) (x : ℕ) → 0 < length ws → slice_index (slice_set ws 0 x) 0 ≡ x
+lock_set ws x lt = get_or-set_same ws 0 x 0 lt
+
+pub values_kept : (ws : List ℕ) (x : ℕ) → values_of (slice_set ws 0 x) ≡ values_of ws
+values_kept ws x = drop-set-lt 1 ws 0 x (omega arith)
+
+-- ---- a value changes
+
+pub lock_kept : (ws : List ℕ) (n x : ℕ) → slice_index (slice_set ws (suc n) x) 0 ≡ slice_index ws 0
+lock_kept ws n x = get_or-set_other ws (suc n) 0 x 0 (λ e. absurd (omega arith))
+
+values_set : (ws : List ℕ) (n x : ℕ) → values_of (slice_set ws (suc n) x) ≡ slice_set (values_of ws) n x
+values_set [] n x = refl
+values_set (w ∷ ws) n x = refl
+
+pub value_set : (ws : List ℕ) (n x : ℕ) → n < length (values_of ws)
+    → take (suc n) (values_of (slice_set ws (suc n) x)) ≡ take n (values_of ws) ++ x ∷ []
+value_set ws n x lt = ap (take (suc n)) (values_set ws n x) ∙ take-suc-set (values_of ws) n x lt

@@ -1,0 +1,219 @@
+-- The steps of a write keep the rule: its exchange and its stores, and what they tell.
+use Rattle.std.proofs.Common.{◌≡◌, ◌≢◌, ℕ, suc, ◌+◌, ◌*◌, ◌<◌, ◌≤◌, ◌==◌, ◌⊎◌, inl, inr, ⊎_elim, List, [], ◌∷◌, ◌++◌, length, length-append, take, drop, true, false, Option, Some, None, refl, sym, ap, subst, ◌∙◌, arith}
+use Rattle.std.specs.Prelude.{slice_index, slice_set, slice_get, IsSome, unwrap_or}
+use Rattle.std.specs.List.{sum_by}
+use Rattle.std.proofs.lemmas.Bool.Decides.{nat_tests}
+use Rattle.std.proofs.lemmas.List.{length-set, set-get_or}
+use Rattle.std.proofs.lemmas.List.Sums.{sum_by_push}
+use mathlib.Core.Option.{some}
+use prog.Atomic.{either}
+use lib.ListN.{get_elem?}
+use Rattle.atomic_table.specs.Table.{Me, Allows, keeps}
+use Rattle.atomic_table.proofs.Lists.{exchanged}
+use Rattle.solero_cell.specs.declared.views.Record.{Record}
+use Rattle.solero_cell.specs.declared.views.Storing.{Storing}
+use Rattle.solero_cell.specs.declared.views.View.{View}
+use Rattle.solero_cell.specs.Histories.{History, last_count, IsLast, OwnStand}
+use Rattle.solero_cell.specs.CellViews.{record_of, has_failed, has_taken, one_stored, has_stored, has_written, has_released}
+use Rattle.solero_cell.specs.CellRules.{values_of, IsUnderWay, Knows, one_if, stores, is_between, IsAtRest, IsHeld, Shows}
+use Rattle.solero_cell.specs.Steps.{note_of, storing_of, TellsTake, HasWritten}
+use Rattle.solero_cell.specs.Stages.{IsNoted, IsStoring}
+use Rattle.solero_cell.proofs.Sums.{sum_set, at_most, others_none}
+use Rattle.solero_cell.proofs.Standing.{at_most_last, last_stands, own_on, all_both, new_last}
+use Rattle.solero_cell.proofs.Words.{values_long, all_taken, lock_set, values_kept, lock_kept, value_set}
+use Rattle.solero_cell.proofs.Knowing.{calm, none_loaded, if_some, some_is, not_storing, is_not_storing, is_storing, taken_knows, held_knows, released_knows}
+use Rattle.solero_cell.proofs.Made.{looked, made}
+use Rattle.solero_cell.proofs.ReadSteps.{rule, some_note, its}
+
+-- what a step that writes a word leads to
+abbrev pub Leads : (o : Record) (ws : List ℕ) (views : List View) (id i x : ℕ) → (View → Type 0) → Type 0
+Leads o ws views id i x told = (w : View) × Shows o (slice_set ws i x) (slice_set views id w) × told w
+
+pub write_allows : {S : Type 0} (o : Record) (slots id i : ℕ) (f : ℕ → ℕ) (me : Me S View) (told : ℕ → View → Type 0)
+    → ((ws : List ℕ) (views : List View) → Shows o ws views → get_elem? views id ≡ some me.0 → Leads o ws views id i (f (slice_index ws i)) (told (slice_index ws i)))
+    → Allows (rule o) slots id me i f (λ n w. told n w.0 × (w.1 ≡ me.1))
+write_allows o slots id i f me told g s run long at small =
+    let r = g s.words s.views run at in (r.0, keeps, tt, r.1, (r.2, refl))
+
+some_storing : (p : Option Storing) → IsSome p → p ≡ Some (unwrap_or p (record { stored = []; left = [] }))
+some_storing None n = let bad : false ≡ true = n in absurd (cc)
+some_storing (Some c) n = refl
+
+-- the counts above the first, up to one more
+one_more : (n first last : ℕ) → first ≤ last → one_if (is_between n first (last + 1)) ≡ one_if (is_between n first last) + one_if (last + 1 == n)
+one_more n first last le = grind (arith, nat_tests)
+
+module _ (o : Record) (id : ℕ) (v : View) (parts : 0 < v.share.parts) (ws : List ℕ) (views : List View) (s : Shows o ws views) (at : get_elem? views id ≡ some v) where
+  abbrev mine : Knows o s.history ws v
+  mine = its o id v parts ws views s at
+
+  -- ---- a take exchange
+
+  module _ (noted : ℕ) (xs : List ℕ) (is : IsNoted noted v) (long : length xs ≡ length o.values) where
+    note : v.note ≡ Some (note_of v)
+    note = some_note v.note is.noted
+
+    taken_at : slice_index ws 0 ≡ noted → IsAtRest o s.history ws views → Leads o ws views id 0 6 (TellsTake xs v (slice_index ws 0))
+    taken_at e r =
+        let w : View = has_taken xs v in
+        let c : note_of v ≡ last_count o s.history = omega (arith, e, r.word, is.word_is) in
+        let ws' : List ℕ = slice_set ws 0 6 in
+        let lock : slice_index ws' 0 ≡ 6 = lock_set ws 6 (omega (arith, s.long)) in
+        let same = values_kept ws 6 in
+        let not_free : (c : ℕ) → slice_index ws' 0 ≢ 4 * c = λ c e. absurd (omega (arith, e, lock)) in
+        let sum = sum_set stores views id v w at in
+        let none : stores v ≡ 0 = is_not_storing v is.still.storing in
+        let one : stores w ≡ 1 = refl in
+        let now : sum_by stores (slice_set views id w) ≡ 1 = omega (arith, sum, none, one, r.nobody) in
+        let k : Knows o s.history ws' w = record {
+          opening_is = mine.opening_is;
+          own = record { writes = mine.own.writes; latest = mine.own.latest };
+          note = mine.note;
+          loaded = none_loaded ws' v.note v.loaded is.still.loaded;
+          storing = record { note_is = note ∙ ap Some c; stored = refl; long = omega (arith, long) };
+          joining = mine.joining;
+        } in (
+          w,
+          made o ws views id v w s at refl parts ws' s.history (length-set ws 0 6) (inr (record { word = lock; one = now })) k
+              (λ i u n g q. taken_knows o s.history ws ws' u same not_free q) (λ n. refl) refl,
+          record { same = λ q. refl; other = λ n. absurd (n (e ∙ is.word_is)) },
+        )
+
+    taken : slice_index ws 0 ≡ noted → Leads o ws views id 0 6 (TellsTake xs v (slice_index ws 0))
+    taken e = ⊎_elim (taken_at e) (λ r. absurd (omega (arith, e, r.word, is.word_is))) s.lock
+
+    lost : slice_index ws 0 ≢ noted → Leads o ws views id 0 (slice_index ws 0) (TellsTake xs v (slice_index ws 0))
+    lost n =
+        let w : View = has_failed (slice_index ws 0) v in
+        let k = calm o s.history ws w mine.opening_is (record { writes = mine.own.writes; latest = mine.own.latest }) mine.note mine.loaded is.still.storing is.still.joining in
+        let kept : slice_set ws 0 (slice_index ws 0) ≡ ws = set-get_or ws 0 0 in (
+          w,
+          subst (λ l. Shows o l (slice_set views id w)) (sym kept) (looked o ws views id v w s at refl parts refl refl k),
+          record { same = λ e. absurd (n (e ∙ sym is.word_is)); other = λ m. refl },
+        )
+
+    pub take_step : Leads o ws views id 0 (either (slice_index ws 0 == noted) 6 (slice_index ws 0)) (TellsTake xs v (slice_index ws 0))
+    take_step = exchanged (slice_index ws 0) noted 6 (λ x. Leads o ws views id 0 x (TellsTake xs v (slice_index ws 0))) taken lost
+
+  -- ---- while the seat is in the middle of a write
+
+  module _ (i : ℕ) (is : IsStoring i v) where
+    abbrev now : Storing
+    now = storing_of v
+
+    storing : v.storing ≡ Some now
+    storing = some_storing v.storing is.storing
+
+    under_way : IsUnderWay o s.history ws v.note now
+    under_way = if_some (IsUnderWay o s.history ws v.note) v.storing now storing mine.storing
+
+    held_by : IsAtRest o s.history ws views ⊎ IsHeld ws views → IsHeld ws views
+    held_by (inl r) = let most = at_most stores views id v at in let one = is_storing v now storing in absurd (omega (arith, most, one, r.nobody))
+    held_by (inr h) = h
+
+    held : IsHeld ws views
+    held = held_by s.lock
+
+    no_other : (j : ℕ) (u : View) → j ≢ id → get_elem? views j ≡ some u → u.storing ≡ None
+    no_other j u n g = not_storing u (others_none stores views id j v u at (let one = is_storing v now storing in omega (arith, one, held.one)) n g)
+
+    -- ---- a value store
+
+    abbrev pair : (stored left : List ℕ) → Storing
+    pair stored left = record { stored = stored; left = left }
+
+    one_stored_as : (x : ℕ) (left : List ℕ) → slice_get left 0 ≡ Some x → (stored : List ℕ)
+        → one_stored (pair stored left) ≡ pair (stored ++ x ∷ []) (drop 1 left)
+    one_stored_as x [] e stored = let bad : None ≡ Some x = e in absurd (cc)
+    one_stored_as x (y ∷ left) e stored = let same : y ≡ x = cc in ap (λ z. pair (stored ++ z ∷ []) left) same
+
+    shorter : (x : ℕ) (left : List ℕ) → slice_get left 0 ≡ Some x → length left ≡ suc (length (drop 1 left))
+    shorter x [] e = let bad : None ≡ Some x = e in absurd (cc)
+    shorter x (y ∷ left) e = refl
+
+    pub store_step : (x : ℕ) → slice_get now.left 0 ≡ Some x → Leads o ws views id (suc i) x (λ w. w ≡ has_stored now v)
+    store_step x first =
+        let w : View = has_stored now v in
+        let ws' : List ℕ = slice_set ws (suc i) x in
+        let lock : slice_index ws' 0 ≡ 6 = lock_kept ws i x ∙ held.word in
+        let not_free : (c : ℕ) → slice_index ws' 0 ≢ 4 * c = λ c e. absurd (omega (arith, e, lock)) in
+        let next = one_stored_as x now.left first now.stored in
+        let short = shorter x now.left first in
+        let long = values_long ws (length o.values) s.long in
+        let sum = sum_set stores views id v w at in
+        let one = is_storing v now storing in
+        let one' : stores w ≡ 1 = refl in
+        let after : sum_by stores (slice_set views id w) ≡ 1 = omega (arith, sum, one, one', held.one) in
+        let n : length (now.stored ++ x ∷ []) ≡ suc i = omega (arith, length-append now.stored (x ∷ []), is.stored) in
+        let so_far : now.stored ≡ take i (values_of ws) = under_way.stored ∙ ap (λ k. take k (values_of ws)) is.stored in
+        let at_now : now.stored ++ x ∷ [] ≡ take (length (now.stored ++ x ∷ [])) (values_of ws') =
+        ap (λ l. l ++ x ∷ []) so_far ∙ sym (value_set ws i x (omega (arith, long, under_way.long, is.stored, short))) ∙ ap (λ k. take k (values_of ws')) (sym n) in
+        let going : IsUnderWay o s.history ws' v.note (pair (now.stored ++ x ∷ []) (drop 1 now.left)) = record { note_is = under_way.note_is; stored = at_now; long = omega (arith, n, short, under_way.long, is.stored) } in
+        let k : Knows o s.history ws' w = record {
+          opening_is = mine.opening_is;
+          own = record { writes = mine.own.writes; latest = mine.own.latest };
+          note = mine.note;
+          loaded = none_loaded ws' v.note v.loaded is.loaded;
+          storing = subst (IsUnderWay o s.history ws' v.note) (sym next) going;
+          joining = mine.joining;
+        } in (
+          w,
+          made o ws views id v w s at refl parts ws' s.history (length-set ws (suc i) x) (inr (record { word = lock; one = after })) k
+              (λ j u m g q. held_knows o s.history ws ws' u (no_other j u m g) not_free q) (λ m. refl) refl,
+          refl,
+        )
+
+    pub store_step_at : (j x : ℕ) → j ≡ suc i → slice_get now.left 0 ≡ Some x → Leads o ws views id j x (λ w. w ≡ has_stored now v)
+    store_step_at j x e first = subst (λ k. Leads o ws views id k x (λ w. w ≡ has_stored now v)) (sym e) (store_step x first)
+
+    -- ---- a release store
+
+    pub release_step : i ≡ length o.values → Leads o ws views id 0 (4 * (note_of v + 1)) (HasWritten v)
+    release_step all =
+        let note = some_note v.note is.noted in
+        let c : note_of v ≡ last_count o s.history = some_one (note_of v) (last_count o s.history) (sym note ∙ under_way.note_is) in
+        let h' : History = s.history ++ now.stored ∷ [] in
+        let r : Record = record_of (note_of v + 1) now.stored in
+        let w : View = has_written r (has_released v) in
+        let ws' : List ℕ = slice_set ws 0 (4 * (note_of v + 1)) in
+        let lock : slice_index ws' 0 ≡ 4 * (note_of v + 1) = lock_set ws (4 * (note_of v + 1)) (omega (arith, s.long)) in
+        let values : now.stored ≡ values_of ws' =
+        all_taken now.stored (values_of ws) under_way.stored (omega (arith, is.stored, all, values_long ws (length o.values) s.long)) ∙ sym (values_kept ws (4 * (note_of v + 1))) in
+        let last : IsLast o h' r = new_last o s.history now.stored (note_of v) c in
+        let own = own_on o s.history now.stored v mine.own in
+        let sum = sum_set stores views id v w at in
+        let one = is_storing v now storing in
+        let none : stores w ≡ 0 = refl in
+        let nobody : sum_by stores (slice_set views id w) ≡ 0 = omega (arith, sum, one, none, held.one) in
+        let rest : IsAtRest o h' ws' (slice_set views id w) = record {
+          word = lock ∙ ap (λ n. 4 * n) last.count;
+          values = record { count = refl; values = last.values ∙ ap Some values };
+          nobody = nobody;
+        } in
+        let le : note_of v ≤ last_count o h' = omega (arith, last.count) in
+        let k = calm o h' ws' w mine.opening_is (record { writes = all_both o h' v.writes (r ∷ []) own.writes (last_stands o h' r last, tt); latest = last_stands o h' r last })
+        (some_is (λ m. m ≤ last_count o h') v.note (note_of v) note le) (none_loaded ws' v.note v.loaded is.loaded) refl is.joining in
+        let long = length-append s.history (now.stored ∷ []) in
+        let more : last_count o h' ≡ last_count o s.history + 1 = omega (arith, long) in (
+          w,
+          made o ws views id v w s at refl parts ws' h' (length-set ws 0 (4 * (note_of v + 1))) (inl rest) k
+              (λ j u m g q. released_knows o s.history ws ws' now.stored u (no_other j u m g) (lock ∙ ap (λ n. 4 * (n + 1)) c) q)
+              (λ n. let push = sum_by_push (λ (q : Record). one_if (q.count == n)) v.writes r in
+              let between = one_more n o.count (last_count o s.history) (omega arith) in
+              let here : one_if (note_of v + 1 == n) ≡ one_if (last_count o s.history + 1 == n) = ap (λ m. one_if (m + 1 == n)) c in
+              let there : one_if (is_between n o.count (last_count o h')) ≡ one_if (is_between n o.count (last_count o s.history + 1)) = ap (λ m. one_if (is_between n o.count m)) more in
+              omega (arith, push, between, here, there))
+              (let push = length-append v.writes (r ∷ []) in omega (arith, push, long)),
+          record {
+            view = refl;
+            seen = record {
+              history = h';
+              own = subst (λ (q : Record). OwnStand q h' v) (sym mine.opening_is) own;
+              last = subst (λ (q : Record). IsLast q h' r) (sym mine.opening_is) last;
+            };
+            above = let le' = at_most_last o s.history v.latest mine.own.latest in omega (arith, le', c);
+          },
+        )
+      where
+        some_one : (a b : ℕ) → Some a ≡ Some b → a ≡ b
+        some_one a b e = cc

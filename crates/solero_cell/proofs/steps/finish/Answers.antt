@@ -1,0 +1,11 @@
+use Rattle.std.proofs.Common.{arith}
+use Rattle.solero_cell.specs.Steps.{TellsFinish}
+use Rattle.solero_cell.proofs.ReadSteps.{load_allows, finish_step}
+use Rattle.solero_cell.proofs.steps.finish.Goals as goal
+
+pub load-requires : goal.load-requires
+load-requires g c =
+    let shared = c.args.table.now.shared in
+    let seat = c.args.seat.now in
+    let is = c.requires.seat in
+    (is.of, omega (arith, is.words), load_allows shared.key shared.table_id.slots seat.id 0 seat.me (TellsFinish g.A.Attempt.is_last seat.me.0) (λ ws views s at. finish_step shared.key seat.id seat.me.0 is.share ws views s at g.A.Attempt.is_last c.requires.loading))

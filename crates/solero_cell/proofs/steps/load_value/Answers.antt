@@ -1,0 +1,11 @@
+use Rattle.std.proofs.Common.{◌≡◌, ◌+◌, arith}
+use Rattle.solero_cell.specs.CellViews.{has_loaded}
+use Rattle.solero_cell.proofs.ReadSteps.{load_allows, load_step_at}
+use Rattle.solero_cell.proofs.steps.load_value.Goals as goal
+
+pub load-requires : goal.load-requires
+load-requires c =
+    let shared = c.args.table.now.shared in
+    let seat = c.args.seat.now in
+    let is = c.requires.seat in
+    (is.of, omega (arith, is.words, c.requires.within), load_allows shared.key shared.table_id.slots seat.id (1 + c.args.i) seat.me (λ x w. w ≡ has_loaded x seat.me.0) (λ ws views s at. load_step_at shared.key seat.id seat.me.0 is.share ws views s at c.args.i (1 + c.args.i) (omega arith) c.requires.loading c.requires.within))

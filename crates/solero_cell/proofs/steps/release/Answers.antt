@@ -1,0 +1,12 @@
+use Rattle.std.proofs.Common.{length, sym, ap, ◌∙◌, subst, refl, arith}
+use Rattle.solero_cell.specs.Steps.{HasWritten}
+use Rattle.std.specs.Prelude.{◌*◌}
+use Rattle.solero_cell.proofs.WriteSteps.{Leads, write_allows, release_step}
+use Rattle.solero_cell.proofs.steps.release.Goals as goal
+
+pub store-requires : goal.store-requires
+store-requires c =
+    let shared = c.args.table.now.shared in
+    let seat = c.args.seat.now in
+    let is = c.requires.seat in
+    (is.of, omega (arith, is.words), write_allows shared.key shared.table_id.slots seat.id 0 (λ n. c.word.result) seat.me (λ x. HasWritten seat.me.0) (λ ws views s at. subst (λ x. Leads shared.key ws views seat.id 0 x (HasWritten seat.me.0)) (ap (λ n. 4 * n) (sym c.requires.count.0) ∙ sym c.word.ensures.word) (release_step shared.key seat.id seat.me.0 is.share ws views s at (length shared.key.values) c.requires.storing refl)))

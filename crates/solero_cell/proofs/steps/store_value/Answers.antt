@@ -1,0 +1,12 @@
+use Rattle.std.proofs.Common.{◌≡◌, ◌+◌, arith}
+use Rattle.solero_cell.specs.CellViews.{has_stored}
+use Rattle.solero_cell.specs.Steps.{storing_of}
+use Rattle.solero_cell.proofs.WriteSteps.{write_allows, store_step_at}
+use Rattle.solero_cell.proofs.steps.store_value.Goals as goal
+
+pub store-requires : goal.store-requires
+store-requires c =
+    let shared = c.args.table.now.shared in
+    let seat = c.args.seat.now in
+    let is = c.requires.seat in
+    (is.of, omega (arith, is.words, c.requires.within), write_allows shared.key shared.table_id.slots seat.id (1 + c.args.i) (λ n. c.args.value) seat.me (λ x w. w ≡ has_stored (storing_of seat.me.0) seat.me.0) (λ ws views s at. store_step_at shared.key seat.id seat.me.0 is.share ws views s at c.args.i c.requires.storing.0 (1 + c.args.i) c.args.value (omega arith) c.requires.storing.1))

@@ -1,0 +1,92 @@
+-- What each answer of a read, of a write and of a join says of the seat.
+use Rattle.std.specs.Prelude.{◌≡◌, ◌≢◌, ℕ, ◌+◌, ◌-◌, ◌^◌, ◌<◌, ◌≤◌, List, false, ◌⊎◌, length, slice_index_or, suc}
+use Rattle.atomic_table.specs.Seated.{TableId}
+use Rattle.machine_types.specs.LockWords.{lock_of, word_of_lock}
+use Rattle.machine_types.specs.declared.lock.LockWord.TheVariants.{Free}
+use Rattle.solero_cell.specs.declared.answers.CellRead.{CellRead}
+use Rattle.solero_cell.specs.declared.answers.CellRead.TheVariants.{Got, NotFree, Changed}
+use Rattle.solero_cell.specs.declared.answers.CellWrite.{CellWrite}
+use Rattle.solero_cell.specs.declared.answers.CellWrite.TheVariants as wrote
+use Rattle.solero_cell.specs.declared.views.Record.{Record}
+use Rattle.solero_cell.specs.declared.views.View.{View}
+use Rattle.solero_cell.specs.Histories.{IsSeen}
+use Rattle.solero_cell.specs.CellViews.{is_free, record_of, noted, has_failed, has_read, has_written, IsStill}
+
+-- a seat at a cell: of which table, and what it knows
+pub record Seated : Type 0 where
+  pub table_id : TableId
+  pub view : View
+
+-- the table is that of the seat
+abbrev pub IsTableOf : TableId → (opening : Record) → Seated → Type 0
+IsTableOf table opening s = (table ≡ s.table_id) × (opening ≡ s.view.opening)
+
+-- what holds of every seat between two calls
+pub record IsSeat (s : Seated) : Type 0 where
+  pub still : IsStill s.view
+  pub share : 0 < s.view.share.parts
+  pub words : s.table_id.words ≡ suc (length s.view.opening.values)
+  pub slots : s.table_id.slots ≡ 0
+  pub few : length s.view.opening.values ≤ 64
+
+-- ---- a read
+
+-- the attempt begins at the view, or behind one that ended without an answer
+abbrev pub Begins : (was now : View) → Type 0
+Begins was now = (now ≡ was) ⊎ ((c : ℕ) × (now ≡ noted c was))
+
+pub record IsGot (was : View) (c : ℕ) (values : List ℕ) (now : View) : Type 0 where
+  pub begun : View
+  pub begins : Begins was begun
+  pub view : now ≡ has_read (record_of c values) (noted c begun)
+  pub later : was.latest.count ≤ c
+  pub seen : IsSeen was (record_of c values)
+
+pub record IsNotFree (was : View) (word : ℕ) (now : View) : Type 0 where
+  pub begun : View
+  pub begins : Begins was begun
+  pub view : now ≡ has_failed word begun
+  pub held : is_free (lock_of word) ≡ false
+
+pub record IsChanged (was : View) (word found : ℕ) (now : View) : Type 0 where
+  pub first : ℕ
+  pub second : ℕ
+  pub view : now ≡ has_failed found (noted second (noted first was))
+  pub word_is : word ≡ word_of_lock (Free second)
+  pub differ : word ≢ found
+
+-- `out` has the values after Got, and is unchanged after every other answer
+abbrev pub IsRead : (was : View) (out : List ℕ) → CellRead → (now : View) (filled : List ℕ) → Type 0
+IsRead was out (Got c) now filled = IsGot was c filled now
+IsRead was out (NotFree word) now filled = IsNotFree was word now × (filled ≡ out)
+IsRead was out (Changed word found) now filled = IsChanged was word found now × (filled ≡ out)
+
+-- ---- a write
+
+pub record IsWrote (was : View) (values : List ℕ) (c : ℕ) (now : View) : Type 0 where
+  pub before : ℕ
+  pub count : c ≡ before + 1
+  pub view : now ≡ has_written (record_of c values) (noted before was)
+  pub later : was.latest.count < c
+  pub seen : IsSeen was (record_of c values)
+  pub fits : c < 2 ^ 62
+
+pub record IsLost (was : View) (expected found : ℕ) (now : View) : Type 0 where
+  pub count : ℕ
+  pub view : now ≡ has_failed found (noted count was)
+  pub word_is : expected ≡ word_of_lock (Free count)
+  pub differ : expected ≢ found
+  pub fits : count + 1 < 2 ^ 62
+
+abbrev pub IsWritten : (was : View) (values : List ℕ) → CellWrite → (now : View) → Type 0
+IsWritten was values (wrote.Wrote c) now = IsWrote was values c now
+IsWritten was values (wrote.NotFree word) now = (now ≡ has_failed word was) × (is_free (lock_of word) ≡ false)
+IsWritten was values (wrote.Lost expected found) now = IsLost was expected found now
+IsWritten was values wrote.Full now = now ≡ noted (2 ^ 62 - 1) was
+
+-- the same seat later
+abbrev pub StaysAtTable : Seated → Seated → Type 0
+StaysAtTable s t = (t.table_id ≡ s.table_id) × (t.view.opening ≡ s.view.opening)
+
+abbrev pub AreSeatsOf : TableId → (opening : Record) → List Seated → Type 0
+AreSeatsOf table opening seats = (i : ℕ) (d : Seated) → i < length seats → IsTableOf table opening (slice_index_or seats i d)

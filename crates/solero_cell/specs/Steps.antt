@@ -1,0 +1,67 @@
+-- What each kind of step tells its seat, by the word that it found.
+use Rattle.std.specs.Prelude.{◌≡◌, ◌≢◌, ℕ, ◌+◌, ◌<◌, ◌≤◌, List, [], Bool, true, if◌then◌else◌, unwrap_or}
+use Rattle.machine_types.specs.LockWords.{is_lock_word, lock_of, word_of_lock}
+use Rattle.machine_types.specs.declared.lock.LockWord.{LockWord}
+use Rattle.machine_types.specs.declared.lock.LockWord.TheVariants.{Free}
+use Rattle.solero_cell.specs.declared.views.Record.{Record}
+use Rattle.solero_cell.specs.declared.views.Storing.{Storing}
+use Rattle.solero_cell.specs.declared.views.View.{View}
+use Rattle.solero_cell.specs.Histories.{History, IsSeen, OwnStand, Stands}
+use Rattle.solero_cell.specs.CellViews.{record_of, noted, has_failed, forgot, has_read, has_taken, has_written, has_released, has_compared}
+
+abbrev pub note_of : View → ℕ
+note_of v = unwrap_or v.note 0
+
+-- the free word of the count that was noted
+abbrev pub noted_word : View → ℕ
+noted_word v = word_of_lock (Free (note_of v))
+
+abbrev pub storing_of : View → Storing
+storing_of v = unwrap_or v.storing (record { stored = []; left = [] })
+
+abbrev pub joining_of : View → Record
+joining_of v = unwrap_or v.joining (record_of 0 [])
+
+-- ---- a note load: what is not free fails the try
+
+abbrev pub NotedBy : LockWord → (word : ℕ) → (was now : View) → Type 0
+NotedBy (Free c) word was now = (now ≡ noted c was) × (was.latest.count ≤ c)
+NotedBy lock word was now = now ≡ has_failed word was
+
+pub record TellsNote (was : View) (word : ℕ) (now : View) : Type 0 where
+  pub lock : is_lock_word word ≡ true
+  pub noted : NotedBy (lock_of word) word was now
+
+-- ---- a finish load: another word than the noted one ends the attempt, and fails the try where this attempt is its last
+
+abbrev pub ended : (is_last : Bool) → (word : ℕ) → View → View
+ended is_last word v = if is_last then has_failed word (forgot v) else forgot v
+
+pub record HasRead (was now : View) : Type 0 where
+  pub view : now ≡ has_read (record_of (note_of was) was.loaded) (forgot was)
+  pub seen : IsSeen was (record_of (note_of was) was.loaded)
+
+pub record TellsFinish (is_last : Bool) (was : View) (word : ℕ) (now : View) : Type 0 where
+  pub same : word ≡ noted_word was → HasRead was now
+  pub other : word ≢ noted_word was → now ≡ ended is_last word was
+
+-- ---- a take exchange: another word than the noted one fails the try
+
+pub record TellsTake (values : List ℕ) (was : View) (word : ℕ) (now : View) : Type 0 where
+  pub same : word ≡ noted_word was → now ≡ has_taken values was
+  pub other : word ≢ noted_word was → now ≡ has_failed word was
+
+-- ---- a release store
+
+pub record HasWritten (was now : View) : Type 0 where
+  pub view : now ≡ has_written (record_of (note_of was + 1) (storing_of was).stored) (has_released was)
+  pub seen : IsSeen was (record_of (note_of was + 1) (storing_of was).stored)
+  pub above : was.latest.count < note_of was + 1
+
+-- ---- the second load of a join: both latest records are of one history
+
+pub record HasCompared (was now : View) : Type 0 where
+  pub view : now ≡ has_compared (joining_of was) was
+  pub history : History
+  pub own : OwnStand was.opening history was
+  pub other : Stands was.opening history (joining_of was)
