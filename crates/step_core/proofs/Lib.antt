@@ -6,3 +6,4 @@ mod WordsKept
 mod FoundPlaces
 mod EventsMore
 mod TakenFrames
+mod LocalStretches

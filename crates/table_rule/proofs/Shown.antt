@@ -1,5 +1,5 @@
 -- The views of a table show a state of a run, and what an event makes of it.
-use Rattle.std.proofs.Common.{◌≡◌, ◌≢◌, ℕ, zero, suc, ◌⊎◌, inl, inr, ⊎_elim, List, [], ◌∷◌, ◌++◌, Some, None, refl, sym, ap, subst, ◌∙◌}
+use Rattle.std.proofs.Common.{◌≡◌, ◌≢◌, ℕ, zero, suc, ◌⊎◌, inl, inr, ⊎_elim, List, [], ◌∷◌, ◌++◌, Some, None, sym, ap, subst, ◌∙◌}
 use Rattle.std.specs.Prelude.{slice_get, slice_set}
 use Rattle.std.proofs.lemmas.List.{set-set}
 use mathlib.Core.Option.{some, some-injective}
@@ -15,7 +15,8 @@ use Rattle.machine_types.specs.Threads.{Thread}
 use Rattle.machine_types.specs.declared.config.Config.{Config}
 use Rattle.laws_states.specs.GrowingRuns.{behind}
 use Rattle.laws_states.proofs.GrowingRuns.{event_is, one_more}
-use Rattle.table_rule.specs.Views.{View, held_in, IsHeld, AreShown, ShowsRun, StandsIn, AfterLocals, Follows}
+use Rattle.local_events.specs.Locals.{AfterLocals}
+use Rattle.table_rule.specs.Views.{View, held_in, IsHeld, AreShown, ShowsRun, StandsIn}
 use Rattle.table_rule.specs.TableLaws.{EventsShow, LocalsShow}
 use Rattle.table_rule.proofs.Entries.{got_else, got_here, held_else, held_here, set_held, view_within}
 
@@ -165,18 +166,3 @@ events_show c cfg words views id t v x y run at is follows =
     set-set views id w (slice_set w t (Some (behind c words y)))
     ∙ ap (slice_set views id) (set-set v t (Some y) (Some (behind c words y))) in
     (subst (ShowsRun c cfg (words_after words (wanted c y y.phase))) flat (one_event c cfg words (slice_set views id w) id t w y local.0 here now), (local.0.happenings ++ Of t ∷ [], stands_behind c cfg words (slice_set views id w) id t w y local.0 here now))
-
--- ---- one thread by itself
-
--- one event more without an access
-local_more : (k : ℕ) (c : MarkedProgram) (x y : Thread) → AfterLocals c x k y → wanted c y y.phase ≡ None
-    → AfterLocals c x (suc k) (moved c y y.phase 0)
-local_more zero c x y e none = (ap (λ (z : Thread). wanted c z z.phase) (sym e) ∙ none, ap (λ (z : Thread). moved c z z.phase 0) e)
-local_more (suc k) c x y e none = (e.0, local_more k c (moved c x x.phase 0) y e.1 none)
-
-pub follows_on : (c : MarkedProgram) (x y : Thread) → Follows c x y → wanted c y y.phase ≡ None
-    → Follows c x (moved c y y.phase 0)
-follows_on c x y follows none = (suc follows.0, local_more follows.0 c x y follows.1 none)
-
-pub follows_itself : (c : MarkedProgram) (x : Thread) → Follows c x x
-follows_itself c x = (zero, refl)

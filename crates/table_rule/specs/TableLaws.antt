@@ -8,7 +8,8 @@ use Rattle.machine_types.specs.Events.{wanted}
 use Rattle.machine_types.specs.Threads.{Thread}
 use Rattle.machine_types.specs.declared.config.Config.{Config}
 use Rattle.laws_states.specs.GrowingRuns.{IsOfRun, behind}
-use Rattle.table_rule.specs.Views.{View, held_in, ShowsRun, StandsIn, Follows}
+use Rattle.local_events.specs.Locals.{Follows}
+use Rattle.table_rule.specs.Views.{View, held_in, ShowsRun, StandsIn}
 
 -- View number id has thread t as x, and events without an access lead from x to y. Then one event more leaves its words and its
 -- thread, and all else as before; and that thread is one of a run.

@@ -1,12 +1,12 @@
 -- What the words and the views of a table show: a state that a run reaches.
-use Rattle.std.specs.Prelude.{◌≡◌, ℕ, zero, suc, List, Option, Some, None, slice_get, slice_index_or, ◌≤◌, IsSome}
+use Rattle.std.specs.Prelude.{◌≡◌, ℕ, List, Option, Some, None, slice_get, slice_index_or, ◌≤◌, IsSome}
 use mathlib.Core.Option.{some}
 use lib.ListN.{get_elem?}
 use Rattle.checked_program.specs.MarkedProgram.{MarkedProgram}
 use Rattle.machine_types.specs.Core.{Happening, core}
-use Rattle.machine_types.specs.Events.{wanted, moved}
 use Rattle.machine_types.specs.Threads.{Thread}
 use Rattle.machine_types.specs.declared.config.Config.{Config}
+use Rattle.local_events.specs.Locals.{Follows}
 
 -- what a seat knows: by its number each thread that it holds, as of that thread's last access
 abbrev pub View : Type 0
@@ -36,15 +36,7 @@ pub record ShowsRun (c : MarkedProgram) (cfg : Config) (words : List ℕ) (views
   pub words_are : words ≡ (core c cfg happenings).words
   pub threads_are : AreShown (core c cfg happenings).threads views
 
--- ---- events without an access
-
--- the thread after so many events, none of which wants an access
-abbrev pub AfterLocals : MarkedProgram → Thread → (k : ℕ) → Thread → Type 0
-AfterLocals c x zero y = y ≡ x
-AfterLocals c x (suc k) y = (wanted c x x.phase ≡ None) × AfterLocals c (moved c x x.phase 0) k y
-
-abbrev pub Follows : MarkedProgram → Thread → Thread → Type 0
-Follows c x y = (k : ℕ) × AfterLocals c x k y
+-- ---- a thread of a state
 
 -- some run reaches a state that has these words and this thread
 pub record StandsIn (c : MarkedProgram) (cfg : Config) (words : List ℕ) (t : ℕ) (y : Thread) : Type 0 where

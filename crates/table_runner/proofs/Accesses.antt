@@ -71,7 +71,7 @@ module _ {S : Type 0} (safe : RunsAreSafe) where
         → (w : View) × ShowsRun e.program e.cfg (slice_set s.words i (f (slice_index s.words i))) (slice_set s.views id w) × IsMade e me.0 (got (slice_index s.words i)) w
     step s run at =
         let y : Thread = e.state in
-        let local = locals_show e.program e.cfg s.words s.views id e.number me.0 can.stands.was y run at can.stands.held can.stands.follows in
+        let local = locals_show e.program e.cfg s.words s.views id e.number me.0 can.stands.was y run at can.stands.held can.stands.behind.0 in
         let there : StandsIn e.program e.cfg s.words e.number y = local.1 in
         let access = (safe e.program e.cfg there.happenings e.number y can.run.marked can.run.width can.run.settings there.at).access in
         let sum : left_by a (slice_index s.words (accessed a)) < 2 ^ 64 =
@@ -81,7 +81,7 @@ module _ {S : Type 0} (safe : RunsAreSafe) where
         let behind_is : behind e.program s.words y ≡ made e (got (slice_index s.words i)) = ap (made e) finds in
         let after : words_after s.words (wanted e.program y y.phase) ≡ slice_set s.words i (f (slice_index s.words i)) = ap (words_after s.words) can.wants
         ∙ acts.leaves s.words sum in
-        let event = events_show e.program e.cfg s.words s.views id e.number me.0 can.stands.was y run at can.stands.held can.stands.follows in (
+        let event = events_show e.program e.cfg s.words s.views id e.number me.0 can.stands.was y run at can.stands.held can.stands.behind.0 in (
           slice_set me.0 e.number (Some (made e (got (slice_index s.words i)))),
           subst (λ z. ShowsRun e.program e.cfg (slice_set s.words i (f (slice_index s.words i))) (slice_set s.views id (slice_set me.0 e.number (Some z)))) behind_is
               (subst (λ ws. ShowsRun e.program e.cfg ws (slice_set s.views id (slice_set me.0 e.number (Some (behind e.program s.words y))))) after event.0),
@@ -102,9 +102,9 @@ module _ {S : Type 0} (safe : RunsAreSafe) where
     inside : accessed a < words
     inside =
         let y : Thread = e.state in
-        let access = (safe e.program e.cfg can.stands.of_run.0 e.number y can.run.marked can.run.width can.run.settings can.stands.of_run.1).access in
-        let lt : accessed a < length (core e.program e.cfg can.stands.of_run.0).words = subst (λ o. IfSome o (λ b. accessed b < length (core e.program e.cfg can.stands.of_run.0).words)) can.wants access.inside in
-        omega (arith, lt, (runs_keep_sizes e.program e.cfg can.stands.of_run.0).words, can.run.long)
+        let access = (safe e.program e.cfg can.stands.behind.1.0 e.number y can.run.marked can.run.width can.run.settings can.stands.behind.1.1).access in
+        let lt : accessed a < length (core e.program e.cfg can.stands.behind.1.0).words = subst (λ o. IfSome o (λ b. accessed b < length (core e.program e.cfg can.stands.behind.1.0).words)) can.wants access.inside in
+        omega (arith, lt, (runs_keep_sizes e.program e.cfg can.stands.behind.1.0).words, can.run.long)
 
   pub allows : (o : Option NextEvent)
       (c : MarkedProgram) (cfg : Config) (a : Access) (i : ℕ) (f got : ℕ → ℕ) (slots words id : ℕ) (me : Me S View)

@@ -19,9 +19,10 @@ use Rattle.laws_states.specs.RunSafety.{RunsAreSafe}
 use Rattle.laws_states.specs.GrowingRuns.{IsOfRun}
 use Rattle.laws_states.specs.StateLaws.{ProgramsKeepThreads, RunsHaveState}
 use Rattle.laws_states.proofs.GrowingRuns.{threads_stay}
-use Rattle.table_rule.specs.Views.{View, held_in, Follows}
+use Rattle.local_events.specs.Locals.{Follows}
+use Rattle.table_rule.specs.Views.{View, held_in}
 use Rattle.table_rule.proofs.Entries.{held_here, held_else, set_held}
-use Rattle.table_rule.proofs.Shown.{follows_on, follows_itself}
+use Rattle.local_events.proofs.LocalLaws.{follows_on, follows_itself}
 use Rattle.table_runner.specs.Accessing.{NextEvent, made, Happens, IsMade, CanRun, Stands}
 use Rattle.table_runner.specs.Going.{Goes, GoesAt, StandsAt}
 use Rattle.table_runner.specs.Handed.{Handed, AreHands, EachStands, event_at, viewed, IsEventOf, HasRoom, RoomIsThere}
@@ -82,7 +83,7 @@ pub stands_of : (c : MarkedProgram) (cfg : Config) (t : ℕ) (v : View) (o : Opt
     → held_in v t ≡ o → EachStands c cfg t o (Some y)
     → Stands (record { program = c; cfg = cfg; number = t; state = y }) v
 stands_of c cfg t v None y e k = absurd k
-stands_of c cfg t v (Some x) y e k = record { was = x; held = e; follows = k.0; of_run = k.1 }
+stands_of c cfg t v (Some x) y e k = record { was = x; held = e; behind = k }
 
 pub stands_at : (h : Handed) (t : ℕ) (o : Option Thread) → AreHands h → held_in h.threads t ≡ o
     → StandsAt h.program h.cfg t o h.view
@@ -95,7 +96,7 @@ pub stands_after : (e : NextEvent) (v : View) (o : Option Access) (got : ℕ)
     → EachStands e.program e.cfg e.number (held_in (viewed o v e.number (made e got)) e.number) (Some (made e got))
 stands_after e v None got none stands h =
     let zero_got : got ≡ 0 = h.finds ∙ ap (found_by (core e.program e.cfg h.happenings).words) none in
-    let onward : Follows e.program stands.was (made e got) = subst (λ n. Follows e.program stands.was (made e n)) (sym zero_got) (follows_on e.program stands.was e.state stands.follows none) in
+    let onward : Follows e.program stands.was (made e got) = subst (λ n. Follows e.program stands.was (made e n)) (sym zero_got) (follows_on e.program stands.was e.state stands.behind.0 none) in
     subst (λ p. EachStands e.program e.cfg e.number p (Some (made e got))) (sym stands.held) (onward, stays_of_run e got h)
 stands_after e v (Some a) got some stands h =
     subst (λ p. EachStands e.program e.cfg e.number p (Some (made e got))) (sym (held_here v e.number stands.was (made e got) stands.held)) (follows_itself e.program (made e got), stays_of_run e got h)

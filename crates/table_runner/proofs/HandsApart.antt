@@ -1,5 +1,6 @@
 -- Hands that are split and joined.
 use Rattle.std.proofs.Common.{◌≡◌, ◌≢◌, ℕ, ◌<◌, Option, Some, None, refl, sym, ap, subst, ◌∙◌}
+use Rattle.std.specs.Option.{option_or}
 use Rattle.std.specs.Prelude.{IsSome}
 use mathlib.Core.Logic.{dite}
 use native.Mathlib.Decide.{ℕ_discrete}
@@ -11,7 +12,7 @@ use Rattle.machine_types.specs.declared.config.Config.{Config}
 use Rattle.table_rule.specs.Views.{View, held_in}
 use Rattle.table_rule.proofs.Entries.{held_else}
 use Rattle.table_runner.specs.Handed.{Handed, AreHands, EachStands, HasRoom, RoomIsThere}
-use Rattle.table_runner.specs.Sharing.{alone, first_of, merged, thread_alone, without, without_thread}
+use Rattle.table_runner.specs.Sharing.{alone, merged, thread_alone, without, without_thread}
 use Rattle.table_runner.proofs.SharedViews.{alone_else, alone_here, merged_at, without_here}
 
 same_each : (c : MarkedProgram) (cfg : Config) (t : ℕ) (o p q r : Option Thread) → o ≡ q → p ≡ r
@@ -55,31 +56,31 @@ room_alone v t was now lt f g k = dite (ℕ_discrete t 0)
 -- ---- joined
 
 each_first : (c : MarkedProgram) (cfg : Config) (t : ℕ) (o p q r : Option Thread) → EachStands c cfg t o p
-    → EachStands c cfg t q r → EachStands c cfg t (first_of o q) (first_of p r)
+    → EachStands c cfg t q r → EachStands c cfg t (option_or o q) (option_or p r)
 each_first c cfg t None None q r k m = m
 each_first c cfg t None (Some y) q r k m = absurd k
 each_first c cfg t (Some x) None q r k m = absurd k
 each_first c cfg t (Some x) (Some y) q r k m = k
 
 pub are_joined : (h k : Handed) (threads : View) → AreHands h → AreHands k → k.program ≡ h.program
-    → k.cfg ≡ h.cfg → ((t : ℕ) → held_in threads t ≡ first_of (held_in h.threads t) (held_in k.threads t))
+    → k.cfg ≡ h.cfg → ((t : ℕ) → held_in threads t ≡ option_or (held_in h.threads t) (held_in k.threads t))
     → AreHands (record h { threads = threads; view = merged h.view k.view })
 are_joined h k threads m n e f at = record {
   run = m.run;
   vacant = m.vacant;
-  each = λ t. same_each h.program h.cfg t (held_in (merged h.view k.view) t) (held_in threads t) (first_of (held_in h.view t) (held_in k.view t)) (first_of (held_in h.threads t) (held_in k.threads t)) (merged_at h.view k.view t) (at t)
+  each = λ t. same_each h.program h.cfg t (held_in (merged h.view k.view) t) (held_in threads t) (option_or (held_in h.view t) (held_in k.view t)) (option_or (held_in h.threads t) (held_in k.threads t)) (merged_at h.view k.view t) (at t)
       (each_first h.program h.cfg t (held_in h.view t) (held_in h.threads t) (held_in k.view t) (held_in k.threads t) (m.each t)
       (subst (λ (d : Config). EachStands h.program d t (held_in k.view t) (held_in k.threads t)) f (subst (λ (c : MarkedProgram). EachStands c k.cfg t (held_in k.view t) (held_in k.threads t)) e (n.each t))));
 }
 
 room_first : (o p : Option Thread) (a b new : Option (Stock ThreadReport)) → RoomIsThere o a → RoomIsThere p b
-    → (IsSome a → new ≡ a) → (a ≡ None → new ≡ b) → RoomIsThere (first_of o p) new
+    → (IsSome a → new ≡ a) → (a ≡ None → new ≡ b) → RoomIsThere (option_or o p) new
 room_first (Some x) p None b new k m f g = absurd k
 room_first (Some x) p (Some r) b new k m f g = subst (RoomIsThere (Some x)) (sym (f refl)) k
 room_first None None a b new k m f g = g k ∙ m
 room_first None (Some y) a b new k m f g = subst (RoomIsThere (Some y)) (sym (g k)) m
 
 pub room_joined : (v w threads : View) (a b new : Option (Stock ThreadReport)) → HasRoom v a → HasRoom w b
-    → ((t : ℕ) → held_in threads t ≡ first_of (held_in v t) (held_in w t)) → (IsSome a → new ≡ a)
+    → ((t : ℕ) → held_in threads t ≡ option_or (held_in v t) (held_in w t)) → (IsSome a → new ≡ a)
     → (a ≡ None → new ≡ b) → HasRoom threads new
-room_joined v w threads a b new k m at f g = room_of (held_in threads 0) (first_of (held_in v 0) (held_in w 0)) new new (at 0) refl (room_first (held_in v 0) (held_in w 0) a b new k m f g)
+room_joined v w threads a b new k m at f g = room_of (held_in threads 0) (option_or (held_in v 0) (held_in w 0)) new new (at 0) refl (room_first (held_in v 0) (held_in w 0) a b new k m f g)

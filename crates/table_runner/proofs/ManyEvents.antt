@@ -1,20 +1,29 @@
 -- Events of one thread, one after the other, and hands behind them.
-use Rattle.std.proofs.Common.{◌≡◌, ◌≢◌, ℕ, Option, Some, None, is_some, option_map, refl, sym, ap, subst, ◌∙◌}
+use Rattle.std.proofs.Common.{◌≡◌, ◌≢◌, ◌<◌, ◌≤◌, ℕ, zero, suc, Bool, true, false, Option, Some, None, is_some, option_map, refl, sym, ap, subst, ◌∙◌, arith}
 use Rattle.std.specs.Prelude.{slice_set}
 use mathlib.Core.Logic.{dite}
 use native.Mathlib.Decide.{ℕ_discrete}
 use Rattle.jvm_types.specs.declared.outcome.ThreadReport.{ThreadReport}
+use Rattle.checked_program.specs.MarkedProgram.{MarkedProgram}
 use Rattle.lists.specs.Stock.{Stock}
+use Rattle.laws_states.specs.GrowingRuns.{IsOfRun}
+use Rattle.laws_states.specs.RunSafety.{RunsAreSafe}
+use Rattle.laws_states.specs.WorkLeft.{EventsLessenWork, work_left}
 use Rattle.laws_threads.specs.GivenThread.{GivenIsKept, given_of}
-use Rattle.machine_types.specs.Events.{wanted}
+use Rattle.local_events.specs.Locals.{AfterLocals}
+use Rattle.machine_types.specs.Core.{is_live}
+use Rattle.machine_types.specs.Events.{moved, wanted}
 use Rattle.machine_types.specs.Threads.{Thread}
+use Rattle.machine_types.specs.declared.config.Config.{Config}
+use Rattle.machine_types.specs.declared.phase.Phase.{Phase}
+use Rattle.machine_types.specs.declared.phase.Phase.TheVariants as phases
 use Rattle.table_rule.specs.Views.{View, held_in}
 use Rattle.table_rule.proofs.Entries.{held_here, held_else, set_held}
-use Rattle.table_runner.specs.Accessing.{NextEvent, made, Stands}
+use Rattle.table_runner.specs.Accessing.{CanRun, NextEvent, made, Stands}
 use Rattle.table_runner.specs.Going.{Goes, GoesOn, GoesOnAt}
 use Rattle.table_runner.specs.Handed.{Handed, AreHands, EachStands, HasRoom, viewed}
 use Rattle.table_runner.specs.Running.{IsRunOn}
-use Rattle.table_runner.proofs.HandedThreads.{room_as, stands_after, stands_of, viewed_else}
+use Rattle.table_runner.proofs.HandedThreads.{goes_alone, is_lawful, room_as, stands_after, stands_of, viewed_else}
 
 -- ---- one thread
 
@@ -34,11 +43,63 @@ one_more given e v w z x y on g =
           ∙ viewed_else (wanted e.program x x.phase) w e.number u (made f g.got) n ∙ on.others u n;
     }
 
+pub one_event : GivenIsKept → (e : NextEvent) (v z : View) (y : Thread) → Stands e v → Goes e v y z → GoesOn e v y z
+one_event given e v z y stands g = one_more given e v v z e.state y (none_yet e v stands) g
+
+-- those of which none wants an access
+pub local_more : GivenIsKept → (k : ℕ) (e : NextEvent) (v w : View) (x y : Thread) → GoesOn e v x w
+    → AfterLocals e.program x k y → GoesOn e v y w
+local_more given zero e v w x y on is = subst (λ (s : Thread). GoesOn e v s w) (sym is) on
+local_more given (suc k) e v w x y on is =
+    let f : NextEvent = record e { state = x } in
+    local_more given k e v w (made f 0) y
+    (one_more given e v w w x (made f 0) on (goes_alone f w (made f 0) on.stands.behind.1 is.0 refl)) is.1
+
+-- and then others
+pub then_more : (e : NextEvent) (v w z : View) (x y : Thread) → GoesOn e v x w
+    → GoesOn (record e { state = x }) w y z → GoesOn e v y z
+then_more e v w z x y on more = record {
+  stands = more.stands;
+  given = more.given ∙ on.given;
+  others = λ u n. more.others u n ∙ on.others u n;
+}
+
+-- ---- what they leave to do
+
+still : (c : MarkedProgram) (x : Thread) (phase : Phase) → is_live phase ≡ false → moved c x phase 0 ≡ x
+still c x phases.Idle dead = refl
+still c x (phases.Ended how) dead = refl
+still c x phase dead = cc
+
+one_less : EventsLessenWork → RunsAreSafe → (c : MarkedProgram) (cfg : Config) (words t : ℕ) (x : Thread)
+    → CanRun c cfg words → IsOfRun c cfg t x → work_left (moved c x x.phase 0) ≤ work_left x
+one_less lessen safe c cfg words t x run of_run = by_live (is_live x.phase) refl
+  where
+    by_live : (live : Bool) → is_live x.phase ≡ live → work_left (moved c x x.phase 0) ≤ work_left x
+    by_live true is =
+        let less : work_left (moved c x x.phase 0) < work_left x = lessen c x 0 run.marked (is_lawful safe c cfg words t x run of_run) is in
+        omega arith
+    by_live false is =
+        subst (λ (s : Thread). work_left s ≤ work_left x) (sym (still c x x.phase is)) (omega arith)
+
+-- no more than there was
+pub no_more_left : EventsLessenWork → RunsAreSafe → GivenIsKept
+    → (k : ℕ) (e : NextEvent) (words : ℕ) (v w : View) (x y : Thread) → CanRun e.program e.cfg words
+    → GoesOn e v x w → AfterLocals e.program x k y → work_left y ≤ work_left x
+no_more_left lessen safe given zero e words v w x y run on is =
+    subst (λ (s : Thread). work_left s ≤ work_left x) (sym is) (omega arith)
+no_more_left lessen safe given (suc k) e words v w x y run on is =
+    let f : NextEvent = record e { state = x } in
+    let first : work_left (made f 0) ≤ work_left x = one_less lessen safe e.program e.cfg words e.number x run on.stands.behind.1 in
+    let rest : work_left y ≤ work_left (made f 0) = no_more_left lessen safe given k e words v w (made f 0) y run
+    (one_more given e v w w x (made f 0) on (goes_alone f w (made f 0) on.stands.behind.1 is.0 refl)) is.1 in
+    omega arith
+
 -- ---- hands
 
 stands_now : (e : NextEvent) (w : View) → Stands e w
     → EachStands e.program e.cfg e.number (held_in w e.number) (Some e.state)
-stands_now e w k = subst (λ o. EachStands e.program e.cfg e.number o (Some e.state)) (sym k.held) (k.follows, k.of_run)
+stands_now e w k = subst (λ o. EachStands e.program e.cfg e.number o (Some e.state)) (sym k.held) k.behind
 
 module _ (h : Handed) (t : ℕ) (k : AreHands h) where
   -- where thread t is there

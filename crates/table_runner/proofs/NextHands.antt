@@ -12,7 +12,7 @@ use Rattle.machine_types.specs.declared.config.Config.{Config}
 use Rattle.run_parts.specs.Parts.{AreNumbered, SharesAreNext, own_begun}
 use Rattle.laws_states.specs.StateLaws.{ProgramsKeepThreads, RunsHaveState}
 use Rattle.table_rule.specs.Views.{View, held_in, Holds, HoldsAll}
-use Rattle.table_rule.proofs.Shown.{follows_itself}
+use Rattle.local_events.proofs.LocalLaws.{follows_itself}
 use Rattle.table_runner.specs.Handed.{Handed, AreHands, EachStands, HasRoom}
 use Rattle.table_runner.specs.Parts.{Begun, BegunBy}
 use Rattle.table_runner.specs.Running.{AreSame}
@@ -87,16 +87,18 @@ none_next h b k all may none =
       held = held;
       may = may ts held;
       begun = subst (Holds h.threads) (sym (next_still h.program.program ts (sym (may ts held) ∙ none))) held;
+      known = λ told. absurd (let no : false ≡ true = sym none ∙ told in cc);
       rest = refl;
     }
 
 pub is_next : (h : Handed) (w view : View) (z : TableId) (b : Bool) → AreHands h
     → HoldsAll h.program h.threads → ((ts : List Thread) → Holds h.threads ts → b ≡ may_begin ts)
-    → ((ts : List Thread) → Holds h.threads ts → Holds w (next_threads h.program.program ts)) → z ≡ h.table_id → IsNext h (record h { table_id = z; threads = w; view = view }) b
-is_next h w view z b k all may next same =
+    → ((ts : List Thread) → Holds h.threads ts → Holds w (next_threads h.program.program ts)) → z ≡ h.table_id → view ≡ w
+    → IsNext h (record h { table_id = z; threads = w; view = view }) b
+is_next h w view z b k all may next same known =
     let ts : List Thread = threads_of h.threads in
     let held : Holds h.threads ts = holds_its h k all in
-    record { threads = ts; held = held; may = may ts held; begun = next ts held; rest = λ i. record h { table_id = same i; threads = w; view = view } }
+    record { threads = ts; held = held; may = may ts held; begun = next ts held; known = λ told. known; rest = λ i. record h { table_id = same i; threads = w; view = view } }
 
 begun_at : (v w : View) (n : ℕ) → BegunBy n v w → (u : ℕ) → is_some (held_in w u) ≡ is_some (held_in v u)
 begun_at v w zero b u = ap is_some (b u) ∙ sym (mapped_some (held_in v u))

@@ -1,5 +1,6 @@
 -- Views that are cut and merged keep the rule of the table.
 use Rattle.std.proofs.Common.{◌≡◌, ◌≢◌, ℕ, zero, suc, ◌<◌, ◌⊎◌, inl, inr, [], ◌∷◌, ◌++◌, replicate, Option, Some, None, refl, sym, ap, subst, ◌∙◌}
+use Rattle.std.specs.Option.{option_or}
 use Rattle.std.specs.Prelude.{slice_get, slice_set}
 use Rattle.std.proofs.lemmas.List.{set-get_or}
 use Rattle.atomic_table.specs.Table.{State, Me, Allows, Splits, Joins, keeps}
@@ -14,7 +15,7 @@ use Rattle.table_rule.proofs.CutViews.{cut_shows}
 use Rattle.table_rule.proofs.Entries.{held_else, held_set, none_held}
 use Rattle.table_rule.proofs.JoinedViews.{joined_shows}
 use Rattle.table_rule.proofs.WholeViews.{part_shows, whole_holds, whole_run}
-use Rattle.table_runner.specs.Sharing.{Beginning, CanBegin, HasBegun, TellsBegin, alone, first_of, merged, without}
+use Rattle.table_runner.specs.Sharing.{Beginning, CanBegin, HasBegun, TellsBegin, alone, merged, without}
 
 -- ---- entries
 
@@ -29,26 +30,26 @@ alone_here v t lt = held_set (replicate 9 None) t (held_in v t) lt
 pub alone_else : (v : View) (t u : ℕ) → u ≢ t → held_in (alone t v) u ≡ None
 alone_else v t u n = held_else (replicate 9 None) t u (held_in v t) n ∙ none_held 9 u
 
-first_alone : (o : Option Thread) → o ≡ first_of o None
+first_alone : (o : Option Thread) → o ≡ option_or o None
 first_alone None = refl
 first_alone (Some x) = refl
 
-pub merged_at : (v w : View) (t : ℕ) → held_in (merged v w) t ≡ first_of (held_in v t) (held_in w t)
+pub merged_at : (v w : View) (t : ℕ) → held_in (merged v w) t ≡ option_or (held_in v t) (held_in w t)
 merged_at [] w t = refl
 merged_at (o ∷ v) [] zero = first_alone o
 merged_at (o ∷ v) [] (suc t) = first_alone (held_in v t)
 merged_at (o ∷ v) (p ∷ w) zero = refl
 merged_at (o ∷ v) (p ∷ w) (suc t) = merged_at v w t
 
-first_from : (o p : Option Thread) (z : Thread) → first_of o p ≡ Some z → (o ≡ Some z) ⊎ (p ≡ Some z)
+first_from : (o p : Option Thread) (z : Thread) → option_or o p ≡ Some z → (o ≡ Some z) ⊎ (p ≡ Some z)
 first_from None p z e = inr e
 first_from (Some x) p z e = inl e
 
-first_left : (o p : Option Thread) (z : Thread) → o ≡ Some z → first_of o p ≡ Some z
+first_left : (o p : Option Thread) (z : Thread) → o ≡ Some z → option_or o p ≡ Some z
 first_left None p z e = let bad : None ≡ Some z = e in absurd (cc)
 first_left (Some x) p z e = e
 
-first_right : (o p : Option Thread) (z : Thread) → o ≡ None → p ≡ Some z → first_of o p ≡ Some z
+first_right : (o p : Option Thread) (z : Thread) → o ≡ None → p ≡ Some z → option_or o p ≡ Some z
 first_right None p z e k = k
 first_right (Some x) p z e k = let bad : Some x ≡ None = e in absurd (cc)
 

@@ -1,5 +1,6 @@
 -- The hands of the workers, that are split off and joined again.
 use Rattle.std.proofs.Common.{◌≡◌, ◌≢◌, ℕ, zero, suc, ◌+◌, ◌<◌, ◌≤◌, Bool, true, false, List, [], ◌∷◌, ◌++◌, length, Option, Some, None, refl, sym, subst, ◌∙◌, arith}
+use Rattle.std.specs.Option.{option_or}
 use Rattle.std.specs.Prelude.{IsSome, nat_le, slice_index_or}
 use Rattle.std.proofs.lemmas.Bool.Decides.{nat_tests}
 use Rattle.atomic_table.specs.Seated.{TableId}
@@ -10,7 +11,7 @@ use Rattle.table_rule.specs.Views.{held_in}
 use Rattle.table_rule.proofs.Entries.{held_else}
 use Rattle.table_runner.specs.Handed.{Handed, IsTableOf}
 use Rattle.table_runner.specs.Running.{AreWorkers, IsWorker, RestOf, RunsHere}
-use Rattle.table_runner.specs.Sharing.{AreJoined, first_of, thread_alone, without_thread}
+use Rattle.table_runner.specs.Sharing.{AreJoined, thread_alone, without_thread}
 use Rattle.table_runner.proofs.SharedViews.{alone_here}
 
 module _ (table : TableId) (c : MarkedProgram) (cfg : Config) where
@@ -80,11 +81,11 @@ module _ (table : TableId) (c : MarkedProgram) (cfg : Config) where
       → IsWorker table c cfg (length ws + 1) w
   last_worker all ws w e are = snoc_last ws w (λ i h. IsWorker table c cfg (i + 1) h) (subst (AreWorkers table c cfg) e are)
 
-  some_first : (o p : Option Thread) → IsSome o → first_of o p ≡ o
+  some_first : (o p : Option Thread) → IsSome o → option_or o p ≡ o
   some_first None p e = absurd (let bad : false ≡ true = e in cc)
   some_first (Some x) p e = refl
 
-  some_second : (o p : Option Thread) → IsSome p → IsSome (first_of o p)
+  some_second : (o p : Option Thread) → IsSome p → IsSome (option_or o p)
   some_second None p e = e
   some_second (Some x) p e = refl
 
@@ -101,7 +102,7 @@ module _ (table : TableId) (c : MarkedProgram) (cfg : Config) where
   }
     where
       by_place : (u : ℕ) → n + 1 ≤ u → u ≤ c.program.workers → (b : Bool) → nat_le (n + 2) u ≡ b
-          → IsSome (first_of (held_in h.threads u) (held_in w.threads u))
+          → IsSome (option_or (held_in h.threads u) (held_in w.threads u))
       by_place u le few true t =
           let there : IsSome (held_in h.threads u) = r.rest u (grind (arith, nat_tests, t, e)) few in
           subst IsSome (sym (some_first (held_in h.threads u) (held_in w.threads u) there)) there

@@ -10,7 +10,8 @@ use Rattle.machine_types.specs.declared.access.Access.{Access}
 use Rattle.machine_types.specs.declared.config.Config.{Config}
 use Rattle.laws_states.specs.GrowingRuns.{IsOfRun}
 use Rattle.laws_states.specs.RunFacts.{HaveWidth}
-use Rattle.table_rule.specs.Views.{View, held_in, Follows}
+use Rattle.local_events.specs.Locals.{Follows}
+use Rattle.table_rule.specs.Views.{View, held_in}
 
 -- the next event of a thread: of which run, and of which thread in what state
 pub record NextEvent : Type 0 where
@@ -45,12 +46,15 @@ pub record CanRun (c : MarkedProgram) (cfg : Config) (words : ℕ) : Type 0 wher
   pub width : HaveWidth cfg
   pub long : words ≡ length (start c cfg).words
 
--- the thread is one of the run, at most some events without an access behind what the view has of it
+-- thread t is one of the run, at most some events without an access behind another state of it
+abbrev pub IsBehind : MarkedProgram → Config → (t : ℕ) → (was now : Thread) → Type 0
+IsBehind c cfg t was now = Follows c was now × IsOfRun c cfg t now
+
+-- behind what the view has of it
 pub record Stands (e : NextEvent) (v : View) : Type 0 where
   pub was : Thread
   pub held : held_in v e.number ≡ Some was
-  pub follows : Follows e.program was e.state
-  pub of_run : IsOfRun e.program e.cfg e.number e.state
+  pub behind : IsBehind e.program e.cfg e.number was e.state
 
 pub record CanMake (e : NextEvent) (v : View) (a : Access) (words : ℕ) : Type 0 where
   pub run : CanRun e.program e.cfg words

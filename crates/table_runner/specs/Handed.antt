@@ -8,9 +8,8 @@ use Rattle.machine_types.specs.Events.{wanted}
 use Rattle.machine_types.specs.Threads.{Thread}
 use Rattle.machine_types.specs.declared.access.Access.{Access}
 use Rattle.machine_types.specs.declared.config.Config.{Config}
-use Rattle.laws_states.specs.GrowingRuns.{IsOfRun}
-use Rattle.table_rule.specs.Views.{View, held_in, Follows}
-use Rattle.table_runner.specs.Accessing.{NextEvent, made, Happens, CanRun}
+use Rattle.table_rule.specs.Views.{View, held_in}
+use Rattle.table_runner.specs.Accessing.{NextEvent, made, Happens, CanRun, IsBehind}
 
 pub record Handed : Type 0 where
   pub program : MarkedProgram
@@ -29,7 +28,7 @@ IsTableOf table c cfg h = (table ≡ h.table_id) × (c ≡ h.program) × (cfg �
 
 abbrev pub EachStands : MarkedProgram → Config → (t : ℕ) → (was now : Option Thread) → Type 0
 EachStands c cfg t None None = Unit {0}
-EachStands c cfg t (Some x) (Some y) = Follows c x y × IsOfRun c cfg t y
+EachStands c cfg t (Some x) (Some y) = IsBehind c cfg t x y
 EachStands c cfg t was now = ⊥
 
 pub record AreHands (h : Handed) : Type 0 where

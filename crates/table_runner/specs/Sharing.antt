@@ -1,5 +1,6 @@
 -- Hands that are split and joined, and the begin of a part.
-use Rattle.std.specs.Prelude.{◌≡◌, ℕ, List, [], ◌∷◌, Bool, Option, Some, None, replicate, slice_set}
+use Rattle.std.specs.Prelude.{◌≡◌, ℕ, List, [], ◌∷◌, Bool, true, Option, Some, None, replicate, slice_set}
+use Rattle.std.specs.Option.{option_or}
 use Rattle.checked_program.specs.MarkedProgram.{MarkedProgram}
 use Rattle.machine_types.specs.Core.{Happening, core, may_begin, next_threads}
 use Rattle.machine_types.specs.Threads.{Thread}
@@ -24,19 +25,15 @@ thread_alone h t = record h { threads = alone t h.threads; view = alone t h.view
 
 -- ---- joined
 
-abbrev pub first_of : Option Thread → Option Thread → Option Thread
-first_of None p = p
-first_of (Some x) p = Some x
-
 -- the threads of both
 abbrev pub merged : View → View → View
 merged [] w = w
 merged (o ∷ v) [] = o ∷ v
-merged (o ∷ v) (p ∷ w) = first_of o p ∷ merged v w
+merged (o ∷ v) (p ∷ w) = option_or o p ∷ merged v w
 
 -- the first hands, when they hold what the others held
 pub record AreJoined (h others after : Handed) : Type 0 where
-  pub threads : (t : ℕ) → held_in after.threads t ≡ first_of (held_in h.threads t) (held_in others.threads t)
+  pub threads : (t : ℕ) → held_in after.threads t ≡ option_or (held_in h.threads t) (held_in others.threads t)
   pub rest : after ≡ record h { threads = after.threads; view = merged h.view others.view }
 
 -- ---- the begin of a part
@@ -48,6 +45,8 @@ pub record IsNext (h after : Handed) (begins : Bool) : Type 0 where
   pub held : Holds h.threads threads
   pub may : begins ≡ may_begin threads
   pub begun : Holds after.threads (next_threads h.program.program threads)
+  -- and then the seat knows its threads as they are
+  pub known : begins ≡ true → after.view ≡ after.threads
   pub rest : after ≡ record h { threads = after.threads; view = after.view }
 
 -- the threads of a seat that has all of the run, and what the begin of a part makes of them

@@ -1,7 +1,8 @@
 //! The events of one thread, with their accesses on the table.
 
-ghost use Rattle.std.specs.Prelude.{◌≡◌, true, false};
+ghost use Rattle.std.specs.Prelude.{◌≡◌, ◌<◌, true, false};
 ghost use Rattle.machine_types.specs.Core.{is_live, is_live_thread};
+ghost use Rattle.laws_states.specs.WorkLeft.{work_left};
 ghost use Rattle.table_runner.specs.Accessing.{CanRun, Stands};
 ghost use Rattle.table_runner.specs.Going.{Goes, GoesAt, GoesOn, GoesOnAt, StandsAt};
 
@@ -14,7 +15,7 @@ use laws_states::{events_lessen_work, parts_keep_threads, runs_are_safe, runs_ha
 use laws_threads::given_is_kept;
 use std::hint::spin_loop;
 use std::thread::yield_now;
-use step_core::{apply_effect, step_or_want};
+use step_core::{apply_effect, run_local, step_or_want};
 
 /// The next event of thread `t`, which is live, with this state.
 #[inline(always)]
@@ -82,6 +83,29 @@ fn give_way(before: u32, turns: u32) {
     }
 }
 
+/// The next event of thread `t`, which is live, and those behind it that want no access: they leave less for it to do.
+#[inline(always)]
+fn go_far(s: &mut ThreadState, seat: &mut Seat<(), View>, table: &CoreTable, p: &Checked, t: u8)
+    requires live { is_live s.old.phase ≡ true }
+    requires table { seat.old.table_id ≡ table.now.shared.table_id }
+    requires program { table.now.shared.key.program.told ≡ p.now }
+    requires run { CanRun p.now table.now.shared.key.cfg table.now.shared.table_id.words }
+    requires stands { Stands (record { program = p.now; cfg = table.now.shared.key.cfg; number = t; state = s.old }) seat.old.me.0 }
+    ensures seat { (seat.new.table_id ≡ seat.old.table_id) × (seat.new.id ≡ seat.old.id) × (seat.new.me.1 ≡ seat.old.me.1) }
+    ensures goes { GoesOn (record { program = p.now; cfg = table.now.shared.key.cfg; number = t; state = s.old }) seat.old.me.0 s.new seat.new.me.0 }
+    ensures less { work_left s.new < work_left s.old }
+{
+    given_is_kept();
+    runs_are_safe();
+    parts_keep_threads();
+    runs_have_state();
+    events_lessen_work();
+    let before = s.turns();
+    go(s, seat, table, p, t);
+    give_way(before, s.turns());
+    run_local(s, p);
+}
+
 /// The events of thread `t` until it is not live. Each of them leaves less for it to do.
 fn go_on(s: &mut ThreadState, seat: &mut Seat<(), View>, table: &CoreTable, p: &Checked, t: u8)
     requires table { seat.old.table_id ≡ table.now.shared.table_id }
@@ -92,13 +116,8 @@ fn go_on(s: &mut ThreadState, seat: &mut Seat<(), View>, table: &CoreTable, p: &
     ensures seat { (seat.new.table_id ≡ seat.old.table_id) × (seat.new.id ≡ seat.old.id) × (seat.new.me.1 ≡ seat.old.me.1) }
     ensures goes { GoesOn (record { program = p.now; cfg = table.now.shared.key.cfg; number = t; state = s.old }) seat.old.me.0 s.new seat.new.me.0 }
 {
-    given_is_kept();
-    runs_are_safe();
-    events_lessen_work();
     while s.is_live() {
-        let before = s.turns();
-        go(s, seat, table, p, t);
-        give_way(before, s.turns());
+        go_far(s, seat, table, p, t);
     }
 }
 

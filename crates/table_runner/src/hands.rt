@@ -1,6 +1,7 @@
 //! Some threads of a run, and the seat from which they step.
 
 ghost use Rattle.std.specs.Prelude.{◌≡◌, ◌≢◌, ◌<◌, ◌≤◌, ℕ, [], length, map, IsSome, is_some, None, Some, true, false, replicate, slice_set};
+ghost use Rattle.std.specs.Option.{option_or};
 ghost use Rattle.machine_types.specs.Core.{is_live_thread, start};
 ghost use Rattle.machine_types.specs.Settings.{AreSettings};
 ghost use Rattle.laws_states.specs.RunFacts.{HaveWidth};
@@ -8,7 +9,7 @@ ghost use Rattle.table_rule.specs.Views.{Holds, HoldsAll, held_in};
 ghost use Rattle.table_runner.specs.Ending.{IsOutcome};
 ghost use Rattle.table_runner.specs.Handed.{IsEventOf, IsTableOf};
 ghost use Rattle.table_runner.specs.Running.{AreSame, IsRunOn};
-ghost use Rattle.table_runner.specs.Sharing.{AreJoined, IsNext, first_of, thread_alone, without, without_thread};
+ghost use Rattle.table_runner.specs.Sharing.{AreJoined, IsNext, thread_alone, without, without_thread};
 
 use crate::closing::{done_end, end_table, reports_of};
 use crate::events::{go_at, go_on_at};
@@ -255,7 +256,7 @@ fn merge(
     threads: &mut [Option<ThreadState>; MOST_THREADS],
     others: &mut [Option<ThreadState>; MOST_THREADS],
 )
-    ensures { (t : ℕ) → held_in threads.new t ≡ first_of (held_in threads.old t) (held_in others.old t) }
+    ensures { (t : ℕ) → held_in threads.new t ≡ option_or (held_in threads.old t) (held_in others.old t) }
 {
     for i in 0..MOST_THREADS {
         if threads[i].is_none() {

@@ -80,7 +80,7 @@ fn run_done(table: &CoreTable, hands: &mut Hands, p: &Checked)
 }
 
 /// `init`, and then the workers and `done` where they may begin.
-fn run_parts<R: Threads + Sync, G: Gate + Sync>(
+fn run_to_end<R: Threads + Sync, G: Gate + Sync>(
     rt: &R,
     alloc: Global,
     gate: &G,
@@ -128,6 +128,6 @@ pub fn run_table<R: Threads + Sync, G: Gate + Sync>(
     ensures { IfOk result (IsEndOfRun p.now cfg.now) }
 {
     let (table, mut hands) = table(alloc, p, cfg)?;
-    run_parts(rt, alloc, gate, &table, &mut hands, p)?;
+    run_to_end(rt, alloc, gate, &table, &mut hands, p)?;
     Ok(close(hands, table))
 }

@@ -22,7 +22,7 @@ fn work<G: Gate>(hands: &mut Hands, table: &CoreTable, p: &Checked, gate: &G, t:
 }
 
 /// Each worker on a thread of its own.
-fn run_workers<R: Threads + Sync, G: Gate + Sync>(
+fn run_each<R: Threads + Sync, G: Gate + Sync>(
     rt: &R,
     gate: &G,
     table: &CoreTable,
@@ -96,7 +96,7 @@ pub(crate) fn run_apart<R: Threads + Sync, G: Gate + Sync>(
     ensures { OnOk result (RestOf table.now.shared.table_id table.now.shared.key.program.told table.now.shared.key.cfg 1 (held_in hands.old.threads 0) hands.new) }
 {
     let mut workers = split_workers(alloc, table, hands, p)?;
-    run_workers(rt, gate, table, p, workers.as_mut_slice());
+    run_each(rt, gate, table, p, workers.as_mut_slice());
     join_workers(table, hands, workers);
     Ok(())
 }

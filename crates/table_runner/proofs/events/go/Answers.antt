@@ -7,11 +7,11 @@ use Rattle.table_runner.proofs.events.go.Goals as goal
 
 pub step_or_want-requires-clause-program : goal.step_or_want-requires-clause-program
 step_or_want-requires-clause-program c =
-    sym (is_thread c.parts_keep_threads.ensures c.runs_have_state.ensures c.args.p.now c.args.table.now.shared.key.cfg c.args.table.now.shared.table_id.words c.args.t c.args.s.now c.requires.run c.requires.stands.of_run).program
+    sym (is_thread c.parts_keep_threads.ensures c.runs_have_state.ensures c.args.p.now c.args.table.now.shared.key.cfg c.args.table.now.shared.table_id.words c.args.t c.args.s.now c.requires.run c.requires.stands.behind.1).program
 
 pub step_or_want-requires-clause-lawful : goal.step_or_want-requires-clause-lawful
 step_or_want-requires-clause-lawful c =
-    is_lawful c.runs_are_safe.ensures c.args.p.now c.args.table.now.shared.key.cfg c.args.table.now.shared.table_id.words c.args.t c.args.s.now c.requires.run c.requires.stands.of_run
+    is_lawful c.runs_are_safe.ensures c.args.p.now c.args.table.now.shared.key.cfg c.args.table.now.shared.table_id.words c.args.t c.args.s.now c.requires.run c.requires.stands.behind.1
 
 pub access-got-requires-clause-asks : goal.access-got-requires-clause-asks
 access-got-requires-clause-asks c =
@@ -22,7 +22,7 @@ access-got-requires-clause-asks c =
 
 pub apply_effect-requires-clause-program : goal.apply_effect-requires-clause-program
 apply_effect-requires-clause-program c =
-    sym (ap (λ (x : Thread). x.program) c.in-Some.ensures.step.2 ∙ (is_thread c.parts_keep_threads.ensures c.runs_have_state.ensures c.args.p.now c.args.table.now.shared.key.cfg c.args.table.now.shared.table_id.words c.args.t c.args.s.now c.requires.run c.requires.stands.of_run).program)
+    sym (ap (λ (x : Thread). x.program) c.in-Some.ensures.step.2 ∙ (is_thread c.parts_keep_threads.ensures c.runs_have_state.ensures c.args.p.now c.args.table.now.shared.key.cfg c.args.table.now.shared.table_id.words c.args.t c.args.s.now c.requires.run c.requires.stands.behind.1).program)
 
 pub apply_effect-requires-clause-effect : goal.apply_effect-requires-clause-effect
 apply_effect-requires-clause-effect c = subst (λ (x : Thread). IsFor c.args.p.now x c.in-Some.want.effect) (sym c.in-Some.ensures.step.2) c.in-Some.ensures.step.1
@@ -42,4 +42,4 @@ pub returns-in_default-clause-goes : goal.returns-in_default-clause-goes
 returns-in_default-clause-goes c =
     let e : NextEvent = record { program = c.args.p.now; cfg = c.args.table.now.shared.key.cfg; number = c.args.t; state = c.args.s.now } in
     let step = c.in_default.ensures.step in
-    goes_alone e c.args.seat.now.me.0 c.step_or_want.new.s c.requires.stands.of_run step.0 step.1
+    goes_alone e c.args.seat.now.me.0 c.step_or_want.new.s c.requires.stands.behind.1 step.0 step.1

@@ -38,7 +38,7 @@ returns-clause-next c =
     let all : HoldsAll h.program h.threads = subst (λ (k : Handed). HoldsAll k.program k.threads) (sym c.self.view_is) c.requires.all in
     let next = next_of c.parts_keep_threads.ensures c.runs_have_state.ensures c.shares_are_next.ensures h c.begin_parts.new.threads c.may_begin.result c.self.invariant.0 c.may_begin.ensures c.if-not-may_begin.false c.begin_parts.ensures in
     let after : Handed = record h { table_id = c.begin.new.seat.table_id; threads = c.begin_parts.new.threads; view = c.begin.new.seat.me.0 } in
-    let is : IsNext h after c.may_begin.result = is_next h c.begin_parts.new.threads c.begin.new.seat.me.0 c.begin.new.seat.table_id c.may_begin.result c.self.invariant.0 all c.may_begin.ensures next c.begin.ensures.seat.0 in
+    let is : IsNext h after c.may_begin.result = is_next h c.begin_parts.new.threads c.begin.new.seat.me.0 c.begin.new.seat.table_id c.may_begin.result c.self.invariant.0 all c.may_begin.ensures next c.begin.ensures.seat.0 c.begin.ensures.begins.view in
     subst (λ (k : Handed). IsNext k after true) c.self.view_is (subst (IsNext h after) c.if-not-may_begin.false is)
 
 pub returns-then-not-may_begin-clause-next : goal.returns-then-not-may_begin-clause-next
