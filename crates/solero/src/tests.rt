@@ -1,5 +1,6 @@
 //! Runs over files and sinks in memory.
 
+use crate::command::read_words;
 use crate::program::top;
 use host_io::shelf::{CalmShelf, ListShelf, NamedFile, Shelf, ShelfError};
 use host_io::sink::{CalmSink, ListSink, Sink};
@@ -162,6 +163,74 @@ fn words(rt: HostRuntime) -> Result<(), Fail> {
     }
     for line in READ {
         assert_eq!(rt; status_of(&rt, line)?, 0);
+    }
+    Ok(())
+}
+
+const MODES: [&str; 3] = ["replay", "run", "mark"];
+
+// An option, and the modes that read it.
+struct Beside {
+    option: &'static str,
+    modes: &'static [&'static str],
+}
+
+// Each option beside each mode.
+const BESIDE: [Beside; 9] = [
+    Beside {
+        option: "--threads=8",
+        modes: &MODES,
+    },
+    Beside {
+        option: "--heap=4096",
+        modes: &MODES,
+    },
+    Beside {
+        option: "--order=1",
+        modes: &["replay"],
+    },
+    Beside {
+        option: "--memory=table",
+        modes: &["run"],
+    },
+    Beside {
+        option: "--steps=1",
+        modes: &MODES,
+    },
+    Beside {
+        option: "--turns=1",
+        modes: &MODES,
+    },
+    Beside {
+        option: "--prints=1",
+        modes: &MODES,
+    },
+    Beside {
+        option: "--elide=off",
+        modes: &MODES,
+    },
+    Beside {
+        option: "--range=1",
+        modes: &MODES,
+    },
+];
+
+// Whether the words of an option beside a mode are read.
+fn is_read(alloc: Global, mode: &str, option: &str) -> Result<bool, AllocError> {
+    let mut words = Vec::new(alloc);
+    for word in ["solero", "--mode", mode, option, "A.class"] {
+        words.push(String::from_str(alloc, word)?)?;
+    }
+    Ok(read_words(alloc, words.as_slice())?.is_some())
+}
+
+#[test]
+fn options_beside_modes(rt: HostRuntime) -> Result<(), Fail> {
+    for row in &BESIDE {
+        for mode in MODES {
+            let reads = row.modes.iter().any(|other| *other == mode);
+            assert_eq!(rt; is_read(rt.alloc(), mode, row.option)?, reads);
+        }
     }
     Ok(())
 }
