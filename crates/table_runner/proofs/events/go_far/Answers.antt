@@ -1,4 +1,4 @@
-use Rattle.std.proofs.Common.{◌≡◌, ◌<◌, ◌≤◌, sym, subst, arith}
+use Rattle.std.proofs.Common.{◌<◌, ◌≤◌, sym, subst, arith}
 use Rattle.laws_states.specs.WorkLeft.{work_left}
 use Rattle.machine_types.specs.Threads.{Thread}
 use Rattle.table_runner.specs.Accessing.{NextEvent}

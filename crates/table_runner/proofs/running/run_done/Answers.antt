@@ -1,4 +1,4 @@
-use Rattle.std.proofs.Common.{◌≡◌, false, subst}
+use Rattle.std.proofs.Common.{false, subst}
 use Rattle.table_runner.specs.Sharing.{IsNext}
 use Rattle.table_runner.proofs.Stages.{over_now}
 use Rattle.table_runner.proofs.running.run_done.Goals as goal
