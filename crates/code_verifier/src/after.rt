@@ -123,8 +123,11 @@ pub fn frame_after(
     ensures { IfOk result (λ after. after ≡ frame_after m.now row.now f.now) }
 {
     let mut stack = stack_after(alloc, row, f)?;
-    let mut locals = locals_after(alloc, row.writes, f)?;
     let object = started(m.class, row.takes.as_slice(), f.stack());
+    if row.writes.is_none() && object.is_none() {
+        return f.with_stack(stack);
+    }
+    let mut locals = locals_after(alloc, row.writes, f)?;
     let ready = start_object(&mut stack, &mut locals, object, f.is_ready());
-    Ok(TypeFrame::new(stack, locals, f.local_count(), ready))
+    TypeFrame::new(alloc, stack, locals, f.local_count(), ready)
 }

@@ -39,10 +39,11 @@ pub fn entry_frame(alloc: Global, m: &MethodInfo) -> Result<TypeFrame, AllocErro
 {
     let mut locals = receiver_types(alloc, m)?;
     push_arguments(&mut locals, m.args.as_slice())?;
-    Ok(TypeFrame::new(
+    TypeFrame::new(
+        alloc,
         Stack::new(alloc),
         locals,
         usize::from(m.max_locals),
         !is_init(m),
-    ))
+    )
 }

@@ -6,7 +6,7 @@ ghost use Rattle.jvm_types.specs.Types.{is_uninitialised, is_new};
 ghost use Rattle.jvm_types.specs.declared.typing.VType.TheVariants.{Ref};
 
 use crate::type_lists::{some_new, some_uninitialised};
-use jvm_types::{Rows, Stack, TypeFrame, VType};
+use jvm_types::{Stack, TypeFrame, VType};
 use std::alloc::{AllocError, Global};
 
 /// The type of the value at a place of a stack, counted from the top.
@@ -34,24 +34,14 @@ pub fn has_new_local(f: &TypeFrame) -> bool
 pub fn copy(alloc: Global, f: &TypeFrame) -> Result<TypeFrame, AllocError>
     ensures { IfOk result (λ g. g ≡ f.now) }
 {
-    Ok(TypeFrame::new(
-        f.stack().copy(alloc)?,
-        Rows::from_slice(alloc, f.first_locals())?,
-        f.local_count(),
-        f.is_ready(),
-    ))
+    f.with_stack(f.stack().copy(alloc)?)
 }
 
 /// A copy with another stack: no values.
 pub fn without_stack(alloc: Global, f: &TypeFrame) -> Result<TypeFrame, AllocError>
     ensures { IfOk result (λ g. g ≡ record { stack = []; locals = f.now.locals; ready = f.now.ready }) }
 {
-    Ok(TypeFrame::new(
-        Stack::new(alloc),
-        Rows::from_slice(alloc, f.first_locals())?,
-        f.local_count(),
-        f.is_ready(),
-    ))
+    f.with_stack(Stack::new(alloc))
 }
 
 /// A copy with another stack: one object of the class.
@@ -60,10 +50,5 @@ pub fn with_object(alloc: Global, f: &TypeFrame, class: u16) -> Result<TypeFrame
 {
     let mut stack = Stack::new(alloc);
     stack.push(VType::Ref(class))?;
-    Ok(TypeFrame::new(
-        stack,
-        Rows::from_slice(alloc, f.first_locals())?,
-        f.local_count(),
-        f.is_ready(),
-    ))
+    f.with_stack(stack)
 }

@@ -1,10 +1,11 @@
 //! Frames where edges meet.
 
-ghost use Rattle.std.specs.Prelude.{◌≡◌, true, not, length};
+ghost use Rattle.std.specs.Prelude.{◌≡◌, true, not, length, IfOk};
 ghost use Rattle.jvm_types.specs.Types.{meet_frames, same_frame};
 
 use crate::type_lists::{meet_locals, meet_stacks, same_types};
 use jvm_types::TypeFrame;
+use std::alloc::{AllocError, Global};
 
 /// Whether a frame is another; it may be told not to be where last locals of which nothing is known are kept in one of
 /// them alone.
@@ -22,20 +23,24 @@ fn is_same(frame: &TypeFrame, other: &TypeFrame) -> bool
 }
 
 /// The frame where two meet, which takes the place of the first; and whether that changed it.
-pub fn meet_frames(frame: TypeFrame, other: &TypeFrame) -> (TypeFrame, bool)
+pub fn meet_frames(
+    alloc: Global,
+    frame: TypeFrame,
+    other: &TypeFrame,
+) -> Result<(TypeFrame, bool), AllocError>
     requires depth { length frame.stack ≡ length other.now.stack }
     requires locals { length frame.locals ≡ length other.now.locals }
-    ensures met { result.0 ≡ meet_frames frame other.now }
-    ensures told { result.1 ≡ not (same_frame frame (meet_frames frame other.now)) }
+    ensures met { IfOk result (λ r. r.0 ≡ meet_frames frame other.now) }
+    ensures told { IfOk result (λ r. r.1 ≡ not (same_frame frame (meet_frames frame other.now))) }
 {
     if is_same(&frame, other) {
-        return (frame, false);
+        return Ok((frame, false));
     }
     let local_count = frame.local_count();
-    let (mut stack, mut locals, was_ready) = frame.into_parts();
+    let (mut stack, mut locals, was_ready) = frame.into_parts(alloc)?;
     let stack_changed = meet_stacks(&mut stack, other.stack());
     let locals_changed = meet_locals(&mut locals, other);
     let ready = was_ready & other.is_ready();
-    let met = TypeFrame::new(stack, locals, local_count, ready);
-    (met, stack_changed | locals_changed | (was_ready & !ready))
+    let met = TypeFrame::new(alloc, stack, locals, local_count, ready)?;
+    Ok((met, stack_changed | locals_changed | (was_ready & !ready)))
 }

@@ -54,7 +54,7 @@ fn bring_frame(
 {
     match frame.take() {
         Some(g) => {
-            let (met, changed) = meet_frames(g, f);
+            let (met, changed) = meet_frames(alloc, g, f)?;
             *frame = Some(met);
             Ok(changed)
         }
@@ -178,7 +178,7 @@ impl Nodes {
     pub fn into_typing(self, alloc: Global) -> Result<Typing, AllocError>
         ensures { IfOk result (λ t. t.frames ≡ map (λ node. node.frame) self) }
     {
-        let mut frames = Rows::new(alloc);
+        let mut frames = Rows::from_vec(Vec::with_capacity(alloc, self.nodes.len())?);
         for node in self.nodes {
             frames.push(node.frame)?;
         }

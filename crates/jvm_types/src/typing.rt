@@ -1,10 +1,13 @@
 //! The types that verification gives to the stack and the locals at each instruction (JVMS 4.10.2).
 
-ghost use Rattle.std.specs.Prelude.{◌≡◌, length, slice_get};
+ghost use Rattle.std.specs.Prelude.{◌≡◌, length, slice_get, IfOk};
+ghost use Rattle.std.specs.Arc.{arc_value};
 ghost use Rattle.jvm_types.specs.Types.{filled};
 
 use lists::{Rows, Stack};
+use std::alloc::{AllocError, Global};
 use std::marker::Model;
+use std::sync::Arc;
 
 /// The type of one place of the stack or of the locals. Classes are given by their numbers.
 #[derive(Clone, Copy, Debug, PartialEq, Eq)]
@@ -21,44 +24,118 @@ pub enum VType {
     Top,
 }
 
+/// The types of the locals before one instruction, which contracts see as the list of them.
+///
+/// Only the first are kept, up to the last that is known: no more than the arguments, and the locals that
+/// instructions write, which are below 256 (JVMS 6.5: an index has one byte without `wide`).
+#[derive(Debug, Drop)]
+struct TypeLocals {
+    first: Rows<VType>,
+    count: usize,
+}
+
+impl Model for TypeLocals {
+    ghost use Rattle.std.specs.Prelude.{List};
+    ghost use Rattle.jvm_types.specs.Types.{filled};
+    ghost use Rattle.jvm_types.specs.declared.typing.VType.{VType};
+
+    ghost Value = { List VType };
+
+    ghost view = { λ l. filled l.count l.first };
+}
+
+impl TypeLocals {
+    /// The types but for last ones of which nothing is known.
+    #[tactic(auto, using(crate::proofs::FilledLaws::filled_again))]
+    fn first(&self) -> &[VType]
+        ensures { filled (length self.now) result.now ≡ self.now }
+    {
+        self.first.as_slice()
+    }
+
+    /// How many locals there are.
+    #[tactic(auto, using(crate::proofs::FilledLaws::length_filled))]
+    fn len(&self) -> usize
+        ensures { result ≡ length self.now }
+    {
+        self.count.max(self.first.len())
+    }
+
+    /// The type of a local, or `None` where there are not so many.
+    fn get(&self, i: usize) -> Option<VType>
+        ensures { result ≡ slice_get self.now i }
+    {
+        match self.first.get(i) {
+            Some(t) => Some(*t),
+            None if i < self.count => Some(VType::Top),
+            None => None,
+        }
+    }
+}
+
 /// The types before one instruction: of the stack, of the locals, and in an `<init>` whether `this` is
 /// initialised, which outside one it always is.
 ///
-/// Only the first locals are kept, up to the last that is known: no more than the arguments, and the locals
-/// that instructions write, which are below 256 (JVMS 6.5: an index has one byte without `wide`).
+/// Frames of the same locals can share them in memory.
 #[derive(Debug, Drop)]
 pub struct TypeFrame {
     stack: Stack<VType>,
-    first_locals: Rows<VType>,
-    local_count: usize,
+    locals: Arc<TypeLocals>,
     ready: bool,
 }
 
 impl Model for TypeFrame {
-    ghost use Rattle.jvm_types.specs.Types.{TypeFrame, filled};
+    ghost use Rattle.std.specs.Arc.{arc_value};
+    ghost use Rattle.jvm_types.specs.Types.{TypeFrame};
 
     ghost Value = { TypeFrame };
 
-    ghost view = { λ f. record { stack = f.stack; locals = filled f.local_count f.first_locals; ready = f.ready } };
+    ghost view = { λ f. record { stack = f.stack; locals = arc_value f.locals; ready = f.ready } };
+}
+
+/// The first of some locals, as a list that nobody shares.
+#[tactic(auto, using(crate::proofs::FilledLaws::filled_again))]
+fn unshared(alloc: Global, locals: Arc<TypeLocals>) -> Result<Rows<VType>, AllocError>
+    ensures { IfOk result (λ first. filled (length (arc_value locals)) first ≡ arc_value locals) }
+{
+    match Arc::try_unwrap(locals) {
+        Ok(own) => Ok(own.first),
+        Err(shared) => Rows::from_slice(alloc, shared.first()),
+    }
 }
 
 impl TypeFrame {
     /// A frame of so many locals, or of as many as are given where these are more. Nothing is known of those that
     /// are not given.
     pub fn new(
+        alloc: Global,
         stack: Stack<VType>,
         first_locals: Rows<VType>,
         local_count: usize,
         ready: bool,
-    ) -> Self
-        ensures { result ≡ record { stack = stack; locals = filled local_count first_locals; ready = ready } }
+    ) -> Result<Self, AllocError>
+        ensures { IfOk result (λ f. f ≡ record { stack = stack; locals = filled local_count first_locals; ready = ready }) }
     {
-        TypeFrame {
+        let locals = TypeLocals {
+            first: first_locals,
+            count: local_count,
+        };
+        Ok(TypeFrame {
             stack,
-            first_locals,
-            local_count,
+            locals: Arc::new(alloc, locals)?,
             ready,
-        }
+        })
+    }
+
+    /// The same frame with another stack. It shares the locals.
+    pub fn with_stack(&self, stack: Stack<VType>) -> Result<Self, AllocError>
+        ensures { IfOk result (λ f. f ≡ record self.now { stack = stack }) }
+    {
+        Ok(TypeFrame {
+            stack,
+            locals: Arc::try_clone(&self.locals)?,
+            ready: self.ready,
+        })
     }
 
     pub fn stack(&self) -> &Stack<VType>
@@ -68,30 +145,24 @@ impl TypeFrame {
     }
 
     /// The locals but for last ones of which nothing is known.
-    #[tactic(auto, using(crate::proofs::FilledLaws::filled_again))]
     pub fn first_locals(&self) -> &[VType]
         ensures { filled (length self.now.locals) result.now ≡ self.now.locals }
     {
-        self.first_locals.as_slice()
+        self.locals.first()
     }
 
     /// How many locals there are.
-    #[tactic(auto, using(crate::proofs::FilledLaws::length_filled))]
     pub fn local_count(&self) -> usize
         ensures { result ≡ length self.now.locals }
     {
-        self.local_count.max(self.first_locals.len())
+        self.locals.len()
     }
 
     /// The type of a local, or `None` where there are not so many.
     pub fn local(&self, i: usize) -> Option<VType>
         ensures { result ≡ slice_get self.now.locals i }
     {
-        match self.first_locals.get(i) {
-            Some(t) => Some(*t),
-            None if i < self.local_count => Some(VType::Top),
-            None => None,
-        }
+        self.locals.get(i)
     }
 
     pub fn is_ready(&self) -> bool
@@ -101,13 +172,13 @@ impl TypeFrame {
     }
 
     /// The stack, the locals but for last ones of which nothing is known, and whether `this` is initialised.
-    #[tactic(auto, using(crate::proofs::FilledLaws::filled_again))]
-    pub fn into_parts(self) -> (Stack<VType>, Rows<VType>, bool)
-        ensures stack { result.0 ≡ self.stack }
-        ensures locals { filled (length self.locals) result.1 ≡ self.locals }
-        ensures ready { result.2 ≡ self.ready }
+    pub fn into_parts(self, alloc: Global) -> Result<(Stack<VType>, Rows<VType>, bool), AllocError>
+        ensures stack { IfOk result (λ parts. parts.0 ≡ self.stack) }
+        ensures locals { IfOk result (λ parts. filled (length self.locals) parts.1 ≡ self.locals) }
+        ensures ready { IfOk result (λ parts. parts.2 ≡ self.ready) }
     {
-        (self.stack, self.first_locals, self.ready)
+        let first = unshared(alloc, self.locals)?;
+        Ok((self.stack, first, self.ready))
     }
 }
 
