@@ -1,6 +1,6 @@
 //! The frame after an instruction.
 
-ghost use Rattle.std.specs.Prelude.{◌≡◌, ◌∷◌, ◌++◌, [], map, drop, IfOk, OnOk};
+ghost use Rattle.std.specs.Prelude.{◌≡◌, ◌∷◌, ◌++◌, [], true, map, drop, IfOk, OnOk};
 ghost use Rattle.jvm_types.specs.CodeTable.{value_of, stack_after, locals_after};
 ghost use Rattle.checked_program.specs.LockTags.{without};
 ghost use Rattle.checked_program.specs.Tagging.{moved_tags, tags_after, tags_at_handler};
@@ -8,7 +8,7 @@ ghost use Rattle.checked_program.specs.declared.tag.Tag.TheVariants.{Untagged, A
 ghost use Rattle.monitor_tags.specs.Held.{entered};
 
 use crate::tag_stacks::untag;
-use checked_program::{Tag, TagFrame, TagLocals};
+use checked_program::{Tag, TagFrame, TagLocals, same_tag};
 use jvm_types::{Given, Insn, Op, OpRow, Stack};
 use std::alloc::{AllocError, Global};
 
@@ -61,6 +61,16 @@ fn locals_after(
     Ok(locals)
 }
 
+/// Whether the locals keep their tags where an instruction writes so.
+fn keeps_locals(writes: Option<(u16, Given)>, f: &TagFrame) -> bool
+    ensures { result ≡ true → locals_after Untagged (λ type. Untagged) writes f.now.stack f.now.locals ≡ f.now.locals }
+{
+    match writes {
+        Some((i, given)) => same_tag(tag_given(Given::Local(i), f), tag_given(given, f)),
+        None => true,
+    }
+}
+
 /// The frame that the row of an instruction leaves, with what is held then.
 fn moved_with(
     alloc: Global,
@@ -72,12 +82,16 @@ fn moved_with(
 {
     let stack = stack_after(alloc, row, f)?;
     let locals = locals_after(alloc, row.writes, f)?;
-    Ok(TagFrame::new(stack, locals, held))
+    TagFrame::new(alloc, stack, locals, held)
 }
 
 fn moved(alloc: Global, row: &OpRow, f: &TagFrame) -> Result<TagFrame, AllocError>
     ensures { IfOk result (λ after. after ≡ moved_tags row.now f.now) }
 {
+    if keeps_locals(row.writes, f) {
+        let stack = stack_after(alloc, row, f)?;
+        return f.with_stack(stack);
+    }
     let held = f.held().copy(alloc)?;
     moved_with(alloc, row, f, held)
 }
@@ -92,7 +106,7 @@ fn tagged_dup(alloc: Global, pc: u32, f: &TagFrame) -> Result<TagFrame, AllocErr
     stack.push(Tag::At(pc))?;
     let mut locals = f.locals().copy(alloc)?;
     locals.untag(pc);
-    Ok(TagFrame::new(stack, locals, f.held().copy(alloc)?))
+    TagFrame::new(alloc, stack, locals, f.held().copy(alloc)?)
 }
 
 /// What is held behind a `monitorenter`.
@@ -138,15 +152,11 @@ pub fn frame_at_handler(alloc: Global, f: &TagFrame) -> Result<TagFrame, AllocEr
 {
     let mut stack = Stack::new(alloc);
     stack.push(Tag::Untagged)?;
-    Ok(TagFrame::new(stack, f.locals().copy(alloc)?, f.held().copy(alloc)?))
+    f.with_stack(stack)
 }
 
 pub fn copy(alloc: Global, f: &TagFrame) -> Result<TagFrame, AllocError>
     ensures { IfOk result (λ g. g ≡ f.now) }
 {
-    Ok(TagFrame::new(
-        f.stack().copy(alloc)?,
-        f.locals().copy(alloc)?,
-        f.held().copy(alloc)?,
-    ))
+    f.with_stack(f.stack().copy(alloc)?)
 }

@@ -23,12 +23,12 @@ pub fn meet_frames(
     ensures met { IfOk result (λ r. r.0 ≡ tag_meeting.meet frame other.now) }
     ensures told { IfOk result (λ r. r.1 ≡ not (tag_meeting.same frame (tag_meeting.meet frame other.now))) }
 {
-    let (stack, mut locals, held) = frame.into_parts();
+    let (stack, mut locals, held) = frame.into_parts(alloc)?;
     let (met, stack_changed) = meet_stacks(alloc, stack, other.stack())?;
     let other_locals = other.locals();
     let locals_changed = locals.meet(other_locals);
     Ok((
-        TagFrame::new(met, locals, held),
+        TagFrame::new(alloc, met, locals, held)?,
         stack_changed | locals_changed,
     ))
 }

@@ -191,7 +191,7 @@ impl Nodes {
     pub fn into_tags(self, alloc: Global) -> Result<Tags, AllocError>
         ensures { IfOk result (λ t. t.frames ≡ map (λ node. node.frame) self) }
     {
-        let mut frames = Rows::new(alloc);
+        let mut frames = Rows::from_vec(Vec::with_capacity(alloc, self.nodes.len())?);
         for node in self.nodes {
             frames.push(node.frame)?;
         }

@@ -32,7 +32,7 @@ fn entry_frame(alloc: Global, m: &MethodInfo) -> Result<TagFrame, AllocError>
         first.push(Tag::This)?;
     }
     let locals = TagLocals::new(first, usize::from(m.max_locals));
-    Ok(TagFrame::new(Stack::new(alloc), locals, Stack::new(alloc)))
+    TagFrame::new(alloc, Stack::new(alloc), locals, Stack::new(alloc))
 }
 
 /// At the start pc 0 waits with the entry frame.

@@ -13,4 +13,4 @@ frames_stored items nodes e = both items ∙ ap (λ l. map (λ node. node.frame)
     both (x ∷ xs) = ap (λ l. x.frame ∷ l) (both xs)
 
 pub loop-node-init : goal.loop-node-init
-loop-node-init c = rw (c.new-frames.ensures, c.into_iter-node-iterator.ensures.into_iter_gives.0) (frames_stored c.self.inside.nodes.items c.args.self c.self.view_is)
+loop-node-init c = rw (c.from_vec-frames.ensures, c.in_ok-with_capacity.ensures.items, c.into_iter-node-iterator.ensures.into_iter_gives.0) (frames_stored c.self.inside.nodes.items c.args.self c.self.view_is)
