@@ -1,1 +1,3 @@
 mod Runs
+pub mod SmallEffects
+mod SmallSteps

@@ -8,7 +8,7 @@ ghost use Rattle.machine_types.specs.declared.plain.Act.TheVariants as acts;
 ghost use Rattle.plain_threads.specs.Statuses.{status_of};
 ghost use Rattle.history_rule.specs.Steps.{IsStep};
 
-use crate::plain::Plain;
+use crate::plain_state::PlainState;
 use checked_program::Checked;
 use jvm_types::{End, Stack};
 use plain_frames::rooted;
@@ -25,7 +25,7 @@ fn may_do_done(t: u8, ended: &[End]) -> bool
     }
 }
 
-impl Plain {
+impl PlainState {
     /// The first of some roots begins.
     fn begin_root(
         &mut self,

@@ -6,10 +6,11 @@ ghost use Rattle.machine_types.specs.PlainSteps.{step_at};
 ghost use Rattle.machine_types.specs.PlainState as plain;
 ghost use Rattle.machine_types.specs.declared.plain.Act.TheVariants as acts;
 ghost use Rattle.history_rule.specs.Deeds.{deed_done};
+ghost use Rattle.history_rule.specs.Small.{HasRoom};
 ghost use Rattle.history_rule.specs.Steps.{IsStep};
 
 use crate::deed::Deed;
-use crate::plain::Plain;
+use crate::plain_state::PlainState;
 use crate::printed::Printed;
 use checked_program::Checked;
 use heap_words::ready;
@@ -18,7 +19,7 @@ use plain_frames::dispatched;
 use plain_threads::Status;
 use std::alloc::{AllocError, Global};
 
-impl Plain {
+impl PlainState {
     /// Does what was planned for a thread.
     fn do_deed(&mut self, alloc: Global, t: u8, deed: Deed) -> Result<bool, AllocError>
         requires { t < length self.old.threads }
@@ -74,7 +75,8 @@ impl Plain {
 
     /// A thread makes the instruction that its top frame stands at.
     pub fn instruct(&mut self, alloc: Global, p: &Checked, t: u8) -> Result<bool, AllocError>
-        requires { t < length self.old.threads }
+        requires thread { t < length self.old.threads }
+        requires room { HasRoom self.old }
         ensures { (x : PlainThread) → slice_get self.old.threads t ≡ Some x → IsStep (step_at p.now.program self.old t x acts.Do plain.Run) self.old self.new result }
     {
         let deed = self.plan(alloc, p, t)?;

@@ -1,10 +1,11 @@
 //! Whole histories.
 
-ghost use Rattle.std.specs.Prelude.{◌≡◌, ℕ, take, Some};
+ghost use Rattle.std.specs.Prelude.{◌≡◌, ◌+◌, ◌≤◌, ℕ, length, take, Some};
 ghost use Rattle.machine_types.specs.PlainSteps.{plain_run};
-ghost use Rattle.history_rule.specs.Steps.{IsRun};
+ghost use Rattle.history_rule.specs.declared.plain.TheConstants.{MOST_STEPS};
+ghost use Rattle.history_rule.specs.Steps.{IsRun, IsBehind};
 
-use crate::plain::Plain;
+use crate::plain::{Plain, plain_step};
 use checked_program::Checked;
 use machine_types::PlainStep;
 use std::alloc::{AllocError, Global};
@@ -19,11 +20,13 @@ impl Plain {
         p: &Checked,
         steps: &[PlainStep],
     ) -> Result<bool, AllocError>
-        ensures run { IsRun (plain_run p.now.program self.old steps.now) self.new result }
-        ensures reached { (n : ℕ) × (plain_run p.now.program self.old (take n steps.now) ≡ Some self.new) }
+        requires program { p.now ≡ self.old.program }
+        requires few { self.old.steps + length steps.now ≤ MOST_STEPS }
+        ensures run { IsRun (plain_run p.now.program self.old.state steps.now) self.new.state result }
+        ensures reached { (n : ℕ) × IsBehind self.old (take n steps.now) n self.new }
     {
         for step in steps {
-            if !self.step(alloc, p, *step)? {
+            if !plain_step(alloc, self, p, step)? {
                 return Ok(false);
             }
         }

@@ -8,9 +8,10 @@ mod doing;
 mod history;
 mod monitors;
 mod plain;
+mod plain_state;
 mod planning;
 mod printed;
 mod step;
 
-pub use plain::{Plain, plain_start};
+pub use plain::{MOST_STEPS, Plain, plain_start, plain_step};
 pub use printed::Printed;

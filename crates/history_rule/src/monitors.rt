@@ -4,15 +4,16 @@ ghost use Rattle.std.specs.Prelude.{◌≡◌, ◌<◌, length, slice_get, Some,
 ghost use Rattle.machine_types.specs.PlainState.{PlainThread, Run, held_by, holding_at, is_holder, with_status, with_thread};
 ghost use Rattle.machine_types.specs.PlainSteps.{all_notified, entered, exited, notified, retaken, waited};
 ghost use Rattle.plain_frames.specs.Changes.{after_of};
+ghost use Rattle.history_rule.specs.Small.{HasRoom};
 ghost use Rattle.history_rule.specs.Steps.{IsStep};
 
-use crate::plain::Plain;
+use crate::plain_state::PlainState;
 use checked_program::Checked;
 use plain_frames::{Then, after};
 use plain_threads::Status;
 use std::alloc::{AllocError, Global};
 
-impl Plain {
+impl PlainState {
     /// Whether a thread holds a monitor.
     pub fn holds(&self, t: u8, m: u64) -> bool
         ensures { result ≡ is_holder t (holding_at self.now.holdings m) }
@@ -36,15 +37,13 @@ impl Plain {
 
     /// A thread enters a monitor that is free, or that it holds.
     pub fn enter(&mut self, t: u8, m: u64) -> Result<bool, AllocError>
-        requires { t < length self.old.threads }
+        requires thread { t < length self.old.threads }
+        requires room { HasRoom self.old }
         ensures { (x : PlainThread) → slice_get self.old.threads t ≡ Some x → IsStep (entered self.old t m x (holding_at self.old.holdings m)) self.old self.new result }
     {
         let depth = match self.holdings.at(m) {
             None => 1,
-            Some(h) if h.holder() == t => match h.depth().checked_add(1) {
-                Some(depth) => depth,
-                None => return Err(AllocError),
-            },
+            Some(h) if h.holder() == t => h.depth() + 1,
             Some(_) => return Ok(false),
         };
         self.take(t, m, depth)?;

@@ -1,89 +1,123 @@
-//! The state of the plain machine.
+//! The plain machine: a program, its state, and how many steps were made.
 
-ghost use Rattle.std.specs.Prelude.{◌≡◌, slice_get, IfOk};
+ghost use Rattle.std.specs.Prelude.{◌≡◌, ◌<◌, slice_get, IfOk};
 ghost use Rattle.std.specs.Option.{option_map};
 ghost use Rattle.machine_types.specs.PlainState.{plain_start};
-ghost use Rattle.machine_types.specs.PlainSteps.{done_end, end_at};
+ghost use Rattle.machine_types.specs.PlainSteps.{done_end, end_at, plain_step};
 ghost use Rattle.plain_threads.specs.Statuses.{status_of};
+ghost use Rattle.history_rule.specs.Steps.{IsPlayed};
+ghost use Rattle.history_rule.specs.declared.plain.TheConstants.{MOST_STEPS};
 
+use crate::plain_state::PlainState;
 use crate::printed::Printed;
 use checked_program::Checked;
-use jvm_types::{End, Rows};
-use plain_memory::Memory;
-use plain_threads::{Holdings, Status, Threads, done_roots};
+use jvm_types::End;
+use lists::Told;
+use machine_types::PlainStep;
+use plain_threads::Status;
 use std::alloc::{AllocError, Global};
 use std::marker::Model;
 
-/// The state of the plain machine: threads, objects and ordinary monitors (JVMS 2.5, 2.6, 2.11.10). Contracts see it as the
-/// definitions do.
-#[derive(Debug, Drop)]
+/// The most steps of one plain machine: 2^40, so that its numbers fit 64 bits.
+pub const MOST_STEPS: u64 = 1_099_511_627_776;
+
+/// The plain machine (JVMS 2.5, 2.6, 2.11.10; JLS 17.1, 17.2). Contracts see the program that it was made for, its state, and how
+/// many steps were made.
+#[derive(Drop)]
 pub struct Plain {
-    pub(crate) memory: Memory,
-    pub(crate) holdings: Holdings,
-    pub(crate) threads: Threads,
-    pub(crate) prints: Rows<Printed>,
+    program: Told<Checked>,
+    state: PlainState,
+    steps: u64,
 }
 
 impl Model for Plain {
-    ghost use Rattle.machine_types.specs.PlainState.{Plain as State};
+    ghost use Rattle.history_rule.specs.Small.{IsSmall};
+    ghost use Rattle.history_rule.specs.Steps.{Played};
 
-    ghost Value = { State };
+    ghost Value = { Played };
 
-    ghost view = { λ s. record { objects = s.memory.objects; statics = s.memory.statics; next = s.memory.next; holdings = s.holdings; threads = s.threads; prints = s.prints } };
+    ghost view = { λ q. record { program = q.program.told; state = q.state; steps = q.steps } };
+
+    ghost invariant = { λ q. IsSmall q.steps q.state };
 }
 
-/// The state of the plain machine at the start of a run of a program.
+/// The plain machine at the start of a run of a program.
 pub fn plain_start(alloc: Global, p: &Checked) -> Result<Plain, AllocError>
-    ensures { IfOk result (λ s. s ≡ plain_start p.now.program) }
+    ensures { IfOk result (λ q. q ≡ record { program = p.now; state = plain_start p.now.program; steps = 0 }) }
 {
+    let _checked = p.program();
     Ok(Plain {
-        memory: Memory::start(alloc, p.program())?,
-        holdings: Holdings::new(alloc),
-        threads: Threads::start(alloc, p)?,
-        prints: Rows::new(alloc),
+        program: Told::of(p),
+        state: PlainState::start(alloc, p)?,
+        steps: 0,
     })
+}
+
+/// Makes one step of the plain machine of this program. `Ok(false)`: it has no such step, and nothing has changed. It answers
+/// `AllocError` where memory is wanted, and nothing has changed.
+pub fn plain_step(
+    alloc: Global,
+    q: &mut Plain,
+    p: &Checked,
+    step: &PlainStep,
+) -> Result<bool, AllocError>
+    requires program { p.now ≡ q.old.program }
+    requires few { q.old.steps < MOST_STEPS }
+    ensures { IsPlayed (plain_step p.now.program q.old.state step.now) q.old q.new result }
+{
+    let _checked = p.program();
+    let made = q.state.step(alloc, p, *step)?;
+    if made {
+        q.steps += 1;
+    }
+    Ok(made)
 }
 
 // What a reader of a history asks.
 impl Plain {
-    /// What was printed so far, in order.
-    pub fn prints(&self) -> &[Printed]
-        ensures { result.now ≡ self.now.prints }
+    /// How many steps were made.
+    pub fn steps(&self) -> u64
+        ensures { result ≡ self.now.steps }
     {
-        self.prints.as_slice()
+        self.steps
+    }
+
+    /// The number that was printed at a place among all prints, or `None` where there are not so many.
+    pub fn print(&self, i: usize) -> Option<i32>
+        ensures { result ≡ option_map (λ x. x.value) (slice_get self.now.state.prints i) }
+    {
+        match self.prints().get(i) {
+            Some(printed) => Some(printed.value()),
+            None => None,
+        }
+    }
+
+    /// What was printed so far, in order, with the threads that printed it.
+    pub fn prints(&self) -> &[Printed]
+        ensures { result.now ≡ self.now.state.prints }
+    {
+        self.state.prints()
     }
 
     /// What a thread does next, or `None` where there is no such thread.
     pub fn status(&self, t: u8) -> Option<Status>
-        ensures { option_map status_of result ≡ option_map (λ x. x.status) (slice_get self.now.threads t) }
+        ensures { option_map status_of result ≡ option_map (λ x. x.status) (slice_get self.now.state.threads t) }
     {
-        match self.threads.get(t) {
-            Some(x) => Some(x.status()),
-            None => None,
-        }
+        self.state.status(t)
     }
 
     /// How a part of a thread ended, by the number of the part, or `None` where it has not.
     pub fn end_at(&self, part: usize, t: u8) -> Option<End>
-        ensures { result ≡ end_at part (slice_get self.now.threads t) }
+        ensures { result ≡ end_at part (slice_get self.now.state.threads t) }
     {
-        match self.threads.get(t) {
-            Some(x) => x.ended().get(part).copied(),
-            None => None,
-        }
+        self.state.end_at(part, t)
     }
 
     /// How `done` ended, or `None` where it has not. Where the program has none, it has returned as soon as it is due.
     pub fn done_end(&self, alloc: Global, p: &Checked) -> Result<Option<End>, AllocError>
-        ensures { IfOk result (λ e. e ≡ done_end p.now.program self.now) }
+        requires { p.now ≡ self.now.program }
+        ensures { IfOk result (λ e. e ≡ done_end p.now.program self.now.state) }
     {
-        let roots = done_roots(alloc, p)?;
-        if roots.len() > 0 {
-            Ok(self.end_at(1, 0))
-        } else if self.threads.is_done_due() {
-            Ok(Some(End::Returned))
-        } else {
-            Ok(None)
-        }
+        self.state.done_end(alloc, p)
     }
 }

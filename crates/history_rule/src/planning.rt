@@ -1,7 +1,9 @@
 //! What an instruction does, before anything changes (JVMS 6.5).
 
-ghost use Rattle.std.specs.Prelude.{◌≡◌, ◌<◌, ℕ, length, slice_get, Some, IfOk};
+ghost use Rattle.std.specs.Prelude.{◌≡◌, ◌<◌, ◌≤◌, ◌+◌, ℕ, length, slice_get, Some, IfOk};
 ghost use Rattle.std.specs.Option.{option_map};
+ghost use Rattle.jvm_types.specs.declared.fixed_words.TheConstants.{OBJECT_HEAD_WORDS};
+ghost use Rattle.jvm_types.specs.declared.limits.TheConstants.{MOST_HEAP};
 ghost use Rattle.machine_types.specs.Effects.{read_by};
 ghost use Rattle.machine_types.specs.Frames.{effect_at, frames_of, top_of, went_on};
 ghost use Rattle.machine_types.specs.Words.{variable_word};
@@ -11,10 +13,11 @@ ghost use Rattle.machine_types.specs.PlainInstructions.{did, got_by, if_held, if
 ghost use Rattle.machine_types.specs.PlainState.{Plain as State, PlainThread, goes_on, value_at, with_thread, written};
 ghost use Rattle.plain_frames.specs.Changes.{onward_of};
 ghost use Rattle.history_rule.specs.Deeds.{deed_done};
+ghost use Rattle.history_rule.specs.Small.{HasRoom, MakesSmall};
 ghost use Rattle.plain_threads.specs.Statuses.{status_of};
 
 use crate::deed::Deed;
-use crate::plain::Plain;
+use crate::plain_state::PlainState;
 use checked_program::Checked;
 use jvm_types::Thrown;
 use machine_types::{Effect, Variable};
@@ -67,7 +70,7 @@ fn plain_deed(
     }
 }
 
-impl Plain {
+impl PlainState {
     /// What stands at a place.
     fn value_at(&self, place: u128) -> Option<u64>
         ensures { result ≡ value_at self.now place }
@@ -150,9 +153,11 @@ impl Plain {
         header: u64,
         size: u64,
     ) -> Result<Deed, AllocError>
+        requires room { HasRoom self.now }
+        requires small { size ≤ MOST_HEAP + OBJECT_HEAD_WORDS }
         ensures { IfOk result (λ d. (t : ℕ) (x : PlainThread) → deed_done self.now t x (frames_of at.now) d ≡ Some (made p.now.program self.now t x at.now header size)) }
     {
-        let next = self.memory.next_behind(size)?;
+        let next = self.memory.next_behind(size);
         let heap = p.heap();
         if next <= heap as u64 {
             let frame = pushed(alloc, p, at, self.memory.next())?;
@@ -226,6 +231,8 @@ impl Plain {
         effect: Effect,
         got: u64,
     ) -> Result<Deed, AllocError>
+        requires room { HasRoom self.now }
+        requires small { MakesSmall effect }
         ensures { IfOk result (λ d. (x : PlainThread) → deed_done self.now t x (frames_of at.now) d ≡ did p.now.program self.now t x at.now effect got) }
     {
         match effect {
@@ -259,8 +266,10 @@ impl Plain {
 
     /// By the effect of the instruction.
     fn instructed_by(&self, alloc: Global, p: &Checked, t: u8, at: &At) -> Result<Deed, AllocError>
+        requires { HasRoom self.now }
         ensures { IfOk result (λ d. (x : PlainThread) → deed_done self.now t x (frames_of at.now) d ≡ instructed_by p.now.program self.now t x at.now (effect_at p.now.program at.now)) }
     {
+        let _checked = p.program();
         let effect = effect_at(p, at);
         match self.got_by(effect) {
             Some(got) => self.did(alloc, p, t, at, effect, got),
@@ -270,7 +279,8 @@ impl Plain {
 
     /// What the instruction does that the top frame of a thread stands at.
     pub fn plan(&self, alloc: Global, p: &Checked, t: u8) -> Result<Deed, AllocError>
-        requires { t < length self.now.threads }
+        requires thread { t < length self.now.threads }
+        requires room { HasRoom self.now }
         ensures { IfOk result (λ d. (x : PlainThread) → slice_get self.now.threads t ≡ Some x → deed_done self.now t x x.frames d ≡ instructed p.now.program self.now t x (top_of p.now.program x.frames)) }
     {
         match top_of(p, self.threads.at(t).frames()) {

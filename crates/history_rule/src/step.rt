@@ -6,18 +6,20 @@ ghost use Rattle.machine_types.specs.PlainState.{PlainThread};
 ghost use Rattle.machine_types.specs.PlainSteps.{plain_step, step_at};
 ghost use Rattle.machine_types.specs.declared.plain.Act.TheVariants as acts;
 ghost use Rattle.plain_threads.specs.Statuses.{status_of};
+ghost use Rattle.history_rule.specs.Small.{HasRoom};
 ghost use Rattle.history_rule.specs.Steps.{IsStep};
 
-use crate::plain::Plain;
+use crate::plain_state::PlainState;
 use checked_program::Checked;
 use machine_types::{Act, PlainStep};
 use plain_threads::Status;
 use std::alloc::{AllocError, Global};
 
-impl Plain {
+impl PlainState {
     /// A thread that is to enter a monitor does so.
     fn enter_step(&mut self, t: u8, status: Status) -> Result<bool, AllocError>
-        requires { t < length self.old.threads }
+        requires thread { t < length self.old.threads }
+        requires room { HasRoom self.old }
         ensures { (p : Program) (x : PlainThread) → slice_get self.old.threads t ≡ Some x → IsStep (step_at p self.old t x acts.Enter (status_of status)) self.old self.new result }
     {
         match status {
@@ -98,7 +100,8 @@ impl Plain {
         t: u8,
         status: Status,
     ) -> Result<bool, AllocError>
-        requires { t < length self.old.threads }
+        requires thread { t < length self.old.threads }
+        requires room { HasRoom self.old }
         ensures { (x : PlainThread) → slice_get self.old.threads t ≡ Some x → IsStep (step_at p.now.program self.old t x acts.Do (status_of status)) self.old self.new result }
     {
         match status {
@@ -117,7 +120,8 @@ impl Plain {
         act: Act,
         status: Status,
     ) -> Result<bool, AllocError>
-        requires { t < length self.old.threads }
+        requires thread { t < length self.old.threads }
+        requires room { HasRoom self.old }
         ensures { (x : PlainThread) → slice_get self.old.threads t ≡ Some x → IsStep (step_at p.now.program self.old t x act (status_of status)) self.old self.new result }
     {
         match act {
@@ -132,9 +136,10 @@ impl Plain {
         }
     }
 
-    /// Makes one step of the plain machine (JVMS 2.11.10; JLS 17.1, 17.2). `Ok(false)`: it has no such step, and nothing has
-    /// changed. An error: there was no memory, or a number would be more than 64 bits hold, and nothing has changed.
+    /// Makes one step (JVMS 2.11.10; JLS 17.1, 17.2). `Ok(false)`: there is no such step, and nothing has changed. An error:
+    /// there was no memory, and nothing has changed.
     pub fn step(&mut self, alloc: Global, p: &Checked, step: PlainStep) -> Result<bool, AllocError>
+        requires { HasRoom self.old }
         ensures { IsStep (plain_step p.now.program self.old step) self.old self.new result }
     {
         let status = match self.threads.get(step.thread) {

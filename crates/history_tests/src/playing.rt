@@ -5,7 +5,7 @@ ghost use Rattle.jvm_types.specs.declared.limits.TheConstants.{MOST_WORKERS};
 
 use checked_program::Checked;
 use class_runner::{FileError, load_program};
-use history_rule::Plain;
+use history_rule::{MOST_STEPS, Plain, plain_step};
 use jvm_types::limits::LEAST_HEAP;
 use jvm_types::{Bytes, Rows};
 use machine_types::{Act, PlainStep};
@@ -34,17 +34,23 @@ pub fn load(alloc: Global, class: &str, workers: u8) -> Result<Checked, FileErro
     load_program(alloc, &files, LEAST_HEAP, workers)
 }
 
-/// Makes the same step so many times, each of which there is or not.
+/// Makes the same step so many times, each of which there is or not, and is counted where there is.
 fn make(
     rt: &(impl Abort + AllocGlobal),
     p: &Checked,
     plain: &mut Plain,
     steps: &Steps,
-) -> Result<(), AllocError> {
+) -> Result<(), AllocError>
+    requires { p.now ≡ plain.old.program }
+    ensures { plain.new.program ≡ plain.old.program }
+{
     let (thread, act, count, made) = *steps;
     for _ in 0..count {
+        let before = plain.steps();
+        assert!(rt; before < MOST_STEPS);
         let step = PlainStep { thread, act };
-        assert_eq!(rt; plain.step(rt.alloc(), p, step)?, made);
+        assert_eq!(rt; plain_step(rt.alloc(), plain, p, &step)?, made);
+        assert_eq!(rt; plain.steps(), before + u64::from(made));
     }
     Ok(())
 }
@@ -54,7 +60,9 @@ pub fn make_all(
     p: &Checked,
     plain: &mut Plain,
     all: &[Steps],
-) -> Result<(), AllocError> {
+) -> Result<(), AllocError>
+    requires { p.now ≡ plain.old.program }
+{
     for steps in all {
         make(rt, p, plain, steps)?;
     }
@@ -63,9 +71,11 @@ pub fn make_all(
 
 /// The threads and the numbers that were printed.
 pub fn check_prints(rt: &(impl Abort + AllocGlobal), plain: &Plain, wanted: &[(u8, i32)]) {
-    assert_eq!(rt; plain.prints().len(), wanted.len());
+    for (i, want) in wanted.iter().enumerate() {
+        assert_eq!(rt; plain.print(i), Some(want.1));
+    }
+    assert_eq!(rt; plain.print(wanted.len()), None);
     for (printed, want) in plain.prints().iter().zip(wanted) {
         assert_eq!(rt; printed.thread(), want.0);
-        assert_eq!(rt; printed.value(), want.1);
     }
 }

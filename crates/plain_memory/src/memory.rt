@@ -1,6 +1,6 @@
 //! All objects and all static fields.
 
-ghost use Rattle.std.specs.Prelude.{◌≡◌, ◌==◌, ◌+◌, ◌++◌, ◌∷◌, [], ◌-◌, nat_le, position, true, false, IfOk, OnOk, OnErr, OnSome, MatchOption};
+ghost use Rattle.std.specs.Prelude.{◌≡◌, ◌==◌, ◌<◌, ◌^◌, ◌+◌, ◌++◌, ◌∷◌, [], ◌-◌, nat_le, position, true, false, IfOk, OnOk, OnErr, OnSome, MatchOption};
 ghost use Rattle.std.specs.Option.{option_or};
 ghost use Rattle.jvm_types.specs.ProgramInvariant.{IsProgram};
 ghost use Rattle.plain_memory.specs.Memories.{start_memory};
@@ -142,14 +142,12 @@ impl Memory {
         self.next
     }
 
-    /// The number for the next reference behind an object of so many words; an error where it is more than a `u64` counts.
-    pub fn next_behind(&self, size: u64) -> Result<u64, AllocError>
-        ensures { IfOk result (λ next. next ≡ self.now.next + size) }
+    /// The number for the next reference behind an object of so many words.
+    pub fn next_behind(&self, size: u64) -> u64
+        requires { self.now.next + size < 2 ^ 64 }
+        ensures { result ≡ self.now.next + size }
     {
-        match self.next.checked_add(size) {
-            Some(next) => Ok(next),
-            None => Err(AllocError),
-        }
+        self.next + size
     }
 
     /// The number for the next reference becomes this one.

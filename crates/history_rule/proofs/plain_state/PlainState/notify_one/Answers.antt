@@ -5,7 +5,7 @@ use Rattle.std.proofs.lemmas.List.{length-set}
 use Rattle.machine_types.specs.PlainState.{Plain}
 use Rattle.machine_types.specs.PlainSteps.{wakes}
 use Rattle.plain_threads.proofs.ThreadLists.{set_woken, wakes_that}
-use Rattle.history_rule.proofs.plain.Plain.notify_one.Goals as goal
+use Rattle.history_rule.proofs.plain_state.PlainState.notify_one.Goals as goal
 
 pub set_status-requires : goal.set_status-requires
 set_status-requires c =

@@ -1,6 +1,6 @@
 use Rattle.std.proofs.Common.{refl, sym, ap, ◌∙◌}
 use Rattle.std.specs.Option.{option_copied}
-use Rattle.history_rule.proofs.plain.Plain.begin_root.Goals as goal
+use Rattle.history_rule.proofs.plain_state.PlainState.begin_root.Goals as goal
 
 pub returns-in_ok-begin-in-Some-get : goal.returns-in_ok-begin-in-Some-get
 returns-in_ok-begin-in-Some-get c = λ x e.

@@ -1,4 +1,4 @@
-use Rattle.history_rule.proofs.plain.Plain.act.Goals as goal
+use Rattle.history_rule.proofs.plain_state.PlainState.act.Goals as goal
 
 pub returns-in-Enter : goal.returns-in-Enter
 returns-in-Enter c = λ x e. rw c.in-Enter.is (c.enter_step.ensures c.args.p.now.program x e)
