@@ -4,7 +4,7 @@
 //! proved one. Run it with nothing else on the machine:
 //!
 //! ```sh
-//! rustc -O --edition 2021 -o /tmp/cell bench/cell.rs && /tmp/cell 200
+//! rustc -O --edition 2021 --out-dir out bench/cell.rs && out/cell 200
 //! ```
 //!
 //! The number is how many milliseconds each row is measured, five times; the medians are shown, each as a ratio to the reads
