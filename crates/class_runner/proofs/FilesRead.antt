@@ -8,7 +8,7 @@ use Rattle.jvm_types.specs.ReadingClass.{class_fault}
 use Rattle.jvm_types.specs.declared.class_file.ClassFile.{ClassFile}
 use Rattle.jvm_types.specs.declared.refusal.CRule.{CRule}
 use Rattle.jvm_types.specs.declared.refusal.Rule.{Rule}
-use Rattle.jvm_types.specs.declared.refusal.Rule.TheVariants.{C, K, L, V, S}
+use Rattle.jvm_types.specs.declared.refusal.Rule.TheVariants.{C, K, L, V, S, A}
 use Rattle.jvm_types.specs.declared.refusal.Place.{Place}
 use Rattle.class_runner.specs.Loading.{read_fault}
 use Rattle.class_runner.specs.Stages.{file_fault, IsUnread, AreReadSoFar}
@@ -44,6 +44,7 @@ found_first o other (Refused (K rule) place) h = h
 found_first o other (Refused (L rule) place) h = h
 found_first o other (Refused (V rule) place) h = h
 found_first o other (Refused (S rule) place) h = h
+found_first o other (Refused (A rule) place) h = h
 
 pub stops : (files : List (List ℕ)) (i : ℕ) (classes : List ClassFile) (bytes : List ℕ) (e : FileError) → i < length files → bytes ≡ get_or files i bytes → IsUnread (file_fault i bytes) e
     → AreReadSoFar files i classes → IsUnread (read_fault 0 files) e

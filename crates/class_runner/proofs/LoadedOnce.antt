@@ -24,7 +24,7 @@ use Rattle.jvm_types.specs.declared.program.MethodInfo.{MethodInfo}
 use Rattle.jvm_types.specs.declared.program.Program.{Program}
 use Rattle.jvm_types.specs.declared.typing.Typing.{Typing}
 use Rattle.jvm_types.specs.declared.refusal.Rule.{Rule}
-use Rattle.jvm_types.specs.declared.refusal.Rule.TheVariants.{C, K, L, V, S}
+use Rattle.jvm_types.specs.declared.refusal.Rule.TheVariants.{C, K, L, V, S, A}
 use Rattle.jvm_types.specs.declared.refusal.VRule.{VRule}
 use Rattle.jvm_types.specs.declared.refusal.SRule.{SRule}
 use Rattle.jvm_types.specs.declared.refusal.Place.{Place}
@@ -178,6 +178,7 @@ never_refused files heap workers (K rule) place w (classes, spelled, fault) =
 never_refused files heap workers (L rule) place w u = never_linked files heap workers w u.classes u.code (rule, place) u.read u.fault
 never_refused files heap workers (V rule) place w r = never_untyped files heap workers rule place w r
 never_refused files heap workers (S rule) place w r = never_untagged files heap workers rule place w r
+never_refused files heap workers (A rule) place w r = r
 
 pub only_memory : (files : List (List ℕ)) (heap workers : ℕ) (e : FileError) → IsAccepted files heap workers → IsNotLoaded files heap workers e → e ≡ Memory
 only_memory files heap workers Memory w r = refl

@@ -17,7 +17,7 @@ use Rattle.jvm_types.specs.declared.class_file.MemberAttr.TheVariants as member_
 use Rattle.jvm_types.specs.declared.code.Insn.{Insn}
 use Rattle.jvm_types.specs.declared.refusal.KRule.{KRule}
 use Rattle.jvm_types.specs.declared.refusal.Rule.{Rule}
-use Rattle.jvm_types.specs.declared.refusal.Rule.TheVariants.{C, K, L, V, S}
+use Rattle.jvm_types.specs.declared.refusal.Rule.TheVariants.{C, K, L, V, S, A}
 use Rattle.jvm_types.specs.declared.refusal.Place.{Place}
 use Rattle.jvm_types.proofs.CodeLaws.{faultless}
 use Rattle.class_runner.specs.Loading.{decode_fault}
@@ -71,6 +71,7 @@ found_first o other (Refused (K rule) place) h = rw h refl
 found_first o other (Refused (L rule) place) h = h
 found_first o other (Refused (V rule) place) h = h
 found_first o other (Refused (S rule) place) h = h
+found_first o other (Refused (A rule) place) h = h
 
 stops : (d : Declared) (left all : List Declared) (code : List (List Insn)) (e : FileError) → IsUndecoded (method_fault d.file d.place (code_of d.member.attrs)) e → AreDecodedSoFar (d ∷ left) all code → IsUndecoded (decode_fault all) e
 stops d left all code e undecoded so_far =

@@ -6,7 +6,7 @@ use Rattle.jvm_types.specs.declared.class_file.Constant.{Constant}
 use Rattle.jvm_types.specs.declared.class_file.Member.{Member}
 use Rattle.jvm_types.specs.declared.program.Program.{Program}
 use Rattle.checked_program.specs.declared.tag.Tags.{Tags}
-use Rattle.jvm_types.specs.declared.refusal.Rule.TheVariants.{C, K, L, V, S}
+use Rattle.jvm_types.specs.declared.refusal.Rule.TheVariants.{C, K, L, V, S, A}
 use Rattle.class_runner.specs.Stages.{IsUntaggedAt, IsNotTagged, AreTaggedSoFar}
 use Rattle.class_runner.specs.declared.loading.FileError.{FileError}
 use Rattle.class_runner.specs.declared.loading.FileError.TheVariants.{Memory, Refused}
@@ -20,3 +20,4 @@ stops p file pool i ms left all tags (Refused (C rule) place) within untagged so
 stops p file pool i ms left all tags (Refused (K rule) place) within untagged so_far = absurd untagged
 stops p file pool i ms left all tags (Refused (L rule) place) within untagged so_far = absurd untagged
 stops p file pool i ms left all tags (Refused (V rule) place) within untagged so_far = absurd untagged
+stops p file pool i ms left all tags (Refused (A rule) place) within untagged so_far = absurd untagged

@@ -6,7 +6,7 @@ use Rattle.jvm_types.specs.declared.class_file.Constant.{Constant}
 use Rattle.jvm_types.specs.declared.class_file.Member.{Member}
 use Rattle.jvm_types.specs.declared.program.Program.{Program}
 use Rattle.jvm_types.specs.declared.typing.Typing.{Typing}
-use Rattle.jvm_types.specs.declared.refusal.Rule.TheVariants.{C, K, L, V, S}
+use Rattle.jvm_types.specs.declared.refusal.Rule.TheVariants.{C, K, L, V, S, A}
 use Rattle.class_runner.specs.Stages.{IsUntypedAt, IsUnverified, AreTypedSoFar}
 use Rattle.class_runner.specs.declared.loading.FileError.{FileError}
 use Rattle.class_runner.specs.declared.loading.FileError.TheVariants.{Memory, Refused}
@@ -20,3 +20,4 @@ stops p file pool i ms left all typings (Refused (C rule) place) within untyped 
 stops p file pool i ms left all typings (Refused (K rule) place) within untyped so_far = absurd untyped
 stops p file pool i ms left all typings (Refused (L rule) place) within untyped so_far = absurd untyped
 stops p file pool i ms left all typings (Refused (S rule) place) within untyped so_far = absurd untyped
+stops p file pool i ms left all typings (Refused (A rule) place) within untyped so_far = absurd untyped

@@ -17,7 +17,7 @@ use Rattle.jvm_types.specs.declared.refusal.LRule.{LRule}
 use Rattle.jvm_types.specs.declared.refusal.VRule.{VRule}
 use Rattle.jvm_types.specs.declared.refusal.SRule.{SRule}
 use Rattle.jvm_types.specs.declared.refusal.Rule.{Rule}
-use Rattle.jvm_types.specs.declared.refusal.Rule.TheVariants.{C, K, L, V, S}
+use Rattle.jvm_types.specs.declared.refusal.Rule.TheVariants.{C, K, L, V, S, A}
 use Rattle.jvm_types.specs.declared.refusal.Place.{Place}
 use Rattle.laws_programs.proofs.OneTyping.{no_refusal, one_refusal}
 use Rattle.laws_sections.proofs.TagAnswers.{no_refusal as no_tag_refusal, one_refusal_all}
@@ -163,3 +163,9 @@ refused_once files heap workers (S rule) (K other) place at r s = absurd (never_
 refused_once files heap workers (S rule) (L other) place at r s = absurd (never_s files heap workers other rule at place s r)
 refused_once files heap workers (S rule) (V other) place at r s = absurd (never_both_checks files heap workers other rule at place s r)
 refused_once files heap workers (S rule) (S other) place at r s = once_s files heap workers rule other place at r s
+refused_once files heap workers (C rule) (A other) place at r s = absurd s
+refused_once files heap workers (K rule) (A other) place at r s = absurd s
+refused_once files heap workers (L rule) (A other) place at r s = absurd s
+refused_once files heap workers (V rule) (A other) place at r s = absurd s
+refused_once files heap workers (S rule) (A other) place at r s = absurd s
+refused_once files heap workers (A rule) other place at r s = absurd r

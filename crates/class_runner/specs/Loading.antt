@@ -127,6 +127,7 @@ IsRefusedBy files heap workers (rules.K rule) place = (classes : List ClassFile)
 IsRefusedBy files heap workers (rules.L rule) place = IsUnlinked files heap workers rule place
 IsRefusedBy files heap workers (rules.V rule) place = IsUntyped files heap workers rule place
 IsRefusedBy files heap workers (rules.S rule) place = IsUntagged files heap workers rule place
+IsRefusedBy files heap workers (rules.A rule) place = ⊥
 
 -- memory ran out, or this refuses the files
 abbrev pub IsNotLoaded : List (List ℕ) → (heap workers : ℕ) → FileError → Type 0

@@ -34,6 +34,8 @@ pub use lists::{Bytes, Room, Rows, Stack};
 pub use op_row::{Given, OpRow, Want};
 pub use outcome::{Counts, End, Outcome, Print, ThreadReport, Thrown};
 pub use program::{FieldInfo, Kind, MethodInfo, Program, Row, Target};
-pub use refusal::{CRule, KRule, LRule, NO_METHOD, Place, Rule, SRule, VRule, in_file, in_method};
+pub use refusal::{
+    ARule, CRule, KRule, LRule, NO_METHOD, Place, Rule, SRule, VRule, in_file, in_method,
+};
 pub use site::Site;
 pub use typing::{TypeFrame, Typing, VType};

@@ -108,6 +108,16 @@ pub enum SRule {
     S4,
 }
 
+/// Assembling a class from its listing.
+#[derive(Clone, Copy, Debug, PartialEq, Eq)]
+pub enum ARule {
+    /// A line without a form at its place, or with a number outside its field: at the number of the line, counted from 1. A
+    /// text that stops too early: at the number of its lines plus 1.
+    A1,
+    /// Lines that have their forms, where no class is listed so: at 0.
+    A2,
+}
+
 /// The rule that a refusal names.
 #[derive(Clone, Copy, Debug, PartialEq, Eq)]
 pub enum Rule {
@@ -116,6 +126,7 @@ pub enum Rule {
     L(LRule),
     V(VRule),
     S(SRule),
+    A(ARule),
 }
 
 /// The method of a place that is in no method.

@@ -14,6 +14,8 @@ use Rattle.jvm_types.specs.declared.refusal.VRule.{VRule}
 use Rattle.jvm_types.specs.declared.refusal.VRule.TheVariants.{V1, V2, V3, V4, V5, V6, V7, V8}
 use Rattle.jvm_types.specs.declared.refusal.SRule.{SRule}
 use Rattle.jvm_types.specs.declared.refusal.SRule.TheVariants.{S1, S2, S3, S4}
+use Rattle.jvm_types.specs.declared.refusal.ARule.{ARule}
+use Rattle.jvm_types.specs.declared.refusal.ARule.TheVariants.{A1, A2}
 use Rattle.jvm_types.specs.declared.refusal.Place.{Place}
 use Rattle.jvm_types.specs.declared.refusal.TheConstants.{NO_METHOD}
 
@@ -64,12 +66,17 @@ s_number S2 = 2
 s_number S3 = 3
 s_number S4 = 4
 
+abbrev pub a_number : ARule → ℕ
+a_number A1 = 1
+a_number A2 = 2
+
 abbrev pub rule_text : Rule → List ℕ
 rule_text (rules.C r) = codes "C" ++ decimal (c_number r)
 rule_text (rules.K r) = codes "K" ++ decimal (k_number r)
 rule_text (rules.L r) = codes "L" ++ decimal (l_number r)
 rule_text (rules.V r) = codes "V" ++ decimal (v_number r)
 rule_text (rules.S r) = codes "S" ++ decimal (s_number r)
+rule_text (rules.A r) = codes "A" ++ decimal (a_number r)
 
 abbrev pub method_text : ℕ → List ℕ
 method_text method = if method == NO_METHOD then codes "" else codes " method " ++ decimal method

@@ -1,9 +1,9 @@
 //! The line of a refusal.
 
 ghost use Rattle.std.specs.Prelude.{◌≡◌, IfOk};
-ghost use Rattle.run_texts.specs.Refusal.{refusal_text, c_number, k_number, l_number, v_number, s_number};
+ghost use Rattle.run_texts.specs.Refusal.{refusal_text, c_number, k_number, l_number, v_number, s_number, a_number};
 
-use jvm_types::{Bytes, CRule, KRule, LRule, NO_METHOD, Place, Rule, SRule, VRule};
+use jvm_types::{ARule, Bytes, CRule, KRule, LRule, NO_METHOD, Place, Rule, SRule, VRule};
 use std::alloc::{AllocError, Global};
 use std::fmt;
 
@@ -89,6 +89,10 @@ impl fmt::Display for RuleText {
                 let number = s_number(rule);
                 write!(f, "S{number}")
             }
+            Rule::A(rule) => {
+                let number = a_number(rule);
+                write!(f, "A{number}")
+            }
         }
     }
 }
@@ -162,5 +166,14 @@ fn s_number(rule: SRule) -> u8
         SRule::S2 => 2,
         SRule::S3 => 3,
         SRule::S4 => 4,
+    }
+}
+
+fn a_number(rule: ARule) -> u8
+    ensures { result ≡ a_number rule }
+{
+    match rule {
+        ARule::A1 => 1,
+        ARule::A2 => 2,
     }
 }
