@@ -11,3 +11,9 @@ mod MarkTries
 pub mod CheckedPlaces
 mod OwnTries
 mod ReachTries
+pub mod EdgesAdded
+pub mod CalledMethods
+mod MethodEdges
+mod ReachedMethods
+pub mod SumsOfSome
+mod OneReach

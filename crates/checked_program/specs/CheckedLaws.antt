@@ -22,6 +22,7 @@ use Rattle.laws_programs.specs.NewLaws.{AreBehind}
 use Rattle.laws_programs.specs.RuleLaws.{RulesHold, IsGood}
 use Rattle.checked_program.specs.CheckedProgram.{CheckedProgram, IsChecked}
 use Rattle.checked_program.specs.Marks.{called_method}
+use Rattle.checked_program.specs.Reach.{IsReach}
 use Rattle.checked_program.specs.Tagging.{catches_all, until_all}
 
 -- ---- methods
@@ -95,3 +96,9 @@ CallsSuit = (c : CheckedProgram) (m called : MethodInfo) (frames : List (Option 
 abbrev pub CatchersAreAmong : Type 0
 CatchersAreAmong = (m : MethodInfo) (pc class : ℕ) (handler : Row) → find (λ r. covers pc r && (catches_all r || is_subclass class r.catch_class)) m.rows ≡ Some handler
     → (k : ℕ) × (slice_get (until_all (covering m pc)) k ≡ Some handler)
+
+-- ---- reach
+
+-- what a method reaches is one number
+abbrev pub ReachIsOne : Type 0
+ReachIsOne = (p : Program) (mi n k : ℕ) → IsReach p mi n → IsReach p mi k → n ≡ k

@@ -9,6 +9,8 @@ pub mod Marks
 pub mod SectionLaws
 pub mod ObjectLaws
 pub mod Reach
+pub mod CallEdges
+pub mod MethodCalls
 pub mod CheckedProgram
 pub mod CodeIndex
 pub mod MarkedProgram

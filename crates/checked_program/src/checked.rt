@@ -1,8 +1,10 @@
-ghost use Rattle.std.specs.Prelude.{◌≡◌, slice_get, IfOk};
+ghost use Rattle.std.specs.Prelude.{◌≡◌, ◌<◌, length, slice_get, IfOk};
 ghost use Rattle.checked_program.specs.CodeIndex.{number_in, words_of_object, AllAscend, FewInstances};
 ghost use Rattle.checked_program.specs.MarkedProgram.{IsMarked};
+ghost use Rattle.checked_program.specs.Reach.{IsReach};
 
 use crate::code_index::{CodeIndex, count_words, search_in};
+use crate::reached_code::reach;
 use crate::section::SectionMark;
 use crate::tag::Tags;
 use jvm_types::{Program, Rows, Typing};
@@ -131,6 +133,16 @@ impl Checked {
         ensures marked { IsMarked self.now }
     {
         &self.marks
+    }
+
+    /// The number of instructions of a method together with those of all other methods that it calls, directly or through calls
+    /// (JVMS 6.5, the invoke instructions); each method counts once, and all of its code. `method` is the number of a method of
+    /// the program. It answers `AllocError` where memory is wanted.
+    pub fn reach(&self, alloc: Global, method: u32) -> Result<u32, AllocError>
+        requires { method < length self.now.program.methods }
+        ensures { IfOk result (IsReach self.now.program method) }
+    {
+        reach(alloc, self.program(), method)
     }
 
     /// The number of worker threads.

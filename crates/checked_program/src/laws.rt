@@ -1,6 +1,6 @@
 //! Laws of checked programs, on which what runs one rests: each function only states one.
 
-ghost use Rattle.checked_program.specs.CheckedLaws.{CalledFit, CallsSuit, CatchersAreAmong, CheckedIsSound, FramesHavePlaces, PlacesHold};
+ghost use Rattle.checked_program.specs.CheckedLaws.{CalledFit, CallsSuit, CatchersAreAmong, CheckedIsSound, FramesHavePlaces, PlacesHold, ReachIsOne};
 
 /// Each method has its typing, under which each instruction is sound.
 pub fn checked_is_sound()
@@ -30,4 +30,9 @@ pub fn calls_suit()
 /// The row that catches an exception is one of those up to the first that catches all (JVMS 2.10).
 pub fn catchers_are_among()
     ensures { CatchersAreAmong }
+{}
+
+/// What a method reaches is one number.
+pub fn reach_is_one()
+    ensures { ReachIsOne }
 {}

@@ -1,17 +1,12 @@
 -- The edges of the graph are the calls of reached instructions.
-use Rattle.std.proofs.Common.{◌≡◌, ℕ, zero, suc, ◌+◌, ◌*◌, ◌/◌, ◌%◌, ◌<◌, Bool, true, false, List, [], ◌∷◌, length, Option, Some, None, refl, sym, ap, subst, ◌∙◌, arith, ⊎_elim, ◌⊎◌}
-use Rattle.std.specs.Prelude.{nat_lt, if◌then◌else◌, slice_get, IsSomeAnd}
+use Rattle.std.proofs.Common.{◌≡◌, ℕ, ◌+◌, ◌*◌, ◌/◌, ◌%◌, ◌<◌, Bool, true, false, List, length, Option, Some, None, refl, sym, ap, subst, ◌∙◌, arith, ⊎_elim, ◌⊎◌}
+use Rattle.std.specs.Prelude.{nat_lt, if◌then◌else◌, slice_get}
 use Rattle.std.specs.Option.{option_map}
 use Rattle.std.proofs.lemmas.Bool.Decides.{nat_tests}
 use Rattle.std.proofs.lemmas.Option.{slice_get-map, slice_get_within, same_Some}
 use Rattle.jvm_types.specs.ProgramInvariant.{IsProgram, IsTargetOf, site_in}
-use Rattle.jvm_types.specs.Members.{Site}
 use Rattle.jvm_types.specs.declared.code.Insn.{Insn}
-use Rattle.jvm_types.specs.declared.code.Op.{Op}
-use Rattle.jvm_types.specs.declared.code.Op.TheVariants as ops
 use Rattle.jvm_types.specs.declared.program.Target.{Target}
-use Rattle.jvm_types.specs.declared.program.Target.TheVariants as targets
-use Rattle.jvm_types.specs.declared.program.MethodInfo.{MethodInfo}
 use Rattle.jvm_types.specs.declared.program.Program.{Program}
 use Rattle.laws_programs.proofs.CodeOrder.{have_targets}
 use Rattle.checked_program.specs.LockTags.{TagShape}
@@ -21,6 +16,7 @@ use Rattle.checked_program.specs.declared.tag.Tags.{Tags}
 use Rattle.checked_program.specs.declared.section.Mode.{Mode}
 use Rattle.checked_program.specs.declared.section.Mode.TheVariants.{OnThis, OffThis}
 use Rattle.guard_analysis.specs.CallGraph.{mode_number, node_of, mode_at, AreCalls, node_in, call_node, call_at, call_graph}
+use Rattle.checked_program.proofs.CalledMethods.{named}
 use Rattle.guard_analysis.proofs.GraphEdges.{CallAt, graph_added, graph_old}
 
 -- ---- nodes
@@ -74,17 +70,6 @@ pub node_there : (n u : ℕ) (o : Option ℕ) (mode : Mode) → o ≡ Some u →
 node_there n u o mode e h = let test : nat_lt u n ≡ true = grind (arith, nat_tests) in rw (e, test) refl
 
 -- ---- a call names a method of the program
-
-some_inside : (ms : List MethodInfo) (u : ℕ) (P : MethodInfo → Type 0) → IsSomeAnd (slice_get ms u) P → u < length ms
-some_inside [] u P h = absurd h
-some_inside (m ∷ ms) zero P h = omega arith
-some_inside (m ∷ ms) (suc u) P h = let more : u < length ms = some_inside ms u P h in omega (arith, more)
-
-pub named : (p : Program) (site : Site) (op : Op) (target : Target) (u : ℕ) → called_method op target ≡ Some u → IsTargetOf p site op target → u < length p.methods
-named p site (ops.Invokevirtual i) (targets.Method v) u e t = let same : v ≡ u = same_Some v u e in subst (λ x. x < length p.methods) same (some_inside p.methods v _ t)
-named p site (ops.Invokespecial i) (targets.Method v) u e t = let same : v ≡ u = same_Some v u e in subst (λ x. x < length p.methods) same (some_inside p.methods v _ t)
-named p site (ops.Invokestatic i) (targets.Method v) u e t = let same : v ≡ u = same_Some v u e in subst (λ x. x < length p.methods) same (some_inside p.methods v _ t)
-named p site op target u e t = absurd (cc)
 
 pub called_inside : (p : Program) (tags : Tagged) → IsProgram p → (a b : Callee) (i : ℕ) → Calls p tags a i b → b.method < length p.methods
 called_inside p tags is a b i c =

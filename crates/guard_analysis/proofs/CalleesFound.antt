@@ -19,7 +19,7 @@ use Rattle.checked_program.specs.declared.section.Mode.TheVariants.{OnThis, OffT
 use Rattle.checked_program.specs.declared.section.FieldUse.{FieldUse}
 use Rattle.graph_closure.specs.Walks.{IsEdge, Walks, Leads, AreLeading, AreRecurring}
 use Rattle.graph_closure.specs.LeastSet.{IsGraph}
-use Rattle.guard_analysis.specs.declared.call_graph.Graph.{Graph}
+use Rattle.checked_program.specs.declared.call_edges.Graph.{Graph}
 use Rattle.guard_analysis.specs.CallGraph.{node_of, mode_at, AreCalls, call_graph}
 use Rattle.guard_analysis.specs.Faults.{fault_at, breaks_before, node_breaks, breaking_nodes, LeadsToBreak, LeadsToItself, AreCallees}
 use Rattle.guard_analysis.proofs.CallEdges.{half_of, mode_back, node_low, with_tags, frames_there, edges_are_calls}

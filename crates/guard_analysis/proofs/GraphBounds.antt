@@ -2,26 +2,19 @@
 use Rattle.std.proofs.Common.{◌≡◌, ℕ, zero, suc, ◌+◌, ◌*◌, ◌/◌, ◌<◌, ◌≤◌, List, [], ◌∷◌, length, Option, Some, None, refl, subst, ◌∙◌, arith}
 use Rattle.std.specs.Prelude.{slice_get, slice_index}
 use Rattle.std.specs.List.{sum_by}
-use Rattle.std.proofs.lemmas.List.{length-append}
 use Rattle.std.proofs.lemmas.List.Sums.{sum_by-cons}
-use Rattle.std.proofs.lemmas.Option.{slice_get_within}
 use Rattle.jvm_types.specs.ProgramInvariant.{IsProgram}
 use Rattle.jvm_types.specs.declared.program.MethodInfo.{MethodInfo}
 use Rattle.jvm_types.specs.declared.program.Program.{Program}
-use Rattle.laws_programs.proofs.CodeOrder.{methods_laid_out, starts}
 use Rattle.checked_program.specs.LockTags.{TagShape}
 use Rattle.checked_program.specs.Reach.{size_of}
 use Rattle.checked_program.specs.declared.tag.Tags.{Tags}
 use Rattle.graph_closure.specs.LeastSet.{IsGraph}
-use Rattle.guard_analysis.specs.CallGraph.{with_edge, edges_before, node_edges, graph_before, call_graph}
-use Rattle.guard_analysis.specs.declared.call_graph.Graph.{Graph}
+use Rattle.checked_program.specs.declared.call_edges.Graph.{Graph}
+use Rattle.checked_program.proofs.EdgesAdded.{with_few}
+use Rattle.guard_analysis.specs.CallGraph.{edges_before, node_edges, graph_before, call_graph}
 use Rattle.guard_analysis.proofs.GraphEdges.{graph_alike, graph_old, the_call}
 use Rattle.guard_analysis.proofs.CallEdges.{call_parts, node_parts, node_low}
-use Rattle.jvm_types.specs.declared.limits.TheConstants.{MOST_INSTRUCTIONS}
-
-pub with_few : (a : ℕ) (g : Graph) (c : Option ℕ) → length (with_edge a g c).from ≤ length g.from + 1
-with_few a g None = omega arith
-with_few a g (Some b) = omega (arith, length-append g.from (a ∷ []))
 
 edges_few : (p : Program) (m : MethodInfo) (frames : List (Option TagShape)) (a : ℕ) (g : Graph) (i : ℕ) → length (edges_before p m frames a g i).from ≤ length g.from + i
 edges_few p m frames a g zero = omega arith
@@ -59,18 +52,6 @@ sizes_all (m ∷ ms) =
     let more : sizes ms (2 * length ms) ≡ 2 * sum_by (λ m. length m.code) ms = sizes_all ms in
     let sum : sum_by (λ m. length m.code) (m ∷ ms) ≡ length m.code + sum_by (λ m. length m.code) ms = sum_by-cons (λ m. length m.code) m ms in
     rw two (sizes_behind m ms (2 * length ms) ∙ omega (arith, more, sum))
-
--- ---- each method has an instruction
-
-some_each : (ms : List MethodInfo) → ((i : ℕ) (m : MethodInfo) → slice_get ms i ≡ Some m → 0 < length m.code) → length ms ≤ sum_by (λ m. length m.code) ms
-some_each [] h = omega arith
-some_each (m ∷ ms) h = omega (arith, sum_by-cons (λ m. length m.code) m ms, h 0 m refl, some_each ms (λ i n e. h (suc i) n e))
-
-pub methods_few : (p : Program) → IsProgram p → length p.methods ≤ MOST_INSTRUCTIONS
-methods_few p is =
-    let low : length p.methods ≤ sum_by (λ m. length m.code) p.methods = some_each p.methods (λ i m e. let first = starts m (methods_laid_out p i m is e) in slice_get_within m.code 0 first.0 first.1) in
-    let size : sum_by (λ m. length m.code) p.methods ≤ MOST_INSTRUCTIONS = is.size in
-    omega (arith, low, size)
 
 pub is_graph : (p : Program) (tags : List Tags) → IsProgram p → IsGraph (2 * length p.methods) (call_graph p tags).from (call_graph p tags).to
 is_graph p tags is = record {

@@ -1,8 +1,6 @@
 pub mod GraphEdges
 pub mod CallEdges
 pub mod GraphBounds
-pub mod MethodEdges
-pub mod ReachedMethods
 pub mod CalleesFound
 pub mod BlockWalkLaws
 pub mod Earliest

@@ -1,6 +1,6 @@
 -- The graph of calls. Its nodes are the methods, each once as it is called on the section's object and once as it is called
 -- off it; its edges are the calls of reached instructions.
-use Rattle.std.specs.Prelude.{◌≡◌, ◌+◌, ◌*◌, ◌/◌, ◌%◌, ℕ, zero, suc, ◌==◌, nat_lt, if◌then◌else◌, List, [], ◌∷◌, ◌++◌, length, Option, Some, None, slice_get}
+use Rattle.std.specs.Prelude.{◌≡◌, ◌+◌, ◌*◌, ◌/◌, ◌%◌, ℕ, zero, suc, ◌==◌, nat_lt, if◌then◌else◌, List, length, Option, Some, None, slice_get}
 use Rattle.jvm_types.specs.declared.code.Insn.{Insn}
 use Rattle.jvm_types.specs.declared.code.Op.{Op}
 use Rattle.jvm_types.specs.declared.program.Target.{Target}
@@ -14,7 +14,8 @@ use Rattle.checked_program.specs.declared.tag.Tags.{Tags}
 use Rattle.checked_program.specs.declared.section.Mode.{Mode}
 use Rattle.checked_program.specs.declared.section.Mode.TheVariants.{OnThis, OffThis}
 use Rattle.graph_closure.specs.Walks.{IsEdge}
-use Rattle.guard_analysis.specs.declared.call_graph.Graph.{Graph}
+use Rattle.checked_program.specs.CallEdges.{no_edges, with_edge}
+use Rattle.checked_program.specs.declared.call_edges.Graph.{Graph}
 
 -- ---- nodes
 
@@ -46,13 +47,6 @@ call_node p mode op target stack = node_in (length p.methods) (called_method op 
 abbrev pub call_at : Program → Mode → Option Insn → Option Target → Option (Option TagShape) → Option ℕ
 call_at p mode (Some insn) (Some target) (Some (Some f)) = call_node p mode insn.op target f.stack
 call_at p mode insn target f = None
-
-abbrev pub no_edges : Graph
-no_edges = record { from = []; to = [] }
-
-abbrev pub with_edge : ℕ → Graph → Option ℕ → Graph
-with_edge a g None = g
-with_edge a g (Some b) = record { from = g.from ++ a ∷ []; to = g.to ++ b ∷ [] }
 
 -- with the calls of the first instructions of the method of a node
 abbrev pub edges_before : Program → MethodInfo → List (Option TagShape) → ℕ → Graph → ℕ → Graph

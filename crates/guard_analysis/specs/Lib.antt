@@ -1,6 +1,5 @@
 pub mod BlockWalks
 pub mod CallGraph
-pub mod MethodCalls
 pub mod Faults
 pub mod FieldUses
 pub mod SectionGrades

@@ -1,39 +1,19 @@
-//! The graph of calls: which method calls which, on the section's object or off it.
+//! The graph of calls: which method calls which, on the section's object or off it. Node 2 u is the method u as it is called on
+//! the section's object, node 2 u + 1 as it is called off it.
 
 ghost use Rattle.std.specs.Prelude.{◌≡◌, ◌*◌, ◌/◌, ◌≤◌, ◌<◌, length, slice_get, OnOk, IfOk};
 ghost use Rattle.jvm_types.specs.declared.limits.TheConstants.{MOST_INSTRUCTIONS as most};
-ghost use Rattle.guard_analysis.specs.CallGraph.{call_graph, edges_before, mode_at, node_edges, with_edge};
+ghost use Rattle.guard_analysis.specs.CallGraph.{call_graph, edges_before, mode_at, node_edges};
 
 use crate::calls::{call_at, mode_if};
-use checked_program::{Mode, Tags};
+use checked_program::{Graph, Mode, Tags};
 use jvm_types::{MethodInfo, Program, Rows};
 use std::alloc::{AllocError, Global};
-
-/// Edges by their numbers. Node 2 u is the method u as it is called on the section's object, node 2 u + 1 as it is
-/// called off it.
-#[derive(Debug, Drop)]
-pub(crate) struct Graph {
-    pub(crate) from: Rows<u32>,
-    pub(crate) to: Rows<u32>,
-}
 
 pub(crate) fn mode_at(a: usize) -> Mode
     ensures { result ≡ mode_at a }
 {
     mode_if(a % 2 == 0)
-}
-
-pub(crate) fn add_edge(graph: &mut Graph, a: u32, called: Option<u32>) -> Result<(), AllocError>
-    ensures { OnOk result (graph.new ≡ with_edge a graph.old called) }
-{
-    match called {
-        Some(b) => {
-            graph.from.push(a)?;
-            graph.to.push(b)?;
-            Ok(())
-        }
-        None => Ok(()),
-    }
 }
 
 /// Adds the calls of the method of a node.
@@ -48,7 +28,7 @@ fn add_calls(
     ensures { OnOk result (graph.new ≡ edges_before p.now m.now tags.now.frames a graph.old (length m.now.code)) }
 {
     for i in 0..m.code.len() {
-        add_edge(graph, a, call_at(p, mode_at(a as usize), m, tags, i))?;
+        graph.add(a, call_at(p, mode_at(a as usize), m, tags, i))?;
     }
     Ok(())
 }
@@ -71,10 +51,7 @@ pub(crate) fn call_graph(alloc: Global, p: &Program, tags: &Rows<Tags>) -> Resul
     requires few { length p.now.methods ≤ most }
     ensures { IfOk result (λ g. g ≡ call_graph p.now tags.now) }
 {
-    let mut graph = Graph {
-        from: Rows::new(alloc),
-        to: Rows::new(alloc),
-    };
+    let mut graph = Graph::new(alloc);
     for a in 0..2 * p.methods.len() {
         add_node(p, tags, a as u32, &mut graph)?;
     }

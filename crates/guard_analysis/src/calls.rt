@@ -2,26 +2,12 @@
 
 ghost use Rattle.std.specs.Prelude.{◌≡◌, ◌≤◌, length, slice_get};
 ghost use Rattle.jvm_types.specs.declared.limits.TheConstants.{MOST_INSTRUCTIONS as most};
-ghost use Rattle.checked_program.specs.Marks.{args_of, called_method, is_own_object, mode_if, receiver_tag};
+ghost use Rattle.checked_program.specs.Marks.{args_of, is_own_object, mode_if, receiver_tag};
 ghost use Rattle.guard_analysis.specs.CallGraph.{call_at, call_node, mode_number};
 
 use crate::tag_reading::{is_this, stack_tag};
-use checked_program::{Mode, Tag, TagFrame, Tags};
+use checked_program::{Mode, Tag, TagFrame, Tags, called_method};
 use jvm_types::{MethodInfo, Op, Program, Target};
-
-pub(crate) fn called_method(op: &Op, target: Target) -> Option<u32>
-    ensures { result ≡ called_method op.now target }
-{
-    match target {
-        Target::Method(u) => match op {
-            Op::Invokevirtual(_) => Some(u),
-            Op::Invokespecial(_) => Some(u),
-            Op::Invokestatic(_) => Some(u),
-            _ => None,
-        },
-        _ => None,
-    }
-}
 
 fn args_of(p: &Program, u: u32) -> usize
     ensures { result ≡ args_of (slice_get p.now.methods u) }

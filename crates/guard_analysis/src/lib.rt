@@ -8,8 +8,6 @@ mod calls;
 mod faults;
 mod field_uses;
 mod marking;
-mod reached_code;
 mod tag_reading;
 
 pub use marking::{mark, mark_by_uses};
-pub use reached_code::reach;

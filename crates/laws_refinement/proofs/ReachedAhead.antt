@@ -14,6 +14,7 @@ use Rattle.checked_program.specs.SectionLaws.{ApartLaw, AreApart, AreParts, HasN
 use Rattle.checked_program.specs.Sections.{Section}
 use Rattle.checked_program.specs.TaggedCode.{Tagged}
 use Rattle.checked_program.specs.declared.section.Mode.{Mode}
+use Rattle.checked_program.proofs.SumsOfSome.{IsWithout, without}
 use Rattle.machine_types.specs.Standing.{tags_of}
 use Rattle.machine_types.specs.Structure.{AttemptStands, Finishes, IsPart, RunsSection, frames_inside, section_of}
 use Rattle.machine_types.specs.Threads.{Attempt, Frame}
@@ -22,35 +23,6 @@ use Rattle.machine_types.specs.declared.phase.Phase.{Phase}
 use Rattle.laws_refinement.proofs.InstructionsAhead.{ahead, ahead_in, all_ahead, no_more_than}
 
 -- ---- a sum over some of a list
-
--- a list without one of its items
-record IsWithout (f : ℕ → ℕ) (u : ℕ) (ns : List ℕ) : Type 0 where
-  rest : List ℕ
-  sum : sum_by f ns ≡ f u + sum_by f rest
-  others : (v : ℕ) → v ≢ u → Contains ns v → Contains rest v
-
-without : (f : ℕ → ℕ) (u : ℕ) (ns : List ℕ) → Contains ns u → IsWithout f u ns
-without f u [] (k, h, e) = absurd (omega (arith, h))
-without f u (n ∷ ns) (zero, h, e) = record {
-  rest = ns;
-  sum = sum_by-cons f n ns ∙ ap (λ (m : ℕ). f m + sum_by f ns) e;
-  others = λ v apart there. behind v apart there;
-}
-  where
-    behind : (v : ℕ) → v ≢ u → Contains (n ∷ ns) v → Contains ns v
-    behind v apart (zero, room, is) = absurd (apart (sym is ∙ e))
-    behind v apart (suc k, room, is) = (k, omega (arith, room), is)
-without f u (n ∷ ns) (suc k, h, e) =
-    let m : IsWithout f u ns = without f u ns (k, omega (arith, h), e) in
-    record {
-      rest = n ∷ m.rest;
-      sum = (let sum = m.sum in omega (arith, sum, sum_by-cons f n ns, sum_by-cons f n m.rest));
-      others = λ v apart there. kept m v apart there;
-    }
-  where
-    kept : (m : IsWithout f u ns) (v : ℕ) → v ≢ u → Contains (n ∷ ns) v → Contains (n ∷ m.rest) v
-    kept m v apart (zero, room, is) = (0, omega arith, is)
-    kept m v apart (suc k, room, is) = let there = m.others v apart (k, omega (arith, room), is) in (suc there.0, (let room = there.1 in omega (arith, room)), there.2)
 
 -- of parts of different methods
 sum_within : (f : ℕ → ℕ) (parts : List Part) (ns : List ℕ) → AreApart parts → ((u : ℕ) → (k : ℕ) × (part : Part) × (slice_get parts k ≡ Some part) × (part.method ≡ u) → Contains ns u) → sum_by (λ (q : Part). f q.method) parts ≤ sum_by f ns

@@ -3,26 +3,24 @@
 ghost use Rattle.std.specs.Prelude.{◌<◌, ◌≤◌, length};
 
 use crate::files::one;
-use class_runner::{FileError, link_files, read_files};
-use guard_analysis::reach;
-use jvm_types::Bytes;
+use class_runner::{FileError, load_program};
 use jvm_types::limits::LEAST_HEAP;
+use jvm_types::{Bytes, Rows};
 use std::alloc::Global;
 use std::process::Abort;
 use std::test::*;
 use test_classes::{adds, calls, changed, counts_up};
 
 /// The reach of the method of that number, or 0 where there is none.
-fn reach_of(alloc: Global, files: &[Bytes], method: u32) -> Result<u32, FileError>
+fn reach_of(alloc: Global, files: &Rows<Bytes>, method: u32) -> Result<u32, FileError>
     requires some { 0 < length files.now }
     requires few { length files.now ≤ 64 }
 {
-    let classes = read_files(alloc, files)?;
-    let program = link_files(alloc, &classes, LEAST_HEAP, 0)?;
-    if method as usize >= program.methods.len() {
+    let program = load_program(alloc, files, LEAST_HEAP, 0)?;
+    if method as usize >= program.program().methods.len() {
         return Ok(0);
     }
-    let count = reach(alloc, &program, method)?;
+    let count = program.reach(alloc, method)?;
     Ok(count)
 }
 
@@ -35,7 +33,7 @@ fn check_reach(
 ) -> Result<(), FileError> {
     let alloc = rt.alloc();
     let files = one(alloc, changed(alloc, hex, &[])?)?;
-    let count = reach_of(alloc, files.as_slice(), method)?;
+    let count = reach_of(alloc, &files, method)?;
     assert_eq!(rt; count, wanted);
     Ok(())
 }

@@ -1,4 +1,5 @@
-use Rattle.guard_analysis.proofs.GraphBounds.{methods_few, is_graph}
+use Rattle.checked_program.proofs.CalledMethods.{methods_few}
+use Rattle.guard_analysis.proofs.GraphBounds.{is_graph}
 use Rattle.guard_analysis.proofs.MarkLists.{taggings_long}
 use Rattle.guard_analysis.proofs.marking.mark_by_uses.Goals as goal
 

@@ -1,9 +1,9 @@
 use Rattle.std.proofs.Common.{◌≡◌, ◌∙◌, length, ap, sym, subst}
 use Rattle.checked_program.specs.Reach.{IsReach}
-use Rattle.guard_analysis.specs.MethodCalls.{size_found}
-use Rattle.guard_analysis.proofs.GraphBounds.{methods_few}
-use Rattle.guard_analysis.proofs.ReachedMethods.{reach_found}
-use Rattle.guard_analysis.proofs.reached_code.reach.Goals as goal
+use Rattle.checked_program.specs.MethodCalls.{size_found}
+use Rattle.checked_program.proofs.CalledMethods.{methods_few}
+use Rattle.checked_program.proofs.ReachedMethods.{reach_found}
+use Rattle.checked_program.proofs.reached_code.reach.Goals as goal
 
 pub reached_methods-requires-clause-few : goal.reached_methods-requires-clause-few
 reached_methods-requires-clause-few c = methods_few c.args.p.now c.requires.program

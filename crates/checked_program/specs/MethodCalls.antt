@@ -7,8 +7,8 @@ use Rattle.jvm_types.specs.declared.program.MethodInfo.{MethodInfo}
 use Rattle.jvm_types.specs.declared.program.Program.{Program}
 use Rattle.checked_program.specs.Marks.{called_method}
 use Rattle.checked_program.specs.Reach.{HasCalls, size_of}
-use Rattle.guard_analysis.specs.CallGraph.{no_edges, with_edge}
-use Rattle.guard_analysis.specs.declared.call_graph.Graph.{Graph}
+use Rattle.checked_program.specs.CallEdges.{no_edges, with_edge}
+use Rattle.checked_program.specs.declared.call_edges.Graph.{Graph}
 
 -- what an instruction with its target calls
 abbrev pub called_by : Option Insn → Option Target → Option ℕ

@@ -13,9 +13,9 @@ use Rattle.checked_program.specs.Reach.{HasCall, HasCalls, IsReach, size_of}
 use Rattle.graph_closure.specs.LeastSet.{IsGraph}
 use Rattle.graph_closure.specs.Walks.{Walks, Leads, AreLeading}
 use Rattle.graph_closure.proofs.WalkLaws.{leads_more}
-use Rattle.guard_analysis.specs.MethodCalls.{method_calls, only_one, size_found, size_if, AreReached}
-use Rattle.guard_analysis.specs.declared.call_graph.Graph.{Graph}
-use Rattle.guard_analysis.proofs.MethodEdges.{size_before, size_before-le, turned_is_graph, call_inside, edge_of, call_of}
+use Rattle.checked_program.specs.MethodCalls.{method_calls, only_one, size_found, size_if, AreReached}
+use Rattle.checked_program.specs.declared.call_edges.Graph.{Graph}
+use Rattle.checked_program.proofs.MethodEdges.{size_before, size_before-le, turned_is_graph, call_inside, edge_of, call_of}
 
 -- ---- chains of calls and walks back along them
 

@@ -6,12 +6,11 @@ ghost use Rattle.std.specs.List.{sum_by};
 ghost use Rattle.jvm_types.specs.ProgramInvariant.{IsProgram};
 ghost use Rattle.jvm_types.specs.declared.limits.TheConstants.{MOST_INSTRUCTIONS as most};
 ghost use Rattle.checked_program.specs.Reach.{IsReach};
-ghost use Rattle.guard_analysis.specs.MethodCalls.{among, called_by, calls_before, calls_from, method_call, method_calls, only_one, size_found, size_if, AreReached};
+ghost use Rattle.checked_program.specs.MethodCalls.{among, called_by, calls_before, calls_from, method_call, method_calls, only_one, size_found, size_if, AreReached};
 
-use crate::call_graph::{Graph, add_edge};
-use crate::calls::called_method;
+use crate::call_edges::{Graph, called_method};
 use graph_closure::leading;
-use jvm_types::{MethodInfo, Program, Rows};
+use jvm_types::{MethodInfo, Program};
 use std::alloc::{AllocError, Global};
 
 fn called_by(m: &MethodInfo, i: usize) -> Option<u32>
@@ -46,7 +45,7 @@ fn add_calls(methods: usize, m: &MethodInfo, a: u32, graph: &mut Graph) -> Resul
     ensures { OnOk result (graph.new ≡ calls_before methods m.now a graph.old (length m.now.code)) }
 {
     for i in 0..m.code.len() {
-        add_edge(graph, a, among(methods, called_by(m, i)))?;
+        graph.add(a, among(methods, called_by(m, i)))?;
     }
     Ok(())
 }
@@ -65,10 +64,7 @@ fn method_calls(alloc: Global, p: &Program) -> Result<Graph, AllocError>
     requires few { length p.now.methods ≤ most }
     ensures { IfOk result (λ g. g ≡ method_calls p.now.methods (length p.now.methods)) }
 {
-    let mut graph = Graph {
-        from: Rows::new(alloc),
-        to: Rows::new(alloc),
-    };
+    let mut graph = Graph::new(alloc);
     for a in 0..p.methods.len() {
         add_method(p, a as u32, &mut graph)?;
     }
@@ -127,10 +123,8 @@ fn size_found(p: &Program, found: &[bool]) -> u32
     total as u32
 }
 
-/// The number of instructions of a method together with those of all other methods that it calls, directly or through
-/// calls (JVMS 6.5, the invoke instructions); each method counts once, and all of its code. `method` is the number of a
-/// method of the program. Errors: where memory runs out.
-pub fn reach(alloc: Global, p: &Program, method: u32) -> Result<u32, AllocError>
+/// The instructions of a method and of all others that it calls, directly or through calls.
+pub(crate) fn reach(alloc: Global, p: &Program, method: u32) -> Result<u32, AllocError>
     requires program { IsProgram p.now }
     requires inside { method < length p.now.methods }
     ensures { IfOk result (IsReach p.now method) }

@@ -1,5 +1,5 @@
-use Rattle.guard_analysis.proofs.ReachedMethods.{shown_graph, shown_reached}
-use Rattle.guard_analysis.proofs.reached_code.reached_methods.Goals as goal
+use Rattle.checked_program.proofs.ReachedMethods.{shown_graph, shown_reached}
+use Rattle.checked_program.proofs.reached_code.reached_methods.Goals as goal
 
 pub leading-requires-clause-graph : goal.leading-requires-clause-graph
 leading-requires-clause-graph c =

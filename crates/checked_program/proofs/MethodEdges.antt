@@ -16,11 +16,10 @@ use Rattle.checked_program.specs.Marks.{called_method}
 use Rattle.checked_program.specs.Reach.{HasCall, size_of}
 use Rattle.graph_closure.specs.LeastSet.{IsGraph}
 use Rattle.graph_closure.specs.Walks.{IsEdge}
-use Rattle.guard_analysis.specs.MethodCalls.{called_by, among, method_call, calls_before, calls_from, method_calls}
-use Rattle.guard_analysis.specs.declared.call_graph.Graph.{Graph}
-use Rattle.guard_analysis.proofs.GraphEdges.{IsAlike, with_alike, with_kept, with_added, with_old}
-use Rattle.guard_analysis.proofs.GraphBounds.{with_few}
-use Rattle.guard_analysis.proofs.CallEdges.{named}
+use Rattle.checked_program.specs.MethodCalls.{called_by, among, method_call, calls_before, calls_from, method_calls}
+use Rattle.checked_program.specs.declared.call_edges.Graph.{Graph}
+use Rattle.checked_program.proofs.CalledMethods.{named}
+use Rattle.checked_program.proofs.EdgesAdded.{IsAlike, with_alike, with_kept, with_added, with_old, with_few}
 
 -- ---- the calls of one method
 

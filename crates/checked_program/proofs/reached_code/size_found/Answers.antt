@@ -1,8 +1,8 @@
 use Rattle.std.proofs.Common.{◌≤◌, ◌+◌, suc, false, arith}
 use Rattle.std.specs.Prelude.{slice_get, slice_index_or}
-use Rattle.guard_analysis.specs.MethodCalls.{size_found, size_if}
-use Rattle.guard_analysis.proofs.ReachedMethods.{found_fits}
-use Rattle.guard_analysis.proofs.reached_code.size_found.Goals as goal
+use Rattle.checked_program.specs.MethodCalls.{size_found, size_if}
+use Rattle.checked_program.proofs.ReachedMethods.{found_fits}
+use Rattle.checked_program.proofs.reached_code.size_found.Goals as goal
 
 pub overflow_add-total : goal.overflow_add-total
 overflow_add-total c =
