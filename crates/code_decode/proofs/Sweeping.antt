@@ -151,7 +151,7 @@ passed code pc skip b s some here h =
     let k : skip ≡ suc (skip - 1) = omega arith in
     record {
       outlines_read = sym (ap (λ (x : Read). with_front (map outline s.branchings) x) (outlines_skip skip (skip - 1) (drop pc code) k here)) ∙ h.outlines_read;
-      insns_read = sym (ap (λ (x : List Insn). s.insns ++ x) (insns_skip skip (skip - 1) (drop pc code) k here)) ∙ h.insns_read;
+      insns_read = sym (ap (λ (x : List Insn). s.insns.items ++ x) (insns_skip skip (skip - 1) (drop pc code) k here)) ∙ h.insns_read;
       marked = λ i. mark_false s.starts i ∙ h.marked i;
       length_is = length_more s.starts false pc h.length_is;
     }
@@ -188,19 +188,20 @@ marked_more marks branchings pc targets e h i =
     mark_true marks i ∙ (ap (λ t. t || length marks == i) (h i) ∙ (ap (λ n. has_number (starts_in branchings) i || n == i) e
     ∙ sym (ap (λ ns. has_number ns i) (map_more (λ (b : Branching). b.pc) branchings (record { pc = pc; targets = targets })) ∙ has_more (starts_in branchings) pc i)))
 
-pub visited : (code : List ℕ) (pc b : ℕ) (found : Found) (s : Sweep) → drop pc code ≡ b ∷ drop (pc + 1) code → IsStep pc (form_of b) (drop (pc + 1) code) (Ok found) → Swept code pc 0 s
-    → Swept code (pc + 1) found.size (record { insns = s.insns ++ record { pc = pc; next = pc + 1 + found.size; op = found.op } ∷ []; branchings = s.branchings ++ record { pc = pc; targets = found.targets } ∷ []; starts = s.starts ++ true ∷ [] })
-visited code pc b found s at h so_far =
+pub visited : (code : List ℕ) (pc b : ℕ) (found : Found) (s t : Sweep) → t.insns.items ≡ s.insns.items ++ insn_at pc (pc + 1 + found.size) found.op ∷ []
+    → t.branchings ≡ s.branchings ++ record { pc = pc; targets = found.targets } ∷ [] → t.starts ≡ s.starts ++ true ∷ []
+    → drop pc code ≡ b ∷ drop (pc + 1) code → IsStep pc (form_of b) (drop (pc + 1) code) (Ok found) → Swept code pc 0 s → Swept code (pc + 1) found.size t
+visited code pc b found s t insns branchings starts at h so_far =
     let rest : List ℕ = drop (pc + 1) code in
     let one : outlines 0 pc (drop pc code) ≡ followed (record { pc = pc; targets = found.targets }) (outlines found.size (pc + 1) (drop (pc + 1) code)) = outlines_step pc b (drop pc code) (drop (pc + 1) code) found at (known_is pc (form_of b) (drop (pc + 1) code) found h) in
     record {
-      outlines_read = ap (λ (front : List Outline). with_front front (outlines found.size (pc + 1) (drop (pc + 1) code))) (map_more outline s.branchings (record { pc = pc; targets = found.targets }))
+      outlines_read = rw branchings (ap (λ (front : List Outline). with_front front (outlines found.size (pc + 1) (drop (pc + 1) code))) (map_more outline s.branchings (record { pc = pc; targets = found.targets }))
           ∙ (sym (front_more (map outline s.branchings) (record { pc = pc; targets = found.targets }) (outlines found.size (pc + 1) (drop (pc + 1) code)))
-          ∙ (sym (ap (λ (x : Read). with_front (map outline s.branchings) x) one) ∙ so_far.outlines_read));
-      insns_read = one_more s.insns (insn_at pc (pc + 1 + found.size) found.op) (insns_of found.size (pc + 1) (drop (pc + 1) code)) (insns_of 0 0 code)
-          (sym (ap (λ (x : List Insn). s.insns ++ x) (insns_step pc b (drop pc code) (drop (pc + 1) code) found at h)) ∙ so_far.insns_read);
-      marked = marked_more s.starts s.branchings pc found.targets so_far.length_is so_far.marked;
-      length_is = length_more s.starts true pc so_far.length_is;
+          ∙ (sym (ap (λ (x : Read). with_front (map outline s.branchings) x) one) ∙ so_far.outlines_read)));
+      insns_read = rw insns (one_more s.insns.items (insn_at pc (pc + 1 + found.size) found.op) (insns_of found.size (pc + 1) (drop (pc + 1) code)) (insns_of 0 0 code)
+          (sym (ap (λ (x : List Insn). s.insns.items ++ x) (insns_step pc b (drop pc code) (drop (pc + 1) code) found at h)) ∙ so_far.insns_read));
+      marked = rw (branchings, starts) (marked_more s.starts s.branchings pc found.targets so_far.length_is so_far.marked);
+      length_is = rw starts (length_more s.starts true pc so_far.length_is);
     }
 
 -- the operands end inside the code

@@ -87,7 +87,7 @@ starts_in branchings = map (λ b. b.pc) branchings
 -- the code was swept up to a pc, from which some bytes still belong to the instruction before
 pub record Swept (code : List ℕ) (pc skip : ℕ) (s : Sweep) : Type 0 where
   pub outlines_read : with_front (map outline s.branchings) (outlines skip pc (drop pc code)) ≡ outlines 0 0 code
-  pub insns_read : s.insns ++ insns_of skip pc (drop pc code) ≡ insns_of 0 0 code
+  pub insns_read : s.insns.items ++ insns_of skip pc (drop pc code) ≡ insns_of 0 0 code
   pub marked : AreMarks s.starts (starts_in s.branchings)
   pub length_is : length s.starts ≡ pc
 
@@ -103,5 +103,5 @@ Advances code pc s (Err e) = IsSweepFault code e
 
 -- the whole code was swept
 abbrev pub IsSwept : List ℕ → Result Sweep CodeError → Type 0
-IsSwept code (Ok s) = (outlines 0 0 code ≡ Ok (map outline s.branchings)) × (s.insns ≡ insns_of 0 0 code) × AreMarks s.starts (starts_in s.branchings)
+IsSwept code (Ok s) = (outlines 0 0 code ≡ Ok (map outline s.branchings)) × (s.insns.items ≡ insns_of 0 0 code) × AreMarks s.starts (starts_in s.branchings)
 IsSwept code (Err e) = IsSweepFault code e

@@ -33,9 +33,11 @@ fn decode_slice(alloc: Global, code: &[u8], rows: &[Handler]) -> Result<Rows<Ins
     if size == 0 || size > MOST_CODE_BYTES {
         return Err(CodeError::Refused(KRule::K5, 0));
     }
-    let swept = sweep_code(alloc, code)?;
+    let mut swept = sweep_code(alloc, code)?;
     check_places(&swept, size, rows)?;
-    Ok(swept.insns)
+    // a program keeps its instructions, so they have no spare room
+    swept.insns.shrink_to_fit();
+    Ok(Rows::from_vec(swept.insns))
 }
 
 /// The instructions of the code of a method with these handler rows, of which there are at most 65,535

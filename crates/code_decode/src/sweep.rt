@@ -1,6 +1,6 @@
 //! One pass over the code by pc, which finds its instructions, or the first K1, K2 or K6.
 
-ghost use Rattle.std.specs.Prelude.{◌≡◌, ◌∷◌, ◌+◌, ◌<◌, ◌≤◌, length, drop};
+ghost use Rattle.std.specs.Prelude.{◌≡◌, [], ◌∷◌, ◌++◌, ◌+◌, ◌<◌, ◌≤◌, length, drop, OnOk};
 ghost use Rattle.code_decode.specs.Decoding.{Swept, Advances, IsSwept};
 
 use crate::error::CodeError;
@@ -9,7 +9,7 @@ use crate::opcodes::step;
 use crate::operands::Stop;
 use jvm_types::limits::MOST_CODE_BYTES;
 use jvm_types::{Insn, Rows};
-use std::alloc::Global;
+use std::alloc::{AllocError, Global};
 
 /// Where the branches of an instruction lead.
 #[derive(Debug, Drop)]
@@ -23,11 +23,18 @@ pub struct Branching {
 /// What the pass finds.
 #[derive(Debug, Drop)]
 pub struct Sweep {
-    pub insns: Rows<Insn>,
+    pub insns: Vec<Insn>,
     /// One for each instruction.
     pub branchings: Rows<Branching>,
     /// For each pc whether an instruction begins there.
     pub starts: Rows<bool>,
+}
+
+fn push_insn(insns: &mut Vec<Insn>, insn: Insn) -> Result<(), AllocError>
+    ensures { OnOk result (insns.new.items ≡ insns.old.items ++ insn ∷ []) }
+{
+    insns.push(insn)?;
+    Ok(())
 }
 
 /// The instruction at a pc; answers how many bytes its operands have.
@@ -48,11 +55,12 @@ fn visit(
     match step(alloc, opcode, pc, rest) {
         Ok(found) => {
             let size = found.size;
-            swept.insns.push(Insn {
+            let insn = Insn {
                 pc: u32::from(pc),
                 next: u32::from(pc) + 1 + size as u32,
                 op: found.op,
-            })?;
+            };
+            push_insn(&mut swept.insns, insn)?;
             swept.branchings.push(Branching {
                 pc: u32::from(pc),
                 targets: found.targets,
@@ -82,7 +90,7 @@ pub fn sweep_code(alloc: Global, code: &[u8]) -> Result<Sweep, CodeError>
     ensures { IsSwept code.now result }
 {
     let mut swept = Sweep {
-        insns: Rows::new(alloc),
+        insns: Vec::new(alloc),
         branchings: Rows::new(alloc),
         starts: Rows::new(alloc),
     };
