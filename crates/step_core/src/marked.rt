@@ -1,9 +1,8 @@
-//! Whether a section is marked 0. The marks of a program stand in the order of its methods.
+//! Whether a section is marked 0. The marks of a program stand in the order of its methods, and within one of their pcs.
 
 ghost use Rattle.std.specs.Prelude.{◌≡◌, ◌==◌, ◌≤◌, ◌&&◌, length, drop};
 ghost use Rattle.machine_types.specs.Sections.{is_marked, is_same_spot};
-ghost use Rattle.checked_program.specs.declared.section.Spot.{Spot as TheSpot};
-ghost use Rattle.step_core.specs.MarkOrder.{AscendFrom};
+ghost use Rattle.step_core.specs.MarkOrder.{AscendFrom, rank, stands_before};
 
 use checked_program::{Checked, SectionMark, Spot};
 
@@ -29,17 +28,35 @@ fn is_of(mark: &SectionMark, method: u32, spot: Spot) -> bool
     mark.method == method && is_same_spot(mark.spot, spot)
 }
 
-/// How many marks to pass over by halving: all of them are of methods before this one.
-fn marks_before(marks: &[SectionMark], method: u32) -> usize
-    requires { AscendFrom 0 marks.now }
+/// The rank of a spot in its method: its own section comes first, then its blocks by their pc.
+fn rank(spot: Spot) -> u64
+    ensures { result ≡ rank spot }
+{
+    match spot {
+        Spot::Method => 0,
+        Spot::Block(pc) => pc as u64 + 1,
+    }
+}
+
+/// Whether a section of this rank in a method stands before another one.
+fn stands_before(method: u32, rank: u64, other: u32, least: u64) -> bool
+    ensures { result ≡ stands_before method rank other least }
+{
+    method < other || (method == other && rank < least)
+}
+
+/// How many marks to pass over by halving: all of them are of sections before this one.
+fn marks_before(marks: &[SectionMark], method: u32, spot: Spot) -> usize
+    requires { AscendFrom 0 0 marks.now }
     ensures some { result ≤ length marks.now }
-    ensures before { (spot : TheSpot) → is_marked (drop result marks.now) method spot ≡ is_marked marks.now method spot }
+    ensures before { is_marked (drop result marks.now) method spot ≡ is_marked marks.now method spot }
 {
     let mut low = 0;
     let mut high = marks.len();
     while low < high {
         let middle = low + (high - low) / 2;
-        if marks[middle].method < method {
+        let mark = marks[middle];
+        if stands_before(mark.method, rank(mark.spot), method, rank(spot)) {
             low = middle + 1;
         } else {
             high = middle;
@@ -48,13 +65,13 @@ fn marks_before(marks: &[SectionMark], method: u32) -> usize
     low
 }
 
-/// Whether a section is marked 0 by these marks, which are looked through as far as its method's.
+/// Whether a section is marked 0 by these marks, which are looked through as far as one behind it.
 fn is_marked_by(marks: &[SectionMark], method: u32, spot: Spot) -> bool
-    requires { AscendFrom 0 marks.now }
+    requires { AscendFrom 0 0 marks.now }
     ensures { result ≡ is_marked marks.now method spot }
 {
     for mark in marks {
-        if mark.method > method {
+        if stands_before(method, rank(spot), mark.method, rank(mark.spot)) {
             return false;
         }
         if is_of(mark, method, spot) {
@@ -69,6 +86,6 @@ pub fn is_marked(p: &Checked, method: u32, spot: Spot) -> bool
     ensures { result ≡ is_marked p.now.marks method spot }
 {
     let marks = p.marks().as_slice();
-    let first = marks_before(marks, method);
+    let first = marks_before(marks, method, spot);
     is_marked_by(&marks[first..], method, spot)
 }
