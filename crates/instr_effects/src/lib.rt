@@ -8,6 +8,7 @@ pub mod ints;
 mod names;
 
 pub use accesses::{is_checked, perform, read_by, wants};
+pub use before::case_by_halves;
 pub use effects::effect;
 pub use ints::word_of;
 pub use names::{kept, variable_of, with_method};

@@ -4,3 +4,4 @@ pub mod Ready
 pub mod Near
 mod PhasesReady
 mod RootsThere
+pub mod SwitchKeys

@@ -1,11 +1,16 @@
 //! One instruction, by its effect.
 
-ghost use Rattle.std.specs.Prelude.{◌≡◌, ◌<◌, length};
+ghost use Rattle.std.specs.Prelude.{◌≡◌, ◌<◌, ℕ, List, length};
+ghost use Rattle.jvm_types.specs.declared.code.Op.TheVariants.{Lookupswitch};
+ghost use Rattle.jvm_types.specs.declared.program.Program.{Program};
+ghost use Rattle.jvm_types.specs.declared.program.Target.{Target as Named};
+ghost use Rattle.machine_types.specs.Effects.{effect};
 ghost use Rattle.machine_types.specs.Frames.{effect_at};
 ghost use Rattle.machine_types.specs.FoundWords.{WordFits, effect_content};
 ghost use Rattle.machine_types.specs.Instructions.{begun, did, instructed};
 ghost use Rattle.machine_types.specs.declared.phase.Phase.TheVariants.{Run};
 ghost use Rattle.frames.specs.FrameLists.{top};
+ghost use Rattle.instr_effects.specs.SwitchKeys.{AreKeys};
 ghost use Rattle.laws_threads.specs.TopFrames.{IsAllowed};
 ghost use Rattle.instr_steps.specs.Effecting.{CallerFitsAfter, CanFail};
 ghost use Rattle.instr_steps.specs.Places.{CanGo, IsAt, at_place};
@@ -19,20 +24,35 @@ use crate::places::Place;
 use checked_program::Checked;
 use frames::{ThreadState, count_instruction};
 use heap_words::header;
-use instr_effects::{effect, is_checked};
-use jvm_types::{Op, Target};
+use instr_effects::{case_by_halves, effect, is_checked};
+use jvm_types::{Case, Op, Target};
 use machine_types::Effect;
+
+/// The effect of a `lookupswitch` whose keys ascend.
+fn look_up(otherwise: u32, cases: &[Case], stack: &[u64]) -> Effect
+    requires { AreKeys cases.now }
+    ensures { (p : Program) (next : ℕ) (target : Named) (locals : List ℕ) → result ≡ effect p next target (Lookupswitch otherwise cases.now) locals stack.now }
+{
+    match stack {
+        [key, ..] => Effect::Goes(case_by_halves(otherwise, cases, *key), 0),
+        [] => Effect::Stuck,
+    }
+}
 
 /// The effect of the instruction at which the top frame stands.
 #[inline(always)]
 pub fn effect_here(s: &ThreadState, p: &Checked, place: &Place) -> Effect
-    requires { 0 < length s.now.frames }
+    requires some { 0 < length s.now.frames }
+    requires stands { IsAt p.now.program s.now.frames place.now }
     ensures { result ≡ effect_at p.now.program (at_place s.now.frames place.now) }
 {
     let insn = place.insn();
     match (&insn.op, place.target()) {
         (Op::New(_), Target::Class(class)) => {
             Effect::Makes(header(class, 0), p.object_size(class) as u64)
+        }
+        (Op::Lookupswitch { otherwise, cases }, _) => {
+            look_up(*otherwise, cases.as_slice(), s.stack())
         }
         (op, target) => effect(p.program(), insn.next, target, op, s.locals(), s.stack()),
     }
