@@ -8,3 +8,4 @@ mod ReadSteps
 mod WriteSteps
 mod SeatSteps
 mod Going
+mod Alone

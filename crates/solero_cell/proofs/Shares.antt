@@ -43,7 +43,7 @@ adds depth s t le =
 nothing : (n : ℕ) → 0 * n ≡ 0
 nothing n = omega arith
 
-pos_times : (n m : ℕ) → 0 < n → 0 < m → 0 < n * m
+pub pos_times : (n m : ℕ) → 0 < n → 0 < m → 0 < n * m
 pos_times zero m p q = absurd (omega arith)
 pos_times (suc n) zero p q = absurd (omega arith)
 pos_times (suc n) (suc m) p q = omega arith

@@ -1,5 +1,7 @@
 -- What each answer of a read, of a write and of a join says of the seat.
 use Rattle.std.specs.Prelude.{◌≡◌, ◌≢◌, ℕ, ◌+◌, ◌-◌, ◌^◌, ◌<◌, ◌≤◌, List, false, ◌⊎◌, length, slice_index_or, suc}
+use mathlib.Core.Option.{some}
+use lib.ListN.{get_elem?}
 use Rattle.atomic_table.specs.Seated.{TableId}
 use Rattle.machine_types.specs.LockWords.{lock_of, word_of_lock}
 use Rattle.machine_types.specs.declared.lock.LockWord.TheVariants.{Free}
@@ -8,9 +10,11 @@ use Rattle.solero_cell.specs.declared.answers.CellRead.TheVariants.{Got, NotFree
 use Rattle.solero_cell.specs.declared.answers.CellWrite.{CellWrite}
 use Rattle.solero_cell.specs.declared.answers.CellWrite.TheVariants as wrote
 use Rattle.solero_cell.specs.declared.views.Record.{Record}
+use Rattle.solero_cell.specs.declared.views.Share.{Share}
 use Rattle.solero_cell.specs.declared.views.View.{View}
 use Rattle.solero_cell.specs.Histories.{IsSeen}
-use Rattle.solero_cell.specs.CellViews.{is_free, record_of, noted, has_failed, has_read, has_written, IsStill}
+use Rattle.solero_cell.specs.CellRules.{Shows}
+use Rattle.solero_cell.specs.CellViews.{is_free, record_of, noted, has_failed, has_read, has_written, spent, IsStill}
 
 -- a seat at a cell: of which table, and what it knows
 pub record Seated : Type 0 where
@@ -90,3 +94,27 @@ StaysAtTable s t = (t.table_id ≡ s.table_id) × (t.view.opening ≡ s.view.ope
 
 abbrev pub AreSeatsOf : TableId → (opening : Record) → List Seated → Type 0
 AreSeatsOf table opening seats = (i : ℕ) (d : Seated) → i < length seats → IsTableOf table opening (slice_index_or seats i d)
+
+-- ---- the end of a cell
+
+-- the share is 1
+abbrev pub IsWhole : Share → Type 0
+IsWhole s = s.parts ≡ 2 ^ s.depth
+
+-- some state between two steps has this view at this number
+abbrev pub IsShown : (opening : Record) (number : ℕ) (v : View) → Type 0
+IsShown opening number v =
+    (words : List ℕ) × (views : List View) × Shows opening words views × (get_elem? views number ≡ some v)
+
+-- the seat with this number has taken in all others
+abbrev pub IsAlone : (number : ℕ) → List View → Type 0
+IsAlone number views = (i : ℕ) (v : View) → i ≢ number → get_elem? views i ≡ some v → v ≡ spent
+
+-- the last words of the cell, and what its seats knew then, this one among them
+pub record IsAtEnd (v : View) : Type 0 where
+  pub words : List ℕ
+  pub views : List View
+  pub number : ℕ
+  pub shows : Shows v.opening words views
+  pub here : get_elem? views number ≡ some v
+  pub whole : IsWhole v.share → IsAlone number views

@@ -1,7 +1,7 @@
 //! A seat at a cell: it reads and writes.
 
 ghost use Rattle.std.specs.Prelude.{◌≡◌, ◌<◌, ◌≤◌, ◌*◌, ◌^◌, [], ◌∷◌, length, IfOk};
-ghost use Rattle.solero_cell.specs.Calls.{IsRead, IsTableOf, IsWritten};
+ghost use Rattle.solero_cell.specs.Calls.{IsAtEnd, IsRead, IsShown, IsTableOf, IsWritten};
 ghost use Rattle.solero_cell.specs.CellViews.{first_view, halved, joined, newcomer, record_of};
 ghost use Rattle.solero_cell.specs.Histories.{AreOfOne};
 
@@ -81,6 +81,15 @@ pub fn cell(
             latest: count,
         },
     ))
+}
+
+/// Frees a table. Its last state, between two steps, has the view of its seat.
+fn end_table(table: CellTable, seat: Seat<(), View>)
+    requires table { seat.table_id ≡ table.shared.table_id }
+    requires vacant { table.shared.table_id.slots ≡ 0 }
+    ensures { IsShown table.shared.key seat.id seat.me.0 }
+{
+    table.close_with(seat).free();
 }
 
 impl CellSeat {
@@ -167,6 +176,16 @@ impl CellSeat {
         if self.latest < latest {
             self.latest = latest;
         }
+    }
+
+    /// Ends the cell. Its last words and what its seats knew then, as this seat its view, meet the
+    /// rule of the cell. A seat with the share 1 has taken in all others, so the writes and the
+    /// numbers of all seats are its own.
+    pub fn close(self, table: CellTable)
+        requires table { IsTableOf table.shared.table_id table.shared.key self }
+        ensures { IsAtEnd self.view }
+    {
+        end_table(table, self.seat);
     }
 
     /// The count of the seat's latest record.

@@ -1,0 +1,49 @@
+-- A seat with the share 1 has taken in all others.
+use Rattle.std.proofs.Common.{◌≡◌, ℕ, ◌*◌, ◌-◌, ◌^◌, ◌≤◌, inl, inr, List, sym, ap, ◌∙◌, arith}
+use Rattle.std.proofs.lemmas.Nat.{pow-add, pow_pos}
+use Rattle.std.specs.List.{sum_by}
+use mathlib.Core.Option.{some}
+use lib.ListN.{get_elem?}
+use Rattle.solero_cell.specs.declared.views.Record.{Record}
+use Rattle.solero_cell.specs.declared.views.View.{View}
+use Rattle.solero_cell.specs.Calls.{IsAlone, IsAtEnd, IsShown, IsWhole}
+use Rattle.solero_cell.specs.CellRules.{Fits, HaveDepth, Shows, in_parts}
+use Rattle.solero_cell.specs.CellViews.{spent}
+use Rattle.solero_cell.specs.Histories.{History}
+use Rattle.solero_cell.proofs.Shares.{pos_times}
+use Rattle.solero_cell.proofs.Sums.{at_most, others_none}
+
+abbrev depth_of : View → ℕ
+depth_of v = v.share.depth
+
+abbrev parts_of : ℕ → View → ℕ
+parts_of depth v = in_parts depth v.share
+
+whole_at : (n d depth : ℕ) → n ≡ 2 ^ d → d ≤ depth → n * 2 ^ (depth - d) ≡ 2 ^ depth
+whole_at n d depth e le = ap (λ k. k * 2 ^ (depth - d)) e ∙ sym (pow-add 2 d (depth - d)) ∙ ap (λ k. 2 ^ k) (omega arith)
+
+nobody : (depth : ℕ) (o : Record) (h : History) (words : List ℕ) (u : View) → parts_of depth u ≡ 0 → Fits o h words u → u ≡ spent
+nobody depth o h words u none (inl e) = e
+nobody depth o h words u none (inr k) =
+    let some_parts = pos_times u.share.parts (2 ^ (depth - u.share.depth)) k.0 (pow_pos (depth - u.share.depth)) in
+    absurd (omega (arith, none, some_parts))
+
+alone : (o : Record) (words : List ℕ) (views : List View) (number : ℕ) (v : View) → Shows o words views
+    → get_elem? views number ≡ some v → IsWhole v.share → IsAlone number views
+alone o words views number v s here whole i u apart at =
+    let depth : ℕ = sum_by depth_of views in
+    let have : HaveDepth depth views = λ j w g. at_most depth_of views j w g in
+    let all = s.whole depth have in
+    let mine = whole_at v.share.parts v.share.depth depth whole (have number v here) in
+    let most : sum_by (parts_of depth) views ≤ parts_of depth v = omega (arith, all, mine) in
+    nobody depth o s.history words u (others_none (parts_of depth) views number i v u here most apart at) (s.each i u at)
+
+pub at_end : (v : View) (number : ℕ) → IsShown v.opening number v → IsAtEnd v
+at_end v number shown = record {
+  words = shown.0;
+  views = shown.1;
+  number = number;
+  shows = shown.2;
+  here = shown.3;
+  whole = alone v.opening shown.0 shown.1 number v shown.2 shown.3;
+}
