@@ -1,1 +1,2 @@
 pub mod CellRuns
+pub mod HandsOfCell

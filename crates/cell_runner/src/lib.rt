@@ -4,8 +4,10 @@
 //! neither of.
 #![tactic(auto)]
 
+mod hands;
 mod report;
 mod running;
+mod workers;
 
 pub use report::CellReport;
 pub use running::{MOST_ROUNDS, run_cell};

@@ -1,15 +1,34 @@
 //! The run of a cell.
 
-ghost use Rattle.std.specs.Prelude.{◌<◌, ◌≤◌, IfOk};
-ghost use Rattle.cell_runner.specs.CellRuns.{IsCellRun};
+ghost use Rattle.std.specs.Prelude.{◌≡◌, ℕ, ◌*◌, ◌<◌, ◌≤◌, IfOk};
+ghost use Rattle.solero_cell.specs.Calls.{IsTableOf, IsWhole};
+ghost use Rattle.cell_runner.specs.CellRuns.{IsCellRun, all_zero};
+ghost use Rattle.cell_runner.specs.HandsOfCell.{HasGathered};
 
+use crate::hands::Hand;
 use crate::report::CellReport;
+use crate::workers::run_workers;
 use jvm_types::Gate;
+use lists::Rows;
+use solero_cell::{CellTable, MOST_VALUES, cell};
 use std::alloc::{AllocError, Global};
 use std::thread::Threads;
 
 /// The most rounds of a worker.
 pub const MOST_ROUNDS: u32 = 1_000;
+
+/// Ends the cell, when all workers have ended: what they came to. None has found the cell full, which
+/// has had at most 8,000 writes.
+fn finish(table: CellTable, all: Hand) -> CellReport
+    requires table { IsTableOf table.shared.table_id table.shared.key all.seat }
+    requires opening { table.shared.key ≡ all_zero }
+    requires whole { IsWhole all.seat.view.share }
+    ensures { (workers rounds turns : ℕ) → workers * rounds ≤ 8000 → HasGathered table.shared.table_id table.shared.key workers rounds turns all → IsCellRun workers rounds turns result }
+{
+    let Hand { seat, report, .. } = all;
+    seat.close(table);
+    report
+}
 
 /// Runs workers on one cell of 64 words, which opens with words 0 under the count 0, each worker on a
 /// thread of its own: what they came to, by the rule of the cell. Its error is want of memory.
@@ -20,17 +39,20 @@ pub const MOST_ROUNDS: u32 = 1_000;
 /// stops. Nothing is promised of the order, nor that workers run beside each other: where the system
 /// gives no thread, they run one after another.
 pub fn run_cell<R: Threads + Sync, G: Gate + Sync>(
-    _rt: &R,
-    _alloc: Global,
-    _gate: &G,
-    _threads: u8,
-    _rounds: u32,
-    _turns: u32,
+    rt: &R,
+    alloc: Global,
+    gate: &G,
+    threads: u8,
+    rounds: u32,
+    turns: u32,
 ) -> Result<CellReport, AllocError>
-    requires threads { _threads ≤ 8 }
-    requires rounds { (0 < _rounds) × (_rounds ≤ 1000) }
-    requires turns { 0 < _turns }
-    ensures { IfOk result (IsCellRun _threads _rounds _turns) }
+    requires threads { threads ≤ 8 }
+    requires rounds { (0 < rounds) × (rounds ≤ 1000) }
+    requires turns { 0 < turns }
+    ensures { IfOk result (IsCellRun threads rounds turns) }
 {
-    Err(AllocError)
+    let values = Rows::from_slice(alloc, &[0; MOST_VALUES])?;
+    let (table, seat) = cell(alloc, &values, 0)?;
+    let all = run_workers(rt, alloc, gate, &table, seat, threads, rounds, turns)?;
+    Ok(finish(table, all))
 }

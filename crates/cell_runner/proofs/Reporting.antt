@@ -1,0 +1,80 @@
+-- The report of a cell that has ended, by the seat that has taken in all others.
+use Rattle.std.proofs.Common.{◌≡◌, ℕ, zero, suc, ◌+◌, ◌*◌, ◌-◌, ◌^◌, ◌≤◌, inl, inr, Bool, true, false, List, [], ◌∷◌, length, Some, None, refl, sym, ap, subst, ◌∙◌, arith}
+use Rattle.std.specs.List.{sum_by}
+use Rattle.std.specs.Prelude.{IfSome}
+use Rattle.std.proofs.lemmas.List.Sums.{sum_by-cons}
+use mathlib.Core.Option.{some, some-injective, some-ne-none}
+use lib.ListN.{get_elem?}
+use Rattle.atomic_table.specs.Seated.{TableId}
+use Rattle.solero_cell.specs.declared.views.Record.{Record}
+use Rattle.solero_cell.specs.declared.views.View.{View}
+use Rattle.solero_cell.specs.Calls.{IsAlone, IsAtEnd, IsWhole}
+use Rattle.solero_cell.specs.CellRules.{Fits, Shows, is_between, one_if, written}
+use Rattle.solero_cell.specs.CellViews.{spent}
+use Rattle.cell_runner.specs.declared.hands.Hand.{Hand}
+use Rattle.cell_runner.specs.CellRuns.{IsCellRun, all_zero}
+use Rattle.cell_runner.specs.HandsOfCell.{HasGathered}
+
+-- ---- what one view has, where all others are spent
+
+module _ (f : View → ℕ) (none : f spent ≡ 0) where
+  sum_of_spent : (views : List View) → ((i : ℕ) (v : View) → get_elem? views i ≡ some v → v ≡ spent) → sum_by f views ≡ 0
+  sum_of_spent [] all = refl
+  sum_of_spent (u ∷ us) all =
+      let here : f u ≡ 0 = ap f (all 0 u refl) ∙ none in
+      let rest = sum_of_spent us (λ i v at. all (suc i) v at) in
+      omega (arith, here, rest, sum_by-cons f u us)
+
+  sum_of_one : (views : List View) (number : ℕ) (v : View) → get_elem? views number ≡ some v → IsAlone number views → sum_by f views ≡ f v
+  sum_of_one [] number v at alone = absurd (some-ne-none v (sym at))
+  sum_of_one (u ∷ us) zero v at alone =
+      let here : f u ≡ f v = ap f (some-injective u v at) in
+      let rest = sum_of_spent us (λ i w at'. alone (suc i) w (λ e. absurd (omega (arith, e))) at') in
+      omega (arith, here, rest, sum_by-cons f u us)
+  sum_of_one (u ∷ us) (suc n) v at alone =
+      let here : f u ≡ 0 = ap f (alone 0 u (λ e. absurd (omega (arith, e))) refl) ∙ none in
+      let rest = sum_of_one us n v at (λ i w ne at'. alone (suc i) w (λ e. ne (omega (arith, e))) at') in
+      omega (arith, here, rest, sum_by-cons f u us)
+
+-- ---- no seat has found the cell full
+
+note_spent : (v : View) → v ≡ spent → v.note ≡ Some (2 ^ 62 - 1) → ⊥
+note_spent v e n = let bad : None ≡ Some (2 ^ 62 - 1) = sym (ap (λ (x : View). x.note) e) ∙ n in absurd (cc)
+
+note_below : (o : Record) (words : List ℕ) (views : List View) (number : ℕ) (v : View) (s : Shows o words views)
+    → get_elem? views number ≡ some v → v.note ≡ Some (2 ^ 62 - 1) → 2 ^ 62 - 1 ≤ o.count + length s.history
+note_below o words views number v s here n = by (s.each number v here)
+  where
+    by : Fits o s.history words v → 2 ^ 62 - 1 ≤ o.count + length s.history
+    by (inl e) = absurd (note_spent v e n)
+    by (inr k) = subst (λ m. IfSome m (λ c. c ≤ o.count + length s.history)) n k.1.note
+
+not_full : (b : Bool) → (b ≡ true → ⊥) → b ≡ false
+not_full true never = absurd (never refl)
+not_full false never = refl
+
+-- ---- the report
+
+pub reported : (workers rounds turns : ℕ) (table : TableId) (h : Hand) → workers * rounds ≤ 8000
+    → HasGathered table all_zero workers rounds turns h → IsWhole h.seat.view.share → IsAtEnd h.seat.view
+    → IsCellRun workers rounds turns h.report
+reported workers rounds turns table h few g whole e =
+    let v = h.seat.view in
+    let shows : Shows all_zero e.words e.views = subst (λ (o : Record). Shows o e.words e.views) (sym g.of.1) e.shows in
+    let alone : IsAlone e.number e.views = e.whole whole in
+    let count : length shows.history ≡ h.report.writes =
+    sym shows.count ∙ sum_of_one written refl e.views e.number v e.here alone ∙ sym g.counted.writes in
+    let room : h.is_full ≡ false = not_full h.is_full (λ full.
+    let le = note_below all_zero e.words e.views e.number v shows e.here (g.counted.full full) in
+    absurd (omega (arith, le, count, few, g.over.writes))) in
+    record {
+      words = e.words;
+      views = e.views;
+      shows = shows;
+      once = λ n. shows.once n ∙ ap (λ last. one_if (is_between n 0 last)) (omega (arith, count));
+      got = g.counted.reads ∙ sym (sum_of_one (λ (u : View). u.reads) refl e.views e.number v e.here alone);
+      failed = subst (λ n. h.report.stopped * turns ≤ n) (sym (sum_of_one (λ (u : View). u.failed) refl e.views e.number v e.here alone)) g.stopped;
+      stopped = g.over.stopped;
+      written = (g.over.all_writes room, g.over.writes);
+      read = (g.over.all_reads room, g.over.reads);
+    }
