@@ -1,2 +1,3 @@
 pub mod ConstructionLaws
 pub mod GuardLaws
+pub mod UnfinishedObjects
