@@ -46,7 +46,7 @@ use Rattle.laws_objects.proofs.Landing.{inside_at, no_this_at}
 use Rattle.laws_objects.proofs.Moves.{Steps, stays, StartsOld, Suit, suit_at}
 use Rattle.laws_objects.proofs.Operands.{TakenOld, is_getfield, takes_old}
 use Rattle.laws_objects.proofs.Slots.{plainly}
-use Rattle.laws_objects.proofs.WorldChanges.{none_some, given_here, world_given, goes_given}
+use Rattle.laws_objects.proofs.WorldChanges.{none_some, given_here, world_given, goes_given, lost_given, not_lost}
 
 -- ---- calls
 
@@ -226,6 +226,7 @@ module _ (c : MarkedProgram) (marked : IsMarked c) (frozen : ℕ → Bool) (are 
             later = with_builder w a (builder t (suc (length fs)) Begun);
             goes = goes_given w next next t a (builder t (suc (length fs)) Begun) (omega arith) refl (λ o. none_some (w a) (builder t (length fs) (Made q)) o.1 is) (λ j h. (let same : builder t (length fs) (Made q) ≡ j = cc in ap (λ (b : Builder). b.thread) (sym same)));
             world = λ least z. let i = z.inside a (builder t (length fs) (Made q)) is in world_given w least next next a (builder t (suc (length fs)) Begun) z (omega arith) i.0 i.1;
+            lost = lost_given w a (builder t (suc (length fs)) Begun) (λ e. cc) (λ b h. not_lost (w a) (builder t (length fs) (Made q)) b (λ e. cc) is h);
             keeps = (
               (
                 instance_enters c marked frozen are (with_builder w a (builder t (suc (length fs)) Begun)) next t (suc (length fs)) (old 0 null) number called there a rest static one_more (args_map (IsFinished w next) (IsFinished (with_builder w a (builder t (suc (length fs)) Begun)) next) old called.args rest rest_old)

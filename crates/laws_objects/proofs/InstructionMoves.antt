@@ -43,7 +43,7 @@ use Rattle.laws_objects.proofs.NewFrames.{makes_it}
 use Rattle.laws_objects.proofs.Onwards.{OnwardKeeps, IfKeeps, FoundOld, null, throws_it, runs_on, does_it, built_here, finished_known}
 use Rattle.laws_objects.proofs.ThreadMoves.{Moved, AreKnown, AttemptFrom, from_same, now_world, held_known, outside, failed, onward_moves, phase_moves, moved_more}
 use Rattle.laws_objects.proofs.Views.{finished_on}
-use Rattle.laws_objects.proofs.WorldChanges.{goes_given, world_given}
+use Rattle.laws_objects.proofs.WorldChanges.{goes_given, world_given, lost_given}
 
 -- an effect that no attempt has
 abbrev pub IsOutside : Effect → Type 0
@@ -82,14 +82,14 @@ module _ (c : MarkedProgram) (marked : IsMarked c) (frozen : ℕ → Bool) (are 
   held = held_known c frozen w next t was x k is_world
 
   abbrev pub Goal : Thread → Type 0
-  Goal y = Moved c frozen w next more t (counted_by was y.phase) y
+  Goal y = Moved c frozen w k.now next more t (counted_by was y.phase) y
 
-  also : (y : Thread) → Moved c frozen w next next t (counted_by was y.phase) y → Goal y
-  also y m = moved_more c frozen w next more t (counted_by was y.phase) y is_world grows m
+  also : (y : Thread) → Moved c frozen w k.now next next t (counted_by was y.phase) y → Goal y
+  also y m = moved_more c frozen w k.now next more t (counted_by was y.phase) y is_world grows m
 
   -- nothing but counts has changed
   same : (y : Thread) → y.phase ≡ phases.Run → y.frames ≡ x.frames → y.attempt ≡ x.attempt → y.held ≡ x.held → Goal y
-  same y run frames attempt hs = also y (subst (λ (phase : Phase). Moved c frozen w next next t (counted_by was phase) y) (sym run)
+  same y run frames attempt hs = also y (subst (λ (phase : Phase). Moved c frozen w k.now next next t (counted_by was phase) y) (sym run)
       (phase_moves c frozen w next t was x k is_world phases.Run y frames attempt (subst (AreKnown w next t) (sym hs) held) fits))
 
   module _ (here : x.phase ≡ phases.Run) (f : Frame) (fs : List Frame) (there : x.frames ≡ f ∷ fs) (kf : FrameKeeps c frozen k.now next t (length fs) Runs f) (b : KeepBelow c frozen k.now next t f fs) where
@@ -163,6 +163,7 @@ module _ (c : MarkedProgram) (marked : IsMarked c) (frozen : ℕ → Bool) (are 
               later = with_builder k.now next (builder t (length fs) Header);
               goes = goes_given k.now next more t next (builder t (length fs) Header) grows refl (λ o. (let l = o.0 in omega (arith, l))) (λ j h. absurd (let l = (now_is.inside next j h).1 in omega (arith, l)));
               world = λ z. world_given k.now (words_of c.program) next more next (builder t (length fs) Header) z grows z.room longer;
+              lost = lost_given k.now next (builder t (length fs) Header) (λ e. cc) (λ b h. absurd (let l = (now_is.inside next b h).1 in omega (arith, l)));
               fits = (subst (λ (n : ℕ). MadeKeeps c frozen (with_builder k.now next (builder t (length fs) Header)) more t next n (making c.program at)) (sym one_less) keeps_it, tt);
             }))
         by_test false stands = throws s thrown.OutOfMemoryError tt attempt hs none stands
@@ -176,11 +177,11 @@ module _ (c : MarkedProgram) (marked : IsMarked c) (frozen : ℕ → Bool) (are 
 
     -- to a phase of a monitor, with the instruction done
     to_phase : (y : Thread) (now : Phase) → x.attempt ≡ None → y.attempt ≡ x.attempt → y.held ≡ x.held → y.frames ≡ went_on c.program at 0 → ((z : World) → GoesOn k.now z next next t 0 → FramesKeep c frozen z next t Runs (went_on c.program at 0) → PhaseFits c frozen z next t (went_on c.program at 0) now)
-        → Steps k.now next t (λ z. FramesKeep c frozen z next t Runs (went_on c.program at 0)) → Moved c frozen w next more t now y
+        → Steps k.now next t (λ z. FramesKeep c frozen z next t Runs (went_on c.program at 0)) → Moved c frozen w k.now next more t now y
     to_phase y now none attempt hs frames is_fit step =
-        moved_more c frozen w next more t now y is_world grows
+        moved_more c frozen w k.now next more t now y is_world grows
         (outside c frozen w next t was x k is_world next now y none (attempt ∙ none) (subst (AreKnown w next t) (sym hs) held)
-        (record { later = step.later; goes = step.goes; world = step.world (words_of c.program); fits = subst (λ (gs : List Frame). PhaseFits c frozen step.later next t gs now) (sym frames) (is_fit step.later step.goes step.keeps) }))
+        (record { later = step.later; goes = step.goes; world = step.world (words_of c.program); lost = step.lost; fits = subst (λ (gs : List Frame). PhaseFits c frozen step.later next t gs now) (sym frames) (is_fit step.later step.goes step.keeps) }))
 
     module _ (s : Thread) (attempt : s.attempt ≡ x.attempt) (hs : s.held ≡ x.held) (none : x.attempt ≡ None) (m : ℕ) (old : IsFinished k.now next m) (step : Steps k.now next t (λ z. FramesKeep c frozen z next t Runs (went_on c.program at 0))) where
       known : (z : World) → GoesOn k.now z next next t 0 → IsOwnOrFinished z next t m
@@ -201,7 +202,7 @@ module _ (c : MarkedProgram) (marked : IsMarked c) (frozen : ℕ → Bool) (are 
         where
           by_kept : (kept : Kept) → StaysStructured c was (notifies (record s { frames = went_on c.program at 0 }) phase kept) → Goal (notifies (record s { frames = went_on c.program at 0 }) phase kept)
           by_kept (keeps.Flat n) stands = onward s (Running (went_on c.program at 0)) attempt hs stands (outside_keeps (Running (went_on c.program at 0)) none) step
-          by_kept (keeps.Fat r) stands = subst (λ (now : Phase). Moved c frozen w next more t now (with_phase (record s { frames = went_on c.program at 0 }) (phase r))) (sym (counts r))
+          by_kept (keeps.Fat r) stands = subst (λ (now : Phase). Moved c frozen w k.now next more t now (with_phase (record s { frames = went_on c.program at 0 }) (phase r))) (sym (counts r))
               (to_phase (with_phase (record s { frames = went_on c.program at 0 }) (phase r)) (phase r) none attempt hs refl (is_fit r) step)
 
     -- ---- all effects

@@ -6,7 +6,6 @@ pub mod Slots
 pub mod KeptFrames
 pub mod Views
 pub mod CountedPhases
-pub mod PartBegins
 pub mod Landing
 pub mod Moves
 pub mod Operands
@@ -24,6 +23,8 @@ pub mod MonitorMoves
 pub mod RootMoves
 pub mod PhaseMoves
 pub mod Places
+pub mod LostObjects
+pub mod PartBegins
 pub mod Events
 pub mod WrittenFields
 pub mod FieldWriters

@@ -46,7 +46,7 @@ use Rattle.laws_objects.proofs.CountedPhases.{PhaseFits, counted_fits}
 use Rattle.laws_objects.proofs.Moves.{Steps}
 use Rattle.laws_objects.proofs.Onwards.{OnwardKeeps, IfKeeps, runs_on, dispatches, goes_after_it, same_op}
 use Rattle.laws_objects.proofs.ThreadMoves.{Moved, AreKnown, AttemptFrom, EntryKept, from_same, entry_same, now_world, held_known, moved_on, failed, begun, onward_moves, moved_more, known_at, known_with, known_without}
-use Rattle.laws_objects.proofs.WorldChanges.{none_some, same_from, other_from, goes_same, goes_given, goes_finished, world_given, world_finished}
+use Rattle.laws_objects.proofs.WorldChanges.{none_some, same_from, other_from, goes_same, goes_given, goes_finished, world_given, world_finished, lost_given, lost_finished, lost_same, not_lost}
 
 -- ---- an element
 
@@ -84,12 +84,14 @@ module _ (c : MarkedProgram) (marked : IsMarked c) (frozen : ℕ → Bool) (are 
         later = with_builder w a (builder t h (Made k.pc));
         goes = goes_given w next next t a (builder t h (Made k.pc)) (omega arith) refl (λ o. none_some (w a) (builder t h Header) o.1 k.now) (λ j e. (let same : builder t h Header ≡ j = cc in ap (λ (x : Builder). x.thread) (sym same)));
         world = λ first is. (let i = is.inside a (builder t h Header) k.now in world_given w first next next a (builder t h (Made k.pc)) is (omega arith) i.0 i.1);
+        lost = lost_given w a (builder t h (Made k.pc)) (λ e. cc) (λ b e. not_lost (w a) (builder t h Header) b (λ z. cc) k.now e);
         keeps = keep;
       }
       by_young false keep = record {
         later = finished w a;
         goes = goes_finished w next next t a (omega arith) (λ j e. (let same : builder t h Header ≡ j = cc in ap (λ (x : Builder). x.thread) (sym same)));
         world = λ first is. world_finished w first next next a is (omega arith);
+        lost = lost_finished w a (λ b e. not_lost (w a) (builder t h Header) b (λ z. cc) k.now e);
         keeps = keep;
       }
 
@@ -108,7 +110,7 @@ known_back w now next t o v view k = (k.0, λ b e. by_thread b e (b.thread == t)
 
 module _ (c : MarkedProgram) (marked : IsMarked c) (frozen : ℕ → Bool) (are : AreFrozen c frozen) (w : World) (next more t : ℕ) (was : Phase) (x : Thread) (k : ThreadKeeps c frozen w next t was x) (is_world : IsWorld w (words_of c.program) next) (grows : next ≤ more) (stood : IsStructured c was x) where
   abbrev pub Goal : Thread → Type 0
-  Goal y = Moved c frozen w next more t (counted_by was y.phase) y
+  Goal y = Moved c frozen w k.now next more t (counted_by was y.phase) y
 
   abbrev Fits : Phase → Type 0
   Fits phase = PhaseFits c frozen k.now next t x.frames phase
@@ -134,22 +136,22 @@ module _ (c : MarkedProgram) (marked : IsMarked c) (frozen : ℕ → Bool) (are 
   back : (v : ℕ) → IsOwnOrFinished k.now next t v → IsOwnOrFinished w next t v
   back v o = known_back w k.now next t x.attempt v k.now_is o
 
-  also : (y : Thread) → Moved c frozen w next next t (counted_by was y.phase) y → Goal y
-  also y m = moved_more c frozen w next more t (counted_by was y.phase) y is_world grows m
+  also : (y : Thread) → Moved c frozen w k.now next next t (counted_by was y.phase) y → Goal y
+  also y m = moved_more c frozen w k.now next more t (counted_by was y.phase) y is_world grows m
 
   -- the phase changes, and what it holds
-  to : (now : Phase) (y : Thread) → y.frames ≡ x.frames → AttemptFrom x.attempt y.attempt → AreKnown w next t y.held → Fits now → Moved c frozen w next more t now y
+  to : (now : Phase) (y : Thread) → y.frames ≡ x.frames → AttemptFrom x.attempt y.attempt → AreKnown w next t y.held → Fits now → Moved c frozen w k.now next more t now y
   to now y frames from hs fit =
-      moved_more c frozen w next more t now y is_world grows
+      moved_more c frozen w k.now next more t now y is_world grows
       (moved_on c frozen w next t was x k is_world now y hs from (subst (λ (fs : List Frame). EntryKept x.attempt y.attempt x.frames fs) (sym frames) (entry_same x.attempt y.attempt x.frames))
-      (record { later = k.now; goes = goes_same k.now next next t (omega arith); world = λ z. z; fits = subst (λ (fs : List Frame). PhaseFits c frozen k.now next t fs now) (sym frames) fit }))
+      (record { later = k.now; goes = goes_same k.now next next t (omega arith); world = λ z. z; lost = lost_same k.now; fits = subst (λ (fs : List Frame). PhaseFits c frozen k.now next t fs now) (sym frames) fit }))
 
   -- its phase alone
-  changed : (now : Phase) → Fits now → Moved c frozen w next more t now (with_phase x now)
+  changed : (now : Phase) → Fits now → Moved c frozen w k.now next more t now (with_phase x now)
   changed now fit = to now (with_phase x now) refl (from_same x.attempt) held fit
 
   pub still : (s : Thread) → s.phase ≡ x.phase → s.frames ≡ x.frames → AttemptFrom x.attempt s.attempt → AreKnown w next t s.held → Goal s
-  still s phase frames from hs = subst (λ (p : Phase). Moved c frozen w next more t (counted_by was p) s) (sym phase) (to (counted_by was x.phase) s frames from hs (counted_fits c frozen k.now next t x.frames was x.phase stood.is_as (k.frames, k.phase)))
+  still s phase frames from hs = subst (λ (p : Phase). Moved c frozen w k.now next more t (counted_by was p) s) (sym phase) (to (counted_by was x.phase) s frames from hs (counted_fits c frozen k.now next t x.frames was x.phase stood.is_as (k.frames, k.phase)))
 
   pub unmoved : Goal x
   unmoved = still x refl refl (from_same x.attempt) held
@@ -241,8 +243,8 @@ module _ (c : MarkedProgram) (marked : IsMarked c) (frozen : ℕ → Bool) (are 
           a : Attempt
           a = record { monitor = m; noted = n; base = length below; number = tried + 1; inner = 0; entry = f }
 
-          begin : (y : Thread) → y.frames ≡ x.frames → y.held ≡ x.held → y.attempt ≡ Some a → Moved c frozen w next more t phases.Run y
-          begin y frames hs attempt = moved_more c frozen w next more t phases.Run y is_world grows (begun c frozen w next t was x k is_world m tried a f below y e none there frames hs attempt refl refl refl)
+          begin : (y : Thread) → y.frames ≡ x.frames → y.held ≡ x.held → y.attempt ≡ Some a → Moved c frozen w k.now next more t phases.Run y
+          begin y frames hs attempt = moved_more c frozen w k.now next more t phases.Run y is_world grows (begun c frozen w next t was x k is_world m tried a f below y e none there frames hs attempt refl refl refl)
 
           by_left : (left : Bool) → Goal (record x { attempt = Some a; phase = if left then phases.Run else phases.Ending ends.Steps })
           by_left true = begin (record x { attempt = Some a; phase = phases.Run }) refl refl refl

@@ -37,7 +37,7 @@ use Rattle.machine_types.specs.Lawful.{within}
 use Rattle.laws_objects.proofs.KeptFrames.{KeepsUnder}
 use Rattle.laws_objects.proofs.Landing.{land, joined_onward}
 use Rattle.laws_objects.proofs.Slots.{IsMade, IsWriteMade, stack_moves, local_moves, top_slot, plainly, plain_slot, not_this, slots_started, slot_retag, slots_without, StartOk}
-use Rattle.laws_objects.proofs.WorldChanges.{same_from, other_from, without, without_gone, without_keeps, without_none, world_without, goes_without, goes_same}
+use Rattle.laws_objects.proofs.WorldChanges.{same_from, other_from, without, without_gone, without_keeps, without_none, world_without, goes_without, goes_same, KeepsLost, lost_same, lost_without}
 
 -- ---- the object that is started
 
@@ -210,13 +210,14 @@ pub record Steps (w : World) (next t : ℕ) (P : World → Type 0) : Type 0 wher
   pub later : World
   pub goes : GoesOn w later next next t 0
   pub world : (first : ℕ) → IsWorld w first next → IsWorld later first next
+  pub lost : KeepsLost w later
   pub keeps : P later
 
 pub stays : (w : World) (next t : ℕ) (P : World → Type 0) → P w → Steps w next t P
-stays w next t P k = record { later = w; goes = goes_same w next next t (omega arith); world = λ first is. is; keeps = k }
+stays w next t P k = record { later = w; goes = goes_same w next next t (omega arith); world = λ first is. is; lost = lost_same w; keeps = k }
 
 pub steps_map : (w : World) (next t : ℕ) (P Q : World → Type 0) → ((v : World) → GoesOn w v next next t 0 → P v → Q v) → Steps w next t P → Steps w next t Q
-steps_map w next t P Q f k = record { later = k.later; goes = k.goes; world = k.world; keeps = f k.later k.goes k.keeps }
+steps_map w next t P Q f k = record { later = k.later; goes = k.goes; world = k.world; lost = k.lost; keeps = f k.later k.goes k.keeps }
 
 number_in : (tos : List ℕ) (to : ℕ) → OneOf tos to → has_number tos to ≡ true
 number_in [] to h = absurd h
@@ -310,5 +311,6 @@ module _ (c : MarkedProgram) (marked : IsMarked c) (frozen : ℕ → Bool) (are 
           later = without w (builder t h (Made y.pc));
           goes = goes_without w next t (builder t h (Made y.pc)) refl;
           world = λ first is. world_without w first next (builder t h (Made y.pc)) is;
+          lost = lost_without w (builder t h (Made y.pc)) (λ e. cc);
           keeps = (goes_young y makes, λ i l v x e. without_keeps w (builder t h (Made y.pc)) v (builder t i x) e (λ s. (let same : i ≡ h = ap (λ (b : Builder). b.height) s in omega (arith, same, l))));
         }

@@ -6,20 +6,24 @@ use Rattle.jvm_types.specs.declared.fixed_words.TheConstants.{NEXT_FREE_WORD}
 use Rattle.jvm_types.specs.declared.outcome.End.TheVariants as ends
 use Rattle.jvm_types.specs.declared.program.Program.{Program}
 use Rattle.checked_program.specs.MarkedProgram.{MarkedProgram}
-use Rattle.machine_types.specs.Construction.{ThreadKeeps, AttemptKeepsIn}
-use Rattle.machine_types.specs.Core.{part_phase, may_begin, with_roots, part_begins, next_threads, next}
+use Rattle.machine_types.specs.Construction.{ThreadKeeps, AttemptKeepsIn, Construction}
+use Rattle.machine_types.specs.Core.{Core, part_phase, may_begin, with_roots, part_begins, next_threads, next}
 use Rattle.machine_types.specs.Parts.{run_roots, done_roots}
 use Rattle.machine_types.specs.Structure.{IsAs, IsStructured, Structure}
 use Rattle.machine_types.specs.Threads.{Frame, Thread}
-use Rattle.machine_types.specs.Worlds.{World, IsViewOf, IsOwnOrFinished}
+use Rattle.machine_types.specs.PlainMemory.{Object}
+use Rattle.machine_types.specs.Worlds.{Builder, World, IsViewOf, IsOwnOrFinished}
+use Rattle.machine_types.specs.declared.config.Config.{Config}
 use Rattle.machine_types.specs.declared.lock.Held.{Held}
 use Rattle.machine_types.specs.declared.phase.Phase.{Phase}
 use Rattle.machine_types.specs.declared.phase.Phase.TheVariants as phases
 use Rattle.laws_threads.specs.PartLaws.{NextKeepsStructure, counted_next}
 use Rattle.laws_threads.specs.StateLaws.{counted_of}
 use Rattle.laws_threads.specs.StructureLaws.{counted_by}
+use Rattle.laws_states.specs.StateFacts.{StateFacts}
 use Rattle.laws_objects.specs.ConstructionLaws.{NextKeepsConstruction}
 use Rattle.laws_objects.proofs.CountedPhases.{PhaseFits, counted_fits}
+use Rattle.laws_objects.proofs.LostObjects.{SeenByAll, LostIn}
 
 -- ---- a thread is as it was, but for the roots and the phase that its part begins with
 
@@ -95,27 +99,43 @@ module _ (c : MarkedProgram) (frozen : ℕ → Bool) (w : World) (next t : ℕ) 
 
 -- ---- all of them
 
+module _ (structured : NextKeepsStructure) (c : MarkedProgram) (cfg : Config) (objects : List Object) (was : ℕ → Phase) (s : Core) (frozen : ℕ → Bool) (w : World) (facts : StateFacts c cfg objects was s) (k : Construction c frozen w was objects s) where
+  -- it sees the world as it did
+  record Kept (u : ℕ) (phase : Phase) (y : Thread) : Type 0 where
+    keeps : ThreadKeeps c frozen w (slice_index s.words NEXT_FREE_WORD) u phase y
+    lost : (v : ℕ) (b : Builder) → SeenByAll c frozen w was objects s k v b → keeps.now v ≡ Some b
+
+  structure : Structure c (counted_next c was s) (next c s).threads
+  structure = structured c was s facts.threads.parts facts.structure
+
+  as_now : (u : ℕ) (y : Thread) (now : Phase) (z : Thread) (g : slice_get s.threads u ≡ Some z) (b : Begins z y) → PhaseFits c frozen (k.each u z g).now (slice_index s.words NEXT_FREE_WORD) u y.frames now → Kept u now y
+  unfolding stays
+  as_now u y now z g b fits = record { keeps = stays c frozen w (slice_index s.words NEXT_FREE_WORD) u (was u) z y b (k.each u z g) now fits; lost = λ v d all. all u z g }
+
+  each : (u : ℕ) (y : Thread) → slice_get (next c s).threads u ≡ Some y → Kept u (counted_next c was s u) y
+  each u y e =
+      let b = begun c.program s.threads u y e in
+      by_test (may_begin s.threads) b.0 b.1 b.2 (structure u y e)
+    where
+      by_test : (may : Bool) (z : Thread) → slice_get s.threads u ≡ Some z → Begins z y → IsStructured c (if may then counted_of (was u) (slice_get (next c s).threads u) else was u) y
+          → Kept u (if may then counted_of (was u) (slice_get (next c s).threads u) else was u) y
+      by_test true z g b stands =
+          let counted = ap (counted_of (was u)) e in
+          subst (λ (phase : Phase). Kept u phase y) (sym counted)
+          (as_now u y (counted_by (was u) y.phase) z g b (fits_now c frozen w (slice_index s.words NEXT_FREE_WORD) u (was u) z y b (k.each u z g) (facts.structure u z g).is_as (subst (λ (phase : Phase). IsStructured c phase y) counted stands)))
+      by_test false z g b stands =
+          let j = k.each u z g in
+          as_now u y (was u) z g b (same_fits c frozen w (slice_index s.words NEXT_FREE_WORD) u (was u) z y b j (was u) (j.frames, j.phase))
+
+  pub record NextBuilds : Type 0 where
+    pub keeps : Construction c frozen w (counted_next c was s) objects (next c s)
+    pub lost : (v : ℕ) (b : Builder) → LostIn c frozen w was objects s k v b → LostIn c frozen w (counted_next c was s) objects (next c s) keeps v b
+
+  pub next_builds : NextBuilds
+  next_builds = record {
+    keeps = record { frozen_are = k.frozen_are; world = k.world; each = λ u y e. (each u y e).keeps; places = k.places };
+    lost = λ v b l. record { item = l.item; is = l.is; seen = λ u y e. (each u y e).lost v b l.seen };
+  }
+
 pub next_keeps : NextKeepsStructure → NextKeepsConstruction
-next_keeps structured c cfg objects was s frozen w marked facts k = record { frozen_are = k.frozen_are; world = k.world; each = each; places = k.places }
-  where
-    free : ℕ
-    free = slice_index s.words NEXT_FREE_WORD
-
-    structure : Structure c (counted_next c was s) (next c s).threads
-    structure = structured c was s facts.threads.parts facts.structure
-
-    each : (u : ℕ) (y : Thread) → slice_get (next c s).threads u ≡ Some y → ThreadKeeps c frozen w (slice_index s.words NEXT_FREE_WORD) u (counted_next c was s u) y
-    each u y e =
-        let b = begun c.program s.threads u y e in
-        by_test (may_begin s.threads) b.0 b.1 b.2 (structure u y e)
-      where
-        by_test : (may : Bool) (z : Thread) → slice_get s.threads u ≡ Some z → Begins z y → IsStructured c (if may then counted_of (was u) (slice_get (next c s).threads u) else was u) y
-            → ThreadKeeps c frozen w (slice_index s.words NEXT_FREE_WORD) u (if may then counted_of (was u) (slice_get (next c s).threads u) else was u) y
-        by_test true z g b stands =
-            let counted = ap (counted_of (was u)) e in
-            subst (λ (phase : Phase). ThreadKeeps c frozen w (slice_index s.words NEXT_FREE_WORD) u phase y) (sym counted)
-            (stays c frozen w (slice_index s.words NEXT_FREE_WORD) u (was u) z y b (k.each u z g) (counted_by (was u) y.phase)
-            (fits_now c frozen w (slice_index s.words NEXT_FREE_WORD) u (was u) z y b (k.each u z g) (facts.structure u z g).is_as (subst (λ (phase : Phase). IsStructured c phase y) counted stands)))
-        by_test false z g b stands =
-            let j = k.each u z g in
-            stays c frozen w (slice_index s.words NEXT_FREE_WORD) u (was u) z y b j (was u) (same_fits c frozen w (slice_index s.words NEXT_FREE_WORD) u (was u) z y b j (was u) (j.frames, j.phase))
+next_keeps structured c cfg objects was s frozen w marked facts k = (next_builds structured c cfg objects was s frozen w facts k).keeps

@@ -59,7 +59,7 @@ use Rattle.laws_objects.proofs.WorldChanges.{none_some}
 module _ (c : MarkedProgram) (marked : IsMarked c) (frozen : ℕ → Bool) (are : AreFrozen c frozen) (w : World) (next more t : ℕ) (was : Phase) (x : Thread) (k : ThreadKeeps c frozen w next t was x) (is_world : IsWorld w (words_of c.program) next) (grows : next ≤ more) (stood : IsStructured c was x)
     (rooted : IsRooted c.program x) (got : ℕ) where
   abbrev Keeps : Thread → Type 0
-  Keeps y = Moved c frozen w next more t (counted_by was y.phase) y
+  Keeps y = Moved c frozen w k.now next more t (counted_by was y.phase) y
 
   no_element : (word : ℕ) (stored : Option ℕ) → was ≡ phases.Element word stored → x.attempt ≡ None
   no_element word stored e = by_attempt x.attempt refl
@@ -158,14 +158,14 @@ module _ (c : MarkedProgram) (marked : IsMarked c) (frozen : ℕ → Bool) (are 
       gets e is = tt
 
       top_moves : more ≡ slice_index (words_after s.words (run_wants c.program x (Some at))) NEXT_FREE_WORD → StaysStructured c was (ran c.program x (Some at) (found_by s.words (run_wants c.program x (Some at))))
-          → Moved c frozen w (slice_index s.words NEXT_FREE_WORD) more t (counted_by was (ran c.program x (Some at) (found_by s.words (run_wants c.program x (Some at)))).phase) (ran c.program x (Some at) (found_by s.words (run_wants c.program x (Some at))))
+          → Moved c frozen w k.now (slice_index s.words NEXT_FREE_WORD) more t (counted_by was (ran c.program x (Some at) (found_by s.words (run_wants c.program x (Some at)))).phase) (ran c.program x (Some at) (found_by s.words (run_wants c.program x (Some at))))
       top_moves is stands =
           instruction_moves c marked frozen are (HasClass objects) w (slice_index s.words NEXT_FREE_WORD) more t was x k is_world grows stood is_run here f fs there kf b (found_by s.words (run_wants c.program x (Some at)))
           allowed (found (effect_at c.program at)) (gets (effect_at c.program at) is) stands
 
     abbrev RunKeeps : Option Top → Type 0
     RunKeeps o = more ≡ slice_index (words_after s.words (run_wants c.program x o)) NEXT_FREE_WORD → StaysStructured c was (ran c.program x o (found_by s.words (run_wants c.program x o)))
-        → Moved c frozen w (slice_index s.words NEXT_FREE_WORD) more t (counted_by was (ran c.program x o (found_by s.words (run_wants c.program x o))).phase) (ran c.program x o (found_by s.words (run_wants c.program x o)))
+        → Moved c frozen w k.now (slice_index s.words NEXT_FREE_WORD) more t (counted_by was (ran c.program x o (found_by s.words (run_wants c.program x o))).phase) (ran c.program x o (found_by s.words (run_wants c.program x o)))
 
     by_frames : (fs : List Frame) → x.frames ≡ fs → FramesKeep c frozen k.now (slice_index s.words NEXT_FREE_WORD) t Runs fs → FramesHold c (HasClass objects) fs → RunKeeps (top_of c.program fs)
     by_frames [] there kept h is stands = unmoved c marked frozen are w (slice_index s.words NEXT_FREE_WORD) more t was x k is_world grows stood

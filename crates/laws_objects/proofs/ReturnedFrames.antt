@@ -50,7 +50,7 @@ use Rattle.laws_objects.proofs.Landing.{land, joined_onward}
 use Rattle.laws_objects.proofs.Moves.{Steps, stays, StartsOld, StartsYoung, Starts, starts, Suit, suit_at, tags_fine, old_started, slots_finished}
 use Rattle.laws_objects.proofs.Operands.{TakenOld, is_getfield, takes_old}
 use Rattle.laws_objects.proofs.Slots.{slots_map, slot_later, made_slot}
-use Rattle.laws_objects.proofs.WorldChanges.{same_to, other_to, same_from, without, without_gone, without_keeps, without_none, world_without, goes_without}
+use Rattle.laws_objects.proofs.WorldChanges.{same_to, other_to, same_from, without, without_gone, without_keeps, without_none, world_without, goes_without, lost_without}
 
 -- ---- results
 
@@ -345,5 +345,6 @@ module _ (c : MarkedProgram) (marked : IsMarked c) (frozen : ℕ → Bool) (are 
         later = without w (builder t (suc (length gs)) Begun);
         goes = goes_without w next t (builder t (suc (length gs)) Begun) refl;
         world = λ first is. world_without w first next (builder t (suc (length gs)) Begun) is;
+        lost = lost_without w (builder t (suc (length gs)) Begun) (λ e. cc);
         keeps = (resumes_young y, below_moved c frozen (without w (builder t (suc (length gs)) Begun)) next t g k.insn.next (result ++ g.stack) g.locals gs (below_on y));
       }

@@ -163,3 +163,14 @@ other_keeps c frozen w later next more t u was x goes differ world k =
       held = λ h there. known_on w later next more t u goes h.monitor (k.held h there);
       attempt = attempt_kept c frozen w later next more u goes.grows (finished_on w later next more t goes) (λ h v i e. goes.others v (builder u h i) differ e) (known_on w later next more t u goes) x.frames x.attempt k.attempt;
     }
+
+-- what is lost behind the event is so for another thread that did not build it, or that saw it lost
+pub other_lost : (c : MarkedProgram) (frozen : ℕ → Bool) (w later : World) (next more t u : ℕ) (was : Phase) (x : Thread) (goes : GoesOn w later next more t 0) (differ : u ≢ t) (world : IsWorld w (words_of c.program) next) (k : ThreadKeeps c frozen w next u was x)
+    → (v : ℕ) (b before : Builder) → w v ≡ Some before → later v ≡ Some b → (before.thread ≢ u) ⊎ (k.now v ≡ Some b) → (other_keeps c frozen w later next more t u was x goes differ world k).now v ≡ Some b
+unfolding other_keeps
+other_lost c frozen w later next more t u was x goes differ world k v b before e f g = ap (λ (o : Option Builder). own_or u o (k.now v) (later v)) e ∙ by_view (before.thread == u) refl g
+  where
+    by_view : (y : Bool) → (before.thread == u) ≡ y → (before.thread ≢ u) ⊎ (k.now v ≡ Some b) → (if y then k.now v else later v) ≡ Some b
+    by_view true s (inl n) = absurd (n (same_from before.thread u s))
+    by_view true s (inr g) = g
+    by_view false s g = f

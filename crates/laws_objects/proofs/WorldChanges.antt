@@ -260,3 +260,25 @@ goes_without w next t b mine = record {
   no_more = λ v j n e. without_back w b v j e;
   lower = λ v j m l e. absurd (omega (arith, l));
 }
+
+-- ---- an object that is lost stays lost
+
+abbrev pub KeepsLost : World → World → Type 0
+KeepsLost w z = (v : ℕ) (b : Builder) → b.item ≡ Lost → w v ≡ Some b → z v ≡ Some b
+
+pub lost_same : (w : World) → KeepsLost w w
+lost_same w v b item e = e
+
+pub lost_given : (w : World) (a : ℕ) (k : Builder) → k.item ≢ Lost → ((b : Builder) → w a ≡ Some b → b.item ≢ Lost) → KeepsLost w (with_builder w a k)
+lost_given w a k other was v b item e =
+    given_keeps w a k v b e (λ s. was b (subst (λ (x : ℕ). w x ≡ Some b) s e) item) (λ s. other (sym (ap (λ (i : Builder). i.item) s) ∙ item))
+
+pub lost_finished : (w : World) (a : ℕ) → ((b : Builder) → w a ≡ Some b → b.item ≢ Lost) → KeepsLost w (finished w a)
+lost_finished w a was v b item e = finished_there w a v (λ s. was b (subst (λ (x : ℕ). w x ≡ Some b) s e) item) ∙ e
+
+pub lost_without : (w : World) (k : Builder) → k.item ≢ Lost → KeepsLost w (without w k)
+lost_without w k other v b item e = without_keeps w k v b e (λ s. other (sym (ap (λ (i : Builder). i.item) s) ∙ item))
+
+-- what has one builder has no lost one
+pub not_lost : (o : Option Builder) (k b : Builder) → k.item ≢ Lost → o ≡ Some k → o ≡ Some b → b.item ≢ Lost
+not_lost o k b other e f item = let same : k ≡ b = cc in other (ap (λ (i : Builder). i.item) same ∙ item)
