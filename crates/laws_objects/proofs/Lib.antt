@@ -30,3 +30,10 @@ pub mod WrittenFields
 pub mod FieldWriters
 pub mod ShownMonitors
 pub mod GuardsKept
+mod FrameChanges
+mod Unused
+mod LosingInits
+mod BuiltRuns
+mod ThrownInits
+mod UnreturnedInits
+mod FinishedInits

@@ -1,6 +1,6 @@
 -- Objects of frozen classes between the call of their `<init>` and its return (JVMS 2.9): until then no place has the object, and
--- no other thread. If the `<init>` throws, no instruction uses it ever after. A thread in an attempt may throw on account of words
--- that do not belong together, and the attempt then fails and calls the `<init>` again: so the `<init>` throws where there is none.
+-- no other thread. If the `<init>` throws, no instruction uses it ever after; this is said of threads in no attempt, since one that
+-- fails puts back the frame in which it began, which may then use the object again.
 use Rattle.std.specs.Prelude.{◌≡◌, ◌≢◌, ℕ, true, false, List, [], ◌∷◌, ◌++◌, Contains, Some, None, slice_get, slice_index}
 use Rattle.std.specs.List.{AllZip}
 use Rattle.jvm_types.specs.CodeTable.{is_init}
@@ -15,7 +15,7 @@ use Rattle.jvm_types.specs.declared.typing.VType.TheVariants as types
 use Rattle.checked_program.specs.FrozenPlaces.{IsFrozenClass}
 use Rattle.checked_program.specs.MarkedProgram.{MarkedProgram, IsMarked}
 use Rattle.machine_types.specs.Core.{Core, Happening, Of, NextPart, event, happened, core}
-use Rattle.machine_types.specs.Frames.{Top, top_of, frames_of, returned}
+use Rattle.machine_types.specs.Frames.{Top, top_of, returned}
 use Rattle.machine_types.specs.PlainMemory.{Object}
 use Rattle.machine_types.specs.Settings.{AreSettings}
 use Rattle.machine_types.specs.Standing.{Standing, tags_of}

@@ -1,0 +1,197 @@
+-- Every state that a run reaches is as construction says, and an object that is lost in one is so in all that follow.
+use Rattle.std.proofs.Common.{◌≡◌, ℕ, inl, Bool, true, false, List, [], ◌∷◌, ◌++◌, length, Option, Some, None, refl, sym, ap, ◌∙◌, subst}
+use Rattle.std.specs.Prelude.{◌==◌, if◌then◌else◌, slice_get, slice_index}
+use Rattle.jvm_types.specs.declared.fixed_words.TheConstants.{NEXT_FREE_WORD}
+use Rattle.checked_program.specs.FrozenPlaces.{IsFrozenClass}
+use Rattle.checked_program.specs.MarkedProgram.{MarkedProgram, IsMarked}
+use Rattle.machine_types.specs.Accesses.{found_by, words_after}
+use Rattle.machine_types.specs.Construction.{AreFrozen, Construction, ThreadKeeps}
+use Rattle.machine_types.specs.Core.{Core, Happening, Of, NextPart, start, event, event_of, next, happened, all_happened, core}
+use Rattle.machine_types.specs.Events.{wanted, moved}
+use Rattle.machine_types.specs.MarkLaws.{HasFrozenTest}
+use Rattle.machine_types.specs.PlainMemory.{Object, start_objects}
+use Rattle.machine_types.specs.Settings.{AreSettings}
+use Rattle.machine_types.specs.Standing.{tags_of}
+use Rattle.machine_types.specs.StartLaws.{StartLiesApart, phase_at_start}
+use Rattle.machine_types.specs.Threads.{Thread}
+use Rattle.machine_types.specs.Worlds.{Begun, Builder, builder, World}
+use Rattle.machine_types.specs.declared.config.Config.{Config}
+use Rattle.machine_types.specs.declared.phase.Phase.{Phase}
+use Rattle.laws_threads.specs.PartLaws.{NextKeepsStructure, counted_next}
+use Rattle.laws_threads.specs.StateLaws.{counted_at, counted_after}
+use Rattle.laws_threads.specs.StructureLaws.{StructureIsKept}
+use Rattle.laws_states.specs.ChangeLaws.{EventsLeaveOthers, all_objects, run_objects}
+use Rattle.laws_states.specs.HeapFacts.{objects_of, objects_after}
+use Rattle.laws_states.specs.RunFacts.{HaveWidth}
+use Rattle.laws_states.specs.StateFacts.{StateFacts}
+use Rattle.laws_states.specs.StateLaws.{ProgramsKeepThreads, StartHasState, EventsKeepState, NextKeepsState}
+use Rattle.laws_objects.specs.ConstructionLaws.{no_builders, StartHasConstruction}
+use Rattle.laws_objects.specs.UnfinishedObjects.{IsInitOn, NobodyHas}
+use Rattle.laws_objects.proofs.Events.{BuildsFor, builds_for, built, loses, grows}
+use Rattle.laws_objects.proofs.FrameChanges.{IsUnwound}
+use Rattle.laws_objects.proofs.LosingInits.{losing_here, leaves_lost}
+use Rattle.laws_objects.proofs.LostObjects.{LostIn}
+use Rattle.laws_objects.proofs.PartBegins.{next_builds}
+use Rattle.laws_objects.proofs.Unused.{lost_strange, uses_not, places_have_not}
+use Rattle.laws_objects.proofs.WorldChanges.{same_to, same_from, lost}
+
+-- ---- a test that tells a frozen class
+
+abbrev with_class : (frozen : ℕ → Bool) (class : ℕ) → ℕ → Bool
+with_class frozen class d = if d == class then true else frozen d
+
+pub record TellsClass (c : MarkedProgram) (class : ℕ) : Type 0 where
+  pub frozen : ℕ → Bool
+  pub are : AreFrozen c frozen
+  pub tells : frozen class ≡ true
+
+told : (c : MarkedProgram) (frozen : ℕ → Bool) → AreFrozen c frozen → (class : ℕ) → IsFrozenClass c.program (tags_of c) class → TellsClass c class
+told c frozen are class is = record {
+  frozen = with_class frozen class;
+  are = record {
+    those = λ d e. those d (d == class) refl e;
+    with_frozen = λ fi k. also k.field.class (k.field.class == class) (are.with_frozen fi k);
+    with_guarded = λ fi k. also k.field.class (k.field.class == class) (are.with_guarded fi k);
+  };
+  tells = ap (λ (b : Bool). if b then true else frozen class) (same_to class class refl);
+}
+  where
+    those : (d : ℕ) (b : Bool) → (d == class) ≡ b → (if b then true else frozen d) ≡ true → IsFrozenClass c.program (tags_of c) d
+    those d true s e = subst (IsFrozenClass c.program (tags_of c)) (sym (same_from d class s)) is
+    those d false s e = are.those d e
+
+    also : (d : ℕ) (b : Bool) → frozen d ≡ true → (if b then true else frozen d) ≡ true
+    also d true e = refl
+    also d false e = e
+
+pub tells_class : HasFrozenTest → (c : MarkedProgram) → IsMarked c → (class : ℕ) → IsFrozenClass c.program (tags_of c) class → TellsClass c class
+tells_class tests c marked class is = let test = tests c marked.marks in told c test.0 test.1 class is
+
+-- ---- the laws of events that all of it follows from
+
+pub record AreBuiltLaws : Type 0 where
+  pub lies : StartLiesApart
+  pub structure : StructureIsKept
+  pub next_structure : NextKeepsStructure
+  pub parts : ProgramsKeepThreads
+  pub start_state : StartHasState
+  pub events_state : EventsKeepState
+  pub next_state : NextKeepsState
+  pub start_built : StartHasConstruction
+  pub others : EventsLeaveOthers
+  pub frozen_test : HasFrozenTest
+
+-- ---- a state of a run, with what is lost in it
+
+pub record BuiltThere (c : MarkedProgram) (cfg : Config) (frozen : ℕ → Bool) (objects : List Object) (was : ℕ → Phase) (s : Core) : Type 0 where
+  pub facts : StateFacts c cfg objects was s
+  pub world : World
+  pub built : Construction c frozen world was objects s
+
+pub record LostThere (c : MarkedProgram) (cfg : Config) (frozen : ℕ → Bool) (v : ℕ) (objects : List Object) (was : ℕ → Phase) (s : Core) : Type 0 where
+  pub there : BuiltThere c cfg frozen objects was s
+  pub builder : Builder
+  pub lost : LostIn c frozen there.world was objects s there.built v builder
+
+-- whichever phases count
+pub record BuiltIn (c : MarkedProgram) (cfg : Config) (frozen : ℕ → Bool) (objects : List Object) (s : Core) : Type 0 where
+  pub was : ℕ → Phase
+  pub there : BuiltThere c cfg frozen objects was s
+
+module _ (laws : AreBuiltLaws) (c : MarkedProgram) (cfg : Config) (frozen : ℕ → Bool) (are : AreFrozen c frozen) (marked : IsMarked c) (width : HaveWidth cfg) (settings : AreSettings cfg) where
+  pub start_there : BuiltThere c cfg frozen (start_objects c.program) (phase_at_start c cfg) (start c cfg)
+  start_there = record { facts = laws.start_state c cfg marked (laws.parts c cfg marked settings); world = no_builders; built = laws.start_built c cfg frozen marked are }
+
+  module _ (objects : List Object) (was : ℕ → Phase) (s : Core) (k : BuiltThere c cfg frozen objects was s) where
+    abbrev builds : (t : ℕ) → BuildsFor laws.lies laws.structure c cfg marked frozen k.world objects was s t k.facts k.built (slice_get s.threads t)
+    builds t = builds_for laws.lies laws.structure c cfg marked frozen k.world objects was s t k.facts k.built
+
+    pub event_there : (t : ℕ) → BuiltThere c cfg frozen (objects_after c.program s t objects) (counted_after c was s t) (event c s t)
+    event_there t = record { facts = laws.events_state c cfg objects was s t marked width k.facts; world = (builds t).later; built = (builds t).keeps }
+
+    pub next_there : BuiltThere c cfg frozen objects (counted_next c was s) (next c s)
+    next_there = record { facts = laws.next_state c cfg objects was s marked (laws.parts c cfg marked settings) k.facts; world = k.world; built = (next_builds laws.next_structure c cfg objects was s frozen k.world k.facts k.built).keeps }
+
+  -- ---- what is lost stays so
+
+  pub event_lost : (objects : List Object) (was : ℕ → Phase) (s : Core) (v t : ℕ) → LostThere c cfg frozen v objects was s → LostThere c cfg frozen v (objects_after c.program s t objects) (counted_after c was s t) (event c s t)
+  unfolding event_there
+  event_lost objects was s v t k = record { there = event_there objects was s k.there t; builder = k.builder; lost = (builds objects was s k.there t).lost v k.builder k.lost }
+
+  pub next_lost : (objects : List Object) (was : ℕ → Phase) (s : Core) (v : ℕ) → LostThere c cfg frozen v objects was s → LostThere c cfg frozen v objects (counted_next c was s) (next c s)
+  unfolding next_there
+  next_lost objects was s v k = record { there = next_there objects was s k.there; builder = k.builder; lost = (next_builds laws.next_structure c cfg objects was s frozen k.there.world k.there.facts k.there.built).lost v k.builder k.lost }
+
+  pub nobody_has : (objects : List Object) (was : ℕ → Phase) (s : Core) (v : ℕ) → LostThere c cfg frozen v objects was s → NobodyHas c v objects s
+  nobody_has objects was s v k = record {
+    places = places_have_not c k.there.world (slice_index s.words NEXT_FREE_WORD) v objects s.words k.builder k.lost.is k.there.built.places;
+    threads = λ u x here. (let keeps = k.there.built.each u x here in uses_not c marked frozen k.there.world (slice_index s.words NEXT_FREE_WORD) u v (was u) x keeps k.there.built.world (k.there.facts.structure u x here).is_as (lost_strange keeps.now u v k.builder (k.lost.seen u x here) k.lost.item));
+  }
+
+  -- whatever happens
+  pub all_lost : (hs : List Happening) (objects : List Object) (was : ℕ → Phase) (s : Core) (v : ℕ) → LostThere c cfg frozen v objects was s → NobodyHas c v (all_objects c s objects hs) (all_happened c s hs)
+  all_lost [] objects was s v k = nobody_has objects was s v k
+  all_lost (Of t ∷ hs) objects was s v k = all_lost hs (objects_after c.program s t objects) (counted_after c was s t) (event c s t) v (event_lost objects was s v t k)
+  all_lost (NextPart ∷ hs) objects was s v k = all_lost hs objects (counted_next c was s) (next c s) v (next_lost objects was s v k)
+
+  pub all_there : (hs : List Happening) (objects : List Object) (was : ℕ → Phase) (s : Core) → BuiltThere c cfg frozen objects was s → BuiltIn c cfg frozen (all_objects c s objects hs) (all_happened c s hs)
+  all_there [] objects was s k = record { was = was; there = k }
+  all_there (Of t ∷ hs) objects was s k = all_there hs (objects_after c.program s t objects) (counted_after c was s t) (event c s t) (event_there objects was s k t)
+  all_there (NextPart ∷ hs) objects was s k = all_there hs objects (counted_next c was s) (next c s) (next_there objects was s k)
+
+  pub reached : (hs : List Happening) → BuiltIn c cfg frozen (run_objects c cfg hs) (core c cfg hs)
+  unfolding core
+  reached hs = all_there hs (start_objects c.program) (phase_at_start c cfg) (start c cfg) start_there
+
+  -- ---- an exception leaves the `<init>` of a frozen class
+
+  module _ (objects : List Object) (was : ℕ → Phase) (s : Core) (k : BuiltThere c cfg frozen objects was s) (t v : ℕ) (x : Thread) (here : slice_get s.threads t ≡ Some x) where
+    abbrev found : ℕ
+    found = found_by s.words (wanted c x x.phase)
+
+    abbrev Behind : Option Thread → Type 0
+    Behind o = LostThere c cfg frozen v (objects_of c.program o objects) (counted_at was t (event_of c s t o).threads) (event_of c s t o)
+
+    facts_so : StateFacts c cfg (objects_of c.program (Some x) objects) (counted_at was t (event_of c s t (Some x)).threads) (event_of c s t (Some x))
+    facts_so = subst (λ (o : Option Thread). StateFacts c cfg (objects_of c.program o objects) (counted_at was t (event_of c s t o).threads) (event_of c s t o)) here (laws.events_state c cfg objects was s t marked width k.facts)
+
+    pub lost_behind : (u : IsUnwound (was t) x (moved c x x.phase found)) → (moved c x x.phase found).attempt ≡ None → (i : IsInitOn c v u.frame) → frozen i.method.class ≡ true → k.world v ≡ Some (builder t (length u.below) Begun)
+        → LostThere c cfg frozen v (objects_after c.program s t objects) (counted_after c was s t) (event c s t)
+    lost_behind u none i young is =
+        let keeps : ThreadKeeps c frozen k.world (slice_index s.words NEXT_FREE_WORD) t (was t) x = k.built.each t x here in
+        let b : Builder = builder t (length u.below) Begun in
+        let to = leaves_lost c frozen k.world (slice_index s.words NEXT_FREE_WORD) (slice_index (words_after s.words (wanted c x x.phase)) NEXT_FREE_WORD) t v (was t) x (moved c x x.phase found) keeps k.built.world
+        (grows laws.lies laws.structure c cfg marked frozen k.world objects was s t k.facts k.built x here) u none i young in
+        let behind : to.moves.later v ≡ Some (lost (builder t (length u.below) Begun)) = ap (λ (z : World). z v) to.is_later ∙ losing_here keeps.now v (builder t (length u.below) Begun) in
+        let view : to.moves.keeps.now v ≡ Some (lost (builder t (length u.below) Begun)) = ap (λ (z : World). z v) to.is_now ∙ losing_here keeps.now v (builder t (length u.below) Begun) in
+        subst Behind (sym here) (record {
+          there = record { facts = facts_so; world = to.moves.later; built = built laws.lies laws.structure c cfg marked frozen k.world objects was s t k.facts k.built x here to.moves };
+          builder = lost (builder t (length u.below) Begun);
+          lost = loses laws.lies laws.structure c cfg marked frozen k.world objects was s t k.facts k.built x here to.moves v (lost (builder t (length u.below) Begun)) (record {
+            item = refl;
+            before = builder t (length u.below) Begun;
+            was_so = is;
+            behind = behind;
+            own_view = view;
+            other_views = λ w y f apart. inl (λ e. apart (sym e));
+          });
+        })
+
+-- ---- one run behind another
+
+pub all_append : (c : MarkedProgram) (s : Core) (hs es : List Happening) → all_happened c s (hs ++ es) ≡ all_happened c (all_happened c s hs) es
+all_append c s [] es = refl
+all_append c s (h ∷ hs) es = all_append c (happened c s h) hs es
+
+objects_append : (c : MarkedProgram) (s : Core) (objects : List Object) (hs es : List Happening) → all_objects c s objects (hs ++ es) ≡ all_objects c (all_happened c s hs) (all_objects c s objects hs) es
+objects_append c s objects [] es = refl
+objects_append c s objects (Of t ∷ hs) es = objects_append c (event c s t) (objects_after c.program s t objects) hs es
+objects_append c s objects (NextPart ∷ hs) es = objects_append c (next c s) objects hs es
+
+pub core_more : (c : MarkedProgram) (cfg : Config) (hs es : List Happening) → core c cfg (hs ++ es) ≡ all_happened c (core c cfg hs) es
+unfolding core
+core_more c cfg hs es = all_append c (start c cfg) hs es
+
+pub objects_more : (c : MarkedProgram) (cfg : Config) (hs es : List Happening) → run_objects c cfg (hs ++ es) ≡ all_objects c (core c cfg hs) (run_objects c cfg hs) es
+unfolding core
+objects_more c cfg hs es = objects_append c (start c cfg) (start_objects c.program) hs es

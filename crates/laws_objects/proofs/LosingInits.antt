@@ -1,0 +1,119 @@
+-- An object whose `<init>` an exception has left is lost from then on.
+use Rattle.std.proofs.Common.{◌≡◌, ◌≢◌, ℕ, ◌<◌, ◌≤◌, Bool, true, false, List, [], ◌∷◌, length, Some, None, refl, sym, ap, ◌∙◌, subst, arith}
+use Rattle.std.specs.Prelude.{◌==◌, if◌then◌else◌}
+use Rattle.lists.proofs.ListLaws.{same_some}
+use Rattle.lists.proofs.TestLaws.{both_true}
+use Rattle.jvm_types.specs.CodeTable.{is_init}
+use Rattle.jvm_types.specs.ProgramInvariant.{words_of}
+use Rattle.jvm_types.specs.declared.outcome.Thrown.{Thrown}
+use Rattle.jvm_types.specs.declared.program.MethodInfo.{MethodInfo}
+use Rattle.checked_program.specs.MarkedProgram.{MarkedProgram}
+use Rattle.machine_types.specs.Construction.{builds, Throws as Loose, Turn, ReceiverIs, FrameKeeps, KeepBelow, FramesKeep, ThreadKeeps}
+use Rattle.machine_types.specs.Going.{goes_on}
+use Rattle.machine_types.specs.Onward.{unwound}
+use Rattle.machine_types.specs.Threads.{Frame, Thread}
+use Rattle.machine_types.specs.Worlds.{Lost, Begun, Builder, builder, World, IsFinished, IsWorld, GoesOn}
+use Rattle.machine_types.specs.declared.phase.Phase.{Phase}
+use Rattle.machine_types.specs.declared.phase.Phase.TheVariants as phases
+use Rattle.jvm_types.specs.declared.outcome.End.TheVariants as ends
+use Rattle.laws_threads.specs.StructureLaws.{counted_by}
+use Rattle.laws_objects.specs.UnfinishedObjects.{IsInitOn}
+use Rattle.laws_objects.proofs.FrameChanges.{IsUnwound}
+use Rattle.laws_objects.proofs.KeptFrames.{KeepsUnder, frames_kept}
+use Rattle.laws_objects.proofs.Onwards.{OnwardKeeps}
+use Rattle.laws_objects.proofs.ThrowingFrames.{frames_unwound}
+use Rattle.laws_objects.proofs.ThreadMoves.{MovedTo, AreKnown, goes_held, held_known, in_none, moved_more_to}
+use Rattle.laws_objects.proofs.WorldChanges.{same_to, other_to, same_from, none_some, lost, KeepsLost}
+
+-- ---- the world in which it is lost
+
+abbrev pub losing : World → (v : ℕ) → Builder → World
+losing w v b u = if u == v then Some (lost b) else w u
+
+pub losing_here : (w : World) (v : ℕ) (b : Builder) → losing w v b v ≡ Some (lost b)
+losing_here w v b = ap (λ (x : Bool). if x then Some (lost b) else w v) (same_to v v refl)
+
+losing_there : (w : World) (v : ℕ) (b : Builder) (u : ℕ) → u ≢ v → losing w v b u ≡ w u
+losing_there w v b u n = ap (λ (x : Bool). if x then Some (lost b) else w u) (other_to u v n)
+
+module _ (w : World) (v t : ℕ) (b : Builder) (is : w v ≡ Some b) (mine : b.thread ≡ t) (unfinished : b.item ≢ Lost) where
+  -- one builder, and another
+  same_builder : (u : ℕ) (j : Builder) → w u ≡ Some j → u ≡ v → b ≡ j
+  same_builder u j e s = let here : w v ≡ Some j = subst (λ (x : ℕ). w x ≡ Some j) s e in same_some (sym is ∙ here)
+
+  losing_back : (u : ℕ) (j : Builder) → losing w v b u ≡ Some j → j ≢ lost b → w u ≡ Some j
+  losing_back u j e n = by_test (u == v) e
+    where
+      by_test : (x : Bool) → (if x then Some (lost b) else w u) ≡ Some j → w u ≡ Some j
+      by_test true e = absurd (n (sym (same_some e)))
+      by_test false e = e
+
+  losing_old : (next u : ℕ) → IsFinished w next u → IsFinished (losing w v b) next u
+  losing_old next u o = (o.0, losing_there w v b u (λ s. none_some (w v) b (subst (λ (x : ℕ). w x ≡ None) s o.1) is) ∙ o.1)
+
+  losing_goes : (next : ℕ) → GoesOn w (losing w v b) next next t 0
+  losing_goes next = record {
+    grows = omega arith;
+    finished = λ u o. (losing_old next u o).1;
+    others = λ u j n e. losing_there w v b u (λ s. n (sym (ap (λ (i : Builder). i.thread) (same_builder u j e s)) ∙ mine)) ∙ e;
+    no_more = λ u j n e. losing_back u j e (λ s. n (ap (λ (i : Builder). i.thread) s ∙ mine));
+    lower = λ u j m l e. absurd (omega (arith, l));
+  }
+
+  losing_world : (first next : ℕ) → IsWorld w first next → IsWorld (losing w v b) first next
+  losing_world first next k = record {
+    one = λ u x j n e f. k.one u x j n (losing_back u j e (λ s. n (ap (λ (i : Builder). i.item) s))) (losing_back x j f (λ s. n (ap (λ (i : Builder). i.item) s)));
+    inside = λ u j e. by_test u j (u == v) refl e;
+    room = k.room;
+  }
+    where
+      by_test : (u : ℕ) (j : Builder) (x : Bool) → (u == v) ≡ x → (if x then Some (lost b) else w u) ≡ Some j → (first ≤ u) × (u < next)
+      by_test u j true s e = subst (λ (y : ℕ). (first ≤ y) × (y < next)) (sym (same_from u v s)) (k.inside v b is)
+      by_test u j false s e = k.inside u j e
+
+  losing_lost : KeepsLost w (losing w v b)
+  losing_lost u j item e = losing_there w v b u (λ s. unfinished (ap (λ (i : Builder). i.item) (same_builder u j e s) ∙ item)) ∙ e
+
+  losing_under : (h : ℕ) → h ≤ b.height → KeepsUnder w (losing w v b) t h
+  losing_under h l i less u x e = losing_there w v b u (λ s. (let same : b.height ≡ i = ap (λ (j : Builder). j.height) (same_builder u (builder t i x) e s) in omega (arith, same, less, l))) ∙ e
+
+  -- the frames below stand there
+  losing_keeps : (c : MarkedProgram) (frozen : ℕ → Bool) (next x : ℕ) (class : Thrown) (f : Frame) (fs : List Frame) → length fs ≤ b.height → KeepBelow c frozen w next t f fs → IsFinished w next x → OnwardKeeps c frozen (losing w v b) next t (unwound x class fs)
+  losing_keeps c frozen next x class f [] high keeps old = tt
+  losing_keeps c frozen next x class f (g ∷ gs) high keeps old = (
+    losing_old next x old,
+    frames_kept c frozen w (losing w v b) next next t (losing_old next) Loose (g ∷ gs) (losing_under (length (g ∷ gs)) high) (frames_unwound c frozen w next t f (g ∷ gs) keeps),
+  )
+
+-- ---- the receiver of an `<init>` of a frozen class is begun
+
+pub init_begun : (c : MarkedProgram) (frozen : ℕ → Bool) (w : World) (next t h v : ℕ) (turn : Turn) (f : Frame) → FrameKeeps c frozen w next t h turn f → (k : IsInitOn c v f) → frozen k.method.class ≡ true → w v ≡ Some (builder t h Begun)
+init_begun c frozen w next t h v turn f kept k young =
+    let same : k.method ≡ kept.stands.method = same_some (sym k.there ∙ kept.stands.at.in_program) in
+    let own : builds frozen kept.stands.method ≡ true = subst (λ (m : MethodInfo). builds frozen m ≡ true) same (both_true (is_init k.method) (frozen k.method.class) k.init young) in
+    subst (λ (a : ℕ). w a ≡ Some (builder t h Begun)) k.receiver (subst (λ (b : Bool). ReceiverIs w next t h b f.receiver) own kept.receiver)
+
+-- ---- a thread leaves it
+
+module _ (c : MarkedProgram) (frozen : ℕ → Bool) (w : World) (next t : ℕ) (was : Phase) (x : Thread) (k : ThreadKeeps c frozen w next t was x) (world : IsWorld w (words_of c.program) next) (v : ℕ) (b : Builder) (begun : k.now v ≡ Some b) (mine : b.thread ≡ t) (unfinished : b.item ≢ Lost) where
+  away_to : (s : Thread) (thrown : ℕ) (class : Thrown) (fs : List Frame) → OnwardKeeps c frozen (losing k.now v b) next t (unwound thrown class fs) → (goes_on s (unwound thrown class fs)).attempt ≡ None → AreKnown w next t (goes_on s (unwound thrown class fs)).held
+      → MovedTo c frozen w k.now next next t (counted_by was (goes_on s (unwound thrown class fs)).phase) (goes_on s (unwound thrown class fs)) (losing k.now v b)
+  away_to s thrown class [] keeps none held =
+      in_none c frozen w next t was x k world (counted_by was (phases.Ending (ends.Uncaught class))) (record s { frames = []; phase = phases.Ending (ends.Uncaught class) }) none held
+      (record { later = losing k.now v b; goes = losing_goes k.now v t b begun mine unfinished next; world = losing_world k.now v t b begun mine unfinished (words_of c.program) next; lost = losing_lost k.now v t b begun mine unfinished; fits = (tt, tt) })
+  away_to s thrown class (g ∷ gs) keeps none held =
+      in_none c frozen w next t was x k world (counted_by was (phases.Throw thrown class)) (record s { frames = g ∷ gs; phase = phases.Throw thrown class }) none held
+      (record { later = losing k.now v b; goes = losing_goes k.now v t b begun mine unfinished next; world = losing_world k.now v t b begun mine unfinished (words_of c.program) next; lost = losing_lost k.now v t b begun mine unfinished; fits = (keeps.1, keeps.0) })
+
+pub leaves_lost : (c : MarkedProgram) (frozen : ℕ → Bool) (w : World) (next more t v : ℕ) (was : Phase) (x y : Thread) (k : ThreadKeeps c frozen w next t was x) → IsWorld w (words_of c.program) next → next ≤ more → (u : IsUnwound was x y) → y.attempt ≡ None
+    → (i : IsInitOn c v u.frame) → frozen i.method.class ≡ true → MovedTo c frozen w k.now next more t (counted_by was y.phase) y (losing k.now v (builder t (length u.below) Begun))
+leaves_lost c frozen w next more t v was x y k world grows u none i young =
+    let frames : FramesKeep c frozen k.now next t Loose (u.frame ∷ u.below) = subst (FramesKeep c frozen k.now next t Loose) u.frames (u.carries.frames c frozen k.now next t k.frames) in
+    let begun : k.now v ≡ Some (builder t (length u.below) Begun) = init_begun c frozen k.now next t (length u.below) v Loose u.frame frames.0 i young in
+    let old : IsFinished k.now next u.thrown = u.carries.finished k.now next t k.phase in
+    let keeps : OnwardKeeps c frozen (losing k.now v (builder t (length u.below) Begun)) next t (unwound u.thrown u.class u.below) = losing_keeps k.now v t (builder t (length u.below) Begun) begun refl (λ e. cc) c frozen next u.thrown u.class u.frame u.below (omega arith) frames.1 old in
+    let held : AreKnown w next t (goes_on u.from (unwound u.thrown u.class u.below)).held = subst (AreKnown w next t) (sym (goes_held u.from (unwound u.thrown u.class u.below))) (u.known w next t (held_known c frozen w next t was x k world)) in
+    let ended : (goes_on u.from (unwound u.thrown u.class u.below)).attempt ≡ None = subst (λ (z : Thread). z.attempt ≡ None) u.is none in
+    moved_more_to c frozen w k.now next more t (counted_by was y.phase) y (losing k.now v (builder t (length u.below) Begun)) world grows
+    (subst (λ (z : Thread). MovedTo c frozen w k.now next next t (counted_by was z.phase) z (losing k.now v (builder t (length u.below) Begun))) (sym u.is)
+    (away_to c frozen w next t was x k world v (builder t (length u.below) Begun) begun refl (λ e. cc) u.from u.thrown u.class u.below keeps ended held))

@@ -1,0 +1,132 @@
+-- Once the `<init>` of a frozen class has thrown, nobody has its object.
+use Rattle.std.proofs.Common.{◌≡◌, ℕ, inl, inr, Bool, true, false, List, [], ◌∷◌, ◌++◌, length, Option, Some, None, refl, sym, ap, ◌∙◌, subst, arith}
+use Rattle.std.specs.Prelude.{nat_lt, if◌then◌else◌, slice_get, slice_index}
+use Rattle.lists.proofs.ListLaws.{same_some}
+use Rattle.jvm_types.specs.declared.fixed_words.TheConstants.{NEXT_FREE_WORD}
+use Rattle.jvm_types.specs.declared.outcome.End.TheVariants as ends
+use Rattle.jvm_types.specs.declared.outcome.Thrown.{Thrown}
+use Rattle.checked_program.specs.MarkedProgram.{MarkedProgram, IsMarked}
+use Rattle.machine_types.specs.Accesses.{found_by}
+use Rattle.machine_types.specs.Construction.{Throws as Loose, FramesKeep, ThreadKeeps}
+use Rattle.machine_types.specs.Core.{Core, Happening, Of, event, event_of, all_happened, core}
+use Rattle.machine_types.specs.Events.{wanted, moved}
+use Rattle.machine_types.specs.Frames.{returned}
+use Rattle.machine_types.specs.Going.{root_over, goes_on}
+use Rattle.machine_types.specs.Onward.{back}
+use Rattle.machine_types.specs.PlainMemory.{Object}
+use Rattle.machine_types.specs.Threads.{Frame, Attempt, Thread}
+use Rattle.machine_types.specs.Worlds.{Begun, builder}
+use Rattle.machine_types.specs.declared.config.Config.{Config}
+use Rattle.machine_types.specs.declared.phase.Phase.{Phase}
+use Rattle.machine_types.specs.declared.phase.Phase.TheVariants as phases
+use Rattle.laws_states.proofs.EventFacts.{got_when_set}
+use Rattle.jvm_types.specs.declared.program.MethodInfo.{MethodInfo}
+use Rattle.laws_threads.specs.StateLaws.{counted_after}
+use Rattle.machine_types.specs.Settings.{AreSettings}
+use Rattle.laws_states.specs.RunFacts.{HaveWidth}
+use Rattle.laws_states.specs.HeapFacts.{objects_after}
+use Rattle.laws_states.specs.ChangeLaws.{run_objects}
+use Rattle.laws_objects.specs.UnfinishedObjects.{IsInitOn, ThrowsOut, NobodyHas, ThrownInitsLeaveNoUse}
+use Rattle.laws_objects.proofs.BuiltRuns.{TellsClass, tells_class, AreBuiltLaws, BuiltThere, LostThere, BuiltIn, reached, all_lost, lost_behind, core_more, objects_more}
+use Rattle.laws_objects.proofs.FrameChanges.{frame_at, counted_below, top_here, Stay, TriesGo, IsUnwound, FramesGo, frames_go}
+use Rattle.laws_objects.proofs.LosingInits.{init_begun}
+use Rattle.laws_objects.proofs.WorldChanges.{none_some}
+
+-- ---- the thread behind its event
+
+pub moved_is : (c : MarkedProgram) (s : Core) (t : ℕ) (x y : Thread) → slice_get s.threads t ≡ Some x → slice_get (event c s t).threads t ≡ Some y → moved c x x.phase (found_by s.words (wanted c x x.phase)) ≡ y
+moved_is c s t x y here behind =
+    let there : slice_get (event_of c s t (Some x)).threads t ≡ Some y = subst (λ (o : Option Thread). slice_get (event_of c s t o).threads t ≡ Some y) here behind in
+    same_some (sym (got_when_set s.threads t x (moved c x x.phase (found_by s.words (wanted c x x.phase))) here) ∙ there)
+
+-- one that returns throws nothing
+back_throws_not : (s : Thread) (fs : List Frame) (x : ℕ) (class : Thrown) → (goes_on s (back fs)).phase ≡ phases.Throw x class → ⊥
+back_throws_not s [] x class = by_roots s.roots
+  where
+    by_roots : (roots : List ℕ) → root_over roots ≡ phases.Throw x class → ⊥
+    by_roots [] e = cc
+    by_roots (number ∷ roots) e = cc
+back_throws_not s (f ∷ fs) x class = by_limit (nat_lt s.counts.instructions s.cfg.steps)
+  where
+    by_limit : (b : Bool) → (if b then phases.Run else phases.Ending ends.Steps) ≡ phases.Throw x class → ⊥
+    by_limit true e = cc
+    by_limit false e = cc
+
+-- frames are more than those below their top
+no_fewer : (fs below : List Frame) (f : Frame) → fs ≡ f ∷ below → Stay fs below → ⊥
+no_fewer fs below f e stay =
+    let there = stay (length below) f (subst (λ (gs : List Frame). frame_at (length below) gs ≡ Some f) (sym e) (top_here f below)) in
+    let few = counted_below (length below) below there.0 there.1 in
+    omega (arith, few)
+
+-- ---- it has been left by an exception
+
+module _ (c : MarkedProgram) (was : Phase) (v : ℕ) (s : Core) (t : ℕ) (k : ThrowsOut c v s t) where
+  -- so it went
+  pub record GoesAway : Type 0 where
+    pub unwound : IsUnwound was k.thread k.later
+    pub ended : k.later.attempt ≡ None
+    pub init : IsInitOn c v unwound.frame
+
+  ended : (o : Option Attempt) → k.later.attempt ≡ o → TriesGo k.thread.attempt k.later.attempt k.thread.frames k.later.frames → k.later.attempt ≡ None
+  ended None e tries = e
+  ended (Some b) e tries =
+      let begun : TriesGo None (Some b) k.thread.frames k.later.frames = subst (λ (o : Option Attempt). TriesGo None o k.thread.frames k.later.frames) e (subst (λ (o : Option Attempt). TriesGo o k.later.attempt k.thread.frames k.later.frames) k.outside tries) in
+      let long : length k.below ≡ length (k.frame ∷ k.below) = ap length (sym k.gone ∙ begun.0 ∙ k.frames) in
+      absurd (omega (arith, long))
+
+  top_of_both : (f : Frame) (below : List Frame) → k.thread.frames ≡ f ∷ below → k.frame ≡ f
+  top_of_both f below e = let same : k.frame ∷ k.below ≡ f ∷ below = sym k.frames ∙ e in cc
+
+  pub goes_away : FramesGo c was k.thread k.later → GoesAway
+  goes_away (inl stays) = absurd (no_fewer k.thread.frames k.below k.frame k.frames (subst (Stay k.thread.frames) k.gone stays.frames))
+  goes_away (inr (inl r)) = absurd (back_throws_not r.from (returned c.program r.at) k.thrown k.class (ap (λ (z : Thread). z.phase) (sym r.is) ∙ k.throws))
+  goes_away (inr (inr (inl u))) = record { unwound = u; ended = ended k.later.attempt refl u.tries; init = subst (IsInitOn c v) (top_of_both u.frame u.below u.frames) k.init }
+  goes_away (inr (inr (inr failed))) = absurd (none_some k.thread.attempt failed.attempt k.outside failed.tried)
+
+-- ---- every run
+
+module _ (laws : AreBuiltLaws) (c : MarkedProgram) (cfg : Config) (hs : List Happening) (t v : ℕ) (es : List Happening) (marked : IsMarked c) (width : HaveWidth cfg) (settings : AreSettings cfg) (k : ThrowsOut c v (core c cfg hs) t) where
+  test : TellsClass c k.init.method.class
+  test = tells_class laws.frozen_test c marked k.init.method.class k.init.frozen
+
+  state : BuiltIn c cfg test.frozen (run_objects c cfg hs) (core c cfg hs)
+  state = reached laws c cfg test.frozen test.are marked width settings hs
+
+  stood : BuiltThere c cfg test.frozen (run_objects c cfg hs) state.was (core c cfg hs)
+  stood = state.there
+
+  keeps : ThreadKeeps c test.frozen stood.world (slice_index (core c cfg hs).words NEXT_FREE_WORD) t (state.was t) k.thread
+  keeps = stood.built.each t k.thread k.there
+
+  is_later : moved c k.thread k.thread.phase (found_by (core c cfg hs).words (wanted c k.thread k.thread.phase)) ≡ k.later
+  is_later = moved_is c (core c cfg hs) t k.thread k.later k.there k.behind
+
+  away : GoesAway c (state.was t) v (core c cfg hs) t k
+  away = goes_away c (state.was t) v (core c cfg hs) t k (subst (FramesGo c (state.was t) k.thread) is_later
+      (frames_go c (state.was t) k.thread (found_by (core c cfg hs).words (wanted c k.thread k.thread.phase)) (stood.facts.structure t k.thread k.there)))
+
+  young : test.frozen away.init.method.class ≡ true
+  young =
+      let same : k.init.method ≡ away.init.method = same_some (sym k.init.there ∙ ap (λ (f : Frame). slice_get c.program.methods f.method) (top_of_both c (state.was t) v (core c cfg hs) t k away.unwound.frame away.unwound.below away.unwound.frames) ∙ away.init.there) in
+      ap (λ (m : MethodInfo). test.frozen m.class) (sym same) ∙ test.tells
+
+  begun : stood.world v ≡ Some (builder t (length away.unwound.below) Begun)
+  begun =
+      let frames : FramesKeep c test.frozen keeps.now (slice_index (core c cfg hs).words NEXT_FREE_WORD) t Loose (away.unwound.frame ∷ away.unwound.below) = subst (FramesKeep c test.frozen keeps.now (slice_index (core c cfg hs).words NEXT_FREE_WORD) t Loose) away.unwound.frames (away.unwound.carries.frames c test.frozen keeps.now (slice_index (core c cfg hs).words NEXT_FREE_WORD) t keeps.frames) in
+      sym (keeps.now_is.same k.outside v) ∙ init_begun c test.frozen keeps.now (slice_index (core c cfg hs).words NEXT_FREE_WORD) t (length away.unwound.below) v Loose away.unwound.frame frames.0 away.init young
+
+  lost_now : LostThere c cfg test.frozen v (objects_after c.program (core c cfg hs) t (run_objects c cfg hs)) (counted_after c state.was (core c cfg hs) t) (event c (core c cfg hs) t)
+  lost_now =
+      subst (λ (y : Thread). (u : IsUnwound (state.was t) k.thread y) → y.attempt ≡ None → (i : IsInitOn c v u.frame) → test.frozen i.method.class ≡ true → stood.world v ≡ Some (builder t (length u.below) Begun)
+      → LostThere c cfg test.frozen v (objects_after c.program (core c cfg hs) t (run_objects c cfg hs)) (counted_after c state.was (core c cfg hs) t) (event c (core c cfg hs) t)) is_later
+      (lost_behind laws c cfg test.frozen test.are marked width settings (run_objects c cfg hs) state.was (core c cfg hs) stood t v k.thread k.there) away.unwound away.ended away.init young begun
+
+  nobody : NobodyHas c v (run_objects c cfg (hs ++ Of t ∷ es)) (core c cfg (hs ++ Of t ∷ es))
+  nobody =
+      subst (λ (r : Core). NobodyHas c v (run_objects c cfg (hs ++ Of t ∷ es)) r) (sym (core_more c cfg hs (Of t ∷ es)))
+      (subst (λ (os : List Object). NobodyHas c v os (all_happened c (core c cfg hs) (Of t ∷ es))) (sym (objects_more c cfg hs (Of t ∷ es)))
+      (all_lost laws c cfg test.frozen test.are marked width settings es (objects_after c.program (core c cfg hs) t (run_objects c cfg hs)) (counted_after c state.was (core c cfg hs) t) (event c (core c cfg hs) t) v lost_now))
+
+pub thrown_leave_no_use : AreBuiltLaws → ThrownInitsLeaveNoUse
+thrown_leave_no_use laws c cfg hs t v es marked width settings k = nobody laws c cfg hs t v es marked width settings k

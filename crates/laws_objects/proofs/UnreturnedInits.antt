@@ -1,0 +1,151 @@
+-- As long as the `<init>` of a frozen class has not returned, no place and no other thread has its object.
+use Rattle.std.proofs.Common.{◌≡◌, ℕ, suc, ◌-◌, ◌<◌, ◌⊎◌, inl, inr, Bool, true, false, List, [], ◌∷◌, length, drop, Option, Some, None, refl, sym, ap, ◌∙◌, subst, arith}
+use Rattle.std.specs.Prelude.{slice_get}
+use Rattle.std.proofs.lemmas.List.{length-drop}
+use Rattle.checked_program.specs.MarkedProgram.{MarkedProgram}
+use Rattle.machine_types.specs.Construction.{Turn, Runs, WaitsFor, KeepBelow, FramesKeep, PhaseKeepsFrames, made_world, turn_by, AttemptKeeps, AttemptKeepsIn, ThreadKeeps}
+use Rattle.machine_types.specs.Core.{next}
+use Rattle.machine_types.specs.Elision.{put_back}
+use Rattle.machine_types.specs.Going.{goes_on}
+use Rattle.machine_types.specs.Onward.{back, unwound}
+use Rattle.machine_types.specs.Structure.{operands_in, AttemptStandsIn, IsStructured}
+use Rattle.machine_types.specs.Threads.{Frame, Attempt, Thread}
+use Rattle.machine_types.specs.Worlds.{Made, Begun, Lost, Builder, builder, World}
+use Rattle.machine_types.specs.declared.lock.Held.{Held}
+use Rattle.machine_types.specs.declared.phase.Phase.{Phase}
+use Rattle.jvm_types.specs.declared.outcome.Thrown.{Thrown}
+use Rattle.machine_types.specs.declared.phase.Phase.TheVariants as phases
+use Rattle.laws_objects.specs.UnfinishedObjects.{IsInitOn}
+use Rattle.laws_objects.proofs.FrameChanges.{frame_at, counted_below, top_or, in_place, Stay, TriesGo}
+use Rattle.laws_objects.proofs.LosingInits.{init_begun}
+use Rattle.laws_objects.proofs.WorldChanges.{GivenBack, given_back, finished_back}
+
+-- ---- some frame at a height is an `<init>` of a class that the test tells, on the object v
+
+pub record IsYoung (c : MarkedProgram) (frozen : ℕ → Bool) (v : ℕ) (f : Frame) : Type 0 where
+  pub init : IsInitOn c v f
+  pub young : frozen init.method.class ≡ true
+
+pub record HasInit (c : MarkedProgram) (frozen : ℕ → Bool) (h v : ℕ) (fs : List Frame) : Type 0 where
+  pub frame : Frame
+  pub there : frame_at h fs ≡ Some frame
+  pub is : IsYoung c frozen v frame
+
+pub init_stays : (c : MarkedProgram) (frozen : ℕ → Bool) (h v : ℕ) (fs gs : List Frame) → Stay fs gs → HasInit c frozen h v fs → HasInit c frozen h v gs
+init_stays c frozen h v fs gs stay k =
+    let to = stay h k.frame k.there in
+    let i = k.is.init in
+    record {
+      frame = to.0;
+      there = to.1;
+      is = record {
+        init = record { method = i.method; there = ap (λ (n : ℕ). slice_get c.program.methods n) to.2.0 ∙ i.there; init = i.init; frozen = i.frozen; receiver = to.2.1 ∙ i.receiver };
+        young = k.is.young;
+      };
+    }
+
+-- at the top, or below it
+abbrev pub Splits : MarkedProgram → (frozen : ℕ → Bool) → (h v : ℕ) → Frame → List Frame → Type 0
+Splits c frozen h v f fs = ((length fs ≡ h) × IsYoung c frozen v f) ⊎ HasInit c frozen h v fs
+
+pub init_splits : (c : MarkedProgram) (frozen : ℕ → Bool) (h v : ℕ) (f : Frame) (fs : List Frame) → HasInit c frozen h v (f ∷ fs) → Splits c frozen h v f fs
+init_splits c frozen h v f fs k = by_place (top_or h f fs k.frame k.there)
+  where
+    by_place : ((length fs ≡ h) × (f ≡ k.frame)) ⊎ (frame_at h fs ≡ Some k.frame) → Splits c frozen h v f fs
+    by_place (inl p) = inl (p.0, subst (IsYoung c frozen v) (sym p.1) k.is)
+    by_place (inr p) = inr (record { frame = k.frame; there = p; is = k.is })
+
+-- ---- its object is begun
+
+module _ (c : MarkedProgram) (frozen : ℕ → Bool) (t h v : ℕ) where
+  below_begun : (w : World) (next : ℕ) (g : Frame) (fs : List Frame) → KeepBelow c frozen w next t g fs → HasInit c frozen h v fs → w v ≡ Some (builder t h Begun)
+  below_begun w next g [] keeps k = absurd (let e = k.there in cc)
+  below_begun w next g (f ∷ fs) keeps k = by_place (init_splits c frozen h v f fs k) (below_begun w next f fs keeps.1)
+    where
+      by_place : Splits c frozen h v f fs → (HasInit c frozen h v fs → w v ≡ Some (builder t h Begun)) → w v ≡ Some (builder t h Begun)
+      by_place (inl p) more = subst (λ (i : ℕ). w v ≡ Some (builder t i Begun)) p.0 (init_begun c frozen w next t (length fs) v (WaitsFor g.receiver keeps.0.begun) f keeps.0.keeps p.1.init p.1.young)
+      by_place (inr k) more = more k
+
+  frames_begun : (w : World) (next : ℕ) (turn : Turn) (fs : List Frame) → FramesKeep c frozen w next t turn fs → HasInit c frozen h v fs → w v ≡ Some (builder t h Begun)
+  frames_begun w next turn [] keeps k = absurd (let e = k.there in cc)
+  frames_begun w next turn (f ∷ fs) keeps k = by_place (init_splits c frozen h v f fs k)
+    where
+      by_place : Splits c frozen h v f fs → w v ≡ Some (builder t h Begun)
+      by_place (inl p) = subst (λ (i : ℕ). w v ≡ Some (builder t i Begun)) p.0 (init_begun c frozen w next t (length fs) v turn f keeps.0 p.1.init p.1.young)
+      by_place (inr k) = below_begun w next f fs keeps.1 k
+
+  -- also before the header of a new object is stored
+  made_begun : (w : World) (a height pc : ℕ) (young : Bool) → made_world w a young (builder t height (Made pc)) v ≡ Some (builder t h Begun) → w v ≡ Some (builder t h Begun)
+  made_begun w a height pc true e = by_given (given_back w a (builder t height (Made pc)) v (builder t h Begun) e)
+    where
+      by_given : GivenBack w a (builder t height (Made pc)) v (builder t h Begun) → w v ≡ Some (builder t h Begun)
+      by_given (inl g) = absurd (let i : Begun ≡ Made pc = ap (λ (b : Builder). b.item) g.1 in cc)
+      by_given (inr (inl g)) = g.1
+      by_given (inr (inr g)) = absurd (let i : Begun ≡ Lost = ap (λ (b : Builder). b.item) g.2 in cc)
+  made_begun w a height pc false e = finished_back w a v (builder t h Begun) e
+
+  phase_begun : (w : World) (next : ℕ) (phase : Phase) (fs : List Frame) → PhaseKeepsFrames c frozen w next t phase fs → HasInit c frozen h v fs → w v ≡ Some (builder t h Begun)
+  phase_begun w next (phases.Made a word) [] keeps k = absurd (let e = k.there in cc)
+  phase_begun w next (phases.Made a word) (f ∷ fs) keeps k =
+      made_begun w a (length (f ∷ fs) - 1) keeps.pc keeps.young
+      (frames_begun (made_world w a keeps.young (builder t (length (f ∷ fs) - 1) (Made keeps.pc))) next Runs (record f { stack = a ∷ f.stack } ∷ fs) keeps.keep
+      (init_stays c frozen h v (f ∷ fs) (record f { stack = a ∷ f.stack } ∷ fs) (in_place f (record f { stack = a ∷ f.stack }) fs (refl, refl)) k))
+  phase_begun w next phase fs keeps k = frames_begun w next (turn_by (operands_in phase)) fs keeps k
+
+-- ---- a thread is inside it, and so it would be if its attempt failed
+
+abbrev pub HasBack : MarkedProgram → (frozen : ℕ → Bool) → (h v : ℕ) → Option Attempt → List Frame → Type 0
+HasBack c frozen h v None fs = Unit {0}
+HasBack c frozen h v (Some a) fs = HasInit c frozen h v (put_back a fs)
+
+pub record IsInside (c : MarkedProgram) (frozen : ℕ → Bool) (h v : ℕ) (x : Thread) : Type 0 where
+  pub now : HasInit c frozen h v x.frames
+  pub goes_back : HasBack c frozen h v x.attempt x.frames
+
+-- in the world, as well as the thread sees it
+pub world_begun : (c : MarkedProgram) (frozen : ℕ → Bool) (w : World) (next t h v : ℕ) (was : Phase) (x : Thread) (k : ThreadKeeps c frozen w next t was x) → IsInside c frozen h v x → w v ≡ Some (builder t h Begun)
+world_begun c frozen w next t h v was x k i = by_attempt x.attempt refl
+  where
+    by_attempt : (o : Option Attempt) → x.attempt ≡ o → w v ≡ Some (builder t h Begun)
+    by_attempt None e = sym (k.now_is.same e v) ∙ phase_begun c frozen t h v k.now next was x.frames k.frames i.now
+    by_attempt (Some a) e =
+        let keeps : AttemptKeeps c frozen w next t x.frames a = subst (AttemptKeepsIn c frozen w next t x.frames) e k.attempt in
+        frames_begun c frozen t h v w next Runs (put_back a x.frames) keeps.goes_back (subst (λ (o : Option Attempt). HasBack c frozen h v o x.frames) e i.goes_back)
+
+-- ---- an attempt that begins or goes on
+
+pub put_back_low : (c : MarkedProgram) (frozen : ℕ → Bool) (h v : ℕ) (a : Attempt) (fs : List Frame) → HasInit c frozen h v (put_back a fs) → h < suc a.base
+put_back_low c frozen h v a fs k =
+    let low = counted_below h (put_back a fs) k.frame k.there in
+    let long : length (drop (length fs - a.base) fs) ≡ length fs - (length fs - a.base) = length-drop (length fs - a.base) fs in
+    omega (arith, low, long)
+
+abbrev pub Based : Option Attempt → List Frame → Type 0
+Based None fs = Unit {0}
+Based (Some a) fs = a.base < length fs
+
+based_in : (c : MarkedProgram) (phase : Phase) (fs : List Frame) (held : List Held) (o : Option Attempt) → AttemptStandsIn c phase fs held o → Based o fs
+based_in c phase fs held None k = tt
+based_in c phase fs held (Some a) k = k.based
+
+pub has_back_on : (c : MarkedProgram) (frozen : ℕ → Bool) (h v : ℕ) (o p : Option Attempt) (fs gs : List Frame) → TriesGo o p fs gs → Based o fs → Based p gs → HasInit c frozen h v fs → HasBack c frozen h v o fs → HasBack c frozen h v p gs
+has_back_on c frozen h v None None fs gs tries low high k back = tt
+has_back_on c frozen h v (Some a) None fs gs tries low high k back = tt
+has_back_on c frozen h v None (Some b) fs gs tries low high k back = subst (HasInit c frozen h v) (sym (ap (put_back b) tries.0 ∙ tries.1)) k
+has_back_on c frozen h v (Some a) (Some b) fs gs tries low high k back =
+    let there : a.base < length gs = subst (λ (n : ℕ). n < length gs) tries.0 high in
+    let same : put_back b gs ≡ put_back a gs = λ i. tries.1 i ∷ drop (length gs - tries.0 i) gs in
+    subst (HasInit c frozen h v) (sym (same ∙ tries.2 low there)) back
+
+pub based_of : (c : MarkedProgram) (was : Phase) (x : Thread) → IsStructured c was x → Based x.attempt x.frames
+based_of c was x k = based_in c was x.frames x.held x.attempt k.attempt
+
+-- ---- the frames behind a return and behind an exception
+
+pub back_frames : (s : Thread) (fs : List Frame) → (goes_on s (back fs)).frames ≡ fs
+back_frames s [] = refl
+back_frames s (f ∷ fs) = refl
+
+pub away_frames : (s : Thread) (x : ℕ) (class : Thrown) (fs : List Frame) → (goes_on s (unwound x class fs)).frames ≡ fs
+away_frames s x class [] = refl
+away_frames s x class (f ∷ fs) = refl

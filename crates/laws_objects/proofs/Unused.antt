@@ -1,0 +1,130 @@
+-- What is lost, or built by another thread, is in no slot of a thread that an instruction may use, and in no place.
+use Rattle.std.proofs.Common.{◌≡◌, ◌≢◌, ℕ, Bool, true, false, List, [], ◌∷◌, length, Some, None, refl, sym, ap, ◌∙◌, subst, arith}
+use Rattle.std.specs.List.{AllZip}
+use Rattle.jvm_types.specs.ProgramInvariant.{words_of}
+use Rattle.jvm_types.specs.Types.{TypeFrame}
+use Rattle.jvm_types.specs.declared.program.Kind.{Kind}
+use Rattle.jvm_types.specs.declared.program.Kind.TheVariants as kinds
+use Rattle.jvm_types.specs.declared.typing.VType.{VType}
+use Rattle.jvm_types.specs.declared.typing.VType.TheVariants as types
+use Rattle.checked_program.specs.MarkedProgram.{MarkedProgram, IsMarked}
+use Rattle.checked_program.specs.declared.tag.Tag.{Tag}
+use Rattle.checked_program.specs.declared.tag.Tag.TheVariants.{Untagged, This, At}
+use Rattle.machine_types.specs.Construction.{if_so, builds, makes_frozen, SlotByType, OwnSlot, SlotIs, SlotsAre, Runs, IsFresh, ReceiverIs, FrameKeeps, FramesKeep, PhaseKeepsFrames, ThreadKeeps, KindKeeps, PlacesKeep}
+use Rattle.machine_types.specs.PlainMemory.{Object}
+use Rattle.machine_types.specs.Standing.{Standing}
+use Rattle.machine_types.specs.Structure.{IsAs}
+use Rattle.machine_types.specs.Threads.{Frame, Thread}
+use Rattle.machine_types.specs.Worlds.{Item, Lost, Made, Begun, Builder, builder, World, IsFinished, IsWorld}
+use Rattle.machine_types.specs.declared.phase.Phase.{Phase}
+use Rattle.machine_types.specs.declared.phase.Phase.TheVariants as phases
+use Rattle.laws_threads.proofs.FramePlaces.{one_standing_law}
+use Rattle.laws_objects.specs.UnfinishedObjects.{IsOther, UsesNot, KindHasNot, PlacesHaveNot}
+use Rattle.laws_objects.proofs.Onwards.{first_finished}
+use Rattle.laws_objects.proofs.WorldChanges.{none_some}
+
+-- the thread doesn't build it, as it sees the world, and it is not finished
+pub record IsStrange (now : World) (t v : ℕ) : Type 0 where
+  pub built : Builder
+  pub is : now v ≡ Some built
+  pub other : (h : ℕ) (x : Item) → x ≢ Lost → built ≢ builder t h x
+
+pub lost_strange : (now : World) (t v : ℕ) (b : Builder) → now v ≡ Some b → b.item ≡ Lost → IsStrange now t v
+lost_strange now t v b e lost = record { built = b; is = e; other = λ h x n s. n (sym (ap (λ (i : Builder). i.item) s) ∙ lost) }
+
+pub others_strange : (now : World) (t v : ℕ) (b : Builder) → now v ≡ Some b → b.thread ≢ t → IsStrange now t v
+others_strange now t v b e apart = record { built = b; is = e; other = λ h x n s. apart (ap (λ (i : Builder). i.thread) s) }
+
+module _ (now : World) (next t v : ℕ) (strange : IsStrange now t v) (null : IsFinished now next 0) where
+  not_finished : (word : ℕ) → IsFinished now next word → word ≢ v
+  not_finished word o e = none_some (now v) strange.built (subst (λ (u : ℕ). now u ≡ None) e o.1) strange.is
+
+  not_built : (h word : ℕ) (x : Item) → x ≢ Lost → now word ≡ Some (builder t h x) → word ≢ v
+  not_built h word x n e s =
+      let here : now v ≡ Some (builder t h x) = subst (λ (u : ℕ). now u ≡ Some (builder t h x)) s e in
+      let there : now v ≡ Some strange.built = strange.is in
+      strange.other h x n cc
+
+  -- ---- slots
+
+  other_so : (u : VType) (word : ℕ) → word ≢ v → IsOther v u word
+  other_so types.Int word n = tt
+  other_so types.Top word n = tt
+  other_so types.Null word n = n
+  other_so (types.Ref class) word n = n
+  other_so types.This word n = n
+  other_so (types.New pc) word n = n
+
+  module _ (h : ℕ) (own : Bool) (young : ℕ → Bool) (receiver : ℕ) (receives : ReceiverIs now next t h own receiver) where
+    abbrev Is : VType → Tag → (word : ℕ) → Type 0
+    Is = SlotIs (IsFinished now next) (IsFresh now t h Runs) own young receiver
+
+    new_other : (pc word : ℕ) (y : Bool) → if_so y (now word ≡ Some (builder t h (Made pc))) (IsFinished now next word) → word ≢ v
+    new_other pc word true e = not_built h word (Made pc) (λ s. cc) e
+    new_other pc word false o = not_finished word o
+
+    type_other : (u : VType) (word : ℕ) → SlotByType (IsFinished now next) (IsFresh now t h Runs) young u word → IsOther v u word
+    type_other types.Int word s = tt
+    type_other types.Top word s = tt
+    type_other types.Null word s = λ e. not_finished 0 null (sym s ∙ e)
+    type_other (types.Ref class) word s = not_finished word s
+    type_other types.This word s = not_finished word s
+    type_other (types.New pc) word s = new_other pc word (young pc) s
+
+    own_other : (ours : own ≡ true) (u : VType) (g : Tag) (word : ℕ) → OwnSlot (IsFinished now next) (IsFresh now t h Runs) young receiver u g word → IsOther v u word
+    own_other ours u This word s =
+        let mine : now receiver ≡ Some (builder t h Begun) = subst (λ (b : Bool). ReceiverIs now next t h b receiver) ours receives in
+        other_so u word (λ e. not_built h receiver Begun (λ z. cc) mine (sym s ∙ e))
+    own_other ours types.This Untagged word s = absurd s
+    own_other ours types.This (At pc) word s = absurd s
+    own_other ours types.Int Untagged word s = tt
+    own_other ours types.Int (At pc) word s = tt
+    own_other ours types.Top Untagged word s = tt
+    own_other ours types.Top (At pc) word s = tt
+    own_other ours types.Null Untagged word s = type_other types.Null word s
+    own_other ours types.Null (At pc) word s = type_other types.Null word s
+    own_other ours (types.Ref class) Untagged word s = type_other (types.Ref class) word s
+    own_other ours (types.Ref class) (At pc) word s = type_other (types.Ref class) word s
+    own_other ours (types.New q) Untagged word s = type_other (types.New q) word s
+    own_other ours (types.New q) (At pc) word s = type_other (types.New q) word s
+
+    slot_other : (b : Bool) → own ≡ b → (u : VType) (g : Tag) (word : ℕ) → SlotIs (IsFinished now next) (IsFresh now t h Runs) b young receiver u g word → IsOther v u word
+    slot_other true e u g word s = own_other e u g word s
+    slot_other false e u g word s = type_other u word s
+
+    slots_other : (us : List VType) (gs : List Tag) (words : List ℕ) → SlotsAre (SlotIs (IsFinished now next) (IsFresh now t h Runs) own young receiver) us gs words → AllZip (IsOther v) us words
+    slots_other [] [] [] s = tt
+    slots_other (u ∷ us) (g ∷ gs) (word ∷ words) s = (slot_other own refl u g word s.0, slots_other us gs words s.1)
+    slots_other us gs words s = absurd s
+
+  -- ---- a frame, wherever it is said to stand
+
+  frame_other : (c : MarkedProgram) (marked : IsMarked c) (frozen : ℕ → Bool) (h : ℕ) (f : Frame) → FrameKeeps c frozen now next t h Runs f → (k : Standing c f) → AllZip (IsOther v) k.types.stack f.stack × AllZip (IsOther v) k.types.locals f.locals
+  frame_other c marked frozen h f kept k =
+      let same = (one_standing_law c f kept.stands k marked).types in
+      let slots = slots_other h (builds frozen kept.stands.method) (makes_frozen frozen kept.stands.method) f.receiver kept.receiver in (
+        subst (λ (u : TypeFrame). AllZip (IsOther v) u.stack f.stack) same (slots kept.stands.types.stack kept.stands.tags.stack f.stack kept.stack),
+        subst (λ (u : TypeFrame). AllZip (IsOther v) u.locals f.locals) same (slots kept.stands.types.locals kept.stands.tags.locals f.locals kept.locals),
+      )
+
+-- ---- a thread
+
+pub uses_not : (c : MarkedProgram) (marked : IsMarked c) (frozen : ℕ → Bool) (w : World) (next t v : ℕ) (was : Phase) (x : Thread) (k : ThreadKeeps c frozen w next t was x) → IsWorld w (words_of c.program) next → IsAs x.phase was → IsStrange k.now t v → UsesNot c v x
+uses_not c marked frozen w next t v was x k world is_as strange run f below frames stands =
+    let is_run : was ≡ phases.Run = subst (λ (p : Phase). IsAs p was) run is_as in
+    let kept : FramesKeep c frozen k.now next t Runs x.frames = subst (λ (p : Phase). PhaseKeepsFrames c frozen k.now next t p x.frames) is_run k.frames in
+    let top : FramesKeep c frozen k.now next t Runs (f ∷ below) = subst (FramesKeep c frozen k.now next t Runs) frames kept in
+    frame_other k.now next t v strange (first_finished k.now (words_of c.program) next 0 (k.now_world world) (omega arith)) c marked frozen (length below) f top.0 stands
+
+-- ---- places
+
+kind_has_not : (w : World) (next v : ℕ) (b : Builder) → w v ≡ Some b → (kind : Kind) (word : ℕ) → KindKeeps w next kind word → KindHasNot v kind word
+kind_has_not w next v b e (kinds.Ref class) word k = λ s. none_some (w v) b (subst (λ (u : ℕ). w u ≡ None) s k.1) e
+kind_has_not w next v b e kinds.Int word k = tt
+kind_has_not w next v b e kinds.Bool word k = tt
+
+pub places_have_not : (c : MarkedProgram) (w : World) (next v : ℕ) (objects : List Object) (words : List ℕ) (b : Builder) → w v ≡ Some b → PlacesKeep c w next objects words → PlacesHaveNot c v objects words
+places_have_not c w next v objects words b e k = record {
+  fields = λ o number f here there own same. kind_has_not w next v b e f.kind _ (k.fields o number f here there own same);
+  statics = λ number f there static. kind_has_not w next v b e f.kind _ (k.statics number f there static);
+}
