@@ -11,7 +11,7 @@ use instr_steps::go_after;
 use machine_types::{After, Held};
 
 /// The entry of a monitor that the thread holds has another depth.
-fn put_depth(s: &mut ThreadState, monitor: u32, held: Held, depth: u64)
+pub fn put_depth(s: &mut ThreadState, monitor: u32, held: Held, depth: u64)
     requires { held_at s.old.held monitor ≡ Some held }
     ensures { s.new ≡ record s.old { held = with_held (record held { depth = depth }) s.old.held } }
 {

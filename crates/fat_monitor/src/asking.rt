@@ -29,7 +29,7 @@ pub fn count_kept(held: Option<Held>) -> u64
 }
 
 /// The free lock word that a release leaves, where the thread found the lock free with this count.
-fn freed(s: &ThreadState, count: u64) -> u64
+pub fn freed(s: &ThreadState, count: u64) -> u64
     ensures { result ≡ freed s.now count }
 {
     word(LockWord::Free(next_count(count, s.config().range)))

@@ -10,8 +10,8 @@ mod leaving;
 mod taking;
 mod waiting;
 
-pub use again::{enter_again, exit_once};
+pub use again::{enter_again, exit_once, put_depth};
 pub use answers::answer;
-pub use asking::{ask, ask_last_exit};
+pub use asking::{ask, ask_last_exit, freed};
 pub use leaving::exit_last;
-pub use taking::acquire;
+pub use taking::{acquire, take};

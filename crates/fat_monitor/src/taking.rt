@@ -47,7 +47,7 @@ pub fn acquire(s: &mut ThreadState, monitor: u32, found: u64)
 }
 
 /// The lock is taken.
-fn take(s: &mut ThreadState, monitor: u32, kept: Kept)
+pub fn take(s: &mut ThreadState, monitor: u32, kept: Kept)
     requires place { HasPlaceFor s.old monitor }
     requires count { s.old.counts.locked < MOST_LIMIT }
     ensures { s.new ≡ takes s.old monitor kept }

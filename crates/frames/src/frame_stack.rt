@@ -329,6 +329,7 @@ impl FrameStack {
     ghost use Rattle.frames.specs.FrameLists.{deepest};
 
     /// Copies the slots of the top frame, and answers its head.
+    #[inline(always)]
     pub fn copy_top(&self, kept: &mut Vec<u64>) -> Head
         requires frame { 0 < length self.now.frames }
         requires room { length kept.old.items ≡ MOST_SLOTS }

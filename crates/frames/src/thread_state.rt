@@ -558,6 +558,27 @@ impl ThreadState {
         });
     }
 
+    /// The same by the top one of frames that were handed out.
+    #[inline(always)]
+    pub fn checkpoint_of(&mut self, frames: &FrameStack, monitor: u32, noted: u64, number: u8)
+        requires program { frames.now.program ≡ self.old.program.program }
+        requires frame { 0 < length frames.now.frames }
+        ensures { self.new ≡ record self.old { attempt = Some (record { monitor = monitor; noted = noted; base = length (below frames.now.frames); number = number; inner = 0; entry = top frames.now.frames }) } }
+    {
+        let base = frames.depth() as u32 - 1;
+        let frame = frames.copy_top(&mut self.kept);
+        self.attempt = Some(AttemptEntry {
+            attempt: AttemptHead {
+                monitor,
+                noted,
+                base,
+                number,
+                inner: 0,
+            },
+            frame,
+        });
+    }
+
     /// Puts the copy back in the place of the frame that entered the section, and drops those above. The attempt stays.
     pub fn restore(&mut self)
         requires some { IsSome self.old.attempt }

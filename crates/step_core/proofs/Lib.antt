@@ -7,3 +7,5 @@ mod FoundPlaces
 mod EventsMore
 mod TakenFrames
 mod LocalStretches
+mod SectionEvents
+mod SectionTurns

@@ -6,3 +6,4 @@ pub mod Alone
 pub mod Fields
 pub mod Wanting
 pub mod Passing
+pub mod Sections

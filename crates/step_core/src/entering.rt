@@ -17,7 +17,9 @@ use jvm_types::limits::MOST_ATTEMPTS;
 use lock_word::{LockWord, read};
 use machine_types::{Access, Phase};
 
-fn entered_at(pc: u32) -> Spot
+/// The section that a frame enters at a pc.
+#[inline(always)]
+pub(crate) fn entered_at(pc: u32) -> Spot
     ensures { result ≡ entered_at pc }
 {
     if pc == 0 {
