@@ -47,7 +47,7 @@ pub fn run_cell<R: Threads + Sync, G: Gate + Sync>(
     turns: u32,
 ) -> Result<CellReport, AllocError>
     requires threads { threads ≤ 8 }
-    requires rounds { (0 < rounds) × (rounds ≤ 1000) }
+    requires rounds { (0 < rounds) × (rounds ≤ MOST_ROUNDS) }
     requires turns { 0 < turns }
     ensures { IfOk result (IsCellRun threads rounds turns) }
 {
