@@ -1,42 +1,36 @@
 -- An event leaves a thread roots of its part, and a frame wherever one is needed.
-use Rattle.std.proofs.Common.{◌≡◌, ℕ, zero, suc, ◌+◌, ◌<◌, ◌==◌, nat_lt, nat_le, Bool, true, false, ◌||◌, List, [], ◌∷◌, ◌++◌, drop, length, Option, Some, None, refl, sym, subst, arith, codes}
+use Rattle.std.proofs.Common.{◌≡◌, ℕ, zero, suc, ◌+◌, ◌<◌, ◌==◌, nat_lt, Bool, true, false, ◌||◌, List, [], ◌∷◌, ◌++◌, drop, length, Option, Some, None, refl, sym, ap, subst, arith, codes}
 use Rattle.std.specs.Prelude.{if◌then◌else◌, option_map, slice_get, IfSome, IsTrue}
 use Rattle.std.specs.List.{AllByRecursion}
 use Rattle.std.proofs.lemmas.Bool.Decides.{nat_tests}
 use Rattle.lists.proofs.TestLaws.{first_true, second_true}
 use Rattle.jvm_types.specs.Members.{is_synchronized, is_class_init_name}
-use Rattle.jvm_types.specs.Numbers.{has_flag, has_number}
+use Rattle.jvm_types.specs.Numbers.{has_number}
 use Rattle.jvm_types.specs.declared.outcome.End.TheVariants as ends
+use Rattle.jvm_types.specs.declared.outcome.Counts.{Counts}
 use Rattle.jvm_types.specs.declared.outcome.Thrown.{Thrown}
-use Rattle.jvm_types.specs.declared.outcome.Thrown.TheVariants.{ArrayIndexOutOfBoundsException, OutOfMemoryError, IllegalMonitorStateException, StackOverflowError}
+use Rattle.jvm_types.specs.declared.outcome.Thrown.TheVariants.{StackOverflowError}
 use Rattle.jvm_types.specs.declared.program.MethodInfo.{MethodInfo}
 use Rattle.jvm_types.specs.declared.program.Program.{Program}
 use Rattle.jvm_types.specs.declared.program.Row.{Row}
 use Rattle.machine_types.specs.Bounds.{part_roots, FramesFit, IsRooted}
-use Rattle.machine_types.specs.Elision.{may_try, begins, tries, is_checked, is_same, fails, if_same, elided}
-use Rattle.machine_types.specs.Events.{started, element_made, moved}
-use Rattle.machine_types.specs.Frames.{Top, top_of, effect_at, frames_of, making, pushed, went_on, has_room, waiting, entry_frame, arguments_of, monitor_of, returned, handler_at}
+use Rattle.machine_types.specs.Elision.{elided}
+use Rattle.machine_types.specs.Events.{started}
+use Rattle.machine_types.specs.Frames.{Top, top_of, frames_of, pushed, went_on, has_room, waiting, entry_frame, arguments_of, monitor_of, returned, handler_at}
 use Rattle.machine_types.specs.Going.{with_phase, runs, failed_turn, goes_on, goes_on_if, goes_after, root_over}
-use Rattle.machine_types.specs.HeldMonitors.{held_at, with_held, without_held, shallower, deeper}
-use Rattle.machine_types.specs.Instructions.{has_print_left, begun, made, printed, if_held, waits, notifies, did, ran}
-use Rattle.machine_types.specs.Ints.{low}
-use Rattle.machine_types.specs.LockWords.{word_of_lock, lock_of}
-use Rattle.machine_types.specs.Monitors.{Claim, Has, Tries, HasNot, claim, acquires, enter_moves, finishes, released, leave_moves, lets_go, grows_not, grown, fattens, bit_of, goes_to_wait, lowest_of}
-use Rattle.machine_types.specs.Onward.{Onward, Running, Throwing, Entering, Leaving, RootReturned, Uncaught, threw, done, entered, called, rooted, root_arguments, back, returns, unwound, handed, dispatched, after}
+use Rattle.machine_types.specs.HeldMonitors.{with_held, without_held, shallower}
+use Rattle.machine_types.specs.Instructions.{made, printed}
+use Rattle.machine_types.specs.Monitors.{grown}
+use Rattle.machine_types.specs.Onward.{Onward, Running, Throwing, Entering, Leaving, RootReturned, Uncaught, threw, done, entered, called, rooted, root_arguments, back, returns, unwound, handed, after}
 use Rattle.machine_types.specs.Parts.{numbers_of, entries_named, init_roots}
 use Rattle.machine_types.specs.ReadyObjects.{class_of, thrown_of}
 use Rattle.machine_types.specs.Structure.{HasFrame}
 use Rattle.machine_types.specs.Threads.{Frame, Attempt, Thread}
-use Rattle.machine_types.specs.Words.{header_class, header_length}
-use Rattle.jvm_types.specs.declared.fixed_words.TheConstants.{MONITOR_RECORDS}
-use Rattle.jvm_types.specs.declared.limits.TheConstants.{FLAG_FROM}
+use Rattle.machine_types.specs.Words.{header_class}
 use Rattle.machine_types.specs.declared.effect.Effect.{Effect}
-use Rattle.machine_types.specs.declared.effect.Effect.TheVariants.{Goes, Throws, Reads, Writes, Indexes, Measures, Raises, Makes, Prints, Calls, Returns, Enters, Leaves, Waits, Notifies, NotifiesAll, Stuck}
+use Rattle.machine_types.specs.declared.effect.Effect.TheVariants.{Goes, Throws, Reads, Writes, Measures, Raises, Prints, Calls, Returns, Enters, Leaves}
 use Rattle.machine_types.specs.declared.lock.Held.{Held}
 use Rattle.machine_types.specs.declared.lock.Kept.{Kept}
-use Rattle.machine_types.specs.declared.lock.Kept.TheVariants as keeps
-use Rattle.machine_types.specs.declared.lock.LockWord.{LockWord}
-use Rattle.machine_types.specs.declared.lock.LockWord.TheVariants as locks
 use Rattle.machine_types.specs.declared.phase.After.{After}
 use Rattle.machine_types.specs.declared.phase.After.TheVariants as afters
 use Rattle.machine_types.specs.declared.phase.Phase.{Phase}
@@ -44,6 +38,9 @@ use Rattle.machine_types.specs.declared.phase.Phase.TheVariants as phases
 use Rattle.machine_types.specs.declared.phase.Toward.{Toward}
 use Rattle.machine_types.specs.declared.phase.Toward.TheVariants as towards
 use Rattle.laws_threads.specs.RootLaws.{RootsAreKept}
+use Rattle.laws_threads.proofs.ThreadMove.{Looks, GoesBy, LeadsTo, TurnsTo, Takes, GivesUp, Asks, WaitsFrom, Move, becomes, mover, by_move, of_mover, runs_to, turns_to}
+use Rattle.laws_threads.proofs.ThreadMove as moves
+use Rattle.checked_program.specs.MarkedProgram.{MarkedProgram}
 
 abbrev AreRoots : Program → (number part : ℕ) → List ℕ → Type 0
 AreRoots p number part roots = AllByRecursion (λ root. IsTrue (has_number (part_roots p number part) root)) roots
@@ -141,9 +138,6 @@ module _ (p : Program) where
   hands x class at (Some r) = tt
   hands x class at None = onward_by (is_synchronized at.method.flags) (Leaving (monitor_of at.method at.frame) (afters.Unwind x class) (frames_of at)) (unwound x class at.below) tt (goes_out x class at.below)
 
-  catches : (x : ℕ) (class : Thrown) (fs : List Frame) → IfSome (dispatched p x class fs) OnwardFits
-  catches x class fs = if_some (top_of p fs) (λ at. handed x class at (handler_at (class_of class) at)) (λ at. hands x class at (handler_at (class_of class) at))
-
   goes_behind : (fs : List Frame) (a : After) → HasFrame fs → IfSome (after p fs a) OnwardFits
   goes_behind fs afters.Next h = h
   goes_behind fs afters.Return h = if_some (top_of p fs) (λ at. back (returned p at)) (λ at. goes_back (returned p at))
@@ -162,120 +156,6 @@ module _ (p : Program) where
   does at (Enters m) got = tt
   does at (Leaves m) got = tt
   does at e got = tt
-
-  -- ---- one instruction, of a thread in Run
-
-  checked : (s : Thread) (a : Option Attempt) (got : ℕ) (x : Thread) → AreRoots p s.number s.part s.roots → IsRooted p x → IsRooted p (if_same s a got x)
-  checked s None got x r h = h
-  checked s (Some a) got x r h = by_test (is_same a got) x (fails s a) h (record { roots = r; frames = tt })
-
-  if_holds : (s : Thread) (at : Top) (h : Option Held) (more : Kept → Thread) → AreRoots p s.number s.part s.roots → ((k : Kept) → IsRooted p (more k)) → IsRooted p (if_held s at h more)
-  if_holds s at None more r k = goes s (threw IllegalMonitorStateException at) r tt
-  if_holds s at (Some h) more r k = k h.kept
-
-  waited : (s : Thread) (m : ℕ) (kept : Kept) → Stays s → IsRooted p (waits s m kept)
-  waited s m (keeps.Flat c) k = in_phase (record s { turns = 0 }) (phases.Grow m towards.Wait) tt (record { roots = k.roots; frame = k.frame })
-  waited s m (keeps.Fat r) k = in_phase (record s { turns = 0 }) (phases.WaitBit m r) tt (record { roots = k.roots; frame = k.frame })
-
-  notified : (s : Thread) (phase : ℕ → Phase) (kept : Kept) → ((r : ℕ) → IsNoStart (phase r)) → Stays s → IsRooted p (notifies s phase kept)
-  notified s phase (keeps.Flat c) n k = running s k
-  notified s phase (keeps.Fat r) n k = in_phase s (phase r) (n r) k
-
-  moves_on : (s : Thread) (at : Top) → AreRoots p s.number s.part s.roots → Stays (record s { frames = went_on p at 0 })
-  moves_on s at r = record { roots = r; frame = tt }
-
-  instruction : (s : Thread) (at : Top) (e : Effect) (got : ℕ) → Stays s → IsRooted p s → IsRooted p (did p s at e got)
-  instruction s at (Indexes array index stored) got k h = by_test (nat_lt (low index) (header_length got)) _ _ (in_phase s _ tt k) (goes s (threw ArrayIndexOutOfBoundsException at) h.roots tt)
-  instruction s at (Makes word size) got k h = by_test (nat_le (got + size) p.heap) _ _ (in_phase (record s { frames = making p at }) (phases.Made got word) tt (record { roots = h.roots; frame = tt })) (goes s (threw OutOfMemoryError at) h.roots tt)
-  instruction s at (Prints n) got k h = by_test (has_print_left s) _ _ (goes (printed s got n) (Running (went_on p at 0)) h.roots tt) (in_phase s (phases.Ending ends.Prints) tt k)
-  instruction s at (Waits m) got k h = if_holds s at (held_at s.held m) (waits (record s { frames = went_on p at 0 }) m) h.roots (λ kept. waited (record s { frames = went_on p at 0 }) m kept (moves_on s at h.roots))
-  instruction s at (Notifies m) got k h = if_holds s at (held_at s.held m) (notifies (record s { frames = went_on p at 0 }) (phases.NotifyLook m)) h.roots
-      (λ kept. notified (record s { frames = went_on p at 0 }) (phases.NotifyLook m) kept (λ r. tt) (moves_on s at h.roots))
-  instruction s at (NotifiesAll m) got k h = if_holds s at (held_at s.held m) (notifies (record s { frames = went_on p at 0 }) (phases.NotifyAll m)) h.roots
-      (λ kept. notified (record s { frames = went_on p at 0 }) (phases.NotifyAll m) kept (λ r. tt) (moves_on s at h.roots))
-  instruction s at (Goes to made) got k h = goes_if s (done p at (Goes to made) got) h (does at (Goes to made) got)
-  instruction s at (Throws x) got k h = goes_if s (done p at (Throws x) got) h (does at (Throws x) got)
-  instruction s at (Reads v) got k h = goes_if s (done p at (Reads v) got) h (does at (Reads v) got)
-  instruction s at (Writes v word) got k h = goes_if s (done p at (Writes v word) got) h (does at (Writes v word) got)
-  instruction s at (Measures array) got k h = goes_if s (done p at (Measures array) got) h (does at (Measures array) got)
-  instruction s at (Raises x) got k h = goes_if s (done p at (Raises x) got) h (does at (Raises x) got)
-  instruction s at (Calls number) got k h = goes_if s (done p at (Calls number) got) h (does at (Calls number) got)
-  instruction s at Returns got k h = goes_if s (done p at Returns got) h (does at Returns got)
-  instruction s at (Enters m) got k h = goes_if s (done p at (Enters m) got) h (does at (Enters m) got)
-  instruction s at (Leaves m) got k h = goes_if s (done p at (Leaves m) got) h (does at (Leaves m) got)
-  instruction s at Stuck got k h = goes_if s (done p at Stuck got) h (does at Stuck got)
-
-  run : (s : Thread) (at : Option Top) (got : ℕ) → Stays s → IsRooted p s → IsRooted p (ran p s at got)
-  run s None got k h = h
-  run s (Some at) got k h =
-      let more : IsRooted p (did p (begun s) at (effect_at p at) got) = instruction (begun s) at (effect_at p at) got (record { roots = k.roots; frame = k.frame }) (record { roots = h.roots; frames = h.frames }) in
-      by_test (is_checked at.frame.pc (effect_at p at)) _ _ (checked (begun s) s.attempt got _ h.roots more) more
-
-  -- ---- monitors
-
-  acquired : (s : Thread) (m : ℕ) (lock : LockWord) → Stays s → IsRooted p (acquires s m lock)
-  acquired s m (locks.Free c) k = in_phase s (phases.Take m c) tt k
-  acquired s m (locks.Held u) k = turned s (if nat_lt (s.turns + 1) FLAG_FROM then phases.Acquire m else phases.Flag m u) (by_turns (nat_lt (s.turns + 1) FLAG_FROM)) k
-    where
-      by_turns : (b : Bool) → IsNoStart (if b then phases.Acquire m else phases.Flag m u)
-      by_turns true = tt
-      by_turns false = tt
-  acquired s m (locks.Flagged u) k = turned s (phases.Acquire m) tt k
-  acquired s m (locks.Fat r) k = in_phase s (phases.TakeFat m r) tt k
-
-  began : (s : Thread) (m noted number : ℕ) → Stays s → IsRooted p s → IsRooted p (begins s s.frames m noted number)
-  began s m noted number k h = by_frames s.frames
-    where
-      by_frames : (fs : List Frame) → IsRooted p (begins s fs m noted number)
-      by_frames [] = h
-      by_frames (f ∷ fs) = running (record s { attempt = _ }) (record { roots = k.roots; frame = k.frame })
-
-  tried : (s : Thread) (m n : ℕ) (lock : LockWord) → Stays s → IsRooted p s → IsRooted p (tries s m n lock)
-  tried s m n (locks.Free c) k h = by_test (nat_lt c s.cfg.range) _ _ (began s m c (n + 1) k h) (in_phase s (phases.Acquire m) tt k)
-  tried s m n (locks.Held u) k h = in_phase s (phases.Acquire m) tt k
-  tried s m n (locks.Flagged u) k h = in_phase s (phases.Acquire m) tt k
-  tried s m n (locks.Fat r) k h = in_phase s (phases.Acquire m) tt k
-
-  entered_kept : (s : Thread) (m n : ℕ) (may : Bool) (claim : Claim) (got : ℕ) → Stays s → IsRooted p s → IsRooted p (enter_moves s m n may claim got)
-  entered_kept s m n may (Has h) got k r = running (record s { held = with_held (deeper h) s.held }) (record { roots = k.roots; frame = k.frame })
-  entered_kept s m n may (Tries a) got k r = running (record s { attempt = Some (record a { inner = a.inner + 1 }) }) (record { roots = k.roots; frame = k.frame })
-  entered_kept s m n true HasNot got k r = tried s m n (lock_of got) k r
-  entered_kept s m n false HasNot got k r = acquired s m (lock_of got) k
-
-  left_on : (s : Thread) (a : After) → Stays s → IsRooted p s → IsRooted p (goes_after p s a)
-  left_on s a k h = goes_if s (after p s.frames a) h (goes_behind s.frames a k.frame)
-
-  finished : (s : Thread) (a : After) (t : Attempt) (inner got : ℕ) → Stays s → IsRooted p s → IsRooted p (finishes p s a t inner got)
-  finished s a t zero got k h = by_test (is_same t got) _ _ (left_on (elided s) a (record { roots = k.roots; frame = k.frame }) (record { roots = h.roots; frames = h.frames })) (record { roots = h.roots; frames = tt })
-  finished s a t (suc inner) got k h = left_on (record s { attempt = Some (record t { inner = inner }) }) a (record { roots = k.roots; frame = k.frame }) (record { roots = h.roots; frames = h.frames })
-
-  let_go : (s : Thread) (m : ℕ) (a : After) → Stays s → IsRooted p s → IsRooted p (lets_go p s m a)
-  let_go s m a k h = left_on (record s { held = without_held m s.held }) a (record { roots = k.roots; frame = k.frame }) (record { roots = h.roots; frames = h.frames })
-
-  given_up : (s : Thread) (m : ℕ) (a : After) (kept : Kept) (got : ℕ) → Stays s → IsRooted p s → IsRooted p (released p s m a kept got)
-  given_up s m a (keeps.Flat c) got k h = by_test (got == word_of_lock (locks.Held s.number)) _ _ (let_go s m a k h) (in_phase s (phases.Grow m (towards.Leave a)) tt k)
-  given_up s m a (keeps.Fat r) got k h = let_go s m a k h
-
-  left : (s : Thread) (m : ℕ) (a : After) (claim : Claim) (got : ℕ) → Stays s → IsRooted p s → IsRooted p (leave_moves p s m a claim got)
-  left s m a (Has e) got k h = by_test (nat_lt 1 e.depth) _ _ (left_on (record s { held = with_held (shallower e) s.held }) a (record { roots = k.roots; frame = k.frame }) (record { roots = h.roots; frames = h.frames })) (given_up s m a e.kept got k h)
-  left s m a (Tries t) got k h = finished s a t t.inner got k h
-  left s m a HasNot got k h = h
-
-  not_grown : (s : Thread) (m : ℕ) (toward : Toward) → Stays s → IsRooted p (grows_not s m toward)
-  not_grown s m (towards.Leave a) k = in_phase s (phases.FlatOut m a) tt k
-  not_grown s m towards.Wait k = in_phase s (phases.Ending ends.Records) tt k
-
-  fattened : (s : Thread) (m r : ℕ) (toward : Toward) (held : Option Held) → Stays s → IsRooted p s → IsRooted p (fattens s m r toward held)
-  fattened s m r toward None k h = h
-  fattened s m r toward (Some e) k h = in_phase (record s { held = _; counts = _ }) (grown m r toward) (no_start toward) (record { roots = k.roots; frame = k.frame })
-    where
-      no_start : (toward : Toward) → IsNoStart (grown m r toward)
-      no_start (towards.Leave a) = tt
-      no_start towards.Wait = tt
-
-  gone_to_wait : (s : Thread) (m r : ℕ) (held : Option Held) → Stays s → IsRooted p s → IsRooted p (goes_to_wait s m r held)
-  gone_to_wait s m r None k h = h
-  gone_to_wait s m r (Some e) k h = in_phase (record s { held = _ }) (phases.WaitLook m r e.depth) tt (record { roots = k.roots; frame = k.frame })
 
 -- ---- the next root
 
@@ -324,8 +204,9 @@ begun_root p s (root ∷ roots) r f =
     subst (λ (o : Option MethodInfo). IsRooted p (goes_on_if now (option_map (rooted p s.number root) o))) (sym found.1)
     (goes p now (rooted p s.number root found.0) r.1 (onward_by p (has_room p [] found.0) (Running (entry_frame root found.0 (root_arguments s.number found.0) ∷ [])) (Uncaught StackOverflowError) tt tt))
 
--- ---- all phases
+-- ---- all moves
 
+-- a phase whose thread has a frame
 abbrev HasFrames : Phase → Type 0
 HasFrames phases.Idle = ⊥
 HasFrames phases.Start = ⊥
@@ -341,49 +222,90 @@ frame_in (phases.Ended e) fs roots n f = absurd n
 frame_in phase [] roots n f = absurd f
 frame_in phase (x ∷ fs) roots n f = tt
 
-pub roots_kept : RootsAreKept
-roots_kept c s got h = by_phase s.phase h
-  where
-    in_frame : (phase : Phase) → HasFrames phase → IsRooted c.program (record s { phase = phase }) → Stays c.program (record s { phase = phase })
-    in_frame phase n h = record { roots = h.roots; frame = frame_in phase s.frames s.roots n h.frames }
+framed_push : (a : ℕ) (fs : List Frame) → HasFrame fs → HasFrame (pushed a fs)
+framed_push a [] f = absurd f
+framed_push a (x ∷ fs) f = tt
 
-    by_phase : (phase : Phase) → IsRooted c.program (record s { phase = phase }) → IsRooted c.program (moved c (record s { phase = phase }) phase got)
-    by_phase phases.Idle h = h
-    by_phase phases.Start h = begun_root c.program (record s { phase = phases.Start }) s.roots h.roots h.frames
-    by_phase phases.Run h = run c.program (record s { phase = phases.Run }) (top_of c.program s.frames) got (in_frame phases.Run tt h) h
-    by_phase (phases.Element word stored) h = goes_if c.program (record s { phase = phases.Element word stored }) _ h
-        (if_some c.program (top_of c.program s.frames) (λ at. Running (went_on c.program at (element_made stored got))) (λ at. tt))
-    by_phase (phases.Made a word) h = goes c.program (record s { phase = phases.Made a word }) (Running (pushed a s.frames)) h.roots (framed_push s.frames (frame_in (phases.Made a word) s.frames s.roots tt h.frames))
-      where
-        framed_push : (fs : List Frame) → HasFrame fs → HasFrame (pushed a fs)
-        framed_push [] f = absurd f
-        framed_push (x ∷ fs) f = tt
-    by_phase (phases.Throw x class) h = let now : Thread = record s { phase = phases.Throw x class } in checked c.program now s.attempt got _ h.roots (goes_if c.program now (dispatched c.program x class s.frames) h (catches c.program x class s.frames))
-    by_phase (phases.Enter m n) h = let now : Thread = record s { phase = phases.Enter m n } in entered_kept c.program now m n (may_try c now n) (claim now m) got (in_frame (phases.Enter m n) tt h) h
-    by_phase (phases.Acquire m) h = acquired c.program (record s { phase = phases.Acquire m }) m (lock_of got) (in_frame (phases.Acquire m) tt h)
-    by_phase (phases.Take m count) h = let now : Thread = record s { phase = phases.Take m count } in by_test c.program (got == word_of_lock (locks.Free count)) _ _
-        (running c.program (record now { held = _; counts = _ }) (record { roots = h.roots; frame = frame_in (phases.Take m count) s.frames s.roots tt h.frames }))
-        (turned c.program now (phases.Acquire m) tt (in_frame (phases.Take m count) tt h))
-    by_phase (phases.Flag m u) h = in_phase c.program (record s { phase = phases.Flag m u }) (phases.Acquire m) tt (in_frame (phases.Flag m u) tt h)
-    by_phase (phases.TakeFat m r) h = let now : Thread = record s { phase = phases.TakeFat m r } in by_test c.program (got == 0) _ _
-        (running c.program (record now { held = _; counts = _ }) (record { roots = h.roots; frame = frame_in (phases.TakeFat m r) s.frames s.roots tt h.frames }))
-        (turned c.program now (phases.TakeFat m r) tt (in_frame (phases.TakeFat m r) tt h))
-    by_phase (phases.Leave m a) h = let now : Thread = record s { phase = phases.Leave m a } in left c.program now m a (claim now m) got (in_frame (phases.Leave m a) tt h) h
-    by_phase (phases.Grow m toward) h = let now : Thread = record s { phase = phases.Grow m toward } in by_test c.program (nat_lt got MONITOR_RECORDS) _ _
-        (in_phase c.program now (phases.Own m got toward) tt (in_frame (phases.Grow m toward) tt h)) (not_grown c.program now m toward (in_frame (phases.Grow m toward) tt h))
-    by_phase (phases.FlatOut m a) h = let_go c.program (record s { phase = phases.FlatOut m a }) m a (in_frame (phases.FlatOut m a) tt h) h
-    by_phase (phases.Own m r toward) h = in_phase c.program (record s { phase = phases.Own m r toward }) (phases.FatIn m r toward) tt (in_frame (phases.Own m r toward) tt h)
-    by_phase (phases.FatIn m r toward) h = fattened c.program (record s { phase = phases.FatIn m r toward }) m r toward (held_at s.held m) (in_frame (phases.FatIn m r toward) tt h) h
-    by_phase (phases.WaitBit m r) h = in_phase c.program (record s { phase = phases.WaitBit m r }) (phases.WaitOut m r) tt (in_frame (phases.WaitBit m r) tt h)
-    by_phase (phases.WaitOut m r) h = gone_to_wait c.program (record s { phase = phases.WaitOut m r }) m r (held_at s.held m) (in_frame (phases.WaitOut m r) tt h) h
-    by_phase (phases.WaitLook m r depth) h = let now : Thread = record s { phase = phases.WaitLook m r depth } in by_test c.program (has_flag (bit_of s.number) got) _ _
-        (turned c.program now (phases.WaitLook m r depth) tt (in_frame (phases.WaitLook m r depth) tt h)) (in_phase c.program now (phases.Retake m r depth) tt (in_frame (phases.WaitLook m r depth) tt h))
-    by_phase (phases.Retake m r depth) h = let now : Thread = record s { phase = phases.Retake m r depth } in by_test c.program (got == 0) _ _
-        (running c.program (record now { held = _ }) (record { roots = h.roots; frame = frame_in (phases.Retake m r depth) s.frames s.roots tt h.frames }))
-        (turned c.program now (phases.Retake m r depth) tt (in_frame (phases.Retake m r depth) tt h))
-    by_phase (phases.NotifyLook m r) h = let now : Thread = record s { phase = phases.NotifyLook m r } in by_test c.program (got == 0) _ _
-        (running c.program now (in_frame (phases.NotifyLook m r) tt h)) (in_phase c.program now (phases.NotifyOne m r (lowest_of got)) tt (in_frame (phases.NotifyLook m r) tt h))
-    by_phase (phases.NotifyOne m r u) h = running c.program (record s { phase = phases.NotifyOne m r u }) (in_frame (phases.NotifyOne m r u) tt h)
-    by_phase (phases.NotifyAll m r) h = running c.program (record s { phase = phases.NotifyAll m r }) (in_frame (phases.NotifyAll m r) tt h)
-    by_phase (phases.Ending e) h = record { roots = h.roots; frames = tt }
-    by_phase (phases.Ended e) h = h
+looks_framed : (m : ℕ) (was : Phase) → Looks m was → HasFrames was
+looks_framed m _ (moves.entering tried) = tt
+looks_framed m _ moves.acquiring = tt
+
+takes_framed : (got m : ℕ) (was : Phase) (kept : Kept) → Takes got m was kept → HasFrames was
+takes_framed got m _ _ (moves.a_flat count t) = tt
+takes_framed got m _ _ (moves.a_fat r t) = tt
+
+waits_framed : (m : ℕ) (kept : Kept) (now : Phase) → WaitsFrom m kept now → (fs : List Frame) (roots : List ℕ) → HasFrame fs → FramesFit now fs roots
+waits_framed m _ _ (moves.grows_first count) fs roots h = framed (phases.Grow m towards.Wait) fs roots tt h
+waits_framed m _ _ (moves.waits_fat r) fs roots h = framed (phases.WaitBit m r) fs roots tt h
+
+asked_framed : (m : ℕ) (kept : Kept) (now : Phase) → Asks m kept now → (fs : List Frame) (roots : List ℕ) → HasFrame fs → FramesFit now fs roots
+asked_framed m _ _ (moves.looks_who r) fs roots h = framed (phases.NotifyLook m r) fs roots tt h
+asked_framed m _ _ (moves.clears_all r) fs roots h = framed (phases.NotifyAll m r) fs roots tt h
+
+module _ (c : MarkedProgram) (s : Thread) (got : ℕ) (h : IsRooted c.program s) where
+  leads_framed : (was now : Phase) → LeadsTo c.program s got was now → FramesFit was s.frames s.roots → FramesFit now s.frames s.roots
+  leads_framed _ _ (moves.to_end e) f = tt
+  leads_framed _ _ (moves.to_no_record m t) f = tt
+  leads_framed _ _ (moves.to_no_print at e t) f = tt
+  leads_framed was _ (moves.to_take m count k e) f = framed (phases.Take m count) s.frames s.roots tt (frame_in was s.frames s.roots (looks_framed m was k) f)
+  leads_framed was _ (moves.to_take_fat m r k e) f = framed (phases.TakeFat m r) s.frames s.roots tt (frame_in was s.frames s.roots (looks_framed m was k) f)
+  leads_framed was now k f = f
+
+  turns_framed : (was now : Phase) → TurnsTo s got was now → FramesFit was s.frames s.roots → FramesFit now s.frames s.roots
+  turns_framed was _ (moves.looks_again m k) f = framed (phases.Acquire m) s.frames s.roots tt (frame_in was s.frames s.roots (looks_framed m was k) f)
+  turns_framed was _ (moves.flags m u k e) f = framed (phases.Flag m u) s.frames s.roots tt (frame_in was s.frames s.roots (looks_framed m was k) f)
+  turns_framed was now k f = f
+
+  goes_framed : (was : Phase) (o : Onward) → GoesBy c.program s got was o → FramesFit was s.frames s.roots → OnwardFits o
+  goes_framed _ o (moves.by_effect at e _ found is silent d) f = subst (λ (w : Option Onward). IfSome w OnwardFits) d (does c.program at e got)
+  goes_framed _ _ (moves.by_machine at class found) f = tt
+  goes_framed _ _ (moves.by_nobody at m count e found there l) f = tt
+  goes_framed _ _ (moves.by_element word stored at found) f = tt
+  goes_framed _ _ (moves.by_object a word) f = framed_push a s.frames (frame_in (phases.Made a word) s.frames s.roots tt f)
+  goes_framed _ _ (moves.by_handler x class at found) f = hands c.program x class at (handler_at (class_of class) at)
+  goes_framed was _ (moves.by_none m r t) f = frame_in (phases.NotifyLook m r) s.frames s.roots tt f
+  goes_framed was _ (moves.by_one m r u) f = frame_in (phases.NotifyOne m r u) s.frames s.roots tt f
+  goes_framed was _ (moves.by_all m r) f = frame_in (phases.NotifyAll m r) s.frames s.roots tt f
+
+  runs_framed : (was : Phase) → HasFrames was → FramesFit was s.frames s.roots → FramesFit (runs s).phase s.frames s.roots
+  runs_framed was n f = runs_to (λ (phase : Phase). FramesFit phase s.frames s.roots) s (framed phases.Run s.frames s.roots tt (frame_in was s.frames s.roots n f)) tt
+
+  left_framed : (held : List Held) (attempt : Option Attempt) (counts : Counts) (a : After) → HasFrame s.frames → IsRooted c.program (goes_after c.program (record s { held = held; attempt = attempt; counts = counts }) a)
+  left_framed held attempt counts a f = goes_if c.program (record s { held = held; attempt = attempt; counts = counts }) (after c.program s.frames a) (record { roots = h.roots; frames = h.frames }) (goes_behind c.program s.frames a f)
+
+  gives_up_framed : (m : ℕ) (a : After) (was : Phase) → GivesUp s m a was → FramesFit was s.frames s.roots → HasFrame s.frames
+  gives_up_framed m a _ (moves.on_leave e l t) f = frame_in (phases.Leave m a) s.frames s.roots tt f
+  gives_up_framed m a _ moves.flat_out f = frame_in (phases.FlatOut m a) s.frames s.roots tt f
+
+  moved_framed : (was : Phase) (k : Move c s got was) → FramesFit was s.frames s.roots → IsRooted c.program (becomes c s got was k)
+  moved_framed was (moves.stays k) f = h
+  moved_framed was (moves.goes o k) f = goes c.program s o h.roots (goes_framed was o k f)
+  moved_framed was (moves.fails_in t e d k) f = record { roots = h.roots; frames = tt }
+  moved_framed was (moves.leads now k) f = record { roots = h.roots; frames = leads_framed was now k f }
+  moved_framed was (moves.turns now k) f = record { roots = h.roots; frames = turns_to (λ (phase : Phase). FramesFit phase s.frames s.roots) s now (turns_framed was now k f) tt }
+  moved_framed _ (moves.makes at word size e l t) f = record { roots = h.roots; frames = tt }
+  moved_framed _ (moves.prints at n e l t) f = goes c.program (printed s got n) (Running (went_on c.program at 0)) h.roots tt
+  moved_framed _ (moves.asks_to_wait at m e now found is l k) f = record { roots = h.roots; frames = waits_framed m e.kept now k (went_on c.program at 0) s.roots tt }
+  moved_framed _ (moves.asks at m e now found l k) f = record { roots = h.roots; frames = asked_framed m e.kept now k (went_on c.program at 0) s.roots tt }
+  moved_framed _ (moves.enters_again m tried e l) f = record { roots = h.roots; frames = runs_framed (phases.Enter m tried) tt f }
+  moved_framed _ (moves.enters_inside m tried t k) f = record { roots = h.roots; frames = runs_framed (phases.Enter m tried) tt f }
+  moved_framed _ (moves.begins_to_try m tried noted x below e y l t unheld) f = record { roots = h.roots; frames = runs_framed (phases.Enter m tried) tt f }
+  moved_framed was (moves.takes_lock m kept k) f = record { roots = h.roots; frames = runs_framed was (takes_framed got m was kept k) f }
+  moved_framed was (moves.gives_up m a k) f = left_framed (without_held m s.held) s.attempt s.counts a (gives_up_framed m a was k f)
+  moved_framed _ (moves.leaves_outer m a e l t) f = left_framed (with_held (shallower e) s.held) s.attempt s.counts a (frame_in (phases.Leave m a) s.frames s.roots tt f)
+  moved_framed _ (moves.leaves_inside m a t inner k e) f = left_framed s.held (Some (record t { inner = inner })) s.counts a (frame_in (phases.Leave m a) s.frames s.roots tt f)
+  moved_framed _ (moves.finishes_try m a t k e y) f = left_framed s.held None (record s.counts { elided = s.counts.elided + 1 }) a (frame_in (phases.Leave m a) s.frames s.roots tt f)
+  moved_framed _ (moves.fattens_lock m r toward e l) f = record { roots = h.roots; frames = grown_framed toward }
+    where
+      grown_framed : (toward : Toward) → FramesFit (grown m r toward) s.frames s.roots
+      grown_framed (towards.Leave a) = framed (phases.Leave m a) s.frames s.roots tt (frame_in (phases.FatIn m r toward) s.frames s.roots tt f)
+      grown_framed towards.Wait = framed (phases.WaitBit m r) s.frames s.roots tt (frame_in (phases.FatIn m r toward) s.frames s.roots tt f)
+  moved_framed _ (moves.gives_up_to_wait m r e l) f = record { roots = h.roots; frames = framed (phases.WaitLook m r e.depth) s.frames s.roots tt (frame_in (phases.WaitOut m r) s.frames s.roots tt f) }
+  moved_framed _ (moves.retakes_lock m r depth e) f = record { roots = h.roots; frames = runs_framed (phases.Retake m r depth) tt f }
+  moved_framed _ (moves.starts number roots e) f = subst (IsRooted c.program) (ap (started c.program s) e) (begun_root c.program s s.roots h.roots f)
+
+pub roots_kept : RootsAreKept
+roots_kept c s got h = by_move (IsRooted c.program) c s s.phase got (λ k. moved_framed c _ got (counted h) s.phase k (of_mover (λ y. FramesFit s.phase y.frames y.roots) c.program s.phase s h.frames h.frames))
+  where
+    counted : IsRooted c.program s → IsRooted c.program (mover c.program s.phase s)
+    counted h = of_mover (IsRooted c.program) c.program s.phase s h (record { roots = h.roots; frames = h.frames })
