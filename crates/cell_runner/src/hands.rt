@@ -112,7 +112,7 @@ impl Hand {
     }
 
     /// Tries at a task until one succeeds: `false` where the worker ends, since `turns` tries in a
-    /// row have failed.
+    /// row have failed or the cell is full.
     fn succeed(&mut self, table: &CellTable, task: Task, values: &[u64], turns: u32) -> bool
         requires table { IsTableOf table.now.shared.table_id table.now.shared.key self.old.seat }
         requires values { (length values.now ≡ 64) × (length self.old.seat.view.opening.values ≡ 64) }
