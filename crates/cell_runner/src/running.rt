@@ -17,8 +17,8 @@ use std::thread::Threads;
 /// The most rounds of a worker.
 pub const MOST_ROUNDS: u32 = 1_000;
 
-/// Ends the cell, when all workers have ended: what they came to. None has found the cell full, which
-/// has had at most 8,000 writes.
+/// Ends the cell, when all workers have ended: what they came to. None has found the cell full,
+/// which has had at most 8,000 writes.
 fn finish(table: CellTable, all: Hand) -> CellReport
     requires table { IsTableOf table.shared.table_id table.shared.key all.seat }
     requires opening { table.shared.key ≡ all_zero }
@@ -30,14 +30,14 @@ fn finish(table: CellTable, all: Hand) -> CellReport
     report
 }
 
-/// Runs workers on one cell of 64 words, which opens with words 0 under the count 0, each worker on a
-/// thread of its own: what they came to, by the rule of the cell. Its error is want of memory.
+/// Runs workers on one cell of 64 words, which opens with words 0 under the count 0, each worker on
+/// a thread of its own: what they came to, by the rule of the cell. Its error is want of memory.
 ///
-/// Worker `k`, from 1, calls `gate.pass(k)` once, before its first round. In each round it writes 64
-/// words of the value `k`, and then reads, each again until it succeeds. A try that fails is a failed
-/// turn, behind which it leaves the processor to others; a worker that fails `turns` of them in a row
-/// stops. Nothing is promised of the order, nor that workers run beside each other: where the system
-/// gives no thread, they run one after another.
+/// Worker `k`, from 1, calls `gate.pass(k)` once, before its first round. In each round it writes
+/// 64 words of the value `k`, and then reads, each again until it succeeds. A try that fails is a
+/// failed turn, behind which it leaves the processor to others; a worker that fails `turns` of them
+/// in a row stops. Nothing is promised of the order, nor that workers run beside each other: where
+/// the system gives no thread, they run one after another.
 pub fn run_cell<R: Threads + Sync, G: Gate + Sync>(
     rt: &R,
     alloc: Global,
