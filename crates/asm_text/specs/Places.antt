@@ -1,0 +1,69 @@
+-- Which lines may stand behind which.
+use Rattle.std.specs.Prelude.{ℕ, nat_lt, not, Bool, true, false, if◌then◌else◌, List, [], ◌∷◌, Option, Some, None}
+use Rattle.asm_text.specs.declared.items.MemberKind.{MemberKind}
+use Rattle.asm_text.specs.declared.items.MemberKind.TheVariants as kinds
+use Rattle.asm_text.specs.declared.items.Item.{Item}
+use Rattle.asm_text.specs.declared.items.Item.TheVariants.{FileHead, Entry, Interface, MemberHead, Attribute, InitialValue, CodeHead, CodeBytes, Instruction, Row, End}
+use Rattle.asm_text.specs.declared.places.ClassPart.{ClassPart}
+use Rattle.asm_text.specs.declared.places.ClassPart.TheVariants as parts
+use Rattle.asm_text.specs.declared.places.CodePart.{CodePart}
+use Rattle.asm_text.specs.declared.places.CodePart.TheVariants as code_parts
+use Rattle.asm_text.specs.declared.places.Place.{Place}
+use Rattle.asm_text.specs.declared.places.Place.TheVariants.{Start, Class, Member, Code}
+
+-- the order of the parts of a class
+abbrev pub class_rank : ClassPart → ℕ
+class_rank parts.Constants = 0
+class_rank parts.Interfaces = 1
+class_rank parts.Fields = 2
+class_rank parts.Methods = 3
+class_rank parts.Attributes = 4
+
+abbrev pub code_rank : CodePart → ℕ
+code_rank code_parts.Start = 0
+code_rank code_parts.Instructions = 1
+code_rank code_parts.Rows = 2
+code_rank code_parts.Attributes = 3
+
+abbrev pub part_of : MemberKind → ClassPart
+part_of kinds.Field = parts.Fields
+part_of kinds.Method = parts.Methods
+
+-- a line of one part may stand in this part, behind which the listing is at a place
+abbrev pub in_class : ClassPart → ClassPart → Place → Option Place
+in_class own part next = if nat_lt (class_rank own) (class_rank part) then None else Some next
+
+abbrev pub in_code : CodePart → CodePart → Place → Option Place
+in_code own part next = if nat_lt (code_rank own) (code_rank part) then None else Some next
+
+-- the place behind a line; None: no such line has a form at the place before
+abbrev pub after : Place → Item → Option Place
+after Start (FileHead minor major flags class super) = Some (Class parts.Constants)
+after (Class part) (Entry c) = in_class parts.Constants part (Class parts.Constants)
+after (Class part) (Interface class) = in_class parts.Interfaces part (Class parts.Interfaces)
+after (Class part) (MemberHead kind flags name descriptor) = in_class (part_of kind) part (Member kind)
+after (Class part) (Attribute a) = in_class parts.Attributes part (Class parts.Attributes)
+after (Member kind) (Attribute a) = Some (Member kind)
+after (Member kind) (InitialValue name constant) = Some (Member kind)
+after (Member kind) (CodeHead name stack locals) = Some (Code kind code_parts.Start)
+after (Member kind) End = Some (Class (part_of kind))
+after (Code kind part) (CodeBytes bytes) = in_code code_parts.Start part (Code kind code_parts.Rows)
+after (Code kind part) (Instruction opcode operands) = in_code code_parts.Instructions part (Code kind code_parts.Instructions)
+after (Code kind part) (Row h) = in_code code_parts.Rows part (Code kind code_parts.Rows)
+after (Code kind part) (Attribute a) = in_code code_parts.Attributes part (Code kind code_parts.Attributes)
+after (Code kind part) End = Some (Member kind)
+after place item = None
+
+-- the place behind lines that follow one another
+abbrev pub behind_next : Option Place → (Place → Option Place) → Option Place
+behind_next None more = None
+behind_next (Some place) more = more place
+
+abbrev pub place_behind : Place → List Item → Option Place
+place_behind place [] = Some place
+place_behind place (item ∷ items) = behind_next (after place item) (λ next. place_behind next items)
+
+-- a text may end here
+abbrev pub is_end : Place → Bool
+is_end (Class part) = true
+is_end place = false
