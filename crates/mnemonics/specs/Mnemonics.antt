@@ -1,6 +1,6 @@
 -- The mnemonics of the instructions of this machine by their opcodes (JVMS 6.5), in the groups of the table of
 -- instructions.
-use Rattle.std.specs.Prelude.{ℕ, ◌==◌, nat_lt, if◌then◌else◌, List, [], ◌∷◌, codes, Option, Some, None}
+use Rattle.std.specs.Prelude.{ℕ, ◌==◌, nat_lt, if◌then◌else◌, List, [], ◌∷◌, ◌++◌, codes, bytes_eq, Option, Some, None}
 
 -- an opcode and its mnemonic
 abbrev pub Names : Type 0
@@ -143,3 +143,15 @@ mnemonic b =
     if nat_lt b 0x99 then named arithmetic b else
     if nat_lt b 0xb2 then named control b else
     named references b
+
+abbrev pub all_names : Names
+all_names = constants ++ (loads ++ (stores ++ (stack_moves ++ (arithmetic ++ (control ++ references)))))
+
+-- the opcode of a mnemonic among these
+abbrev pub opcode_among : Names → List ℕ → Option ℕ
+opcode_among [] name = None
+opcode_among (r ∷ rs) name = if bytes_eq r.1 name then Some r.0 else opcode_among rs name
+
+-- None: the text is no mnemonic
+unfoldable pub opcode_of : List ℕ → Option ℕ
+opcode_of name = opcode_among all_names name

@@ -1,9 +1,9 @@
 //! The mnemonics of the instructions of this machine, by their opcodes (JVMS 6.5).
 #![tactic(auto)]
 
-ghost use Rattle.std.specs.Prelude.{◌≡◌};
+ghost use Rattle.std.specs.Prelude.{◌≡◌, bytes_eq};
 ghost use Rattle.std.specs.Option.{option_copied};
-ghost use Rattle.mnemonics.specs.Mnemonics.{named, mnemonic, constants, loads, stores, stack_moves, arithmetic, control, references};
+ghost use Rattle.mnemonics.specs.Mnemonics.{named, mnemonic, opcode_of, constants, loads, stores, stack_moves, arithmetic, control, references};
 
 /// 0x00 to 0x13: a constant is pushed.
 fn constants(opcode: u8) -> Option<&'static str>
@@ -182,4 +182,25 @@ pub fn mnemonic(opcode: u8) -> Option<&'static str>
     } else {
         references(opcode)
     }
+}
+
+fn is_same(text: &[u8], other: &[u8]) -> bool
+    ensures { result ≡ bytes_eq text.now other.now }
+{
+    text == other
+}
+
+/// The opcode of a mnemonic, or `None` where the text is none of this machine.
+pub fn opcode_of(name: &[u8]) -> Option<u8>
+    ensures { result ≡ opcode_of name.now }
+{
+    for number in 0..256u16 {
+        let opcode = number as u8;
+        if let Some(known) = mnemonic(opcode) {
+            if is_same(known.as_bytes(), name) {
+                return Some(opcode);
+            }
+        }
+    }
+    None
 }
