@@ -53,6 +53,12 @@ are_pairs [] = true
 are_pairs (key ∷ []) = false
 are_pairs (key ∷ to ∷ pairs) = is_s4 key && is_target to && are_pairs pairs
 
+-- low, high and the targets of a `tableswitch`
+abbrev pub bounds_fit : List ℤ → Bool
+bounds_fit [] = false
+bounds_fit (low ∷ []) = false
+bounds_fit (low ∷ high ∷ targets) = is_s4 low && is_s4 high && list_all is_target targets
+
 -- so many operands as the shape has, each in its field; a switch may have any number of targets or of pairs
 abbrev pub operands_fit : Shape → List ℤ → Bool
 operands_fit shapes.Plain [] = true
@@ -64,6 +70,6 @@ operands_fit shapes.Branch (to ∷ []) = is_target to
 operands_fit shapes.WideBranch (to ∷ []) = is_target to
 operands_fit shapes.LocalAndStep (local ∷ step ∷ []) = is_u1 local && is_s1 step
 operands_fit shapes.IntArray (number ∷ []) = is_between (pos 10) (pos 11) number
-operands_fit shapes.Table (otherwise ∷ low ∷ high ∷ targets) = is_target otherwise && is_s4 low && is_s4 high && list_all is_target targets
+operands_fit shapes.Table (otherwise ∷ bounds) = is_target otherwise && bounds_fit bounds
 operands_fit shapes.Lookup (otherwise ∷ pairs) = is_target otherwise && are_pairs pairs
 operands_fit shape operands = false

@@ -8,7 +8,8 @@ use std::alloc::AllocError;
 pub enum AsmError {
     /// Memory ran out.
     Memory,
-    /// The rule that refuses the text, and its place: the number of a line, counted from 1, or 0 for A2.
+    /// The rule that refuses the text, and its place: the number of a line, counted from 1, or 0
+    /// for A2.
     Refused(ARule, u32),
 }
 

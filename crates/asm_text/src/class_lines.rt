@@ -12,7 +12,7 @@ use crate::pool_lines::write_constants;
 use jvm_types::{Attr, Bytes, ClassFile, Code, Constant, Handler, Member, MemberAttr};
 use std::alloc::{AllocError, Global};
 
-fn write_attr(text: &mut String, attr: &Attr) -> Result<(), AllocError>
+pub fn write_attr(text: &mut String, attr: &Attr) -> Result<(), AllocError>
     ensures { OnOk result (string_bytes text.new ≡ string_bytes text.old ++ line_text (attr_line attr.now)) }
 {
     let name = attr.name;
@@ -39,7 +39,7 @@ fn write_rows(text: &mut String, rows: &[Handler]) -> Result<(), AllocError>
     Ok(())
 }
 
-fn write_row(text: &mut String, row: Handler) -> Result<(), AllocError>
+pub fn write_row(text: &mut String, row: Handler) -> Result<(), AllocError>
     ensures { OnOk result (string_bytes text.new ≡ string_bytes text.old ++ line_text (row_line row)) }
 {
     let Handler {

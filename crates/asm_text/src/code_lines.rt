@@ -171,7 +171,7 @@ fn names_local(opcode: u8) -> bool
     matches!(opcode, 0x1a..=0x2d | 0x3b..=0x4e)
 }
 
-fn name_of(opcode: u8) -> &'static str
+pub fn name_of(opcode: u8) -> &'static str
     ensures { result.now ≡ name_of (mnemonic opcode) }
 {
     match mnemonic(opcode) {
@@ -207,7 +207,7 @@ fn write_insns(text: &mut String, bytes: &[u8], insns: &[Insn]) -> Result<(), Al
     Ok(())
 }
 
-fn write_bytes(text: &mut String, bytes: &[u8]) -> Result<(), AllocError>
+pub fn write_bytes(text: &mut String, bytes: &[u8]) -> Result<(), AllocError>
     ensures { OnOk result (string_bytes text.new ≡ string_bytes text.old ++ line_text (bytes_line bytes.now)) }
 {
     text.push_str("bytes")?;

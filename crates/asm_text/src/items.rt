@@ -12,7 +12,8 @@ pub enum MemberKind {
 /// What a line of a listing says.
 #[derive(Debug, Drop)]
 pub enum Item {
-    /// The minor and the major version, the flags, and the indices of the class and of its superclass.
+    /// The minor and the major version, the flags, and the indices of the class and of its
+    /// superclass.
     FileHead(u16, u16, u16, u16, u16),
     /// An entry of the constant pool.
     Entry(Constant),

@@ -1,6 +1,9 @@
 //! The places between the lines of a listing.
 
-use crate::items::MemberKind;
+ghost use Rattle.std.specs.Prelude.{◌≡◌};
+ghost use Rattle.asm_text.specs.Places.{after, class_rank, code_rank, in_class, in_code, is_end, part_of};
+
+use crate::items::{Item, MemberKind};
 
 /// The parts of a class behind its first line, in their order.
 #[derive(Clone, Copy, Debug, PartialEq, Eq)]
@@ -28,4 +31,134 @@ pub enum Place {
     Class(ClassPart),
     Member(MemberKind),
     Code(MemberKind, CodePart),
+}
+
+fn class_rank(part: ClassPart) -> u8
+    ensures { result ≡ class_rank part }
+{
+    match part {
+        ClassPart::Constants => 0,
+        ClassPart::Interfaces => 1,
+        ClassPart::Fields => 2,
+        ClassPart::Methods => 3,
+        ClassPart::Attributes => 4,
+    }
+}
+
+fn code_rank(part: CodePart) -> u8
+    ensures { result ≡ code_rank part }
+{
+    match part {
+        CodePart::Start => 0,
+        CodePart::Instructions => 1,
+        CodePart::Rows => 2,
+        CodePart::Attributes => 3,
+    }
+}
+
+fn part_of(kind: MemberKind) -> ClassPart
+    ensures { result ≡ part_of kind }
+{
+    match kind {
+        MemberKind::Field => ClassPart::Fields,
+        MemberKind::Method => ClassPart::Methods,
+    }
+}
+
+fn in_class(own: ClassPart, part: ClassPart, next: Place) -> Option<Place>
+    ensures { result ≡ in_class own part next }
+{
+    if class_rank(own) < class_rank(part) {
+        None
+    } else {
+        Some(next)
+    }
+}
+
+fn in_code(own: CodePart, part: CodePart, next: Place) -> Option<Place>
+    ensures { result ≡ in_code own part next }
+{
+    if code_rank(own) < code_rank(part) {
+        None
+    } else {
+        Some(next)
+    }
+}
+
+fn after_in_class(part: ClassPart, item: &Item) -> Option<Place>
+    ensures { result ≡ after (Place.Class part) item.now }
+{
+    match item {
+        Item::Entry(_) => in_class(
+            ClassPart::Constants,
+            part,
+            Place::Class(ClassPart::Constants),
+        ),
+        Item::Interface(_) => in_class(
+            ClassPart::Interfaces,
+            part,
+            Place::Class(ClassPart::Interfaces),
+        ),
+        Item::MemberHead(kind, _, _, _) => in_class(part_of(*kind), part, Place::Member(*kind)),
+        Item::Attribute(_) => in_class(
+            ClassPart::Attributes,
+            part,
+            Place::Class(ClassPart::Attributes),
+        ),
+        _ => None,
+    }
+}
+
+fn after_in_member(kind: MemberKind, item: &Item) -> Option<Place>
+    ensures { result ≡ after (Place.Member kind) item.now }
+{
+    match item {
+        Item::Attribute(_) | Item::InitialValue(_, _) => Some(Place::Member(kind)),
+        Item::CodeHead(_, _, _) => Some(Place::Code(kind, CodePart::Start)),
+        Item::End => Some(Place::Class(part_of(kind))),
+        _ => None,
+    }
+}
+
+fn after_in_code(kind: MemberKind, part: CodePart, item: &Item) -> Option<Place>
+    ensures { result ≡ after (Place.Code kind part) item.now }
+{
+    match item {
+        Item::CodeBytes(_) => in_code(CodePart::Start, part, Place::Code(kind, CodePart::Rows)),
+        Item::Instruction(_, _) => in_code(
+            CodePart::Instructions,
+            part,
+            Place::Code(kind, CodePart::Instructions),
+        ),
+        Item::Row(_) => in_code(CodePart::Rows, part, Place::Code(kind, CodePart::Rows)),
+        Item::Attribute(_) => in_code(
+            CodePart::Attributes,
+            part,
+            Place::Code(kind, CodePart::Attributes),
+        ),
+        Item::End => Some(Place::Member(kind)),
+        _ => None,
+    }
+}
+
+/// The place behind a line, or `None` where it may not stand there.
+pub fn after(place: Place, item: &Item) -> Option<Place>
+    ensures { result ≡ after place item.now }
+{
+    match place {
+        Place::Start => match item {
+            Item::FileHead(_, _, _, _, _) => Some(Place::Class(ClassPart::Constants)),
+            _ => None,
+        },
+        Place::Class(part) => after_in_class(part, item),
+        Place::Member(kind) => after_in_member(kind, item),
+        Place::Code(kind, part) => after_in_code(kind, part, item),
+    }
+}
+
+/// Whether a text may end here.
+pub fn is_end(place: Place) -> bool
+    ensures { result ≡ is_end place }
+{
+    matches!(place, Place::Class(_))
 }

@@ -18,7 +18,7 @@ fn write_utf8(text: &mut String, bytes: &[u8]) -> Result<(), AllocError>
 }
 
 /// The line of an entry.
-fn write_constant(text: &mut String, constant: &Constant) -> Result<(), AllocError>
+pub fn write_constant(text: &mut String, constant: &Constant) -> Result<(), AllocError>
     ensures { OnOk result (string_bytes text.new ≡ string_bytes text.old ++ line_text (constant_line constant.now)) }
 {
     match constant {

@@ -1,5 +1,11 @@
 //! The operands of instructions, by their opcodes (JVMS 6.5).
 
+ghost use Rattle.std.specs.Prelude.{◌≡◌, ◌&&◌, ◌∷◌};
+ghost use Rattle.std.specs.Option.{option_map};
+ghost use Rattle.jvm_types.specs.CodeTable.{first_row, constants, loads, stores, stack_moves, arithmetic, control, references};
+ghost use Rattle.asm_text.specs.Operands.{shape_of, shape_at, is_between, is_u1, is_u2, is_s1, is_s2, is_s4, is_target, are_pairs, bounds_fit, operands_fit};
+ghost use Rattle.std.specs.List.{list_all};
+
 /// What operands an instruction has.
 #[derive(Clone, Copy, Debug, PartialEq, Eq)]
 pub enum Shape {
@@ -14,4 +20,227 @@ pub enum Shape {
     IntArray,
     Table,
     Lookup,
+}
+
+/// 0x00 to 0x13: a constant is pushed.
+fn constants(opcode: u8) -> Option<Shape>
+    ensures { result ≡ option_map shape_of (first_row (constants opcode)) }
+{
+    match opcode {
+        0x00..=0x08 => Some(Shape::Plain),
+        0x10 => Some(Shape::SignedByte),
+        0x11 => Some(Shape::SignedShort),
+        0x12 => Some(Shape::Byte),
+        0x13 => Some(Shape::Short),
+        _ => None,
+    }
+}
+
+/// 0x15 to 0x2e: a local or an element is pushed.
+fn loads(opcode: u8) -> Option<Shape>
+    ensures { result ≡ option_map shape_of (first_row (loads opcode)) }
+{
+    match opcode {
+        0x15 | 0x19 => Some(Shape::Byte),
+        0x1a..=0x1d | 0x2a..=0x2e => Some(Shape::Plain),
+        _ => None,
+    }
+}
+
+/// 0x36 to 0x4f: a local or an element is written.
+fn stores(opcode: u8) -> Option<Shape>
+    ensures { result ≡ option_map shape_of (first_row (stores opcode)) }
+{
+    match opcode {
+        0x36 | 0x3a => Some(Shape::Byte),
+        0x3b..=0x3e | 0x4b..=0x4f => Some(Shape::Plain),
+        _ => None,
+    }
+}
+
+/// 0x57 to 0x5f: the stack alone.
+fn stack_moves(opcode: u8) -> Option<Shape>
+    ensures { result ≡ option_map shape_of (first_row (stack_moves opcode)) }
+{
+    match opcode {
+        0x57..=0x5c | 0x5f => Some(Shape::Plain),
+        _ => None,
+    }
+}
+
+/// 0x60 to 0x93: arithmetic on ints, and conversions of an int.
+fn arithmetic(opcode: u8) -> Option<Shape>
+    ensures { result ≡ option_map shape_of (first_row (arithmetic opcode)) }
+{
+    match opcode {
+        0x60 | 0x64 | 0x68 | 0x6c | 0x70 | 0x74 => Some(Shape::Plain),
+        0x78 | 0x7a | 0x7c | 0x7e | 0x80 | 0x82 => Some(Shape::Plain),
+        0x84 => Some(Shape::LocalAndStep),
+        0x91..=0x93 => Some(Shape::Plain),
+        _ => None,
+    }
+}
+
+/// 0x99 to 0xb1: branches, switches and returns.
+fn control(opcode: u8) -> Option<Shape>
+    ensures { result ≡ option_map shape_of (first_row (control opcode)) }
+{
+    match opcode {
+        0x99..=0xa7 => Some(Shape::Branch),
+        0xaa => Some(Shape::Table),
+        0xab => Some(Shape::Lookup),
+        0xac | 0xb0 | 0xb1 => Some(Shape::Plain),
+        _ => None,
+    }
+}
+
+/// 0xb2 to 0xc8: fields, methods, objects and monitors, and the extended branches.
+fn references(opcode: u8) -> Option<Shape>
+    ensures { result ≡ option_map shape_of (first_row (references opcode)) }
+{
+    match opcode {
+        0xb2..=0xb8 | 0xbb => Some(Shape::Short),
+        0xbc => Some(Shape::IntArray),
+        0xbe | 0xbf | 0xc2 | 0xc3 => Some(Shape::Plain),
+        0xc6 | 0xc7 => Some(Shape::Branch),
+        0xc8 => Some(Shape::WideBranch),
+        _ => None,
+    }
+}
+
+/// The operands of an opcode, or `None` where it is none of this machine.
+pub fn shape_at(opcode: u8) -> Option<Shape>
+    ensures { result ≡ shape_at opcode }
+{
+    if opcode < 0x15 {
+        constants(opcode)
+    } else if opcode < 0x36 {
+        loads(opcode)
+    } else if opcode < 0x57 {
+        stores(opcode)
+    } else if opcode < 0x60 {
+        stack_moves(opcode)
+    } else if opcode < 0x99 {
+        arithmetic(opcode)
+    } else if opcode < 0xb2 {
+        control(opcode)
+    } else {
+        references(opcode)
+    }
+}
+
+fn is_between(low: i64, end: i64, n: i64) -> bool
+    ensures { result ≡ is_between low end n }
+{
+    !(n < low) && n < end
+}
+
+fn is_u1(n: i64) -> bool
+    ensures { result ≡ is_u1 n }
+{
+    is_between(0, 256, n)
+}
+
+fn is_u2(n: i64) -> bool
+    ensures { result ≡ is_u2 n }
+{
+    is_between(0, 65536, n)
+}
+
+fn is_s1(n: i64) -> bool
+    ensures { result ≡ is_s1 n }
+{
+    is_between(-128, 128, n)
+}
+
+fn is_s2(n: i64) -> bool
+    ensures { result ≡ is_s2 n }
+{
+    is_between(-32768, 32768, n)
+}
+
+fn is_s4(n: i64) -> bool
+    ensures { result ≡ is_s4 n }
+{
+    is_between(-2147483648, 2147483648, n)
+}
+
+/// Whether a number has a field of 32 bits.
+pub fn is_target(n: i64) -> bool
+    ensures { result ≡ is_target n }
+{
+    is_between(0, 4294967296, n)
+}
+
+fn are_targets(targets: &[i64]) -> bool
+    ensures { result ≡ list_all is_target targets.now }
+{
+    targets.iter().all(|to| is_target(*to))
+}
+
+fn bounds_fit(low: i64, rest: &[i64]) -> bool
+    ensures { result ≡ bounds_fit (low ∷ rest.now) }
+{
+    match rest {
+        [high, targets @ ..] => are_bounds(low, *high, targets),
+        [] => false,
+    }
+}
+
+/// Low, high and the targets of a `tableswitch`.
+fn all_bounds_fit(bounds: &[i64]) -> bool
+    ensures { result ≡ bounds_fit bounds.now }
+{
+    match bounds {
+        [low, rest @ ..] => bounds_fit(*low, rest),
+        [] => false,
+    }
+}
+
+fn are_bounds(low: i64, high: i64, targets: &[i64]) -> bool
+    ensures { result ≡ (is_s4 low && is_s4 high && list_all is_target targets.now) }
+{
+    let ends = is_s4(low) && is_s4(high);
+    both(ends, are_targets(targets))
+}
+
+fn both(first: bool, second: bool) -> bool
+    ensures { result ≡ (first && second) }
+{
+    first && second
+}
+
+/// Keys, each with its target.
+fn are_pairs(pairs: &[i64]) -> bool
+    ensures { result ≡ are_pairs pairs.now }
+{
+    let mut rest = pairs;
+    while let [key, to, more @ ..] = rest {
+        if !(is_s4(*key) && is_target(*to)) {
+            return false;
+        }
+        rest = more;
+    }
+    rest.is_empty()
+}
+
+/// Whether these are operands of this shape, each in its field.
+pub fn operands_fit(shape: Shape, operands: &[i64]) -> bool
+    ensures { result ≡ operands_fit shape operands.now }
+{
+    match (shape, operands) {
+        (Shape::Plain, []) => true,
+        (Shape::Byte, [n]) => is_u1(*n),
+        (Shape::Short, [n]) => is_u2(*n),
+        (Shape::SignedByte, [n]) => is_s1(*n),
+        (Shape::SignedShort, [n]) => is_s2(*n),
+        (Shape::Branch | Shape::WideBranch, [to]) => is_target(*to),
+        (Shape::LocalAndStep, [local, step]) => is_u1(*local) && is_s1(*step),
+        (Shape::IntArray, [number]) => is_between(10, 11, *number),
+        (Shape::Table, [otherwise, bounds @ ..]) => {
+            is_target(*otherwise) && all_bounds_fit(bounds)
+        }
+        (Shape::Lookup, [otherwise, pairs @ ..]) => is_target(*otherwise) && are_pairs(pairs),
+        _ => false,
+    }
 }
