@@ -150,6 +150,7 @@ impl Machine {
         requires { p.now ≡ self.old.program }
         ensures live { result ≡ lives self.old.core t }
         ensures event { self.new ≡ record self.old { core = event self.old.program self.old.core t } }
+        ensures still { result ≡ false → self.new ≡ self.old }
         ensures less { lives self.old.core t ≡ true → all_work self.new.core < all_work self.old.core }
     {
         events_lessen_all_work();
@@ -191,6 +192,7 @@ impl Machine {
         requires { p.now ≡ self.old.program }
         ensures may { result ≡ may_begin self.old.core.threads }
         ensures next { self.new ≡ record self.old { core = next self.old.program self.old.core } }
+        ensures still { result ≡ false → self.new ≡ self.old }
     {
         let _ = p;
         run_facts_next();
