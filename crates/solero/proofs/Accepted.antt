@@ -2,24 +2,23 @@
 use Rattle.std.proofs.Common.{◌≡◌, ℕ, Bool, List, Option, Some, None, Ok, Err, sym, ◌∙◌, arith}
 use Rattle.jvm_types.specs.declared.refusal.Rule.{Rule}
 use Rattle.jvm_types.specs.declared.refusal.Place.{Place}
-use Rattle.class_runner.specs.Loading.{IsAccepted}
-use Rattle.class_runner.proofs.LoadedOnce.{never_refused}
 use Rattle.solero.specs.Command.{Asked}
-use Rattle.solero.specs.Answer.{AreAccepted, IsDue, IsRefusal, contents_of, first_long, status_of}
+use Rattle.solero.specs.Answer.{AreAccepted, IsAcceptedIn, IsDue, IsRefusal, contents_of, first_long, status_of}
 use Rattle.solero.specs.Delivery.{Delivers}
+use Rattle.solero.proofs.Modes.{taken_not_refused}
 use Rattle.solero.specs.declared.finish.Finish.TheVariants.{Returned, Uncaught, Limited}
 use Rattle.host_io.specs.declared.shelf.NamedFile.{NamedFile}
 use Rattle.solero.specs.declared.answer.Due.{Due}
-use Rattle.solero.specs.declared.answer.Due.TheVariants.{Report, Marks, Usage, Refusal, CannotRead, OutOfMemory}
+use Rattle.solero.specs.declared.answer.Due.TheVariants.{Report, Output, Usage, Refusal, CannotRead, OutOfMemory}
 
-pub no_refusal : (asked : Asked) (contents : List (List ℕ)) (rule : Rule) (place : Place) → first_long 0 contents ≡ None → IsAccepted contents asked.heap asked.threads → IsRefusal (first_long 0 contents) asked contents rule place → ⊥
-no_refusal asked contents rule place short accepted refused = never_refused contents asked.heap asked.threads rule place accepted (rw short at refused)
+pub no_refusal : (asked : Asked) (contents : List (List ℕ)) (rule : Rule) (place : Place) → first_long 0 contents ≡ None → IsAcceptedIn asked.mode asked contents → IsRefusal (first_long 0 contents) asked contents rule place → ⊥
+no_refusal asked contents rule place short accepted refused = taken_not_refused asked.mode asked contents rule place accepted (rw short at refused)
 
 no_refusal_due : (asked : Asked) (files : List NamedFile) (unreadable : Option (List ℕ → Bool)) (before after : ℕ) (due : Due) → IsDue (Some asked) (Some files) unreadable before after due → AreAccepted files asked → status_of due ≡ 3 → ⊥
 no_refusal_due asked files unreadable before after (Report Returned text) owed accepted three = omega (arith, three)
 no_refusal_due asked files unreadable before after (Report Uncaught text) owed accepted three = omega (arith, three)
 no_refusal_due asked files unreadable before after (Report Limited text) owed accepted three = omega (arith, three)
-no_refusal_due asked files unreadable before after (Marks text) owed accepted three = omega (arith, three)
+no_refusal_due asked files unreadable before after (Output text) owed accepted three = omega (arith, three)
 no_refusal_due asked files unreadable before after Usage owed accepted three = omega (arith, three)
 no_refusal_due asked files unreadable before after (CannotRead text) owed accepted three = omega (arith, three)
 no_refusal_due asked files unreadable before after OutOfMemory owed accepted three = omega (arith, three)

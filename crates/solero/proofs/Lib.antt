@@ -1,6 +1,8 @@
 pub mod Accepted
 pub mod Found
+pub mod Modes
 pub mod Numbers
+pub mod OneFile
 pub mod Orders
 pub mod Owed
 pub mod PlacedPrints

@@ -7,10 +7,9 @@ use Rattle.jvm_types.specs.declared.refusal.Rule.{Rule}
 use Rattle.jvm_types.specs.declared.refusal.Place.{Place}
 use Rattle.host_io.specs.Faults.{CountsFault}
 use Rattle.checked_program.specs.MarkedProgram.{MarkedProgram}
-use Rattle.class_runner.specs.Loading.{IsLoaded, IsRefusedBy}
 use Rattle.run_texts.specs.Refusal.{refusal_text}
 use Rattle.solero.specs.Command.{Asked}
-use Rattle.solero.specs.Answer.{IsDue, IsMadeBy, Refuses, first_long}
+use Rattle.solero.specs.Answer.{IsDue, IsMadeBy, IsMadeIn, IsRefusedIn, Refuses, first_long}
 use Rattle.jvm_types.specs.declared.limits.TheConstants.{MOST_FILE_BYTES}
 use Rattle.solero.specs.Reading.{IsUnread}
 use Rattle.solero.specs.Parts.{IsLine, IsRun, IsUnreadDue}
@@ -18,27 +17,33 @@ use Rattle.host_io.specs.declared.shelf.NamedFile.{NamedFile}
 use Rattle.host_io.specs.declared.shelf.ShelfError.{ShelfError}
 use Rattle.host_io.specs.declared.shelf.ShelfError.TheVariants.{Memory, Failed, TooLong}
 use Rattle.solero.specs.declared.request.Mode.{Mode}
-use Rattle.solero.specs.declared.request.Mode.TheVariants.{Replay, Run, Mark}
+use Rattle.solero.specs.declared.request.Mode.TheVariants as modes
+use Rattle.solero.specs.declared.request.Task.{Task}
+use Rattle.solero.specs.declared.request.Task.TheVariants.{Replay, Run, Mark}
 use Rattle.solero.specs.declared.answer.Due.{Due}
-use Rattle.solero.specs.declared.answer.Due.TheVariants.{Report, Marks, Usage, Refusal, CannotRead, OutOfMemory}
+use Rattle.solero.specs.declared.answer.Due.TheVariants.{Report, Output, Usage, Refusal, CannotRead, OutOfMemory}
 
--- no mode makes a refusal
-made_no_refusal : (mode : Mode) (asked : Asked) (checked : MarkedProgram) (text : List ℕ) → IsMadeBy mode asked checked (Refusal text) → ⊥
-made_no_refusal Replay asked checked text made = made
-made_no_refusal Run asked checked text made = made
-made_no_refusal Mark asked checked text made = made
+-- no task makes a refusal, and no mode
+task_made_no_refusal : (task : Task) (asked : Asked) (checked : MarkedProgram) (text : List ℕ) → IsMadeBy task asked checked (Refusal text) → ⊥
+task_made_no_refusal Replay asked checked text made = made
+task_made_no_refusal Run asked checked text made = made
+task_made_no_refusal Mark asked checked text made = made
 
--- what the mode makes of the program that the files are loaded to is made of the files
-pub made_of_files : (asked : Asked) (contents : List (List ℕ)) (checked : MarkedProgram) (due : Due) → IsLoaded contents asked.heap asked.threads checked → IsMadeBy asked.mode asked checked due → IsRun asked contents due
-made_of_files asked contents checked (Refusal text) loaded made = absurd (made_no_refusal asked.mode asked checked text made)
-made_of_files asked contents checked OutOfMemory loaded made = tt
-made_of_files asked contents checked (Report finish text) loaded made = record { checked = checked; loaded = loaded; made = made }
-made_of_files asked contents checked (Marks text) loaded made = record { checked = checked; loaded = loaded; made = made }
-made_of_files asked contents checked Usage loaded made = record { checked = checked; loaded = loaded; made = made }
-made_of_files asked contents checked (CannotRead text) loaded made = record { checked = checked; loaded = loaded; made = made }
+made_no_refusal : (mode : Mode) (asked : Asked) (contents : List (List ℕ)) (text : List ℕ) → IsMadeIn mode asked contents (Refusal text) → ⊥
+made_no_refusal (modes.Program task) asked contents text made = task_made_no_refusal task asked made.checked text made.made
+made_no_refusal modes.List asked contents text made = made
+
+-- what the mode makes of files, none of which is too long, is due to them
+pub made_run : (asked : Asked) (contents : List (List ℕ)) (due : Due) → IsMadeIn asked.mode asked contents due → IsRun asked contents due
+made_run asked contents (Refusal text) made = absurd (made_no_refusal asked.mode asked contents text made)
+made_run asked contents OutOfMemory made = tt
+made_run asked contents (Report finish text) made = made
+made_run asked contents (Output text) made = made
+made_run asked contents Usage made = made
+made_run asked contents (CannotRead text) made = made
 
 -- the line of what refuses files, none of which is too long, is due to them
-pub refused_run : (asked : Asked) (contents : List (List ℕ)) (rule : Rule) (place : Place) (due : Due) → first_long 0 contents ≡ None → IsRefusedBy contents asked.heap asked.threads rule place → IsLine (refusal_text rule place) due → IsRun asked contents due
+pub refused_run : (asked : Asked) (contents : List (List ℕ)) (rule : Rule) (place : Place) (due : Due) → first_long 0 contents ≡ None → IsRefusedIn asked.mode asked contents rule place → IsLine (refusal_text rule place) due → IsRun asked contents due
 refused_run asked contents rule place (Refusal text) short refused line = record { rule = rule; place = place; refused = rw short refused; is_line = line }
 refused_run asked contents rule place OutOfMemory short refused line = tt
 refused_run asked contents rule place due short refused line = absurd line

@@ -1,17 +1,17 @@
 -- What is answered where nothing outside fails: files that are accepted in full, and others by their refusal.
 use Rattle.std.proofs.Common.{◌≡◌, ℕ, Bool, inl, inr, List, Option, Some, Ok, Err, arith}
 use Rattle.std.specs.Prelude.{◌⊎◌}
-use Rattle.class_runner.proofs.LoadedOnce.{accepted as loaded_is_accepted}
 use Rattle.solero.specs.Command.{Asked}
 use Rattle.solero.specs.Answer.{AreAccepted, IsDue, IsMadeOf, contents_of, status_of}
 use Rattle.solero.specs.Delivery.{Delivers}
 use Rattle.solero.specs.Whole.{AnswersWhole, IsCalm, IsOwed, IsOwedRefusal}
 use Rattle.solero.proofs.Accepted.{no_refusal}
+use Rattle.solero.proofs.Modes.{made_of_taken}
 use Rattle.solero.proofs.SoFar.{none_long}
 use Rattle.host_io.specs.Faults.{CountsFault}
 use Rattle.host_io.specs.declared.shelf.NamedFile.{NamedFile}
 use Rattle.solero.specs.declared.answer.Due.{Due}
-use Rattle.solero.specs.declared.answer.Due.TheVariants.{Report, Marks, Usage, Refusal, CannotRead, OutOfMemory}
+use Rattle.solero.specs.declared.answer.Due.TheVariants.{Report, Output, Usage, Refusal, CannotRead, OutOfMemory}
 
 no_fault : (before after : ℕ) → IsCalm before after → CountsFault before after → ⊥
 no_fault before after calm (inl rose) = omega (arith, calm.0, rose)
@@ -21,7 +21,7 @@ no_fault before after calm (inr still) = omega (arith, calm.1, still.1)
 
 owed : (asked : Asked) (files : List NamedFile) (unreadable : Option (List ℕ → Bool)) (before after : ℕ) (due : Due) → IsDue (Some asked) (Some files) unreadable before after due → AreAccepted files asked → IsCalm before after → IsOwed asked files due
 owed asked files unreadable before after (Report finish text) due accepted calm = due.1
-owed asked files unreadable before after (Marks text) due accepted calm = due.1
+owed asked files unreadable before after (Output text) due accepted calm = due.1
 owed asked files unreadable before after Usage due accepted calm = absurd due
 owed asked files unreadable before after (CannotRead text) due accepted calm = absurd (no_fault before after calm due.0)
 owed asked files unreadable before after OutOfMemory due accepted calm = tt
@@ -41,12 +41,12 @@ whole asked files unreadable before after due told now from to status is (Err e,
 made_of_accepted : (asked : Asked) (files : List NamedFile) (due : Due) → IsMadeOf (Some files) asked due → AreAccepted files asked
 made_of_accepted asked files due m =
     let short = none_long 0 m.contents m.short in
-    let passed = loaded_is_accepted m.contents asked.heap asked.threads m.made.checked m.made.loaded in
-    (rw m.are at short, rw m.are at passed)
+    let taken = made_of_taken asked.mode asked m.contents due m.made in
+    (rw m.are at short, rw m.are at taken)
 
 owed_refusal : (asked : Asked) (files : List NamedFile) (unreadable : Option (List ℕ → Bool)) (before after : ℕ) (due : Due) → IsDue (Some asked) (Some files) unreadable before after due → ¬ AreAccepted files asked → IsCalm before after → IsOwedRefusal asked files due
 owed_refusal asked files unreadable before after (Report finish text) due not_so calm = absurd (not_so (made_of_accepted asked files (Report finish text) due.1))
-owed_refusal asked files unreadable before after (Marks text) due not_so calm = absurd (not_so (made_of_accepted asked files (Marks text) due.1))
+owed_refusal asked files unreadable before after (Output text) due not_so calm = absurd (not_so (made_of_accepted asked files (Output text) due.1))
 owed_refusal asked files unreadable before after Usage due not_so calm = absurd due
 owed_refusal asked files unreadable before after (CannotRead text) due not_so calm = absurd (no_fault before after calm due.0)
 owed_refusal asked files unreadable before after OutOfMemory due not_so calm = tt

@@ -1,9 +1,12 @@
 -- What the program owes to its words and files: a text, and a status with it.
 use Rattle.std.specs.Prelude.{◌≡◌, ℕ, ◌+◌, ◌<◌, ◌≤◌, nat_lt, Bool, List, [], ◌∷◌, ◌++◌, length, map, take, codes, Option, Some, None, IfSome, if◌then◌else◌}
 use Rattle.std.specs.Fmt.{decimal, signed_decimal}
-use Rattle.std.specs.List.{AllByRecursion, flat_map, position_from}
+use Rattle.std.specs.List.{AllByRecursion, AllZip, flat_map, position_from}
+use Rattle.asm_text.specs.ClassLines.{Lists}
 use Rattle.checked_program.specs.MarkedProgram.{MarkedProgram}
+use Rattle.jvm_types.specs.ClassGrammar.{Spells}
 use Rattle.jvm_types.specs.LinkFaults.{in_file}
+use Rattle.jvm_types.specs.declared.class_file.ClassFile.{ClassFile}
 use Rattle.jvm_types.specs.declared.limits.TheConstants.{MOST_FILE_BYTES}
 use Rattle.jvm_types.specs.declared.outcome.Outcome.{Outcome}
 use Rattle.jvm_types.specs.declared.refusal.Rule.TheVariants as rules
@@ -17,7 +20,7 @@ use Rattle.machine_types.specs.Schedules.{IsScheduleOf}
 use Rattle.run_texts.specs.Report.{counts_lines, end_lines, line, report_text}
 use Rattle.run_texts.specs.Refusal.{refusal_text}
 use Rattle.run_texts.specs.MarksText.{marks_text}
-use Rattle.class_runner.specs.Loading.{IsAccepted, IsLoaded, IsRefusedBy}
+use Rattle.class_runner.specs.Loading.{IsAccepted, IsLoaded, IsRefusedBy, read_fault}
 use Rattle.solero.specs.Command.{Asked}
 use Rattle.solero.specs.Finish.{finish_of}
 use Rattle.host_io.specs.Faults.{CountsFault}
@@ -26,15 +29,17 @@ use Rattle.host_io.specs.declared.shelf.NamedFile.{NamedFile}
 use Rattle.solero.specs.declared.finish.Finish.{Finish}
 use Rattle.solero.specs.declared.finish.Finish.TheVariants.{Returned, Uncaught, Limited}
 use Rattle.solero.specs.declared.request.Mode.{Mode}
-use Rattle.solero.specs.declared.request.Mode.TheVariants.{Replay, Run, Mark}
+use Rattle.solero.specs.declared.request.Mode.TheVariants as modes
+use Rattle.solero.specs.declared.request.Task.{Task}
+use Rattle.solero.specs.declared.request.Task.TheVariants.{Replay, Run, Mark}
 use Rattle.solero.specs.declared.answer.Due.{Due}
-use Rattle.solero.specs.declared.answer.Due.TheVariants.{Report, Marks, Usage, Refusal, CannotRead, OutOfMemory}
+use Rattle.solero.specs.declared.answer.Due.TheVariants.{Report, Output, Usage, Refusal, CannotRead, OutOfMemory}
 
 abbrev pub status_of : Due → ℕ
 status_of (Report Returned text) = 0
 status_of (Report Uncaught text) = 1
 status_of (Report Limited text) = 7
-status_of (Marks text) = 0
+status_of (Output text) = 0
 status_of Usage = 2
 status_of (Refusal text) = 3
 status_of (CannotRead text) = 4
@@ -42,7 +47,7 @@ status_of OutOfMemory = 6
 
 abbrev pub text_of : Due → List ℕ
 text_of (Report finish text) = text
-text_of (Marks text) = text
+text_of (Output text) = text
 text_of Usage = line (codes "usage: solero [options] FILE...")
 text_of (Refusal text) = text
 text_of (CannotRead text) = text
@@ -55,7 +60,7 @@ abbrev pub first_long : ℕ → List (List ℕ) → Option ℕ
 first_long file [] = None
 first_long file (content ∷ contents) = if nat_lt MOST_FILE_BYTES (length content) then Some file else first_long (file + 1) contents
 
--- ---- what is due to the contents of the files
+-- ---- what is made of a program
 
 -- the prints of a plain run, each on a line, in its order
 abbrev pub plain_print_lines : List Printed → List ℕ
@@ -87,24 +92,50 @@ pub record ReportsRun (asked : Asked) (checked : MarkedProgram) (finish : Finish
   pub happenings : List Happening
   pub run : ReportsOver asked checked happenings finish text
 
--- what a mode makes of a program: the report of a replay or of a run, or its marks
-abbrev pub IsMadeBy : Mode → Asked → MarkedProgram → Due → Type 0
+-- what a task makes of a program: the report of a replay or of a run, or its marks
+abbrev pub IsMadeBy : Task → Asked → MarkedProgram → Due → Type 0
 IsMadeBy Replay asked checked (Report finish text) = ReportsReplay asked checked finish text
 IsMadeBy Run asked checked (Report finish text) = ReportsRun asked checked finish text
-IsMadeBy Mark asked checked (Marks text) = text ≡ marks_text checked.program checked.marks
-IsMadeBy mode asked checked due = ⊥
+IsMadeBy Mark asked checked (Output text) = text ≡ marks_text checked.program checked.marks
+IsMadeBy task asked checked due = ⊥
 
--- what the mode makes of the program that the files are loaded to
-pub record IsMade (asked : Asked) (contents : List (List ℕ)) (due : Due) : Type 0 where
+-- what the task makes of the program that the files are loaded to
+pub record IsMadeOfProgram (task : Task) (asked : Asked) (contents : List (List ℕ)) (due : Due) : Type 0 where
   pub checked : MarkedProgram
   pub loaded : IsLoaded contents asked.heap asked.threads checked
-  pub made : IsMadeBy asked.mode asked checked due
+  pub made : IsMadeBy task asked checked due
+
+-- ---- a class as text
+
+-- the text lists the class that the one file spells
+pub record IsListed (files : List (List ℕ)) (text : List ℕ) : Type 0 where
+  pub class : ClassFile
+  pub spelled : AllZip Spells files (class ∷ [])
+  pub listed : Lists text class
+
+-- ---- what is due to the contents of the files
+
+-- what the mode makes of the files
+abbrev pub IsMadeIn : Mode → Asked → List (List ℕ) → Due → Type 0
+IsMadeIn (modes.Program task) asked contents due = IsMadeOfProgram task asked contents due
+IsMadeIn modes.List asked contents (Output text) = IsListed contents text
+IsMadeIn modes.List asked contents due = ⊥
+
+-- the mode takes the files, none of which is too long: all rules let them pass, or those of reading
+abbrev pub IsAcceptedIn : Mode → Asked → List (List ℕ) → Type 0
+IsAcceptedIn (modes.Program task) asked contents = IsAccepted contents asked.heap asked.threads
+IsAcceptedIn modes.List asked contents = read_fault 0 contents ≡ None
+
+-- a rule and a place refuse them in the mode
+abbrev pub IsRefusedIn : Mode → Asked → List (List ℕ) → Rule → Place → Type 0
+IsRefusedIn (modes.Program task) asked contents rule place = IsRefusedBy contents asked.heap asked.threads rule place
+IsRefusedIn modes.List asked contents rule place = read_fault 0 contents ≡ Some (rule, place)
 
 -- A rule and a place refuse the files. A file that is too long is refused when it is read from the shelf, before any is read as a
 -- class.
 abbrev pub IsRefusal : Option ℕ → Asked → List (List ℕ) → Rule → Place → Type 0
 IsRefusal (Some file) asked contents rule place = (rule ≡ rules.C C10) × (place ≡ in_file file MOST_FILE_BYTES)
-IsRefusal None asked contents rule place = IsRefusedBy contents asked.heap asked.threads rule place
+IsRefusal None asked contents rule place = IsRefusedIn asked.mode asked contents rule place
 
 -- the text is the line of a rule and a place that refuse the files
 pub record Refuses (asked : Asked) (contents : List (List ℕ)) (text : List ℕ) : Type 0 where
@@ -125,7 +156,7 @@ pub record IsMadeOf (files : Option (List NamedFile)) (asked : Asked) (due : Due
   pub are : IfSome files (λ fs. contents ≡ contents_of fs asked.files)
   pub many : length contents ≡ length asked.files
   pub short : AllByRecursion (λ content. length content ≤ MOST_FILE_BYTES) contents
-  pub made : IsMade asked contents due
+  pub made : IsMadeIn asked.mode asked contents due
 
 -- the line of a refusal of the files that are asked for; where the shelf does not tell its files, of some of which there are as many
 pub record RefusesFiles (files : Option (List NamedFile)) (asked : Asked) (text : List ℕ) : Type 0 where
@@ -160,6 +191,6 @@ IsDue (Some asked) files unreadable before after (CannotRead text) = CountsFault
 IsDue (Some asked) files unreadable before after (Refusal text) = (after ≡ before) × RefusesFiles files asked text
 IsDue (Some asked) files unreadable before after due = (after ≡ before) × IsMadeOf files asked due
 
--- no file that is asked for is too long, and all rules let them pass
+-- no file that is asked for is too long, and the mode takes them
 abbrev pub AreAccepted : List NamedFile → Asked → Type 0
-AreAccepted files asked = (first_long 0 (contents_of files asked.files) ≡ None) × IsAccepted (contents_of files asked.files) asked.heap asked.threads
+AreAccepted files asked = (first_long 0 (contents_of files asked.files) ≡ None) × IsAcceptedIn asked.mode asked (contents_of files asked.files)

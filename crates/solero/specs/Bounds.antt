@@ -1,13 +1,14 @@
 -- The limits of what the words may ask for.
-use Rattle.std.specs.Prelude.{ℕ, ◌<◌, ◌≤◌}
-use Rattle.jvm_types.specs.declared.limits.TheConstants.{LEAST_HEAP, MOST_FILES, MOST_HEAP, MOST_WORKERS}
+use Rattle.std.specs.Prelude.{◌≡◌, ℕ, ◌≤◌, true}
+use Rattle.jvm_types.specs.declared.limits.TheConstants.{LEAST_HEAP, MOST_HEAP, MOST_WORKERS}
 use Rattle.machine_types.specs.Settings.{AreSettings}
 use Rattle.machine_types.specs.declared.config.Config.{Config}
+use Rattle.solero.specs.Command.{takes}
+use Rattle.solero.specs.declared.request.Mode.{Mode}
 
--- numbers of files, of workers and of heap words, and settings, that are inside the limits of the machine
-pub record AreInBounds (files threads heap : ℕ) (cfg : Config) : Type 0 where
-  pub some_file : 0 < files
-  pub few_files : files ≤ MOST_FILES
+-- a number of files that the mode takes; numbers of workers and of heap words, and settings, that are inside the limits of the machine
+pub record AreInBounds (mode : Mode) (files threads heap : ℕ) (cfg : Config) : Type 0 where
+  pub taken : takes mode files ≡ true
   pub few_threads : threads ≤ MOST_WORKERS
   pub heap_from : LEAST_HEAP ≤ heap
   pub heap_to : heap ≤ MOST_HEAP

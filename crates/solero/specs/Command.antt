@@ -1,7 +1,8 @@
 -- What the words of the command mean: what `clap` finds for one simple command, and then the rules for the values.
 use Rattle.std.specs.Global.{Global}
-use Rattle.std.specs.Prelude.{ℕ, ◌-◌, ◌^◌, nat_lt, nat_le, Bool, true, false, ◌&&◌, List, [], ◌∷◌, length, map, fold, codes, bytes_eq, Option, Some, None, is_some, String, string_bytes, if◌then◌else◌}
+use Rattle.std.specs.Prelude.{ℕ, ◌-◌, ◌^◌, ◌==◌, nat_lt, nat_le, Bool, true, false, ◌&&◌, List, [], ◌∷◌, length, map, fold, codes, bytes_eq, Option, Some, None, is_some, String, string_bytes, if◌then◌else◌}
 use Rattle.std.specs.List.{list_all, list_any}
+use Rattle.std.specs.Option.{unwrap_or}
 use Rattle.std.specs.Char.{is_digit}
 use Rattle.std.specs.Str.Parse.{digits_value, without_leading_plus}
 use Rattle.clap.specs.Walk.{Row, Text, all_of, first_of, is_empty}
@@ -12,9 +13,11 @@ use Rattle.jvm_types.specs.declared.limits.TheConstants.{LEAST_HEAP, MOST_FILES,
 use Rattle.machine_types.specs.declared.config.Config.{Config}
 use Rattle.solero.specs.declared.request.Memory.{Memory}
 use Rattle.solero.specs.declared.request.Mode.{Mode}
+use Rattle.solero.specs.declared.request.Task.{Task}
 use Rattle.solero.specs.declared.values.TheConstants.{LONGEST_ORDER, USUAL_HEAP, USUAL_PRINTS, USUAL_STEPS}
 use Rattle.solero.specs.declared.request.Memory.TheVariants.{Table, Locked}
-use Rattle.solero.specs.declared.request.Mode.TheVariants.{Replay, Run, Mark}
+use Rattle.solero.specs.declared.request.Mode.TheVariants as modes
+use Rattle.solero.specs.declared.request.Task.TheVariants.{Replay, Run, Mark}
 
 -- the words as texts
 abbrev pub texts : List (String Global) → List Text
@@ -58,9 +61,13 @@ number_or unless least most None = Some unless
 number_or unless least most (Some text) = within least most (number text)
 
 abbrev pub mode_or_replay : Option Text → Option Mode
-mode_or_replay None = Some Replay
+mode_or_replay None = Some (modes.Program Replay)
 mode_or_replay (Some text) =
-    if bytes_eq text (codes "replay") then Some Replay else if bytes_eq text (codes "run") then Some Run else if bytes_eq text (codes "mark") then Some Mark else None
+    if bytes_eq text (codes "replay") then Some (modes.Program Replay)
+    else if bytes_eq text (codes "run") then Some (modes.Program Run)
+    else if bytes_eq text (codes "mark") then Some (modes.Program Mark)
+    else if bytes_eq text (codes "list") then Some modes.List
+    else None
 
 abbrev pub memory_or_table : Option Text → Option Memory
 memory_or_table None = Some Table
@@ -79,10 +86,14 @@ abbrev pub order_or_none : Option Text → Option (List ℕ)
 order_or_none None = Some []
 order_or_none (Some text) = if nat_lt 0 (length text) && nat_le (length text) LONGEST_ORDER && list_all is_worker text then Some (map (λ c. c - 48) text) else None
 
--- from 1 to 64 names of files
-abbrev pub some_files : Option (List Text) → Option (List Text)
-some_files None = None
-some_files (Some names) = if nat_lt 0 (length names) && nat_le (length names) MOST_FILES then Some names else None
+-- how many files a mode takes: a program is made of 1 to 64, and one is listed
+abbrev pub takes : Mode → ℕ → Bool
+takes (modes.Program task) count = nat_lt 0 count && nat_le count MOST_FILES
+takes modes.List count = count == 1
+
+-- the names of the files, where the mode takes so many
+abbrev pub files_for : Mode → List Text → Option (List Text)
+files_for mode names = if takes mode (length names) then Some names else None
 
 -- ---- the whole
 
@@ -103,9 +114,9 @@ None >>= f = None
 
 -- the options that a mode doesn't read: an order is chosen for a replay alone, a memory for a run alone
 abbrev pub not_read : Mode → List Text
-not_read Replay = codes "memory" ∷ []
-not_read Run = codes "order" ∷ []
-not_read Mark = codes "order" ∷ codes "memory" ∷ []
+not_read (modes.Program Replay) = codes "memory" ∷ []
+not_read (modes.Program Run) = codes "order" ∷ []
+not_read mode = codes "order" ∷ codes "memory" ∷ []
 
 abbrev pub gives_any : List Row → List Text → Bool
 gives_any rows names = list_any (λ name. is_some (first_of name rows)) names
@@ -123,7 +134,7 @@ settings rows = do
 unfoldable pub asked : List Row → Option Asked
 asked rows = do
   mode ← mode_or_replay (first_of (codes "mode") rows)
-  files ← some_files (all_of (codes "FILE") rows)
+  files ← files_for mode (unwrap_or (all_of (codes "FILE") rows) [])
   threads ← number_or 0 0 MOST_WORKERS (first_of (codes "threads") rows)
   heap ← number_or USUAL_HEAP LEAST_HEAP MOST_HEAP (first_of (codes "heap") rows)
   cfg ← settings rows

@@ -12,7 +12,8 @@ use Rattle.jvm_types.specs.declared.limits.TheConstants.{FIRST_VERSION, FLAG_FRO
 use Rattle.jvm_types.specs.declared.refusal.TheConstants.{NO_METHOD}
 use Rattle.solero.specs.Command.{asked}
 use Rattle.solero.specs.declared.request.Memory.TheVariants.{Table}
-use Rattle.solero.specs.declared.request.Mode.TheVariants.{Replay}
+use Rattle.solero.specs.declared.request.Mode.TheVariants.{Program}
+use Rattle.solero.specs.declared.request.Task.TheVariants.{Replay}
 use Rattle.solero.specs.declared.values.TheConstants.{LONGEST_ORDER, USUAL_HEAP, USUAL_PRINTS, USUAL_STEPS}
 
 -- ---- class files (JVMS 4)
@@ -88,7 +89,7 @@ abbrev pub FilesAskForUsual : Type 0
 FilesAskForUsual = (files : List Text) (count : Option ℕ) (source : Option ValueSource) (reading : Reading) → 0 < length files → length files ≤ 64
     → asked (record { id = codes "FILE"; values = files; count = count; source = source; reading = reading } ∷ [])
     ≡ Some (record {
-      mode = Replay;
+      mode = Program Replay;
       files = files;
       threads = 0;
       heap = 65536;

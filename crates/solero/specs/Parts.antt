@@ -3,12 +3,15 @@ use Rattle.std.specs.Prelude.{◌≡◌, ℕ, List}
 use Rattle.jvm_types.specs.LinkFaults.{in_file}
 use Rattle.jvm_types.specs.declared.refusal.Rule.TheVariants as rules
 use Rattle.jvm_types.specs.declared.refusal.CRule.TheVariants.{C10}
+use Rattle.class_runner.specs.declared.loading.FileError.{FileError}
+use Rattle.class_runner.specs.declared.loading.FileError.TheVariants as errors
 use Rattle.run_texts.specs.Refusal.{refusal_text}
 use Rattle.solero.specs.Command.{Asked}
-use Rattle.solero.specs.Answer.{IsMade, Refuses, unread_line}
+use Rattle.solero.specs.Answer.{IsMadeIn, IsRefusedIn, Refuses, unread_line}
 use Rattle.jvm_types.specs.declared.limits.TheConstants.{MOST_FILE_BYTES}
 use Rattle.host_io.specs.declared.shelf.ShelfError.{ShelfError}
 use Rattle.host_io.specs.declared.shelf.ShelfError.TheVariants.{Failed, TooLong}
+use Rattle.solero.specs.declared.request.Mode.{Mode}
 use Rattle.solero.specs.declared.answer.Due.{Due}
 use Rattle.solero.specs.declared.answer.Due.TheVariants.{Refusal, CannotRead, OutOfMemory}
 
@@ -29,4 +32,9 @@ IsUnreadDue file error due = ⊥
 abbrev pub IsRun : Asked → List (List ℕ) → Due → Type 0
 IsRun asked contents (Refusal text) = Refuses asked contents text
 IsRun asked contents OutOfMemory = Unit {0}
-IsRun asked contents due = IsMade asked contents due
+IsRun asked contents due = IsMadeIn asked.mode asked contents due
+
+-- nothing is made of the files: memory ran out, or a rule refuses them in the mode
+abbrev pub IsNotMadeIn : Mode → Asked → List (List ℕ) → FileError → Type 0
+IsNotMadeIn mode asked contents errors.Memory = Unit {0}
+IsNotMadeIn mode asked contents (errors.Refused rule place) = IsRefusedIn mode asked contents rule place

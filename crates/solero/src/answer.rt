@@ -19,8 +19,8 @@ const OUT_OF_MEMORY: &str = "out of memory\n";
 pub enum Due {
     /// The report of a run, and how the run finished.
     Report(Finish, Bytes),
-    /// The marks of a program's sections.
-    Marks(Bytes),
+    /// What a mode writes that runs nothing: the marks of a program's sections, or a listing.
+    Output(Bytes),
     /// The words are not read.
     Usage,
     /// The line of the rule that refuses the files.
@@ -37,7 +37,7 @@ impl Due {
         ensures { result ≡ status_of self.now }
     {
         match self {
-            Due::Report(Finish::Returned, _) | Due::Marks(_) => 0,
+            Due::Report(Finish::Returned, _) | Due::Output(_) => 0,
             Due::Report(Finish::Uncaught, _) => 1,
             Due::Report(Finish::Limited, _) => 7,
             Due::Usage => 2,
@@ -52,7 +52,7 @@ impl Due {
         ensures { result.now ≡ text_of self.now }
     {
         match self {
-            Due::Report(_, text) | Due::Marks(text) | Due::Refusal(text) | Due::CannotRead(text) =>
+            Due::Report(_, text) | Due::Output(text) | Due::Refusal(text) | Due::CannotRead(text) =>
                 text.as_slice(),
             Due::Usage => USAGE.as_bytes(),
             Due::OutOfMemory => OUT_OF_MEMORY.as_bytes(),

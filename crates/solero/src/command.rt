@@ -1,19 +1,19 @@
 //! The words of the command, read by one simple command of `clap`, and then by the rules for the values.
-ghost use Rattle.std.specs.Prelude.{◌≡◌, ◌<◌, ◌≤◌, ◌&&◌, IfOk, IfSome, Some, None, codes, length, is_some, map, nat_le, nat_lt, option_map};
-ghost use Rattle.std.specs.Option.{option_copied};
+ghost use Rattle.std.specs.Prelude.{◌≡◌, IfOk, IfSome, Some, None, [], codes, length, is_some, map, option_map, true};
+ghost use Rattle.std.specs.Option.{option_copied, unwrap_or};
 ghost use Rattle.machine_types.specs.Settings.{AreSettings};
 ghost use Rattle.clap.specs.Words.{all_of, app_of, first_of, found_of, rows_of};
-ghost use Rattle.solero.specs.Command.{asked, command as command_of, found, gives_any as gives_any_of, not_read, settings as the_settings, some_files, texts, the_command, with_names as names_in, with_option as option_in};
+ghost use Rattle.solero.specs.Command.{asked, command as command_of, files_for, found, gives_any as gives_any_of, not_read, settings as the_settings, takes, texts, the_command, with_names as names_in, with_option as option_in};
 ghost use Rattle.solero.specs.Requests.{asked_by};
 
-use crate::request::{Mode, Request};
+use crate::request::{Mode, Request, Task};
 use crate::values::{
     Numbers, USUAL_HEAP, USUAL_PRINTS, USUAL_STEPS, memory_or_table, mode_or_replay, number_or,
     on_or_off, order_or_none,
 };
 use clap::error::ErrorKind;
 use clap::{Arg, ArgAction, ArgMatches, Command};
-use jvm_types::limits::{LEAST_HEAP, MOST_FILES, MOST_HEAP, MOST_LIMIT, MOST_PRINTS, MOST_WORKERS};
+use jvm_types::limits::{LEAST_HEAP, MOST_HEAP, MOST_LIMIT, MOST_PRINTS, MOST_WORKERS};
 use machine_types::Config;
 use std::alloc::{AllocError, Global};
 
@@ -122,24 +122,20 @@ fn names<'m, 'a>(matches: &'m ArgMatches<'a>) -> Option<&'m [&'a str]>
     matches.get_strs("FILE")
 }
 
-// From 1 to 64 names of files.
-fn files(alloc: Global, given: Option<&[&str]>) -> Result<Option<Vec<String>>, AllocError>
-    ensures count { IfOk result (λ files. IfSome files (λ x. (0 < length x.items) × (length x.items ≤ MOST_FILES))) }
-    ensures names { IfOk result (λ files. option_map (λ x. texts x.items) files ≡ some_files (option_map (λ s. map (λ v. v.now) s.now) given.entry)) }
+// The names of the files, where the mode takes so many.
+fn files(
+    alloc: Global,
+    mode: Mode,
+    given: Option<&[&str]>,
+) -> Result<Option<Vec<String>>, AllocError>
+    ensures count { IfOk result (λ files. IfSome files (λ x. takes mode (length x.items) ≡ true)) }
+    ensures names { IfOk result (λ files. option_map (λ x. texts x.items) files ≡ files_for mode (unwrap_or (option_map (λ s. map (λ v. v.now) s.now) given.entry) [])) }
 {
-    let Some(names) = given else {
-        return Ok(None);
-    };
-    if !are_few(names.len()) {
+    let names = given.unwrap_or(&[]);
+    if !mode.takes(names.len()) {
         return Ok(None);
     }
     Ok(Some(owned(alloc, names)?))
-}
-
-fn are_few(count: usize) -> bool
-    ensures { result ≡ (nat_lt 0 count && nat_le count MOST_FILES) }
-{
-    matches!(count, 1..=MOST_FILES)
 }
 
 fn owned(alloc: Global, names: &[&str]) -> Result<Vec<String>, AllocError>
@@ -165,9 +161,11 @@ fn gives_unread(matches: &ArgMatches<'_>, mode: Mode) -> bool
     ensures { result ≡ gives_any_of (rows_of (found_of matches.now)) (not_read mode) }
 {
     match mode {
-        Mode::Replay => is_given(matches, "memory"),
-        Mode::Run => is_given(matches, "order"),
-        Mode::Mark => is_given(matches, "order") || is_given(matches, "memory"),
+        Mode::Program(Task::Replay) => is_given(matches, "memory"),
+        Mode::Program(Task::Run) => is_given(matches, "order"),
+        Mode::Program(Task::Mark) | Mode::List => {
+            is_given(matches, "order") || is_given(matches, "memory")
+        }
     }
 }
 
@@ -199,7 +197,7 @@ fn request(alloc: Global, matches: &ArgMatches<'_>) -> Result<Option<Request>, A
     let Some(mode) = mode_or_replay(value(matches, "mode")) else {
         return Ok(None);
     };
-    let Some(files) = files(alloc, names(matches))? else {
+    let Some(files) = files(alloc, mode, names(matches))? else {
         return Ok(None);
     };
     let Some(threads) = number_or(THREADS, value(matches, "threads")) else {

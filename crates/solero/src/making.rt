@@ -1,4 +1,4 @@
-//! What a mode makes of a checked program.
+//! What is made of a checked program.
 ghost use Rattle.std.specs.Prelude.{◌≡◌, ℕ, ◌<◌, List, IfOk, length};
 ghost use Rattle.run_texts.specs.Report.{report_text};
 ghost use Rattle.machine_types.specs.Core.{Happening, core, outcome as outcome_of};
@@ -10,11 +10,11 @@ ghost use Rattle.solero.specs.Answer.{IsMadeBy, text_with_prints};
 ghost use Rattle.solero.specs.Finish.{finish_of as the_finish};
 ghost use Rattle.solero.specs.Requests.{asked_by};
 ghost use Rattle.solero.specs.declared.answer.Due.TheVariants.{Report};
-ghost use Rattle.solero.specs.declared.request.Mode.TheVariants.{Replay, Run};
+ghost use Rattle.solero.specs.declared.request.Task.TheVariants.{Replay, Run};
 
 use crate::answer::Due;
 use crate::finish::finish_of;
-use crate::request::{Memory, Mode, Request};
+use crate::request::{Memory, Request, Task};
 use checked_program::Checked;
 use class_runner::{mark_text, report};
 use jvm_types::{Gate, Outcome};
@@ -27,20 +27,21 @@ use std::sync::Wait;
 use std::thread::Threads;
 use table_runner::run_table;
 
-/// What the mode makes of the program.
+/// What the task makes of the program.
 pub fn made<R: Threads + Wait + Sync, G: Gate + Sync>(
     rt: &R,
     alloc: Global,
     gate: &G,
+    task: Task,
     request: &Request,
     checked: &Checked,
 ) -> Result<Due, AllocError>
-    ensures { IfOk result (λ due. IsMadeBy request.now.mode (asked_by request.now) checked.now due) }
+    ensures { IfOk result (λ due. IsMadeBy task (asked_by request.now) checked.now due) }
 {
-    match request.mode {
-        Mode::Replay => replayed(alloc, request, checked),
-        Mode::Run => ran(rt, alloc, gate, request, checked),
-        Mode::Mark => Ok(Due::Marks(mark_text(alloc, checked)?)),
+    match task {
+        Task::Replay => replayed(alloc, request, checked),
+        Task::Run => ran(rt, alloc, gate, request, checked),
+        Task::Mark => Ok(Due::Output(mark_text(alloc, checked)?)),
     }
 }
 

@@ -1,31 +1,33 @@
-ghost use Rattle.std.specs.Prelude.{◌≡◌, ◌<◌, ◌≤◌, ◌≢◌, ◌⊎◌, List, Some, None, length};
+ghost use Rattle.std.specs.Prelude.{◌≡◌, ◌<◌, ◌≤◌, ◌≢◌, ◌⊎◌, List, Some, None, IfErr, IfOk, length, true};
 ghost use Rattle.host_io.specs.Faults.{CountsFault};
-ghost use Rattle.solero.specs.Command.{Asked, texts, command};
+ghost use Rattle.solero.specs.Command.{Asked, command, takes, texts};
 ghost use Rattle.solero.specs.Requests.{asked_by};
-ghost use Rattle.solero.specs.Answer.{AreAccepted, IsDue, first_long};
+ghost use Rattle.solero.specs.Answer.{AreAccepted, IsDue, IsMadeIn, first_long};
 ghost use Rattle.solero.specs.Delivery.{Delivers};
-ghost use Rattle.solero.specs.Parts.{IsRun, IsUnreadDue};
+ghost use Rattle.solero.specs.Parts.{IsNotMadeIn, IsRun, IsUnreadDue};
 ghost use Rattle.solero.specs.Whole.{AnswersWhole, IsCalm, IsOwed, IsOwedRefusal};
 ghost use Rattle.host_io.specs.declared.shelf.NamedFile.{NamedFile as File};
 ghost use Rattle.solero.specs.declared.answer.Due.{Due as TheDue};
+ghost use Rattle.solero.specs.declared.request.Mode.TheVariants.{Program};
 
 use crate::answer::{Due, cannot_read, refused, too_long};
+use crate::class_text::listed;
 use crate::command::read_words;
 use crate::delivery::deliver;
 use crate::making::made;
 use crate::reading::{Unread, read_files};
-use crate::request::Request;
+use crate::request::{Mode, Request, Task};
 use class_runner::{FileError, load_program};
 use host_io::shelf::{Shelf, ShelfError};
 use host_io::sink::Sink;
-use jvm_types::limits::MOST_FILES;
 use jvm_types::{Bytes, Gate, Rows};
 use std::alloc::{AllocError, Global};
 use std::sync::Wait;
 use std::thread::Threads;
 
-/// Does what the words ask for: reads the files from the shelf, in order, then loads them, and runs the program or finds the
-/// marks of its sections, and writes what came of it to the sink. It answers the status that the process ends with.
+/// Does what the words ask for: reads the files from the shelf, in order; then loads them, and runs the program or finds the
+/// marks of its sections, or lists the class of the one file; and writes what came of it to the sink. It answers the status
+/// that the process ends with.
 ///
 /// In mode run each worker runs on a thread of its own, and passes the gate once, before its first event and while it
 /// holds no lock; in the other modes nobody passes it. Nothing is promised of the order, nor that workers run beside each
@@ -50,7 +52,7 @@ pub fn top<R: Threads + Wait + Sync, S: Shelf, K: Sink, G: Gate + Sync>(
     ensures status { result ≤ 7 }
     ensures words_read { result ≡ 2 → command (texts words.now.items) ≡ None }
     ensures words_not_read { command (texts words.now.items) ≡ None → (result ≡ 2) ⊎ ((result ≡ 5) ⊎ (result ≡ 6)) }
-    // Files that all rules let pass are not refused, and all others are, where the shelf does not fail.
+    // Files that the mode takes are not refused, and all others are, where the shelf does not fail.
     ensures accepted { (asked : Asked) (files : List File) → command (texts words.now.items) ≡ Some asked
         → S.files shelf.old ≡ Some files → AreAccepted files asked → result ≢ 3 }
     ensures not_accepted { (asked : Asked) (files : List File) → command (texts words.now.items) ≡ Some asked
@@ -132,17 +134,48 @@ fn run_files<R: Threads + Wait + Sync, G: Gate + Sync>(
     contents: &Rows<Bytes>,
     gate: &G,
 ) -> Due
-    requires some { 0 < length contents.now }
-    requires few { length contents.now ≤ MOST_FILES }
+    requires taken { takes request.now.mode (length contents.now) ≡ true }
     requires short { first_long 0 contents.now ≡ None }
     ensures { IsRun (asked_by request.now) contents.now result }
 {
-    match load_program(alloc, contents, request.heap, request.threads) {
-        Ok(checked) => match made(rt, alloc, gate, request, &checked) {
-            Ok(due) => due,
-            Err(AllocError) => Due::OutOfMemory,
-        },
+    match made_in_mode(rt, alloc, request, contents, gate) {
+        Ok(due) => due,
         Err(FileError::Refused(rule, place)) => refused(alloc, rule, place),
         Err(FileError::Memory) => Due::OutOfMemory,
     }
+}
+
+// What the mode makes of the contents of the files, or the rule that refuses them.
+fn made_in_mode<R: Threads + Wait + Sync, G: Gate + Sync>(
+    rt: &R,
+    alloc: Global,
+    request: &Request,
+    contents: &Rows<Bytes>,
+    gate: &G,
+) -> Result<Due, FileError>
+    requires { takes request.now.mode (length contents.now) ≡ true }
+    ensures made { IfOk result (λ due. IsMadeIn request.now.mode (asked_by request.now) contents.now due) }
+    ensures refused { IfErr result (λ e. IsNotMadeIn request.now.mode (asked_by request.now) contents.now e) }
+{
+    match request.mode {
+        Mode::Program(task) => made_of_program(rt, alloc, task, request, contents, gate),
+        Mode::List => Ok(Due::Output(listed(alloc, contents)?)),
+    }
+}
+
+// What the task makes of the program that the files are loaded to, or the rule that refuses them.
+fn made_of_program<R: Threads + Wait + Sync, G: Gate + Sync>(
+    rt: &R,
+    alloc: Global,
+    task: Task,
+    request: &Request,
+    contents: &Rows<Bytes>,
+    gate: &G,
+) -> Result<Due, FileError>
+    requires { takes (Program task) (length contents.now) ≡ true }
+    ensures made { IfOk result (λ due. IsMadeIn (Program task) (asked_by request.now) contents.now due) }
+    ensures refused { IfErr result (λ e. IsNotMadeIn (Program task) (asked_by request.now) contents.now e) }
+{
+    let checked = load_program(alloc, contents, request.heap, request.threads)?;
+    Ok(made(rt, alloc, gate, task, request, &checked)?)
 }

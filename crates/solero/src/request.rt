@@ -1,18 +1,47 @@
-ghost use Rattle.std.specs.Prelude.{length};
+ghost use Rattle.std.specs.Prelude.{◌≡◌, ◌&&◌, length, nat_le, nat_lt};
 ghost use Rattle.solero.specs.Bounds.{AreInBounds};
+ghost use Rattle.solero.specs.Command.{takes};
 
 use jvm_types::Bytes;
+use jvm_types::limits::MOST_FILES;
 use machine_types::Config;
 
 /// What is done with the program of the files.
 #[derive(Clone, Copy, Debug, PartialEq, Eq)]
-pub enum Mode {
+pub enum Task {
     /// It runs, in a chosen order of steps, and a report of the run is written.
     Replay,
     /// It runs, each worker on a thread of the system, and a report of the run is written.
     Run,
     /// The marks of its sections are written.
     Mark,
+}
+
+/// What is done.
+#[derive(Clone, Copy, Debug, PartialEq, Eq)]
+pub enum Mode {
+    /// The files are loaded to a program, and something is done with it.
+    Program(Task),
+    /// The class of one file is listed.
+    List,
+}
+
+impl Mode {
+    /// Whether so many files may be named: 1 to 64 for a program, else one.
+    pub fn takes(self, count: usize) -> bool
+        ensures { result ≡ takes self count }
+    {
+        match self {
+            Mode::Program(_) => are_few(count),
+            Mode::List => count == 1,
+        }
+    }
+}
+
+fn are_few(count: usize) -> bool
+    ensures { result ≡ (nat_lt 0 count && nat_le count MOST_FILES) }
+{
+    matches!(count, 1..=MOST_FILES)
 }
 
 /// How the threads of a run share the words of the machine.
@@ -29,7 +58,7 @@ pub enum Memory {
 pub struct Request {
     /// What is done.
     pub mode: Mode,
-    /// The names of the files, of which there are 1 to 64.
+    /// The names of the files, of which there are as many as the mode takes.
     pub files: Vec<String>,
     /// How many workers there are: 0 to 8.
     pub threads: u8,
@@ -41,5 +70,5 @@ pub struct Request {
     pub order: Bytes,
     /// How the threads of a run share the words.
     pub memory: Memory,
-    ghost bounds: { AreInBounds (length files.items) threads heap cfg },
+    ghost bounds: { AreInBounds mode (length files.items) threads heap cfg },
 }

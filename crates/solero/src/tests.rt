@@ -91,7 +91,7 @@ fn check_all<R: Abort + Threads + Wait + Sync + AllocGlobal>(
 }
 
 // Words that are not read, each in a line of its own.
-const NOT_READ: [&str; 33] = [
+const NOT_READ: [&str; 37] = [
     "-x A.class",
     "A.class -x",
     "--help",
@@ -125,10 +125,14 @@ const NOT_READ: [&str; 33] = [
     "--mode mark --memory table A.class",
     "--mode run --memory none A.class",
     "--mode run --memory table --memory table A.class",
+    "--mode list",
+    "--mode list A.class A.class",
+    "--mode list --order 1 A.class",
+    "--mode list --memory table A.class",
 ];
 
 // Words that are read.
-const READ: [&str; 11] = [
+const READ: [&str; 13] = [
     "A.class --threads 0 --order 18 --steps 6 --turns 1 --heap 4096 --prints 1 --elide off --range 1",
     "--threads=0 --steps=+0004294967295 --turns=4294967295 A.class",
     "--heap 1048576 --prints 1048576 --elide on --range 4294967295 --mode replay A.class",
@@ -137,6 +141,8 @@ const READ: [&str; 11] = [
     "A.class --mode run --threads 0 --steps 6 --turns 1 --heap 4096 --prints 1 --elide off --range 1",
     "--mode=run --memory=table A.class",
     "--memory locked --mode run A.class",
+    "--mode list --threads 8 --heap 4096 --steps 1 --turns 1 --prints 1 --elide off --range 1 A.class",
+    "--mode=list -- A.class",
     "-- A.class",
     "--mode=mark A.class",
     "A.class",
@@ -167,7 +173,7 @@ fn words(rt: HostRuntime) -> Result<(), Fail> {
     Ok(())
 }
 
-const MODES: [&str; 3] = ["replay", "run", "mark"];
+const MODES: [&str; 4] = ["replay", "run", "mark", "list"];
 
 // An option, and the modes that read it.
 struct Beside {
@@ -235,7 +241,7 @@ fn options_beside_modes(rt: HostRuntime) -> Result<(), Fail> {
     Ok(())
 }
 
-const CASES: [Case; 15] = [
+const CASES: [Case; 17] = [
     // Words that are not read.
     Case {
         words: &[],
@@ -345,6 +351,21 @@ const CASES: [Case; 15] = [
         failing: &[],
         status: 0,
         text: "K.get()I method M5\n",
+    },
+    // Files that are not listed.
+    Case {
+        words: &["--mode", "list", "A.class"],
+        content: "cafebabe00000033",
+        failing: &[],
+        status: 3,
+        text: "refused C2 file 0 at 6\n",
+    },
+    Case {
+        words: &["--mode", "list", "A.class"],
+        content: ADDS,
+        failing: &[1],
+        status: 4,
+        text: "cannot read file 0\n",
     },
 ];
 

@@ -4,7 +4,7 @@ ghost use Rattle.std.specs.List.{list_all};
 ghost use Rattle.std.specs.Option.{option_copied};
 ghost use Rattle.solero.specs.Command.{is_worker as is_the_worker, memory_or_table as the_memory, mode_or_replay as the_mode, number as the_number, number_or as the_number_or, on_or_off as the_switch, order_or_none as the_order, within as the_number_within};
 
-use crate::request::{Memory, Mode};
+use crate::request::{Memory, Mode, Task};
 use jvm_types::Bytes;
 use std::alloc::{AllocError, Global};
 
@@ -62,10 +62,11 @@ pub fn mode_or_replay(given: Option<&str>) -> Option<Mode>
     ensures { result ≡ the_mode (option_copied given.entry) }
 {
     match given {
-        None => Some(Mode::Replay),
-        Some(text) if text == "replay" => Some(Mode::Replay),
-        Some(text) if text == "run" => Some(Mode::Run),
-        Some(text) if text == "mark" => Some(Mode::Mark),
+        None => Some(Mode::Program(Task::Replay)),
+        Some(text) if text == "replay" => Some(Mode::Program(Task::Replay)),
+        Some(text) if text == "run" => Some(Mode::Program(Task::Run)),
+        Some(text) if text == "mark" => Some(Mode::Program(Task::Mark)),
+        Some(text) if text == "list" => Some(Mode::List),
         Some(_) => None,
     }
 }
