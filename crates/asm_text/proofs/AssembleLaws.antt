@@ -11,12 +11,12 @@ use Rattle.jvm_types.proofs.CountLaws.{classes_fit}
 use Rattle.jvm_types.specs.declared.class_file.ClassFile.{ClassFile}
 use Rattle.jvm_types.specs.declared.refusal.ARule.TheVariants.{A1, A2}
 use Rattle.asm_text.specs.ClassLines.{Lists}
-use Rattle.asm_text.specs.Assembling.{Assembles, IsFormed, ListsNone}
+use Rattle.asm_text.specs.Assembling.{Assembles, ListsNone}
 use Rattle.asm_text.specs.Drafted.{IsDrafted, IsWholeDraft, IsVerdict}
 use Rattle.asm_text.specs.declared.drafts.Draft.{Draft}
 use Rattle.asm_text.specs.declared.asm_error.AsmError.{AsmError}
 use Rattle.asm_text.specs.declared.asm_error.AsmError.TheVariants.{Memory, Refused}
-use Rattle.asm_text.proofs.ListingLaws.{draft_is, formed, listings_formed}
+use Rattle.asm_text.proofs.ListingLaws.{draft_is, listings_formed}
 
 pub drafted_error : (text : List ℕ) (e : AsmError) → IsDrafted text (Err e) → Assembles text (Err e)
 drafted_error text Memory h = tt

@@ -1,31 +1,26 @@
 -- The lines of a class make that class.
-use Rattle.std.proofs.Common.{◌≡◌, ℕ, ◌+◌, ◌<◌, ◌≤◌, Bool, true, false, List, [], ◌∷◌, ◌++◌, length, map, drop, Option, Some, None, refl, sym, ap, subst, ◌∙◌, arith, append_assoc}
-use Rattle.std.specs.Prelude.{nat_lt}
+use Rattle.std.proofs.Common.{◌≡◌, true, List, [], ◌∷◌, ◌++◌, map, drop, refl, sym, ap, arith}
 use Rattle.std.specs.List.{AllByRecursion, flat_map}
 use Rattle.std.proofs.lemmas.List.{append-nil}
-use Rattle.jvm_types.specs.ClassGrammar.{IsByte, IsClass, IsCounted, IsCodeAttr, IsFieldAttr, IsMethodAttr, IsMember, IsField, IsMethod, GapsFit, is_gap}
+use Rattle.jvm_types.specs.ClassGrammar.{IsByte, IsClass, IsFieldAttr, IsMethodAttr, IsField, IsMethod, GapsFit, is_gap}
 use Rattle.jvm_types.specs.declared.class_file.Constant.{Constant}
 use Rattle.jvm_types.specs.declared.class_file.Constant.TheVariants.{Gap}
-use Rattle.jvm_types.specs.declared.class_file.Attr.{Attr}
-use Rattle.jvm_types.specs.declared.class_file.Handler.{Handler}
 use Rattle.jvm_types.specs.declared.class_file.Code.{Code}
 use Rattle.jvm_types.specs.declared.class_file.MemberAttr.{MemberAttr}
 use Rattle.jvm_types.specs.declared.class_file.MemberAttr.TheVariants as member_attrs
 use Rattle.jvm_types.specs.declared.class_file.Member.{Member}
 use Rattle.jvm_types.specs.declared.class_file.ClassFile.{ClassFile}
-use Rattle.asm_text.specs.Places.{after, place_behind, is_end, part_of, class_rank}
-use Rattle.asm_text.specs.Drafting.{added, drafted, draft, new_draft, no_class, no_member, no_code, member_of, code_of, with_member, with_member_attr, with_bytes}
+use Rattle.asm_text.specs.Places.{part_of, class_rank}
+use Rattle.asm_text.specs.Drafting.{draft, new_draft, no_class, no_member, no_code, member_of, code_of, with_member, with_member_attr, with_bytes}
 use Rattle.asm_text.specs.declared.items.MemberKind.{MemberKind}
 use Rattle.asm_text.specs.declared.items.MemberKind.TheVariants as kinds
 use Rattle.asm_text.specs.declared.items.Item.{Item}
-use Rattle.asm_text.specs.declared.items.Item.TheVariants.{FileHead, Entry, Interface, MemberHead, Attribute, InitialValue, CodeHead, CodeBytes, Instruction, Row, End}
+use Rattle.asm_text.specs.declared.items.Item.TheVariants.{FileHead, Entry, Interface, MemberHead, Attribute, InitialValue, CodeHead, Row, End}
 use Rattle.asm_text.specs.declared.places.ClassPart.{ClassPart}
 use Rattle.asm_text.specs.declared.places.ClassPart.TheVariants as parts
 use Rattle.asm_text.specs.declared.places.CodePart.TheVariants as code_parts
-use Rattle.asm_text.specs.declared.places.Place.{Place}
 use Rattle.asm_text.specs.declared.places.Place.TheVariants as places
-use Rattle.asm_text.specs.declared.drafts.Draft.{Draft}
-use Rattle.asm_text.proofs.BuildLaws.{Leads, first_line, both_lead, leads_as, stays, entered, UpTo, up_more, LeadsUpTo, CodeUpTo, LeadsInCode, code_up_more, one_behind, constants_lead, interfaces_lead, attrs_lead, rows_lead, code_attrs_lead}
+use Rattle.asm_text.proofs.BuildLaws.{Leads, first_line, both_lead, leads_as, stays, entered, UpTo, up_more, LeadsUpTo, code_up_more, one_behind, constants_lead, interfaces_lead, attrs_lead, rows_lead, code_attrs_lead}
 use Rattle.asm_text.proofs.CodeBuildLaws.{code_items, code_leads}
 
 -- ---- the lines of a class

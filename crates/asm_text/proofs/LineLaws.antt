@@ -1,22 +1,21 @@
 -- The line that says something is read as that, and as nothing else.
-use Rattle.std.proofs.Common.{◌≡◌, ◌≢◌, ℕ, zero, suc, ◌+◌, ◌%◌, ◌^◌, ◌<◌, ◌≤◌, ℤ, pos, Bool, true, false, List, [], ◌∷◌, ◌++◌, map, Option, Some, None, refl, sym, ap, subst, ◌∙◌, arith, append_assoc}
-use Rattle.std.specs.Prelude.{◌==◌, ◌&&◌, ◌||◌, ◌-ℤ◌, nat_lt, int_lt, not, if◌then◌else◌, is_some, codes, IsSomeAnd, FitsSigned, drop, bytes_eq}
+use Rattle.std.proofs.Common.{◌≡◌, ℕ, zero, suc, ◌%◌, ◌^◌, ◌<◌, ◌≤◌, ℤ, pos, Bool, true, false, List, [], ◌∷◌, ◌++◌, map, Option, Some, None, refl, sym, ap, subst, ◌∙◌, arith}
+use Rattle.std.specs.Prelude.{◌==◌, ◌&&◌, ◌||◌, ◌-ℤ◌, nat_lt, not, if◌then◌else◌, is_some, IsSomeAnd, FitsSigned, bytes_eq}
 use Rattle.std.proofs.lemmas.Slice.Eq.{bytes_eq-Decides}
 use Rattle.std.specs.List.{AllByRecursion, list_all}
 use Rattle.std.specs.Int.{w32}
-use Rattle.std.specs.Fmt.{decimal, signed_decimal}
 use lib.IntN.{negsuc}
 use Rattle.std.proofs.lemmas.Bool.Decides.{nat_tests}
 use Rattle.std.proofs.lemmas.Int.{ints}
 use Rattle.jvm_types.specs.ClassGrammar.{IsByte}
 use Rattle.jvm_types.specs.declared.class_file.Constant.{Constant}
 use Rattle.jvm_types.specs.declared.class_file.Constant.TheVariants as constants
-use Rattle.mnemonics.specs.Mnemonics.{mnemonic, opcode_of, Names, named, all_names}
+use Rattle.mnemonics.specs.Mnemonics.{mnemonic, opcode_of}
 use Rattle.mnemonics.proofs.OpcodeLaws.{opcode_back, opcode_fits, mnemonic_back}
-use Rattle.asm_text.specs.Lines.{Value, Number, Signed, Hex, Line, value_text, values_text, line_text}
+use Rattle.asm_text.specs.Lines.{Signed, Line, value_text, values_text, line_text}
 use Rattle.asm_text.specs.CodeLines.{name_of}
 use Rattle.asm_text.specs.Operands.{is_between, is_target, is_s4, are_pairs, bounds_fit, operands_fit, shape_at}
-use Rattle.asm_text.specs.Items.{item_line, ItemFits, ConstantFits, member_name}
+use Rattle.asm_text.specs.Items.{item_line, ItemFits, ConstantFits}
 use Rattle.asm_text.specs.Words.{words, word_at, read_on, unsigned, small, signed, u2_word, u4_word, u8_word, hex_word, operand_words}
 use Rattle.asm_text.specs.LineNames.{line_name_of}
 use Rattle.asm_text.specs.Reading.{item_in, item_by, rough_item, insn_fits, shape_fits, named_item, IsRead}
@@ -27,7 +26,7 @@ use Rattle.asm_text.specs.declared.line_names.LineName.{LineName}
 use Rattle.asm_text.specs.declared.line_names.LineName.TheVariants as names
 use Rattle.asm_text.specs.declared.shapes.Shape.{Shape}
 use Rattle.asm_text.specs.declared.shapes.Shape.TheVariants as shapes
-use Rattle.asm_text.proofs.WordLaws.{both, together, unsigned_back, small_back, u2_back, u4_back, IsSigned, signed_back, hex_back, hex_fits, small_fits, are_plain, IsWritten, words_back, HasNoNewline, no_newline, same_line}
+use Rattle.asm_text.proofs.WordLaws.{both, together, unsigned_back, u2_back, u4_back, IsSigned, signed_back, hex_back, hex_fits, small_fits, are_plain, IsWritten, words_back, HasNoNewline, no_newline}
 
 -- ---- operands
 

@@ -1,6 +1,5 @@
 -- A text is read line by line.
-use Rattle.std.proofs.Common.{◌≡◌, ◌≢◌, ℕ, zero, suc, ◌+◌, ◌<◌, ◌≤◌, Bool, true, false, List, [], ◌∷◌, ◌++◌, length, map, Option, Some, None, refl, sym, ap, subst, ◌∙◌, arith, append_assoc, length-append}
-use Rattle.std.specs.Prelude.{◌==◌}
+use Rattle.std.proofs.Common.{◌≡◌, ℕ, ◌+◌, ◌≤◌, true, false, List, [], ◌∷◌, ◌++◌, length, Option, Some, None, refl, sym, ap, subst, ◌∙◌, arith, append_assoc, length-append}
 use Rattle.std.specs.List.{AllByRecursion}
 use Rattle.std.proofs.lemmas.List.{append-nil}
 use Rattle.asm_text.specs.Lines.{line_text}
@@ -8,7 +7,7 @@ use Rattle.asm_text.specs.Items.{item_line, items_text, ItemFits}
 use Rattle.asm_text.specs.Places.{after, place_behind, behind_next, is_end}
 use Rattle.asm_text.specs.Drafting.{added, drafted, new_draft, place_or}
 use Rattle.asm_text.specs.Drafted.{IsLine, IsNext, AreDrafted, IsWholeDraft, is_whole}
-use Rattle.asm_text.specs.Assembling.{Begins, IsUnformed, IsFirstUnformed}
+use Rattle.asm_text.specs.Assembling.{Begins, IsFirstUnformed}
 use Rattle.asm_text.specs.declared.items.Item.{Item}
 use Rattle.asm_text.specs.declared.places.Place.{Place}
 use Rattle.asm_text.specs.declared.places.Place.TheVariants as places

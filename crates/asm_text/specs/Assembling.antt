@@ -1,8 +1,7 @@
 -- What assembling a text answers.
-use Rattle.std.specs.Prelude.{◌≡◌, ℕ, ◌+◌, Bool, true, false, List, [], ◌++◌, length, Option, Some, None, Result, Ok, Err}
+use Rattle.std.specs.Prelude.{◌≡◌, ℕ, ◌+◌, true, false, List, [], ◌++◌, length, Some, None, Result, Ok, Err}
 use Rattle.std.specs.List.{AllByRecursion}
 use Rattle.jvm_types.specs.declared.class_file.ClassFile.{ClassFile}
-use Rattle.jvm_types.specs.declared.refusal.ARule.{ARule}
 use Rattle.jvm_types.specs.declared.refusal.ARule.TheVariants.{A1, A2}
 use Rattle.asm_text.specs.Lines.{line_text}
 use Rattle.asm_text.specs.ClassLines.{Lists}

@@ -1,5 +1,5 @@
 -- The bytes of an instruction by its line: those that spell it at its pc, where some do (JVMS 6.5).
-use Rattle.std.specs.Prelude.{ℕ, ◌+◌, ◌/◌, ◌%◌, ◌-◌, ℤ, pos, ◌-ℤ◌, Bool, true, not, List, [], ◌∷◌, ◌++◌, length, take, Option, Some, None, if◌then◌else◌}
+use Rattle.std.specs.Prelude.{ℕ, ◌/◌, ◌%◌, ℤ, pos, ◌-ℤ◌, Bool, true, not, List, [], ◌∷◌, ◌++◌, length, take, Option, Some, None, if◌then◌else◌}
 use Rattle.std.specs.List.{flat_map}
 use Rattle.std.specs.Int.{w64, cast_unsigned}
 use Rattle.jvm_types.specs.Numbers.{u1, u2, u4}

@@ -6,7 +6,7 @@ use Rattle.jvm_types.specs.ClassGrammar.{IsByte}
 use Rattle.jvm_types.specs.declared.class_file.Constant.{Constant}
 use Rattle.jvm_types.specs.declared.class_file.Constant.TheVariants.{Gap, Utf8, Integer, Float, Long, Double, Class, Text, Field, Method, InterfaceMethod, NameAndType}
 use Rattle.mnemonics.specs.Mnemonics.{mnemonic}
-use Rattle.asm_text.specs.Lines.{Number, Signed, Line, line_text, text_of}
+use Rattle.asm_text.specs.Lines.{Number, Signed, Line, text_of}
 use Rattle.asm_text.specs.CodeLines.{name_of, bytes_line}
 use Rattle.asm_text.specs.Operands.{shape_at, operands_fit}
 use Rattle.asm_text.specs.ClassLines.{constant_line, interface_line, attr_line, row_line, end_line, constant_value_line}

@@ -1,6 +1,5 @@
 -- What a line says, whatever it is.
 use Rattle.std.specs.Prelude.{◌≡◌, ℕ, ℤ, Bool, true, false, List, Option, Some, None}
-use Rattle.jvm_types.specs.declared.class_file.Constant.{Constant}
 use Rattle.jvm_types.specs.declared.class_file.Constant.TheVariants as constants
 use Rattle.mnemonics.specs.Mnemonics.{opcode_of}
 use Rattle.asm_text.specs.Lines.{line_text}

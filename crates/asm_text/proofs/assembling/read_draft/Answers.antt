@@ -1,9 +1,9 @@
-use Rattle.std.proofs.Common.{◌≡◌, ℕ, List, [], ◌∷◌, ◌++◌, ◌+◌, None, Some, sym, subst, ap, ◌∙◌, take, drop, arith, rules}
+use Rattle.std.proofs.Common.{◌≡◌, ℕ, List, None, sym, subst, ◌∙◌, rules}
 use Rattle.std.specs.List.{position}
 use Rattle.std.specs.Prelude.{◌==◌}
 use Rattle.asm_text.specs.Drafted.{IsNext, IsLine}
 use Rattle.asm_text.proofs.CutLaws.{cut_some, cut_none, whole_cut}
-use Rattle.asm_text.proofs.TextLaws.{next_drafted, none_drafted, unformed_line, unformed_end, whole_draft}
+use Rattle.asm_text.proofs.TextLaws.{next_drafted, none_drafted, unformed_line, unformed_end}
 use Rattle.asm_text.proofs.assembling.read_draft.Goals as goal
 
 pub loop-end-init : goal.loop-end-init

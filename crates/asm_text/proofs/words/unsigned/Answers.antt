@@ -1,4 +1,4 @@
-use Rattle.std.proofs.Common.{◌≡◌, ◌-◌, get_or, arith, rules}
+use Rattle.std.proofs.Common.{◌≡◌, ◌-◌, get_or, rules}
 use Rattle.asm_text.proofs.WordLaws.{read_more}
 use Rattle.asm_text.proofs.words.unsigned.Goals as goal
 
