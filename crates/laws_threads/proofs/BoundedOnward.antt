@@ -10,10 +10,9 @@ use Rattle.jvm_types.specs.declared.program.Program.{Program}
 use Rattle.jvm_types.specs.declared.program.Row.{Row}
 use Rattle.machine_types.specs.Bounds.{PhaseFits, TurnsFit, StepsFit, WaitFits, EntryFits, entry_under_way, attempt_under_way, under_way, IsBounded}
 use Rattle.machine_types.specs.FoundWords.{most_count}
-use Rattle.machine_types.specs.Frames.{Top, top_of, frames_of, monitor_of, returned, handler_at}
+use Rattle.machine_types.specs.Frames.{Top, top_of, frames_of, monitor_of, returned}
 use Rattle.machine_types.specs.Going.{with_phase, runs, failed_turn, goes_on, goes_on_if, goes_after, root_over}
-use Rattle.machine_types.specs.Onward.{Onward, Running, Throwing, Entering, Leaving, RootReturned, Uncaught, back, unwound, handed, dispatched, after}
-use Rattle.machine_types.specs.ReadyObjects.{class_of}
+use Rattle.machine_types.specs.Onward.{Onward, Running, Throwing, Entering, Leaving, RootReturned, Uncaught, back, unwound, handed, after}
 use Rattle.machine_types.specs.Threads.{Frame, Attempt, Thread}
 use Rattle.machine_types.specs.declared.config.Config.{Config}
 use Rattle.machine_types.specs.declared.phase.After.{After}
@@ -172,12 +171,9 @@ module _ (p : Program) where
   unwound_enters_none x class [] = tt
   unwound_enters_none x class (f ∷ fs) = tt
 
-  handed_enters_none : (x : ℕ) (class : Thrown) (at : Top) (row : Option Row) → EntersNone (handed x class at row)
+  pub handed_enters_none : (x : ℕ) (class : Thrown) (at : Top) (row : Option Row) → EntersNone (handed x class at row)
   handed_enters_none x class at (Some r) = tt
   handed_enters_none x class at None = none_by (is_synchronized at.method.flags) (Leaving (monitor_of at.method at.frame) (afters.Unwind x class) (frames_of at)) (unwound x class at.below) tt (unwound_enters_none x class at.below)
-
-  pub dispatched_enters_none : (x : ℕ) (class : Thrown) (fs : List Frame) → IfSome (dispatched p x class fs) EntersNone
-  dispatched_enters_none x class fs = none_if (top_of p fs) (λ at. handed x class at (handler_at (class_of class) at)) (λ at. handed_enters_none x class at (handler_at (class_of class) at))
 
   after_enters_none : (fs : List Frame) (a : After) → IfSome (after p fs a) EntersNone
   after_enters_none fs afters.Next = tt

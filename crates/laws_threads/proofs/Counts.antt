@@ -21,7 +21,7 @@ taken_out x (y ∷ xs) l = by_test (y == x) refl (taken_out x xs)
         (y ∷ r.0, record { shorter = ap suc r.1.shorter; counts = λ n. let k = r.1.counts n in omega (arith, k) })
 
 -- an item is in its list
-once_in : (x : ℕ) (xs : List ℕ) → 0 < count_in x (x ∷ xs)
+pub once_in : (x : ℕ) (xs : List ℕ) → 0 < count_in x (x ∷ xs)
 once_in x xs = let e : (x == x) ≡ true = grind (arith, nat_tests) in rw e (omega arith)
 
 same_length : (n : ℕ) (xs ys : List ℕ) → length xs ≡ n → ((m : ℕ) → count_in m xs ≡ count_in m ys) → length xs ≡ length ys

@@ -140,7 +140,7 @@ call_enters_law c fs at number called is e d y =
 no_own : (m : MethodInfo) (f : Frame) → is_synchronized m.flags ≡ false → own_entry m f ≡ []
 no_own m f e = ap (λ (b : Bool). cond b (monitor_of m f ∷ []) []) e
 
-static_is_free : (a b : Bool) → (a && b) ≡ false → a ≡ true → b ≡ false
+pub static_is_free : (a b : Bool) → (a && b) ≡ false → a ≡ true → b ≡ false
 static_is_free true b e s = e
 static_is_free false b e s = absurd (cc)
 

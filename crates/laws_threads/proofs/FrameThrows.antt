@@ -71,7 +71,7 @@ among P pc class (x ∷ rows) r e h = by_cover (covers pc x) e h (among P pc cla
     by_cover false e h more = more e h
 
 -- where none catches there is none that catches all
-none_catches : (pc class : ℕ) (rows : List Row) → handler_of pc class rows ≡ None → list_any catches_all (filter (covers pc) rows) ≡ false
+pub none_catches : (pc class : ℕ) (rows : List Row) → handler_of pc class rows ≡ None → list_any catches_all (filter (covers pc) rows) ≡ false
 none_catches pc class [] e = refl
 none_catches pc class (x ∷ rows) e = by_cover (covers pc x) e (none_catches pc class rows)
   where

@@ -1,6 +1,6 @@
 -- An event keeps the numbers of a thread within their bounds.
-use Rattle.std.proofs.Common.{◌≡◌, ℕ, zero, suc, ◌+◌, ◌≤◌, nat_lt, Bool, true, false, List, [], ◌∷◌, Option, Some, None, refl, subst, arith}
-use Rattle.std.specs.Prelude.{◌==◌, if◌then◌else◌, option_map, slice_get, find, unwrap_or, IfSome}
+use Rattle.std.proofs.Common.{◌≡◌, ℕ, zero, suc, ◌+◌, ◌≤◌, Bool, true, false, List, [], ◌∷◌, Option, Some, None, refl, sym, subst, ◌<◌, ◌∙◌, arith, ap}
+use Rattle.std.specs.Prelude.{if◌then◌else◌, option_map, slice_get, find, unwrap_or, IfSome}
 use Rattle.std.specs.List.{AllByRecursion, range_with_len}
 use Rattle.std.proofs.lemmas.Bool.Decides.{nat_tests}
 use Rattle.jvm_types.specs.Numbers.{has_flag}
@@ -9,34 +9,41 @@ use Rattle.jvm_types.specs.declared.outcome.End.{End}
 use Rattle.jvm_types.specs.declared.outcome.End.TheVariants as ends
 use Rattle.jvm_types.specs.declared.program.Program.{Program}
 use Rattle.checked_program.specs.MarkedProgram.{MarkedProgram}
-use Rattle.machine_types.specs.Bounds.{TurnsFit, under_way, IsBounded}
-use Rattle.machine_types.specs.Elision.{may_try}
-use Rattle.machine_types.specs.Events.{started, element_made, moved}
+use Rattle.machine_types.specs.Bounds.{TurnsFit, under_way, IsBounded, EntryFits, KeptFits, PhaseFits, StepsFit, WaitFits, attempt_under_way, entry_under_way}
+use Rattle.machine_types.specs.Events.{element_made, moved}
 use Rattle.machine_types.specs.FoundWords.{WordFits, HasCount, effect_content, run_content, content_at}
-use Rattle.machine_types.specs.Frames.{Top, top_of, effect_at, has_room, entry_frame, pushed, went_on}
-use Rattle.machine_types.specs.Going.{with_phase}
+use Rattle.machine_types.specs.Frames.{Top, top_of, effect_at, has_room, entry_frame, pushed, went_on, handler_at, making}
+use Rattle.machine_types.specs.Going.{with_phase, failed_turn, goes_on, goes_on_if}
 use Rattle.machine_types.specs.HeldMonitors.{held_at}
-use Rattle.machine_types.specs.Instructions.{ran}
+use Rattle.machine_types.specs.Instructions.{begun, ran}
 use Rattle.machine_types.specs.Lawful.{IsTypedWithin}
-use Rattle.machine_types.specs.LockWords.{word_of_lock, lock_of, is_lock_word}
-use Rattle.machine_types.specs.Monitors.{bit_of, lowest_of, grows_not}
-use Rattle.machine_types.specs.Onward.{Running, Uncaught, rooted, root_arguments, dispatched}
-use Rattle.machine_types.specs.Structure.{Stands, AttemptStandsIn, IsStructured}
+use Rattle.machine_types.specs.LockWords.{lock_of, is_lock_word}
+use Rattle.machine_types.specs.Monitors.{bit_of, lowest_of, takes}
+use Rattle.machine_types.specs.Onward.{Running, Uncaught, rooted, root_arguments, Onward, handed, threw}
+use Rattle.machine_types.specs.Structure.{Stands, AttemptStandsIn, IsStructured, IsFlat}
 use Rattle.machine_types.specs.Threads.{Frame, Attempt, Thread}
-use Rattle.jvm_types.specs.declared.fixed_words.TheConstants.{MONITOR_RECORDS}
 use Rattle.machine_types.specs.declared.effect.Effect.{Effect}
 use Rattle.machine_types.specs.declared.effect.Effect.TheVariants.{Raises, Calls, Stuck}
 use Rattle.machine_types.specs.declared.lock.Held.{Held}
 use Rattle.machine_types.specs.declared.lock.Kept.TheVariants as keeps
-use Rattle.machine_types.specs.declared.lock.LockWord.TheVariants as locks
 use Rattle.machine_types.specs.declared.phase.Phase.{Phase}
 use Rattle.machine_types.specs.declared.phase.Phase.TheVariants as phases
 use Rattle.laws_threads.specs.TopFrames.{IsAllowed}
 use Rattle.laws_threads.proofs.TopEffects.{effects_allowed}
 use Rattle.laws_threads.specs.BoundLaws.{BoundsAreKept}
-use Rattle.laws_threads.proofs.BoundedOnward.{Fit, Spends, spends_less, bounded, fit_of, spends_of, bounded_by, running, failing, goes, goes_if, none_if, none_by, dispatched_enters_none}
-use Rattle.laws_threads.proofs.BoundedInstructions.{checked, HasDone, ran_on}
-use Rattle.laws_threads.proofs.BoundedMonitors.{LockFits, lock_fits, taken, acquired, entered, let_go, left, not_grown, fattened, gone_to_wait, taken_back}
+use Rattle.laws_threads.proofs.BoundedOnward.{Fit, Spends, spends_less, bounded, fit_of, spends_of, failing, goes, goes_if, none_if, none_by, handed_enters_none}
+use Rattle.laws_threads.proofs.HeldBounds.{found as found_held}
+use Rattle.laws_threads.proofs.BoundedInstructions.{attempt_fails, Begins, begins_here, calm, goes_any, HasDone, does_all, waited, asked, made_bounded, printed_bounded}
+use Rattle.laws_threads.proofs.BoundedMonitors.{LockFits, lock_fits, at_found, taken, began, deeper_fits, inner_fits, Leaves, let_go, shallower_fits, finished, left_inner, fattened, gone_to_wait, taken_back}
+use Rattle.laws_threads.proofs.ThreadMove.{Looks, Lacks, GoesBy, Checks, LeadsTo, TurnsTo, Takes, Move, becomes, tried_attempt, tried_monitor, ran_made, by_move, looks_in, gives_up_in}
+use Rattle.laws_threads.proofs.ThreadMove as moves
+use Rattle.machine_types.specs.declared.phase.Toward.TheVariants as towards
+use Rattle.machine_types.specs.declared.lock.Kept.{Kept}
+use Rattle.jvm_types.specs.declared.outcome.Thrown.TheVariants.{StackOverflowError}
+use Rattle.machine_types.specs.ReadyObjects.{class_of}
+use Rattle.machine_types.specs.Ints.{low}
+use Rattle.lists.proofs.ListLaws.{same_some}
+use Rattle.machine_types.specs.Words.{value_word}
 
 -- ---- what the event finds
 
@@ -71,16 +78,7 @@ not_held : (c : MarkedProgram) (was : Phase) (fs : List Frame) (held : List Held
 not_held c was fs held None stands = tt
 not_held c was fs held (Some a) stands = stands.not_held
 
--- ---- all phases
-
-begun_root : (p : Program) (s : Thread) (roots : List ℕ) → IsBounded p (record s { phase = phases.Start }) → Fit p s → Spends s 0 2 → IsBounded p (started p (record s { phase = phases.Start }) roots)
-begun_root p s [] b f k = b
-begun_root p s (root ∷ roots) b f k =
-    let now : Thread = record s { phase = phases.Start; roots = roots } in
-    goes_if p now (option_map (rooted p s.number root) (slice_get p.methods root))
-    (none_if p (slice_get p.methods root) (rooted p s.number root) (λ m. none_by p (has_room p [] m) (Running (entry_frame root m (root_arguments s.number m) ∷ [])) (Uncaught _) tt tt))
-    (bounded p (record s { roots = roots }) phases.Start (record { limits = f.limits; held = f.held; tried = f.tried }) tt f.limits.few_turns f.limits.few_steps tt tt (record { few = k.few }))
-    (record { limits = f.limits; held = f.held; tried = f.tried }) (record { few = k.few })
+-- ---- the end of a part
 
 ended : (p : Program) (s : Thread) (e : End) → IsBounded p (record s { phase = phases.Ending e }) → IsBounded p (record s { phase = phases.Ended e })
 ended p s e b = record {
@@ -108,81 +106,204 @@ ended p s e b = record {
     by_attempt None t = t
     by_attempt (Some a) t = t
 
+-- ---- all moves
+
+-- a phase in which something is under way
+abbrev IsUnderWay : Phase → Type 0
+IsUnderWay (phases.Ending e) = ⊥
+IsUnderWay (phases.Ended e) = ⊥
+IsUnderWay phase = Unit {0}
+
+-- an entry outside of the words that it finds
+abbrev IsEntry : Phase → Type 0
+IsEntry (phases.Enter m tried) = Unit {0}
+IsEntry (phases.Acquire m) = Unit {0}
+IsEntry (phases.Take m count) = Unit {0}
+IsEntry (phases.Flag m u) = Unit {0}
+IsEntry (phases.TakeFat m r) = Unit {0}
+IsEntry phase = ⊥
+
+-- the lock that is made fat is held
+abbrev HoldsFlat : Phase → List Held → Type 0
+HoldsFlat (phases.FatIn m r toward) held = IsFlat (held_at held m)
+HoldsFlat phase held = Unit {0}
+
+module _ (c : MarkedProgram) (s : Thread) (got : ℕ) where
+  -- an instruction that is counted, and goes on
+  record AtInstruction : Type 0 where
+    at : Top
+    found : top_of c.program s.frames ≡ Some at
+    begins : Begins c.program s
+    goes_on : HasDone c.program (effect_at c.program at) got
+
+  abbrev Ready : Phase → Type 0
+  Ready phases.Run = AtInstruction
+  Ready phase = IsBounded c.program (with_phase s phase)
+
+  fit : (phase : Phase) → IsUnderWay phase → Ready phase → Fit c.program s
+  fit phases.Run u b = b.begins.fit
+  fit (phases.Ending e) u b = absurd u
+  fit (phases.Ended e) u b = absurd u
+  fit phase u b = fit_of c.program s phase b b.turns b.steps
+
+  spent : (phase : Phase) → IsUnderWay phase → Ready phase → Spends s 0 2
+  spent phases.Run u b = calm c.program s b.begins.spends
+  spent (phases.Ending e) u b = absurd u
+  spent (phases.Ended e) u b = absurd u
+  spent phase u b = spends_less s (entry_under_way phase) (attempt_under_way phase) 0 2 (spends_of c.program s phase b) (omega arith) (omega arith)
+
+  spent_on_entry : (phase : Phase) → IsEntry phase → Ready phase → Spends s 1 2
+  spent_on_entry (phases.Enter m tried) u b = spends_of c.program s (phases.Enter m tried) b
+  spent_on_entry (phases.Acquire m) u b = spends_of c.program s (phases.Acquire m) b
+  spent_on_entry (phases.Take m count) u b = spends_of c.program s (phases.Take m count) b
+  spent_on_entry (phases.Flag m u) v b = spends_of c.program s (phases.Flag m u) b
+  spent_on_entry (phases.TakeFat m r) u b = spends_of c.program s (phases.TakeFat m r) b
+  spent_on_entry phase u b = absurd u
+
+  less : Spends s 0 2 → Spends s 0 1
+  less k = spends_less s 0 2 0 1 k (omega arith) (omega arith)
+
+  lock_at : (m : ℕ) (phase : Phase) → Looks m phase → WordFits c.program (content_at c s phase) got → LockFits (lock_of got)
+  lock_at m _ (moves.entering tried) w = lock_found got w
+  lock_at m _ moves.acquiring w = lock_found got w
+
+  kept_at : (m : ℕ) (h : Held) → held_at s.held m ≡ Some h → Fit c.program s → KeptFits h.kept
+  kept_at m h there f = at_found (λ h. KeptFits h.kept) (held_at s.held m) h there (found_held (λ h. KeptFits h.kept) m s.held f.held.kept)
+
+  -- ---- as it is, or in another phase
+
+  stays_bounded : (phase : Phase) → Lacks c s got phase → s.phase ≡ phase → Ready phase → IsBounded c.program s
+  stays_bounded _ (moves.no_instruction e) same b = let bad : Some b.at ≡ None = sym b.found ∙ e in absurd (cc)
+  stays_bounded _ (moves.no_way at e found is silent d) same b =
+      let here : b.at ≡ at = same_some (sym b.found ∙ found) in
+      absurd (does_all c.program at e got (subst (λ (e : Effect). HasDone c.program e got) (ap (effect_at c.program) here ∙ is) b.goes_on) silent d)
+  stays_bounded phase k same b = subst (λ (w : Phase). IsBounded c.program (with_phase s w)) (sym same) b
+
+  goes_bounded : (phase : Phase) (o : Onward) → GoesBy c.program s got phase o → Ready phase → IsBounded c.program (goes_on s o)
+  goes_bounded _ o (moves.by_effect at e _ found is silent d) b = goes_any c.program s o b.begins
+  goes_bounded _ _ (moves.by_machine at class found) b = goes_any c.program s (threw class at) b.begins
+  goes_bounded _ _ (moves.by_nobody at m count h found there l) b = goes_any c.program s (Running (went_on c.program at 0)) b.begins
+  goes_bounded _ _ (moves.by_element word stored at found) b = goes c.program s (Running (went_on c.program at (element_made stored got))) tt (fit (phases.Element word stored) tt b) (spent (phases.Element word stored) tt b)
+  goes_bounded _ _ (moves.by_object a word) b = goes c.program s (Running (pushed a s.frames)) tt (fit (phases.Made a word) tt b) (spent (phases.Made a word) tt b)
+  goes_bounded _ _ (moves.by_handler x class at found) b =
+      goes c.program s (handed x class at (handler_at (class_of class) at)) (handed_enters_none c.program x class at (handler_at (class_of class) at)) (fit (phases.Throw x class) tt b) (spent (phases.Throw x class) tt b)
+  goes_bounded _ _ (moves.by_none m r t) b = goes c.program s (Running s.frames) tt (fit (phases.NotifyLook m r) tt b) (spent (phases.NotifyLook m r) tt b)
+  goes_bounded _ _ (moves.by_one m r u) b = goes c.program s (Running s.frames) tt (fit (phases.NotifyOne m r u) tt b) (spent (phases.NotifyOne m r u) tt b)
+  goes_bounded _ _ (moves.by_all m r) b = goes c.program s (Running s.frames) tt (fit (phases.NotifyAll m r) tt b) (spent (phases.NotifyAll m r) tt b)
+
+  -- a phase that asks for nothing of its own
+  to : (phase now : Phase) → IsUnderWay phase → Ready phase → PhaseFits now → (s.turns < s.cfg.turns → TurnsFit now s.turns s.cfg.turns) → (s.counts.instructions ≤ s.cfg.steps → StepsFit now s.counts.instructions s.cfg.steps)
+      → WaitFits now s.counts.instructions → EntryFits now s.held s.attempt s.counts.instructions → Spends s (entry_under_way now) (attempt_under_way now) → IsBounded c.program (with_phase s now)
+  to phase now u b fits turns steps waits entry k = let f = fit phase u b in bounded c.program s now f fits (turns f.limits.few_turns) (steps f.limits.few_steps) waits entry k
+
+  leads_bounded : (phase now : Phase) → LeadsTo c.program s got phase now → Ready phase → WordFits c.program (content_at c s phase) got → IsBounded c.program (with_phase s now)
+  leads_bounded _ _ (moves.to_acquire m tried) b w = to (phases.Enter m tried) (phases.Acquire m) tt b tt (λ few. few) (λ few. few) tt tt (spent_on_entry (phases.Enter m tried) tt b)
+  leads_bounded phase _ (moves.to_take m count k e) b w = to phase (phases.Take m count) (looks_in IsUnderWay m phase k (λ tried. tt) tt) b (subst LockFits e (lock_at m phase k w)) (λ few. few) (λ few. few) tt tt
+      (spent_on_entry phase (looks_in IsEntry m phase k (λ tried. tt) tt) b)
+  leads_bounded phase _ (moves.to_take_fat m r k e) b w = to phase (phases.TakeFat m r) (looks_in IsUnderWay m phase k (λ tried. tt) tt) b (subst LockFits e (lock_at m phase k w)) (λ few. few) (λ few. few) tt tt
+      (spent_on_entry phase (looks_in IsEntry m phase k (λ tried. tt) tt) b)
+  leads_bounded _ _ (moves.from_flag m u) b w = to (phases.Flag m u) (phases.Acquire m) tt b tt (λ few. few) (λ few. few) tt tt (spent_on_entry (phases.Flag m u) tt b)
+  leads_bounded _ _ (moves.to_grow m count a h e l) b w = to (phases.Leave m a) (phases.Grow m (towards.Leave a)) tt b tt (λ few. few) (λ few. few) tt tt (spent (phases.Leave m a) tt b)
+  leads_bounded _ _ (moves.to_own m toward e) b w = to (phases.Grow m toward) (phases.Own m got toward) tt b (grind (arith, nat_tests, e)) (λ few. few) (λ few. few) tt tt (spent (phases.Grow m toward) tt b)
+  leads_bounded _ _ (moves.to_flat_out m a e) b w = to (phases.Grow m (towards.Leave a)) (phases.FlatOut m a) tt b tt (λ few. few) (λ few. few) tt tt (spent (phases.Grow m (towards.Leave a)) tt b)
+  leads_bounded _ _ (moves.to_no_record m e) b w = to (phases.Grow m towards.Wait) (phases.Ending ends.Records) tt b tt (λ few. few) (λ few. few) tt tt (less (spent (phases.Grow m towards.Wait) tt b))
+  leads_bounded _ _ (moves.to_fat_in m r toward) b w = to (phases.Own m r toward) (phases.FatIn m r toward) tt b b.phase (λ few. few) (λ few. few) tt tt (spent (phases.Own m r toward) tt b)
+  leads_bounded _ _ (moves.to_wait_out m r) b w = to (phases.WaitBit m r) (phases.WaitOut m r) tt b b.phase (λ few. few) (λ few. few) tt tt (spent (phases.WaitBit m r) tt b)
+  leads_bounded _ _ (moves.to_retake m r depth e) b w = to (phases.WaitLook m r depth) (phases.Retake m r depth) tt b b.phase (λ few. few) (λ few. few) b.waits tt (spent (phases.WaitLook m r depth) tt b)
+  leads_bounded _ _ (moves.to_notify_one m r e) b w = to (phases.NotifyLook m r) (phases.NotifyOne m r (lowest_of got)) tt b (b.phase, lowest_few got) (λ few. few) (λ few. few) tt tt (spent (phases.NotifyLook m r) tt b)
+  leads_bounded _ _ (moves.to_end e) b w = ended c.program s e b
+  leads_bounded _ _ (moves.to_element at array index stored e f t) b w = to phases.Run (phases.Element (value_word array (low index)) stored) tt b tt (λ few. few) (λ few. few) tt tt (spent phases.Run tt b)
+  leads_bounded _ _ (moves.to_no_print at e t) b w = to phases.Run (phases.Ending ends.Prints) tt b tt (λ few. few) (λ few. few) tt tt (less (spent phases.Run tt b))
+
+  -- by a turn that failed
+  turn : (phase now : Phase) → IsUnderWay phase → Ready phase → PhaseFits now → (s.turns + 1 < s.cfg.turns → TurnsFit now (s.turns + 1) s.cfg.turns) → (s.counts.instructions ≤ s.cfg.steps → StepsFit now s.counts.instructions s.cfg.steps)
+      → WaitFits now s.counts.instructions → EntryFits now s.held s.attempt s.counts.instructions → Spends s (entry_under_way now) (attempt_under_way now) → IsBounded c.program (failed_turn s now)
+  turn phase now u b fits turns steps waits entry k = let f = fit phase u b in failing c.program s now f fits turns (steps f.limits.few_steps) waits entry k (less (spent phase u b))
+
+  turns_bounded : (phase now : Phase) → TurnsTo s got phase now → Ready phase → WordFits c.program (content_at c s phase) got → IsBounded c.program (failed_turn s now)
+  turns_bounded phase _ (moves.looks_again m k) b w = turn phase (phases.Acquire m) (looks_in IsUnderWay m phase k (λ tried. tt) tt) b tt (λ few. few) (λ few. few) tt tt (spent_on_entry phase (looks_in IsEntry m phase k (λ tried. tt) tt) b)
+  turns_bounded phase _ (moves.flags m u k e) b w = turn phase (phases.Flag m u) (looks_in IsUnderWay m phase k (λ tried. tt) tt) b (subst LockFits e (lock_at m phase k w)) (λ few. few) (λ few. few) tt tt
+      (spent_on_entry phase (looks_in IsEntry m phase k (λ tried. tt) tt) b)
+  turns_bounded _ _ (moves.takes_not m count t) b w = turn (phases.Take m count) (phases.Acquire m) tt b tt (λ few. few) (λ few. few) tt tt (spent_on_entry (phases.Take m count) tt b)
+  turns_bounded _ _ (moves.takes_not_fat m r t) b w = turn (phases.TakeFat m r) (phases.TakeFat m r) tt b b.phase (λ few. few) (λ few. few) tt tt (spent_on_entry (phases.TakeFat m r) tt b)
+  turns_bounded _ _ (moves.waits_on m r depth t) b w = turn (phases.WaitLook m r depth) (phases.WaitLook m r depth) tt b b.phase (λ few. few) (λ few. few) b.waits tt (spent (phases.WaitLook m r depth) tt b)
+  turns_bounded _ _ (moves.retakes_not m r depth t) b w = turn (phases.Retake m r depth) (phases.Retake m r depth) tt b b.phase (λ few. few) (λ few. few) b.waits tt (spent (phases.Retake m r depth) tt b)
+
+  -- ---- each move
+
+  checks_under_way : (t : Attempt) (phase : Phase) → Checks c.program s t phase → IsUnderWay phase
+  checks_under_way t _ (moves.at_throw x class) = tt
+  checks_under_way t phase k = tt
+
+  takes_bounded : (m : ℕ) (phase : Phase) (kept : Kept) → Takes got m phase kept → Ready phase → IsBounded c.program (takes s m kept)
+  takes_bounded m _ _ (moves.a_flat count t) b = taken c.program s m (keeps.Flat count) (fit (phases.Take m count) tt b) (spent_on_entry (phases.Take m count) tt b) b.phase
+  takes_bounded m _ _ (moves.a_fat r t) b = taken c.program s m (keeps.Fat r) (fit (phases.TakeFat m r) tt b) (spent_on_entry (phases.TakeFat m r) tt b) b.phase
+
+  -- where a monitor is left
+  leaves_now : (phase : Phase) → s.phase ≡ phase → Leaves c.program phase → Leaves c.program s.phase
+  leaves_now phase same l = subst (Leaves c.program) (sym same) l
+
+  move_bounded : (phase : Phase) (k : Move c s got phase) → s.phase ≡ phase → Ready phase → IfSome s.attempt (λ a. held_at s.held a.monitor ≡ None) → HoldsFlat phase s.held → WordFits c.program (content_at c s phase) got
+      → IsBounded c.program (becomes c s got phase k)
+  move_bounded phase (moves.stays k) same b free flat w = stays_bounded phase k same b
+  move_bounded phase (moves.goes o k) same b free flat w = goes_bounded phase o k b
+  move_bounded phase (moves.fails_in t e d k) same b free flat w = let u = checks_under_way t phase k in
+      attempt_fails c.program s t e (subst (λ (o : Option Attempt). IfSome o (λ a. held_at s.held a.monitor ≡ None)) e free) (fit phase u b) (spent phase u b)
+  move_bounded phase (moves.leads now k) same b free flat w = leads_bounded phase now k b w
+  move_bounded phase (moves.turns now k) same b free flat w = turns_bounded phase now k b w
+  move_bounded _ (moves.makes at word size e f t) same b free flat w = made_bounded c.program s (making c.program at) got word b.begins
+  move_bounded _ (moves.prints at n e f t) same b free flat w = printed_bounded c.program s (went_on c.program at 0) n got t b.begins
+  move_bounded _ (moves.asks_to_wait at m h now e f l k) same b free flat w = waited c.program s (went_on c.program at 0) m h.kept now k b.begins (kept_at m h l b.begins.fit)
+  move_bounded _ (moves.asks at m h now e l k) same b free flat w = asked c.program s (went_on c.program at 0) m h.kept now k b.begins (kept_at m h l b.begins.fit)
+  move_bounded _ (moves.enters_again m tried h l) same b free flat w = deeper_fits c.program s m h l (fit (phases.Enter m tried) tt b) (spent_on_entry (phases.Enter m tried) tt b) b.entry.0
+  move_bounded _ (moves.enters_inside m tried t k) same b free flat w =
+      inner_fits c.program s m t (tried_attempt m (held_at s.held m) s.attempt t k) (tried_monitor m (held_at s.held m) s.attempt t k) (fit (phases.Enter m tried) tt b) (spent_on_entry (phases.Enter m tried) tt b) b.entry.1
+  move_bounded _ (moves.begins_to_try m tried noted f below e y l t unheld) same b free flat w =
+      began c.program s m noted tried f below (fit (phases.Enter m tried) tt b) (spent_on_entry (phases.Enter m tried) tt b) (subst LockFits l (lock_at m (phases.Enter m tried) (moves.entering tried) w))
+  move_bounded phase (moves.takes_lock m kept k) same b free flat w = takes_bounded m phase kept k b
+  move_bounded phase (moves.gives_up m a k) same b free flat w = let u = gives_up_in IsUnderWay s m a phase k tt tt in
+      let_go c.program s s.phase m a (leaves_now phase same (gives_up_in (Leaves c.program) s m a phase k tt tt)) (fit phase u b) (spent phase u b)
+  move_bounded _ (moves.leaves_outer m a h l t) same b free flat w = shallower_fits c.program s s.phase m a h l (leaves_now (phases.Leave m a) same tt) (fit (phases.Leave m a) tt b) (spent (phases.Leave m a) tt b)
+  move_bounded _ (moves.leaves_inside m a t inner k e) same b free flat w =
+      left_inner c.program s s.phase a t inner (leaves_now (phases.Leave m a) same tt) (tried_attempt m (held_at s.held m) s.attempt t k) e (fit (phases.Leave m a) tt b) (spent (phases.Leave m a) tt b)
+  move_bounded _ (moves.finishes_try m a t k e y) same b free flat w =
+      finished c.program s s.phase a t (leaves_now (phases.Leave m a) same tt) (tried_attempt m (held_at s.held m) s.attempt t k) (fit (phases.Leave m a) tt b) (spent (phases.Leave m a) tt b)
+  move_bounded _ (moves.fattens_lock m r toward h l) same b free flat w = fattened c.program s m r toward h l (subst IsFlat l flat) b.phase (fit (phases.FatIn m r toward) tt b) (spent (phases.FatIn m r toward) tt b)
+  move_bounded _ (moves.gives_up_to_wait m r h l) same b free flat w = gone_to_wait c.program s m r h l b.phase (fit (phases.WaitOut m r) tt b) (spent (phases.WaitOut m r) tt b)
+  move_bounded _ (moves.retakes_lock m r depth e) same b free flat w = taken_back c.program s m r depth b.phase b.waits (fit (phases.Retake m r depth) tt b) (spent (phases.Retake m r depth) tt b)
+  move_bounded _ (moves.starts number roots e) same b free flat w =
+      let f = fit phases.Start tt b in
+      let k = spent phases.Start tt b in
+      let o = option_map (rooted c.program s.number number) (slice_get c.program.methods number) in
+      let g : Fit c.program (record s { roots = roots; phase = phases.Start }) = record { limits = f.limits; held = f.held; tried = f.tried } in
+      subst (λ (w : Phase). IsBounded c.program (goes_on_if (record s { roots = roots; phase = w }) o)) (sym same)
+      (goes_if c.program (record s { roots = roots; phase = phases.Start }) o
+      (none_if c.program (slice_get c.program.methods number) (rooted c.program s.number number) (λ m. none_by c.program (has_room c.program [] m) (Running (entry_frame number m (root_arguments s.number m) ∷ [])) (Uncaught StackOverflowError) tt tt))
+      (bounded c.program (record s { roots = roots }) phases.Start (record { limits = f.limits; held = f.held; tried = f.tried }) tt f.limits.few_turns f.limits.few_steps tt tt (record { few = k.few })) g (record { few = k.few }))
+
+-- ---- all phases
+
+flat_in : (c : MarkedProgram) (was : Phase) (s : Thread) (phase : Phase) → IsStructured c was (record s { phase = phase }) → HoldsFlat phase s.held
+flat_in c was s (phases.FatIn m r toward) st =
+    let stands : Stands c (phases.FatIn m r toward) s.frames s.held s.attempt = subst (λ (phase : Phase). Stands c phase s.frames s.held s.attempt) st.is_as st.stands in stands.phase_shows.flat
+flat_in c was s phase st = tt
+
 pub bounds_kept : BoundsAreKept
 bounds_kept c was s got marked structured typed b w = by_phase s.phase structured typed b w
   where
+    free : IfSome s.attempt (λ a. held_at s.held a.monitor ≡ None)
+    free = not_held c was s.frames s.held s.attempt structured.attempt
+
     by_phase : (phase : Phase) → IsStructured c was (record s { phase = phase }) → IsTypedWithin c (record s { phase = phase }) → IsBounded c.program (record s { phase = phase })
         → WordFits c.program (content_at c (record s { phase = phase }) phase) got → IsBounded c.program (moved c (record s { phase = phase }) phase got)
-    by_phase phases.Idle st ty b w = b
-    by_phase phases.Start st ty b w = begun_root c.program s s.roots b (fit_of c.program s phases.Start b b.turns b.steps) (spends_of c.program s phases.Start b)
-    by_phase phases.Run st ty b w = by_top (top_of c.program s.frames) refl w
+    by_phase phases.Run st ty b w = by_top (top_of c.program s.frames) refl w w
       where
-        by_top : (o : Option Top) → top_of c.program s.frames ≡ o → WordFits c.program (run_content c.program o) got → IsBounded c.program (ran c.program (record s { phase = phases.Run }) o got)
-        by_top None e w = b
-        by_top (Some at) e w = ran_on c.program (record s { phase = phases.Run }) at got b (not_held c was s.frames s.held s.attempt st.attempt)
-            (has_done c.program at (effect_at c.program at) got (effects_allowed c s.frames at marked ty.values.phase e) w)
-    by_phase (phases.Element word stored) st ty b w = let now : Thread = record s { phase = phases.Element word stored } in
-        goes_if c.program now _ (none_if c.program (top_of c.program s.frames) (λ at. Running (went_on c.program at (element_made stored got))) (λ at. tt)) b
-        (fit_of c.program now (phases.Element word stored) b b.turns b.steps) (spends_of c.program now (phases.Element word stored) b)
-    by_phase (phases.Made a word) st ty b w = let now : Thread = record s { phase = phases.Made a word } in
-        goes c.program now (Running (pushed a s.frames)) tt (fit_of c.program now (phases.Made a word) b b.turns b.steps) (spends_of c.program now (phases.Made a word) b)
-    by_phase (phases.Throw x class) st ty b w = let now : Thread = record s { phase = phases.Throw x class } in
-        let f : Fit c.program now = fit_of c.program now (phases.Throw x class) b b.turns b.steps in
-        let k : Spends now 0 2 = spends_of c.program now (phases.Throw x class) b in
-        checked c.program now s.attempt got _ refl (not_held c was s.frames s.held s.attempt st.attempt) f k (goes_if c.program now (dispatched c.program x class s.frames) (dispatched_enters_none c.program x class s.frames) b f k)
-    by_phase (phases.Enter m n) st ty b w = let now : Thread = record s { phase = phases.Enter m n } in
-        entered c.program now m n (may_try c now n) got (held_at s.held m) s.attempt refl refl b (fit_of c.program now (phases.Enter m n) b b.turns b.steps) (spends_of c.program now (phases.Enter m n) b) b.entry (lock_found got w)
-    by_phase (phases.Acquire m) st ty b w = let now : Thread = record s { phase = phases.Acquire m } in
-        acquired c.program now m (lock_of got) (fit_of c.program now (phases.Acquire m) b b.turns b.steps) (spends_of c.program now (phases.Acquire m) b) (lock_found got w)
-    by_phase (phases.Take m count) st ty b w = let now : Thread = record s { phase = phases.Take m count } in
-        let f : Fit c.program now = fit_of c.program now (phases.Take m count) b b.turns b.steps in
-        let k : Spends now 1 2 = spends_of c.program now (phases.Take m count) b in
-        bounded_by c.program (got == word_of_lock (locks.Free count)) _ _ (taken c.program now m (keeps.Flat count) f k b.phase)
-        (failing c.program now (phases.Acquire m) f tt (λ few. few) b.steps tt tt k (spends_less now 1 2 0 1 k (omega arith) (omega arith)))
-    by_phase (phases.Flag m u) st ty b w = let now : Thread = record s { phase = phases.Flag m u } in
-        bounded c.program now (phases.Acquire m) (fit_of c.program now (phases.Flag m u) b b.turns b.steps) tt b.turns b.steps tt tt (spends_of c.program now (phases.Flag m u) b)
-    by_phase (phases.TakeFat m r) st ty b w = let now : Thread = record s { phase = phases.TakeFat m r } in
-        let f : Fit c.program now = fit_of c.program now (phases.TakeFat m r) b b.turns b.steps in
-        let k : Spends now 1 2 = spends_of c.program now (phases.TakeFat m r) b in
-        bounded_by c.program (got == 0) _ _ (taken c.program now m (keeps.Fat r) f k b.phase)
-        (failing c.program now (phases.TakeFat m r) f b.phase (λ few. few) b.steps tt tt k (spends_less now 1 2 0 1 k (omega arith) (omega arith)))
-    by_phase (phases.Leave m a) st ty b w = let now : Thread = record s { phase = phases.Leave m a } in
-        left c.program now m a got (held_at s.held m) s.attempt refl refl (fit_of c.program now (phases.Leave m a) b b.turns b.steps) (spends_of c.program now (phases.Leave m a) b)
-    by_phase (phases.Grow m toward) st ty b w = by_record (nat_lt got MONITOR_RECORDS) refl
-      where
-        by_record : (few : Bool) → nat_lt got MONITOR_RECORDS ≡ few → IsBounded c.program (if few then with_phase (record s { phase = phases.Grow m toward }) (phases.Own m got toward) else grows_not (record s { phase = phases.Grow m toward }) m toward)
-        by_record true e = bounded c.program s (phases.Own m got toward) (fit_of c.program s (phases.Grow m toward) b b.turns b.steps) (grind (arith, nat_tests, e)) b.turns b.steps tt tt (spends_of c.program s (phases.Grow m toward) b)
-        by_record false e = not_grown c.program (record s { phase = phases.Grow m toward }) m toward
-            (fit_of c.program (record s { phase = phases.Grow m toward }) (phases.Grow m toward) b b.turns b.steps) (spends_of c.program (record s { phase = phases.Grow m toward }) (phases.Grow m toward) b)
-    by_phase (phases.FlatOut m a) st ty b w = let_go c.program s (phases.FlatOut m a) m a tt (fit_of c.program s (phases.FlatOut m a) b b.turns b.steps) (spends_of c.program s (phases.FlatOut m a) b)
-    by_phase (phases.Own m r toward) st ty b w = bounded c.program s (phases.FatIn m r toward) (fit_of c.program s (phases.Own m r toward) b b.turns b.steps) b.phase b.turns b.steps tt tt (spends_of c.program s (phases.Own m r toward) b)
-    by_phase (phases.FatIn m r toward) st ty b w = let now : Thread = record s { phase = phases.FatIn m r toward } in
-        let stands : Stands c (phases.FatIn m r toward) s.frames s.held s.attempt = subst (λ (phase : Phase). Stands c phase s.frames s.held s.attempt) st.is_as st.stands in
-        fattened c.program now m r toward (held_at s.held m) refl stands.phase_shows.flat b.phase (fit_of c.program now (phases.FatIn m r toward) b b.turns b.steps) (spends_of c.program now (phases.FatIn m r toward) b)
-    by_phase (phases.WaitBit m r) st ty b w = bounded c.program s (phases.WaitOut m r) (fit_of c.program s (phases.WaitBit m r) b b.turns b.steps) b.phase b.turns b.steps tt tt (spends_of c.program s (phases.WaitBit m r) b)
-    by_phase (phases.WaitOut m r) st ty b w = let now : Thread = record s { phase = phases.WaitOut m r } in
-        gone_to_wait c.program now m r (held_at s.held m) refl b.phase b (fit_of c.program now (phases.WaitOut m r) b b.turns b.steps) (spends_of c.program now (phases.WaitOut m r) b)
-    by_phase (phases.WaitLook m r depth) st ty b w = let now : Thread = record s { phase = phases.WaitLook m r depth } in
-        let f : Fit c.program now = fit_of c.program now (phases.WaitLook m r depth) b b.turns b.steps in
-        let k : Spends now 0 2 = spends_of c.program now (phases.WaitLook m r depth) b in
-        bounded_by c.program (has_flag (bit_of s.number) got) _ _
-        (failing c.program now (phases.WaitLook m r depth) f b.phase (λ few. few) b.steps b.waits tt k (spends_less now 0 2 0 1 k (omega arith) (omega arith)))
-        (bounded c.program now (phases.Retake m r depth) f b.phase b.turns b.steps b.waits tt k)
-    by_phase (phases.Retake m r depth) st ty b w = let now : Thread = record s { phase = phases.Retake m r depth } in
-        let f : Fit c.program now = fit_of c.program now (phases.Retake m r depth) b b.turns b.steps in
-        let k : Spends now 0 2 = spends_of c.program now (phases.Retake m r depth) b in
-        bounded_by c.program (got == 0) _ _ (taken_back c.program now m r depth b.phase b.waits f k)
-        (failing c.program now (phases.Retake m r depth) f b.phase (λ few. few) b.steps b.waits tt k (spends_less now 0 2 0 1 k (omega arith) (omega arith)))
-    by_phase (phases.NotifyLook m r) st ty b w = let now : Thread = record s { phase = phases.NotifyLook m r } in
-        let f : Fit c.program now = fit_of c.program now (phases.NotifyLook m r) b b.turns b.steps in
-        let k : Spends now 0 2 = spends_of c.program now (phases.NotifyLook m r) b in
-        bounded_by c.program (got == 0) _ _ (running c.program now f (spends_less now 0 2 0 1 k (omega arith) (omega arith)))
-        (bounded c.program now (phases.NotifyOne m r (lowest_of got)) f (b.phase, lowest_few got) b.turns b.steps tt tt k)
-    by_phase (phases.NotifyOne m r u) st ty b w = let now : Thread = record s { phase = phases.NotifyOne m r u } in
-        let k : Spends now 0 2 = spends_of c.program now (phases.NotifyOne m r u) b in
-        running c.program now (fit_of c.program now (phases.NotifyOne m r u) b b.turns b.steps) (spends_less now 0 2 0 1 k (omega arith) (omega arith))
-    by_phase (phases.NotifyAll m r) st ty b w = let now : Thread = record s { phase = phases.NotifyAll m r } in
-        let k : Spends now 0 2 = spends_of c.program now (phases.NotifyAll m r) b in
-        running c.program now (fit_of c.program now (phases.NotifyAll m r) b b.turns b.steps) (spends_less now 0 2 0 1 k (omega arith) (omega arith))
-    by_phase (phases.Ending e) st ty b w = ended c.program s e b
-    by_phase (phases.Ended e) st ty b w = b
+        by_top : (o : Option Top) → top_of c.program s.frames ≡ o → WordFits c.program (run_content c.program o) got → WordFits c.program (content_at c (begun (record s { phase = phases.Run })) phases.Run) got
+            → IsBounded c.program (ran c.program (record s { phase = phases.Run }) o got)
+        by_top None e w v = b
+        by_top (Some at) e w v =
+            let k = ran_made c (record s { phase = phases.Run }) got (Some at) e in
+            let more : HasDone c.program (effect_at c.program at) got = has_done c.program at (effect_at c.program at) got (effects_allowed c s.frames at marked ty.values.phase e) w in
+            let ready : AtInstruction c (begun (record s { phase = phases.Run })) got = record { at = at; found = e; begins = begins_here c.program (record s { phase = phases.Run }) b; goes_on = more } in
+            subst (IsBounded c.program) (sym k.is) (move_bounded c (begun (record s { phase = phases.Run })) got phases.Run k.move refl ready free tt v)
+    by_phase phase st ty b w = by_move (IsBounded c.program) c (record s { phase = phase }) phase got (λ k. move_bounded c (record s { phase = phase }) got phase k refl b free (flat_in c was s phase st) w)

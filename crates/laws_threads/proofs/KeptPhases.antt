@@ -47,6 +47,7 @@ use Rattle.laws_threads.proofs.Onwards.{Keeps, keeps_all, keeps_top, HasObjects,
 use Rattle.laws_threads.proofs.Doing.{runs_on}
 use Rattle.laws_threads.proofs.ThreadTypes.{IsBasedIn, EntryInside, Rests, TypedBy, runs_typed, phase_typed, turn_typed, goes_typed, goes_if_typed, fails_typed, same_typed}
 use Rattle.laws_threads.proofs.KeptRun.{instructed_typed}
+use Rattle.laws_threads.proofs.ThreadMove.{tried_attempt}
 
 -- ---- what a phase asks
 
@@ -79,17 +80,6 @@ element_row p m is pc next target ops.Iaload None got e h = (inl refl, ((h, tt),
 element_row p m is pc next target ops.Iastore (Some v) got e h = (inl refl, (tt, tt))
 element_row p m is pc next target op None got e h = absurd (let bad : false ≡ true = e in cc)
 element_row p m is pc next target op (Some v) got e h = absurd (let bad : false ≡ true = e in cc)
-
--- ---- claims
-
-tried_attempt : (m : ℕ) (held : Option Held) (attempt : Option Attempt) (a : Attempt) → claim_by m held attempt ≡ Tries a → attempt ≡ Some a
-tried_attempt m (Some h) attempt a e = absurd (cc)
-tried_attempt m None None a e = absurd (cc)
-tried_attempt m None (Some b) a e = by_test (b.monitor == m) e
-  where
-    by_test : (t : Bool) → (if t then Tries b else HasNot) ≡ Tries a → Some b ≡ Some a
-    by_test true e = cc
-    by_test false e = absurd (cc)
 
 module _ (c : MarkedProgram) (marked : IsMarked c) (is : Classes) where
   -- ---- a thread that changes but in what it holds of monitors

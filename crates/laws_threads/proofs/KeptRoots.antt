@@ -191,7 +191,7 @@ roots_within p number part k e = by_part number part e
     by_part zero (suc (suc part)) e = let few : k < 0 + length p.methods = numbers_within _ 0 p.methods k e in omega arith
     by_part (suc number) part e = let few : k < 0 + length p.methods = numbers_within _ 0 p.methods k e in omega arith
 
-there : (ms : List MethodInfo) (k : ℕ) → k < length ms → (m : MethodInfo) × (slice_get ms k ≡ Some m)
+pub there : (ms : List MethodInfo) (k : ℕ) → k < length ms → (m : MethodInfo) × (slice_get ms k ≡ Some m)
 there [] k h = absurd (omega arith)
 there (m ∷ ms) zero h = (m, refl)
 there (m ∷ ms) (suc k) h = there ms k (omega arith)

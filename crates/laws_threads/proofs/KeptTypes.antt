@@ -67,11 +67,11 @@ effect_found p at e got is a h = tt
 
 -- ---- what is known of the frames
 
-based_in : (c : MarkedProgram) (was : Phase) (fs : List Frame) (held : List Held) (attempt : Option Attempt) → AttemptStandsIn c was fs held attempt → IsBasedIn fs attempt
+pub based_in : (c : MarkedProgram) (was : Phase) (fs : List Frame) (held : List Held) (attempt : Option Attempt) → AttemptStandsIn c was fs held attempt → IsBasedIn fs attempt
 based_in c was fs held None h = tt
 based_in c was fs held (Some a) h = h.based
 
-needs_shown : (c : MarkedProgram) (was phase : Phase) (fs : List Frame) (held : List Held) (attempt : Option Attempt) → IsAs phase was → Stands c was fs held attempt → NeedsShown c phase fs
+pub needs_shown : (c : MarkedProgram) (was phase : Phase) (fs : List Frame) (held : List Held) (attempt : Option Attempt) → IsAs phase was → Stands c was fs held attempt → NeedsShown c phase fs
 needs_shown c was phases.Start fs held attempt e k = subst (λ x. PhaseShows c x fs k.shown held attempt) e k.phase_shows
 needs_shown c was (phases.Element word stored) fs held attempt e k = subst (λ x. PhaseShows c x fs k.shown held attempt) e k.phase_shows
 needs_shown c was (phases.Throw x class) fs held attempt e k = subst (λ x. PhaseShows c x fs k.shown held attempt) e k.phase_shows

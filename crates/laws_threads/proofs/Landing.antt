@@ -1,19 +1,15 @@
 -- Where a frame stands, and that it stands at the target of an edge when it has gone there.
-use Rattle.std.proofs.Common.{◌≡◌, ℕ, zero, suc, true, false, List, [], ◌∷◌, Option, Some, ap, sym, subst, ◌∙◌, arith}
-use Rattle.std.specs.Prelude.{◌==◌, cond, slice_get, map}
-use Rattle.std.proofs.lemmas.Bool.{or_parts}
-use Rattle.std.proofs.lemmas.Bool.Decides.{nat_tests}
+use Rattle.std.proofs.Common.{◌≡◌, ℕ, List, ◌∷◌, Option, Some, ap, sym, subst, ◌∙◌}
+use Rattle.std.specs.Prelude.{slice_get, map}
 use Rattle.lists.proofs.ListLaws.{same_some}
-use Rattle.jvm_types.specs.CodeGrammar.{is_start}
 use Rattle.jvm_types.specs.Types.{TypeFrame}
-use Rattle.jvm_types.specs.Verifying.{IsLaidOut, HasTyping, IsAssignment, edges}
+use Rattle.jvm_types.specs.Verifying.{IsLaidOut}
 use Rattle.jvm_types.specs.Verifying as types
-use Rattle.jvm_types.specs.declared.code.Insn.{Insn}
 use Rattle.jvm_types.specs.declared.program.MethodInfo.{MethodInfo}
 use Rattle.jvm_types.specs.declared.typing.Typing.{Typing}
 use Rattle.laws_programs.proofs.CodeOrder.{methods_laid_out, one_number, have_targets}
 use Rattle.laws_programs.proofs.EdgeTargets.{lands}
-use Rattle.laws_programs.proofs.LeastFrames.{AreDistinct, distinct}
+use Rattle.laws_programs.proofs.LeastFrames.{distinct}
 use Rattle.checked_program.specs.CheckedLaws.{AreFramesOf, IsPlace, Holds}
 use Rattle.checked_program.specs.LockTags.{TagShape, IsShapeBelow}
 use Rattle.checked_program.specs.MarkedProgram.{MarkedProgram, IsMarked, checked_part}
@@ -31,22 +27,9 @@ use Rattle.machine_types.specs.Threads.{Frame}
 use Rattle.machine_types.specs.Typed.{Classes, FrameHolds}
 use Rattle.laws_threads.proofs.Lists.{zip_at, mapped_at}
 use Rattle.laws_threads.proofs.Values.{ValuesHold, values_below}
+use Rattle.laws_threads.proofs.FramePlaces.{at_number}
 
 -- ---- the item of a pc
-
-not_first : (insns : List Insn) (i : ℕ) (x : Insn) (pc : ℕ) → is_start insns pc ≡ false → slice_get insns i ≡ Some x → (pc == x.pc) ≡ false
-not_first [] i x pc n e = absurd (cc)
-not_first (y ∷ insns) zero x pc n e = let same : y ≡ x = cc in let no : (x.pc == pc) ≡ false = subst (λ (z : Insn). (z.pc == pc) ≡ false) same (or_parts (y.pc == pc) (is_start insns pc) n).0 in grind (arith, nat_tests, no)
-not_first (y ∷ insns) (suc i) x pc n e = not_first insns i x pc (or_parts (y.pc == pc) (is_start insns pc) n).1 e
-
-found_at_pc : {A : Type 0} (code : List Insn) (items : List A) (i : ℕ) (insn : Insn) (x : A) → AreDistinct code → slice_get code i ≡ Some insn → slice_get items i ≡ Some x → at_pc code items insn.pc ≡ Some x
-found_at_pc [] items i insn x d e f = absurd (cc)
-found_at_pc (y ∷ code) [] i insn x d e f = absurd (cc)
-found_at_pc (y ∷ code) (item ∷ items) zero insn x d e f =
-    let same : y ≡ insn = cc in
-    ap (λ t. cond t (Some item) (at_pc code items insn.pc)) (subst (λ (z : Insn). (z.pc == insn.pc) ≡ true) (sym same) (grind (arith, nat_tests))) ∙ f
-found_at_pc (y ∷ code) (item ∷ items) (suc i) insn x d e f =
-    ap (λ t. cond t (Some item) (at_pc code items insn.pc)) (not_first code i insn y.pc d.0 e) ∙ found_at_pc code items i insn x d.1 e f
 
 -- ---- where frames stand
 
@@ -58,8 +41,8 @@ module _ (c : MarkedProgram) (marked : IsMarked c) where
   pub stand_top : (f : Frame) (fs : List Frame) (k : Standing c f) → top_of c.program (f ∷ fs) ≡ Some (record { frame = f; below = fs; method = k.method; insn = k.insn; target = k.target })
   stand_top f fs k =
       let d = distinct 0 k.method.code (laid_at f.method k.method k.at.in_program).bytes (laid_at f.method k.method k.at.in_program).code.spelled in
-      let insn : at_pc k.method.code k.method.code f.pc ≡ Some k.insn = subst (λ (pc : ℕ). at_pc k.method.code k.method.code pc ≡ Some k.insn) k.pc_is (found_at_pc k.method.code k.method.code k.number k.insn k.insn d k.at.in_code k.at.in_code) in
-      let target : at_pc k.method.code k.method.targets f.pc ≡ Some k.target = subst (λ (pc : ℕ). at_pc k.method.code k.method.targets pc ≡ Some k.target) k.pc_is (found_at_pc k.method.code k.method.targets k.number k.insn k.target d k.at.in_code k.at.names) in
+      let insn : at_pc k.method.code k.method.code f.pc ≡ Some k.insn = subst (λ (pc : ℕ). at_pc k.method.code k.method.code pc ≡ Some k.insn) k.pc_is (at_number k.method.code k.method.code k.number k.insn k.insn d k.at.in_code k.at.in_code) in
+      let target : at_pc k.method.code k.method.targets f.pc ≡ Some k.target = subst (λ (pc : ℕ). at_pc k.method.code k.method.targets pc ≡ Some k.target) k.pc_is (at_number k.method.code k.method.targets k.number k.insn k.target d k.at.in_code k.at.names) in
       ap (top_in f fs) k.at.in_program ∙ ap (λ o. top_at f fs k.method o (at_pc k.method.code k.method.targets f.pc)) insn ∙ ap (top_at f fs k.method (Some k.insn)) target
 
   -- ---- what holds there

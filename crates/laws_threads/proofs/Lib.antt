@@ -47,7 +47,6 @@ pub mod Allowed
 pub mod Landing
 pub mod TopStand
 pub mod Calls
-pub mod FewFields
 pub mod TopEffects
 pub mod Callers
 pub mod CalledEntries

@@ -25,6 +25,7 @@ use Rattle.laws_sections.proofs.TagFree.{own_tag_free}
 use Rattle.laws_sections.proofs.TagLocal.{tag_local_law}
 use Rattle.machine_types.specs.Shown.{IsMade, AreMade, held_tags}
 use Rattle.machine_types.specs.Standing.{tags_of}
+use Rattle.laws_threads.proofs.Lists.{map_at}
 
 -- ---- a method
 
@@ -34,11 +35,6 @@ pub record IsMethod (p : Program) (m : MethodInfo) (tags : List (Option TagShape
   pub types : types.IsAssignment p m frames
   pub tagged : HasTagging p m tags
   pub sound : IsTagAssignment p m tags
-
-pub got_mapped : {A B : Type 0} (f : A → B) (xs : List A) (i : ℕ) (x : A) → slice_get xs i ≡ Some x → slice_get (map f xs) i ≡ Some (f x)
-got_mapped f [] i x e = absurd (cc)
-got_mapped f (y ∷ xs) zero x e = let same : y ≡ x = same_some e in ap (λ z. Some (f z)) same
-got_mapped f (y ∷ xs) (suc i) x e = got_mapped f xs i x e
 
 tagging_at : (p : Program) (ms : List MethodInfo) (ts : List Tags) (i : ℕ) (m : MethodInfo) → AreTaggings p ms ts → slice_get ms i ≡ Some m → (t : Tags) × (slice_get ts i ≡ Some t) × IsTaggingOf p m t
 tagging_at p [] ts i m all e = absurd (cc)
@@ -62,8 +58,8 @@ module _ (c : MarkedProgram) (is : IsMarked c) where
       record {
         tags = t.0.frames;
         frames = s.0.frames;
-        its_tags = got_mapped (λ (x : Tags). x.frames) c.tags mi t.0 t.1;
-        its_types = got_mapped (λ (x : Typing). x.frames) c.typings mi s.0 s.1;
+        its_tags = map_at (λ (x : Tags). x.frames) c.tags mi t.0 t.1;
+        its_types = map_at (λ (x : Typing). x.frames) c.typings mi s.0 s.1;
         holds = record { laid = s.2.laid; typed = s.2.typed; types = s.2.sound; tagged = t.2; sound = tag_local_law c.program m s.0.frames t.0.frames s.2.laid s.2.typed t.2 };
       }
 

@@ -24,10 +24,11 @@ use Rattle.laws_threads.specs.StateLaws.{counted_of}
 use Rattle.laws_threads.specs.PartLaws.{PartFits, PartsFit, StartFitsParts, EventsFitParts, NextFitsParts, NextKeepsStructure}
 use Rattle.laws_threads.proofs.ThreadSteps.{over_counts}
 use Rattle.laws_threads.proofs.Turns.{no_attempt}
+use Rattle.laws_threads.proofs.Lists.{mapped_at}
 
 -- ---- how a part ended
 
-returned : (phase : Phase) → ended_by has_returned phase ≡ true → phase ≡ phases.Ended ends.Returned
+pub returned : (phase : Phase) → ended_by has_returned phase ≡ true → phase ≡ phases.Ended ends.Returned
 returned (phases.Ended ends.Returned) e = refl
 returned phase e = absurd (cc)
 
@@ -35,20 +36,15 @@ finished : (phase : Phase) → ended_by has_finished phase ≡ true → (reason 
 finished (phases.Ended reason) e = (reason, refl)
 finished phase e = absurd (cc)
 
-one_of_all : {A : Type 0} (test : A → Bool) (xs : List A) (i : ℕ) (x : A) → list_all test xs ≡ true → slice_get xs i ≡ Some x → test x ≡ true
+pub one_of_all : {A : Type 0} (test : A → Bool) (xs : List A) (i : ℕ) (x : A) → list_all test xs ≡ true → slice_get xs i ≡ Some x → test x ≡ true
 one_of_all test [] i x e f = absurd (cc)
 one_of_all test (y ∷ xs) zero x e f = let same : y ≡ x = cc in subst (λ z. test z ≡ true) same (both_are_true (test y) (list_all test xs) e).0
 one_of_all test (y ∷ xs) (suc i) x e f = one_of_all test xs i x (both_are_true (test y) (list_all test xs) e).1 f
 
-one_idle : (xs : List Thread) (i : ℕ) (x : Thread) → AllByRecursion (λ w. w.phase ≡ phases.Idle) xs → slice_get xs i ≡ Some x → x.phase ≡ phases.Idle
+pub one_idle : (xs : List Thread) (i : ℕ) (x : Thread) → AllByRecursion (λ w. w.phase ≡ phases.Idle) xs → slice_get xs i ≡ Some x → x.phase ≡ phases.Idle
 one_idle [] i x e f = absurd (cc)
 one_idle (y ∷ xs) zero x e f = let same : y ≡ x = cc in subst (λ (z : Thread). z.phase ≡ phases.Idle) same e.0
 one_idle (y ∷ xs) (suc i) x e f = one_idle xs i x e.1 f
-
-mapped : {A B : Type 0} (of : A → B) (xs : List A) (i : ℕ) (y : B) → slice_get (map of xs) i ≡ Some y → (x : A) × (slice_get xs i ≡ Some x) × (of x ≡ y)
-mapped of [] i y e = absurd (cc)
-mapped of (x ∷ xs) zero y e = (x, refl, cc)
-mapped of (x ∷ xs) (suc i) y e = mapped of xs i y e
 
 -- ---- at the start
 
@@ -170,7 +166,7 @@ module _ (c : MarkedProgram) (was : ℕ → Phase) (x : Thread) (workers : List 
       let same : begun ≡ y = cc in
       subst (λ (z : Thread). IsStructured c (counted_by (was 0) z.phase) z) same (record { is_as = stays.is_as; stands = stays.stands; attempt = stays.attempt })
   workers_structured over idle (suc u) y f =
-      let from = mapped (with_roots (run_roots c.program)) workers u y f in
+      let from = mapped_at (with_roots (run_roots c.program)) workers u y f in
       let rests : Rests c from.0 = idle_rests c (was (suc u)) from.0 (structure (suc u) from.0 from.1) (one_idle workers u from.0 idle from.1) in
       subst (λ (z : Thread). IsStructured c (counted_by (was (suc u)) z.phase) z) from.2 (begins c (was (suc u)) from.0 (run_roots c.program) rests)
 

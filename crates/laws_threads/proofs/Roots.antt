@@ -33,14 +33,14 @@ use Rattle.laws_threads.proofs.ThreadTypes.{IsBasedIn, Rests, TypedBy, goes_if_t
 
 -- ---- the methods with these numbers
 
-record Numbered (test : MethodInfo → Bool) (ms : List MethodInfo) (n k : ℕ) : Type 0 where
-  at : ℕ
-  method : MethodInfo
-  number : k ≡ n + at
-  there : slice_get ms at ≡ Some method
-  passes : test method ≡ true
+pub record Numbered (test : MethodInfo → Bool) (ms : List MethodInfo) (n k : ℕ) : Type 0 where
+  pub at : ℕ
+  pub method : MethodInfo
+  pub number : k ≡ n + at
+  pub there : slice_get ms at ≡ Some method
+  pub passes : test method ≡ true
 
-numbered : (test : MethodInfo → Bool) (ms : List MethodInfo) (n k : ℕ) → has_number (numbers_of test n ms) k ≡ true → Numbered test ms n k
+pub numbered : (test : MethodInfo → Bool) (ms : List MethodInfo) (n k : ℕ) → has_number (numbers_of test n ms) k ≡ true → Numbered test ms n k
 numbered test [] n k e = absurd (cc)
 numbered test (m ∷ ms) n k e = by_test (test m) refl e (numbered test ms (suc n) k)
   where

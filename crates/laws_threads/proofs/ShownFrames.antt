@@ -14,8 +14,9 @@ use Rattle.machine_types.specs.Standing.{Standing, Operands, Whole}
 use Rattle.machine_types.specs.Threads.{Frame}
 use Rattle.laws_threads.proofs.EffectsOfInsns.{Fits, effect_fits}
 use Rattle.laws_threads.proofs.FramePlaces.{of_standing, Lands, lands, top_by, has_top}
-use Rattle.laws_threads.proofs.MarkedMethods.{are_made, got_mapped}
+use Rattle.laws_threads.proofs.MarkedMethods.{are_made}
 use Rattle.laws_threads.proofs.TagValues.{weaker}
+use Rattle.laws_threads.proofs.Lists.{map_at}
 
 module _ (c : MarkedProgram) (is : IsMarked c) where
   -- ---- where an edge leads
@@ -55,7 +56,7 @@ module _ (c : MarkedProgram) (is : IsMarked c) where
   pub holds_at : (f : Frame) (k : Standing c f) → Holds c.program k.method k.frames k.insn k.target k.types
   holds_at f k =
       let s = checked_sound (checked_part c) f.method k.method is.checked k.at.in_program in
-      let frames : k.frames ≡ s.0.frames = same_some (sym k.types_of_method ∙ got_mapped (λ t. t.frames) c.typings f.method s.0 s.1) in
+      let frames : k.frames ≡ s.0.frames = same_some (sym k.types_of_method ∙ map_at (λ t. t.frames) c.typings f.method s.0 s.1) in
       places_hold_all (checked_part c) k.method k.frames k.number k.insn k.target k.types is.checked
       (record { method = f.method; typing = s.0; in_program = k.at.in_program; its_typing = s.1; its_frames = frames; in_code = k.at.in_code; its_target = k.at.names; has = k.types_are })
 

@@ -2,6 +2,7 @@
 -- match on them.
 use Rattle.std.proofs.Common.{◌≡◌, ℕ, zero, suc, ◌+◌, ◌==◌, nat_lt, Bool, true, false, List, [], ◌∷◌, length, Option, Some, None, refl, sym, subst, arith}
 use Rattle.std.specs.Prelude.{nat_le, slice_get, option_map, ◌&&◌, if◌then◌else◌}
+use Rattle.std.proofs.lemmas.Bool.Decides.{Decides-eqb}
 use Rattle.lists.proofs.TestLaws.{both_are_true}
 use Rattle.jvm_types.specs.Numbers.{has_flag}
 use Rattle.jvm_types.specs.declared.fixed_words.TheConstants.{MONITOR_RECORDS}
@@ -46,26 +47,31 @@ pub data Looks (m : ℕ) : Phase → Type 0 where
   entering : (tried : ℕ) → Looks m (phases.Enter m tried)
   acquiring : Looks m (phases.Acquire m)
 
--- what its event takes is not there
-pub data Lacks (c : MarkedProgram) (s : Thread) : Phase → Type 0 where
-  idle : Lacks c s phases.Idle
-  over : (e : End) → Lacks c s (phases.Ended e)
-  no_root : s.roots ≡ [] → Lacks c s phases.Start
-  no_instruction : top_of c.program s.frames ≡ None → Lacks c s phases.Run
-  no_way : (at : Top) → top_of c.program s.frames ≡ Some at → (got : ℕ) → done c.program at (effect_at c.program at) got ≡ None → Lacks c s phases.Run
-  no_place : (word : ℕ) (stored : Option ℕ) → top_of c.program s.frames ≡ None → Lacks c s (phases.Element word stored)
-  no_catcher : (x : ℕ) (class : Thrown) → top_of c.program s.frames ≡ None → Lacks c s (phases.Throw x class)
-  no_claim : (m : ℕ) (a : After) → claim s m ≡ HasNot → Lacks c s (phases.Leave m a)
-  not_fat : (m r : ℕ) (toward : Toward) → held_at s.held m ≡ None → Lacks c s (phases.FatIn m r toward)
-  not_waiting : (m r : ℕ) → held_at s.held m ≡ None → Lacks c s (phases.WaitOut m r)
+-- an effect of which `done` says all
+abbrev pub IsByDone : Effect → Type 0
+IsByDone (Indexes array index stored) = ⊥
+IsByDone (Makes word size) = ⊥
+IsByDone (Prints n) = ⊥
+IsByDone (Waits m) = ⊥
+IsByDone (Notifies m) = ⊥
+IsByDone (NotifiesAll m) = ⊥
+IsByDone e = Unit {0}
 
--- an effect that `done` says of both machines
-abbrev pub IsSilent : Effect → Type 0
-IsSilent (Prints n) = ⊥
-IsSilent e = Unit {0}
+-- what its event takes is not there
+pub data Lacks (c : MarkedProgram) (s : Thread) (got : ℕ) : Phase → Type 0 where
+  idle : Lacks c s got phases.Idle
+  over : (e : End) → Lacks c s got (phases.Ended e)
+  no_root : s.roots ≡ [] → Lacks c s got phases.Start
+  no_instruction : top_of c.program s.frames ≡ None → Lacks c s got phases.Run
+  no_way : (at : Top) (e : Effect) → top_of c.program s.frames ≡ Some at → effect_at c.program at ≡ e → IsByDone e → done c.program at e got ≡ None → Lacks c s got phases.Run
+  no_place : (word : ℕ) (stored : Option ℕ) → top_of c.program s.frames ≡ None → Lacks c s got (phases.Element word stored)
+  no_catcher : (x : ℕ) (class : Thrown) → top_of c.program s.frames ≡ None → Lacks c s got (phases.Throw x class)
+  no_claim : (m : ℕ) (a : After) → claim s m ≡ HasNot → Lacks c s got (phases.Leave m a)
+  not_fat : (m r : ℕ) (toward : Toward) → held_at s.held m ≡ None → Lacks c s got (phases.FatIn m r toward)
+  not_waiting : (m r : ℕ) → held_at s.held m ≡ None → Lacks c s got (phases.WaitOut m r)
 
 pub data GoesBy (p : Program) (s : Thread) (got : ℕ) : Phase → Onward → Type 0 where
-  by_effect : (at : Top) (e : Effect) (o : Onward) → top_of p s.frames ≡ Some at → effect_at p at ≡ e → IsSilent e → done p at e got ≡ Some o → GoesBy p s got phases.Run o
+  by_effect : (at : Top) (e : Effect) (o : Onward) → top_of p s.frames ≡ Some at → effect_at p at ≡ e → IsByDone e → done p at e got ≡ Some o → GoesBy p s got phases.Run o
   by_machine : (at : Top) (class : Thrown) → top_of p s.frames ≡ Some at → GoesBy p s got phases.Run (threw class at)
   by_nobody : (at : Top) (m count : ℕ) (h : Held) → top_of p s.frames ≡ Some at → held_at s.held m ≡ Some h → h.kept ≡ keeps.Flat count → GoesBy p s got phases.Run (Running (went_on p at 0))
   by_element : (word : ℕ) (stored : Option ℕ) (at : Top) → top_of p s.frames ≡ Some at → GoesBy p s got (phases.Element word stored) (Running (went_on p at (element_made stored got)))
@@ -97,7 +103,7 @@ pub data LeadsTo (p : Program) (s : Thread) (got : ℕ) : Phase → Phase → Ty
   to_notify_one : (m r : ℕ) → (got == 0) ≡ false → LeadsTo p s got (phases.NotifyLook m r) (phases.NotifyOne m r (lowest_of got))
   to_end : (e : End) → LeadsTo p s got (phases.Ending e) (phases.Ended e)
   to_element : (at : Top) (array index : ℕ) (stored : Option ℕ) → top_of p s.frames ≡ Some at → effect_at p at ≡ Indexes array index stored → nat_lt (low index) (header_length got) ≡ true
-    → LeadsTo p s got phases.Run (phases.Element (value_word array (low index)) stored)
+      → LeadsTo p s got phases.Run (phases.Element (value_word array (low index)) stored)
   to_no_print : (at : Top) → top_of p s.frames ≡ Some at → has_print_left s ≡ false → LeadsTo p s got phases.Run (phases.Ending ends.Prints)
 
 -- by a turn that failed
@@ -131,7 +137,7 @@ pub data WaitsFrom (m : ℕ) : Kept → Phase → Type 0 where
 -- ---- the moves
 
 pub data Move (c : MarkedProgram) (s : Thread) (got : ℕ) : Phase → Type 0 where
-  stays : {was : Phase} → Lacks c s was → Move c s got was
+  stays : {was : Phase} → Lacks c s got was → Move c s got was
   goes : {was : Phase} (o : Onward) → GoesBy c.program s got was o → Move c s got was
   fails_in : {was : Phase} (t : Attempt) → s.attempt ≡ Some t → is_same t got ≡ false → Checks c.program s t was → Move c s got was
   leads : {was : Phase} (now : Phase) → LeadsTo c.program s got was now → Move c s got was
@@ -225,6 +231,15 @@ tried_attempt m None (Some b) a e = by_monitor (b.monitor == m) e
     by_monitor true e = cc
     by_monitor false e = absurd (cc)
 
+pub tried_monitor : (m : ℕ) (held : Option Held) (attempt : Option Attempt) (a : Attempt) → claim_by m held attempt ≡ Tries a → a.monitor ≡ m
+tried_monitor m (Some h) attempt a e = absurd (cc)
+tried_monitor m None None a e = absurd (cc)
+tried_monitor m None (Some b) a e = by_monitor (b.monitor == m) refl e
+  where
+    by_monitor : (t : Bool) → (b.monitor == m) ≡ t → (if t then Tries b else HasNot) ≡ Tries a → a.monitor ≡ m
+    by_monitor true t e = let same : b ≡ a = cc in subst (λ (x : Attempt). x.monitor ≡ m) same ((Decides-eqb b.monitor m).0 t)
+    by_monitor false t e = absurd (cc)
+
 not_held : (m : ℕ) (held : Option Held) (attempt : Option Attempt) → claim_by m held attempt ≡ HasNot → held ≡ None
 not_held m (Some h) attempt e = absurd (cc)
 not_held m None attempt e = refl
@@ -236,8 +251,8 @@ module _ (c : MarkedProgram) (s : Thread) (got : ℕ) where
   -- ---- the next instruction
 
   module _ (at : Top) (found : top_of c.program s.frames ≡ Some at) where
-    done_made : (e : Effect) → effect_at c.program at ≡ e → IsSilent e → (o : Option Onward) → done c.program at e got ≡ o → Made phases.Run (goes_on_if s o)
-    done_made e is silent None d = record { move = stays (no_way at found got (subst (λ (e : Effect). done c.program at e got ≡ None) (sym is) d)); is = refl }
+    done_made : (e : Effect) → effect_at c.program at ≡ e → IsByDone e → (o : Option Onward) → done c.program at e got ≡ o → Made phases.Run (goes_on_if s o)
+    done_made e is silent None d = record { move = stays (no_way at e found is silent d); is = refl }
     done_made e is silent (Some o) d = record { move = goes o (by_effect at e o found is silent d); is = refl }
 
     thrown_made : (class : Thrown) → Made phases.Run (goes_on s (threw class at))
@@ -372,7 +387,7 @@ module _ (c : MarkedProgram) (s : Thread) (got : ℕ) where
   started_made [] e = record { move = stays (no_root e); is = refl }
   started_made (number ∷ roots) e = record { move = starts number roots e; is = refl }
 
-ran_made : (c : MarkedProgram) (s : Thread) (got : ℕ) (o : Option Top) → top_of c.program s.frames ≡ o → IsMoved c (counted_at o s) got phases.Run (ran c.program s o got)
+pub ran_made : (c : MarkedProgram) (s : Thread) (got : ℕ) (o : Option Top) → top_of c.program s.frames ≡ o → IsMoved c (counted_at o s) got phases.Run (ran c.program s o got)
 ran_made c s got None e = record { move = stays (no_instruction e); is = refl }
 ran_made c s got (Some at) e = instructed_made c (begun s) got at e
 

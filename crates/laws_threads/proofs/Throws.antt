@@ -31,6 +31,7 @@ use Rattle.laws_threads.proofs.Inside.{runs_inside, stays}
 use Rattle.laws_threads.proofs.AttemptMoves.{only_entry, along, unwound_on}
 use Rattle.laws_threads.proofs.SectionFrames.{Runs, locking_on}
 use Rattle.laws_threads.proofs.Standings.{top_here, top_at_standing, one_insn}
+use Rattle.laws_threads.proofs.FrameThrows.{none_catches}
 
 -- ---- handlers
 
@@ -62,23 +63,6 @@ caught_among pc class (r ∷ rows) row e = by_cover (covers pc r) e (caught_amon
     by_catch false false q more = second false (r.handler == row.handler) (more q)
 
     by_cover : (a : Bool) → cond (a && (r.catch_class == 0 || is_subclass class r.catch_class)) (Some r) (handler_of pc class rows) ≡ Some row → (handler_of pc class rows ≡ Some row → Among later) → Among (cond a (r ∷ later) later)
-    by_cover true q more = by_catch (catches_all r) (is_subclass class r.catch_class) q more
-    by_cover false q more = more q
-
--- where none catches there is none that catches all
-none_catches : (pc class : ℕ) (rows : List Row) → handler_of pc class rows ≡ None → list_any catches_all (filter (covers pc) rows) ≡ false
-none_catches pc class [] e = refl
-none_catches pc class (r ∷ rows) e = by_cover (covers pc r) e (none_catches pc class rows)
-  where
-    later : List Row
-    later = filter (covers pc) rows
-
-    by_catch : (b s : Bool) → cond (b || s) (Some r) (handler_of pc class rows) ≡ None → (handler_of pc class rows ≡ None → list_any catches_all later ≡ false) → (b || list_any catches_all later) ≡ false
-    by_catch true s q more = absurd (cc)
-    by_catch false true q more = absurd (cc)
-    by_catch false false q more = more q
-
-    by_cover : (a : Bool) → cond (a && (r.catch_class == 0 || is_subclass class r.catch_class)) (Some r) (handler_of pc class rows) ≡ None → (handler_of pc class rows ≡ None → list_any catches_all later ≡ false) → list_any catches_all (cond a (r ∷ later) later) ≡ false
     by_cover true q more = by_catch (catches_all r) (is_subclass class r.catch_class) q more
     by_cover false q more = more q
 

@@ -34,6 +34,7 @@ use Rattle.checked_program.specs.CheckedLaws.{receiver_want}
 use Rattle.checked_program.specs.MarkedProgram.{MarkedProgram, IsMarked, checked_part}
 use Rattle.checked_program.specs.TaggedCode.{row_of}
 use Rattle.checked_program.proofs.CheckedPlaces.{called_fit_all}
+use Rattle.checked_program.proofs.FewFields.{few_fields}
 use Rattle.machine_types.specs.declared.effect.Variable.{Variable}
 use Rattle.machine_types.specs.declared.effect.Variable.TheVariants.{Instance, Static}
 use Rattle.machine_types.specs.declared.effect.Effect.{Effect}
@@ -53,7 +54,6 @@ use Rattle.laws_threads.proofs.Typing.{operands, edge_at}
 use Rattle.laws_threads.proofs.Allowed.{MakesAt, below_args, effect_allowed}
 use Rattle.laws_threads.proofs.Landing.{laid_at, rules_at, stand_top}
 use Rattle.laws_threads.proofs.Calls.{CallRow, call_row, as_many, takes_arguments, HasReceiver, call_receiver, receiver_first}
-use Rattle.laws_threads.proofs.FewFields.{few_fields}
 use Rattle.laws_threads.proofs.TopStand.{top_here, row_here}
 
 -- ---- the effect is allowed
@@ -90,7 +90,7 @@ module _ (c : MarkedProgram) (marked : IsMarked c) (is : Classes) (out : is PRIN
 
 -- ---- where it goes on
 
-number_in : (tos : List ℕ) (to : ℕ) → OneOf tos to → has_number tos to ≡ true
+pub number_in : (tos : List ℕ) (to : ℕ) → OneOf tos to → has_number tos to ≡ true
 number_in [] to h = absurd h
 number_in (x ∷ xs) to (inl e) = first_true (x == to) (has_number xs to) (grind (arith, nat_tests, e))
 number_in (x ∷ xs) to (inr h) = second_true (x == to) (has_number xs to) (number_in xs to h)

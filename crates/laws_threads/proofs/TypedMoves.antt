@@ -7,7 +7,7 @@ use Rattle.std.proofs.lemmas.Bool.{or_parts}
 use Rattle.jvm_types.specs.ClassTree.{is_subclass}
 use Rattle.jvm_types.specs.CodeTable.{type_of, can_throw, result_of, value_of, stack_after, locals_after}
 use Rattle.jvm_types.specs.Types.{TypeFrame, is_below}
-use Rattle.jvm_types.specs.Verifying.{edges, is_return, suits, some_taken, some_read, started, after_start, frame_after, frame_at_handler, caught_class, covers, covering}
+use Rattle.jvm_types.specs.Verifying.{edges, is_return, suits, some_taken, some_read, started, frame_after, frame_at_handler, caught_class, covers, covering}
 use Rattle.jvm_types.specs.Verifying as types
 use Rattle.jvm_types.specs.declared.class_numbers.TheConstants.{THROWABLE_CLASS}
 use Rattle.jvm_types.specs.declared.code.Op.{Op}
@@ -22,6 +22,7 @@ use Rattle.jvm_types.specs.declared.program.Row.{Row}
 use Rattle.jvm_types.specs.declared.typing.VType.{VType}
 use Rattle.jvm_types.specs.declared.typing.VType.TheVariants.{Ref, Top as Unknown}
 use Rattle.laws_programs.specs.RuleLaws.{ReturnsWell, ReturnsTop}
+use Rattle.laws_programs.proofs.LocalGoing.{at_index}
 use Rattle.checked_program.specs.LockTags.{IsShapeBelow}
 use Rattle.checked_program.specs.MarkedProgram.{MarkedProgram, IsMarked}
 use Rattle.checked_program.specs.Marks.{called_method}
@@ -34,7 +35,6 @@ use Rattle.machine_types.specs.Standing.{Standing}
 use Rattle.machine_types.specs.Threads.{Frame}
 use Rattle.machine_types.specs.Typed.{Classes, Holds, FrameHolds, WaitHolds}
 use Rattle.laws_threads.specs.Allowed.{OneOf, Gives}
-use Rattle.laws_threads.proofs.Lists.{all_get}
 use Rattle.laws_threads.proofs.Values.{ValuesHold, holds_below, rest_holds}
 use Rattle.laws_threads.proofs.Typing.{start_holds, started_frame, values_after}
 use Rattle.laws_threads.proofs.Landing.{rules_at, tag_rules_at, land}
@@ -108,7 +108,7 @@ module _ (m : MethodInfo) (is : Classes) where
 -- ---- exceptions
 
 -- the row that catches is the first that passes its tests
-handler_found : (pc class : ℕ) (rows : List Row) → handler_of pc class rows ≡ find (λ r. covers pc r && (catches_all r || is_subclass class r.catch_class)) rows
+pub handler_found : (pc class : ℕ) (rows : List Row) → handler_of pc class rows ≡ find (λ r. covers pc r && (catches_all r || is_subclass class r.catch_class)) rows
 handler_found pc class [] = refl
 handler_found pc class (r ∷ rows) = ap (cond (covers pc r && (catches_all r || is_subclass class r.catch_class)) (Some r)) (handler_found pc class rows)
 
@@ -184,5 +184,5 @@ module _ (c : MarkedProgram) (marked : IsMarked c) (is : Classes) where
       subst (λ b. AllByRecursion (λ handler. visits.Fits IsShapeBelow s.method.code s.at.frames (tags_at_handler s.tags) handler.handler) (if b then until_all (covering s.method s.insn.pc) else [])) throws tags.handlers_fit in
       land c marked is (record f { pc = r.handler; stack = x ∷ [] }) s.method s.frames s.at.frames (frame_at_handler r s.types) (tags_at_handler s.tags) s.at.in_program s.types_of_method s.at.of_method
       found.0
-      (all_get (λ (handler : Row). visits.Fits IsShapeBelow s.method.code s.at.frames (tags_at_handler s.tags) handler.handler) (until_all (covering s.method s.insn.pc)) among.0 r handlers among.1)
+      (at_index (λ (handler : Row). visits.Fits IsShapeBelow s.method.code s.at.frames (tags_at_handler s.tags) handler.handler) (until_all (covering s.method s.insn.pc)) among.0 r handlers among.1)
       (record { stack = (catches_in s.method is x class r k below found.1, tt); locals = h.locals; receiver = h.receiver })
