@@ -1,6 +1,7 @@
 -- Whatever event happens, a fat lock stays fat, and a lock gets free by its holder alone.
 use Rattle.std.proofs.Common.{◌≡◌, ◌⊎◌, inl, inr, ℕ, zero, suc, ◌+◌, ◌<◌, nat_lt, Bool, true, false, cond, List, Option, Some, None, refl, sym, ap, ◌∙◌, subst}
 use Rattle.std.specs.Prelude.{◌==◌, slice_get, slice_index, slice_set}
+use Rattle.std.proofs.lemmas.Bool.Decides.{Decides-eqb}
 use Rattle.checked_program.specs.MarkedProgram.{MarkedProgram, IsMarked}
 use Rattle.machine_types.specs.Accesses.{words_after}
 use Rattle.machine_types.specs.declared.access.Access.TheVariants.{Store, Cas}
@@ -32,7 +33,7 @@ use Rattle.laws_states.specs.SiteLaws.{EventsReachSites, SitesDiffer, SitesLieIn
 use Rattle.laws_states.specs.Sites.{HasObject, ReachesIf}
 use Rattle.laws_states.specs.StateFacts.{StateFacts}
 use Rattle.laws_states.proofs.LockPhases.{lock_reached}
-use Rattle.laws_states.proofs.LockViews.{set_lock, is_there, flatly, fatly}
+use Rattle.laws_states.proofs.LockViews.{set_lock, flatly, fatly}
 use Rattle.laws_states.proofs.QuietWords.{IsQuiet, quiet_view}
 use Rattle.laws_states.proofs.WordViews.{lock_of_word, object_has, set_self, lock_view, owner_view, next_view}
 use Rattle.laws_states.specs.ChangeLaws.{IsFreed, LockGoes, LocksFollow}
@@ -69,7 +70,7 @@ one_lock : (v : Locks) (t range : ℕ) (held : List Held) (n : ℕ) (l : LockWor
 one_lock v t range held n l go = all_follow v (set_lock n l v) t range held (λ m. by_test m (n == m) refl)
   where
     by_test : (m : ℕ) (b : Bool) → (n == m) ≡ b → (cond b l (v.lock m) ≡ v.lock m) ⊎ LockGoes t range (held_at held m) (v.lock m) (cond b l (v.lock m))
-    by_test m true e = inr (subst (λ (i : ℕ). LockGoes t range (held_at held i) (v.lock i) l) (is_there n m e) go)
+    by_test m true e = inr (subst (λ (i : ℕ). LockGoes t range (held_at held i) (v.lock i) l) ((Decides-eqb n m).0 e) go)
     by_test m false e = inl refl
 
 -- ---- all phases
@@ -136,7 +137,7 @@ module _ (differ : SitesDiffer) (inside : SitesLieInside) (reach : EventsReachSi
   lock_from m was_it l is e go = lock_written m l is (subst (λ (k : LockWord). LockGoes t cfg.range (held_at x.held m) k l) (sym e) go)
 
   pub lock_is : (m : ℕ) (l : LockWord) → HasObject objects m → (slice_index s.words m == word_of_lock l) ≡ true → (locks_in (references_of objects) s.words).lock m ≡ l
-  lock_is m l is e = ap (λ (b : Bool). cond b (lock_of (slice_index s.words m)) (locks.Free 0)) (object_has objects m is) ∙ ap lock_of (is_there (slice_index s.words m) (word_of_lock l) e) ∙ lock_of_word l
+  lock_is m l is e = ap (λ (b : Bool). cond b (lock_of (slice_index s.words m)) (locks.Free 0)) (object_has objects m is) ∙ ap lock_of ((Decides-eqb (slice_index s.words m) (word_of_lock l)).0 e) ∙ lock_of_word l
 
   -- ---- a lock is taken or flagged
 

@@ -1,6 +1,7 @@
 -- Whatever event happens, who holds which lock is as the words and the threads say.
 use Rattle.std.proofs.Common.{◌≡◌, ℕ, ◌≤◌, nat_lt, Bool, true, false, cond, List, Option, Some, None, refl, sym, ap, ◌∙◌, subst, arith}
 use Rattle.std.specs.Prelude.{slice_get, slice_index, ◌==◌}
+use Rattle.std.proofs.lemmas.Bool.Decides.{Decides-eqb}
 use Rattle.jvm_types.specs.Numbers.{has_flag}
 use Rattle.jvm_types.specs.declared.outcome.End.{End}
 use Rattle.jvm_types.specs.declared.outcome.End.TheVariants as ends
@@ -12,14 +13,11 @@ use Rattle.machine_types.specs.Core.{Core, event_of}
 use Rattle.machine_types.specs.Elision.{looks, may_try}
 use Rattle.machine_types.specs.Events.{wanted, moved}
 use Rattle.machine_types.specs.FoundWords.{content_at}
-use Rattle.machine_types.specs.Frames.{Top, top_of, pushed}
 use Rattle.machine_types.specs.Going.{runs, with_phase}
 use Rattle.machine_types.specs.HeldMonitors.{held_at}
-use Rattle.machine_types.specs.Instructions.{ran}
 use Rattle.machine_types.specs.Lawful.{IsLawful}
 use Rattle.machine_types.specs.LockWords.{lock_of}
 use Rattle.machine_types.specs.Monitors.{bit_of, lowest_of}
-use Rattle.machine_types.specs.Onward.{Running}
 use Rattle.machine_types.specs.Owners.{Locks, drawn_by, Knows, PhaseSaw, Owns, locks_in, references_of, Owners}
 use Rattle.machine_types.specs.PlainMemory.{Object}
 use Rattle.machine_types.specs.Structure.{AreHeldOnce, IsAs, PhaseShows, IsStructured, Structure}
@@ -31,19 +29,18 @@ use Rattle.machine_types.specs.declared.phase.Phase.TheVariants as phases
 use Rattle.laws_threads.specs.StructureLaws.{counted_by}
 use Rattle.laws_threads.specs.StateLaws.{counted_of, counted_at}
 use Rattle.laws_threads.specs.GivenThread.{Given, GivenIsKept}
+use Rattle.laws_threads.proofs.ThreadMove.{of_mover}
 use Rattle.laws_states.specs.HeapFacts.{HeapFacts, objects_by, objects_of}
 use Rattle.laws_states.specs.SiteLaws.{EventsReachSites, SitesDiffer, SitesLieInside}
 use Rattle.laws_states.specs.Sites.{ReachesIf}
 use Rattle.laws_states.specs.RunFacts.{AreThreads}
-use Rattle.laws_states.proofs.SameTally.{Tally, tally_of}
-use Rattle.laws_states.proofs.SameTally as tallies
+use Rattle.laws_states.proofs.SameTally.{Tally, tally_of, same_tally}
 use Rattle.laws_states.specs.OwnersLaws.{EventsKeepOwners}
 use Rattle.laws_states.proofs.CountedPhases.{IsPlain, counted_plain}
 use Rattle.laws_states.proofs.LockPhases.{plain, knowing, loaded, lock_here, lock_reached, acquired, entered}
-use Rattle.laws_states.proofs.LockViews.{is_there}
 use Rattle.laws_states.proofs.OwnerPhases.{runs_counted, took, flagged, took_fat, retook, waited, left, flat_out, drawn, owned, fattened, gone_out}
 use Rattle.laws_states.proofs.OwnersStep.{Owes, owned_on}
-use Rattle.laws_states.proofs.PlainMoves.{same_look, Plainly, run, goes, goes_if, checked, begun_root}
+use Rattle.laws_states.proofs.PlainMoves.{same_look, Plainly, moves_plainly}
 use Rattle.laws_states.proofs.QuietWords.{IsQuiet, quiet_view}
 
 -- ---- the end of a thread
@@ -61,12 +58,11 @@ record Kept (x y : Thread) : Type 0 where
   held : y.held ≡ x.held
   locked : x.counts.locked ≤ y.counts.locked
 
-ran_keeps : (c : MarkedProgram) (x : Thread) (top : Option Top) (got : ℕ) → Kept x (ran c.program x top got)
-ran_keeps c x None got = record { held = refl; locked = omega arith }
-ran_keeps c x (Some at) got =
-    let same = tallies.run c.program x at got in
-    let locked : (ran c.program x (Some at) got).counts.locked ≡ x.counts.locked = ap (λ (g : Tally). g.locked) same in
-    record { held = ap (λ (g : Tally). g.held) same; locked = omega (arith, locked) }
+ran_keeps : (c : MarkedProgram) (x : Thread) (got : ℕ) → Kept x (moved c x phases.Run got)
+ran_keeps c x got =
+    let same = same_tally c x phases.Run got tt in
+    let locked : (moved c x phases.Run got).counts.locked ≡ x.counts.locked = ap (λ (g : Tally). g.locked) same ∙ of_mover (λ (y : Thread). y.counts.locked ≡ x.counts.locked) c.program phases.Run x refl refl in
+    record { held = ap (λ (g : Tally). g.held) same ∙ of_mover (λ (y : Thread). y.held ≡ x.held) c.program phases.Run x refl refl; locked = omega (arith, locked) }
 
 module _ (differ : SitesDiffer) (inside : SitesLieInside) (reach : EventsReachSites) (given : GivenIsKept) (c : MarkedProgram) (cfg : Config) (objects : List Object) (was : ℕ → Phase) (s : Core) (t : ℕ) (marked : IsMarked c)
     (heap : HeapFacts c objects s) (threads : AreThreads c cfg s) (structure : Structure c was s.threads) (owners : Owners (references_of objects) was s) where
@@ -168,19 +164,21 @@ module _ (differ : SitesDiffer) (inside : SitesLieInside) (reach : EventsReachSi
     -- ---- all phases
 
     by_phase : (phase : Phase) → x.phase ≡ phase → IsAs phase (was t) → Done phase
-    by_phase phases.Idle e k = by_same phases.Idle k 0 refl (record { phase = now_plain phases.Idle e tt; attempt = same_look x.attempt }) tt
-    by_phase phases.Start e k = by_same phases.Start k 0 (tallies.begun_root c.program x x.roots) (begun_root x.attempt c.program x x.roots (now_plain phases.Start e tt) (same_look x.attempt)) tt
+    by_phase phases.Idle e k = by_same phases.Idle k 0 refl (moves_plainly c x phases.Idle 0 tt (now_plain phases.Idle e tt)) tt
+    by_phase phases.Start e k = by_same phases.Start k 0 (same_tally c x phases.Start 0 tt) (moves_plainly c x phases.Start 0 tt (now_plain phases.Start e tt)) tt
     by_phase phases.Run e k =
         let got = found_by s.words (wanted c x phases.Run) in
-        let keeps = ran_keeps c x (top_of c.program x.frames) got in
-        quietly phases.Run e tt (plainly phases.Run k got keeps.held keeps.locked (run x.attempt c.program x (top_of c.program x.frames) got (now_plain phases.Run e tt) (same_look x.attempt)) tt)
+        let keeps = ran_keeps c x got in
+        quietly phases.Run e tt (plainly phases.Run k got keeps.held keeps.locked (moves_plainly c x phases.Run got tt (now_plain phases.Run e tt)) tt)
     by_phase (phases.Element word stored) e k =
-        quietly (phases.Element word stored) e tt (by_same (phases.Element word stored) k _ (tallies.goes_if x _) (goes_if x.attempt x _ (now_plain (phases.Element word stored) e tt) (same_look x.attempt)) tt)
+        let got = found_by s.words (wanted c x (phases.Element word stored)) in
+        quietly (phases.Element word stored) e tt (by_same (phases.Element word stored) k got (same_tally c x (phases.Element word stored) got tt) (moves_plainly c x (phases.Element word stored) got tt (now_plain (phases.Element word stored) e tt)) tt)
     by_phase (phases.Made a word) e k =
         let got = found_by s.words (wanted c x (phases.Made a word)) in
-        quietly (phases.Made a word) e tt (by_same (phases.Made a word) k got (tallies.goes x (Running (pushed a x.frames))) (goes x.attempt x (Running (pushed a x.frames)) (same_look x.attempt)) tt)
+        quietly (phases.Made a word) e tt (by_same (phases.Made a word) k got (same_tally c x (phases.Made a word) got tt) (moves_plainly c x (phases.Made a word) got tt (now_plain (phases.Made a word) e tt)) tt)
     by_phase (phases.Throw z class) e k =
-        looked x.attempt _ (by_same (phases.Throw z class) k _ (tallies.checked x x.attempt _ _ (tallies.goes_if x _)) (checked x.attempt x x.attempt _ _ (goes_if x.attempt x _ (now_plain (phases.Throw z class) e tt) (same_look x.attempt))) tt)
+        let got = found_by s.words (looks x.attempt) in
+        looked x.attempt _ (by_same (phases.Throw z class) k got (same_tally c x (phases.Throw z class) got tt) (moves_plainly c x (phases.Throw z class) got tt (now_plain (phases.Throw z class) e tt)) tt)
     by_phase (phases.Enter m n) e k = from (phases.Enter m n) _ _ k
         (entered differ inside c objects s marked heap owners.count t x owners.locks_are most number once (phases.Enter m n) (own_as (phases.Enter m n) k) m n (may_try c x n) (held_at x.held m) x.attempt tt (now_plain (phases.Enter m n) e tt) refl refl (reached (phases.Enter m n) e))
     by_phase (phases.Acquire m) e k = from (phases.Acquire m) _ _ k
@@ -238,7 +236,7 @@ module _ (differ : SitesDiffer) (inside : SitesLieInside) (reach : EventsReachSi
       each u y f = by_number (u == t) refl
         where
           by_number : (b : Bool) → (u == t) ≡ b → Owns (locks_in (references_of objects) s.words) owners.count u (cond b (counted_of (was t) (slice_get s.threads t)) (was u)) y
-          by_number true g = let bad : Some y ≡ None = sym f ∙ ap (slice_get s.threads) (is_there u t g) ∙ e in absurd (cc)
+          by_number true g = let bad : Some y ≡ None = sym f ∙ ap (slice_get s.threads) ((Decides-eqb u t).0 g) ∙ e in absurd (cc)
           by_number false g = owners.each u y f
 
   event_kept : (o : Option Thread) → slice_get s.threads t ≡ o → Owners (references_of (objects_of c.program o objects)) (counted_at was t (event_of c s t o).threads) (event_of c s t o)

@@ -1,6 +1,7 @@
 -- Whatever event happens, who waits is as the waiting bits and the threads say.
 use Rattle.std.proofs.Common.{◌≡◌, ◌≢◌, ◌⊎◌, inl, inr, ℕ, ◌+◌, ◌-◌, ◌^◌, ◌<◌, nat_lt, Bool, true, false, cond, List, length, Option, Some, None, refl, sym, ap, ◌∙◌, subst, arith}
 use Rattle.std.specs.Prelude.{◌==◌, bit_and, bit_or, slice_get, slice_index, slice_set}
+use Rattle.std.proofs.lemmas.Bool.Decides.{Decides-eqb}
 use Rattle.jvm_types.specs.Numbers.{has_flag}
 use Rattle.jvm_types.specs.declared.outcome.End.TheVariants as ends
 use Rattle.checked_program.specs.MarkedProgram.{MarkedProgram, IsMarked}
@@ -33,7 +34,7 @@ use Rattle.laws_states.specs.RunFacts.{AreThreads}
 use Rattle.laws_states.specs.SharedWords.{RecordsFit}
 use Rattle.laws_states.specs.WaitingLaws.{EventsKeepWaiting}
 use Rattle.laws_states.proofs.CalmMoves.{IsCalm, GoesCalm, counted_calm, moved_calm, runs_counted}
-use Rattle.laws_states.proofs.LockViews.{is_there, not_same}
+use Rattle.laws_states.proofs.LockViews.{not_same}
 use Rattle.laws_states.proofs.PartWaiting.{counted_waits, ended_waits}
 use Rattle.laws_states.proofs.StillBits.{IsStill, same_changes, still_bits}
 use Rattle.laws_states.proofs.WaitingBits.{set_sets, set_keeps, set_other, left_was_set, lowest_set}
@@ -128,7 +129,7 @@ module _ (differ : SitesDiffer) (inside : SitesLieInside) (reach : EventsReachSi
     calmly : (phase : Phase) → x.phase ≡ phase → was t ≡ phase → IsStill phase → GoesCalm phase → IsCalm phase → ((r : ℕ) → MayWait phase r → ⊥) → Done phase
     calmly phase e k is goes calm none =
         let got = found_by s.words (wanted c x phase) in
-        let now : IsCalm (counted_by phase (moved c x phase got).phase) = counted_calm phase (moved c x phase got).phase calm (moved_calm c x phase got goes (sym e)) in
+        let now : IsCalm (counted_by phase (moved c x phase got).phase) = counted_calm phase (moved c x phase got).phase calm (moved_calm c x phase got goes (subst IsCalm (sym e) calm)) in
         from phase (words_after s.words (wanted c x phase)) (moved c x phase got).phase k
         (still phase (counted_by phase (moved c x phase got).phase) e is (record {
           only = λ r few set. absurd (none r ((waits_as phase k).only r few (set_before phase e is r t few set)));
@@ -248,7 +249,7 @@ module _ (differ : SitesDiffer) (inside : SitesLieInside) (reach : EventsReachSi
       each u y f = by_number (u == t) refl
         where
           by_number : (b : Bool) → (u == t) ≡ b → Waits s.words u (cond b (counted_of (was t) (slice_get s.threads t)) (was u))
-          by_number true g = let bad : Some y ≡ None = sym f ∙ ap (slice_get s.threads) (is_there u t g) ∙ e in absurd (cc)
+          by_number true g = let bad : Some y ≡ None = sym f ∙ ap (slice_get s.threads) ((Decides-eqb u t).0 g) ∙ e in absurd (cc)
           by_number false g = waiting.each u y f
 
   event_kept : (o : Option Thread) → slice_get s.threads t ≡ o → Waiting (counted_at was t (event_of c s t o).threads) (event_of c s t o)

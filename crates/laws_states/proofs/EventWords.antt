@@ -32,10 +32,11 @@ use Rattle.laws_states.proofs.Lists.{same_or_not, set_here, set_there}
 use Rattle.laws_states.specs.Counters.{most_size}
 use Rattle.laws_states.specs.LeftWords.{LeftMayStand}
 use Rattle.laws_states.specs.SharedWords.{IsLock, MayStand, LocksFit, RecordsFit}
-use Rattle.laws_states.proofs.CountedEvents.{begun_by, drawn_by}
+use Rattle.laws_states.proofs.CountedEvents.{drawn_by}
 use Rattle.laws_states.proofs.LeftSmall.{PhaseStores, IsMade, only_adds, added, adds_few, AddsFew}
 use Rattle.laws_states.proofs.LeftStands.{word_is_lock}
 use Rattle.laws_states.proofs.TopStores.{stores_fit, stored_small}
+use Rattle.laws_threads.proofs.ThreadMove.{begun_by}
 
 -- ---- what suits a site
 
@@ -57,7 +58,7 @@ counter_suits content w h = absurd h
 
 -- ---- what a thread stores
 
-some_words : (a : ℕ) (p : Program) (word : ℕ) → a < a + size_by p word
+pub some_words : (a : ℕ) (p : Program) (word : ℕ) → a < a + size_by p word
 some_words a p word = by_test (header_class word == INT_ARRAY_CLASS)
   where
     by_test : (b : Bool) → a < a + (if b then array_size (header_length word) else object_size p (header_class word))

@@ -22,7 +22,7 @@ use Rattle.machine_types.specs.PlainMemory.{Object, header_of, new_object}
 use Rattle.machine_types.specs.ReadyObjects.{class_of, thrown_of, throwables}
 use Rattle.machine_types.specs.Words.{header, header_class, header_length, object_size, array_size}
 use Rattle.laws_threads.specs.Allowed.{MadeAs}
-use Rattle.laws_threads.proofs.FewFields.{counts_few}
+use Rattle.checked_program.proofs.FewFields.{counts_few}
 
 -- ---- a class and a length
 

@@ -26,9 +26,10 @@ use Rattle.machine_types.specs.declared.phase.Phase.{Phase}
 use Rattle.machine_types.specs.declared.phase.Phase.TheVariants as phases
 use Rattle.laws_states.specs.Counters.{most_size}
 use Rattle.laws_states.specs.SharedWords.{CountsTo, IsLock, MayStand}
-use Rattle.laws_states.proofs.CountedEvents.{begun_by, drawn_by}
+use Rattle.laws_states.proofs.CountedEvents.{drawn_by}
 use Rattle.laws_states.proofs.LeftStands.{leaves, no_access, loaded, looked, checked}
 use Rattle.laws_states.proofs.TopStores.{IsPlace, StoresFit}
+use Rattle.laws_threads.proofs.ThreadMove.{begun_by}
 
 -- ---- words for locking
 

@@ -38,7 +38,7 @@ use Rattle.laws_states.specs.SharedWords.{CountsTo, IsLock, MayStand}
 
 -- ---- words of locks
 
-by_parts : (word kind upper : ℕ) → word % 4 ≡ kind → word / 4 ≡ upper → lock_of word ≡ lock_by kind upper
+pub by_parts : (word kind upper : ℕ) → word % 4 ≡ kind → word / 4 ≡ upper → lock_of word ≡ lock_by kind upper
 by_parts word kind upper e f = ap (λ (k : ℕ). lock_by k (word / 4)) e ∙ ap (λ (n : ℕ). lock_by kind n) f
 
 is_by_parts : (word kind upper : ℕ) → word % 4 ≡ kind → word / 4 ≡ upper → is_lock_by kind upper ≡ true → is_lock_word word ≡ true

@@ -1,7 +1,7 @@
 -- Phase by phase, what an event owes: of the thread, of the others and of the words.
 use Rattle.std.proofs.Common.{◌≡◌, ℕ, ◌+◌, ◌<◌, ◌≤◌, nat_lt, Bool, true, false, cond, List, [], ◌∷◌, Option, Some, None, refl, sym, ap, ◌∙◌, subst, arith}
 use Rattle.std.specs.Prelude.{slice_index, slice_set, ◌==◌}
-use Rattle.std.proofs.lemmas.Bool.Decides.{nat_tests}
+use Rattle.std.proofs.lemmas.Bool.Decides.{nat_tests, Decides-eqb}
 use Rattle.jvm_types.specs.declared.outcome.End.TheVariants as ends
 use Rattle.jvm_types.specs.declared.program.Program.{Program}
 use Rattle.checked_program.specs.MarkedProgram.{MarkedProgram, IsMarked}
@@ -35,7 +35,6 @@ use Rattle.laws_states.specs.SiteLaws.{SitesDiffer, SitesLieInside}
 use Rattle.laws_states.specs.Sites.{Site, LockOf, site_word, HasObject, IsThere, Suits, IsAccessOf, ReachesIf}
 use Rattle.laws_states.proofs.SameTally.{Tally, tally_of}
 use Rattle.laws_states.proofs.CountedPhases.{IsPlain, plain_knows, plain_saw, plain_draws_none, counted_plain}
-use Rattle.laws_states.proofs.LockViews.{is_there}
 use Rattle.laws_states.proofs.OwnersEvents.{Became, unwritten, same_held, same_attempt}
 use Rattle.laws_states.proofs.OwnersStep.{Owes}
 use Rattle.laws_states.proofs.PlainMoves.{LooksBack, same_look, looks_saw, Plainly, runs_plain}
@@ -57,7 +56,7 @@ refit_same h k hs n m e same kept = ap hold_by_list (held_put m k hs) ∙ by_tes
   where
     by_test : (b : Bool) → (k.monitor == m) ≡ b → hold_by_list (cond b (Some k) (held_at hs m)) ≡ hold_by_list (held_at hs m)
     by_test true g =
-        let at : n ≡ m = sym (held_monitor n hs h e) ∙ sym same ∙ is_there k.monitor m g in
+        let at : n ≡ m = sym (held_monitor n hs h e) ∙ sym same ∙ (Decides-eqb k.monitor m).0 g in
         ap hold_by_kept kept ∙ ap hold_by_list (sym e) ∙ ap (λ (i : ℕ). hold_by_list (held_at hs i)) at
     by_test false g = refl
 
@@ -66,7 +65,7 @@ refit_keeps h k hs n m count e same kept had = subst (λ (q : Option Held). IsKe
   where
     by_test : (b : Bool) → (k.monitor == m) ≡ b → IsKeptIn (cond b (Some k) (held_at hs m)) count
     by_test true g =
-        let at : n ≡ m = sym (held_monitor n hs h e) ∙ sym same ∙ is_there k.monitor m g in
+        let at : n ≡ m = sym (held_monitor n hs h e) ∙ sym same ∙ (Decides-eqb k.monitor m).0 g in
         let here : IsKeptIn (Some h) count = subst (λ (q : Option Held). IsKeptIn q count) (ap (held_at hs) (sym at) ∙ e) had in
         subst (λ (q : Kept). IsKeptIn (Some (record k { kept = q })) count) (sym kept) here
     by_test false g = had
@@ -93,10 +92,10 @@ module _ (differ : SitesDiffer) (inside : SitesLieInside) (c : MarkedProgram) (o
   lock_here n k = ap (λ (b : Bool). cond b (lock_of (slice_index s.words n)) (locks.Free 0)) (object_has objects n k)
 
   pub lock_is : (n : ℕ) (l : LockWord) → HasObject objects n → (slice_index s.words n == word_of_lock l) ≡ true → lock_at (references_of objects) s.words n ≡ l
-  lock_is n l k e = lock_here n k ∙ ap lock_of (is_there (slice_index s.words n) (word_of_lock l) e) ∙ lock_of_word l
+  lock_is n l k e = lock_here n k ∙ ap lock_of ((Decides-eqb (slice_index s.words n) (word_of_lock l)).0 e) ∙ lock_of_word l
 
   pub owner_none : (r : ℕ) → r < MONITOR_RECORDS → (slice_index s.words (owner_word r) == 0) ≡ true → (locks_in (references_of objects) s.words).owner r ≡ 0
-  owner_none r low e = ap (λ (b : Bool). cond b (slice_index s.words (owner_word r)) 0) (low_record r low) ∙ is_there (slice_index s.words (owner_word r)) 0 e
+  owner_none r low e = ap (λ (b : Bool). cond b (slice_index s.words (owner_word r)) 0) (low_record r low) ∙ (Decides-eqb (slice_index s.words (owner_word r)) 0).0 e
     where
       low_record : (r : ℕ) → r < MONITOR_RECORDS → nat_lt r MONITOR_RECORDS ≡ true
       low_record r low = grind (arith, nat_tests, low)

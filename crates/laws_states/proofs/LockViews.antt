@@ -1,7 +1,7 @@
 -- What the words say of locks, where one of them has changed; and how a thread has a monitor by them.
 use Rattle.std.proofs.Common.{◌≡◌, ◌≢◌, ◌⊎◌, inl, inr, ℕ, ◌+◌, Bool, true, false, cond, Option, Some, None, refl, sym, ap, ◌∙◌, arith}
 use Rattle.std.specs.Prelude.{◌==◌}
-use Rattle.std.proofs.lemmas.Bool.Decides.{nat_tests}
+use Rattle.std.proofs.lemmas.Bool.Decides.{nat_tests, Decides-eqb}
 use Rattle.machine_types.specs.declared.lock.Held.{Held}
 use Rattle.machine_types.specs.declared.lock.Kept.{Kept}
 use Rattle.machine_types.specs.declared.lock.Kept.TheVariants as keeps
@@ -24,14 +24,11 @@ recounted n k count m = cond (n == m) k (count m)
 
 -- ---- tests
 
-pub is_there : (n m : ℕ) → (n == m) ≡ true → n ≡ m
-is_there n m e = grind (arith, nat_tests, e)
-
 pub not_there : (n m : ℕ) → n ≢ m → (n == m) ≡ false
 not_there n m d = by_test (n == m) refl
   where
     by_test : (b : Bool) → (n == m) ≡ b → b ≡ false
-    by_test true e = absurd (d (is_there n m e))
+    by_test true e = absurd (d ((Decides-eqb n m).0 e))
     by_test false e = refl
 
 pub not_same : (n m : ℕ) → (n == m) ≡ false → n ≢ m
@@ -53,12 +50,12 @@ flatly t (locks.Free c) owner e = absurd (cc)
 flatly t (locks.Held u) owner e = by_test (u == t) refl e
   where
     by_test : (b : Bool) → (u == t) ≡ b → cond b HeldFlat NotHeld ≡ HeldFlat → (locks.Held u ≡ locks.Held t) ⊎ (locks.Held u ≡ locks.Flagged t)
-    by_test true g e = inl (ap locks.Held (is_there u t g))
+    by_test true g e = inl (ap locks.Held ((Decides-eqb u t).0 g))
     by_test false g e = absurd (cc)
 flatly t (locks.Flagged u) owner e = by_test (u == t) refl e
   where
     by_test : (b : Bool) → (u == t) ≡ b → cond b HeldFlat NotHeld ≡ HeldFlat → (locks.Flagged u ≡ locks.Held t) ⊎ (locks.Flagged u ≡ locks.Flagged t)
-    by_test true g e = inr (ap locks.Flagged (is_there u t g))
+    by_test true g e = inr (ap locks.Flagged ((Decides-eqb u t).0 g))
     by_test false g e = absurd (cc)
 flatly t (locks.Fat r) owner e = by_test (owner r == t + 1) e
   where
@@ -82,7 +79,7 @@ fatly t (locks.Flagged u) owner r e = by_test (u == t) e
 fatly t (locks.Fat k) owner r e = by_test (owner k == t + 1) refl e
   where
     by_test : (b : Bool) → (owner k == t + 1) ≡ b → cond b (HeldFat k) NotHeld ≡ HeldFat r → (locks.Fat k ≡ locks.Fat r) × (owner r ≡ t + 1)
-    by_test true g e = let same : k ≡ r = cc in (ap locks.Fat same, ap owner (sym same) ∙ is_there (owner k) (t + 1) g)
+    by_test true g e = let same : k ≡ r = cc in (ap locks.Fat same, ap owner (sym same) ∙ (Decides-eqb (owner k) (t + 1)).0 g)
     by_test false g e = absurd (cc)
 
 -- a flat lock is held by one thread, and is not fat

@@ -1,6 +1,7 @@
 -- A write of a lock word by a thread: what it has to show.
 use Rattle.std.proofs.Common.{◌≡◌, ◌≢◌, ◌⊎◌, inl, inr, ℕ, ◌+◌, ◌<◌, ◌≤◌, Bool, true, false, cond, List, Option, Some, None, refl, sym, ap, ◌∙◌, subst, arith}
 use Rattle.std.specs.Prelude.{◌==◌}
+use Rattle.std.proofs.lemmas.Bool.Decides.{Decides-eqb}
 use Rattle.machine_types.specs.HeldMonitors.{held_at, with_held, without_held}
 use Rattle.machine_types.specs.Owners.{Locks, NotHeld, hold_by_word, hold_by_kept, hold_by_list, drawn_by, IsDrawn, Knows, IsSeen, PhaseSaw, AttemptSawIn, IsKeptIn, Owns, AreLocks}
 use Rattle.machine_types.specs.Structure.{AreHeldOnce}
@@ -13,12 +14,12 @@ use Rattle.machine_types.specs.declared.lock.LockWord.TheVariants as locks
 use Rattle.machine_types.specs.declared.phase.Phase.{Phase}
 use Rattle.machine_types.specs.declared.phase.Phase.TheVariants as phases
 use Rattle.laws_threads.proofs.HeldLists.{held_put, held_without}
-use Rattle.laws_states.proofs.LockViews.{set_lock, recounted, is_there, not_held}
+use Rattle.laws_states.proofs.LockViews.{set_lock, recounted, not_held}
 use Rattle.laws_states.proofs.OwnersStep.{Owes, flat_in}
 
 -- ---- counts that were seen
 
-thin_seen : (l : LockWord) (seen count : ℕ) → ((r : ℕ) → l ≢ locks.Fat r) → IsSeen l seen count → seen ≤ count
+pub thin_seen : (l : LockWord) (seen count : ℕ) → ((r : ℕ) → l ≢ locks.Fat r) → IsSeen l seen count → seen ≤ count
 thin_seen (locks.Free c) seen count thin h = h
 thin_seen (locks.Held u) seen count thin h = h
 thin_seen (locks.Flagged u) seen count thin h = h
@@ -38,7 +39,7 @@ module _ (v : Locks) (count : ℕ → ℕ) (n k : ℕ) (l : LockWord) (thin : (r
     where
       by_test : (b : Bool) → (n == m) ≡ b → IsSeen (cond b l (v.lock m)) seen (cond b k (count m))
       by_test true e =
-          let same : n ≡ m = is_there n m e in
+          let same : n ≡ m = (Decides-eqb n m).0 e in
           let old : seen ≤ count n = thin_seen (v.lock n) seen (count n) thin (subst (λ (i : ℕ). IsSeen (v.lock i) seen (count i)) (sym same) h) in
           seen_any l seen k (omega (arith, old, grows))
       by_test false e = h
@@ -54,7 +55,7 @@ module _ (v : Locks) (count : ℕ → ℕ) (n k : ℕ) (l : LockWord) (thin : (r
   still_fat m r h = by_test (n == m) refl
     where
       by_test : (b : Bool) → (n == m) ≡ b → cond b l (v.lock m) ≡ locks.Fat r
-      by_test true e = absurd (thin r (ap v.lock (is_there n m e) ∙ h))
+      by_test true e = absurd (thin r (ap v.lock ((Decides-eqb n m).0 e) ∙ h))
       by_test false e = h
 
   pub knows_after : (u : ℕ) (phase : Phase) → ((r : ℕ) → drawn_by phase ≡ Some r → l ≢ locks.Fat r) → Knows v u phase → Knows (set_lock n l v) u phase
@@ -84,13 +85,13 @@ module _ (v : Locks) (count : ℕ → ℕ) (n k : ℕ) (l : LockWord) (thin : (r
   }
     where
       holds : (m : ℕ) (b : Bool) → (n == m) ≡ b → hold_by_word u (cond b l (v.lock m)) v.owner ≡ hold_by_list (held_at z.held m)
-      holds m true e = new ∙ ap (λ (i : ℕ). hold_by_word u (v.lock i) v.owner) (is_there n m e) ∙ o.holds m
+      holds m true e = new ∙ ap (λ (i : ℕ). hold_by_word u (v.lock i) v.owner) ((Decides-eqb n m).0 e) ∙ o.holds m
       holds m false e = o.holds m
 
       keeps : (m : ℕ) (b : Bool) → (n == m) ≡ b → (hold_by_word u (v.lock n) v.owner ≡ NotHeld) ⊎ (k ≡ count n) → IsKeptIn (held_at z.held m) (cond b k (count m))
-      keeps m true e (inr c) = subst (λ (i : ℕ). IsKeptIn (held_at z.held m) i) (ap count (sym (is_there n m e)) ∙ sym c) (o.keeps_count m)
+      keeps m true e (inr c) = subst (λ (i : ℕ). IsKeptIn (held_at z.held m) i) (ap count (sym ((Decides-eqb n m).0 e)) ∙ sym c) (o.keeps_count m)
       keeps m true e (inl old) =
-          let none : held_at z.held m ≡ None = not_held (held_at z.held m) (sym (o.holds m) ∙ ap (λ (i : ℕ). hold_by_word u (v.lock i) v.owner) (sym (is_there n m e)) ∙ old) in
+          let none : held_at z.held m ≡ None = not_held (held_at z.held m) (sym (o.holds m) ∙ ap (λ (i : ℕ). hold_by_word u (v.lock i) v.owner) (sym ((Decides-eqb n m).0 e)) ∙ old) in
           subst (λ (q : Option Held). IsKeptIn q k) (sym none) tt
       keeps m false e q = o.keeps_count m
 
@@ -98,7 +99,7 @@ module _ (v : Locks) (count : ℕ → ℕ) (n k : ℕ) (l : LockWord) (thin : (r
   words_after named freed a = record { one = λ i j r. one i j r (n == i) refl (n == j) refl; below = λ i r. below i r (n == i); free = λ i c. free i c (n == i) }
     where
       one : (i j r : ℕ) (b : Bool) → (n == i) ≡ b → (d : Bool) → (n == j) ≡ d → cond b l (v.lock i) ≡ locks.Fat r → cond d l (v.lock j) ≡ locks.Fat r → i ≡ j
-      one i j r true e true f g h = sym (is_there n i e) ∙ is_there n j f
+      one i j r true e true f g h = sym ((Decides-eqb n i).0 e) ∙ (Decides-eqb n j).0 f
       one i j r true e false f g h = absurd ((named r g).0.unnamed j h)
       one i j r false e true f g h = absurd ((named r h).0.unnamed i g)
       one i j r false e false f g h = a.one i j r g h

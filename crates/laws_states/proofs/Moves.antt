@@ -1,5 +1,5 @@
 -- A thread that has moved holds values of the types of verification, by the objects that are there then.
-use Rattle.std.proofs.Common.{◌≡◌, ℕ, List, [], Option, Some, None, refl, subst, ◌∙◌, arith}
+use Rattle.std.proofs.Common.{◌≡◌, ℕ, List, [], Some, refl, subst, ◌∙◌, arith}
 use Rattle.std.specs.Prelude.{Contains, slice_get}
 use Rattle.jvm_types.specs.declared.outcome.Thrown.{Thrown}
 use Rattle.jvm_types.specs.declared.outcome.Thrown.TheVariants as thrown
@@ -12,10 +12,9 @@ use Rattle.machine_types.specs.Lawful.{IsLawful}
 use Rattle.machine_types.specs.ObjectsApart.{LieApart}
 use Rattle.machine_types.specs.PlainMemory.{Object, start_objects, start_statics}
 use Rattle.machine_types.specs.ReadyObjects.{ready, class_of, out_object}
-use Rattle.machine_types.specs.Structure.{IsAs, Stands, PhaseShows, AttemptStandsIn}
-use Rattle.machine_types.specs.Threads.{Frame, Attempt, Thread}
+use Rattle.machine_types.specs.Structure.{IsAs}
+use Rattle.machine_types.specs.Threads.{Thread}
 use Rattle.machine_types.specs.Typed.{Classes, HasClass, PhaseHolds, ThreadHolds}
-use Rattle.machine_types.specs.declared.lock.Held.{Held}
 use Rattle.machine_types.specs.declared.phase.Phase.{Phase}
 use Rattle.machine_types.specs.declared.phase.Phase.TheVariants as phases
 use Rattle.laws_threads.specs.StructureLaws.{StructureIsKept, counted_by}
@@ -24,6 +23,7 @@ use Rattle.laws_threads.proofs.KeptPhases.{NeedsShown, PhaseFinds, StartTyped, m
 use Rattle.laws_threads.proofs.Onwards.{HasObjects}
 use Rattle.laws_threads.proofs.Roots.{starts_typed}
 use Rattle.laws_threads.proofs.ThreadTypes.{IsBasedIn, Rests, TypedBy}
+use Rattle.laws_threads.proofs.KeptTypes.{based_in, needs_shown}
 use Rattle.laws_states.specs.HeapFacts.{HeapFacts}
 use Rattle.laws_states.proofs.Lists.{contained_got, got_contains}
 use Rattle.laws_states.proofs.Accesses.{out_there, element_site}
@@ -73,20 +73,6 @@ module _ (c : MarkedProgram) (marked : IsMarked c) (objects : List Object) (s : 
     old_finds phase e old h = tt
 
 -- ---- the thread
-
-based_in : (c : MarkedProgram) (was : Phase) (fs : List Frame) (held : List Held) (attempt : Option Attempt) → AttemptStandsIn c was fs held attempt → IsBasedIn fs attempt
-based_in c was fs held None h = tt
-based_in c was fs held (Some a) h = h.based
-
-needs_shown : (c : MarkedProgram) (was phase : Phase) (fs : List Frame) (held : List Held) (attempt : Option Attempt) → IsAs phase was → Stands c was fs held attempt → NeedsShown c phase fs
-needs_shown c was phases.Start fs held attempt e k = subst (λ x. PhaseShows c x fs k.shown held attempt) e k.phase_shows
-needs_shown c was (phases.Element word stored) fs held attempt e k = subst (λ x. PhaseShows c x fs k.shown held attempt) e k.phase_shows
-needs_shown c was (phases.Throw x class) fs held attempt e k = subst (λ x. PhaseShows c x fs k.shown held attempt) e k.phase_shows
-needs_shown c was (phases.Leave m a) fs held attempt e k = subst (λ x. PhaseShows c x fs k.shown held attempt) e k.phase_shows
-needs_shown c was (phases.FlatOut m a) fs held attempt e k =
-    let grown : PhaseShows c (phases.FlatOut m a) fs k.shown held attempt = subst (λ x. PhaseShows c x fs k.shown held attempt) e k.phase_shows in
-    grown.toward_shows
-needs_shown c was phase fs held attempt e k = tt
 
 module _ (keeps : StructureIsKept) (c : MarkedProgram) (marked : IsMarked c) (is : Classes) (has : HasObjects c.program is) (x : Thread) (lawful : IsLawful c x) (values : ThreadHolds c is x) where
   stays : TypedBy c is x

@@ -1,8 +1,7 @@
 -- The next event of a live thread changes it, phase by phase: its phase, its turns, its count of instructions, or its frames.
-use Rattle.std.proofs.Common.{◌≡◌, ℕ, zero, suc, ◌+◌, ◌==◌, nat_lt, Bool, true, false, List, [], ◌∷◌, drop, length, Option, Some, None, refl, sym, ap, subst, ◌∙◌, arith}
+use Rattle.std.proofs.Common.{◌≡◌, ℕ, suc, ◌+◌, nat_lt, Bool, true, false, List, [], ◌∷◌, drop, length, Option, Some, None, refl, sym, ap, subst, ◌∙◌, arith}
 use Rattle.std.specs.Prelude.{◌≢◌, IsSome, slice_get, option_map, if◌then◌else◌}
 use Rattle.jvm_types.specs.Members.{is_synchronized}
-use Rattle.jvm_types.specs.Numbers.{has_flag}
 use Rattle.jvm_types.specs.declared.outcome.End.TheVariants as ends
 use Rattle.jvm_types.specs.declared.outcome.Thrown.{Thrown}
 use Rattle.jvm_types.specs.declared.outcome.Thrown.TheVariants.{StackOverflowError}
@@ -11,23 +10,17 @@ use Rattle.jvm_types.specs.declared.program.Target.{Target}
 use Rattle.jvm_types.specs.declared.program.MethodInfo.{MethodInfo}
 use Rattle.jvm_types.specs.declared.program.Program.{Program}
 use Rattle.jvm_types.specs.declared.program.Row.{Row}
-use Rattle.jvm_types.specs.declared.fixed_words.TheConstants.{MONITOR_RECORDS}
 use Rattle.checked_program.specs.MarkedProgram.{MarkedProgram}
-use Rattle.machine_types.specs.Elision.{may_try, begins, tries, is_same, fails, if_same}
+use Rattle.machine_types.specs.Elision.{fails, elided}
 use Rattle.machine_types.specs.Events.{started, element_made, moved}
 use Rattle.machine_types.specs.Frames.{Top, at_pc, top_at, top_in, top_of, frames_of, went_on, has_room, entry_frame, monitor_of, returned, handler_at, caught, pushed}
-use Rattle.machine_types.specs.Going.{runs, failed_turn, root_over, goes_on, goes_on_if, goes_after}
-use Rattle.machine_types.specs.HeldMonitors.{held_at, with_held, without_held, deeper}
-use Rattle.machine_types.specs.Instructions.{begun, ran}
-use Rattle.machine_types.specs.LockWords.{word_of_lock, lock_of}
-use Rattle.machine_types.specs.declared.lock.LockWord.{LockWord}
-use Rattle.machine_types.specs.declared.lock.LockWord.TheVariants as locks
-use Rattle.machine_types.specs.Monitors.{Claim, Has, Tries, HasNot, claim, acquires, enter_moves, takes, finishes, released, leave_moves, grows_not, fattens, bit_of, goes_to_wait, retakes, lowest_of}
-use Rattle.machine_types.specs.Onward.{Running, Leaving, Uncaught, root_arguments, rooted, back, unwound, handed}
+use Rattle.machine_types.specs.Going.{runs, failed_turn, root_over, goes_on, goes_on_if, goes_after, with_phase}
+use Rattle.machine_types.specs.HeldMonitors.{with_held, without_held, deeper, shallower}
+use Rattle.machine_types.specs.Instructions.{begun}
+use Rattle.machine_types.specs.Monitors.{takes, grown}
+use Rattle.machine_types.specs.Onward.{Running, Leaving, Uncaught, root_arguments, rooted, back, unwound, handed, Onward}
 use Rattle.machine_types.specs.ReadyObjects.{class_of}
 use Rattle.machine_types.specs.Threads.{Frame, Thread, Attempt}
-use Rattle.machine_types.specs.declared.lock.Held.{Held}
-use Rattle.machine_types.specs.declared.lock.Kept.{Kept}
 use Rattle.machine_types.specs.declared.lock.Kept.TheVariants as keeps
 use Rattle.machine_types.specs.declared.phase.After.{After}
 use Rattle.machine_types.specs.declared.phase.After.TheVariants as afters
@@ -35,8 +28,11 @@ use Rattle.machine_types.specs.declared.phase.Phase.{Phase}
 use Rattle.machine_types.specs.declared.phase.Phase.TheVariants as phases
 use Rattle.machine_types.specs.declared.phase.Toward.{Toward}
 use Rattle.machine_types.specs.declared.phase.Toward.TheVariants as towards
-use Rattle.laws_states.proofs.SameTally.{Tally, tally_of, run}
+use Rattle.laws_states.proofs.SameTally.{Tally, tally_of, same_tally}
 use Rattle.laws_states.specs.RunSafety.{HasAfter, HasRoot, HasEvent}
+use Rattle.laws_threads.proofs.ThreadMove.{GoesBy, Checks, LeadsTo, Move, begun_attempt, becomes, counted_at, by_move, looks_in, takes_in, runs_to}
+use Rattle.laws_threads.proofs.ThreadMove as moves
+use Rattle.laws_states.proofs.WorkFalls.{BeginsNothing, lacks_none}
 
 -- ---- one field differs
 
@@ -52,10 +48,6 @@ one_more_turn : (x : Thread) (phase : Phase) → failed_turn x phase ≢ x
 one_more_turn x phase = λ same.
     let turns : x.turns + 1 ≡ x.turns = ap (λ (s : Thread). s.turns) same in
     omega (arith, turns)
-
-either : (x : Thread) (b : Bool) (y z : Thread) → y ≢ x → z ≢ x → (if b then y else z) ≢ x
-either x true y z h k = h
-either x false y z h k = k
 
 -- ---- where a thread goes on
 
@@ -123,9 +115,9 @@ module _ (c : MarkedProgram) (x : Thread) where
 
   -- ---- an instruction is counted
 
-  instructed_more : (o : Option Top) (got : ℕ) → (at : Top) → o ≡ Some at → ran c.program x o got ≢ x
-  instructed_more o got at found = λ same.
-      let tally : tally_of x ≡ tally_of (begun x) = ap tally_of (sym (subst (λ (q : Option Top). ran c.program x q got ≡ x) found same)) ∙ run c.program x at got in
+  instructed_more : (got : ℕ) (at : Top) → top_of c.program x.frames ≡ Some at → moved c x phases.Run got ≢ x
+  instructed_more got at found = λ same.
+      let tally : tally_of x ≡ tally_of (begun x) = ap tally_of (sym same) ∙ same_tally c x phases.Run got tt ∙ ap (λ (o : Option Top). tally_of (counted_at o x)) found in
       let count : x.counts.instructions ≡ x.counts.instructions + 1 = ap (λ (t : Tally). t.instructions) tally in
       omega (arith, count)
 
@@ -162,110 +154,64 @@ module _ (c : MarkedProgram) (x : Thread) (r : ℕ) (class : Thrown) (e : x.phas
       by_method true = by_phase x _ (phases.Throw r class) (phases.Leave (monitor_of at.method at.frame) (afters.Unwind r class)) e refl (λ q. cc)
       by_method false = unwinds at.below fewer
 
-  throws : (o : Option Top) → top_of c.program x.frames ≡ o → IsSome (option_map (λ at. handed r class at (handler_at (class_of class) at)) o) → goes_on_if x (option_map (λ at. handed r class at (handler_at (class_of class) at)) o) ≢ x
-  throws None found has = absurd (cc)
-  throws (Some at) found has = hands at (handler_at (class_of class) at) (fewer_below c.program x.frames at found)
+-- ---- all moves but those of an instruction and of a root
 
-  looked : (a : Option Attempt) (got : ℕ) (more : Thread) → more ≢ x → if_same x a got more ≢ x
-  looked None got more h = h
-  looked (Some a) got more h = either x (is_same a got) more (fails x a) h (by_phase x _ (phases.Throw r class) (phases.Enter a.monitor a.number) e refl (λ q. cc))
+module _ (c : MarkedProgram) (x : Thread) (got : ℕ) where
+  -- it runs on, from a phase that is no end of a way
+  runs_changed : (phase : Phase) → x.phase ≡ phase → runs_or_ends phase ≡ false → (s : Thread) → runs s ≢ x
+  runs_changed phase e out s = by_kind runs_or_ends x (runs s) phase e out (ran_on s)
 
--- ---- monitors
+  goes_changed : (phase : Phase) (o : Onward) → GoesBy c.program x got phase o → BeginsNothing phase → x.phase ≡ phase → goes_on x o ≢ x
+  goes_changed _ _ (moves.by_element word stored at found) i e = runs_changed (phases.Element word stored) e refl (record x { frames = went_on c.program at (element_made stored got) })
+  goes_changed _ _ (moves.by_object a word) i e = runs_changed (phases.Made a word) e refl (record x { frames = pushed a x.frames })
+  goes_changed _ _ (moves.by_handler r class at found) i e = hands c x r class e at (handler_at (class_of class) at) (fewer_below c.program x.frames at found)
+  goes_changed _ _ (moves.by_none m r t) i e = runs_changed (phases.NotifyLook m r) e refl x
+  goes_changed _ _ (moves.by_one m r u) i e = runs_changed (phases.NotifyOne m r u) e refl x
+  goes_changed _ _ (moves.by_all m r) i e = runs_changed (phases.NotifyAll m r) e refl x
+  goes_changed phase o k i e = absurd i
 
-module _ (x : Thread) (m : ℕ) where
-  took : (was : Phase) (kept : Kept) → x.phase ≡ was → runs_or_ends was ≡ false → takes x m kept ≢ x
-  took was kept e out = by_kind runs_or_ends x (takes x m kept) was e out (ran_on (record x { held = with_held (record { monitor = m; kept = kept; depth = 1 }) x.held; counts = record x.counts { locked = x.counts.locked + 1 } }))
+  checks_differ : (phase : Phase) (t : Attempt) → Checks c.program x t phase → BeginsNothing phase → phases.Enter t.monitor t.number ≢ phase
+  checks_differ _ t (moves.at_throw r class) i = λ q. cc
+  checks_differ _ t (moves.at_end m a k zero_inner) i = λ q. cc
+  checks_differ phase t k i = absurd i
 
-  retook : (r depth : ℕ) → x.phase ≡ phases.Retake m r depth → retakes x m r depth ≢ x
-  retook r depth e = by_kind runs_or_ends x (retakes x m r depth) (phases.Retake m r depth) e refl (ran_on (record x { held = with_held (record { monitor = m; kept = keeps.Fat r; depth = depth }) x.held }))
+  leads_differ : (phase now : Phase) → LeadsTo c.program x got phase now → BeginsNothing phase → now ≢ phase
+  leads_differ phase _ (moves.to_take m count k f) i = looks_in (λ (w : Phase). phases.Take m count ≢ w) m phase k (λ tried q. cc) (λ q. cc)
+  leads_differ phase _ (moves.to_take_fat m r k f) i = looks_in (λ (w : Phase). phases.TakeFat m r ≢ w) m phase k (λ tried q. cc) (λ q. cc)
+  leads_differ _ _ (moves.to_element at array index stored f g t) i = absurd i
+  leads_differ _ _ (moves.to_no_print at f t) i = absurd i
+  leads_differ phase now k i = λ q. cc
 
-  acquired : (was : Phase) (lock : LockWord) → x.phase ≡ was → ((count : ℕ) → phases.Take m count ≢ was) → ((r : ℕ) → phases.TakeFat m r ≢ was) → acquires x m lock ≢ x
-  acquired was (locks.Free count) e take fat = by_phase x _ was (phases.Take m count) e refl (take count)
-  acquired was (locks.Held u) e take fat = one_more_turn x _
-  acquired was (locks.Flagged u) e take fat = one_more_turn x _
-  acquired was (locks.Fat r) e take fat = by_phase x _ was (phases.TakeFat m r) e refl (fat r)
+  grown_differs : (m r : ℕ) (toward : Toward) → grown m r toward ≢ phases.FatIn m r toward
+  grown_differs m r (towards.Leave a) = λ q. cc
+  grown_differs m r towards.Wait = λ q. cc
 
-  module _ (tried : ℕ) (e : x.phase ≡ phases.Enter m tried) where
-    began : (frames : List Frame) (noted number : ℕ) → frames ≢ [] → begins x frames m noted number ≢ x
-    began [] noted number some = absurd (some refl)
-    began (f ∷ below) noted number some = by_kind runs_or_ends x _ (phases.Enter m tried) e refl (ran_on (record x { attempt = Some (record { monitor = m; noted = noted; base = length below; number = number; inner = 0; entry = f }) }))
+  -- a monitor is left
+  behind_changed : (phase : Phase) (y : Thread) (a : After) → x.phase ≡ phase → is_behind phase ≡ false → HasAfter c.program a y.frames → goes_after c.program y a ≢ x
+  behind_changed phase y a e out has = by_kind is_behind x (goes_after c.program y a) phase e out (after_behind c.program y a has)
 
-    tries_on : (lock : LockWord) → x.frames ≢ [] → tries x m tried lock ≢ x
-    tries_on (locks.Free count) some = either x (nat_lt count x.cfg.range) _ _ (began x.frames count (tried + 1) some) (by_phase x _ (phases.Enter m tried) (phases.Acquire m) e refl (λ q. cc))
-    tries_on (locks.Held u) some = by_phase x _ (phases.Enter m tried) (phases.Acquire m) e refl (λ q. cc)
-    tries_on (locks.Flagged u) some = by_phase x _ (phases.Enter m tried) (phases.Acquire m) e refl (λ q. cc)
-    tries_on (locks.Fat r) some = by_phase x _ (phases.Enter m tried) (phases.Acquire m) e refl (λ q. cc)
-
-    enters : (may : Bool) (k : Claim) (got : ℕ) → x.frames ≢ [] → enter_moves x m tried may k got ≢ x
-    enters may (Has h) got some = by_kind runs_or_ends x _ (phases.Enter m tried) e refl (ran_on (record x { held = with_held (deeper h) x.held }))
-    enters may (Tries a) got some = by_kind runs_or_ends x _ (phases.Enter m tried) e refl (ran_on (record x { attempt = Some (record a { inner = a.inner + 1 }) }))
-    enters true HasNot got some = tries_on (lock_of got) some
-    enters false HasNot got some = acquired (phases.Enter m tried) (lock_of got) e (λ count q. cc) (λ r q. cc)
-
-  module _ (p : Program) (a : After) (e : x.phase ≡ phases.Leave m a) (has : HasAfter p a x.frames) where
-    leaves_behind : (y : Thread) → y.frames ≡ x.frames → goes_after p y a ≢ x
-    leaves_behind y same = by_kind is_behind x _ (phases.Leave m a) e refl (after_behind p y a (subst (HasAfter p a) (sym same) has))
-
-    releases : (k : Kept) (got : ℕ) → released p x m a k got ≢ x
-    releases (keeps.Flat count) got = either x (got == word_of_lock (locks.Held x.number)) _ _ (leaves_behind _ refl) (by_phase x _ (phases.Leave m a) (phases.Grow m (towards.Leave a)) e refl (λ q. cc))
-    releases (keeps.Fat r) got = leaves_behind _ refl
-
-    finished : (t : Attempt) (inner got : ℕ) → finishes p x a t inner got ≢ x
-    finished t zero got = either x (is_same t got) _ _ (leaves_behind _ refl) (by_phase x _ (phases.Leave m a) (phases.Enter t.monitor t.number) e refl (λ q. cc))
-    finished t (suc inner) got = leaves_behind _ refl
-
-    leaves : (k : Claim) (got : ℕ) → k ≢ HasNot → leave_moves p x m a k got ≢ x
-    leaves (Has h) got claimed = either x (nat_lt 1 h.depth) _ _ (leaves_behind _ refl) (releases h.kept got)
-    leaves (Tries t) got claimed = finished t t.inner got
-    leaves HasNot got claimed = absurd (claimed refl)
-
-  not_grown : (toward : Toward) → x.phase ≡ phases.Grow m toward → grows_not x m toward ≢ x
-  not_grown (towards.Leave a) e = by_phase x _ (phases.Grow m (towards.Leave a)) (phases.FlatOut m a) e refl (λ q. cc)
-  not_grown towards.Wait e = by_phase x _ (phases.Grow m towards.Wait) (phases.Ending ends.Records) e refl (λ q. cc)
-
-  fattened : (r : ℕ) (toward : Toward) (o : Option Held) → x.phase ≡ phases.FatIn m r toward → IsSome o → fattens x m r toward o ≢ x
-  fattened r toward None e has = absurd (cc)
-  fattened r (towards.Leave a) (Some h) e has = by_phase x _ (phases.FatIn m r (towards.Leave a)) (phases.Leave m a) e refl (λ q. cc)
-  fattened r towards.Wait (Some h) e has = by_phase x _ (phases.FatIn m r towards.Wait) (phases.WaitBit m r) e refl (λ q. cc)
-
-  goes_waiting : (r : ℕ) (o : Option Held) → x.phase ≡ phases.WaitOut m r → IsSome o → goes_to_wait x m r o ≢ x
-  goes_waiting r None e has = absurd (cc)
-  goes_waiting r (Some h) e has = by_phase x _ (phases.WaitOut m r) (phases.WaitLook m r h.depth) e refl (λ q. cc)
-
--- ---- all phases
-
-some_frames : (p : Program) (frames : List Frame) → IsSome (top_of p frames) → frames ≢ []
-some_frames p [] has = absurd (cc)
-some_frames p (f ∷ below) has = λ e. cc
-
-elements : (p : Program) (x : Thread) (word made : ℕ) (stored : Option ℕ) (o : Option Top) → x.phase ≡ phases.Element word stored → IsSome o → goes_on_if x (option_map (λ at. Running (went_on p at made)) o) ≢ x
-elements p x word made stored None e has = absurd (cc)
-elements p x word made stored (Some at) e has = by_kind runs_or_ends x _ (phases.Element word stored) e refl (ran_on (record x { frames = went_on p at made }))
+  move_changes : (phase : Phase) (k : Move c x got phase) → BeginsNothing phase → x.phase ≡ phase → HasEvent c x phase → becomes c x got phase k ≢ x
+  move_changes phase (moves.stays k) i e has = absurd (lacks_none c x got phase k i has)
+  move_changes phase (moves.goes o k) i e has = goes_changed phase o k i e
+  move_changes phase (moves.fails_in t f d k) i e has = by_phase x (fails x t) phase (phases.Enter t.monitor t.number) e refl (checks_differ phase t k i)
+  move_changes phase (moves.leads now k) i e has = by_phase x (with_phase x now) phase now e refl (leads_differ phase now k i)
+  move_changes phase (moves.turns now k) i e has = one_more_turn x now
+  move_changes _ (moves.enters_again m tried h l) i e has = runs_changed (phases.Enter m tried) e refl (record x { held = with_held (deeper h) x.held })
+  move_changes _ (moves.enters_inside m tried t k) i e has = runs_changed (phases.Enter m tried) e refl (record x { attempt = Some (record t { inner = t.inner + 1 }) })
+  move_changes _ (moves.begins_to_try m tried noted f below l y g t unheld) i e has = runs_changed (phases.Enter m tried) e refl (record x { attempt = Some (begun_attempt m noted tried f below) })
+  move_changes phase (moves.takes_lock m kept k) i e has = by_kind runs_or_ends x (takes x m kept) phase e (takes_in (λ (w : Phase). runs_or_ends w ≡ false) got m phase kept k (λ count. refl) (λ r. refl)) (runs_to (λ (w : Phase). runs_or_ends w ≡ true) x refl refl)
+  move_changes _ (moves.gives_up m a (moves.on_leave h l t)) i e has = behind_changed (phases.Leave m a) (record x { held = without_held m x.held }) a e refl has.1
+  move_changes _ (moves.gives_up m a moves.flat_out) i e has = behind_changed (phases.FlatOut m a) (record x { held = without_held m x.held }) a e refl has.1
+  move_changes _ (moves.leaves_outer m a h l t) i e has = behind_changed (phases.Leave m a) (record x { held = with_held (shallower h) x.held }) a e refl has.1
+  move_changes _ (moves.leaves_inside m a t inner k l) i e has = behind_changed (phases.Leave m a) (record x { attempt = Some (record t { inner = inner }) }) a e refl has.1
+  move_changes _ (moves.finishes_try m a t k l y) i e has = behind_changed (phases.Leave m a) (elided x) a e refl has.1
+  move_changes _ (moves.fattens_lock m r toward h l) i e has = by_phase x _ (phases.FatIn m r toward) (grown m r toward) e refl (grown_differs m r toward)
+  move_changes _ (moves.gives_up_to_wait m r h l) i e has = by_phase x _ (phases.WaitOut m r) (phases.WaitLook m r h.depth) e refl (λ q. cc)
+  move_changes _ (moves.retakes_lock m r depth t) i e has = runs_changed (phases.Retake m r depth) e refl (record x { held = with_held (record { monitor = m; kept = keeps.Fat r; depth = depth }) x.held })
+  move_changes phase k i e has = absurd i
 
 -- by whatever word it finds
 pub changed : (c : MarkedProgram) (x : Thread) (phase : Phase) (got : ℕ) → x.phase ≡ phase → HasEvent c x phase → moved c x phase got ≢ x
-changed c x phases.Idle got e has = absurd has
-changed c x (phases.Ended end) got e has = absurd has
 changed c x phases.Start got e has = starts c x x.roots e has
-changed c x phases.Run got e has = instructed_more c x (top_of c.program x.frames) got has.at has.found
-changed c x (phases.Element word stored) got e has = elements c.program x word (element_made stored got) stored (top_of c.program x.frames) e has
-changed c x (phases.Made a word) got e has = by_kind runs_or_ends x _ (phases.Made a word) e refl (ran_on (record x { frames = pushed a x.frames }))
-changed c x (phases.Throw r class) got e has = looked c x r class e x.attempt got _ (throws c x r class e (top_of c.program x.frames) refl has)
-changed c x (phases.Enter m tried) got e has = enters x m tried e (may_try c x tried) (claim x m) got (some_frames c.program x.frames has)
-changed c x (phases.Acquire m) got e has = acquired x m (phases.Acquire m) (lock_of got) e (λ count q. cc) (λ r q. cc)
-changed c x (phases.Take m count) got e has = either x (got == word_of_lock (locks.Free count)) _ _ (took x m (phases.Take m count) (keeps.Flat count) e refl) (one_more_turn x (phases.Acquire m))
-changed c x (phases.Flag m u) got e has = by_phase x _ (phases.Flag m u) (phases.Acquire m) e refl (λ q. cc)
-changed c x (phases.TakeFat m r) got e has = either x (got == 0) _ _ (took x m (phases.TakeFat m r) (keeps.Fat r) e refl) (one_more_turn x (phases.TakeFat m r))
-changed c x (phases.Leave m a) got e has = leaves x m c.program a e has.1 (claim x m) got has.0
-changed c x (phases.Grow m toward) got e has = either x (nat_lt got MONITOR_RECORDS) _ _ (by_phase x _ (phases.Grow m toward) (phases.Own m got toward) e refl (λ q. cc)) (not_grown x m toward e)
-changed c x (phases.FlatOut m a) got e has = by_kind is_behind x _ (phases.FlatOut m a) e refl (after_behind c.program (record x { held = without_held m x.held }) a has.1)
-changed c x (phases.Own m r toward) got e has = by_phase x _ (phases.Own m r toward) (phases.FatIn m r toward) e refl (λ q. cc)
-changed c x (phases.FatIn m r toward) got e has = fattened x m r toward (held_at x.held m) e has
-changed c x (phases.WaitBit m r) got e has = by_phase x _ (phases.WaitBit m r) (phases.WaitOut m r) e refl (λ q. cc)
-changed c x (phases.WaitOut m r) got e has = goes_waiting x m r (held_at x.held m) e has
-changed c x (phases.WaitLook m r depth) got e has = either x (has_flag (bit_of x.number) got) _ _ (one_more_turn x (phases.WaitLook m r depth)) (by_phase x _ (phases.WaitLook m r depth) (phases.Retake m r depth) e refl (λ q. cc))
-changed c x (phases.Retake m r depth) got e has = either x (got == 0) _ _ (retook x m r depth e) (one_more_turn x (phases.Retake m r depth))
-changed c x (phases.NotifyLook m r) got e has = either x (got == 0) _ _ (by_kind runs_or_ends x (runs x) (phases.NotifyLook m r) e refl (ran_on x)) (by_phase x _ (phases.NotifyLook m r) (phases.NotifyOne m r (lowest_of got)) e refl (λ q. cc))
-changed c x (phases.NotifyOne m r u) got e has = by_kind runs_or_ends x (runs x) (phases.NotifyOne m r u) e refl (ran_on x)
-changed c x (phases.NotifyAll m r) got e has = by_kind runs_or_ends x (runs x) (phases.NotifyAll m r) e refl (ran_on x)
-changed c x (phases.Ending end) got e has = by_phase x _ (phases.Ending end) (phases.Ended end) e refl (λ q. cc)
+changed c x phases.Run got e has = instructed_more c x got has.at has.found
+changed c x phase got e has = by_move (λ (y : Thread). y ≢ x) c x phase got (λ k. move_changes c x got phase k tt e has)

@@ -7,23 +7,20 @@ use Rattle.jvm_types.specs.Numbers.{has_number}
 use Rattle.jvm_types.specs.declared.outcome.End.TheVariants as ends
 use Rattle.checked_program.specs.MarkedProgram.{MarkedProgram}
 use Rattle.machine_types.specs.Bounds.{part_roots}
-use Rattle.machine_types.specs.Core.{Core, may_begin, may_begin_by, ended_by, how_ended, next, next_threads, part_begins, with_roots}
+use Rattle.machine_types.specs.Core.{Core, may_begin, may_begin_by, how_ended, next, next_threads, part_begins, with_roots}
 use Rattle.machine_types.specs.Facts.{IsThread}
 use Rattle.machine_types.specs.Lawful.{IsLawful}
-use Rattle.machine_types.specs.Parts.{has_returned, run_roots, done_roots}
+use Rattle.machine_types.specs.Parts.{run_roots, done_roots}
 use Rattle.machine_types.specs.Threads.{Thread}
 use Rattle.machine_types.specs.declared.config.Config.{Config}
 use Rattle.machine_types.specs.declared.phase.Phase.{Phase}
 use Rattle.machine_types.specs.declared.phase.Phase.TheVariants as phases
 use Rattle.machine_types.proofs.AtStart.{all_among}
 use Rattle.laws_threads.specs.PartLaws.{PartFits}
+use Rattle.laws_threads.proofs.PartSteps.{returned}
 use Rattle.laws_states.specs.RunFacts.{AreThreads}
 use Rattle.laws_states.proofs.PartLawful.{IsBetween, is_idle, has_returned as is_returned, lawful_anew, lawful_seen}
-
--- how a part ended that lets the next one begin
-ended_returned : (phase : Phase) → ended_by has_returned phase ≡ true → phase ≡ phases.Ended ends.Returned
-ended_returned (phases.Ended ends.Returned) h = refl
-ended_returned phase h = cc
+use Rattle.laws_programs.proofs.LocalGoing.{at_index}
 
 is_among : (ns : List ℕ) → AllByRecursion (λ n. IsTrue (has_number ns n)) ns
 is_among ns = all_among ns ns (λ n e. e)
@@ -33,11 +30,6 @@ mapped : {X : Type 0} (f : X → X) (xs : List X) (i : ℕ) (y : X) → slice_ge
 mapped f [] i y e = cc
 mapped f (x ∷ xs) zero y e = (x, refl, cc)
 mapped f (x ∷ xs) (suc i) y e = mapped f xs i y e
-
-all_at : {X : Type 0} (P : X → Type 0) (xs : List X) (i : ℕ) (x : X) → AllByRecursion P xs → slice_get xs i ≡ Some x → P x
-all_at P [] i x h e = cc
-all_at P (y ∷ xs) zero x h e = let same : y ≡ x = cc in subst P same h.0
-all_at P (y ∷ xs) (suc i) x h e = all_at P xs i x h.1 e
 
 between : (phase old : Phase) → IsBetween old → phase ≡ old → IsBetween phase
 between phase old b e = subst IsBetween (sym e) b
@@ -90,7 +82,7 @@ workers_run c cfg s x workers h e over = record {
 }
   where
     idle_at : (i : ℕ) (w : Thread) → slice_get workers i ≡ Some w → w.phase ≡ phases.Idle
-    idle_at i w g = all_at (λ w. w.phase ≡ phases.Idle) workers i w (subst (λ (n : ℕ). PartFits n x.phase workers) e h.parts) g
+    idle_at i w g = at_index (λ w. w.phase ≡ phases.Idle) workers i w (subst (λ (n : ℕ). PartFits n x.phase workers) e h.parts) g
 
     thread_at : (t : ℕ) (y : Thread) → slice_get (seen x ∷ map (begun c) workers) t ≡ Some y → IsThread c cfg t y
     thread_at zero y g = let same : seen x ≡ y = cc in subst (IsThread c cfg 0) same (seen_is c cfg x (h.own 0 x refl) e (h.lawful 0 x refl))
@@ -119,7 +111,7 @@ done_runs c cfg s x workers h over = record {
     lawful_at (suc i) y g = h.lawful (suc i) y g
 
 part_run : (c : MarkedProgram) (cfg : Config) (s : Core) (x : Thread) (workers : List Thread) (n : ℕ) → x.part ≡ n → AreThreadsOf c cfg s (x ∷ workers) → may_begin_by n x.phase workers ≡ true → AreThreadsOf c cfg s (part_begins c.program n x workers)
-part_run c cfg s x workers zero e k may = workers_run c cfg s x workers k e (ended_returned x.phase may)
+part_run c cfg s x workers zero e k may = workers_run c cfg s x workers k e (returned x.phase may)
 part_run c cfg s x workers (suc zero) e k may = done_runs c cfg s x workers k (subst (λ (n : ℕ). PartFits n x.phase workers) e k.parts)
 part_run c cfg s x workers (suc (suc n)) e k may = cc
 

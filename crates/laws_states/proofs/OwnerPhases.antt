@@ -9,11 +9,11 @@ use Rattle.machine_types.specs.declared.access.Access.TheVariants.{Store, Cas}
 use Rattle.machine_types.specs.Core.{Core}
 use Rattle.machine_types.specs.Elision.{is_same, fails, elided}
 use Rattle.machine_types.specs.FoundWords.{Lock, leave_content}
-use Rattle.machine_types.specs.Going.{failed_turn, with_phase, goes_on_if}
+use Rattle.machine_types.specs.Going.{failed_turn, with_phase, goes_on_if, goes_after}
 use Rattle.machine_types.specs.HeldMonitors.{held_at, with_held, without_held, shallower}
 use Rattle.machine_types.specs.LockWords.{word_of_lock, next_count}
 use Rattle.machine_types.specs.Monitors.{Has, Tries, HasNot, claim_by, takes, freed, release, leave_wants, leave_moves, released, finish_wants, finishes, lets_go, grows_not, count_kept, fattens, grown, goes_to_wait, retakes}
-use Rattle.machine_types.specs.Onward.{Onward, Running, Throwing, Entering, Leaving, RootReturned, Uncaught, after}
+use Rattle.machine_types.specs.Onward.{Onward, after}
 use Rattle.machine_types.specs.Owners.{hold_by_kept, hold_by_list, drawn_by, Knows, PhaseSaw, Owns, AreLocks, locks_in, references_of}
 use Rattle.machine_types.specs.PlainMemory.{Object}
 use Rattle.machine_types.specs.Structure.{AreHeldOnce, IsFlat, IsFat}
@@ -31,6 +31,7 @@ use Rattle.machine_types.specs.declared.phase.Phase.TheVariants as phases
 use Rattle.machine_types.specs.declared.phase.Toward.{Toward}
 use Rattle.machine_types.specs.declared.phase.Toward.TheVariants as towards
 use Rattle.laws_threads.specs.StructureLaws.{counted_by}
+use Rattle.laws_threads.proofs.ThreadMove.{if_either, same_onward}
 use Rattle.laws_states.specs.HeapFacts.{HeapFacts}
 use Rattle.laws_states.specs.SiteLaws.{SitesDiffer, SitesLieInside}
 use Rattle.laws_states.specs.Sites.{HasObject, IsAccessOf, ReachesIf}
@@ -46,20 +47,10 @@ use Rattle.laws_states.proofs.WordViews.{lock_of_word, lock_view, owner_view, ne
 -- ---- threads that go on
 
 pub goes_cfg : (s : Thread) (o : Option Onward) → (goes_on_if s o).cfg ≡ s.cfg
-goes_cfg s None = refl
-goes_cfg s (Some (Running frames)) = refl
-goes_cfg s (Some (Throwing x class frames)) = refl
-goes_cfg s (Some (Entering m frames)) = refl
-goes_cfg s (Some (Leaving m a frames)) = refl
-goes_cfg s (Some RootReturned) = refl
-goes_cfg s (Some (Uncaught class)) = refl
+goes_cfg = same_onward (λ (s : Thread). s.cfg) (λ s frames phase turns. refl)
 
 finished_cfg : (p : Program) (s : Thread) (a : After) (t : Attempt) (inner got : ℕ) → (finishes p s a t inner got).cfg ≡ s.cfg
-finished_cfg p s a t zero got = by_test (is_same t got)
-  where
-    by_test : (b : Bool) → (cond b (goes_on_if (elided s) (after p s.frames a)) (fails s t)).cfg ≡ s.cfg
-    by_test true = goes_cfg (elided s) (after p s.frames a)
-    by_test false = refl
+finished_cfg p s a t zero got = if_either (λ (y : Thread). y.cfg ≡ s.cfg) (is_same t got) (goes_after p (elided s) a) (fails s t) (goes_cfg (elided s) (after p s.frames a)) refl
 finished_cfg p s a t (suc inner) got = goes_cfg (record s { attempt = Some (record t { inner = inner }) }) (after p s.frames a)
 
 -- where it has left a monitor

@@ -1,6 +1,7 @@
 -- A write of the owner of a record by a thread: what it has to show.
 use Rattle.std.proofs.Common.{◌≡◌, ◌≢◌, inl, ℕ, ◌+◌, ◌≤◌, Bool, true, false, cond, Option, Some, None, refl, sym, ap, ◌∙◌, subst}
 use Rattle.std.specs.Prelude.{◌==◌}
+use Rattle.std.proofs.lemmas.Bool.Decides.{Decides-eqb}
 use Rattle.machine_types.specs.HeldMonitors.{held_at}
 use Rattle.machine_types.specs.Owners.{Locks, NotHeld, HeldFat, hold_by_word, hold_by_list, drawn_by, Knows, PhaseSaw, AttemptSawIn, IsKeptIn, Owns, AreLocks}
 use Rattle.machine_types.specs.Threads.{Attempt, Thread}
@@ -9,7 +10,7 @@ use Rattle.machine_types.specs.declared.lock.LockWord.{LockWord}
 use Rattle.machine_types.specs.declared.lock.LockWord.TheVariants as locks
 use Rattle.machine_types.specs.declared.phase.Phase.{Phase}
 use Rattle.machine_types.specs.declared.phase.Phase.TheVariants as phases
-use Rattle.laws_states.proofs.LockViews.{set_owner, is_there, not_there, same_there}
+use Rattle.laws_states.proofs.LockViews.{set_owner, not_there, same_there}
 use Rattle.laws_states.proofs.OwnersStep.{Owes, flat_in}
 
 module _ (v : Locks) (count : ℕ → ℕ) (one owner : ℕ) where
@@ -21,7 +22,7 @@ module _ (v : Locks) (count : ℕ → ℕ) (one owner : ℕ) where
   words_same u (locks.Fat r) e f = by_test (one == r) refl
     where
       by_test : (b : Bool) → (one == r) ≡ b → cond (cond b owner (v.owner r) == u + 1) (HeldFat r) NotHeld ≡ cond (v.owner r == u + 1) (HeldFat r) NotHeld
-      by_test true g = ap (λ (b : Bool). cond b (HeldFat r) NotHeld) (e ∙ sym f ∙ ap (λ (i : ℕ). v.owner i == u + 1) (is_there one r g))
+      by_test true g = ap (λ (b : Bool). cond b (HeldFat r) NotHeld) (e ∙ sym f ∙ ap (λ (i : ℕ). v.owner i == u + 1) ((Decides-eqb one r).0 g))
       by_test false g = refl
 
   -- nor does another record's owner change
@@ -36,7 +37,7 @@ module _ (v : Locks) (count : ℕ → ℕ) (one owner : ℕ) where
   knows_same u (phases.FatIn m r toward) f h = (record { unnamed = h.0.unnamed; below = h.0.below }, by_test (one == r) refl)
     where
       by_test : (b : Bool) → (one == r) ≡ b → cond b owner (v.owner r) ≡ u + 1
-      by_test true g = let owned : (v.owner one == u + 1) ≡ true = ap (λ (i : ℕ). i == u + 1) (ap v.owner (is_there one r g) ∙ h.1) ∙ same_there (u + 1) in absurd (cc)
+      by_test true g = let owned : (v.owner one == u + 1) ≡ true = ap (λ (i : ℕ). i == u + 1) (ap v.owner ((Decides-eqb one r).0 g) ∙ h.1) ∙ same_there (u + 1) in absurd (cc)
       by_test false g = h.1
   knows_same u (phases.TakeFat m r) f h = h
   knows_same u (phases.WaitLook m r depth) f h = h

@@ -1,7 +1,7 @@
 -- The events by which owners change: a lock is taken, flagged, made fat or let go; a record is drawn, gets an owner or loses it.
 use Rattle.std.proofs.Common.{◌≡◌, inl, inr, ℕ, ◌+◌, ◌<◌, ◌≤◌, nat_lt, Bool, true, false, cond, List, Option, Some, None, refl, sym, ap, ◌∙◌, subst, arith}
 use Rattle.std.specs.Prelude.{◌==◌, if◌then◌else◌}
-use Rattle.std.proofs.lemmas.Bool.Decides.{nat_tests}
+use Rattle.std.proofs.lemmas.Bool.Decides.{nat_tests, Decides-eqb}
 use Rattle.machine_types.specs.HeldMonitors.{held_at, with_held, without_held}
 use Rattle.machine_types.specs.LockWords.{next_count}
 use Rattle.machine_types.specs.Owners.{Locks, Hold, NotHeld, HeldFlat, HeldFat, hold_by_word, hold_by_kept, hold_by_list, drawn_by, IsDrawn, Knows, PhaseSaw, AttemptSawIn, IsKeptIn, Owns, AreLocks, one_if_flat}
@@ -18,7 +18,7 @@ use Rattle.machine_types.specs.declared.phase.Phase.{Phase}
 use Rattle.machine_types.specs.declared.phase.Phase.TheVariants as phases
 use Rattle.laws_threads.proofs.HeldLists.{held_monitor, held_put, held_without}
 use Rattle.laws_states.proofs.CountedPhases.{IsPlain, plain_knows, plain_saw, plain_draws_none}
-use Rattle.laws_states.proofs.LockViews.{set_lock, set_owner, set_next, recounted, is_there, not_there, not_same, same_there, itself, another, fatly, thin_if_flat, flat_alone}
+use Rattle.laws_states.proofs.LockViews.{set_lock, set_owner, set_next, recounted, not_there, not_same, same_there, itself, another, fatly, thin_if_flat, flat_alone}
 use Rattle.laws_states.proofs.LockWritten.{lock_written, put_holds, drop_holds, put_keeps, drop_keeps}
 use Rattle.laws_states.proofs.OwnerWritten.{owner_written, words_apart, take_same, own_attempt, attempt_same}
 use Rattle.laws_states.proofs.OwnersStep.{Owes, flat_in}
@@ -34,7 +34,7 @@ pub recount_same : (n m : ℕ) (count : ℕ → ℕ) → recounted n (count n) c
 recount_same n m count = by_test (n == m) refl
   where
     by_test : (b : Bool) → (n == m) ≡ b → cond b (count n) (count m) ≡ count m
-    by_test true e = ap count (is_there n m e)
+    by_test true e = ap count ((Decides-eqb n m).0 e)
     by_test false e = refl
 
 flat_once : (h : Hold) → one_if_flat h ≤ 1
@@ -109,7 +109,7 @@ module _ (v : Locks) (count : ℕ → ℕ) (t : ℕ) (was : Phase) (x : Thread) 
       none_fat e = cc
 
       same : (m : ℕ) (b : Bool) → (n == m) ≡ b → hold_by_list (held_at x.held m) ≡ cond b (cond (u == t) HeldFlat NotHeld) (hold_by_list (held_at x.held m))
-      same m true e = sym (o.holds m) ∙ ap (λ (i : ℕ). hold_by_word t (v.lock i) v.owner) (sym (is_there n m e)) ∙ ap (λ (l : LockWord). hold_by_word t l v.owner) f
+      same m true e = sym (o.holds m) ∙ ap (λ (i : ℕ). hold_by_word t (v.lock i) v.owner) (sym ((Decides-eqb n m).0 e)) ∙ ap (λ (l : LockWord). hold_by_word t l v.owner) f
       same m false e = refl
 
   -- ---- a flat lock is let go, with the count that follows
@@ -154,7 +154,7 @@ module _ (v : Locks) (count : ℕ → ℕ) (t : ℕ) (was : Phase) (x : Thread) 
           → cond q (next_count c x.cfg.range) (count m) + flat_in m y + x.counts.locked ≤ count m + flat_in m x + y.counts.locked
       few m true e g =
           let none : flat_in m y ≡ 0 = ap one_if_flat g in
-          let same : n ≡ m = is_there n m e in
+          let same : n ≡ m = (Decides-eqb n m).0 e in
           let one : flat_in n x ≡ 1 = ap one_if_flat (sym (o.holds n) ∙ flat) in
           let here : flat_in n x ≡ flat_in m x = ap (λ (i : ℕ). flat_in i x) same in
           let counted : count n ≡ count m = ap count same in
@@ -293,7 +293,7 @@ module _ (v : Locks) (count : ℕ → ℕ) (t : ℕ) (was : Phase) (x : Thread) 
 
       by_test : (m : ℕ) (q : Bool) → (n == m) ≡ q → hold_by_word t (v.lock m) (set_owner r (t + 1) v).owner ≡ cond q (HeldFat r) (hold_by_list (held_at x.held m))
       by_test m true e =
-          ap (λ (i : ℕ). hold_by_word t (v.lock i) (set_owner r (t + 1) v).owner) (sym (is_there n m e)) ∙ ap (λ (l : LockWord). hold_by_word t l (set_owner r (t + 1) v).owner) f
+          ap (λ (i : ℕ). hold_by_word t (v.lock i) (set_owner r (t + 1) v).owner) (sym ((Decides-eqb n m).0 e)) ∙ ap (λ (l : LockWord). hold_by_word t l (set_owner r (t + 1) v).owner) f
           ∙ ap (λ (q : Bool). cond (cond q (t + 1) (v.owner r) == t + 1) (HeldFat r) NotHeld) (same_there r) ∙ itself (t + 1) (HeldFat r)
       by_test m false e = words_apart v count r (t + 1) t (v.lock m) (λ g. not_same n m e (a.one n m r f g)) ∙ o.holds m
 
@@ -332,7 +332,7 @@ module _ (v : Locks) (count : ℕ → ℕ) (t : ℕ) (was : Phase) (x : Thread) 
 
       by_test : (m : ℕ) (q : Bool) → (n == m) ≡ q → hold_by_word t (v.lock m) (set_owner r 0 v).owner ≡ cond q NotHeld (hold_by_list (held_at x.held m))
       by_test m true e =
-          ap (λ (i : ℕ). hold_by_word t (v.lock i) (set_owner r 0 v).owner) (sym (is_there n m e)) ∙ ap (λ (l : LockWord). hold_by_word t l (set_owner r 0 v).owner) fat.0
+          ap (λ (i : ℕ). hold_by_word t (v.lock i) (set_owner r 0 v).owner) (sym ((Decides-eqb n m).0 e)) ∙ ap (λ (l : LockWord). hold_by_word t l (set_owner r 0 v).owner) fat.0
           ∙ ap (λ (q : Bool). cond (cond q 0 (v.owner r) == t + 1) (HeldFat r) NotHeld) (same_there r) ∙ another 0 (t + 1) (HeldFat r) (λ q. absurd (omega (arith, q)))
       by_test m false e = words_apart v count r 0 t (v.lock m) (λ q. not_same n m e (a.one n m r fat.0 q)) ∙ o.holds m
 

@@ -2,7 +2,7 @@
 use Rattle.std.proofs.Common.{◌≡◌, ◌≢◌, ◌⊎◌, inl, inr, ℕ, zero, suc, ◌+◌, ◌<◌, ◌≤◌, Bool, true, false, cond, List, [], ◌∷◌, Option, Some, refl, sym, ap, ◌∙◌, subst, arith}
 use Rattle.std.specs.Prelude.{◌==◌, slice_get, slice_set}
 use Rattle.std.specs.List.{sum_by}
-use Rattle.std.proofs.lemmas.Bool.Decides.{nat_tests}
+use Rattle.std.proofs.lemmas.Bool.Decides.{nat_tests, Decides-eqb}
 use Rattle.checked_program.specs.MarkedProgram.{MarkedProgram}
 use Rattle.machine_types.specs.Core.{Core}
 use Rattle.machine_types.specs.HeldMonitors.{held_at}
@@ -16,7 +16,7 @@ use Rattle.laws_threads.specs.StructureLaws.{counted_by}
 use Rattle.laws_threads.specs.StateLaws.{counted_of, counted_at}
 use Rattle.laws_states.proofs.Sums.{sum_set}
 use Rattle.laws_states.proofs.CountedPhases.{was_draws, phase_draws, counted_draws}
-use Rattle.laws_states.proofs.LockViews.{is_there, not_same}
+use Rattle.laws_states.proofs.LockViews.{not_same}
 
 -- ---- one thread of a list is changed
 
@@ -60,7 +60,7 @@ module _ (c : MarkedProgram) (references later : List ℕ) (was : ℕ → Phase)
   threads = slice_set s.threads t y
 
   here : (u : ℕ) (z : Thread) → (u == t) ≡ true → slice_get (slice_set s.threads t y) u ≡ Some z → y ≡ z
-  here u z g e = set_there s.threads t x y z there (ap (λ (n : ℕ). slice_get (slice_set s.threads t y) n) (sym (is_there u t g)) ∙ e)
+  here u z g e = set_there s.threads t x y z there (ap (λ (n : ℕ). slice_get (slice_set s.threads t y) n) (sym ((Decides-eqb u t).0 g)) ∙ e)
 
   there_too : (u : ℕ) (z : Thread) → (u == t) ≡ false → slice_get (slice_set s.threads t y) u ≡ Some z → slice_get s.threads u ≡ Some z
   there_too u z g e = sym (set_other s.threads t u y g) ∙ e
@@ -76,7 +76,7 @@ module _ (c : MarkedProgram) (references later : List ℕ) (was : ℕ → Phase)
     where
       by_number : (b : Bool) → (u == t) ≡ b → Owns (locks_in later after) more u (cond b (counted_of (was t) (slice_get (slice_set s.threads t y) t)) (was u)) z
       by_number true g =
-          let same : u ≡ t = is_there u t g in
+          let same : u ≡ t = (Decides-eqb u t).0 g in
           let at : slice_get (slice_set s.threads t y) t ≡ Some z = ap (λ (n : ℕ). slice_get (slice_set s.threads t y) n) (sym same) ∙ e in
           subst (λ (o : Option Thread). Owns (locks_in later after) more u (counted_of (was t) o) z) (sym at)
           (subst (λ (n : ℕ). Owns (locks_in later after) more n (counted_by (was t) z.phase) z) (sym same)
@@ -111,7 +111,7 @@ module _ (c : MarkedProgram) (references later : List ℕ) (was : ℕ → Phase)
       apart_at u k a b e f d r g h = by_both (u == t) refl (k == t) refl
         where
           by_both : (p : Bool) → (u == t) ≡ p → (q : Bool) → (k == t) ≡ q → ⊥
-          by_both true p true q = d (is_there u t p ∙ sym (is_there k t q))
+          by_both true p true q = d ((Decides-eqb u t).0 p ∙ sym ((Decides-eqb k t).0 q))
           by_both true p false q = drew k b q (there_too k b q f) r (subst (λ (z : Thread). drawn_by z.phase ≡ Some r) (sym (here u a p e)) g) h
           by_both false p true q = drew u a p (there_too u a p e) r (subst (λ (z : Thread). drawn_by z.phase ≡ Some r) (sym (here k b q f)) h) g
           by_both false p false q = owners.apart u k a b (there_too u a p e) (there_too k b q f) d r g h

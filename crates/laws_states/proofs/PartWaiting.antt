@@ -1,7 +1,6 @@
 -- Where a part of the run begins, nobody waits who did not: the threads of the part waited for it.
 use Rattle.std.proofs.Common.{◌≡◌, ℕ, zero, suc, ◌<◌, Bool, true, false, cond, List, [], ◌∷◌, map, Option, Some, refl, ap, sym, subst}
 use Rattle.std.specs.Prelude.{IsSome, slice_get}
-use Rattle.std.specs.List.{AllByRecursion}
 use Rattle.jvm_types.specs.declared.outcome.End.{End}
 use Rattle.jvm_types.specs.declared.outcome.End.TheVariants as ends
 use Rattle.checked_program.specs.MarkedProgram.{MarkedProgram}
@@ -16,6 +15,8 @@ use Rattle.machine_types.specs.declared.phase.Phase.TheVariants as phases
 use Rattle.laws_threads.specs.StructureLaws.{turned_from, counted_by}
 use Rattle.laws_threads.specs.StateLaws.{counted_of}
 use Rattle.laws_threads.specs.PartLaws.{PartFits, PartsFit}
+use Rattle.laws_threads.proofs.PartSteps.{one_idle}
+use Rattle.laws_threads.proofs.Lists.{mapped_at}
 use Rattle.laws_states.specs.WaitingLaws.{NextKeepsWaiting}
 
 -- ---- a thread that stays as it is
@@ -68,16 +69,6 @@ begins_none words u was phase (number ∷ roots) rests is k = record { only = λ
 
 -- ---- all of them
 
-one_idle : (xs : List Thread) (i : ℕ) (x : Thread) → AllByRecursion (λ w. w.phase ≡ phases.Idle) xs → slice_get xs i ≡ Some x → x.phase ≡ phases.Idle
-one_idle [] i x e f = absurd (cc)
-one_idle (y ∷ xs) zero x e f = let same : y ≡ x = cc in subst (λ (z : Thread). z.phase ≡ phases.Idle) same e.0
-one_idle (y ∷ xs) (suc i) x e f = one_idle xs i x e.1 f
-
-mapped : {A B : Type 0} (of : A → B) (xs : List A) (i : ℕ) (y : B) → slice_get (map of xs) i ≡ Some y → (x : A) × (slice_get xs i ≡ Some x) × (of x ≡ y)
-mapped of [] i y e = absurd (cc)
-mapped of (x ∷ xs) zero y e = (x, refl, cc)
-mapped of (x ∷ xs) (suc i) y e = mapped of xs i y e
-
 map_some : {A B : Type 0} (of : A → B) (xs : List A) (i : ℕ) → IsSome (slice_get xs i) → IsSome (slice_get (map of xs) i)
 map_some of [] i k = absurd (cc)
 map_some of (x ∷ xs) zero k = refl
@@ -93,7 +84,7 @@ module _ (c : MarkedProgram) (was : ℕ → Phase) (words : List ℕ) (x : Threa
   part_waits : (part : ℕ) → PartFits part x.phase workers → may_begin_by part x.phase workers ≡ true → (u : ℕ) (y : Thread) → slice_get (part_begins c.program part x workers) u ≡ Some y → Waits words u (counted_by (was u) y.phase)
   part_waits zero fits may zero y e = as_it_was 0 x y refl (let same : record x { part = 1; first = how_ended x.phase } ≡ y = cc in ap (λ (z : Thread). z.phase) (sym same))
   part_waits zero fits may (suc u) y e =
-      let from = mapped (with_roots (run_roots c.program)) workers u y e in
+      let from = mapped_at (with_roots (run_roots c.program)) workers u y e in
       let idle : from.0.phase ≡ phases.Idle = one_idle workers u from.0 fits from.1 in
       subst (λ (z : Thread). Waits words (suc u) (counted_by (was (suc u)) z.phase)) from.2 (anew (suc u) from.0 (run_roots c.program) from.1 (subst Rests (sym idle) is_idle))
   part_waits (suc zero) fits may zero y e =

@@ -2,7 +2,6 @@
 use Rattle.std.proofs.Common.{◌≡◌, ℕ, zero, suc, ◌≤◌, Bool, true, false, List, [], ◌∷◌, map, Some, None, refl, ap, sym, subst, arith}
 use Rattle.std.specs.Prelude.{slice_get, if◌then◌else◌}
 use Rattle.std.specs.List.{list_all}
-use Rattle.lists.proofs.TestLaws.{both_are_true}
 use Rattle.jvm_types.specs.declared.outcome.End.TheVariants as ends
 use Rattle.jvm_types.specs.declared.program.Program.{Program}
 use Rattle.checked_program.specs.MarkedProgram.{MarkedProgram}
@@ -15,6 +14,8 @@ use Rattle.machine_types.specs.declared.phase.Phase.TheVariants as phases
 use Rattle.machine_types.proofs.AtStart.{is_start_thread}
 use Rattle.laws_states.specs.PartsLaws.{StartStandsInParts, NextKeepsParts, StartHasNoAttempts, NextMakesNoAttempts}
 use Rattle.laws_states.specs.PartsStand.{FirstFits, HasReturned, HasFinished, DoneRoots, PartsStand}
+use Rattle.laws_threads.proofs.Lists.{mapped_at}
+use Rattle.laws_threads.proofs.PartSteps.{one_of_all}
 
 part_returned : (roots : List ℕ) → HasReturned (part_phase roots) → roots ≡ []
 part_returned [] has = refl
@@ -56,16 +57,6 @@ has_ended : (phase : Phase) → ended_by has_finished phase ≡ true → HasFini
 has_ended (phases.Ended reason) e = e
 has_ended phase e = absurd (cc)
 
-one_of_all : {A : Type 0} (test : A → Bool) (xs : List A) (i : ℕ) (x : A) → list_all test xs ≡ true → slice_get xs i ≡ Some x → test x ≡ true
-one_of_all test [] i x e f = absurd (cc)
-one_of_all test (y ∷ xs) zero x e f = let same : y ≡ x = cc in subst (λ z. test z ≡ true) same (both_are_true (test y) (list_all test xs) e).0
-one_of_all test (y ∷ xs) (suc i) x e f = one_of_all test xs i x (both_are_true (test y) (list_all test xs) e).1 f
-
-mapped : {A B : Type 0} (of : A → B) (xs : List A) (i : ℕ) (y : B) → slice_get (map of xs) i ≡ Some y → (x : A) × (slice_get xs i ≡ Some x) × (of x ≡ y)
-mapped of [] i y e = absurd (cc)
-mapped of (x ∷ xs) zero y e = (x, refl, cc)
-mapped of (x ∷ xs) (suc i) y e = mapped of xs i y e
-
 module _ (p : Program) (x : Thread) (workers : List Thread) (stand : PartsStand p (x ∷ workers)) where
   abbrev seen : Thread
   seen = record x { part = 1; first = how_ended x.phase }
@@ -81,7 +72,7 @@ module _ (p : Program) (x : Thread) (workers : List Thread) (stand : PartsStand 
     where
       back : (t : ℕ) (y : Thread) → slice_get (seen ∷ map (with_roots (run_roots p)) workers) t ≡ Some y → HasReturned y.phase → y.roots ≡ []
       back zero y e = let same : seen ≡ y = cc in subst (λ (z : Thread). HasReturned z.phase → z.roots ≡ []) same (stand.returned 0 x refl)
-      back (suc t) y e = let from = mapped (with_roots (run_roots p)) workers t y e in subst (λ (z : Thread). HasReturned z.phase → z.roots ≡ []) from.2 (part_returned (run_roots p))
+      back (suc t) y e = let from = mapped_at (with_roots (run_roots p)) workers t y e in subst (λ (z : Thread). HasReturned z.phase → z.roots ≡ []) from.2 (part_returned (run_roots p))
 
   abbrev last : Thread
   last = with_roots (done_roots p) (record x { part = 2 })
@@ -120,7 +111,7 @@ next_keeps_parts c s stand = by_threads s.threads stand
 
 part_none : (p : Program) (part : ℕ) (x : Thread) (workers : List Thread) → ((t : ℕ) (y : Thread) → slice_get (x ∷ workers) t ≡ Some y → y.attempt ≡ None) → (t : ℕ) (y : Thread) → slice_get (part_begins p part x workers) t ≡ Some y → y.attempt ≡ None
 part_none p zero x workers none zero y e = let same : record x { part = 1; first = how_ended x.phase } ≡ y = cc in subst (λ (z : Thread). z.attempt ≡ None) same (none 0 x refl)
-part_none p zero x workers none (suc t) y e = let from = mapped (with_roots (run_roots p)) workers t y e in subst (λ (z : Thread). z.attempt ≡ None) from.2 (none (suc t) from.0 from.1)
+part_none p zero x workers none (suc t) y e = let from = mapped_at (with_roots (run_roots p)) workers t y e in subst (λ (z : Thread). z.attempt ≡ None) from.2 (none (suc t) from.0 from.1)
 part_none p (suc part) x workers none zero y e = let same : with_roots (done_roots p) (record x { part = 2 }) ≡ y = cc in subst (λ (z : Thread). z.attempt ≡ None) same (none 0 x refl)
 part_none p (suc part) x workers none (suc t) y e = none (suc t) y e
 

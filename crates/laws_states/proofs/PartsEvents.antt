@@ -26,13 +26,9 @@ use Rattle.laws_states.specs.PartsLaws.{EventsKeepParts}
 use Rattle.laws_states.specs.PartsStand.{FirstFits, HasReturned, HasFinished, DoneRoots, PartsStand}
 use Rattle.laws_states.proofs.DoneRoot.{one_done}
 use Rattle.laws_states.proofs.RootMoves.{RootFits, IsNoStart, moved_stays, root_goes}
+use Rattle.laws_states.proofs.EventFacts.{got_when_set}
 
 -- ---- one thread of a list is changed
-
-got_when_set : {A : Type 0} (xs : List A) (i : ℕ) (x y : A) → slice_get xs i ≡ Some x → slice_get (slice_set xs i y) i ≡ Some y
-got_when_set [] i x y e = absurd (cc)
-got_when_set (z ∷ zs) zero x y e = refl
-got_when_set (z ∷ zs) (suc i) x y e = got_when_set zs i x y e
 
 got_other : {A : Type 0} (xs : List A) (i j : ℕ) (x : A) → j ≢ i → slice_get (slice_set xs i x) j ≡ slice_get xs j
 got_other [] i j x n = refl

@@ -1,8 +1,7 @@
 -- Which word each event accesses, phase by phase.
-use Rattle.std.proofs.Common.{◌≡◌, ℕ, zero, suc, ◌+◌, ◌-◌, ◌^◌, Bool, true, false, List, Option, Some, None, refl, ap, subst, arith}
-use Rattle.std.specs.Prelude.{◌==◌, nat_lt, slice_get, if◌then◌else◌, IfSome}
+use Rattle.std.proofs.Common.{◌≡◌, ℕ, zero, suc, ◌+◌, ◌-◌, ◌^◌, Bool, true, false, List, Option, Some, None, refl, subst}
+use Rattle.std.specs.Prelude.{nat_lt, slice_get, if◌then◌else◌, IfSome}
 use Rattle.std.specs.List.{AllByRecursion}
-use Rattle.std.proofs.lemmas.Bool.Decides.{nat_tests}
 use Rattle.checked_program.specs.MarkedProgram.{MarkedProgram, IsMarked}
 use Rattle.machine_types.specs.Bounds.{KeptFits, PhaseFits}
 use Rattle.machine_types.specs.Core.{Core}
@@ -11,7 +10,7 @@ use Rattle.machine_types.specs.FoundWords.{Content, Lock, leave_content, content
 use Rattle.machine_types.specs.HeldMonitors.{held_at}
 use Rattle.machine_types.specs.Lawful.{IsLawful}
 use Rattle.machine_types.specs.LockWords.{word_of_lock}
-use Rattle.machine_types.specs.Monitors.{Claim, Has, Tries, HasNot, claim_by, claim, enter_wants, finish_wants, release, leave_wants, freed, count_kept, bit_of}
+use Rattle.machine_types.specs.Monitors.{Claim, Has, Tries, HasNot, claim, enter_wants, finish_wants, release, leave_wants, freed, count_kept, bit_of}
 use Rattle.machine_types.specs.PlainMemory.{Object}
 use Rattle.machine_types.specs.Structure.{TopIs, is_element_op, IsFlat, IsAs, PhaseShows, Stands}
 use Rattle.machine_types.specs.Threads.{Frame, Attempt, Thread}
@@ -27,33 +26,14 @@ use Rattle.machine_types.specs.declared.phase.Phase.{Phase}
 use Rattle.machine_types.specs.declared.phase.Phase.TheVariants as phases
 use Rattle.laws_threads.proofs.HeldLists.{held_monitor}
 use Rattle.laws_threads.proofs.HeldBounds.{found}
+use Rattle.laws_threads.proofs.ThreadMove.{has_held}
 use Rattle.laws_states.specs.HeapFacts.{HoldsObjects, HeapFacts}
 use Rattle.laws_states.specs.SiteLaws.{EventsReachSites}
 use Rattle.laws_states.specs.Sites.{NewHeaderOf, Reaches, ReachesIf}
 use Rattle.laws_states.proofs.Accesses.{FitsAccess, FitsIf, at_lock, at_owner, at_bits, at_record_word, look_fits, run_fits, element_site, element_fits}
+use Rattle.laws_states.proofs.HeldOrTried.{tried_at}
 
 -- ---- claims
-
-pub has_held : (m : ℕ) (held : Option Held) (attempt : Option Attempt) (h : Held) → claim_by m held attempt ≡ Has h → held ≡ Some h
-has_held m (Some g) attempt h e = cc
-has_held m None None h e = absurd (cc)
-has_held m None (Some a) h e = by_test (a.monitor == m) e
-  where
-    by_test : (b : Bool) → (if b then Tries a else HasNot) ≡ Has h → None ≡ Some h
-    by_test true e = absurd (cc)
-    by_test false e = absurd (cc)
-
-tried_at : (m : ℕ) (held : Option Held) (attempt : Option Attempt) (a : Attempt) → claim_by m held attempt ≡ Tries a → (attempt ≡ Some a) × (a.monitor ≡ m)
-tried_at m (Some h) attempt a e = absurd (cc)
-tried_at m None None a e = absurd (cc)
-tried_at m None (Some b) a e = by_test (b.monitor == m) refl e
-  where
-    by_test : (t : Bool) → (b.monitor == m) ≡ t → (if t then Tries b else HasNot) ≡ Tries a → (Some b ≡ Some a) × (a.monitor ≡ m)
-    by_test true t e =
-        let one : b ≡ a = cc in
-        let same : b.monitor ≡ m = grind (arith, nat_tests, t) in
-        (ap Some one, subst (λ (x : Attempt). x.monitor ≡ m) one same)
-    by_test false t e = absurd (cc)
 
 pub some_of : {A : Type 0} (P : A → Type 0) (o : Option A) (a : A) → o ≡ Some a → IfSome o P → P a
 some_of P o a e h = subst (λ x. IfSome x P) e h

@@ -1,31 +1,25 @@
 -- Most events leave a thread in a plain phase, and its attempt as it was or none.
-use Rattle.std.proofs.Common.{◌≡◌, ℕ, zero, suc, ◌+◌, ◌<◌, nat_lt, nat_le, Bool, true, false, cond, List, [], ◌∷◌, Option, Some, None, refl, sym, subst}
-use Rattle.std.specs.Prelude.{if◌then◌else◌}
+use Rattle.std.proofs.Common.{◌≡◌, ℕ, zero, suc, ◌<◌, nat_lt, Bool, true, false, cond, Option, Some, None, refl, sym, subst}
 use Rattle.jvm_types.specs.declared.outcome.End.TheVariants as ends
-use Rattle.jvm_types.specs.declared.outcome.Thrown.TheVariants.{ArrayIndexOutOfBoundsException, OutOfMemoryError, IllegalMonitorStateException}
 use Rattle.jvm_types.specs.declared.program.Program.{Program}
-use Rattle.machine_types.specs.declared.effect.Effect.{Effect}
-use Rattle.machine_types.specs.declared.effect.Effect.TheVariants.{Goes, Throws, Reads, Writes, Indexes, Measures, Raises, Makes, Prints, Calls, Returns, Enters, Leaves, Waits, Notifies, NotifiesAll, Stuck}
-use Rattle.machine_types.specs.Elision.{is_checked, is_same, fails, if_same, elided}
-use Rattle.machine_types.specs.Events.{started}
-use Rattle.machine_types.specs.Frames.{Top, effect_at, went_on}
-use Rattle.machine_types.specs.Going.{goes_on, goes_on_if, root_over}
-use Rattle.machine_types.specs.HeldMonitors.{held_at}
-use Rattle.machine_types.specs.Instructions.{has_print_left, begun, if_held, waits, notifies, did, ran}
-use Rattle.machine_types.specs.Ints.{low}
+use Rattle.machine_types.specs.Elision.{is_same, elided}
+use Rattle.machine_types.specs.Frames.{went_on}
+use Rattle.machine_types.specs.Going.{goes_on, goes_on_if}
 use Rattle.machine_types.specs.Monitors.{finishes}
-use Rattle.machine_types.specs.Onward.{Onward, Running, Throwing, Entering, Leaving, RootReturned, Uncaught, threw, done}
+use Rattle.machine_types.specs.Onward.{Onward, Running, Throwing, Entering, Leaving, RootReturned, Uncaught}
 use Rattle.machine_types.specs.Owners.{Locks, IsSeen, AttemptSawIn}
 use Rattle.machine_types.specs.Threads.{Thread, Attempt}
-use Rattle.machine_types.specs.Words.{header_length}
 use Rattle.machine_types.specs.declared.config.Config.{Config}
-use Rattle.machine_types.specs.declared.lock.Held.{Held}
 use Rattle.machine_types.specs.declared.lock.Kept.{Kept}
-use Rattle.machine_types.specs.declared.lock.Kept.TheVariants as keeps
 use Rattle.machine_types.specs.declared.phase.After.{After}
 use Rattle.machine_types.specs.declared.phase.Phase.{Phase}
 use Rattle.machine_types.specs.declared.phase.Phase.TheVariants as phases
 use Rattle.laws_states.proofs.CountedPhases.{IsPlain}
+use Rattle.laws_threads.proofs.ThreadMove.{LeadsTo, TurnsTo, Asks, WaitsFrom, Move, becomes, counting, any_move, if_either, looks_in, takes_in, gives_up_in, over_to, same_onward}
+use Rattle.laws_threads.proofs.ThreadMove as moves
+use Rattle.checked_program.specs.MarkedProgram.{MarkedProgram}
+use Rattle.machine_types.specs.Events.{moved}
+use Rattle.machine_types.specs.Instructions.{printed}
 
 -- ---- the attempt is none, or looks back at what it looked at
 
@@ -56,85 +50,86 @@ pub runs_plain : (b : Bool) → IsPlain (cond b phases.Run (phases.Ending ends.S
 runs_plain true = tt
 runs_plain false = tt
 
-pub by_test : (old : Option Attempt) (b : Bool) (x y : Thread) → Plainly old x → Plainly old y → Plainly old (if b then x else y)
-by_test old true x y h k = h
-by_test old false x y h k = k
-
-roots_plain : (roots : List ℕ) → IsPlain (root_over roots)
-roots_plain [] = tt
-roots_plain (number ∷ roots) = tt
-
 module _ (old : Option Attempt) where
-  pub goes : (s : Thread) (o : Onward) → LooksBack s.attempt old → Plainly old (goes_on s o)
+  goes : (s : Thread) (o : Onward) → LooksBack s.attempt old → Plainly old (goes_on s o)
   goes s (Running frames) k = record { phase = runs_plain (nat_lt s.counts.instructions s.cfg.steps); attempt = k }
   goes s (Throwing x class frames) k = record { phase = tt; attempt = k }
   goes s (Entering m frames) k = record { phase = tt; attempt = k }
   goes s (Leaving m a frames) k = record { phase = tt; attempt = k }
-  goes s RootReturned k = record { phase = roots_plain s.roots; attempt = k }
+  goes s RootReturned k = record { phase = over_to IsPlain s.roots (λ e. tt) (λ number rest e. tt); attempt = k }
   goes s (Uncaught class) k = record { phase = tt; attempt = k }
 
   pub goes_if : (s : Thread) (o : Option Onward) → IsPlain s.phase → LooksBack s.attempt old → Plainly old (goes_on_if s o)
   goes_if s None p k = record { phase = p; attempt = k }
   goes_if s (Some o) p k = goes s o k
 
-  pub checked : (s : Thread) (a : Option Attempt) (got : ℕ) (x : Thread) → Plainly old x → Plainly old (if_same s a got x)
-  checked s None got x h = h
-  checked s (Some a) got x h = by_test old (is_same a got) x (fails s a) h (record { phase = tt; attempt = tt })
+-- ---- events between the locks
 
-  -- ---- instructions
+-- what a thread in these phases does leaves it in a plain one
+abbrev pub GoesPlain : Phase → Type 0
+GoesPlain phases.Idle = Unit {0}
+GoesPlain phases.Start = Unit {0}
+GoesPlain phases.Run = Unit {0}
+GoesPlain (phases.Element word stored) = Unit {0}
+GoesPlain (phases.Made a word) = Unit {0}
+GoesPlain (phases.Throw x class) = Unit {0}
+GoesPlain phase = ⊥
 
-  held_or : (s : Thread) (at : Top) (h : Option Held) (more : Kept → Thread) → LooksBack s.attempt old → ((k : Kept) → Plainly old (more k)) → Plainly old (if_held s at h more)
-  held_or s at None more l k = goes s (threw IllegalMonitorStateException at) l
-  held_or s at (Some h) more l k = k h.kept
+abbrev NeverPlain : Phase → Type 0
+NeverPlain phase = GoesPlain phase → ⊥
 
-  waited : (s : Thread) (m : ℕ) (k : Kept) → LooksBack s.attempt old → Plainly old (waits s m k)
-  waited s m (keeps.Flat c) l = record { phase = tt; attempt = l }
-  waited s m (keeps.Fat r) l = record { phase = tt; attempt = l }
+leads_plain : (p : Program) (s : Thread) (got : ℕ) (was now : Phase) → LeadsTo p s got was now → GoesPlain was → IsPlain now
+leads_plain p s got _ _ (moves.to_element at array index stored e f t) n = tt
+leads_plain p s got _ _ (moves.to_no_print at e t) n = tt
+leads_plain p s got was _ (moves.to_take m count k e) n = absurd (looks_in NeverPlain m was k (λ tried n. n) (λ n. n) n)
+leads_plain p s got was _ (moves.to_take_fat m r k e) n = absurd (looks_in NeverPlain m was k (λ tried n. n) (λ n. n) n)
+leads_plain p s got was now k n = absurd n
 
-  notified : (s : Thread) (phase : ℕ → Phase) (k : Kept) → ((r : ℕ) → IsPlain (phase r)) → LooksBack s.attempt old → Plainly old (notifies s phase k)
-  notified s phase (keeps.Flat c) p l = record { phase = runs_plain (nat_lt s.counts.instructions s.cfg.steps); attempt = l }
-  notified s phase (keeps.Fat r) p l = record { phase = p r; attempt = l }
+turns_never : (s : Thread) (got : ℕ) (was now : Phase) → TurnsTo s got was now → NeverPlain was
+turns_never s got was _ (moves.looks_again m k) n = looks_in NeverPlain m was k (λ tried n. n) (λ n. n) n
+turns_never s got was _ (moves.flags m u k e) n = looks_in NeverPlain m was k (λ tried n. n) (λ n. n) n
+turns_never s got was now k n = n
 
-  instruction : (p : Program) (s : Thread) (at : Top) (e : Effect) (got : ℕ) → IsPlain s.phase → LooksBack s.attempt old → Plainly old (did p s at e got)
-  instruction p s at (Indexes array index stored) got plain l = by_test old (nat_lt (low index) (header_length got)) _ _ (record { phase = tt; attempt = l }) (goes s (threw ArrayIndexOutOfBoundsException at) l)
-  instruction p s at (Makes word size) got plain l = by_test old (nat_le (got + size) p.heap) _ _ (record { phase = tt; attempt = l }) (goes s (threw OutOfMemoryError at) l)
-  instruction p s at (Prints n) got plain l = by_test old (has_print_left s) _ _ (record { phase = runs_plain (nat_lt s.counts.instructions s.cfg.steps); attempt = l }) (record { phase = tt; attempt = l })
-  instruction p s at (Waits m) got plain l = held_or s at (held_at s.held m) (waits (record s { frames = went_on p at 0 }) m) l (λ k. waited (record s { frames = went_on p at 0 }) m k l)
-  instruction p s at (Notifies m) got plain l = held_or s at (held_at s.held m) (notifies (record s { frames = went_on p at 0 }) (phases.NotifyLook m)) l (λ k. notified (record s { frames = went_on p at 0 }) (phases.NotifyLook m) k (λ r. tt) l)
-  instruction p s at (NotifiesAll m) got plain l = held_or s at (held_at s.held m) (notifies (record s { frames = went_on p at 0 }) (phases.NotifyAll m)) l (λ k. notified (record s { frames = went_on p at 0 }) (phases.NotifyAll m) k (λ r. tt) l)
-  instruction p s at (Goes to made) got plain l = goes_if s (done p at (Goes to made) got) plain l
-  instruction p s at (Throws x) got plain l = goes_if s (done p at (Throws x) got) plain l
-  instruction p s at (Reads v) got plain l = goes_if s (done p at (Reads v) got) plain l
-  instruction p s at (Writes v word) got plain l = goes_if s (done p at (Writes v word) got) plain l
-  instruction p s at (Measures array) got plain l = goes_if s (done p at (Measures array) got) plain l
-  instruction p s at (Raises x) got plain l = goes_if s (done p at (Raises x) got) plain l
-  instruction p s at (Calls number) got plain l = goes_if s (done p at (Calls number) got) plain l
-  instruction p s at Returns got plain l = goes_if s (done p at Returns got) plain l
-  instruction p s at (Enters m) got plain l = goes_if s (done p at (Enters m) got) plain l
-  instruction p s at (Leaves m) got plain l = goes_if s (done p at (Leaves m) got) plain l
-  instruction p s at Stuck got plain l = goes_if s (done p at Stuck got) plain l
+waits_plain : (m : ℕ) (kept : Kept) (now : Phase) → WaitsFrom m kept now → IsPlain now
+waits_plain m _ _ (moves.grows_first count) = tt
+waits_plain m _ _ (moves.waits_fat r) = tt
 
-  pub run : (p : Program) (s : Thread) (top : Option Top) (got : ℕ) → IsPlain s.phase → LooksBack s.attempt old → Plainly old (ran p s top got)
-  run p s None got plain l = record { phase = plain; attempt = l }
-  run p s (Some at) got plain l = by_test old (is_checked at.frame.pc (effect_at p at)) _ _
-      (checked (begun s) s.attempt got _ (instruction p (begun s) at (effect_at p at) got plain l)) (instruction p (begun s) at (effect_at p at) got plain l)
+asks_plain : (m : ℕ) (kept : Kept) (now : Phase) → Asks m kept now → IsPlain now
+asks_plain m _ _ (moves.looks_who r) = tt
+asks_plain m _ _ (moves.clears_all r) = tt
 
-  pub begun_root : (p : Program) (s : Thread) (roots : List ℕ) → IsPlain s.phase → LooksBack s.attempt old → Plainly old (started p s roots)
-  begun_root p s [] plain l = record { phase = plain; attempt = l }
-  begun_root p s (number ∷ roots) plain l = goes_if (record s { roots = roots }) _ plain l
+plain_moved : (c : MarkedProgram) (s : Thread) (got : ℕ) (was : Phase) (k : Move c s got was) → GoesPlain was → IsPlain s.phase → Plainly s.attempt (becomes c s got was k)
+plain_moved c s got was (moves.stays k) n h = record { phase = h; attempt = same_look s.attempt }
+plain_moved c s got was (moves.goes o k) n h = goes s.attempt s o (same_look s.attempt)
+plain_moved c s got was (moves.fails_in t e d k) n h = record { phase = tt; attempt = tt }
+plain_moved c s got was (moves.leads now k) n h = record { phase = leads_plain c.program s got was now k n; attempt = same_look s.attempt }
+plain_moved c s got was (moves.turns now k) n h = absurd (turns_never s got was now k n)
+plain_moved c s got _ (moves.makes at word size e f t) n h = record { phase = tt; attempt = same_look s.attempt }
+plain_moved c s got _ (moves.prints at i e f t) n h = goes s.attempt (printed s got i) (Running (went_on c.program at 0)) (same_look s.attempt)
+plain_moved c s got _ (moves.asks_to_wait at m e now f l t k) n h = record { phase = waits_plain m e.kept now k; attempt = same_look s.attempt }
+plain_moved c s got _ (moves.asks at m e now f l k) n h = record { phase = asks_plain m e.kept now k; attempt = same_look s.attempt }
+plain_moved c s got _ (moves.starts number roots e) n h = goes_if s.attempt (record s { roots = roots }) _ h (same_look s.attempt)
+plain_moved c s got was (moves.takes_lock m kept k) n h = absurd (takes_in NeverPlain got m was kept k (λ count n. n) (λ r n. n) n)
+plain_moved c s got was (moves.gives_up m a k) n h = absurd (gives_up_in NeverPlain s m a was k (λ n. n) (λ n. n) n)
+plain_moved c s got _ (moves.enters_again m tried e l) n h = absurd n
+plain_moved c s got _ (moves.enters_inside m tried t k) n h = absurd n
+plain_moved c s got _ (moves.begins_to_try m tried noted f below e y l t unheld) n h = absurd n
+plain_moved c s got _ (moves.leaves_outer m a e l t) n h = absurd n
+plain_moved c s got _ (moves.leaves_inside m a t inner k e) n h = absurd n
+plain_moved c s got _ (moves.finishes_try m a t k e y) n h = absurd n
+plain_moved c s got _ (moves.fattens_lock m r toward e l) n h = absurd n
+plain_moved c s got _ (moves.gives_up_to_wait m r e l) n h = absurd n
+plain_moved c s got _ (moves.retakes_lock m r depth e) n h = absurd n
+
+pub moves_plainly : (c : MarkedProgram) (s : Thread) (phase : Phase) (got : ℕ) → GoesPlain phase → IsPlain s.phase → Plainly s.attempt (moved c s phase got)
+moves_plainly c s phase got n h = any_move (Plainly s.attempt) c s phase got (λ i k. plain_moved c (counting i s) got phase k n h)
 
 -- ---- an attempt's section is left
 
 pub finished : (p : Program) (s : Thread) (a : After) (t : Attempt) (inner got : ℕ) → IsPlain s.phase → s.attempt ≡ Some t → Plainly s.attempt (finishes p s a t inner got)
-finished p s a t zero got plain e = by_test s.attempt (is_same t got) _ _ (goes_if s.attempt (elided s) _ plain tt) (record { phase = tt; attempt = tt })
+finished p s a t zero got plain e = if_either (Plainly s.attempt) (is_same t got) _ _ (goes_if s.attempt (elided s) _ plain tt) (record { phase = tt; attempt = tt })
 finished p s a t (suc inner) got plain e = goes_if s.attempt (record s { attempt = Some (record t { inner = inner }) }) _ plain (subst (LooksBack (Some (record t { inner = inner }))) (sym e) (refl, refl))
 
 -- a thread that goes on tries what it tried
 pub goes_attempt : (s : Thread) (o : Option Onward) → (goes_on_if s o).attempt ≡ s.attempt
-goes_attempt s None = refl
-goes_attempt s (Some (Running frames)) = refl
-goes_attempt s (Some (Throwing x class frames)) = refl
-goes_attempt s (Some (Entering m frames)) = refl
-goes_attempt s (Some (Leaving m a frames)) = refl
-goes_attempt s (Some RootReturned) = refl
-goes_attempt s (Some (Uncaught class)) = refl
+goes_attempt = same_onward (λ (s : Thread). s.attempt) (λ s frames phase turns. refl)

@@ -1,9 +1,8 @@
 -- Most events change nothing of what the words say of locks.
-use Rattle.std.proofs.Common.{◌≡◌, ◌≢◌, ◌⊎◌, inl, inr, ℕ, ◌+◌, ◌<◌, nat_lt, nat_le, Bool, true, false, cond, List, ◌∷◌, Option, Some, None, refl, sym, ap, ◌∙◌, arith}
-use Rattle.std.specs.Prelude.{slice_get, slice_index, ◌==◌, ◌||◌, if◌then◌else◌}
-use Rattle.std.proofs.lemmas.Bool.Decides.{nat_tests}
+use Rattle.std.proofs.Common.{◌≡◌, ◌≢◌, ◌⊎◌, inl, inr, ℕ, ◌<◌, nat_lt, nat_le, Bool, true, false, cond, List, ◌∷◌, Option, Some, None, refl, sym, ap, ◌∙◌, arith}
+use Rattle.std.specs.Prelude.{slice_get, slice_index, ◌==◌, ◌||◌}
+use Rattle.std.proofs.lemmas.Bool.Decides.{nat_tests, Decides-eqb}
 use Rattle.jvm_types.specs.Numbers.{has_number}
-use Rattle.jvm_types.specs.declared.class_numbers.TheConstants.{INT_ARRAY_CLASS}
 use Rattle.jvm_types.specs.declared.program.Program.{Program}
 use Rattle.jvm_types.specs.declared.program.Target.{Target}
 use Rattle.checked_program.specs.MarkedProgram.{MarkedProgram, IsMarked}
@@ -17,11 +16,10 @@ use Rattle.machine_types.specs.Frames.{Top, top_of, effect_at}
 use Rattle.machine_types.specs.Instructions.{has_print_left, effect_wants, run_wants}
 use Rattle.machine_types.specs.Lawful.{IsLawful}
 use Rattle.machine_types.specs.LockWords.{lock_of}
-use Rattle.machine_types.specs.NewObjects.{size_by}
 use Rattle.machine_types.specs.Owners.{lock_at, owner_at, locks_in, references_of}
 use Rattle.machine_types.specs.PlainMemory.{Object}
 use Rattle.machine_types.specs.Threads.{Thread}
-use Rattle.machine_types.specs.Words.{owner_word, header_word, header_class, header_length, array_size, object_size}
+use Rattle.machine_types.specs.Words.{owner_word, header_word}
 use Rattle.jvm_types.specs.declared.fixed_words.TheConstants.{NEXT_FREE_WORD, NEXT_TICKET_WORD, NEXT_RECORD_WORD, MONITOR_RECORDS}
 use Rattle.machine_types.specs.declared.effect.Effect.{Effect}
 use Rattle.machine_types.specs.declared.effect.Effect.TheVariants.{Goes, Reads, Writes, Calls, Indexes, Measures, Raises, Makes, Prints}
@@ -32,11 +30,10 @@ use Rattle.laws_states.specs.HeapFacts.{HeapFacts, objects_by}
 use Rattle.laws_states.specs.SiteLaws.{EventsReachSites, SitesDiffer, SitesLieInside}
 use Rattle.laws_states.specs.Sites.{Site, Counter, OwnerOf, LockOf, NewHeaderOf, site_word, IsThere, Suits}
 use Rattle.laws_states.proofs.Lists.{set_there}
-use Rattle.laws_states.proofs.EventWords.{IsLeft, phase_stores, word_at}
+use Rattle.laws_states.proofs.EventWords.{IsLeft, phase_stores, word_at, some_words}
 use Rattle.laws_states.proofs.LeftSmall.{PhaseStores}
 use Rattle.laws_states.proofs.LeftStands.{no_access, loaded, looked, checked}
 use Rattle.laws_states.proofs.TopStores.{IsPlace, StoresFit}
-use Rattle.laws_states.proofs.LockViews.{is_there}
 use Rattle.laws_states.proofs.WordViews.{has_object, views_same, record_there}
 
 -- ---- the words that say of locks
@@ -123,13 +120,6 @@ quiet_leaves c s phase site access got quiet fits apart lock w suits at = absurd
 
 -- ---- the words
 
-some_words : (a : ℕ) (p : Program) (word : ℕ) → a < a + size_by p word
-some_words a p word = by_test (header_class word == INT_ARRAY_CLASS)
-  where
-    by_test : (b : Bool) → a < a + (if b then array_size (header_length word) else object_size p (header_class word))
-    by_test true = omega arith
-    by_test false = omega arith
-
 module _ (differ : SitesDiffer) (inside : SitesLieInside) (reach : EventsReachSites) (c : MarkedProgram) (objects : List Object) (s : Core) (t : ℕ) (x : Thread) (marked : IsMarked c) (heap : HeapFacts c objects s)
     (there : slice_get s.threads t ≡ Some x) (lawful : IsLawful c x) (quiet : IsQuiet x.phase) where
   abbrev after : List ℕ
@@ -171,7 +161,7 @@ module _ (differ : SitesDiffer) (inside : SitesLieInside) (reach : EventsReachSi
       by_test : (b : Bool) → (a == m) ≡ b → lock_at (references_of objects) (words_after s.words (wanted c x x.phase)) m ≡ lock_at (references_of objects) s.words m
           → cond (b || has_number (references_of objects) m) (lock_of (slice_index (words_after s.words (wanted c x x.phase)) m)) (locks.Free 0) ≡ lock_at (references_of objects) s.words m
       by_test true f old =
-          let same : a ≡ m = is_there a m f in
+          let same : a ≡ m = (Decides-eqb a m).0 f in
           ap (λ (j : ℕ). lock_of (slice_index (words_after s.words (wanted c x x.phase)) j)) (sym same) ∙ ap lock_of (stays ∙ zero_there)
           ∙ sym (ap (λ (j : ℕ). cond (has_number (references_of objects) m) (lock_of j) (locks.Free 0)) (ap (slice_index s.words) (sym same) ∙ zero_there) ∙ free (has_number (references_of objects) m))
       by_test false f old = old

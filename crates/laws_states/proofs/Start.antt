@@ -1,6 +1,6 @@
 -- What the words hold of objects and places at the start of a run. Headers and static fields are found by the plain machine's
 -- start, with which the words agree.
-use Rattle.std.proofs.Common.{◌≡◌, ◌≢◌, inl, inr, ℕ, zero, suc, pos, ◌+◌, ◌-◌, ◌<◌, ◌≤◌, ◌%◌, ◌^◌, Bool, true, false, ◌&&◌, List, [], ◌∷◌, ◌++◌, length, map, Option, Some, None, refl, ap, sym, subst, ◌∙◌, arith}
+use Rattle.std.proofs.Common.{◌≡◌, ◌≢◌, inl, inr, ℕ, zero, suc, pos, ◌+◌, ◌-◌, ◌<◌, ◌≤◌, ◌%◌, ◌^◌, Bool, true, false, ◌&&◌, List, [], ◌∷◌, ◌++◌, length, Option, Some, None, refl, ap, sym, subst, ◌∙◌, arith}
 use Rattle.std.specs.Prelude.{◌==◌, nat_lt, nat_le, cond, filter, Contains, slice_get, slice_index, if◌then◌else◌}
 use Rattle.std.specs.Int.{w32, cast_unsigned}
 use Rattle.std.specs.List.{AllByRecursion, range_with_len}
@@ -41,13 +41,9 @@ use Rattle.laws_states.specs.HeapLaws.{StartHasHeap}
 use Rattle.laws_states.proofs.Lists.{contained_got}
 use Rattle.laws_states.proofs.Headers.{class_is, length_is, class_header}
 use Rattle.laws_states.proofs.Quiet.{AllHeld}
+use Rattle.laws_threads.proofs.Lists.{mapped_at}
 
 -- ---- lists
-
-mapped : {A B : Type 0} (of : A → B) (xs : List A) (i : ℕ) (y : B) → slice_get (map of xs) i ≡ Some y → (x : A) × (slice_get xs i ≡ Some x) × (of x ≡ y)
-mapped of [] i y e = absurd (cc)
-mapped of (x ∷ xs) zero y e = (x, refl, same_some e)
-mapped of (x ∷ xs) (suc i) y e = mapped of xs i y e
 
 abbrev IsFrom : {A : Type 0} (test : A → Bool) (xs : List A) → A → Type 0
 IsFrom test xs y = (n : ℕ) × (slice_get xs n ≡ Some y) × (test y ≡ true)
@@ -220,7 +216,7 @@ module _ (c : MarkedProgram) (cfg : Config) where
   is_fresh (suc n) = record { phase = tt; held = refl }
 
   fresh_thread : (t : ℕ) (x : Thread) → slice_get (start c cfg).threads t ≡ Some x → IsFresh x
-  fresh_thread t x e = let k = mapped (start_thread c cfg) (range_with_len 0 (c.program.workers + 1)) t x e in subst IsFresh k.2 (is_fresh k.0)
+  fresh_thread t x e = let k = mapped_at (start_thread c cfg) (range_with_len 0 (c.program.workers + 1)) t x e in subst IsFresh k.2 (is_fresh k.0)
 
   no_element : (t : ℕ) (x : Thread) (word : ℕ) (stored : Option ℕ) → slice_get (start c cfg).threads t ≡ Some x → x.phase ≡ phases.Element word stored → ⊥
   no_element t x word stored e m = let k = fresh_thread t x e in subst IsFreshPhase m k.phase
@@ -258,7 +254,7 @@ module _ (lies : StartLiesApart) (agrees : StartAgrees) (unused : StartIsUnused)
       let a = apart in
       let v = a.there number f g s in
       let there = contained_got (start_statics c.program) v.0 v.1 in
-      let from = mapped (λ (h : FieldInfo). record { word = h.index; value = word_of h.start }) (filter (λ h. is_static h.flags) c.program.fields) v.1.0 v.0 there in
+      let from = mapped_at (λ (h : FieldInfo). record { word = h.index; value = word_of h.start }) (filter (λ h. is_static h.flags) c.program.fields) v.1.0 v.0 there in
       let own = filtered (λ (h : FieldInfo). is_static h.flags) c.program.fields v.1.0 from.0 from.1 in
       let word : from.0.index ≡ f.index = ap (λ (z : StaticValue). z.word) from.2 ∙ v.2 in
       let one : own.0 ≡ number = one_static_field c.program own.0 number from.0 f is_program own.1 g own.2 s word in

@@ -22,8 +22,9 @@ use Rattle.machine_types.specs.declared.phase.Phase.{Phase}
 use Rattle.machine_types.specs.declared.phase.Phase.TheVariants as phases
 use Rattle.laws_states.specs.Counters.{CountersFit, most_size, drawn_for_flat, instructions_of, taken_of}
 use Rattle.laws_states.specs.RunFacts.{HaveWidth, AreThreads}
-use Rattle.laws_states.proofs.CountedEvents.{Counted, begun_by, drawn_by}
+use Rattle.laws_states.proofs.CountedEvents.{Counted, drawn_by}
 use Rattle.laws_states.proofs.LeftSmall.{AddsFew, SumFits}
+use Rattle.laws_threads.proofs.ThreadMove.{begun_by}
 
 -- ---- sums over threads
 

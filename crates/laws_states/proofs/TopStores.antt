@@ -15,6 +15,7 @@ use Rattle.jvm_types.specs.declared.typing.VType.{VType}
 use Rattle.jvm_types.specs.declared.typing.VType.TheVariants.{Ref, New}
 use Rattle.checked_program.specs.MarkedProgram.{MarkedProgram, IsMarked}
 use Rattle.checked_program.specs.TaggedCode.{row_of}
+use Rattle.checked_program.proofs.FewFields.{few_fields}
 use Rattle.machine_types.specs.declared.effect.Effect.{Effect}
 use Rattle.machine_types.specs.declared.effect.Effect.TheVariants.{Writes, Makes}
 use Rattle.machine_types.specs.FoundWords.{Content, IntPlace, ReferencePlace, kind_content, field_content, variable_content}
@@ -25,7 +26,6 @@ use Rattle.machine_types.specs.Structure.{TopIs, is_element_op}
 use Rattle.machine_types.specs.Threads.{Frame}
 use Rattle.machine_types.specs.Typed.{Classes, KindHolds, FramesHold, IsElementOn, ElementStands}
 use Rattle.laws_threads.specs.Allowed.{IsFieldAt, TakenHold, MadeAs, Allowed}
-use Rattle.laws_threads.proofs.FewFields.{few_fields}
 use Rattle.laws_threads.proofs.Landing.{stand_top}
 use Rattle.laws_threads.proofs.Onwards.{same_op}
 use Rattle.laws_threads.proofs.TopStand.{top_here}

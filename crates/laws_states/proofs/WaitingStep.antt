@@ -1,6 +1,7 @@
 -- One event of a thread changes the waiting bits of one record: what it has to show of them, and of the thread.
 use Rattle.std.proofs.Common.{◌≡◌, ◌≢◌, ◌⊎◌, inl, inr, ℕ, zero, suc, ◌+◌, ◌<◌, Bool, true, false, cond, List, [], ◌∷◌, Option, Some, None, refl, sym, ap, ◌∙◌, subst, arith}
 use Rattle.std.specs.Prelude.{◌==◌, IsSome, slice_get, slice_set}
+use Rattle.std.proofs.lemmas.Bool.Decides.{Decides-eqb}
 use Rattle.checked_program.specs.MarkedProgram.{MarkedProgram}
 use Rattle.machine_types.specs.Core.{Core}
 use Rattle.machine_types.specs.HeldMonitors.{held_at}
@@ -15,7 +16,7 @@ use Rattle.machine_types.specs.declared.phase.Phase.TheVariants as phases
 use Rattle.laws_threads.specs.StructureLaws.{counted_by}
 use Rattle.laws_threads.specs.StateLaws.{counted_of, counted_at}
 use Rattle.laws_states.proofs.Lists.{same_or_not}
-use Rattle.laws_states.proofs.LockViews.{is_there, not_same, fatly}
+use Rattle.laws_states.proofs.LockViews.{not_same, fatly}
 use Rattle.laws_states.proofs.OwnersStep.{set_there, set_other}
 
 -- ---- who owns a record
@@ -96,7 +97,7 @@ module _ (c : MarkedProgram) (references : List ℕ) (was : ℕ → Phase) (s : 
     where
       by_number : (b : Bool) → (u == t) ≡ b → Waits after u (cond b (counted_of (was t) (slice_get (slice_set s.threads t y) t)) (was u))
       by_number true g =
-          let same : u ≡ t = is_there u t g in
+          let same : u ≡ t = (Decides-eqb u t).0 g in
           let at : slice_get (slice_set s.threads t y) t ≡ Some z = ap (λ (n : ℕ). slice_get (slice_set s.threads t y) n) (sym same) ∙ e in
           let here : y ≡ z = set_there s.threads t x y z there at in
           subst (λ (o : Option Thread). Waits after u (counted_of (was t) o)) (sym at)

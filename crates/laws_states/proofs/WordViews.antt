@@ -1,11 +1,11 @@
 -- What a write of one word makes of what the words say of locks.
-use Rattle.std.proofs.Common.{◌≡◌, ◌≢◌, ℕ, zero, suc, ◌+◌, ◌*◌, ◌/◌, ◌%◌, ◌<◌, nat_lt, Bool, true, false, cond, List, [], ◌∷◌, Some, refl, sym, ap, ◌∙◌, subst, arith}
+use Rattle.std.proofs.Common.{◌≡◌, ◌≢◌, ℕ, zero, suc, ◌+◌, ◌*◌, ◌<◌, nat_lt, Bool, true, false, cond, List, [], ◌∷◌, Some, refl, sym, ap, ◌∙◌, subst, arith}
 use Rattle.std.specs.Prelude.{slice_get, slice_index, slice_set, ◌==◌, ◌||◌}
-use Rattle.std.proofs.lemmas.Bool.Decides.{nat_tests}
+use Rattle.std.proofs.lemmas.Bool.Decides.{nat_tests, Decides-eqb}
 use Rattle.jvm_types.specs.Numbers.{has_number}
 use Rattle.checked_program.specs.MarkedProgram.{MarkedProgram, IsMarked}
 use Rattle.machine_types.specs.Core.{Core}
-use Rattle.machine_types.specs.LockWords.{word_of_lock, lock_by, lock_of}
+use Rattle.machine_types.specs.LockWords.{word_of_lock, lock_of}
 use Rattle.machine_types.specs.Owners.{lock_at, owner_at, locks_in, references_of}
 use Rattle.machine_types.specs.PlainMemory.{Object}
 use Rattle.machine_types.specs.Words.{owner_word}
@@ -16,12 +16,10 @@ use Rattle.laws_states.specs.HeapFacts.{HeapFacts}
 use Rattle.laws_states.specs.SiteLaws.{SitesDiffer, SitesLieInside}
 use Rattle.laws_states.specs.Sites.{Site, Counter, OwnerOf, LockOf, site_word, HasObject, IsThere}
 use Rattle.laws_states.proofs.Lists.{contained_got, contains_first, contains_more, set_here, set_there}
-use Rattle.laws_states.proofs.LockViews.{set_lock, set_owner, set_next, is_there, not_same, same_there}
+use Rattle.laws_states.proofs.LockViews.{set_lock, set_owner, set_next, not_same, same_there}
+use Rattle.laws_states.proofs.LeftStands.{by_parts}
 
 -- ---- lock words
-
-by_parts : (word kind upper : ℕ) → word % 4 ≡ kind → word / 4 ≡ upper → lock_of word ≡ lock_by kind upper
-by_parts word kind upper e f = ap (λ (k : ℕ). lock_by k (word / 4)) e ∙ ap (λ (n : ℕ). lock_by kind n) f
 
 pub lock_of_word : (l : LockWord) → lock_of (word_of_lock l) ≡ l
 lock_of_word (locks.Free c) = by_parts (4 * c) 0 c (omega arith) (omega arith)
@@ -48,7 +46,7 @@ has_object [] m e = absurd (cc)
 has_object (x ∷ xs) m e = by_test (x.reference == m) refl e (λ f. has_object xs m f)
   where
     by_test : (b : Bool) → (x.reference == m) ≡ b → b || has_number (references_of xs) m ≡ true → (has_number (references_of xs) m ≡ true → HasObject xs m) → HasObject (x ∷ xs) m
-    by_test true g e more = (x, contains_first x xs, is_there x.reference m g)
+    by_test true g e more = (x, contains_first x xs, (Decides-eqb x.reference m).0 g)
     by_test false g e more = let k = more e in (k.0, contains_more x xs k.0 k.1, k.2)
 
 -- ---- the same words
@@ -92,7 +90,7 @@ module _ (differ : SitesDiffer) (inside : SitesLieInside) (c : MarkedProgram) (o
       lock m = by_test (n == m) refl
         where
           by_test : (b : Bool) → (n == m) ≡ b → lock_at (references_of objects) (slice_set s.words n value) m ≡ cond b (lock_of value) (lock_at (references_of objects) s.words m)
-          by_test true e = ap (λ (j : ℕ). lock_at (references_of objects) (slice_set s.words n value) j) (sym (is_there n m e))
+          by_test true e = ap (λ (j : ℕ). lock_at (references_of objects) (slice_set s.words n value) j) (sym ((Decides-eqb n m).0 e))
               ∙ ap (λ (b : Bool). cond b (lock_of (slice_index (slice_set s.words n value) n)) (locks.Free 0)) (object_has objects n k)
               ∙ ap lock_of (set_here s.words n value (inside c objects s (LockOf n) marked heap k))
           by_test false e = ap (λ (j : ℕ). cond (has_number (references_of objects) m) (lock_of j) (locks.Free 0)) (set_there s.words n m value (λ g. not_same n m e (sym g)))
@@ -110,7 +108,7 @@ module _ (differ : SitesDiffer) (inside : SitesLieInside) (c : MarkedProgram) (o
       owner k = by_test (r == k) refl
         where
           by_test : (b : Bool) → (r == k) ≡ b → owner_at (slice_set s.words (owner_word r) value) k ≡ cond b value (owner_at s.words k)
-          by_test true e = ap (λ (j : ℕ). owner_at (slice_set s.words (owner_word r) value) j) (sym (is_there r k e))
+          by_test true e = ap (λ (j : ℕ). owner_at (slice_set s.words (owner_word r) value) j) (sym ((Decides-eqb r k).0 e))
               ∙ ap (λ (b : Bool). cond b (slice_index (slice_set s.words (owner_word r) value) (owner_word r)) 0) (low_record r low)
               ∙ set_here s.words (owner_word r) value (inside c objects s (OwnerOf r) marked heap low)
             where

@@ -1,36 +1,29 @@
 -- Each event of a live thread takes away of what is left for it to do, phase by phase.
-use Rattle.std.proofs.Common.{◌≡◌, ℕ, zero, suc, ◌+◌, ◌-◌, ◌*◌, ◌<◌, ◌≤◌, ◌==◌, nat_lt, Bool, true, false, List, [], ◌∷◌, drop, length, Option, Some, None, refl, sym, ap, subst, arith}
-use Rattle.std.specs.Prelude.{◌≢◌, IsSome, IfSome, slice_get, option_map, if◌then◌else◌}
+use Rattle.std.proofs.Common.{◌≡◌, ℕ, suc, ◌+◌, ◌-◌, ◌*◌, ◌<◌, ◌≤◌, nat_lt, Bool, true, false, List, [], ◌∷◌, drop, length, Option, Some, None, refl, sym, ap, subst, ◌∙◌, arith}
+use Rattle.std.specs.Prelude.{IsSome, IfSome, slice_get, option_map, if◌then◌else◌}
 use Rattle.std.proofs.lemmas.List.{length-drop}
 use Rattle.jvm_types.specs.Members.{is_synchronized}
-use Rattle.jvm_types.specs.Numbers.{has_flag}
 use Rattle.jvm_types.specs.declared.outcome.End.TheVariants as ends
 use Rattle.jvm_types.specs.declared.outcome.Thrown.{Thrown}
 use Rattle.jvm_types.specs.declared.outcome.Thrown.TheVariants.{StackOverflowError}
 use Rattle.jvm_types.specs.declared.program.MethodInfo.{MethodInfo}
 use Rattle.jvm_types.specs.declared.program.Program.{Program}
 use Rattle.jvm_types.specs.declared.program.Row.{Row}
-use Rattle.jvm_types.specs.declared.fixed_words.TheConstants.{MONITOR_RECORDS}
 use Rattle.checked_program.specs.MarkedProgram.{MarkedProgram}
-use Rattle.jvm_types.specs.declared.limits.TheConstants.{FLAG_FROM}
 use Rattle.machine_types.specs.Bounds.{StepsFit, TurnsFit}
-use Rattle.machine_types.specs.Elision.{may_try, begins, tries, is_same, fails, if_same, elided}
+use Rattle.machine_types.specs.Elision.{fails, elided}
 use Rattle.machine_types.specs.Events.{started, element_made, moved}
 use Rattle.machine_types.specs.Frames.{Top, top_of, frames_of, went_on, has_room, entry_frame, monitor_of, returned, handler_at, caught, pushed}
 use Rattle.machine_types.specs.Going.{with_phase, runs, failed_turn, root_over, goes_on, goes_on_if, goes_after}
 use Rattle.machine_types.specs.HeldMonitors.{held_at, with_held, without_held, deeper, shallower}
 use Rattle.machine_types.specs.Instructions.{begun, ran}
-use Rattle.machine_types.specs.LockWords.{word_of_lock, lock_of}
-use Rattle.machine_types.specs.Monitors.{Claim, Has, Tries, HasNot, claim, acquires, enter_moves, finishes, released, leave_moves, grows_not, fattens, bit_of, goes_to_wait, lowest_of}
-use Rattle.machine_types.specs.Onward.{Running, Leaving, Uncaught, root_arguments, rooted, back, unwound, handed}
+use Rattle.machine_types.specs.Onward.{Running, Leaving, Uncaught, root_arguments, rooted, back, unwound, handed, Onward, dispatched}
 use Rattle.machine_types.specs.ReadyObjects.{class_of}
 use Rattle.machine_types.specs.Structure.{AttemptStandsIn}
 use Rattle.machine_types.specs.Threads.{Frame, Thread, Attempt}
 use Rattle.machine_types.specs.declared.lock.Held.{Held}
 use Rattle.machine_types.specs.declared.lock.Kept.{Kept}
 use Rattle.machine_types.specs.declared.lock.Kept.TheVariants as keeps
-use Rattle.machine_types.specs.declared.lock.LockWord.{LockWord}
-use Rattle.machine_types.specs.declared.lock.LockWord.TheVariants as locks
 use Rattle.machine_types.specs.declared.phase.After.{After}
 use Rattle.machine_types.specs.declared.phase.After.TheVariants as afters
 use Rattle.machine_types.specs.declared.phase.Phase.{Phase}
@@ -38,10 +31,10 @@ use Rattle.machine_types.specs.declared.phase.Phase.TheVariants as phases
 use Rattle.machine_types.specs.declared.phase.Toward.{Toward}
 use Rattle.machine_types.specs.declared.phase.Toward.TheVariants as towards
 use Rattle.laws_threads.proofs.HeldLists.{held_monitor, held_there}
-use Rattle.laws_states.proofs.Phases.{has_held}
+use Rattle.laws_threads.proofs.ThreadMove.{Lacks, GoesBy, Checks, LeadsTo, TurnsTo, Move, begun_attempt, becomes, by_move, looks_in, takes_in}
+use Rattle.laws_threads.proofs.ThreadMove as moves
 use Rattle.laws_states.specs.RunSafety.{HasAfter, HasRoot, HasInstruction, HasEvent}
 use Rattle.laws_states.specs.WorkLeft.{leaving, leaving_held, chain, trying, inside, chains_left, work_in, work_left, EventsLessenWork}
-use Rattle.laws_states.proofs.HeldOrTried.{tried_at}
 use Rattle.laws_states.proofs.InstructionsFollow.{Follows, frames_are, returned_fewer, runs_follow}
 use Rattle.laws_states.proofs.NextEvents.{has_event}
 
@@ -272,142 +265,98 @@ module _ (p : Program) (x : Thread) (r : ℕ) (class : Thrown) where
           (as_many rest (length x.frames) (length (frames_of at)) (chains_left x) refl same) near
       by_method false = unwinds x (phases.Throw r class) x refl r class at.below fewer
 
-  throws : (o : Option Top) → top_of p x.frames ≡ o → IsSome (option_map (λ at. handed r class at (handler_at (class_of class) at)) o) → Throws (goes_on_if x (option_map (λ at. handed r class at (handler_at (class_of class) at)) o))
-  throws None found has = absurd (cc)
-  throws (Some at) found has = hands at (ap length (frames_are p x.frames at found)) (handler_at (class_of class) at)
+-- ---- all moves but those of an instruction and of a root
 
-  looked : (a : Option Attempt) → x.attempt ≡ a → IfSome a (λ t. t.base < length x.frames) → (got : ℕ) (more : Thread) → Throws more → Throws (if_same x a got more)
-  looked None is based got more h = h
-  looked (Some a) is based got more h = either x (phases.Throw r class) (is_same a got) more (fails x a) h (failed x (phases.Throw r class) a is based (omega (arith, ap trying is)))
+abbrev pub BeginsNothing : Phase → Type 0
+BeginsNothing phases.Start = ⊥
+BeginsNothing phases.Run = ⊥
+BeginsNothing phase = Unit {0}
 
--- ---- monitors
+no_some : {A : Type 0} (o : Option A) → o ≡ None → IsSome o → ⊥
+no_some None e has = cc
+no_some (Some a) e has = cc
 
-module _ (x : Thread) (m : ℕ) where
-  module _ (phase : Phase) (turns : x.turns < x.cfg.turns) (far : 4 + trying x.attempt < chain x.held phase + inside phase x.attempt) where
-    acquired : (lock : LockWord) → Lessens x phase (acquires x m lock)
-    acquired (locks.Free count) = to_phase x phase (phases.Take m count) far
-    acquired (locks.Held u) = turned x phase (if nat_lt (x.turns + 1) FLAG_FROM then phases.Acquire m else phases.Flag m u) turns
-    acquired (locks.Flagged u) = turned x phase (phases.Acquire m) turns
-    acquired (locks.Fat r) = to_phase x phase (phases.TakeFat m r) (omega (arith, far))
+-- what an event takes is there
+pub lacks_none : (c : MarkedProgram) (x : Thread) (got : ℕ) (phase : Phase) → Lacks c x got phase → BeginsNothing phase → HasEvent c x phase → ⊥
+lacks_none c x got _ moves.idle i has = has
+lacks_none c x got _ (moves.over e) i has = has
+lacks_none c x got _ (moves.no_place word stored e) i has = no_some (top_of c.program x.frames) e has
+lacks_none c x got _ (moves.no_catcher r class e) i has = no_some (dispatched c.program r class x.frames) (ap (option_map (λ at. handed r class at (handler_at (class_of class) at))) e) has
+lacks_none c x got _ (moves.no_claim m a e) i has = has.0 e
+lacks_none c x got _ (moves.not_fat m r toward e) i has = no_some (held_at x.held m) e has
+lacks_none c x got _ (moves.not_waiting m r e) i has = no_some (held_at x.held m) e has
+lacks_none c x got _ k i has = i
 
-  module _ (tried : ℕ) (turns : x.turns < x.cfg.turns) where
-    abbrev Enters : Thread → Type 0
-    Enters y = Lessens x (phases.Enter m tried) y
+module _ (c : MarkedProgram) (x : Thread) (got : ℕ) where
+  abbrev place : Phase → ℕ
+  place phase = chain x.held phase + inside phase x.attempt
 
-    began : (frames : List Frame) (noted number : ℕ) → frames ≢ [] → Enters (begins x frames m noted number)
-    began [] noted number some = absurd (some refl)
-    began (f ∷ below) noted number some = ran_on x (phases.Enter m tried) (record x { attempt = Some (record { monitor = m; noted = noted; base = length below; number = number; inner = 0; entry = f }) }) refl (omega arith)
+  far_left : (m : ℕ) → 2 < leaving_held (held_at x.held m) + trying x.attempt
+  far_left m = omega (arith, leaving_far (held_at x.held m))
 
-    acquires_next : Enters (with_phase x (phases.Acquire m))
-    acquires_next = to_phase x (phases.Enter m tried) (phases.Acquire m) (omega arith)
+  goes_less : (phase : Phase) (o : Onward) → GoesBy c.program x got phase o → BeginsNothing phase → Lessens x phase (goes_on x o)
+  goes_less _ _ (moves.by_element word stored at found) i = in_as_many x (phases.Element word stored) x refl (went_on c.program at (element_made stored got)) (ap length (frames_are c.program x.frames at found)) (omega arith)
+  goes_less _ _ (moves.by_object a word) i = in_as_many x (phases.Made a word) x refl (pushed a x.frames) (pushed_as_many a x.frames) (omega arith)
+  goes_less _ _ (moves.by_handler r class at found) i = hands c.program x r class at (ap length (frames_are c.program x.frames at found)) (handler_at (class_of class) at)
+  goes_less _ _ (moves.by_none m r t) i = ran_on x (phases.NotifyLook m r) x refl (omega arith)
+  goes_less _ _ (moves.by_one m r u) i = ran_on x (phases.NotifyOne m r u) x refl (omega arith)
+  goes_less _ _ (moves.by_all m r) i = ran_on x (phases.NotifyAll m r) x refl (omega arith)
+  goes_less phase o k i = absurd i
 
-    tries_on : (lock : LockWord) → x.frames ≢ [] → Enters (tries x m tried lock)
-    tries_on (locks.Free count) some = either x (phases.Enter m tried) (nat_lt count x.cfg.range) _ _ (began x.frames count (tried + 1) some) acquires_next
-    tries_on (locks.Held u) some = acquires_next
-    tries_on (locks.Flagged u) some = acquires_next
-    tries_on (locks.Fat r) some = acquires_next
+  fails_less : (phase : Phase) (t : Attempt) → Checks c.program x t phase → BeginsNothing phase → x.attempt ≡ Some t → t.base < length x.frames → Lessens x phase (fails x t)
+  fails_less _ t (moves.at_throw r class) i is based = failed x (phases.Throw r class) t is based (omega (arith, ap trying is))
+  fails_less _ t (moves.at_end m a k zero_inner) i is based = failed x (phases.Leave m a) t is based (omega (arith, ap trying is, leaving_far (held_at x.held m)))
+  fails_less phase t k i is based = absurd i
 
-    enters : (may : Bool) (k : Claim) (got : ℕ) → x.frames ≢ [] → Enters (enter_moves x m tried may k got)
-    enters may (Has h) got some = ran_on x (phases.Enter m tried) (record x { held = with_held (deeper h) x.held }) refl (omega arith)
-    enters may (Tries a) got some = ran_on x (phases.Enter m tried) (record x { attempt = Some (record a { inner = a.inner + 1 }) }) refl (omega arith)
-    enters true HasNot got some = tries_on (lock_of got) some
-    enters false HasNot got some = acquired (phases.Enter m tried) turns (omega arith) (lock_of got)
+  leads_less : (phase now : Phase) → LeadsTo c.program x got phase now → BeginsNothing phase → Lessens x phase (with_phase x now)
+  leads_less phase _ (moves.to_take m count k e) i = to_phase x phase (phases.Take m count) (looks_in (λ (w : Phase). place (phases.Take m count) < place w) m phase k (λ tried. omega arith) (omega arith))
+  leads_less phase _ (moves.to_take_fat m r k e) i = to_phase x phase (phases.TakeFat m r) (looks_in (λ (w : Phase). place (phases.TakeFat m r) < place w) m phase k (λ tried. omega arith) (omega arith))
+  leads_less _ _ (moves.to_grow m count a h e kept) i =
+      let far : leaving_held (held_at x.held m) ≡ leaving (keeps.Flat count) = ap leaving_held e ∙ ap leaving kept in
+      to_phase x (phases.Leave m a) (phases.Grow m (towards.Leave a)) (omega (arith, far))
+  leads_less _ _ (moves.to_element at array index stored e f t) i = absurd i
+  leads_less _ _ (moves.to_no_print at e t) i = absurd i
+  leads_less phase now k i = to_phase x phase now (omega arith)
 
-  module _ (p : Program) (a : After) (has : HasAfter p a x.frames) where
-    abbrev Leaves : Thread → Type 0
-    Leaves y = Lessens x (phases.Leave m a) y
+  turns_less : (phase now : Phase) → TurnsTo x got phase now → TurnsFit phase x.turns x.cfg.turns → x.turns < x.cfg.turns
+  turns_less phase _ (moves.looks_again m k) fit = looks_in (λ (w : Phase). TurnsFit w x.turns x.cfg.turns → x.turns < x.cfg.turns) m phase k (λ tried less. less) (λ less. less) fit
+  turns_less phase _ (moves.flags m u k e) fit = looks_in (λ (w : Phase). TurnsFit w x.turns x.cfg.turns → x.turns < x.cfg.turns) m phase k (λ tried less. less) (λ less. less) fit
+  turns_less phase now k fit = fit
 
-    far_from_end : 2 < leaving_held (held_at x.held m) + trying x.attempt
-    far_from_end = omega (arith, leaving_far (held_at x.held m))
-
-    releases : (k : Kept) → leaving_held (held_at x.held m) ≡ leaving k → (got : ℕ) → Leaves (released p x m a k got)
-    releases (keeps.Flat count) is got =
-        either x (phases.Leave m a) (got == word_of_lock (locks.Held x.number)) _ _
-        (goes_behind x (phases.Leave m a) (record x { held = without_held m x.held }) refl p a has far_from_end)
-        (to_phase x (phases.Leave m a) (phases.Grow m (towards.Leave a)) (omega (arith, is)))
-    releases (keeps.Fat r) is got = goes_behind x (phases.Leave m a) (record x { held = without_held m x.held }) refl p a has far_from_end
-
-    finished : (t : Attempt) → x.attempt ≡ Some t → t.base < length x.frames → (inner got : ℕ) → Leaves (finishes p x a t inner got)
-    finished t is based zero got =
-        either x (phases.Leave m a) (is_same t got) _ _
-        (goes_behind x (phases.Leave m a) (elided x) refl p a has far_from_end)
-        (failed x (phases.Leave m a) t is based (omega (arith, ap trying is, leaving_far (held_at x.held m))))
-    finished t is based (suc inner) got = goes_behind x (phases.Leave m a) (record x { attempt = Some (record t { inner = inner }) }) refl p a has far_from_end
-
-    leaves : (k : Claim) → claim x m ≡ k → IfSome x.attempt (λ t. t.base < length x.frames) → (got : ℕ) → k ≢ HasNot → Leaves (leave_moves p x m a k got)
-    leaves (Has h) e based got claimed =
-        either x (phases.Leave m a) (nat_lt 1 h.depth) _ _
-        (goes_behind x (phases.Leave m a) (record x { held = with_held (shallower h) x.held }) refl p a has far_from_end)
-        (releases h.kept (ap leaving_held (has_held m (held_at x.held m) x.attempt h e)) got)
-    leaves (Tries t) e based got claimed =
-        let is : x.attempt ≡ Some t = (tried_at m (held_at x.held m) x.attempt t e).0 in
-        finished t is (subst (λ (o : Option Attempt). IfSome o (λ k. k.base < length x.frames)) is based) t.inner got
-    leaves HasNot e based got claimed = absurd (claimed refl)
-
-  not_grown : (toward : Toward) → Lessens x (phases.Grow m toward) (grows_not x m toward)
-  not_grown (towards.Leave a) = to_phase x (phases.Grow m (towards.Leave a)) (phases.FlatOut m a) (omega arith)
-  not_grown towards.Wait = to_phase x (phases.Grow m towards.Wait) (phases.Ending ends.Records) (omega arith)
-
-  fattened : (r : ℕ) (toward : Toward) (o : Option Held) → held_at x.held m ≡ o → IsSome o → Lessens x (phases.FatIn m r toward) (fattens x m r toward o)
-  fattened r toward None e has = absurd (cc)
-  fattened r (towards.Leave a) (Some h) e has =
-      let there : held_at (with_held (record h { kept = keeps.Fat r }) x.held) m ≡ Some (record h { kept = keeps.Fat r }) = held_there m (record h { kept = keeps.Fat r }) x.held (held_monitor m x.held h e) in
+  fattens_less : (m r : ℕ) (toward : Toward) (h : Held) (l : held_at x.held m ≡ Some h) → Lessens x (phases.FatIn m r toward) (becomes c x got (phases.FatIn m r toward) (moves.fattens_lock m r toward h l))
+  fattens_less m r (towards.Leave a) h l =
+      let there : held_at (with_held (record h { kept = keeps.Fat r }) x.held) m ≡ Some (record h { kept = keeps.Fat r }) = held_there m (record h { kept = keeps.Fat r }) x.held (held_monitor m x.held h l) in
       let low : leaving_held (held_at (with_held (record h { kept = keeps.Fat r }) x.held) m) ≡ 3 = ap leaving_held there in
-      by_place x (phases.FatIn m r (towards.Leave a)) (fattens x m r (towards.Leave a) (Some h)) refl (omega (arith, low))
-  fattened r towards.Wait (Some h) e has = by_place x (phases.FatIn m r towards.Wait) (fattens x m r towards.Wait (Some h)) refl (omega arith)
+      by_place x (phases.FatIn m r (towards.Leave a)) (becomes c x got (phases.FatIn m r (towards.Leave a)) (moves.fattens_lock m r (towards.Leave a) h l)) refl (omega (arith, low))
+  fattens_less m r towards.Wait h l = by_place x (phases.FatIn m r towards.Wait) (becomes c x got (phases.FatIn m r towards.Wait) (moves.fattens_lock m r towards.Wait h l)) refl (omega arith)
 
-  goes_waiting : (r : ℕ) (o : Option Held) → IsSome o → Lessens x (phases.WaitOut m r) (goes_to_wait x m r o)
-  goes_waiting r None has = absurd (cc)
-  goes_waiting r (Some h) has = by_place x (phases.WaitOut m r) (goes_to_wait x m r (Some h)) refl (omega arith)
-
--- ---- all phases
-
-some_frames : (p : Program) (frames : List Frame) → IsSome (top_of p frames) → frames ≢ []
-some_frames p [] has = absurd (cc)
-some_frames p (f ∷ below) has = λ e. cc
-
-elements : (p : Program) (x : Thread) (word made : ℕ) (stored : Option ℕ) (o : Option Top) → top_of p x.frames ≡ o → IsSome o → Lessens x (phases.Element word stored) (goes_on_if x (option_map (λ at. Running (went_on p at made)) o))
-elements p x word made stored None e has = absurd (cc)
-elements p x word made stored (Some at) e has = in_as_many x (phases.Element word stored) x refl (went_on p at made) (ap length (frames_are p x.frames at e)) (omega arith)
+  move_less : (phase : Phase) (k : Move c x got phase) → BeginsNothing phase → HasEvent c x phase → TurnsFit phase x.turns x.cfg.turns → IfSome x.attempt (λ t. t.base < length x.frames) → Lessens x phase (becomes c x got phase k)
+  move_less phase (moves.stays k) i has turns based = absurd (lacks_none c x got phase k i has)
+  move_less phase (moves.goes o k) i has turns based = goes_less phase o k i
+  move_less phase (moves.fails_in t e d k) i has turns based = fails_less phase t k i e (subst (λ (o : Option Attempt). IfSome o (λ k. k.base < length x.frames)) e based)
+  move_less phase (moves.leads now k) i has turns based = leads_less phase now k i
+  move_less phase (moves.turns now k) i has turns based = turned x phase now (turns_less phase now k turns)
+  move_less _ (moves.enters_again m tried h l) i has turns based = ran_on x (phases.Enter m tried) (record x { held = with_held (deeper h) x.held }) refl (omega arith)
+  move_less _ (moves.enters_inside m tried t k) i has turns based = ran_on x (phases.Enter m tried) (record x { attempt = Some (record t { inner = t.inner + 1 }) }) refl (omega arith)
+  move_less _ (moves.begins_to_try m tried noted f below e y l t unheld) i has turns based = ran_on x (phases.Enter m tried) (record x { attempt = Some (begun_attempt m noted tried f below) }) refl (omega arith)
+  move_less phase (moves.takes_lock m kept k) i has turns based =
+      ran_on x phase (record x { held = with_held (record { monitor = m; kept = kept; depth = 1 }) x.held; counts = record x.counts { locked = x.counts.locked + 1 } }) refl
+      (takes_in (λ (w : Phase). 2 < place w) got m phase kept k (λ count. omega arith) (λ r. omega arith))
+  move_less _ (moves.gives_up m a (moves.on_leave h e t)) i has turns based = goes_behind x (phases.Leave m a) (record x { held = without_held m x.held }) refl c.program a has.1 (far_left m)
+  move_less _ (moves.gives_up m a moves.flat_out) i has turns based = goes_behind x (phases.FlatOut m a) (record x { held = without_held m x.held }) refl c.program a has.1 (omega arith)
+  move_less _ (moves.leaves_outer m a h l t) i has turns based = goes_behind x (phases.Leave m a) (record x { held = with_held (shallower h) x.held }) refl c.program a has.1 (far_left m)
+  move_less _ (moves.leaves_inside m a t inner k e) i has turns based = goes_behind x (phases.Leave m a) (record x { attempt = Some (record t { inner = inner }) }) refl c.program a has.1 (far_left m)
+  move_less _ (moves.finishes_try m a t k e y) i has turns based = goes_behind x (phases.Leave m a) (elided x) refl c.program a has.1 (far_left m)
+  move_less _ (moves.fattens_lock m r toward h l) i has turns based = fattens_less m r toward h l
+  move_less _ (moves.gives_up_to_wait m r h l) i has turns based = by_place x (phases.WaitOut m r) (becomes c x got (phases.WaitOut m r) (moves.gives_up_to_wait m r h l)) refl (omega arith)
+  move_less _ (moves.retakes_lock m r depth e) i has turns based = ran_on x (phases.Retake m r depth) (record x { held = with_held (record { monitor = m; kept = keeps.Fat r; depth = depth }) x.held }) refl (omega arith)
+  move_less phase k i has turns based = absurd i
 
 pub lessens : (c : MarkedProgram) (x : Thread) (phase : Phase) (got : ℕ) → HasEvent c x phase → StepsFit phase x.counts.instructions x.cfg.steps → TurnsFit phase x.turns x.cfg.turns
     → IfSome x.attempt (λ t. t.base < length x.frames) → Lessens x phase (moved c x phase got)
-lessens c x phases.Idle got has steps turns based = absurd has
-lessens c x (phases.Ended e) got has steps turns based = absurd has
 lessens c x phases.Start got has steps turns based = starts c.program x x.roots refl has
 lessens c x phases.Run got has steps turns based = begins_one c.program x got has steps (omega (arith, turns))
-lessens c x (phases.Element word stored) got has steps turns based = elements c.program x word (element_made stored got) stored (top_of c.program x.frames) refl has
-lessens c x (phases.Made a word) got has steps turns based = in_as_many x (phases.Made a word) x refl (pushed a x.frames) (pushed_as_many a x.frames) (omega arith)
-lessens c x (phases.Throw r class) got has steps turns based = looked c.program x r class x.attempt refl based got _ (throws c.program x r class (top_of c.program x.frames) refl has)
-lessens c x (phases.Enter m tried) got has steps turns based = enters x m tried turns (may_try c x tried) (claim x m) got (some_frames c.program x.frames has)
-lessens c x (phases.Acquire m) got has steps turns based = acquired x m (phases.Acquire m) turns (omega arith) (lock_of got)
-lessens c x (phases.Take m count) got has steps turns based =
-    either x (phases.Take m count) (got == word_of_lock (locks.Free count)) _ _
-    (ran_on x (phases.Take m count) (record x { held = with_held (record { monitor = m; kept = keeps.Flat count; depth = 1 }) x.held; counts = record x.counts { locked = x.counts.locked + 1 } }) refl (omega arith))
-    (turned x (phases.Take m count) (phases.Acquire m) turns)
-lessens c x (phases.Flag m u) got has steps turns based = to_phase x (phases.Flag m u) (phases.Acquire m) (omega arith)
-lessens c x (phases.TakeFat m r) got has steps turns based =
-    either x (phases.TakeFat m r) (got == 0) _ _
-    (ran_on x (phases.TakeFat m r) (record x { held = with_held (record { monitor = m; kept = keeps.Fat r; depth = 1 }) x.held; counts = record x.counts { locked = x.counts.locked + 1 } }) refl (omega arith))
-    (turned x (phases.TakeFat m r) (phases.TakeFat m r) turns)
-lessens c x (phases.Leave m a) got has steps turns based = leaves x m c.program a has.1 (claim x m) refl based got has.0
-lessens c x (phases.Grow m toward) got has steps turns based = either x (phases.Grow m toward) (nat_lt got MONITOR_RECORDS) _ _ (to_phase x (phases.Grow m toward) (phases.Own m got toward) (omega arith)) (not_grown x m toward)
-lessens c x (phases.FlatOut m a) got has steps turns based = goes_behind x (phases.FlatOut m a) (record x { held = without_held m x.held }) refl c.program a has.1 (omega arith)
-lessens c x (phases.Own m r toward) got has steps turns based = to_phase x (phases.Own m r toward) (phases.FatIn m r toward) (omega arith)
-lessens c x (phases.FatIn m r toward) got has steps turns based = fattened x m r toward (held_at x.held m) refl has
-lessens c x (phases.WaitBit m r) got has steps turns based = to_phase x (phases.WaitBit m r) (phases.WaitOut m r) (omega arith)
-lessens c x (phases.WaitOut m r) got has steps turns based = goes_waiting x m r (held_at x.held m) has
-lessens c x (phases.WaitLook m r depth) got has steps turns based =
-    either x (phases.WaitLook m r depth) (has_flag (bit_of x.number) got) _ _ (turned x (phases.WaitLook m r depth) (phases.WaitLook m r depth) turns) (to_phase x (phases.WaitLook m r depth) (phases.Retake m r depth) (omega arith))
-lessens c x (phases.Retake m r depth) got has steps turns based =
-    either x (phases.Retake m r depth) (got == 0) _ _
-    (ran_on x (phases.Retake m r depth) (record x { held = with_held (record { monitor = m; kept = keeps.Fat r; depth = depth }) x.held }) refl (omega arith))
-    (turned x (phases.Retake m r depth) (phases.Retake m r depth) turns)
-lessens c x (phases.NotifyLook m r) got has steps turns based =
-    either x (phases.NotifyLook m r) (got == 0) _ _ (ran_on x (phases.NotifyLook m r) x refl (omega arith)) (to_phase x (phases.NotifyLook m r) (phases.NotifyOne m r (lowest_of got)) (omega arith))
-lessens c x (phases.NotifyOne m r u) got has steps turns based = ran_on x (phases.NotifyOne m r u) x refl (omega arith)
-lessens c x (phases.NotifyAll m r) got has steps turns based = ran_on x (phases.NotifyAll m r) x refl (omega arith)
-lessens c x (phases.Ending end) got has steps turns based = to_phase x (phases.Ending end) (phases.Ended end) (omega arith)
+lessens c x phase got has steps turns based = by_move (Lessens x phase) c x phase got (λ k. move_less c x got phase k tt has turns based)
 
 -- ---- a lawful thread
 
