@@ -5,7 +5,6 @@ use Rattle.std.specs.List.{AllZip}
 use Rattle.std.proofs.lemmas.List.{length-map, reverse-append}
 use Rattle.jvm_types.specs.CodeTable.{type_of, want_of, arguments, is_init}
 use Rattle.jvm_types.specs.Members.{is_static}
-use Rattle.jvm_types.specs.Types.{TypeFrame}
 use Rattle.jvm_types.specs.Types as types
 use Rattle.jvm_types.specs.declared.code.Insn.{Insn}
 use Rattle.jvm_types.specs.declared.op_row.Want.{Want}
@@ -27,9 +26,10 @@ use Rattle.machine_types.specs.Standing.{tags_of}
 use Rattle.machine_types.specs.Worlds.{World, IsFinished}
 use Rattle.laws_threads.proofs.MarkedMethods.{method_at}
 use Rattle.laws_threads.proofs.Lists.{zip_reverse, reverse_map}
-use Rattle.laws_objects.proofs.Landing.{both, IsJoined, land}
+use Rattle.laws_objects.proofs.Landing.{IsJoined, land}
 use Rattle.laws_objects.proofs.Operands.{WantOld, TakenOld}
 use Rattle.laws_objects.proofs.Slots.{top_slot, ref_slot}
+use Rattle.lists.proofs.TestLaws.{both_are_true}
 
 -- ---- arguments
 
@@ -108,7 +108,7 @@ module _ (Old : ℕ → Type 0) (null : Old 0) (Fresh : ℕ → ℕ → Type 0) 
 module _ (c : MarkedProgram) (marked : IsMarked c) (frozen : ℕ → Bool) (are : AreFrozen c frozen) (w : World) (next t h : ℕ) (null : IsFinished w next 0) (number : ℕ) (called : MethodInfo) (there : slice_get c.program.methods number ≡ Some called) where
   entry_joined : (args : List ℕ) → IsJoined c marked frozen are (entry_frame number called args) called (entry_tags called)
   entry_joined args own j other next' u at starts =
-      let parts = both (is_init called) (frozen called.class) own in
+      let parts = both_are_true (is_init called) (frozen called.class) own in
       let laid = (method_at c marked number called there).holds.laid in
       let b = begins called laid in
       let first : slice_get called.code 0 ≡ Some b.0 = ap (λ (code : List Insn). slice_get code 0) b.2 in

@@ -89,7 +89,7 @@ one_reference f v a b flag e h = same_instance (sym (of_flag a) ∙ (sym e ∙ h
 
 -- ---- a monitor is left at no place
 
-leave_suits_none : (claimed : Claim) (reference index : ℕ) → Suits (leave_content claimed) (ValueOf reference index) → ⊥
+pub leave_suits_none : (claimed : Claim) (reference index : ℕ) → Suits (leave_content claimed) (ValueOf reference index) → ⊥
 leave_suits_none (Has h) reference index suits = by_kept h.kept suits
   where
     by_kept : (k : Kept) → Suits (leave_content (Has (record h { kept = k }))) (ValueOf reference index) → ⊥

@@ -1,5 +1,5 @@
 -- Where a frame lands it has what the edge brought; what holds at the instruction of a frame that stands.
-use Rattle.std.proofs.Common.{◌≡◌, ℕ, Bool, true, false, ◌&&◌, List, Option, Some, refl, sym, subst, ◌∙◌}
+use Rattle.std.proofs.Common.{◌≡◌, ℕ, Bool, true, false, List, Option, Some, refl, sym, subst, ◌∙◌}
 use Rattle.std.specs.Prelude.{slice_get, map}
 use Rattle.jvm_types.specs.CodeTable.{is_init}
 use Rattle.jvm_types.specs.Numbers.{has_number}
@@ -29,17 +29,14 @@ use Rattle.laws_threads.proofs.MarkedMethods.{IsMethod, method_with}
 use Rattle.laws_objects.proofs.Slots.{slots_edge}
 use Rattle.laws_objects.proofs.TaggedTypes.{AreAsMany, tags_many}
 use Rattle.laws_objects.proofs.NoThis.{HaveNoThis, no_this}
-
-pub both : (x y : Bool) → (x && y) ≡ true → (x ≡ true) × (y ≡ true)
-both true y e = (refl, e)
-both false y e = absurd (cc)
+use Rattle.lists.proofs.TestLaws.{both_are_true}
 
 module _ (c : MarkedProgram) (marked : IsMarked c) (frozen : ℕ → Bool) (are : AreFrozen c frozen) where
   -- ---- where a frame stands
 
   -- an `<init>` of a frozen class lets its object nowhere
   pub inside_at : (f : Frame) (k : Standing c f) → builds frozen k.method ≡ true → KeepsInside c.program (tags_of c) f.method k.method
-  inside_at f k own = let parts = both (is_init k.method) (frozen k.method.class) own in are.those k.method.class parts.1 f.method k.method k.at.in_program refl parts.0
+  inside_at f k own = let parts = both_are_true (is_init k.method) (frozen k.method.class) own in are.those k.method.class parts.1 f.method k.method k.at.in_program refl parts.0
 
   -- outside an `<init>` there is no uninitialised `this`
   pub no_this_at : (f : Frame) (k : Standing c f) → is_init k.method ≡ false → HaveNoThis k.types

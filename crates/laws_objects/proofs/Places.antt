@@ -1,5 +1,5 @@
 -- No place has an unfinished object after an event.
-use Rattle.std.proofs.Common.{◌≡◌, ◌≢◌, ℕ, zero, suc, ◌+◌, ◌<◌, ◌⊎◌, inl, inr, Bool, true, false, List, [], ◌∷◌, length, Option, Some, None, refl, sym, ap, ◌∙◌, subst, arith}
+use Rattle.std.proofs.Common.{◌≡◌, ◌≢◌, ℕ, zero, suc, ◌+◌, ◌<◌, ◌⊎◌, inl, inr, Bool, true, false, List, ◌∷◌, length, Option, Some, None, refl, sym, ap, ◌∙◌, subst, arith}
 use Rattle.std.specs.Prelude.{◌==◌, nat_le, bit_or, bit_and, Contains, slice_get, slice_set, slice_index, if◌then◌else◌}
 use Rattle.lists.proofs.ListLaws.{same_some}
 use Rattle.jvm_types.specs.Members.{is_static}
@@ -48,17 +48,13 @@ use Rattle.laws_states.proofs.Accesses.{ElementSite}
 use Rattle.laws_states.proofs.Lists.{contained_got, got_contains, same_or_not, set_here, set_there}
 use Rattle.laws_states.proofs.Places.{same_object}
 use Rattle.laws_states.proofs.Sites.{sites_apart, sites_inside}
+use Rattle.laws_states.proofs.WordViews.{set_self}
 use Rattle.laws_threads.specs.Allowed.{IsFieldAt, Allowed}
 use Rattle.laws_objects.proofs.BuiltEffects.{KindOld, Built}
 use Rattle.laws_objects.proofs.InstructionMoves.{IsOutside}
 use Rattle.laws_objects.proofs.Onwards.{first_finished}
 use Rattle.laws_objects.proofs.Views.{finished_on}
 use Rattle.laws_objects.proofs.WorldChanges.{other_to}
-
-set_same : (xs : List ℕ) (w : ℕ) → slice_set xs w (slice_index xs w) ≡ xs
-set_same [] w = refl
-set_same (x ∷ xs) zero = refl
-set_same (x ∷ xs) (suc w) = ap (λ (ys : List ℕ). x ∷ ys) (set_same xs w)
 
 -- what is neither a field nor an element
 abbrev pub IsPlain : Content → Type 0
@@ -103,7 +99,7 @@ module _ (lies : StartLiesApart) (c : MarkedProgram) (marked : IsMarked c) (obje
   }
 
   pub loaded : (word : ℕ) → PlacesKeep c later more objects (words_after s.words (Some (Load word)))
-  loaded word = subst (PlacesKeep c later more objects) (sym (set_same s.words word)) same_words
+  loaded word = subst (PlacesKeep c later more objects) (sym (set_self s.words word)) same_words
 
   field_there : (o : Object) (number : ℕ) (f : FieldInfo) → Contains objects o → slice_get c.program.fields number ≡ Some f → is_static f.flags ≡ false → o.class ≡ f.class → f.index < length o.values
   field_there o number f k g n class =

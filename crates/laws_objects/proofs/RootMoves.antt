@@ -2,7 +2,6 @@
 use Rattle.std.proofs.Common.{◌≡◌, ℕ, zero, suc, ◌+◌, ◌≤◌, inl, inr, Bool, true, false, ◌&&◌, ◌||◌, List, [], ◌∷◌, ◌++◌, length, Option, Some, None, refl, ap, sym, subst, ◌∙◌, arith}
 use Rattle.std.specs.Prelude.{◌==◌, nat_lt, codes, bytes_eq, slice_get, option_map, if◌then◌else◌, IsTrue}
 use Rattle.std.specs.List.{AllByRecursion}
-use Rattle.std.proofs.lemmas.Bool.Decides.{nat_tests}
 use Rattle.std.proofs.lemmas.Slice.Eq.{bytes_eq-Decides}
 use Rattle.lists.proofs.ListLaws.{same_some}
 use Rattle.lists.proofs.TestLaws.{both_are_true, second_true, first_true}
@@ -30,7 +29,7 @@ use Rattle.machine_types.specs.declared.phase.Phase.{Phase}
 use Rattle.machine_types.specs.declared.phase.Phase.TheVariants as phases
 use Rattle.laws_threads.specs.StructureLaws.{StaysStructured}
 use Rattle.laws_programs.specs.EntryLaws.{receiver_count}
-use Rattle.laws_threads.proofs.Roots.{IsSomeRoot, part_root}
+use Rattle.laws_threads.proofs.Roots.{Numbered, IsSomeRoot, part_root, numbered}
 use Rattle.laws_objects.proofs.Calling.{not_built}
 use Rattle.laws_objects.proofs.EnteredFrames.{ArgsOld, static_enters}
 use Rattle.laws_objects.proofs.MonitorMoves.{Goal, none_in, held, unmoved, goes_if, never}
@@ -39,31 +38,6 @@ use Rattle.laws_objects.proofs.Onwards.{OnwardKeeps, IfKeeps, null}
 use Rattle.laws_objects.proofs.ThreadMoves.{from_same, now_world}
 
 -- ---- the methods with these numbers
-
-record Numbered (test : MethodInfo → Bool) (ms : List MethodInfo) (n k : ℕ) : Type 0 where
-  at : ℕ
-  method : MethodInfo
-  number : k ≡ n + at
-  there : slice_get ms at ≡ Some method
-  passes : test method ≡ true
-
-numbered : (test : MethodInfo → Bool) (ms : List MethodInfo) (n k : ℕ) → has_number (numbers_of test n ms) k ≡ true → Numbered test ms n k
-numbered test [] n k e = absurd (cc)
-numbered test (m ∷ ms) n k e = by_test (test m) refl e (numbered test ms (suc n) k)
-  where
-    later : Numbered test ms (suc n) k → Numbered test (m ∷ ms) n k
-    later x = record { at = suc x.at; method = x.method; number = omega (arith, x.number); there = x.there; passes = x.passes }
-
-    here : (n == k) ≡ true → k ≡ n + 0
-    here h = grind (arith, nat_tests, h)
-
-    by_here : (b : Bool) → (n == k) ≡ b → test m ≡ true → (b || has_number (numbers_of test (suc n) ms) k) ≡ true → (has_number (numbers_of test (suc n) ms) k ≡ true → Numbered test ms (suc n) k) → Numbered test (m ∷ ms) n k
-    by_here true h t e more = record { at = 0; method = m; number = here h; there = refl; passes = t }
-    by_here false h t e more = later (more e)
-
-    by_test : (b : Bool) → test m ≡ b → has_number (if b then n ∷ numbers_of test (suc n) ms else numbers_of test (suc n) ms) k ≡ true → (has_number (numbers_of test (suc n) ms) k ≡ true → Numbered test ms (suc n) k) → Numbered test (m ∷ ms) n k
-    by_test true t e more = by_here (n == k) refl t e more
-    by_test false t e more = later (more e)
 
 module _ (p : Program) where
   abbrev NoInits : List ℕ → Type 0

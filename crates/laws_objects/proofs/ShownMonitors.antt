@@ -4,7 +4,6 @@ use Rattle.std.proofs.Common.{◌≡◌, ◌⊎◌, inl, inr, ℕ, ◌+◌, ◌<
 use Rattle.std.specs.Prelude.{◌==◌, if◌then◌else◌}
 use Rattle.std.specs.List.{list_any}
 use Rattle.std.proofs.lemmas.Bool.{and_parts}
-use Rattle.std.proofs.lemmas.Bool.Decides.{nat_tests}
 use Rattle.jvm_types.specs.Members.{is_static, is_synchronized}
 use Rattle.jvm_types.specs.declared.program.MethodInfo.{MethodInfo}
 use Rattle.checked_program.specs.FrozenPlaces.{locks_this}
@@ -21,14 +20,9 @@ use Rattle.machine_types.specs.declared.lock.Held.{Held}
 use Rattle.machine_types.specs.declared.phase.Phase.TheVariants as phases
 use Rattle.laws_threads.proofs.HeldLists.{depth_none}
 use Rattle.laws_threads.proofs.FramePlaces.{one_standing}
+use Rattle.laws_threads.proofs.Counts.{once_in}
 
 -- ---- counts
-
-is_same : (n : ℕ) → (n == n) ≡ true
-is_same n = grind (arith, nat_tests)
-
-first_counted : (m : ℕ) (more : List ℕ) → 0 < count_in m (m ∷ more)
-first_counted m more = subst (λ (b : Bool). 0 < (if b then 1 else 0) + count_in m more) (sym (is_same m)) (omega arith)
 
 later_counted : (m n : ℕ) (more : List ℕ) → 0 < count_in m more → 0 < count_in m (n ∷ more)
 later_counted m n more l = omega (arith, l)
@@ -49,7 +43,7 @@ back_counted m (n ∷ ns) more l = later_counted m n (ns ++ more) (back_counted 
 
 tag_counted : (choice : ℕ → ℕ) (receiver : ℕ) (held : List Tag) → list_any is_this held ≡ true → 0 < count_in receiver (map (tag_value choice receiver) held)
 tag_counted choice receiver [] e = absurd (cc)
-tag_counted choice receiver (This ∷ held) e = first_counted receiver (map (tag_value choice receiver) held)
+tag_counted choice receiver (This ∷ held) e = once_in receiver (map (tag_value choice receiver) held)
 tag_counted choice receiver (Untagged ∷ held) e = later_counted receiver 0 (map (tag_value choice receiver) held) (tag_counted choice receiver held e)
 tag_counted choice receiver (At pc ∷ held) e = later_counted receiver (choice pc) (map (tag_value choice receiver) held) (tag_counted choice receiver held e)
 
@@ -57,7 +51,7 @@ method_counted : (m : MethodInfo) (f : Frame) → locks_this m ≡ true → 0 < 
 method_counted m f e = by_flag (is_synchronized m.flags) (and_parts (is_synchronized m.flags) (not (is_static m.flags)) e).0
   where
     by_flag : (b : Bool) → b ≡ true → 0 < count_in f.receiver (if b then f.receiver ∷ [] else [])
-    by_flag true e = first_counted f.receiver []
+    by_flag true e = once_in f.receiver []
     by_flag false e = absurd (cc)
 
 pub entries_counted : (choice : ℕ → ℕ) (m : MethodInfo) (tags : TagShape) (f : Frame) → (list_any is_this tags.held ≡ true) ⊎ (locks_this m ≡ true) → 0 < count_in f.receiver (entries_of choice m tags f)

@@ -1,13 +1,13 @@
 -- What holds of the types and the tags at pc 0 together, and along each edge, holds wherever tagging reaches: so there are as
 -- many tags as types, and outside an `<init>` no value has the type of an uninitialised `this`.
-use Rattle.std.proofs.Common.{◌≡◌, ℕ, suc, ◌+◌, ◌-◌, Bool, true, false, cond, ◌&&◌, List, [], ◌∷◌, ◌++◌, length, map, drop, replicate, Option, Some, None, refl, sym, ap, ◌∙◌, subst, arith}
+use Rattle.std.proofs.Common.{◌≡◌, ℕ, suc, ◌+◌, ◌-◌, Bool, true, false, cond, List, [], ◌∷◌, ◌++◌, length, map, drop, replicate, Option, Some, None, refl, sym, ap, ◌∙◌, subst, arith}
 use Rattle.std.specs.Prelude.{if◌then◌else◌, slice_get}
 use Rattle.std.specs.List.{AllByRecursion}
 use Rattle.std.proofs.lemmas.List.{length-append, length-map, length-drop, length-set, length-replicate}
 use Rattle.jvm_types.specs.CodeGrammar.{is_start}
 use Rattle.jvm_types.specs.CodeTable.{row, is_init, type_of, value_of, stack_after, locals_after}
 use Rattle.jvm_types.specs.Members.{is_static}
-use Rattle.jvm_types.specs.Types.{TypeFrame, is_below, all_pairs, frame_below, entry_frame, receiver_types}
+use Rattle.jvm_types.specs.Types.{TypeFrame, frame_below, entry_frame, receiver_types}
 use Rattle.jvm_types.specs.Verifying.{edges, covering, started, after_start, initialised, frame_after, frame_at_handler, HasTyping, IsLaidOut}
 use Rattle.jvm_types.specs.Verifying as types
 use Rattle.jvm_types.specs.declared.code.Insn.{Insn}
@@ -22,7 +22,7 @@ use Rattle.jvm_types.specs.declared.program.Target.{Target}
 use Rattle.jvm_types.specs.declared.typing.VType.{VType}
 use Rattle.jvm_types.specs.declared.typing.VType.TheVariants.{Ref, This, Top}
 use Rattle.jvm_types.proofs.EachAfter.{all_weaker}
-use Rattle.jvm_types.proofs.FrameOrder.{stack_below, locals_below}
+use Rattle.jvm_types.proofs.FrameOrder.{stack_below, locals_below, pairs_length}
 use Rattle.laws_programs.proofs.CodeOrder.{one_number}
 use Rattle.laws_programs.proofs.EdgeTargets.{lands}
 use Rattle.laws_programs.proofs.LocalGoing.{begins, local_law}
@@ -122,18 +122,8 @@ pub record AreAsMany (g : TypeFrame) (f : TagShape) : Type 0 where
   pub stack : length f.stack ≡ length g.stack
   pub locals : length f.locals ≡ length g.locals
 
-pairs_many : (ts us : List VType) → all_pairs is_below ts us ≡ true → length ts ≡ length us
-pairs_many [] [] e = refl
-pairs_many (t ∷ ts) (u ∷ us) e = ap suc (pairs_many ts us (second (is_below t u) (all_pairs is_below ts us) e))
-  where
-    second : (a b : Bool) → (a && b) ≡ true → b ≡ true
-    second true b e = e
-    second false b e = absurd (cc)
-pairs_many [] (u ∷ us) e = absurd (cc)
-pairs_many (t ∷ ts) [] e = absurd (cc)
-
 rises_many : (g h : TypeFrame) (f : TagShape) → frame_below g h ≡ true → AreAsMany g f → AreAsMany h f
-rises_many g h f e k = record { stack = k.stack ∙ pairs_many g.stack h.stack (stack_below g h e); locals = k.locals ∙ pairs_many g.locals h.locals (locals_below g h e) }
+rises_many g h f e k = record { stack = k.stack ∙ pairs_length g.stack h.stack (stack_below g h e); locals = k.locals ∙ pairs_length g.locals h.locals (locals_below g h e) }
 
 meets_long : (ts us : List Tag) → length ts ≡ length us → length (meet_tags ts us) ≡ length ts
 meets_long [] us e = refl

@@ -1,7 +1,7 @@
 -- Exceptions: a frame that throws, the frame below it, and a handler.
-use Rattle.std.proofs.Common.{◌≡◌, ℕ, zero, suc, Bool, true, false, cond, ◌||◌, ◌&&◌, not, List, [], ◌∷◌, length, Some, refl, sym, ap, ◌∙◌, subst, arith}
+use Rattle.std.proofs.Common.{◌≡◌, ℕ, zero, suc, Bool, true, false, ◌||◌, ◌&&◌, not, List, [], ◌∷◌, length, Some, refl, sym, ◌∙◌, subst, arith}
 use Rattle.std.specs.Prelude.{◌==◌, slice_get, if◌then◌else◌}
-use Rattle.std.specs.List.{AllByRecursion, list_any, find}
+use Rattle.std.specs.List.{AllByRecursion, list_any}
 use Rattle.std.proofs.lemmas.Bool.{or_parts}
 use Rattle.std.proofs.lemmas.Bool.Decides.{nat_tests}
 use Rattle.lists.proofs.ListLaws.{same_some}
@@ -19,7 +19,7 @@ use Rattle.jvm_types.specs.declared.typing.VType.TheVariants as vtypes
 use Rattle.checked_program.specs.LockTags.{IsShapeBelow}
 use Rattle.checked_program.specs.MarkedProgram.{MarkedProgram, IsMarked}
 use Rattle.checked_program.specs.TaggedCode.{caught}
-use Rattle.checked_program.specs.Tagging.{catches_all, until_all, catchers, tags_at_handler}
+use Rattle.checked_program.specs.Tagging.{until_all, catchers, tags_at_handler}
 use Rattle.checked_program.specs.Visits as visits
 use Rattle.checked_program.specs.declared.tag.Tag.{Tag}
 use Rattle.checked_program.specs.declared.tag.Tag.TheVariants.{Untagged, This, At}
@@ -31,9 +31,11 @@ use Rattle.machine_types.specs.Threads.{Frame}
 use Rattle.machine_types.specs.Worlds.{World, IsFinished}
 use Rattle.laws_threads.proofs.Callers.{handler_in}
 use Rattle.laws_threads.proofs.Landing.{rules_at, tag_rules_at}
-use Rattle.laws_threads.proofs.Lists.{all_get}
+use Rattle.laws_threads.proofs.FrameCalls.{static_is_free}
+use Rattle.laws_threads.proofs.TypedMoves.{handler_found}
 use Rattle.laws_objects.proofs.Landing.{inside_at, IsJoined, land}
 use Rattle.laws_objects.proofs.Slots.{slots_map, slots_map_if, slot_later, ref_slot}
+use Rattle.laws_programs.proofs.LocalGoing.{at_index}
 
 -- whatever the frame was about to do, its stack says nothing more, nor do its slots with what a `new` made
 pub loosened : (c : MarkedProgram) (frozen : ℕ → Bool) (w : World) (next t h : ℕ) (turn : Turn) (f : Frame) → FrameKeeps c frozen w next t h turn f → FrameKeeps c frozen w next t h Throws f
@@ -61,10 +63,6 @@ frames_unwound c frozen w next t f (g ∷ fs) k = (loosened c frozen w next t (l
 none_of : (test : VType → Bool) (ts : List VType) → list_any test ts ≡ false → AllByRecursion (λ t. test t ≡ false) ts
 none_of test [] e = tt
 none_of test (t ∷ ts) e = let h = or_parts (test t) (list_any test ts) e in (h.0, none_of test ts h.1)
-
-and_false : (x y : Bool) → (x && y) ≡ false → x ≡ true → y ≡ false
-and_false true y e h = e
-and_false false y e h = absurd (let bad : false ≡ true = h in cc)
 
 found_covers : (pc class : ℕ) (rows : List Row) (r : Row) → handler_of pc class rows ≡ Some r → list_any (covers pc) rows ≡ true
 found_covers pc class [] r e = absurd (cc)
@@ -104,10 +102,6 @@ module _ (Old : ℕ → Type 0) (Fresh Later : ℕ → ℕ → Type 0) (young : 
 
 -- ---- a handler
 
-handler_found : (pc class : ℕ) (rows : List Row) → handler_of pc class rows ≡ find (λ r. covers pc r && (catches_all r || is_subclass class r.catch_class)) rows
-handler_found pc class [] = refl
-handler_found pc class (r ∷ rows) = ap (cond (covers pc r && (catches_all r || is_subclass class r.catch_class)) (Some r)) (handler_found pc class rows)
-
 any_got : (test : Row → Bool) (rows : List Row) (i : ℕ) (r : Row) → slice_get rows i ≡ Some r → test r ≡ true → list_any test rows ≡ true
 any_got test [] i r e h = absurd (cc)
 any_got test (q ∷ rows) zero r e h = let same : q ≡ r = same_some e in first_true (test q) (list_any test rows) (subst (λ (x : Row). test x ≡ true) (sym same) h)
@@ -122,7 +116,7 @@ module _ (c : MarkedProgram) (marked : IsMarked c) (frozen : ℕ → Bool) (are 
       let b = list_any (covers k.insn.pc) k.method.rows && list_any is_new k.types.locals in
       let x = or_parts ((s || a) || b) (is_return k.insn.op && not k.types.ready) (rules_at c marked f k).rules.objects in
       let y = or_parts (s || a) b x.0 in
-      none_of is_new k.types.locals (and_false (list_any (covers k.insn.pc) k.method.rows) (list_any is_new k.types.locals) y.1 (found_covers k.insn.pc class k.method.rows r e))
+      none_of is_new k.types.locals (static_is_free (list_any (covers k.insn.pc) k.method.rows) (list_any is_new k.types.locals) y.1 (found_covers k.insn.pc class k.method.rows r e))
 
   pub handled : (f : Frame) (k : FrameKeeps c frozen w next t h Throws f) (x class : ℕ) (r : Row) → can_throw k.stands.insn.op ≡ true → IsFinished w next x → handler_of f.pc class k.stands.method.rows ≡ Some r
       → FrameKeeps c frozen w next t h Runs (record f { pc = r.handler; stack = x ∷ [] })
@@ -137,7 +131,7 @@ module _ (c : MarkedProgram) (marked : IsMarked c) (frozen : ℕ → Bool) (are 
       subst (λ b. AllByRecursion (λ handler. visits.Fits IsShapeBelow s.method.code s.at.frames (tags_at_handler s.tags) handler.handler) (if b then until_all (covering s.method s.insn.pc) else [])) throws tags.handlers_fit in
       land c marked frozen are w next t h null (record f { pc = r.handler; stack = x ∷ [] }) s.method s.frames s.at.frames (frame_at_handler r s.types) (tags_at_handler s.tags) s.at.in_program s.types_of_method s.at.of_method
       found.0
-      (all_get (λ (handler : Row). visits.Fits IsShapeBelow s.method.code s.at.frames (tags_at_handler s.tags) handler.handler) (until_all (covering s.method s.insn.pc)) among.0 r handlers among.1)
+      (at_index (λ (handler : Row). visits.Fits IsShapeBelow s.method.code s.at.frames (tags_at_handler s.tags) handler.handler) (until_all (covering s.method s.insn.pc)) among.0 r handlers among.1)
       (joined among.0 among.1) k.receiver
       (ref_slot (IsFinished w next) null (IsFresh w t h Runs) (builds frozen s.method) (makes_frozen frozen s.method) f.receiver (builds frozen s.method) (caught_class r) x old, tt)
       (slots_map_if (λ u. is_new u ≡ false) (SlotOf frozen w next t h Throws s.method f.receiver) (SlotOf frozen w next t h Runs s.method f.receiver)

@@ -22,11 +22,11 @@ pub record Puts (op : Op) (f : FieldInfo) (stack : List ℕ) (v : Variable) : Ty
 same_variable : (v u : Variable) (a b : ℕ) → Writes v a ≡ Writes u b → u ≡ v
 same_variable v u a b e = cc
 
-no_static_read : (f : Option FieldInfo) (v : Variable) (word : ℕ) → gets_static f ≡ Writes v word → ⊥
+pub no_static_read : (f : Option FieldInfo) (v : Variable) (word : ℕ) → gets_static f ≡ Writes v word → ⊥
 no_static_read None v word e = cc
 no_static_read (Some f) v word e = cc
 
-no_read : (f : Option FieldInfo) (stack : List ℕ) (v : Variable) (word : ℕ) → gets f stack ≡ Writes v word → ⊥
+pub no_read : (f : Option FieldInfo) (stack : List ℕ) (v : Variable) (word : ℕ) → gets f stack ≡ Writes v word → ⊥
 no_read None stack v word e = cc
 no_read (Some f) [] v word e = cc
 no_read (Some f) (a ∷ stack) v word e = by_test (a == 0) e
