@@ -25,6 +25,7 @@ use Rattle.machine_types.specs.declared.plain.Act.{Act}
 use Rattle.laws_states.specs.HeapFacts.{objects_by, objects_of}
 use Rattle.laws_states.proofs.Assembled.{got_set}
 use Rattle.laws_states.proofs.Lists.{got_below, same_or_not}
+use Rattle.laws_states.proofs.EventFacts.{got_when_set}
 use Rattle.laws_simulation.specs.StandsBeside.{IsAmong, IsBeingMade, IsPlainNew, StandsBeside, ends_shown}
 use Rattle.laws_simulation.specs.StepsBeside.{StepsBeside}
 
@@ -34,11 +35,6 @@ pub set_as_it_is : {A : Type 0} (xs : List A) (i : ℕ) (x : A) → slice_get xs
 set_as_it_is [] i x e = refl
 set_as_it_is (y ∷ ys) zero x e = let same : y ≡ x = cc in ap (λ z. z ∷ ys) (sym same)
 set_as_it_is (y ∷ ys) (suc i) x e = ap (λ zs. y ∷ zs) (set_as_it_is ys i x e)
-
-pub got_when_set : {A : Type 0} (xs : List A) (i : ℕ) (x y : A) → slice_get xs i ≡ Some x → slice_get (slice_set xs i y) i ≡ Some y
-got_when_set [] i x y e = cc
-got_when_set (z ∷ zs) zero x y e = refl
-got_when_set (z ∷ zs) (suc i) x y e = got_when_set zs i x y e
 
 pub got_other : {A : Type 0} (xs : List A) (i j : ℕ) (x : A) → j ≢ i → slice_get (slice_set xs i x) j ≡ slice_get xs j
 got_other [] i j x n = refl

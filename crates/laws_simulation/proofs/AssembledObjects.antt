@@ -20,9 +20,10 @@ use Rattle.machine_types.specs.declared.lock.Held.{Held}
 use Rattle.machine_types.specs.declared.phase.Phase.{Phase}
 use Rattle.machine_types.specs.declared.phase.Phase.TheVariants as phases
 use Rattle.laws_states.proofs.Lists.{same_or_not}
+use Rattle.laws_states.proofs.EventFacts.{got_when_set}
 use Rattle.laws_simulation.specs.StandsBeside.{IsBeingMade, IsAmong, IsPlainNew, ends_shown, StandsBeside}
-use Rattle.laws_simulation.proofs.HoldingsAlike.{set_got, set_else}
 use Rattle.laws_simulation.proofs.WaitBits.{fits_by}
+use Rattle.laws_simulation.proofs.Assembled.{got_other}
 
 -- ---- threads that make objects, where one that makes none goes on
 
@@ -40,7 +41,7 @@ module _ (threads : List Thread) (t : ℕ) (x new : Thread) (there : slice_get t
 
   own_new : (u : ℕ) (z : Thread) (a word : ℕ) → slice_get later u ≡ Some z → z.phase ≡ phases.Made a word → u ≡ t → new.phase ≡ phases.Made a word
   own_new u z a word e m same =
-      let one : z ≡ new = same_some (sym e ∙ (ap (slice_get later) same ∙ set_got threads t x new there)) in
+      let one : z ≡ new = same_some (sym e ∙ (ap (slice_get later) same ∙ got_when_set threads t x new there)) in
       ap (λ (y : Thread). y.phase) (sym one) ∙ m
 
   pub pending_on : MakesNone x.phase → (n : ℕ) → IsPending threads n → IsPending later n
@@ -48,14 +49,14 @@ module _ (threads : List Thread) (t : ℕ) (x new : Thread) (there : slice_get t
     where
       by_thread : (k.0 ≡ t) ⊎ (k.0 ≢ t) → IsPending later n
       by_thread (inl same) = absurd (none k.2 k.3 (own_phase k.0 k.1 k.2 k.3 k.4 k.5 same))
-      by_thread (inr d) = (k.0, k.1, k.2, k.3, set_else threads t k.0 new d ∙ k.4, k.5, k.6)
+      by_thread (inr d) = (k.0, k.1, k.2, k.3, got_other threads t k.0 new d ∙ k.4, k.5, k.6)
 
   pub making_on : MakesNone x.phase → (a : ℕ) → IsBeingMade threads a → IsBeingMade later a
   making_on none a k = by_thread (same_or_not k.0 t)
     where
       by_thread : (k.0 ≡ t) ⊎ (k.0 ≢ t) → IsBeingMade later a
       by_thread (inl same) = absurd (none a k.2 (own_phase k.0 k.1 a k.2 k.3 k.4 same))
-      by_thread (inr d) = (k.0, k.1, k.2, set_else threads t k.0 new d ∙ k.3, k.4)
+      by_thread (inr d) = (k.0, k.1, k.2, got_other threads t k.0 new d ∙ k.3, k.4)
 
   -- one that makes an object made it before, but for the thread itself
   pub made_before : (u : ℕ) (z : Thread) (a word : ℕ) → slice_get later u ≡ Some z → z.phase ≡ phases.Made a word → (new.phase ≡ phases.Made a word) ⊎ ((u ≢ t) × (slice_get threads u ≡ Some z))
@@ -63,7 +64,7 @@ module _ (threads : List Thread) (t : ℕ) (x new : Thread) (there : slice_get t
     where
       by_thread : (u ≡ t) ⊎ (u ≢ t) → (new.phase ≡ phases.Made a word) ⊎ ((u ≢ t) × (slice_get threads u ≡ Some z))
       by_thread (inl same) = inl (own_new u z a word e m same)
-      by_thread (inr d) = inr (d, sym (set_else threads t u new d) ∙ e)
+      by_thread (inr d) = inr (d, sym (got_other threads t u new d) ∙ e)
 
   pub made_by_others : MakesNone new.phase → (u : ℕ) (z : Thread) (a word : ℕ) → slice_get later u ≡ Some z → z.phase ≡ phases.Made a word → slice_get threads u ≡ Some z
   made_by_others none u z a word e m = by_thread (made_before u z a word e m)
@@ -96,16 +97,16 @@ pub record AfterEvent (p : Program) (later : List Object) (s r : Core) (q after 
 module _ (p : Program) (objects later : List Object) (s r : Core) (q after : Plain) (t : ℕ) (x new : Thread) (y shown : PlainThread) (beside : StandsBeside p objects s q)
     (there : slice_get s.threads t ≡ Some x) (here : slice_get q.threads t ≡ Some y) (k : AfterEvent p later s r q after t x new shown) where
   thread_at : (u : ℕ) → u ≢ t → slice_get r.threads u ≡ slice_get s.threads u
-  thread_at u d = ap (λ (xs : List Thread). slice_get xs u) k.threads ∙ set_else s.threads t u new d
+  thread_at u d = ap (λ (xs : List Thread). slice_get xs u) k.threads ∙ got_other s.threads t u new d
 
   thread_here : slice_get r.threads t ≡ Some new
-  thread_here = ap (λ (xs : List Thread). slice_get xs t) k.threads ∙ set_got s.threads t x new there
+  thread_here = ap (λ (xs : List Thread). slice_get xs t) k.threads ∙ got_when_set s.threads t x new there
 
   plain_at : (u : ℕ) → u ≢ t → slice_get after.threads u ≡ slice_get q.threads u
-  plain_at u d = ap (λ (xs : List PlainThread). slice_get xs u) k.plain_threads ∙ set_else q.threads t u shown d
+  plain_at u d = ap (λ (xs : List PlainThread). slice_get xs u) k.plain_threads ∙ got_other q.threads t u shown d
 
   plain_here : slice_get after.threads t ≡ Some shown
-  plain_here = ap (λ (xs : List PlainThread). slice_get xs t) k.plain_threads ∙ set_got q.threads t y shown here
+  plain_here = ap (λ (xs : List PlainThread). slice_get xs t) k.plain_threads ∙ got_when_set q.threads t y shown here
 
   monitors : (u m : ℕ) → depth_for u (holding_at after.holdings m) ≡ depth_of (slice_get r.threads u) m
   monitors u m = ap (λ (hs : List Holding). depth_for u (holding_at hs m)) k.holdings ∙ (beside.agrees.monitors u m ∙ by_thread (same_or_not u t))

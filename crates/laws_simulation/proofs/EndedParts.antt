@@ -16,7 +16,7 @@ use Rattle.machine_types.specs.Owners.{references_of}
 use Rattle.machine_types.specs.Parts.{done_roots, has_returned, has_finished}
 use Rattle.machine_types.specs.PlainState.{Plain, PlainThread, Status}
 use Rattle.machine_types.specs.PlainState as plain
-use Rattle.machine_types.specs.PlainSteps.{first_is_return, init_has_returned, is_over, is_done_due, end_at, first_end}
+use Rattle.machine_types.specs.PlainSteps.{first_is_return, is_over, is_done_due, end_at, first_end}
 use Rattle.machine_types.specs.PlainSteps as steps
 use Rattle.machine_types.specs.Structure.{IsLimitAt, IsAs, Stands, AttemptStands, AttemptStandsIn, IsStructured}
 use Rattle.machine_types.specs.Threads.{Attempt, Frame, Thread}
@@ -26,7 +26,7 @@ use Rattle.machine_types.specs.declared.phase.Phase.TheVariants as phases
 use Rattle.laws_states.specs.PartsStand.{FirstFits, HasFinished, PartsStand}
 use Rattle.laws_simulation.specs.StandsBeside.{own_end, end_of_done, ends_shown}
 use Rattle.laws_simulation.specs.OutcomeLaws.{EndsAreThose}
-use Rattle.laws_simulation.proofs.EventCounts.{same_place}
+use Rattle.laws_simulation.proofs.Assembled.{got_same_length}
 
 -- ---- one part that is over
 
@@ -205,7 +205,7 @@ ends_are_those c cfg objects was s q marked facts beside keep_none over = record
     reported : (t : ℕ) (r : ThreadReport) (o : Option Thread) → slice_get s.threads t ≡ o → option_map report_of o ≡ Some r → EndFits r.end (first_end q t)
     reported t r None e f = absurd (cc)
     reported t r (Some x) e f =
-        let place = same_place s.threads q.threads t x beside.agrees.many e in
+        let place = got_same_length s.threads q.threads t x beside.agrees.many e in
         let at : first_end q t ≡ slice_get (ends_shown c.program x.part x.phase) 0 = ap (end_at 0) place.1 ∙ ap (λ (es : List End). slice_get es 0) (beside.ends t x place.0 e place.1) in
         subst (λ (z : ThreadReport). EndFits z.end (first_end q t)) (same_some f)
         (subst (λ (o : Option End). EndFits (reported_end x.phase x.first) o) (sym at) (first_ended c.program x.part x.phase x.first (dead t x e) (first_fits t x e)))

@@ -1,7 +1,7 @@
 -- A thread enters a monitor: it has it already, it takes its lock, or it goes on to wait for it.
 use Rattle.std.proofs.Common.{◌≡◌, inl, ℕ, ◌+◌, ◌-◌, ◌<◌, nat_lt, Bool, true, false, cond, List, [], ◌∷◌, length, drop, Option, Some, None, refl, sym, ap, ◌∙◌, subst, arith}
 use Rattle.std.specs.Prelude.{slice_index, slice_set, ◌==◌}
-use Rattle.std.proofs.lemmas.Bool.Decides.{nat_tests}
+use Rattle.std.proofs.lemmas.Bool.Decides.{nat_tests, Decides-eqb}
 use Rattle.jvm_types.specs.declared.fixed_words.TheConstants.{MONITOR_RECORDS}
 use Rattle.jvm_types.specs.declared.limits.TheConstants.{FLAG_FROM}
 use Rattle.jvm_types.specs.declared.outcome.End.TheVariants as ends
@@ -17,7 +17,7 @@ use Rattle.machine_types.specs.LockWords.{word_of_lock, lock_of}
 use Rattle.machine_types.specs.Monitors.{claim_by, enter_wants, enter_moves, acquires, takes}
 use Rattle.machine_types.specs.Owners.{NotHeld, HeldFat, hold_by_word, lock_at, owner_at, references_of}
 use Rattle.machine_types.specs.PlainMemory.{Object}
-use Rattle.machine_types.specs.PlainState.{Plain, PlainThread, Holding, holding_at, with_holding, with_status}
+use Rattle.machine_types.specs.PlainState.{Plain, holding_at, with_holding, with_status}
 use Rattle.machine_types.specs.PlainState as plain
 use Rattle.machine_types.specs.StartLaws.{StartLiesApart}
 use Rattle.machine_types.specs.Threads.{Attempt, Frame, Thread}
@@ -34,7 +34,7 @@ use Rattle.machine_types.specs.declared.plain.Act.TheVariants as acts
 use Rattle.laws_threads.proofs.HeldLists.{held_monitor}
 use Rattle.laws_states.specs.SiteLaws.{SitesDiffer, SitesLieInside}
 use Rattle.laws_states.specs.Sites.{HasObject}
-use Rattle.laws_states.proofs.LockViews.{is_there, not_there, not_held}
+use Rattle.laws_states.proofs.LockViews.{not_there, not_held}
 use Rattle.laws_states.proofs.WordViews.{lock_of_word, object_has, set_self}
 use Rattle.laws_simulation.specs.StandsBeside.{ends_shown}
 use Rattle.laws_simulation.proofs.GoingOnAlike.{ends_before, none_ends}
@@ -54,7 +54,7 @@ module _ (lies : StartLiesApart) (differ : SitesDiffer) (inside : SitesLieInside
   lock_here n h = ap (λ (b : Bool). cond b (lock_of (slice_index s.words n)) (locks.Free 0)) (object_has objects n h)
 
   pub lock_is : (n : ℕ) (l : LockWord) → HasObject objects n → (slice_index s.words n == word_of_lock l) ≡ true → lock_at (references_of objects) s.words n ≡ l
-  lock_is n l h e = lock_here n h ∙ ap lock_of (is_there (slice_index s.words n) (word_of_lock l) e) ∙ lock_of_word l
+  lock_is n l h e = lock_here n h ∙ ap lock_of ((Decides-eqb (slice_index s.words n) (word_of_lock l)).0 e) ∙ lock_of_word l
 
   -- the words are as they were where one was stored as it was
   pub loaded : (w : ℕ) → WordsStay objects s q (slice_set s.words w (slice_index s.words w))
@@ -195,6 +195,6 @@ module _ (lies : StartLiesApart) (differ : SitesDiffer) (inside : SitesLieInside
       by_test : (b : Bool) → (slice_index s.words (owner_word r) == 0) ≡ b
           → Makes c cfg objects was s t x q k (if_so b acts.Enter) (slice_set s.words (owner_word r) (cond b (x.number + 1) (slice_index s.words (owner_word r)))) (cond b (takes x m (keeps.Fat r)) (failed_turn x (phases.TakeFat m r)))
       by_test true e =
-          let none : owner_at s.words r ≡ 0 = ap (λ (b : Bool). cond b (slice_index s.words (owner_word r)) 0) (low_record r (low m r fat)) ∙ is_there (slice_index s.words (owner_word r)) 0 e in
+          let none : owner_at s.words r ≡ 0 = ap (λ (b : Bool). cond b (slice_index s.words (owner_word r)) 0) (low_record r (low m r fat)) ∙ (Decides-eqb (slice_index s.words (owner_word r)) 0).0 e in
           takes_it (slice_set s.words (owner_word r) (x.number + 1)) m (keeps.Fat r) (owner_stays lies differ inside c objects s k.marked k.facts.heap low q k.beside r (x.number + 1) (low m r fat)) status (nobody_fat m r fat none)
       by_test false e = to_wait (slice_set s.words (owner_word r) (slice_index s.words (owner_word r))) m (phases.TakeFat m r) (loaded (owner_word r)) tt status status

@@ -1,5 +1,5 @@
 -- What the counts of a thread say of its plain steps stays so at each event outside attempts.
-use Rattle.std.proofs.Common.{◌≡◌, ℕ, zero, suc, List, [], ◌∷◌, length, Option, Some, refl, sym, ap, ◌∙◌, subst, arith}
+use Rattle.std.proofs.Common.{◌≡◌, ℕ, List, Option, Some, sym, ap, ◌∙◌, subst, arith}
 use Rattle.std.specs.Prelude.{slice_get}
 use Rattle.checked_program.specs.MarkedProgram.{MarkedProgram, IsMarked}
 use Rattle.machine_types.specs.Agreement.{OutsideFits, StatusFits, ThreadFits, has_wait_bit, depth_of}
@@ -22,14 +22,9 @@ use Rattle.machine_types.specs.declared.phase.Phase.TheVariants as phases
 use Rattle.laws_threads.proofs.TopEffects.{effects_allowed}
 use Rattle.laws_simulation.specs.OutcomeLaws.{StandsToMove, EventsAreCounted, found_now}
 use Rattle.laws_simulation.proofs.CountedEvents.{Tallied, new_print, TakesNew, IsAllowedAt, tallied_at}
+use Rattle.laws_simulation.proofs.Assembled.{got_same_length}
 
 -- ---- the plain thread
-
-pub same_place : {A B : Type 0} (xs : List A) (ys : List B) (i : ℕ) (x : A) → length ys ≡ length xs → slice_get xs i ≡ Some x → (y : B) × (slice_get ys i ≡ Some y)
-same_place [] ys i x e f = absurd (cc)
-same_place (a ∷ xs) [] i x e f = absurd (omega (arith, e))
-same_place (a ∷ xs) (b ∷ ys) zero x e f = (b, refl)
-same_place (a ∷ xs) (b ∷ ys) (suc i) x e f = same_place xs ys i x (omega (arith, e)) f
 
 -- ---- facts by the phase
 
@@ -51,7 +46,7 @@ pub record Mover (c : MarkedProgram) (s : Core) (t : ℕ) (x : Thread) (q : Plai
 pub mover : (c : MarkedProgram) (cfg : Config) (objects : List Object) (was : ℕ → Phase) (s : Core) (t : ℕ) (x : Thread) (q after : Plain) → StandsToMove c cfg objects was s t x q after → Mover c s t x q
 mover c cfg objects was s t x q after h =
     let agrees = h.beside.agrees in
-    let place = same_place s.threads q.threads t x agrees.many h.thread in
+    let place = got_same_length s.threads q.threads t x agrees.many h.thread in
     record {
       plain_thread = place.0;
       there = place.1;

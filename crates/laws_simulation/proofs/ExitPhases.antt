@@ -1,7 +1,7 @@
 -- A thread leaves a monitor, or makes its lock fat.
 use Rattle.std.proofs.Common.{◌≡◌, ◌≢◌, ℕ, suc, ◌+◌, ◌-◌, ◌<◌, nat_lt, Bool, true, false, cond, List, [], ◌∷◌, Option, Some, None, refl, sym, ap, ◌∙◌, subst, arith}
 use Rattle.std.specs.Prelude.{slice_index, slice_set, option_map, ◌==◌}
-use Rattle.std.proofs.lemmas.Bool.Decides.{nat_tests}
+use Rattle.std.proofs.lemmas.Bool.Decides.{nat_tests, Decides-eqb}
 use Rattle.jvm_types.specs.declared.fixed_words.TheConstants.{MONITOR_RECORDS, NEXT_RECORD_WORD}
 use Rattle.jvm_types.specs.declared.outcome.End.TheVariants as ends
 use Rattle.checked_program.specs.MarkedProgram.{MarkedProgram}
@@ -16,7 +16,7 @@ use Rattle.machine_types.specs.Monitors.{claim_by, leave_wants, leave_moves, rel
 use Rattle.machine_types.specs.Onward.{Onward, after}
 use Rattle.machine_types.specs.Owners.{IsDrawn, hold_by_word, hold_by_kept, hold_by_list, lock_at, owner_at, locks_in, references_of}
 use Rattle.machine_types.specs.PlainMemory.{Object}
-use Rattle.machine_types.specs.PlainState.{Plain, PlainThread, Holding, holding_at, held_by, with_holding, without_holding, with_thread}
+use Rattle.machine_types.specs.PlainState.{Plain, Holding, holding_at, held_by, with_holding, without_holding, with_thread}
 use Rattle.machine_types.specs.PlainState as plain
 use Rattle.machine_types.specs.PlainSteps.{left, plain_run}
 use Rattle.machine_types.specs.Shown.{Show}
@@ -42,7 +42,7 @@ use Rattle.laws_threads.proofs.HeldBounds.{found as found_held}
 use Rattle.laws_states.specs.SiteLaws.{SitesDiffer, SitesLieInside}
 use Rattle.laws_states.specs.Sites.{HasObject}
 use Rattle.laws_states.proofs.Phases.{some_of}
-use Rattle.laws_states.proofs.LockViews.{is_there, fatly, thin_if_flat}
+use Rattle.laws_states.proofs.LockViews.{fatly, thin_if_flat}
 use Rattle.laws_states.proofs.WordViews.{lock_of_word}
 use Rattle.laws_simulation.proofs.GoingOnAlike.{awake_fits, going_alike}
 use Rattle.laws_simulation.proofs.HoldingsAlike.{HoldAlike, alone, held_depth_is, depth_is_held, holds_then, alike_by, alike_put, alike_dropped}
@@ -192,7 +192,7 @@ module _ (lies : StartLiesApart) (differ : SitesDiffer) (inside : SitesLieInside
       own n b i = depth_is_held q.holdings s.threads k.beside.agrees.monitors t n x k.there ∙ sym (ap (λ (hs : List Held). depth_at hs n) f ∙ ap (option_map (λ (j : Held). j.depth)) (held_put n g x.held ∙ ap (λ (d : Bool). cond d (Some g) (held_at x.held n)) (ap (λ (a : ℕ). a == n) at ∙ i)) ∙ by_test b i)
         where
           by_test : (b : Bool) → (m == n) ≡ b → option_map (λ (j : Held). j.depth) (cond b (Some g) (held_at x.held n)) ≡ depth_at x.held n
-          by_test true i = ap Some deep ∙ sym (ap (option_map (λ (j : Held). j.depth)) (ap (held_at x.held) (sym (is_there m n i)) ∙ e))
+          by_test true i = ap Some deep ∙ sym (ap (option_map (λ (j : Held). j.depth)) (ap (held_at x.held) (sym ((Decides-eqb m n).0 i)) ∙ e))
           by_test false i = refl
 
   pub fattened : (m r : ℕ) (toward : Toward) (o : Option Held) → held_at x.held m ≡ o → IsFlat o → k.z.status ≡ toward_status m toward → r < MONITOR_RECORDS → IsDrawn (locks_in (references_of objects) s.words) r

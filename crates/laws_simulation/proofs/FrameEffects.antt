@@ -62,7 +62,7 @@ use Rattle.laws_simulation.proofs.WaitBits.{same_wait_bit}
 use Rattle.laws_simulation.proofs.HeldToLeave.{IsHeld, leaves_held, exits_held, held_not_null}
 use Rattle.laws_simulation.proofs.PrintWords.{print_fits}
 
-is_some_thrown : (o : Option Thrown) → IsSome o → (x : Thrown) × (o ≡ Some x)
+pub is_some_thrown : (o : Option Thrown) → IsSome o → (x : Thrown) × (o ≡ Some x)
 is_some_thrown None k = absurd (cc)
 is_some_thrown (Some x) k = (x, refl)
 

@@ -1,8 +1,8 @@
 -- What the plain machine's holdings say of who holds a monitor is what the threads' own lists say, also where a thread takes a
 -- monitor or lets it go.
-use Rattle.std.proofs.Common.{◌≡◌, ◌≢◌, ◌⊎◌, inl, inr, ℕ, zero, suc, Bool, true, false, cond, List, [], ◌∷◌, Option, Some, None, refl, sym, ap, ◌∙◌, subst, arith}
+use Rattle.std.proofs.Common.{◌≡◌, ◌≢◌, ◌⊎◌, inl, inr, ℕ, Bool, true, false, cond, List, [], ◌∷◌, Option, Some, None, refl, sym, ap, ◌∙◌, subst, arith}
 use Rattle.std.specs.Prelude.{not, ◌==◌, option_map, slice_get, slice_set}
-use Rattle.std.proofs.lemmas.Bool.Decides.{nat_tests}
+use Rattle.std.proofs.lemmas.Bool.Decides.{nat_tests, Decides-eqb}
 use Rattle.machine_types.specs.Agreement.{depth_for, depth_of}
 use Rattle.machine_types.specs.HeldMonitors.{held_at, depth_at, with_held, without_held}
 use Rattle.machine_types.specs.PlainState.{Holding, holding_at, with_holding, without_holding, is_holder}
@@ -11,15 +11,15 @@ use Rattle.machine_types.specs.Threads.{Thread}
 use Rattle.machine_types.specs.declared.lock.Held.{Held}
 use Rattle.laws_threads.proofs.HeldLists.{held_put, held_without}
 use Rattle.laws_states.proofs.Lists.{same_or_not}
+use Rattle.laws_states.proofs.LockViews.{same_there}
+use Rattle.laws_states.proofs.EventFacts.{got_when_set}
+use Rattle.laws_simulation.proofs.Assembled.{got_other}
 
 -- of each thread and each monitor
 abbrev pub HoldAlike : List Holding → List Thread → Type 0
 HoldAlike holdings threads = (t m : ℕ) → depth_for t (holding_at holdings m) ≡ depth_of (slice_get threads t) m
 
 -- ---- numbers
-
-pub itself : (n : ℕ) → (n == n) ≡ true
-itself n = grind (arith, nat_tests)
 
 pub is_other : (n k : ℕ) → n ≢ k → (n == k) ≡ false
 is_other n k d = by_test (n == k) refl
@@ -28,22 +28,7 @@ is_other n k d = by_test (n == k) refl
     by_test true e = let same : n ≡ k = grind (arith, nat_tests, e) in absurd (d same)
     by_test false e = refl
 
-pub are_same : (n k : ℕ) → (n == k) ≡ true → n ≡ k
-are_same n k e = grind (arith, nat_tests, e)
-
 -- ---- one thread of a list is changed
-
-pub set_got : {A : Type 0} (xs : List A) (i : ℕ) (x y : A) → slice_get xs i ≡ Some x → slice_get (slice_set xs i y) i ≡ Some y
-set_got [] i x y e = absurd (cc)
-set_got (z ∷ zs) zero x y e = refl
-set_got (z ∷ zs) (suc i) x y e = set_got zs i x y e
-
-pub set_else : {A : Type 0} (xs : List A) (i j : ℕ) (y : A) → j ≢ i → slice_get (slice_set xs i y) j ≡ slice_get xs j
-set_else [] i j y d = refl
-set_else (z ∷ zs) zero zero y d = absurd (d refl)
-set_else (z ∷ zs) zero (suc j) y d = refl
-set_else (z ∷ zs) (suc i) zero y d = refl
-set_else (z ∷ zs) (suc i) (suc j) y d = set_else zs i j y (λ e. d (ap suc e))
 
 -- ---- holdings, where one is put or taken away
 
@@ -87,13 +72,13 @@ holding_without m n (h ∷ hs) = by_test (h.monitor == n) refl (h.monitor == m) 
     by_test false t false u x v more = ap (λ (b : Bool). cond b (Some h) (holding_at (without_holding n hs) m)) u ∙ more ∙ ap (λ (b : Bool). cond b None (holding_at hs m)) v
 
 pub put_here : (h : Holding) (hs : List Holding) → holding_at (with_holding h hs) h.monitor ≡ Some h
-put_here h hs = holding_put h.monitor h hs ∙ ap (λ (b : Bool). cond b (Some h) (holding_at hs h.monitor)) (itself h.monitor)
+put_here h hs = holding_put h.monitor h hs ∙ ap (λ (b : Bool). cond b (Some h) (holding_at hs h.monitor)) (same_there h.monitor)
 
 pub put_else : (m : ℕ) (h : Holding) (hs : List Holding) → h.monitor ≢ m → holding_at (with_holding h hs) m ≡ holding_at hs m
 put_else m h hs d = holding_put m h hs ∙ ap (λ (b : Bool). cond b (Some h) (holding_at hs m)) (is_other h.monitor m d)
 
 pub without_here : (n : ℕ) (hs : List Holding) → holding_at (without_holding n hs) n ≡ None
-without_here n hs = holding_without n n hs ∙ ap (λ (b : Bool). cond b None (holding_at hs n)) (itself n)
+without_here n hs = holding_without n n hs ∙ ap (λ (b : Bool). cond b None (holding_at hs n)) (same_there n)
 
 pub without_else : (m n : ℕ) (hs : List Holding) → n ≢ m → holding_at (without_holding n hs) m ≡ holding_at hs m
 without_else m n hs d = holding_without m n hs ∙ ap (λ (b : Bool). cond b None (holding_at hs m)) (is_other n m d)
@@ -101,7 +86,7 @@ without_else m n hs d = holding_without m n hs ∙ ap (λ (b : Bool). cond b Non
 -- ---- the holder
 
 pub own_depth : (t : ℕ) (h : Holding) → h.holder ≡ t → depth_for t (Some h) ≡ Some h.depth
-own_depth t h e = ap (λ (b : Bool). cond b (Some h.depth) None) (ap (λ (n : ℕ). n == t) e ∙ itself t)
+own_depth t h e = ap (λ (b : Bool). cond b (Some h.depth) None) (ap (λ (n : ℕ). n == t) e ∙ same_there t)
 
 pub other_depth : (u : ℕ) (h : Holding) → h.holder ≢ u → depth_for u (Some h) ≡ None
 other_depth u h d = ap (λ (b : Bool). cond b (Some h.depth) None) (is_other h.holder u d)
@@ -118,7 +103,7 @@ holding_is None t m depth e = absurd (cc)
 holding_is (Some h) t m depth e = by_test (h.holder == t) refl e
   where
     by_test : (b : Bool) → (h.holder == t) ≡ b → cond b (Some h.depth) None ≡ Some depth → IsHolding (Some h) t m depth
-    by_test true g f = record { holding = h; is = refl; holder = are_same h.holder t g; depth_is = cc }
+    by_test true g f = record { holding = h; is = refl; holder = (Decides-eqb h.holder t).0 g; depth_is = cc }
     by_test false g f = absurd (cc)
 
 -- where no thread has a depth nobody holds
@@ -127,7 +112,7 @@ nobody_holds None e = refl
 nobody_holds (Some h) e = let own = own_depth h.holder h refl in let none = e h.holder in absurd (let bad : Some h.depth ≡ None = sym own ∙ none in cc)
 
 pub holder_is : (o : Option Holding) (t depth : ℕ) → depth_for t o ≡ Some depth → is_holder t o ≡ true
-holder_is o t depth e = let h = holding_is o t 0 depth e in ap (is_holder t) h.is ∙ ap (λ (n : ℕ). n == t) h.holder ∙ itself t
+holder_is o t depth e = let h = holding_is o t 0 depth e in ap (is_holder t) h.is ∙ ap (λ (n : ℕ). n == t) h.holder ∙ same_there t
 
 pub no_holder : (o : Option Holding) (t : ℕ) → depth_for t o ≡ None → is_holder t o ≡ false
 no_holder None t e = refl
@@ -171,10 +156,10 @@ module _ (holdings : List Holding) (threads : List Thread) (alike : HoldAlike ho
 
   module _ (t : ℕ) (x y : Thread) (there : slice_get threads t ≡ Some x) where
     now_own : (later : List Holding) (m : ℕ) → depth_for t (holding_at later m) ≡ depth_at y.held m → depth_for t (holding_at later m) ≡ depth_of (slice_get (slice_set threads t y) t) m
-    now_own later m e = e ∙ ap (λ (o : Option Thread). depth_of o m) (sym (set_got threads t x y there))
+    now_own later m e = e ∙ ap (λ (o : Option Thread). depth_of o m) (sym (got_when_set threads t x y there))
 
     now_else : (later : List Holding) (u m : ℕ) → u ≢ t → depth_for u (holding_at later m) ≡ depth_for u (holding_at holdings m) → depth_for u (holding_at later m) ≡ depth_of (slice_get (slice_set threads t y) u) m
-    now_else later u m d e = e ∙ alike u m ∙ ap (λ (o : Option Thread). depth_of o m) (sym (set_else threads t u y d))
+    now_else later u m d e = e ∙ alike u m ∙ ap (λ (o : Option Thread). depth_of o m) (sym (got_other threads t u y d))
 
     -- by cases on the thread
     pub alike_by : (later : List Holding) → ((m : ℕ) → depth_for t (holding_at later m) ≡ depth_at y.held m) → ((u m : ℕ) → u ≢ t → depth_for u (holding_at later m) ≡ depth_for u (holding_at holdings m))
@@ -208,7 +193,7 @@ module _ (holdings : List Holding) (threads : List Thread) (alike : HoldAlike ho
         own m false f = ap (depth_for t) (now m false f) ∙ depth_is_held t m x there ∙ sym (held m false f)
 
         others : (u m : ℕ) → u ≢ t → (b : Bool) → (n == m) ≡ b → depth_for u (holding_at (with_holding (record { monitor = n; holder = t; depth = h.depth }) holdings) m) ≡ depth_for u (holding_at holdings m)
-        others u m d true f = ap (depth_for u) (now m true f) ∙ other_depth u (record { monitor = n; holder = t; depth = h.depth }) (λ g. d (sym g)) ∙ sym (ap (λ (k : ℕ). depth_for u (holding_at holdings k)) (sym (are_same n m f)) ∙ none u d)
+        others u m d true f = ap (depth_for u) (now m true f) ∙ other_depth u (record { monitor = n; holder = t; depth = h.depth }) (λ g. d (sym g)) ∙ sym (ap (λ (k : ℕ). depth_for u (holding_at holdings k)) (sym ((Decides-eqb n m).0 f)) ∙ none u d)
         others u m d false f = ap (depth_for u) (now m false f)
 
     -- it has let n go
@@ -226,5 +211,5 @@ module _ (holdings : List Holding) (threads : List Thread) (alike : HoldAlike ho
         own m false f = ap (depth_for t) (now m false f) ∙ depth_is_held t m x there ∙ sym (held m false f)
 
         others : (u m : ℕ) → u ≢ t → (b : Bool) → (n == m) ≡ b → depth_for u (holding_at (without_holding n holdings) m) ≡ depth_for u (holding_at holdings m)
-        others u m d true f = ap (depth_for u) (now m true f) ∙ sym (ap (λ (k : ℕ). depth_for u (holding_at holdings k)) (sym (are_same n m f)) ∙ none u d)
+        others u m d true f = ap (depth_for u) (now m true f) ∙ sym (ap (λ (k : ℕ). depth_for u (holding_at holdings k)) (sym ((Decides-eqb n m).0 f)) ∙ none u d)
         others u m d false f = ap (depth_for u) (now m false f)

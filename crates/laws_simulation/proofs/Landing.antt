@@ -18,10 +18,11 @@ use Rattle.machine_types.specs.declared.phase.Phase.{Phase}
 use Rattle.machine_types.specs.declared.phase.Phase.TheVariants as phases
 use Rattle.machine_types.specs.declared.plain.Act.{Act}
 use Rattle.laws_states.proofs.Phases.{IsOldPhase}
+use Rattle.laws_states.proofs.EventFacts.{got_when_set}
 use Rattle.laws_simulation.specs.StandsBeside.{StandsBeside, IsBeingMade, ends_shown}
-use Rattle.laws_simulation.proofs.Assembled.{set_as_it_is, moved_beside}
+use Rattle.laws_simulation.proofs.Assembled.{set_as_it_is, moved_beside, got_other}
 use Rattle.laws_simulation.proofs.OwnThread.{IsBusy}
-use Rattle.laws_simulation.proofs.HoldingsAlike.{HoldAlike, set_got, set_else}
+use Rattle.laws_simulation.proofs.HoldingsAlike.{HoldAlike}
 use Rattle.laws_simulation.proofs.WaitBits.{fits_by, new_lock, same_wait_bit_in}
 
 -- ---- words in which all stands that the plain machine has
@@ -37,7 +38,7 @@ pub record WordsStay (objects : List Object) (s : Core) (q : Plain) (words : Lis
 pub words_stay : (objects : List Object) (s : Core) (q : Plain) → WordsStay objects s q s.words
 words_stay objects s q = record { places = λ a v e. refl; free = refl; tickets = refl; new = λ m k. refl; bits = λ u m. refl }
 
-never_made : (phase : Phase) (a word : ℕ) → IsOldPhase phase → phase ≡ phases.Made a word → ⊥
+pub never_made : (phase : Phase) (a word : ℕ) → IsOldPhase phase → phase ≡ phases.Made a word → ⊥
 never_made phase a word old e = subst IsOldPhase e old
 
 never_rests : (phase : Phase) → IsBusy phase → phase ≡ phases.Ended ends.Returned → ⊥
@@ -70,8 +71,8 @@ module _ (p : Program) (objects : List Object) (s : Core) (q : Plain) (beside : 
       next = k.stay.free;
       printed = k.stay.tickets ∙ beside.agrees.prints;
       bits = λ u m d. bits_same u m;
-      depths = λ m. k.holds t m ∙ ap (λ (o : Option Thread). depth_of o m) (set_got s.threads t x y there);
-      other_depths = λ u m d. k.holds u m ∙ ap (λ (o : Option Thread). depth_of o m) (set_else s.threads t u y d) ∙ sym (beside.agrees.monitors u m);
+      depths = λ m. k.holds t m ∙ ap (λ (o : Option Thread). depth_of o m) (got_when_set s.threads t x y there);
+      other_depths = λ u m d. k.holds u m ∙ ap (λ (o : Option Thread). depth_of o m) (got_other s.threads t u y d) ∙ sym (beside.agrees.monitors u m);
       old = λ a word e. never_made x.phase a word old e;
       new = λ a word e. never_made y.phase a word k.now e;
       part = k.part;

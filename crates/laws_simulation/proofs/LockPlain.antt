@@ -4,13 +4,14 @@ use Rattle.std.specs.Prelude.{◌==◌, option_map, option_and_then, slice_get}
 use Rattle.jvm_types.specs.declared.program.Program.{Program}
 use Rattle.machine_types.specs.History.{steps_of}
 use Rattle.machine_types.specs.Onward.{Onward, after}
-use Rattle.machine_types.specs.PlainState.{Plain, PlainThread, Holding, Status, holding_at, held_by, let_go, with_thread, with_status, goes_on}
+use Rattle.machine_types.specs.PlainState.{Plain, PlainThread, Holding, Status, holding_at, held_by, with_thread, with_status, goes_on}
 use Rattle.machine_types.specs.PlainState as plain
 use Rattle.machine_types.specs.PlainSteps.{entered, left, exited, step_at, step_of, plain_run}
 use Rattle.machine_types.specs.declared.phase.After.{After}
 use Rattle.machine_types.specs.declared.plain.Act.{Act}
 use Rattle.machine_types.specs.declared.plain.Act.TheVariants as acts
-use Rattle.laws_simulation.proofs.HoldingsAlike.{IsHolding, itself}
+use Rattle.laws_simulation.proofs.HoldingsAlike.{IsHolding}
+use Rattle.laws_states.proofs.LockViews.{same_there}
 
 module _ (p : Program) (q : Plain) (t : ℕ) (z : PlainThread) (here : slice_get q.threads t ≡ Some z) where
   -- the step of a thread by its status
@@ -22,7 +23,7 @@ module _ (p : Program) (q : Plain) (t : ℕ) (z : PlainThread) (here : slice_get
       same (Some r) = refl
 
   is_own : (h : Holding) → h.holder ≡ t → (h.holder == t) ≡ true
-  is_own h e = ap (λ (n : ℕ). n == t) e ∙ itself t
+  is_own h e = ap (λ (n : ℕ). n == t) e ∙ same_there t
 
   -- nobody holds the monitor
   pub enters_first : (m : ℕ) → z.status ≡ plain.Enter m → holding_at q.holdings m ≡ None → plain_run p q (steps_of t (acts.Enter ∷ [])) ≡ Some (with_thread (held_by q m t 1) t (with_status z plain.Run))

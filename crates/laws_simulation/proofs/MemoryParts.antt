@@ -30,9 +30,9 @@ use Rattle.laws_states.proofs.Headers.{new_header}
 use Rattle.laws_states.proofs.Sites.{two_at_least}
 use Rattle.laws_states.proofs.WordSteps.{apart_on}
 use Rattle.laws_states.proofs.WordViews.{object_has, has_object}
+use Rattle.laws_states.proofs.EventFacts.{got_when_set}
 use Rattle.laws_simulation.specs.StandsBeside.{IsAmong, IsBeingMade, IsPlainNew}
 use Rattle.laws_simulation.proofs.AssembledObjects.{MakesNone, pending_on, making_on, made_before, made_by_others}
-use Rattle.laws_simulation.proofs.HoldingsAlike.{set_got}
 use Rattle.laws_simulation.proofs.PlainObjects.{contains_before, contains_last, contained_last, added_place, new_value, IsZeroIn, new_end, apart_added}
 use Rattle.laws_simulation.proofs.PlainPlaces.{place_low, no_lock_place}
 use Rattle.laws_simulation.proofs.PlainWrites.{shape_reference, shape_class, shape_long, written_from, written_to, written_references, apart_written, other_place, here_place, NoHeader, known_written, header_shaped}
@@ -254,7 +254,7 @@ module _ (c : MarkedProgram) (cfg : Config) (objects : List Object) (was : ℕ �
         by_test false e = length-replicate {A = ℕ} (object_size c.program (header_class word) - OBJECT_HEAD_WORDS) 0 ∙ omega arith
 
     own_header : IsPending (slice_set s.threads t new) (header_word q.next)
-    own_header = (t, new, q.next, word, set_got s.threads t x new scene.here, making, refl)
+    own_header = (t, new, q.next, word, got_when_set s.threads t x new scene.here, making, refl)
 
     new_plain : IsPlainNew c.program with_new q.next word
     new_plain = record {
@@ -310,7 +310,7 @@ module _ (c : MarkedProgram) (cfg : Config) (objects : List Object) (was : ℕ �
 
         by_object : (e : Object) → Contains q.objects e ⊎ (e ≡ fresh) → IsAmong objects e.reference ⊎ IsBeingMade (slice_set s.threads t new) e.reference
         by_object e (inl h) = still_among new old e.reference (scene.beside.others e h)
-        by_object e (inr h) = inr (subst (λ (a : ℕ). IsBeingMade (slice_set s.threads t new) a) (sym (ap (λ (o : Object). o.reference) h)) (t, new, word, set_got s.threads t x new scene.here, making))
+        by_object e (inr h) = inr (subst (λ (a : ℕ). IsBeingMade (slice_set s.threads t new) a) (sym (ap (λ (o : Object). o.reference) h)) (t, new, word, got_when_set s.threads t x new scene.here, making))
 
         by_thread : (u : ℕ) (z : Thread) (a other : ℕ) → z.phase ≡ phases.Made a other → (new.phase ≡ phases.Made a other) ⊎ ((u ≢ t) × (slice_get s.threads u ≡ Some z)) → IsPlainNew c.program with_new a other
         by_thread u z a other m (inl h) =

@@ -33,12 +33,14 @@ use Rattle.laws_states.specs.SiteLaws.{SitesLieInside}
 use Rattle.laws_states.specs.Sites.{BitsOf}
 use Rattle.laws_states.proofs.Lists.{set_here, set_there, same_or_not}
 use Rattle.laws_states.proofs.LockViews.{fatly}
+use Rattle.laws_states.proofs.EventFacts.{got_when_set}
 use Rattle.std.proofs.lemmas.List.{length-set}
 use Rattle.laws_simulation.specs.StandsBeside.{StandsBeside, own_end, end_of_done, ends_shown}
-use Rattle.laws_simulation.proofs.HoldingsAlike.{HoldAlike, alike_kept, set_got, set_else}
+use Rattle.laws_simulation.proofs.HoldingsAlike.{HoldAlike, alike_kept}
 use Rattle.laws_simulation.proofs.WaitBits.{bit_by, fits_by}
 use Rattle.laws_simulation.proofs.WaitersHaveBits.{bit_in, bit_of_fat}
 use Rattle.laws_simulation.proofs.Moments.{Moment, AreRecordsWritten, record_written, lock_same, lock_kept, holdings_alike, moved_beside}
+use Rattle.laws_simulation.proofs.Assembled.{got_other}
 
 -- ---- ends of parts
 
@@ -196,10 +198,10 @@ module _ {c : MarkedProgram} {cfg : Config} {objects : List Object} {was : ℕ �
       → ((u m : ℕ) → u ≢ t → has_wait_bit (references_of q.objects) later u m ≡ has_wait_bit (references_of q.objects) s.words u m)
       → StandsBeside c.program objects (record { words = later; threads = slice_set s.threads t x2 }) (record q { holdings = holdings; threads = slice_set q.threads t y2 })
   alone_beside later x2 holdings y2 w old new part rests alike free fits ended same =
-      moved_beside k later x2 holdings (slice_set q.threads t y2) y2 w old new part rests alike (length-set q.threads t y2) (set_got q.threads t y y2 k.twin) free fits ended
+      moved_beside k later x2 holdings (slice_set q.threads t y2) y2 w old new part rests alike (length-set q.threads t y2) (got_when_set q.threads t y y2 k.twin) free fits ended
       (λ u z v d g h. record {
         now = v;
-        twin = set_else q.threads t u y2 d ∙ h;
+        twin = got_other q.threads t u y2 d ∙ h;
         fits = fits_by c.program (has_wait_bit (references_of q.objects) s.words u) (has_wait_bit (references_of q.objects) later u) z z.attempt v (λ m. same u m d) (k.beside.agrees.threads u z v g h);
         ends = refl;
       })

@@ -27,6 +27,7 @@ use Rattle.laws_simulation.proofs.GoingOnAlike.{IsUnderWay, OwnFits, IsAwake, Pa
 use Rattle.laws_simulation.proofs.HoldingsAlike.{HoldAlike, alike_kept}
 use Rattle.laws_simulation.proofs.OwnThread.{IsBusy}
 use Rattle.laws_simulation.proofs.Landing.{WordsStay, Does, stays, steps}
+use Rattle.laws_threads.proofs.ThreadMove.{same_onward}
 
 -- ---- phases in which a part is under way, and all that the plain thread has is the thread's
 
@@ -59,28 +60,13 @@ calm_old phase k = tt
 -- ---- how a thread that goes on has its monitors, its part and its attempt
 
 pub goes_held : (s : Thread) (o : Onward) → (goes_on s o).held ≡ s.held
-goes_held s (Running frames) = refl
-goes_held s (Throwing x class frames) = refl
-goes_held s (Entering m frames) = refl
-goes_held s (Leaving m a frames) = refl
-goes_held s RootReturned = refl
-goes_held s (Uncaught class) = refl
+goes_held s o = same_onward (λ (s : Thread). s.held) (λ s frames phase turns. refl) s (Some o)
 
 pub goes_part : (s : Thread) (o : Onward) → (goes_on s o).part ≡ s.part
-goes_part s (Running frames) = refl
-goes_part s (Throwing x class frames) = refl
-goes_part s (Entering m frames) = refl
-goes_part s (Leaving m a frames) = refl
-goes_part s RootReturned = refl
-goes_part s (Uncaught class) = refl
+goes_part s o = same_onward (λ (s : Thread). s.part) (λ s frames phase turns. refl) s (Some o)
 
 pub goes_attempt : (s : Thread) (o : Onward) → (goes_on s o).attempt ≡ s.attempt
-goes_attempt s (Running frames) = refl
-goes_attempt s (Throwing x class frames) = refl
-goes_attempt s (Entering m frames) = refl
-goes_attempt s (Leaving m a frames) = refl
-goes_attempt s RootReturned = refl
-goes_attempt s (Uncaught class) = refl
+goes_attempt s o = same_onward (λ (s : Thread). s.attempt) (λ s frames phase turns. refl) s (Some o)
 
 pub runs_old : (b : Bool) → IsOldPhase (cond b phases.Run (phases.Ending ends.Steps))
 runs_old true = tt

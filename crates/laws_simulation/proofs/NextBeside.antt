@@ -55,7 +55,7 @@ no_run_roots stands c marked some none =
 
 -- ---- a worker begins
 
-idle_attempt : (c : MarkedProgram) (was : Phase) (z : Thread) → z.phase ≡ phases.Idle → IsStructured c was z → z.attempt ≡ None
+pub idle_attempt : (c : MarkedProgram) (was : Phase) (z : Thread) → z.phase ≡ phases.Idle → IsStructured c was z → z.attempt ≡ None
 idle_attempt c was z idle k = by_attempt z.attempt refl
   where
     by_attempt : (a : Option Attempt) → z.attempt ≡ a → a ≡ None

@@ -15,7 +15,7 @@ use Rattle.machine_types.specs.History.{if_so}
 use Rattle.machine_types.specs.Monitors.{bit_of, lowest_of}
 use Rattle.machine_types.specs.Owners.{references_of}
 use Rattle.machine_types.specs.PlainMemory.{Object}
-use Rattle.machine_types.specs.PlainState.{Status, Plain, PlainThread, with_thread, with_status}
+use Rattle.machine_types.specs.PlainState.{Plain, PlainThread, with_thread, with_status}
 use Rattle.machine_types.specs.PlainState as plain
 use Rattle.machine_types.specs.PlainSteps.{waits_on, wakes, wakes_one, notified}
 use Rattle.machine_types.specs.Threads.{Thread}
@@ -28,10 +28,12 @@ use Rattle.machine_types.specs.declared.plain.Act.TheVariants as acts
 use Rattle.laws_states.specs.SiteLaws.{SitesLieInside}
 use Rattle.laws_states.proofs.Lists.{same_or_not}
 use Rattle.laws_states.proofs.WordViews.{set_self}
-use Rattle.laws_simulation.proofs.Assembled.{got_same_length}
+use Rattle.laws_states.proofs.LockViews.{same_there}
+use Rattle.laws_states.proofs.EventFacts.{got_when_set}
+use Rattle.laws_simulation.proofs.Assembled.{got_same_length, got_other}
 use Rattle.std.proofs.lemmas.List.{length-set}
 use Rattle.laws_simulation.specs.StepsBeside.{StepsBeside}
-use Rattle.laws_simulation.proofs.HoldingsAlike.{itself, alike_kept, set_got, set_else}
+use Rattle.laws_simulation.proofs.HoldingsAlike.{alike_kept}
 use Rattle.laws_simulation.proofs.WaitBits.{fits_by}
 use Rattle.laws_simulation.proofs.WaitersHaveBits.{waiter_has_bit, nobody_by_bits, none_waits, stays_asleep}
 use Rattle.laws_simulation.proofs.BitWords.{low_if_set, clear_here, clear_other}
@@ -128,7 +130,7 @@ module _ {c : MarkedProgram} {cfg : Config} {objects : List Object} {was : ℕ �
         (moved_beside k OneLater (runs x) q.holdings threads (running y) one_written (λ a word f. cc) (λ a word. run_made (goes_by x) a word) refl (λ g. cc)
         (alike_kept q.holdings s.threads (holdings_alike k) t x (runs x) k.got refl)
         (length-set (slice_set q.threads u (wakes m w.0)) t (running y) ∙ length-set q.threads u (wakes m w.0))
-        (set_got (slice_set q.threads u (wakes m w.0)) t y (running y) (set_else q.threads u t (wakes m w.0) (λ e. one_apart (sym e)) ∙ k.twin))
+        (got_when_set (slice_set q.threads u (wakes m w.0)) t y (running y) (got_other q.threads u t (wakes m w.0) (λ e. one_apart (sym e)) ∙ k.twin))
         k.free
         (runs_outside c.program (has_wait_bit (references_of q.objects) OneLater t) x (running y) off (own_frames k) refl (own_roots k))
         (own_ends k ∙ ends_alike c.program x.part (phases.NotifyOne m r u) (cond (goes_by x) phases.Run (phases.Ending ends.Steps)) (sym (run_end (goes_by x))))
@@ -153,7 +155,7 @@ module _ {c : MarkedProgram} {cfg : Config} {objects : List Object} {was : ℕ �
         behind = record q { threads = threads }
 
         waiting : waits_on m w.0.status ≡ true
-        waiting = ap (waits_on m) status.1 ∙ itself m
+        waiting = ap (waits_on m) status.1 ∙ same_there m
 
         step : notified q t m y (Some u) ≡ Some behind
         step = ap (λ (o : Option PlainThread). option_map (λ (r : Plain). with_thread r t (with_status y plain.Run)) (wakes_one q m u o)) w.1
@@ -173,8 +175,8 @@ module _ {c : MarkedProgram} {cfg : Config} {objects : List Object} {was : ℕ �
                 let same : w.0 ≡ b = cc in
                 record {
                   now = wakes m b;
-                  twin = set_else (slice_set q.threads u (wakes m w.0)) t v (running y) d
-                      ∙ subst (λ (i : ℕ). slice_get (slice_set q.threads u (wakes m w.0)) i ≡ Some (wakes m b)) (sym e) (set_got q.threads u w.0 (wakes m w.0) w.1 ∙ ap (λ (f : PlainThread). Some (wakes m f)) same);
+                  twin = got_other (slice_set q.threads u (wakes m w.0)) t v (running y) d
+                      ∙ subst (λ (i : ℕ). slice_get (slice_set q.threads u (wakes m w.0)) i ≡ Some (wakes m b)) (sym e) (got_when_set q.threads u w.0 (wakes m w.0) w.1 ∙ ap (λ (f : PlainThread). Some (wakes m f)) same);
                   fits = wakes_up k OneLater v a b m r g h one_fat set (asleep k v a m r d g one_fat set)
                       (waits_less k OneLater one_written v (bits_less k inside marked r OneBits v one_fat.low (λ f. set)))
                       (bit_later k OneLater one_written v m r one_fat.lock ∙ bits_here k inside marked r OneBits v one_fat.low
@@ -183,7 +185,7 @@ module _ {c : MarkedProgram} {cfg : Config} {objects : List Object} {was : ℕ �
                 }
             by_thread (inr e) = record {
               now = b;
-              twin = set_else (slice_set q.threads u (wakes m w.0)) t v (running y) d ∙ set_else q.threads u v (wakes m w.0) e ∙ h;
+              twin = got_other (slice_set q.threads u (wakes m w.0)) t v (running y) d ∙ got_other q.threads u v (wakes m w.0) e ∙ h;
               fits = fits_by c.program (has_wait_bit (references_of q.objects) s.words v) (has_wait_bit (references_of q.objects) OneLater v) a a.attempt b (bits_same v e) (k.beside.agrees.threads v a b g h);
               ends = refl;
             }
@@ -209,7 +211,7 @@ module _ {c : MarkedProgram} {cfg : Config} {objects : List Object} {was : ℕ �
         (moved_beside k AllLater (runs x) q.holdings threads (running y) all_written (λ a word f. cc) (λ a word. run_made (goes_by x) a word) refl (λ g. cc)
         (alike_kept q.holdings s.threads (holdings_alike k) t x (runs x) k.got refl)
         (length-set (map (wakes m) q.threads) t (running y) ∙ length-map q.threads (wakes m))
-        (set_got (map (wakes m) q.threads) t (wakes m y) (running y) (slice_get-map (wakes m) q.threads t ∙ ap (option_map (wakes m)) k.twin))
+        (got_when_set (map (wakes m) q.threads) t (wakes m y) (running y) (slice_get-map (wakes m) q.threads t ∙ ap (option_map (wakes m)) k.twin))
         k.free
         (runs_outside c.program (has_wait_bit (references_of q.objects) AllLater t) x (running y) (own_off k AllLater all_written (all_less t) (phases.NotifyAll m r) (own_as k) (λ i f. f)) (own_frames k) refl (own_roots k))
         (own_ends k ∙ ends_alike c.program x.part (phases.NotifyAll m r) (cond (goes_by x) phases.Run (phases.Ending ends.Steps)) (sym (run_end (goes_by x))))
@@ -225,7 +227,7 @@ module _ {c : MarkedProgram} {cfg : Config} {objects : List Object} {was : ℕ �
         others v a b d g h = by_bit (is_bit_set s.words r v) refl
           where
             twin : slice_get threads v ≡ Some (wakes m b)
-            twin = set_else (map (wakes m) q.threads) t v (running y) d ∙ slice_get-map (wakes m) q.threads v ∙ ap (option_map (wakes m)) h
+            twin = got_other (map (wakes m) q.threads) t v (running y) d ∙ slice_get-map (wakes m) q.threads v ∙ ap (option_map (wakes m)) h
 
             never : is_bit_set s.words r v ≡ false → (depth : ℕ) → b.status ≡ plain.Waiting m depth → ⊥
             never e depth f =

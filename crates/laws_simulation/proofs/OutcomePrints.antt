@@ -2,7 +2,7 @@
 use Rattle.std.proofs.Common.{◌≡◌, ◌⊎◌, inl, inr, ℕ, zero, suc, ◌+◌, Bool, true, false, cond, List, [], ◌∷◌, ◌++◌, length, map, Option, Some, None, refl, sym, ap, ◌∙◌, subst, arith, length-append}
 use Rattle.std.specs.Prelude.{◌==◌, Contains, option_map, slice_get, slice_set}
 use Rattle.std.specs.List.{sum_by, range_with_len}
-use Rattle.std.proofs.lemmas.Bool.Decides.{nat_tests}
+use Rattle.std.proofs.lemmas.Bool.Decides.{Decides-eqb}
 use Rattle.std.proofs.lemmas.List.Elements.{Contains-append_left, Contains-append_right}
 use Rattle.std.proofs.lemmas.List.Sums.{sum_by-cons}
 use Rattle.std.proofs.lemmas.Option.{slice_get-map}
@@ -17,26 +17,13 @@ use Rattle.machine_types.specs.PlainState.{Plain, Printed}
 use Rattle.machine_types.specs.Threads.{Thread}
 use Rattle.machine_types.specs.declared.config.Config.{Config}
 use Rattle.laws_states.proofs.Sums.{sum_set}
+use Rattle.laws_states.proofs.EventFacts.{got_when_set}
+use Rattle.laws_states.proofs.OwnersStep.{set_other}
 use Rattle.laws_simulation.specs.OutcomeLaws.{NextKeepsPrints, StartHasPrints}
 use Rattle.laws_simulation.proofs.CountedEvents.{with_print}
 use Rattle.laws_simulation.proofs.PlainPrints.{with_printed}
 
 -- ---- lists
-
-pub got_when_set : {A : Type 0} (xs : List A) (i : ℕ) (x y : A) → slice_get xs i ≡ Some x → slice_get (slice_set xs i y) i ≡ Some y
-got_when_set [] i x y e = absurd (cc)
-got_when_set (z ∷ zs) zero x y e = refl
-got_when_set (z ∷ zs) (suc i) x y e = got_when_set zs i x y e
-
-pub got_other : {A : Type 0} (xs : List A) (i j : ℕ) (x : A) → (j == i) ≡ false → slice_get (slice_set xs i x) j ≡ slice_get xs j
-got_other [] i j x d = refl
-got_other (a ∷ xs) zero zero x d = absurd (grind (arith, nat_tests, d))
-got_other (a ∷ xs) zero (suc j) x d = refl
-got_other (a ∷ xs) (suc i) zero x d = refl
-got_other (a ∷ xs) (suc i) (suc j) x d = got_other xs i j x (grind (arith, nat_tests, d))
-
-pub is_there : (i j : ℕ) → (i == j) ≡ true → i ≡ j
-is_there i j e = grind (arith, nat_tests, e)
 
 -- the last item, or one before it
 last_or : {A : Type 0} (xs : List A) (z x : A) (i : ℕ) → slice_get (xs ++ z ∷ []) i ≡ Some x → (slice_get xs i ≡ Some x) ⊎ ((i ≡ length xs) × (z ≡ x))
@@ -108,14 +95,14 @@ module _ (threads : List Thread) (t : ℕ) (x y : Thread) (there : slice_get thr
     where
       by_number : (b : Bool) → (u == t) ≡ b → Reports (slice_set threads t y) u print
       by_number true e =
-          let same = is_there u t e in
+          let same = (Decides-eqb u t).0 e in
           let k = reporter threads u print r in
           let is : x ≡ k.thread = same_some (sym there ∙ ap (slice_get threads) (sym same) ∙ k.there) in
           reported (slice_set threads t y) u y print (ap (slice_get (slice_set threads t y)) same ∙ got_when_set threads t x y there)
           (more (subst (λ (z : Thread). Contains z.prints print) (sym is) k.has))
       by_number false e =
           let k = reporter threads u print r in
-          reported (slice_set threads t y) u k.thread print (got_other threads t u y e ∙ k.there) k.has
+          reported (slice_set threads t y) u k.thread print (set_other threads t u y e ∙ k.there) k.has
 
   sums : prints_in (slice_set threads t y) + length x.prints ≡ prints_in threads + length y.prints
   sums = sum_set (λ (z : Thread). length z.prints) threads t x y there

@@ -13,13 +13,13 @@ use Rattle.machine_types.specs.Threads.{Attempt, Thread}
 use Rattle.machine_types.specs.declared.config.Config.{Config}
 use Rattle.machine_types.specs.declared.phase.Phase.{Phase}
 use Rattle.machine_types.specs.declared.phase.Phase.TheVariants as phases
-use Rattle.laws_threads.specs.PartLaws.{PartFits, PartsFit}
 use Rattle.laws_states.proofs.Lists.{same_or_not}
 use Rattle.laws_states.specs.PartsStand.{DoneRoots}
 use Rattle.laws_states.specs.StateFacts.{StateFacts}
 use Rattle.laws_simulation.specs.StandsBeside.{StandsBeside, ends_shown, end_of_done}
 use Rattle.laws_simulation.proofs.Assembled.{got_same_length}
 use Rattle.laws_simulation.proofs.GoingOnAlike.{PartRuns, IsUnderWay, none_ends}
+use Rattle.laws_simulation.proofs.PartsDue.{rests_between}
 
 -- ---- phases in which a part is under way
 
@@ -48,12 +48,6 @@ busy_done p phase roots k d = d
 
 not_ended : (phase : Phase) → IsBusy phase → phase ≡ phases.Ended ends.Returned → ⊥
 not_ended phase k e = subst IsBusy e k
-
-rests_between : (threads : List Thread) (x : Thread) → PartsFit threads → slice_get threads 0 ≡ Some x → x.part ≡ 1 → x.phase ≡ phases.Ended ends.Returned
-rests_between [] x fit e f = cc
-rests_between (z ∷ workers) x fit e f =
-    let one : z ≡ x = cc in
-    subst (λ (n : ℕ). PartFits n x.phase workers) f (subst (λ (w : Thread). PartFits w.part w.phase workers) one fit)
 
 -- ---- the thread
 

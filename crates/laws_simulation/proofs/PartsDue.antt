@@ -23,13 +23,9 @@ use Rattle.laws_states.specs.PartsStand.{HasFinished}
 use Rattle.laws_states.specs.StateFacts.{StateFacts}
 use Rattle.laws_simulation.specs.StandsBeside.{StandsBeside, ends_shown}
 use Rattle.laws_simulation.proofs.Assembled.{got_same_length}
+use Rattle.laws_programs.proofs.LocalGoing.{at_index}
 
 -- ---- threads by the part of thread 0
-
-all_at : {X : Type 0} (P : X → Type 0) (xs : List X) (i : ℕ) (x : X) → AllByRecursion P xs → slice_get xs i ≡ Some x → P x
-all_at P [] i x all e = absurd (cc)
-all_at {X} P (y ∷ xs) zero x all e = let same : y ≡ x = cc in subst P same all.0
-all_at P (y ∷ xs) (suc i) x all e = all_at P xs i x all.1 e
 
 -- workers wait for `init`
 pub idle_workers : (threads : List Thread) (x z : Thread) (u : ℕ) → PartsFit threads → slice_get threads 0 ≡ Some x → x.part ≡ 0 → slice_get threads (suc u) ≡ Some z → z.phase ≡ phases.Idle
@@ -37,7 +33,7 @@ idle_workers [] x z u fit e f g = absurd (cc)
 idle_workers (w ∷ workers) x z u fit e f g =
     let one : w ≡ x = cc in
     let idle : AllByRecursion (λ (v : Thread). v.phase ≡ phases.Idle) workers = subst (λ (n : ℕ). PartFits n w.phase workers) (ap (λ (v : Thread). v.part) one ∙ f) fit in
-    all_at (λ (v : Thread). v.phase ≡ phases.Idle) workers u z idle g
+    at_index (λ (v : Thread). v.phase ≡ phases.Idle) workers u z idle g
 
 -- thread 0 rests between `init` and `done`
 pub rests_between : (threads : List Thread) (x : Thread) → PartsFit threads → slice_get threads 0 ≡ Some x → x.part ≡ 1 → x.phase ≡ phases.Ended ends.Returned

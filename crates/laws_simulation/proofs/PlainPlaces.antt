@@ -3,7 +3,7 @@
 use Rattle.std.proofs.Common.{◌≡◌, ◌≢◌, ◌⊎◌, inl, inr, ℕ, zero, suc, ◌-◌, ◌<◌, ◌≤◌, nat_lt, nat_le, Bool, true, false, List, [], ◌∷◌, length, Option, Some, None, refl, sym, ap, ◌∙◌, subst, arith}
 use Rattle.std.specs.Prelude.{Contains, slice_get, ◌==◌, ◌&&◌, if◌then◌else◌}
 use Rattle.std.specs.Option.{option_or}
-use Rattle.std.proofs.lemmas.Bool.Decides.{nat_tests}
+use Rattle.std.proofs.lemmas.Bool.Decides.{nat_tests, Decides-eqb}
 use Rattle.lists.proofs.ListLaws.{same_some}
 use Rattle.jvm_types.specs.declared.fixed_words.TheConstants.{FIRST_READY_WORD}
 use Rattle.jvm_types.specs.declared.program.Program.{Program}
@@ -12,20 +12,15 @@ use Rattle.machine_types.specs.PlainMemory.{Object, StaticValue, header_of, firs
 use Rattle.machine_types.specs.PlainState.{Plain, value_at}
 use Rattle.machine_types.specs.Words.{header_word, value_word}
 use Rattle.laws_states.proofs.Lists.{contained_got, same_or_not}
+use Rattle.laws_states.proofs.LockViews.{same_there}
 
 -- ---- tests
-
-are_same : (n m : ℕ) → (n == m) ≡ true → n ≡ m
-are_same n m e = grind (arith, nat_tests, e)
-
-is_itself : (n : ℕ) → (n == n) ≡ true
-is_itself n = grind (arith, nat_tests)
 
 no_other : (n m : ℕ) → n ≢ m → (n == m) ≡ false
 no_other n m d = by_test (n == m) refl
   where
     by_test : (b : Bool) → (n == m) ≡ b → b ≡ false
-    by_test true e = absurd (d (are_same n m e))
+    by_test true e = absurd (d ((Decides-eqb n m).0 e))
     by_test false e = refl
 
 -- ---- one object
@@ -56,7 +51,7 @@ module _ (o : Object) (x : ℕ) where
       by_value false f e = absurd (cc)
 
       by_header : (b : Bool) → (x == header_word o.reference) ≡ b → (if b then Some (header_of o) else if has_value o x then slice_get o.values (x - first_value o) else None) ≡ Some v → (o.reference < x) × (x < object_end o)
-      by_header true f e = let same = are_same x (header_word o.reference) f in (omega (arith, same), omega (arith, same))
+      by_header true f e = let same = (Decides-eqb x (header_word o.reference)).0 f in (omega (arith, same), omega (arith, same))
       by_header false f e = by_value (has_value o x) refl e
 
   pub none_outside : (x ≤ o.reference) ⊎ (object_end o ≤ x) → value_in o x ≡ None
@@ -71,7 +66,7 @@ module _ (o : Object) (x : ℕ) where
       by_option (Some v) e = absurd (by_side v e k)
 
 pub header_in : (o : Object) → value_in o (header_word o.reference) ≡ Some (header_of o)
-header_in o = ap (λ (b : Bool). if b then Some (header_of o) else if has_value o (header_word o.reference) then slice_get o.values (header_word o.reference - first_value o) else None) (is_itself (header_word o.reference))
+header_in o = ap (λ (b : Bool). if b then Some (header_of o) else if has_value o (header_word o.reference) then slice_get o.values (header_word o.reference - first_value o) else None) (same_there (header_word o.reference))
 
 pub got_some : (xs : List ℕ) (i : ℕ) → i < length xs → (v : ℕ) × (slice_get xs i ≡ Some v)
 got_some [] i lt = absurd (omega (arith, lt))
@@ -143,14 +138,14 @@ found_static [] x v e = absurd (cc)
 found_static (s ∷ ss) x v e = by_first (s.word == x) refl e (λ f. found_static ss x v f)
   where
     by_first : (b : Bool) → (s.word == x) ≡ b → (if b then Some s.value else static_value ss x) ≡ Some v → (static_value ss x ≡ Some v → IsAt ss x v) → IsAt (s ∷ ss) x v
-    by_first true f g more = record { index = 0; static = s; there = refl; word = are_same s.word x f; value = same_some g }
+    by_first true f g more = record { index = 0; static = s; there = refl; word = (Decides-eqb s.word x).0 f; value = same_some g }
     by_first false f g more = let k = more g in record { index = suc k.index; static = k.static; there = k.there; word = k.word; value = k.value }
 
 first_static : (ss : List StaticValue) (i : ℕ) (s : StaticValue) → slice_get ss i ≡ Some s → (v : ℕ) × (static_value ss s.word ≡ Some v)
 first_static [] i s e = absurd (cc)
 first_static (r ∷ ss) zero s e =
     let one : r ≡ s = cc in
-    (r.value, ap (λ (b : Bool). if b then Some r.value else static_value ss s.word) (ap (λ (z : StaticValue). z.word == s.word) one ∙ is_itself s.word))
+    (r.value, ap (λ (b : Bool). if b then Some r.value else static_value ss s.word) (ap (λ (z : StaticValue). z.word == s.word) one ∙ same_there s.word))
 first_static (r ∷ ss) (suc i) s e = by_first (r.word == s.word) refl (first_static ss i s e)
   where
     by_first : (b : Bool) → (r.word == s.word) ≡ b → (v : ℕ) × (static_value ss s.word ≡ Some v) → (v : ℕ) × ((if b then Some r.value else static_value ss s.word) ≡ Some v)

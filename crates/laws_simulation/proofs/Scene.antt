@@ -40,6 +40,7 @@ use Rattle.laws_simulation.proofs.AssembledObjects.{MakesNone, assembled}
 use Rattle.laws_simulation.proofs.GoingOnAlike.{IsAwake, IsUnderWay, OwnFits, going_alike}
 use Rattle.laws_simulation.proofs.WaitBits.{same_lock}
 use Rattle.laws_simulation.proofs.WaitersHaveBits.{bit_in}
+use Rattle.laws_threads.proofs.ThreadMove.{same_onward}
 
 pub record Scene (c : MarkedProgram) (cfg : Config) (objects : List Object) (was : ℕ → Phase) (s : Core) (t : ℕ) (x : Thread) (q : Plain) : Type 0 where
   pub differ : SitesDiffer
@@ -77,28 +78,13 @@ pub record GoesOn (p : Program) (bit : ℕ → Bool) (x new : Thread) (shown : P
   pub own : OwnFits p bit new shown
 
 held_on : (z : Thread) (o : Onward) → (goes_on z o).held ≡ z.held
-held_on z (Running frames) = refl
-held_on z (Throwing r class frames) = refl
-held_on z (Entering m frames) = refl
-held_on z (Leaving m a frames) = refl
-held_on z RootReturned = refl
-held_on z (Uncaught class) = refl
+held_on s o = same_onward (λ (s : Thread). s.held) (λ s frames phase turns. refl) s (Some o)
 
 attempt_on : (z : Thread) (o : Onward) → (goes_on z o).attempt ≡ z.attempt
-attempt_on z (Running frames) = refl
-attempt_on z (Throwing r class frames) = refl
-attempt_on z (Entering m frames) = refl
-attempt_on z (Leaving m a frames) = refl
-attempt_on z RootReturned = refl
-attempt_on z (Uncaught class) = refl
+attempt_on s o = same_onward (λ (s : Thread). s.attempt) (λ s frames phase turns. refl) s (Some o)
 
 pub part_on : (z : Thread) (o : Onward) → (goes_on z o).part ≡ z.part
-part_on z (Running frames) = refl
-part_on z (Throwing r class frames) = refl
-part_on z (Entering m frames) = refl
-part_on z (Leaving m a frames) = refl
-part_on z RootReturned = refl
-part_on z (Uncaught class) = refl
+part_on s o = same_onward (λ (s : Thread). s.part) (λ s frames phase turns. refl) s (Some o)
 
 no_root : (roots : List ℕ) → MakesNone (root_over roots)
 no_root [] a word e = cc

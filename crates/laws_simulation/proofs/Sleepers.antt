@@ -9,7 +9,7 @@ use Rattle.machine_types.specs.Agreement.{has_wait_bit, waiting_status, StatusFi
 use Rattle.machine_types.specs.Core.{Core}
 use Rattle.machine_types.specs.Owners.{Knows, lock_at, locks_in, owner_at, references_of}
 use Rattle.machine_types.specs.PlainMemory.{Object}
-use Rattle.machine_types.specs.PlainState.{Status, Plain, PlainThread, with_status}
+use Rattle.machine_types.specs.PlainState.{Status, Plain, PlainThread}
 use Rattle.machine_types.specs.PlainState as plain
 use Rattle.machine_types.specs.PlainSteps.{woken, wakes}
 use Rattle.machine_types.specs.Structure.{IsAs, IsLimitAt, AttemptStandsIn, Stands}
@@ -19,9 +19,9 @@ use Rattle.machine_types.specs.declared.config.Config.{Config}
 use Rattle.machine_types.specs.declared.lock.LockWord.TheVariants as locks
 use Rattle.machine_types.specs.declared.phase.Phase.{Phase}
 use Rattle.machine_types.specs.declared.phase.Phase.TheVariants as phases
-use Rattle.laws_simulation.proofs.HoldingsAlike.{itself}
 use Rattle.laws_simulation.proofs.Moments.{Moment}
 use Rattle.laws_simulation.proofs.Moved.{HasFat, fat_one, owning, bit_now}
+use Rattle.laws_states.proofs.LockViews.{same_there}
 
 -- ---- a thread that waits on a monitor, or whose turns ran out as it waited
 
@@ -132,4 +132,4 @@ module _ {c : MarkedProgram} {cfg : Config} {objects : List Object} {was : ℕ �
       status = sleeps u z w m r g h fat set a
 
       woken_is : woken m w.status ≡ plain.Woken m status.0
-      woken_is = ap (woken m) status.1 ∙ ap (λ (b : Bool). cond b (plain.Woken m status.0) (plain.Waiting m status.0)) (itself m)
+      woken_is = ap (woken m) status.1 ∙ ap (λ (b : Bool). cond b (plain.Woken m status.0) (plain.Waiting m status.0)) (same_there m)

@@ -22,7 +22,7 @@ use Rattle.machine_types.specs.Onward.{Onward, Running, Uncaught, root_arguments
 use Rattle.machine_types.specs.Owners.{references_of}
 use Rattle.machine_types.specs.Parts.{done_roots}
 use Rattle.machine_types.specs.PlainMemory.{Object}
-use Rattle.machine_types.specs.PlainState.{Plain, PlainThread, Status, with_thread}
+use Rattle.machine_types.specs.PlainState.{Plain, PlainThread, with_thread}
 use Rattle.machine_types.specs.PlainState as plain
 use Rattle.machine_types.specs.PlainSteps.{init_has_returned, is_over, is_due, begins, begun, may_do_done}
 use Rattle.machine_types.specs.Threads.{Frame, Thread}
@@ -35,11 +35,11 @@ use Rattle.laws_states.specs.HeapFacts.{objects_by}
 use Rattle.laws_states.proofs.Lists.{same_or_not}
 use Rattle.laws_states.specs.PartsLaws.{EventsKeepParts}
 use Rattle.laws_states.specs.PartsStand.{DoneRoots}
+use Rattle.laws_states.proofs.EventFacts.{got_when_set}
 use Rattle.laws_simulation.specs.StandsBeside.{ends_shown, end_of_done}
 use Rattle.laws_simulation.specs.StepsBeside.{StepsBeside}
 use Rattle.laws_simulation.proofs.Assembled.{one_step}
 use Rattle.laws_simulation.proofs.GoingOnAlike.{PartRuns, ends_before}
-use Rattle.laws_simulation.proofs.HoldingsAlike.{set_got}
 use Rattle.laws_simulation.proofs.Scene.{Scene, GoesOn, awake, counts_as, part_on, going, none_on, comes_beside, steps_of_event}
 use Rattle.laws_simulation.proofs.MemoryParts.{stays}
 use Rattle.laws_simulation.proofs.PartsDue.{rests_between, idle_workers, first_there, workers_over, init_returned}
@@ -121,7 +121,7 @@ module _ (c : MarkedProgram) (cfg : Config) (objects : List Object) (was : ℕ �
     none_left first two =
         let stands = keeps c cfg s t scene.marked scene.facts.threads scene.facts.parts in
         let there : slice_get (event c s t).threads 0 ≡ Some (goes_on begins_as onward) =
-        ap (λ (xs : List Thread). slice_get xs 0) after ∙ (ap (slice_get (slice_set s.threads t (goes_on begins_as onward))) (sym first) ∙ set_got s.threads t x (goes_on begins_as onward) scene.here) in
+        ap (λ (xs : List Thread). slice_get xs 0) after ∙ (ap (slice_get (slice_set s.threads t (goes_on begins_as onward))) (sym first) ∙ got_when_set s.threads t x (goes_on begins_as onward) scene.here) in
         let done : DoneRoots c.program (goes_on begins_as onward).phase (goes_on begins_as onward).roots = stands.done (goes_on begins_as onward) there (subst (λ (n : ℕ). 2 ≤ n) (sym (part_on begins_as onward)) two) in
         left_by c.program begins_as (has_room c.program [] m) (entry_frame number m (root_arguments t m) ∷ [])
         (subst (DoneRoots c.program (goes_on begins_as onward).phase) (roots_on begins_as (has_room c.program [] m) (entry_frame number m (root_arguments t m) ∷ [])) done)

@@ -19,10 +19,10 @@ use Rattle.laws_states.specs.Sites.{NewHeaderOf}
 use Rattle.laws_states.proofs.Lists.{contained_got, got_contains, contains_first, contains_more, same_or_not, set_here, set_there}
 use Rattle.laws_simulation.specs.StandsBeside.{IsAmong, IsBeingMade, IsPlainNew}
 use Rattle.laws_simulation.proofs.AssembledObjects.{MakesNone, made_by_others}
-use Rattle.laws_simulation.proofs.HoldingsAlike.{set_else}
 use Rattle.laws_simulation.proofs.PlainPlaces.{value_of_header}
 use Rattle.laws_simulation.proofs.Scene.{Scene, Memory}
 use Rattle.laws_simulation.proofs.MemoryParts.{place_bits, place_counter}
+use Rattle.laws_simulation.proofs.Assembled.{got_other}
 
 first_or_more : {X : Type 0} (y : X) (xs : List X) (x : X) → Contains (y ∷ xs) x → (x ≡ y) ⊎ Contains xs x
 first_or_more {X} y xs x k = by_index k.0 (contained_got (y ∷ xs) x k)
@@ -58,7 +58,7 @@ module _ (c : MarkedProgram) (cfg : Config) (objects : List Object) (was : ℕ �
       by_thread (inl same) =
           let one : x ≡ k.1 = same_some (sym scene.here ∙ (ap (slice_get s.threads) (sym same) ∙ k.3)) in
           inl (new_object a word (size_by c.program word), contains_first (new_object a word (size_by c.program word)) objects, made_as x k.1 a r word k.2 one made k.4)
-      by_thread (inr d) = inr (k.0, k.1, k.2, set_else s.threads t k.0 new d ∙ k.3, k.4)
+      by_thread (inr d) = inr (k.0, k.1, k.2, got_other s.threads t k.0 new d ∙ k.3, k.4)
 
   by_object : (e : Object) → IsAmong objects e.reference ⊎ IsBeingMade s.threads e.reference → IsAmong later e.reference ⊎ IsBeingMade (slice_set s.threads t new) e.reference
   by_object e (inl h) = inl (among e.reference h)
@@ -72,7 +72,7 @@ module _ (c : MarkedProgram) (cfg : Config) (objects : List Object) (was : ℕ �
       by_thread (inl same) =
           let one : x ≡ k.1 = same_some (sym scene.here ∙ (ap (slice_get s.threads) (sym same) ∙ k.4)) in
           absurd (d (k.6 ∙ ap header_word (sym (made_as x k.1 a k.2 word k.3 one made k.5))))
-      by_thread (inr e) = (k.0, k.1, k.2, k.3, set_else s.threads t k.0 new e ∙ k.4, k.5, k.6)
+      by_thread (inr e) = (k.0, k.1, k.2, k.3, got_other s.threads t k.0 new e ∙ k.4, k.5, k.6)
 
   by_place : (n u : ℕ) → value_at q n ≡ Some u → (IsPending (slice_set s.threads t new) n → ⊥) → (n ≡ header_word a) ⊎ (n ≢ header_word a) → slice_index (slice_set s.words (header_word a) word) n ≡ u
   by_place n u e free (inl same) =

@@ -2,6 +2,7 @@
 -- a word is written that is no waiting bits.
 use Rattle.std.proofs.Common.{◌≡◌, ◌≢◌, ◌⊎◌, inl, inr, ℕ, ◌+◌, ◌<◌, Bool, true, false, cond, List, Option, refl, sym, ap, ◌∙◌, subst, arith}
 use Rattle.std.specs.Prelude.{Contains, slice_index, slice_set, ◌==◌}
+use Rattle.std.proofs.lemmas.Bool.Decides.{Decides-eqb}
 use Rattle.jvm_types.specs.Numbers.{has_flag, has_number}
 use Rattle.jvm_types.specs.declared.fixed_words.TheConstants.{MONITOR_RECORDS}
 use Rattle.jvm_types.specs.declared.program.Program.{Program}
@@ -25,7 +26,6 @@ use Rattle.laws_states.specs.HeapFacts.{HeapFacts}
 use Rattle.laws_states.specs.SiteLaws.{SitesDiffer, SitesLieInside}
 use Rattle.laws_states.specs.Sites.{Site, BitsOf, LockOf, site_word, HasObject, IsThere}
 use Rattle.laws_states.proofs.Lists.{set_there}
-use Rattle.laws_states.proofs.LockViews.{is_there}
 use Rattle.laws_states.proofs.WordViews.{object_has, has_object, lock_view}
 use Rattle.laws_simulation.specs.StandsBeside.{IsAmong, IsBeingMade}
 
@@ -137,7 +137,7 @@ module _ (differ : SitesDiffer) (inside : SitesLieInside) (c : MarkedProgram) (o
       (λ r f. bits_apart (LockOf n) value r k (λ g. cc) (low m r f))
 
   here_bit : (n t m : ℕ) → (n == m) ≡ true → ((r : ℕ) → lock_at (references_of objects) s.words n ≢ locks.Fat r) → has_wait_bit (references_of objects) s.words t m ≡ false
-  here_bit n t m e d = thin_bit (lock_at (references_of objects) s.words m) s.words t (λ r f. d r (ap (lock_at (references_of objects) s.words) (is_there n m e) ∙ f))
+  here_bit n t m e d = thin_bit (lock_at (references_of objects) s.words m) s.words t (λ r f. d r (ap (lock_at (references_of objects) s.words) ((Decides-eqb n m).0 e) ∙ f))
 
   -- a lock that was no fat one, and becomes none
   pub bits_when_thin : (n value : ℕ) → HasObject objects n → ((r : ℕ) → lock_at (references_of objects) s.words n ≢ locks.Fat r) → ((r : ℕ) → lock_of value ≢ locks.Fat r)

@@ -21,7 +21,7 @@ use Rattle.machine_types.specs.Owners.{lock_at, references_of, owner_at, hold_by
 use Rattle.machine_types.specs.PlainInstructions.{leaving, instructed_by}
 use Rattle.machine_types.specs.PlainInstructions as plainly
 use Rattle.machine_types.specs.PlainMemory.{Object}
-use Rattle.machine_types.specs.PlainState.{Status, Plain, PlainThread, with_thread, with_status, holding_at, is_holder}
+use Rattle.machine_types.specs.PlainState.{Status, Plain, PlainThread, with_thread}
 use Rattle.machine_types.specs.PlainState as plain
 use Rattle.machine_types.specs.PlainSteps.{step_at, plain_run}
 use Rattle.machine_types.specs.Threads.{Thread}
@@ -37,10 +37,11 @@ use Rattle.machine_types.specs.declared.plain.Act.{Act}
 use Rattle.machine_types.specs.declared.plain.Act.TheVariants as acts
 use Rattle.laws_states.proofs.Lists.{same_or_not}
 use Rattle.laws_states.proofs.LockViews.{thin_if_flat}
-use Rattle.laws_simulation.proofs.Assembled.{got_same_length}
+use Rattle.laws_states.proofs.EventFacts.{got_when_set}
+use Rattle.laws_simulation.proofs.Assembled.{got_same_length, got_other}
 use Rattle.laws_simulation.specs.StandsBeside.{StandsBeside, own_end, ends_shown}
 use Rattle.laws_simulation.specs.StepsBeside.{StepsBeside, IsOfWaiting, WaitingSteps}
-use Rattle.laws_simulation.proofs.HoldingsAlike.{alike_kept, is_holder_then, no_holder_then, set_got, set_else}
+use Rattle.laws_simulation.proofs.HoldingsAlike.{alike_kept, is_holder_then, no_holder_then}
 use Rattle.laws_simulation.proofs.WaitersHaveBits.{NobodyWaits, nobody_on_thin, none_waits, none_woken}
 use Rattle.laws_simulation.proofs.Moments.{Moment, same_words, first_step, own_status, own_frames, own_roots, own_ends, own_as, lock_same, holdings_alike, stepped}
 use Rattle.laws_simulation.proofs.Moved.{ends_alike, run_end, run_made, runs_outside, own_off, alone_beside}
@@ -131,10 +132,10 @@ module _ {c : MarkedProgram} {cfg : Config} {objects : List Object} {was : ℕ �
       by_thread : (u ≡ t) ⊎ (u ≢ t) → ⊥
       by_thread (inl same) =
           let here : slice_get (slice_set q.threads t (Leaves status)) t ≡ Some w = subst (λ (i : ℕ). slice_get (slice_set q.threads t (Leaves status)) i ≡ Some w) same g in
-          let there : slice_get (slice_set q.threads t (Leaves status)) t ≡ Some (Leaves status) = set_got q.threads t y (Leaves status) k.twin in
+          let there : slice_get (slice_set q.threads t (Leaves status)) t ≡ Some (Leaves status) = got_when_set q.threads t y (Leaves status) k.twin in
           let one : Leaves status ≡ w = cc in
           other depth (ap (λ (v : PlainThread). v.status) one ∙ is)
-      by_thread (inr d) = nobody_on_thin c.program s q m k.beside.agrees (thin m count h e f) u w depth (sym (set_else q.threads t u (Leaves status) d) ∙ g) is
+      by_thread (inr d) = nobody_on_thin c.program s q m k.beside.agrees (thin m count h e f) u w depth (sym (got_other q.threads t u (Leaves status) d) ∙ g) is
 
   -- the notification is a second step
   second : (status : Status) (act : Act) (e : Effect) → effect_at c.program at ≡ e → instructed_by c.program q t y at e ≡ Some (with_thread q t (Leaves status))
@@ -142,7 +143,7 @@ module _ {c : MarkedProgram} {cfg : Config} {objects : List Object} {was : ℕ �
       → plain_run c.program q (steps_of t (acts.Do ∷ act ∷ [])) ≡ Some (with_thread q t (Leaves plain.Run))
   second status act e is first more =
       first_step c.program q (with_thread q t (Leaves status)) t y acts.Do (act ∷ []) plain.Run k.twin (own_status k) (does e is (with_thread q t (Leaves status)) first)
-      ∙ first_step c.program (with_thread q t (Leaves status)) (with_thread (with_thread q t (Leaves status)) t (Leaves plain.Run)) t (Leaves status) act [] status (set_got q.threads t y (Leaves status) k.twin) refl more
+      ∙ first_step c.program (with_thread q t (Leaves status)) (with_thread (with_thread q t (Leaves status)) t (Leaves plain.Run)) t (Leaves status) act [] status (got_when_set q.threads t y (Leaves status) k.twin) refl more
       ∙ ap (λ (ws : List PlainThread). Some (record q { threads = ws })) (set-set q.threads t (Leaves status) (Leaves plain.Run))
 
   -- ---- the three

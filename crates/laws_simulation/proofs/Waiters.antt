@@ -14,7 +14,7 @@ use Rattle.machine_types.specs.History.{if_so}
 use Rattle.machine_types.specs.Monitors.{bit_of, goes_to_wait, retakes}
 use Rattle.machine_types.specs.Owners.{lock_at, owner_at, references_of, hold_by_list, hold_by_word, NotHeld, HeldFat}
 use Rattle.machine_types.specs.PlainMemory.{Object}
-use Rattle.machine_types.specs.PlainState.{Status, Plain, PlainThread, Holding, holding_at, with_holding, without_holding, let_go, held_by, with_thread, with_status}
+use Rattle.machine_types.specs.PlainState.{Plain, PlainThread, Holding, holding_at, with_holding, without_holding, let_go, with_thread, with_status}
 use Rattle.machine_types.specs.PlainState as plain
 use Rattle.machine_types.specs.PlainSteps.{waited, retaken}
 use Rattle.machine_types.specs.Structure.{Stands}
@@ -30,11 +30,11 @@ use Rattle.machine_types.specs.declared.phase.Phase.{Phase}
 use Rattle.machine_types.specs.declared.phase.Phase.TheVariants as phases
 use Rattle.machine_types.specs.declared.plain.Act.TheVariants as acts
 use Rattle.laws_states.specs.SiteLaws.{SitesLieInside}
-use Rattle.laws_states.proofs.LockViews.{not_held, not_there}
+use Rattle.laws_states.proofs.LockViews.{not_held, not_there, same_there}
 use Rattle.laws_states.proofs.WordViews.{set_self}
 use Rattle.laws_simulation.specs.StandsBeside.{StandsBeside}
 use Rattle.laws_simulation.specs.StepsBeside.{StepsBeside}
-use Rattle.laws_simulation.proofs.HoldingsAlike.{IsHolding, itself, alone, held_depth_is, holds_then, free_then, alike_put, alike_dropped}
+use Rattle.laws_simulation.proofs.HoldingsAlike.{IsHolding, alone, held_depth_is, holds_then, free_then, alike_put, alike_dropped}
 use Rattle.laws_simulation.proofs.BitWords.{set_other}
 use Rattle.laws_simulation.proofs.Moments.{Moment, AreRecordsWritten, same_words, first_step, own_status, own_frames, own_roots, own_ends, own_number, own_as, holdings_alike, stepped}
 use Rattle.laws_simulation.proofs.Moved.{HasFat, ends_alike, run_end, run_made, runs_outside, bits_written, owner_written, owner_keeps_bits, fat_low, fat_one, counted, knows, waits_now, owning, bit_now, set_in, bits_kept, own_off, quiet_beside, alone_beside, bits_else}
@@ -105,7 +105,7 @@ module _ {c : MarkedProgram} {cfg : Config} {objects : List Object} {was : ℕ �
 
       step : waited q t m y (holding_at q.holdings m) ≡ Some behind
       step = ap (waited q t m y) holds.is
-          ∙ ap (λ (b : Bool). cond b (Some (with_thread (let_go q m) t (with_status y (plain.Waiting m holds.holding.depth)))) None) (ap (λ (n : ℕ). n == t) holds.holder ∙ itself t)
+          ∙ ap (λ (b : Bool). cond b (Some (with_thread (let_go q m) t (with_status y (plain.Waiting m holds.holding.depth)))) None) (ap (λ (n : ℕ). n == t) holds.holder ∙ same_there t)
           ∙ ap (λ (d : ℕ). Some (with_thread (let_go q m) t (with_status y (plain.Waiting m d)))) holds.depth_is
 
       kept : (u n : ℕ) → has_wait_bit (references_of q.objects) later u n ≡ has_wait_bit (references_of q.objects) s.words u n

@@ -3,6 +3,7 @@
 use Rattle.std.proofs.Common.{◌≡◌, ◌≢◌, ◌⊎◌, inl, inr, ℕ, zero, suc, Bool, true, false, cond, List, [], ◌∷◌, length, Option, Some, None, refl, sym, ap, ◌∙◌, subst, arith}
 use Rattle.std.specs.Prelude.{slice_get, slice_index, map, ◌<◌, ◌==◌, ◌||◌}
 use Rattle.std.specs.List.{list_any}
+use Rattle.std.proofs.lemmas.Bool.Decides.{Decides-eqb}
 use Rattle.jvm_types.specs.Numbers.{has_flag}
 use Rattle.jvm_types.specs.declared.outcome.End.{End}
 use Rattle.jvm_types.specs.declared.outcome.End.TheVariants as ends
@@ -25,7 +26,6 @@ use Rattle.machine_types.specs.declared.phase.Phase.TheVariants as phases
 use Rattle.machine_types.specs.declared.phase.Toward.{Toward}
 use Rattle.machine_types.specs.declared.phase.Toward.TheVariants as towards
 use Rattle.laws_states.proofs.Lists.{got_below}
-use Rattle.laws_states.proofs.LockViews.{is_there}
 
 -- ---- what a bit means
 
@@ -145,7 +145,7 @@ waits_by_status : (m : ℕ) (status : Status) → ((depth : ℕ) → status ≡ 
 waits_by_status m (plain.Waiting n depth) never = by_test (n == m) refl
   where
     by_test : (b : Bool) → (n == m) ≡ b → b ≡ false
-    by_test true e = absurd (never depth (ap (λ (k : ℕ). plain.Waiting k depth) (is_there n m e)))
+    by_test true e = absurd (never depth (ap (λ (k : ℕ). plain.Waiting k depth) ((Decides-eqb n m).0 e)))
     by_test false e = refl
 waits_by_status m status never = refl
 
@@ -160,7 +160,7 @@ woken_by_status : (m : ℕ) (status : Status) → ((depth : ℕ) → status ≡ 
 woken_by_status m (plain.Waiting n depth) never = by_test (n == m) refl
   where
     by_test : (b : Bool) → (n == m) ≡ b → cond b (plain.Woken n depth) (plain.Waiting n depth) ≡ plain.Waiting n depth
-    by_test true e = absurd (never depth (ap (λ (k : ℕ). plain.Waiting k depth) (is_there n m e)))
+    by_test true e = absurd (never depth (ap (λ (k : ℕ). plain.Waiting k depth) ((Decides-eqb n m).0 e)))
     by_test false e = refl
 woken_by_status m status never = refl
 

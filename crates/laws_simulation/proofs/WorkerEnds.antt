@@ -2,6 +2,7 @@
 use Rattle.std.proofs.Common.{◌≡◌, ℕ, zero, suc, ◌+◌, Bool, true, false, cond, List, [], ◌∷◌, map, Option, Some, None, refl, sym, ap, ◌∙◌, arith}
 use Rattle.std.specs.Prelude.{◌==◌, slice_get, slice_set}
 use Rattle.std.specs.List.{range_with_len}
+use Rattle.std.proofs.lemmas.Bool.Decides.{Decides-eqb}
 use Rattle.lists.proofs.ListLaws.{same_some}
 use Rattle.jvm_types.specs.declared.program.Program.{Program}
 use Rattle.checked_program.specs.MarkedProgram.{MarkedProgram}
@@ -13,7 +14,8 @@ use Rattle.machine_types.specs.Threads.{Thread}
 use Rattle.machine_types.specs.declared.config.Config.{Config}
 use Rattle.laws_threads.specs.GivenThread.{Given, GivenIsKept}
 use Rattle.laws_simulation.specs.OutcomeLaws.{WorkersKeepNone, EventsKeepNone, NextKeepsNone, StartKeepsNone}
-use Rattle.laws_simulation.proofs.OutcomePrints.{got_when_set, got_other, is_there}
+use Rattle.laws_states.proofs.EventFacts.{got_when_set}
+use Rattle.laws_states.proofs.OwnersStep.{set_other}
 
 -- ---- an event
 
@@ -22,10 +24,10 @@ kept_by given c s t x got there h u z e some = by_number (u == t) refl
   where
     by_number : (b : Bool) → (u == t) ≡ b → z.first ≡ None
     by_number true d =
-        let same = is_there u t d in
+        let same = (Decides-eqb u t).0 d in
         let is : moved c x x.phase got ≡ z = same_some (sym (got_when_set s.threads t x (moved c x x.phase got) there) ∙ ap (slice_get (slice_set s.threads t (moved c x x.phase got))) (sym same) ∙ e) in
         sym (ap (λ (w : Thread). w.first) is) ∙ ap (λ (g : Given). g.first) (given c x x.phase got) ∙ h u x (ap (slice_get s.threads) same ∙ there) some
-    by_number false d = h u z (sym (got_other s.threads t u (moved c x x.phase got) d) ∙ e) some
+    by_number false d = h u z (sym (set_other s.threads t u (moved c x x.phase got) d) ∙ e) some
 
 pub events_keep_none : GivenIsKept → EventsKeepNone
 events_keep_none given c s t h = by_thread (slice_get s.threads t) refl
