@@ -1,6 +1,7 @@
 -- What one act of a replay counts in the plain machine: an instruction that it begins, and no monitor that it takes.
 use Rattle.std.proofs.Common.{◌≡◌, ◌≢◌, ℕ, zero, suc, ◌+◌, Bool, true, false, cond, [], ◌∷◌, Option, Some, None, refl, sym, ap, ◌∙◌, arith}
 use Rattle.std.specs.Prelude.{◌==◌, option_and_then}
+use Rattle.std.proofs.lemmas.Bool.Decides.{Decides-eqb}
 use Rattle.lists.proofs.ListLaws.{same_some}
 use Rattle.jvm_types.specs.declared.program.Program.{Program}
 use Rattle.machine_types.specs.Counting.{is_free, one_if, run_at, take_at}
@@ -8,7 +9,7 @@ use Rattle.machine_types.specs.Effects.{read_by}
 use Rattle.machine_types.specs.Frames.{Top, top_of, effect_at}
 use Rattle.machine_types.specs.Onward.{Onward, after, dispatched}
 use Rattle.machine_types.specs.PlainInstructions.{got_by}
-use Rattle.machine_types.specs.PlainState.{Plain, PlainThread, Holding, Status, value_at, holding_at}
+use Rattle.machine_types.specs.PlainState.{Plain, Holding, Status, value_at, holding_at}
 use Rattle.machine_types.specs.PlainState as plain
 use Rattle.machine_types.specs.PlainSteps.{plain_run, plain_step}
 use Rattle.machine_types.specs.Replay.{Alone, only_on, reads_only, goes, instructs, enters, leaves, replay_act, replayed}
@@ -17,7 +18,6 @@ use Rattle.machine_types.specs.declared.plain.Act.{Act}
 use Rattle.machine_types.specs.declared.plain.Act.TheVariants as acts
 use Rattle.machine_types.specs.declared.plain.PlainStep.{PlainStep}
 use Rattle.machine_types.proofs.AttemptReplay.{stands_as, Stands, played}
-use Rattle.laws_simulation.proofs.HoldingsAlike.{are_same}
 use Rattle.laws_simulation.proofs.PlainCounts.{did_run, did_throw, did_enter, not_run, not_taken}
 
 -- ---- instructions that an act begins
@@ -70,7 +70,7 @@ runs_by p q t m x z act status f s e = absurd (cc)
 
 -- it holds the monitor that it enters
 held_already : (q : Plain) (t m n : ℕ) (x z : Alone) (b : Bool) → (n == m) ≡ b → Stands q t m x → cond b (Some (enters x)) None ≡ Some z → one_if (is_free (holding_at q.holdings n)) ≡ 0
-held_already q t m n x z true k f e = ap (λ (i : ℕ). one_if (is_free (holding_at q.holdings i))) (are_same n m k) ∙ ap (λ (h : Option Holding). one_if (is_free h)) f.holding
+held_already q t m n x z true k f e = ap (λ (i : ℕ). one_if (is_free (holding_at q.holdings i))) ((Decides-eqb n m).0 k) ∙ ap (λ (h : Option Holding). one_if (is_free h)) f.holding
 held_already q t m n x z false k f e = absurd (cc)
 
 takes_by : (p : Program) (q : Plain) (t m : ℕ) (x z : Alone) (act : Act) (status : Status) → Stands q t m x → x.thread.status ≡ status → replay_act p m (value_at q) x act status ≡ Some z → take_at t q (step_by t act) ≡ 0

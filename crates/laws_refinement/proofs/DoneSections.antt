@@ -1,7 +1,7 @@
 -- When an attempt has done its section: its thread leaves the monitor for the last time, and finds the lock word as it was noted.
 use Rattle.std.proofs.Common.{◌≡◌, ℕ, Bool, true, false, cond, Option, Some, None, refl, sym, ap, ◌∙◌, subst, arith}
 use Rattle.std.specs.Prelude.{◌==◌, nat_lt, slice_get, slice_index, slice_set}
-use Rattle.std.proofs.lemmas.Bool.Decides.{nat_tests}
+use Rattle.std.proofs.lemmas.Bool.Decides.{nat_tests, Decides-eqb}
 use Rattle.checked_program.specs.MarkedProgram.{MarkedProgram}
 use Rattle.machine_types.specs.Accesses.{found_by, words_after}
 use Rattle.machine_types.specs.Attempts.{IsAsNoted}
@@ -23,7 +23,6 @@ use Rattle.machine_types.specs.declared.phase.After.{After}
 use Rattle.machine_types.specs.declared.phase.Phase.{Phase}
 use Rattle.machine_types.specs.declared.phase.Phase.TheVariants as phases
 use Rattle.laws_states.proofs.WordViews.{set_self}
-use Rattle.laws_simulation.proofs.HoldingsAlike.{are_same}
 
 -- ---- what the fate says
 
@@ -39,7 +38,7 @@ never_by : (b : Bool) → fate_by b GoesOn ≡ Finishes → ⊥
 never_by true e = absurd (cc)
 never_by false e = absurd (cc)
 
-never_runs : (c : MarkedProgram) (a : Attempt) (o : Option Top) (got : ℕ) → run_fate c a o got ≡ Finishes → ⊥
+pub never_runs : (c : MarkedProgram) (a : Attempt) (o : Option Top) (got : ℕ) → run_fate c a o got ≡ Finishes → ⊥
 never_runs c a None got e = absurd (cc)
 never_runs c a (Some at) got e = by_check (is_checked at.frame.pc (effect_at c.program at)) e
   where
@@ -69,7 +68,7 @@ by_claim x a m b got None none tries e = by_monitor (a.monitor == m) refl (subst
     }
 
     by_monitor : (d : Bool) → (a.monitor == m) ≡ d → leave_fate (cond d (Tries a) HasNot) got ≡ Finishes → IsDone x a (phases.Leave m b) got
-    by_monitor true k f = on_it (are_same a.monitor m k) (nat_lt 0 a.inner) refl f
+    by_monitor true k f = on_it ((Decides-eqb a.monitor m).0 k) (nat_lt 0 a.inner) refl f
         (ap (λ (h : Option Held). claim_by m h x.attempt) none ∙ ap (λ (r : Option Attempt). claim_by m None r) tries ∙ ap (λ (d : Bool). cond d (Tries a) HasNot) k)
     by_monitor false k f = absurd (cc)
 
@@ -89,7 +88,7 @@ module _ (c : MarkedProgram) (s : Core) (t : ℕ) (x : Thread) (a : Attempt) (th
   finds = ap (found_by s.words) wants
 
   pub as_noted : IsAsNoted s.words a
-  as_noted = sym finds ∙ are_same (found_by s.words (wanted c x x.phase)) (word_of_lock (locks.Free a.noted)) d.same
+  as_noted = sym finds ∙ (Decides-eqb (found_by s.words (wanted c x x.phase)) (word_of_lock (locks.Free a.noted))).0 d.same
 
   words_stay : words_after s.words (wanted c x x.phase) ≡ s.words
   words_stay = ap (words_after s.words) wants ∙ set_self s.words a.monitor

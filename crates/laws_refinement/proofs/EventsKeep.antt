@@ -10,18 +10,12 @@ use Rattle.machine_types.specs.Threads.{Thread}
 use Rattle.machine_types.proofs.OnlyLive.{only_live_change}
 use Rattle.laws_threads.specs.GivenThread.{Given, GivenIsKept}
 use Rattle.laws_refinement.proofs.StageFits.{PartIs}
+use Rattle.laws_simulation.proofs.Assembled.{got_other}
 
 abbrev now : MarkedProgram → Core → Thread → Thread
 now c s x = moved c x x.phase (found_by s.words (wanted c x x.phase))
 
 -- ---- who lives
-
-got_other : {A : Type 0} (xs : List A) (i j : ℕ) (x : A) → j ≢ i → slice_get (slice_set xs i x) j ≡ slice_get xs j
-got_other [] i j x n = refl
-got_other (z ∷ zs) zero zero x n = absurd (n refl)
-got_other (z ∷ zs) zero (suc j) x n = refl
-got_other (z ∷ zs) (suc i) zero x n = refl
-got_other (z ∷ zs) (suc i) (suc j) x n = got_other zs i j x (λ e. n (ap suc e))
 
 other_lives : (c : MarkedProgram) (s : Core) (t u : ℕ) → u ≢ t → (o : Option Thread) → slice_get s.threads t ≡ o → lives (event_of c s t o) u ≡ lives s u
 other_lives c s t u n None e = refl

@@ -3,7 +3,7 @@ use Rattle.std.proofs.Common.{◌≡◌, ◌≢◌, ℕ, ◌+◌, Bool, true, fa
 use Rattle.std.specs.Prelude.{◌==◌, replicate, slice_get, slice_set, slice_index, slice_index_or, if◌then◌else◌}
 use Rattle.std.specs.List.{range_with_len}
 use Rattle.std.proofs.lemmas.List.{append-nil, length-replicate}
-use Rattle.std.proofs.lemmas.Bool.Decides.{nat_tests}
+use Rattle.std.proofs.lemmas.Bool.Decides.{nat_tests, Decides-eqb}
 use Rattle.std.proofs.lemmas.Option.{slice_get_within}
 use Rattle.lists.proofs.ListLaws.{same_some}
 use Rattle.jvm_types.specs.declared.fixed_words.TheConstants.{NEXT_FREE_WORD}
@@ -33,12 +33,14 @@ use Rattle.laws_threads.specs.GivenThread.{GivenIsKept}
 use Rattle.laws_states.specs.HeapFacts.{objects_after}
 use Rattle.laws_states.specs.RunFacts.{HaveWidth}
 use Rattle.laws_states.specs.StateFacts.{StateFacts}
+use Rattle.laws_states.proofs.EventFacts.{got_when_set}
+use Rattle.laws_states.proofs.OwnersStep.{set_other as got_other}
 use Rattle.laws_objects.specs.ConstructionLaws.{no_builders, BuildsOn}
 use Rattle.laws_simulation.specs.StandsBeside.{StandsBeside}
 use Rattle.laws_simulation.specs.OutcomeLaws.{WorkersKeepNone}
 use Rattle.laws_simulation.proofs.WorkerEnds.{events_keep_none, next_keeps_none, start_keeps_none}
 use Rattle.laws_simulation.proofs.EndedParts.{ends_are_those}
-use Rattle.laws_simulation.proofs.OutcomePrints.{got_when_set, got_other, is_there, next_keeps_prints, start_has_prints}
+use Rattle.laws_simulation.proofs.OutcomePrints.{next_keeps_prints, start_has_prints}
 use Rattle.laws_simulation.proofs.PlainCounts.{others_are_not_counted}
 use Rattle.laws_refinement.specs.ElidedSteps.{EventStands, found_of}
 use Rattle.laws_refinement.proofs.MoreSteps.{run_on, count_on, all_one, recounted, counted_at_start}
@@ -127,7 +129,7 @@ module _ (given : GivenIsKept) (memory : InstructionsChangeMemory) (laws : AreEv
       where
         by_number : (b : Bool) → (u == t) ≡ b → slice_get (slice_set s.threads t (moved c x x.phase (found_of c s x))) u ≡ Some z → P u z
         by_number true d f =
-            let same = is_there u t d in
+            let same = (Decides-eqb u t).0 d in
             let is : moved c x x.phase (found_of c s x) ≡ z = same_some (sym (got_when_set s.threads t x (moved c x x.phase (found_of c s x)) there)
             ∙ ap (slice_get (slice_set s.threads t (moved c x x.phase (found_of c s x)))) (sym same) ∙ f) in
             subst (λ (n : ℕ). P n z) (sym same) (subst (λ (v : Thread). P t v) is here)

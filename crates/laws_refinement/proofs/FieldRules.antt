@@ -1,8 +1,8 @@
 -- A private field, and a final one, is written by a method of its own class alone.
-use Rattle.std.proofs.Common.{◌≡◌, ℕ, Bool, true, false, not, ◌&&◌, List, [], ◌∷◌, Option, Some, None, refl, sym, ap, ◌∙◌, subst, inl, inr, ◌⊎◌, arith}
+use Rattle.std.proofs.Common.{◌≡◌, ℕ, Bool, true, false, not, ◌&&◌, List, [], ◌∷◌, Option, Some, None, refl, sym, ap, ◌∙◌, subst, inl, inr, ◌⊎◌}
 use Rattle.std.specs.Prelude.{◌==◌, slice_get, IsSomeAnd, if◌then◌else◌}
 use Rattle.std.proofs.lemmas.Bool.{and_parts}
-use Rattle.std.proofs.lemmas.Bool.Decides.{nat_tests}
+use Rattle.std.proofs.lemmas.Bool.Decides.{Decides-eqb}
 use Rattle.jvm_types.specs.Members.{Site, is_final, is_private, is_hidden, is_other_sort, first_rule, field_rule, initializes, is_init_name, is_class_init_name}
 use Rattle.jvm_types.specs.ProgramInvariant.{IsTargetOf, site_in}
 use Rattle.jvm_types.specs.declared.code.Op.{Op}
@@ -13,36 +13,23 @@ use Rattle.jvm_types.specs.declared.program.Program.{Program}
 use Rattle.jvm_types.specs.declared.program.Target.{Target}
 use Rattle.jvm_types.specs.declared.program.Target.TheVariants as targets
 use Rattle.jvm_types.specs.declared.refusal.LRule.TheVariants.{L2, L3, L7}
-use Rattle.jvm_types.specs.declared.outcome.Thrown.TheVariants as thrown
-use Rattle.machine_types.specs.Effects.{variable_of, gets_static, gets, effect}
+use Rattle.machine_types.specs.Effects.{effect}
 use Rattle.machine_types.specs.declared.effect.Variable.{Variable}
-use Rattle.machine_types.specs.declared.effect.Effect.TheVariants.{Reads, Throws, Writes}
+use Rattle.machine_types.specs.declared.effect.Effect.TheVariants.{Writes}
+use Rattle.laws_objects.proofs.WrittenFields.{no_static_read, no_read}
 
 -- ---- the rule of an instruction that writes a field
 
 abbrev pub MayWrite : Program → Site → (static : Bool) → (number : ℕ) → Type 0
 MayWrite p site static number = IsSomeAnd (slice_get p.fields number) (λ f. field_rule static true site f.class f.flags ≡ None)
 
-gets_static_writes_not : (f : Option FieldInfo) (v : Variable) (word : ℕ) → gets_static f ≡ Writes v word → ⊥
-gets_static_writes_not None v word e = cc
-gets_static_writes_not (Some f) v word e = cc
-
-gets_writes_not : (f : Option FieldInfo) (s : List ℕ) (v : Variable) (word : ℕ) → gets f s ≡ Writes v word → ⊥
-gets_writes_not None s v word e = cc
-gets_writes_not (Some f) [] v word e = cc
-gets_writes_not (Some f) (a ∷ s) v word e = by_test (a == 0) e
-  where
-    by_test : (b : Bool) → (if b then Throws thrown.NullPointerException else Reads (variable_of f a)) ≡ Writes v word → ⊥
-    by_test true e = cc
-    by_test false e = cc
-
 field_written : (p : Program) (site : Site) (op : Op) (number next : ℕ) (v : Variable) (word : ℕ) (l s : List ℕ) → IsTargetOf p site op (targets.Field number) → effect p next (targets.Field number) op l s ≡ Writes v word
     → (static : Bool) × MayWrite p site static number
 field_written p site (ops.Ldc i) number next v word l s h e = absurd h
 field_written p site (ops.LdcW i) number next v word l s h e = absurd h
-field_written p site (ops.Getstatic i) number next v word l s h e = absurd (gets_static_writes_not (slice_get p.fields number) v word e)
+field_written p site (ops.Getstatic i) number next v word l s h e = absurd (no_static_read (slice_get p.fields number) v word e)
 field_written p site (ops.Putstatic i) number next v word l s h e = (true, h)
-field_written p site (ops.Getfield i) number next v word l s h e = absurd (gets_writes_not (slice_get p.fields number) s v word e)
+field_written p site (ops.Getfield i) number next v word l s h e = absurd (no_read (slice_get p.fields number) s v word e)
 field_written p site (ops.Putfield i) number next v word l s h e = (false, h)
 field_written p site (ops.Invokevirtual i) number next v word l s h e = absurd h
 field_written p site (ops.Invokespecial i) number next v word l s h e = absurd h
@@ -63,17 +50,14 @@ not_other true true e f = refl
 not_other true false e f = absurd (cc)
 not_other false same e f = absurd (cc)
 
-are_same : (a b : ℕ) → (a == b) ≡ true → a ≡ b
-are_same a b e = grind (arith, nat_tests, e)
-
 class_of_writer : (static : Bool) (m : MethodInfo) (class flags : ℕ) → field_rule static true (site_in m) class flags ≡ None → (is_private flags ≡ true) ⊎ (is_final flags ≡ true) → class ≡ m.class
 class_of_writer static m class flags rule (inl private) =
     let none = both_not (is_other_sort static flags) (is_hidden (site_in m) class flags) (is_final flags && not (initializes (site_in m) static class)) rule in
-    are_same class m.class (not_other (is_private flags) (class == m.class) none.0 private)
+    (Decides-eqb class m.class).0 (not_other (is_private flags) (class == m.class) none.0 private)
 class_of_writer static m class flags rule (inr final) =
     let none = both_not (is_other_sort static flags) (is_hidden (site_in m) class flags) (is_final flags && not (initializes (site_in m) static class)) rule in
     let writes : initializes (site_in m) static class ≡ true = not_other (is_final flags) (initializes (site_in m) static class) none.1 final in
-    are_same class m.class (and_parts (class == m.class) (if static then is_class_init_name m.name else is_init_name m.name) writes).0
+    (Decides-eqb class m.class).0 (and_parts (class == m.class) (if static then is_class_init_name m.name else is_init_name m.name) writes).0
 
 -- the method m writes the field
 pub written_by : (p : Program) (m : MethodInfo) (op : Op) (target : Target) (number next : ℕ) (f : FieldInfo) (v : Variable) (word : ℕ) (l s : List ℕ) → target ≡ targets.Field number → slice_get p.fields number ≡ Some f

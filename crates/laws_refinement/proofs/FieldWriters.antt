@@ -22,11 +22,11 @@ use Rattle.machine_types.specs.declared.access.Access.{Access}
 use Rattle.machine_types.specs.declared.access.Access.TheVariants.{Store}
 use Rattle.machine_types.specs.Core.{Core}
 use Rattle.machine_types.specs.Events.{wanted}
-use Rattle.machine_types.specs.FoundWords.{effect_content, run_content, leave_content, content_at}
+use Rattle.machine_types.specs.FoundWords.{effect_content, run_content, content_at}
 use Rattle.machine_types.specs.Frames.{Top, top_of, effect_at}
 use Rattle.machine_types.specs.Instructions.{effect_wants, run_wants}
 use Rattle.machine_types.specs.Lawful.{IsLawful}
-use Rattle.machine_types.specs.Monitors.{Claim, Has, Tries, HasNot, claim}
+use Rattle.machine_types.specs.Monitors.{claim}
 use Rattle.machine_types.specs.PlainMemory.{Object}
 use Rattle.machine_types.specs.Standing.{Standing}
 use Rattle.machine_types.specs.Structure.{IsStructured, Stands, TopIs, is_element_op}
@@ -37,8 +37,6 @@ use Rattle.machine_types.specs.declared.effect.Variable.{Variable}
 use Rattle.machine_types.specs.declared.effect.Variable.TheVariants.{Instance, Static}
 use Rattle.machine_types.specs.declared.effect.Effect.{Effect}
 use Rattle.machine_types.specs.declared.effect.Effect.TheVariants.{Reads, Writes}
-use Rattle.machine_types.specs.declared.lock.Kept.{Kept}
-use Rattle.machine_types.specs.declared.lock.Kept.TheVariants as keeps
 use Rattle.machine_types.specs.declared.phase.Phase.{Phase}
 use Rattle.machine_types.specs.declared.phase.Phase.TheVariants as phases
 use Rattle.laws_threads.specs.Allowed.{IsFieldAt, TakenHold, Allowed}
@@ -55,21 +53,12 @@ use Rattle.laws_states.proofs.Places.{same_object}
 use Rattle.laws_states.proofs.EventWords.{IsLeft, word_at}
 use Rattle.laws_states.proofs.LeftStands.{loaded}
 use Rattle.laws_refinement.proofs.FieldRules.{written_by}
+use Rattle.laws_objects.proofs.FieldWriters.{leave_suits_none}
 
 -- the top frame is that of a method of the class
 abbrev pub TopIsOf : Program → (class : ℕ) → List Frame → Type 0
 TopIsOf p class [] = ⊥
 TopIsOf p class (f ∷ fs) = (m : MethodInfo) × (slice_get p.methods f.method ≡ Some m) × (class ≡ m.class)
-
--- a monitor is left at no place
-leave_suits_none : (claimed : Claim) (reference index : ℕ) → Suits (leave_content claimed) (ValueOf reference index) → ⊥
-leave_suits_none (Has h) reference index suits = by_kept h.kept suits
-  where
-    by_kept : (k : Kept) → Suits (leave_content (Has (record h { kept = k }))) (ValueOf reference index) → ⊥
-    by_kept (keeps.Flat count) suits = suits
-    by_kept (keeps.Fat r) suits = suits
-leave_suits_none (Tries a) reference index suits = suits
-leave_suits_none HasNot reference index suits = suits
 
 module _ (differ : SitesDiffer) (c : MarkedProgram) (objects : List Object) (s : Core) (t : ℕ) (x : Thread) (marked : IsMarked c) (heap : HeapFacts c objects s) (there : slice_get s.threads t ≡ Some x)
     (fi : ℕ) (field : FieldInfo) (is : slice_get c.program.fields fi ≡ Some field) (instance : is_static field.flags ≡ false) (o : Object) (here : Contains objects o) (of_class : o.class ≡ field.class) where

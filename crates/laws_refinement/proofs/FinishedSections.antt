@@ -51,6 +51,7 @@ use Rattle.laws_simulation.proofs.HoldingsAlike.{depth_is_held, free_then, put_e
 use Rattle.laws_simulation.proofs.OwnBits.{IsAwake, no_own_bit}
 use Rattle.laws_simulation.proofs.WaitBits.{same_wait_bit}
 use Rattle.laws_simulation.proofs.Moving.{goes_attempt, goes_held, goes_old, goes_part}
+use Rattle.laws_simulation.proofs.Landing.{never_made}
 use Rattle.laws_refinement.specs.ElidedSteps.{FinishesBeside, SectionsFinish, found_of}
 use Rattle.laws_refinement.proofs.DoneSections.{IsDone, is_done, as_noted, event_is}
 use Rattle.laws_refinement.proofs.PartsUnderWay.{part_runs}
@@ -65,9 +66,6 @@ same_behind hs m t inner n free = by_monitor (same_or_not m n)
     by_monitor : (m ≡ n) ⊎ (m ≢ n) → holding_at (holdings_behind hs m t inner) n ≡ holding_at hs n
     by_monitor (inl e) = subst (λ (i : ℕ). holding_at (holdings_behind hs m t inner) i ≡ holding_at hs i) e (without_here m _ ∙ sym free)
     by_monitor (inr d) = without_else n m _ d ∙ put_else n (hold m t (suc inner)) _ d ∙ put_else n (hold m t 1) hs d
-
-never_old : (phase : Phase) (a word : ℕ) → IsOldPhase phase → phase ≡ phases.Made a word → ⊥
-never_old phase a word old e = subst IsOldPhase e old
 
 module _ (differ : SitesDiffer) (c : MarkedProgram) (cfg : Config) (objects : List Object) (was : ℕ → Phase) (s : Core) (t : ℕ) (x : Thread) (a : Attempt) (q : Plain) (marked : IsMarked c) (facts : StateFacts c cfg objects was s)
     (beside : StandsBeside c.program objects s q) (there : slice_get s.threads t ≡ Some x) (tries : x.attempt ≡ Some a) (d : IsDone x a x.phase (found_by s.words (wanted c x x.phase))) where
@@ -158,8 +156,8 @@ module _ (differ : SitesDiffer) (c : MarkedProgram) (cfg : Config) (objects : Li
       bits = λ u m e. refl;
       depths = λ m. ap (depth_for t) (same_behind q.holdings a.monitor t a.inner m free) ∙ depth_is_held q.holdings s.threads beside.agrees.monitors t m x there ∙ ap (λ (hs : List Held). depth_at hs m) (sym (goes_held (elided x) goes.0));
       other_depths = λ u m e. ap (depth_for u) (same_behind q.holdings a.monitor t a.inner m free);
-      old = λ i word e. never_old x.phase i word (not_left x.phase d.leaves) e;
-      new = λ i word e. never_old behind.phase i word (goes_old (elided x) goes.0) e;
+      old = λ i word e. never_made x.phase i word (not_left x.phase d.leaves) e;
+      new = λ i word e. never_made behind.phase i word (goes_old (elided x) goes.0) e;
       part = goes_part (elided x) goes.0;
       rests = λ e. absurd (let bad : phases.Leave a.monitor d.after_it ≡ phases.Ended ends.Returned = sym d.leaves ∙ e in cc);
     })

@@ -1,7 +1,6 @@
 -- A thread inside an attempt goes on as its replay does.
 use Rattle.std.proofs.Common.{◌≡◌, ℕ, ◌<◌, Bool, true, false, cond, List, [], ◌∷◌, ◌++◌, length, Option, Some, None, refl, sym, ap, ◌∙◌, subst, arith}
 use Rattle.std.specs.Prelude.{◌==◌, nat_lt, option_and_then, slice_index}
-use Rattle.std.proofs.lemmas.Bool.Decides.{nat_tests}
 use Rattle.jvm_types.specs.declared.outcome.End.{End}
 use Rattle.jvm_types.specs.declared.outcome.End.TheVariants as ends
 use Rattle.jvm_types.specs.declared.program.Program.{Program}
@@ -20,6 +19,7 @@ use Rattle.machine_types.specs.declared.phase.Phase.TheVariants as phases
 use Rattle.machine_types.specs.declared.plain.Act.{Act}
 use Rattle.laws_threads.specs.EntryFrames.{KeepsEntry}
 use Rattle.laws_states.proofs.PlainMoves.{goes_attempt}
+use Rattle.lists.proofs.TestLaws.{same_number}
 
 -- ---- the same attempt, with so many entries inside
 
@@ -57,9 +57,6 @@ replayed_more p m memory (act ∷ due) acts x y e = by_act (replay_act p m memor
 
 -- ---- how a thread goes on
 
-pub is_same : (n m : ℕ) → n ≡ m → (n == m) ≡ true
-is_same n m e = grind (arith, nat_tests, e)
-
 pub running_now : (b : Bool) (now : Phase) → IsAs (cond b phases.Run (phases.Ending ends.Steps)) now → now ≡ phases.Run
 running_now true now e = e
 running_now false now e = e
@@ -77,7 +74,7 @@ module _ (c : MarkedProgram) (x : Thread) (a : Attempt) (now : Phase) where
 
   module _ (z : Thread) (i : ℕ) (same_roots : z.roots ≡ x.roots) (based : a.base < length x.frames) where
     only_if : (m : ℕ) (o : Onward) → m ≡ a.monitor → cond (m == a.monitor) (Some o) None ≡ Some o
-    only_if m o e = ap (λ (b : Bool). cond b (Some o) None) (is_same m a.monitor e)
+    only_if m o e = ap (λ (b : Bool). cond b (Some o) None) (same_number m a.monitor e)
 
     inside_as : (phase : Phase) → now ≡ phase → IsPhaseInside a.monitor now → IsPhaseInside a.monitor phase
     inside_as phase e k = subst (IsPhaseInside a.monitor) e k

@@ -25,7 +25,7 @@ use Rattle.laws_threads.specs.StateLaws.{counted_after}
 use Rattle.laws_states.specs.FoundLaws.{HeapWordsFit}
 use Rattle.laws_states.specs.HeapFacts.{objects_after, objects_of}
 use Rattle.laws_states.proofs.Lists.{same_or_not}
-use Rattle.laws_simulation.proofs.Assembled.{got_when_set}
+use Rattle.laws_states.proofs.EventFacts.{got_when_set}
 use Rattle.laws_refinement.specs.ElidedSteps.{OwnKeepsAttempt, EventStands, found_of, next_free}
 use Rattle.laws_refinement.proofs.GoingOn.{Grows, Knows, inner_as, replayed_more}
 use Rattle.laws_refinement.proofs.Instructions.{ByFate}
@@ -90,7 +90,7 @@ module _ (fit : HeapWordsFit) (allowed : EffectsAreAllowed) (c : MarkedProgram) 
         ∙ (λ i. Some (let next : Alone = record { thread = record { frames = k.frames i; status = run i; roots = after.roots; ended = ended }; depth = depth i; begun = sym nothing.pending i } in next))
 
     outside_owes : OwesAfter after.attempt d
-    outside_owes = begins_owing after.attempt (outside_moves c x got none x.phase refl)
+    outside_owes = begins_owing after.attempt (outside_moves c x got none x.phase)
 
   -- ---- in one
 

@@ -1,8 +1,6 @@
 -- What is known of a thread inside an attempt: its phase, how it stands to the monitor that it enters or leaves there, and what
 -- the instruction of its top frame may do.
-use Rattle.std.proofs.Common.{◌≡◌, ℕ, ◌<◌, Bool, true, false, cond, List, [], ◌∷◌, length, Option, Some, None, refl, ap, ◌∙◌, subst, arith}
-use Rattle.std.specs.Prelude.{◌==◌}
-use Rattle.std.proofs.lemmas.Bool.Decides.{nat_tests}
+use Rattle.std.proofs.Common.{◌≡◌, ℕ, ◌<◌, Bool, false, cond, List, [], ◌∷◌, length, Option, Some, None, refl, ap, ◌∙◌, subst, arith}
 use Rattle.jvm_types.specs.declared.outcome.End.{End}
 use Rattle.jvm_types.specs.declared.outcome.End.TheVariants as ends
 use Rattle.checked_program.specs.MarkedProgram.{MarkedProgram, IsMarked}
@@ -20,6 +18,7 @@ use Rattle.machine_types.specs.declared.phase.Phase.TheVariants as phases
 use Rattle.laws_threads.proofs.FramePlaces.{has_top}
 use Rattle.laws_threads.specs.InsideEffects.{InsideMayDo, MayDo}
 use Rattle.laws_threads.specs.InsideMoves.{NoElementInside}
+use Rattle.laws_states.proofs.LockViews.{same_there}
 
 -- ---- what is known
 
@@ -46,15 +45,12 @@ pub record Inside (c : MarkedProgram) (x : Thread) (a : Attempt) : Type 0 where
 
 -- ---- its monitor, and its top frame
 
-same_number : (n : ℕ) → (n == n) ≡ true
-same_number n = grind (arith, nat_tests)
-
 tries_it : (x : Thread) (a : Attempt) (n : ℕ) → x.attempt ≡ Some a → held_at x.held a.monitor ≡ None → n ≡ a.monitor → claim x n ≡ Tries a
 tries_it x a n attempt none is =
     ap (λ (k : ℕ). claim x k) is
     ∙ ap (λ (o : Option Held). claim_by a.monitor o x.attempt) none
     ∙ ap (λ (o : Option Attempt). claim_by a.monitor None o) attempt
-    ∙ ap (λ (b : Bool). cond b (Tries a) HasNot) (same_number a.monitor)
+    ∙ ap (λ (b : Bool). cond b (Tries a) HasNot) (same_there a.monitor)
 
 top_there : (c : MarkedProgram) → IsMarked c → (fs : List Frame) (shown : List ℕ) (base : ℕ) → Show c Whole fs shown → base < length fs → (at : Top) × (top_of c.program fs ≡ Some at)
 top_there c marked [] shown base show some = absurd (omega (arith, some))

@@ -26,8 +26,9 @@ use Rattle.laws_threads.specs.InsideMoves.{NoElementInside}
 use Rattle.laws_threads.specs.StateLaws.{counted_after}
 use Rattle.laws_states.specs.HeapFacts.{objects_by, objects_of}
 use Rattle.laws_states.specs.StateLaws.{EventsKeepState}
+use Rattle.laws_states.proofs.EventFacts.{got_when_set}
 use Rattle.laws_simulation.specs.StandsBeside.{StandsBeside, end_of_done, ends_shown, own_end}
-use Rattle.laws_simulation.proofs.Assembled.{got_same_length, got_when_set, moved_beside, set_as_it_is}
+use Rattle.laws_simulation.proofs.Assembled.{got_same_length, moved_beside, set_as_it_is}
 use Rattle.laws_refinement.specs.ElidedSteps.{AttemptsStandBeside, IsNotFinished, found_of}
 use Rattle.laws_refinement.proofs.Inside.{Inside, KnownInside, is_inside}
 use Rattle.laws_refinement.proofs.InsideMoves.{Moves, moves_inside}

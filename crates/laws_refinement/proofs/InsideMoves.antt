@@ -123,7 +123,7 @@ module _ (c : MarkedProgram) (x : Thread) (a : Attempt) (phase : Phase) where
 
 -- ---- all phases
 
-is_some : (n : ℕ) → nat_lt 0 (suc n) ≡ true
+pub is_some : (n : ℕ) → nat_lt 0 (suc n) ≡ true
 is_some n = grind (arith, nat_tests)
 
 module _ (steps : StepsKeepEntry) (throws : ThrowsKeepEntry) (leaves : LeavesKeepEntry) (c : MarkedProgram) (x : Thread) (a : Attempt) (tried : x.attempt ≡ Some a) (based : a.base < length x.frames) (got : ℕ) where

@@ -3,11 +3,11 @@ use Rattle.std.proofs.Common.{◌≡◌, ℕ, ◌+◌, Bool, true, false, cond, 
 use Rattle.checked_program.specs.MarkedProgram.{MarkedProgram}
 use Rattle.machine_types.specs.Core.{Core, event_of, event_by, outcome}
 use Rattle.machine_types.specs.Counting.{CountsFit, extra_of}
-use Rattle.machine_types.specs.Elision.{elided, is_checked, is_same}
+use Rattle.machine_types.specs.Elision.{elided}
 use Rattle.machine_types.specs.Events.{moved, wanted}
 use Rattle.machine_types.specs.Faithful.{PrintsFit}
-use Rattle.machine_types.specs.Frames.{Top, top_of, effect_at}
-use Rattle.machine_types.specs.History.{Fate, GoesOn, Fails, Finishes, Past, acts_of, fate, fate_by, run_fate, past_after, past_by, with_begun}
+use Rattle.machine_types.specs.Frames.{top_of}
+use Rattle.machine_types.specs.History.{Fate, GoesOn, Fails, Finishes, Past, acts_of, fate, fate_by, past_after, past_by, with_begun}
 use Rattle.machine_types.specs.Onward.{after}
 use Rattle.machine_types.specs.Threads.{Attempt, Thread}
 use Rattle.machine_types.specs.declared.phase.Phase.{Phase}
@@ -21,6 +21,7 @@ use Rattle.laws_simulation.proofs.OutcomePrints.{fit_of, prints_of, printed_none
 use Rattle.laws_refinement.specs.ElidedSteps.{AttemptsAreCounted, AttemptsPrintNothing, FinishesAreCounted, IsNotFinished, found_of}
 use Rattle.laws_refinement.proofs.Inside.{is_inside}
 use Rattle.laws_refinement.proofs.InsideMoves.{Moves, moves_inside}
+use Rattle.laws_refinement.proofs.DoneSections.{never_runs}
 
 more_begun : (n : ℕ) (phase : Phase) → with_begun n phase ≡ n + with_begun 0 phase
 more_begun n phases.Run = omega arith
@@ -71,12 +72,8 @@ not_by_check a got true true e = cc
 not_by_check a got true false e = cc
 not_by_check a got false same e = cc
 
-not_by_run : (c : MarkedProgram) (a : Attempt) (o : Option Top) (got : ℕ) → run_fate c a o got ≡ Finishes → ⊥
-not_by_run c a None got e = cc
-not_by_run c a (Some at) got e = not_by_check a got (is_checked at.frame.pc (effect_at c.program at)) (is_same a got) e
-
 at_finish : (c : MarkedProgram) (x : Thread) (a : Attempt) (got : ℕ) (phase : Phase) → fate c x a phase got ≡ Finishes → IsCalm phase × (with_begun x.counts.instructions phase ≡ x.counts.instructions)
-at_finish c x a got phases.Run e = absurd (not_by_run c a (top_of c.program x.frames) got e)
+at_finish c x a got phases.Run e = absurd (never_runs c a (top_of c.program x.frames) got e)
 at_finish c x a got (phases.Element word stored) e = absurd (cc)
 at_finish c x a got (phases.Ending end) e = absurd (cc)
 at_finish c x a got (phases.Ended end) e = absurd (cc)

@@ -1,6 +1,6 @@
 -- Where the lock word of an attempt's monitor is as the attempt noted it after an event of another thread, it was so before; and
 -- where it is so, no thread holds the monitor.
-use Rattle.std.proofs.Common.{◌≡◌, ◌≢◌, ◌⊎◌, inl, inr, ℕ, ◌<◌, ◌≤◌, Bool, true, false, List, Option, Some, None, refl, sym, ap, ◌∙◌, subst, arith}
+use Rattle.std.proofs.Common.{◌≡◌, ◌⊎◌, inl, inr, ℕ, ◌<◌, ◌≤◌, Bool, true, false, List, Option, Some, None, refl, sym, ap, ◌∙◌, subst, arith}
 use Rattle.std.specs.Prelude.{slice_get, slice_index, if◌then◌else◌}
 use Rattle.jvm_types.specs.Numbers.{has_number}
 use Rattle.checked_program.specs.MarkedProgram.{MarkedProgram, IsMarked}
@@ -11,7 +11,7 @@ use Rattle.machine_types.specs.Events.{wanted}
 use Rattle.machine_types.specs.Guards.{HoldsMonitor}
 use Rattle.machine_types.specs.HeldMonitors.{held_at}
 use Rattle.machine_types.specs.LockWords.{word_of_lock, lock_of}
-use Rattle.machine_types.specs.Owners.{Locks, NotHeld, HeldFlat, hold_by_word, hold_by_kept, hold_by_list, IsSeen, AttemptSawIn, IsKeptCount, IsKeptIn, lock_at, locks_in, references_of}
+use Rattle.machine_types.specs.Owners.{Locks, NotHeld, HeldFlat, hold_by_word, hold_by_kept, hold_by_list, AttemptSawIn, IsKeptCount, IsKeptIn, lock_at, locks_in, references_of}
 use Rattle.machine_types.specs.PlainMemory.{Object}
 use Rattle.machine_types.specs.Structure.{IsFlat, IsStructured, Stands}
 use Rattle.machine_types.specs.Threads.{Attempt, Thread}
@@ -30,13 +30,8 @@ use Rattle.laws_states.proofs.EventWords.{IsLeft, word_at}
 use Rattle.laws_states.specs.StateFacts.{StateFacts}
 use Rattle.laws_states.proofs.LockViews.{not_held, thin_if_flat}
 use Rattle.laws_states.proofs.WordViews.{lock_of_word}
+use Rattle.laws_states.proofs.LockWritten.{thin_seen}
 use Rattle.laws_refinement.proofs.FreeLocks.{phase_leaves}
-
-thin_seen : (l : LockWord) (seen count : ℕ) → ((r : ℕ) → l ≢ locks.Fat r) → IsSeen l seen count → seen ≤ count
-thin_seen (locks.Free c) seen count thin h = h
-thin_seen (locks.Held u) seen count thin h = h
-thin_seen (locks.Flagged u) seen count thin h = h
-thin_seen (locks.Fat r) seen count thin h = absurd (thin r refl)
 
 -- ---- nobody holds a free lock
 

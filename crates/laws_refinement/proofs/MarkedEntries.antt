@@ -2,6 +2,7 @@
 use Rattle.std.proofs.Common.{◌≡◌, ℕ, zero, suc, ◌<◌, Bool, true, false, cond, List, [], ◌∷◌, length, refl, sym, ap, ◌∙◌, subst, arith}
 use Rattle.std.specs.Prelude.{◌==◌, ◌&&◌, Contains, slice_index_or}
 use Rattle.std.specs.List.{AllZip}
+use Rattle.std.proofs.lemmas.Bool.Decides.{Decides-eqb}
 use Rattle.lists.proofs.TestLaws.{both_true, both_are_true, same_number}
 use Rattle.jvm_types.specs.declared.program.Program.{Program}
 use Rattle.checked_program.specs.MarkedProgram.{MarkedProgram, IsMarked}
@@ -16,7 +17,6 @@ use Rattle.machine_types.specs.Elision.{enters_marked}
 use Rattle.machine_types.specs.Sections.{entered_at, is_same_spot, is_marked}
 use Rattle.machine_types.specs.Standing.{tags_of}
 use Rattle.machine_types.specs.Threads.{Frame}
-use Rattle.laws_simulation.proofs.HoldingsAlike.{are_same}
 use Rattle.laws_refinement.specs.EntryLaws.{BeginsBehind, IsAtMarked}
 
 -- ---- a spot and the pc at which its section begins
@@ -25,7 +25,7 @@ begins_behind : (spot : Spot) (pc : ℕ) → is_same_spot spot (entered_at pc) �
 begins_behind Method zero e = refl
 begins_behind Method (suc pc) e = absurd (let bad : false ≡ true = e in cc)
 begins_behind (Block enter) zero e = absurd (let bad : false ≡ true = e in cc)
-begins_behind (Block enter) (suc pc) e = let same : enter ≡ pc = are_same enter pc e in omega (arith, same)
+begins_behind (Block enter) (suc pc) e = let same : enter ≡ pc = (Decides-eqb enter pc).0 e in omega (arith, same)
 
 is_entered : (spot : Spot) (pc : ℕ) → BeginsBehind spot pc → spot ≡ entered_at pc
 is_entered Method zero k = refl
@@ -56,7 +56,7 @@ module _ (method pc : ℕ) where
           → (is_marked ms method (entered_at pc) ≡ true → Found ms) → Found (m ∷ ms)
       by_test true same e more =
           let both = both_are_true (m.method == method) (is_same_spot m.spot (entered_at pc)) same in
-          record { mark = m; there = (0, omega arith, refl); of_method = are_same m.method method both.0; spot = begins_behind m.spot pc both.1; none = are_same m.mark 0 e }
+          record { mark = m; there = (0, omega arith, refl); of_method = (Decides-eqb m.method method).0 both.0; spot = begins_behind m.spot pc both.1; none = (Decides-eqb m.mark 0).0 e }
       by_test false same e more =
           let k = more e in
           record { mark = k.mark; there = (suc k.there.0, omega (arith, k.there.1), k.there.2); of_method = k.of_method; spot = k.spot; none = k.none }
@@ -108,7 +108,7 @@ module _ (p : Program) (tags : Tagged) (uses : List FieldUse) (method pc : ℕ) 
         by_test true same k below e more =
             let both = both_are_true (m.method == method) (is_same_spot m.spot (entered_at pc)) same in
             let spot_is : m.spot ≡ entered_at pc = is_entered m.spot pc (begins_behind m.spot pc both.1) in
-            same_number m.mark 0 (is_zero free m.mark (mark_here s m all.0 (are_same m.method method both.0) spot_is))
+            same_number m.mark 0 (is_zero free m.mark (mark_here s m all.0 ((Decides-eqb m.method method).0 both.0) spot_is))
         by_test false same zero below e more =
             let bad : true ≡ false = sym same_section ∙ ap (λ (x : SectionMark). (x.method == method) && is_same_spot x.spot (entered_at pc)) (sym e) ∙ same in absurd (cc)
         by_test false same (suc k) below e more = more k (omega (arith, below)) e

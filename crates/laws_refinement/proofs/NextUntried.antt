@@ -1,5 +1,5 @@
 -- Where a part of the run may begin, no thread is in an attempt.
-use Rattle.std.proofs.Common.{◌≡◌, ℕ, zero, suc, Bool, true, false, cond, List, [], ◌∷◌, length, Option, Some, None, refl, ap, subst, arith}
+use Rattle.std.proofs.Common.{◌≡◌, ℕ, zero, suc, Bool, true, false, cond, List, [], ◌∷◌, Some, None, refl, ap, subst}
 use Rattle.std.specs.Prelude.{slice_get}
 use Rattle.std.specs.List.{AllByRecursion, list_all}
 use Rattle.lists.proofs.ListLaws.{same_some}
@@ -9,27 +9,15 @@ use Rattle.jvm_types.specs.declared.program.Program.{Program}
 use Rattle.checked_program.specs.MarkedProgram.{MarkedProgram}
 use Rattle.machine_types.specs.Core.{ended_by, may_begin_by, may_begin, part_begins, next_threads}
 use Rattle.machine_types.specs.Parts.{has_returned, has_finished}
-use Rattle.machine_types.specs.Structure.{IsStructured, IsAs, PhaseShows, AttemptStandsIn, Structure}
-use Rattle.machine_types.specs.Threads.{Attempt, Thread}
+use Rattle.machine_types.specs.Structure.{IsStructured, Structure}
+use Rattle.machine_types.specs.Threads.{Thread}
 use Rattle.machine_types.specs.declared.phase.Phase.{Phase}
 use Rattle.machine_types.specs.declared.phase.Phase.TheVariants as phases
 use Rattle.laws_threads.specs.PartLaws.{PartFits, PartsFit}
 use Rattle.laws_simulation.proofs.PartsDue.{no_attempt}
+use Rattle.laws_simulation.proofs.NextBeside.{idle_attempt}
 
 -- ---- one thread
-
--- it has not begun
-idle_untried : (c : MarkedProgram) (was : Phase) (z : Thread) → z.phase ≡ phases.Idle → IsStructured c was z → z.attempt ≡ None
-idle_untried c was z idle k = by_attempt z.attempt refl
-  where
-    by_attempt : (a : Option Attempt) → z.attempt ≡ a → a ≡ None
-    by_attempt None f = refl
-    by_attempt (Some a) f =
-        let was_is : was ≡ phases.Idle = subst (λ (p : Phase). IsAs p was) idle k.is_as in
-        let stands = k.stands in
-        let frames : z.frames ≡ [] = subst (λ (p : Phase). PhaseShows c p z.frames stands.shown z.held z.attempt) was_is stands.phase_shows in
-        let tried : AttemptStandsIn c was z.frames z.held (Some a) = subst (λ (o : Option Attempt). AttemptStandsIn c was z.frames z.held o) f k.attempt in
-        absurd (omega (arith, tried.based, ap (λ fs. length fs) frames))
 
 -- it has ended by itself
 ended_untried : (c : MarkedProgram) (was : Phase) (z : Thread) (phase : Phase) → z.phase ≡ phase → ended_by has_finished phase ≡ true → IsStructured c was z → z.attempt ≡ None
@@ -55,7 +43,7 @@ one_finished (y ∷ workers) (suc u) z all e = one_finished workers u z (both_ar
 module _ (c : MarkedProgram) (was : ℕ → Phase) (x : Thread) (workers : List Thread) (structure : Structure c was (x ∷ workers)) where
   by_part : (part : ℕ) → may_begin_by part x.phase workers ≡ true → PartFits part x.phase workers → (t : ℕ) (z : Thread) → slice_get (x ∷ workers) t ≡ Some z → z.attempt ≡ None
   by_part zero may fits zero z e = subst (λ (w : Thread). w.attempt ≡ None) (same_some e) (ended_untried c (was 0) x x.phase refl (returned_finished x.phase may) (structure 0 x refl))
-  by_part zero may fits (suc u) z e = idle_untried c (was (suc u)) z (one_idle workers u z fits e) (structure (suc u) z e)
+  by_part zero may fits (suc u) z e = idle_attempt c (was (suc u)) z (one_idle workers u z fits e) (structure (suc u) z e)
   by_part (suc zero) may fits zero z e = subst (λ (w : Thread). w.attempt ≡ None) (same_some e) (no_attempt c (was 0) x ends.Returned refl fits (structure 0 x refl))
   by_part (suc zero) may fits (suc u) z e = ended_untried c (was (suc u)) z z.phase refl (one_finished workers u z may e) (structure (suc u) z e)
   by_part (suc (suc part)) may fits t z e = absurd (cc)

@@ -1,38 +1,27 @@
 -- What an event outside an attempt leaves: the thread in no attempt, and at an entry only where an instruction brings it to a new
 -- one; or in the attempt that it begins at the entry where it is. No attempt has failed by it.
-use Rattle.std.proofs.Common.{◌≡◌, ℕ, ◌+◌, nat_lt, nat_le, Bool, true, false, cond, drop, List, [], ◌∷◌, Option, Some, None, refl, sym, subst}
-use Rattle.std.specs.Prelude.{◌==◌, ◌&&◌, option_map, slice_get, if◌then◌else◌}
-use Rattle.lists.proofs.TestLaws.{both_are_true}
-use Rattle.jvm_types.specs.Numbers.{has_flag}
-use Rattle.jvm_types.specs.declared.fixed_words.TheConstants.{MONITOR_RECORDS}
-use Rattle.jvm_types.specs.declared.limits.TheConstants.{FLAG_FROM, MOST_ATTEMPTS}
+use Rattle.std.proofs.Common.{◌≡◌, ℕ, ◌+◌, nat_lt, Bool, true, false, cond, drop, List, [], ◌∷◌, Option, Some, None, refl, sym, subst, ◌∙◌}
+use Rattle.std.specs.Prelude.{option_map, slice_get, if◌then◌else◌}
 use Rattle.jvm_types.specs.declared.outcome.End.TheVariants as ends
 use Rattle.jvm_types.specs.declared.outcome.Thrown.{Thrown}
-use Rattle.jvm_types.specs.declared.outcome.Thrown.TheVariants.{ArrayIndexOutOfBoundsException, OutOfMemoryError, IllegalMonitorStateException, StackOverflowError}
+use Rattle.jvm_types.specs.declared.outcome.Thrown.TheVariants.{StackOverflowError}
 use Rattle.jvm_types.specs.declared.program.MethodInfo.{MethodInfo}
 use Rattle.jvm_types.specs.declared.program.Row.{Row}
 use Rattle.jvm_types.specs.Members.{is_synchronized}
 use Rattle.jvm_types.specs.declared.program.Program.{Program}
 use Rattle.checked_program.specs.MarkedProgram.{MarkedProgram}
-use Rattle.machine_types.specs.Elision.{begins, tries, if_same, is_checked, may_try, enters_marked}
-use Rattle.machine_types.specs.Events.{started, moved, element_made}
-use Rattle.machine_types.specs.Frames.{Top, frames_of, top_of, effect_at, pushed, went_on, has_room, entry_frame, monitor_of, returned, handler_at}
-use Rattle.machine_types.specs.Going.{with_phase, runs, failed_turn, goes_on, goes_on_if, goes_after, root_over}
-use Rattle.machine_types.specs.HeldMonitors.{held_at, with_held, without_held, shallower}
-use Rattle.machine_types.specs.Instructions.{has_print_left, begun, printed, if_held, waits, notifies, did, ran}
-use Rattle.machine_types.specs.Ints.{low}
-use Rattle.machine_types.specs.LockWords.{word_of_lock, lock_of}
-use Rattle.machine_types.specs.Monitors.{claim_by, acquires, enter_moves, takes, released, leave_moves, lets_go, grows_not, fattens, goes_to_wait, retakes, bit_of, lowest_of}
-use Rattle.machine_types.specs.Onward.{Onward, Running, Throwing, Entering, Leaving, RootReturned, Uncaught, threw, done, root_arguments, rooted, back, unwound, handed, dispatched, after}
+use Rattle.machine_types.specs.Elision.{may_try}
+use Rattle.machine_types.specs.Events.{moved}
+use Rattle.machine_types.specs.Frames.{Top, frames_of, top_of, went_on, has_room, entry_frame, monitor_of, returned, handler_at}
+use Rattle.machine_types.specs.Going.{with_phase, runs, failed_turn, goes_on, goes_on_if, goes_after}
+use Rattle.machine_types.specs.HeldMonitors.{held_at, with_held, without_held, shallower, deeper}
+use Rattle.machine_types.specs.Instructions.{printed}
+use Rattle.machine_types.specs.LockWords.{lock_of}
+use Rattle.machine_types.specs.Monitors.{takes, retakes, Tries, claim, grown}
+use Rattle.machine_types.specs.Onward.{Onward, Running, Throwing, Entering, Leaving, RootReturned, Uncaught, root_arguments, rooted, back, unwound, handed, after}
 use Rattle.machine_types.specs.ReadyObjects.{class_of}
 use Rattle.machine_types.specs.Threads.{Frame, Attempt, Thread}
-use Rattle.machine_types.specs.Words.{header_length}
-use Rattle.machine_types.specs.declared.effect.Effect.{Effect}
-use Rattle.machine_types.specs.declared.effect.Effect.TheVariants.{Indexes, Makes, Prints, Waits, Notifies, NotifiesAll}
-use Rattle.machine_types.specs.declared.lock.Held.{Held}
 use Rattle.machine_types.specs.declared.lock.Kept.{Kept}
-use Rattle.machine_types.specs.declared.lock.Kept.TheVariants as keeps
-use Rattle.machine_types.specs.declared.lock.LockWord.{LockWord}
 use Rattle.machine_types.specs.declared.lock.LockWord.TheVariants as locks
 use Rattle.machine_types.specs.declared.phase.After.{After}
 use Rattle.machine_types.specs.declared.phase.After.TheVariants as afters
@@ -40,6 +29,8 @@ use Rattle.machine_types.specs.declared.phase.Phase.{Phase}
 use Rattle.machine_types.specs.declared.phase.Phase.TheVariants as phases
 use Rattle.machine_types.specs.declared.phase.Toward.{Toward}
 use Rattle.machine_types.specs.declared.phase.Toward.TheVariants as towards
+use Rattle.laws_threads.proofs.ThreadMove.{Lacks, GoesBy, LeadsTo, TurnsTo, GivesUp, Asks, WaitsFrom, Move, becomes, tried_attempt, counting, any_move, runs_to, turns_to, over_to, same_onward}
+use Rattle.laws_threads.proofs.ThreadMove as moves
 
 -- a thread is to enter a monitor
 abbrev pub is_entering : Phase → Bool
@@ -100,13 +91,6 @@ module _ (was : Phase) where
       by_flag true = tt
       by_flag false = unwound_comes x class at.below
 
-  dispatched_comes : (p : Program) (x : ℕ) (class : Thrown) (fs : List Frame) → MayCome was (dispatched p x class fs)
-  dispatched_comes p x class fs = by_top (top_of p fs)
-    where
-      by_top : (top : Option Top) → MayCome was (option_map (λ at. handed x class at (handler_at (class_of class) at)) top)
-      by_top None = tt
-      by_top (Some at) = handed_comes x class at (handler_at (class_of class) at)
-
   after_comes : (p : Program) (fs : List Frame) (a : After) → MayCome was (after p fs a)
   after_comes p fs afters.Next = tt
   after_comes p fs afters.Return = by_top (top_of p fs)
@@ -124,233 +108,112 @@ module _ (was : Phase) where
       by_room true = tt
       by_room false = tt
 
-  element_comes : (p : Program) (made : ℕ) (top : Option Top) → MayCome was (option_map (λ at. Running (went_on p at made)) top)
-  element_comes p made None = tt
-  element_comes p made (Some at) = tt
+-- ---- by its move
 
--- ---- a thread stays outside
+goes_come : (p : Program) (s : Thread) (got : ℕ) (was : Phase) (o : Onward) → GoesBy p s got was o → MayCome was (Some o)
+goes_come p s got _ o (moves.by_effect at e _ found is silent d) = from_run phases.Run refl (Some o)
+goes_come p s got _ _ (moves.by_machine at class found) = tt
+goes_come p s got _ _ (moves.by_nobody at m count h found there l) = tt
+goes_come p s got _ _ (moves.by_element word stored at found) = tt
+goes_come p s got _ _ (moves.by_object a word) = tt
+goes_come p s got _ _ (moves.by_handler z class at found) = handed_comes _ z class at (handler_at (class_of class) at)
+goes_come p s got _ _ (moves.by_none m r t) = tt
+goes_come p s got _ _ (moves.by_one m r u) = tt
+goes_come p s got _ _ (moves.by_all m r) = tt
 
--- in no attempt, and so many have failed
-abbrev IsOut : (failed : ℕ) → Thread → Type 0
-IsOut failed s = (s.attempt ≡ None) × (s.counts.failed ≡ failed)
+lacks_new : (c : MarkedProgram) (s : Thread) (got : ℕ) (was : Phase) → Lacks c s got was → ComesNew was was
+lacks_new c s got _ moves.idle = tt
+lacks_new c s got was k = tt
 
-record StaysOut (was : Phase) (failed : ℕ) (y : Thread) : Type 0 where
-  out : IsOut failed y
-  new : ComesNew was y.phase
+leads_new : (p : Program) (s : Thread) (got : ℕ) (was now : Phase) → LeadsTo p s got was now → ComesNew was now
+leads_new p s got _ _ (moves.to_acquire m tried) = tt
+leads_new p s got was now k = tt
 
-module _ (was : Phase) (n : ℕ) where
-  abbrev Out : Thread → Type 0
-  Out y = StaysOut was n y
+turns_new : (s : Thread) (got : ℕ) (was now : Phase) → TurnsTo s got was now → ComesNew was now
+turns_new s got was _ (moves.looks_again m k) = tt
+turns_new s got was now k = tt
 
-  either : (b : Bool) (x y : Thread) → Out x → Out y → Out (if b then x else y)
-  either true x y h k = h
-  either false x y h k = k
+gives_up_new : (s : Thread) (m : ℕ) (a : After) (was : Phase) → GivesUp s m a was → ComesNew was was
+gives_up_new s m a _ (moves.on_leave h e t) = tt
+gives_up_new s m a _ moves.flat_out = tt
 
-  runs_new : (b : Bool) → ComesNew was (cond b phases.Run (phases.Ending ends.Steps))
-  runs_new true = tt
-  runs_new false = tt
+waits_new : (m : ℕ) (kept : Kept) (now : Phase) → WaitsFrom m kept now → ComesNew phases.Run now
+waits_new m _ _ (moves.grows_first count) = tt
+waits_new m _ _ (moves.waits_fat r) = tt
 
-  turn_new : (b : Bool) (phase : Phase) → ComesNew was phase → ComesNew was (cond b phase (phases.Ending ends.Turns))
-  turn_new true phase k = k
-  turn_new false phase k = tt
+asks_new : (m : ℕ) (kept : Kept) (now : Phase) → Asks m kept now → ComesNew phases.Run now
+asks_new m _ _ (moves.looks_who r) = tt
+asks_new m _ _ (moves.clears_all r) = tt
 
-  over_new : (roots : List ℕ) → ComesNew was (root_over roots)
-  over_new [] = tt
-  over_new (number ∷ roots) = tt
+grown_new : (was : Phase) (m r : ℕ) (toward : Toward) → ComesNew was (grown m r toward)
+grown_new was m r (towards.Leave a) = tt
+grown_new was m r towards.Wait = tt
 
-  running : (s : Thread) → IsOut n s → Out (runs s)
-  running s e = record { out = e; new = runs_new (nat_lt s.counts.instructions s.cfg.steps) }
-
-  turned : (s : Thread) (phase : Phase) → IsOut n s → ComesNew was phase → Out (failed_turn s phase)
-  turned s phase e k = record { out = e; new = turn_new (nat_lt (s.turns + 1) s.cfg.turns) phase k }
-
-  goes : (s : Thread) (o : Onward) → MayCome was (Some o) → IsOut n s → Out (goes_on s o)
-  goes s (Running frames) may e = record { out = e; new = runs_new (nat_lt s.counts.instructions s.cfg.steps) }
-  goes s (Throwing x class frames) may e = record { out = e; new = tt }
-  goes s (Entering m frames) may e = record { out = e; new = (may, refl) }
-  goes s (Leaving m a frames) may e = record { out = e; new = tt }
-  goes s RootReturned may e = record { out = e; new = over_new s.roots }
-  goes s (Uncaught class) may e = record { out = e; new = tt }
-
-  goes_if : (s : Thread) (o : Option Onward) → MayCome was o → Out s → Out (goes_on_if s o)
-  goes_if s None may k = k
-  goes_if s (Some o) may k = goes s o may k.out
-
-  -- ---- instructions
-
-  held_or : (s : Thread) (at : Top) (h : Option Held) (more : Kept → Thread) → IsOut n s → ((k : Kept) → Out (more k)) → Out (if_held s at h more)
-  held_or s at None more e k = goes s (threw IllegalMonitorStateException at) tt e
-  held_or s at (Some h) more e k = k h.kept
-
-  waited : (s : Thread) (m : ℕ) (kept : Kept) → IsOut n s → Out (waits s m kept)
-  waited s m (keeps.Flat n) e = record { out = e; new = tt }
-  waited s m (keeps.Fat r) e = record { out = e; new = tt }
-
-  notified : (s : Thread) (phase : ℕ → Phase) (kept : Kept) → ((r : ℕ) → ComesNew was (phase r)) → IsOut n s → Out (notifies s phase kept)
-  notified s phase (keeps.Flat n) k e = running s e
-  notified s phase (keeps.Fat r) k e = record { out = e; new = k r }
-
-  checked : (s : Thread) (a : Option Attempt) (got : ℕ) (y : Thread) → a ≡ None → Out y → Out (if_same s a got y)
-  checked s None got y e k = k
-  checked s (Some a) got y e k = absurd (cc)
-
-  module _ (is_run : was ≡ phases.Run) where
-    instruction : (p : Program) (s : Thread) (at : Top) (e : Effect) (got : ℕ) → Out s → Out (did p s at e got)
-    instruction p s at (Indexes array index stored) got k = either (nat_lt (low index) (header_length got)) _ _ (record { out = k.out; new = tt }) (goes s (threw ArrayIndexOutOfBoundsException at) tt k.out)
-    instruction p s at (Makes word size) got k = either (nat_le (got + size) p.heap) _ _ (record { out = k.out; new = tt }) (goes s (threw OutOfMemoryError at) tt k.out)
-    instruction p s at (Prints n) got k = either (has_print_left s) _ _ (goes (printed s got n) (Running (went_on p at 0)) tt k.out) (record { out = k.out; new = tt })
-    instruction p s at (Waits m) got k = held_or s at (held_at s.held m) (waits (record s { frames = went_on p at 0 }) m) k.out (λ kept. waited (record s { frames = went_on p at 0 }) m kept k.out)
-    instruction p s at (Notifies m) got k = held_or s at (held_at s.held m) (notifies (record s { frames = went_on p at 0 }) (phases.NotifyLook m)) k.out (λ kept. notified (record s { frames = went_on p at 0 }) (phases.NotifyLook m) kept (λ r. tt) k.out)
-    instruction p s at (NotifiesAll m) got k = held_or s at (held_at s.held m) (notifies (record s { frames = went_on p at 0 }) (phases.NotifyAll m)) k.out (λ kept. notified (record s { frames = went_on p at 0 }) (phases.NotifyAll m) kept (λ r. tt) k.out)
-    instruction p s at e got k = goes_if s (done p at e got) (from_run was is_run (done p at e got)) k
-
-    run : (p : Program) (s : Thread) (top : Option Top) (got : ℕ) → Out s → Out (ran p s top got)
-    run p s None got k = k
-    run p s (Some at) got k =
-        let on : Out (did p (begun s) at (effect_at p at) got) = instruction p (begun s) at (effect_at p at) got (record { out = k.out; new = k.new }) in
-        either (is_checked at.frame.pc (effect_at p at)) _ _ (checked (begun s) s.attempt got _ k.out.0 on) on
-
--- ---- by its phase
+goes_new : (was : Phase) (s : Thread) (o : Onward) → MayCome was (Some o) → ComesNew was (goes_on s o).phase
+goes_new was s (Running frames) may = runs_to (ComesNew was) s tt tt
+goes_new was s (Throwing z class frames) may = tt
+goes_new was s (Entering m frames) may = (may, refl)
+goes_new was s (Leaving m a frames) may = tt
+goes_new was s RootReturned may = over_to (ComesNew was) s.roots (λ e. tt) (λ number rest e. tt)
+goes_new was s (Uncaught class) may = tt
 
 module _ (c : MarkedProgram) (x : Thread) (got : ℕ) (none : x.attempt ≡ None) where
   abbrev Moves : Thread → Type 0
   Moves y = MovesTo c x y got y.attempt
 
-  abbrev Stays : Thread → Type 0
-  Stays y = StaysOut x.phase x.counts.failed y
+  -- it stays in no attempt
+  out : (was : Phase) → x.phase ≡ was → (y : Thread) → y.attempt ≡ None → y.counts.failed ≡ x.counts.failed → ComesNew was y.phase → Moves y
+  out was here y e f k = subst (MovesTo c x y got) (sym e) (subst (λ (w : Phase). ComesNew w y.phase) (sym here) k, f)
 
-  is_out : IsOut x.counts.failed x
-  is_out = (none, refl)
+  on : (was : Phase) → x.phase ≡ was → (s : Thread) (o : Onward) → s.attempt ≡ None → s.counts.failed ≡ x.counts.failed → MayCome was (Some o) → Moves (goes_on s o)
+  on was here s o e f may = out was here (goes_on s o) (same_onward (λ (s : Thread). s.attempt) (λ s frames phase turns. refl) s (Some o) ∙ e)
+      (same_onward (λ (s : Thread). s.counts.failed) (λ s frames phase turns. refl) s (Some o) ∙ f) (goes_new was s o may)
 
-  out : (y : Thread) → Stays y → Moves y
-  out y k = subst (MovesTo c x y got) (sym k.out.0) (k.new, k.out.1)
+  on_if : (was : Phase) → x.phase ≡ was → (s : Thread) (o : Option Onward) → s.attempt ≡ None → s.counts.failed ≡ x.counts.failed → MayCome was o → ComesNew was s.phase → Moves (goes_on_if s o)
+  on_if was here s None e f may k = out was here s e f k
+  on_if was here s (Some o) e f may k = on was here s o e f may
 
-  at_phase : (phase : Phase) → ComesNew x.phase phase → Stays (with_phase x phase)
-  at_phase phase k = record { out = is_out; new = k }
+  left : (was : Phase) → x.phase ≡ was → ComesNew was was → (s : Thread) (a : After) → s.attempt ≡ None → s.counts.failed ≡ x.counts.failed → s.phase ≡ x.phase → Moves (goes_after c.program s a)
+  left was here k s a e f same = on_if was here s (after c.program s.frames a) e f (after_comes was c.program s.frames a) (subst (ComesNew was) (sym (same ∙ here)) k)
 
-  on_run : ComesNew x.phase (runs x).phase
-  on_run = runs_new x.phase x.counts.failed (nat_lt x.counts.instructions x.cfg.steps)
+  runs_on : (was : Phase) → x.phase ≡ was → (s : Thread) → s.attempt ≡ None → s.counts.failed ≡ x.counts.failed → Moves (runs s)
+  runs_on was here s e f = out was here (runs s) e f (runs_to (ComesNew was) s tt tt)
 
-  choice : (b : Bool) (y z : Thread) → Stays y → Stays z → Stays (if b then y else z)
-  choice = either x.phase x.counts.failed
+  no_claim : {P : Type 0} (m : ℕ) (t : Attempt) → claim x m ≡ Tries t → P
+  no_claim m t e = let bad : Some t ≡ None = sym (tried_attempt m (held_at x.held m) x.attempt t e) ∙ none in absurd (cc)
 
-  turn : (phase : Phase) → ComesNew x.phase phase → Stays (failed_turn x phase)
-  turn phase k = turned x.phase x.counts.failed x phase is_out k
-
-  on_if : (z : Thread) (o : Option Onward) → MayCome x.phase o → Stays z → Stays (goes_on_if z o)
-  on_if = goes_if x.phase x.counts.failed
-
-  acquired : (m : ℕ) (lock : LockWord) → Stays (acquires x m lock)
-  acquired m (locks.Free n) = at_phase (phases.Take m n) tt
-  acquired m (locks.Held u) = turn (if nat_lt (x.turns + 1) FLAG_FROM then phases.Acquire m else phases.Flag m u) (flags (nat_lt (x.turns + 1) FLAG_FROM))
-    where
-      flags : (b : Bool) → ComesNew x.phase (if b then phases.Acquire m else phases.Flag m u)
-      flags true = tt
-      flags false = tt
-  acquired m (locks.Flagged u) = turn (phases.Acquire m) tt
-  acquired m (locks.Fat r) = at_phase (phases.TakeFat m r) tt
-
-  -- an entry of a section that may be tried
-  module _ (m number : ℕ) (enters : x.phase ≡ phases.Enter m number) (may : may_try c x number ≡ true) (not_held : held_at x.held m ≡ None) where
-    is_marked : enters_marked c x.frames ≡ true
-    is_marked = (both_are_true (x.cfg.elide && nat_lt number MOST_ATTEMPTS) (enters_marked c x.frames) may).1
-
-    begun_at : (n : ℕ) (fs : List Frame) → x.frames ≡ fs → lock_of got ≡ locks.Free n → nat_lt n x.cfg.range ≡ true → Moves (begins x fs m n (number + 1))
-    begun_at n [] e free below = let bad : false ≡ true = subst (λ (gs : List Frame). enters_marked c gs ≡ true) e is_marked in absurd (cc)
-    begun_at n (f ∷ fs) e free below = record {
-      tried = number;
-      enters = enters;
-      may = may;
-      not_held = not_held;
-      is_free = free;
-      not_last = below;
-      number = refl;
-      failed = refl;
-    }
-
-    tried : (lock : LockWord) → lock_of got ≡ lock → Moves (tries x m number lock)
-    tried (locks.Free n) e = by_count (nat_lt n x.cfg.range) refl
-      where
-        by_count : (b : Bool) → nat_lt n x.cfg.range ≡ b → Moves (if b then begins x x.frames m n (number + 1) else with_phase x (phases.Acquire m))
-        by_count true below = begun_at n x.frames refl e below
-        by_count false below = out _ (at_phase (phases.Acquire m) tt)
-    tried (locks.Held u) e = out _ (at_phase (phases.Acquire m) tt)
-    tried (locks.Flagged u) e = out _ (at_phase (phases.Acquire m) tt)
-    tried (locks.Fat r) e = out _ (at_phase (phases.Acquire m) tt)
-
-  entered : (m number : ℕ) → x.phase ≡ phases.Enter m number → (may : Bool) → may_try c x number ≡ may → (held : Option Held) → held_at x.held m ≡ held → Moves (enter_moves x m number may (claim_by m held None) got)
-  entered m number e may f (Some h) g = out _ (record { out = is_out; new = on_run })
-  entered m number e true f None g = tried m number e f g (lock_of got) refl
-  entered m number e false f None g = out _ (acquired m (lock_of got))
-
-  -- ---- an exit
-
-  went : (z : Thread) (a : After) → Stays z → Stays (goes_after c.program z a)
-  went z a k = on_if z (after c.program z.frames a) (after_comes x.phase c.program z.frames a) k
-
-  gave_up : (m : ℕ) (a : After) (kept : Kept) → ComesNew x.phase x.phase → Stays (released c.program x m a kept got)
-  gave_up m a (keeps.Flat n) k = choice (got == word_of_lock (locks.Held x.number)) (lets_go c.program x m a) (with_phase x (phases.Grow m (towards.Leave a)))
-      (went (record x { held = without_held m x.held }) a (record { out = is_out; new = k })) (at_phase (phases.Grow m (towards.Leave a)) tt)
-  gave_up m a (keeps.Fat r) k = went (record x { held = without_held m x.held }) a (record { out = is_out; new = k })
-
-  left : (m : ℕ) (a : After) (held : Option Held) → ComesNew x.phase x.phase → Stays (leave_moves c.program x m a (claim_by m held None) got)
-  left m a (Some h) k = choice (nat_lt 1 h.depth) (goes_after c.program (record x { held = with_held (shallower h) x.held }) a) (released c.program x m a h.kept got)
-      (went (record x { held = with_held (shallower h) x.held }) a (record { out = is_out; new = k })) (gave_up m a h.kept k)
-  left m a None k = record { out = is_out; new = k }
-
-  -- ---- a root, a fat lock, and waiting
-
-  started_at : (roots : List ℕ) → ComesNew x.phase x.phase → Stays (started c.program x roots)
-  started_at [] k = record { out = is_out; new = k }
-  started_at (number ∷ roots) k = on_if (record x { roots = roots }) (option_map (rooted c.program x.number number) (slice_get c.program.methods number))
-      (rooted_comes x.phase c.program x.number number (slice_get c.program.methods number)) (record { out = is_out; new = k })
-
-  not_grown : (m : ℕ) (toward : Toward) → Stays (grows_not x m toward)
-  not_grown m (towards.Leave a) = at_phase (phases.FlatOut m a) tt
-  not_grown m towards.Wait = at_phase (phases.Ending ends.Records) tt
-
-  fattened : (m r : ℕ) (toward : Toward) (held : Option Held) → ComesNew x.phase x.phase → Stays (fattens x m r toward held)
-  fattened m r toward None k = record { out = is_out; new = k }
-  fattened m r (towards.Leave a) (Some h) k = record { out = is_out; new = tt }
-  fattened m r towards.Wait (Some h) k = record { out = is_out; new = tt }
-
-  gone_to_wait : (m r : ℕ) (held : Option Held) → ComesNew x.phase x.phase → Stays (goes_to_wait x m r held)
-  gone_to_wait m r None k = record { out = is_out; new = k }
-  gone_to_wait m r (Some h) k = record { out = is_out; new = tt }
-
-  -- ---- all phases
-
-  as_it_is : (phase : Phase) → x.phase ≡ phase → ComesNew x.phase phase → Stays x
-  as_it_is phase e k = record { out = is_out; new = subst (ComesNew x.phase) (sym e) k }
+  move_enters : (n : ℕ) (was : Phase) (k : Move c (counting n x) got was) → x.phase ≡ was → Moves (becomes c (counting n x) got was k)
+  move_enters n was (moves.stays k) e = out was e (counting n x) none refl (subst (ComesNew was) (sym e) (lacks_new c (counting n x) got was k))
+  move_enters n was (moves.goes o k) e = on was e (counting n x) o none refl (goes_come c.program (counting n x) got was o k)
+  move_enters n was (moves.fails_in t f d k) e = let bad : Some t ≡ None = sym f ∙ none in absurd (cc)
+  move_enters n was (moves.leads now k) e = out was e (with_phase (counting n x) now) none refl (leads_new c.program (counting n x) got was now k)
+  move_enters n was (moves.turns now k) e = out was e (failed_turn (counting n x) now) none refl (turns_to (ComesNew was) (counting n x) now (turns_new (counting n x) got was now k) tt)
+  move_enters n _ (moves.makes at word size f l t) e = out phases.Run e (becomes c (counting n x) got phases.Run (moves.makes at word size f l t)) none refl tt
+  move_enters n _ (moves.prints at i f l t) e = on phases.Run e (printed (counting n x) got i) (Running (went_on c.program at 0)) none refl tt
+  move_enters n _ (moves.asks_to_wait at m h now f l t k) e = out phases.Run e (becomes c (counting n x) got phases.Run (moves.asks_to_wait at m h now f l t k)) none refl (waits_new m h.kept now k)
+  move_enters n _ (moves.asks at m h now f l k) e = out phases.Run e (becomes c (counting n x) got phases.Run (moves.asks at m h now f l k)) none refl (asks_new m h.kept now k)
+  move_enters n _ (moves.enters_again m tried h l) e = runs_on (phases.Enter m tried) e (record (counting n x) { held = with_held (deeper h) x.held }) none refl
+  move_enters n _ (moves.enters_inside m tried t k) e = no_claim m t k
+  move_enters n _ (moves.begins_to_try m tried noted f below l may free last unheld) e = record {
+    tried = tried;
+    enters = e;
+    may = may;
+    not_held = unheld;
+    is_free = free;
+    not_last = last;
+    number = refl;
+    failed = refl;
+  }
+  move_enters n was (moves.takes_lock m kept k) e = out was e (takes (counting n x) m kept) none refl (runs_to (ComesNew was) (counting n x) tt tt)
+  move_enters n was (moves.gives_up m a k) e = left was e (gives_up_new (counting n x) m a was k) (record (counting n x) { held = without_held m x.held }) a none refl refl
+  move_enters n _ (moves.leaves_outer m a h l t) e = left (phases.Leave m a) e tt (record (counting n x) { held = with_held (shallower h) x.held }) a none refl refl
+  move_enters n _ (moves.leaves_inside m a t inner k l) e = no_claim m t k
+  move_enters n _ (moves.finishes_try m a t k l y) e = no_claim m t k
+  move_enters n _ (moves.fattens_lock m r toward h l) e = out (phases.FatIn m r toward) e (becomes c (counting n x) got (phases.FatIn m r toward) (moves.fattens_lock m r toward h l)) none refl (grown_new (phases.FatIn m r toward) m r toward)
+  move_enters n _ (moves.gives_up_to_wait m r h l) e = out (phases.WaitOut m r) e (becomes c (counting n x) got (phases.WaitOut m r) (moves.gives_up_to_wait m r h l)) none refl tt
+  move_enters n _ (moves.retakes_lock m r depth t) e = out (phases.Retake m r depth) e (retakes (counting n x) m r depth) none refl (runs_to (ComesNew (phases.Retake m r depth)) (counting n x) tt tt)
+  move_enters n _ (moves.starts number roots l) e = on_if phases.Start e (record (counting n x) { roots = roots }) (option_map (rooted c.program x.number number) (slice_get c.program.methods number)) none refl
+      (rooted_comes phases.Start c.program x.number number (slice_get c.program.methods number)) (subst (ComesNew phases.Start) (sym e) tt)
 
   pub outside_moves : (phase : Phase) → x.phase ≡ phase → Moves (moved c x phase got)
-  outside_moves phases.Idle e = out _ (as_it_is phases.Idle e tt)
-  outside_moves phases.Start e = out _ (started_at x.roots (subst (ComesNew x.phase) (sym e) tt))
-  outside_moves phases.Run e = out _ (run x.phase x.counts.failed e c.program x (top_of c.program x.frames) got (as_it_is phases.Run e tt))
-  outside_moves (phases.Element word stored) e = out _ (on_if x (option_map (λ at. Running (went_on c.program at (element_made stored got))) (top_of c.program x.frames))
-      (element_comes x.phase c.program (element_made stored got) (top_of c.program x.frames)) (as_it_is (phases.Element word stored) e tt))
-  outside_moves (phases.Made a word) e = out _ (goes x.phase x.counts.failed x (Running (pushed a x.frames)) tt is_out)
-  outside_moves (phases.Throw y class) e = out _ (checked x.phase x.counts.failed x x.attempt got _ none
-      (on_if x (dispatched c.program y class x.frames) (dispatched_comes x.phase c.program y class x.frames) (as_it_is (phases.Throw y class) e tt)))
-  outside_moves (phases.Enter m number) e = subst (λ (a : Option Attempt). Moves (enter_moves x m number (may_try c x number) (claim_by m (held_at x.held m) a) got)) (sym none) (entered m number e (may_try c x number) refl (held_at x.held m) refl)
-  outside_moves (phases.Acquire m) e = out _ (acquired m (lock_of got))
-  outside_moves (phases.Take m count) e = out _ (choice (got == word_of_lock (locks.Free count)) (takes x m (keeps.Flat count)) (failed_turn x (phases.Acquire m))
-      (record { out = is_out; new = on_run }) (turn (phases.Acquire m) tt))
-  outside_moves (phases.Flag m u) e = out _ (at_phase (phases.Acquire m) tt)
-  outside_moves (phases.TakeFat m r) e = out _ (choice (got == 0) (takes x m (keeps.Fat r)) (failed_turn x (phases.TakeFat m r))
-      (record { out = is_out; new = on_run }) (turn (phases.TakeFat m r) tt))
-  outside_moves (phases.Leave m a) e = subst (λ (t : Option Attempt). Moves (leave_moves c.program x m a (claim_by m (held_at x.held m) t) got)) (sym none) (out _ (left m a (held_at x.held m) (subst (ComesNew x.phase) (sym e) tt)))
-  outside_moves (phases.Grow m toward) e = out _ (choice (nat_lt got MONITOR_RECORDS) (with_phase x (phases.Own m got toward)) (grows_not x m toward) (at_phase (phases.Own m got toward) tt) (not_grown m toward))
-  outside_moves (phases.FlatOut m a) e = out _ (went (record x { held = without_held m x.held }) a (record { out = is_out; new = subst (ComesNew x.phase) (sym e) tt }))
-  outside_moves (phases.Own m r toward) e = out _ (at_phase (phases.FatIn m r toward) tt)
-  outside_moves (phases.FatIn m r toward) e = out _ (fattened m r toward (held_at x.held m) (subst (ComesNew x.phase) (sym e) tt))
-  outside_moves (phases.WaitBit m r) e = out _ (at_phase (phases.WaitOut m r) tt)
-  outside_moves (phases.WaitOut m r) e = out _ (gone_to_wait m r (held_at x.held m) (subst (ComesNew x.phase) (sym e) tt))
-  outside_moves (phases.WaitLook m r depth) e = out _ (choice (has_flag (bit_of x.number) got) (failed_turn x (phases.WaitLook m r depth)) (with_phase x (phases.Retake m r depth)) (turn (phases.WaitLook m r depth) tt) (at_phase (phases.Retake m r depth) tt))
-  outside_moves (phases.Retake m r depth) e = out _ (choice (got == 0) (retakes x m r depth) (failed_turn x (phases.Retake m r depth))
-      (record { out = is_out; new = on_run }) (turn (phases.Retake m r depth) tt))
-  outside_moves (phases.NotifyLook m r) e = out _ (choice (got == 0) (runs x) (with_phase x (phases.NotifyOne m r (lowest_of got))) (record { out = is_out; new = on_run }) (at_phase (phases.NotifyOne m r (lowest_of got)) tt))
-  outside_moves (phases.NotifyOne m r u) e = out _ (record { out = is_out; new = on_run })
-  outside_moves (phases.NotifyAll m r) e = out _ (record { out = is_out; new = on_run })
-  outside_moves (phases.Ending reason) e = out _ (at_phase (phases.Ended reason) tt)
-  outside_moves (phases.Ended reason) e = out _ (as_it_is (phases.Ended reason) e tt)
+  outside_moves phase e = any_move Moves c x phase got (λ n k. move_enters n phase k e)

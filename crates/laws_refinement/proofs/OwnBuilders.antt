@@ -1,6 +1,7 @@
 -- The object that an `<init>` of a frozen class is on is built by the thread that runs it.
 use Rattle.std.proofs.Common.{◌≡◌, ℕ, ◌-◌, Bool, true, false, List, [], ◌∷◌, length, Option, Some, None, refl, sym, ap, ◌∙◌, subst}
 use Rattle.std.specs.Prelude.{◌==◌, ◌&&◌, if◌then◌else◌}
+use Rattle.std.proofs.lemmas.Bool.Decides.{Decides-eqb}
 use Rattle.lists.proofs.ListLaws.{same_some}
 use Rattle.jvm_types.specs.CodeTable.{is_init}
 use Rattle.jvm_types.specs.declared.program.MethodInfo.{MethodInfo}
@@ -13,7 +14,6 @@ use Rattle.machine_types.specs.Threads.{Frame, Thread}
 use Rattle.machine_types.specs.Worlds.{Builder, Header, Made, Begun, Lost, World, builder, lost_if, same_builder}
 use Rattle.machine_types.specs.declared.phase.Phase.{Phase}
 use Rattle.machine_types.specs.declared.phase.Phase.TheVariants as phases
-use Rattle.laws_states.proofs.LockViews.{is_there}
 use Rattle.laws_refinement.proofs.FieldWriters.{TopIsOf}
 
 -- the thread builds the object
@@ -34,7 +34,7 @@ made_own : (w : World) (t a r : ℕ) (young : Bool) (b d : Builder) → IsOwn w 
 made_own w t a r true b d new e own = by_test (r == a) refl e
   where
     by_test : (same : Bool) → (r == a) ≡ same → (if same then Some b else lost_if b (w r)) ≡ Some d → IsOwn w t r
-    by_test true f e = subst (IsOwn w t) (sym (is_there r a f)) new
+    by_test true f e = subst (IsOwn w t) (sym ((Decides-eqb r a).0 f)) new
     by_test false f e = lost_own b t (w r) d e own
 made_own w t a r false b d new e own = by_test (r == a) refl e
   where

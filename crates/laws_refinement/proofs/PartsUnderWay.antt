@@ -1,5 +1,5 @@
 -- The part of a thread in an attempt is under way.
-use Rattle.std.proofs.Common.{◌≡◌, ◌≢◌, ◌⊎◌, inl, inr, ℕ, zero, suc, List, [], ◌∷◌, Some, refl, sym, ap, ◌∙◌, subst, arith}
+use Rattle.std.proofs.Common.{◌≡◌, ◌≢◌, ◌⊎◌, inl, inr, ℕ, zero, suc, List, Some, refl, sym, ap, ◌∙◌, subst, arith}
 use Rattle.std.specs.Prelude.{slice_get}
 use Rattle.checked_program.specs.MarkedProgram.{MarkedProgram}
 use Rattle.jvm_types.specs.declared.outcome.End.TheVariants as ends
@@ -11,19 +11,12 @@ use Rattle.machine_types.specs.declared.config.Config.{Config}
 use Rattle.machine_types.specs.declared.phase.After.{After}
 use Rattle.machine_types.specs.declared.phase.Phase.{Phase}
 use Rattle.machine_types.specs.declared.phase.Phase.TheVariants as phases
-use Rattle.laws_threads.specs.PartLaws.{PartFits, PartsFit}
 use Rattle.laws_states.proofs.Lists.{same_or_not}
 use Rattle.laws_states.specs.PartsStand.{DoneRoots}
 use Rattle.laws_states.specs.StateFacts.{StateFacts}
 use Rattle.laws_simulation.specs.StandsBeside.{StandsBeside}
 use Rattle.laws_simulation.proofs.GoingOnAlike.{PartRuns}
-
--- between two parts it would have ended
-rests_between : (threads : List Thread) (x : Thread) → PartsFit threads → slice_get threads 0 ≡ Some x → x.part ≡ 1 → x.phase ≡ phases.Ended ends.Returned
-rests_between [] x fit e f = absurd (cc)
-rests_between (z ∷ workers) x fit e f =
-    let one : z ≡ x = cc in
-    subst (λ (n : ℕ). PartFits n x.phase workers) f (subst (λ (w : Thread). PartFits w.part w.phase workers) one fit)
+use Rattle.laws_simulation.proofs.PartsDue.{rests_between}
 
 module _ (c : MarkedProgram) (cfg : Config) (objects : List Object) (was : ℕ → Phase) (s : Core) (t : ℕ) (x : Thread) (q : Plain) (facts : StateFacts c cfg objects was s) (beside : StandsBeside c.program objects s q)
     (there : slice_get s.threads t ≡ Some x) (m : ℕ) (a : After) (leaves : x.phase ≡ phases.Leave m a) where

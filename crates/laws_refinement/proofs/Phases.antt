@@ -3,6 +3,7 @@
 use Rattle.std.proofs.Common.{◌≡◌, ℕ, zero, suc, ◌+◌, ◌<◌, Bool, true, false, cond, List, [], ◌∷◌, length, Option, Some, None, refl, sym, ap, ◌∙◌, subst, arith}
 use Rattle.std.proofs.lemmas.Bool.Decides.{nat_tests}
 use Rattle.std.specs.Prelude.{nat_lt, drop, slice_get, slice_index, option_map, option_and_then}
+use Rattle.lists.proofs.TestLaws.{same_number}
 use Rattle.jvm_types.specs.declared.fixed_words.TheConstants.{NEXT_FREE_WORD}
 use Rattle.jvm_types.specs.declared.outcome.End.{End}
 use Rattle.jvm_types.specs.declared.outcome.End.TheVariants as ends
@@ -203,7 +204,7 @@ module _ (fit : HeapWordsFit) (allowed : EffectsAreAllowed) (c : MarkedProgram) 
   claims m e =
       ap (λ (h : Option Held). claim_by m h x.attempt) (subst (λ (n : ℕ). held_at x.held n ≡ None) (sym e) attempt_stands.not_held)
       ∙ ap (claim_by m None) tries
-      ∙ ap (λ (b : Bool). cond b (Tries a) HasNot) (going.is_same a.monitor m (sym e))
+      ∙ ap (λ (b : Bool). cond b (Tries a) HasNot) (same_number a.monitor m (sym e))
 
   module _ (m tried : ℕ) (counted : was t ≡ phases.Enter m tried) where
     on_monitor : m ≡ a.monitor
@@ -228,7 +229,7 @@ module _ (fit : HeapWordsFit) (allowed : EffectsAreAllowed) (c : MarkedProgram) 
             let status : plain.Run ≡ status_inside now = ap status_inside (sym run) in
             let depth : suc a.inner + 1 ≡ suc (a.inner + 1) = omega arith in
             ap (λ (phase : Phase). replay_act c.program a.monitor memory (present n ended) acts.Enter (status_inside phase)) counted
-            ∙ ap (λ (b : Bool). cond b (Some (enters (present n ended))) None) (going.is_same m a.monitor on_monitor)
+            ∙ ap (λ (b : Bool). cond b (Some (enters (present n ended))) None) (same_number m a.monitor on_monitor)
             ∙ (λ i. Some (let next : Alone = record { thread = record { frames = x.frames; status = status i; roots = x.roots; ended = ended }; depth = depth i; begun = n } in next))
 
     abbrev EnterBy : Claim → Type 0
@@ -269,7 +270,7 @@ module _ (fit : HeapWordsFit) (allowed : EffectsAreAllowed) (c : MarkedProgram) 
           acted memory begun ended =
               let z : Alone = present begun ended in
               ap (λ (phase : Phase). replay_act c.program a.monitor memory z acts.Exit (status_inside phase)) counted
-              ∙ ap (λ (b : Bool). cond b (leaves c.program z e (suc a.inner)) None) (going.is_same m a.monitor left_monitor)
+              ∙ ap (λ (b : Bool). cond b (leaves c.program z e (suc a.inner)) None) (same_number m a.monitor left_monitor)
               ∙ ap (λ (depth : ℕ). leaves c.program z e (suc depth)) inner
               ∙ ap (goes (record z { depth = suc n })) goes_there.1
               ∙ ap (λ (y : PlainThread). Some (let next : Alone = record { thread = y; depth = suc n; begun = begun } in next)) (alike.thread (status_inside (was t)) ended)

@@ -1,8 +1,7 @@
 -- What an event inside an attempt makes of it: the thread goes on in the same one, or is about to enter again, or goes on behind
 -- the section, and is then at no entry.
-use Rattle.std.proofs.Common.{◌≡◌, ℕ, zero, suc, ◌+◌, nat_lt, Bool, true, false, cond, drop, List, [], ◌∷◌, Option, Some, None, refl, sym, ap, ◌∙◌, subst, arith}
+use Rattle.std.proofs.Common.{◌≡◌, ℕ, zero, suc, ◌+◌, nat_lt, Bool, true, false, cond, drop, List, [], ◌∷◌, Option, Some, None, refl, sym, ap, ◌∙◌, subst}
 use Rattle.std.specs.Prelude.{option_map}
-use Rattle.std.proofs.lemmas.Bool.Decides.{nat_tests}
 use Rattle.jvm_types.specs.declared.outcome.Thrown.{Thrown}
 use Rattle.jvm_types.specs.declared.program.Program.{Program}
 use Rattle.checked_program.specs.MarkedProgram.{MarkedProgram}
@@ -13,7 +12,7 @@ use Rattle.machine_types.specs.Going.{with_phase, goes_on, goes_on_if, goes_afte
 use Rattle.machine_types.specs.History.{Fate, GoesOn, Fails, Finishes, fate, fate_by, run_fate, leave_fate}
 use Rattle.machine_types.specs.Instructions.{begun, did, instructed, ran}
 use Rattle.machine_types.specs.Monitors.{Claim, finishes, enter_moves, leave_moves}
-use Rattle.machine_types.specs.Onward.{Onward, Running, Throwing, Entering, Leaving, RootReturned, Uncaught, back, unwound, dispatched, after, done}
+use Rattle.machine_types.specs.Onward.{Onward, back, unwound, dispatched, after, done}
 use Rattle.machine_types.specs.Threads.{Attempt, Frame, Thread}
 use Rattle.machine_types.specs.declared.effect.Effect.{Effect}
 use Rattle.machine_types.specs.declared.effect.Effect.TheVariants.{Writes, Indexes, Makes, Prints, Waits, Notifies, NotifiesAll}
@@ -22,10 +21,12 @@ use Rattle.machine_types.specs.declared.phase.After.TheVariants as afters
 use Rattle.machine_types.specs.declared.phase.Phase.{Phase}
 use Rattle.machine_types.specs.declared.phase.Phase.TheVariants as phases
 use Rattle.laws_threads.specs.InsideEffects.{MayDo}
+use Rattle.laws_threads.proofs.ThreadMove.{same_onward}
 use Rattle.laws_states.proofs.PlainMoves.{goes_attempt}
 use Rattle.laws_refinement.proofs.Inside.{Inside, KnownInside}
 use Rattle.laws_refinement.specs.EntryLaws.{HasFailed}
 use Rattle.laws_refinement.proofs.OutsideEntries.{is_entering, in_run}
+use Rattle.laws_refinement.proofs.InsideMoves.{is_some}
 
 -- x is the thread before
 abbrev pub HasFate : (x y : Thread) → Attempt → Fate → Type 0
@@ -63,18 +64,9 @@ module _ (s : Thread) where
 -- ---- a thread that goes on counts no failure
 
 goes_failed : (s : Thread) (o : Option Onward) → (goes_on_if s o).counts.failed ≡ s.counts.failed
-goes_failed s None = refl
-goes_failed s (Some (Running frames)) = refl
-goes_failed s (Some (Throwing x class frames)) = refl
-goes_failed s (Some (Entering m frames)) = refl
-goes_failed s (Some (Leaving m a frames)) = refl
-goes_failed s (Some RootReturned) = refl
-goes_failed s (Some (Uncaught class)) = refl
+goes_failed = same_onward (λ (s : Thread). s.counts.failed) (λ s frames phase turns. refl)
 
 -- ---- all phases
-
-is_some : (n : ℕ) → nat_lt 0 (suc n) ≡ true
-is_some n = grind (arith, nat_tests)
 
 module _ (c : MarkedProgram) (x : Thread) (a : Attempt) (tries : x.attempt ≡ Some a) (got : ℕ) where
   same : (y : Thread) → y.attempt ≡ x.attempt → y.counts.failed ≡ x.counts.failed → HasFate x y a GoesOn
