@@ -32,7 +32,8 @@ use Rattle.laws_states.specs.RunFacts.{HaveWidth}
 use Rattle.laws_objects.specs.UnfinishedObjects.{ReturnsFrom, NeverReturns, NoOtherHas, FinishedByOwnReturn}
 use Rattle.laws_objects.proofs.BuiltRuns.{TellsClass, tells_class, AreBuiltLaws, BuiltThere, LostThere, BuiltIn, event_there, next_there, event_lost, next_lost, nobody_has, reached, lost_behind, core_more, objects_more}
 use Rattle.laws_objects.proofs.FrameChanges.{frame_at, under, top_here, in_place, TriesGo, IsUnwound, FramesGo, frames_go}
-use Rattle.laws_objects.proofs.UnreturnedInits.{IsYoung, HasInit, init_stays, init_splits, Splits, HasBack, IsInside, world_begun, put_back_low, Based, based_of, has_back_on, back_frames, away_frames}
+use Rattle.laws_objects.proofs.ThreadMoves.{BasedIn}
+use Rattle.laws_objects.proofs.UnreturnedInits.{IsYoung, HasInit, init_stays, init_splits, Splits, HasBack, IsInside, world_begun, put_back_low, based_of, has_back_on, back_frames, away_frames}
 use Rattle.laws_objects.proofs.Unused.{others_strange, uses_not, places_have_not}
 use Rattle.laws_objects.proofs.WorldChanges.{same_from, other_from}
 
@@ -62,10 +63,10 @@ module _ (c : MarkedProgram) (marked : IsMarked c) (frozen : ℕ → Bool) (w : 
     pub is : IsYoung c frozen v unwound_by.frame
     pub high : length unwound_by.below ≡ h
 
-  inside_behind : (y : Thread) → Based x.attempt x.frames → Based y.attempt y.frames → TriesGo x.attempt y.attempt x.frames y.frames → HasInit c frozen h v y.frames → IsInside c frozen h v y
+  inside_behind : (y : Thread) → BasedIn x.attempt x.frames → BasedIn y.attempt y.frames → TriesGo x.attempt y.attempt x.frames y.frames → HasInit c frozen h v y.frames → IsInside c frozen h v y
   inside_behind y low high tries k = record { now = k; goes_back = has_back_on c frozen h v x.attempt y.attempt x.frames y.frames tries low high inside.now inside.goes_back }
 
-  left : (y : Thread) (u : IsUnwound was x y) → Based y.attempt y.frames → length u.below ≡ h → IsYoung c frozen v u.frame → HasLeft y
+  left : (y : Thread) (u : IsUnwound was x y) → BasedIn y.attempt y.frames → length u.below ≡ h → IsYoung c frozen v u.frame → HasLeft y
   left y u high e is = record { unwound_by = u; ended = by_attempts x.attempt refl y.attempt refl; is = is; high = e }
     where
       frames : y.frames ≡ u.below
@@ -80,12 +81,12 @@ module _ (c : MarkedProgram) (marked : IsMarked c) (frozen : ℕ → Bool) (w : 
       by_attempts (Some a) q (Some b) r =
           let tries : TriesGo (Some a) (Some b) x.frames y.frames = subst (λ (p : Option Attempt). TriesGo (Some a) p x.frames y.frames) r (subst (λ (o : Option Attempt). TriesGo o y.attempt x.frames y.frames) q u.tries) in
           let low = put_back_low c frozen h v a x.frames (subst (λ (o : Option Attempt). HasBack c frozen h v o x.frames) q inside.goes_back) in
-          let based : b.base < length y.frames = subst (λ (p : Option Attempt). Based p y.frames) r high in
+          let based : b.base < length y.frames = subst (λ (p : Option Attempt). BasedIn p y.frames) r high in
           let few : length y.frames ≡ h = ap length frames ∙ e in
           let same = tries.0 in
           absurd (omega (arith, low, based, few, same))
 
-  pub goes_inside : (y : Thread) → Based x.attempt x.frames → Based y.attempt y.frames → FramesGo c was x y → ((at : Top) → top_of c.program x.frames ≡ Some at → IsYoung c frozen v at.frame → y.frames ≡ returned c.program at → ⊥) → IsInside c frozen h v y ⊎ HasLeft y
+  pub goes_inside : (y : Thread) → BasedIn x.attempt x.frames → BasedIn y.attempt y.frames → FramesGo c was x y → ((at : Top) → top_of c.program x.frames ≡ Some at → IsYoung c frozen v at.frame → y.frames ≡ returned c.program at → ⊥) → IsInside c frozen h v y ⊎ HasLeft y
   goes_inside y low high (inl stays) never = inl (inside_behind y low high stays.tries (init_stays c frozen h v x.frames y.frames stays.frames inside.now))
   goes_inside y low high (inr (inl r)) never = by_place (init_splits c frozen h v r.at.frame r.at.below (subst (HasInit c frozen h v) there inside.now))
     where

@@ -141,6 +141,16 @@ goes_held s (Leaving m a fs) = refl
 goes_held s RootReturned = refl
 goes_held s (Uncaught class) = refl
 
+-- ---- an attempt is based below the frames inside it
+
+abbrev pub BasedIn : Option Attempt → List Frame → Type 0
+BasedIn None fs = Unit {0}
+BasedIn (Some a) fs = a.base < length fs
+
+pub based_in : (c : MarkedProgram) (phase : Phase) (fs : List Frame) (held : List Held) (o : Option Attempt) → AttemptStandsIn c phase fs held o → BasedIn o fs
+based_in c phase fs held None a = tt
+based_in c phase fs held (Some b) a = a.based
+
 -- ---- worlds
 
 same_view : (w : World) (t : ℕ) (o : Option Attempt) → IsViewOf w w t o
@@ -328,19 +338,11 @@ module _ (c : MarkedProgram) (frozen : ℕ → Bool) (w : World) (next t : ℕ) 
       by_roots (number ∷ roots) = record { later = o.later; goes = o.goes; world = o.world (words_of c.program); lost = o.lost; fits = (tt, tt) }
   onward_sees s (Uncaught class) o = record { later = o.later; goes = o.goes; world = o.world (words_of c.program); lost = o.lost; fits = (tt, tt) }
 
-  abbrev BasedIn : Option Attempt → List Frame → Type 0
-  BasedIn None fs = Unit {0}
-  BasedIn (Some a) fs = a.base < length fs
-
-  based_in : (phase : Phase) (fs : List Frame) (held : List Held) (o : Option Attempt) → AttemptStandsIn c phase fs held o → BasedIn o fs
-  based_in phase fs held None a = tt
-  based_in phase fs held (Some b) a = a.based
-
   pub onward_moves : (s : Thread) (o : Onward) → IsStructured c was x → IsStructured c (counted_by was (goes_on s o).phase) (goes_on s o) → AreKnown w next t s.held → AttemptFrom x.attempt s.attempt → ((a : Attempt) → x.attempt ≡ Some a → KeepsEntry a x.frames o)
       → Steps k.now next t (λ z. OnwardKeeps c frozen z next t o) → Moved c frozen w k.now next next t (counted_by was (goes_on s o).phase) (goes_on s o)
   onward_moves s o stood stands held from keeps step =
       moved_on (counted_by was (goes_on s o).phase) (goes_on s o) (subst (AreKnown w next t) (sym (goes_held s o)) held) (subst (AttemptFrom x.attempt) (sym (goes_attempt s o)) from)
-      (entry x.attempt refl (goes_on s o).attempt (subst (AttemptFrom x.attempt) (sym (goes_attempt s o)) from) (based_in was x.frames x.held x.attempt stood.attempt) (based_in (counted_by was (goes_on s o).phase) (goes_on s o).frames (goes_on s o).held (goes_on s o).attempt stands.attempt))
+      (entry x.attempt refl (goes_on s o).attempt (subst (AttemptFrom x.attempt) (sym (goes_attempt s o)) from) (based_in c was x.frames x.held x.attempt stood.attempt) (based_in c (counted_by was (goes_on s o).phase) (goes_on s o).frames (goes_on s o).held (goes_on s o).attempt stands.attempt))
       (onward_sees s o step)
     where
       entry : (p : Option Attempt) → x.attempt ≡ p → (q : Option Attempt) → AttemptFrom p q → BasedIn p x.frames → BasedIn q (goes_on s o).frames → EntryKept p q x.frames (goes_on s o).frames

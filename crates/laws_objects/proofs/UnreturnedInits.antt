@@ -8,16 +8,16 @@ use Rattle.machine_types.specs.Core.{next}
 use Rattle.machine_types.specs.Elision.{put_back}
 use Rattle.machine_types.specs.Going.{goes_on}
 use Rattle.machine_types.specs.Onward.{back, unwound}
-use Rattle.machine_types.specs.Structure.{operands_in, AttemptStandsIn, IsStructured}
+use Rattle.machine_types.specs.Structure.{operands_in, IsStructured}
 use Rattle.machine_types.specs.Threads.{Frame, Attempt, Thread}
 use Rattle.machine_types.specs.Worlds.{Made, Begun, Lost, Builder, builder, World}
-use Rattle.machine_types.specs.declared.lock.Held.{Held}
 use Rattle.machine_types.specs.declared.phase.Phase.{Phase}
 use Rattle.jvm_types.specs.declared.outcome.Thrown.{Thrown}
 use Rattle.machine_types.specs.declared.phase.Phase.TheVariants as phases
 use Rattle.laws_objects.specs.UnfinishedObjects.{IsInitOn}
 use Rattle.laws_objects.proofs.FrameChanges.{frame_at, counted_below, top_or, in_place, Stay, TriesGo}
 use Rattle.laws_objects.proofs.LosingInits.{init_begun}
+use Rattle.laws_objects.proofs.ThreadMoves.{BasedIn, based_in}
 use Rattle.laws_objects.proofs.WorldChanges.{GivenBack, given_back, finished_back}
 
 -- ---- some frame at a height is an `<init>` of a class that the test tells, on the object v
@@ -120,15 +120,7 @@ put_back_low c frozen h v a fs k =
     let long : length (drop (length fs - a.base) fs) ≡ length fs - (length fs - a.base) = length-drop (length fs - a.base) fs in
     omega (arith, low, long)
 
-abbrev pub Based : Option Attempt → List Frame → Type 0
-Based None fs = Unit {0}
-Based (Some a) fs = a.base < length fs
-
-based_in : (c : MarkedProgram) (phase : Phase) (fs : List Frame) (held : List Held) (o : Option Attempt) → AttemptStandsIn c phase fs held o → Based o fs
-based_in c phase fs held None k = tt
-based_in c phase fs held (Some a) k = k.based
-
-pub has_back_on : (c : MarkedProgram) (frozen : ℕ → Bool) (h v : ℕ) (o p : Option Attempt) (fs gs : List Frame) → TriesGo o p fs gs → Based o fs → Based p gs → HasInit c frozen h v fs → HasBack c frozen h v o fs → HasBack c frozen h v p gs
+pub has_back_on : (c : MarkedProgram) (frozen : ℕ → Bool) (h v : ℕ) (o p : Option Attempt) (fs gs : List Frame) → TriesGo o p fs gs → BasedIn o fs → BasedIn p gs → HasInit c frozen h v fs → HasBack c frozen h v o fs → HasBack c frozen h v p gs
 has_back_on c frozen h v None None fs gs tries low high k back = tt
 has_back_on c frozen h v (Some a) None fs gs tries low high k back = tt
 has_back_on c frozen h v None (Some b) fs gs tries low high k back = subst (HasInit c frozen h v) (sym (ap (put_back b) tries.0 ∙ tries.1)) k
@@ -137,7 +129,7 @@ has_back_on c frozen h v (Some a) (Some b) fs gs tries low high k back =
     let same : put_back b gs ≡ put_back a gs = λ i. tries.1 i ∷ drop (length gs - tries.0 i) gs in
     subst (HasInit c frozen h v) (sym (same ∙ tries.2 low there)) back
 
-pub based_of : (c : MarkedProgram) (was : Phase) (x : Thread) → IsStructured c was x → Based x.attempt x.frames
+pub based_of : (c : MarkedProgram) (was : Phase) (x : Thread) → IsStructured c was x → BasedIn x.attempt x.frames
 based_of c was x k = based_in c was x.frames x.held x.attempt k.attempt
 
 -- ---- the frames behind a return and behind an exception
