@@ -1,3 +1,4 @@
+pub mod CellText
 pub mod Report
 pub mod Refusal
 pub mod MarksText

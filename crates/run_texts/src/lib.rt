@@ -1,10 +1,12 @@
-//! Texts: the report of a run, the line of a refusal, and the marks of a program.
+//! Texts: the report of a run, the line of a refusal, the marks of a program, and the report of a run of a cell.
 #![tactic(auto)]
 
+pub mod cells;
 pub mod marks;
 pub mod refusals;
 pub mod reports;
 
+pub use cells::{CellCounts, cell_report};
 pub use marks::mark_text;
 pub use refusals::{RefusalText, refusal};
 pub use reports::report;

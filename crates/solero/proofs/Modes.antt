@@ -14,8 +14,10 @@ use Rattle.solero.specs.declared.answer.Due.TheVariants.{Output}
 pub taken_not_refused : (mode : Mode) (asked : Asked) (contents : List (List ℕ)) (rule : Rule) (place : Place) → IsAcceptedIn mode asked contents → IsRefusedIn mode asked contents rule place → ⊥
 taken_not_refused (modes.Program task) asked contents rule place taken refused = never_refused contents asked.heap asked.threads rule place taken refused
 taken_not_refused modes.List asked contents rule place taken refused = never_both (read_fault 0 contents) (rule, place) taken refused
+taken_not_refused modes.Cell asked contents rule place taken refused = refused
 
 pub made_of_taken : (mode : Mode) (asked : Asked) (contents : List (List ℕ)) (due : Due) → IsMadeIn mode asked contents due → IsAcceptedIn mode asked contents
 made_of_taken (modes.Program task) asked contents due made = accepted contents asked.heap asked.threads made.checked made.loaded
 made_of_taken modes.List asked contents (Output text) made = no_read_fault 0 contents _ made.spelled
 made_of_taken modes.List asked contents due made = absurd made
+made_of_taken modes.Cell asked contents due made = tt

@@ -3,6 +3,8 @@ use Rattle.std.specs.Prelude.{◌≡◌, ℕ, ◌+◌, ◌<◌, ◌≤◌, nat_l
 use Rattle.std.specs.Fmt.{decimal, signed_decimal}
 use Rattle.std.specs.List.{AllByRecursion, AllZip, flat_map, position_from}
 use Rattle.asm_text.specs.ClassLines.{Lists}
+use Rattle.cell_runner.specs.CellRuns.{IsCellRun}
+use Rattle.cell_runner.specs.declared.report.CellReport.{CellReport}
 use Rattle.checked_program.specs.MarkedProgram.{MarkedProgram}
 use Rattle.jvm_types.specs.ClassGrammar.{Spells}
 use Rattle.jvm_types.specs.LinkFaults.{in_file}
@@ -17,12 +19,13 @@ use Rattle.machine_types.specs.Core.{Happening, core, outcome}
 use Rattle.machine_types.specs.Faithful.{IsFaithful, IsOver, IsPlainRun}
 use Rattle.machine_types.specs.PlainState.{Printed}
 use Rattle.machine_types.specs.Schedules.{IsScheduleOf}
+use Rattle.run_texts.specs.CellText.{cell_text}
 use Rattle.run_texts.specs.Report.{counts_lines, end_lines, line, report_text}
 use Rattle.run_texts.specs.Refusal.{refusal_text}
 use Rattle.run_texts.specs.MarksText.{marks_text}
 use Rattle.class_runner.specs.Loading.{IsAccepted, IsLoaded, IsRefusedBy, read_fault}
 use Rattle.solero.specs.Command.{Asked}
-use Rattle.solero.specs.Finish.{finish_of}
+use Rattle.solero.specs.Finish.{cell_finish, finish_of}
 use Rattle.host_io.specs.Faults.{CountsFault}
 use Rattle.host_io.specs.Shelf.{content_of}
 use Rattle.host_io.specs.declared.shelf.NamedFile.{NamedFile}
@@ -113,6 +116,15 @@ pub record IsListed (files : List (List ℕ)) (text : List ℕ) : Type 0 where
   pub spelled : AllZip Spells files (class ∷ [])
   pub listed : Lists text class
 
+-- ---- a cell
+
+-- the text reports a run of a cell with the workers, rounds and limit of failed turns that are asked for, and how it finished
+pub record IsCellReport (asked : Asked) (finish : Finish) (text : List ℕ) : Type 0 where
+  pub came : CellReport
+  pub run : IsCellRun asked.threads asked.size asked.cfg.turns came
+  pub report : text ≡ cell_text (record { threads = asked.threads; size = asked.size; writes = came.writes; reads = came.reads; stopped = came.stopped })
+  pub finished : finish ≡ cell_finish came.stopped
+
 -- ---- what is due to the contents of the files
 
 -- what the mode makes of the files
@@ -120,16 +132,20 @@ abbrev pub IsMadeIn : Mode → Asked → List (List ℕ) → Due → Type 0
 IsMadeIn (modes.Program task) asked contents due = IsMadeOfProgram task asked contents due
 IsMadeIn modes.List asked contents (Output text) = IsListed contents text
 IsMadeIn modes.List asked contents due = ⊥
+IsMadeIn modes.Cell asked contents (Report finish text) = IsCellReport asked finish text
+IsMadeIn modes.Cell asked contents due = ⊥
 
 -- the mode takes the files, none of which is too long: all rules let them pass, or those of reading
 abbrev pub IsAcceptedIn : Mode → Asked → List (List ℕ) → Type 0
 IsAcceptedIn (modes.Program task) asked contents = IsAccepted contents asked.heap asked.threads
 IsAcceptedIn modes.List asked contents = read_fault 0 contents ≡ None
+IsAcceptedIn modes.Cell asked contents = Unit {0}
 
 -- a rule and a place refuse them in the mode
 abbrev pub IsRefusedIn : Mode → Asked → List (List ℕ) → Rule → Place → Type 0
 IsRefusedIn (modes.Program task) asked contents rule place = IsRefusedBy contents asked.heap asked.threads rule place
 IsRefusedIn modes.List asked contents rule place = read_fault 0 contents ≡ Some (rule, place)
+IsRefusedIn modes.Cell asked contents rule place = ⊥
 
 -- A rule and a place refuse the files. A file that is too long is refused when it is read from the shelf, before any is read as a
 -- class.

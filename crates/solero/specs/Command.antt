@@ -5,6 +5,7 @@ use Rattle.std.specs.List.{list_all, list_any}
 use Rattle.std.specs.Option.{unwrap_or}
 use Rattle.std.specs.Char.{is_digit}
 use Rattle.std.specs.Str.Parse.{digits_value, without_leading_plus}
+use Rattle.cell_runner.specs.declared.running.TheConstants.{MOST_ROUNDS}
 use Rattle.clap.specs.Walk.{Row, Text, all_of, first_of, is_empty}
 use Rattle.clap.specs.Simple.{App, matches_of, new_app, new_rule, with_rule}
 use Rattle.clap.specs.Faults.{fault_of}
@@ -14,7 +15,7 @@ use Rattle.machine_types.specs.declared.config.Config.{Config}
 use Rattle.solero.specs.declared.request.Memory.{Memory}
 use Rattle.solero.specs.declared.request.Mode.{Mode}
 use Rattle.solero.specs.declared.request.Task.{Task}
-use Rattle.solero.specs.declared.values.TheConstants.{LONGEST_ORDER, USUAL_HEAP, USUAL_PRINTS, USUAL_STEPS}
+use Rattle.solero.specs.declared.values.TheConstants.{LONGEST_ORDER, USUAL_HEAP, USUAL_PRINTS, USUAL_SIZE, USUAL_STEPS}
 use Rattle.solero.specs.declared.request.Memory.TheVariants.{Table, Locked}
 use Rattle.solero.specs.declared.request.Mode.TheVariants as modes
 use Rattle.solero.specs.declared.request.Task.TheVariants.{Replay, Run, Mark}
@@ -35,7 +36,7 @@ with_names a name = with_rule a (record (new_rule name) { action = Some Append }
 
 abbrev pub the_command : App
 the_command = with_names (fold with_option (new_app (codes "solero"))
-    (codes "mode" ∷ codes "threads" ∷ codes "order" ∷ codes "steps" ∷ codes "turns" ∷ codes "heap" ∷ codes "prints" ∷ codes "elide" ∷ codes "range" ∷ codes "memory" ∷ []))
+    (codes "mode" ∷ codes "threads" ∷ codes "order" ∷ codes "steps" ∷ codes "turns" ∷ codes "heap" ∷ codes "prints" ∷ codes "elide" ∷ codes "range" ∷ codes "memory" ∷ codes "size" ∷ []))
     (codes "FILE")
 
 -- what is found in the words, the first of which is the program's name, where clap finds no fault in them; an option that is given
@@ -67,6 +68,7 @@ mode_or_replay (Some text) =
     else if bytes_eq text (codes "run") then Some (modes.Program Run)
     else if bytes_eq text (codes "mark") then Some (modes.Program Mark)
     else if bytes_eq text (codes "list") then Some modes.List
+    else if bytes_eq text (codes "cell") then Some modes.Cell
     else None
 
 abbrev pub memory_or_table : Option Text → Option Memory
@@ -86,10 +88,11 @@ abbrev pub order_or_none : Option Text → Option (List ℕ)
 order_or_none None = Some []
 order_or_none (Some text) = if nat_lt 0 (length text) && nat_le (length text) LONGEST_ORDER && list_all is_worker text then Some (map (λ c. c - 48) text) else None
 
--- how many files a mode takes: a program is made of 1 to 64, and one is listed
+-- how many files a mode takes: a program is made of 1 to 64, one is listed, and a cell has none
 abbrev pub takes : Mode → ℕ → Bool
 takes (modes.Program task) count = nat_lt 0 count && nat_le count MOST_FILES
 takes modes.List count = count == 1
+takes modes.Cell count = count == 0
 
 -- the names of the files, where the mode takes so many
 abbrev pub files_for : Mode → List Text → Option (List Text)
@@ -106,17 +109,19 @@ pub record Asked : Type 0 where
   pub cfg : Config
   pub order : List ℕ
   pub memory : Memory
+  pub size : ℕ
 
 infixl 10 ◌>>=◌
 abbrev pub ◌>>=◌ : {A B : Type 0} → Option A → (A → Option B) → Option B
 None >>= f = None
 (Some x) >>= f = f x
 
--- the options that a mode doesn't read: an order is chosen for a replay alone, a memory for a run alone
+-- the options that a mode doesn't read: an order is chosen for a replay alone, a memory for a run alone, a size for a cell alone
 abbrev pub not_read : Mode → List Text
-not_read (modes.Program Replay) = codes "memory" ∷ []
-not_read (modes.Program Run) = codes "order" ∷ []
-not_read mode = codes "order" ∷ codes "memory" ∷ []
+not_read (modes.Program Replay) = codes "memory" ∷ codes "size" ∷ []
+not_read (modes.Program Run) = codes "order" ∷ codes "size" ∷ []
+not_read modes.Cell = codes "order" ∷ codes "memory" ∷ []
+not_read mode = codes "order" ∷ codes "memory" ∷ codes "size" ∷ []
 
 abbrev pub gives_any : List Row → List Text → Bool
 gives_any rows names = list_any (λ name. is_some (first_of name rows)) names
@@ -140,7 +145,8 @@ asked rows = do
   cfg ← settings rows
   order ← order_or_none (first_of (codes "order") rows)
   memory ← memory_or_table (first_of (codes "memory") rows)
-  if gives_any rows (not_read mode) then None else Some (record { mode = mode; files = files; threads = threads; heap = heap; cfg = cfg; order = order; memory = memory })
+  size ← number_or USUAL_SIZE 1 MOST_ROUNDS (first_of (codes "size") rows)
+  if gives_any rows (not_read mode) then None else Some (record { mode = mode; files = files; threads = threads; heap = heap; cfg = cfg; order = order; memory = memory; size = size })
 
 -- what the words ask for; None where they are not read
 unfoldable pub command : List Text → Option Asked

@@ -1,5 +1,5 @@
 -- How a run finished: at a limit, by an exception, or neither.
-use Rattle.std.specs.Prelude.{Bool, true, false, ◌||◌, if◌then◌else◌}
+use Rattle.std.specs.Prelude.{ℕ, nat_lt, Bool, true, false, ◌||◌, if◌then◌else◌}
 use Rattle.std.specs.List.{list_any}
 use Rattle.jvm_types.specs.declared.outcome.End.{End}
 use Rattle.jvm_types.specs.declared.outcome.End.TheVariants as ends
@@ -25,3 +25,7 @@ some_end test o = list_any (λ t. test t.end) o.threads || test o.done
 -- a limit goes before an exception
 abbrev pub finish_of : Outcome → Finish
 finish_of o = if some_end is_limit o then Limited else if some_end is_uncaught o then Uncaught else Returned
+
+-- a worker of a cell stops at the limit of failed turns
+abbrev pub cell_finish : (stopped : ℕ) → Finish
+cell_finish stopped = if nat_lt 0 stopped then Limited else Returned

@@ -1,6 +1,7 @@
 -- Limits, usual values and other constants by number, as docs/SUBSET.md and the table of options in the README have them. The other
 -- definitions name them by the constants of the code, so they say what these numbers make of them.
 use Rattle.std.specs.Prelude.{◌≡◌, ℕ, ◌<◌, ◌≤◌, true, List, [], ◌∷◌, length, codes, Option, Some}
+use Rattle.cell_runner.specs.declared.running.TheConstants.{MOST_ROUNDS}
 use Rattle.clap.specs.Walk.{Text}
 use Rattle.clap.specs.declared.parser.matches.ValueSource.{ValueSource}
 use Rattle.clap.specs.declared.builder.value_parser.Reading.{Reading}
@@ -14,7 +15,7 @@ use Rattle.solero.specs.Command.{asked}
 use Rattle.solero.specs.declared.request.Memory.TheVariants.{Table}
 use Rattle.solero.specs.declared.request.Mode.TheVariants.{Program}
 use Rattle.solero.specs.declared.request.Task.TheVariants.{Replay}
-use Rattle.solero.specs.declared.values.TheConstants.{LONGEST_ORDER, USUAL_HEAP, USUAL_PRINTS, USUAL_STEPS}
+use Rattle.solero.specs.declared.values.TheConstants.{LONGEST_ORDER, USUAL_HEAP, USUAL_PRINTS, USUAL_SIZE, USUAL_STEPS}
 
 -- ---- class files (JVMS 4)
 
@@ -83,6 +84,9 @@ pub record OptionNumbers : Type 0 where
   pub heap : USUAL_HEAP ≡ 65536
   pub steps : USUAL_STEPS ≡ 10000000
   pub prints : USUAL_PRINTS ≡ 65536
+  -- rounds of each worker of a cell
+  pub size : USUAL_SIZE ≡ 100
+  pub most_size : MOST_ROUNDS ≡ 1000
 
 -- what is asked for where only the names of some files are given
 abbrev pub FilesAskForUsual : Type 0
@@ -96,6 +100,7 @@ FilesAskForUsual = (files : List Text) (count : Option ℕ) (source : Option Val
       cfg = record { steps = 10000000; turns = 4294967295; prints = 65536; elide = true; range = 4294967295 };
       order = [];
       memory = Table;
+      size = 100;
     })
 
 -- ---- the whole

@@ -11,4 +11,5 @@ asked_by r = record {
   cfg = r.cfg;
   order = r.order;
   memory = r.memory;
+  size = r.size;
 }

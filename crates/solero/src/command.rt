@@ -8,9 +8,10 @@ ghost use Rattle.solero.specs.Requests.{asked_by};
 
 use crate::request::{Mode, Request, Task};
 use crate::values::{
-    Numbers, USUAL_HEAP, USUAL_PRINTS, USUAL_STEPS, memory_or_table, mode_or_replay, number_or,
-    on_or_off, order_or_none,
+    Numbers, USUAL_HEAP, USUAL_PRINTS, USUAL_SIZE, USUAL_STEPS, memory_or_table, mode_or_replay,
+    number_or, on_or_off, order_or_none,
 };
+use cell_runner::MOST_ROUNDS;
 use clap::error::ErrorKind;
 use clap::{Arg, ArgAction, ArgMatches, Command};
 use jvm_types::limits::{LEAST_HEAP, MOST_HEAP, MOST_LIMIT, MOST_PRINTS, MOST_WORKERS};
@@ -53,6 +54,12 @@ const RANGE: Numbers = Numbers {
     most: MOST_LIMIT,
 };
 
+const SIZE: Numbers = Numbers {
+    unless: USUAL_SIZE,
+    least: 1,
+    most: MOST_ROUNDS,
+};
+
 // An option with one value.
 fn with_option<'a>(
     alloc: Global,
@@ -89,6 +96,7 @@ fn simple_command<'a>(alloc: Global) -> Result<Command<'a>, AllocError>
     let command = with_option(alloc, command, "elide")?;
     let command = with_option(alloc, command, "range")?;
     let command = with_option(alloc, command, "memory")?;
+    let command = with_option(alloc, command, "size")?;
     with_names(alloc, command, "FILE")
 }
 
@@ -161,10 +169,11 @@ fn gives_unread(matches: &ArgMatches<'_>, mode: Mode) -> bool
     ensures { result ≡ gives_any_of (rows_of (found_of matches.now)) (not_read mode) }
 {
     match mode {
-        Mode::Program(Task::Replay) => is_given(matches, "memory"),
-        Mode::Program(Task::Run) => is_given(matches, "order"),
+        Mode::Program(Task::Replay) => is_given(matches, "memory") || is_given(matches, "size"),
+        Mode::Program(Task::Run) => is_given(matches, "order") || is_given(matches, "size"),
+        Mode::Cell => is_given(matches, "order") || is_given(matches, "memory"),
         Mode::Program(Task::Mark) | Mode::List => {
-            is_given(matches, "order") || is_given(matches, "memory")
+            is_given(matches, "order") || is_given(matches, "memory") || is_given(matches, "size")
         }
     }
 }
@@ -215,6 +224,9 @@ fn request(alloc: Global, matches: &ArgMatches<'_>) -> Result<Option<Request>, A
     let Some(memory) = memory_or_table(value(matches, "memory")) else {
         return Ok(None);
     };
+    let Some(size) = number_or(SIZE, value(matches, "size")) else {
+        return Ok(None);
+    };
     if gives_unread(matches, mode) {
         return Ok(None);
     }
@@ -226,6 +238,7 @@ fn request(alloc: Global, matches: &ArgMatches<'_>) -> Result<Option<Request>, A
         cfg,
         order,
         memory,
+        size,
     }))
 }
 

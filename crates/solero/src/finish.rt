@@ -1,6 +1,6 @@
 ghost use Rattle.std.specs.Prelude.{◌≡◌};
 ghost use Rattle.std.specs.List.{list_any};
-ghost use Rattle.solero.specs.Finish.{finish_of as the_finish, is_limit as ends_at_limit, is_uncaught as ends_uncaught, some_end};
+ghost use Rattle.solero.specs.Finish.{cell_finish as the_cell_finish, finish_of as the_finish, is_limit as ends_at_limit, is_uncaught as ends_uncaught, some_end};
 
 use jvm_types::{End, Outcome, ThreadReport};
 
@@ -23,6 +23,17 @@ pub fn finish_of(outcome: &Outcome) -> Finish
         Finish::Limited
     } else if is_ended_by_exception(outcome) {
         Finish::Uncaught
+    } else {
+        Finish::Returned
+    }
+}
+
+/// How a run of a cell finished, of whose workers so many stopped at the limit of failed turns.
+pub fn cell_finish(stopped: u8) -> Finish
+    ensures { result ≡ the_cell_finish stopped }
+{
+    if stopped > 0 {
+        Finish::Limited
     } else {
         Finish::Returned
     }

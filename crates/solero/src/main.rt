@@ -4,6 +4,7 @@
 ghost use Rattle.std.specs.Prelude.{◌≡◌, ◌≢◌};
 
 mod answer;
+mod cell;
 mod class_text;
 mod command;
 mod delivery;

@@ -11,6 +11,7 @@ ghost use Rattle.solero.specs.declared.answer.Due.{Due as TheDue};
 ghost use Rattle.solero.specs.declared.request.Mode.TheVariants.{Program};
 
 use crate::answer::{Due, cannot_read, refused, too_long};
+use crate::cell::ran_cell;
 use crate::class_text::listed;
 use crate::command::read_words;
 use crate::delivery::deliver;
@@ -26,11 +27,11 @@ use std::sync::Wait;
 use std::thread::Threads;
 
 /// Does what the words ask for: reads the files from the shelf, in order; then loads them, and runs the program or finds the
-/// marks of its sections, or lists the class of the one file; and writes what came of it to the sink. It answers the status
-/// that the process ends with.
+/// marks of its sections, or lists the class of the one file, or, without a file, runs a cell; and writes what came of it to
+/// the sink. It answers the status that the process ends with.
 ///
-/// In mode run each worker runs on a thread of its own, and passes the gate once, before its first event and while it
-/// holds no lock; in the other modes nobody passes it. Nothing is promised of the order, nor that workers run beside each
+/// In modes run and cell each worker runs on a thread of its own, and passes the gate once, before its first event or round
+/// and while it holds no lock; in the other modes nobody passes it. Nothing is promised of the order, nor that workers run beside each
 /// other: where the system gives no thread, they run one after another. A run may wait for a lock, so the clauses hold where
 /// it returns.
 pub fn top<R: Threads + Wait + Sync, S: Shelf, K: Sink, G: Gate + Sync>(
@@ -160,6 +161,10 @@ fn made_in_mode<R: Threads + Wait + Sync, G: Gate + Sync>(
     match request.mode {
         Mode::Program(task) => made_of_program(rt, alloc, task, request, contents, gate),
         Mode::List => Ok(Due::Output(listed(alloc, contents)?)),
+        Mode::Cell => {
+            let (finish, text) = ran_cell(rt, alloc, gate, request)?;
+            Ok(Due::Report(finish, text))
+        }
     }
 }
 

@@ -24,16 +24,19 @@ pub enum Mode {
     Program(Task),
     /// The class of one file is listed.
     List,
+    /// Workers write and read a cell, and a report of the run is written.
+    Cell,
 }
 
 impl Mode {
-    /// Whether so many files may be named: 1 to 64 for a program, else one.
+    /// Whether so many files may be named: 1 to 64 for a program, one to be listed, none for a cell.
     pub fn takes(self, count: usize) -> bool
         ensures { result ≡ takes self count }
     {
         match self {
             Mode::Program(_) => are_few(count),
             Mode::List => count == 1,
+            Mode::Cell => count == 0,
         }
     }
 }
@@ -70,5 +73,7 @@ pub struct Request {
     pub order: Bytes,
     /// How the threads of a run share the words.
     pub memory: Memory,
-    ghost bounds: { AreInBounds mode (length files.items) threads heap cfg },
+    /// How many rounds each worker of a cell makes: 1 to 1,000.
+    pub size: u32,
+    ghost bounds: { AreInBounds mode (length files.items) threads heap size cfg },
 }

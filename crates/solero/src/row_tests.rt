@@ -44,13 +44,19 @@ fn digits(alloc: Global, order: &[(char, usize)]) -> Result<String, AllocError> 
     Ok(digits)
 }
 
-/// The program's name, the options and the file's name.
-pub fn words(alloc: Global, options: &[&str]) -> Result<Vec<String>, AllocError> {
+/// The program's name and the options.
+pub fn options_alone(alloc: Global, options: &[&str]) -> Result<Vec<String>, AllocError> {
     let mut words = Vec::new(alloc);
     words.push(String::from_str(alloc, "solero")?)?;
     for option in options {
         words.push(String::from_str(alloc, option)?)?;
     }
+    Ok(words)
+}
+
+/// The program's name, the options and the file's name.
+pub fn words(alloc: Global, options: &[&str]) -> Result<Vec<String>, AllocError> {
+    let mut words = options_alone(alloc, options)?;
     words.push(String::from_str(alloc, "A.class")?)?;
     Ok(words)
 }

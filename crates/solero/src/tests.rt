@@ -91,7 +91,7 @@ fn check_all<R: Abort + Threads + Wait + Sync + AllocGlobal>(
 }
 
 // Words that are not read, each in a line of its own.
-const NOT_READ: [&str; 37] = [
+const NOT_READ: [&str; 45] = [
     "-x A.class",
     "A.class -x",
     "--help",
@@ -129,10 +129,18 @@ const NOT_READ: [&str; 37] = [
     "--mode list A.class A.class",
     "--mode list --order 1 A.class",
     "--mode list --memory table A.class",
+    "--mode list --size 1 A.class",
+    "--size 1 A.class",
+    "--mode cell A.class",
+    "--mode cell --order 1",
+    "--mode cell --memory table",
+    "--mode cell --size 0",
+    "--mode cell --size 1001",
+    "--mode cell --threads 9",
 ];
 
 // Words that are read.
-const READ: [&str; 13] = [
+const READ: [&str; 15] = [
     "A.class --threads 0 --order 18 --steps 6 --turns 1 --heap 4096 --prints 1 --elide off --range 1",
     "--threads=0 --steps=+0004294967295 --turns=4294967295 A.class",
     "--heap 1048576 --prints 1048576 --elide on --range 4294967295 --mode replay A.class",
@@ -143,6 +151,8 @@ const READ: [&str; 13] = [
     "--memory locked --mode run A.class",
     "--mode list --threads 8 --heap 4096 --steps 1 --turns 1 --prints 1 --elide off --range 1 A.class",
     "--mode=list -- A.class",
+    "--mode cell --threads 1 --size 1 --turns 1 --steps 1 --prints 1 --elide off --range 1 --heap 4096",
+    "--mode=cell --size=1000",
     "-- A.class",
     "--mode=mark A.class",
     "A.class",
@@ -173,7 +183,7 @@ fn words(rt: HostRuntime) -> Result<(), Fail> {
     Ok(())
 }
 
-const MODES: [&str; 4] = ["replay", "run", "mark", "list"];
+const MODES: [&str; 5] = ["replay", "run", "mark", "list", "cell"];
 
 // An option, and the modes that read it.
 struct Beside {
@@ -182,7 +192,7 @@ struct Beside {
 }
 
 // Each option beside each mode.
-const BESIDE: [Beside; 9] = [
+const BESIDE: [Beside; 10] = [
     Beside {
         option: "--threads=8",
         modes: &MODES,
@@ -198,6 +208,10 @@ const BESIDE: [Beside; 9] = [
     Beside {
         option: "--memory=table",
         modes: &["run"],
+    },
+    Beside {
+        option: "--size=1",
+        modes: &["cell"],
     },
     Beside {
         option: "--steps=1",
@@ -221,10 +235,12 @@ const BESIDE: [Beside; 9] = [
     },
 ];
 
-// Whether the words of an option beside a mode are read.
+// Whether the words of an option beside a mode are read. A cell has no file.
 fn is_read(alloc: Global, mode: &str, option: &str) -> Result<bool, AllocError> {
+    let all = ["solero", "--mode", mode, option, "A.class"];
+    let few = if mode == "cell" { &all[..4] } else { &all[..] };
     let mut words = Vec::new(alloc);
-    for word in ["solero", "--mode", mode, option, "A.class"] {
+    for word in few {
         words.push(String::from_str(alloc, word)?)?;
     }
     Ok(read_words(alloc, words.as_slice())?.is_some())
@@ -241,7 +257,7 @@ fn options_beside_modes(rt: HostRuntime) -> Result<(), Fail> {
     Ok(())
 }
 
-const CASES: [Case; 17] = [
+const CASES: [Case; 19] = [
     // Words that are not read.
     Case {
         words: &[],
@@ -351,6 +367,21 @@ const CASES: [Case; 17] = [
         failing: &[],
         status: 0,
         text: "K.get()I method M5\n",
+    },
+    // Runs of a cell, each worker of which makes so many writes and reads.
+    Case {
+        words: &["--mode", "cell"],
+        content: ADDS,
+        failing: &[1],
+        status: 0,
+        text: "cell threads 0 size 100\nwrites 0\nreads 0\nstopped 0\n",
+    },
+    Case {
+        words: &["--mode", "cell", "--threads", "4", "--size", "10"],
+        content: ADDS,
+        failing: &[1],
+        status: 0,
+        text: "cell threads 4 size 10\nwrites 40\nreads 40\nstopped 0\n",
     },
     // Files that are not listed.
     Case {

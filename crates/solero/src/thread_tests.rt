@@ -1,6 +1,6 @@
 //! Runs on threads of the system, with what holds of them in every order.
 
-use crate::row_tests::{answer, words};
+use crate::row_tests::{answer, options_alone, words};
 use jvm_types::{Gate, OpenGate};
 use std::alloc::{AllocError, Global};
 use std::process::Abort;
@@ -217,15 +217,29 @@ impl Gate for Meeting {
     }
 }
 
-// Both workers pass the gate at one time, as no single thread can.
+// Both workers of these words pass the gate at one time, as no single thread can.
+fn check_meeting<R: Abort + Threads + Wait + Sync + AllocGlobal>(
+    rt: &R,
+    words: &Vec<String>,
+) -> Result<(), AllocError> {
+    let gate = Meeting::new();
+    answer(rt, words, bytes_of(rt.alloc(), SPINS)?, &gate)?;
+    assert!(rt; gate.has_both());
+    assert_eq!(rt; gate.met.load(Ordering::SeqCst), 2);
+    Ok(())
+}
+
 #[test]
 fn workers_meet(rt: HostRuntime) -> Result<(), Fail> {
     for memory in ["table", "locked"] {
-        let gate = Meeting::new();
-        let words = run_words(rt.alloc(), &["--threads", "2"], memory)?;
-        answer(&rt, &words, bytes_of(rt.alloc(), SPINS)?, &gate)?;
-        assert!(rt; gate.has_both());
-        assert_eq!(rt; gate.met.load(Ordering::SeqCst), 2);
+        check_meeting(&rt, &run_words(rt.alloc(), &["--threads", "2"], memory)?)?;
     }
+    Ok(())
+}
+
+#[test]
+fn workers_of_a_cell_meet(rt: HostRuntime) -> Result<(), Fail> {
+    let words = ["--mode", "cell", "--threads", "2", "--size", "1"];
+    check_meeting(&rt, &options_alone(rt.alloc(), &words)?)?;
     Ok(())
 }

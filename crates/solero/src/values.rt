@@ -17,6 +17,9 @@ pub const USUAL_STEPS: u32 = 10_000_000;
 /// The most prints of a thread, where the words say nothing of them.
 pub const USUAL_PRINTS: u32 = 65_536;
 
+/// The rounds of each worker of a cell, where the words say nothing of them.
+pub const USUAL_SIZE: u32 = 100;
+
 /// The heap words, where the words say nothing of them.
 pub const USUAL_HEAP: u32 = 65_536;
 
@@ -67,6 +70,7 @@ pub fn mode_or_replay(given: Option<&str>) -> Option<Mode>
         Some(text) if text == "run" => Some(Mode::Program(Task::Run)),
         Some(text) if text == "mark" => Some(Mode::Program(Task::Mark)),
         Some(text) if text == "list" => Some(Mode::List),
+        Some(text) if text == "cell" => Some(Mode::Cell),
         Some(_) => None,
     }
 }

@@ -16,4 +16,5 @@ returns c =
     let eight = c.in_ok-command-8.ensures ∙ ap (λ (a : App). with_option a (codes "elide")) seven in
     let nine = c.in_ok-command-9.ensures ∙ ap (λ (a : App). with_option a (codes "range")) eight in
     let ten = c.in_ok-command-10.ensures ∙ ap (λ (a : App). with_option a (codes "memory")) nine in
-    IfOk-weaker c.with_names.result _ _ (λ command is. is ∙ ap (λ (a : App). with_names a (codes "FILE")) ten) c.with_names.ensures
+    let eleven = c.in_ok-command-11.ensures ∙ ap (λ (a : App). with_option a (codes "size")) ten in
+    IfOk-weaker c.with_names.result _ _ (λ command is. is ∙ ap (λ (a : App). with_names a (codes "FILE")) eleven) c.with_names.ensures
