@@ -1,23 +1,35 @@
 -- What a mode takes: files that it takes are not refused in it, and what it makes it makes of files that it takes.
-use Rattle.std.proofs.Common.{◌≡◌, ℕ, List, Some, None}
+use Rattle.std.proofs.Common.{◌≡◌, ℕ, List, [], ◌∷◌, Some, None}
+use Rattle.std.specs.List.{AllZip}
+use Rattle.asm_text.specs.ClassLines.{Lists}
+use Rattle.jvm_types.specs.declared.class_file.ClassFile.{ClassFile}
 use Rattle.jvm_types.specs.declared.refusal.Rule.{Rule}
+use Rattle.jvm_types.specs.declared.refusal.Rule.TheVariants as rules
 use Rattle.jvm_types.specs.declared.refusal.Place.{Place}
 use Rattle.class_runner.specs.Loading.{read_fault}
 use Rattle.class_runner.proofs.LoadedOnce.{accepted, never_both, never_refused, no_read_fault}
 use Rattle.solero.specs.Command.{Asked}
-use Rattle.solero.specs.Answer.{IsAcceptedIn, IsMadeIn, IsRefusedIn}
+use Rattle.solero.specs.Answer.{IsAcceptedIn, IsMadeIn, IsRefusedIn, IsRefusedText}
 use Rattle.solero.specs.declared.request.Mode.{Mode}
 use Rattle.solero.specs.declared.request.Mode.TheVariants as modes
 use Rattle.solero.specs.declared.answer.Due.{Due}
 use Rattle.solero.specs.declared.answer.Due.TheVariants.{Output}
 
+-- a text that lists a class is not refused
+no_refused_text : (contents : List (List ℕ)) (class : ClassFile) (rule : Rule) (place : Place) → AllZip Lists contents (class ∷ []) → IsRefusedText contents rule place → ⊥
+no_refused_text (text ∷ []) class (rules.A rule) place listed refused = refused.1.0 class listed.0
+no_refused_text contents class rule place listed refused = absurd refused
+
 pub taken_not_refused : (mode : Mode) (asked : Asked) (contents : List (List ℕ)) (rule : Rule) (place : Place) → IsAcceptedIn mode asked contents → IsRefusedIn mode asked contents rule place → ⊥
 taken_not_refused (modes.Program task) asked contents rule place taken refused = never_refused contents asked.heap asked.threads rule place taken refused
 taken_not_refused modes.List asked contents rule place taken refused = never_both (read_fault 0 contents) (rule, place) taken refused
+taken_not_refused modes.Assemble asked contents rule place taken refused = no_refused_text contents taken.0 rule place taken.1 refused
 taken_not_refused modes.Cell asked contents rule place taken refused = refused
 
 pub made_of_taken : (mode : Mode) (asked : Asked) (contents : List (List ℕ)) (due : Due) → IsMadeIn mode asked contents due → IsAcceptedIn mode asked contents
 made_of_taken (modes.Program task) asked contents due made = accepted contents asked.heap asked.threads made.checked made.loaded
 made_of_taken modes.List asked contents (Output text) made = no_read_fault 0 contents _ made.spelled
 made_of_taken modes.List asked contents due made = absurd made
+made_of_taken modes.Assemble asked contents (Output bytes) made = (made.class, made.listed)
+made_of_taken modes.Assemble asked contents due made = absurd made
 made_of_taken modes.Cell asked contents due made = tt

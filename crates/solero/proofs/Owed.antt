@@ -32,6 +32,7 @@ task_made_no_refusal Mark asked checked text made = made
 made_no_refusal : (mode : Mode) (asked : Asked) (contents : List (List ℕ)) (text : List ℕ) → IsMadeIn mode asked contents (Refusal text) → ⊥
 made_no_refusal (modes.Program task) asked contents text made = task_made_no_refusal task asked made.checked text made.made
 made_no_refusal modes.List asked contents text made = made
+made_no_refusal modes.Assemble asked contents text made = made
 made_no_refusal modes.Cell asked contents text made = made
 
 -- what the mode makes of files, none of which is too long, is due to them

@@ -1,8 +1,10 @@
 -- What the program owes to its words and files: a text, and a status with it.
-use Rattle.std.specs.Prelude.{◌≡◌, ℕ, ◌+◌, ◌<◌, ◌≤◌, nat_lt, Bool, List, [], ◌∷◌, ◌++◌, length, map, take, codes, Option, Some, None, IfSome, if◌then◌else◌}
+use Rattle.std.specs.Prelude.{◌≡◌, ℕ, ◌+◌, ◌<◌, ◌≤◌, nat_lt, Bool, List, [], ◌∷◌, ◌++◌, length, map, take, codes, Option, Some, None, IfSome, Err, if◌then◌else◌}
 use Rattle.std.specs.Fmt.{decimal, signed_decimal}
 use Rattle.std.specs.List.{AllByRecursion, AllZip, flat_map, position_from}
+use Rattle.asm_text.specs.Assembling.{Assembles, ListsNone}
 use Rattle.asm_text.specs.ClassLines.{Lists}
+use Rattle.asm_text.specs.declared.asm_error.AsmError.TheVariants.{Refused}
 use Rattle.cell_runner.specs.CellRuns.{IsCellRun}
 use Rattle.cell_runner.specs.declared.report.CellReport.{CellReport}
 use Rattle.checked_program.specs.MarkedProgram.{MarkedProgram}
@@ -116,6 +118,17 @@ pub record IsListed (files : List (List ℕ)) (text : List ℕ) : Type 0 where
   pub spelled : AllZip Spells files (class ∷ [])
   pub listed : Lists text class
 
+-- the bytes spell the class that the text of the one file lists
+pub record IsAssembled (files : List (List ℕ)) (bytes : List ℕ) : Type 0 where
+  pub class : ClassFile
+  pub listed : AllZip Lists files (class ∷ [])
+  pub spelled : Spells bytes class
+
+-- a rule of assembling refuses the text of the one file, at a line or at 0, and the text lists no class
+abbrev pub IsRefusedText : List (List ℕ) → Rule → Place → Type 0
+IsRefusedText (text ∷ []) (rules.A rule) place = Assembles text (Err (Refused rule place.at)) × ListsNone text × (place ≡ in_file 0 place.at)
+IsRefusedText files rule place = ⊥
+
 -- ---- a cell
 
 -- the text reports a run of a cell with the workers, rounds and limit of failed turns that are asked for, and how it finished
@@ -132,19 +145,23 @@ abbrev pub IsMadeIn : Mode → Asked → List (List ℕ) → Due → Type 0
 IsMadeIn (modes.Program task) asked contents due = IsMadeOfProgram task asked contents due
 IsMadeIn modes.List asked contents (Output text) = IsListed contents text
 IsMadeIn modes.List asked contents due = ⊥
+IsMadeIn modes.Assemble asked contents (Output bytes) = IsAssembled contents bytes
+IsMadeIn modes.Assemble asked contents due = ⊥
 IsMadeIn modes.Cell asked contents (Report finish text) = IsCellReport asked finish text
 IsMadeIn modes.Cell asked contents due = ⊥
 
--- the mode takes the files, none of which is too long: all rules let them pass, or those of reading
+-- the mode takes the files, none of which is too long: all rules let them pass, or those of reading; or the text lists a class
 abbrev pub IsAcceptedIn : Mode → Asked → List (List ℕ) → Type 0
 IsAcceptedIn (modes.Program task) asked contents = IsAccepted contents asked.heap asked.threads
 IsAcceptedIn modes.List asked contents = read_fault 0 contents ≡ None
+IsAcceptedIn modes.Assemble asked contents = (class : ClassFile) × AllZip Lists contents (class ∷ [])
 IsAcceptedIn modes.Cell asked contents = Unit {0}
 
 -- a rule and a place refuse them in the mode
 abbrev pub IsRefusedIn : Mode → Asked → List (List ℕ) → Rule → Place → Type 0
 IsRefusedIn (modes.Program task) asked contents rule place = IsRefusedBy contents asked.heap asked.threads rule place
 IsRefusedIn modes.List asked contents rule place = read_fault 0 contents ≡ Some (rule, place)
+IsRefusedIn modes.Assemble asked contents rule place = IsRefusedText contents rule place
 IsRefusedIn modes.Cell asked contents rule place = ⊥
 
 -- A rule and a place refuse the files. A file that is too long is refused when it is read from the shelf, before any is read as a

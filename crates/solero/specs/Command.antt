@@ -68,6 +68,7 @@ mode_or_replay (Some text) =
     else if bytes_eq text (codes "run") then Some (modes.Program Run)
     else if bytes_eq text (codes "mark") then Some (modes.Program Mark)
     else if bytes_eq text (codes "list") then Some modes.List
+    else if bytes_eq text (codes "asm") then Some modes.Assemble
     else if bytes_eq text (codes "cell") then Some modes.Cell
     else None
 
@@ -88,10 +89,11 @@ abbrev pub order_or_none : Option Text → Option (List ℕ)
 order_or_none None = Some []
 order_or_none (Some text) = if nat_lt 0 (length text) && nat_le (length text) LONGEST_ORDER && list_all is_worker text then Some (map (λ c. c - 48) text) else None
 
--- how many files a mode takes: a program is made of 1 to 64, one is listed, and a cell has none
+-- how many files a mode takes: a program is made of 1 to 64, one is listed or assembled, and a cell has none
 abbrev pub takes : Mode → ℕ → Bool
 takes (modes.Program task) count = nat_lt 0 count && nat_le count MOST_FILES
 takes modes.List count = count == 1
+takes modes.Assemble count = count == 1
 takes modes.Cell count = count == 0
 
 -- the names of the files, where the mode takes so many

@@ -7,7 +7,7 @@ use Rattle.class_runner.specs.declared.loading.FileError.{FileError}
 use Rattle.class_runner.specs.declared.loading.FileError.TheVariants as errors
 use Rattle.run_texts.specs.Refusal.{refusal_text}
 use Rattle.solero.specs.Command.{Asked}
-use Rattle.solero.specs.Answer.{IsMadeIn, IsRefusedIn, Refuses, unread_line}
+use Rattle.solero.specs.Answer.{IsMadeIn, IsRefusedIn, IsRefusedText, Refuses, unread_line}
 use Rattle.jvm_types.specs.declared.limits.TheConstants.{MOST_FILE_BYTES}
 use Rattle.host_io.specs.declared.shelf.ShelfError.{ShelfError}
 use Rattle.host_io.specs.declared.shelf.ShelfError.TheVariants.{Failed, TooLong}
@@ -38,3 +38,8 @@ IsRun asked contents due = IsMadeIn asked.mode asked contents due
 abbrev pub IsNotMadeIn : Mode → Asked → List (List ℕ) → FileError → Type 0
 IsNotMadeIn mode asked contents errors.Memory = Unit {0}
 IsNotMadeIn mode asked contents (errors.Refused rule place) = IsRefusedIn mode asked contents rule place
+
+-- no class is assembled: memory ran out, or a rule refuses the text
+abbrev pub IsNotAssembled : List (List ℕ) → FileError → Type 0
+IsNotAssembled files errors.Memory = Unit {0}
+IsNotAssembled files (errors.Refused rule place) = IsRefusedText files rule place

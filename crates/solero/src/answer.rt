@@ -19,7 +19,7 @@ const OUT_OF_MEMORY: &str = "out of memory\n";
 pub enum Due {
     /// The report of a run, of a program or of a cell, and how the run finished.
     Report(Finish, Bytes),
-    /// What a mode writes that runs nothing: the marks of a program's sections, or a listing.
+    /// What a mode writes that runs nothing: the marks of a program's sections, a listing, or a class file.
     Output(Bytes),
     /// The words are not read.
     Usage,
@@ -47,7 +47,7 @@ impl Due {
         }
     }
 
-    /// The text, which ends with a newline.
+    /// The text, which ends with a newline, or the bytes of a class file.
     pub fn text(&self) -> &[u8]
         ensures { result.now ≡ text_of self.now }
     {

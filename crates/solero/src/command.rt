@@ -172,7 +172,7 @@ fn gives_unread(matches: &ArgMatches<'_>, mode: Mode) -> bool
         Mode::Program(Task::Replay) => is_given(matches, "memory") || is_given(matches, "size"),
         Mode::Program(Task::Run) => is_given(matches, "order") || is_given(matches, "size"),
         Mode::Cell => is_given(matches, "order") || is_given(matches, "memory"),
-        Mode::Program(Task::Mark) | Mode::List => {
+        Mode::Program(Task::Mark) | Mode::List | Mode::Assemble => {
             is_given(matches, "order") || is_given(matches, "memory") || is_given(matches, "size")
         }
     }

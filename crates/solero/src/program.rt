@@ -12,7 +12,7 @@ ghost use Rattle.solero.specs.declared.request.Mode.TheVariants.{Program};
 
 use crate::answer::{Due, cannot_read, refused, too_long};
 use crate::cell::ran_cell;
-use crate::class_text::listed;
+use crate::class_text::{assembled, listed};
 use crate::command::read_words;
 use crate::delivery::deliver;
 use crate::making::made;
@@ -27,8 +27,8 @@ use std::sync::Wait;
 use std::thread::Threads;
 
 /// Does what the words ask for: reads the files from the shelf, in order; then loads them, and runs the program or finds the
-/// marks of its sections, or lists the class of the one file, or, without a file, runs a cell; and writes what came of it to
-/// the sink. It answers the status that the process ends with.
+/// marks of its sections; or lists the class of the one file, or assembles the class that its text lists; or, without a file,
+/// runs a cell; and writes what came of it to the sink. It answers the status that the process ends with.
 ///
 /// In modes run and cell each worker runs on a thread of its own, and passes the gate once, before its first event or round
 /// and while it holds no lock; in the other modes nobody passes it. Nothing is promised of the order, nor that workers run beside each
@@ -154,13 +154,15 @@ fn made_in_mode<R: Threads + Wait + Sync, G: Gate + Sync>(
     contents: &Rows<Bytes>,
     gate: &G,
 ) -> Result<Due, FileError>
-    requires { takes request.now.mode (length contents.now) ≡ true }
+    requires taken { takes request.now.mode (length contents.now) ≡ true }
+    requires short { first_long 0 contents.now ≡ None }
     ensures made { IfOk result (λ due. IsMadeIn request.now.mode (asked_by request.now) contents.now due) }
     ensures refused { IfErr result (λ e. IsNotMadeIn request.now.mode (asked_by request.now) contents.now e) }
 {
     match request.mode {
         Mode::Program(task) => made_of_program(rt, alloc, task, request, contents, gate),
         Mode::List => Ok(Due::Output(listed(alloc, contents)?)),
+        Mode::Assemble => Ok(Due::Output(assembled(alloc, contents)?)),
         Mode::Cell => {
             let (finish, text) = ran_cell(rt, alloc, gate, request)?;
             Ok(Due::Report(finish, text))

@@ -24,18 +24,21 @@ pub enum Mode {
     Program(Task),
     /// The class of one file is listed.
     List,
+    /// The class that the text of one file lists is written as a class file.
+    Assemble,
     /// Workers write and read a cell, and a report of the run is written.
     Cell,
 }
 
 impl Mode {
-    /// Whether so many files may be named: 1 to 64 for a program, one to be listed, none for a cell.
+    /// Whether so many files may be named: 1 to 64 for a program, one to be listed or assembled, none for a
+    /// cell.
     pub fn takes(self, count: usize) -> bool
         ensures { result ≡ takes self count }
     {
         match self {
             Mode::Program(_) => are_few(count),
-            Mode::List => count == 1,
+            Mode::List | Mode::Assemble => count == 1,
             Mode::Cell => count == 0,
         }
     }

@@ -91,7 +91,7 @@ fn check_all<R: Abort + Threads + Wait + Sync + AllocGlobal>(
 }
 
 // Words that are not read, each in a line of its own.
-const NOT_READ: [&str; 45] = [
+const NOT_READ: [&str; 49] = [
     "-x A.class",
     "A.class -x",
     "--help",
@@ -130,6 +130,10 @@ const NOT_READ: [&str; 45] = [
     "--mode list --order 1 A.class",
     "--mode list --memory table A.class",
     "--mode list --size 1 A.class",
+    "--mode asm",
+    "--mode asm A.class A.class",
+    "--mode asm --order 1 A.class",
+    "--mode asm --memory table A.class",
     "--size 1 A.class",
     "--mode cell A.class",
     "--mode cell --order 1",
@@ -183,7 +187,7 @@ fn words(rt: HostRuntime) -> Result<(), Fail> {
     Ok(())
 }
 
-const MODES: [&str; 5] = ["replay", "run", "mark", "list", "cell"];
+const MODES: [&str; 6] = ["replay", "run", "mark", "list", "asm", "cell"];
 
 // An option, and the modes that read it.
 struct Beside {
@@ -257,7 +261,7 @@ fn options_beside_modes(rt: HostRuntime) -> Result<(), Fail> {
     Ok(())
 }
 
-const CASES: [Case; 19] = [
+const CASES: [Case; 22] = [
     // Words that are not read.
     Case {
         words: &[],
@@ -382,6 +386,28 @@ const CASES: [Case; 19] = [
         failing: &[1],
         status: 0,
         text: "cell threads 4 size 10\nwrites 40\nreads 40\nstopped 0\n",
+    },
+    // Texts that are not assembled: none, and one that is a class file.
+    Case {
+        words: &["--mode", "asm", "A.class"],
+        content: "",
+        failing: &[],
+        status: 3,
+        text: "refused A1 file 0 at 1\n",
+    },
+    Case {
+        words: &["--mode", "asm", "--threads", "1", "A.class"],
+        content: ADDS,
+        failing: &[],
+        status: 3,
+        text: "refused A1 file 0 at 1\n",
+    },
+    Case {
+        words: &["--mode", "asm", "A.class"],
+        content: ADDS,
+        failing: &[1],
+        status: 4,
+        text: "cannot read file 0\n",
     },
     // Files that are not listed.
     Case {

@@ -70,6 +70,7 @@ pub fn mode_or_replay(given: Option<&str>) -> Option<Mode>
         Some(text) if text == "run" => Some(Mode::Program(Task::Run)),
         Some(text) if text == "mark" => Some(Mode::Program(Task::Mark)),
         Some(text) if text == "list" => Some(Mode::List),
+        Some(text) if text == "asm" => Some(Mode::Assemble),
         Some(text) if text == "cell" => Some(Mode::Cell),
         Some(_) => None,
     }
