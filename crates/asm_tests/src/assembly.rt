@@ -1,9 +1,9 @@
 //! Assembling listings: both ways for the classes here, and changed lines.
 
 use crate::edits::{ADDS_EDITS, CUTS, Edit, Expected};
+use crate::listings::listed;
 use crate::texts::ADDS_TEXT;
-use asm_text::{AsmError, assemble, listing};
-use class_reader::read_class;
+use asm_text::{AsmError, assemble};
 use class_writer::write_class;
 use jvm_types::{ARule, Bytes, ClassFile};
 use std::alloc::{AllocError, Global};
@@ -60,8 +60,7 @@ fn front(text: &[u8], size: usize) -> &[u8] {
 /// Whether listing and assembling undo each other at a class.
 fn goes_both_ways<A: Abort>(rt: &A, alloc: Global, hex: &str) -> Result<(), Fail> {
     let file = bytes_of(alloc, hex)?;
-    let class = read_class(alloc, &file).map_err(|_| "a class")?;
-    let text = listing(alloc, &class)?;
+    let text = listed(alloc, hex, &[])?.ok_or("a class")?;
     let again = assembled(alloc, &text).map_err(|_| "a listing")?;
     let bytes = write_class(alloc, &again).map_err(|_| "a spelling")?;
     assert_eq!(rt; bytes.as_slice(), file.as_slice());

@@ -10,7 +10,11 @@ use std::test::*;
 use test_classes::{SWITCHES, adds, changed, kinds};
 
 /// The listing of a class with some of its bytes changed, or `None` where it is none any more.
-fn listed(alloc: Global, hex: &str, changes: &[(usize, u8)]) -> Result<Option<Bytes>, AllocError> {
+pub fn listed(
+    alloc: Global,
+    hex: &str,
+    changes: &[(usize, u8)],
+) -> Result<Option<Bytes>, AllocError> {
     let file = changed(alloc, hex, changes)?;
     match read_class(alloc, &file) {
         Ok(class) => Ok(Some(listing(alloc, &class)?)),
