@@ -17,7 +17,7 @@ use Rattle.solero.specs.declared.answer.Due.TheVariants.{Output}
 
 -- a text that lists a class is not refused
 no_refused_text : (contents : List (List ℕ)) (class : ClassFile) (rule : Rule) (place : Place) → AllZip Lists contents (class ∷ []) → IsRefusedText contents rule place → ⊥
-no_refused_text (text ∷ []) class (rules.A rule) place listed refused = refused.1.0 class listed.0
+no_refused_text (text ∷ []) class (rules.A rule) place listed refused = refused.1 class listed.0
 no_refused_text contents class rule place listed refused = absurd refused
 
 pub taken_not_refused : (mode : Mode) (asked : Asked) (contents : List (List ℕ)) (rule : Rule) (place : Place) → IsAcceptedIn mode asked contents → IsRefusedIn mode asked contents rule place → ⊥
