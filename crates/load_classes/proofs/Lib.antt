@@ -1,0 +1,5 @@
+mod RangeLaws
+mod Digits
+mod LoadPool
+mod LoadMethods
+mod LoadSize

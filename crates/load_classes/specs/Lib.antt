@@ -1,0 +1,2 @@
+pub mod LoadClass
+pub mod Loads
