@@ -16,7 +16,7 @@ pub struct Edit {
 }
 
 /// Edits of one line each.
-pub const ADDS_EDITS: [Edit; 74] = [
+pub const ADDS_EDITS: [Edit; 75] = [
     // the first line
     Edit {
         number: 1,
@@ -300,6 +300,11 @@ pub const ADDS_EDITS: [Edit; 74] = [
     Edit {
         number: 24,
         text: "newarray 11",
+        expected: Expected::A2(0),
+    },
+    Edit {
+        number: 24,
+        text: "newarray 256",
         expected: Expected::A1(24),
     },
     // targets

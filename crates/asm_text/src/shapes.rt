@@ -230,13 +230,12 @@ pub fn operands_fit(shape: Shape, operands: &[i64]) -> bool
 {
     match (shape, operands) {
         (Shape::Plain, []) => true,
-        (Shape::Byte, [n]) => is_u1(*n),
+        (Shape::Byte | Shape::IntArray, [n]) => is_u1(*n),
         (Shape::Short, [n]) => is_u2(*n),
         (Shape::SignedByte, [n]) => is_s1(*n),
         (Shape::SignedShort, [n]) => is_s2(*n),
         (Shape::Branch | Shape::WideBranch, [to]) => is_target(*to),
         (Shape::LocalAndStep, [local, step]) => is_u1(*local) && is_s1(*step),
-        (Shape::IntArray, [number]) => is_between(10, 11, *number),
         (Shape::Table, [otherwise, bounds @ ..]) => {
             is_target(*otherwise) && all_bounds_fit(bounds)
         }
