@@ -241,11 +241,12 @@ const BESIDE: [Beside; 10] = [
 
 // Whether the words of an option beside a mode are read. A cell has no file.
 fn is_read(alloc: Global, mode: &str, option: &str) -> Result<bool, AllocError> {
-    let all = ["solero", "--mode", mode, option, "A.class"];
-    let few = if mode == "cell" { &all[..4] } else { &all[..] };
     let mut words = Vec::new(alloc);
-    for word in few {
+    for word in ["solero", "--mode", mode, option] {
         words.push(String::from_str(alloc, word)?)?;
+    }
+    if mode != "cell" {
+        words.push(String::from_str(alloc, "A.class")?)?;
     }
     Ok(read_words(alloc, words.as_slice())?.is_some())
 }
