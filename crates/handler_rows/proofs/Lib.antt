@@ -1,0 +1,2 @@
+mod HullLaws
+pub mod PickedRows

@@ -1,0 +1,2 @@
+pub mod HandlerRows
+pub mod Hulls
