@@ -10,3 +10,4 @@ pub mod LaidOut
 pub mod SettlingLaws
 pub mod OneAnswer
 pub mod VisitLaws
+mod StayLaws

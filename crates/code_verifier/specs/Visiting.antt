@@ -9,12 +9,17 @@ use Rattle.jvm_types.specs.declared.op_row.OpRow.{OpRow}
 use Rattle.jvm_types.specs.declared.program.Row.{Row}
 use Rattle.jvm_types.specs.declared.program.MethodInfo.{MethodInfo}
 use Rattle.jvm_types.specs.declared.refusal.VRule.{VRule}
+use Rattle.jvm_types.specs.declared.typing.VType.TheVariants.{Ref}
 use Rattle.code_verifier.specs.declared.error.VerifyError.{VerifyError}
 use Rattle.code_verifier.specs.declared.error.VerifyError.TheVariants.{Memory, Refused}
 
 -- as many locals as the frame at pc 0 has
 abbrev pub HasLocals : MethodInfo → TypeFrame → Type 0
 HasLocals m f = length f.locals ≡ length (entry_frame m).locals
+
+-- with one object of the class on its stack
+abbrev pub with_object : ℕ → TypeFrame → TypeFrame
+with_object class f = record { stack = Ref class ∷ []; locals = f.locals; ready = f.ready }
 
 -- one node for each instruction, and each frame has these locals
 pub record AreLevel (m : MethodInfo) (nodes : List Node) : Type 0 where

@@ -1,11 +1,11 @@
 //! Edges: the frames that an instruction brings to others.
 
-ghost use Rattle.std.specs.Prelude.{◌≡◌, [], ◌∷◌, length, None, Option, List, ℕ, OnOk};
+ghost use Rattle.std.specs.Prelude.{◌≡◌, [], ◌∷◌, length, true, None, Option, List, ℕ, OnOk};
 ghost use Rattle.jvm_types.specs.Verifying.{node_at, brought, all_brought, has_other_depth, clash};
-ghost use Rattle.code_verifier.specs.Visiting.{HasLocals, AreLevel, lesser, clash_place};
+ghost use Rattle.code_verifier.specs.Visiting.{HasLocals, AreLevel, lesser, clash_place, with_object};
 
 use crate::nodes::Nodes;
-use code_table::IndexedMethod;
+use handler_rows::HandledMethod;
 use jvm_types::TypeFrame;
 use std::alloc::{AllocError, Global};
 
@@ -46,7 +46,7 @@ fn clash_place(nodes: &Nodes, number: Option<usize>, to: u32, depth: usize) -> O
 }
 
 /// The pc that an edge leads to, where the frame there is of another depth.
-fn clash_at(m: &IndexedMethod<'_>, nodes: &Nodes, to: u32, depth: usize) -> Option<u32>
+pub fn clash_at(m: &HandledMethod<'_>, nodes: &Nodes, to: u32, depth: usize) -> Option<u32>
     ensures { result ≡ clash m.now.code (to ∷ []) depth nodes.now }
 {
     m.laid_out();
@@ -54,7 +54,7 @@ fn clash_at(m: &IndexedMethod<'_>, nodes: &Nodes, to: u32, depth: usize) -> Opti
 }
 
 /// The first of the instructions that edges lead to whose frame is of another depth.
-pub fn clash(m: &IndexedMethod<'_>, nodes: &Nodes, tos: &[u32], depth: usize) -> Option<u32>
+pub fn clash(m: &HandledMethod<'_>, nodes: &Nodes, tos: &[u32], depth: usize) -> Option<u32>
     ensures { result ≡ clash m.now.code tos.now depth nodes.now }
 {
     m.laid_out();
@@ -65,10 +65,29 @@ pub fn clash(m: &IndexedMethod<'_>, nodes: &Nodes, tos: &[u32], depth: usize) ->
     least
 }
 
+/// Whether an edge to a pc that brings the locals of a frame, with one object of a class on the stack, changes nothing.
+pub fn adds_nothing(
+    m: &HandledMethod<'_>,
+    nodes: &Nodes,
+    to: u32,
+    f: &TypeFrame,
+    class: u16,
+) -> bool
+    requires level { AreLevel m.now nodes.now }
+    requires locals { HasLocals m.now f.now }
+    ensures { result ≡ true → brought m.now.code to (with_object class f.now) nodes.now ≡ nodes.now }
+{
+    m.laid_out();
+    match m.find(to) {
+        Some(i) => nodes.stays(i, f, class),
+        None => false,
+    }
+}
+
 /// An edge brings a frame to the instruction at a pc.
 pub fn bring(
     alloc: Global,
-    m: &IndexedMethod<'_>,
+    m: &HandledMethod<'_>,
     nodes: &mut Nodes,
     to: u32,
     f: &TypeFrame,
@@ -88,7 +107,7 @@ pub fn bring(
 /// The last edge of a visit brings a frame to the instruction at a pc.
 pub fn bring_last(
     alloc: Global,
-    m: &IndexedMethod<'_>,
+    m: &HandledMethod<'_>,
     nodes: &mut Nodes,
     to: u32,
     f: TypeFrame,
@@ -109,7 +128,7 @@ pub fn bring_last(
 /// clash with none.
 fn bring_each(
     alloc: Global,
-    m: &IndexedMethod<'_>,
+    m: &HandledMethod<'_>,
     nodes: &mut Nodes,
     tos: &[u32],
     f: &TypeFrame,
@@ -131,7 +150,7 @@ fn bring_each(
 /// Edges bring a frame to the instructions at these pcs; the frame itself is kept where the last finds none.
 pub fn bring_all(
     alloc: Global,
-    m: &IndexedMethod<'_>,
+    m: &HandledMethod<'_>,
     nodes: &mut Nodes,
     tos: &[u32],
     f: TypeFrame,

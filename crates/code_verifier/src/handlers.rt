@@ -6,12 +6,12 @@ ghost use Rattle.jvm_types.specs.Types.{TypeFrame};
 ghost use Rattle.jvm_types.specs.Verifying.{caught_class, catch_fault, covering, handled};
 ghost use Rattle.code_verifier.specs.Visiting.{HasLocals, AreLevel, Leaves, Keeps, caught};
 
-use crate::edges::{bring_last, clash};
+use crate::edges::{adds_nothing, bring_last, clash_at};
 use crate::error::VerifyError;
 use crate::frames::{with_object, without_stack};
 use crate::nodes::Nodes;
-use crate::rules::{covers, is_covered};
-use code_table::{IndexedMethod, is_subclass};
+use code_table::is_subclass;
+use handler_rows::HandledMethod;
 use jvm_types::class_numbers::THROWABLE_CLASS;
 use jvm_types::{MethodInfo, Row, TypeFrame, VRule};
 use std::alloc::{AllocError, Global};
@@ -43,7 +43,7 @@ fn catch_fault(m: &MethodInfo, pc: u32, row: &Row) -> Option<(VRule, u32)>
 /// The edge to the handler of a row that covers a pc.
 fn catch_row(
     alloc: Global,
-    m: &IndexedMethod<'_>,
+    m: &HandledMethod<'_>,
     nodes: &mut Nodes,
     pc: u32,
     f: &TypeFrame,
@@ -57,10 +57,14 @@ fn catch_row(
     if let Some((rule, at)) = catch_fault(m.method(), pc, row) {
         return Err(VerifyError::Refused(rule, at));
     }
-    if let Some(at) = clash(m, nodes, &[row.handler], 1) {
+    if let Some(at) = clash_at(m, nodes, row.handler, 1) {
         return Err(VerifyError::Refused(VRule::V5, at));
     }
-    let at_handler = with_object(alloc, f, caught_class(row))?;
+    let class = caught_class(row);
+    if adds_nothing(m, nodes, row.handler, f, class) {
+        return Ok(());
+    }
+    let at_handler = with_object(alloc, f, class)?;
     bring_last(alloc, m, nodes, row.handler, at_handler)?;
     Ok(())
 }
@@ -68,7 +72,7 @@ fn catch_row(
 /// The edges to the handlers of the rows that cover a pc, row by row.
 fn handle(
     alloc: Global,
-    m: &IndexedMethod<'_>,
+    m: &HandledMethod<'_>,
     nodes: &mut Nodes,
     pc: u32,
     f: &TypeFrame,
@@ -78,10 +82,10 @@ fn handle(
     ensures left { Leaves (handled m.now pc f.now (covering m.now pc) nodes.old) nodes.new result }
     ensures level { OnOk result (AreLevel m.now nodes.new) }
 {
-    for row in m.method().rows.as_slice() {
-        if covers(pc, row) {
-            catch_row(alloc, m, nodes, pc, f, row)?;
-        }
+    let mut k = 0;
+    while let Some((behind, row)) = m.next_row(k, pc, 0) {
+        catch_row(alloc, m, nodes, pc, f, row)?;
+        k = behind;
     }
     Ok(())
 }
@@ -89,13 +93,13 @@ fn handle(
 /// What is kept of a frame for the handlers of the rows that cover a pc, where there are some: all but the stack.
 pub fn keep_for_handlers(
     alloc: Global,
-    m: &MethodInfo,
+    m: &HandledMethod<'_>,
     pc: u32,
     f: &TypeFrame,
 ) -> Result<Option<TypeFrame>, AllocError>
     ensures { IfOk result (Keeps m.now pc f.now) }
 {
-    if is_covered(pc, m.rows.as_slice()) {
+    if m.is_covered(pc) {
         Ok(Some(without_stack(alloc, f)?))
     } else {
         Ok(None)
@@ -105,7 +109,7 @@ pub fn keep_for_handlers(
 /// The edges to the handlers of the rows that cover a pc, with what was kept of the frame there.
 pub fn handle_kept(
     alloc: Global,
-    m: &IndexedMethod<'_>,
+    m: &HandledMethod<'_>,
     nodes: &mut Nodes,
     pc: u32,
     kept: &Option<TypeFrame>,

@@ -1,10 +1,13 @@
 //! Frames where edges meet.
 
-ghost use Rattle.std.specs.Prelude.{◌≡◌, true, not, length, IfOk};
+ghost use Rattle.std.specs.Prelude.{◌≡◌, ◌&&◌, true, not, length, IfOk};
 ghost use Rattle.jvm_types.specs.Types.{meet_frames, same_frame};
+ghost use Rattle.code_verifier.specs.Visiting.{with_object};
 
-use crate::type_lists::{meet_locals, meet_stacks, same_types};
-use jvm_types::TypeFrame;
+use crate::type_lists::{
+    first_type, locals_stay, meet_locals, meet_stacks, same_types, type_stays,
+};
+use jvm_types::{TypeFrame, VType};
 use std::alloc::{AllocError, Global};
 
 /// Whether a frame is another; it may be told not to be where last locals of which nothing is known are kept in one of
@@ -20,6 +23,28 @@ fn is_same(frame: &TypeFrame, other: &TypeFrame) -> bool
         return false;
     }
     same_types(frame.first_locals(), other.first_locals())
+}
+
+/// Whether `this` is initialised in a frame and not in another.
+fn loses_this(frame: &TypeFrame, other: &TypeFrame) -> bool
+    ensures { result ≡ (frame.now.ready && not other.now.ready) }
+{
+    frame.is_ready() && !other.is_ready()
+}
+
+/// Whether a frame stays as it is where it meets the locals of another, with one object of a class on the stack.
+pub fn stays(frame: &TypeFrame, other: &TypeFrame, class: u16) -> bool
+    requires { length frame.now.locals ≡ length other.now.locals }
+    ensures { result ≡ true → same_frame frame.now (meet_frames frame.now (with_object class other.now)) ≡ true }
+{
+    if frame.stack().len() != 1 {
+        return false;
+    }
+    if loses_this(frame, other) {
+        return false;
+    }
+    type_stays(first_type(frame.stack()), VType::Ref(class))
+        && locals_stay(frame.first_locals(), other)
 }
 
 /// The frame where two meet, which takes the place of the first; and whether that changed it.

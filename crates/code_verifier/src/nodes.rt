@@ -3,11 +3,12 @@
 ghost use Rattle.std.specs.Prelude.{◌≡◌, ◌<◌, ◌||◌, [], length, map, replicate, slice_set, true, false, Some, None, IfOk, OnOk, OnSome};
 ghost use Rattle.std.specs.Option.{option_copied, IfSome, IfNone};
 ghost use Rattle.jvm_types.specs.Verifying.{node_at, node_met, next_visit, has_other_depth};
+ghost use Rattle.code_verifier.specs.Visiting.{with_object};
 ghost use Rattle.code_verifier.specs.Waiting.{met, changes, Fits, unreached};
 
 use crate::budget::{Budget, NODE_BYTES, bytes_of};
 use crate::frames::copy;
-use crate::meeting::meet_frames;
+use crate::meeting::{meet_frames, stays};
 use jvm_types::{Rows, TypeFrame, Typing};
 use std::alloc::{AllocError, Global};
 use std::collections::BTreeSet;
@@ -111,6 +112,18 @@ impl Nodes {
         let i = self.waiting.pop_first()?;
         self.nodes[i].waits = false;
         Some(i)
+    }
+
+    /// Whether the instruction of this number has a frame that meeting the locals of another, with one object of a
+    /// class on the stack, doesn't change.
+    pub fn stays(&self, i: usize, f: &TypeFrame, class: u16) -> bool
+        requires { IfSome (node_at self.now i).frame (λ g. length g.locals ≡ length f.now.locals) }
+        ensures { result ≡ true → slice_set self.now i (node_met (node_at self.now i) (node_at self.now i).frame (with_object class f.now)) ≡ self.now }
+    {
+        match self.frame(i) {
+            Some(frame) => stays(frame, f, class),
+            None => false,
+        }
     }
 
     /// The frame of the instruction of this number becomes that where it and another meet; answers whether that

@@ -5,7 +5,8 @@ ghost use Rattle.jvm_types.specs.Verifying.{misuses, suits, some_taken, some_rea
 ghost use Rattle.code_verifier.specs.Faults.{has_fault};
 
 use crate::frames::value;
-use code_table::{IndexedMethod, is_below, is_uninitialised};
+use code_table::{is_below, is_uninitialised};
+use handler_rows::HandledMethod;
 use jvm_types::class_numbers::OBJECT_CLASS;
 use jvm_types::{MethodInfo, OpRow, Stack, TypeFrame, VType, Want};
 
@@ -29,7 +30,7 @@ fn misuses(m: &MethodInfo, want: Want, t: VType) -> bool
     }
 }
 
-fn suits(m: &IndexedMethod<'_>, want: Want, t: VType) -> bool
+fn suits(m: &HandledMethod<'_>, want: Want, t: VType) -> bool
     ensures { result ≡ suits m.now want t }
 {
     match (want, t) {
@@ -44,7 +45,7 @@ fn suits(m: &IndexedMethod<'_>, want: Want, t: VType) -> bool
     }
 }
 
-fn has_fault(m: &IndexedMethod<'_>, fault: Fault, want: Want, t: VType) -> bool
+fn has_fault(m: &HandledMethod<'_>, fault: Fault, want: Want, t: VType) -> bool
     ensures { result ≡ has_fault m.now fault want t }
 {
     match fault {
@@ -53,7 +54,7 @@ fn has_fault(m: &IndexedMethod<'_>, fault: Fault, want: Want, t: VType) -> bool
     }
 }
 
-fn some_taken(m: &IndexedMethod<'_>, fault: Fault, takes: &[Want], stack: &Stack<VType>) -> bool
+fn some_taken(m: &HandledMethod<'_>, fault: Fault, takes: &[Want], stack: &Stack<VType>) -> bool
     ensures { result ≡ some_taken (has_fault m.now fault) takes.now stack.now }
 {
     for (place, want) in takes.iter().enumerate() {
@@ -69,7 +70,7 @@ fn some_taken(m: &IndexedMethod<'_>, fault: Fault, takes: &[Want], stack: &Stack
     false
 }
 
-fn some_read(m: &IndexedMethod<'_>, fault: Fault, reads: Option<(u16, Want)>, f: &TypeFrame) -> bool
+fn some_read(m: &HandledMethod<'_>, fault: Fault, reads: Option<(u16, Want)>, f: &TypeFrame) -> bool
     ensures { result ≡ some_read (has_fault m.now fault) reads f.now.locals }
 {
     let Some((i, want)) = reads else {
@@ -82,7 +83,7 @@ fn some_read(m: &IndexedMethod<'_>, fault: Fault, reads: Option<(u16, Want)>, f:
 }
 
 /// Whether some value that is taken, or the local that is read, has the fault.
-pub fn some_operand(m: &IndexedMethod<'_>, fault: Fault, row: &OpRow, f: &TypeFrame) -> bool
+pub fn some_operand(m: &HandledMethod<'_>, fault: Fault, row: &OpRow, f: &TypeFrame) -> bool
     ensures { result ≡ some_operand (has_fault m.now fault) row.now f.now }
 {
     some_taken(m, fault, row.takes.as_slice(), f.stack()) || some_read(m, fault, row.reads, f)

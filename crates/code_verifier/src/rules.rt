@@ -2,12 +2,13 @@
 
 ghost use Rattle.std.specs.Prelude.{◌≡◌, ◌==◌};
 ghost use Rattle.std.specs.List.{list_any};
-ghost use Rattle.jvm_types.specs.Verifying.{takes_too_many, gives_too_many, names_no_local, lacks_locals, covers, is_return, misuses_object, mistypes, returns_wrongly, falls_off, broken_before, broken_after};
+ghost use Rattle.jvm_types.specs.Verifying.{takes_too_many, gives_too_many, names_no_local, lacks_locals, is_return, misuses_object, mistypes, returns_wrongly, falls_off, broken_before, broken_after};
 
 use crate::frames::{has_new_local, has_uninitialised};
 use crate::operands::{Fault, some_operand};
-use code_table::{IndexedMethod, falls_through, goes_back};
-use jvm_types::{Insn, Kind, MethodInfo, Op, OpRow, Row, TypeFrame, VRule};
+use code_table::{falls_through, goes_back};
+use handler_rows::HandledMethod;
+use jvm_types::{Insn, Kind, MethodInfo, Op, OpRow, TypeFrame, VRule};
 
 /// V1: the stack has too few values.
 fn takes_too_many(row: &OpRow, f: &TypeFrame) -> bool
@@ -43,20 +44,6 @@ fn lacks_locals(m: &MethodInfo, row: &OpRow, f: &TypeFrame) -> bool
         || usize::from(m.max_locals) < f.local_count()
 }
 
-/// Whether a handler row covers a pc (JVMS 2.10).
-pub fn covers(pc: u32, row: &Row) -> bool
-    ensures { result ≡ covers pc row.now }
-{
-    row.start <= pc && pc < row.end
-}
-
-/// Whether some handler row covers a pc.
-pub fn is_covered(pc: u32, rows: &[Row]) -> bool
-    ensures { result ≡ list_any (covers pc) rows.now }
-{
-    rows.iter().any(|row| covers(pc, row))
-}
-
 fn is_return(op: &Op) -> bool
     ensures { result ≡ is_return op.now }
 {
@@ -64,17 +51,17 @@ fn is_return(op: &Op) -> bool
 }
 
 /// V7: an uninitialised object is misused.
-fn misuses_object(m: &IndexedMethod<'_>, insn: &Insn, row: &OpRow, f: &TypeFrame) -> bool
+fn misuses_object(m: &HandledMethod<'_>, insn: &Insn, row: &OpRow, f: &TypeFrame) -> bool
     ensures { result ≡ misuses_object m.now insn.now row.now f.now }
 {
     some_operand(m, Fault::Misuse, row, f)
         || (goes_back(insn.pc, &insn.op) && has_uninitialised(f))
-        || (is_covered(insn.pc, m.method().rows.as_slice()) && has_new_local(f))
+        || (m.is_covered(insn.pc) && has_new_local(f))
         || (is_return(&insn.op) && !f.is_ready())
 }
 
 /// V4: a value of another type.
-fn mistypes(m: &IndexedMethod<'_>, row: &OpRow, f: &TypeFrame) -> bool
+fn mistypes(m: &HandledMethod<'_>, row: &OpRow, f: &TypeFrame) -> bool
     ensures { result ≡ mistypes m.now row.now f.now }
 {
     some_operand(m, Fault::Mistype, row, f)
@@ -93,14 +80,14 @@ fn returns_wrongly(op: &Op, kind: Option<Kind>) -> bool
 }
 
 /// Whether an instruction begins at a pc.
-fn begins_at(m: &IndexedMethod<'_>, pc: u32) -> bool
+fn begins_at(m: &HandledMethod<'_>, pc: u32) -> bool
     ensures { result ≡ list_any (λ other. other.pc == pc) m.now.code }
 {
     m.find(pc).is_some()
 }
 
 /// V6: the code falls off its end.
-fn falls_off(m: &IndexedMethod<'_>, insn: &Insn) -> bool
+fn falls_off(m: &HandledMethod<'_>, insn: &Insn) -> bool
     ensures { result ≡ falls_off m.now.code insn.now }
 {
     falls_through(&insn.op) && !begins_at(m, insn.next)
@@ -108,7 +95,7 @@ fn falls_off(m: &IndexedMethod<'_>, insn: &Insn) -> bool
 
 /// The first rule that is broken before an edge is brought.
 pub fn broken_before(
-    m: &IndexedMethod<'_>,
+    m: &HandledMethod<'_>,
     insn: &Insn,
     row: &OpRow,
     f: &TypeFrame,
@@ -131,7 +118,7 @@ pub fn broken_before(
 }
 
 /// The first rule that is broken after the normal edges were brought.
-pub fn broken_after(m: &IndexedMethod<'_>, insn: &Insn) -> Option<VRule>
+pub fn broken_after(m: &HandledMethod<'_>, insn: &Insn) -> Option<VRule>
     ensures { result ≡ broken_after m.now insn.now }
 {
     if returns_wrongly(&insn.op, m.method().result) {

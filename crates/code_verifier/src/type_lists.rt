@@ -2,7 +2,7 @@
 
 ghost use Rattle.std.specs.Prelude.{◌≡◌, ◌<◌, ◌≤◌, not, if◌then◌else◌, length, slice_get, Some, OnOk};
 ghost use Rattle.std.specs.List.{list_any};
-ghost use Rattle.jvm_types.specs.Types.{filled, is_uninitialised, is_new, same_type, all_pairs, meets};
+ghost use Rattle.jvm_types.specs.Types.{filled, is_uninitialised, is_new, same_type, all_pairs, meet, meets};
 ghost use Rattle.jvm_types.specs.Verifying.{initialised};
 ghost use Rattle.jvm_types.specs.declared.typing.VType.TheVariants.{Ref};
 
@@ -75,6 +75,41 @@ fn type_of_local(f: &TypeFrame, i: usize) -> VType
         Some(t) => t,
         None => unreachable!(),
     }
+}
+
+fn type_in(types: &[VType], i: usize) -> VType
+    requires { i < length types.now }
+    ensures { slice_get types.now i ≡ Some result }
+{
+    types[i]
+}
+
+/// The type on the top of a stack.
+pub fn first_type(stack: &Stack<VType>) -> VType
+    requires { 0 < length stack.now }
+    ensures { slice_get stack.now 0 ≡ Some result }
+{
+    type_on(stack, 0)
+}
+
+/// Whether a type stays as it is where it meets another.
+pub fn type_stays(t: VType, other: VType) -> bool
+    ensures { result ≡ same_type t (meet t other) }
+{
+    same_type(t, meet(t, other))
+}
+
+/// Whether some types stay as they are where they meet the first locals of a frame.
+pub fn locals_stay(types: &[VType], other: &TypeFrame) -> bool
+    requires { length types.now ≤ length other.now.locals }
+    ensures { result ≡ all_pairs same_type types.now (meets types.now other.now.locals) }
+{
+    for i in 0..types.len() {
+        if !type_stays(type_in(types, i), type_of_local(other, i)) {
+            return false;
+        }
+    }
+    true
 }
 
 /// A type where the object becomes one of the class.

@@ -14,7 +14,7 @@ use crate::entry::entry_frame;
 use crate::error::VerifyError;
 use crate::nodes::Nodes;
 use crate::visit::visit;
-use code_table::IndexedMethod;
+use handler_rows::HandledMethod;
 use jvm_types::{MethodInfo, Program, Typing};
 use std::alloc::{AllocError, Global};
 
@@ -35,7 +35,7 @@ fn first_nodes(alloc: Global, m: &MethodInfo, budget: Budget) -> Result<Nodes, A
 fn settle(
     alloc: Global,
     p: &Program,
-    m: &IndexedMethod<'_>,
+    m: &HandledMethod<'_>,
     nodes: &mut Nodes,
 ) -> Result<(), VerifyError>
     requires level { AreLevel m.now nodes.old }
@@ -62,7 +62,7 @@ pub(crate) fn verify_method(
     ensures refused { IfErr result (IsRefusal p.now m.now) }
     ensures spent { budget.new ≤ budget.old }
 {
-    let indexed = IndexedMethod::of(alloc, m)?;
+    let indexed = HandledMethod::of(alloc, m)?;
     let mut nodes = first_nodes(alloc, m, Budget::of(budget.left()))?;
     settle(alloc, p, &indexed, &mut nodes)?;
     budget.lower(nodes.bytes_left());

@@ -12,14 +12,15 @@ use crate::error::VerifyError;
 use crate::handlers::{handle_kept, keep_for_handlers};
 use crate::nodes::Nodes;
 use crate::rules::{broken_after, broken_before};
-use code_table::{IndexedMethod, edges, row};
+use code_table::{edges, row};
+use handler_rows::HandledMethod;
 use jvm_types::{Insn, OpRow, Program, TypeFrame, VRule};
 use std::alloc::Global;
 
 /// The edges of an instruction that leaves a frame, and keeps this of the one that it finds.
 fn go_on(
     alloc: Global,
-    m: &IndexedMethod<'_>,
+    m: &HandledMethod<'_>,
     nodes: &mut Nodes,
     insn: &Insn,
     kept: &Option<TypeFrame>,
@@ -45,7 +46,7 @@ fn go_on(
 /// The frame after an instruction that has this row and finds this frame, and what is kept for handlers.
 fn prepare(
     alloc: Global,
-    m: &IndexedMethod<'_>,
+    m: &HandledMethod<'_>,
     insn: &Insn,
     row: &OpRow,
     f: &TypeFrame,
@@ -56,7 +57,7 @@ fn prepare(
         return Err(VerifyError::Refused(rule, insn.pc));
     }
     let after = frame_after(alloc, m.method(), row, f)?;
-    let kept = keep_for_handlers(alloc, m.method(), insn.pc, f)?;
+    let kept = keep_for_handlers(alloc, m, insn.pc, f)?;
     Ok((after, kept))
 }
 
@@ -64,7 +65,7 @@ fn prepare(
 pub fn visit(
     alloc: Global,
     p: &Program,
-    m: &IndexedMethod<'_>,
+    m: &HandledMethod<'_>,
     nodes: &mut Nodes,
     i: usize,
 ) -> Result<(), VerifyError>

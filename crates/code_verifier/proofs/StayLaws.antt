@@ -1,0 +1,91 @@
+-- Frames that stay as they are where they meet others.
+use Rattle.std.proofs.Common.{◌≡◌, ℕ, zero, suc, ◌+◌, Bool, true, false, not, List, [], ◌∷◌, drop, length, Option, Some, None, refl, sym, ap, ◌∙◌, add-one, arith}
+use Rattle.std.specs.Prelude.{◌&&◌, ◌||◌, slice_get, slice_set}
+use Rattle.std.specs.Option.{IfSome}
+use Rattle.jvm_types.specs.Types.{TypeFrame, filled, same_type, meet, all_pairs, meets, meet_frames, same_frame}
+use Rattle.jvm_types.specs.Verifying.{Node, node_at, node_met}
+use Rattle.jvm_types.specs.declared.program.MethodInfo.{MethodInfo}
+use Rattle.jvm_types.specs.declared.typing.VType.{VType}
+use Rattle.jvm_types.specs.declared.typing.VType.TheVariants.{Ref}
+use Rattle.laws_programs.proofs.LocalRisen.{same_frames}
+use Rattle.code_verifier.specs.Visiting.{with_object, HasLocals}
+use Rattle.code_verifier.proofs.FrameLaws.{frames_told}
+
+-- ---- types
+
+stay_more : (ts us : List VType) (i : ℕ) (t u : VType) → slice_get ts i ≡ Some t → slice_get us i ≡ Some u
+    → all_pairs same_type (drop i ts) (meets (drop i ts) (drop i us)) ≡ (same_type t (meet t u) && all_pairs same_type (drop (suc i) ts) (meets (drop (suc i) ts) (drop (suc i) us)))
+stay_more [] us i t u e f = absurd (cc)
+stay_more (x ∷ xs) [] i t u e f = absurd (cc)
+stay_more (x ∷ xs) (y ∷ ys) zero t u e f =
+    let same : x ≡ t = cc in
+    let other : y ≡ u = cc in
+    rw (same, other) refl
+stay_more (x ∷ xs) (y ∷ ys) (suc i) t u e f = stay_more xs ys i t u e f
+
+pub stay_stop : (ts us : List VType) (i : ℕ) (t u : VType) (whole : Bool) → slice_get ts i ≡ Some t → slice_get us i ≡ Some u → false ≡ same_type t (meet t u)
+    → all_pairs same_type (drop i ts) (meets (drop i ts) (drop i us)) ≡ whole → false ≡ whole
+stay_stop ts us i t u whole e f s h =
+    ap (λ b. b && all_pairs same_type (drop (suc i) ts) (meets (drop (suc i) ts) (drop (suc i) us))) s ∙ sym (stay_more ts us i t u e f) ∙ h
+
+pub stay_on : (ts us : List VType) (i : ℕ) (t u : VType) (whole : Bool) → slice_get ts i ≡ Some t → slice_get us i ≡ Some u → true ≡ same_type t (meet t u)
+    → all_pairs same_type (drop i ts) (meets (drop i ts) (drop i us)) ≡ whole → all_pairs same_type (drop (i + 1) ts) (meets (drop (i + 1) ts) (drop (i + 1) us)) ≡ whole
+stay_on ts us i t u whole e f s h =
+    rw add-one (ap (λ b. b && all_pairs same_type (drop (suc i) ts) (meets (drop (suc i) ts) (drop (suc i) us))) s ∙ sym (stay_more ts us i t u e f) ∙ h)
+
+-- ---- a frame
+
+one_type : (ts : List VType) (t : VType) → length ts ≡ 1 → slice_get ts 0 ≡ Some t → ts ≡ t ∷ []
+one_type [] t l e = absurd (cc)
+one_type (x ∷ []) t l e = let same : x ≡ t = cc in ap (λ y. y ∷ []) same
+one_type (x ∷ y ∷ ts) t l e = absurd (omega (arith, l))
+
+ready_stays : (was both : Bool) → (was && not both) ≡ false → (was && not (was && both)) ≡ false
+ready_stays true true e = refl
+ready_stays true false e = e
+ready_stays false both e = refl
+
+not_false : (b : Bool) → not b ≡ false → b ≡ true
+not_false true e = refl
+not_false false e = absurd (cc)
+
+by_told : (s l was both same : Bool) → ((not s || not l) || (was && not (was && both))) ≡ not same → s ≡ true → l ≡ true → (was && not both) ≡ false → same ≡ true
+by_told true true was both same told es el er = not_false same (sym told ∙ ready_stays was both er)
+by_told false l was both same told es el er = absurd (cc)
+by_told true false was both same told es el er = absurd (cc)
+
+one_pair : (ts : List VType) (t u : VType) → ts ≡ t ∷ [] → same_type t (meet t u) ≡ true → all_pairs same_type ts (meets ts (u ∷ [])) ≡ true
+one_pair ts t u e s = ap (λ xs. all_pairs same_type xs (meets xs (u ∷ []))) e ∙ ap (λ b. b && true) s
+
+pub frame_stays : (frame f : TypeFrame) (class : ℕ) (first : List VType) (t : VType) → length frame.locals ≡ length f.locals → filled (length frame.locals) first ≡ frame.locals
+    → length frame.stack ≡ 1 → slice_get frame.stack 0 ≡ Some t → same_type t (meet t (Ref class)) ≡ true → all_pairs same_type first (meets first f.locals) ≡ true → (frame.ready && not f.ready) ≡ false
+    → same_frame frame (meet_frames frame (with_object class f)) ≡ true
+frame_stays frame f class first t long fill deep top one all ready =
+    by_told (all_pairs same_type frame.stack (meets frame.stack (Ref class ∷ []))) (all_pairs same_type first (meets first f.locals)) frame.ready f.ready
+    (same_frame frame (meet_frames frame (with_object class f)))
+    (frames_told frame (with_object class f) first (not (all_pairs same_type frame.stack (meets frame.stack (Ref class ∷ [])))) (not (all_pairs same_type first (meets first f.locals))) frame.ready f.ready long fill refl refl refl refl)
+    (one_pair frame.stack t (Ref class) (one_type frame.stack t deep top) one) all ready
+
+-- ---- a node
+
+or_none : (b : Bool) → (b || false) ≡ b
+or_none true = refl
+or_none false = refl
+
+node_stays : (node : Node) (g f : TypeFrame) → Some g ≡ node.frame → same_frame g (meet_frames g f) ≡ true → node_met node node.frame f ≡ node
+node_stays node g f e s =
+    ap (λ o. node_met node o f) (sym e)
+    ∙ (λ i. record { frame = (ap Some (sym (same_frames g (meet_frames g f) s)) ∙ e) i; waits = (ap (λ b. node.waits || not b) s ∙ or_none node.waits) i })
+
+set_there : (nodes : List Node) (i : ℕ) (node : Node) → node ≡ node_at nodes i → slice_set nodes i node ≡ nodes
+set_there [] i node e = refl
+set_there (x ∷ xs) zero node e = ap (λ y. y ∷ xs) e
+set_there (x ∷ xs) (suc i) node e = ap (λ ys. x ∷ ys) (set_there xs i node e)
+
+pub stays_there : (nodes : List Node) (i : ℕ) (g f : TypeFrame) → Some g ≡ (node_at nodes i).frame → same_frame g (meet_frames g f) ≡ true
+    → slice_set nodes i (node_met (node_at nodes i) (node_at nodes i).frame f) ≡ nodes
+stays_there nodes i g f e s = set_there nodes i (node_met (node_at nodes i) (node_at nodes i).frame f) (node_stays (node_at nodes i) g f e s)
+
+pub as_wide : (m : MethodInfo) (f : TypeFrame) (o : Option TypeFrame) → HasLocals m f → IfSome o (HasLocals m) → IfSome o (λ g. length g.locals ≡ length f.locals)
+as_wide m f None h k = tt
+as_wide m f (Some g) h k = k ∙ sym h
