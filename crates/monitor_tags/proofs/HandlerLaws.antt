@@ -1,8 +1,8 @@
 -- The handlers that an exception may go to, row by row.
-use Rattle.std.proofs.Common.{◌≡◌, ℕ, ◌+◌, ◌<◌, Bool, true, false, List, [], ◌∷◌, length, drop, Ok, Result, refl, sym, ap, ◌∙◌}
-use Rattle.std.specs.Prelude.{◌||◌, ◌&&◌, if◌then◌else◌, slice_index_or}
-use Rattle.std.specs.List.{list_any, filter}
-use Rattle.std.proofs.lemmas.List.{drop_more}
+use Rattle.std.proofs.Common.{◌≡◌, ℕ, Bool, true, false, List, [], ◌∷◌, Ok, Result, refl, sym, ap, ◌∙◌}
+use Rattle.std.specs.Prelude.{◌&&◌, if◌then◌else◌}
+use Rattle.std.specs.List.{list_any}
+use Rattle.handler_rows.proofs.PickedRows.{uncovered}
 use Rattle.jvm_types.specs.CodeTable.{can_throw}
 use Rattle.jvm_types.specs.Verifying.{covers, covering}
 use Rattle.jvm_types.specs.declared.code.Insn.{Insn}
@@ -16,21 +16,13 @@ use Rattle.monitor_tags.proofs.VisitLaws.{then_does}
 
 -- ---- whether there are some
 
-none_covers : (p : Row → Bool) (rows : List Row) → list_any p rows ≡ false → filter p rows ≡ []
-none_covers p [] e = refl
-none_covers p (row ∷ rows) e = by_test (p row) e (none_covers p rows)
-  where
-    by_test : (t : Bool) → (t || list_any p rows) ≡ false → (list_any p rows ≡ false → filter p rows ≡ []) → (if t then row ∷ filter p rows else filter p rows) ≡ []
-    by_test true e more = absurd (cc)
-    by_test false e more = more e
-
 pub no_catchers : (m : MethodInfo) (insn : Insn) → (can_throw insn.op && list_any (covers insn.pc) m.rows) ≡ false → catchers m insn ≡ []
 no_catchers m insn e = by_tests (can_throw insn.op) (list_any (covers insn.pc) m.rows) refl e
   where
     by_tests : (t s : Bool) → list_any (covers insn.pc) m.rows ≡ s → (t && s) ≡ false → (if t then until_all (covering m insn.pc) else []) ≡ []
     by_tests false s x e = refl
     by_tests true true x e = absurd (cc)
-    by_tests true false x e = ap until_all (none_covers (covers insn.pc) m.rows x)
+    by_tests true false x e = ap until_all (uncovered insn.pc m.rows x)
 
 pub some_catchers : (m : MethodInfo) (insn : Insn) → (can_throw insn.op && list_any (covers insn.pc) m.rows) ≡ true → catchers m insn ≡ until_all (covering m insn.pc)
 some_catchers m insn e = by_tests (can_throw insn.op) (list_any (covers insn.pc) m.rows) e
@@ -39,49 +31,20 @@ some_catchers m insn e = by_tests (can_throw insn.op) (list_any (covers insn.pc)
     by_tests true s e = refl
     by_tests false s e = absurd (cc)
 
--- ---- those of the rows from one on
+-- ---- one row on
 
-abbrev pub handlers_from : ℕ → List Row → ℕ → List Row
-handlers_from pc rows k = until_all (filter (covers pc) (drop k rows))
+until_last : (rows rest : List Row) (row : Row) → rows ≡ row ∷ rest → catches_all row ≡ true → until_all rows ≡ row ∷ []
+until_last rows rest row e c = ap until_all e ∙ ap (λ (t : Bool). if t then row ∷ [] else row ∷ until_all rest) c
 
-pub uncovered : (pc : ℕ) (rows : List Row) (k : ℕ) (d : Row) → k < length rows → covers pc (slice_index_or rows k d) ≡ false → handlers_from pc rows (k + 1) ≡ handlers_from pc rows k
-uncovered pc rows k d h e = sym (ap (λ l. until_all (filter (covers pc) l)) (drop_more rows k d h) ∙ by_test (covers pc (slice_index_or rows k d)) e)
-  where
-    by_test : (t : Bool) → t ≡ false → until_all (if t then slice_index_or rows k d ∷ filter (covers pc) (drop (k + 1) rows) else filter (covers pc) (drop (k + 1) rows)) ≡ handlers_from pc rows (k + 1)
-    by_test true e = absurd (cc)
-    by_test false e = refl
+until_more : (rows rest : List Row) (row : Row) → rows ≡ row ∷ rest → catches_all row ≡ false → until_all rows ≡ row ∷ until_all rest
+until_more rows rest row e c = ap until_all e ∙ ap (λ (t : Bool). if t then row ∷ [] else row ∷ until_all rest) c
 
-covered : (pc : ℕ) (rows : List Row) (k : ℕ) (d : Row) → k < length rows → covers pc (slice_index_or rows k d) ≡ true
-    → handlers_from pc rows k ≡ (if catches_all (slice_index_or rows k d) then slice_index_or rows k d ∷ [] else slice_index_or rows k d ∷ handlers_from pc rows (k + 1))
-covered pc rows k d h e = ap (λ l. until_all (filter (covers pc) l)) (drop_more rows k d h) ∙ by_test (covers pc (slice_index_or rows k d)) e
-  where
-    by_test : (t : Bool) → t ≡ true → until_all (if t then slice_index_or rows k d ∷ filter (covers pc) (drop (k + 1) rows) else filter (covers pc) (drop (k + 1) rows))
-        ≡ (if catches_all (slice_index_or rows k d) then slice_index_or rows k d ∷ [] else slice_index_or rows k d ∷ handlers_from pc rows (k + 1))
-    by_test true e = refl
-    by_test false e = absurd (cc)
+pub last_done : (m : MethodInfo) (f : TagShape) (rows rest : List Row) (row : Row) (nodes mid : Nodes) (whole : Result Nodes (SRule × ℕ)) → rows ≡ row ∷ rest → catches_all row ≡ true
+    → does m (to_handlers f (until_all rows)) nodes ≡ whole → does m (goes (row.handler ∷ []) f ∷ []) nodes ≡ Ok mid → whole ≡ Ok mid
+last_done m f rows rest row nodes mid whole e c inv l = sym inv ∙ ap (λ rows. does m (to_handlers f rows) nodes) (until_last rows rest row e c) ∙ l
 
-pub covered_last : (pc : ℕ) (rows : List Row) (k : ℕ) (d : Row) → k < length rows → covers pc (slice_index_or rows k d) ≡ true → catches_all (slice_index_or rows k d) ≡ true
-    → handlers_from pc rows k ≡ slice_index_or rows k d ∷ []
-covered_last pc rows k d h e c = covered pc rows k d h e ∙ by_test (catches_all (slice_index_or rows k d)) c
-  where
-    by_test : (t : Bool) → t ≡ true → (if t then slice_index_or rows k d ∷ [] else slice_index_or rows k d ∷ handlers_from pc rows (k + 1)) ≡ slice_index_or rows k d ∷ []
-    by_test true e = refl
-    by_test false e = absurd (cc)
-
-pub covered_more : (pc : ℕ) (rows : List Row) (k : ℕ) (d : Row) → k < length rows → covers pc (slice_index_or rows k d) ≡ true → catches_all (slice_index_or rows k d) ≡ false
-    → handlers_from pc rows k ≡ slice_index_or rows k d ∷ handlers_from pc rows (k + 1)
-covered_more pc rows k d h e c = covered pc rows k d h e ∙ by_test (catches_all (slice_index_or rows k d)) c
-  where
-    by_test : (t : Bool) → t ≡ false → (if t then slice_index_or rows k d ∷ [] else slice_index_or rows k d ∷ handlers_from pc rows (k + 1)) ≡ slice_index_or rows k d ∷ handlers_from pc rows (k + 1)
-    by_test true e = absurd (cc)
-    by_test false e = refl
-
-pub last_done : (m : MethodInfo) (pc : ℕ) (f : TagShape) (k : ℕ) (d : Row) (nodes mid : Nodes) (whole : Result Nodes (SRule × ℕ)) → k < length m.rows → covers pc (slice_index_or m.rows k d) ≡ true → catches_all (slice_index_or m.rows k d) ≡ true
-    → does m (to_handlers f (handlers_from pc m.rows k)) nodes ≡ whole → does m (goes ((slice_index_or m.rows k d).handler ∷ []) f ∷ []) nodes ≡ Ok mid → whole ≡ Ok mid
-last_done m pc f k d nodes mid whole h c a inv l = sym inv ∙ ap (λ rows. does m (to_handlers f rows) nodes) (covered_last pc m.rows k d h c a) ∙ l
-
-pub one_done : (m : MethodInfo) (pc : ℕ) (f : TagShape) (k : ℕ) (d : Row) (nodes mid : Nodes) (whole : Result Nodes (SRule × ℕ)) → k < length m.rows → covers pc (slice_index_or m.rows k d) ≡ true → catches_all (slice_index_or m.rows k d) ≡ false
-    → does m (to_handlers f (handlers_from pc m.rows k)) nodes ≡ whole → does m (goes ((slice_index_or m.rows k d).handler ∷ []) f ∷ []) nodes ≡ Ok mid → does m (to_handlers f (handlers_from pc m.rows (k + 1))) mid ≡ whole
-one_done m pc f k d nodes mid whole h c a inv l =
-    sym (then_does m (goes ((slice_index_or m.rows k d).handler ∷ []) f ∷ []) (to_handlers f (handlers_from pc m.rows (k + 1))) nodes mid l)
-    ∙ ap (λ rows. does m (to_handlers f rows) nodes) (sym (covered_more pc m.rows k d h c a)) ∙ inv
+pub one_done : (m : MethodInfo) (f : TagShape) (rows rest : List Row) (row : Row) (nodes mid : Nodes) (whole : Result Nodes (SRule × ℕ)) → rows ≡ row ∷ rest → catches_all row ≡ false
+    → does m (to_handlers f (until_all rows)) nodes ≡ whole → does m (goes (row.handler ∷ []) f ∷ []) nodes ≡ Ok mid → does m (to_handlers f (until_all rest)) mid ≡ whole
+one_done m f rows rest row nodes mid whole e c inv l =
+    sym (then_does m (goes (row.handler ∷ []) f ∷ []) (to_handlers f (until_all rest)) nodes mid l)
+    ∙ ap (λ rows. does m (to_handlers f rows) nodes) (sym (until_more rows rest row e c)) ∙ inv

@@ -6,3 +6,4 @@ pub mod VisitLaws
 pub mod HandlerLaws
 pub mod FirstNodes
 pub mod OneAnswer
+mod StayLaws

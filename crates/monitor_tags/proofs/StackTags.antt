@@ -1,8 +1,6 @@
 -- Stacks of tags, place by place.
 use Rattle.std.proofs.Common.{◌≡◌, ◌≢◌, ℕ, zero, suc, ◌<◌, max, min, ◌-◌, Bool, true, false, not, List, [], ◌∷◌, ◌++◌, length, take, drop, replicate, Some, refl, ap, ◌∙◌, subst, arith}
 use Rattle.std.specs.Prelude.{◌||◌, ◌&&◌, nat_lt, if◌then◌else◌, slice_get}
-use Rattle.std.specs.List.{list_any, filter}
-use Rattle.jvm_types.specs.declared.program.Row.{Row}
 use Rattle.checked_program.specs.LockTags.{TagShape, filled_tags, same_tag, same_tags, meet_tags}
 use Rattle.checked_program.specs.Tagging.{tag_meeting}
 use Rattle.checked_program.specs.declared.tag.Tag.{Tag}
@@ -74,13 +72,3 @@ frames_told frame other a b ea eb = rw (ea, eb, own_tags frame.held) (told_by (s
     told_by true true = refl
     told_by true false = refl
     told_by false l = refl
-
--- ---- handler rows
-
-pub any_covering : (p q : Row → Bool) (rows : List Row) → list_any (λ row. p row && q row) rows ≡ list_any q (filter p rows)
-any_covering p q [] = refl
-any_covering p q (row ∷ rows) = by_test (p row) (any_covering p q rows)
-  where
-    by_test : (b : Bool) → list_any (λ row. p row && q row) rows ≡ list_any q (filter p rows) → ((b && q row) || list_any (λ row. p row && q row) rows) ≡ list_any q (if b then row ∷ filter p rows else filter p rows)
-    by_test true h = ap (λ b. q row || b) h
-    by_test false h = h

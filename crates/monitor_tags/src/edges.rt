@@ -10,7 +10,7 @@ use crate::error::TagError;
 use crate::meeting::clashes;
 use crate::nodes::Nodes;
 use checked_program::TagFrame;
-use code_table::IndexedMethod;
+use handler_rows::HandledMethod;
 use jvm_types::SRule;
 use std::alloc::{AllocError, Global};
 
@@ -52,7 +52,7 @@ fn clash_place(nodes: &Nodes, number: Option<usize>, to: u32, f: &TagFrame) -> O
 }
 
 /// The pc that an edge leads to, where the frame there may not meet the one that is brought.
-fn clash_at(m: &IndexedMethod<'_>, nodes: &Nodes, to: u32, f: &TagFrame) -> Option<u32>
+fn clash_at(m: &HandledMethod<'_>, nodes: &Nodes, to: u32, f: &TagFrame) -> Option<u32>
     ensures { result ≡ clash tag_meeting m.now.code (to ∷ []) f.now nodes.now }
 {
     m.laid_out();
@@ -60,7 +60,7 @@ fn clash_at(m: &IndexedMethod<'_>, nodes: &Nodes, to: u32, f: &TagFrame) -> Opti
 }
 
 /// The first of the instructions that edges lead to whose frame may not meet the one that is brought.
-fn clash(m: &IndexedMethod<'_>, nodes: &Nodes, tos: &[u32], f: &TagFrame) -> Option<u32>
+fn clash(m: &HandledMethod<'_>, nodes: &Nodes, tos: &[u32], f: &TagFrame) -> Option<u32>
     ensures { result ≡ clash tag_meeting m.now.code tos.now f.now nodes.now }
 {
     m.laid_out();
@@ -74,7 +74,7 @@ fn clash(m: &IndexedMethod<'_>, nodes: &Nodes, tos: &[u32], f: &TagFrame) -> Opt
 /// An edge brings a frame to the instruction at a pc.
 fn bring(
     alloc: Global,
-    m: &IndexedMethod<'_>,
+    m: &HandledMethod<'_>,
     nodes: &mut Nodes,
     to: u32,
     f: &TagFrame,
@@ -91,7 +91,7 @@ fn bring(
 /// The last edge that brings a frame brings it to the instruction at a pc.
 fn bring_last(
     alloc: Global,
-    m: &IndexedMethod<'_>,
+    m: &HandledMethod<'_>,
     nodes: &mut Nodes,
     to: u32,
     f: TagFrame,
@@ -108,7 +108,7 @@ fn bring_last(
 /// Edges bring a frame to the instructions at these pcs.
 fn bring_each(
     alloc: Global,
-    m: &IndexedMethod<'_>,
+    m: &HandledMethod<'_>,
     nodes: &mut Nodes,
     tos: &[u32],
     f: &TagFrame,
@@ -126,7 +126,7 @@ fn bring_each(
 /// Edges bring a frame to the instructions at these pcs; the frame itself is kept where the last finds none.
 fn bring_all(
     alloc: Global,
-    m: &IndexedMethod<'_>,
+    m: &HandledMethod<'_>,
     nodes: &mut Nodes,
     tos: &[u32],
     f: TagFrame,
@@ -145,7 +145,7 @@ fn bring_all(
 /// A frame goes along edges, unless it may not meet one that is there (S3).
 pub fn go_along(
     alloc: Global,
-    m: &IndexedMethod<'_>,
+    m: &HandledMethod<'_>,
     nodes: &mut Nodes,
     tos: &[u32],
     f: TagFrame,
@@ -164,7 +164,7 @@ pub fn go_along(
 /// A frame goes to a handler, unless it may not meet the one that is there (S3).
 pub fn go_to(
     alloc: Global,
-    m: &IndexedMethod<'_>,
+    m: &HandledMethod<'_>,
     nodes: &mut Nodes,
     to: u32,
     f: &TagFrame,

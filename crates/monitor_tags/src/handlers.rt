@@ -12,23 +12,24 @@ use crate::after::frame_at_handler;
 use crate::edges::go_to;
 use crate::error::TagError;
 use crate::nodes::Nodes;
-use crate::rules::{catches_all, covers, is_covered};
+use crate::rules::catches_all;
 use checked_program::TagFrame;
-use code_table::{IndexedMethod, can_throw};
-use jvm_types::{Insn, MethodInfo};
+use code_table::can_throw;
+use handler_rows::HandledMethod;
+use jvm_types::Insn;
 use std::alloc::{AllocError, Global};
 
 /// Whether an exception of an instruction may go to some handler.
-fn has_catchers(m: &MethodInfo, insn: &Insn) -> bool
+fn has_catchers(m: &HandledMethod<'_>, insn: &Insn) -> bool
     ensures { result ≡ (can_throw insn.now.op && list_any (covers insn.now.pc) m.now.rows) }
 {
-    can_throw(&insn.op) && is_covered(insn.pc, m.rows.as_slice())
+    can_throw(&insn.op) && m.is_covered(insn.pc)
 }
 
 /// The frame at the handlers that an exception of an instruction may go to, where there are some.
 pub fn keep_for_handlers(
     alloc: Global,
-    m: &MethodInfo,
+    m: &HandledMethod<'_>,
     insn: &Insn,
     f: &TagFrame,
 ) -> Result<Option<TagFrame>, AllocError>
@@ -44,7 +45,7 @@ pub fn keep_for_handlers(
 /// A frame goes to the handlers of the rows that cover a pc, up to the first that catches all.
 fn handle(
     alloc: Global,
-    m: &IndexedMethod<'_>,
+    m: &HandledMethod<'_>,
     nodes: &mut Nodes,
     pc: u32,
     f: &TagFrame,
@@ -52,13 +53,13 @@ fn handle(
     requires { length nodes.old ≡ length m.now.code }
     ensures left { Leaves (does m.now (to_handlers f.now (until_all (covering m.now pc))) nodes.old) nodes.new result }
 {
-    for row in m.method().rows.as_slice() {
-        if covers(pc, row) {
-            go_to(alloc, m, nodes, row.handler, f)?;
-            if catches_all(row) {
-                return Ok(());
-            }
+    let mut k = 0;
+    while let Some((behind, row)) = m.next_row(k, pc, 0) {
+        go_to(alloc, m, nodes, row.handler, f)?;
+        if catches_all(row) {
+            return Ok(());
         }
+        k = behind;
     }
     Ok(())
 }
@@ -66,7 +67,7 @@ fn handle(
 /// What was kept of a frame goes to the handlers that an exception of an instruction may go to.
 pub fn handle_kept(
     alloc: Global,
-    m: &IndexedMethod<'_>,
+    m: &HandledMethod<'_>,
     nodes: &mut Nodes,
     insn: &Insn,
     kept: &Option<TagFrame>,

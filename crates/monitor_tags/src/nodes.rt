@@ -7,7 +7,7 @@ ghost use Rattle.checked_program.specs.Tagging.{tag_meeting};
 ghost use Rattle.monitor_tags.specs.Waiting.{node_at, met, changes};
 
 use crate::after::copy;
-use crate::meeting::meet_frames;
+use crate::meeting::{meet_frames, stays};
 use checked_program::{TagFrame, Tags};
 use code_verifier::Budget;
 use jvm_types::Rows;
@@ -130,6 +130,16 @@ impl Nodes {
         Some(i)
     }
 
+    /// Whether the instruction of this number has a frame that meeting another doesn't change.
+    fn stays(&self, i: usize, f: &TagFrame) -> bool
+        ensures { result ≡ true → slice_set self.now i (joined tag_meeting (node_at self.now i).waits (node_at self.now i).frame f.now) ≡ self.now }
+    {
+        match self.frame(i) {
+            Some(frame) => stays(frame, f),
+            None => false,
+        }
+    }
+
     /// The frame of the instruction of this number becomes that where it and another meet; answers whether that
     /// changes it.
     fn meet(&mut self, alloc: Global, i: usize, f: &TagFrame) -> Result<bool, AllocError>
@@ -155,6 +165,9 @@ impl Nodes {
         requires { i < length self.old }
         ensures { OnOk result (self.new ≡ slice_set self.old i (joined tag_meeting (node_at self.old i).waits (node_at self.old i).frame f.now)) }
     {
+        if self.stays(i, f) {
+            return Ok(());
+        }
         if self.meet(alloc, i, f)? {
             self.wait(i)?;
         }

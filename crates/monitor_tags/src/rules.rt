@@ -1,27 +1,14 @@
 //! The rules at one instruction, but for S3.
 
-ghost use Rattle.std.specs.Prelude.{◌≡◌, ◌&&◌};
+ghost use Rattle.std.specs.Prelude.{◌≡◌};
 ghost use Rattle.std.specs.List.{list_any};
-ghost use Rattle.jvm_types.specs.Verifying.{covers, covering, is_return};
+ghost use Rattle.jvm_types.specs.Verifying.{covering, is_return};
 ghost use Rattle.checked_program.specs.Tagging.{catches_all, enters_untagged, is_innermost, exits_other, may_leave, leaves_held};
 
 use checked_program::{Tag, same_tag};
 use code_table::can_throw;
-use jvm_types::{Insn, MethodInfo, Op, Row, Stack};
-
-/// Whether a handler row covers a pc (JVMS 2.10).
-pub fn covers(pc: u32, row: &Row) -> bool
-    ensures { result ≡ covers pc row.now }
-{
-    row.start <= pc && pc < row.end
-}
-
-/// Whether some handler row covers a pc.
-pub fn is_covered(pc: u32, rows: &[Row]) -> bool
-    ensures { result ≡ list_any (covers pc) rows.now }
-{
-    rows.iter().any(|row| covers(pc, row))
-}
+use handler_rows::HandledMethod;
+use jvm_types::{Insn, Op, Row, Stack};
 
 /// Whether a handler row catches every exception.
 pub fn catches_all(row: &Row) -> bool
@@ -72,22 +59,29 @@ pub fn exits_other(op: &Op, stack: &Stack<Tag>, held: &Stack<Tag>) -> bool
     }
 }
 
-/// Whether a row covers a pc and catches every exception.
-fn is_caught(pc: u32, rows: &[Row]) -> bool
-    ensures { result ≡ list_any (λ row. covers pc row && catches_all row) rows.now }
+/// Whether a row that covers a pc catches every exception.
+fn is_caught(m: &HandledMethod<'_>, pc: u32) -> bool
+    ensures { result ≡ list_any catches_all (covering m.now pc) }
 {
-    rows.iter().any(|row| covers(pc, row) && catches_all(row))
+    let mut k = 0;
+    while let Some((behind, row)) = m.next_row(k, pc, 0) {
+        if catches_all(row) {
+            return true;
+        }
+        k = behind;
+    }
+    false
 }
 
 /// Whether an instruction returns, or an exception of it may leave the method.
-fn may_leave(m: &MethodInfo, insn: &Insn) -> bool
+fn may_leave(m: &HandledMethod<'_>, insn: &Insn) -> bool
     ensures { result ≡ may_leave m.now insn.now }
 {
-    is_return(&insn.op) || (can_throw(&insn.op) && !is_caught(insn.pc, m.rows.as_slice()))
+    is_return(&insn.op) || (can_throw(&insn.op) && !is_caught(m, insn.pc))
 }
 
 /// S4: a return with a held tag, or an exception that may leave the method with one.
-pub fn leaves_held(m: &MethodInfo, insn: &Insn, held: &Stack<Tag>) -> bool
+pub fn leaves_held(m: &HandledMethod<'_>, insn: &Insn, held: &Stack<Tag>) -> bool
     ensures { result ≡ leaves_held m.now insn.now held.now }
 {
     match held.get(0) {

@@ -1,7 +1,8 @@
 //! Stacks of tags.
 
-ghost use Rattle.std.specs.Prelude.{◌≡◌, ◌<◌, ◌≤◌, not, length, take, slice_get, Some, IfOk};
-ghost use Rattle.checked_program.specs.LockTags.{same_tags, meet_tags, without};
+ghost use Rattle.std.specs.Prelude.{◌≡◌, ◌<◌, ◌≤◌, true, not, if◌then◌else◌, length, take, slice_get, Some, IfOk};
+ghost use Rattle.checked_program.specs.LockTags.{same_tag, same_tags, meet_tags, without};
+ghost use Rattle.checked_program.specs.declared.tag.Tag.TheVariants.{Untagged};
 
 use checked_program::{Tag, meet_tag, same_tag, without_tag};
 use jvm_types::Stack;
@@ -26,6 +27,28 @@ pub fn same_stacks(stack: &Stack<Tag>, other: &Stack<Tag>) -> bool
     }
     for place in 0..stack.len() {
         if !same_tag(tag_on(stack, place), tag_on(other, place)) {
+            return false;
+        }
+    }
+    true
+}
+
+/// Whether a tag stays as it is where it meets another.
+pub fn tag_stays(t: Tag, other: Tag) -> bool
+    ensures { result ≡ same_tag t (if same_tag t other then t else Untagged) }
+{
+    same_tag(t, meet_tag(t, other))
+}
+
+/// Whether a stack stays as it is where it meets another.
+pub fn stack_stays(stack: &Stack<Tag>, other: &Stack<Tag>) -> bool
+    ensures { result ≡ true → same_tags stack.now (meet_tags stack.now other.now) ≡ true }
+{
+    if other.len() < stack.len() {
+        return false;
+    }
+    for place in 0..stack.len() {
+        if !tag_stays(tag_on(stack, place), tag_on(other, place)) {
             return false;
         }
     }

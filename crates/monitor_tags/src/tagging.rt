@@ -17,8 +17,8 @@ use crate::error::TagError;
 use crate::nodes::Nodes;
 use crate::visit::visit;
 use checked_program::{Tag, TagFrame, TagLocals, Tags};
-use code_table::IndexedMethod;
 use code_verifier::{Budget, MOST_KEPT};
+use handler_rows::HandledMethod;
 use jvm_types::flags::is_static;
 use jvm_types::{MethodInfo, Program, Rows, Stack, Typing};
 use std::alloc::{AllocError, Global};
@@ -57,7 +57,7 @@ fn first_nodes(
 fn settle(
     alloc: Global,
     p: &Program,
-    m: &IndexedMethod<'_>,
+    m: &HandledMethod<'_>,
     nodes: &mut Nodes,
 ) -> Result<(), TagError>
     requires long { length nodes.old ≡ length m.now.code }
@@ -83,7 +83,7 @@ pub(crate) fn tag_method(
     ensures refused { IfErr result (IsRefusal p.now m.now) }
     ensures spent { budget.new ≤ budget.old }
 {
-    let indexed = IndexedMethod::of(alloc, m)?;
+    let indexed = HandledMethod::of(alloc, m)?;
     let mut nodes = first_nodes(alloc, p, m, Budget::of(budget.left()))?;
     settle(alloc, p, &indexed, &mut nodes)?;
     budget.lower(nodes.bytes_left());

@@ -15,8 +15,9 @@ use crate::handlers::{handle_kept, keep_for_handlers};
 use crate::nodes::Nodes;
 use crate::rules::{enters_untagged, exits_other, leaves_held};
 use checked_program::TagFrame;
-use code_table::{IndexedMethod, edges, row};
-use jvm_types::{Insn, MethodInfo, OpRow, Program, SRule};
+use code_table::{edges, row};
+use handler_rows::HandledMethod;
+use jvm_types::{Insn, OpRow, Program, SRule};
 use std::alloc::Global;
 
 /// What an instruction does with a frame: the frame that goes along its edges, the one that goes to handlers where
@@ -31,7 +32,7 @@ struct Going {
 /// What an instruction that has this row does with a frame; or the first of S1 and S2 that it breaks.
 fn prepare(
     alloc: Global,
-    m: &MethodInfo,
+    m: &HandledMethod<'_>,
     insn: &Insn,
     row: &OpRow,
     f: &TagFrame,
@@ -54,7 +55,7 @@ fn prepare(
 /// The edges of an instruction, and S4.
 fn go_on(
     alloc: Global,
-    m: &IndexedMethod<'_>,
+    m: &HandledMethod<'_>,
     nodes: &mut Nodes,
     insn: &Insn,
     going: Going,
@@ -75,7 +76,7 @@ fn go_on(
 pub fn visit(
     alloc: Global,
     p: &Program,
-    m: &IndexedMethod<'_>,
+    m: &HandledMethod<'_>,
     nodes: &mut Nodes,
     i: usize,
 ) -> Result<(), TagError>
@@ -90,6 +91,6 @@ pub fn visit(
         return Ok(());
     };
     let row = row(alloc, p, method, insn.pc, *target, &insn.op)?;
-    let going = prepare(alloc, method, insn, &row, frame)?;
+    let going = prepare(alloc, m, insn, &row, frame)?;
     go_on(alloc, m, nodes, insn, going)
 }
