@@ -9,7 +9,8 @@ Each program is made so that the stage that is measured is the last to be done: 
 a rule of that stage, and the line of the refusal is printed beside the time. Programs that are marked pass all rules and
 have no method that would be run; beside each stands the same one without marks, which a rule of tagging refuses. `small`
 and `loops` are loaded whole: files with 422 methods each, of constants that are pushed and dropped (50 KB a file), and of loops
-with calls (37 KB). Each line has the median of the runs, less the start of the program, the quartiles, between which half of
+with calls (37 KB). `covered` is a method of 2,000 instructions that all its handler rows cover, and `blocks` one of many
+synchronized blocks; both are loaded whole. Each line has the median of the runs, less the start of the program, the quartiles, between which half of
 the runs lie, and the most memory that a run had at a time.
 """
 import measure
@@ -266,6 +267,44 @@ def loops(files):
     return contents
 
 
+def handler_row(start, end, handler):
+    """A row that catches all."""
+    return u2(start) + u2(end) + u2(handler) + u2(0)
+
+
+def covered(rows):
+    """A method of 2,000 instructions, `iconst_0, pop` over and over, which all rows cover, each with a handler of its own."""
+    code = b"\x03\x57" * 1000
+    end = len(code)
+    first = end + 1
+    code += b"\xb1" + b"\x57\xb1" * rows
+    file = ClassFile("A")
+    file.method(STATIC, "m", "()V", code, 1, 0, [handler_row(0, end, first + 2 * i) for i in range(rows)])
+    return [file.content()]
+
+
+def blocks(count):
+    """A method of so many synchronized blocks on `this` one after the other, as javac writes them."""
+    code = bytearray()
+    rows = []
+    for _ in range(count):
+        # aload_0, dup, astore_1, monitorenter; aload_1, monitorexit; goto the next block
+        code += b"\x2a\x59\x4c\xc2"
+        inside = len(code)
+        code += b"\x2b\xc3"
+        out = len(code)
+        code += b"\xa7\0\x08"
+        # astore_2, aload_1, monitorexit; aload_2, athrow
+        handler = len(code)
+        code += b"\x4d\x2b\xc3"
+        rows.append(handler_row(inside, out, handler))
+        rows.append(handler_row(handler, len(code), handler))
+        code += b"\x2c\xbf"
+    file = ClassFile("A")
+    file.method(0, "m", "()V", bytes(code + b"\xb1"), 2, 3, rows)
+    return [file.content()]
+
+
 SHAPES = (
     (decoding, "methods", (60, 120, 240, 480)),
     (straight, "methods", (8, 16, 32)),
@@ -278,6 +317,8 @@ SHAPES = (
     (shared, "constants", (15000, 30000, 60000)),
     (small, "files", (16, 32, 64)),
     (loops, "files", (16, 32, 64)),
+    (covered, "rows", (2500, 5000, 10000)),
+    (blocks, "blocks", (1000, 2000, 4000)),
 )
 
 
