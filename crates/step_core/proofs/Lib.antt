@@ -4,6 +4,7 @@ pub mod StaysLawful
 pub mod MarkOrderLaws
 mod WordsKept
 mod FoundPlaces
+mod NearPlaces
 mod EventsMore
 mod TakenFrames
 mod LocalStretches

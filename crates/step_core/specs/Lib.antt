@@ -7,3 +7,4 @@ pub mod Fields
 pub mod Wanting
 pub mod Passing
 pub mod Sections
+pub mod Nearby
