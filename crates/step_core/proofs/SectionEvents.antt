@@ -1,5 +1,5 @@
 -- The events of a monitor that a thread alone enters or leaves.
-use Rattle.std.proofs.Common.{◌≡◌, ◌<◌, ◌≤◌, ◌+◌, ◌-◌, ◌*◌, ℕ, suc, List, [], ◌∷◌, Bool, true, false, length, Option, Some, None, refl, sym, ap, ◌∙◌, subst, arith}
+use Rattle.std.proofs.Common.{◌≡◌, ◌<◌, ◌≤◌, ◌+◌, ◌-◌, ◌*◌, ℕ, suc, List, [], ◌∷◌, true, false, length, Option, Some, None, refl, sym, ap, ◌∙◌, subst, arith}
 use Rattle.std.specs.Prelude.{◌==◌, ◌/◌, ◌%◌, nat_lt, IfSome, IsSome, option_map, slice_index, slice_set}
 use Rattle.std.proofs.lemmas.Bool.Decides.{nat_tests}
 use Rattle.jvm_types.specs.declared.limits.TheConstants.{MOST_FRAMES, MOST_LIMIT}
@@ -21,7 +21,7 @@ use Rattle.frames.specs.KeptAttempts.{with_inner}
 use Rattle.laws_threads.specs.HeldLaws.{HeldHasRoom}
 use Rattle.step_core.specs.Alone.{Alone, IsFine, alone, stepped}
 use Rattle.step_core.specs.Running.{running_at}
-use Rattle.step_core.specs.Sections.{IsExit, entering, leaving}
+use Rattle.step_core.specs.Sections.{IsExit, entering}
 use Rattle.step_core.proofs.EventsMore.{less_told}
 use Rattle.step_core.proofs.WordsKept.{load_keeps}
 

@@ -1,4 +1,4 @@
-use Rattle.std.proofs.Common.{◌≡◌, ◌≤◌, ap, refl, sym, ◌∙◌, arith}
+use Rattle.std.proofs.Common.{◌≤◌, ap, refl, sym, ◌∙◌, arith}
 use Rattle.machine_types.specs.declared.config.Config.{Config}
 use Rattle.step_core.specs.Sections.{entering}
 use Rattle.step_core.proofs.LawfulSteps.{few_entries}

@@ -1,4 +1,4 @@
-use Rattle.std.proofs.Common.{◌≡◌, ◌≤◌, ◌∙◌, ℕ, ap, arith}
+use Rattle.std.proofs.Common.{◌≤◌, ◌∙◌, ℕ, ap, arith}
 use Rattle.machine_types.specs.LockWords.{word_of_lock}
 use Rattle.machine_types.specs.declared.config.Config.{Config}
 use Rattle.machine_types.specs.declared.lock.LockWord.TheVariants.{Held}

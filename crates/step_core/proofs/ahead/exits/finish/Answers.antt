@@ -1,4 +1,4 @@
-use Rattle.std.proofs.Common.{◌≡◌, ap, refl, ◌∙◌, ◌+◌}
+use Rattle.std.proofs.Common.{ap, refl, ◌∙◌, ◌+◌}
 use Rattle.machine_types.specs.Threads.{Thread}
 use Rattle.step_core.proofs.SectionEvents.{end_made}
 use Rattle.step_core.proofs.ahead.exits.finish.Goals as goal

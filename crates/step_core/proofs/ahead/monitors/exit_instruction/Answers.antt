@@ -1,4 +1,4 @@
-use Rattle.std.proofs.Common.{◌≡◌, ◌≤◌, ap, arith}
+use Rattle.std.proofs.Common.{◌≤◌, ap, arith}
 use Rattle.machine_types.specs.declared.config.Config.{Config}
 use Rattle.step_core.specs.Running.{running_at}
 use Rattle.step_core.proofs.LawfulSteps.{few_elided, number_fits}
