@@ -1,0 +1,14 @@
+-- A recorded order makes the same run again.
+use Rattle.std.proofs.Common.{◌≡◌, ℕ, List, sym, ap, ◌∙◌}
+use Rattle.jvm_types.specs.declared.outcome.Outcome.{Outcome}
+use Rattle.checked_program.specs.MarkedProgram.{MarkedProgram}
+use Rattle.machine_types.specs.Core.{Happening, core, outcome}
+use Rattle.machine_types.specs.ScheduleLaws.{OneSchedule}
+use Rattle.machine_types.specs.declared.config.Config.{Config}
+use Rattle.replay_runner.specs.Replays.{IsReplayed}
+use Rattle.record_run.specs.Recordings.{IsRecorded, RecordedOrdersReplay}
+
+pub order_replays : OneSchedule → RecordedOrdersReplay
+order_replays one c cfg most order o other r again =
+    let same : again.0 ≡ r.replayed.0 = one c cfg order again.0 r.replayed.0 again.1 r.replayed.1 in
+    again.2 ∙ ap (λ (hs : List Happening). outcome (core c cfg hs)) same ∙ sym r.replayed.2
