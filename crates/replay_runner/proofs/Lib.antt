@@ -1,10 +1,10 @@
 mod LawfulStart
 mod NextPart
 mod NextRuns
-mod Turns
+pub mod Turns
 mod MachineEvents
-mod ManyEvents
-mod LoneWorker
+pub mod ManyEvents
+pub mod LoneWorker
 mod Reaching
 mod RunAhead
 mod LessWork

@@ -8,20 +8,22 @@ ghost use Rattle.replay_runner.specs.Locked.{IsOfProgram};
 ghost use Rattle.replay_runner.specs.Running.{parts_left};
 
 use crate::locked::{Locked, Naming};
+use crate::running::Machine;
 use checked_program::Checked;
 use laws_threads::given_is_kept;
 
-/// The least live thread of a number at or above, or of all where none is.
-fn next_live<J: Naming>(locked: &Locked<J>, from: u8) -> Option<u8>
-    ensures { MatchOption result ((t : ℕ) → lives locked.now.core t ≡ false) (λ t. (lives locked.now.core t ≡ true) × (t ≤ MOST_WORKERS)) }
+/// The least live thread of a number at or above `from`, or where none is, at or above `least`.
+pub fn next_live(machine: &Machine, least: u8, from: u8) -> Option<u8>
+    requires { least ≤ from }
+    ensures { MatchOption result ((t : ℕ) → least ≤ t → lives machine.now.core t ≡ false) (λ t. (lives machine.now.core t ≡ true) × (least ≤ t) × (t ≤ MOST_WORKERS)) }
 {
-    for t in from..=locked.workers() {
-        if locked.lives(t) {
+    for t in from..=machine.workers() {
+        if machine.lives(t) {
             return Some(t);
         }
     }
-    for t in 0..=locked.workers() {
-        if locked.lives(t) {
+    for t in least..=machine.workers() {
+        if machine.lives(t) {
             return Some(t);
         }
     }
@@ -37,7 +39,7 @@ fn run_live<J: Naming>(locked: &mut Locked<J>, p: &Checked)
 {
     given_is_kept();
     let mut from = 0;
-    while let Some(t) = next_live(locked, from) {
+    while let Some(t) = locked.next_live(from) {
         locked.event(p, t);
         from = t + 1;
     }

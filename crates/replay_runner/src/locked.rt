@@ -1,14 +1,16 @@
 //! The machine under the lock.
 
-ghost use Rattle.std.specs.Prelude.{◌≡◌, ◌≤◌, ◌+◌, ◌<◌, ℕ, true, false, length, slice_get};
+ghost use Rattle.std.specs.Prelude.{◌≡◌, ◌≤◌, ◌+◌, ◌<◌, ℕ, true, false, length, MatchOption};
 ghost use Rattle.jvm_types.specs.declared.limits.TheConstants.{MOST_WORKERS};
 ghost use Rattle.machine_types.specs.Core.{event, lives, may_begin, next};
 ghost use Rattle.machine_types.specs.Faithful.{IsOver};
 ghost use Rattle.laws_states.specs.WorkLeft.{all_work};
-ghost use Rattle.replay_runner.specs.Running.{run_on, turns_of};
+ghost use Rattle.replay_runner.specs.Running.{run_on};
 ghost use Rattle.replay_runner.specs.Locked.{IsEndOf, IsMachineOf, IsOfProgram};
 
+use crate::ending::next_live;
 use crate::running::Machine;
+use crate::workers::Shared;
 use checked_program::Checked;
 use jvm_types::Outcome;
 use laws_states::one_more_happens;
@@ -67,18 +69,11 @@ impl<J: Naming> Locked<J> {
         self.machine.workers()
     }
 
-    /// Whether a thread is there and live.
-    pub(crate) fn lives(&self, t: u8) -> bool
-        ensures { result ≡ lives self.now.core t }
+    /// The least live thread of a number at or above, or of all where none is.
+    pub(crate) fn next_live(&self, from: u8) -> Option<u8>
+        ensures { MatchOption result ((t : ℕ) → lives self.now.core t ≡ false) (λ t. (lives self.now.core t ≡ true) × (t ≤ MOST_WORKERS)) }
     {
-        self.machine.lives(t)
-    }
-
-    /// How many turns thread `t` has failed since its last entry or wait.
-    pub(crate) fn turns(&self, t: u8) -> u32
-        ensures { result ≡ turns_of (slice_get self.now.core.threads t) }
-    {
-        self.machine.turns(t)
+        next_live(&self.machine, 0, from)
     }
 
     /// One event of thread `t`: `false` where it is not live, and then nothing changes.
@@ -119,5 +114,19 @@ impl<J: Naming> Locked<J> {
         ensures { IsEndOf J.run result }
     {
         self.machine.outcome()
+    }
+}
+
+impl<J: Naming> Shared for Locked<J> {
+    ghost use Rattle.replay_runner.specs.Locked.{IsOfProgram};
+
+    ghost takes = { IsOfProgram J.run };
+
+    fn make_event(&mut self, p: &Checked, t: u8) -> Option<u32> {
+        if self.event(p, t) {
+            Some(self.machine.turns(t))
+        } else {
+            None
+        }
     }
 }

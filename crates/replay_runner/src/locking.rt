@@ -33,7 +33,8 @@ fn run_named<J: Naming + Send + Sync, R: Threads + Wait + Sync, G: Gate + Sync>(
     let mut locked = Locked::<J>::of(machine);
     locked.run_alone(p, 0);
     if locked.next(p) {
-        locked = run_workers(rt, gate, locked, p);
+        let count = locked.workers();
+        locked = run_workers(rt, gate, locked, p, count);
     }
     finish(&mut locked, p);
     locked.outcome()

@@ -162,7 +162,7 @@ impl Machine {
     }
 
     /// Events of thread `t` alone, until it is not live.
-    pub(crate) fn run_alone(&mut self, p: &Checked, t: u8)
+    pub fn run_alone(&mut self, p: &Checked, t: u8)
         requires { p.now ≡ self.old.program }
         ensures on { (n : ℕ) × (self.new ≡ run_on self.old t n) }
         ensures over { lives self.new.core t ≡ false }

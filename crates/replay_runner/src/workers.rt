@@ -1,45 +1,42 @@
 //! The workers, each on a thread of its own.
 
-ghost use Rattle.replay_runner.specs.Locked.{IsOfProgram};
+ghost use Rattle.std.specs.Prelude.{◌≤◌};
+ghost use Rattle.jvm_types.specs.declared.limits.TheConstants.{MOST_WORKERS};
 
-use crate::locked::{Locked, Naming};
 use checked_program::Checked;
 use jvm_types::Gate;
 use std::sync::{Mutex, Wait};
 use std::thread::{Threads, for_each_mut, yield_now};
 
-/// One event of a worker, under the lock, and how many turns it has failed then: `None` where it is not live.
-fn make_event<J: Naming, R: Wait>(
-    rt: &R,
-    machine: &Mutex<Locked<J>>,
-    p: &Checked,
-    t: u8,
-) -> Option<u32>
-    requires { IsOfProgram J.run p.now }
-{
-    let mut locked = machine.lock(rt);
-    if locked.event(p, t) {
-        Some(locked.turns(t))
-    } else {
-        None
-    }
+/// What workers share under one lock: each makes its events in it, one at a time.
+pub trait Shared {
+    ghost use Rattle.checked_program.specs.MarkedProgram.{MarkedProgram};
+
+    /// Whose events they are.
+    ghost takes: { MarkedProgram → Type 0 };
+
+    /// One event of worker `t`, and how many turns it has failed then: `None` where it makes no more.
+    fn make_event(&mut self, p: &Checked, t: u8) -> Option<u32>
+        requires { takes p.now };
 }
 
-/// A worker: it passes the gate, and then makes its events until it is not live. It holds the lock for one event at a time, and
-/// leaves the processor to others behind a turn that failed.
-fn work<J: Naming, R: Wait, G: Gate>(
-    rt: &R,
-    gate: &G,
-    machine: &Mutex<Locked<J>>,
-    p: &Checked,
-    t: u8,
-)
-    requires { IsOfProgram J.run p.now }
+/// One event of a worker, under the lock.
+fn make_event<L: Shared, R: Wait>(rt: &R, shared: &Mutex<L>, p: &Checked, t: u8) -> Option<u32>
+    requires { L.takes p.now }
+{
+    let mut locked = shared.lock(rt);
+    locked.make_event(p, t)
+}
+
+/// A worker: it passes the gate, and then makes its events until it makes no more. It holds the lock for one event at a time,
+/// and leaves the processor to others behind a turn that failed.
+fn work<L: Shared, R: Wait, G: Gate>(rt: &R, gate: &G, shared: &Mutex<L>, p: &Checked, t: u8)
+    requires { L.takes p.now }
 {
     gate.pass(t);
     let mut failed = 0;
     for _ in 0..u64::MAX {
-        match make_event(rt, machine, p, t) {
+        match make_event(rt, shared, p, t) {
             Some(turns) => {
                 if turns > failed {
                     yield_now();
@@ -51,28 +48,29 @@ fn work<J: Naming, R: Wait, G: Gate>(
     }
 }
 
-/// Runs the workers, and takes the machine out of the lock when they have returned. What it tells of the machine is what its
-/// type does: some of the workers may still be live.
-pub(crate) fn run_workers<J: Naming + Send + Sync, R: Threads + Wait + Sync, G: Gate + Sync>(
+/// Runs so many workers, and takes what they share out of the lock when they have returned. What it tells of that is what its
+/// type does: some of the workers may still have events to make.
+pub fn run_workers<L: Shared + Send, R: Threads + Wait + Sync, G: Gate + Sync>(
     rt: &R,
     gate: &G,
-    locked: Locked<J>,
+    shared: L,
     p: &Checked,
-) -> Locked<J>
-    requires { IsOfProgram J.run p.now }
+    count: u8,
+) -> L
+    requires program { L.takes p.now }
+    requires few { count ≤ MOST_WORKERS }
 {
     let mut numbers = [1, 2, 3, 4, 5, 6, 7, 8];
-    let count = locked.workers() as usize;
-    let machine = Mutex::new(locked);
+    let shared = Mutex::new(shared);
     if count > 0 {
         for_each_mut(
             rt,
-            &mut numbers[..count],
-            count,
+            &mut numbers[..count as usize],
+            count as usize,
             &|_, t: &mut u8|
-                requires { IsOfProgram J.run p.now }
-            { work(rt, gate, &machine, p, *t) },
+                requires { L.takes p.now }
+            { work(rt, gate, &shared, p, *t) },
         );
     }
-    machine.into_inner()
+    shared.into_inner()
 }
