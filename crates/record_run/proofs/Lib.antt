@@ -1,1 +1,4 @@
 mod RecordedOrders
+mod KeptRuns
+mod NoWorkers
+mod Begun

@@ -1,14 +1,18 @@
 //! A run under one lock that keeps its order.
 
-ghost use Rattle.std.specs.Prelude.{◌≤◌, IfOk};
+ghost use Rattle.std.specs.Prelude.{◌≡◌, ◌≤◌, [], Some, IfOk};
 ghost use Rattle.machine_types.specs.Settings.{AreSettings};
+ghost use Rattle.record_run.specs.Kept.{HaveBegun, IsRecordOf};
 ghost use Rattle.record_run.specs.Recordings.{IsRecorded};
 ghost use Rattle.record_run.specs.declared.recording.TheConstants.{MOST_EVENTS};
 
+use crate::kept::{Naming, Recording};
 use checked_program::Checked;
-use jvm_types::{Bytes, Gate, Outcome};
+use jvm_types::{Bytes, Gate, Outcome, Room};
 use machine_types::Config;
+use replay_runner::{Machine, run_workers};
 use std::alloc::{AllocError, Global};
+use std::marker::Brand;
 use std::sync::Wait;
 use std::thread::Threads;
 
@@ -20,6 +24,29 @@ pub const MOST_EVENTS: u32 = 100_000;
 pub struct Recorded {
     pub outcome: Outcome,
     pub order: Bytes,
+}
+
+/// Runs a machine whose workers begin to its end, as the run that `J` names.
+fn record_named<J: Naming + Send + Sync, R: Threads + Wait + Sync, G: Gate + Sync>(
+    rt: &R,
+    gate: &G,
+    machine: Machine,
+    order: Room<u8>,
+    p: &Checked,
+    most: u32,
+) -> Recorded
+    requires named { J.run ≡ Some (record { program = machine.program; cfg = machine.cfg; most = most }) }
+    requires begun { HaveBegun machine.program machine.cfg machine.core }
+    requires program { p.now ≡ machine.program }
+    requires none { order.items ≡ [] }
+    requires room { most ≤ order.spare }
+    ensures { IsRecordOf J.run result }
+{
+    let count = machine.workers();
+    let recording = Recording::<J>::of(machine, order, most);
+    let mut recording = run_workers(rt, gate, recording, p, count);
+    recording.record_rounds(p);
+    recording.finish(p)
 }
 
 /// Runs a program to its end as `replay_runner::run_locked` does, and keeps the order of the workers' events, the first `events`
@@ -44,11 +71,14 @@ pub fn run_recorded<R: Threads + Wait + Sync, G: Gate + Sync>(
     requires few { events ≤ MOST_EVENTS }
     ensures { IfOk result (λ r. IsRecorded p.now cfg.now events r.order r.outcome) }
 {
-    let _ = rt;
-    let _ = alloc;
-    let _ = gate;
-    let _ = p;
-    let _ = cfg;
-    let _ = events;
-    Err(AllocError)
+    let mut machine = Machine::start(alloc, p, cfg)?;
+    let order = Room::with_room(alloc, events as usize)?;
+    machine.run_alone(p, 0);
+    if !machine.next(p) {
+        return Ok(Recorded {
+            outcome: machine.outcome(),
+            order: order.into_rows(),
+        });
+    }
+    Ok(record_named::<Brand, R, G>(rt, gate, machine, order, p, events))
 }

@@ -1,0 +1,104 @@
+-- The order that is kept leads the machine to its state.
+use Rattle.std.proofs.Common.{◌≡◌, ◌≤◌, ◌<◌, ◌⊎◌, inl, inr, ℕ, zero, suc, Bool, true, false, List, [], ◌∷◌, ◌++◌, ◌+◌, length, Option, Some, None, refl, sym, ap, subst, ◌∙◌, arith}
+use Rattle.std.specs.Prelude.{MatchOption, nat_lt, ◌&&◌}
+use Rattle.std.proofs.lemmas.Bool.Decides.{nat_tests}
+use Rattle.std.proofs.lemmas.List.{length-append}
+use Rattle.lists.proofs.ListLaws.{same_some}
+use Rattle.jvm_types.specs.declared.outcome.Outcome.{Outcome}
+use Rattle.checked_program.specs.MarkedProgram.{MarkedProgram}
+use Rattle.machine_types.specs.Core.{Core, event, lives, may_begin, next, outcome, start}
+use Rattle.machine_types.specs.Schedules.{First, Ordered, is_live_worker, turn_at}
+use Rattle.machine_types.specs.declared.config.Config.{Config}
+use Rattle.replay_runner.specs.Replays.{GoesOn, GoesToEnd, IsAt, IsReplayed}
+use Rattle.replay_runner.specs.Running.{Running, events}
+use Rattle.replay_runner.proofs.ManyEvents.{goes_in_init}
+use Rattle.replay_runner.proofs.Turns.{at_start, ordered_turn, replayed, workers_turn}
+use Rattle.record_run.specs.Recordings.{AreLiveWorkers, IsBeginOfWorkers, IsRecorded, after_order}
+use Rattle.record_run.specs.Kept.{HaveBegun, IsFull, IsKeptOf, IsOfProgram, IsRecordOf, Kept, Named}
+
+pub same_program : (run : Option Named) (c : MarkedProgram) (k : Kept) → IsOfProgram run c → IsKeptOf run k → c ≡ k.machine.program
+same_program run c k of kept = ap (λ (n : Named). n.program) (same_some (sym of.2 ∙ kept.named))
+
+-- ---- an event more
+
+event_behind : (c : MarkedProgram) (s : Core) (order : List ℕ) (t : ℕ) → after_order c s (order ++ t ∷ []) ≡ event c (after_order c s order) t
+event_behind c s [] t = refl
+event_behind c s (u ∷ order) t = event_behind c (event c s u) order t
+
+live_behind : (c : MarkedProgram) (s : Core) (order : List ℕ) (t : ℕ) → AreLiveWorkers c s order → is_live_worker (after_order c s order) t ≡ true → AreLiveWorkers c s (order ++ t ∷ [])
+live_behind c s [] t l e = (e, tt)
+live_behind c s (u ∷ order) t l e = (l.0, live_behind c (event c s u) order t l.1 e)
+
+abbrev pub with_event : Kept → (t : ℕ) → Kept
+with_event k t = record { machine = record k.machine { core = event k.machine.program k.machine.core t }; order = k.order ++ t ∷ []; most = k.most }
+
+pub keeps_event : (run : Option Named) (k : Kept) (t : ℕ) → IsKeptOf run k → is_live_worker k.machine.core t ≡ true → length k.order < k.most → IsKeptOf run (with_event k t)
+keeps_event run k t h live room = record {
+  named = h.named;
+  few = (let one : length (k.order ++ t ∷ []) ≡ length k.order + 1 = length-append k.order (t ∷ []) in omega (arith, one, room));
+  at = h.at;
+  begin = h.begin;
+  live = live_behind k.machine.program h.at k.order t h.live (ap (λ (s : Core). is_live_worker s t) (sym h.led) ∙ live);
+  led = ap (λ (s : Core). event k.machine.program s t) h.led ∙ sym (event_behind k.machine.program h.at k.order t);
+}
+
+pub begins : (run : Option Named) (m : Running) (order : List ℕ) (most : ℕ) → run ≡ Some (record { program = m.program; cfg = m.cfg; most = most }) → HaveBegun m.program m.cfg m.core → order ≡ [] → IsKeptOf run (record { machine = m; order = order; most = most })
+begins run m order most named begun none = subst (λ (ts : List ℕ). IsKeptOf run (record { machine = m; order = ts; most = most })) (sym none) (record { named = named; few = omega arith; at = m.core; begin = begun; live = tt; led = refl })
+
+-- what a machine and an order came to
+pub kept_on : (run : Option Named) (k : Kept) (m : Running) (order : List ℕ) (t : ℕ) → m ≡ record k.machine { core = event k.machine.program k.machine.core t } → order ≡ k.order ++ t ∷ [] → IsKeptOf run k → is_live_worker k.machine.core t ≡ true → length k.order < k.most → IsKeptOf run (record { machine = m; order = order; most = k.most })
+kept_on run k m order t e is h live room = subst (IsKeptOf run) (λ i. record { machine = sym e i; order = sym is i; most = k.most }) (keeps_event run k t h live room)
+
+-- ---- whose turn comes next
+
+worker_lives : (s : Core) (t : ℕ) → lives s t ≡ true → 1 ≤ t → is_live_worker s t ≡ true
+worker_lives s t live one = let some : nat_lt 0 t ≡ true = grind (arith, nat_tests, one) in ap (λ (b : Bool). b && lives s t) some ∙ live
+
+no_worker_lives : (s : Core) → ((t : ℕ) → 1 ≤ t → lives s t ≡ false) → (t : ℕ) → is_live_worker s t ≡ false
+no_worker_lives s dead zero = refl
+no_worker_lives s dead (suc t) = let some : nat_lt 0 (suc t) ≡ true = grind (arith, nat_tests) in ap (λ (b : Bool). b && lives s (suc t)) some ∙ dead (suc t) (omega arith)
+
+pub next_is : (k : Kept) (r : Option ℕ) → length k.order < k.most → MatchOption r ((t : ℕ) → 1 ≤ t → lives k.machine.core t ≡ false) (λ t. (lives k.machine.core t ≡ true) × (1 ≤ t) × (t ≤ 8))
+    → MatchOption r (IsFull k) (λ t. (length k.order < k.most) × (is_live_worker k.machine.core t ≡ true) × (t ≤ 8))
+next_is k None room h = inr (no_worker_lives k.machine.core h)
+next_is k (Some t) room h = (room, worker_lives k.machine.core t h.0 h.1, h.2)
+
+-- ---- a replay by the order
+
+-- it comes to the begin of the workers
+begin_at : (c : MarkedProgram) (cfg : Config) (s : Core) (order : List ℕ) → HaveBegun c cfg s → IsAt c cfg order (Ordered order) s
+begin_at c cfg s order b =
+    let m : Running = record { program = c; cfg = cfg; core = start c cfg } in
+    let over : IsAt c cfg order (First order) (events c (start c cfg) 0 b.count) = (goes_in_init m order b.count).leads cfg order (at_start c cfg order) in
+    subst (λ (z : Core). IsAt c cfg order (Ordered order) z) (sym b.begun) (workers_turn c (events c (start c cfg) 0 b.count) order b.init_over b.may cfg order over)
+
+-- and makes the events of the order
+order_made : (c : MarkedProgram) (cfg : Config) (whole : List ℕ) (s : Core) (order : List ℕ) → IsAt c cfg whole (Ordered order) s → AreLiveWorkers c s order → IsAt c cfg whole (Ordered []) (after_order c s order)
+order_made c cfg whole s [] at live = at
+order_made c cfg whole s (t ∷ order) at live = order_made c cfg whole (event c s t) order (ordered_turn c s t order live.0 cfg whole at) live.1
+
+pub finishes : (run : Option Named) (k : Kept) (n : Running) (o : Outcome) → IsKeptOf run k → IsFull k → GoesToEnd k.machine (Ordered []) n → o ≡ outcome n.core → IsRecordOf run (record { outcome = o; order = k.order })
+finishes run k n o h full goes is = subst (λ (z : Option Named). IsRecordOf z (record { outcome = o; order = k.order })) (sym h.named) made
+  where
+    c : MarkedProgram
+    c = k.machine.program
+
+    cfg : Config
+    cfg = k.machine.cfg
+
+    there : IsAt c cfg k.order (Ordered []) k.machine.core
+    there = subst (λ (z : Core). IsAt c cfg k.order (Ordered []) z) (sym h.led) (order_made c cfg k.order h.at k.order (begin_at c cfg h.at k.order h.begin) h.live)
+
+    whole : IsFull k → length k.order < k.most → (t : ℕ) → is_live_worker (after_order c h.at k.order) t ≡ false
+    whole (inl many) fewer t = absurd (omega (arith, many, fewer))
+    whole (inr dead) fewer t = ap (λ (z : Core). is_live_worker z t) (sym h.led) ∙ dead t
+
+    made : IsRecorded c cfg k.most k.order o
+    made = record {
+      replayed = replayed c cfg k.order goes.0 n.core o (goes.1.leads cfg k.order there) goes.2 is;
+      few = h.few;
+      at = h.at;
+      begin = record { count = h.begin.count; init_over = h.begin.init_over; begun = h.begin.begun };
+      live = h.live;
+      whole = whole full;
+    }
