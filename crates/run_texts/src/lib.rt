@@ -7,6 +7,6 @@ pub mod refusals;
 pub mod reports;
 
 pub use cells::{CellCounts, cell_report};
-pub use marks::mark_text;
+pub use marks::{mark_text, write_class, write_mark_line, write_method};
 pub use refusals::{RefusalText, refusal};
 pub use reports::report;

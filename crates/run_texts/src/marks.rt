@@ -25,12 +25,13 @@ fn lines(alloc: Global, p: &Program, marks: &[SectionMark]) -> Result<Vec<u8>, A
 {
     let mut text = Vec::new(alloc);
     for mark in marks {
-        write_line(&mut text, alloc, p, *mark)?;
+        write_mark_line(&mut text, alloc, p, *mark)?;
     }
     Ok(text)
 }
 
-fn write_line(
+/// Adds the line of a mark.
+pub fn write_mark_line(
     text: &mut Vec<u8>,
     alloc: Global,
     p: &Program,
@@ -42,8 +43,8 @@ fn write_line(
     write_mark(text, alloc, mark)
 }
 
-/// Class, name and descriptor of the method of that number.
-fn write_method(text: &mut Vec<u8>, p: &Program, method: u32) -> Result<(), AllocError>
+/// Adds class, name and descriptor of the method of that number.
+pub fn write_method(text: &mut Vec<u8>, p: &Program, method: u32) -> Result<(), AllocError>
     ensures { OnOk result (text.new.items ≡ text.old.items ++ method_words p.now.names (slice_get p.now.methods method)) }
 {
     let Some(m) = p.methods.get(method as usize) else {
@@ -55,8 +56,8 @@ fn write_method(text: &mut Vec<u8>, p: &Program, method: u32) -> Result<(), Allo
     text.extend_from_slice(m.descriptor.as_slice())
 }
 
-/// The name of the class of that number, which is one of the files.
-fn write_class(text: &mut Vec<u8>, p: &Program, class: u16) -> Result<(), AllocError>
+/// Adds the name of the class of that number, which is one of the files.
+pub fn write_class(text: &mut Vec<u8>, p: &Program, class: u16) -> Result<(), AllocError>
     ensures { OnOk result (text.new.items ≡ text.old.items ++ class_text p.now.names class) }
 {
     let file = usize::from(class.saturating_sub(FIRST_FILE_CLASS));
