@@ -155,7 +155,7 @@ is_reached_at depth None ot of e = absurd (let bad : false ≡ true = e in cc)
 is_below : (n k : ℕ) → n < k → nat_lt n k ≡ true
 is_below n k = grind (arith, nat_tests)
 
-entry_parts : (oi : Option Insn) (ot : Option Target) (of : Option (Option TagShape)) (depth : ℕ) → depth_on_this oi ot of ≡ Some depth
+pub entry_parts : (oi : Option Insn) (ot : Option Target) (of : Option (Option TagShape)) (depth : ℕ) → depth_on_this oi ot of ≡ Some depth
     → (insn : Insn) × (target : Target) × (f : TagShape) × (oi ≡ Some insn) × (ot ≡ Some target) × (of ≡ Some (Some f)) × (slice_index_or f.stack 0 Untagged ≡ This) × (length f.held ≡ depth)
 entry_parts (Some insn) (Some target) (Some (Some f)) depth e = by_tag (slice_index_or f.stack 0 Untagged) refl e
   where
@@ -189,7 +189,7 @@ module _ (p : Program) (tags : List Tags) (is : IsProgram p) (mi : ℕ) (m : Met
       let same : t ≡ has.0 = same_Some t has.0 (sym at_t ∙ has.1) in
       subst (λ l. slice_get l i ≡ Some (Some f)) (sym (ap (λ (x : Tags). x.frames) same ∙ has.2)) a.frame
 
-  stands : (i : ℕ) (insn : Insn) (target : Target) (f : TagShape) → slice_get m.code i ≡ Some insn → slice_get m.targets i ≡ Some target → slice_get t.frames i ≡ Some (Some f) → IsAt p (tagged_by tags) mi i m insn target f
+  pub stands : (i : ℕ) (insn : Insn) (target : Target) (f : TagShape) → slice_get m.code i ≡ Some insn → slice_get m.targets i ≡ Some target → slice_get t.frames i ≡ Some (Some f) → IsAt p (tagged_by tags) mi i m insn target f
   stands i insn target f a b c = record { in_program = at_m; in_code = a; names = b; frames = t.frames; of_method = frames_there p tags is mi t at_t; frame = c }
 
   deep_of : (depth i : ℕ) → IsDeep p (tagged_by tags) mi depth i → is_deep m t.frames depth i ≡ true
@@ -244,7 +244,7 @@ module _ (p : Program) (tags : List Tags) (is : IsProgram p) (mi : ℕ) (m : Met
       begins : BeginsAt p (tagged_by tags) mi insn.pc enter f
       begins = record { m = m; insn = insn; target = target; at = at; pc_is = refl; enters = enters }
 
-      inside_own : (i : ℕ) → IsInside m t.frames depth enter i → IsOwn p (tagged_by tags) mi (Block insn.pc) i
+      pub inside_own : (i : ℕ) → IsInside m t.frames depth enter i → IsOwn p (tagged_by tags) mi (Block insn.pc) i
       inside_own i s =
           let d = first_deep depth s.first s.over i s.stays in
           let b = is_reached_at depth (slice_get m.code s.first) (slice_get m.targets s.first) (slice_get t.frames s.first) d in
@@ -258,7 +258,7 @@ module _ (p : Program) (tags : List Tags) (is : IsProgram p) (mi : ℕ) (m : Met
             stays = subst (λ n. StaysDeep p (tagged_by tags) mi n s.first s.over i) (sym deep) (of_stays depth s.first s.over i s.stays);
           }
 
-      own_inside : (i : ℕ) → IsOwn p (tagged_by tags) mi (Block insn.pc) i → IsInside m t.frames depth enter i
+      pub own_inside : (i : ℕ) → IsOwn p (tagged_by tags) mi (Block insn.pc) i → IsInside m t.frames depth enter i
       own_inside i o =
           let here : o.enter ≡ enter = only o.enter o.f o.begins in
           let frame : slice_get t.frames enter ≡ Some (Some o.f) = subst (λ e. slice_get t.frames e ≡ Some (Some o.f)) here (frame_is o.enter o.begins.m o.begins.insn o.begins.target o.f o.begins.at) in
@@ -275,7 +275,7 @@ module _ (p : Program) (tags : List Tags) (is : IsProgram p) (mi : ℕ) (m : Met
       on_this = (enter, f, begins, tag)
 
     module _ (uses : List FieldUse) (grades : List ℕ) (are : AreGrades p (tagged_by tags) uses mi m grades) where
-      off_this : depth_at m t.frames enter ≡ None → IsOnThis p (tagged_by tags) mi (Block insn.pc) → ⊥
+      pub off_this : depth_at m t.frames enter ≡ None → IsOnThis p (tagged_by tags) mi (Block insn.pc) → ⊥
       off_this none o =
           let here : o.0 ≡ enter = only o.0 o.1 o.2 in
           let frame : slice_get t.frames enter ≡ Some (Some o.1) = subst (λ e. slice_get t.frames e ≡ Some (Some o.1)) here (frame_is o.0 o.2.m o.2.insn o.2.target o.1 o.2.at) in

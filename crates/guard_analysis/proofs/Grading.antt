@@ -58,14 +58,12 @@ forbids_low p tags uses mi i k (recurs first c l) = (omega arith, omega arith)
 -- ---- of a method with its frames
 
 module _ (p : Program) (uses : List FieldUse) (tags : List Tags) (is : IsProgram p) (mi : ℕ) (m : MethodInfo) (t : Tags) (at_m : slice_get p.methods mi ≡ Some m) (at_t : slice_get tags mi ≡ Some t) where
-  abbrev on_this : Callee
-  on_this = callee mi OnThis
+  -- what its instruction breaks and calls, where the method is called so
+  abbrev pub fault_in : Mode → ℕ → ℕ
+  fault_in mode i = fault_at p uses mode (slice_get m.code i) (slice_get m.targets i) (slice_get t.frames i)
 
-  abbrev own_fault : ℕ → ℕ
-  own_fault i = fault_at p uses OnThis (slice_get m.code i) (slice_get m.targets i) (slice_get t.frames i)
-
-  abbrev own_call : ℕ → Option ℕ
-  own_call i = call_at p OnThis (slice_get m.code i) (slice_get m.targets i) (slice_get t.frames i)
+  abbrev pub call_in : Mode → ℕ → Option ℕ
+  call_in mode i = call_at p mode (slice_get m.code i) (slice_get m.targets i) (slice_get t.frames i)
 
   frame_is : (i : ℕ) (frames : List (Option TagShape)) (f : TagShape) → slice_get (tagged_by tags) mi ≡ Some frames → slice_get frames i ≡ Some (Some f) → slice_get t.frames i ≡ Some (Some f)
   frame_is i frames f e g =
@@ -76,29 +74,29 @@ module _ (p : Program) (uses : List FieldUse) (tags : List Tags) (is : IsProgram
   method_is : (n : MethodInfo) → slice_get p.methods mi ≡ Some n → n ≡ m
   method_is n e = same_Some n m (sym e ∙ at_m)
 
-  fault_known : (i n : ℕ) → BreaksAt p (tagged_by tags) uses on_this i n → own_fault i ≡ n
-  fault_known i n k =
+  pub fault_known : (mode : Mode) (i n : ℕ) → BreaksAt p (tagged_by tags) uses (callee mi mode) i n → fault_in mode i ≡ n
+  fault_known mode i n k =
       let code : slice_get m.code i ≡ Some k.insn = subst (λ (x : MethodInfo). slice_get x.code i ≡ Some k.insn) (method_is k.m k.at.in_program) k.at.in_code in
       let target : slice_get m.targets i ≡ Some k.target = subst (λ (x : MethodInfo). slice_get x.targets i ≡ Some k.target) (method_is k.m k.at.in_program) k.at.names in
       let frame : slice_get t.frames i ≡ Some (Some k.f) = frame_is i k.at.frames k.f k.at.of_method k.at.frame in
       rw (code, target, frame) k.fault_is
 
-  call_known : (i : ℕ) (b : Callee) → Calls p (tagged_by tags) on_this i b → own_call i ≡ Some (node_of b)
-  call_known i b k =
+  pub call_known : (mode : Mode) (i : ℕ) (b : Callee) → Calls p (tagged_by tags) (callee mi mode) i b → call_in mode i ≡ Some (node_of b)
+  call_known mode i b k =
       let code : slice_get m.code i ≡ Some k.insn = subst (λ (x : MethodInfo). slice_get x.code i ≡ Some k.insn) (method_is k.m k.at.in_program) k.at.in_code in
       let target : slice_get m.targets i ≡ Some k.target = subst (λ (x : MethodInfo). slice_get x.targets i ≡ Some k.target) (method_is k.m k.at.in_program) k.at.names in
       let frame : slice_get t.frames i ≡ Some (Some k.f) = frame_is i k.at.frames k.f k.at.of_method k.at.frame in
-      let node : call_node p OnThis k.insn.op k.target k.f.stack ≡ Some (node_of b) =
-      node_there (length p.methods) b.method (called_method k.insn.op k.target) (mode_if (is_own_object OnThis (receiver_tag p k.insn.op k.target k.f.stack))) k.called (called_inside p (tagged_by tags) is on_this b i k)
-      ∙ ap (λ (mode : Mode). Some (2 * b.method + mode_number mode)) (sym k.mode_is) in
+      let node : call_node p mode k.insn.op k.target k.f.stack ≡ Some (node_of b) =
+      node_there (length p.methods) b.method (called_method k.insn.op k.target) (mode_if (is_own_object mode (receiver_tag p k.insn.op k.target k.f.stack))) k.called (called_inside p (tagged_by tags) is (callee mi mode) b i k)
+      ∙ ap (λ (x : Mode). Some (2 * b.method + mode_number x)) (sym k.mode_is) in
       rw (code, target, frame) node
 
-  call_found : (i y : ℕ) → own_call i ≡ Some y → (b : Callee) × (node_of b ≡ y) × (b.method < length p.methods) × Calls p (tagged_by tags) on_this i b
-  call_found i y e =
-      let parts = call_parts p OnThis (slice_get m.code i) (slice_get m.targets i) (slice_get t.frames i) y e in
-      let mode : Mode = mode_if (is_own_object OnThis (receiver_tag p parts.insn.op parts.target parts.f.stack)) in
-      let named = node_parts (length p.methods) (called_method parts.insn.op parts.target) mode y parts.call in (
-        callee named.0 mode,
+  pub call_found : (mode : Mode) (i y : ℕ) → call_in mode i ≡ Some y → (b : Callee) × (node_of b ≡ y) × (b.method < length p.methods) × Calls p (tagged_by tags) (callee mi mode) i b
+  call_found mode i y e =
+      let parts = call_parts p mode (slice_get m.code i) (slice_get m.targets i) (slice_get t.frames i) y e in
+      let to : Mode = mode_if (is_own_object mode (receiver_tag p parts.insn.op parts.target parts.f.stack)) in
+      let named = node_parts (length p.methods) (called_method parts.insn.op parts.target) to y parts.call in (
+        callee named.0 to,
         named.3,
         named.2,
         record {
@@ -111,6 +109,15 @@ module _ (p : Program) (uses : List FieldUse) (tags : List Tags) (is : IsProgram
           mode_is = refl;
         },
       )
+
+  abbrev on_this : Callee
+  on_this = callee mi OnThis
+
+  abbrev own_fault : ℕ → ℕ
+  own_fault i = fault_in OnThis i
+
+  abbrev own_call : ℕ → Option ℕ
+  own_call i = call_in OnThis i
 
   module _ (broken again : List Bool) (are : AreCallees p (tagged_by tags) uses broken again) where
     abbrev Grade : ℕ → ℕ → Type 0
@@ -127,7 +134,7 @@ module _ (p : Program) (uses : List FieldUse) (tags : List Tags) (is : IsProgram
         low = let b = breaks_one p uses tags is on_this m t i at_m at_t (omega (arith, e)) in let most : own_fault i ≤ 5 = subst (λ x. x ≤ 5) b.fault_is (fault_low p uses OnThis b.insn.op b.target b.f.stack) in omega (arith, most, e)
 
         least : (k : ℕ) → Forbids p (tagged_by tags) uses mi i k → suc n ≤ k
-        least k (breaks x b) = omega (arith, fault_known i x b, e)
+        least k (breaks x b) = omega (arith, fault_known OnThis i x b, e)
         least k (calls first c l) = omega (arith, low)
         least k (recurs first c l) = omega (arith, low)
 
@@ -136,22 +143,22 @@ module _ (p : Program) (uses : List FieldUse) (tags : List Tags) (is : IsProgram
     by_none i e c = record { forbids = λ h. absurd (omega (arith, h)); first = λ k f. absurd (none k f) }
       where
         none : (k : ℕ) → Forbids p (tagged_by tags) uses mi i k → ⊥
-        none k (breaks x b) = omega (arith, fault_known i x b, e, b.some)
-        none k (calls first d l) = let bad : None ≡ Some (node_of first) = sym c ∙ call_known i first d in cc
-        none k (recurs first d l) = let bad : None ≡ Some (node_of first) = sym c ∙ call_known i first d in cc
+        none k (breaks x b) = omega (arith, fault_known OnThis i x b, e, b.some)
+        none k (calls first d l) = let bad : None ≡ Some (node_of first) = sym c ∙ call_known OnThis i first d in cc
+        none k (recurs first d l) = let bad : None ≡ Some (node_of first) = sym c ∙ call_known OnThis i first d in cc
 
     -- where it breaks none and calls a node
     by_call : (i y : ℕ) → own_fault i ≡ 0 → own_call i ≡ Some y → (s r : Bool) → slice_index_or broken y false ≡ s → slice_index_or again y false ≡ r → Grade i (if s then 6 else if r then 7 else 0)
     by_call i y e c s r f g = by_flags s r f g
       where
         found : (b : Callee) × (node_of b ≡ y) × (b.method < length p.methods) × Calls p (tagged_by tags) on_this i b
-        found = call_found i y c
+        found = call_found OnThis i y c
 
         same : (b : Callee) → Calls p (tagged_by tags) on_this i b → b ≡ found.0
-        same b k = same_callee b found.0 (same_Some (node_of b) y (sym (call_known i b k) ∙ c) ∙ sym found.1)
+        same b k = same_callee b found.0 (same_Some (node_of b) y (sym (call_known OnThis i b k) ∙ c) ∙ sym found.1)
 
         no_break : (x : ℕ) → BreaksAt p (tagged_by tags) uses on_this i x → ⊥
-        no_break x b = omega (arith, fault_known i x b, e, b.some)
+        no_break x b = omega (arith, fault_known OnThis i x b, e, b.some)
 
         flag_broken : (b : Callee) → Calls p (tagged_by tags) on_this i b → LeadsToBreak p (tagged_by tags) uses b → slice_index_or broken y false ≡ true
         flag_broken b k l = subst (λ x. slice_index_or broken x false ≡ true) found.1 ((are.broken found.0 found.2).1 (subst (LeadsToBreak p (tagged_by tags) uses) (same b k) l))

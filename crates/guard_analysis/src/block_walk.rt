@@ -14,9 +14,9 @@ use std::alloc::{AllocError, Global};
 /// The own instructions that a walk has found, in the order in which it found them, and for each instruction of the
 /// method the stamp of the last walk that came to it.
 #[derive(Debug, Drop)]
-pub(crate) struct Walk {
-    pub(crate) seen: Rows<usize>,
-    pub(crate) own: Rows<usize>,
+pub struct Walk {
+    pub seen: Rows<usize>,
+    pub own: Rows<usize>,
 }
 
 /// Whether a handler row covers a pc (JVMS 2.10).
@@ -76,11 +76,7 @@ fn numbers(alloc: Global, m: &IndexedMethod<'_>, pcs: &[u32]) -> Result<Vec<usiz
 }
 
 /// The numbers of the instructions that the one of a number leads to.
-pub(crate) fn ways_from(
-    alloc: Global,
-    m: &IndexedMethod<'_>,
-    i: usize,
-) -> Result<Vec<usize>, AllocError>
+pub fn ways_from(alloc: Global, m: &IndexedMethod<'_>, i: usize) -> Result<Vec<usize>, AllocError>
     ensures { IfOk result (λ v. v.items ≡ ways_from m.now i) }
 {
     let method = m.method();
@@ -173,7 +169,7 @@ fn found_at(own: &Rows<usize>, k: usize) -> usize
 
 /// Finds the own instructions of the block whose `monitorenter` has this number and stands where so many monitors
 /// are held. No walk before had this stamp.
-pub(crate) fn explore(
+pub fn explore(
     alloc: Global,
     walk: &mut Walk,
     m: &IndexedMethod<'_>,

@@ -10,7 +10,7 @@ use checked_program::{Graph, Mode, Tags};
 use jvm_types::{MethodInfo, Program, Rows};
 use std::alloc::{AllocError, Global};
 
-pub(crate) fn mode_at(a: usize) -> Mode
+pub fn mode_at(a: usize) -> Mode
     ensures { result ≡ mode_at a }
 {
     mode_if(a % 2 == 0)
@@ -47,7 +47,7 @@ fn add_node(p: &Program, tags: &Rows<Tags>, a: u32, graph: &mut Graph) -> Result
 }
 
 /// The calls of all methods.
-pub(crate) fn call_graph(alloc: Global, p: &Program, tags: &Rows<Tags>) -> Result<Graph, AllocError>
+pub fn call_graph(alloc: Global, p: &Program, tags: &Rows<Tags>) -> Result<Graph, AllocError>
     requires few { length p.now.methods ≤ most }
     ensures { IfOk result (λ g. g ≡ call_graph p.now tags.now) }
 {

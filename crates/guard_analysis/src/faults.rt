@@ -27,7 +27,7 @@ fn use_of(uses: &Rows<FieldUse>, field: u32) -> FieldUse
 }
 
 /// Whether the frames of a method hold the monitor of their receiver (JVMS 2.11.10).
-pub(crate) fn locks_this(m: &MethodInfo) -> bool
+pub fn locks_this(m: &MethodInfo) -> bool
     ensures { result ≡ locks_this m.now }
 {
     is_synchronized(m.flags) && !is_static(m.flags)
@@ -118,7 +118,7 @@ fn fault(
 }
 
 /// The same of the instruction of a number; 0 where it is not reached.
-pub(crate) fn fault_at(
+pub fn fault_at(
     p: &Program,
     uses: &Rows<FieldUse>,
     mode: Mode,

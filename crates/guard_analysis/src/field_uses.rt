@@ -69,7 +69,7 @@ fn unguarded_write(m: &MethodInfo, op: &Op, target: Target, frame: &TagFrame) ->
 }
 
 /// The same of the instruction of a number, where it is reached.
-fn unguarded_at(m: &MethodInfo, tags: &Tags, i: usize) -> Option<u32>
+pub fn unguarded_at(m: &MethodInfo, tags: &Tags, i: usize) -> Option<u32>
     ensures { result ≡ unguarded_at m.now (slice_get m.now.code i) (slice_get m.now.targets i) (slice_get tags.now.frames i) }
 {
     match m.code.get(i) {
@@ -191,7 +191,7 @@ fn all_uses(
 
 /// How each field may be read, in order of the fields. `frozen` has a flag for the class of each file. The error is that
 /// memory was refused.
-pub(crate) fn uses(
+pub fn uses(
     alloc: Global,
     p: &Program,
     tags: &Rows<Tags>,

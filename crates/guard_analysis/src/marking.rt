@@ -82,7 +82,7 @@ fn depth_of(frame: &TagFrame) -> Option<usize>
     }
 }
 
-fn depth_at(m: &MethodInfo, tags: &Tags, i: usize) -> Option<usize>
+pub fn depth_at(m: &MethodInfo, tags: &Tags, i: usize) -> Option<usize>
     ensures { result ≡ depth_at m.now tags.now.frames i }
 {
     match m.code.get(i) {
