@@ -3,3 +3,5 @@ pub mod Shelf
 pub mod ListShelf
 pub mod Sink
 pub mod ListSink
+pub mod Reading
+pub mod Writing

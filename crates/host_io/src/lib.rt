@@ -3,5 +3,7 @@
 #![tactic(auto)]
 
 pub mod adapters;
+pub mod files;
 pub mod shelf;
 pub mod sink;
+pub mod writing;

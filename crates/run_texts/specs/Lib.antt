@@ -2,3 +2,4 @@ pub mod CellText
 pub mod Report
 pub mod Refusal
 pub mod MarksText
+pub mod Unread

@@ -1,12 +1,15 @@
-//! Texts: the report of a run, the line of a refusal, the marks of a program, and the report of a run of a cell.
+//! Texts: the report of a run, the line of a refusal, that of a file that can't be read, the marks of a program, and the report of
+//! a run of a cell.
 #![tactic(auto)]
 
 pub mod cells;
 pub mod marks;
 pub mod refusals;
 pub mod reports;
+pub mod unread;
 
 pub use cells::{CellCounts, cell_report};
 pub use marks::{mark_text, write_class, write_mark_line, write_method};
 pub use refusals::{RefusalText, refusal};
 pub use reports::report;
+pub use unread::unread_file;

@@ -2,8 +2,9 @@
 use Rattle.std.proofs.Common.{◌≡◌, ℕ, Bool, List, Option, Some, None, Ok, Err, sym, ◌∙◌, arith}
 use Rattle.jvm_types.specs.declared.refusal.Rule.{Rule}
 use Rattle.jvm_types.specs.declared.refusal.Place.{Place}
-use Rattle.solero.specs.Command.{Asked}
-use Rattle.solero.specs.Answer.{AreAccepted, IsAcceptedIn, IsDue, IsRefusal, contents_of, first_long, status_of}
+use Rattle.command_words.specs.Command.{Asked}
+use Rattle.solero.specs.Answer.{AreAccepted, IsAcceptedIn, IsDue, IsRefusal, status_of}
+use Rattle.host_io.specs.Reading.{contents_of, first_long}
 use Rattle.solero.specs.Delivery.{Delivers}
 use Rattle.solero.proofs.Modes.{taken_not_refused}
 use Rattle.solero.specs.declared.finish.Finish.TheVariants.{Returned, Uncaught, Limited}

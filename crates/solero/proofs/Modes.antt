@@ -8,10 +8,10 @@ use Rattle.jvm_types.specs.declared.refusal.Rule.TheVariants as rules
 use Rattle.jvm_types.specs.declared.refusal.Place.{Place}
 use Rattle.class_runner.specs.Loading.{read_fault}
 use Rattle.class_runner.proofs.LoadedOnce.{accepted, never_both, never_refused, no_read_fault}
-use Rattle.solero.specs.Command.{Asked}
+use Rattle.command_words.specs.Command.{Asked}
 use Rattle.solero.specs.Answer.{IsAcceptedIn, IsMadeIn, IsRefusedIn, IsRefusedText}
-use Rattle.solero.specs.declared.request.Mode.{Mode}
-use Rattle.solero.specs.declared.request.Mode.TheVariants as modes
+use Rattle.command_words.specs.declared.request.Mode.{Mode}
+use Rattle.command_words.specs.declared.request.Mode.TheVariants as modes
 use Rattle.solero.specs.declared.answer.Due.{Due}
 use Rattle.solero.specs.declared.answer.Due.TheVariants.{Output}
 

@@ -7,7 +7,7 @@ use Rattle.std.proofs.lemmas.Slice.Zip.{AllZip-long}
 use Rattle.jvm_types.specs.ClassGrammar.{IsClass, Spells}
 use Rattle.jvm_types.specs.declared.class_file.ClassFile.{ClassFile}
 use Rattle.jvm_types.specs.declared.limits.TheConstants.{MOST_FILE_BYTES}
-use Rattle.solero.specs.Answer.{first_long}
+use Rattle.host_io.specs.Reading.{first_long}
 
 pub some_class : (files : List (List ℕ)) (classes items : List ClassFile) → length files ≡ 1 → AllZip Spells files classes → items ≡ classes → 0 < length items
 some_class files classes items one read same = omega (arith, one, AllZip-long Spells files classes read, ap length same)

@@ -8,18 +8,18 @@ use Rattle.jvm_types.specs.declared.refusal.Place.{Place}
 use Rattle.host_io.specs.Faults.{CountsFault}
 use Rattle.checked_program.specs.MarkedProgram.{MarkedProgram}
 use Rattle.run_texts.specs.Refusal.{refusal_text}
-use Rattle.solero.specs.Command.{Asked}
-use Rattle.solero.specs.Answer.{IsDue, IsMadeBy, IsMadeIn, IsRefusedIn, Refuses, first_long}
+use Rattle.command_words.specs.Command.{Asked}
+use Rattle.solero.specs.Answer.{IsDue, IsMadeBy, IsMadeIn, IsRefusedIn, Refuses}
+use Rattle.host_io.specs.Reading.{IsUnread, first_long}
 use Rattle.jvm_types.specs.declared.limits.TheConstants.{MOST_FILE_BYTES}
-use Rattle.solero.specs.Reading.{IsUnread}
 use Rattle.solero.specs.Parts.{IsLine, IsRun, IsUnreadDue}
 use Rattle.host_io.specs.declared.shelf.NamedFile.{NamedFile}
 use Rattle.host_io.specs.declared.shelf.ShelfError.{ShelfError}
 use Rattle.host_io.specs.declared.shelf.ShelfError.TheVariants.{Memory, Failed, TooLong}
-use Rattle.solero.specs.declared.request.Mode.{Mode}
-use Rattle.solero.specs.declared.request.Mode.TheVariants as modes
-use Rattle.solero.specs.declared.request.Task.{Task}
-use Rattle.solero.specs.declared.request.Task.TheVariants.{Replay, Run, Mark}
+use Rattle.command_words.specs.declared.request.Mode.{Mode}
+use Rattle.command_words.specs.declared.request.Mode.TheVariants as modes
+use Rattle.command_words.specs.declared.request.Task.{Task}
+use Rattle.command_words.specs.declared.request.Task.TheVariants.{Replay, Run, Mark}
 use Rattle.solero.specs.declared.answer.Due.{Due}
 use Rattle.solero.specs.declared.answer.Due.TheVariants.{Report, Output, Usage, Refusal, CannotRead, OutOfMemory}
 

@@ -1,13 +1,13 @@
 -- What is answered where nothing outside fails: files that are accepted in full, and others by their refusal.
 use Rattle.std.proofs.Common.{◌≡◌, ℕ, Bool, inl, inr, List, Option, Some, Ok, Err, arith}
 use Rattle.std.specs.Prelude.{◌⊎◌}
-use Rattle.solero.specs.Command.{Asked}
-use Rattle.solero.specs.Answer.{AreAccepted, IsDue, IsMadeOf, contents_of, status_of}
+use Rattle.command_words.specs.Command.{Asked}
+use Rattle.solero.specs.Answer.{AreAccepted, IsDue, IsMadeOf, status_of}
 use Rattle.solero.specs.Delivery.{Delivers}
 use Rattle.solero.specs.Whole.{AnswersWhole, IsCalm, IsOwed, IsOwedRefusal}
 use Rattle.solero.proofs.Accepted.{no_refusal}
 use Rattle.solero.proofs.Modes.{made_of_taken}
-use Rattle.solero.proofs.SoFar.{none_long}
+use Rattle.host_io.proofs.SoFar.{none_long}
 use Rattle.host_io.specs.Faults.{CountsFault}
 use Rattle.host_io.specs.declared.shelf.NamedFile.{NamedFile}
 use Rattle.solero.specs.declared.answer.Due.{Due}

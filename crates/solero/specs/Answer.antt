@@ -25,18 +25,19 @@ use Rattle.run_texts.specs.CellText.{cell_text}
 use Rattle.run_texts.specs.Report.{counts_lines, end_lines, line, report_text}
 use Rattle.run_texts.specs.Refusal.{refusal_text}
 use Rattle.run_texts.specs.MarksText.{marks_text}
+use Rattle.run_texts.specs.Unread.{unread_line}
 use Rattle.class_runner.specs.Loading.{IsAccepted, IsLoaded, IsRefusedBy, read_fault}
-use Rattle.solero.specs.Command.{Asked}
+use Rattle.command_words.specs.Command.{Asked}
 use Rattle.solero.specs.Finish.{cell_finish, finish_of}
 use Rattle.host_io.specs.Faults.{CountsFault}
-use Rattle.host_io.specs.Shelf.{content_of}
+use Rattle.host_io.specs.Reading.{CannotBeRead, contents_of, first_long}
 use Rattle.host_io.specs.declared.shelf.NamedFile.{NamedFile}
 use Rattle.solero.specs.declared.finish.Finish.{Finish}
 use Rattle.solero.specs.declared.finish.Finish.TheVariants.{Returned, Uncaught, Limited}
-use Rattle.solero.specs.declared.request.Mode.{Mode}
-use Rattle.solero.specs.declared.request.Mode.TheVariants as modes
-use Rattle.solero.specs.declared.request.Task.{Task}
-use Rattle.solero.specs.declared.request.Task.TheVariants.{Replay, Run, Mark}
+use Rattle.command_words.specs.declared.request.Mode.{Mode}
+use Rattle.command_words.specs.declared.request.Mode.TheVariants as modes
+use Rattle.command_words.specs.declared.request.Task.{Task}
+use Rattle.command_words.specs.declared.request.Task.TheVariants.{Replay, Run, Mark}
 use Rattle.solero.specs.declared.answer.Due.{Due}
 use Rattle.solero.specs.declared.answer.Due.TheVariants.{Report, Output, Usage, Refusal, CannotRead, OutOfMemory}
 
@@ -57,13 +58,6 @@ text_of Usage = line (codes "usage: solero [options] FILE...")
 text_of (Refusal text) = text
 text_of (CannotRead text) = text
 text_of OutOfMemory = line (codes "out of memory")
-
--- ---- files
-
--- the first of some files that is longer than a file may be, counted from a number on; such a file is refused
-abbrev pub first_long : ℕ → List (List ℕ) → Option ℕ
-first_long file [] = None
-first_long file (content ∷ contents) = if nat_lt MOST_FILE_BYTES (length content) then Some file else first_long (file + 1) contents
 
 -- ---- what is made of a program
 
@@ -179,10 +173,6 @@ pub record Refuses (asked : Asked) (contents : List (List ℕ)) (text : List ℕ
 
 -- ---- what is due to the words and the shelf
 
--- the files of these names, where the shelf tells its files
-abbrev pub contents_of : List NamedFile → List (List ℕ) → List (List ℕ)
-contents_of files names = map (content_of files) names
-
 -- made of the files that are asked for; where the shelf does not tell its files, of some of which there are as many
 pub record IsMadeOf (files : Option (List NamedFile)) (asked : Asked) (due : Due) : Type 0 where
   pub contents : List (List ℕ)
@@ -197,16 +187,6 @@ pub record RefusesFiles (files : Option (List NamedFile)) (asked : Asked) (text 
   pub are : IfSome files (λ fs. contents ≡ contents_of fs asked.files)
   pub many : length contents ≡ length asked.files
   pub refuses : Refuses asked contents text
-
-abbrev pub unread_line : ℕ → List ℕ
-unread_line file = line (codes "cannot read file " ++ decimal file)
-
--- A file of these names can't be read: where the shelf tells which it can't read, the first of these. None before it is too long,
--- since such a file is refused when it is read.
-pub record CannotBeRead (files : Option (List NamedFile)) (unreadable : Option (List ℕ → Bool)) (names : List (List ℕ)) (file : ℕ) : Type 0 where
-  pub among : file < length names
-  pub first : IfSome unreadable (λ test. position_from test 0 names ≡ Some file)
-  pub before : IfSome files (λ fs. first_long 0 (take file (contents_of fs names)) ≡ None)
 
 -- the line of such a file
 pub record SaysUnread (files : Option (List NamedFile)) (unreadable : Option (List ℕ → Bool)) (names : List (List ℕ)) (text : List ℕ) : Type 0 where

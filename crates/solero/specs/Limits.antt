@@ -1,21 +1,14 @@
 -- Limits, usual values and other constants by number, as docs/SUBSET.md and the table of options in the README have them. The other
 -- definitions name them by the constants of the code, so they say what these numbers make of them.
-use Rattle.std.specs.Prelude.{◌≡◌, ℕ, ◌<◌, ◌≤◌, true, List, [], ◌∷◌, length, codes, Option, Some}
+use Rattle.std.specs.Prelude.{◌≡◌}
 use Rattle.cell_runner.specs.declared.running.TheConstants.{MOST_ROUNDS}
-use Rattle.clap.specs.Walk.{Text}
-use Rattle.clap.specs.declared.parser.matches.ValueSource.{ValueSource}
-use Rattle.clap.specs.declared.builder.value_parser.Reading.{Reading}
+use Rattle.command_words.specs.Limits.{AreOptionsStated}
 use Rattle.jvm_types.specs.declared.class_file.TheConstants.{MAGIC, TEXT_BYTES_END}
 use Rattle.jvm_types.specs.declared.class_numbers.TheConstants.{CLASS_ITSELF, FIRST_FILE_CLASS, INT_ARRAY_CLASS, OBJECT_CLASS, PRINT_STREAM_CLASS, THROWABLES, THROWABLE_CLASS}
 use Rattle.jvm_types.specs.declared.fixed_words.TheConstants.{FIRST_CLASS_WORD, FIRST_READY_WORD, FIRST_RECORD_WORD, HEADER_CLASSES, MONITOR_RECORDS, NEXT_FREE_WORD, NEXT_RECORD_WORD, NEXT_TICKET_WORD, OBJECT_HEAD_WORDS, READY_OBJECTS}
 use Rattle.jvm_types.specs.declared.flags.TheConstants.{ABSTRACT, FINAL, INTERFACE, NATIVE, PRIVATE, PUBLIC, STATIC, SYNCHRONIZED}
 use Rattle.jvm_types.specs.declared.limits.TheConstants.{FIRST_VERSION, FLAG_FROM, LAST_VERSION, LEAST_HEAP, MOST_ATTEMPTS, MOST_CODE_BYTES, MOST_COUNTED, MOST_FILES, MOST_FILE_BYTES, MOST_FRAMES, MOST_HEAP, MOST_INSTRUCTIONS, MOST_LIMIT, MOST_METHODS, MOST_PRINTS, MOST_SLOTS, MOST_WORKERS}
 use Rattle.jvm_types.specs.declared.refusal.TheConstants.{NO_METHOD}
-use Rattle.solero.specs.Command.{asked}
-use Rattle.solero.specs.declared.request.Memory.TheVariants.{Table}
-use Rattle.solero.specs.declared.request.Mode.TheVariants.{Program}
-use Rattle.solero.specs.declared.request.Task.TheVariants.{Replay}
-use Rattle.solero.specs.declared.values.TheConstants.{LONGEST_ORDER, USUAL_HEAP, USUAL_PRINTS, USUAL_SIZE, USUAL_STEPS}
 
 -- ---- class files (JVMS 4)
 
@@ -77,31 +70,10 @@ pub record WordNumbers : Type 0 where
   pub class_itself : CLASS_ITSELF ≡ 16
   pub first_file : FIRST_FILE_CLASS ≡ 17
 
--- ---- the words of the command
+-- ---- a cell
 
-pub record OptionNumbers : Type 0 where
-  pub order : LONGEST_ORDER ≡ 100000
-  pub heap : USUAL_HEAP ≡ 65536
-  pub steps : USUAL_STEPS ≡ 10000000
-  pub prints : USUAL_PRINTS ≡ 65536
-  -- rounds of each worker of a cell
-  pub size : USUAL_SIZE ≡ 100
-  pub most_size : MOST_ROUNDS ≡ 1000
-
--- what is asked for where only the names of some files are given
-abbrev pub FilesAskForUsual : Type 0
-FilesAskForUsual = (files : List Text) (count : Option ℕ) (source : Option ValueSource) (reading : Reading) → 0 < length files → length files ≤ 64
-    → asked (record { id = codes "FILE"; values = files; count = count; source = source; reading = reading } ∷ [])
-    ≡ Some (record {
-      mode = Program Replay;
-      files = files;
-      threads = 0;
-      heap = 65536;
-      cfg = record { steps = 10000000; turns = 4294967295; prints = 65536; elide = true; range = 4294967295 };
-      order = [];
-      memory = Table;
-      size = 100;
-    })
+pub record SizeNumbers : Type 0 where
+  pub rounds : MOST_ROUNDS ≡ 1000
 
 -- ---- the whole
 
@@ -110,5 +82,5 @@ pub record AreStated : Type 0 where
   pub flags : FlagNumbers
   pub machine : MachineNumbers
   pub words : WordNumbers
-  pub options : OptionNumbers
-  pub usual : FilesAskForUsual
+  pub sizes : SizeNumbers
+  pub options : AreOptionsStated

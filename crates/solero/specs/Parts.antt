@@ -6,12 +6,13 @@ use Rattle.jvm_types.specs.declared.refusal.CRule.TheVariants.{C10}
 use Rattle.class_runner.specs.declared.loading.FileError.{FileError}
 use Rattle.class_runner.specs.declared.loading.FileError.TheVariants as errors
 use Rattle.run_texts.specs.Refusal.{refusal_text}
-use Rattle.solero.specs.Command.{Asked}
-use Rattle.solero.specs.Answer.{IsMadeIn, IsRefusedIn, IsRefusedText, Refuses, unread_line}
+use Rattle.run_texts.specs.Unread.{unread_line}
+use Rattle.command_words.specs.Command.{Asked}
+use Rattle.solero.specs.Answer.{IsMadeIn, IsRefusedIn, IsRefusedText, Refuses}
 use Rattle.jvm_types.specs.declared.limits.TheConstants.{MOST_FILE_BYTES}
 use Rattle.host_io.specs.declared.shelf.ShelfError.{ShelfError}
 use Rattle.host_io.specs.declared.shelf.ShelfError.TheVariants.{Failed, TooLong}
-use Rattle.solero.specs.declared.request.Mode.{Mode}
+use Rattle.command_words.specs.declared.request.Mode.{Mode}
 use Rattle.solero.specs.declared.answer.Due.{Due}
 use Rattle.solero.specs.declared.answer.Due.TheVariants.{Refusal, CannotRead, OutOfMemory}
 

@@ -3,7 +3,7 @@
 use Rattle.std.specs.Prelude.{◌≡◌, ℕ, ◌-◌, ◌<◌, ◌^◌, List, ◌++◌, Option, Some}
 use Rattle.std.specs.Option.{option_map}
 use Rattle.solero.specs.Answer.{IsMadeOf, RefusesFiles, status_of, text_of}
-use Rattle.solero.specs.Command.{Asked}
+use Rattle.command_words.specs.Command.{Asked}
 use Rattle.host_io.specs.declared.shelf.NamedFile.{NamedFile}
 use Rattle.solero.specs.declared.answer.Due.{Due}
 use Rattle.solero.specs.declared.answer.Due.TheVariants.{Refusal, OutOfMemory}

@@ -1,11 +1,11 @@
-ghost use Rattle.std.specs.Prelude.{◌≡◌, IfOk};
+ghost use Rattle.std.specs.Prelude.{◌≡◌};
 ghost use Rattle.run_texts.specs.Refusal.{refusal_text};
-ghost use Rattle.solero.specs.Answer.{status_of, text_of, unread_line};
+ghost use Rattle.solero.specs.Answer.{status_of, text_of};
 ghost use Rattle.solero.specs.Parts.{IsLine, IsUnreadDue};
 ghost use Rattle.host_io.specs.declared.shelf.ShelfError.TheVariants.{Failed, TooLong};
 
 use crate::finish::Finish;
-use class_runner::refusal;
+use class_runner::{refusal, unread_file};
 use jvm_types::limits::MOST_FILE_BYTES;
 use jvm_types::{Bytes, CRule, Place, Rule, in_file};
 use std::alloc::{AllocError, Global};
@@ -85,16 +85,8 @@ pub fn too_long(alloc: Global, file: u16) -> Due
 pub fn cannot_read(alloc: Global, file: u16) -> Due
     ensures { IsUnreadDue file Failed result }
 {
-    match unread_line(alloc, file) {
+    match unread_file(alloc, file) {
         Ok(line) => Due::CannotRead(line),
         Err(AllocError) => Due::OutOfMemory,
     }
-}
-
-fn unread_line(alloc: Global, file: u16) -> Result<Bytes, AllocError>
-    ensures { IfOk result (λ text. text ≡ unread_line file) }
-{
-    let mut line = String::new(alloc);
-    writeln!(line, "cannot read file {file}")?;
-    Bytes::from_slice(alloc, line.as_bytes())
 }

@@ -1,10 +1,10 @@
 //! A run of a cell.
 ghost use Rattle.std.specs.Prelude.{IfOk};
 ghost use Rattle.solero.specs.Answer.{IsCellReport};
-ghost use Rattle.solero.specs.Requests.{asked_by};
+ghost use Rattle.command_words.specs.Requests.{asked_by};
 
 use crate::finish::{Finish, cell_finish};
-use crate::request::Request;
+use command_words::Request;
 use cell_runner::run_cell;
 use jvm_types::{Bytes, Gate};
 use run_texts::{CellCounts, cell_report};

@@ -4,7 +4,8 @@ ghost use Rattle.class_runner.specs.Loading.{read_fault};
 ghost use Rattle.class_runner.specs.Stages.{IsUnread};
 ghost use Rattle.class_runner.specs.declared.loading.FileError.TheVariants.{Memory};
 ghost use Rattle.jvm_types.specs.ClassGrammar.{IsClass, Spells};
-ghost use Rattle.solero.specs.Answer.{IsAssembled, IsListed, first_long};
+ghost use Rattle.host_io.specs.Reading.{first_long};
+ghost use Rattle.solero.specs.Answer.{IsAssembled, IsListed};
 ghost use Rattle.solero.specs.Parts.{IsNotAssembled};
 
 use asm_text::{AsmError, assemble, listing};

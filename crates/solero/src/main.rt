@@ -6,21 +6,17 @@ ghost use Rattle.std.specs.Prelude.{◌≡◌, ◌≢◌};
 mod answer;
 mod cell;
 mod class_text;
-mod command;
 mod delivery;
 mod finish;
 mod limits;
 mod making;
 mod program;
-mod reading;
-mod request;
 #[cfg(test)]
 mod row_tests;
 #[cfg(test)]
 mod tests;
 #[cfg(test)]
 mod thread_tests;
-mod values;
 
 use answer::Due;
 use host_io::adapters::{FileShelf, OutputSink};

@@ -8,13 +8,13 @@ ghost use Rattle.machine_types.specs.Settings.{AreSettings};
 ghost use Rattle.run_parts.specs.Ended.{IsEndOfRun};
 ghost use Rattle.solero.specs.Answer.{IsMadeBy, text_with_prints};
 ghost use Rattle.solero.specs.Finish.{finish_of as the_finish};
-ghost use Rattle.solero.specs.Requests.{asked_by};
+ghost use Rattle.command_words.specs.Requests.{asked_by};
 ghost use Rattle.solero.specs.declared.answer.Due.TheVariants.{Report};
-ghost use Rattle.solero.specs.declared.request.Task.TheVariants.{Replay, Run};
+ghost use Rattle.command_words.specs.declared.request.Task.TheVariants.{Replay, Run};
 
 use crate::answer::Due;
 use crate::finish::finish_of;
-use crate::request::{Memory, Request, Task};
+use command_words::{Memory, Request, Task};
 use checked_program::Checked;
 use class_runner::{mark_text, report};
 use jvm_types::{Gate, Outcome};

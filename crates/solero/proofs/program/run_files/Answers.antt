@@ -1,4 +1,4 @@
-use Rattle.solero.specs.Requests.{asked_by}
+use Rattle.command_words.specs.Requests.{asked_by}
 use Rattle.solero.proofs.Owed.{made_run, refused_run}
 use Rattle.solero.proofs.program.run_files.Goals as goal
 

@@ -1,0 +1,5 @@
+pub mod Commands
+pub mod Found
+pub mod Numbers
+pub mod Orders
+pub mod Stated

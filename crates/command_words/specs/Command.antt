@@ -1,0 +1,83 @@
+-- What the words of `solero` mean: what `clap` finds for one simple command, and then the rules for the values.
+use Rattle.std.specs.Prelude.{ℕ, ◌==◌, Bool, List, [], ◌∷◌, length, codes, bytes_eq, Option, Some, None, if◌then◌else◌}
+use Rattle.clap.specs.Walk.{Row, Text, first_of}
+use Rattle.clap.specs.Simple.{App}
+use Rattle.machine_types.specs.declared.config.Config.{Config}
+use Rattle.command_words.specs.RunValues.{are_few, heap_of, order_of, settings_of, threads_of}
+use Rattle.command_words.specs.Values.{◌>>=◌, number_or}
+use Rattle.command_words.specs.Words.{command_of, found, gives_any, names_of}
+use Rattle.command_words.specs.declared.request.Memory.{Memory}
+use Rattle.command_words.specs.declared.request.Mode.{Mode}
+use Rattle.command_words.specs.declared.request.Task.{Task}
+use Rattle.command_words.specs.declared.values.TheConstants.{MOST_SIZE, USUAL_SIZE}
+use Rattle.command_words.specs.declared.request.Memory.TheVariants.{Table, Locked}
+use Rattle.command_words.specs.declared.request.Mode.TheVariants as modes
+use Rattle.command_words.specs.declared.request.Task.TheVariants.{Replay, Run, Mark}
+
+abbrev pub the_command : App
+the_command = command_of (codes "solero")
+    (codes "mode" ∷ codes "threads" ∷ codes "order" ∷ codes "steps" ∷ codes "turns" ∷ codes "heap" ∷ codes "prints" ∷ codes "elide" ∷ codes "range" ∷ codes "memory" ∷ codes "size" ∷ [])
+
+-- ---- values
+
+abbrev pub mode_or_replay : Option Text → Option Mode
+mode_or_replay None = Some (modes.Program Replay)
+mode_or_replay (Some text) =
+    if bytes_eq text (codes "replay") then Some (modes.Program Replay)
+    else if bytes_eq text (codes "run") then Some (modes.Program Run)
+    else if bytes_eq text (codes "mark") then Some (modes.Program Mark)
+    else if bytes_eq text (codes "list") then Some modes.List
+    else if bytes_eq text (codes "asm") then Some modes.Assemble
+    else if bytes_eq text (codes "cell") then Some modes.Cell
+    else None
+
+abbrev pub memory_or_table : Option Text → Option Memory
+memory_or_table None = Some Table
+memory_or_table (Some text) = if bytes_eq text (codes "table") then Some Table else if bytes_eq text (codes "locked") then Some Locked else None
+
+-- how many files a mode takes: a program is made of 1 to 64, one is listed or assembled, and a cell has none
+abbrev pub takes : Mode → ℕ → Bool
+takes (modes.Program task) count = are_few count
+takes modes.List count = count == 1
+takes modes.Assemble count = count == 1
+takes modes.Cell count = count == 0
+
+-- the names of the files, where the mode takes so many
+abbrev pub files_for : Mode → List Text → Option (List Text)
+files_for mode names = if takes mode (length names) then Some names else None
+
+-- ---- the whole
+
+-- what the words ask for
+pub record Asked : Type 0 where
+  pub mode : Mode
+  pub files : List Text
+  pub threads : ℕ
+  pub heap : ℕ
+  pub cfg : Config
+  pub order : List ℕ
+  pub memory : Memory
+  pub size : ℕ
+
+-- the options that a mode doesn't read: an order is chosen for a replay alone, a memory for a run alone, a size for a cell alone
+abbrev pub not_read : Mode → List Text
+not_read (modes.Program Replay) = codes "memory" ∷ codes "size" ∷ []
+not_read (modes.Program Run) = codes "order" ∷ codes "size" ∷ []
+not_read modes.Cell = codes "order" ∷ codes "memory" ∷ []
+not_read mode = codes "order" ∷ codes "memory" ∷ codes "size" ∷ []
+
+unfoldable pub asked : List Row → Option Asked
+asked rows = do
+  mode ← mode_or_replay (first_of (codes "mode") rows)
+  files ← files_for mode (names_of rows)
+  threads ← threads_of rows
+  heap ← heap_of rows
+  cfg ← settings_of rows
+  order ← order_of rows
+  memory ← memory_or_table (first_of (codes "memory") rows)
+  size ← number_or USUAL_SIZE 1 MOST_SIZE (first_of (codes "size") rows)
+  if gives_any rows (not_read mode) then None else Some (record { mode = mode; files = files; threads = threads; heap = heap; cfg = cfg; order = order; memory = memory; size = size })
+
+-- what the words ask for; None where they are not read
+unfoldable pub command : List Text → Option Asked
+command words = found the_command words >>= asked

@@ -1,6 +1,0 @@
-use Rattle.std.proofs.Common.{◌∙◌}
-use Rattle.solero.proofs.Numbers.{number_reads}
-use Rattle.solero.proofs.values.number.Goals as goal
-
-pub returns : goal.returns
-returns c = c.ok.ensures.value ∙ number_reads c.args.text.now c.parse.result c.parse.ensures.value.0
