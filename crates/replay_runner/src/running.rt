@@ -1,12 +1,13 @@
 //! The machine: the words that all threads share, and the threads.
 
-ghost use Rattle.std.specs.Prelude.{◌≡◌, ◌+◌, ◌≤◌, ◌<◌, ℕ, true, false, length, map, slice_get, slice_set, Some, IfOk};
+ghost use Rattle.std.specs.Prelude.{◌≡◌, ◌+◌, ◌≤◌, ◌<◌, ℕ, true, false, length, map, slice_get, slice_set, unwrap_or, Some, IfOk};
+ghost use Rattle.std.specs.Option.{option_copied};
 ghost use Rattle.machine_types.specs.Core.{event, is_live, lives, may_begin, next, outcome, start};
 ghost use Rattle.machine_types.specs.Settings.{AreSettings};
 ghost use Rattle.jvm_types.specs.declared.limits.TheConstants.{MOST_WORKERS};
 ghost use Rattle.laws_states.specs.WorkLeft.{all_work, work_left};
 ghost use Rattle.run_parts.specs.Parts.{own_begun};
-ghost use Rattle.replay_runner.specs.Running.{IsThreadOf, Running, run_on, turns_of};
+ghost use Rattle.replay_runner.specs.Running.{AreRunning, IsThreadOf, Running, run_on, turns_of};
 
 use checked_program::Checked;
 use frames::ThreadState;
@@ -131,6 +132,25 @@ impl Machine {
         ensures few { result ≤ MOST_WORKERS }
     {
         (self.threads.len() - 1) as u8
+    }
+
+    /// Thread `t`, where there is one. The state is one that a run may reach.
+    pub fn thread(&self, t: u8) -> Option<&ThreadState>
+        ensures thread { option_copied result ≡ slice_get self.now.core.threads t }
+        ensures runs { AreRunning self.now }
+    {
+        let _settings = &self.cfg;
+        self.threads.get(t as usize)
+    }
+
+    /// A word that all threads share; 0 where there is no word of that number.
+    pub fn word(&self, number: u32) -> u64
+        ensures { result ≡ unwrap_or (slice_get self.now.core.words number) 0 }
+    {
+        match self.words.get(number as usize) {
+            Some(word) => *word,
+            None => 0,
+        }
     }
 
     /// How many turns thread `t` has failed since its last entry or wait: 0 where there is no such thread.
