@@ -6,3 +6,5 @@
 mod by_hand;
 #[cfg(test)]
 mod cell_runs;
+#[cfg(test)]
+mod recorded_runs;
