@@ -20,7 +20,7 @@ module _ (c : MarkedProgram) (cfg : Config) (m a : Running) (count : ℕ) (at_st
   have_begun n may e =
       let begun : n ≡ record { program = c; cfg = cfg; core = next c (events c (start c cfg) 0 count) } = e ∙ ap (λ (z : Running). record z { core = next z.program z.core }) after_init in
       subst (λ (z : Running). HaveBegun z.program z.cfg z.core) (sym begun)
-      (record { count = count; init_over = init_over; may = ap (λ (z : Running). may_begin z.core.threads) (sym after_init) ∙ may; begun = refl })
+      (record { begin = record { count = count; init_over = init_over; begun = refl }; returned = ap (λ (z : Running). may_begin z.core.threads) (sym after_init) ∙ may })
 
   pub ends_there : (n : Running) (most : ℕ) (order : List ℕ) (o : Outcome) → may_begin a.core.threads ≡ false → n ≡ a → order ≡ [] → o ≡ outcome n.core → IsRecorded c cfg most order o
   ends_there n most order o may same none is =

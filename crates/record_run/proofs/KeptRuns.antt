@@ -69,8 +69,8 @@ next_is k (Some t) room h = (room, worker_lives k.machine.core t h.0 h.1, h.2)
 begin_at : (c : MarkedProgram) (cfg : Config) (s : Core) (order : List ℕ) → HaveBegun c cfg s → IsAt c cfg order (Ordered order) s
 begin_at c cfg s order b =
     let m : Running = record { program = c; cfg = cfg; core = start c cfg } in
-    let over : IsAt c cfg order (First order) (events c (start c cfg) 0 b.count) = (goes_in_init m order b.count).leads cfg order (at_start c cfg order) in
-    subst (λ (z : Core). IsAt c cfg order (Ordered order) z) (sym b.begun) (workers_turn c (events c (start c cfg) 0 b.count) order b.init_over b.may cfg order over)
+    let over : IsAt c cfg order (First order) (events c (start c cfg) 0 b.begin.count) = (goes_in_init m order b.begin.count).leads cfg order (at_start c cfg order) in
+    subst (λ (z : Core). IsAt c cfg order (Ordered order) z) (sym b.begin.begun) (workers_turn c (events c (start c cfg) 0 b.begin.count) order b.begin.init_over b.returned cfg order over)
 
 -- and makes the events of the order
 order_made : (c : MarkedProgram) (cfg : Config) (whole : List ℕ) (s : Core) (order : List ℕ) → IsAt c cfg whole (Ordered order) s → AreLiveWorkers c s order → IsAt c cfg whole (Ordered []) (after_order c s order)
@@ -98,7 +98,7 @@ finishes run k n o h full goes is = subst (λ (z : Option Named). IsRecordOf z (
       replayed = replayed c cfg k.order goes.0 n.core o (goes.1.leads cfg k.order there) goes.2 is;
       few = h.few;
       at = h.at;
-      begin = record { count = h.begin.count; init_over = h.begin.init_over; begun = h.begin.begun };
+      begin = h.begin.begin;
       live = h.live;
       whole = whole full;
     }

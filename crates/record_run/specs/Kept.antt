@@ -2,10 +2,10 @@
 -- to its state.
 use Rattle.std.specs.Prelude.{◌≡◌, ◌≤◌, ℕ, true, false, List, length, Option, None, Some, ◌⊎◌}
 use Rattle.checked_program.specs.MarkedProgram.{MarkedProgram}
-use Rattle.machine_types.specs.Core.{Core, lives, may_begin, next, start}
+use Rattle.machine_types.specs.Core.{Core, may_begin, start}
 use Rattle.machine_types.specs.Schedules.{is_live_worker}
 use Rattle.machine_types.specs.declared.config.Config.{Config}
-use Rattle.record_run.specs.Recordings.{AreLiveWorkers, IsRecorded, after_order}
+use Rattle.record_run.specs.Recordings.{AreLiveWorkers, IsBeginOfWorkers, IsRecorded, after_order}
 use Rattle.record_run.specs.declared.recording.Recorded.{Recorded}
 use Rattle.replay_runner.specs.Running.{Running, events}
 
@@ -27,10 +27,8 @@ IsOfProgram run c = (cfg : Config) × (most : ℕ) × (run ≡ Some (record { pr
 
 -- the workers begin, behind an `init` that returned
 pub record HaveBegun (c : MarkedProgram) (cfg : Config) (s : Core) : Type 0 where
-  pub count : ℕ
-  pub init_over : lives (events c (start c cfg) 0 count) 0 ≡ false
-  pub may : may_begin (events c (start c cfg) 0 count).threads ≡ true
-  pub begun : s ≡ next c (events c (start c cfg) 0 count)
+  pub begin : IsBeginOfWorkers c cfg s
+  pub returned : may_begin (events c (start c cfg) 0 begin.count).threads ≡ true
 
 -- the order led the machine of the run to its state, from the begin of the workers on
 pub record IsKeptOf (run : Option Named) (k : Kept) : Type 0 where

@@ -1,14 +1,15 @@
 -- A recorded run: an order of the workers' events, and what it leads the run to.
-use Rattle.std.specs.Prelude.{◌≡◌, ◌≤◌, ◌<◌, ℕ, true, false, List, [], ◌∷◌, length}
+use Rattle.std.specs.Prelude.{◌≡◌, ◌≤◌, ◌<◌, ℕ, true, false, List, [], ◌∷◌, length, map}
 use Rattle.jvm_types.specs.declared.outcome.Outcome.{Outcome}
 use Rattle.checked_program.specs.MarkedProgram.{MarkedProgram}
-use Rattle.machine_types.specs.Core.{Core, event, lives, next, start}
+use Rattle.machine_types.specs.Core.{Core, Of, all_happened, event, lives, next, start}
 use Rattle.machine_types.specs.Schedules.{is_live_worker}
 use Rattle.machine_types.specs.declared.config.Config.{Config}
 use Rattle.replay_runner.specs.Replays.{IsReplayed}
 use Rattle.replay_runner.specs.Running.{events}
 
--- the state in which the workers' part begins, where `init` returned: thread 0 alone has had its events until it was not live
+-- the state in which the workers come next: thread 0 alone has had its events until it was not live, and where `init` returned,
+-- the workers' part has begun
 pub record IsBeginOfWorkers (c : MarkedProgram) (cfg : Config) (s : Core) : Type 0 where
   pub count : ℕ
   pub init_over : lives (events c (start c cfg) 0 count) 0 ≡ false
@@ -16,8 +17,7 @@ pub record IsBeginOfWorkers (c : MarkedProgram) (cfg : Config) (s : Core) : Type
 
 -- the state behind an event of each thread of an order, in turn
 abbrev pub after_order : MarkedProgram → Core → (order : List ℕ) → Core
-after_order c s [] = s
-after_order c s (t ∷ order) = after_order c (event c s t) order
+after_order c s order = all_happened c s (map Of order)
 
 -- each of them is a worker, and live as its turn comes
 abbrev pub AreLiveWorkers : MarkedProgram → Core → (order : List ℕ) → Type 0
