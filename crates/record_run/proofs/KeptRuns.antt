@@ -1,19 +1,19 @@
 -- The order that is kept leads the machine to its state.
-use Rattle.std.proofs.Common.{◌≡◌, ◌≤◌, ◌<◌, ◌⊎◌, inl, inr, ℕ, zero, suc, Bool, true, false, List, [], ◌∷◌, ◌++◌, ◌+◌, length, Option, Some, None, refl, sym, ap, subst, ◌∙◌, arith}
+use Rattle.std.proofs.Common.{◌≡◌, ◌≤◌, ◌<◌, inl, inr, ℕ, zero, suc, Bool, true, false, List, [], ◌∷◌, ◌++◌, ◌+◌, length, Option, Some, None, refl, sym, ap, subst, ◌∙◌, arith}
 use Rattle.std.specs.Prelude.{MatchOption, nat_lt, ◌&&◌}
 use Rattle.std.proofs.lemmas.Bool.Decides.{nat_tests}
 use Rattle.std.proofs.lemmas.List.{length-append}
 use Rattle.lists.proofs.ListLaws.{same_some}
 use Rattle.jvm_types.specs.declared.outcome.Outcome.{Outcome}
 use Rattle.checked_program.specs.MarkedProgram.{MarkedProgram}
-use Rattle.machine_types.specs.Core.{Core, event, lives, may_begin, next, outcome, start}
-use Rattle.machine_types.specs.Schedules.{First, Ordered, is_live_worker, turn_at}
+use Rattle.machine_types.specs.Core.{Core, event, lives, outcome, start}
+use Rattle.machine_types.specs.Schedules.{First, Ordered, is_live_worker}
 use Rattle.machine_types.specs.declared.config.Config.{Config}
-use Rattle.replay_runner.specs.Replays.{GoesOn, GoesToEnd, IsAt, IsReplayed}
+use Rattle.replay_runner.specs.Replays.{GoesToEnd, IsAt}
 use Rattle.replay_runner.specs.Running.{Running, events}
 use Rattle.replay_runner.proofs.ManyEvents.{goes_in_init}
 use Rattle.replay_runner.proofs.Turns.{at_start, ordered_turn, replayed, workers_turn}
-use Rattle.record_run.specs.Recordings.{AreLiveWorkers, IsBeginOfWorkers, IsRecorded, after_order}
+use Rattle.record_run.specs.Recordings.{AreLiveWorkers, IsRecorded, after_order}
 use Rattle.record_run.specs.Kept.{HaveBegun, IsFull, IsKeptOf, IsOfProgram, IsRecordOf, Kept, Named}
 
 pub same_program : (run : Option Named) (c : MarkedProgram) (k : Kept) → IsOfProgram run c → IsKeptOf run k → c ≡ k.machine.program

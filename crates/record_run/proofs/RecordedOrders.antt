@@ -1,12 +1,8 @@
 -- A recorded order makes the same run again.
-use Rattle.std.proofs.Common.{◌≡◌, ℕ, List, sym, ap, ◌∙◌}
-use Rattle.jvm_types.specs.declared.outcome.Outcome.{Outcome}
-use Rattle.checked_program.specs.MarkedProgram.{MarkedProgram}
+use Rattle.std.proofs.Common.{◌≡◌, List, sym, ap, ◌∙◌}
 use Rattle.machine_types.specs.Core.{Happening, core, outcome}
 use Rattle.machine_types.specs.ScheduleLaws.{OneSchedule}
-use Rattle.machine_types.specs.declared.config.Config.{Config}
-use Rattle.replay_runner.specs.Replays.{IsReplayed}
-use Rattle.record_run.specs.Recordings.{IsRecorded, RecordedOrdersReplay}
+use Rattle.record_run.specs.Recordings.{RecordedOrdersReplay}
 
 pub order_replays : OneSchedule → RecordedOrdersReplay
 order_replays one c cfg most order o other r again =
