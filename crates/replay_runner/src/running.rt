@@ -129,6 +129,7 @@ impl Machine {
     #[inline(always)]
     pub fn workers(&self) -> u8
         ensures count { result + 1 ≡ length self.now.core.threads }
+        ensures program { result ≡ self.now.program.program.workers }
         ensures few { result ≤ MOST_WORKERS }
     {
         (self.threads.len() - 1) as u8

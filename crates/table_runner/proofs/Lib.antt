@@ -1,7 +1,7 @@
 mod Accesses
 mod HandedThreads
 mod ManyEvents
-mod SharedViews
+pub mod SharedViews
 mod HandsApart
 mod SameHands
 mod Reports
@@ -9,5 +9,5 @@ mod WholeHands
 mod NextThreads
 mod NextHands
 mod StartHands
-mod WorkerHands
-mod Stages
+pub mod WorkerHands
+pub mod Stages

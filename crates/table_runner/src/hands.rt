@@ -88,7 +88,7 @@ impl Hands {
     }
 
     /// Tells that they hold no thread that the program doesn't have.
-    pub(crate) fn hold_no_more(&self)
+    pub fn hold_no_more(&self)
         ensures { (t : ℕ) → self.now.program.program.workers < t → held_in self.now.threads t ≡ None }
     {
         let _cfg = self.cfg;

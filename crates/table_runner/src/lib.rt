@@ -19,4 +19,4 @@ mod workers;
 pub use hands::Hands;
 pub use opening::table;
 pub use rule::{About, CoreRule, CoreTable};
-pub use running::run_table;
+pub use running::{end_run, run_init, run_rest, run_table};

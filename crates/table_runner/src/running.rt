@@ -1,6 +1,6 @@
 //! The whole of a run on a table.
 
-ghost use Rattle.std.specs.Prelude.{◌≡◌, ◌≤◌, ◌+◌, IfOk, OnOk, false};
+ghost use Rattle.std.specs.Prelude.{◌≡◌, ◌≤◌, ◌+◌, IfOk, OnOk, true, false};
 ghost use Rattle.machine_types.specs.Core.{is_live_thread};
 ghost use Rattle.machine_types.specs.Settings.{AreSettings};
 ghost use Rattle.run_parts.specs.Ended.{IsEndOfRun};
@@ -45,25 +45,16 @@ fn run_left(hands: &mut Hands, table: &CoreTable, p: &Checked)
     }
 }
 
-/// The workers' part.
-fn run_workers<R: Threads + Sync, G: Gate + Sync>(
-    rt: &R,
-    alloc: Global,
-    gate: &G,
-    table: &CoreTable,
-    hands: &mut Hands,
-    p: &Checked,
-) -> Result<(), AllocError>
+/// The end of the workers' part: what they have left is made.
+fn end_workers(table: &CoreTable, hands: &mut Hands, p: &Checked)
     requires program { p.now ≡ table.now.shared.key.program.told }
     requires here { RunsHere table.now.shared.table_id table.now.shared.key.program.told table.now.shared.key.cfg hands.old }
     requires waiting { IsWaiting hands.old.threads }
-    ensures here { OnOk result (RunsHere table.now.shared.table_id table.now.shared.key.program.told table.now.shared.key.cfg hands.new) }
-    ensures over { OnOk result (IsWaiting hands.new.threads × NoWorkerLives hands.new.threads) }
+    ensures here { RunsHere table.now.shared.table_id table.now.shared.key.program.told table.now.shared.key.cfg hands.new }
+    ensures over { IsWaiting hands.new.threads × NoWorkerLives hands.new.threads }
 {
-    run_apart(rt, alloc, gate, table, hands, p)?;
     run_left(hands, table, p);
     hands.hold_no_more();
-    Ok(())
 }
 
 /// `done`, where it may begin.
@@ -79,8 +70,53 @@ fn run_done(table: &CoreTable, hands: &mut Hands, p: &Checked)
     }
 }
 
-/// `init`, and then the workers and `done` where they may begin.
-fn run_to_end<R: Threads + Sync, G: Gate + Sync>(
+/// `init`, and the begin of the workers' part: whether it began.
+fn begin_workers(table: &CoreTable, hands: &mut Hands, p: &Checked) -> bool
+    requires program { p.now ≡ table.now.shared.key.program.told }
+    requires here { RunsHere table.now.shared.table_id table.now.shared.key.program.told table.now.shared.key.cfg hands.old }
+    requires alone { IsAlone 0 hands.old.threads }
+    ensures here { RunsHere table.now.shared.table_id table.now.shared.key.program.told table.now.shared.key.cfg hands.new }
+    ensures waiting { result ≡ true → IsWaiting hands.new.threads }
+    ensures ended { result ≡ false → HaveEnded hands.new.threads }
+{
+    run_here(hands, table, p, 0);
+    hands.next(table, p)
+}
+
+/// Runs `init` of a run at its start, and begins the workers' part: `false` where that may not begin, and then the run has ended.
+pub fn run_init(table: &CoreTable, hands: &mut Hands, p: &Checked) -> bool
+    requires program { p.now ≡ table.now.shared.key.program.told }
+    requires start { AtStart table.now.shared.table_id table.now.shared.key.program.told table.now.shared.key.cfg hands.old }
+    ensures here { RunsHere table.now.shared.table_id table.now.shared.key.program.told table.now.shared.key.cfg hands.new }
+    ensures waiting { result ≡ true → IsWaiting hands.new.threads }
+    ensures ended { result ≡ false → HaveEnded hands.new.threads }
+{
+    begin_workers(table, hands, p)
+}
+
+/// Runs what the workers have left of their part, and `done` where it may begin: then the run has ended.
+pub fn run_rest(table: &CoreTable, hands: &mut Hands, p: &Checked)
+    requires program { p.now ≡ table.now.shared.key.program.told }
+    requires here { RunsHere table.now.shared.table_id table.now.shared.key.program.told table.now.shared.key.cfg hands.old }
+    requires waiting { IsWaiting hands.old.threads }
+    ensures here { RunsHere table.now.shared.table_id table.now.shared.key.program.told table.now.shared.key.cfg hands.new }
+    ensures ended { HaveEnded hands.new.threads }
+{
+    end_workers(table, hands, p);
+    run_done(table, hands, p);
+}
+
+/// The outcome of a run that has ended.
+pub fn end_run(hands: Hands, table: CoreTable) -> Outcome
+    requires here { RunsHere table.shared.table_id table.shared.key.program.told table.shared.key.cfg hands }
+    requires ended { HaveEnded hands.threads }
+    ensures { IsEndOfRun hands.program hands.cfg result }
+{
+    hands.close(table)
+}
+
+/// The workers' part, each worker on a thread of its own.
+fn run_workers<R: Threads + Sync, G: Gate + Sync>(
     rt: &R,
     alloc: Global,
     gate: &G,
@@ -90,26 +126,33 @@ fn run_to_end<R: Threads + Sync, G: Gate + Sync>(
 ) -> Result<(), AllocError>
     requires program { p.now ≡ table.now.shared.key.program.told }
     requires here { RunsHere table.now.shared.table_id table.now.shared.key.program.told table.now.shared.key.cfg hands.old }
-    requires alone { IsAlone 0 hands.old.threads }
+    requires waiting { IsWaiting hands.old.threads }
+    ensures here { OnOk result (RunsHere table.now.shared.table_id table.now.shared.key.program.told table.now.shared.key.cfg hands.new) }
+    ensures waiting { OnOk result (IsWaiting hands.new.threads) }
+{
+    run_apart(rt, alloc, gate, table, hands, p)
+}
+
+/// The parts of a run, from its start to its end.
+fn run_to_end<R: Threads + Sync, G: Gate + Sync>(
+    rt: &R,
+    alloc: Global,
+    gate: &G,
+    table: &CoreTable,
+    hands: &mut Hands,
+    p: &Checked,
+) -> Result<(), AllocError>
+    requires program { p.now ≡ table.now.shared.key.program.told }
+    requires start { AtStart table.now.shared.table_id table.now.shared.key.program.told table.now.shared.key.cfg hands.old }
     ensures here { OnOk result (RunsHere table.now.shared.table_id table.now.shared.key.program.told table.now.shared.key.cfg hands.new) }
     ensures ended { OnOk result (HaveEnded hands.new.threads) }
 {
-    run_here(hands, table, p, 0);
-    if !hands.next(table, p) {
+    if !run_init(table, hands, p) {
         return Ok(());
     }
     run_workers(rt, alloc, gate, table, hands, p)?;
-    run_done(table, hands, p);
+    run_rest(table, hands, p);
     Ok(())
-}
-
-/// The outcome of a run that has ended.
-fn close(hands: Hands, table: CoreTable) -> Outcome
-    requires here { RunsHere table.shared.table_id table.shared.key.program.told table.shared.key.cfg hands }
-    requires ended { HaveEnded hands.threads }
-    ensures { IsEndOfRun hands.program hands.cfg result }
-{
-    hands.close(table)
 }
 
 /// Runs a program to its end, its workers on threads of their own, over words that they share without a lock: the outcome of a
@@ -129,5 +172,5 @@ pub fn run_table<R: Threads + Sync, G: Gate + Sync>(
 {
     let (table, mut hands) = table(alloc, p, cfg)?;
     run_to_end(rt, alloc, gate, &table, &mut hands, p)?;
-    Ok(close(hands, table))
+    Ok(end_run(hands, table))
 }
