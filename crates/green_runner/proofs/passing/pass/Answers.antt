@@ -1,0 +1,20 @@
+use Rattle.std.proofs.Common.{◌+◌, sym, subst, ◌∙◌}
+use Rattle.std.specs.List.{range_with_len}
+use Rattle.green_runner.proofs.Passes.{MidPass, pass_on, table_same, turns_same}
+use Rattle.green_runner.proofs.passing.pass.Goals as goal
+
+pub give_turn-live-requires-clause-table : goal.give_turn-live-requires-clause-table
+give_turn-live-requires-clause-table c =
+    table_same c.args.table.now.shared.table_id c.args.table.now.shared.key.program.told c.args.table.now.shared.key.cfg c.args.hands.now c.loop-t.hands
+    (turns_same c.args.turn (range_with_len 0 c.loop-t.t) c.args.hands.now c.loop-t.hands c.loop-t.invariant.turns) c.requires.table
+
+pub give_turn-live-requires-clause-program : goal.give_turn-live-requires-clause-program
+give_turn-live-requires-clause-program c =
+    c.requires.program ∙ sym (turns_same c.args.turn (range_with_len 0 c.loop-t.t) c.args.hands.now c.loop-t.hands c.loop-t.invariant.turns).program
+
+pub loop-t-preserved : goal.loop-t-preserved
+loop-t-preserved c =
+    let turn = c.give_turn-live.ensures in
+    subst (λ b. MidPass c.args.hands.now c.args.turn (c.loop-t.t + 1) b c.give_turn-live.new.hands) (sym c.either-some.ensures)
+    (pass_on c.args.hands.now c.loop-t.hands c.give_turn-live.new.hands c.args.turn c.loop-t.t c.loop-t.some c.give_turn-live.result c.loop-t.invariant
+    (record { live_is = turn.live; still = turn.still; turn_is = turn.turn }))

@@ -1,0 +1,13 @@
+use Rattle.std.proofs.Common.{◌+◌, ◌<◌, ◌≤◌, length}
+use Rattle.std.specs.List.{All}
+use Rattle.table_rule.specs.Views.{held_in}
+use Rattle.table_runner.specs.Handed.{IsTableOf}
+use Rattle.table_runner.specs.Running.{RestOf}
+use Rattle.green_runner.specs.Shares.{AreShared}
+use Rattle.green_runner.proofs.shares.share_out.Given as goal
+
+abbrev pub invariant-loop-i : goal.invariant-loop-i
+invariant-loop-i l =
+    RestOf l.table.shared.table_id l.table.shared.key.program.told l.table.shared.key.cfg (l.i + 1) (held_in l.fn.hands.threads 0) l.hands
+    × All (IsTableOf l.table.shared.table_id l.table.shared.key.program.told l.table.shared.key.cfg) l.shares.items
+    × AreShared (l.i + 1) l.shares.items × (length l.shares.items ≤ l.i) × (l.i < 9)

@@ -1,0 +1,4 @@
+pub mod Turns
+pub mod Passes
+pub mod Turning
+pub mod Shares
