@@ -15,6 +15,6 @@ pub use loading_laws::{
     accepted_is_not_refused, accepted_or_refused, loaded_is_accepted, one_loading, one_refusal,
 };
 pub use reading::read_files;
-pub use run_texts::{mark_text, refusal, report, unread_file};
+pub use run_texts::{mark_text, recorded_report, refusal, report, summary, unread_file};
 pub use tagging::tag_files;
 pub use verifying::verify_files;

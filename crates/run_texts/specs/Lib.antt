@@ -3,3 +3,5 @@ pub mod Report
 pub mod Refusal
 pub mod MarksText
 pub mod Unread
+pub mod LoadText
+pub mod OrderText

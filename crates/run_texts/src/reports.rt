@@ -42,7 +42,7 @@ fn prints_by_thread(alloc: Global, threads: &[ThreadReport]) -> Result<Vec<Print
     Ok(prints)
 }
 
-fn write_prints(
+pub fn write_prints(
     text: &mut String,
     alloc: Global,
     threads: &[ThreadReport],
@@ -57,7 +57,7 @@ fn write_prints(
     Ok(())
 }
 
-fn write_ends(text: &mut String, threads: &[ThreadReport], done: End) -> Result<(), AllocError>
+pub fn write_ends(text: &mut String, threads: &[ThreadReport], done: End) -> Result<(), AllocError>
     requires { 0 < length threads.now }
     ensures { OnOk result (string_bytes text.new ≡ string_bytes text.old ++ end_lines threads.now done) }
 {
@@ -83,7 +83,7 @@ fn write_workers(text: &mut String, workers: &[ThreadReport]) -> Result<(), Allo
     Ok(())
 }
 
-fn write_counts(text: &mut String, threads: &[ThreadReport]) -> Result<(), AllocError>
+pub fn write_counts(text: &mut String, threads: &[ThreadReport]) -> Result<(), AllocError>
     ensures { OnOk result (string_bytes text.new ≡ string_bytes text.old ++ counts_lines 0 threads.now) }
 {
     for (number, thread) in threads.iter().enumerate() {
