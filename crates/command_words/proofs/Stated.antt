@@ -11,6 +11,6 @@ files_ask files count source reading some few = rw (lt-ltb 0 (length files) some
 
 pub are_stated : AreOptionsStated
 are_stated = record {
-  numbers = record { order = refl; heap = refl; steps = refl; prints = refl; size = refl; most_size = refl };
+  numbers = record { order = refl; heap = refl; steps = refl; prints = refl; size = refl; most_size = refl; events = refl; turn = refl; most_turn = refl };
   usual = files_ask;
 }

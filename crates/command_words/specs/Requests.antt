@@ -13,4 +13,7 @@ asked_by r = record {
   order = r.order;
   memory = r.memory;
   size = r.size;
+  seed = r.seed;
+  events = r.events;
+  green = r.green;
 }

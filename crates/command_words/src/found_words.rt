@@ -1,8 +1,8 @@
 //! What `clap` finds in the words of a command: options, each with one value, and names.
 ghost use Rattle.std.specs.Prelude.{◌≡◌, IfOk, Some, codes, length, map, option_map, true};
-ghost use Rattle.std.specs.Option.{option_copied, unwrap_or};
+ghost use Rattle.std.specs.Option.{option_copied};
 ghost use Rattle.clap.specs.Words.{all_of, app_of, first_of, found_of, is_simple, is_simple_and_free, rows_of};
-ghost use Rattle.command_words.specs.Words.{command_of, found, gives_any as gives_any_of, is_given as is_option_given, names_of, texts, with_names as names_in, with_option as option_in};
+ghost use Rattle.command_words.specs.Words.{command_of, found, gives_any as gives_any_of, is_given as is_option_given, texts, with_names as names_in, with_option as option_in};
 
 use clap::error::ErrorKind;
 use clap::{Arg, ArgAction, ArgMatches, Command};
@@ -72,18 +72,11 @@ pub fn value<'a>(matches: &ArgMatches<'a>, name: &str) -> Option<&'a str>
     matches.get_str(name)
 }
 
-// The names that are given.
-fn given_names<'m, 'a>(matches: &'m ArgMatches<'a>) -> Option<&'m [&'a str]>
+/// The names that are given.
+pub fn names<'m, 'a>(matches: &'m ArgMatches<'a>) -> Option<&'m [&'a str]>
     ensures { option_map (λ s. map (λ v. v.now) s.now) result ≡ all_of (codes "FILE") (rows_of (found_of matches.now)) }
 {
     matches.get_strs("FILE")
-}
-
-/// The names of the files.
-pub fn names<'m, 'a>(matches: &'m ArgMatches<'a>) -> &'m [&'a str]
-    ensures { map (λ v. v.now) result.now ≡ names_of (rows_of (found_of matches.now)) }
-{
-    given_names(matches).unwrap_or(&[])
 }
 
 /// The names as texts of their own.

@@ -12,4 +12,4 @@ mod tests;
 pub mod values;
 
 pub use command::read_words;
-pub use request::{Memory, Mode, Request, Task};
+pub use request::{Green, Memory, Mode, Request, Task};

@@ -2,11 +2,13 @@
 ghost use Rattle.std.specs.Prelude.{◌≡◌, ◌&&◌, ◌-◌, ◌≤◌, nat_le, nat_lt, IfOk, IfSome, length, map, option_map};
 ghost use Rattle.std.specs.List.{list_all};
 ghost use Rattle.std.specs.Option.{option_copied};
-ghost use Rattle.command_words.specs.Command.{memory_or_table as the_memory, mode_or_replay as the_mode};
+ghost use Rattle.command_words.specs.Command.{green as the_green, green_or_none as the_green_or_none, memory_or_table as the_memory, mode_or_replay as the_mode};
+ghost use Rattle.command_words.specs.Bounds.{IsGreen};
 ghost use Rattle.command_words.specs.Values.{is_worker as is_the_worker, number as the_number, number_or as the_number_or, on_or_off as the_switch, order_or_none as the_order, within as the_number_within};
 
-use crate::request::{Memory, Mode, Task};
+use crate::request::{Green, Memory, Mode, Task};
 use jvm_types::Bytes;
+use jvm_types::limits::MOST_WORKERS;
 use std::alloc::{AllocError, Global};
 
 /// The most digits of an order.
@@ -18,11 +20,20 @@ pub const USUAL_STEPS: u32 = 10_000_000;
 /// The most prints of a thread, where the words say nothing of them.
 pub const USUAL_PRINTS: u32 = 65_536;
 
-/// The rounds of each worker of a cell, where the words say nothing of them.
+/// The rounds of each worker of a cell, or the methods of a load, where the words say nothing of them.
 pub const USUAL_SIZE: u32 = 100;
 
-/// The most rounds of each worker of a cell.
+/// The most rounds of each worker of a cell, and methods of a load.
 pub const MOST_SIZE: u32 = 1_000;
+
+/// The most events whose order is recorded, and so many where the words say nothing of them.
+pub const MOST_EVENTS: u32 = 100_000;
+
+/// The most events of a thread's turn.
+pub const MOST_TURN: u32 = 1_000_000;
+
+/// The events of a thread's turn, where the words say nothing of them.
+pub const USUAL_TURN: u32 = 64;
 
 /// The heap words, where the words say nothing of them.
 pub const USUAL_HEAP: u32 = 65_536;
@@ -72,9 +83,11 @@ pub fn mode_or_replay(given: Option<&str>) -> Option<Mode>
         None => Some(Mode::Program(Task::Replay)),
         Some(text) if text == "replay" => Some(Mode::Program(Task::Replay)),
         Some(text) if text == "run" => Some(Mode::Program(Task::Run)),
+        Some(text) if text == "record" => Some(Mode::Program(Task::Record)),
         Some(text) if text == "mark" => Some(Mode::Program(Task::Mark)),
         Some(text) if text == "list" => Some(Mode::List),
         Some(text) if text == "asm" => Some(Mode::Assemble),
+        Some(text) if text == "load" => Some(Mode::Load),
         Some(text) if text == "cell" => Some(Mode::Cell),
         Some(_) => None,
     }
@@ -89,6 +102,54 @@ pub fn memory_or_table(given: Option<&str>) -> Option<Memory>
         Some(text) if text == "table" => Some(Memory::Table),
         Some(text) if text == "locked" => Some(Memory::Locked),
         Some(_) => None,
+    }
+}
+
+const WORKERS: Numbers = Numbers {
+    unless: 1,
+    least: 1,
+    most: MOST_WORKERS as u32,
+};
+
+const TURN: Numbers = Numbers {
+    unless: USUAL_TURN,
+    least: 1,
+    most: MOST_TURN,
+};
+
+/// The workers that a text names, with the turn that another one names.
+fn green(workers: &str, turn: Option<&str>) -> Option<Green>
+    ensures bounds { IfSome result IsGreen }
+    ensures value { result ≡ the_green workers.now (option_copied turn.entry) }
+{
+    let workers = number_or(WORKERS, Some(workers))?;
+    let turn = number_or(TURN, turn)?;
+    Some(Green {
+        workers: workers as u8,
+        turn,
+    })
+}
+
+/// The workers that run the threads, with their turn, where workers are given; they are given beside the table alone, and a turn
+/// beside workers alone.
+pub fn green_or_none(
+    memory: Memory,
+    workers: Option<&str>,
+    turn: Option<&str>,
+) -> Option<Option<Green>>
+    ensures bounds { IfSome result (λ g. IfSome g IsGreen) }
+    ensures value { result ≡ the_green_or_none memory (option_copied workers.entry) (option_copied turn.entry) }
+{
+    match (memory, workers) {
+        (_, None) => match turn {
+            None => Some(None),
+            Some(_) => None,
+        },
+        (Memory::Table, Some(workers)) => {
+            let green = green(workers, turn)?;
+            Some(Some(green))
+        }
+        (Memory::Locked, Some(_)) => None,
     }
 }
 

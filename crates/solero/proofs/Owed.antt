@@ -19,7 +19,7 @@ use Rattle.host_io.specs.declared.shelf.ShelfError.TheVariants.{Memory, Failed, 
 use Rattle.command_words.specs.declared.request.Mode.{Mode}
 use Rattle.command_words.specs.declared.request.Mode.TheVariants as modes
 use Rattle.command_words.specs.declared.request.Task.{Task}
-use Rattle.command_words.specs.declared.request.Task.TheVariants.{Replay, Run, Mark}
+use Rattle.command_words.specs.declared.request.Task.TheVariants.{Replay, Run, Record, Mark}
 use Rattle.solero.specs.declared.answer.Due.{Due}
 use Rattle.solero.specs.declared.answer.Due.TheVariants.{Report, Output, Usage, Refusal, CannotRead, OutOfMemory}
 
@@ -27,12 +27,14 @@ use Rattle.solero.specs.declared.answer.Due.TheVariants.{Report, Output, Usage, 
 task_made_no_refusal : (task : Task) (asked : Asked) (checked : MarkedProgram) (text : List ℕ) → IsMadeBy task asked checked (Refusal text) → ⊥
 task_made_no_refusal Replay asked checked text made = made
 task_made_no_refusal Run asked checked text made = made
+task_made_no_refusal Record asked checked text made = made
 task_made_no_refusal Mark asked checked text made = made
 
 made_no_refusal : (mode : Mode) (asked : Asked) (contents : List (List ℕ)) (text : List ℕ) → IsMadeIn mode asked contents (Refusal text) → ⊥
 made_no_refusal (modes.Program task) asked contents text made = task_made_no_refusal task asked made.checked text made.made
 made_no_refusal modes.List asked contents text made = made
 made_no_refusal modes.Assemble asked contents text made = made
+made_no_refusal modes.Load asked contents text made = made
 made_no_refusal modes.Cell asked contents text made = made
 
 -- what the mode makes of files, none of which is too long, is due to them

@@ -21,7 +21,11 @@ use Rattle.machine_types.specs.Core.{Happening, core, outcome}
 use Rattle.machine_types.specs.Faithful.{IsFaithful, IsOver, IsPlainRun}
 use Rattle.machine_types.specs.PlainState.{Printed}
 use Rattle.machine_types.specs.Schedules.{IsScheduleOf}
+use Rattle.load_classes.specs.LoadClass.{load_class}
+use Rattle.record_run.specs.Recordings.{IsRecorded}
 use Rattle.run_texts.specs.CellText.{cell_text}
+use Rattle.run_texts.specs.LoadText.{summary_text}
+use Rattle.run_texts.specs.OrderText.{order_line}
 use Rattle.run_texts.specs.Report.{counts_lines, end_lines, line, report_text}
 use Rattle.run_texts.specs.Refusal.{refusal_text}
 use Rattle.run_texts.specs.MarksText.{marks_text}
@@ -37,7 +41,7 @@ use Rattle.solero.specs.declared.finish.Finish.TheVariants.{Returned, Uncaught, 
 use Rattle.command_words.specs.declared.request.Mode.{Mode}
 use Rattle.command_words.specs.declared.request.Mode.TheVariants as modes
 use Rattle.command_words.specs.declared.request.Task.{Task}
-use Rattle.command_words.specs.declared.request.Task.TheVariants.{Replay, Run, Mark}
+use Rattle.command_words.specs.declared.request.Task.TheVariants.{Replay, Run, Record, Mark}
 use Rattle.solero.specs.declared.answer.Due.{Due}
 use Rattle.solero.specs.declared.answer.Due.TheVariants.{Report, Output, Usage, Refusal, CannotRead, OutOfMemory}
 
@@ -91,10 +95,23 @@ pub record ReportsRun (asked : Asked) (checked : MarkedProgram) (finish : Finish
   pub happenings : List Happening
   pub run : ReportsOver asked checked happenings finish text
 
--- what a task makes of a program: the report of a replay or of a run, or its marks
+-- The same over the schedule of the order in which the workers' events came, the line of which stands behind the report. A replay by
+-- this order comes to the same.
+pub record ReportsRecord (asked : Asked) (checked : MarkedProgram) (finish : Finish) (text : List ℕ) : Type 0 where
+  pub order : List ℕ
+  pub happenings : List Happening
+  pub schedule : IsScheduleOf checked asked.cfg order happenings
+  -- it has at most as many events as are asked for, each of a worker that was live as its turn came
+  pub recorded : IsRecorded checked asked.cfg asked.events order (outcome (core checked asked.cfg happenings))
+  pub report : List ℕ
+  pub run : ReportsOver asked checked happenings finish report
+  pub with_order : text ≡ report ++ order_line order
+
+-- what a task makes of a program: the report of a replay, of a run or of a record, or its marks
 abbrev pub IsMadeBy : Task → Asked → MarkedProgram → Due → Type 0
 IsMadeBy Replay asked checked (Report finish text) = ReportsReplay asked checked finish text
 IsMadeBy Run asked checked (Report finish text) = ReportsRun asked checked finish text
+IsMadeBy Record asked checked (Report finish text) = ReportsRecord asked checked finish text
 IsMadeBy Mark asked checked (Output text) = text ≡ marks_text checked.program checked.marks
 IsMadeBy task asked checked due = ⊥
 
@@ -123,6 +140,39 @@ abbrev pub IsRefusedText : List (List ℕ) → Rule → Place → Type 0
 IsRefusedText (text ∷ []) (rules.A rule) place = Assembles text (Err (Refused rule place.at)) × ListsNone text × (place ≡ in_file 0 place.at)
 IsRefusedText files rule place = ⊥
 
+-- ---- a load
+
+-- the class that is made from the size and the number that are asked for
+unfoldable pub class_of_load : Asked → ClassFile
+class_of_load asked = load_class asked.size asked.seed
+
+-- the one file spells it
+abbrev pub IsFileOfLoad : Asked → List (List ℕ) → Type 0
+IsFileOfLoad asked files = AllZip Spells files (class_of_load asked ∷ [])
+
+-- the text sums up what a program comes to over some happenings: what was asked for, and then the report of this run without its counts
+pub record SumsUp (asked : Asked) (checked : MarkedProgram) (finish : Finish) (text : List ℕ) : Type 0 where
+  pub happenings : List Happening
+  pub report : List ℕ
+  pub run : ReportsOver asked checked happenings finish report
+  pub summed : text ≡ summary_text asked.size asked.seed (outcome (core checked asked.cfg happenings))
+
+-- the same of the program that the file of the load is loaded to
+pub record IsLoadSummary (asked : Asked) (finish : Finish) (text : List ℕ) : Type 0 where
+  pub files : List (List ℕ)
+  pub made : IsFileOfLoad asked files
+  pub checked : MarkedProgram
+  pub loaded : IsLoaded files asked.heap asked.threads checked
+  pub sums : SumsUp asked checked finish text
+
+-- all rules let the file of the load pass
+abbrev pub IsLoadAccepted : Asked → Type 0
+IsLoadAccepted asked = (files : List (List ℕ)) × IsFileOfLoad asked files × IsAccepted files asked.heap asked.threads
+
+-- a rule refuses it, at a place
+abbrev pub IsLoadRefused : Asked → Rule → Place → Type 0
+IsLoadRefused asked rule place = (files : List (List ℕ)) × IsFileOfLoad asked files × IsRefusedBy files asked.heap asked.threads rule place
+
 -- ---- a cell
 
 -- the text reports a run of a cell with the workers, rounds and limit of failed turns that are asked for, and how it finished
@@ -141,21 +191,26 @@ IsMadeIn modes.List asked contents (Output text) = IsListed contents text
 IsMadeIn modes.List asked contents due = ⊥
 IsMadeIn modes.Assemble asked contents (Output bytes) = IsAssembled contents bytes
 IsMadeIn modes.Assemble asked contents due = ⊥
+IsMadeIn modes.Load asked contents (Report finish text) = IsLoadSummary asked finish text
+IsMadeIn modes.Load asked contents due = ⊥
 IsMadeIn modes.Cell asked contents (Report finish text) = IsCellReport asked finish text
 IsMadeIn modes.Cell asked contents due = ⊥
 
--- the mode takes the files, none of which is too long: all rules let them pass, or those of reading; or the text lists a class
+-- the mode takes the files, none of which is too long: all rules let them pass, or those of reading; or the text lists a class; and all
+-- rules let the class of a load pass
 abbrev pub IsAcceptedIn : Mode → Asked → List (List ℕ) → Type 0
 IsAcceptedIn (modes.Program task) asked contents = IsAccepted contents asked.heap asked.threads
 IsAcceptedIn modes.List asked contents = read_fault 0 contents ≡ None
 IsAcceptedIn modes.Assemble asked contents = (class : ClassFile) × AllZip Lists contents (class ∷ [])
+IsAcceptedIn modes.Load asked contents = IsLoadAccepted asked
 IsAcceptedIn modes.Cell asked contents = Unit {0}
 
--- a rule and a place refuse them in the mode
+-- a rule and a place refuse them in the mode, or the class of a load
 abbrev pub IsRefusedIn : Mode → Asked → List (List ℕ) → Rule → Place → Type 0
 IsRefusedIn (modes.Program task) asked contents rule place = IsRefusedBy contents asked.heap asked.threads rule place
 IsRefusedIn modes.List asked contents rule place = read_fault 0 contents ≡ Some (rule, place)
 IsRefusedIn modes.Assemble asked contents rule place = IsRefusedText contents rule place
+IsRefusedIn modes.Load asked contents rule place = IsLoadRefused asked rule place
 IsRefusedIn modes.Cell asked contents rule place = ⊥
 
 -- A rule and a place refuse the files. A file that is too long is refused when it is read from the shelf, before any is read as a

@@ -9,6 +9,8 @@ use Rattle.jvm_types.specs.declared.fixed_words.TheConstants.{FIRST_CLASS_WORD, 
 use Rattle.jvm_types.specs.declared.flags.TheConstants.{ABSTRACT, FINAL, INTERFACE, NATIVE, PRIVATE, PUBLIC, STATIC, SYNCHRONIZED}
 use Rattle.jvm_types.specs.declared.limits.TheConstants.{FIRST_VERSION, FLAG_FROM, LAST_VERSION, LEAST_HEAP, MOST_ATTEMPTS, MOST_CODE_BYTES, MOST_COUNTED, MOST_FILES, MOST_FILE_BYTES, MOST_FRAMES, MOST_HEAP, MOST_INSTRUCTIONS, MOST_LIMIT, MOST_METHODS, MOST_PRINTS, MOST_SLOTS, MOST_WORKERS}
 use Rattle.jvm_types.specs.declared.refusal.TheConstants.{NO_METHOD}
+use Rattle.load_classes.specs.declared.limits.TheConstants.{MOST_METHODS as MOST_METHODS_OF_LOAD}
+use Rattle.record_run.specs.declared.recording.TheConstants.{MOST_EVENTS}
 
 -- ---- class files (JVMS 4)
 
@@ -70,10 +72,12 @@ pub record WordNumbers : Type 0 where
   pub class_itself : CLASS_ITSELF ≡ 16
   pub first_file : FIRST_FILE_CLASS ≡ 17
 
--- ---- a cell
+-- ---- a cell, a load, and a record
 
 pub record SizeNumbers : Type 0 where
   pub rounds : MOST_ROUNDS ≡ 1000
+  pub methods : MOST_METHODS_OF_LOAD ≡ 1000
+  pub events : MOST_EVENTS ≡ 100000
 
 -- ---- the whole
 

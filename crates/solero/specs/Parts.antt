@@ -8,7 +8,7 @@ use Rattle.class_runner.specs.declared.loading.FileError.TheVariants as errors
 use Rattle.run_texts.specs.Refusal.{refusal_text}
 use Rattle.run_texts.specs.Unread.{unread_line}
 use Rattle.command_words.specs.Command.{Asked}
-use Rattle.solero.specs.Answer.{IsMadeIn, IsRefusedIn, IsRefusedText, Refuses}
+use Rattle.solero.specs.Answer.{IsLoadRefused, IsMadeIn, IsRefusedIn, IsRefusedText, Refuses}
 use Rattle.jvm_types.specs.declared.limits.TheConstants.{MOST_FILE_BYTES}
 use Rattle.host_io.specs.declared.shelf.ShelfError.{ShelfError}
 use Rattle.host_io.specs.declared.shelf.ShelfError.TheVariants.{Failed, TooLong}
@@ -39,6 +39,11 @@ IsRun asked contents due = IsMadeIn asked.mode asked contents due
 abbrev pub IsNotMadeIn : Mode → Asked → List (List ℕ) → FileError → Type 0
 IsNotMadeIn mode asked contents errors.Memory = Unit {0}
 IsNotMadeIn mode asked contents (errors.Refused rule place) = IsRefusedIn mode asked contents rule place
+
+-- nothing is made of a load: memory ran out, or a rule refuses its class
+abbrev pub IsLoadNotMade : Asked → FileError → Type 0
+IsLoadNotMade asked errors.Memory = Unit {0}
+IsLoadNotMade asked (errors.Refused rule place) = IsLoadRefused asked rule place
 
 -- no class is assembled: memory ran out, or a rule refuses the text
 abbrev pub IsNotAssembled : List (List ℕ) → FileError → Type 0

@@ -4,8 +4,8 @@ ghost use Rattle.solero.specs.Answer.{IsCellReport};
 ghost use Rattle.command_words.specs.Requests.{asked_by};
 
 use crate::finish::{Finish, cell_finish};
-use command_words::Request;
 use cell_runner::run_cell;
+use command_words::Request;
 use jvm_types::{Bytes, Gate};
 use run_texts::{CellCounts, cell_report};
 use std::alloc::{AllocError, Global};

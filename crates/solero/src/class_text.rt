@@ -55,8 +55,8 @@ fn assembled_text(alloc: Global, text: &Bytes) -> Result<Bytes, FileError>
     }
 }
 
-// The bytes that spell the class, where some do.
-fn bytes_of(alloc: Global, class: &ClassFile) -> Result<Bytes, FileError>
+/// The bytes that spell the class, where some do.
+pub fn bytes_of(alloc: Global, class: &ClassFile) -> Result<Bytes, FileError>
     requires { IsClass class.now }
     ensures ok { IfOk result (λ bytes. Spells bytes class.now) }
     ensures memory { IfErr result (λ e. e ≡ Memory) }

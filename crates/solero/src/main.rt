@@ -9,6 +9,7 @@ mod class_text;
 mod delivery;
 mod finish;
 mod limits;
+mod load;
 mod making;
 mod program;
 #[cfg(test)]

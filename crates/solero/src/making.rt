@@ -10,16 +10,18 @@ ghost use Rattle.solero.specs.Answer.{IsMadeBy, text_with_prints};
 ghost use Rattle.solero.specs.Finish.{finish_of as the_finish};
 ghost use Rattle.command_words.specs.Requests.{asked_by};
 ghost use Rattle.solero.specs.declared.answer.Due.TheVariants.{Report};
-ghost use Rattle.command_words.specs.declared.request.Task.TheVariants.{Replay, Run};
+ghost use Rattle.command_words.specs.declared.request.Task.TheVariants.{Record, Replay, Run};
 
 use crate::answer::Due;
 use crate::finish::finish_of;
-use command_words::{Memory, Request, Task};
 use checked_program::Checked;
-use class_runner::{mark_text, report};
+use class_runner::{mark_text, recorded_report, report};
+use command_words::{Memory, Request, Task};
+use green_runner::run_green;
 use jvm_types::{Gate, Outcome};
 use laws_refinement::{runs_are_faithful, schedules_end_over};
 use machine_types::Config;
+use record_run::run_recorded;
 use replay_runner::{replay, run_locked};
 use run_parts::have_width;
 use std::alloc::{AllocError, Global};
@@ -41,13 +43,14 @@ pub fn made<R: Threads + Wait + Sync, G: Gate + Sync>(
     match task {
         Task::Replay => replayed(alloc, request, checked),
         Task::Run => ran(rt, alloc, gate, request, checked),
+        Task::Record => recorded(rt, alloc, gate, request, checked),
         Task::Mark => Ok(Due::Output(mark_text(alloc, checked)?)),
     }
 }
 
-// Whatever happens in it, a run stands for one of the plain machine, and its report has the prints of
-// that; at the end of a schedule it is over.
-fn is_plain(checked: &Checked, cfg: &Config)
+/// Whatever happens in it, a run stands for one of the plain machine, and its report has the prints of
+/// that; at the end of a schedule it is over.
+pub fn is_plain(checked: &Checked, cfg: &Config)
     requires { AreSettings cfg.now }
     ensures plain { (hs : List Happening) → IsFaithful checked.now cfg.now hs }
     ensures prints { (hs : List Happening) (run : IsPlainRun checked.now cfg.now hs)
@@ -93,8 +96,24 @@ fn ran<R: Threads + Wait + Sync, G: Gate + Sync>(
     reported(alloc, &outcome)
 }
 
-// What a run on threads of the system comes to, over the memory that is asked for.
-fn end_of_run<R: Threads + Wait + Sync, G: Gate + Sync>(
+// The report of a run on threads of the system under one lock, and the order of its events.
+fn recorded<R: Threads + Wait + Sync, G: Gate + Sync>(
+    rt: &R,
+    alloc: Global,
+    gate: &G,
+    request: &Request,
+    checked: &Checked,
+) -> Result<Due, AllocError>
+    ensures { IfOk result (λ due. IsMadeBy Record (asked_by request.now) checked.now due) }
+{
+    is_plain(checked, &request.cfg);
+    let came = run_recorded(rt, alloc, gate, checked, &request.cfg, request.events)?;
+    let text = recorded_report(alloc, &came.outcome, &came.order)?;
+    Ok(Due::Report(finish_of(&came.outcome), text))
+}
+
+/// What a run on threads of the system comes to: on as many workers as are asked for, or else over the memory that is asked for.
+pub fn end_of_run<R: Threads + Wait + Sync, G: Gate + Sync>(
     rt: &R,
     alloc: Global,
     gate: &G,
@@ -103,6 +122,17 @@ fn end_of_run<R: Threads + Wait + Sync, G: Gate + Sync>(
 ) -> Result<Outcome, AllocError>
     ensures { IfOk result (IsEndOfRun checked.now request.now.cfg) }
 {
+    if let Some(green) = request.green {
+        return run_green(
+            rt,
+            alloc,
+            gate,
+            checked,
+            &request.cfg,
+            green.workers,
+            green.turn,
+        );
+    }
     match request.memory {
         Memory::Table => run_table(rt, alloc, gate, checked, &request.cfg),
         Memory::Locked => run_locked(rt, alloc, gate, checked, &request.cfg),

@@ -15,12 +15,12 @@ ghost use Rattle.command_words.specs.declared.request.Mode.TheVariants.{Program}
 use crate::answer::{Due, cannot_read, refused, too_long};
 use crate::cell::ran_cell;
 use crate::class_text::{assembled, listed};
-use command_words::read_words;
 use crate::delivery::deliver;
+use crate::load::ran_load;
 use crate::making::made;
-use host_io::files::{Unread, read_files};
-use command_words::{Mode, Request, Task};
 use class_runner::{FileError, load_program};
+use command_words::{Mode, Request, Task, read_words};
+use host_io::files::{Unread, read_files};
 use host_io::shelf::{Shelf, ShelfError};
 use host_io::sink::Sink;
 use jvm_types::{Bytes, Gate, Rows};
@@ -30,12 +30,14 @@ use std::thread::Threads;
 
 /// Does what the words ask for: reads the files from the shelf, in order; then loads them, and runs the program or finds the
 /// marks of its sections; or lists the class of the one file, or assembles the class that its text lists; or, without a file,
-/// runs a cell; and writes what came of it to the sink. It answers the status that the process ends with.
+/// makes the class of a load and runs that, or runs a cell; and writes what came of it to the sink. It answers the status that the
+/// process ends with.
 ///
-/// In modes run and cell each worker runs on a thread of its own, and passes the gate once, before its first event or round
-/// and while it holds no lock; in the other modes nobody passes it. Nothing is promised of the order, nor that workers run beside each
-/// other: where the system gives no thread, they run one after another. A run may wait for a lock, so the clauses hold where
-/// it returns.
+/// In modes run, record, load and cell each worker runs on a thread of its own, and passes the gate once, before its first event or
+/// round and while it holds no lock. Where the words give workers for a run, these run its threads: of two or more each that has
+/// threads passes the gate once, with its own number, and one alone doesn't. In the other modes nobody passes it. Nothing is promised
+/// of the order, nor that workers run beside each other: where the system gives no thread, they run one after another. A run may wait
+/// for a lock, so the clauses hold where it returns.
 pub fn top<R: Threads + Wait + Sync, S: Shelf, K: Sink, G: Gate + Sync>(
     rt: &R,
     alloc: Global,
@@ -165,6 +167,10 @@ fn made_in_mode<R: Threads + Wait + Sync, G: Gate + Sync>(
         Mode::Program(task) => made_of_program(rt, alloc, task, request, contents, gate),
         Mode::List => Ok(Due::Output(listed(alloc, contents)?)),
         Mode::Assemble => Ok(Due::Output(assembled(alloc, contents)?)),
+        Mode::Load => {
+            let (finish, text) = ran_load(rt, alloc, gate, request)?;
+            Ok(Due::Report(finish, text))
+        }
         Mode::Cell => {
             let (finish, text) = ran_cell(rt, alloc, gate, request)?;
             Ok(Due::Report(finish, text))

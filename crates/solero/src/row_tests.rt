@@ -4,6 +4,7 @@
 mod ints;
 mod limits;
 mod meetings;
+mod modes;
 mod objects;
 mod one_thread;
 mod overflows;
@@ -128,6 +129,12 @@ fn sections_run_without_their_lock(rt: HostRuntime) -> Result<(), Fail> {
 #[test]
 fn threads_meet(rt: HostRuntime) -> Result<(), Fail> {
     check_all(&rt, &meetings::MEETINGS)?;
+    Ok(())
+}
+
+#[test]
+fn threads_have_one_order(rt: HostRuntime) -> Result<(), Fail> {
+    check_all(&rt, &modes::ONE_ORDER)?;
     Ok(())
 }
 

@@ -89,7 +89,7 @@ fn check_all<R: Abort + Threads + Wait + Sync + AllocGlobal>(
     Ok(())
 }
 
-const CASES: [Case; 22] = [
+const CASES: [Case; 23] = [
     // Words that are not read.
     Case {
         words: &[],
@@ -199,6 +199,14 @@ const CASES: [Case; 22] = [
         failing: &[],
         status: 0,
         text: "K.get()I method M5\n",
+    },
+    // A run of a load.
+    Case {
+        words: &["--mode", "load", "--size", "3", "--threads", "2"],
+        content: ADDS,
+        failing: &[1],
+        status: 0,
+        text: "load size 3 seed 0\n402\n0\ninit returned\nthread 1 returned\nthread 2 returned\ndone returned\n",
     },
     // Runs of a cell, each worker of which makes so many writes and reads.
     Case {

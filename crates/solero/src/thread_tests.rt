@@ -134,6 +134,29 @@ const RUNS: [ThreadRun; 11] = [
     },
 ];
 
+/// Runs with fewer threads of the system than workers.
+const FEW: [ThreadRun; 2] = [
+    // Each thread spins until the other one has written, and neither runs to its end in one go.
+    ThreadRun {
+        options: &["--threads", "2", "--workers", "1", "--steps", "1000"],
+        class: SPINS,
+        ends: &[(
+            0,
+            "init returned\nthread 1 returned\nthread 2 returned\ndone returned\n",
+        )],
+    },
+    ThreadRun {
+        options: &["--threads", "8", "--workers", "3"],
+        class: BANK,
+        ends: &[(
+            0,
+            "36000\ninit returned\nthread 1 returned\nthread 2 returned\nthread 3 returned\n\
+                thread 4 returned\nthread 5 returned\nthread 6 returned\nthread 7 returned\n\
+                thread 8 returned\ndone returned\n",
+        )],
+    },
+];
+
 /// Words of a run on threads over that memory.
 fn run_words(alloc: Global, options: &[&str], memory: &str) -> Result<Vec<String>, AllocError> {
     let mut words = words(alloc, options)?;
@@ -149,10 +172,11 @@ fn is_one_of(ends: &[End], status: u8, text: &[u8]) -> bool {
 
 fn check_all<R: Abort + Threads + Wait + Sync + AllocGlobal>(
     rt: &R,
+    runs: &[ThreadRun],
     memory: &str,
 ) -> Result<(), AllocError> {
     let alloc = rt.alloc();
-    for run in &RUNS {
+    for run in runs {
         let words = run_words(alloc, run.options, memory)?;
         let (status, sink) = answer(rt, &words, bytes_of(alloc, run.class)?, &OpenGate)?;
         assert!(rt; is_one_of(run.ends, status, sink.text().as_slice()));
@@ -162,13 +186,14 @@ fn check_all<R: Abort + Threads + Wait + Sync + AllocGlobal>(
 
 #[test]
 fn threads_without_a_lock(rt: HostRuntime) -> Result<(), Fail> {
-    check_all(&rt, "table")?;
+    check_all(&rt, &RUNS, "table")?;
+    check_all(&rt, &FEW, "table")?;
     Ok(())
 }
 
 #[test]
 fn threads_under_one_lock(rt: HostRuntime) -> Result<(), Fail> {
-    check_all(&rt, "locked")?;
+    check_all(&rt, &RUNS, "locked")?;
     Ok(())
 }
 
@@ -234,6 +259,15 @@ fn workers_meet(rt: HostRuntime) -> Result<(), Fail> {
     for memory in ["table", "locked"] {
         check_meeting(&rt, &run_words(rt.alloc(), &["--threads", "2"], memory)?)?;
     }
+    Ok(())
+}
+
+#[test]
+fn workers_of_other_runs_meet(rt: HostRuntime) -> Result<(), Fail> {
+    let recorded = words(rt.alloc(), &["--mode", "record", "--threads", "2"])?;
+    check_meeting(&rt, &recorded)?;
+    let few = run_words(rt.alloc(), &["--threads", "2", "--workers", "2"], "table")?;
+    check_meeting(&rt, &few)?;
     Ok(())
 }
 
