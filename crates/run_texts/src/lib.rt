@@ -14,6 +14,6 @@ pub use cells::{CellCounts, cell_report};
 pub use loads::summary;
 pub use marks::{mark_text, write_class, write_mark_line, write_method};
 pub use orders::recorded_report;
-pub use refusals::{RefusalText, refusal};
+pub use refusals::{RefusalText, refusal, rule_name};
 pub use reports::report;
 pub use unread::unread_file;

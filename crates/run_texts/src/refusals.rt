@@ -1,7 +1,7 @@
 //! The line of a refusal.
 
 ghost use Rattle.std.specs.Prelude.{◌≡◌, IfOk};
-ghost use Rattle.run_texts.specs.Refusal.{refusal_text, c_number, k_number, l_number, v_number, s_number, a_number};
+ghost use Rattle.run_texts.specs.Refusal.{refusal_text, rule_text, c_number, k_number, l_number, v_number, s_number, a_number};
 
 use jvm_types::{ARule, Bytes, CRule, KRule, LRule, NO_METHOD, Place, Rule, SRule, VRule};
 use std::alloc::{AllocError, Global};
@@ -15,6 +15,16 @@ pub fn refusal(alloc: Global, rule: Rule, place: Place) -> Result<Bytes, AllocEr
     let mut line = String::new(alloc);
     writeln!(line, "{refusal}")?;
     Bytes::from_slice(alloc, line.as_bytes())
+}
+
+/// The letter and the number of a rule, as `K1`.
+pub fn rule_name(alloc: Global, rule: Rule) -> Result<Bytes, AllocError>
+    ensures { IfOk result (λ text. text ≡ rule_text rule) }
+{
+    let rule = RuleText(rule);
+    let mut name = String::new(alloc);
+    write!(name, "{rule}")?;
+    Bytes::from_slice(alloc, name.as_bytes())
 }
 
 /// Displays a refusal by its rule and its place: `refused RULE file I at A`, with ` method J` before ` at` where the place is

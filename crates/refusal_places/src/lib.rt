@@ -1,0 +1,13 @@
+//! The names of what the place of a refusal is of, in the class that its file spells.
+#![tactic(auto)]
+
+pub mod explaining;
+pub mod facts;
+pub mod naming;
+pub mod sentences;
+pub mod source_lines;
+pub mod spots;
+pub mod telling;
+
+pub use explaining::explained_refusal;
+pub use facts::{Fact, Form, Key};
