@@ -15,5 +15,5 @@ pub use loads::summary;
 pub use marks::{mark_text, write_class, write_mark_line, write_method};
 pub use orders::recorded_report;
 pub use refusals::{RefusalText, refusal, rule_name};
-pub use reports::report;
+pub use reports::{EndText, name_of, report};
 pub use unread::unread_file;

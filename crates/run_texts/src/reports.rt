@@ -111,7 +111,7 @@ fn write_counts_of(text: &mut String, number: usize, counts: Counts) -> Result<(
 
 /// Displays how a part ended.
 #[derive(Clone, Copy)]
-struct EndText(End);
+pub struct EndText(pub End);
 
 impl fmt::Display for EndText {
     ghost use Rattle.std.specs.Prelude.{Some};
@@ -135,7 +135,8 @@ impl fmt::Display for EndText {
     }
 }
 
-fn name_of(thrown: Thrown) -> &'static str
+/// The name of a built-in throwable.
+pub fn name_of(thrown: Thrown) -> &'static str
     ensures { result.now ≡ class_name thrown }
 {
     match thrown {

@@ -1,0 +1,7 @@
+pub mod Doings
+pub mod SharedWords
+pub mod PhaseTexts
+pub mod ValueTexts
+pub mod Sights
+pub mod MarkTexts
+pub mod Lines

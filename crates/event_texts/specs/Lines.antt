@@ -1,0 +1,44 @@
+-- The line of an event: its number, the thread and the attempt that it is in, where it stands, what it does in words where it is
+-- no instruction, the word that it accesses with what it found and left there, and what becomes of attempts, locks and the part.
+use Rattle.std.specs.Prelude.{ℕ, Bool, true, false, List, [], ◌++◌, codes, Option, Some, None}
+use Rattle.std.specs.Fmt.{decimal}
+use Rattle.jvm_types.specs.declared.program.Program.{Program}
+use Rattle.machine_types.specs.declared.access.Access.{Access}
+use Rattle.machine_types.specs.declared.access.Access.TheVariants.{Load, Rest}
+use Rattle.machine_types.specs.declared.attempt.AttemptHead.{AttemptHead}
+use Rattle.place_names.specs.PlaceText.{place_text}
+use Rattle.run_texts.specs.Report.{line}
+use Rattle.event_texts.specs.MarkTexts.{marks_text}
+use Rattle.event_texts.specs.PhaseTexts.{phase_text}
+use Rattle.event_texts.specs.ValueTexts.{value_text, word_text}
+use Rattle.event_texts.specs.declared.sights.Spot.{Spot}
+use Rattle.event_texts.specs.declared.sights.Before.{Before}
+use Rattle.event_texts.specs.declared.sights.After.{After}
+
+abbrev pub inside_text : Option AttemptHead → List ℕ
+inside_text None = codes ""
+inside_text (Some a) = codes " in attempt " ++ decimal a.number
+
+abbrev pub head_text : (number : ℕ) → Before → List ℕ
+head_text number b = decimal number ++ codes " thread " ++ decimal b.thread ++ inside_text b.attempt
+
+abbrev pub spot_text : Program → Option Spot → List ℕ
+spot_text p None = []
+spot_text p (Some spot) = codes " " ++ place_text p spot.method spot.pc
+
+-- a load leaves what it found
+abbrev pub value_words : Program → Before → After → (loads : Bool) → List ℕ
+value_words p b a true = codes " " ++ value_text p b.word b.found
+value_words p b a false = codes " " ++ value_text p b.word b.found ++ codes " -> " ++ value_text p b.word a.left
+
+abbrev pub accessed_text : Program → (names : List (List ℕ)) → Before → After → (loads : Bool) → List ℕ
+accessed_text p names b a loads = codes ", " ++ word_text p names b.word ++ value_words p b a loads
+
+abbrev pub access_text : Program → (names : List (List ℕ)) → Before → After → Option Access → List ℕ
+access_text p names b a None = []
+access_text p names b a (Some Rest) = []
+access_text p names b a (Some (Load w)) = accessed_text p names b a true
+access_text p names b a (Some access) = accessed_text p names b a false
+
+abbrev pub line_text : Program → (names : List (List ℕ)) → (number : ℕ) → Before → After → List ℕ
+line_text p names number b a = head_text number b ++ spot_text p b.spot ++ phase_text b.phase ++ access_text p names b a b.access ++ line (marks_text b a)

@@ -1,0 +1,36 @@
+-- What is seen of a thread before its event, and behind it.
+use Rattle.std.specs.Prelude.{ℕ, List, [], ◌∷◌, Option, Some, None}
+use Rattle.std.specs.Option.{option_map}
+use Rattle.jvm_types.specs.declared.program.Program.{Program}
+use Rattle.machine_types.specs.declared.access.Access.{Access}
+use Rattle.machine_types.specs.Frames.{top_of}
+use Rattle.machine_types.specs.Threads.{Frame, Thread, head_of}
+use Rattle.event_texts.specs.Doings.{doing_at}
+use Rattle.event_texts.specs.SharedWords.{word_of}
+use Rattle.event_texts.specs.declared.sights.Spot.{Spot}
+use Rattle.event_texts.specs.declared.sights.Before.{Before}
+use Rattle.event_texts.specs.declared.sights.After.{After}
+
+abbrev pub spot_of : List Frame → Option Spot
+spot_of [] = None
+spot_of (f ∷ below) = Some (record { method = f.method; pc = f.pc })
+
+abbrev pub before_of : Program → Thread → Option Access → (found : ℕ) → Before
+before_of p s access found = record {
+  thread = s.number;
+  attempt = option_map head_of s.attempt;
+  spot = spot_of s.frames;
+  phase = s.phase;
+  access = access;
+  word = word_of s (option_map (doing_at p) (top_of p s.frames)) s.phase;
+  found = found;
+  counts = s.counts;
+}
+
+abbrev pub after_of : Thread → (left : ℕ) → After
+after_of s left = record {
+  attempt = option_map head_of s.attempt;
+  phase = s.phase;
+  counts = s.counts;
+  left = left;
+}

@@ -1,0 +1,160 @@
+//! The line of an event.
+
+ghost use Rattle.std.specs.Prelude.{◌≡◌, ◌++◌, OnOk};
+ghost use Rattle.run_texts.specs.Report.{line};
+ghost use Rattle.event_texts.specs.Lines.{access_text, head_text, line_text, spot_text, value_words};
+ghost use Rattle.event_texts.specs.MarkTexts.{marks_text};
+ghost use Rattle.event_texts.specs.PhaseTexts.{phase_text};
+
+use crate::marks::MarksText;
+use crate::phases::PhaseText;
+use crate::sights::{After, Before, Spot};
+use crate::values::{write_value, write_word};
+use checked_program::Checked;
+use jvm_types::{Bytes, Program, Rows};
+use machine_types::{Access, AttemptHead};
+use place_names::write_place;
+use std::alloc::{AllocError, Global};
+use std::fmt;
+
+/// Displays the attempt that a thread is in.
+#[derive(Clone, Copy)]
+struct InsideText(Option<AttemptHead>);
+
+impl fmt::Display for InsideText {
+    ghost use Rattle.std.specs.Prelude.{Some};
+    ghost use Rattle.event_texts.specs.Lines.{inside_text};
+
+    ghost output = { λ i. Some (inside_text i.0) };
+
+    fn fmt<W: fmt::Write>(&self, f: &mut fmt::Formatter<W>) -> fmt::Result {
+        match self.0 {
+            Some(a) => {
+                let number = a.number;
+                write!(f, " in attempt {number}")
+            }
+            None => f.write_str(""),
+        }
+    }
+}
+
+/// Adds the number of the event, its thread, and the attempt that it is in.
+fn write_head(
+    text: &mut Vec<u8>,
+    alloc: Global,
+    number: u64,
+    before: &Before,
+) -> Result<(), AllocError>
+    ensures { OnOk result (text.new.items ≡ text.old.items ++ head_text number before.now) }
+{
+    let thread = before.thread;
+    let inside = InsideText(before.attempt);
+    let mut words = String::new(alloc);
+    write!(words, "{number} thread {thread}{inside}")?;
+    text.extend_from_slice(words.as_bytes())
+}
+
+/// Adds where the thread stands.
+fn write_spot(
+    text: &mut Vec<u8>,
+    alloc: Global,
+    c: &Checked,
+    spot: Option<Spot>,
+) -> Result<(), AllocError>
+    ensures { OnOk result (text.new.items ≡ text.old.items ++ spot_text c.now.program spot) }
+{
+    match spot {
+        Some(spot) => {
+            text.push(b' ')?;
+            write_place(text, alloc, c, spot.method, spot.pc)
+        }
+        None => Ok(()),
+    }
+}
+
+/// Adds what the thread does where it is no instruction.
+fn write_phase(text: &mut Vec<u8>, alloc: Global, before: &Before) -> Result<(), AllocError>
+    ensures { OnOk result (text.new.items ≡ text.old.items ++ phase_text before.now.phase) }
+{
+    let phase = PhaseText(before.phase);
+    let mut words = String::new(alloc);
+    write!(words, "{phase}")?;
+    text.extend_from_slice(words.as_bytes())
+}
+
+/// Adds what stood in a word, and behind an arrow what an access left there that is no load.
+fn write_values(
+    text: &mut Vec<u8>,
+    alloc: Global,
+    p: &Program,
+    before: &Before,
+    after: &After,
+    loads: bool,
+) -> Result<(), AllocError>
+    ensures { OnOk result (text.new.items ≡ text.old.items ++ value_words p.now before.now after.now loads) }
+{
+    text.push(b' ')?;
+    write_value(text, alloc, p, before.word, before.found)?;
+    if loads {
+        return Ok(());
+    }
+    text.extend_from_slice(b" -> ")?;
+    write_value(text, alloc, p, before.word, after.left)
+}
+
+/// Adds the word that the event accesses, and what it found and left there.
+fn write_access(
+    text: &mut Vec<u8>,
+    alloc: Global,
+    p: &Program,
+    names: &Rows<Bytes>,
+    before: &Before,
+    after: &After,
+) -> Result<(), AllocError>
+    ensures { OnOk result (text.new.items ≡ text.old.items ++ access_text p.now names.now before.now after.now before.now.access) }
+{
+    let loads = match before.access {
+        None | Some(Access::Rest) => return Ok(()),
+        Some(Access::Load(_)) => true,
+        Some(_) => false,
+    };
+    text.extend_from_slice(b", ")?;
+    write_word(text, alloc, p, names, before.word)?;
+    write_values(text, alloc, p, before, after, loads)
+}
+
+/// Adds what becomes of attempts, locks and the part, and the end of the line.
+fn write_marks(
+    text: &mut Vec<u8>,
+    alloc: Global,
+    before: &Before,
+    after: &After,
+) -> Result<(), AllocError>
+    ensures { OnOk result (text.new.items ≡ text.old.items ++ line (marks_text before.now after.now)) }
+{
+    let marks = MarksText(*before, *after);
+    let mut words = String::new(alloc);
+    writeln!(words, "{marks}")?;
+    text.extend_from_slice(words.as_bytes())
+}
+
+/// Adds the line of an event of a number: `N thread T`, ` in attempt K` where it is in one, its place, what it does in words
+/// where it is no instruction, its word with what it found and left there, and what becomes of attempts, locks and the part.
+/// `names` has the names of the fields of the program in their order.
+pub fn write_line(
+    text: &mut Vec<u8>,
+    alloc: Global,
+    c: &Checked,
+    names: &Rows<Bytes>,
+    number: u64,
+    before: &Before,
+    after: &After,
+) -> Result<(), AllocError>
+    ensures { OnOk result (text.new.items ≡ text.old.items ++ line_text c.now.program names.now number before.now after.now) }
+{
+    write_head(text, alloc, number, before)?;
+    write_spot(text, alloc, c, before.spot)?;
+    write_phase(text, alloc, before)?;
+    write_access(text, alloc, c.program(), names, before, after)?;
+    write_marks(text, alloc, before, after)
+}

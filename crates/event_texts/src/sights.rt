@@ -1,0 +1,88 @@
+//! What is seen of a thread before its event, and behind it.
+
+ghost use Rattle.std.specs.Prelude.{◌≡◌, ◌<◌, length};
+ghost use Rattle.frames.specs.FrameLists.{top};
+ghost use Rattle.event_texts.specs.Sights.{after_of, before_of, spot_of};
+
+use crate::doing::next_doing;
+use crate::words::{SharedWord, word_of};
+use checked_program::Checked;
+use frames::ThreadState;
+use jvm_types::Counts;
+use machine_types::{Access, AttemptHead, Phase};
+
+/// Where the top frame of a thread stands.
+#[derive(Clone, Copy, Debug, PartialEq, Eq)]
+pub struct Spot {
+    /// The number of its method.
+    pub method: u32,
+    pub pc: u32,
+}
+
+/// A thread before its event.
+#[derive(Clone, Copy, Debug, PartialEq, Eq)]
+pub struct Before {
+    pub thread: u8,
+    /// The attempt that it is in.
+    pub attempt: Option<AttemptHead>,
+    pub spot: Option<Spot>,
+    pub phase: Phase,
+    /// The access of the event, and its word.
+    pub access: Option<Access>,
+    pub word: SharedWord,
+    /// What the event finds in the word.
+    pub found: u64,
+    pub counts: Counts,
+}
+
+/// A thread behind its event.
+#[derive(Clone, Copy, Debug, PartialEq, Eq)]
+pub struct After {
+    pub attempt: Option<AttemptHead>,
+    pub phase: Phase,
+    pub counts: Counts,
+    /// What the event left in its word.
+    pub left: u64,
+}
+
+/// Where the top frame stands, where there is one.
+fn top_spot(s: &ThreadState) -> Option<Spot>
+    ensures { result ≡ spot_of s.now.frames }
+{
+    if s.depth() == 0 {
+        None
+    } else {
+        Some(Spot {
+            method: s.method(),
+            pc: s.pc(),
+        })
+    }
+}
+
+/// A thread before its event, which makes this access and finds this.
+pub fn see_before(s: &ThreadState, p: &Checked, access: Option<Access>, found: u64) -> Before
+    ensures { result ≡ before_of p.now.program s.now access found }
+{
+    Before {
+        thread: s.number(),
+        attempt: s.attempt(),
+        spot: top_spot(s),
+        phase: s.phase(),
+        access,
+        word: word_of(s, next_doing(s, p)),
+        found,
+        counts: s.counts(),
+    }
+}
+
+/// A thread behind its event, which left this in its word.
+pub fn see_after(s: &ThreadState, left: u64) -> After
+    ensures { result ≡ after_of s.now left }
+{
+    After {
+        attempt: s.attempt(),
+        phase: s.phase(),
+        counts: s.counts(),
+        left,
+    }
+}
