@@ -1,0 +1,4 @@
+mod LongerRuns
+mod Orders
+mod Tellings
+mod Walks

@@ -1,0 +1,29 @@
+-- The next number of an order: a live worker has its turn, and any other is passed over.
+use Rattle.std.proofs.Common.{◌≡◌, ◌<◌, ◌≤◌, ℕ, zero, suc, ◌+◌, Bool, true, false, List, [], ◌∷◌, length, Some, refl, sym, ap, ◌∙◌, arith, drop}
+use Rattle.std.specs.Prelude.{◌&&◌, nat_lt, slice_index_or, if◌then◌else◌}
+use Rattle.machine_types.specs.Core.{Core, Of, lives}
+use Rattle.machine_types.specs.Schedules.{Ordered, is_live_worker, ordered, turn_of}
+use Rattle.replay_runner.proofs.Turns.{drop_next}
+
+pub drop_over : (xs : List ℕ) (i : ℕ) → length xs ≤ i → drop i xs ≡ []
+drop_over [] zero h = refl
+drop_over [] (suc i) h = refl
+drop_over (x ∷ xs) zero h = absurd (omega (arith, h))
+drop_over (x ∷ xs) (suc i) h = drop_over xs i (omega (arith, h))
+
+module _ (s : Core) (order : List ℕ) (place t : ℕ) (there : place < length order) (is : slice_index_or order place 0 ≡ t) where
+  here : drop place order ≡ t ∷ drop (place + 1) order
+  here = drop_next order place there ∙ ap (λ (u : ℕ). u ∷ drop (place + 1) order) is
+
+  pub has_turn : is_live_worker s t ≡ true → ordered s (drop place order) ≡ turn_of (Of t) (Ordered (drop (place + 1) order))
+  has_turn live = ap (ordered s) here ∙ ap (λ (b : Bool). if b then turn_of (Of t) (Ordered (drop (place + 1) order)) else ordered s (drop (place + 1) order)) live
+
+  pub has_no_turn : is_live_worker s t ≡ false → ordered s (drop place order) ≡ ordered s (drop (place + 1) order)
+  has_no_turn dead = ap (ordered s) here ∙ ap (λ (b : Bool). if b then turn_of (Of t) (Ordered (drop (place + 1) order)) else ordered s (drop (place + 1) order)) dead
+
+and_right : (a b : Bool) → (a && b) ≡ true → b ≡ true
+and_right true b e = e
+and_right false b e = cc
+
+pub worker_lives : (s : Core) (t : ℕ) → is_live_worker s t ≡ true → lives s t ≡ true
+worker_lives s t e = and_right (nat_lt 0 t) (lives s t) e

@@ -1,0 +1,25 @@
+use Rattle.std.proofs.Common.{sym, ap, ◌∙◌, arith}
+use Rattle.machine_types.specs.Core.{Of}
+use Rattle.machine_types.specs.Schedules.{turn_at}
+use Rattle.replay_runner.specs.Running.{Running}
+use Rattle.run_trace.specs.Turns.{next_ahead, stage_of, turn_of_next}
+use Rattle.run_trace.proofs.Walks.{walks_by}
+use Rattle.run_trace.proofs.traces.tell_events.Goals as goal
+
+pub loop-next-preserved : goal.loop-next-preserved
+loop-next-preserved g c =
+    let p = c.args.p.now in
+    let order = c.args.order.now in
+    let m = c.args.trace.now in
+    let n = c.loop-next.trace in
+    let r = c.tell_event.new.trace in
+    let inv = c.loop-next.invariant in
+    let did = c.in_ok-tell_event.ensures.told in
+    let behind = c.next_turn-next-in-Event in
+    record {
+      program = inv.program ∙ sym (ap (λ (x : Running). x.program) did.machine);
+      walk = walks_by p order c.args.names.now c.args.part m n r (turn_at (stage_of order c.args.from) m.machine.core) (turn_of_next order c.loop-next.next) (turn_of_next order behind.result) (Of c.in-Event.t) (stage_of order c.in-Event.progress) _ _ _ _ _ _
+          inv.walk (ap (turn_of_next order) c.in-Event.is) did behind.ensures.turn;
+      may = behind.ensures.may;
+      ahead = omega (arith, behind.ensures.ahead, inv.ahead, ap next_ahead c.in-Event.is);
+    }

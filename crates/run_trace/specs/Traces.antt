@@ -1,0 +1,90 @@
+-- A trace that was written to a sink: the lines of the events of the one schedule that an order stands for, and the report.
+use Rattle.std.specs.Prelude.{◌≡◌, ℕ, List, [], ◌∷◌, ◌++◌, Option, None, Result, Ok, Err}
+use Rattle.std.specs.Option.{option_map}
+use Rattle.checked_program.specs.MarkedProgram.{MarkedProgram}
+use Rattle.jvm_types.specs.declared.outcome.Outcome.{Outcome}
+use Rattle.host_io.specs.Faults.{CountsFault}
+use Rattle.machine_types.specs.Core.{Happening, core, happened, outcome, start}
+use Rattle.machine_types.specs.Schedules.{IsScheduleOf, Stage, First, Turn, turn_at}
+use Rattle.machine_types.specs.declared.config.Config.{Config}
+use Rattle.replay_runner.specs.Replays.{Leads}
+use Rattle.run_trace.specs.EventLines.{lines_from, next_number, told_line, trace_text}
+use Rattle.run_trace.specs.declared.events.Part.{Part}
+use Rattle.run_trace.specs.Turns.{turn_of_next}
+use Rattle.run_trace.specs.declared.turns.Next.{Next}
+use Rattle.run_trace.specs.declared.traces.TraceError.{TraceError}
+use Rattle.run_trace.specs.declared.traces.TraceError.TheVariants.{Memory, Failed}
+use Rattle.run_trace.specs.declared.traces.Tracing.{Tracing}
+
+-- ---- one event or part
+
+-- it happened to the run, and its line was added to what the sink tells
+pub record Happened (c : MarkedProgram) (names : List (List ℕ)) (part : Part) (h : Happening) (m n : Tracing) (told now : Option (List ℕ)) (before after : ℕ) : Type 0 where
+  pub machine : n.machine ≡ record m.machine { core = happened m.machine.program m.machine.core h }
+  pub number : n.number ≡ next_number m.number
+  pub text : now ≡ option_map (λ t. t ++ told_line c names part m.number m.machine.core h) told
+  pub calm : after ≡ before
+
+-- for want of memory nothing is said; or the sink failed
+abbrev pub Tells : MarkedProgram → (names : List (List ℕ)) → Part → Happening → (m n : Tracing) → (told now : Option (List ℕ)) → (before after : ℕ) → {A : Type 0} → Result A TraceError → Type 0
+Tells c names part h m n told now before after (Ok done) = Happened c names part h m n told now before after
+Tells c names part h m n told now before after (Err Memory) = Unit {0}
+Tells c names part h m n told now before after (Err Failed) = CountsFault before after
+
+-- ---- the run so far
+
+-- the number behind the lines of some events
+abbrev pub number_after : (number : ℕ) → List Happening → ℕ
+number_after number [] = number
+number_after number (h ∷ hs) = number_after (next_number number) hs
+
+-- the order has led the run to here, where this turn comes next; and a sink that told some bytes has the lines of its events
+pub record Walked (c : MarkedProgram) (cfg : Config) (order : List ℕ) (names : List (List ℕ)) (part : Part) (told : Option (List ℕ)) (n : Tracing) (next : Option Turn) (now : Option (List ℕ)) : Type 0 where
+  pub program : n.machine.program ≡ c
+  pub settings : n.machine.cfg ≡ cfg
+  pub happenings : List Happening
+  pub stage : Stage
+  pub leads : Leads c (First order) (start c cfg) happenings stage n.machine.core
+  pub turn : turn_at stage n.machine.core ≡ next
+  pub number : n.number ≡ number_after 1 happenings
+  pub text : now ≡ option_map (λ t. t ++ lines_from c names part 1 (start c cfg) happenings) told
+
+-- whatever was walked to the one is walked to the other; the sink has not failed
+pub record WalksOn (c : MarkedProgram) (order : List ℕ) (names : List (List ℕ)) (part : Part) (m : Tracing) (next : Option Turn) (told : Option (List ℕ)) (before : ℕ) (n : Tracing) (behind : Option Turn) (now : Option (List ℕ)) (after : ℕ) : Type 0 where
+  pub program : n.machine.program ≡ m.machine.program
+  pub walked : (cfg : Config) (first : Option (List ℕ)) → Walked c cfg order names part first m next told → Walked c cfg order names part first n behind now
+  pub calm : after ≡ before
+
+-- on from a turn, to another
+abbrev pub IsWalk : MarkedProgram → (order : List ℕ) → (names : List (List ℕ)) → Part → (m : Tracing) → Option Turn → (told : Option (List ℕ)) → (before : ℕ) → (n : Tracing) → (now : Option (List ℕ)) → (after : ℕ) → Result Next TraceError → Type 0
+IsWalk c order names part m turn told before n now after (Ok next) = WalksOn c order names part m turn told before n (turn_of_next order next) now after
+IsWalk c order names part m turn told before n now after (Err Memory) = Unit {0}
+IsWalk c order names part m turn told before n now after (Err Failed) = CountsFault before after
+
+-- on from a turn, to the end of the run
+abbrev pub IsWalkToEnd : MarkedProgram → (order : List ℕ) → (names : List (List ℕ)) → Part → (m : Tracing) → Option Turn → (told : Option (List ℕ)) → (before : ℕ) → (n : Tracing) → (now : Option (List ℕ)) → (after : ℕ) → {A : Type 0} → Result A TraceError → Type 0
+IsWalkToEnd c order names part m turn told before n now after (Ok done) = WalksOn c order names part m turn told before n None now after
+IsWalkToEnd c order names part m turn told before n now after (Err Memory) = Unit {0}
+IsWalkToEnd c order names part m turn told before n now after (Err Failed) = CountsFault before after
+
+-- ---- a text that is put to the sink
+
+abbrev pub IsPut : (told now : Option (List ℕ)) → (before after : ℕ) → (text : List ℕ) → {A : Type 0} → Result A TraceError → Type 0
+IsPut told now before after text (Ok done) = (after ≡ before) × (now ≡ option_map (λ t. t ++ text) told)
+IsPut told now before after text (Err Memory) = Unit {0}
+IsPut told now before after text (Err Failed) = CountsFault before after
+
+-- ---- the whole
+
+pub record IsWholeTrace (c : MarkedProgram) (cfg : Config) (order : List ℕ) (names : List (List ℕ)) (part : Part) (told now : Option (List ℕ)) (before after : ℕ) (o : Outcome) : Type 0 where
+  pub happenings : List Happening
+  pub schedule : IsScheduleOf c cfg order happenings
+  pub outcome_is : o ≡ outcome (core c cfg happenings)
+  pub text : now ≡ option_map (λ t. t ++ trace_text c cfg names part happenings) told
+  pub calm : after ≡ before
+
+-- the trace was written whole, and the outcome of the run is answered; there is no memory; or the sink failed
+abbrev pub IsTraced : MarkedProgram → Config → (order : List ℕ) → (names : List (List ℕ)) → Part → (told now : Option (List ℕ)) → (before after : ℕ) → Result Outcome TraceError → Type 0
+IsTraced c cfg order names part told now before after (Ok o) = IsWholeTrace c cfg order names part told now before after o
+IsTraced c cfg order names part told now before after (Err Memory) = Unit {0}
+IsTraced c cfg order names part told now before after (Err Failed) = CountsFault before after

@@ -1,0 +1,197 @@
+//! The trace of a run.
+
+ghost use Rattle.std.specs.Prelude.{◌≡◌, ◌<◌, ◌≤◌, true, length, IfOk};
+ghost use Rattle.machine_types.specs.Core.{Of, NextPart, lives};
+ghost use Rattle.machine_types.specs.Schedules.{First, turn_at};
+ghost use Rattle.machine_types.specs.Settings.{AreSettings};
+ghost use Rattle.laws_states.specs.WorkLeft.{all_work};
+ghost use Rattle.run_texts.specs.Report.{report_text};
+ghost use Rattle.run_trace.specs.EventLines.{next_number};
+ghost use Rattle.run_trace.specs.Traces.{IsPut, IsTraced, IsWalk, IsWalkToEnd, Tells};
+ghost use Rattle.run_trace.specs.Turns.{IsNoEvent, next_ahead, parts_ahead, stage_of};
+
+use crate::events::{Part, make_event, make_part, told_of};
+use crate::turns::{Next, Progress, next_turn};
+use checked_program::Checked;
+use host_io::sink::{Sink, SinkFailed};
+use host_io::writing::write_whole;
+use jvm_types::{Bytes, Outcome, Rows};
+use machine_types::Config;
+use replay_runner::Machine;
+use run_texts::report;
+use std::alloc::{AllocError, Global};
+
+/// Why a trace was not written whole.
+#[derive(Clone, Copy, Debug, PartialEq, Eq)]
+pub enum TraceError {
+    /// There was no memory.
+    Memory,
+    /// The sink failed.
+    Failed,
+}
+
+/// A run that is traced.
+#[derive(Drop)]
+pub struct Tracing {
+    machine: Machine,
+    /// The number of the next line.
+    number: u64,
+}
+
+/// The number of the line behind one; it stands still at its end.
+fn next_number(number: u64) -> u64
+    ensures { result ≡ next_number number }
+{
+    number.saturating_add(1)
+}
+
+/// Writes a text, or answers why not.
+fn write_text<K: Sink>(sink: &mut K, text: &[u8]) -> Result<(), TraceError>
+    ensures { IsPut (K.text sink.old) (K.text sink.new) (K.faults sink.old) (K.faults sink.new) text.now result }
+{
+    match write_whole(sink, text) {
+        Ok(()) => Ok(()),
+        Err(SinkFailed) => Err(TraceError::Failed),
+    }
+}
+
+/// Makes the next event of a live thread, and writes its line.
+fn tell_event<K: Sink>(
+    alloc: Global,
+    trace: &mut Tracing,
+    p: &Checked,
+    names: &Rows<Bytes>,
+    part: Part,
+    t: u8,
+    sink: &mut K,
+) -> Result<(), TraceError>
+    requires program { p.now ≡ trace.old.machine.program }
+    requires live { lives trace.old.machine.core t ≡ true }
+    ensures told { Tells p.now names.now part (Of t) trace.old trace.new (K.text sink.old) (K.text sink.new) (K.faults sink.old) (K.faults sink.new) result }
+    ensures less { all_work trace.new.machine.core < all_work trace.old.machine.core }
+{
+    let mut text = Vec::new(alloc);
+    let number = trace.number;
+    let made = make_event(&mut text, alloc, &mut trace.machine, p, names, number, t);
+    trace.number = next_number(number);
+    match made {
+        Ok(()) => write_text(sink, told_of(part, number, text.as_slice())),
+        Err(AllocError) => Err(TraceError::Memory),
+    }
+}
+
+/// Begins the next part where it may begin, and writes its line.
+fn tell_part<K: Sink>(
+    alloc: Global,
+    trace: &mut Tracing,
+    p: &Checked,
+    names: &Rows<Bytes>,
+    part: Part,
+    sink: &mut K,
+) -> Result<(), TraceError>
+    requires program { p.now ≡ trace.old.machine.program }
+    ensures told { Tells p.now names.now part NextPart trace.old trace.new (K.text sink.old) (K.text sink.new) (K.faults sink.old) (K.faults sink.new) result }
+{
+    let _ = names;
+    let mut text = Vec::new(alloc);
+    let number = trace.number;
+    let made = make_part(&mut text, alloc, &mut trace.machine, p, number);
+    trace.number = next_number(number);
+    match made {
+        Ok(()) => write_text(sink, told_of(part, number, text.as_slice())),
+        Err(AllocError) => Err(TraceError::Memory),
+    }
+}
+
+/// Makes the events that come next, with their lines, up to the begin of a part or the end of the run.
+fn tell_events<K: Sink>(
+    alloc: Global,
+    trace: &mut Tracing,
+    p: &Checked,
+    names: &Rows<Bytes>,
+    part: Part,
+    order: &[u8],
+    from: Progress,
+    sink: &mut K,
+) -> Result<Next, TraceError>
+    requires { p.now ≡ trace.old.machine.program }
+    ensures walk { IsWalk p.now order.now names.now part trace.old (turn_at (stage_of order.now from) trace.old.machine.core) (K.text sink.old) (K.faults sink.old) trace.new (K.text sink.new) (K.faults sink.new) result }
+    ensures part { IfOk result IsNoEvent }
+    ensures ahead { IfOk result (λ next. next_ahead next ≤ parts_ahead from) }
+{
+    let mut next = next_turn(&trace.machine, order, from);
+    while let Next::Event(t, progress) = next {
+        tell_event(alloc, trace, p, names, part, t, sink)?;
+        next = next_turn(&trace.machine, order, progress);
+    }
+    Ok(next)
+}
+
+/// Makes all events of the run, and the begins of its parts, with their lines.
+fn tell_all<K: Sink>(
+    alloc: Global,
+    trace: &mut Tracing,
+    p: &Checked,
+    names: &Rows<Bytes>,
+    part: Part,
+    order: &[u8],
+    sink: &mut K,
+) -> Result<(), TraceError>
+    requires { p.now ≡ trace.old.machine.program }
+    ensures { IsWalkToEnd p.now order.now names.now part trace.old (turn_at (First order.now) trace.old.machine.core) (K.text sink.old) (K.faults sink.old) trace.new (K.text sink.new) (K.faults sink.new) result }
+{
+    let mut next = tell_events(alloc, trace, p, names, part, order, Progress::Init, sink)?;
+    while let Next::Part(progress) = next {
+        tell_part(alloc, trace, p, names, part, sink)?;
+        next = tell_events(alloc, trace, p, names, part, order, progress, sink)?;
+    }
+    Ok(())
+}
+
+/// Writes the report of the run.
+fn tell_report<K: Sink>(
+    alloc: Global,
+    outcome: &Outcome,
+    sink: &mut K,
+) -> Result<(), TraceError>
+    requires { 0 < length outcome.now.threads }
+    ensures { IsPut (K.text sink.old) (K.text sink.new) (K.faults sink.old) (K.faults sink.new) (report_text outcome.now) result }
+{
+    match report(alloc, outcome) {
+        Ok(text) => write_text(sink, text.as_slice()),
+        Err(AllocError) => Err(TraceError::Memory),
+    }
+}
+
+/// Runs a program to its end as `replay` does, by an order of steps in which each byte is the number of the worker that has the
+/// next event, and writes to the sink a line for each event of the run in order, or for those of a part, as the run goes: its number; the thread, and
+/// the attempt that it is in; the class, method and pc where the thread stands, with the mnemonic; what it does in words, where
+/// that is no instruction; the word that it accesses, with what it found and left there; where an attempt begins, fails or
+/// finishes, a lock is taken or made fat, and how the thread comes to its end. Behind them stands the report of the run.
+/// `names` has the names of the fields of the program in their order; a field without a name is told by its number.
+///
+/// It answers the outcome of the run; `Failed` where the sink fails, and `Memory` where there is no memory. The memory that it
+/// takes does not grow with the run.
+pub fn explain_run<K: Sink>(
+    alloc: Global,
+    p: &Checked,
+    cfg: &Config,
+    order: &Bytes,
+    names: &Rows<Bytes>,
+    part: Part,
+    sink: &mut K,
+) -> Result<Outcome, TraceError>
+    requires { AreSettings cfg.now }
+    ensures { IsTraced p.now cfg.now order.now names.now part (K.text sink.old) (K.text sink.new) (K.faults sink.old) (K.faults sink.new) result }
+{
+    let machine = match Machine::start(alloc, p, cfg) {
+        Ok(machine) => machine,
+        Err(AllocError) => return Err(TraceError::Memory),
+    };
+    let mut trace = Tracing { machine, number: 1 };
+    tell_all(alloc, &mut trace, p, names, part, order.as_slice(), sink)?;
+    let _workers = trace.machine.workers();
+    let outcome = trace.machine.outcome();
+    tell_report(alloc, &outcome, sink)?;
+    Ok(outcome)
+}
