@@ -274,16 +274,16 @@ module _ (p : Program) (tags : List Tags) (is : IsProgram p) (mi : ℕ) (m : Met
       on_this : IsOnThis p (tagged_by tags) mi (Block insn.pc)
       on_this = (enter, f, begins, tag)
 
-    module _ (uses : List FieldUse) (grades : List ℕ) (are : AreGrades p (tagged_by tags) uses mi m grades) where
-      pub off_this : depth_at m t.frames enter ≡ None → IsOnThis p (tagged_by tags) mi (Block insn.pc) → ⊥
-      off_this none o =
-          let here : o.0 ≡ enter = only o.0 o.1 o.2 in
-          let frame : slice_get t.frames enter ≡ Some (Some o.1) = subst (λ e. slice_get t.frames e ≡ Some (Some o.1)) here (frame_is o.0 o.2.m o.2.insn o.2.target o.1 o.2.at) in
-          let target : slice_get m.targets enter ≡ Some o.2.target = subst (λ e. slice_get m.targets e ≡ Some o.2.target) here (target_is o.0 o.2.m o.2.insn o.2.target o.1 o.2.at) in
-          let is_some : depth_at m t.frames enter ≡ Some (length o.1.held) = rw (at_insn, target, frame, o.3) refl in
-          let bad : None ≡ Some (length o.1.held) = sym none ∙ is_some in
-          cc
+    pub off_this : depth_at m t.frames enter ≡ None → IsOnThis p (tagged_by tags) mi (Block insn.pc) → ⊥
+    off_this none o =
+        let here : o.0 ≡ enter = only o.0 o.1 o.2 in
+        let frame : slice_get t.frames enter ≡ Some (Some o.1) = subst (λ e. slice_get t.frames e ≡ Some (Some o.1)) here (frame_is o.0 o.2.m o.2.insn o.2.target o.1 o.2.at) in
+        let target : slice_get m.targets enter ≡ Some o.2.target = subst (λ e. slice_get m.targets e ≡ Some o.2.target) here (target_is o.0 o.2.m o.2.insn o.2.target o.1 o.2.at) in
+        let is_some : depth_at m t.frames enter ≡ Some (length o.1.held) = rw (at_insn, target, frame, o.3) refl in
+        let bad : None ≡ Some (length o.1.held) = sym none ∙ is_some in
+        cc
 
+    module _ (uses : List FieldUse) (grades : List ℕ) (are : AreGrades p (tagged_by tags) uses mi m grades) where
       block_has : (o : Option ℕ) (n : ℕ) → depth_at m t.frames enter ≡ o → IsBlockMark m t.frames grades enter o n → HasMark p (tagged_by tags) uses (section_in mi (Block insn.pc)) n
       block_has None n e b = subst (λ k. HasMark p (tagged_by tags) uses (section_in mi (Block insn.pc)) k) (sym b) (has_elsewhere p (tagged_by tags) uses (section_in mi (Block insn.pc)) (off_this e))
       block_has (Some depth) n e b =

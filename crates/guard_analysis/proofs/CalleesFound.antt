@@ -186,6 +186,18 @@ module _ (p : Program) (tags : Tagged) where
           let r = cycle_off u k in
           record { at = callee u OffThis; over = way.0; through = way.1; first = r.0; calls = r.1; round = r.2.0; back = r.2.1 }
 
+module _ (p : Program) (tags : List Tags) (is : IsProgram p) (recurs : List Bool) (cycles : AreRecurring (call_graph p tags).from (call_graph p tags).to (2 * length p.methods) recurs) where
+  -- a node that leads to a method which calls itself is flagged
+  pub itself_flagged : (b : Callee) → b.method < length p.methods → LeadsToItself p (tagged_by tags) b → slice_index_or recurs (node_of b) false ≡ true
+  itself_flagged b l k =
+      let edges = edges_are_calls p tags is in
+      let cycle = cycle_from p (tagged_by tags) b k.over k.called.method k.called.mode k.through k.recurs in
+      (cycles.each (node_of b) (node_low (length p.methods) b.method b.mode l)).1 (
+        node_of cycle.at,
+        walked p (tagged_by tags) (call_graph p tags).from (call_graph p tags).to edges b cycle.over cycle.at cycle.through,
+        (node_of cycle.first, edges.there cycle.at cycle.first cycle.calls.0 cycle.calls.1, walked p (tagged_by tags) (call_graph p tags).from (call_graph p tags).to edges cycle.first cycle.round cycle.at cycle.back),
+      )
+
 module _ (p : Program) (uses : List FieldUse) (tags : List Tags) (is : IsProgram p) (breaks recurs : List Bool) (leads : AreLeading (call_graph p tags).from (call_graph p tags).to (breaking_nodes p uses tags (2 * length p.methods)) breaks)
     (cycles : AreRecurring (call_graph p tags).from (call_graph p tags).to (2 * length p.methods) recurs) where
   edges : AreCalls p (tagged_by tags) (call_graph p tags).from (call_graph p tags).to
@@ -239,19 +251,10 @@ module _ (p : Program) (uses : List FieldUse) (tags : List Tags) (is : IsProgram
         };
       }
 
-  from_itself : (b : Callee) → b.method < length p.methods → LeadsToItself p (tagged_by tags) b → slice_index_or recurs (node_of b) false ≡ true
-  from_itself b l k =
-      let cycle = cycle_from p (tagged_by tags) b k.over k.called.method k.called.mode k.through k.recurs in
-      (cycles.each (node_of b) (low_node b l)).1 (
-        node_of cycle.at,
-        walked p (tagged_by tags) (call_graph p tags).from (call_graph p tags).to edges b cycle.over cycle.at cycle.through,
-        (node_of cycle.first, edges.there cycle.at cycle.first cycle.calls.0 cycle.calls.1, walked p (tagged_by tags) (call_graph p tags).from (call_graph p tags).to edges cycle.first cycle.round cycle.at cycle.back),
-      )
-
   pub callees_are : AreCallees p (tagged_by tags) uses breaks recurs
   callees_are = record {
     broken = λ b l. (to_break b l, from_break b l);
-    again = λ b l. (to_itself b l, from_itself b l);
+    again = λ b l. (to_itself b l, itself_flagged p tags is recurs cycles b l);
   }
 
 -- ---- as Rust shows the graph

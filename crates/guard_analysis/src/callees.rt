@@ -40,7 +40,8 @@ fn breaking_nodes(
     Ok(breaking)
 }
 
-pub(crate) fn flag_at(flags: &[bool], i: usize) -> bool
+/// The flag at a place; false where there are not so many.
+pub fn flag_at(flags: &[bool], i: usize) -> bool
     ensures { result ≡ slice_index_or flags.now i false }
 {
     if i < flags.len() { flags[i] } else { false }

@@ -10,4 +10,5 @@ pub mod field_uses;
 pub mod marking;
 mod tag_reading;
 
+pub use callees::flag_at;
 pub use marking::{mark, mark_by_uses};

@@ -163,7 +163,8 @@ fn mark_at(
     }
 }
 
-fn fresh_walk(alloc: Global, len: usize) -> Result<Walk, AllocError>
+/// A walk that has come to nothing, in a method of so many instructions.
+pub fn fresh_walk(alloc: Global, len: usize) -> Result<Walk, AllocError>
     ensures { IfOk result (λ w. w.seen ≡ replicate len 0) }
 {
     Ok(Walk {

@@ -1,0 +1,7 @@
+pub mod Nodes
+pub mod SearchLaws
+pub mod OwnLaws
+pub mod TurnLaws
+pub mod BackLaws
+pub mod MarkParts
+pub mod ExplainLaws

@@ -1,0 +1,4 @@
+pub mod Reasons
+pub mod OwnFlags
+pub mod Searches
+pub mod ReasonTexts

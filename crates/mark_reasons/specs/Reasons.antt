@@ -1,0 +1,89 @@
+-- Why a section has not the mark M0: the instruction that breaks the rule of its mark, and the calls that lead there.
+use Rattle.std.specs.Prelude.{◌≡◌, ℕ, zero, suc, List, [], ◌∷◌, ◌++◌, Option, Some, None, length, slice_get}
+use Rattle.std.specs.List.{AllZip}
+use Rattle.jvm_types.specs.declared.program.Program.{Program}
+use Rattle.checked_program.specs.TaggedCode.{Tagged}
+use Rattle.checked_program.specs.FrozenPlaces.{AreUses}
+use Rattle.checked_program.specs.Sections.{Section, IsOwn}
+use Rattle.checked_program.specs.Marks.{Callee, callee, Calls, BreaksAt, HasMark, IsOnThis}
+use Rattle.checked_program.specs.declared.section.SectionMark.{SectionMark}
+use Rattle.checked_program.specs.declared.section.Mode.TheVariants.{OnThis}
+use Rattle.checked_program.specs.declared.section.FieldUse.{FieldUse}
+use Rattle.mark_reasons.specs.declared.reason.Site.{Site}
+use Rattle.mark_reasons.specs.declared.reason.Reason.{Reason}
+use Rattle.mark_reasons.specs.declared.reason.Reason.TheVariants.{Elsewhere, Breaks, Recurs}
+
+-- the section of a mark, and its method as the section calls it
+abbrev pub section_of : SectionMark → Section
+section_of mark = record { method = mark.method; spot = mark.spot }
+
+abbrev pub own_callee : Section → Callee
+own_callee s = callee s.method OnThis
+
+-- ---- the way that leads from a section to an instruction
+
+-- the method that an instruction stands in, as it is called
+abbrev pub callee_of : Site → Callee
+callee_of x = callee x.method x.mode
+
+-- Calls lead from one method to another, from the first on: each instruction calls the method of the next. None are a way too.
+abbrev pub IsWay : Program → Tagged → Callee → List Site → Callee → Type 0
+IsWay p tags a [] b = a ≡ b
+IsWay p tags a (x ∷ xs) b = (callee_of x ≡ a) × (c : Callee) × (Calls p tags a x.at c) × IsWay p tags c xs b
+
+-- the first of some instructions is the section's own
+abbrev pub BeginsOwn : Program → Tagged → Section → List Site → Type 0
+BeginsOwn p tags s [] = ⊥
+BeginsOwn p tags s (x ∷ xs) = IsOwn p tags s.method s.spot x.at
+
+-- ---- reasons
+
+-- M1 to M5 of an own instruction, and M6 of one that calls lead to
+abbrev pub mark_by : List Site → (rule : ℕ) → ℕ
+mark_by [] rule = rule
+mark_by (x ∷ xs) rule = 6
+
+-- the way leads to an instruction that breaks a rule
+pub record LeadsToFault (p : Program) (tags : Tagged) (uses : List FieldUse) (s : Section) (way : List Site) (site : Site) (rule : ℕ) : Type 0 where
+  pub leads : IsWay p tags (own_callee s) way (callee_of site)
+  pub own : BeginsOwn p tags s (way ++ site ∷ [])
+  pub breaks : BreaksAt p tags uses (callee_of site) site.at rule
+
+-- the way comes back to the method of one of its instructions, which so calls itself
+pub record ComesBack (p : Program) (tags : Tagged) (s : Section) (way : List Site) (again : ℕ) : Type 0 where
+  pub to : Callee
+  pub leads : IsWay p tags (own_callee s) way to
+  pub own : BeginsOwn p tags s way
+  pub from : Site
+  pub there : slice_get way again ≡ Some from
+  pub same : callee_of from ≡ to
+
+abbrev pub IsReason : Program → Tagged → List FieldUse → Section → (mark : ℕ) → Reason → Type 0
+IsReason p tags uses s mark Elsewhere = (mark ≡ 8) × (IsOnThis p tags s.method s.spot → ⊥)
+IsReason p tags uses s mark (Breaks way site rule) = (mark ≡ mark_by way rule) × LeadsToFault p tags uses s way site rule
+IsReason p tags uses s mark (Recurs way again) = (mark ≡ 7) × ComesBack p tags s way again
+
+-- M0 has no reason, and each other mark has one
+abbrev pub HasReason : Program → Tagged → List FieldUse → Section → (mark : ℕ) → Option Reason → Type 0
+HasReason p tags uses s zero None = Unit {0}
+HasReason p tags uses s zero (Some reason) = ⊥
+HasReason p tags uses s (suc n) None = ⊥
+HasReason p tags uses s (suc n) (Some reason) = IsReason p tags uses s (suc n) reason
+
+abbrev pub IsExplained : Program → Tagged → List FieldUse → SectionMark → Option Reason → Type 0
+IsExplained p tags uses mark reason = HasReason p tags uses (section_of mark) mark.mark reason
+
+-- of each mark its reason
+pub record AreReasons (p : Program) (tags : Tagged) (marks : List SectionMark) (reasons : List (Option Reason)) : Type 0 where
+  pub uses : List FieldUse
+  pub are_uses : AreUses p tags uses
+  pub each : AllZip (IsExplained p tags uses) marks reasons
+
+-- the sections of some marks have them
+abbrev pub AreMarked : Program → Tagged → List FieldUse → List SectionMark → Type 0
+AreMarked p tags uses marks = (i : ℕ) (mark : SectionMark) → slice_get marks i ≡ Some mark → HasMark p tags uses (section_of mark) mark.mark
+
+-- the first of some marks have these reasons
+pub record FirstReasons (p : Program) (tags : Tagged) (uses : List FieldUse) (marks : List SectionMark) (count : ℕ) (reasons : List (Option Reason)) : Type 0 where
+  pub long : length reasons ≡ count
+  pub each : (i : ℕ) (mark : SectionMark) (reason : Option Reason) → slice_get marks i ≡ Some mark → slice_get reasons i ≡ Some reason → IsExplained p tags uses mark reason

@@ -1,0 +1,291 @@
+//! The reason of each mark.
+
+ghost use Rattle.std.specs.Prelude.{◌≡◌, ◌<◌, ◌≤◌, ◌*◌, Some, length, slice_get, IfOk};
+ghost use Rattle.std.specs.List.{AllZip};
+ghost use Rattle.jvm_types.specs.ProgramInvariant.{IsProgram};
+ghost use Rattle.jvm_types.specs.declared.limits.TheConstants.{MOST_INSTRUCTIONS as most};
+ghost use Rattle.checked_program.specs.MarkedProgram.{AreTaggings};
+ghost use Rattle.checked_program.specs.TaggedCode.{tagged_by};
+ghost use Rattle.checked_program.specs.Marks.{CalleeBreaks, CalleeRecurs, HasMark, OwnBreaks};
+ghost use Rattle.graph_closure.specs.Walks.{AreRecurring};
+ghost use Rattle.guard_analysis.specs.CallGraph.{call_graph};
+ghost use Rattle.mark_reasons.specs.OwnFlags.{AreOwn};
+ghost use Rattle.mark_reasons.specs.Reasons.{section_of, AreMarked, AreReasons, IsExplained, IsReason};
+ghost use Rattle.mark_reasons.specs.Searches.{own_breaks, own_call, turns, IsFirst};
+
+use crate::own::own_flags;
+use crate::reason::{Reason, Site};
+use crate::recursion::{come_back, turns};
+use crate::search::{find_fault, own_call};
+use checked_program::{Checked, FieldUse, Mode, SectionMark, Tags};
+use frozen_classes::frozen_classes;
+use graph_closure::recurring;
+use guard_analysis::call_graph::call_graph;
+use guard_analysis::faults::fault_at;
+use guard_analysis::field_uses::uses;
+use guard_analysis::flag_at;
+use jvm_types::{MethodInfo, Program, Rows};
+use std::alloc::{AllocError, Global};
+
+/// Whether an own instruction breaks a rule.
+fn own_breaks(
+    p: &Program,
+    uses: &Rows<FieldUse>,
+    m: &MethodInfo,
+    t: &Tags,
+    own: &[bool],
+    rule: u8,
+    i: usize,
+) -> bool
+    ensures { result ≡ own_breaks p.now uses.now m.now t.now own.now rule i }
+{
+    flag_at(own, i) && fault_at(p, uses, Mode::OnThis, m, t, i) == rule
+}
+
+/// The first own instruction that breaks a rule.
+fn first_own(
+    p: &Program,
+    uses: &Rows<FieldUse>,
+    m: &MethodInfo,
+    t: &Tags,
+    own: &[bool],
+    rule: u8,
+) -> Option<usize>
+    ensures { IsFirst (λ i. own_breaks p.now uses.now m.now t.now own.now rule i) (length m.now.code) result }
+{
+    for i in 0..m.code.len() {
+        if own_breaks(p, uses, m, t, own, rule, i) {
+            return Some(i);
+        }
+    }
+    None
+}
+
+/// The first own instruction that calls a node which leads to a cycle.
+fn first_own_turn(
+    p: &Program,
+    recurs: &[bool],
+    m: &MethodInfo,
+    t: &Tags,
+    own: &[bool],
+) -> Option<usize>
+    requires { length p.now.methods ≤ most }
+    ensures { IsFirst (λ i. turns recurs.now (own_call p.now m.now t.now.frames own.now i)) (length m.now.code) result }
+{
+    for i in 0..m.code.len() {
+        if turns(recurs, own_call(p, m, t, own, i)) {
+            return Some(i);
+        }
+    }
+    None
+}
+
+/// The reason of one of the marks M1 to M5.
+fn own_reason(
+    alloc: Global,
+    p: &Program,
+    uses: &Rows<FieldUse>,
+    tags: &Rows<Tags>,
+    mark: SectionMark,
+    m: &MethodInfo,
+    t: &Tags,
+    own: &[bool],
+) -> Result<Reason, AllocError>
+    requires program { IsProgram p.now }
+    requires there { slice_get p.now.methods mark.method ≡ Some m.now }
+    requires tagged { slice_get tags.now mark.method ≡ Some t.now }
+    requires own { AreOwn p.now (tagged_by tags.now) mark.method mark.spot own.now }
+    requires breaks { OwnBreaks p.now (tagged_by tags.now) uses.now (section_of mark) mark.mark }
+    ensures { IfOk result (IsReason p.now (tagged_by tags.now) uses.now (section_of mark) mark.mark) }
+{
+    let Some(at) = first_own(p, uses, m, t, own, mark.mark) else {
+        unreachable!()
+    };
+    let site = Site {
+        method: mark.method,
+        mode: Mode::OnThis,
+        at,
+    };
+    Ok(Reason::Breaks {
+        way: Rows::new(alloc),
+        site,
+        rule: mark.mark,
+    })
+}
+
+/// The reason of the mark M6.
+fn called_reason(
+    alloc: Global,
+    p: &Program,
+    uses: &Rows<FieldUse>,
+    tags: &Rows<Tags>,
+    mark: SectionMark,
+    m: &MethodInfo,
+    t: &Tags,
+    own: &[bool],
+) -> Result<Reason, AllocError>
+    requires program { IsProgram p.now }
+    requires few { length p.now.methods ≤ most }
+    requires there { slice_get p.now.methods mark.method ≡ Some m.now }
+    requires tagged { slice_get tags.now mark.method ≡ Some t.now }
+    requires own { AreOwn p.now (tagged_by tags.now) mark.method mark.spot own.now }
+    requires breaks { CalleeBreaks p.now (tagged_by tags.now) uses.now (section_of mark) }
+    ensures { IfOk result (IsReason p.now (tagged_by tags.now) uses.now (section_of mark) 6) }
+{
+    let Some(fault) = find_fault(alloc, p, uses, tags, mark, m, t, own)? else {
+        unreachable!()
+    };
+    Ok(Reason::Breaks {
+        way: fault.way,
+        site: fault.site,
+        rule: fault.rule,
+    })
+}
+
+/// The reason of the mark M7.
+fn recurring_reason(
+    alloc: Global,
+    p: &Program,
+    uses: &Rows<FieldUse>,
+    tags: &Rows<Tags>,
+    recurs: &[bool],
+    mark: SectionMark,
+    m: &MethodInfo,
+    t: &Tags,
+    own: &[bool],
+) -> Result<Reason, AllocError>
+    requires program { IsProgram p.now }
+    requires few { length p.now.methods ≤ most }
+    requires recurs { AreRecurring (call_graph p.now tags.now).from (call_graph p.now tags.now).to (2 * length p.now.methods) recurs.now }
+    requires there { slice_get p.now.methods mark.method ≡ Some m.now }
+    requires tagged { slice_get tags.now mark.method ≡ Some t.now }
+    requires own { AreOwn p.now (tagged_by tags.now) mark.method mark.spot own.now }
+    requires returns { CalleeRecurs p.now (tagged_by tags.now) (section_of mark) }
+    ensures { IfOk result (IsReason p.now (tagged_by tags.now) uses.now (section_of mark) 7) }
+{
+    let Some(at) = first_own_turn(p, recurs, m, t, own) else {
+        unreachable!()
+    };
+    let Some(first) = own_call(p, m, t, own, at) else {
+        unreachable!()
+    };
+    let round = come_back(alloc, p, tags, recurs, mark, at, first)?;
+    Ok(Reason::Recurs {
+        way: round.way,
+        again: round.again,
+    })
+}
+
+/// The reason of one of the marks M1 to M7.
+fn rule_reason(
+    alloc: Global,
+    p: &Program,
+    uses: &Rows<FieldUse>,
+    tags: &Rows<Tags>,
+    recurs: &[bool],
+    mark: SectionMark,
+    m: &MethodInfo,
+    t: &Tags,
+) -> Result<Reason, AllocError>
+    requires program { IsProgram p.now }
+    requires few { length p.now.methods ≤ most }
+    requires recurs { AreRecurring (call_graph p.now tags.now).from (call_graph p.now tags.now).to (2 * length p.now.methods) recurs.now }
+    requires there { slice_get p.now.methods mark.method ≡ Some m.now }
+    requires tagged { slice_get tags.now mark.method ≡ Some t.now }
+    requires some { 0 < mark.mark }
+    requires low { mark.mark < 8 }
+    requires marked { HasMark p.now (tagged_by tags.now) uses.now (section_of mark) mark.mark }
+    ensures { IfOk result (IsReason p.now (tagged_by tags.now) uses.now (section_of mark) mark.mark) }
+{
+    let Some(own) = own_flags(alloc, p, tags, mark.method, m, t, mark.spot)? else {
+        unreachable!()
+    };
+    if mark.mark == 6 {
+        called_reason(alloc, p, uses, tags, mark, m, t, own.as_slice())
+    } else if mark.mark == 7 {
+        recurring_reason(alloc, p, uses, tags, recurs, mark, m, t, own.as_slice())
+    } else {
+        own_reason(alloc, p, uses, tags, mark, m, t, own.as_slice())
+    }
+}
+
+/// The reason of a mark; none of M0.
+fn reason_of(
+    alloc: Global,
+    p: &Program,
+    uses: &Rows<FieldUse>,
+    tags: &Rows<Tags>,
+    recurs: &[bool],
+    mark: SectionMark,
+) -> Result<Option<Reason>, AllocError>
+    requires program { IsProgram p.now }
+    requires few { length p.now.methods ≤ most }
+    requires tagged { AreTaggings p.now p.now.methods tags.now }
+    requires recurs { AreRecurring (call_graph p.now tags.now).from (call_graph p.now tags.now).to (2 * length p.now.methods) recurs.now }
+    requires marked { HasMark p.now (tagged_by tags.now) uses.now (section_of mark) mark.mark }
+    ensures { IfOk result (IsExplained p.now (tagged_by tags.now) uses.now mark) }
+{
+    if mark.mark == 0 {
+        return Ok(None);
+    }
+    if mark.mark >= 8 {
+        return Ok(Some(Reason::Elsewhere));
+    }
+    let Some(m) = p.methods.get(mark.method as usize) else {
+        unreachable!()
+    };
+    let Some(t) = tags.get(mark.method as usize) else {
+        unreachable!()
+    };
+    let reason = rule_reason(alloc, p, uses, tags, recurs, mark, m, t)?;
+    Ok(Some(reason))
+}
+
+fn reasons_of(
+    alloc: Global,
+    p: &Program,
+    uses: &Rows<FieldUse>,
+    tags: &Rows<Tags>,
+    recurs: &[bool],
+    marks: &Rows<SectionMark>,
+) -> Result<Rows<Option<Reason>>, AllocError>
+    requires program { IsProgram p.now }
+    requires few { length p.now.methods ≤ most }
+    requires tagged { AreTaggings p.now p.now.methods tags.now }
+    requires recurs { AreRecurring (call_graph p.now tags.now).from (call_graph p.now tags.now).to (2 * length p.now.methods) recurs.now }
+    requires marked { AreMarked p.now (tagged_by tags.now) uses.now marks.now }
+    ensures { IfOk result (AllZip (IsExplained p.now (tagged_by tags.now) uses.now) marks.now) }
+{
+    let mut reasons = Rows::new(alloc);
+    for mark in marks.as_slice() {
+        reasons.push(reason_of(alloc, p, uses, tags, recurs, *mark)?)?;
+    }
+    Ok(reasons)
+}
+
+/// Of each node of the graph of calls, whether it leads to a method that calls itself.
+fn recurring_nodes(alloc: Global, p: &Program, tags: &Rows<Tags>) -> Result<Vec<bool>, AllocError>
+    requires program { IsProgram p.now }
+    requires few { length p.now.methods ≤ most }
+    ensures { IfOk result (λ v. AreRecurring (call_graph p.now tags.now).from (call_graph p.now tags.now).to (2 * length p.now.methods) v.items) }
+{
+    let graph = call_graph(alloc, p, tags)?;
+    recurring(
+        alloc,
+        graph.from.as_slice(),
+        graph.to.as_slice(),
+        2 * p.methods.len(),
+    )
+}
+
+/// The reason of each mark of a program, in the order of the marks; M0 has none.
+pub fn reasons(alloc: Global, c: &Checked) -> Result<Rows<Option<Reason>>, AllocError>
+    ensures { IfOk result (AreReasons c.now.program (tagged_by c.now.tags) c.now.marks) }
+{
+    let p = c.program();
+    let tags = c.tags();
+    let frozen = frozen_classes(alloc, p, tags)?;
+    let uses = uses(alloc, p, tags, &frozen)?;
+    let recurs = recurring_nodes(alloc, p, tags)?;
+    reasons_of(alloc, p, &uses, tags, recurs.as_slice(), c.marks())
+}

@@ -1,0 +1,5 @@
+//! Tests of the reasons of marks, above what they test.
+#![tactic(auto)]
+
+#[cfg(test)]
+mod explained;
