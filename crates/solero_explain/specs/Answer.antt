@@ -1,0 +1,118 @@
+-- What the program owes to its words and files: a text, and a status with it.
+use Rattle.std.specs.Prelude.{◌≡◌, ℕ, ◌≤◌, Bool, List, [], ◌++◌, length, codes, slice_get, Option, Some, None, IfSome}
+use Rattle.std.specs.List.{AllByRecursion}
+use Rattle.std.specs.Option.{unwrap_or}
+use Rattle.checked_program.specs.MarkedProgram.{MarkedProgram}
+use Rattle.class_runner.specs.Loading.{IsAccepted, IsLoaded, IsRefusedBy}
+use Rattle.host_io.specs.Faults.{CountsFault}
+use Rattle.host_io.specs.Reading.{CannotBeRead, contents_of, first_long}
+use Rattle.host_io.specs.declared.shelf.NamedFile.{NamedFile}
+use Rattle.json_lines.specs.Json.{text_member}
+use Rattle.jvm_types.specs.LinkFaults.{in_file}
+use Rattle.jvm_types.specs.declared.limits.TheConstants.{MOST_FILE_BYTES}
+use Rattle.jvm_types.specs.declared.refusal.CRule.TheVariants.{C10}
+use Rattle.jvm_types.specs.declared.refusal.Place.{Place}
+use Rattle.jvm_types.specs.declared.refusal.Rule.{Rule}
+use Rattle.jvm_types.specs.declared.refusal.Rule.TheVariants as rules
+use Rattle.refusal_places.specs.Explained.{Explains}
+use Rattle.refusal_places.specs.declared.facts.Form.{Form}
+use Rattle.refusal_places.specs.declared.facts.Form.TheVariants.{Lines, Json}
+use Rattle.run_texts.specs.Report.{line}
+use Rattle.run_texts.specs.Unread.{unread_line}
+use Rattle.solero_explain.specs.Command.{Asked}
+use Rattle.solero_explain.specs.declared.answer.Due.{Due}
+use Rattle.solero_explain.specs.declared.answer.Due.TheVariants.{Told, Usage, Refused, CannotRead, OutOfMemory}
+use Rattle.solero_explain.specs.declared.request.What.{What}
+use Rattle.solero_explain.specs.declared.request.What.TheVariants as whats
+
+abbrev pub status_of : Due → ℕ
+status_of (Told text) = 0
+status_of Usage = 2
+status_of (Refused text) = 3
+status_of (CannotRead text) = 4
+status_of OutOfMemory = 6
+
+abbrev pub text_of : Due → List ℕ
+text_of (Told text) = text
+text_of Usage = line (codes "usage: solero_explain --what WHAT [options] FILE...")
+text_of (Refused text) = text
+text_of (CannotRead text) = text
+text_of OutOfMemory = line (codes "out of memory")
+
+-- ---- files that are accepted
+
+-- of files that no rule refuses
+abbrev pub accepted_text : Form → List ℕ
+accepted_text Lines = line (codes "accepted")
+accepted_text Json = codes "{" ++ text_member (codes "what") (codes "accepted") ++ line (codes "}")
+
+-- what is told of a program
+abbrev pub IsTold : What → Form → MarkedProgram → List ℕ → Type 0
+IsTold whats.Refusal form checked text = text ≡ accepted_text form
+
+-- told of the program that the files are loaded to
+pub record TellsProgram (asked : Asked) (contents : List (List ℕ)) (text : List ℕ) : Type 0 where
+  pub checked : MarkedProgram
+  pub loaded : IsLoaded contents asked.heap asked.threads checked
+  pub told : IsTold asked.what asked.form checked text
+
+-- ---- files that are refused
+
+-- A rule and a place refuse the files, as in `solero`. A file that is too long is refused when it is read from the shelf, before any is
+-- read as a class.
+abbrev pub IsRefusal : Option ℕ → Asked → List (List ℕ) → Rule → Place → Type 0
+IsRefusal (Some file) asked contents rule place = (rule ≡ rules.C C10) × (place ≡ in_file file MOST_FILE_BYTES)
+IsRefusal None asked contents rule place = IsRefusedBy contents asked.heap asked.threads rule place
+
+-- the name of the file of that number
+abbrev pub name_at : List (List ℕ) → ℕ → List ℕ
+name_at names file = unwrap_or (slice_get names file) []
+
+-- the content of the file of that number, where no file is too long
+abbrev pub content_at : Option ℕ → List (List ℕ) → ℕ → Option (List ℕ)
+content_at (Some long) contents file = None
+content_at None contents file = slice_get contents file
+
+-- the text explains the rule and the place that refuse the files
+pub record ExplainsRefusal (asked : Asked) (contents : List (List ℕ)) (text : List ℕ) : Type 0 where
+  pub rule : Rule
+  pub place : Place
+  pub refused : IsRefusal (first_long 0 contents) asked contents rule place
+  pub explained : Explains asked.form rule place (name_at asked.files place.file) (content_at (first_long 0 contents) contents place.file) text
+
+-- ---- what is due to the words and the shelf
+
+-- told of the files that are asked for; where the shelf does not tell its files, of some of which there are as many
+pub record TellsFiles (files : Option (List NamedFile)) (asked : Asked) (text : List ℕ) : Type 0 where
+  pub contents : List (List ℕ)
+  pub are : IfSome files (λ fs. contents ≡ contents_of fs asked.files)
+  pub many : length contents ≡ length asked.files
+  pub short : AllByRecursion (λ content. length content ≤ MOST_FILE_BYTES) contents
+  pub tells : TellsProgram asked contents text
+
+-- a refusal of the files that are asked for, likewise
+pub record RefusesFiles (files : Option (List NamedFile)) (asked : Asked) (text : List ℕ) : Type 0 where
+  pub contents : List (List ℕ)
+  pub are : IfSome files (λ fs. contents ≡ contents_of fs asked.files)
+  pub many : length contents ≡ length asked.files
+  pub explains : ExplainsRefusal asked contents text
+
+-- the line of a file that can't be read
+pub record SaysUnread (files : Option (List NamedFile)) (unreadable : Option (List ℕ → Bool)) (names : List (List ℕ)) (text : List ℕ) : Type 0 where
+  pub file : ℕ
+  pub unread : CannotBeRead files unreadable names file
+  pub is_line : text ≡ unread_line file
+
+-- What is due to the words, of which None are not read, and to the files. The shelf tells its files, and which it can't read, or
+-- None of these. Its count of faults goes from before to after. Want of memory may come to any words.
+abbrev pub IsDue : Option Asked → Option (List NamedFile) → Option (List ℕ → Bool) → ℕ → ℕ → Due → Type 0
+IsDue asked files unreadable before after OutOfMemory = before ≤ after
+IsDue None files unreadable before after due = (due ≡ Usage) × (after ≡ before)
+IsDue (Some asked) files unreadable before after Usage = ⊥
+IsDue (Some asked) files unreadable before after (CannotRead text) = CountsFault before after × SaysUnread files unreadable asked.files text
+IsDue (Some asked) files unreadable before after (Refused text) = (after ≡ before) × RefusesFiles files asked text
+IsDue (Some asked) files unreadable before after (Told text) = (after ≡ before) × TellsFiles files asked text
+
+-- no file that is asked for is too long, and all rules let them pass
+abbrev pub AreAccepted : List NamedFile → Asked → Type 0
+AreAccepted files asked = (first_long 0 (contents_of files asked.files) ≡ None) × IsAccepted (contents_of files asked.files) asked.heap asked.threads

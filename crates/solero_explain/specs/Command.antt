@@ -1,0 +1,65 @@
+-- What the words of `solero_explain` mean: those of a run, which `solero` has too, with what is to be explained, and in which form.
+use Rattle.std.specs.Prelude.{ℕ, List, [], ◌∷◌, length, codes, bytes_eq, Option, Some, None, if◌then◌else◌}
+use Rattle.clap.specs.Walk.{Row, Text, first_of}
+use Rattle.clap.specs.Simple.{App, new_rule, with_rule}
+use Rattle.clap.specs.declared.builder.action.ArgAction.TheVariants.{SetTrue}
+use Rattle.machine_types.specs.declared.config.Config.{Config}
+use Rattle.command_words.specs.RunValues.{are_few, heap_of, order_of, settings_of, threads_of}
+use Rattle.command_words.specs.Values.{◌>>=◌}
+use Rattle.command_words.specs.Words.{command_of, found, names_of}
+use Rattle.refusal_places.specs.declared.facts.Form.{Form}
+use Rattle.refusal_places.specs.declared.facts.Form.TheVariants.{Lines, Json}
+use Rattle.solero_explain.specs.declared.request.What.{What}
+use Rattle.solero_explain.specs.declared.request.What.TheVariants.{Refusal}
+
+-- ---- what clap finds
+
+-- a flag, `--name`, which has no value
+abbrev pub with_flag : App → Text → App
+with_flag a name = with_rule a (record (new_rule name) { long = Some name; action = Some SetTrue })
+
+abbrev pub the_command : App
+the_command = with_flag (command_of (codes "solero_explain")
+    (codes "what" ∷ codes "threads" ∷ codes "order" ∷ codes "steps" ∷ codes "turns" ∷ codes "heap" ∷ codes "prints" ∷ codes "elide" ∷ codes "range" ∷ []))
+    (codes "json")
+
+-- ---- values
+
+-- what is to be explained has no usual value
+abbrev pub what_of : Option Text → Option What
+what_of None = None
+what_of (Some text) = if bytes_eq text (codes "refusal") then Some Refusal else None
+
+-- clap says of a flag whether it is given
+abbrev pub form_of : Option Text → Form
+form_of None = Lines
+form_of (Some text) = if bytes_eq text (codes "true") then Json else Lines
+
+abbrev pub files_of : List Text → Option (List Text)
+files_of names = if are_few (length names) then Some names else None
+
+-- ---- the whole
+
+-- what the words ask for
+pub record Asked : Type 0 where
+  pub what : What
+  pub form : Form
+  pub files : List Text
+  pub threads : ℕ
+  pub heap : ℕ
+  pub cfg : Config
+  pub order : List ℕ
+
+unfoldable pub asked : List Row → Option Asked
+asked rows = do
+  what ← what_of (first_of (codes "what") rows)
+  files ← files_of (names_of rows)
+  threads ← threads_of rows
+  heap ← heap_of rows
+  cfg ← settings_of rows
+  order ← order_of rows
+  Some (record { what = what; form = form_of (first_of (codes "json") rows); files = files; threads = threads; heap = heap; cfg = cfg; order = order })
+
+-- what the words ask for; None where they are not read
+unfoldable pub command : List Text → Option Asked
+command words = found the_command words >>= asked

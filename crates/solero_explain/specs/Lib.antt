@@ -1,0 +1,6 @@
+pub mod Bounds
+pub mod Command
+pub mod Requests
+pub mod Answer
+pub mod Delivery
+pub mod Parts

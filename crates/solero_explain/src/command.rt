@@ -1,0 +1,122 @@
+//! The words of the command, read by one simple command of `clap`, and then by the rules for the values.
+ghost use Rattle.std.specs.Prelude.{◌≡◌, IfOk, IfSome, [], length, map, option_map, true};
+ghost use Rattle.std.specs.Option.{option_copied, unwrap_or};
+ghost use Rattle.clap.specs.Words.{app_of, found_of, rows_of};
+ghost use Rattle.command_words.specs.RunValues.{are_few as are_few_files};
+ghost use Rattle.command_words.specs.Words.{found, texts};
+ghost use Rattle.solero_explain.specs.Command.{asked, command as command_of, files_of, form_of as the_form, the_command, what_of as the_what, with_flag as flag_in};
+ghost use Rattle.solero_explain.specs.Requests.{asked_by};
+
+use crate::request::{Request, What};
+use clap::{Arg, ArgAction, ArgMatches, Command};
+use command_words::found_words::{found_in, names, owned, simple_command, value};
+use command_words::run_values::{are_few, heap, order, settings, threads};
+use refusal_places::Form;
+use std::alloc::{AllocError, Global};
+
+// The options, each with one value.
+const OPTIONS: [&str; 9] = [
+    "what", "threads", "order", "steps", "turns", "heap", "prints", "elide", "range",
+];
+
+// A flag, which has no value.
+fn with_flag<'a>(
+    alloc: Global,
+    command: Command<'a>,
+    name: &'a str,
+) -> Result<Command<'a>, AllocError>
+    ensures { IfOk result (λ c. app_of c ≡ flag_in (app_of command.entry) name.entry.now) }
+{
+    command.arg(Arg::new(alloc, name).long(name).action(ArgAction::SetTrue))
+}
+
+fn explain_command<'a>(alloc: Global) -> Result<Command<'a>, AllocError>
+    ensures { IfOk result (λ c. app_of c ≡ the_command) }
+{
+    let command = simple_command(alloc, "solero_explain", &OPTIONS)?;
+    with_flag(alloc, command, "json")
+}
+
+fn what_of(given: Option<&str>) -> Option<What>
+    ensures { result ≡ the_what (option_copied given.entry) }
+{
+    match given {
+        Some(text) if text == "refusal" => Some(What::Refusal),
+        _ => None,
+    }
+}
+
+fn form_of(given: Option<&str>) -> Form
+    ensures { result ≡ the_form (option_copied given.entry) }
+{
+    match given {
+        Some(text) if text == "true" => Form::Json,
+        _ => Form::Lines,
+    }
+}
+
+// The names of the files, where there are 1 to 64.
+fn files(alloc: Global, given: Option<&[&str]>) -> Result<Option<Vec<String>>, AllocError>
+    ensures count { IfOk result (λ files. IfSome files (λ x. are_few_files (length x.items) ≡ true)) }
+    ensures names { IfOk result (λ files. option_map (λ x. texts x.items) files ≡ files_of (unwrap_or (option_map (λ s. map (λ v. v.now) s.now) given.entry) [])) }
+{
+    let names = given.unwrap_or(&[]);
+    if !are_few(names.len()) {
+        return Ok(None);
+    }
+    Ok(Some(owned(alloc, names)?))
+}
+
+// What is asked for, where each value follows its rule.
+#[tactic(auto, unfolding(crate::specs::Command::asked))]
+fn request(alloc: Global, matches: &ArgMatches<'_>) -> Result<Option<Request>, AllocError>
+    ensures { IfOk result (λ r. option_map asked_by r ≡ asked (rows_of (found_of matches.now))) }
+{
+    let Some(what) = what_of(value(matches, "what")) else {
+        return Ok(None);
+    };
+    let Some(files) = files(alloc, names(matches))? else {
+        return Ok(None);
+    };
+    let Some(threads) = threads(matches) else {
+        return Ok(None);
+    };
+    let Some(heap) = heap(matches) else {
+        return Ok(None);
+    };
+    let Some(cfg) = settings(matches) else {
+        return Ok(None);
+    };
+    let Some(order) = order(alloc, matches)? else {
+        return Ok(None);
+    };
+    let form = form_of(value(matches, "json"));
+    Ok(Some(Request {
+        what,
+        form,
+        files,
+        threads,
+        heap,
+        cfg,
+        order,
+    }))
+}
+
+// What is found in the words, where they have no fault.
+fn matches_in<'a>(alloc: Global, words: &'a [String]) -> Result<Option<ArgMatches<'a>>, AllocError>
+    ensures { IfOk result (λ m. option_map (λ x. rows_of (found_of x)) m ≡ found the_command (texts words.entry.now)) }
+{
+    let command = explain_command(alloc)?;
+    found_in(command, words)
+}
+
+/// What the words ask for, of which the first is the program's name. `None`: the words are not read.
+#[tactic(auto, unfolding(crate::specs::Command::command))]
+pub fn read_words(alloc: Global, words: &[String]) -> Result<Option<Request>, AllocError>
+    ensures { IfOk result (λ r. option_map asked_by r ≡ command_of (texts words.now)) }
+{
+    match matches_in(alloc, words)? {
+        Some(matches) => request(alloc, &matches),
+        None => Ok(None),
+    }
+}

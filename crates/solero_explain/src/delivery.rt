@@ -1,0 +1,20 @@
+ghost use Rattle.std.specs.Prelude.{◌≡◌};
+ghost use Rattle.solero_explain.specs.Delivery.{Delivers};
+
+use crate::answer::Due;
+use host_io::sink::{Sink, SinkFailed};
+use host_io::writing::write_whole;
+
+/// The status where the sink failed.
+const SINK_FAILED: u8 = 5;
+
+/// Writes the text that is due, and answers its status, or 5 where the sink fails.
+pub fn deliver<K: Sink>(sink: &mut K, due: &Due) -> u8
+    ensures { Delivers (K.text sink.old) (K.text sink.new)
+        (K.faults sink.old) (K.faults sink.new) due.now result }
+{
+    match write_whole(sink, due.text()) {
+        Ok(()) => due.status(),
+        Err(SinkFailed) => SINK_FAILED,
+    }
+}

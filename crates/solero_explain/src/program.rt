@@ -1,0 +1,196 @@
+ghost use Rattle.std.specs.Prelude.{◌≡◌, ◌-◌, ◌^◌, ◌<◌, ◌≤◌, ◌≢◌, ◌⊎◌, List, Some, None, IfOk, length, true};
+ghost use Rattle.std.specs.Option.{option_copied};
+ghost use Rattle.command_words.specs.RunValues.{are_few};
+ghost use Rattle.command_words.specs.Words.{texts};
+ghost use Rattle.host_io.specs.Faults.{CountsFault};
+ghost use Rattle.host_io.specs.Reading.{first_long};
+ghost use Rattle.host_io.specs.declared.shelf.NamedFile.{NamedFile as File};
+ghost use Rattle.refusal_places.specs.declared.facts.Form.TheVariants.{Json};
+ghost use Rattle.solero_explain.specs.Answer.{AreAccepted, IsDue, IsTold, accepted_text as the_accepted_text, name_at as the_name_at};
+ghost use Rattle.solero_explain.specs.Command.{Asked, command};
+ghost use Rattle.solero_explain.specs.Delivery.{Delivers};
+ghost use Rattle.solero_explain.specs.Parts.{IsDueToFiles, IsExplained, IsUnreadDue};
+ghost use Rattle.solero_explain.specs.Requests.{asked_by};
+ghost use Rattle.solero_explain.specs.declared.answer.Due.{Due as TheDue};
+
+use crate::answer::Due;
+use crate::command::read_words;
+use crate::delivery::deliver;
+use crate::request::{Request, What};
+use checked_program::Checked;
+use class_runner::{FileError, load_program};
+use host_io::files::{Unread, read_files};
+use host_io::shelf::{Shelf, ShelfError};
+use host_io::sink::Sink;
+use json_lines::write_text_member;
+use jvm_types::limits::MOST_FILE_BYTES;
+use jvm_types::{Bytes, CRule, Place, Rows, Rule, in_file};
+use refusal_places::{Form, explained_refusal};
+use run_texts::unread_file;
+use std::alloc::{AllocError, Global};
+
+/// Explains what the words ask for: reads the files from the shelf, in order, loads them, and writes to the sink what is to be
+/// told of them. Files that `solero` refuses are refused by the same rule, at the same place, with the names of that place. It answers
+/// the status that the process ends with.
+pub fn top_explain<S: Shelf, K: Sink>(
+    alloc: Global,
+    words: &Vec<String>,
+    shelf: &mut S,
+    sink: &mut K,
+) -> u8
+    // What the words and the files are owed is written, and answered by its status.
+    ensures answer { (due : TheDue)
+        × IsDue (command (texts words.now.items)) (S.files shelf.old) (S.unreadable shelf.old) (S.faults shelf.old) (S.faults shelf.new) due
+        × Delivers (K.text sink.old) (K.text sink.new) (K.faults sink.old) (K.faults sink.new) due result }
+    ensures files { S.files shelf.new ≡ S.files shelf.old }
+    ensures unreadable { S.unreadable shelf.new ≡ S.unreadable shelf.old }
+
+    // Each status comes for its cause, and a fault of the sink goes before all.
+    ensures status { result ≤ 6 }
+    ensures words_read { result ≡ 2 → command (texts words.now.items) ≡ None }
+    ensures words_not_read { command (texts words.now.items) ≡ None → (result ≡ 2) ⊎ ((result ≡ 5) ⊎ (result ≡ 6)) }
+    // Files that all rules let pass are not refused, whatever is to be told of them.
+    ensures accepted { (asked : Asked) (files : List File) → command (texts words.now.items) ≡ Some asked
+        → S.files shelf.old ≡ Some files → AreAccepted files asked → result ≢ 3 }
+    // And all others are, where the shelf does not fail.
+    ensures not_accepted { (asked : Asked) (files : List File) → command (texts words.now.items) ≡ Some asked
+        → S.files shelf.old ≡ Some files → ¬ AreAccepted files asked
+        → S.faults shelf.new ≡ S.faults shelf.old → S.faults shelf.old < 2 ^ 64 - 1 → (result ≡ 3) ⊎ ((result ≡ 5) ⊎ (result ≡ 6)) }
+    ensures shelf_failed { result ≡ 4 → CountsFault (S.faults shelf.old) (S.faults shelf.new) }
+    ensures shelf_fault { S.faults shelf.old < S.faults shelf.new → (4 ≤ result) × (result ≤ 6) }
+    ensures sink_failed { result ≡ 5 → CountsFault (K.faults sink.old) (K.faults sink.new) }
+    ensures sink_fault { K.faults sink.old < K.faults sink.new → result ≡ 5 }
+{
+    let due = work(alloc, words, shelf);
+    deliver(sink, &due)
+}
+
+// What is due to the words.
+fn work<S: Shelf>(alloc: Global, words: &Vec<String>, shelf: &mut S) -> Due
+    ensures due { IsDue (command (texts words.now.items)) (S.files shelf.old) (S.unreadable shelf.old)
+        (S.faults shelf.old) (S.faults shelf.new) result }
+    ensures files { S.files shelf.new ≡ S.files shelf.old }
+    ensures unreadable { S.unreadable shelf.new ≡ S.unreadable shelf.old }
+{
+    match read_words(alloc, words.as_slice()) {
+        Ok(Some(request)) => work_on(alloc, &request, shelf),
+        Ok(None) => Due::Usage,
+        Err(AllocError) => Due::OutOfMemory,
+    }
+}
+
+// What is due to the files that are asked for.
+fn work_on<S: Shelf>(alloc: Global, request: &Request, shelf: &mut S) -> Due
+    ensures due { IsDue (Some (asked_by request.now)) (S.files shelf.old) (S.unreadable shelf.old)
+        (S.faults shelf.old) (S.faults shelf.new) result }
+    ensures files { S.files shelf.new ≡ S.files shelf.old }
+    ensures unreadable { S.unreadable shelf.new ≡ S.unreadable shelf.old }
+{
+    match read_files(alloc, request.files.as_slice(), shelf) {
+        Ok(contents) => told_files(alloc, request, &contents),
+        Err(unread) => not_read(alloc, request, unread),
+    }
+}
+
+// What is due where a file was not read.
+fn not_read(alloc: Global, request: &Request, unread: Unread) -> Due
+    ensures { IsUnreadDue (asked_by request.now) unread.file unread.error result }
+{
+    match unread.error {
+        ShelfError::TooLong => explained(
+            alloc,
+            request,
+            Rule::C(CRule::C10),
+            in_file(unread.file, MOST_FILE_BYTES as u32),
+            None,
+        ),
+        ShelfError::Failed => cannot_read(alloc, unread.file),
+        ShelfError::Memory => Due::OutOfMemory,
+    }
+}
+
+// The file of that number can't be read.
+fn cannot_read(alloc: Global, file: u16) -> Due
+    ensures { (asked : Asked) → IsUnreadDue asked file ShelfError.Failed result }
+{
+    match unread_file(alloc, file) {
+        Ok(line) => Due::CannotRead(line),
+        Err(AllocError) => Due::OutOfMemory,
+    }
+}
+
+// The name of the file of that number.
+fn name_at(names: &[String], file: u16) -> &[u8]
+    ensures { result.now ≡ the_name_at (texts names.now) file }
+{
+    match names.get(usize::from(file)) {
+        Some(name) => name.as_bytes(),
+        None => &[],
+    }
+}
+
+// What refuses the files, explained with the content of the file that the place names.
+fn explained(
+    alloc: Global,
+    request: &Request,
+    rule: Rule,
+    place: Place,
+    content: Option<&Bytes>,
+) -> Due
+    ensures { IsExplained (asked_by request.now) rule place (option_copied content.entry) result }
+{
+    let name = name_at(request.files.as_slice(), place.file);
+    match explained_refusal(alloc, request.form, rule, place, name, content) {
+        Ok(text) => Due::Refused(text),
+        Err(AllocError) => Due::OutOfMemory,
+    }
+}
+
+// What is due to the contents of the files, none of which is too long.
+fn told_files(alloc: Global, request: &Request, contents: &Rows<Bytes>) -> Due
+    requires few { are_few (length contents.now) ≡ true }
+    requires short { first_long 0 contents.now ≡ None }
+    ensures { IsDueToFiles (asked_by request.now) contents.now result }
+{
+    match load_program(alloc, contents, request.heap, request.threads) {
+        Ok(checked) => match told(alloc, request, &checked) {
+            Ok(text) => Due::Told(text),
+            Err(AllocError) => Due::OutOfMemory,
+        },
+        Err(FileError::Refused(rule, place)) => {
+            let content = contents.get(usize::from(place.file));
+            explained(alloc, request, rule, place, content)
+        }
+        Err(FileError::Memory) => Due::OutOfMemory,
+    }
+}
+
+// What is told of a program.
+fn told(alloc: Global, request: &Request, checked: &Checked) -> Result<Bytes, AllocError>
+    ensures { IfOk result (λ text. IsTold request.now.what request.now.form checked.now text) }
+{
+    let _program = checked.program();
+    match request.what {
+        What::Refusal => accepted_text(alloc, request.form),
+    }
+}
+
+// The text of files that no rule refuses.
+fn accepted_text(alloc: Global, form: Form) -> Result<Bytes, AllocError>
+    ensures { IfOk result (λ text. text ≡ the_accepted_text form) }
+{
+    match form {
+        Form::Lines => Bytes::from_slice(alloc, b"accepted\n"),
+        Form::Json => accepted_object(alloc),
+    }
+}
+
+fn accepted_object(alloc: Global) -> Result<Bytes, AllocError>
+    ensures { IfOk result (λ text. text ≡ the_accepted_text Json) }
+{
+    let mut text = Vec::new(alloc);
+    text.push(b'{')?;
+    write_text_member(&mut text, "what", b"accepted")?;
+    text.extend_from_slice(b"}\n")?;
+    Ok(Bytes::from_vec(text))
+}

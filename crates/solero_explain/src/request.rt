@@ -1,0 +1,33 @@
+ghost use Rattle.std.specs.Prelude.{length};
+ghost use Rattle.solero_explain.specs.Bounds.{AreInBounds};
+
+use jvm_types::Bytes;
+use machine_types::Config;
+use refusal_places::Form;
+
+/// What is to be explained.
+#[derive(Clone, Copy, Debug, PartialEq, Eq)]
+pub enum What {
+    /// Which rule refuses the files, and where.
+    Refusal,
+}
+
+/// What the words of the command ask for.
+#[derive(Debug, Drop)]
+pub struct Request {
+    /// What is to be explained.
+    pub what: What,
+    /// In which form.
+    pub form: Form,
+    /// The names of the files: 1 to 64.
+    pub files: Vec<String>,
+    /// How many workers there are: 0 to 8.
+    pub threads: u8,
+    /// How many heap words there are: 4,096 to 1,048,576.
+    pub heap: u32,
+    /// The limits of the run, and whether sections are elided.
+    pub cfg: Config,
+    /// The workers that make the next steps, each a number from 1 to 8.
+    pub order: Bytes,
+    ghost bounds: { AreInBounds (length files.items) threads heap cfg },
+}
