@@ -1,5 +1,5 @@
 -- What becomes of attempts, locks and the part of a thread by its event, as text.
-use Rattle.std.specs.Prelude.{ℕ, nat_lt, Bool, true, false, List, [], ◌++◌, codes, Option, Some, None, if◌then◌else◌}
+use Rattle.std.specs.Prelude.{ℕ, nat_lt, Bool, true, false, List, ◌++◌, codes, Option, Some, None}
 use Rattle.std.specs.Fmt.{decimal}
 use Rattle.machine_types.specs.declared.attempt.AttemptHead.{AttemptHead}
 use Rattle.machine_types.specs.declared.phase.Phase.{Phase}

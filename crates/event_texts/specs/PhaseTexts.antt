@@ -1,5 +1,5 @@
 -- What a thread does, in words behind a comma, where it is no instruction.
-use Rattle.std.specs.Prelude.{ℕ, List, [], ◌++◌, codes, Some, None}
+use Rattle.std.specs.Prelude.{ℕ, List, ◌++◌, codes, Some, None}
 use Rattle.std.specs.Fmt.{decimal}
 use Rattle.machine_types.specs.declared.phase.Phase.{Phase}
 use Rattle.machine_types.specs.declared.phase.Phase.TheVariants as phases

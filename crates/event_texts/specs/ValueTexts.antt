@@ -1,13 +1,13 @@
 -- The words that threads share, and what stands in them, as text.
-use Rattle.std.specs.Prelude.{ℕ, zero, suc, ◌-◌, ◌/◌, ◌%◌, ◌==◌, List, [], ◌∷◌, ◌++◌, codes, Option, Some, None, slice_get, if◌then◌else◌}
+use Rattle.std.specs.Prelude.{ℕ, zero, suc, ◌-◌, ◌/◌, ◌%◌, ◌==◌, List, [], ◌++◌, codes, Option, Some, None, slice_get, if◌then◌else◌}
 use Rattle.std.specs.Fmt.{decimal, signed_decimal}
 use Rattle.jvm_types.specs.declared.program.FieldInfo.{FieldInfo}
 use Rattle.jvm_types.specs.declared.program.Kind.{Kind}
 use Rattle.jvm_types.specs.declared.program.Kind.TheVariants as kinds
 use Rattle.jvm_types.specs.declared.program.Program.{Program}
 use Rattle.machine_types.specs.Ints.{int_of}
-use Rattle.run_texts.specs.MarksText.{class_text, text_or_none}
-use Rattle.event_texts.specs.SharedWords.{SharedWord, Null, NextFree, NextTicket, NextRecord, Owner, Waiting, Lock, Header, Field, StaticField, Element}
+use Rattle.run_texts.specs.MarksText.{class_text}
+use Rattle.event_texts.specs.SharedWords.{SharedWord, NextFree, NextTicket, NextRecord, Owner, Waiting, Lock, Header, Field, StaticField, Element}
 
 -- ---- which word: a field by its class, the object and its name, as `P@2081.a`; its number stands where no name is given
 

@@ -1,5 +1,5 @@
 -- The next number of an order: a live worker has its turn, and any other is passed over.
-use Rattle.std.proofs.Common.{◌≡◌, ◌<◌, ◌≤◌, ℕ, zero, suc, ◌+◌, Bool, true, false, List, [], ◌∷◌, length, Some, refl, sym, ap, ◌∙◌, arith, drop}
+use Rattle.std.proofs.Common.{◌≡◌, ◌<◌, ◌≤◌, ℕ, zero, suc, ◌+◌, Bool, true, false, List, [], ◌∷◌, length, refl, ap, ◌∙◌, arith, drop}
 use Rattle.std.specs.Prelude.{◌&&◌, nat_lt, slice_index_or, if◌then◌else◌}
 use Rattle.machine_types.specs.Core.{Core, Of, lives}
 use Rattle.machine_types.specs.Schedules.{Ordered, is_live_worker, ordered, turn_of}

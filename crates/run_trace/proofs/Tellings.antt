@@ -3,7 +3,7 @@ use Rattle.std.proofs.Common.{◌≡◌, ℕ, List, ◌++◌, Option, ap, ◌∙
 use Rattle.std.specs.Option.{option_map}
 use Rattle.checked_program.specs.MarkedProgram.{MarkedProgram}
 use Rattle.machine_types.specs.Core.{Happening, happened}
-use Rattle.run_trace.specs.EventLines.{next_number, shown, told_line, event_line}
+use Rattle.run_trace.specs.EventLines.{next_number, shown, event_line}
 use Rattle.run_trace.specs.Traces.{IsPut, Tells}
 use Rattle.run_trace.specs.declared.events.Part.{Part}
 use Rattle.run_trace.specs.declared.traces.TraceError.{TraceError}

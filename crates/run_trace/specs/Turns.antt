@@ -1,6 +1,6 @@
 -- How far a run is in its order, as the code keeps it: by a place in the order.
 use Rattle.std.specs.Prelude.{◌≡◌, ◌+◌, ℕ, true, List, drop, Option, Some, None}
-use Rattle.machine_types.specs.Core.{Core, Happening, Of, NextPart, lives}
+use Rattle.machine_types.specs.Core.{Core, Of, NextPart, lives}
 use Rattle.machine_types.specs.Schedules.{Stage, First, Ordered, Rounds, Last, Turn}
 use Rattle.run_trace.specs.declared.turns.Progress.{Progress}
 use Rattle.run_trace.specs.declared.turns.Progress.TheVariants as progresses

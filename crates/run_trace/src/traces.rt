@@ -149,11 +149,7 @@ fn tell_all<K: Sink>(
 }
 
 /// Writes the report of the run.
-fn tell_report<K: Sink>(
-    alloc: Global,
-    outcome: &Outcome,
-    sink: &mut K,
-) -> Result<(), TraceError>
+fn tell_report<K: Sink>(alloc: Global, outcome: &Outcome, sink: &mut K) -> Result<(), TraceError>
     requires { 0 < length outcome.now.threads }
     ensures { IsPut (K.text sink.old) (K.text sink.new) (K.faults sink.old) (K.faults sink.new) (report_text outcome.now) result }
 {

@@ -6,7 +6,6 @@ use Rattle.frames.specs.FrameLists.{top}
 use Rattle.machine_types.specs.Effects.{effect}
 use Rattle.machine_types.specs.declared.effect.Effect.{Effect}
 use Rattle.event_texts.specs.Doings.{doing_at}
-use Rattle.event_texts.specs.declared.doing.Doing.{Doing}
 use Rattle.event_texts.proofs.TopByNumber.{both_there, no_insn, no_target, none_there}
 use Rattle.event_texts.proofs.doing.next_doing.Goals as goal
 
