@@ -1,1 +1,2 @@
 pub mod EmptyProgram
+mod SureWords

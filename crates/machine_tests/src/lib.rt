@@ -9,4 +9,6 @@ pub use programs::empty;
 #[cfg(test)]
 mod accesses;
 #[cfg(test)]
+mod own_words;
+#[cfg(test)]
 mod threads;
