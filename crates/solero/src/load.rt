@@ -1,5 +1,5 @@
 //! A run of a load.
-ghost use Rattle.std.specs.Prelude.{◌≡◌, IfErr, IfOk, length};
+ghost use Rattle.std.specs.Prelude.{◌≡◌, ◌∷◌, [], IfErr, IfOk, length};
 ghost use Rattle.class_runner.specs.declared.loading.FileError.TheVariants.{Memory};
 ghost use Rattle.command_words.specs.Requests.{asked_by};
 ghost use Rattle.jvm_types.specs.ClassGrammar.{IsClass};
@@ -41,6 +41,12 @@ fn load_file(alloc: Global, request: &Request) -> Result<Rows<Bytes>, FileError>
 {
     let class = made_class(alloc, request)?;
     let bytes = bytes_of(alloc, &class)?;
+    Ok(one_file(alloc, bytes)?)
+}
+
+fn one_file(alloc: Global, bytes: Bytes) -> Result<Rows<Bytes>, AllocError>
+    ensures { IfOk result (λ files. files ≡ bytes ∷ []) }
+{
     let mut files = Rows::new(alloc);
     files.push(bytes)?;
     Ok(files)
