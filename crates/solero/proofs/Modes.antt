@@ -47,6 +47,6 @@ made_of_taken modes.List asked contents (Output text) made = no_read_fault 0 con
 made_of_taken modes.List asked contents due made = absurd made
 made_of_taken modes.Assemble asked contents (Output bytes) made = (made.class, made.listed)
 made_of_taken modes.Assemble asked contents due made = absurd made
-made_of_taken modes.Load asked contents (Report finish text) made = (made.files, (made.made, accepted made.files asked.heap asked.threads made.checked made.loaded))
+made_of_taken modes.Load asked contents (Report finish text) made = (made.files, made.made, accepted made.files asked.heap asked.threads made.checked made.loaded)
 made_of_taken modes.Load asked contents due made = absurd made
 made_of_taken modes.Cell asked contents due made = tt

@@ -9,6 +9,7 @@ use Rattle.solero.proofs.Accepted.{no_refusal}
 use Rattle.solero.proofs.Modes.{made_of_taken}
 use Rattle.host_io.proofs.SoFar.{none_long}
 use Rattle.host_io.specs.Faults.{CountsFault}
+use Rattle.host_io.specs.Reading.{contents_of}
 use Rattle.host_io.specs.declared.shelf.NamedFile.{NamedFile}
 use Rattle.solero.specs.declared.answer.Due.{Due}
 use Rattle.solero.specs.declared.answer.Due.TheVariants.{Report, Output, Usage, Refusal, CannotRead, OutOfMemory}
