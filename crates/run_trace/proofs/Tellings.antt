@@ -19,5 +19,5 @@ told_by c names part h m n told now before after (Ok done) text line made number
   text = put.1 ∙ ap (λ (x : List ℕ). option_map (λ t. t ++ x) told) (told_text ∙ ap (shown part m.number) is);
   calm = put.0;
 }
-told_by c names part h m n told now before after (Err Memory) text line made number told_text is put = tt
+told_by c names part h m n told now before after (Err Memory) text line made number told_text is put = put
 told_by c names part h m n told now before after (Err Failed) text line made number told_text is put = put

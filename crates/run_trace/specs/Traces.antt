@@ -25,10 +25,10 @@ pub record Happened (c : MarkedProgram) (names : List (List ℕ)) (part : Part) 
   pub text : now ≡ option_map (λ t. t ++ told_line c names part m.number m.machine.core h) told
   pub calm : after ≡ before
 
--- for want of memory nothing is said; or the sink failed
+-- there was no memory, and the sink had not failed; or it failed
 abbrev pub Tells : MarkedProgram → (names : List (List ℕ)) → Part → Happening → (m n : Tracing) → (told now : Option (List ℕ)) → (before after : ℕ) → {A : Type 0} → Result A TraceError → Type 0
 Tells c names part h m n told now before after (Ok done) = Happened c names part h m n told now before after
-Tells c names part h m n told now before after (Err Memory) = Unit {0}
+Tells c names part h m n told now before after (Err Memory) = after ≡ before
 Tells c names part h m n told now before after (Err Failed) = CountsFault before after
 
 -- ---- the run so far
@@ -58,20 +58,20 @@ pub record WalksOn (c : MarkedProgram) (order : List ℕ) (names : List (List �
 -- on from a turn, to another
 abbrev pub IsWalk : MarkedProgram → (order : List ℕ) → (names : List (List ℕ)) → Part → (m : Tracing) → Option Turn → (told : Option (List ℕ)) → (before : ℕ) → (n : Tracing) → (now : Option (List ℕ)) → (after : ℕ) → Result Next TraceError → Type 0
 IsWalk c order names part m turn told before n now after (Ok next) = WalksOn c order names part m turn told before n (turn_of_next order next) now after
-IsWalk c order names part m turn told before n now after (Err Memory) = Unit {0}
+IsWalk c order names part m turn told before n now after (Err Memory) = after ≡ before
 IsWalk c order names part m turn told before n now after (Err Failed) = CountsFault before after
 
 -- on from a turn, to the end of the run
 abbrev pub IsWalkToEnd : MarkedProgram → (order : List ℕ) → (names : List (List ℕ)) → Part → (m : Tracing) → Option Turn → (told : Option (List ℕ)) → (before : ℕ) → (n : Tracing) → (now : Option (List ℕ)) → (after : ℕ) → {A : Type 0} → Result A TraceError → Type 0
 IsWalkToEnd c order names part m turn told before n now after (Ok done) = WalksOn c order names part m turn told before n None now after
-IsWalkToEnd c order names part m turn told before n now after (Err Memory) = Unit {0}
+IsWalkToEnd c order names part m turn told before n now after (Err Memory) = after ≡ before
 IsWalkToEnd c order names part m turn told before n now after (Err Failed) = CountsFault before after
 
 -- ---- a text that is put to the sink
 
 abbrev pub IsPut : (told now : Option (List ℕ)) → (before after : ℕ) → (text : List ℕ) → {A : Type 0} → Result A TraceError → Type 0
 IsPut told now before after text (Ok done) = (after ≡ before) × (now ≡ option_map (λ t. t ++ text) told)
-IsPut told now before after text (Err Memory) = Unit {0}
+IsPut told now before after text (Err Memory) = after ≡ before
 IsPut told now before after text (Err Failed) = CountsFault before after
 
 -- ---- the whole
@@ -83,8 +83,8 @@ pub record IsWholeTrace (c : MarkedProgram) (cfg : Config) (order : List ℕ) (n
   pub text : now ≡ option_map (λ t. t ++ trace_text c cfg names part happenings) told
   pub calm : after ≡ before
 
--- the trace was written whole, and the outcome of the run is answered; there is no memory; or the sink failed
+-- the trace was written whole, and the outcome of the run is answered; or there was no memory, and the sink had not failed; or it failed
 abbrev pub IsTraced : MarkedProgram → Config → (order : List ℕ) → (names : List (List ℕ)) → Part → (told now : Option (List ℕ)) → (before after : ℕ) → Result Outcome TraceError → Type 0
 IsTraced c cfg order names part told now before after (Ok o) = IsWholeTrace c cfg order names part told now before after o
-IsTraced c cfg order names part told now before after (Err Memory) = Unit {0}
+IsTraced c cfg order names part told now before after (Err Memory) = after ≡ before
 IsTraced c cfg order names part told now before after (Err Failed) = CountsFault before after
