@@ -53,7 +53,7 @@ abbrev pub linking_means : LRule → List ℕ
 linking_means L1 = codes "a class that is not among the files, or a type or a constant that this machine does not have"
 linking_means L2 = codes "no such member, or a constant or member that does not fit the instruction"
 linking_means L3 = codes "a private member of another class"
-linking_means L4 = codes "a <clinit>, init, run or done that is not static, or no run where there are workers"
+linking_means L4 = codes "a <clinit>, init, run or done that is not static, a <clinit> that takes or returns something, or no run where there are workers"
 linking_means L5 = codes "the name of a class or of a member that is there already"
 linking_means L6 = codes "a superclass other than Object, an interface, or an abstract class"
 linking_means L7 = codes "a final field is written outside of its constructor or initializer"
@@ -67,14 +67,14 @@ verifying_means V3 = codes "a local or an argument has no place among max_locals
 verifying_means V4 = codes "a value of another type than the instruction takes, or a catch type that is no throwable"
 verifying_means V5 = codes "two ways to the instruction bring stacks of different depths"
 verifying_means V6 = codes "the code falls off its end"
-verifying_means V7 = codes "an object is used before its constructor was called"
+verifying_means V7 = codes "an object that no constructor has finished is used, kept over a jump back or in covered code, or returned from, or one that is finished is constructed again"
 verifying_means V8 = codes "a return that does not fit the descriptor of the method"
 
 abbrev pub tagging_means : SRule → List ℕ
 tagging_means S1 = codes "a monitor is entered on a value that is neither this nor a copy that dup made"
 tagging_means S2 = codes "a monitor is left that is not the innermost one held"
 tagging_means S3 = codes "two ways to the instruction hold different monitors"
-tagging_means S4 = codes "a return, or an instruction that may throw and that nothing catches, while a monitor is held"
+tagging_means S4 = codes "a return, or an instruction that may throw and that no catch-all row covers, while a monitor is held"
 
 abbrev pub assembling_means : ARule → List ℕ
 assembling_means A1 = codes "a line has no form at its place, a number is outside its field, or the text stops early"

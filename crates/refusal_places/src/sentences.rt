@@ -84,8 +84,8 @@ fn linking_means(rule: LRule) -> &'static str
         LRule::L2 => "no such member, or a constant or member that does not fit the instruction",
         LRule::L3 => "a private member of another class",
         LRule::L4 => {
-            "a <clinit>, init, run or done that is not static, or no run where there are \
-                workers"
+            "a <clinit>, init, run or done that is not static, a <clinit> that takes or returns \
+                something, or no run where there are workers"
         }
         LRule::L5 => "the name of a class or of a member that is there already",
         LRule::L6 => "a superclass other than Object, an interface, or an abstract class",
@@ -134,7 +134,10 @@ fn verifying_means(rule: VRule) -> &'static str
         }
         VRule::V5 => "two ways to the instruction bring stacks of different depths",
         VRule::V6 => "the code falls off its end",
-        VRule::V7 => "an object is used before its constructor was called",
+        VRule::V7 => {
+            "an object that no constructor has finished is used, kept over a jump back or in \
+                covered code, or returned from, or one that is finished is constructed again"
+        }
         VRule::V8 => "a return that does not fit the descriptor of the method",
     }
 }
@@ -158,8 +161,8 @@ fn tagging_means(rule: SRule) -> &'static str
         SRule::S2 => "a monitor is left that is not the innermost one held",
         SRule::S3 => "two ways to the instruction hold different monitors",
         SRule::S4 => {
-            "a return, or an instruction that may throw and that nothing catches, while a \
-                monitor is held"
+            "a return, or an instruction that may throw and that no catch-all row covers, while \
+                a monitor is held"
         }
     }
 }
