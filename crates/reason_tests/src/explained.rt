@@ -1,9 +1,11 @@
 //! The reasons of the marks of compiled classes, as text.
 
+use checked_program::Checked;
 use class_runner::{FileError, load_program};
 use jvm_types::Rows;
 use jvm_types::limits::LEAST_HEAP;
 use mark_reasons::marks_explained;
+use std::alloc::Global;
 use std::process::Abort;
 use std::test::*;
 use test_classes::{calls, changed, marks};
@@ -94,6 +96,13 @@ const BY_CALLEES: &str = "\
     Calls.storesAndPrints(I)V method M1\n\
     \x20 Calls.storesAndPrints(I)V at 2 putfield M1: it writes a field, a static field or an element\n";
 
+/// The program of a class.
+pub fn loaded(alloc: Global, hex: &str) -> Result<Checked, FileError> {
+    let mut files = Rows::new(alloc);
+    files.push(changed(alloc, hex, &[])?)?;
+    load_program(alloc, &files, LEAST_HEAP, 0)
+}
+
 /// Compares the marks of a class with their reasons.
 fn check_reasons(
     rt: &(impl Abort + AllocGlobal),
@@ -101,9 +110,7 @@ fn check_reasons(
     wanted: &str,
 ) -> Result<(), FileError> {
     let alloc = rt.alloc();
-    let mut files = Rows::new(alloc);
-    files.push(changed(alloc, hex, &[])?)?;
-    let program = load_program(alloc, &files, LEAST_HEAP, 0)?;
+    let program = loaded(alloc, hex)?;
     let text = marks_explained(alloc, &program)?;
     assert_eq!(rt; text.as_slice(), wanted.as_bytes());
     Ok(())
