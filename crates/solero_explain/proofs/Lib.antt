@@ -2,3 +2,4 @@ pub mod Accepted
 pub mod Commands
 pub mod Owed
 pub mod Refused
+pub mod Runs

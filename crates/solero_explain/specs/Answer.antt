@@ -1,6 +1,9 @@
 -- What the program owes to its words and files: a text, and a status with it.
 use Rattle.std.specs.Prelude.{◌≡◌, ℕ, ◌≤◌, Bool, List, [], ◌++◌, length, codes, slice_get, Option, Some, None, IfSome}
-use Rattle.std.specs.List.{AllByRecursion}
+use Rattle.std.specs.List.{AllByRecursion, AllZip}
+use Rattle.field_names.specs.FieldNames.{names_of}
+use Rattle.jvm_types.specs.ClassGrammar.{Spells}
+use Rattle.jvm_types.specs.declared.class_file.ClassFile.{ClassFile}
 use Rattle.std.specs.Option.{unwrap_or}
 use Rattle.checked_program.specs.MarkedProgram.{MarkedProgram}
 use Rattle.class_runner.specs.Loading.{IsAccepted, IsLoaded, IsRefusedBy}
@@ -14,6 +17,7 @@ use Rattle.jvm_types.specs.declared.refusal.CRule.TheVariants.{C10}
 use Rattle.jvm_types.specs.declared.refusal.Place.{Place}
 use Rattle.jvm_types.specs.declared.refusal.Rule.{Rule}
 use Rattle.jvm_types.specs.declared.refusal.Rule.TheVariants as rules
+use Rattle.mark_reasons.specs.ReasonTexts.{IsMarksExplained}
 use Rattle.refusal_places.specs.Explained.{Explains}
 use Rattle.refusal_places.specs.declared.facts.Form.{Form}
 use Rattle.refusal_places.specs.declared.facts.Form.TheVariants.{Lines, Json}
@@ -49,6 +53,8 @@ accepted_text Json = codes "{" ++ text_member (codes "what") (codes "accepted") 
 -- what is told of a program
 abbrev pub IsTold : What → Form → MarkedProgram → List ℕ → Type 0
 IsTold whats.Refusal form checked text = text ≡ accepted_text form
+IsTold whats.Marks form checked text = IsMarksExplained checked text
+IsTold whats.Run form checked text = ⊥
 
 -- told of the program that the files are loaded to
 pub record TellsProgram (asked : Asked) (contents : List (List ℕ)) (text : List ℕ) : Type 0 where
@@ -112,6 +118,20 @@ IsDue (Some asked) files unreadable before after Usage = ⊥
 IsDue (Some asked) files unreadable before after (CannotRead text) = CountsFault before after × SaysUnread files unreadable asked.files text
 IsDue (Some asked) files unreadable before after (Refused text) = (after ≡ before) × RefusesFiles files asked text
 IsDue (Some asked) files unreadable before after (Told text) = (after ≡ before) × TellsFiles files asked text
+
+-- the program that the files are loaded to, whose run is to be told, with the names of its fields
+pub record IsRunOf (asked : Asked) (contents : List (List ℕ)) (checked : MarkedProgram) (names : List (List ℕ)) : Type 0 where
+  pub what : asked.what ≡ whats.Run
+  pub loaded : IsLoaded contents asked.heap asked.threads checked
+  pub named : (classes : List ClassFile) → AllZip Spells contents classes → names ≡ names_of classes
+
+-- of the files that are asked for; where the shelf does not tell its files, of some of which there are as many
+pub record RunsFiles (files : Option (List NamedFile)) (asked : Asked) (checked : MarkedProgram) (names : List (List ℕ)) : Type 0 where
+  pub contents : List (List ℕ)
+  pub are : IfSome files (λ fs. contents ≡ contents_of fs asked.files)
+  pub many : length contents ≡ length asked.files
+  pub short : AllByRecursion (λ content. length content ≤ MOST_FILE_BYTES) contents
+  pub run : IsRunOf asked contents checked names
 
 -- no file that is asked for is too long, and all rules let them pass
 abbrev pub AreAccepted : List NamedFile → Asked → Type 0

@@ -1,16 +1,18 @@
 -- What the words of `solero_explain` mean: those of a run, which `solero` has too, with what is to be explained, and in which form.
-use Rattle.std.specs.Prelude.{ℕ, List, [], ◌∷◌, length, codes, bytes_eq, Option, Some, None, if◌then◌else◌}
+use Rattle.std.specs.Prelude.{ℕ, Bool, true, false, ◌&&◌, not, List, [], ◌∷◌, length, codes, bytes_eq, Option, Some, None, if◌then◌else◌}
 use Rattle.clap.specs.Walk.{Row, Text, first_of}
 use Rattle.clap.specs.Simple.{App, new_rule, with_rule}
 use Rattle.clap.specs.declared.builder.action.ArgAction.TheVariants.{SetTrue}
+use Rattle.jvm_types.specs.declared.limits.TheConstants.{MOST_LIMIT}
+use Rattle.run_trace.specs.declared.events.Part.{Part}
 use Rattle.machine_types.specs.declared.config.Config.{Config}
 use Rattle.command_words.specs.RunValues.{are_few, heap_of, order_of, settings_of, threads_of}
-use Rattle.command_words.specs.Values.{◌>>=◌}
-use Rattle.command_words.specs.Words.{command_of, found, names_of}
+use Rattle.command_words.specs.Values.{◌>>=◌, number_or}
+use Rattle.command_words.specs.Words.{command_of, found, gives_any, names_of}
 use Rattle.refusal_places.specs.declared.facts.Form.{Form}
 use Rattle.refusal_places.specs.declared.facts.Form.TheVariants.{Lines, Json}
 use Rattle.solero_explain.specs.declared.request.What.{What}
-use Rattle.solero_explain.specs.declared.request.What.TheVariants.{Refusal}
+use Rattle.solero_explain.specs.declared.request.What.TheVariants.{Refusal, Marks, Run}
 
 -- ---- what clap finds
 
@@ -20,7 +22,7 @@ with_flag a name = with_rule a (record (new_rule name) { long = Some name; actio
 
 abbrev pub the_command : App
 the_command = with_flag (command_of (codes "solero_explain")
-    (codes "what" ∷ codes "threads" ∷ codes "order" ∷ codes "steps" ∷ codes "turns" ∷ codes "heap" ∷ codes "prints" ∷ codes "elide" ∷ codes "range" ∷ []))
+    (codes "what" ∷ codes "threads" ∷ codes "order" ∷ codes "steps" ∷ codes "turns" ∷ codes "heap" ∷ codes "prints" ∷ codes "elide" ∷ codes "range" ∷ codes "from" ∷ codes "events" ∷ []))
     (codes "json")
 
 -- ---- values
@@ -28,7 +30,22 @@ the_command = with_flag (command_of (codes "solero_explain")
 -- what is to be explained has no usual value
 abbrev pub what_of : Option Text → Option What
 what_of None = None
-what_of (Some text) = if bytes_eq text (codes "refusal") then Some Refusal else None
+what_of (Some text) = if bytes_eq text (codes "refusal") then Some Refusal else if bytes_eq text (codes "marks") then Some Marks else if bytes_eq text (codes "run") then Some Run else None
+
+-- marks and runs are told in lines alone
+abbrev pub is_told_in : What → Form → Bool
+is_told_in Refusal form = true
+is_told_in what Lines = true
+is_told_in what Json = false
+
+-- an order, and a part of the lines, are read with a run alone
+abbrev pub not_read : What → List Text
+not_read Run = []
+not_read what = codes "order" ∷ codes "from" ∷ codes "events" ∷ []
+
+-- the lines of a run from a number on, so many at most
+abbrev pub part_of : (from events : ℕ) → Part
+part_of from events = record { from = from; count = events }
 
 -- clap says of a flag whether it is given
 abbrev pub form_of : Option Text → Form
@@ -49,6 +66,7 @@ pub record Asked : Type 0 where
   pub heap : ℕ
   pub cfg : Config
   pub order : List ℕ
+  pub part : Part
 
 unfoldable pub asked : List Row → Option Asked
 asked rows = do
@@ -58,7 +76,11 @@ asked rows = do
   heap ← heap_of rows
   cfg ← settings_of rows
   order ← order_of rows
-  Some (record { what = what; form = form_of (first_of (codes "json") rows); files = files; threads = threads; heap = heap; cfg = cfg; order = order })
+  from ← number_or 1 1 MOST_LIMIT (first_of (codes "from") rows)
+  events ← number_or MOST_LIMIT 1 MOST_LIMIT (first_of (codes "events") rows)
+  if is_told_in what (form_of (first_of (codes "json") rows)) && not (gives_any rows (not_read what))
+  then Some (record { what = what; form = form_of (first_of (codes "json") rows); files = files; threads = threads; heap = heap; cfg = cfg; order = order; part = part_of from events })
+  else None
 
 -- what the words ask for; None where they are not read
 unfoldable pub command : List Text → Option Asked

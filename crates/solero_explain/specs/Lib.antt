@@ -3,4 +3,5 @@ pub mod Command
 pub mod Requests
 pub mod Answer
 pub mod Delivery
+pub mod Tracing
 pub mod Parts

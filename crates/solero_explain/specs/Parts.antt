@@ -1,5 +1,16 @@
 -- What the parts of the work find due.
-use Rattle.std.specs.Prelude.{◌≡◌, ℕ, List, Option, None}
+use Rattle.std.specs.Prelude.{◌≡◌, ℕ, Bool, List, Option, Some, None, Result, Ok, Err}
+use Rattle.checked_program.specs.MarkedProgram.{MarkedProgram}
+use Rattle.host_io.specs.declared.shelf.NamedFile.{NamedFile}
+use Rattle.jvm_types.specs.declared.outcome.Outcome.{Outcome}
+use Rattle.run_trace.specs.Traces.{IsTraced}
+use Rattle.run_trace.specs.declared.traces.TraceError.{TraceError}
+use Rattle.solero_explain.specs.Requests.{asked_by}
+use Rattle.solero_explain.specs.Tracing.{status_of_trace}
+use Rattle.solero_explain.specs.declared.program.Found.{Found}
+use Rattle.solero_explain.specs.declared.program.Found.TheVariants as founds
+use Rattle.solero_explain.specs.declared.program.Work.{Work}
+use Rattle.solero_explain.specs.declared.program.Work.TheVariants as works
 use Rattle.host_io.specs.declared.shelf.ShelfError.{ShelfError}
 use Rattle.host_io.specs.declared.shelf.ShelfError.TheVariants.{Failed, TooLong}
 use Rattle.jvm_types.specs.LinkFaults.{in_file}
@@ -10,7 +21,7 @@ use Rattle.jvm_types.specs.declared.refusal.Rule.{Rule}
 use Rattle.jvm_types.specs.declared.refusal.Rule.TheVariants as rules
 use Rattle.refusal_places.specs.Explained.{Explains}
 use Rattle.run_texts.specs.Unread.{unread_line}
-use Rattle.solero_explain.specs.Answer.{ExplainsRefusal, TellsProgram, name_at}
+use Rattle.solero_explain.specs.Answer.{ExplainsRefusal, IsDue, IsRunOf, RunsFiles, TellsProgram, name_at}
 use Rattle.solero_explain.specs.Command.{Asked}
 use Rattle.solero_explain.specs.declared.answer.Due.{Due}
 use Rattle.solero_explain.specs.declared.answer.Due.TheVariants.{Told, Refused, CannotRead, OutOfMemory}
@@ -34,3 +45,28 @@ IsDueToFiles asked contents (Told text) = TellsProgram asked contents text
 IsDueToFiles asked contents (Refused text) = ExplainsRefusal asked contents text
 IsDueToFiles asked contents OutOfMemory = Unit {0}
 IsDueToFiles asked contents due = ⊥
+
+-- a text that is told, or want of memory
+abbrev pub IsDueOf : {E : Type 0} → Result (List ℕ) E → Due → Type 0
+IsDueOf (Ok text) due = due ≡ Told text
+IsDueOf (Err e) due = due ≡ OutOfMemory
+
+-- what is found in the contents of the files, none of which is too long
+abbrev pub IsFoundIn : Asked → List (List ℕ) → Found → Type 0
+IsFoundIn asked contents (founds.Due due) = IsDueToFiles asked contents due
+IsFoundIn asked contents (founds.Program checked names) = IsRunOf asked contents checked names
+
+-- what is found in the files that are asked for
+abbrev pub IsFound : Option (List NamedFile) → Option (List ℕ → Bool) → Asked → (before after : ℕ) → Found → Type 0
+IsFound files unreadable asked before after (founds.Due due) = IsDue (Some asked) files unreadable before after due
+IsFound files unreadable asked before after (founds.Program checked names) = (after ≡ before) × RunsFiles files asked checked names
+
+-- what is to be done for the words
+abbrev pub IsWork : Option Asked → Option (List NamedFile) → Option (List ℕ → Bool) → (before after : ℕ) → Work → Type 0
+IsWork asked files unreadable before after (works.Due due) = IsDue asked files unreadable before after due
+IsWork None files unreadable before after (works.Run request checked names) = ⊥
+IsWork (Some asked) files unreadable before after (works.Run request checked names) = (asked ≡ asked_by request) × (after ≡ before) × RunsFiles files asked checked names
+
+-- a run is told as far as it is, and this is answered
+abbrev pub IsRunTold : MarkedProgram → Asked → (names : List (List ℕ)) → (told now : Option (List ℕ)) → (before after status : ℕ) → Type 0
+IsRunTold checked asked names told now before after status = (came : Result Outcome TraceError) × IsTraced checked asked.cfg asked.order names asked.part told now before after came × (status ≡ status_of_trace came)

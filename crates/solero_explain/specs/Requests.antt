@@ -12,4 +12,5 @@ asked_by r = record {
   heap = r.heap;
   cfg = r.cfg;
   order = r.order;
+  part = r.part;
 }

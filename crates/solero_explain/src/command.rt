@@ -3,21 +3,37 @@ ghost use Rattle.std.specs.Prelude.{◌≡◌, IfOk, IfSome, [], length, map, op
 ghost use Rattle.std.specs.Option.{option_copied, unwrap_or};
 ghost use Rattle.clap.specs.Words.{app_of, found_of, rows_of};
 ghost use Rattle.command_words.specs.RunValues.{are_few as are_few_files};
-ghost use Rattle.command_words.specs.Words.{found, texts};
-ghost use Rattle.solero_explain.specs.Command.{asked, command as command_of, files_of, form_of as the_form, the_command, what_of as the_what, with_flag as flag_in};
+ghost use Rattle.command_words.specs.Words.{found, gives_any as gives_any_of, texts};
+ghost use Rattle.solero_explain.specs.Command.{asked, command as command_of, files_of, form_of as the_form, is_told_in as is_in, not_read, the_command, what_of as the_what, with_flag as flag_in};
 ghost use Rattle.solero_explain.specs.Requests.{asked_by};
 
 use crate::request::{Request, What};
 use clap::{Arg, ArgAction, ArgMatches, Command};
-use command_words::found_words::{found_in, names, owned, simple_command, value};
+use command_words::found_words::{found_in, gives_any, names, owned, simple_command, value};
 use command_words::run_values::{are_few, heap, order, settings, threads};
+use command_words::values::{Numbers, number_or};
+use jvm_types::limits::MOST_LIMIT;
 use refusal_places::Form;
+use run_trace::Part;
 use std::alloc::{AllocError, Global};
 
 // The options, each with one value.
-const OPTIONS: [&str; 9] = [
-    "what", "threads", "order", "steps", "turns", "heap", "prints", "elide", "range",
+const OPTIONS: [&str; 11] = [
+    "what", "threads", "order", "steps", "turns", "heap", "prints", "elide", "range", "from",
+    "events",
 ];
+
+const FROM: Numbers = Numbers {
+    unless: 1,
+    least: 1,
+    most: MOST_LIMIT,
+};
+
+const EVENTS: Numbers = Numbers {
+    unless: MOST_LIMIT,
+    least: 1,
+    most: MOST_LIMIT,
+};
 
 // A flag, which has no value.
 fn with_flag<'a>(
@@ -42,7 +58,29 @@ fn what_of(given: Option<&str>) -> Option<What>
 {
     match given {
         Some(text) if text == "refusal" => Some(What::Refusal),
+        Some(text) if text == "marks" => Some(What::Marks),
+        Some(text) if text == "run" => Some(What::Run),
         _ => None,
+    }
+}
+
+// Whether an option is given that is not read with this.
+fn gives_unread(matches: &ArgMatches<'_>, what: What) -> bool
+    ensures { result ≡ gives_any_of (rows_of (found_of matches.now)) (not_read what) }
+{
+    match what {
+        What::Run => gives_any(matches, &[]),
+        What::Refusal | What::Marks => gives_any(matches, &["order", "from", "events"]),
+    }
+}
+
+// Whether this is told in that form.
+fn is_told_in(what: What, form: Form) -> bool
+    ensures { result ≡ is_in what form }
+{
+    match what {
+        What::Refusal => true,
+        What::Marks | What::Run => form == Form::Lines,
     }
 }
 
@@ -91,6 +129,15 @@ fn request(alloc: Global, matches: &ArgMatches<'_>) -> Result<Option<Request>, A
         return Ok(None);
     };
     let form = form_of(value(matches, "json"));
+    let Some(from) = number_or(FROM, value(matches, "from")) else {
+        return Ok(None);
+    };
+    let Some(events) = number_or(EVENTS, value(matches, "events")) else {
+        return Ok(None);
+    };
+    if !is_told_in(what, form) || gives_unread(matches, what) {
+        return Ok(None);
+    }
     Ok(Some(Request {
         what,
         form,
@@ -99,6 +146,10 @@ fn request(alloc: Global, matches: &ArgMatches<'_>) -> Result<Option<Request>, A
         heap,
         cfg,
         order,
+        part: Part {
+            from: u64::from(from),
+            count: u64::from(events),
+        },
     }))
 }
 

@@ -1,4 +1,4 @@
-//! The program `solero_explain`: says what a refusal of class files means.
+//! The program `solero_explain`: says what a refusal of class files means, why a section is not marked, and what happens in a run.
 #![tactic(auto)]
 
 ghost use Rattle.std.specs.Prelude.{◌≡◌, ◌≢◌};
@@ -8,6 +8,7 @@ mod command;
 mod delivery;
 mod program;
 mod request;
+mod run_status;
 
 use answer::Due;
 use host_io::adapters::{FileShelf, OutputSink};

@@ -9,7 +9,9 @@ ghost use Rattle.refusal_places.specs.declared.facts.Form.TheVariants.{Json};
 ghost use Rattle.solero_explain.specs.Answer.{AreAccepted, IsDue, IsTold, accepted_text as the_accepted_text, name_at as the_name_at};
 ghost use Rattle.solero_explain.specs.Command.{Asked, command};
 ghost use Rattle.solero_explain.specs.Delivery.{Delivers};
-ghost use Rattle.solero_explain.specs.Parts.{IsDueToFiles, IsExplained, IsUnreadDue};
+ghost use Rattle.class_runner.specs.Loading.{IsLoaded};
+ghost use Rattle.solero_explain.specs.Parts.{IsDueOf, IsExplained, IsFound, IsFoundIn, IsRunTold, IsUnreadDue, IsWork};
+ghost use Rattle.solero_explain.specs.Tracing.{IsAnswered};
 ghost use Rattle.solero_explain.specs.Requests.{asked_by};
 ghost use Rattle.solero_explain.specs.declared.answer.Due.{Due as TheDue};
 
@@ -17,21 +19,35 @@ use crate::answer::Due;
 use crate::command::read_words;
 use crate::delivery::deliver;
 use crate::request::{Request, What};
+use crate::run_status::status_of_run;
 use checked_program::Checked;
 use class_runner::{FileError, load_program};
+use field_names::field_names;
 use host_io::files::{Unread, read_files};
 use host_io::shelf::{Shelf, ShelfError};
 use host_io::sink::Sink;
 use json_lines::write_text_member;
 use jvm_types::limits::MOST_FILE_BYTES;
 use jvm_types::{Bytes, CRule, Place, Rows, Rule, in_file};
+use mark_reasons::marks_explained;
 use refusal_places::{Form, explained_refusal};
 use run_texts::unread_file;
+use run_trace::{TraceError, explain_run};
 use std::alloc::{AllocError, Global};
 
+/// What was found to be done.
+#[derive(Drop)]
+enum Work {
+    /// A text is due.
+    Due(Due),
+    /// The run of a program is to be told, with the names of its fields.
+    Run(Request, Checked, Rows<Bytes>),
+}
+
 /// Explains what the words ask for: reads the files from the shelf, in order, loads them, and writes to the sink what is to be
-/// told of them. Files that `solero` refuses are refused by the same rule, at the same place, with the names of that place. It answers
-/// the status that the process ends with.
+/// told of them: a refusal, the marks of the sections with their reasons, or a run, event by event, as it goes. Files that `solero`
+/// refuses are refused by the same rule, at the same place, with the names of that place. It answers the status that the process
+/// ends with: of a run that is told that of its report.
 pub fn top_explain<S: Shelf, K: Sink>(
     alloc: Global,
     words: &Vec<String>,
@@ -39,14 +55,13 @@ pub fn top_explain<S: Shelf, K: Sink>(
     sink: &mut K,
 ) -> u8
     // What the words and the files are owed is written, and answered by its status.
-    ensures answer { (due : TheDue)
-        × IsDue (command (texts words.now.items)) (S.files shelf.old) (S.unreadable shelf.old) (S.faults shelf.old) (S.faults shelf.new) due
-        × Delivers (K.text sink.old) (K.text sink.new) (K.faults sink.old) (K.faults sink.new) due result }
+    ensures answer { IsAnswered (command (texts words.now.items)) (S.files shelf.old) (S.unreadable shelf.old) (S.faults shelf.old) (S.faults shelf.new)
+        (K.text sink.old) (K.text sink.new) (K.faults sink.old) (K.faults sink.new) result }
     ensures files { S.files shelf.new ≡ S.files shelf.old }
     ensures unreadable { S.unreadable shelf.new ≡ S.unreadable shelf.old }
 
-    // Each status comes for its cause, and a fault of the sink goes before all.
-    ensures status { result ≤ 6 }
+    // Each status comes for its cause, and a fault of the sink goes before all but want of memory.
+    ensures status { result ≤ 7 }
     ensures words_read { result ≡ 2 → command (texts words.now.items) ≡ None }
     ensures words_not_read { command (texts words.now.items) ≡ None → (result ≡ 2) ⊎ ((result ≡ 5) ⊎ (result ≡ 6)) }
     // Files that all rules let pass are not refused, whatever is to be told of them.
@@ -59,36 +74,85 @@ pub fn top_explain<S: Shelf, K: Sink>(
     ensures shelf_failed { result ≡ 4 → CountsFault (S.faults shelf.old) (S.faults shelf.new) }
     ensures shelf_fault { S.faults shelf.old < S.faults shelf.new → (4 ≤ result) × (result ≤ 6) }
     ensures sink_failed { result ≡ 5 → CountsFault (K.faults sink.old) (K.faults sink.new) }
-    ensures sink_fault { K.faults sink.old < K.faults sink.new → result ≡ 5 }
+    ensures sink_fault { K.faults sink.old < K.faults sink.new → (result ≡ 5) ⊎ (result ≡ 6) }
 {
-    let due = work(alloc, words, shelf);
-    deliver(sink, &due)
+    match work(alloc, words, shelf) {
+        Work::Due(due) => deliver(sink, &due),
+        Work::Run(request, checked, names) => traced(alloc, &request, &checked, &names, sink),
+    }
 }
 
-// What is due to the words.
-fn work<S: Shelf>(alloc: Global, words: &Vec<String>, shelf: &mut S) -> Due
-    ensures due { IsDue (command (texts words.now.items)) (S.files shelf.old) (S.unreadable shelf.old)
+/// What was found in the files.
+#[derive(Drop)]
+enum Found {
+    /// A text is due.
+    Due(Due),
+    /// A program whose run is to be told, with the names of its fields.
+    Program(Checked, Rows<Bytes>),
+}
+
+// The run is told.
+fn traced<K: Sink>(
+    alloc: Global,
+    request: &Request,
+    checked: &Checked,
+    names: &Rows<Bytes>,
+    sink: &mut K,
+) -> u8
+    ensures { IsRunTold checked.now (asked_by request.now) names.now (K.text sink.old) (K.text sink.new) (K.faults sink.old) (K.faults sink.new) result }
+{
+    match explain_run(
+        alloc,
+        checked,
+        &request.cfg,
+        &request.order,
+        names,
+        request.part,
+        sink,
+    ) {
+        Ok(outcome) => status_of_run(&outcome),
+        Err(TraceError::Failed) => 5,
+        Err(TraceError::Memory) => 6,
+    }
+}
+
+// What is to be done for the words.
+fn work<S: Shelf>(alloc: Global, words: &Vec<String>, shelf: &mut S) -> Work
+    ensures work { IsWork (command (texts words.now.items)) (S.files shelf.old) (S.unreadable shelf.old)
         (S.faults shelf.old) (S.faults shelf.new) result }
     ensures files { S.files shelf.new ≡ S.files shelf.old }
     ensures unreadable { S.unreadable shelf.new ≡ S.unreadable shelf.old }
 {
     match read_words(alloc, words.as_slice()) {
-        Ok(Some(request)) => work_on(alloc, &request, shelf),
-        Ok(None) => Due::Usage,
-        Err(AllocError) => Due::OutOfMemory,
+        Ok(Some(request)) => work_on(alloc, request, shelf),
+        Ok(None) => Work::Due(Due::Usage),
+        Err(AllocError) => Work::Due(Due::OutOfMemory),
     }
 }
 
-// What is due to the files that are asked for.
-fn work_on<S: Shelf>(alloc: Global, request: &Request, shelf: &mut S) -> Due
-    ensures due { IsDue (Some (asked_by request.now)) (S.files shelf.old) (S.unreadable shelf.old)
+// What is to be done for a request.
+fn work_on<S: Shelf>(alloc: Global, request: Request, shelf: &mut S) -> Work
+    ensures work { IsWork (Some (asked_by request)) (S.files shelf.old) (S.unreadable shelf.old)
+        (S.faults shelf.old) (S.faults shelf.new) result }
+    ensures files { S.files shelf.new ≡ S.files shelf.old }
+    ensures unreadable { S.unreadable shelf.new ≡ S.unreadable shelf.old }
+{
+    match found(alloc, &request, shelf) {
+        Found::Due(due) => Work::Due(due),
+        Found::Program(checked, names) => Work::Run(request, checked, names),
+    }
+}
+
+// What is found in the files that are asked for.
+fn found<S: Shelf>(alloc: Global, request: &Request, shelf: &mut S) -> Found
+    ensures found { IsFound (S.files shelf.old) (S.unreadable shelf.old) (asked_by request.now)
         (S.faults shelf.old) (S.faults shelf.new) result }
     ensures files { S.files shelf.new ≡ S.files shelf.old }
     ensures unreadable { S.unreadable shelf.new ≡ S.unreadable shelf.old }
 {
     match read_files(alloc, request.files.as_slice(), shelf) {
-        Ok(contents) => told_files(alloc, request, &contents),
-        Err(unread) => not_read(alloc, request, unread),
+        Ok(contents) => found_in(alloc, request, &contents),
+        Err(unread) => Found::Due(not_read(alloc, request, unread)),
     }
 }
 
@@ -146,32 +210,44 @@ fn explained(
     }
 }
 
-// What is due to the contents of the files, none of which is too long.
-fn told_files(alloc: Global, request: &Request, contents: &Rows<Bytes>) -> Due
+// What is found in the contents of the files, none of which is too long.
+fn found_in(alloc: Global, request: &Request, contents: &Rows<Bytes>) -> Found
     requires few { are_few (length contents.now) ≡ true }
     requires short { first_long 0 contents.now ≡ None }
-    ensures { IsDueToFiles (asked_by request.now) contents.now result }
+    ensures { IsFoundIn (asked_by request.now) contents.now result }
 {
     match load_program(alloc, contents, request.heap, request.threads) {
-        Ok(checked) => match told(alloc, request, &checked) {
-            Ok(text) => Due::Told(text),
-            Err(AllocError) => Due::OutOfMemory,
-        },
+        Ok(checked) => found_of(alloc, request, contents, checked),
         Err(FileError::Refused(rule, place)) => {
             let content = contents.get(usize::from(place.file));
-            explained(alloc, request, rule, place, content)
+            Found::Due(explained(alloc, request, rule, place, content))
         }
-        Err(FileError::Memory) => Due::OutOfMemory,
+        Err(FileError::Memory) => Found::Due(Due::OutOfMemory),
     }
 }
 
-// What is told of a program.
-fn told(alloc: Global, request: &Request, checked: &Checked) -> Result<Bytes, AllocError>
-    ensures { IfOk result (λ text. IsTold request.now.what request.now.form checked.now text) }
+// What is found where the files are loaded to a program.
+fn found_of(alloc: Global, request: &Request, contents: &Rows<Bytes>, checked: Checked) -> Found
+    requires { IsLoaded contents.now request.now.heap request.now.threads checked }
+    ensures { IsFoundIn (asked_by request.now) contents.now result }
 {
-    let _program = checked.program();
     match request.what {
-        What::Refusal => accepted_text(alloc, request.form),
+        What::Run => match field_names(alloc, contents) {
+            Ok(names) => Found::Program(checked, names),
+            Err(AllocError) => Found::Due(Due::OutOfMemory),
+        },
+        What::Refusal => Found::Due(due_of(accepted_text(alloc, request.form))),
+        What::Marks => Found::Due(due_of(marks_explained(alloc, &checked))),
+    }
+}
+
+// A text that is told, or want of memory.
+fn due_of(text: Result<Bytes, AllocError>) -> Due
+    ensures { IsDueOf text result }
+{
+    match text {
+        Ok(text) => Due::Told(text),
+        Err(AllocError) => Due::OutOfMemory,
     }
 }
 

@@ -4,12 +4,17 @@ ghost use Rattle.solero_explain.specs.Bounds.{AreInBounds};
 use jvm_types::Bytes;
 use machine_types::Config;
 use refusal_places::Form;
+use run_trace::Part;
 
 /// What is to be explained.
 #[derive(Clone, Copy, Debug, PartialEq, Eq)]
 pub enum What {
     /// Which rule refuses the files, and where.
     Refusal,
+    /// The marks of the program's sections, and why a section isn't marked M0; in lines alone.
+    Marks,
+    /// What happens in a run, event by event; in lines alone.
+    Run,
 }
 
 /// What the words of the command ask for.
@@ -29,5 +34,7 @@ pub struct Request {
     pub cfg: Config,
     /// The workers that make the next steps, each a number from 1 to 8.
     pub order: Bytes,
-    ghost bounds: { AreInBounds (length files.items) threads heap cfg },
+    /// The lines of the run that are told.
+    pub part: Part,
+    ghost bounds: { AreInBounds what form (length files.items) threads heap cfg },
 }

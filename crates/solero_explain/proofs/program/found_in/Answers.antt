@@ -1,6 +1,6 @@
 use Rattle.solero_explain.proofs.Owed.{refused_files}
 use Rattle.solero_explain.specs.Requests.{asked_by}
-use Rattle.solero_explain.proofs.program.told_files.Goals as goal
+use Rattle.solero_explain.proofs.program.found_in.Goals as goal
 
 pub returns-in-Err-Refused : goal.returns-in-Err-Refused
 returns-in-Err-Refused c =

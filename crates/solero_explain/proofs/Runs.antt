@@ -1,0 +1,110 @@
+-- What is answered where a run is told.
+use Rattle.std.proofs.Common.{◌≡◌, ◌≢◌, ℕ, ◌-◌, ◌<◌, ◌≤◌, ◌^◌, Bool, true, false, List, Option, Some, None, Result, Ok, Err, inl, inr, refl, sym, ◌∙◌, arith}
+use Rattle.std.specs.Prelude.{◌⊎◌, if◌then◌else◌}
+use Rattle.checked_program.specs.MarkedProgram.{MarkedProgram}
+use Rattle.class_runner.proofs.LoadedOnce.{accepted}
+use Rattle.host_io.proofs.SoFar.{none_long}
+use Rattle.host_io.specs.Faults.{CountsFault}
+use Rattle.host_io.specs.declared.shelf.NamedFile.{NamedFile}
+use Rattle.jvm_types.specs.declared.outcome.Outcome.{Outcome}
+use Rattle.run_trace.specs.Traces.{IsTraced}
+use Rattle.run_trace.specs.declared.traces.TraceError.{TraceError}
+use Rattle.run_trace.specs.declared.traces.TraceError.TheVariants.{Memory, Failed}
+use Rattle.solero_explain.specs.Answer.{AreAccepted, RunsFiles}
+use Rattle.solero_explain.specs.Command.{Asked}
+use Rattle.solero_explain.specs.Parts.{IsRunTold, IsWork}
+use Rattle.solero_explain.specs.Requests.{asked_by}
+use Rattle.solero_explain.specs.Tracing.{IsAnswered, is_limit, is_uncaught, some_end, status_of_run, status_of_trace}
+use Rattle.solero_explain.specs.declared.program.Work.TheVariants as works
+use Rattle.solero_explain.specs.declared.request.Request.{Request}
+
+-- ---- statuses
+
+-- the status of a run is 0, 1 or 7
+record IsRunStatus (n : ℕ) : Type 0 where
+  few : n ≤ 7
+  two : n ≢ 2
+  three : n ≢ 3
+  four : n ≢ 4
+  five : n ≢ 5
+
+by_tests : (a b : Bool) → IsRunStatus (if a then 7 else if b then 1 else 0)
+by_tests true b = record { few = omega arith; two = λ e. omega (arith, e); three = λ e. omega (arith, e); four = λ e. omega (arith, e); five = λ e. omega (arith, e) }
+by_tests false true = record { few = omega arith; two = λ e. omega (arith, e); three = λ e. omega (arith, e); four = λ e. omega (arith, e); five = λ e. omega (arith, e) }
+by_tests false false = record { few = omega arith; two = λ e. omega (arith, e); three = λ e. omega (arith, e); four = λ e. omega (arith, e); five = λ e. omega (arith, e) }
+
+run_status : (o : Outcome) → IsRunStatus (status_of_run o)
+unfolding status_of_run
+run_status o = by_tests (some_end is_limit o) (some_end is_uncaught o)
+
+trace_few : (came : Result Outcome TraceError) → status_of_trace came ≤ 7
+trace_few (Ok o) = (run_status o).few
+trace_few (Err Failed) = omega arith
+trace_few (Err Memory) = omega arith
+
+trace_two : (came : Result Outcome TraceError) → status_of_trace came ≢ 2
+trace_two (Ok o) e = (run_status o).two e
+trace_two (Err Failed) e = omega (arith, e)
+trace_two (Err Memory) e = omega (arith, e)
+
+trace_three : (came : Result Outcome TraceError) → status_of_trace came ≢ 3
+trace_three (Ok o) e = (run_status o).three e
+trace_three (Err Failed) e = omega (arith, e)
+trace_three (Err Memory) e = omega (arith, e)
+
+trace_four : (came : Result Outcome TraceError) → status_of_trace came ≢ 4
+trace_four (Ok o) e = (run_status o).four e
+trace_four (Err Failed) e = omega (arith, e)
+trace_four (Err Memory) e = omega (arith, e)
+
+-- ---- the clauses, where a run is told
+
+pub run_answered : (asked : Option Asked) (files : Option (List NamedFile)) (unreadable : Option (List ℕ → Bool)) (before after : ℕ) (r : Request) (c : MarkedProgram) (names : List (List ℕ)) (told now : Option (List ℕ)) (from to status : ℕ)
+    → IsWork asked files unreadable before after (works.Run r c names) → IsRunTold c (asked_by r) names told now from to status → IsAnswered asked files unreadable before after told now from to status
+run_answered None files unreadable before after r c names told now from to status work run = absurd work
+run_answered (Some asked) files unreadable before after r c names told now from to status work run =
+    inr (work.1, record { checked = c; names = names; runs = work.2; came = run.0; traced = rw work.0 run.1; answered = run.2 })
+
+pub run_few : (c : MarkedProgram) (asked : Asked) (names : List (List ℕ)) (told now : Option (List ℕ)) (from to status : ℕ) → IsRunTold c asked names told now from to status → status ≤ 7
+run_few c asked names told now from to status run = rw run.2 (trace_few run.0)
+
+pub run_not_two : (c : MarkedProgram) (asked : Asked) (names : List (List ℕ)) (told now : Option (List ℕ)) (from to status : ℕ) → IsRunTold c asked names told now from to status → status ≢ 2
+run_not_two c asked names told now from to status run two = trace_two run.0 (sym run.2 ∙ two)
+
+pub run_not_three : (c : MarkedProgram) (asked : Asked) (names : List (List ℕ)) (told now : Option (List ℕ)) (from to status : ℕ) → IsRunTold c asked names told now from to status → status ≢ 3
+run_not_three c asked names told now from to status run three = trace_three run.0 (sym run.2 ∙ three)
+
+pub run_not_four : (c : MarkedProgram) (asked : Asked) (names : List (List ℕ)) (told now : Option (List ℕ)) (from to status : ℕ) → IsRunTold c asked names told now from to status → status ≢ 4
+run_not_four c asked names told now from to status run four = trace_four run.0 (sym run.2 ∙ four)
+
+pub run_is_read : (asked : Option Asked) (files : Option (List NamedFile)) (unreadable : Option (List ℕ → Bool)) (before after : ℕ) (r : Request) (c : MarkedProgram) (names : List (List ℕ)) → IsWork asked files unreadable before after (works.Run r c names) → asked ≡ None → ⊥
+run_is_read None files unreadable before after r c names work none = work
+run_is_read (Some asked) files unreadable before after r c names work none = cc
+
+pub run_is_calm : (asked : Option Asked) (files : Option (List NamedFile)) (unreadable : Option (List ℕ → Bool)) (before after : ℕ) (r : Request) (c : MarkedProgram) (names : List (List ℕ)) → IsWork asked files unreadable before after (works.Run r c names) → before < after → ⊥
+run_is_calm None files unreadable before after r c names work rose = work
+run_is_calm (Some asked) files unreadable before after r c names work rose = omega (arith, work.1, rose)
+
+-- a run is that of accepted files
+pub run_accepted : (asked : Asked) (files : List NamedFile) (unreadable : Option (List ℕ → Bool)) (before after : ℕ) (r : Request) (c : MarkedProgram) (names : List (List ℕ)) → IsWork (Some asked) (Some files) unreadable before after (works.Run r c names) → AreAccepted files asked
+run_accepted asked files unreadable before after r c names work =
+    let t = work.2 in
+    let short = none_long 0 t.contents t.short in
+    let taken = accepted t.contents asked.heap asked.threads c t.run.loaded in
+    (rw t.are at short, rw t.are at taken)
+
+by_came_failed : (c : MarkedProgram) (asked : Asked) (names : List (List ℕ)) (told now : Option (List ℕ)) (from to : ℕ) (came : Result Outcome TraceError) → IsTraced c asked.cfg asked.order names asked.part told now from to came → status_of_trace came ≡ 5 → CountsFault from to
+by_came_failed c asked names told now from to (Ok o) traced five = absurd ((run_status o).five five)
+by_came_failed c asked names told now from to (Err Failed) traced five = traced
+by_came_failed c asked names told now from to (Err Memory) traced five = omega (arith, five)
+
+pub run_sink_failed : (c : MarkedProgram) (asked : Asked) (names : List (List ℕ)) (told now : Option (List ℕ)) (from to status : ℕ) → IsRunTold c asked names told now from to status → status ≡ 5 → CountsFault from to
+run_sink_failed c asked names told now from to status run five = by_came_failed c asked names told now from to run.0 run.1 (sym run.2 ∙ five)
+
+by_came_fault : (c : MarkedProgram) (asked : Asked) (names : List (List ℕ)) (told now : Option (List ℕ)) (from to : ℕ) (came : Result Outcome TraceError) → IsTraced c asked.cfg asked.order names asked.part told now from to came → from < to → (status_of_trace came ≡ 5) ⊎ (status_of_trace came ≡ 6)
+by_came_fault c asked names told now from to (Ok o) traced rose = omega (arith, traced.calm, rose)
+by_came_fault c asked names told now from to (Err Failed) traced rose = inl refl
+by_came_fault c asked names told now from to (Err Memory) traced rose = inr refl
+
+pub run_sink_fault : (c : MarkedProgram) (asked : Asked) (names : List (List ℕ)) (told now : Option (List ℕ)) (from to status : ℕ) → IsRunTold c asked names told now from to status → from < to → (status ≡ 5) ⊎ (status ≡ 6)
+run_sink_fault c asked names told now from to status run rose = rw run.2 (by_came_fault c asked names told now from to run.0 run.1 rose)

@@ -1,0 +1,62 @@
+-- What is answered where a run is told.
+use Rattle.std.specs.Prelude.{◌≡◌, ◌⊎◌, ℕ, Bool, true, false, ◌||◌, List, Option, Some, None, Result, Ok, Err, if◌then◌else◌}
+use Rattle.std.specs.List.{list_any}
+use Rattle.checked_program.specs.MarkedProgram.{MarkedProgram}
+use Rattle.host_io.specs.declared.shelf.NamedFile.{NamedFile}
+use Rattle.jvm_types.specs.declared.outcome.End.{End}
+use Rattle.jvm_types.specs.declared.outcome.End.TheVariants as ends
+use Rattle.jvm_types.specs.declared.outcome.Outcome.{Outcome}
+use Rattle.run_trace.specs.Traces.{IsTraced}
+use Rattle.run_trace.specs.declared.traces.TraceError.{TraceError}
+use Rattle.run_trace.specs.declared.traces.TraceError.TheVariants.{Memory, Failed}
+use Rattle.solero_explain.specs.Answer.{IsDue, RunsFiles}
+use Rattle.solero_explain.specs.Command.{Asked}
+use Rattle.solero_explain.specs.Delivery.{Delivers}
+use Rattle.solero_explain.specs.declared.answer.Due.{Due}
+
+-- ---- the status of a run, as `solero` has it: a limit goes before an exception
+
+abbrev pub is_limit : End → Bool
+is_limit ends.Steps = true
+is_limit ends.Turns = true
+is_limit ends.Records = true
+is_limit ends.Prints = true
+is_limit end = false
+
+abbrev pub is_uncaught : End → Bool
+is_uncaught (ends.Uncaught x) = true
+is_uncaught end = false
+
+abbrev pub some_end : (End → Bool) → Outcome → Bool
+some_end test o = list_any (λ t. test t.end) o.threads || test o.done
+
+unfoldable pub status_of_run : Outcome → ℕ
+status_of_run o = if some_end is_limit o then 7 else if some_end is_uncaught o then 1 else 0
+
+-- ---- the trace
+
+-- where there is no memory, a front of it may have been written
+abbrev pub status_of_trace : Result Outcome TraceError → ℕ
+status_of_trace (Ok o) = status_of_run o
+status_of_trace (Err Failed) = 5
+status_of_trace (Err Memory) = 6
+
+-- the run of the program is told, as far as it is, and this is answered
+pub record Traces (files : Option (List NamedFile)) (asked : Asked) (told now : Option (List ℕ)) (before after status : ℕ) : Type 0 where
+  pub checked : MarkedProgram
+  pub names : List (List ℕ)
+  pub runs : RunsFiles files asked checked names
+  pub came : Result Outcome TraceError
+  pub traced : IsTraced checked asked.cfg asked.order names asked.part told now before after came
+  pub answered : status ≡ status_of_trace came
+
+-- the words ask for the run, and the shelf's count of faults goes from before to after
+abbrev pub IsTraceAnswer : Option Asked → Option (List NamedFile) → (before after : ℕ) → (told now : Option (List ℕ)) → (from to status : ℕ) → Type 0
+IsTraceAnswer None files before after told now from to status = ⊥
+IsTraceAnswer (Some asked) files before after told now from to status = (after ≡ before) × Traces files asked told now from to status
+
+-- what is due is delivered, or the run is told
+abbrev pub IsAnswered : Option Asked → Option (List NamedFile) → Option (List ℕ → Bool) → (before after : ℕ) → (told now : Option (List ℕ)) → (from to status : ℕ) → Type 0
+IsAnswered asked files unreadable before after told now from to status =
+    ((due : Due) × IsDue asked files unreadable before after due × Delivers told now from to due status)
+    ⊎ IsTraceAnswer asked files before after told now from to status
