@@ -1,6 +1,6 @@
 -- What is answered where a run is told.
-use Rattle.std.proofs.Common.{◌≡◌, ◌≢◌, ℕ, ◌-◌, ◌<◌, ◌≤◌, ◌^◌, Bool, true, false, List, Option, Some, None, Result, Ok, Err, inl, inr, refl, sym, ◌∙◌, arith}
-use Rattle.std.specs.Prelude.{◌⊎◌, if◌then◌else◌}
+use Rattle.std.proofs.Common.{◌≡◌, ◌≢◌, ℕ, ◌-◌, ◌<◌, ◌≤◌, ◌^◌, Bool, true, false, List, Option, Some, None, Result, Ok, Err, inr, refl, sym, ◌∙◌, arith}
+use Rattle.std.specs.Prelude.{if◌then◌else◌}
 use Rattle.checked_program.specs.MarkedProgram.{MarkedProgram}
 use Rattle.class_runner.proofs.LoadedOnce.{accepted}
 use Rattle.host_io.proofs.SoFar.{none_long}
@@ -101,10 +101,10 @@ by_came_failed c asked names told now from to (Err Memory) traced five = omega (
 pub run_sink_failed : (c : MarkedProgram) (asked : Asked) (names : List (List ℕ)) (told now : Option (List ℕ)) (from to status : ℕ) → IsRunTold c asked names told now from to status → status ≡ 5 → CountsFault from to
 run_sink_failed c asked names told now from to status run five = by_came_failed c asked names told now from to run.0 run.1 (sym run.2 ∙ five)
 
-by_came_fault : (c : MarkedProgram) (asked : Asked) (names : List (List ℕ)) (told now : Option (List ℕ)) (from to : ℕ) (came : Result Outcome TraceError) → IsTraced c asked.cfg asked.order names asked.part told now from to came → from < to → (status_of_trace came ≡ 5) ⊎ (status_of_trace came ≡ 6)
+by_came_fault : (c : MarkedProgram) (asked : Asked) (names : List (List ℕ)) (told now : Option (List ℕ)) (from to : ℕ) (came : Result Outcome TraceError) → IsTraced c asked.cfg asked.order names asked.part told now from to came → from < to → status_of_trace came ≡ 5
 by_came_fault c asked names told now from to (Ok o) traced rose = omega (arith, traced.calm, rose)
-by_came_fault c asked names told now from to (Err Failed) traced rose = inl refl
-by_came_fault c asked names told now from to (Err Memory) traced rose = inr refl
+by_came_fault c asked names told now from to (Err Failed) traced rose = refl
+by_came_fault c asked names told now from to (Err Memory) traced rose = omega (arith, traced, rose)
 
-pub run_sink_fault : (c : MarkedProgram) (asked : Asked) (names : List (List ℕ)) (told now : Option (List ℕ)) (from to status : ℕ) → IsRunTold c asked names told now from to status → from < to → (status ≡ 5) ⊎ (status ≡ 6)
-run_sink_fault c asked names told now from to status run rose = rw run.2 (by_came_fault c asked names told now from to run.0 run.1 rose)
+pub run_sink_fault : (c : MarkedProgram) (asked : Asked) (names : List (List ℕ)) (told now : Option (List ℕ)) (from to status : ℕ) → IsRunTold c asked names told now from to status → from < to → status ≡ 5
+run_sink_fault c asked names told now from to status run rose = run.2 ∙ by_came_fault c asked names told now from to run.0 run.1 rose

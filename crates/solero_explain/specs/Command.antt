@@ -1,5 +1,5 @@
 -- What the words of `solero_explain` mean: those of a run, which `solero` has too, with what is to be explained, and in which form.
-use Rattle.std.specs.Prelude.{ℕ, Bool, true, false, ◌&&◌, not, List, [], ◌∷◌, length, codes, bytes_eq, Option, Some, None, if◌then◌else◌}
+use Rattle.std.specs.Prelude.{ℕ, Bool, true, false, ◌||◌, not, List, [], ◌∷◌, length, codes, bytes_eq, Option, Some, None, if◌then◌else◌}
 use Rattle.clap.specs.Walk.{Row, Text, first_of}
 use Rattle.clap.specs.Simple.{App, new_rule, with_rule}
 use Rattle.clap.specs.declared.builder.action.ArgAction.TheVariants.{SetTrue}
@@ -78,9 +78,7 @@ asked rows = do
   order ← order_of rows
   from ← number_or 1 1 MOST_LIMIT (first_of (codes "from") rows)
   events ← number_or MOST_LIMIT 1 MOST_LIMIT (first_of (codes "events") rows)
-  if is_told_in what (form_of (first_of (codes "json") rows)) && not (gives_any rows (not_read what))
-  then Some (record { what = what; form = form_of (first_of (codes "json") rows); files = files; threads = threads; heap = heap; cfg = cfg; order = order; part = part_of from events })
-  else None
+  if not (is_told_in what (form_of (first_of (codes "json") rows))) || gives_any rows (not_read what) then None else Some (record { what = what; form = form_of (first_of (codes "json") rows); files = files; threads = threads; heap = heap; cfg = cfg; order = order; part = part_of from events })
 
 -- what the words ask for; None where they are not read
 unfoldable pub command : List Text → Option Asked

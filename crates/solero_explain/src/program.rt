@@ -60,7 +60,7 @@ pub fn top_explain<S: Shelf, K: Sink>(
     ensures files { S.files shelf.new ≡ S.files shelf.old }
     ensures unreadable { S.unreadable shelf.new ≡ S.unreadable shelf.old }
 
-    // Each status comes for its cause, and a fault of the sink goes before all but want of memory.
+    // Each status comes for its cause, and a fault of the sink goes before all.
     ensures status { result ≤ 7 }
     ensures words_read { result ≡ 2 → command (texts words.now.items) ≡ None }
     ensures words_not_read { command (texts words.now.items) ≡ None → (result ≡ 2) ⊎ ((result ≡ 5) ⊎ (result ≡ 6)) }
@@ -74,9 +74,9 @@ pub fn top_explain<S: Shelf, K: Sink>(
     ensures shelf_failed { result ≡ 4 → CountsFault (S.faults shelf.old) (S.faults shelf.new) }
     ensures shelf_fault { S.faults shelf.old < S.faults shelf.new → (4 ≤ result) × (result ≤ 6) }
     ensures sink_failed { result ≡ 5 → CountsFault (K.faults sink.old) (K.faults sink.new) }
-    ensures sink_fault { K.faults sink.old < K.faults sink.new → (result ≡ 5) ⊎ (result ≡ 6) }
+    ensures sink_fault { K.faults sink.old < K.faults sink.new → result ≡ 5 }
 {
-    match work(alloc, words, shelf) {
+    match work_for(alloc, words, shelf) {
         Work::Due(due) => deliver(sink, &due),
         Work::Run(request, checked, names) => traced(alloc, &request, &checked, &names, sink),
     }
@@ -117,7 +117,7 @@ fn traced<K: Sink>(
 }
 
 // What is to be done for the words.
-fn work<S: Shelf>(alloc: Global, words: &Vec<String>, shelf: &mut S) -> Work
+fn work_for<S: Shelf>(alloc: Global, words: &Vec<String>, shelf: &mut S) -> Work
     ensures work { IsWork (command (texts words.now.items)) (S.files shelf.old) (S.unreadable shelf.old)
         (S.faults shelf.old) (S.faults shelf.new) result }
     ensures files { S.files shelf.new ≡ S.files shelf.old }
@@ -137,14 +137,14 @@ fn work_on<S: Shelf>(alloc: Global, request: Request, shelf: &mut S) -> Work
     ensures files { S.files shelf.new ≡ S.files shelf.old }
     ensures unreadable { S.unreadable shelf.new ≡ S.unreadable shelf.old }
 {
-    match found(alloc, &request, shelf) {
+    match find(alloc, &request, shelf) {
         Found::Due(due) => Work::Due(due),
         Found::Program(checked, names) => Work::Run(request, checked, names),
     }
 }
 
 // What is found in the files that are asked for.
-fn found<S: Shelf>(alloc: Global, request: &Request, shelf: &mut S) -> Found
+fn find<S: Shelf>(alloc: Global, request: &Request, shelf: &mut S) -> Found
     ensures found { IsFound (S.files shelf.old) (S.unreadable shelf.old) (asked_by request.now)
         (S.faults shelf.old) (S.faults shelf.new) result }
     ensures files { S.files shelf.new ≡ S.files shelf.old }

@@ -3,7 +3,7 @@ use Rattle.command_words.specs.Words.{texts}
 use Rattle.host_io.proofs.SoFar.{none_long}
 use Rattle.solero_explain.proofs.Owed.{unread_due}
 use Rattle.solero_explain.specs.Requests.{asked_by}
-use Rattle.solero_explain.proofs.program.found.Goals as goal
+use Rattle.solero_explain.proofs.program.find.Goals as goal
 
 pub found_in-requires-clause-short : goal.found_in-requires-clause-short
 found_in-requires-clause-short g c = none_long 0 _ c.in-Ok.ensures.ok.short
