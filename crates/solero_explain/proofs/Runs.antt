@@ -7,7 +7,9 @@ use Rattle.host_io.proofs.SoFar.{none_long}
 use Rattle.host_io.specs.Faults.{CountsFault}
 use Rattle.host_io.specs.declared.shelf.NamedFile.{NamedFile}
 use Rattle.jvm_types.specs.declared.outcome.Outcome.{Outcome}
+use Rattle.machine_types.specs.declared.config.Config.{Config}
 use Rattle.run_trace.specs.Traces.{IsTraced}
+use Rattle.run_trace.specs.declared.events.Part.{Part}
 use Rattle.run_trace.specs.declared.traces.TraceError.{TraceError}
 use Rattle.run_trace.specs.declared.traces.TraceError.TheVariants.{Memory, Failed}
 use Rattle.solero_explain.specs.Answer.{AreAccepted, RunsFiles}
@@ -65,17 +67,17 @@ run_answered None files unreadable before after r c names told now from to statu
 run_answered (Some asked) files unreadable before after r c names told now from to status work run =
     inr (work.1, record { checked = c; names = names; runs = work.2; came = run.0; traced = rw work.0 run.1; answered = run.2 })
 
-pub run_few : (c : MarkedProgram) (asked : Asked) (names : List (List ℕ)) (told now : Option (List ℕ)) (from to status : ℕ) → IsRunTold c asked names told now from to status → status ≤ 7
-run_few c asked names told now from to status run = rw run.2 (trace_few run.0)
+pub run_few : (came : Result Outcome TraceError) (status : ℕ) → status ≡ status_of_trace came → status ≤ 7
+run_few came status is = rw is (trace_few came)
 
-pub run_not_two : (c : MarkedProgram) (asked : Asked) (names : List (List ℕ)) (told now : Option (List ℕ)) (from to status : ℕ) → IsRunTold c asked names told now from to status → status ≢ 2
-run_not_two c asked names told now from to status run two = trace_two run.0 (sym run.2 ∙ two)
+pub run_not_two : (came : Result Outcome TraceError) (status : ℕ) → status ≡ status_of_trace came → status ≢ 2
+run_not_two came status is two = trace_two came (sym is ∙ two)
 
-pub run_not_three : (c : MarkedProgram) (asked : Asked) (names : List (List ℕ)) (told now : Option (List ℕ)) (from to status : ℕ) → IsRunTold c asked names told now from to status → status ≢ 3
-run_not_three c asked names told now from to status run three = trace_three run.0 (sym run.2 ∙ three)
+pub run_not_three : (came : Result Outcome TraceError) (status : ℕ) → status ≡ status_of_trace came → status ≢ 3
+run_not_three came status is three = trace_three came (sym is ∙ three)
 
-pub run_not_four : (c : MarkedProgram) (asked : Asked) (names : List (List ℕ)) (told now : Option (List ℕ)) (from to status : ℕ) → IsRunTold c asked names told now from to status → status ≢ 4
-run_not_four c asked names told now from to status run four = trace_four run.0 (sym run.2 ∙ four)
+pub run_not_four : (came : Result Outcome TraceError) (status : ℕ) → status ≡ status_of_trace came → status ≢ 4
+run_not_four came status is four = trace_four came (sym is ∙ four)
 
 pub run_is_read : (asked : Option Asked) (files : Option (List NamedFile)) (unreadable : Option (List ℕ → Bool)) (before after : ℕ) (r : Request) (c : MarkedProgram) (names : List (List ℕ)) → IsWork asked files unreadable before after (works.Run r c names) → asked ≡ None → ⊥
 run_is_read None files unreadable before after r c names work none = work
@@ -86,25 +88,27 @@ run_is_calm None files unreadable before after r c names work rose = work
 run_is_calm (Some asked) files unreadable before after r c names work rose = omega (arith, work.1, rose)
 
 -- a run is that of accepted files
-pub run_accepted : (asked : Asked) (files : List NamedFile) (unreadable : Option (List ℕ → Bool)) (before after : ℕ) (r : Request) (c : MarkedProgram) (names : List (List ℕ)) → IsWork (Some asked) (Some files) unreadable before after (works.Run r c names) → AreAccepted files asked
-run_accepted asked files unreadable before after r c names work =
-    let t = work.2 in
+pub run_accepted : (asked : Asked) (files : List NamedFile) (c : MarkedProgram) (names : List (List ℕ)) → RunsFiles (Some files) asked c names → AreAccepted files asked
+run_accepted asked files c names t =
     let short = none_long 0 t.contents t.short in
     let taken = accepted t.contents asked.heap asked.threads c t.run.loaded in
     (rw t.are at short, rw t.are at taken)
 
-by_came_failed : (c : MarkedProgram) (asked : Asked) (names : List (List ℕ)) (told now : Option (List ℕ)) (from to : ℕ) (came : Result Outcome TraceError) → IsTraced c asked.cfg asked.order names asked.part told now from to came → status_of_trace came ≡ 5 → CountsFault from to
-by_came_failed c asked names told now from to (Ok o) traced five = absurd ((run_status o).five five)
-by_came_failed c asked names told now from to (Err Failed) traced five = traced
-by_came_failed c asked names told now from to (Err Memory) traced five = omega (arith, five)
+five_is_not_six : (n : ℕ) → n ≡ 5 → n ≡ 6 → ⊥
+five_is_not_six n five six = omega (arith, five, six)
 
-pub run_sink_failed : (c : MarkedProgram) (asked : Asked) (names : List (List ℕ)) (told now : Option (List ℕ)) (from to status : ℕ) → IsRunTold c asked names told now from to status → status ≡ 5 → CountsFault from to
-run_sink_failed c asked names told now from to status run five = by_came_failed c asked names told now from to run.0 run.1 (sym run.2 ∙ five)
+by_came_failed : (c : MarkedProgram) (cfg : Config) (order : List ℕ) (names : List (List ℕ)) (part : Part) (told now : Option (List ℕ)) (from to : ℕ) (came : Result Outcome TraceError) → IsTraced c cfg order names part told now from to came → status_of_trace came ≡ 5 → CountsFault from to
+by_came_failed c cfg order names part told now from to (Ok o) traced five = absurd ((run_status o).five five)
+by_came_failed c cfg order names part told now from to (Err Failed) traced five = traced
+by_came_failed c cfg order names part told now from to (Err Memory) traced five = absurd (five_is_not_six 6 five refl)
 
-by_came_fault : (c : MarkedProgram) (asked : Asked) (names : List (List ℕ)) (told now : Option (List ℕ)) (from to : ℕ) (came : Result Outcome TraceError) → IsTraced c asked.cfg asked.order names asked.part told now from to came → from < to → status_of_trace came ≡ 5
-by_came_fault c asked names told now from to (Ok o) traced rose = omega (arith, traced.calm, rose)
-by_came_fault c asked names told now from to (Err Failed) traced rose = refl
-by_came_fault c asked names told now from to (Err Memory) traced rose = omega (arith, traced, rose)
+pub run_sink_failed : (c : MarkedProgram) (cfg : Config) (order : List ℕ) (names : List (List ℕ)) (part : Part) (told now : Option (List ℕ)) (from to : ℕ) (came : Result Outcome TraceError) (status : ℕ) → IsTraced c cfg order names part told now from to came → status ≡ status_of_trace came → status ≡ 5 → CountsFault from to
+run_sink_failed c cfg order names part told now from to came status traced is five = by_came_failed c cfg order names part told now from to came traced (sym is ∙ five)
 
-pub run_sink_fault : (c : MarkedProgram) (asked : Asked) (names : List (List ℕ)) (told now : Option (List ℕ)) (from to status : ℕ) → IsRunTold c asked names told now from to status → from < to → status ≡ 5
-run_sink_fault c asked names told now from to status run rose = run.2 ∙ by_came_fault c asked names told now from to run.0 run.1 rose
+by_came_fault : (c : MarkedProgram) (cfg : Config) (order : List ℕ) (names : List (List ℕ)) (part : Part) (told now : Option (List ℕ)) (from to : ℕ) (came : Result Outcome TraceError) → IsTraced c cfg order names part told now from to came → from < to → status_of_trace came ≡ 5
+by_came_fault c cfg order names part told now from to (Ok o) traced rose = omega (arith, traced.calm, rose)
+by_came_fault c cfg order names part told now from to (Err Failed) traced rose = refl
+by_came_fault c cfg order names part told now from to (Err Memory) traced rose = omega (arith, traced, rose)
+
+pub run_sink_fault : (c : MarkedProgram) (cfg : Config) (order : List ℕ) (names : List (List ℕ)) (part : Part) (told now : Option (List ℕ)) (from to : ℕ) (came : Result Outcome TraceError) (status : ℕ) → IsTraced c cfg order names part told now from to came → status ≡ status_of_trace came → from < to → status ≡ 5
+run_sink_fault c cfg order names part told now from to came status traced is rose = is ∙ by_came_fault c cfg order names part told now from to came traced rose
