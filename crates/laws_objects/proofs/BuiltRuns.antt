@@ -1,6 +1,7 @@
 -- Every state that a run reaches is as construction says, and an object that is lost in one is so in all that follow.
 use Rattle.std.proofs.Common.{◌≡◌, ℕ, inl, Bool, true, false, List, [], ◌∷◌, ◌++◌, length, Option, Some, None, refl, sym, ap, ◌∙◌, subst}
 use Rattle.std.specs.Prelude.{◌==◌, if◌then◌else◌, slice_get, slice_index}
+use Rattle.std.proofs.lemmas.Bool.{eq-eqb, eqb-true}
 use Rattle.jvm_types.specs.declared.fixed_words.TheConstants.{NEXT_FREE_WORD}
 use Rattle.checked_program.specs.FrozenPlaces.{IsFrozenClass}
 use Rattle.checked_program.specs.MarkedProgram.{MarkedProgram, IsMarked}
@@ -33,7 +34,7 @@ use Rattle.laws_objects.proofs.LosingInits.{losing_here, leaves_lost}
 use Rattle.laws_objects.proofs.LostObjects.{LostIn}
 use Rattle.laws_objects.proofs.PartBegins.{next_builds}
 use Rattle.laws_objects.proofs.Unused.{lost_strange, uses_not, places_have_not}
-use Rattle.laws_objects.proofs.WorldChanges.{same_to, same_from, lost}
+use Rattle.laws_objects.proofs.WorldChanges.{lost}
 
 -- ---- a test that tells a frozen class
 
@@ -53,11 +54,11 @@ told c frozen are class is = record {
     with_frozen = λ fi k. also k.field.class (k.field.class == class) (are.with_frozen fi k);
     with_guarded = λ fi k. also k.field.class (k.field.class == class) (are.with_guarded fi k);
   };
-  tells = ap (λ (b : Bool). if b then true else frozen class) (same_to class class refl);
+  tells = ap (λ (b : Bool). if b then true else frozen class) (eq-eqb class class refl);
 }
   where
     those : (d : ℕ) (b : Bool) → (d == class) ≡ b → (if b then true else frozen d) ≡ true → IsFrozenClass c.program (tags_of c) d
-    those d true s e = subst (IsFrozenClass c.program (tags_of c)) (sym (same_from d class s)) is
+    those d true s e = subst (IsFrozenClass c.program (tags_of c)) (sym (eqb-true d class s)) is
     those d false s e = are.those d e
 
     also : (d : ℕ) (b : Bool) → frozen d ≡ true → (if b then true else frozen d) ≡ true

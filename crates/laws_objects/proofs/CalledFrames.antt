@@ -3,7 +3,7 @@
 use Rattle.std.proofs.Common.{◌≡◌, ◌≢◌, ℕ, suc, ◌<◌, Bool, true, false, not, List, [], ◌∷◌, ◌++◌, length, map, drop, Option, Some, None, refl, sym, ap, ◌∙◌, subst, arith}
 use Rattle.std.specs.Prelude.{◌==◌, slice_get, slice_index_or, reverse}
 use Rattle.std.specs.List.{AllByRecursion}
-use Rattle.std.proofs.lemmas.Bool.{or_parts}
+use Rattle.std.proofs.lemmas.Bool.{or_parts, eqb-false}
 use Rattle.std.proofs.lemmas.Bool.Decides.{Decides-eqb}
 use Rattle.lists.proofs.TestLaws.{is_true}
 use Rattle.jvm_types.specs.CodeTable.{arguments, want_of}
@@ -27,7 +27,7 @@ use Rattle.laws_objects.proofs.BuiltEffects.{StartsNone}
 use Rattle.laws_objects.proofs.KeptFrames.{KeepsUnder, below_kept}
 use Rattle.laws_objects.proofs.Moves.{StartsOld, Suit, suits_later}
 use Rattle.laws_objects.proofs.Slots.{slots_map, slots_drop, slot_later}
-use Rattle.laws_objects.proofs.WorldChanges.{other_from, item_is, none_some, given_keeps, given_none}
+use Rattle.laws_objects.proofs.WorldChanges.{item_is, none_some, given_keeps, given_none}
 
 -- ---- below a frame it counts which method it is of, and its receiver
 
@@ -96,7 +96,7 @@ module _ (c : MarkedProgram) (frozen : ℕ → Bool) (w : World) (next t h a q :
       by_test : (b : Bool) → (r == q) ≡ b → if_so b (v ≡ a) (begun_world v ≡ Some (builder t h (Made r)))
       by_test true z = one v a (builder t h (Made q)) (λ i. cc) (subst (λ (x : ℕ). w v ≡ Some (builder t h (Made x))) ((Decides-eqb r q).0 z) e) is
       by_test false z = given_keeps w a (builder t (suc h) Begun) v (builder t h (Made r)) e
-          (λ s. other_from r q z (let k = item_is (w a) t h t h (Made r) (Made q) (subst (λ (x : ℕ). w x ≡ Some (builder t h (Made r))) s e) is in (let i = k.1 in cc)))
+          (λ s. eqb-false r q z (let k = item_is (w a) t h t h (Made r) (Made q) (subst (λ (x : ℕ). w x ≡ Some (builder t h (Made r))) s e) is in (let i = k.1 in cc)))
           (λ s. (let i : Made r ≡ Begun = ap (λ (b : Builder). b.item) s in cc))
 
   receiver_begun : (own : Bool) (b : ℕ) → ReceiverIs w next t h own b → ReceiverIs begun_world next t h own b

@@ -1,6 +1,7 @@
 -- An event leaves a world in that construction stands again.
 use Rattle.std.proofs.Common.{◌≡◌, ◌≢◌, ℕ, ◌≤◌, ◌⊎◌, inl, inr, Bool, true, false, List, [], ◌∷◌, Option, Some, None, refl, sym, ap, ◌∙◌, subst, arith}
 use Rattle.std.specs.Prelude.{◌==◌, slice_get, slice_set, slice_index, if◌then◌else◌}
+use Rattle.std.proofs.lemmas.Bool.{eqb-true, eqb-false}
 use Rattle.jvm_types.specs.declared.fixed_words.TheConstants.{NEXT_FREE_WORD}
 use Rattle.checked_program.specs.MarkedProgram.{MarkedProgram, IsMarked}
 use Rattle.machine_types.specs.Accesses.{found_by, words_after}
@@ -42,7 +43,7 @@ use Rattle.laws_objects.proofs.PhaseMoves.{by_phase, allowed, run_moves}
 use Rattle.laws_objects.proofs.Places.{leave_plain, same_words, plain, element, effect_places, made_places}
 use Rattle.laws_objects.proofs.ThreadMoves.{Moved, now_world}
 use Rattle.laws_objects.proofs.Views.{other_keeps, other_lost}
-use Rattle.laws_objects.proofs.WorldChanges.{same_from, other_from, none_some, goes_same}
+use Rattle.laws_objects.proofs.WorldChanges.{none_some, goes_same}
 use Rattle.machine_types.specs.declared.config.Config.{Config}
 
 module _ (lies : StartLiesApart) (structure : StructureIsKept) (c : MarkedProgram) (cfg : Config) (marked : IsMarked c) (frozen : ℕ → Bool) (w : World) (objects : List Object) (was : ℕ → Phase) (s : Core) (t : ℕ) (facts : StateFacts c cfg objects was s)
@@ -70,7 +71,7 @@ module _ (lies : StartLiesApart) (structure : StructureIsKept) (c : MarkedProgra
   }
     where
       by_number : (u : ℕ) (y : Thread) → slice_get s.threads u ≡ Some y → (b : Bool) → (u == t) ≡ b → Kept (SeenByAll c frozen w was objects s con) w (slice_index s.words NEXT_FREE_WORD) u (if b then counted_of (was t) (slice_get s.threads t) else was u) y
-      by_number u y f true g = absurd (none_some (slice_get s.threads t) y e (ap (slice_get s.threads) (sym (same_from u t g)) ∙ f))
+      by_number u y f true g = absurd (none_some (slice_get s.threads t) y e (ap (slice_get s.threads) (sym (eqb-true u t g)) ∙ f))
       by_number u y f false g = record { keeps = con.each u y f; lost = λ v b all. all u y f }
 
   -- ---- one thread moves
@@ -187,8 +188,8 @@ module _ (lies : StartLiesApart) (structure : StructureIsKept) (c : MarkedProgra
               let at : slice_get (slice_set s.threads t now) t ≡ Some y = ap (slice_get (slice_set s.threads t now)) (sym k.0) ∙ f in
               subst (λ (o : Option Thread). Kept IsLost moves.later more u (counted_of (was t) o) y) (sym at)
               (subst (λ (z : Thread). Kept IsLost moves.later more u (counted_by (was t) z.phase) z) (sym k.1) (subst (λ (v : ℕ). Kept IsLost moves.later more v (counted_by (was t) now.phase) now) (sym k.0) own))
-          by_place (inl k) false g = absurd (other_from u t g k.0)
-          by_place (inr k) true g = absurd (k.0 (same_from u t g))
+          by_place (inl k) false g = absurd (eqb-false u t g k.0)
+          by_place (inr k) true g = absurd (k.0 (eqb-true u t g))
           by_place (inr k) false g = other u y k.0 k.1
 
       abbrev pub built : Construction c frozen moves.later (counted_at was t (event_of c s t (Some x)).threads) (objects_of c.program (Some x) objects) (event_of c s t (Some x))

@@ -1,6 +1,7 @@
 -- In every run an object is finished by the return of its own `<init>` alone: until then no place and no other thread has it.
 use Rattle.std.proofs.Common.{◌≡◌, ◌≢◌, ℕ, zero, suc, ◌<◌, ◌⊎◌, inl, inr, Bool, true, false, List, [], ◌∷◌, ◌++◌, length, map, Option, Some, None, refl, sym, ap, ◌∙◌, subst, arith}
 use Rattle.std.specs.Prelude.{◌==◌, if◌then◌else◌, slice_get, slice_index}
+use Rattle.std.proofs.lemmas.Bool.{eqb-true, eqb-false}
 use Rattle.lists.proofs.ListLaws.{same_some}
 use Rattle.jvm_types.specs.declared.fixed_words.TheConstants.{NEXT_FREE_WORD}
 use Rattle.jvm_types.specs.declared.program.Program.{Program}
@@ -35,7 +36,6 @@ use Rattle.laws_objects.proofs.FrameChanges.{frame_at, under, top_here, in_place
 use Rattle.laws_objects.proofs.ThreadMoves.{BasedIn}
 use Rattle.laws_objects.proofs.UnreturnedInits.{IsYoung, HasInit, init_stays, init_splits, Splits, HasBack, IsInside, world_begun, put_back_low, based_of, has_back_on, back_frames, away_frames}
 use Rattle.laws_objects.proofs.Unused.{others_strange, uses_not, places_have_not}
-use Rattle.laws_objects.proofs.WorldChanges.{same_from, other_from}
 
 -- ---- the thread behind an event of its own
 
@@ -217,8 +217,8 @@ module _ (laws : AreBuiltLaws) (c : MarkedProgram) (cfg : Config) (frozen : ℕ 
   one_event objects was s u never (inl k) = by_number (u == t) refl
     where
       by_number : (b : Bool) → (u == t) ≡ b → Unfinished (objects_after c.program s u objects) (counted_after c was s u) (event c s u)
-      by_number true e = subst (λ (n : ℕ). Unfinished (objects_after c.program s n objects) (counted_after c was s n) (event c s n)) (sym (same_from u t e)) (own_event objects was s k (subst (λ (n : ℕ). ReturnsFrom c v s n → ⊥) (same_from u t e) never))
-      by_number false e = inl (other_event objects was s k u (other_from u t e))
+      by_number true e = subst (λ (n : ℕ). Unfinished (objects_after c.program s n objects) (counted_after c was s n) (event c s n)) (sym (eqb-true u t e)) (own_event objects was s k (subst (λ (n : ℕ). ReturnsFrom c v s n → ⊥) (eqb-true u t e) never))
+      by_number false e = inl (other_event objects was s k u (eqb-false u t e))
 
   all_unfinished : (es : List Happening) (objects : List Object) (was : ℕ → Phase) (s : Core) → NeverReturns c v s es → InsideThere c cfg frozen t h v objects was s ⊎ LostThere c cfg frozen v objects was s → NoOtherHas c v t (all_objects c s objects es) (all_happened c s es)
   all_unfinished [] objects was s never (inl k) = no_other objects was s k

@@ -2,6 +2,7 @@
 -- returned, or an exception has left it, or an attempt has failed.
 use Rattle.std.proofs.Common.{◌≡◌, ℕ, zero, suc, ◌+◌, ◌-◌, ◌<◌, ◌⊎◌, inl, inr, Bool, true, false, List, [], ◌∷◌, length, drop, Option, Some, None, refl, sym, ap, ◌∙◌, subst, arith}
 use Rattle.std.specs.Prelude.{◌==◌, nat_lt, nat_le, option_map, slice_get, if◌then◌else◌}
+use Rattle.std.proofs.lemmas.Bool.{eq-eqb, eqb-true, ne_eqb, eqb-false}
 use Rattle.lists.proofs.ListLaws.{same_some}
 use Rattle.jvm_types.specs.Members.{is_synchronized}
 use Rattle.jvm_types.specs.Numbers.{has_flag}
@@ -49,7 +50,6 @@ use Rattle.laws_threads.proofs.Inside.{base_below}
 use Rattle.laws_states.proofs.InstructionsFollow.{frames_are}
 use Rattle.laws_threads.proofs.EntryKept.{steps_kept, throws_kept, leaves_kept}
 use Rattle.laws_objects.proofs.ThreadMoves.{AreKnown, AttemptFrom, from_same, known_at, known_with, known_without, goes_frames, goes_attempt}
-use Rattle.laws_objects.proofs.WorldChanges.{same_to, other_to, same_from, other_from}
 
 -- ---- the frame that has so many below it
 
@@ -62,20 +62,20 @@ counted_below h [] f e = absurd (cc)
 counted_below h (g ∷ fs) f e = by_test (length fs == h) refl e (counted_below h fs f)
   where
     by_test : (b : Bool) → (length fs == h) ≡ b → (if b then Some g else frame_at h fs) ≡ Some f → (frame_at h fs ≡ Some f → h < length fs) → h < suc (length fs)
-    by_test true t e more = let s = same_from (length fs) h t in omega (arith, s)
+    by_test true t e more = let s = eqb-true (length fs) h t in omega (arith, s)
     by_test false t e more = let l = more e in omega (arith, l)
 
 pub top_here : (f : Frame) (fs : List Frame) → frame_at (length fs) (f ∷ fs) ≡ Some f
-top_here f fs = ap (λ (b : Bool). if b then Some f else frame_at (length fs) fs) (same_to (length fs) (length fs) refl)
+top_here f fs = ap (λ (b : Bool). if b then Some f else frame_at (length fs) fs) (eq-eqb (length fs) (length fs) refl)
 
 pub under : (h : ℕ) (g : Frame) (fs : List Frame) (f : Frame) → frame_at h fs ≡ Some f → frame_at h (g ∷ fs) ≡ Some f
-under h g fs f e = ap (λ (b : Bool). if b then Some g else frame_at h fs) (other_to (length fs) h (let l = counted_below h fs f e in λ s. omega (arith, l, s))) ∙ e
+under h g fs f e = ap (λ (b : Bool). if b then Some g else frame_at h fs) (ne_eqb (length fs) h (let l = counted_below h fs f e in λ s. omega (arith, l, s))) ∙ e
 
 pub top_or : (h : ℕ) (g : Frame) (fs : List Frame) (f : Frame) → frame_at h (g ∷ fs) ≡ Some f → ((length fs ≡ h) × (g ≡ f)) ⊎ (frame_at h fs ≡ Some f)
 top_or h g fs f e = by_test (length fs == h) refl e
   where
     by_test : (b : Bool) → (length fs == h) ≡ b → (if b then Some g else frame_at h fs) ≡ Some f → ((length fs ≡ h) × (g ≡ f)) ⊎ (frame_at h fs ≡ Some f)
-    by_test true t e = inl (same_from (length fs) h t, same_some e)
+    by_test true t e = inl (eqb-true (length fs) h t, same_some e)
     by_test false t e = inr e
 
 -- ---- frames that stay
@@ -498,7 +498,7 @@ module _ (c : MarkedProgram) (was : Phase) (x : Thread) where
 
       in_attempt : (a : Attempt) → x.attempt ≡ Some a → (b : Bool) → (a.monitor == m) ≡ b → Go (enter_moves x m tried may (if b then Tries a else HasNot) got)
       in_attempt a q true e = still (runs (record x { attempt = Some (record a { inner = a.inner + 1 }) })) refl (subst (λ (o : Option Attempt). AttemptFrom o (Some (record a { inner = a.inner + 1 }))) (sym q) (refl, refl, refl))
-      in_attempt a q false e = absurd (other_from a.monitor m e (sym (own a q)))
+      in_attempt a q false e = absurd (eqb-false a.monitor m e (sym (own a q)))
 
       by_held : (o : Option Held) (p : Option Attempt) → x.attempt ≡ p → Go (enter_moves x m tried may (claim_by m o p) got)
       by_held (Some h) p q = same (runs (record x { held = with_held (deeper h) x.held })) refl refl

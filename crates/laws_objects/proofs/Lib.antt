@@ -34,6 +34,6 @@ mod FrameChanges
 mod Unused
 mod LosingInits
 mod BuiltRuns
-mod ThrownInits
+pub mod ThrownInits
 mod UnreturnedInits
 mod FinishedInits

@@ -1,6 +1,7 @@
 -- An object whose `<init>` an exception has left is lost from then on.
 use Rattle.std.proofs.Common.{◌≡◌, ◌≢◌, ℕ, ◌<◌, ◌≤◌, Bool, true, false, List, [], ◌∷◌, length, Some, None, refl, sym, ap, ◌∙◌, subst, arith}
 use Rattle.std.specs.Prelude.{◌==◌, if◌then◌else◌}
+use Rattle.std.proofs.lemmas.Bool.{eq-eqb, eqb-true, ne_eqb}
 use Rattle.lists.proofs.ListLaws.{same_some}
 use Rattle.lists.proofs.TestLaws.{both_true}
 use Rattle.jvm_types.specs.CodeTable.{is_init}
@@ -23,7 +24,7 @@ use Rattle.laws_objects.proofs.KeptFrames.{KeepsUnder, frames_kept}
 use Rattle.laws_objects.proofs.Onwards.{OnwardKeeps}
 use Rattle.laws_objects.proofs.ThrowingFrames.{frames_unwound}
 use Rattle.laws_objects.proofs.ThreadMoves.{MovedTo, AreKnown, goes_held, held_known, in_none, moved_more_to}
-use Rattle.laws_objects.proofs.WorldChanges.{same_to, other_to, same_from, none_some, lost, KeepsLost}
+use Rattle.laws_objects.proofs.WorldChanges.{none_some, lost, KeepsLost}
 
 -- ---- the world in which it is lost
 
@@ -31,10 +32,10 @@ abbrev pub losing : World → (v : ℕ) → Builder → World
 losing w v b u = if u == v then Some (lost b) else w u
 
 pub losing_here : (w : World) (v : ℕ) (b : Builder) → losing w v b v ≡ Some (lost b)
-losing_here w v b = ap (λ (x : Bool). if x then Some (lost b) else w v) (same_to v v refl)
+losing_here w v b = ap (λ (x : Bool). if x then Some (lost b) else w v) (eq-eqb v v refl)
 
 losing_there : (w : World) (v : ℕ) (b : Builder) (u : ℕ) → u ≢ v → losing w v b u ≡ w u
-losing_there w v b u n = ap (λ (x : Bool). if x then Some (lost b) else w u) (other_to u v n)
+losing_there w v b u n = ap (λ (x : Bool). if x then Some (lost b) else w u) (ne_eqb u v n)
 
 module _ (w : World) (v t : ℕ) (b : Builder) (is : w v ≡ Some b) (mine : b.thread ≡ t) (unfinished : b.item ≢ Lost) where
   -- one builder, and another
@@ -68,7 +69,7 @@ module _ (w : World) (v t : ℕ) (b : Builder) (is : w v ≡ Some b) (mine : b.t
   }
     where
       by_test : (u : ℕ) (j : Builder) (x : Bool) → (u == v) ≡ x → (if x then Some (lost b) else w u) ≡ Some j → (first ≤ u) × (u < next)
-      by_test u j true s e = subst (λ (y : ℕ). (first ≤ y) × (y < next)) (sym (same_from u v s)) (k.inside v b is)
+      by_test u j true s e = subst (λ (y : ℕ). (first ≤ y) × (y < next)) (sym (eqb-true u v s)) (k.inside v b is)
       by_test u j false s e = k.inside u j e
 
   losing_lost : KeepsLost w (losing w v b)

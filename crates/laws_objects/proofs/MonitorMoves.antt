@@ -1,6 +1,7 @@
 -- The events of a thread in every phase but Run and Start keep what construction says of it.
 use Rattle.std.proofs.Common.{◌≡◌, ℕ, suc, zero, ◌+◌, ◌-◌, ◌≤◌, inl, Bool, true, false, List, [], ◌∷◌, ◌++◌, length, Option, Some, None, refl, sym, ap, ◌∙◌, subst, arith}
 use Rattle.std.specs.Prelude.{◌==◌, nat_lt, option_map, if◌then◌else◌}
+use Rattle.std.proofs.lemmas.Bool.{eqb-true, eqb-false}
 use Rattle.jvm_types.specs.CodeTable.{row, branches_to, falls_through}
 use Rattle.jvm_types.specs.ProgramInvariant.{words_of}
 use Rattle.jvm_types.specs.declared.code.Op.{Op}
@@ -46,7 +47,7 @@ use Rattle.laws_objects.proofs.CountedPhases.{PhaseFits, counted_fits}
 use Rattle.laws_objects.proofs.Moves.{Steps}
 use Rattle.laws_objects.proofs.Onwards.{OnwardKeeps, IfKeeps, runs_on, dispatches, goes_after_it, same_op}
 use Rattle.laws_objects.proofs.ThreadMoves.{Moved, AreKnown, AttemptFrom, EntryKept, from_same, entry_same, now_world, held_known, moved_on, failed, begun, onward_moves, moved_more, known_at, known_with, known_without}
-use Rattle.laws_objects.proofs.WorldChanges.{none_some, same_from, other_from, goes_same, goes_given, goes_finished, world_given, world_finished, lost_given, lost_finished, lost_same, not_lost}
+use Rattle.laws_objects.proofs.WorldChanges.{none_some, goes_same, goes_given, goes_finished, world_given, world_finished, lost_given, lost_finished, lost_same, not_lost}
 
 -- ---- an element
 
@@ -101,9 +102,9 @@ known_back : (w now : World) (next t : ℕ) (o : Option Attempt) (v : ℕ) → I
 known_back w now next t o v view k = (k.0, λ b e. by_thread b e (b.thread == t) refl)
   where
     by_thread : (b : Builder) → w v ≡ Some b → (y : Bool) → (b.thread == t) ≡ y → b.thread ≡ t
-    by_thread b e true s = same_from b.thread t s
+    by_thread b e true s = eqb-true b.thread t s
     by_thread b e false s =
-        let n = other_from b.thread t s in
+        let n = eqb-false b.thread t s in
         k.1 b (view.others v (λ d f. (let same : b ≡ d = cc in λ q. n (ap (λ (x : Builder). x.thread) same ∙ q))) ∙ e)
 
 -- ---- phases
@@ -274,7 +275,7 @@ module _ (c : MarkedProgram) (marked : IsMarked c) (frozen : ℕ → Bool) (are 
       by_monitor a q true s = runs_as (record x { attempt = Some (record a { inner = a.inner + 1 }) }) refl (subst (λ (o : Option Attempt). AttemptFrom o (Some (record a { inner = a.inner + 1 }))) (sym q) (refl, refl, refl)) held (fit.0, tt)
       by_monitor a q false s =
           let inside : AttemptStands c (phases.Enter m tried) x.frames x.held a = subst (AttemptStandsIn c (phases.Enter m tried) x.frames x.held) q (within (phases.Enter m tried) e) in
-          absurd (other_from a.monitor m s (sym inside.inside))
+          absurd (eqb-false a.monitor m s (sym inside.inside))
 
       by_held : (o : Option Held) → held_at x.held m ≡ o → (p : Option Attempt) → x.attempt ≡ p → Goal (enter_moves x m tried may (claim_by m o p) got)
       by_held (Some h) f p q = runs_as (record x { held = with_held (deeper h) x.held }) refl (from_same x.attempt) (known_with w next t (deeper h) x.held (known_at w next t m x.held h held f) held) (fit.0, tt)

@@ -2,7 +2,7 @@
 use Rattle.std.proofs.Common.{◌≡◌, ◌≢◌, ℕ, ◌<◌, ◌⊎◌, inl, inr, Bool, true, false, not, ◌||◌, List, [], ◌∷◌, Option, Some, None, refl, sym, ap, ◌∙◌, subst, arith}
 use Rattle.std.specs.Prelude.{◌==◌, if◌then◌else◌}
 use Rattle.std.specs.List.{AllByRecursion}
-use Rattle.std.proofs.lemmas.Bool.{or_parts}
+use Rattle.std.proofs.lemmas.Bool.{or_parts, eqb-true, eqb-false}
 use Rattle.std.proofs.lemmas.Bool.Decides.{nat_tests}
 use Rattle.jvm_types.specs.CodeTable.{row, stack_after, locals_after}
 use Rattle.jvm_types.specs.Numbers.{has_number}
@@ -37,7 +37,8 @@ use Rattle.machine_types.specs.Lawful.{within}
 use Rattle.laws_objects.proofs.KeptFrames.{KeepsUnder}
 use Rattle.laws_objects.proofs.Landing.{land, joined_onward}
 use Rattle.laws_objects.proofs.Slots.{IsMade, IsWriteMade, stack_moves, local_moves, top_slot, plainly, plain_slot, not_this, slots_started, slot_retag, slots_without, StartOk}
-use Rattle.laws_objects.proofs.WorldChanges.{same_from, other_from, without, without_gone, without_keeps, without_none, world_without, goes_without, goes_same, KeepsLost, lost_same, lost_without}
+use Rattle.laws_objects.proofs.WorldChanges.{without, without_gone, without_keeps, without_none, world_without, goes_without, goes_same, KeepsLost, lost_same, lost_without}
+use Rattle.laws_threads.proofs.TopEffects.{number_in}
 
 -- ---- the object that is started
 
@@ -165,9 +166,9 @@ module _ (Old More : ℕ → Type 0) (null : Old 0) (Fresh Later : ℕ → ℕ �
   after_type u = if same_type (types.New q) u then types.Ref class else u
 
   new_finished : (r v : ℕ) (b : Bool) → (q == r) ≡ b → (y : Bool) → young r ≡ y → if_so y (Fresh r v) (Old v) → SlotByType More Later young (if b then types.Ref class else types.New r) v
-  new_finished r v true e true z f = let same : r ≡ q = sym (same_from q r e) in here v (sym (ap young same) ∙ z) (subst (λ (x : ℕ). Fresh x v) same f)
+  new_finished r v true e true z f = let same : r ≡ q = sym (eqb-true q r e) in here v (sym (ap young same) ∙ z) (subst (λ (x : ℕ). Fresh x v) same f)
   new_finished r v true e false z f = old v f
-  new_finished r v false e true z f = rw z (there r v (λ s. other_from q r e (sym s)) z f)
+  new_finished r v false e true z f = rw z (there r v (λ s. eqb-false q r e (sym s)) z f)
   new_finished r v false e false z f = rw z (old v f)
 
   type_finished : (u : VType) (v : ℕ) → SlotByType Old Fresh young u v → SlotByType More Later young (after_type u) v
@@ -218,19 +219,6 @@ stays w next t P k = record { later = w; goes = goes_same w next next t (omega a
 
 pub steps_map : (w : World) (next t : ℕ) (P Q : World → Type 0) → ((v : World) → GoesOn w v next next t 0 → P v → Q v) → Steps w next t P → Steps w next t Q
 steps_map w next t P Q f k = record { later = k.later; goes = k.goes; world = k.world; lost = k.lost; keeps = f k.later k.goes k.keeps }
-
-number_in : (tos : List ℕ) (to : ℕ) → OneOf tos to → has_number tos to ≡ true
-number_in [] to h = absurd h
-number_in (x ∷ xs) to (inl e) = first (x == to) (has_number xs to) (grind (arith, nat_tests, e))
-  where
-    first : (a b : Bool) → a ≡ true → (a || b) ≡ true
-    first true b e = refl
-    first false b e = absurd (cc)
-number_in (x ∷ xs) to (inr h) = second (x == to) (has_number xs to) (number_in xs to h)
-  where
-    second : (a b : Bool) → b ≡ true → (a || b) ≡ true
-    second true b e = refl
-    second false b e = e
 
 module _ (c : MarkedProgram) (marked : IsMarked c) (frozen : ℕ → Bool) (are : AreFrozen c frozen) (w : World) (next t h : ℕ) (null : IsFinished w next 0) (inside : (v : ℕ) (b : Builder) → w v ≡ Some b → v < next) where
   module _ (f : Frame) (k : FrameKeeps c frozen w next t h Runs f) (to made : ℕ) (edge : OneOf (edges k.stands.insn) to) where

@@ -1,6 +1,7 @@
 -- No place has an unfinished object after an event.
 use Rattle.std.proofs.Common.{◌≡◌, ◌≢◌, ℕ, zero, suc, ◌+◌, ◌<◌, ◌⊎◌, inl, inr, Bool, true, false, List, ◌∷◌, length, Option, Some, None, refl, sym, ap, ◌∙◌, subst, arith}
 use Rattle.std.specs.Prelude.{◌==◌, nat_le, bit_or, bit_and, Contains, slice_get, slice_set, slice_index, if◌then◌else◌}
+use Rattle.std.proofs.lemmas.Bool.{ne_eqb}
 use Rattle.lists.proofs.ListLaws.{same_some}
 use Rattle.jvm_types.specs.Members.{is_static}
 use Rattle.jvm_types.specs.ProgramInvariant.{IsProgram, words_of, instances_among}
@@ -45,7 +46,7 @@ use Rattle.machine_types.specs.declared.phase.Phase.TheVariants as phases
 use Rattle.laws_states.specs.HeapFacts.{HeapFacts}
 use Rattle.laws_states.specs.Sites.{Site, Counter, OwnerOf, BitsOf, LockOf, HeaderOf, ValueOf, NewHeaderOf, StaticAt, site_word, IsThere, Suits, ReachesIf}
 use Rattle.laws_states.proofs.Accesses.{ElementSite}
-use Rattle.laws_states.proofs.Lists.{contained_got, got_contains, same_or_not, set_here, set_there}
+use Rattle.laws_states.proofs.Lists.{contained_got, same_or_not, set_here, set_there}
 use Rattle.laws_states.proofs.Places.{same_object}
 use Rattle.laws_states.proofs.Sites.{sites_apart, sites_inside}
 use Rattle.laws_states.proofs.WordViews.{set_self}
@@ -54,7 +55,7 @@ use Rattle.laws_objects.proofs.BuiltEffects.{KindOld, Built}
 use Rattle.laws_objects.proofs.InstructionMoves.{IsOutside}
 use Rattle.laws_objects.proofs.Onwards.{first_finished}
 use Rattle.laws_objects.proofs.Views.{finished_on}
-use Rattle.laws_objects.proofs.WorldChanges.{other_to}
+use Rattle.laws_threads.proofs.MonitorMoves.{contains_got}
 
 -- what is neither a field nor an element
 abbrev pub IsPlain : Content → Type 0
@@ -246,10 +247,10 @@ module _ (lies : StartLiesApart) (c : MarkedProgram) (marked : IsMarked c) (obje
           let same : new_object a word (size_by c.program word) ≡ o = same_some e in
           let from = (is_program.fields number f g).class.0 in
           let of_class : header_class word ≡ f.class = ap (λ (z : Object). z.class) same ∙ class in
-          let other : (header_class word == INT_ARRAY_CLASS) ≡ false = other_to (header_class word) INT_ARRAY_CLASS (λ array. absurd (omega (arith, array, of_class, from))) in
+          let other : (header_class word == INT_ARRAY_CLASS) ≡ false = ne_eqb (header_class word) INT_ARRAY_CLASS (λ array. absurd (omega (arith, array, of_class, from))) in
           let sized : size_by c.program word ≡ object_size c.program (header_class word) = ap (λ (b : Bool). if b then array_size (words.header_length word) else object_size c.program (header_class word)) other in
           let inside : f.index < instances_among (header_class word) c.program.fields = subst (λ (d : ℕ). f.index < instances_among d c.program.fields) (sym of_class) (instances_inside c.program number f is_program g n) in
           let new = facts.new_objects.each t x a word there made in
           let zero_is : slice_index (slice_set s.words (header_word a) word) (value_word a f.index) ≡ 0 = set_there s.words (header_word a) (value_word a f.index) word (λ q. omega (arith, q)) ∙ new.empty (value_word a f.index) (omega arith) (omega (arith, sized, inside)) in
           subst (λ (z : Object). KindKeeps later more f.kind (slice_index (slice_set s.words (header_word a) word) (value_word z.reference f.index))) same (null_kind f.kind (slice_index (slice_set s.words (header_word a) word) (value_word a f.index)) zero_is)
-      fields_of (suc j) o number f e g n class = old.fields o number f (got_contains objects j o e) g n class
+      fields_of (suc j) o number f e g n class = old.fields o number f (contains_got objects j o e) g n class

@@ -3,7 +3,7 @@ use Rattle.std.proofs.Common.{◌≡◌, ◌≢◌, ℕ, suc, ◌<◌, ◌⊎◌
 use Rattle.std.specs.Prelude.{◌==◌, slice_get}
 use Rattle.std.specs.List.{AllByRecursion}
 use Rattle.std.specs.Option.{option_map, option_to_list}
-use Rattle.std.proofs.lemmas.Bool.{or_parts}
+use Rattle.std.proofs.lemmas.Bool.{or_parts, eq-eqb, eqb-true, ne_eqb}
 use Rattle.std.proofs.lemmas.Bool.Decides.{nat_tests}
 use Rattle.lists.proofs.ListLaws.{same_some}
 use Rattle.lists.proofs.TestLaws.{is_true}
@@ -50,7 +50,7 @@ use Rattle.laws_objects.proofs.Landing.{land, joined_onward}
 use Rattle.laws_objects.proofs.Moves.{Steps, stays, StartsOld, StartsYoung, Starts, starts, Suit, suit_at, tags_fine, old_started, slots_finished}
 use Rattle.laws_objects.proofs.Operands.{TakenOld, is_getfield, takes_old}
 use Rattle.laws_objects.proofs.Slots.{slots_map, slot_later, made_slot}
-use Rattle.laws_objects.proofs.WorldChanges.{same_to, other_to, same_from, without, without_gone, without_keeps, without_none, world_without, goes_without, lost_without}
+use Rattle.laws_objects.proofs.WorldChanges.{without, without_gone, without_keeps, without_none, world_without, goes_without, lost_without}
 
 -- ---- results
 
@@ -243,7 +243,7 @@ module _ (c : MarkedProgram) (marked : IsMarked c) (frozen : ℕ → Bool) (are 
   again (Some (types.New x, class)) s q v y e = by_test (q == x) refl e
     where
       by_test : (b : Bool) → (q == x) ≡ b → if_so b (v ≡ receiver) (w v ≡ Some (builder t (length gs) (Made q))) → w v ≡ Some (builder t (length gs) (Made q))
-      by_test true z e = absurd (let bad : true ≡ false = sym y ∙ ap (makes_frozen frozen k.method) (same_from q x z) ∙ s in cc)
+      by_test true z e = absurd (let bad : true ≡ false = sym y ∙ ap (makes_frozen frozen k.method) (eqb-true q x z) ∙ s in cc)
       by_test false z e = e
   again (Some (types.This, class)) s q v y e = e
   again (Some (types.Int, class)) s q v y e = e
@@ -317,12 +317,12 @@ module _ (c : MarkedProgram) (marked : IsMarked c) (frozen : ℕ → Bool) (are 
       where
         here : (v : ℕ) → if_so (y.pc == y.pc) (v ≡ receiver) (w v ≡ Some (builder t (length gs) (Made y.pc))) → IsFinished z next v
         here v e =
-            let same : v ≡ receiver = subst (λ (b : Bool). if_so b (v ≡ receiver) (w v ≡ Some (builder t (length gs) (Made y.pc)))) (same_to y.pc y.pc refl) e in
+            let same : v ≡ receiver = subst (λ (b : Bool). if_so b (v ≡ receiver) (w v ≡ Some (builder t (length gs) (Made y.pc)))) (eq-eqb y.pc y.pc refl) e in
             subst (IsFinished z next) (sym same) (inside receiver gone is_begun, without_gone w gone receiver is_begun)
 
         others : (x v : ℕ) → x ≢ y.pc → if_so (x == y.pc) (v ≡ receiver) (w v ≡ Some (builder t (length gs) (Made x))) → z v ≡ Some (builder t (length gs) (Made x))
         others x v n e =
-            let built = subst (λ (b : Bool). if_so b (v ≡ receiver) (w v ≡ Some (builder t (length gs) (Made x)))) (other_to x y.pc n) e in
+            let built = subst (λ (b : Bool). if_so b (v ≡ receiver) (w v ≡ Some (builder t (length gs) (Made x)))) (ne_eqb x y.pc n) e in
             without_keeps w gone v (builder t (length gs) (Made x)) built (λ s. (let i : length gs ≡ suc (length gs) = ap (λ (b : Builder). b.height) s in omega (arith, i)))
 
     resumes_young : FrameKeeps c frozen z next t (length gs) Runs resumed

@@ -2,6 +2,7 @@
 use Rattle.std.proofs.Common.{◌≡◌, ◌≢◌, ℕ, ◌-◌, ◌<◌, ◌≤◌, ◌⊎◌, inl, inr, Bool, true, false, cond, List, [], ◌∷◌, length, drop, Option, Some, None, refl, sym, ap, ◌∙◌, subst, arith}
 use Rattle.std.specs.Prelude.{◌==◌, nat_lt, Contains}
 use Rattle.std.specs.List.{AllByRecursion}
+use Rattle.std.proofs.lemmas.Bool.{eqb-true, eqb-false}
 use Rattle.jvm_types.specs.ProgramInvariant.{words_of}
 use Rattle.jvm_types.specs.declared.outcome.End.TheVariants as ends
 use Rattle.checked_program.specs.MarkedProgram.{MarkedProgram}
@@ -25,7 +26,7 @@ use Rattle.laws_objects.proofs.KeptFrames.{KeepsAt, phase_frames_kept, phase_kep
 use Rattle.laws_objects.proofs.Moves.{Steps}
 use Rattle.laws_objects.proofs.Onwards.{OnwardKeeps}
 use Rattle.laws_objects.proofs.Views.{IsOwnIn, IsNoneOf, own_or_not, known_on}
-use Rattle.laws_objects.proofs.WorldChanges.{same_from, other_from, none_some, goes_same, goes_both, world_same, KeepsLost, lost_same}
+use Rattle.laws_objects.proofs.WorldChanges.{none_some, goes_same, goes_both, world_same, KeepsLost, lost_same}
 
 -- ---- what is kept of a thread, in a world that it leaves
 
@@ -183,8 +184,8 @@ module _ (w now : World) (t : ℕ) (o : Option Attempt) (view : IsViewOf now w t
       by_was v n (Some d) e = goes.others v d (n d e) (view.others v n ∙ e) ∙ sym e
 
       by_thread : (v : ℕ) (d x : Builder) → w v ≡ Some d → d.thread ≡ t → later v ≡ Some x → (y : Bool) → (x.thread == t) ≡ y → x.thread ≡ t
-      by_thread v d x e m f true s = same_from x.thread t s
-      by_thread v d x e m f false s = view.own v d x e m (goes.no_more v x (other_from x.thread t s) f)
+      by_thread v d x e m f true s = eqb-true x.thread t s
+      by_thread v d x e m f false s = view.own v d x e m (goes.no_more v x (eqb-false x.thread t s) f)
 
   view_same : o ≡ None → now ≡ w
   view_same e = λ i. λ v. view.same e v i

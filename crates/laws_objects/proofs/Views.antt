@@ -1,6 +1,7 @@
 -- What a thread sees of the world, as another thread's event or one of its own changes it.
 use Rattle.std.proofs.Common.{◌≡◌, ◌≢◌, ℕ, ◌≤◌, ◌<◌, ◌⊎◌, inl, inr, Bool, true, false, Option, Some, None, refl, sym, ap, ◌∙◌, arith}
 use Rattle.std.specs.Prelude.{◌==◌, if◌then◌else◌}
+use Rattle.std.proofs.lemmas.Bool.{eq-eqb, eqb-true, ne_eqb, eqb-false}
 use Rattle.jvm_types.specs.ProgramInvariant.{words_of}
 use Rattle.checked_program.specs.MarkedProgram.{MarkedProgram}
 use Rattle.machine_types.specs.Construction.{ThreadKeeps}
@@ -8,7 +9,7 @@ use Rattle.machine_types.specs.Threads.{Attempt, Thread}
 use Rattle.machine_types.specs.Worlds.{Lost, Builder, builder, World, IsFinished, IsOwnOrFinished, IsWorld, IsViewOf, GoesOn}
 use Rattle.machine_types.specs.declared.phase.Phase.{Phase}
 use Rattle.laws_objects.proofs.KeptFrames.{KeepsAt, phase_frames_kept, phase_kept, attempt_kept}
-use Rattle.laws_objects.proofs.WorldChanges.{same_to, other_to, same_from, other_from, none_some}
+use Rattle.laws_objects.proofs.WorldChanges.{none_some}
 
 -- ---- whether a thread builds an object
 
@@ -26,8 +27,8 @@ own_or_not w u v = by_was (w v) refl
     by_was (Some b) e = by_test (b.thread == u) refl
       where
         by_test : (x : Bool) → (b.thread == u) ≡ x → IsOwnIn w u v ⊎ IsNoneOf w u v
-        by_test true t = inl (b, e, same_from b.thread u t)
-        by_test false t = inr (λ d f s. other_from b.thread u t (let same : b ≡ d = cc in ap (λ (x : Builder). x.thread) same ∙ s))
+        by_test true t = inl (b, e, eqb-true b.thread u t)
+        by_test false t = inr (λ d f s. eqb-false b.thread u t (let same : b ≡ d = cc in ap (λ (x : Builder). x.thread) same ∙ s))
 
 -- a number below the next word is known to a thread or another builds it
 pub known_on : (w later : World) (next more t u : ℕ) → GoesOn w later next more t 0 → (v : ℕ) → IsOwnOrFinished w next u v → IsOwnOrFinished later more u v
@@ -42,18 +43,18 @@ known_on w later next more t u goes v k = ((let l = k.0 in let g = goes.grows in
 
         by_own : (x : Bool) → (d.thread == t) ≡ x → ⊥
         by_own false o =
-            let stays = goes.others v d (other_from d.thread t o) f in
+            let stays = goes.others v d (eqb-false d.thread t o) f in
             let same : d ≡ b = cc in
             n (sym (ap (λ (x : Builder). x.thread) same) ∙ mine)
         by_own true o =
             -- its builder is t, and so u is; b is another's, who built it before
-            let before = goes.no_more v b (λ s. n (s ∙ sym (same_from d.thread t o) ∙ mine)) e in
+            let before = goes.no_more v b (λ s. n (s ∙ sym (eqb-true d.thread t o) ∙ mine)) e in
             let same : d ≡ b = cc in
             n (sym (ap (λ (x : Builder). x.thread) same) ∙ mine)
 
     by_thread : (b : Builder) → later v ≡ Some b → (x : Bool) → (b.thread == u) ≡ x → b.thread ≡ u
-    by_thread b e true t = same_from b.thread u t
-    by_thread b e false t = absurd (was b (other_from b.thread u t) e (w v) refl)
+    by_thread b e true t = eqb-true b.thread u t
+    by_thread b e false t = absurd (was b (eqb-false b.thread u t) e (w v) refl)
 
 pub finished_on : (w later : World) (next more t : ℕ) → GoesOn w later next more t 0 → (v : ℕ) → IsFinished w next v → IsFinished later more v
 finished_on w later next more t goes v k = ((let l = k.0 in let g = goes.grows in omega (arith, l, g)), goes.finished v k)
@@ -69,14 +70,14 @@ merged u w now later v = own_or u (w v) (now v) (later v)
 
 module _ (w now later : World) (next more t u first : ℕ) (goes : GoesOn w later next more t 0) (differ : u ≢ t) (attempt : Option Attempt) (view : IsViewOf now w u attempt) where
   merged_own : (v : ℕ) → IsOwnIn w u v → merged u w now later v ≡ now v
-  merged_own v k = ap (λ o. own_or u o (now v) (later v)) k.1 ∙ ap (λ (x : Bool). if x then now v else later v) (same_to k.0.thread u k.2)
+  merged_own v k = ap (λ o. own_or u o (now v) (later v)) k.1 ∙ ap (λ (x : Bool). if x then now v else later v) (eq-eqb k.0.thread u k.2)
 
   merged_rest : (v : ℕ) → IsNoneOf w u v → merged u w now later v ≡ later v
   merged_rest v n = by_was (w v) refl
     where
       by_was : (o : Option Builder) → w v ≡ o → own_or u o (now v) (later v) ≡ later v
       by_was None e = refl
-      by_was (Some b) e = ap (λ (x : Bool). if x then now v else later v) (other_to b.thread u (n b e))
+      by_was (Some b) e = ap (λ (x : Bool). if x then now v else later v) (ne_eqb b.thread u (n b e))
 
   -- what u builds stays
   own_later : (v : ℕ) (b : Builder) → b.thread ≡ u → w v ≡ Some b → later v ≡ Some b
@@ -171,6 +172,6 @@ unfolding other_keeps
 other_lost c frozen w later next more t u was x goes differ world k v b before e f g = ap (λ (o : Option Builder). own_or u o (k.now v) (later v)) e ∙ by_view (before.thread == u) refl g
   where
     by_view : (y : Bool) → (before.thread == u) ≡ y → (before.thread ≢ u) ⊎ (k.now v ≡ Some b) → (if y then k.now v else later v) ≡ Some b
-    by_view true s (inl n) = absurd (n (same_from before.thread u s))
+    by_view true s (inl n) = absurd (n (eqb-true before.thread u s))
     by_view true s (inr g) = g
     by_view false s g = f

@@ -2,30 +2,19 @@
 use Rattle.std.proofs.Common.{◌≡◌, ◌≢◌, ℕ, ◌≤◌, ◌<◌, ◌⊎◌, inl, inr, Bool, true, false, ◌&&◌, Option, Some, None, refl, sym, ap, ◌∙◌, subst, arith}
 use Rattle.std.specs.Prelude.{◌==◌, if◌then◌else◌}
 use Rattle.std.proofs.lemmas.Bool.Decides.{nat_tests}
+use Rattle.std.proofs.lemmas.Bool.{eq-eqb, eqb-true, ne_eqb, eqb-false}
 use Rattle.machine_types.specs.Worlds.{Item, Header, Made, Begun, Lost, Builder, builder, World, IsFinished, IsWorld, finished, same_item, same_builder, lost_if, with_builder, GoesOn}
-
-pub same_to : (x b : ℕ) → x ≡ b → (x == b) ≡ true
-same_to x b e = grind (arith, nat_tests)
-
-pub other_to : (x b : ℕ) → x ≢ b → (x == b) ≡ false
-other_to x b e = grind (arith, nat_tests)
-
-pub same_from : (x b : ℕ) → (x == b) ≡ true → x ≡ b
-same_from x b e = grind (arith, nat_tests)
-
-pub other_from : (x b : ℕ) → (x == b) ≡ false → x ≢ b
-other_from x b e = grind (arith, nat_tests)
 
 item_same : (x y : Item) → same_item x y ≡ true → x ≡ y
 item_same Header Header e = refl
-item_same (Made q) (Made r) e = ap (λ (n : ℕ). Made n) (same_from q r e)
+item_same (Made q) (Made r) e = ap (λ (n : ℕ). Made n) (eqb-true q r e)
 item_same Begun Begun e = refl
 item_same Lost Lost e = refl
 item_same x y e = absurd (cc)
 
 item_self : (x : Item) → same_item x x ≡ true
 item_self Header = refl
-item_self (Made q) = same_to q q refl
+item_self (Made q) = eq-eqb q q refl
 item_self Begun = refl
 item_self Lost = refl
 
@@ -33,13 +22,13 @@ pub builder_same : (j k : Builder) → same_builder j k ≡ true → j ≡ k
 builder_same j k e = by_tests (j.thread == k.thread) (j.height == k.height) (same_item j.item k.item) refl refl refl e
   where
     by_tests : (a b c : Bool) → (j.thread == k.thread) ≡ a → (j.height == k.height) ≡ b → same_item j.item k.item ≡ c → (a && b && c) ≡ true → j ≡ k
-    by_tests true true true x y z e = rw (← same_from j.thread k.thread x, ← same_from j.height k.height y, ← item_same j.item k.item z) refl
+    by_tests true true true x y z e = rw (← eqb-true j.thread k.thread x, ← eqb-true j.height k.height y, ← item_same j.item k.item z) refl
     by_tests true true false x y z e = absurd (cc)
     by_tests true false c x y z e = absurd (cc)
     by_tests false b c x y z e = absurd (cc)
 
 pub builder_self : (k : Builder) → same_builder k k ≡ true
-builder_self k = rw (same_to k.thread k.thread refl, same_to k.height k.height refl, item_self k.item) refl
+builder_self k = rw (eq-eqb k.thread k.thread refl, eq-eqb k.height k.height refl, item_self k.item) refl
 
 builder_other : (j k : Builder) → j ≢ k → same_builder j k ≡ false
 builder_other j k n = by_test (same_builder j k) refl
@@ -60,10 +49,10 @@ lost b = record b { item = Lost }
 -- ---- an object gets a builder
 
 pub given_here : (w : World) (a : ℕ) (k : Builder) → with_builder w a k a ≡ Some k
-given_here w a k = rw (same_to a a refl) refl
+given_here w a k = rw (eq-eqb a a refl) refl
 
 pub given_there : (w : World) (a : ℕ) (k : Builder) (v : ℕ) → v ≢ a → with_builder w a k v ≡ lost_if k (w v)
-given_there w a k v n = rw (other_to v a n) refl
+given_there w a k v n = rw (ne_eqb v a n) refl
 
 pub given_keeps : (w : World) (a : ℕ) (k : Builder) (v : ℕ) (j : Builder) → w v ≡ Some j → v ≢ a → j ≢ k → with_builder w a k v ≡ Some j
 given_keeps w a k v j e n m = given_there w a k v n ∙ ap (lost_if k) e ∙ rw (builder_other k j (λ z. m (sym z))) refl
@@ -90,8 +79,8 @@ pub given_back : (w : World) (a : ℕ) (k : Builder) (v : ℕ) (j : Builder) →
 given_back w a k v j = by_test (v == a) refl
   where
     by_test : (b : Bool) → (v == a) ≡ b → (if b then Some k else lost_if k (w v)) ≡ Some j → GivenBack w a k v j
-    by_test true t e = inl (same_from v a t, cc)
-    by_test false t e = elim (lost_back k j (w v) e) [ inl x ↦ inr (inl (other_from v a t, x.0, x.1)) | inr x ↦ inr (inr (other_from v a t, x.0, x.1)) ]
+    by_test true t e = inl (eqb-true v a t, cc)
+    by_test false t e = elim (lost_back k j (w v) e) [ inl x ↦ inr (inl (eqb-false v a t, x.0, x.1)) | inr x ↦ inr (inr (eqb-false v a t, x.0, x.1)) ]
 
 lost_none : (k : Builder) (o : Option Builder) → lost_if k o ≡ None → o ≡ None
 lost_none k None e = refl
@@ -106,7 +95,7 @@ given_none_back w a k v = by_test (v == a) refl
   where
     by_test : (b : Bool) → (v == a) ≡ b → (if b then Some k else lost_if k (w v)) ≡ None → (v ≢ a) × (w v ≡ None)
     by_test true t e = absurd (cc)
-    by_test false t e = (other_from v a t, lost_none k (w v) e)
+    by_test false t e = (eqb-false v a t, lost_none k (w v) e)
 
 -- each builder stands once, whatever stood before
 one_given : (w : World) (a : ℕ) (k : Builder) → ((v u : ℕ) (b : Builder) → b.item ≢ Lost → w v ≡ Some b → w u ≡ Some b → v ≡ u)
@@ -157,10 +146,10 @@ goes_given w next more t a k grows mine new was = record {
 -- ---- an object is finished
 
 pub finished_here : (w : World) (a : ℕ) → finished w a a ≡ None
-finished_here w a = rw (same_to a a refl) refl
+finished_here w a = rw (eq-eqb a a refl) refl
 
 pub finished_there : (w : World) (a v : ℕ) → v ≢ a → finished w a v ≡ w v
-finished_there w a v n = rw (other_to v a n) refl
+finished_there w a v n = rw (ne_eqb v a n) refl
 
 pub finished_back : (w : World) (a v : ℕ) (j : Builder) → finished w a v ≡ Some j → w v ≡ Some j
 finished_back w a v j = by_test (v == a)

@@ -3,6 +3,7 @@
 use Rattle.std.proofs.Common.{◌≡◌, ℕ, zero, suc, ◌+◌, ◌*◌, ◌/◌, ◌%◌, ◌<◌, nat_lt, Bool, true, false, cond, List, [], ◌∷◌, length, Option, Some, None, refl, sym, ap, ◌∙◌, subst, arith}
 use Rattle.std.specs.Prelude.{◌&&◌, slice_get, slice_index}
 use Rattle.std.proofs.lemmas.Bool.Decides.{nat_tests}
+use Rattle.std.proofs.lemmas.Bool.{lt-ltb, ltb-true}
 use Rattle.lists.proofs.ListLaws.{same_some}
 use Rattle.lists.proofs.TestLaws.{both_true, both_are_true}
 use Rattle.checked_program.specs.MarkedProgram.{MarkedProgram, IsMarked}
@@ -32,20 +33,14 @@ use Rattle.laws_states.proofs.EventFacts.{got_when_set}
 use Rattle.laws_refinement.proofs.Inside.{Inside, is_inside}
 use Rattle.laws_refinement.specs.Entries.{failed_here, KeepsCount}
 use Rattle.laws_refinement.specs.EntryLaws.{ThreadsKeepCount, FewFail, IsDue, HasBegun, DueBegin, BegunAreDue, AttemptsStay, AttemptsOnlyLook}
-use Rattle.laws_refinement.proofs.Counts.{is_below}
 use Rattle.laws_refinement.proofs.MarkedEntries.{at_mark, enters_by_mark}
 use Rattle.laws_refinement.proofs.Looks.{only_looks}
 use Rattle.laws_refinement.proofs.OutsideEntries.{Begins, MovesTo, outside_moves}
 use Rattle.laws_refinement.proofs.Within.{HasFate, inside_moves}
+use Rattle.laws_objects.proofs.ThrownInits.{moved_is}
 
 pub few_fail : ThreadsKeepCount → FewFail
 few_fail counted c cfg hs t marked width settings = (counted c cfg hs t marked width settings).few
-
--- ---- a thread behind its event
-
-pub is_moved : (c : MarkedProgram) (s : Core) (t : ℕ) (x y : Thread) → slice_get s.threads t ≡ Some x → slice_get (event c s t).threads t ≡ Some y → moved c x x.phase (found_by s.words (wanted c x x.phase)) ≡ y
-is_moved c s t x y here there =
-    same_some (sym (got_when_set s.threads t x (moved c x x.phase (found_by s.words (wanted c x x.phase))) here) ∙ subst (λ (o : Option Thread). slice_get (event_of c s t o).threads t ≡ Some y) here there)
 
 -- ---- the lock word of an entry
 
@@ -73,9 +68,6 @@ free_word word count e = by_kind (word % 4) (word / 4) refl refl e
 
 -- ---- where one is due
 
-is_above : (n m : ℕ) → n < m → nat_lt n m ≡ true
-is_above n m e = grind (arith, nat_tests, e)
-
 module _ (c : MarkedProgram) (cfg : Config) (s : Core) (x : Thread) (failed m count : ℕ) (settings : x.cfg ≡ cfg) (kept : KeepsCount x.attempt x.phase failed) (is_marked : IsMarked c) (due : IsDue c cfg s x failed m count) where
   marked_there : enters_marked c x.frames ≡ true
   marked_there = enters_by_mark c is_marked x.frames due.marked
@@ -86,7 +78,7 @@ module _ (c : MarkedProgram) (cfg : Config) (s : Core) (x : Thread) (failed m co
   may : may_try c x due.tried ≡ true
   may =
       both_true (x.cfg.elide && nat_lt due.tried 2) (enters_marked c x.frames)
-      (both_true x.cfg.elide (nat_lt due.tried 2) (ap (λ (k : Config). k.elide) settings ∙ due.elides) (is_above due.tried 2 (subst (λ (n : ℕ). n < 2) (sym same_count) due.few))) marked_there
+      (both_true x.cfg.elide (nat_lt due.tried 2) (ap (λ (k : Config). k.elide) settings ∙ due.elides) (lt-ltb due.tried 2 (subst (λ (n : ℕ). n < 2) (sym same_count) due.few))) marked_there
 
   loads : wanted c x x.phase ≡ Some (Load m)
   loads = wants_load c x m due.tried due.enters due.outside due.not_held
@@ -116,7 +108,7 @@ module _ (c : MarkedProgram) (cfg : Config) (s : Core) (x : Thread) (failed m co
   found = ap lock_of (at_entry c s x m due.tried due.enters due.outside due.not_held ∙ due.is_free) ∙ lock_of_word (locks.Free count)
 
   below_last : nat_lt count x.cfg.range ≡ true
-  below_last = is_above count x.cfg.range (subst (λ (k : Config). count < k.range) (sym settings) due.not_last)
+  below_last = lt-ltb count x.cfg.range (subst (λ (k : Config). count < k.range) (sym settings) due.not_last)
 
   moves : moved c x x.phase (found_by s.words (wanted c x x.phase)) ≡ begins x x.frames m count (due.tried + 1)
   moves = by_found (found_by s.words (wanted c x x.phase)) found
@@ -137,7 +129,7 @@ due_begin runs parts counted c cfg hs t x y m count marked width settings here t
     let s : Core = core c cfg hs in
     let state : IsInState c cfg s = runs c cfg hs marked width (parts c cfg marked settings) in
     let kept = (counted c cfg hs t marked width settings).kept x here in
-    subst (λ (z : Thread). HasBegun c x z (failed_here c cfg hs t) m count) (is_moved c s t x y here there)
+    subst (λ (z : Thread). HasBegun c x z (failed_here c cfg hs t) m count) (moved_is c s t x y here there)
     (begun c cfg s x (failed_here c cfg hs t) m count (state.facts.threads.own t x here).settings kept marked due)
 
 -- ---- where one has begun
@@ -155,9 +147,9 @@ module _ (c : MarkedProgram) (cfg : Config) (s : Core) (x y : Thread) (a : Attem
         elides = ap (λ (k : Config). k.elide) (sym settings) ∙ elides.0;
         not_held = b.not_held;
         outside = outside;
-        few = subst (λ (n : ℕ). n < 2) same (is_below b.tried 2 elides.1);
+        few = subst (λ (n : ℕ). n < 2) same (ltb-true b.tried 2 elides.1);
         is_free = sym (at_entry c s x a.monitor b.tried b.enters outside b.not_held) ∙ free_word (found_by s.words (wanted c x x.phase)) a.noted b.is_free;
-        not_last = subst (λ (k : Config). a.noted < k.range) settings (is_below a.noted x.cfg.range b.not_last);
+        not_last = subst (λ (k : Config). a.noted < k.range) settings (ltb-true a.noted x.cfg.range b.not_last);
       }
 
 pub begun_are_due : RunsHaveState → ProgramsKeepThreads → ThreadsKeepCount → BegunAreDue
@@ -166,7 +158,7 @@ begun_are_due runs parts counted c cfg hs t x y a marked width settings here the
     let got : ℕ = found_by s.words (wanted c x x.phase) in
     let z : Thread = moved c x x.phase got in
     let state : IsInState c cfg s = runs c cfg hs marked width (parts c cfg marked settings) in
-    let same : z ≡ y = is_moved c s t x y here there in
+    let same : z ≡ y = moved_is c s t x y here there in
     let tries : z.attempt ≡ Some a = ap (λ (k : Thread). k.attempt) same ∙ begins in
     let begun : Begins c x z got a = subst (MovesTo c x z got) tries (outside_moves c x got outside x.phase refl) in (
       was_due c cfg s x z a (failed_here c cfg hs t) (state.facts.threads.own t x here).settings ((counted c cfg hs t marked width settings).kept x here) outside begun,
@@ -193,7 +185,7 @@ module _ (may_do : InsideMayDo) (no_element : NoElementInside) (runs : RunsHaveS
   attempts_stay c cfg hs t x y a b marked width settings here there tries still =
       let s : Core = core c cfg hs in
       let got : ℕ = found_by s.words (wanted c x x.phase) in
-      let same : moved c x x.phase got ≡ y = is_moved c s t x y here there in
+      let same : moved c x x.phase got ≡ y = moved_is c s t x y here there in
       stays x a b (moved c x x.phase got) (ap (λ (k : Thread). k.attempt) same ∙ still) (fate c x a x.phase got) (inside_moves c x a (in_attempt c cfg hs t x a marked width settings here tries) got)
 
   pub attempts_only_look : AttemptsOnlyLook

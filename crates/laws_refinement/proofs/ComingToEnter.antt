@@ -17,7 +17,7 @@ use Rattle.machine_types.specs.declared.effect.Effect.TheVariants.{Indexes, Make
 use Rattle.machine_types.specs.declared.phase.Phase.{Phase}
 use Rattle.machine_types.specs.declared.phase.Phase.TheVariants as phases
 use Rattle.laws_refinement.specs.EntryLaws.{IsToEnter, InstructionsEnter}
-use Rattle.laws_refinement.proofs.Beginnings.{is_moved}
+use Rattle.laws_objects.proofs.ThrownInits.{moved_is}
 
 -- behind a check that fails no attempt
 if_same_goes : (z y : Thread) (o : Option Attempt) (got : ℕ) → ((a : Attempt) → o ≡ Some a → fate_by (is_same a got) GoesOn ≡ Fails → ⊥) → if_same z o got y ≡ y
@@ -62,5 +62,5 @@ module _ (c : MarkedProgram) (x : Thread) (got : ℕ) (at : Top) (m : ℕ) (fs :
 pub instructions_enter : InstructionsEnter
 instructions_enter c cfg hs t x y at m fs here there is_run top comes never =
     let s : Core = core c cfg hs in
-    subst (λ (z : Thread). IsToEnter x z m fs) (is_moved c s t x y here there)
+    subst (λ (z : Thread). IsToEnter x z m fs) (moved_is c s t x y here there)
     (to_enter c x (found_by s.words (wanted c x x.phase)) at m fs is_run top comes never)

@@ -2,6 +2,7 @@
 use Rattle.std.proofs.Common.{◌≡◌, ℕ, ◌+◌, ◌<◌, ◌≤◌, nat_lt, Bool, true, false, Option, Some, None, refl, sym, ap, ◌∙◌, subst, arith}
 use Rattle.std.specs.Prelude.{◌&&◌, if◌then◌else◌}
 use Rattle.std.proofs.lemmas.Bool.Decides.{nat_tests}
+use Rattle.std.proofs.lemmas.Bool.{ltb-true}
 use Rattle.lists.proofs.TestLaws.{both_are_true}
 use Rattle.checked_program.specs.MarkedProgram.{MarkedProgram}
 use Rattle.machine_types.specs.Elision.{enters_marked}
@@ -20,9 +21,6 @@ pub record Counts (y : Thread) (failed : ℕ) : Type 0 where
   pub few : failed ≤ 2
   pub kept : KeepsCount y.attempt y.phase failed
 
-pub is_below : (n m : ℕ) → nat_lt n m ≡ true → n < m
-is_below n m e = grind (arith, nat_tests, e)
-
 elsewhere : (phase : Phase) (failed : ℕ) → is_entering phase ≡ false → KeepsCount None phase failed
 elsewhere (phases.Enter m tried) failed e = absurd (cc)
 elsewhere phase failed e = tt
@@ -39,7 +37,7 @@ none_more false failed few = few
 
 -- fewer have been tried than may
 few_tried : (elide : Bool) (tried : ℕ) (marked : Bool) → (elide && nat_lt tried 2 && marked) ≡ true → tried < 2
-few_tried elide tried marked may = is_below tried 2 (both_are_true elide (nat_lt tried 2) (both_are_true (elide && nat_lt tried 2) marked may).0).1
+few_tried elide tried marked may = ltb-true tried 2 (both_are_true elide (nat_lt tried 2) (both_are_true (elide && nat_lt tried 2) marked may).0).1
 
 module _ (c : MarkedProgram) (x y : Thread) (got failed : ℕ) where
   -- of the attempt that begins

@@ -13,9 +13,10 @@ use Rattle.laws_states.specs.StateLaws.{ProgramsKeepThreads, RunsHaveState}
 use Rattle.laws_refinement.proofs.Inside.{Inside}
 use Rattle.laws_refinement.proofs.InsideWords.{words_stay}
 use Rattle.laws_refinement.specs.EntryLaws.{EndsBy, HasFailed, AttemptsEnd, FailuresPutBack, OnlyFailuresCount}
-use Rattle.laws_refinement.proofs.Beginnings.{is_moved, in_attempt}
+use Rattle.laws_refinement.proofs.Beginnings.{in_attempt}
 use Rattle.laws_refinement.proofs.OutsideEntries.{is_entering, MovesTo, outside_moves}
 use Rattle.laws_refinement.proofs.Within.{HasFate, inside_moves}
+use Rattle.laws_objects.proofs.ThrownInits.{moved_is}
 
 module _ (c : MarkedProgram) (x y : Thread) (got : ℕ) where
   outside_counts : (o : Option Attempt) → MovesTo c x y got o → y.counts.failed ≡ x.counts.failed
@@ -41,7 +42,7 @@ module _ (may_do : InsideMayDo) (no_element : NoElementInside) (runs : RunsHaveS
       let got : ℕ = found_by (core c cfg hs).words (wanted c x x.phase) in
       let inside : Inside c x a = in_attempt may_do no_element runs parts c cfg hs t x a marked width settings here tries in
       let z : Thread = moved c x x.phase got in
-      subst (EndsBy (fate c x a x.phase got) a) (is_moved c (core c cfg hs) t x y here there) (ends_by c x z got a (fate c x a x.phase got) (inside_moves c x a inside got))
+      subst (EndsBy (fate c x a x.phase got) a) (moved_is c (core c cfg hs) t x y here there) (ends_by c x z got a (fate c x a x.phase got) (inside_moves c x a inside got))
 
   pub failures_put_back : FailuresPutBack
   failures_put_back c cfg hs t x y a marked width settings here there tries fails =
@@ -49,13 +50,13 @@ module _ (may_do : InsideMayDo) (no_element : NoElementInside) (runs : RunsHaveS
       let got : ℕ = found_by s.words (wanted c x x.phase) in
       let inside : Inside c x a = in_attempt may_do no_element runs parts c cfg hs t x a marked width settings here tries in
       let failed : HasFailed x (moved c x x.phase got) a = subst (HasFate x (moved c x x.phase got) a) fails (inside_moves c x a inside got) in (
-        subst (λ (z : Thread). HasFailed x z a) (is_moved c s t x y here there) failed,
+        subst (λ (z : Thread). HasFailed x z a) (moved_is c s t x y here there) failed,
         ap (λ (o : Option Thread). (event_of c s t o).words) here ∙ words_stay s.words c x a inside,
       )
 
   pub only_failures_count : OnlyFailuresCount
   only_failures_count c cfg hs t x y marked width settings here there never =
-      subst (λ (z : Thread). z.counts.failed ≡ x.counts.failed) (is_moved c s t x y here there) (by_attempt x.attempt refl)
+      subst (λ (z : Thread). z.counts.failed ≡ x.counts.failed) (moved_is c s t x y here there) (by_attempt x.attempt refl)
     where
       s : Core
       s = core c cfg hs

@@ -53,6 +53,7 @@ use Rattle.laws_simulation.proofs.EventSteps.{LeavesWords, load_leaves}
 use Rattle.laws_simulation.proofs.TopPlaces as agreement
 use Rattle.laws_refinement.proofs.GoingOn.{Grows, GoesAlike, Knows, going_alike, one_act}
 use Rattle.laws_refinement.proofs.StayPlaces.{TopReads, top_reads, variable_stays, header_stays}
+use Rattle.laws_simulation.proofs.FrameEffects.{is_some_thrown}
 
 -- ---- what an event makes of the attempt: it goes on with it, or ends it
 
@@ -70,10 +71,6 @@ look_leaves words (Some a) = load_leaves words a.monitor
 look_leaves_if : (words : List ℕ) (b : Bool) (o : Option Attempt) → LeavesWords words (if b then looks o else None)
 look_leaves_if words true o = look_leaves words o
 look_leaves_if words false o = refl
-
-is_some_thrown : (o : Option Thrown) → IsSome o → (class : Thrown) × (o ≡ Some class)
-is_some_thrown None k = absurd (cc)
-is_some_thrown (Some class) k = (class, refl)
 
 -- ---- one effect
 

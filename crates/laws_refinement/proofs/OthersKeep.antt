@@ -1,6 +1,7 @@
 -- An event of one thread keeps what is known of the attempts of the others.
 use Rattle.std.proofs.Common.{◌≡◌, ◌≢◌, ℕ, Bool, List, Option, Some, None, refl, sym, ap, ◌∙◌, subst}
 use Rattle.std.specs.Prelude.{slice_get, slice_index, if◌then◌else◌}
+use Rattle.std.proofs.lemmas.Bool.{ne_eqb}
 use Rattle.checked_program.specs.MarkedProgram.{MarkedProgram}
 use Rattle.machine_types.specs.Attempts.{IsAsNoted, Leads, Owes, Stays}
 use Rattle.machine_types.specs.Core.{Core, event}
@@ -12,14 +13,13 @@ use Rattle.laws_threads.specs.InsideMoves.{NoElementInside}
 use Rattle.laws_threads.specs.StateLaws.{counted_of, counted_after}
 use Rattle.laws_states.specs.HeapFacts.{objects_after}
 use Rattle.laws_states.specs.SiteLaws.{EventsReachSites, SitesDiffer, SitesLieInside}
-use Rattle.laws_states.proofs.LockViews.{not_there}
 use Rattle.laws_refinement.specs.ElidedSteps.{OthersKeepAttempts, next_free}
 use Rattle.laws_refinement.proofs.LockNoted.{noted_before}
 use Rattle.laws_refinement.proofs.StayingPlaces.{event_words, still_stays, still_word}
 
 -- the phase that counts of another thread is as it was
 same_phase : (c : MarkedProgram) (was : ℕ → Phase) (s : Core) (t u : ℕ) → u ≢ t → counted_after c was s t u ≡ was u
-same_phase c was s t u other = ap (λ (b : Bool). if b then counted_of (was t) (slice_get (event c s t).threads t) else was u) (not_there u t other)
+same_phase c was s t u other = ap (λ (b : Bool). if b then counted_of (was t) (slice_get (event c s t).threads t) else was u) (ne_eqb u t other)
 
 pub others_keep_attempts : InsideMayDo → NoElementInside → SitesDiffer → SitesLieInside → EventsReachSites → OthersKeepAttempts
 others_keep_attempts may_do no_element differ inside reach c cfg objects was frozen w later s t u x y d turns other there owes = by_attempt y.attempt refl owes

@@ -63,7 +63,7 @@ module _ (c : MarkedProgram) (x : Thread) (got : ℕ) (none : x.attempt ≡ None
   move_begins n was (moves.fails_in t e d k) = none_begun (fails (counting n x) t) refl
   move_begins n _ (moves.prints at i e l t) = on_if (printed (counting n x) got i) (Some (Running (went_on c.program at 0))) refl
   move_begins n _ (moves.enters_inside m tried t k) = no_claim m t k
-  move_begins n _ (moves.begins_to_try m tried noted f below e y l t unheld) = record {
+  move_begins n _ (moves.begins_to_try m tried noted f below e y l t free) = record {
     frames = subst (λ (gs : List Frame). put_back (begun_attempt m noted tried f below) gs ≡ gs) (sym e) (entry_put_back f below m noted (tried + 1));
     inner = refl;
     phase = runs_to IsAtInstruction (counting n x) (inl refl) (inr refl);

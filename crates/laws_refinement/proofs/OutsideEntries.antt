@@ -112,8 +112,8 @@ module _ (was : Phase) where
 
 goes_come : (p : Program) (s : Thread) (got : ℕ) (was : Phase) (o : Onward) → GoesBy p s got was o → MayCome was (Some o)
 goes_come p s got _ o (moves.by_effect at e _ found is silent d) = from_run phases.Run refl (Some o)
-goes_come p s got _ _ (moves.by_machine at class found) = tt
-goes_come p s got _ _ (moves.by_nobody at m count h found there l) = tt
+goes_come p s got _ _ (moves.by_machine at class found y) = tt
+goes_come p s got _ _ (moves.by_nobody at m count h found y there l) = tt
 goes_come p s got _ _ (moves.by_element word stored at found) = tt
 goes_come p s got _ _ (moves.by_object a word) = tt
 goes_come p s got _ _ (moves.by_handler z class at found) = handed_comes _ z class at (handler_at (class_of class) at)
@@ -126,7 +126,7 @@ lacks_new c s got _ moves.idle = tt
 lacks_new c s got was k = tt
 
 leads_new : (p : Program) (s : Thread) (got : ℕ) (was now : Phase) → LeadsTo p s got was now → ComesNew was now
-leads_new p s got _ _ (moves.to_acquire m tried) = tt
+leads_new p s got _ _ (moves.to_acquire m tried free) = tt
 leads_new p s got was now k = tt
 
 turns_new : (s : Thread) (got : ℕ) (was now : Phase) → TurnsTo s got was now → ComesNew was now
@@ -191,14 +191,14 @@ module _ (c : MarkedProgram) (x : Thread) (got : ℕ) (none : x.attempt ≡ None
   move_enters n _ (moves.makes at word size f l t) e = out phases.Run e (becomes c (counting n x) got phases.Run (moves.makes at word size f l t)) none refl tt
   move_enters n _ (moves.prints at i f l t) e = on phases.Run e (printed (counting n x) got i) (Running (went_on c.program at 0)) none refl tt
   move_enters n _ (moves.asks_to_wait at m h now f l t k) e = out phases.Run e (becomes c (counting n x) got phases.Run (moves.asks_to_wait at m h now f l t k)) none refl (waits_new m h.kept now k)
-  move_enters n _ (moves.asks at m h now f l k) e = out phases.Run e (becomes c (counting n x) got phases.Run (moves.asks at m h now f l k)) none refl (asks_new m h.kept now k)
+  move_enters n _ (moves.asks at m h now f y l k) e = out phases.Run e (becomes c (counting n x) got phases.Run (moves.asks at m h now f y l k)) none refl (asks_new m h.kept now k)
   move_enters n _ (moves.enters_again m tried h l) e = runs_on (phases.Enter m tried) e (record (counting n x) { held = with_held (deeper h) x.held }) none refl
   move_enters n _ (moves.enters_inside m tried t k) e = no_claim m t k
   move_enters n _ (moves.begins_to_try m tried noted f below l may free last unheld) e = record {
     tried = tried;
     enters = e;
     may = may;
-    not_held = unheld;
+    not_held = moves.not_held m (held_at x.held m) x.attempt unheld;
     is_free = free;
     not_last = last;
     number = refl;

@@ -2,6 +2,7 @@
 use Rattle.std.proofs.Common.{◌≡◌, ◌≢◌, ℕ, zero, suc, Bool, true, false, List, [], ◌∷◌, ◌++◌, Option, Some, None, refl, sym, ◌∙◌, subst, arith}
 use Rattle.std.specs.Prelude.{slice_get, ◌==◌, if◌then◌else◌}
 use Rattle.std.proofs.lemmas.Bool.Decides.{Decides-eqb}
+use Rattle.std.proofs.lemmas.Bool.{eqb-false}
 use Rattle.lists.proofs.ListLaws.{same_some}
 use Rattle.jvm_types.specs.declared.program.Program.{Program}
 use Rattle.checked_program.specs.MarkedProgram.{MarkedProgram, IsMarked}
@@ -21,10 +22,8 @@ use Rattle.laws_states.specs.RunLaws.{PartsKeepThreads}
 use Rattle.laws_states.specs.StateLaws.{ProgramsKeepThreads, RunsHaveState, IsInState}
 use Rattle.laws_threads.specs.InsideEffects.{InsideMayDo}
 use Rattle.laws_threads.specs.InsideMoves.{NoElementInside}
-use Rattle.laws_states.proofs.LockViews.{not_same}
 use Rattle.laws_states.proofs.GrowingRuns.{one_more}
-use Rattle.laws_states.proofs.EventFacts.{got_when_set}
-use Rattle.laws_simulation.proofs.Assembled.{got_other}
+use Rattle.laws_states.proofs.EventFacts.{got_when_set, got_other}
 use Rattle.laws_refinement.proofs.Inside.{is_inside}
 use Rattle.laws_refinement.specs.Entries.{failed_of, failed_with, failed_from, failed_here, KeepsCount, IsCounted}
 use Rattle.laws_refinement.specs.EntryLaws.{ThreadsKeepCount}
@@ -57,7 +56,7 @@ module _ (may_do : InsideMayDo) (no_element : NoElementInside) (c : MarkedProgra
     where
       by_number : (b : Bool) → (u == t) ≡ b → IsCounted (event c s u) t (if b then failed_of c s (slice_get s.threads t) failed else failed)
       by_number true e = subst (λ (n : ℕ). IsCounted (event c s n) t (failed_of c s (slice_get s.threads t) failed)) (sym ((Decides-eqb u t).0 e)) (own (slice_get s.threads t) refl k)
-      by_number false e = other u (λ k. not_same u t e (sym k)) (slice_get s.threads u) refl k
+      by_number false e = other u (λ k. eqb-false u t e (sym k)) (slice_get s.threads u) refl k
 
 -- ---- the begin of a part
 

@@ -3,6 +3,7 @@
 use Rattle.std.proofs.Common.{◌≡◌, ◌≢◌, ◌⊎◌, inl, inr, ℕ, zero, suc, ◌+◌, ◌≤◌, Bool, true, false, List, [], ◌∷◌, ◌++◌, map, drop, Option, Some, None, refl, sym, ap, subst, ◌∙◌, arith}
 use Rattle.std.specs.Prelude.{◌==◌, slice_get, slice_index, if◌then◌else◌}
 use Rattle.std.proofs.lemmas.Bool.Decides.{Decides-eqb}
+use Rattle.std.proofs.lemmas.Bool.{eqb-false}
 use Rattle.lists.proofs.ListLaws.{same_some}
 use Rattle.jvm_types.specs.declared.program.Program.{Program}
 use Rattle.checked_program.specs.MarkedProgram.{MarkedProgram, IsMarked}
@@ -25,16 +26,14 @@ use Rattle.machine_types.specs.declared.phase.Phase.TheVariants as phases
 use Rattle.laws_threads.specs.InsideEffects.{InsideMayDo}
 use Rattle.laws_threads.specs.InsideMoves.{NoElementInside}
 use Rattle.laws_states.specs.RunFacts.{HaveWidth}
-use Rattle.laws_states.proofs.LockViews.{not_same}
 use Rattle.laws_states.specs.RunSafety.{IsSafe, RunsAreSafe}
-use Rattle.laws_simulation.proofs.Assembled.{got_other}
 use Rattle.laws_refinement.proofs.Inside.{Inside, is_inside}
 use Rattle.laws_refinement.specs.TornRuns.{attempt_of, begun_in, begun_of, begun_by, begun_inside, if_open, IsTorn, NotedNeverReturns, TornRunsAreShort}
 use Rattle.laws_refinement.proofs.InstructionsAhead.{all_ahead}
 use Rattle.laws_refinement.proofs.LateEvents.{Falls, goes_on_with, late, left_in}
 use Rattle.laws_refinement.proofs.ReachedAhead.{reached_ahead}
 use Rattle.laws_states.proofs.GrowingRuns.{one_more}
-use Rattle.laws_states.proofs.EventFacts.{got_when_set}
+use Rattle.laws_states.proofs.EventFacts.{got_when_set, got_other}
 
 -- ---- an attempt that is over begins nothing
 
@@ -147,7 +146,7 @@ module _ (may_do : InsideMayDo) (no_element : NoElementInside) (safe : RunsAreSa
       where
         by_number : (b : Bool) → (u == t) ≡ b → Leaves a (left_of a x) (if b then begun_of (slice_get s.threads t) else 0) (happened c s (Of u))
         by_number true e = subst (λ (v : ℕ). Leaves a (left_of a x) (begun_of (slice_get s.threads t)) (happened c s (Of v))) (sym ((Decides-eqb u t).0 e)) (own torn (slice_get s.threads t) refl)
-        by_number false e = other u (λ same. not_same u t e (sym same)) (slice_get s.threads u) refl
+        by_number false e = other u (λ same. eqb-false u t e (sym same)) (slice_get s.threads u) refl
     one NextPart torn =
         let k = next_passed c.program s.threads t x there in
         (k.0, k.1, goes_on_with c.program a (left_of a x) 0 a.inner k.0 (k.2.attempt ∙ tries) (omega (arith, part_left c.program a.base x k.0 k.2)))

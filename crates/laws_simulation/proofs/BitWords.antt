@@ -7,6 +7,7 @@ use Rattle.std.proofs.lemmas.Bool.Decides.{nat_tests}
 use Rattle.std.proofs.lemmas.Nat.Bits.{bit_at_and, bit_at_or, bit_at-pow_same, bit_at-pow_other, and_pow, bit_at_not, bit_at-lt, bit_at_above}
 use Rattle.jvm_types.specs.Numbers.{has_flag}
 use Rattle.machine_types.specs.Monitors.{bit_of}
+use Rattle.laws_states.proofs.EventBits.{no_flag}
 
 abbrev FlagIs : (n u : ℕ) → Type 0
 FlagIs n u = has_flag (bit_of u) n ≡ not (bit_at n u * 2 ^ u == 0)
@@ -18,9 +19,6 @@ flag_is n u = ap (λ (k : ℕ). not (k == 0)) (and_pow n u)
 pub flag_same : (n k u : ℕ) → bit_at n u ≡ bit_at k u → has_flag (bit_of u) n ≡ has_flag (bit_of u) k
 flag_same n k u e = flag_is n u ∙ ap (λ (b : ℕ). not (b * 2 ^ u == 0)) e ∙ sym (flag_is k u)
 
-pub flag_off : (n u : ℕ) → bit_at n u ≡ 0 → has_flag (bit_of u) n ≡ false
-flag_off n u e = let none : bit_at n u * 2 ^ u ≡ 0 = ap (λ (b : ℕ). b * 2 ^ u) e ∙ omega arith in flag_is n u ∙ ap (λ (k : ℕ). not (k == 0)) none
-
 pub low_if_set : (n u : ℕ) → n < 2 ^ 64 → has_flag (bit_of u) n ≡ true → u < 64
 low_if_set n u small e = by_test (nat_lt u 64) refl
   where
@@ -28,7 +26,7 @@ low_if_set n u small e = by_test (nat_lt u 64) refl
     by_test true f = grind (arith, nat_tests, f)
     by_test false f =
         let high : 64 ≤ u = grind (arith, nat_tests, f) in
-        let off : has_flag (bit_of u) n ≡ false = flag_off n u (bit_at_above n 64 u small high) in
+        let off : has_flag (bit_of u) n ≡ false = no_flag n u (bit_at_above n 64 u small high) in
         let clash : true ≡ false = sym e ∙ off in absurd (cc)
 
 -- ---- one bit is set
@@ -42,7 +40,7 @@ cleared_bit : (u v : ℕ) → u < 64 → v < 64 → bit_at (2 ^ 64 - 1 - 2 ^ u) 
 cleared_bit u v l k = bit_at_not w64 (2 ^ u) v (pow-lt l) k
 
 pub clear_here : (n u : ℕ) → u < 64 → has_flag (bit_of u) (bit_and n (2 ^ 64 - 1 - bit_of u)) ≡ false
-clear_here n u l = flag_off (bit_and n (2 ^ 64 - 1 - bit_of u)) u (bit_at_and n (2 ^ 64 - 1 - 2 ^ u) u ∙ ap (λ (b : ℕ). min (bit_at n u) b) (cleared_bit u u l l ∙ ap (λ (b : ℕ). 1 - b) (bit_at-pow_same u)) ∙ omega arith)
+clear_here n u l = no_flag (bit_and n (2 ^ 64 - 1 - bit_of u)) u (bit_at_and n (2 ^ 64 - 1 - 2 ^ u) u ∙ ap (λ (b : ℕ). min (bit_at n u) b) (cleared_bit u u l l ∙ ap (λ (b : ℕ). 1 - b) (bit_at-pow_same u)) ∙ omega arith)
 
 pub clear_other : (n u v : ℕ) → n < 2 ^ 64 → u < 64 → v ≢ u → has_flag (bit_of v) (bit_and n (2 ^ 64 - 1 - bit_of u)) ≡ has_flag (bit_of v) n
 clear_other n u v small l d = by_test (nat_lt v 64) refl
@@ -56,4 +54,4 @@ clear_other n u v small l d = by_test (nat_lt v 64) refl
     by_test false f =
         let high : 64 ≤ v = grind (arith, nat_tests, f) in
         let none : bit_at n v ≡ 0 = bit_at_above n 64 v small high in
-        flag_off (bit_and n (2 ^ 64 - 1 - bit_of u)) v (bit_at_and n (2 ^ 64 - 1 - 2 ^ u) v ∙ ap (λ (b : ℕ). min b (bit_at (2 ^ 64 - 1 - 2 ^ u) v)) none ∙ omega arith) ∙ sym (flag_off n v none)
+        no_flag (bit_and n (2 ^ 64 - 1 - bit_of u)) v (bit_at_and n (2 ^ 64 - 1 - 2 ^ u) v ∙ ap (λ (b : ℕ). min b (bit_at (2 ^ 64 - 1 - 2 ^ u) v)) none ∙ omega arith) ∙ sym (no_flag n v none)

@@ -2,6 +2,7 @@
 use Rattle.std.proofs.Common.{◌≡◌, inl, ℕ, ◌+◌, ◌-◌, ◌<◌, nat_lt, Bool, true, false, cond, List, [], ◌∷◌, length, drop, Option, Some, None, refl, sym, ap, ◌∙◌, subst, arith}
 use Rattle.std.specs.Prelude.{slice_index, slice_set, ◌==◌}
 use Rattle.std.proofs.lemmas.Bool.Decides.{nat_tests, Decides-eqb}
+use Rattle.std.proofs.lemmas.Bool.{ne_eqb}
 use Rattle.jvm_types.specs.declared.fixed_words.TheConstants.{MONITOR_RECORDS}
 use Rattle.jvm_types.specs.declared.limits.TheConstants.{FLAG_FROM}
 use Rattle.jvm_types.specs.declared.outcome.End.TheVariants as ends
@@ -34,7 +35,7 @@ use Rattle.machine_types.specs.declared.plain.Act.TheVariants as acts
 use Rattle.laws_threads.proofs.HeldLists.{held_monitor}
 use Rattle.laws_states.specs.SiteLaws.{SitesDiffer, SitesLieInside}
 use Rattle.laws_states.specs.Sites.{HasObject}
-use Rattle.laws_states.proofs.LockViews.{not_there, not_held}
+use Rattle.laws_states.proofs.LockViews.{not_held}
 use Rattle.laws_states.proofs.WordViews.{lock_of_word, object_has, set_self}
 use Rattle.laws_simulation.specs.StandsBeside.{ends_shown}
 use Rattle.laws_simulation.proofs.GoingOnAlike.{ends_before, none_ends}
@@ -73,7 +74,7 @@ module _ (lies : StartLiesApart) (differ : SitesDiffer) (inside : SitesLieInside
   nobody_fat m r e none = by_words m (locks.Fat r) e (λ u. not_zero u)
     where
       not_zero : (u : ℕ) → hold_by_word u (locks.Fat r) (owner_at s.words) ≡ NotHeld
-      not_zero u = ap (λ (b : Bool). cond b (HeldFat r) NotHeld) (ap (λ (n : ℕ). n == u + 1) none ∙ not_there 0 (u + 1) (λ f. omega (arith, f)))
+      not_zero u = ap (λ (b : Bool). cond b (HeldFat r) NotHeld) (ap (λ (n : ℕ). n == u + 1) none ∙ ne_eqb 0 (u + 1) (λ f. omega (arith, f)))
 
   -- ---- it has the monitor already
 

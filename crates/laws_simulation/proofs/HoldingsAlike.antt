@@ -3,6 +3,7 @@
 use Rattle.std.proofs.Common.{◌≡◌, ◌≢◌, ◌⊎◌, inl, inr, ℕ, Bool, true, false, cond, List, [], ◌∷◌, Option, Some, None, refl, sym, ap, ◌∙◌, subst, arith}
 use Rattle.std.specs.Prelude.{not, ◌==◌, option_map, slice_get, slice_set}
 use Rattle.std.proofs.lemmas.Bool.Decides.{nat_tests, Decides-eqb}
+use Rattle.std.proofs.lemmas.Bool.{ne_eqb}
 use Rattle.machine_types.specs.Agreement.{depth_for, depth_of}
 use Rattle.machine_types.specs.HeldMonitors.{held_at, depth_at, with_held, without_held}
 use Rattle.machine_types.specs.PlainState.{Holding, holding_at, with_holding, without_holding, is_holder}
@@ -12,21 +13,13 @@ use Rattle.machine_types.specs.declared.lock.Held.{Held}
 use Rattle.laws_threads.proofs.HeldLists.{held_put, held_without}
 use Rattle.laws_states.proofs.Lists.{same_or_not}
 use Rattle.laws_states.proofs.LockViews.{same_there}
-use Rattle.laws_states.proofs.EventFacts.{got_when_set}
-use Rattle.laws_simulation.proofs.Assembled.{got_other}
+use Rattle.laws_states.proofs.EventFacts.{got_when_set, got_other}
 
 -- of each thread and each monitor
 abbrev pub HoldAlike : List Holding → List Thread → Type 0
 HoldAlike holdings threads = (t m : ℕ) → depth_for t (holding_at holdings m) ≡ depth_of (slice_get threads t) m
 
 -- ---- numbers
-
-pub is_other : (n k : ℕ) → n ≢ k → (n == k) ≡ false
-is_other n k d = by_test (n == k) refl
-  where
-    by_test : (b : Bool) → (n == k) ≡ b → b ≡ false
-    by_test true e = let same : n ≡ k = grind (arith, nat_tests, e) in absurd (d same)
-    by_test false e = refl
 
 -- ---- one thread of a list is changed
 
@@ -75,13 +68,13 @@ pub put_here : (h : Holding) (hs : List Holding) → holding_at (with_holding h 
 put_here h hs = holding_put h.monitor h hs ∙ ap (λ (b : Bool). cond b (Some h) (holding_at hs h.monitor)) (same_there h.monitor)
 
 pub put_else : (m : ℕ) (h : Holding) (hs : List Holding) → h.monitor ≢ m → holding_at (with_holding h hs) m ≡ holding_at hs m
-put_else m h hs d = holding_put m h hs ∙ ap (λ (b : Bool). cond b (Some h) (holding_at hs m)) (is_other h.monitor m d)
+put_else m h hs d = holding_put m h hs ∙ ap (λ (b : Bool). cond b (Some h) (holding_at hs m)) (ne_eqb h.monitor m d)
 
 pub without_here : (n : ℕ) (hs : List Holding) → holding_at (without_holding n hs) n ≡ None
 without_here n hs = holding_without n n hs ∙ ap (λ (b : Bool). cond b None (holding_at hs n)) (same_there n)
 
 pub without_else : (m n : ℕ) (hs : List Holding) → n ≢ m → holding_at (without_holding n hs) m ≡ holding_at hs m
-without_else m n hs d = holding_without m n hs ∙ ap (λ (b : Bool). cond b None (holding_at hs m)) (is_other n m d)
+without_else m n hs d = holding_without m n hs ∙ ap (λ (b : Bool). cond b None (holding_at hs m)) (ne_eqb n m d)
 
 -- ---- the holder
 
@@ -89,7 +82,7 @@ pub own_depth : (t : ℕ) (h : Holding) → h.holder ≡ t → depth_for t (Some
 own_depth t h e = ap (λ (b : Bool). cond b (Some h.depth) None) (ap (λ (n : ℕ). n == t) e ∙ same_there t)
 
 pub other_depth : (u : ℕ) (h : Holding) → h.holder ≢ u → depth_for u (Some h) ≡ None
-other_depth u h d = ap (λ (b : Bool). cond b (Some h.depth) None) (is_other h.holder u d)
+other_depth u h d = ap (λ (b : Bool). cond b (Some h.depth) None) (ne_eqb h.holder u d)
 
 -- a thread that has a depth is the holder
 pub record IsHolding (o : Option Holding) (t m depth : ℕ) : Type 0 where

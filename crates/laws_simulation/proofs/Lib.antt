@@ -14,7 +14,7 @@ pub mod EventSteps
 pub mod TopPlaces
 mod HeldToLeave
 mod PrintWords
-mod FrameEffects
+pub mod FrameEffects
 pub mod ElementEvents
 pub mod HeaderEvents
 pub mod IndexEvents

@@ -25,7 +25,7 @@ use Rattle.machine_types.specs.declared.lock.LockWord.TheVariants as locks
 use Rattle.machine_types.specs.declared.phase.Phase.{Phase}
 use Rattle.machine_types.specs.declared.phase.Phase.TheVariants as phases
 use Rattle.laws_states.specs.Sites.{Site, Counter, HeaderOf, ValueOf, NewHeaderOf, StaticAt, site_word, IsThere}
-use Rattle.laws_states.proofs.Lists.{contained_got, got_contains, same_or_not, set_here, set_there}
+use Rattle.laws_states.proofs.Lists.{contained_got, same_or_not, set_here, set_there}
 use Rattle.laws_states.proofs.Headers.{new_header}
 use Rattle.laws_states.proofs.Sites.{two_at_least}
 use Rattle.laws_states.proofs.WordSteps.{apart_on}
@@ -38,6 +38,7 @@ use Rattle.laws_simulation.proofs.PlainPlaces.{place_low, no_lock_place}
 use Rattle.laws_simulation.proofs.PlainWrites.{shape_reference, shape_class, shape_long, written_from, written_to, written_references, apart_written, other_place, here_place, NoHeader, known_written, header_shaped}
 use Rattle.laws_simulation.proofs.WaitBits.{bit_by, same_bit, same_lock}
 use Rattle.laws_simulation.proofs.Scene.{Scene, Memory}
+use Rattle.laws_threads.proofs.MonitorMoves.{contains_got}
 
 -- a field or an element, or a static field
 abbrev pub IsValueSite : Site → Type 0
@@ -109,7 +110,7 @@ module _ (c : MarkedProgram) (cfg : Config) (objects : List Object) (was : ℕ �
 
   module _ (site : Site) (value : IsValueSite site) (there : IsThere c.program objects s site) (v w : ℕ) (stands : value_at q (site_word site) ≡ Some w) where
     no_header : NoHeader q.objects (site_word site)
-    no_header i o g e = by_side (scene.beside.others o (got_contains q.objects i o g))
+    no_header i o g e = by_side (scene.beside.others o (contains_got q.objects i o g))
       where
         by_side : IsAmong objects o.reference ⊎ IsBeingMade s.threads o.reference → ⊥
         by_side (inl h) = no_header_site site o.reference value (scene.differ c objects s site (HeaderOf o.reference) scene.marked scene.facts.heap there h e)
@@ -120,7 +121,7 @@ module _ (c : MarkedProgram) (cfg : Config) (objects : List Object) (was : ℕ �
         let e = written_to q.objects (site_word site) v k.there.0 k.object (contained_got q.objects k.object k.there) in
         record {
           object = e.0;
-          there = got_contains (object_write q.objects (site_word site) v) k.there.0 e.0 e.1;
+          there = contains_got (object_write q.objects (site_word site) v) k.there.0 e.0 e.1;
           reference = shape_reference k.object e.0 e.2 ∙ k.reference;
           class = shape_class k.object e.0 e.2 ∙ k.class;
           values = shape_long k.object e.0 e.2 ∙ k.values;
@@ -130,7 +131,7 @@ module _ (c : MarkedProgram) (cfg : Config) (objects : List Object) (was : ℕ �
     other_written : (new : Thread) → MakesNone x.phase → (e : Object) → Contains (object_write q.objects (site_word site) v) e → IsAmong objects e.reference ⊎ IsBeingMade (slice_set s.threads t new) e.reference
     other_written new old e k =
         let o = written_from q.objects (site_word site) v k.0 e (contained_got (object_write q.objects (site_word site) v) e k) in
-        subst (λ (a : ℕ). IsAmong objects a ⊎ IsBeingMade (slice_set s.threads t new) a) (sym (shape_reference o.0 e o.2)) (still_among new old o.0.reference (scene.beside.others o.0 (got_contains q.objects k.0 o.0 o.1)))
+        subst (λ (a : ℕ). IsAmong objects a ⊎ IsBeingMade (slice_set s.threads t new) a) (sym (shape_reference o.0 e o.2)) (still_among new old o.0.reference (scene.beside.others o.0 (contains_got q.objects k.0 o.0 o.1)))
 
     pub writes : (new : Thread) → MakesNone x.phase → MakesNone new.phase → Memory c.program objects s (slice_set s.words (site_word site) v) q (written q (site_word site) v) t new
     writes new old none = record {

@@ -29,6 +29,7 @@ use Rattle.laws_simulation.specs.StandsBeside.{StandsBeside, ends_shown, end_of_
 use Rattle.laws_simulation.specs.StepsBeside.{NextStandsBeside}
 use Rattle.laws_simulation.proofs.PartBegins.{Alike, Pairs, same_pairs, begins_beside}
 use Rattle.laws_simulation.proofs.PartsDue.{rests_between, no_attempt}
+use Rattle.laws_threads.proofs.PartSteps.{returned}
 
 -- ---- `run` is there where there are workers
 
@@ -148,10 +149,6 @@ all_idle [] u z all e = absurd (cc)
 all_idle (w ∷ workers) zero z all e = ap (λ (v : Thread). v.phase) (sym (same_some e)) ∙ all.0
 all_idle (w ∷ workers) (suc u) z all e = all_idle workers u z all.1 e
 
-returned_is : (phase : Phase) → ended_by has_returned phase ≡ true → phase ≡ phases.Ended ends.Returned
-returned_is (phases.Ended ends.Returned) h = refl
-returned_is phase h = absurd (cc)
-
 module _ (stands : RunStands) (c : MarkedProgram) (cfg : Config) (objects : List Object) (was : ℕ → Phase) (s : Core) (q : Plain) (marked : IsMarked c) (facts : StateFacts c cfg objects was s) (beside : StandsBeside c.program objects s q)
     (x : Thread) (workers : List Thread) (threads : s.threads ≡ x ∷ workers) where
   first : slice_get s.threads 0 ≡ Some x
@@ -202,7 +199,7 @@ module _ (stands : RunStands) (c : MarkedProgram) (cfg : Config) (objects : List
       none_left = facts.parts.returned 0 x first (subst HasReturned (sym rests) tt)
 
   by_part : (part : ℕ) → x.part ≡ part → may_begin_by part x.phase workers ≡ true → StandsBeside c.program objects (record s { threads = part_begins c.program part x workers }) q
-  by_part zero e h = run_begins e (returned_is x.phase h)
+  by_part zero e h = run_begins e (returned x.phase h)
   by_part (suc zero) e h = done_begin e
   by_part (suc (suc part)) e h = absurd (cc)
 

@@ -29,8 +29,8 @@ use Rattle.laws_states.specs.SiteLaws.{SitesLieInside}
 use Rattle.laws_states.proofs.Lists.{same_or_not}
 use Rattle.laws_states.proofs.WordViews.{set_self}
 use Rattle.laws_states.proofs.LockViews.{same_there}
-use Rattle.laws_states.proofs.EventFacts.{got_when_set}
-use Rattle.laws_simulation.proofs.Assembled.{got_same_length, got_other}
+use Rattle.laws_states.proofs.EventFacts.{got_when_set, got_other}
+use Rattle.laws_simulation.proofs.Assembled.{got_same_length}
 use Rattle.std.proofs.lemmas.List.{length-set}
 use Rattle.laws_simulation.specs.StepsBeside.{StepsBeside}
 use Rattle.laws_simulation.proofs.HoldingsAlike.{alike_kept}

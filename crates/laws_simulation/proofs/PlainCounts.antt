@@ -3,6 +3,7 @@ use Rattle.std.proofs.Common.{◌≡◌, ◌≢◌, ℕ, ◌+◌, Bool, true, fa
 use Rattle.std.specs.Prelude.{◌==◌, ◌&&◌, option_and_then, slice_get}
 use Rattle.std.specs.List.{AllByRecursion}
 use Rattle.std.proofs.lemmas.Bool.Decides.{nat_tests}
+use Rattle.std.proofs.lemmas.Bool.{and_right}
 use Rattle.jvm_types.specs.declared.program.Program.{Program}
 use Rattle.machine_types.specs.Counting.{is_run, is_free, is_take, one_if, step_count, run_at, take_at, count_from, count_along}
 use Rattle.machine_types.specs.History.{steps_of}
@@ -52,10 +53,6 @@ first_along p count t act acts q all = let rest = by_step (plain_step p q (recor
 
 -- ---- those of other threads
 
-not_both : (a b : Bool) → b ≡ false → (a && b) ≡ false
-not_both true b e = e
-not_both false b e = refl
-
 other_count : (test : Act → Status → Bool) (t u : ℕ) (act : Act) (o : Option PlainThread) → u ≢ t → step_count test u (record { thread = t; act = act }) o ≡ 0
 other_count test t u act None d = refl
 other_count test t u act (Some x) d = ap (λ (b : Bool). one_if (b && test act x.status)) (apart t u d)
@@ -81,7 +78,7 @@ others_are_not_counted p t u acts q d = record {
 
 no_count : (test : Act → Status → Bool) (t u : ℕ) (act : Act) (o : Option PlainThread) → ((status : Status) → test act status ≡ false) → step_count test u (record { thread = t; act = act }) o ≡ 0
 no_count test t u act None none = refl
-no_count test t u act (Some x) none = ap one_if (not_both (t == u) (test act x.status) (none x.status))
+no_count test t u act (Some x) none = ap one_if (and_right (t == u) (test act x.status) (none x.status))
 
 abbrev pub is_do : Act → Bool
 is_do acts.Do = true

@@ -13,7 +13,8 @@ use Rattle.machine_types.specs.ObjectsApart.{IsBeside, IsOutside, LieApart}
 use Rattle.machine_types.specs.Owners.{references_of}
 use Rattle.machine_types.specs.PlainMemory.{Object, StaticValue, header_of, first_value, object_end, has_value, value_in, object_value, static_value, new_object}
 use Rattle.machine_types.specs.Words.{header_word}
-use Rattle.laws_states.proofs.Lists.{contained_got, got_contains}
+use Rattle.laws_states.proofs.Lists.{contained_got}
+use Rattle.laws_threads.proofs.MonitorMoves.{contains_got}
 
 -- ---- a list with one more behind
 
@@ -37,16 +38,16 @@ got_last [] y = refl
 got_last (z ∷ xs) y = got_last xs y
 
 pub contains_before : {X : Type 0} (xs : List X) (y x : X) → Contains xs x → Contains (xs ++ y ∷ []) x
-contains_before xs y x k = got_contains (xs ++ y ∷ []) k.0 x (got_before xs y k.0 x (contained_got xs x k))
+contains_before xs y x k = contains_got (xs ++ y ∷ []) k.0 x (got_before xs y k.0 x (contained_got xs x k))
 
 pub contains_last : {X : Type 0} (xs : List X) (y : X) → Contains (xs ++ y ∷ []) y
-contains_last xs y = got_contains (xs ++ y ∷ []) (length xs) y (got_last xs y)
+contains_last xs y = contains_got (xs ++ y ∷ []) (length xs) y (got_last xs y)
 
 pub contained_last : {X : Type 0} (xs : List X) (y x : X) → Contains (xs ++ y ∷ []) x → Contains xs x ⊎ (x ≡ y)
 contained_last xs y x k = by_place (last_got xs y k.0 x (contained_got (xs ++ y ∷ []) x k))
   where
     by_place : (slice_get xs k.0 ≡ Some x) ⊎ ((k.0 ≡ length xs) × (x ≡ y)) → Contains xs x ⊎ (x ≡ y)
-    by_place (inl g) = inl (got_contains xs k.0 x g)
+    by_place (inl g) = inl (contains_got xs k.0 x g)
     by_place (inr e) = inr e.1
 
 pub references_last : (os : List Object) (o : Object) → references_of (os ++ o ∷ []) ≡ references_of os ++ o.reference ∷ []

@@ -4,6 +4,7 @@ use Rattle.std.proofs.Common.{◌≡◌, ◌≢◌, ◌⊎◌, inl, inr, ℕ, ze
 use Rattle.std.specs.Prelude.{Contains, slice_get, ◌==◌, ◌&&◌, if◌then◌else◌}
 use Rattle.std.specs.Option.{option_or}
 use Rattle.std.proofs.lemmas.Bool.Decides.{nat_tests, Decides-eqb}
+use Rattle.std.proofs.lemmas.Bool.{ne_eqb}
 use Rattle.lists.proofs.ListLaws.{same_some}
 use Rattle.jvm_types.specs.declared.fixed_words.TheConstants.{FIRST_READY_WORD}
 use Rattle.jvm_types.specs.declared.program.Program.{Program}
@@ -13,15 +14,6 @@ use Rattle.machine_types.specs.PlainState.{Plain, value_at}
 use Rattle.machine_types.specs.Words.{header_word, value_word}
 use Rattle.laws_states.proofs.Lists.{contained_got, same_or_not}
 use Rattle.laws_states.proofs.LockViews.{same_there}
-
--- ---- tests
-
-no_other : (n m : ℕ) → n ≢ m → (n == m) ≡ false
-no_other n m d = by_test (n == m) refl
-  where
-    by_test : (b : Bool) → (n == m) ≡ b → b ≡ false
-    by_test true e = absurd (d ((Decides-eqb n m).0 e))
-    by_test false e = refl
 
 -- ---- one object
 
@@ -75,7 +67,7 @@ got_some (x ∷ xs) (suc i) lt = got_some xs i (omega (arith, lt))
 
 pub value_in_object : (o : Object) (i : ℕ) → i < length o.values → value_in o (value_word o.reference i) ≡ slice_get o.values i
 value_in_object o i lt =
-    ap (λ (b : Bool). if b then Some (header_of o) else if has_value o at then slice_get o.values (at - first_value o) else None) (no_other at (header_word o.reference) (λ e. omega (arith, e)))
+    ap (λ (b : Bool). if b then Some (header_of o) else if has_value o at then slice_get o.values (at - first_value o) else None) (ne_eqb at (header_word o.reference) (λ e. omega (arith, e)))
     ∙ ap (λ (b : Bool). if b then slice_get o.values (at - first_value o) else None) (has_it (has_value o at) refl)
     ∙ ap (slice_get o.values) index
   where

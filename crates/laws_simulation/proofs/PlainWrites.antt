@@ -15,7 +15,8 @@ use Rattle.machine_types.specs.Owners.{references_of}
 use Rattle.machine_types.specs.PlainMemory.{Object, StaticValue, header_of, first_value, object_end, has_value, value_in, object_value, object_write, static_value, static_write}
 use Rattle.machine_types.specs.PlainState.{Plain, value_at, written}
 use Rattle.machine_types.specs.Words.{header, header_word, value_word}
-use Rattle.laws_states.proofs.Lists.{contained_got, got_contains}
+use Rattle.laws_states.proofs.Lists.{contained_got}
+use Rattle.laws_threads.proofs.MonitorMoves.{contains_got}
 
 -- ---- objects of one shape: they differ in their values alone
 
@@ -112,7 +113,7 @@ apart_shaped p os es ss rs next shaped named back apart = record {
   sized = λ i o g n. let a = shaped i o g in shape_sized a.0 o a.2 (apart.sized i a.0 a.1) n;
   statics_begin = λ j s g. let b = named j s g in subst (λ (n : ℕ). FIRST_READY_WORD ≤ n) b.2 (apart.statics_begin j b.0 b.1);
   statics_below = λ j s g. let b = named j s g in subst (λ (n : ℕ). (n < next) × (n < p.heap)) b.2 (apart.statics_below j b.0 b.1);
-  there = λ number f g s. let v = apart.there number f g s in let b = back v.1.0 v.0 (contained_got ss v.0 v.1) in (b.0, got_contains rs v.1.0 b.0 b.1, b.2 ∙ v.2);
+  there = λ number f g s. let v = apart.there number f g s in let b = back v.1.0 v.0 (contained_got ss v.0 v.1) in (b.0, contains_got rs v.1.0 b.0 b.1, b.2 ∙ v.2);
 }
   where
     shape_end : (o e : Object) → IsShaped o e → object_end e ≡ object_end o
@@ -246,7 +247,7 @@ pub known_written : (objects : List Object) (q : Plain) (x v : ℕ) → ArePlain
 known_written objects q x v known o k =
     let e = known o k in
     let d = written_to q.objects x v e.1.0 e.0 (contained_got q.objects e.0 e.1) in
-    (d.0, got_contains (object_write q.objects x v) e.1.0 d.0 d.1, shape_reference e.0 d.0 d.2 ∙ e.2, shape_class e.0 d.0 d.2 ∙ e.3, shape_long e.0 d.0 d.2 ∙ e.4)
+    (d.0, contains_got (object_write q.objects x v) e.1.0 d.0 d.1, shape_reference e.0 d.0 d.2 ∙ e.2, shape_class e.0 d.0 d.2 ∙ e.3, shape_long e.0 d.0 d.2 ∙ e.4)
 
 pub header_shaped : (o e : Object) → IsShaped o e → header_of e ≡ header_of o
 header_shaped o e k = ap (λ (c : ℕ). header c (if c == INT_ARRAY_CLASS then length e.values else 0)) k.class ∙ ap (λ (n : ℕ). header o.class (if o.class == INT_ARRAY_CLASS then n else 0)) k.long

@@ -37,8 +37,8 @@ use Rattle.machine_types.specs.declared.plain.Act.{Act}
 use Rattle.machine_types.specs.declared.plain.Act.TheVariants as acts
 use Rattle.laws_states.proofs.Lists.{same_or_not}
 use Rattle.laws_states.proofs.LockViews.{thin_if_flat}
-use Rattle.laws_states.proofs.EventFacts.{got_when_set}
-use Rattle.laws_simulation.proofs.Assembled.{got_same_length, got_other}
+use Rattle.laws_states.proofs.EventFacts.{got_when_set, got_other}
+use Rattle.laws_simulation.proofs.Assembled.{got_same_length}
 use Rattle.laws_simulation.specs.StandsBeside.{StandsBeside, own_end, ends_shown}
 use Rattle.laws_simulation.specs.StepsBeside.{StepsBeside, IsOfWaiting, WaitingSteps}
 use Rattle.laws_simulation.proofs.HoldingsAlike.{alike_kept, is_holder_then, no_holder_then}

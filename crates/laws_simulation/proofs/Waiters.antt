@@ -2,6 +2,7 @@
 use Rattle.std.proofs.Common.{◌≡◌, ◌≢◌, inr, ℕ, ◌+◌, nat_lt, Bool, true, false, cond, List, [], ◌∷◌, Some, None, refl, sym, ap, ◌∙◌, arith}
 use Rattle.std.specs.Prelude.{slice_get, slice_index, slice_set, ◌==◌, bit_or, if◌then◌else◌}
 use Rattle.std.proofs.lemmas.Bool.Decides.{nat_tests}
+use Rattle.std.proofs.lemmas.Bool.{ne_eqb}
 use Rattle.jvm_types.specs.Numbers.{has_flag}
 use Rattle.jvm_types.specs.declared.fixed_words.TheConstants.{MONITOR_RECORDS}
 use Rattle.jvm_types.specs.declared.outcome.End.TheVariants as ends
@@ -30,7 +31,7 @@ use Rattle.machine_types.specs.declared.phase.Phase.{Phase}
 use Rattle.machine_types.specs.declared.phase.Phase.TheVariants as phases
 use Rattle.machine_types.specs.declared.plain.Act.TheVariants as acts
 use Rattle.laws_states.specs.SiteLaws.{SitesLieInside}
-use Rattle.laws_states.proofs.LockViews.{not_held, not_there, same_there}
+use Rattle.laws_states.proofs.LockViews.{not_held, same_there}
 use Rattle.laws_states.proofs.WordViews.{set_self}
 use Rattle.laws_simulation.specs.StandsBeside.{StandsBeside}
 use Rattle.laws_simulation.specs.StepsBeside.{StepsBeside}
@@ -229,7 +230,7 @@ module _ {c : MarkedProgram} {cfg : Config} {objects : List Object} {was : ℕ �
       none_has : (u : ℕ) (z : Thread) → slice_get s.threads u ≡ Some z → held_at z.held m ≡ None
       none_has u z g =
           let holds : hold_by_word u (lock_at (references_of objects) s.words m) (owner_at s.words) ≡ hold_by_list (held_at z.held m) = (k.facts.owners.each u z g).holds m in
-          let none : hold_by_word u (lock_at (references_of objects) s.words m) (owner_at s.words) ≡ NotHeld = ap (λ (l : LockWord). hold_by_word u l (owner_at s.words)) fat ∙ ap (λ (b : Bool). cond b (HeldFat r) NotHeld) (not_there (owner_at s.words r) (u + 1) (λ f. absurd (omega (arith, f, no_owner)))) in
+          let none : hold_by_word u (lock_at (references_of objects) s.words m) (owner_at s.words) ≡ NotHeld = ap (λ (l : LockWord). hold_by_word u l (owner_at s.words)) fat ∙ ap (λ (b : Bool). cond b (HeldFat r) NotHeld) (ne_eqb (owner_at s.words r) (u + 1) (λ f. absurd (omega (arith, f, no_owner)))) in
           not_held (held_at z.held m) (sym holds ∙ none)
 
       nobody : holding_at q.holdings m ≡ None

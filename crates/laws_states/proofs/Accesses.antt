@@ -48,8 +48,9 @@ use Rattle.laws_threads.proofs.Onwards.{same_op}
 use Rattle.checked_program.specs.TaggedCode.{row_of}
 use Rattle.laws_states.specs.HeapFacts.{HeapFacts}
 use Rattle.laws_states.specs.Sites.{Site, Counter, OwnerOf, BitsOf, LockOf, HeaderOf, ValueOf, NewHeaderOf, StaticAt, site_word, HasObject, IsThere, Suits}
-use Rattle.laws_states.proofs.Lists.{contained_got, got_contains}
+use Rattle.laws_states.proofs.Lists.{contained_got}
 use Rattle.laws_states.proofs.Places.{IsValue, SiteHolds, same_object, site_typed, static_stored, field_stored, element_stored}
+use Rattle.laws_threads.proofs.MonitorMoves.{contains_got}
 
 -- ---- an access that leaves all facts on places
 
@@ -118,7 +119,7 @@ module _ (c : MarkedProgram) (marked : IsMarked c) (objects : List Object) (s : 
   is_program = marked.checked.program
 
   pub out_there : HasClass objects PRINT_STREAM_CLASS out_object
-  out_there = facts.started (record { reference = out_object; class = PRINT_STREAM_CLASS; values = [] }) (got_contains (start_objects c.program) 7 (record { reference = out_object; class = PRINT_STREAM_CLASS; values = [] }) refl)
+  out_there = facts.started (record { reference = out_object; class = PRINT_STREAM_CLASS; values = [] }) (contains_got (start_objects c.program) 7 (record { reference = out_object; class = PRINT_STREAM_CLASS; values = [] }) refl)
 
   -- ---- by what stands at the word
 

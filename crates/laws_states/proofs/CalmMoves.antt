@@ -97,10 +97,10 @@ calm_moved c s got was (moves.leads now k) n h = leads_calm c.program s got was 
 calm_moved c s got was (moves.turns now k) n h = turns_to IsCalm s now (turns_calm s got was now k) tt
 calm_moved c s got _ (moves.prints at i e l t) n h = goes_calm (printed s got i) (Some (Running (went_on c.program at 0))) h
 calm_moved c s got _ (moves.asks_to_wait at m e now f l t k) n h = waits_calm m e.kept now k
-calm_moved c s got _ (moves.asks at m e now f l k) n h = asks_calm m e.kept now k
+calm_moved c s got _ (moves.asks at m e now f y l k) n h = asks_calm m e.kept now k
 calm_moved c s got _ (moves.enters_again m tried e l) n h = runs_to IsCalm s tt tt
 calm_moved c s got _ (moves.enters_inside m tried t k) n h = runs_to IsCalm s tt tt
-calm_moved c s got _ (moves.begins_to_try m tried noted f below e y l t unheld) n h = runs_to IsCalm s tt tt
+calm_moved c s got _ (moves.begins_to_try m tried noted f below e y l t free) n h = runs_to IsCalm s tt tt
 calm_moved c s got was (moves.takes_lock m kept k) n h = runs_to IsCalm s tt tt
 calm_moved c s got was (moves.gives_up m a k) n h = goes_calm (record s { held = without_held m s.held }) (after c.program s.frames a) h
 calm_moved c s got _ (moves.leaves_outer m a e l t) n h = goes_calm (record s { held = with_held (shallower e) s.held }) (after c.program s.frames a) h

@@ -131,7 +131,7 @@ module _ (c : MarkedProgram) (s : Thread) (got began i : ℕ) (few : s.counts.in
   move_counts _ (moves.makes at word size f l t) e h = as_held phases.Run (becomes c (counting i s) got phases.Run (moves.makes at word size f l t)) refl refl refl (omega arith)
   move_counts _ (moves.prints at n f l t) e h = as_before phases.Run (printed (counting i s) got n) (Some (Running (went_on c.program at 0))) refl refl refl (omega arith)
   move_counts _ (moves.asks_to_wait at m g now f l t k) e h = as_held phases.Run (becomes c (counting i s) got phases.Run (moves.asks_to_wait at m g now f l t k)) refl refl refl (omega arith)
-  move_counts _ (moves.asks at m g now f l k) e h = as_held phases.Run (becomes c (counting i s) got phases.Run (moves.asks at m g now f l k)) refl refl refl (omega arith)
+  move_counts _ (moves.asks at m g now f y l k) e h = as_held phases.Run (becomes c (counting i s) got phases.Run (moves.asks at m g now f y l k)) refl refl refl (omega arith)
   move_counts _ (moves.enters_again m n g l) e h = let same = refitted m s.held g (g.depth + 1) l in record { instructions = few; taken = omega (arith, same) }
   move_counts _ (moves.enters_inside m n t k) e h = record { instructions = few; taken = omega arith }
   move_counts _ (moves.begins_to_try m n noted f below l may free last unheld) e h = record { instructions = few; taken = omega arith }

@@ -38,7 +38,7 @@ use Rattle.laws_states.specs.ChangeLaws.{Sets, Clears, BitsFollow}
 none_of : (u : ℕ) → 0 * 2 ^ u ≡ 0
 none_of u = omega arith
 
-no_flag : (n u : ℕ) → bit_at n u ≡ 0 → has_flag (bit_of u) n ≡ false
+pub no_flag : (n u : ℕ) → bit_at n u ≡ 0 → has_flag (bit_of u) n ≡ false
 no_flag n u e =
     let none : bit_and n (2 ^ u) ≡ 0 = and_pow n u ∙ ap (λ (b : ℕ). b * 2 ^ u) e ∙ none_of u in
     ap (λ (k : ℕ). not (k == 0)) none

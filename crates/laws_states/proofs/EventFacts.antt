@@ -39,7 +39,7 @@ got_when_set [] i x y e = cc
 got_when_set (z ∷ zs) zero x y e = refl
 got_when_set (z ∷ zs) (suc i) x y e = got_when_set zs i x y e
 
-got_other : {A : Type 0} (xs : List A) (i j : ℕ) (x : A) → j ≢ i → slice_get (slice_set xs i x) j ≡ slice_get xs j
+pub got_other : {A : Type 0} (xs : List A) (i j : ℕ) (x : A) → j ≢ i → slice_get (slice_set xs i x) j ≡ slice_get xs j
 got_other [] i j x n = refl
 got_other (z ∷ zs) zero zero x n = absurd (n refl)
 got_other (z ∷ zs) zero (suc j) x n = refl

@@ -2,6 +2,7 @@
 use Rattle.std.proofs.Common.{◌≡◌, ◌≢◌, ◌⊎◌, inl, inr, ℕ, ◌+◌, ◌-◌, ◌^◌, ◌<◌, nat_lt, Bool, true, false, cond, List, length, Option, Some, None, refl, sym, ap, ◌∙◌, subst, arith}
 use Rattle.std.specs.Prelude.{◌==◌, bit_and, bit_or, slice_get, slice_index, slice_set}
 use Rattle.std.proofs.lemmas.Bool.Decides.{Decides-eqb}
+use Rattle.std.proofs.lemmas.Bool.{eqb-false}
 use Rattle.jvm_types.specs.Numbers.{has_flag}
 use Rattle.jvm_types.specs.declared.outcome.End.TheVariants as ends
 use Rattle.checked_program.specs.MarkedProgram.{MarkedProgram, IsMarked}
@@ -34,7 +35,6 @@ use Rattle.laws_states.specs.RunFacts.{AreThreads}
 use Rattle.laws_states.specs.SharedWords.{RecordsFit}
 use Rattle.laws_states.specs.WaitingLaws.{EventsKeepWaiting}
 use Rattle.laws_states.proofs.CalmMoves.{IsCalm, GoesCalm, counted_calm, moved_calm, runs_counted}
-use Rattle.laws_states.proofs.LockViews.{not_same}
 use Rattle.laws_states.proofs.PartWaiting.{counted_waits, ended_waits}
 use Rattle.laws_states.proofs.StillBits.{IsStill, same_changes, still_bits}
 use Rattle.laws_states.proofs.WaitingBits.{set_sets, set_keeps, set_other, left_was_set, lowest_set}
@@ -196,7 +196,7 @@ module _ (differ : SitesDiffer) (inside : SitesLieInside) (reach : EventsReachSi
     notify_looks m r after false g e k before behind = record {
       only = λ i few set. absurd ((waits_as (phases.NotifyLook m r) k).only i few (before i t few set));
       must = behind r (lowest_of (slice_index s.words (bits_word r))) (low (phases.NotifyLook m r) e)
-          (lowest_set (slice_index s.words (bits_word r)) (records.bits r (low (phases.NotifyLook m r) e)) (not_same (slice_index s.words (bits_word r)) 0 g));
+          (lowest_set (slice_index s.words (bits_word r)) (records.bits r (low (phases.NotifyLook m r) e)) (eqb-false (slice_index s.words (bits_word r)) 0 g));
     }
 
     -- a thread that owns the record clears bits

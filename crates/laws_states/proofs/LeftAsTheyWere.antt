@@ -1,6 +1,7 @@
 -- An event of a thread leaves the other threads, and the begin of a part all words, attempts and held lists.
 use Rattle.std.proofs.Common.{◌≡◌, ◌≢◌, ◌∙◌, ℕ, zero, suc, Bool, true, false, List, [], ◌∷◌, map, Option, Some, None, refl, ap}
 use Rattle.std.specs.Prelude.{slice_get, if◌then◌else◌}
+use Rattle.std.proofs.lemmas.Bool.{ne_eqb}
 use Rattle.checked_program.specs.MarkedProgram.{MarkedProgram}
 use Rattle.jvm_types.specs.declared.outcome.End.{End}
 use Rattle.jvm_types.specs.declared.program.Program.{Program}
@@ -10,14 +11,13 @@ use Rattle.machine_types.specs.Events.{wanted, moved}
 use Rattle.machine_types.specs.Parts.{run_roots, done_roots}
 use Rattle.machine_types.specs.Threads.{Thread}
 use Rattle.laws_states.specs.ChangeLaws.{EventsLeaveOthers, PartsLeaveWords}
-use Rattle.laws_states.proofs.LockViews.{not_there}
 use Rattle.laws_states.proofs.OwnersStep.{set_other}
 
 -- ---- an event
 
 other_left : (c : MarkedProgram) (s : Core) (t u : ℕ) → u ≢ t → (o : Option Thread) → slice_get (event_of c s t o).threads u ≡ slice_get s.threads u
 other_left c s t u other None = refl
-other_left c s t u other (Some x) = set_other s.threads t u (moved c x x.phase (found_by s.words (wanted c x x.phase))) (not_there u t other)
+other_left c s t u other (Some x) = set_other s.threads t u (moved c x x.phase (found_by s.words (wanted c x x.phase))) (ne_eqb u t other)
 
 pub events_leave_others : EventsLeaveOthers
 events_leave_others c s t u other = other_left c s t u other (slice_get s.threads t)

@@ -56,7 +56,7 @@ pub mod StartThreads
 mod PartLawful
 pub mod NextThreads
 mod States
-mod EventBits
+pub mod EventBits
 mod EventCounts
 mod EventLocks
 pub mod HeldOrTried

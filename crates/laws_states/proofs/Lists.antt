@@ -3,6 +3,7 @@ use Rattle.std.proofs.Common.{◌≡◌, ◌≢◌, ◌⊎◌, inl, inr, ℕ, ze
 use Rattle.std.specs.Prelude.{Contains, slice_get, slice_index, slice_index_or, slice_set, ◌==◌}
 use Rattle.std.proofs.lemmas.Bool.Decides.{nat_tests}
 use Rattle.std.proofs.lemmas.List.{get_or-set_same, get_or-set_other}
+use Rattle.laws_threads.proofs.MonitorMoves.{contains_got}
 
 pub got_below : {X : Type 0} (xs : List X) (i : ℕ) (x : X) → slice_get xs i ≡ Some x → i < length xs
 got_below [] i x e = cc
@@ -22,14 +23,11 @@ got_index [] i x e = cc
 got_index (y ∷ xs) zero x e = cc
 got_index (y ∷ xs) (suc i) x e = got_index xs i x e
 
-pub got_contains : {X : Type 0} (xs : List X) (i : ℕ) (x : X) → slice_get xs i ≡ Some x → Contains xs x
-got_contains xs i x e = (i, got_below xs i x e, got_index xs i x e)
-
 pub contains_more : {X : Type 0} (y : X) (xs : List X) (x : X) → Contains xs x → Contains (y ∷ xs) x
-contains_more y xs x k = got_contains (y ∷ xs) (suc k.0) x (contained_got xs x k)
+contains_more y xs x k = contains_got (y ∷ xs) (suc k.0) x (contained_got xs x k)
 
 pub contains_first : {X : Type 0} (x : X) (xs : List X) → Contains (x ∷ xs) x
-contains_first x xs = got_contains (x ∷ xs) 0 x refl
+contains_first x xs = contains_got (x ∷ xs) 0 x refl
 
 -- ---- two numbers
 

@@ -2,6 +2,7 @@
 use Rattle.std.proofs.Common.{◌≡◌, ◌≢◌, ◌⊎◌, inl, inr, ℕ, ◌+◌, Bool, true, false, cond, Option, Some, None, refl, sym, ap, ◌∙◌, arith}
 use Rattle.std.specs.Prelude.{◌==◌}
 use Rattle.std.proofs.lemmas.Bool.Decides.{nat_tests, Decides-eqb}
+use Rattle.std.proofs.lemmas.Bool.{ne_eqb}
 use Rattle.machine_types.specs.declared.lock.Held.{Held}
 use Rattle.machine_types.specs.declared.lock.Kept.{Kept}
 use Rattle.machine_types.specs.declared.lock.Kept.TheVariants as keeps
@@ -24,16 +25,6 @@ recounted n k count m = cond (n == m) k (count m)
 
 -- ---- tests
 
-pub not_there : (n m : ℕ) → n ≢ m → (n == m) ≡ false
-not_there n m d = by_test (n == m) refl
-  where
-    by_test : (b : Bool) → (n == m) ≡ b → b ≡ false
-    by_test true e = absurd (d ((Decides-eqb n m).0 e))
-    by_test false e = refl
-
-pub not_same : (n m : ℕ) → (n == m) ≡ false → n ≢ m
-not_same n m e g = grind (arith, nat_tests, g, e)
-
 pub same_there : (n : ℕ) → (n == n) ≡ true
 same_there n = grind (arith, nat_tests)
 
@@ -41,7 +32,7 @@ pub itself : (t : ℕ) (h : Hold) → cond (t == t) h NotHeld ≡ h
 itself t h = ap (λ (b : Bool). cond b h NotHeld) (same_there t)
 
 pub another : (t u : ℕ) (h : Hold) → t ≢ u → cond (t == u) h NotHeld ≡ NotHeld
-another t u h d = ap (λ (b : Bool). cond b h NotHeld) (not_there t u d)
+another t u h d = ap (λ (b : Bool). cond b h NotHeld) (ne_eqb t u d)
 
 -- ---- how a thread has a monitor
 

@@ -25,16 +25,17 @@ use Rattle.laws_threads.proofs.Roots.{starts_typed}
 use Rattle.laws_threads.proofs.ThreadTypes.{IsBasedIn, Rests, TypedBy}
 use Rattle.laws_threads.proofs.KeptTypes.{based_in, needs_shown}
 use Rattle.laws_states.specs.HeapFacts.{HeapFacts}
-use Rattle.laws_states.proofs.Lists.{contained_got, got_contains}
+use Rattle.laws_states.proofs.Lists.{contained_got}
 use Rattle.laws_states.proofs.Accesses.{out_there, element_site}
 use Rattle.laws_states.proofs.Found.{run_finds, element_found}
 use Rattle.laws_states.proofs.Phases.{IsOldPhase, Asks, asked}
+use Rattle.laws_threads.proofs.MonitorMoves.{contains_got}
 
 -- ---- the objects that are there from the start
 
 module _ (c : MarkedProgram) (marked : IsMarked c) (objects : List Object) (s : Core) (facts : HeapFacts c objects s) where
   ready_at : (x : Thrown) (i : ℕ) → slice_get (start_objects c.program) i ≡ Some (record { reference = ready x; class = class_of x; values = [] }) → HasClass objects (class_of x) (ready x)
-  ready_at x i e = facts.started (record { reference = ready x; class = class_of x; values = [] }) (got_contains (start_objects c.program) i (record { reference = ready x; class = class_of x; values = [] }) e)
+  ready_at x i e = facts.started (record { reference = ready x; class = class_of x; values = [] }) (contains_got (start_objects c.program) i (record { reference = ready x; class = class_of x; values = [] }) e)
 
   ready_there : (x : Thrown) → IsByMachine x → HasClass objects (class_of x) (ready x)
   ready_there thrown.Throwable own = absurd own

@@ -24,11 +24,12 @@ use Rattle.machine_types.specs.Typed.{Classes, KindHolds, HasClass, PlacesHold}
 use Rattle.machine_types.specs.Words.{header_class, header_length, header_word, value_word, object_size, array_size}
 use Rattle.machine_types.specs.declared.phase.Phase.TheVariants as phases
 use Rattle.laws_states.specs.HeapFacts.{HeapFacts}
-use Rattle.laws_states.proofs.Lists.{contained_got, got_contains, contains_more, contains_first, set_here, set_there}
+use Rattle.laws_states.proofs.Lists.{contained_got, contains_more, contains_first, set_here, set_there}
 use Rattle.laws_states.proofs.Sites.{two_at_least, static_low}
 use Rattle.laws_states.proofs.Headers.{new_header}
 use Rattle.laws_states.proofs.Lifted.{kind_up}
 use Rattle.laws_states.proofs.Assembled.{Behind}
+use Rattle.laws_threads.proofs.MonitorMoves.{contains_got}
 
 -- null, 0 and false
 zero_holds : (is : Classes) (kind : Kind) (v : ℕ) → v ≡ 0 → KindHolds is kind v
@@ -86,7 +87,7 @@ module _ (lies : StartLiesApart) (c : MarkedProgram) (marked : IsMarked c) (obje
       by_test false e = length-replicate {A = ℕ} (object_size c.program (header_class word) - OBJECT_HEAD_WORDS) 0 ∙ omega arith
 
   outside_new : (v : StaticValue) (j : ℕ) → slice_get (start_statics c.program) j ≡ Some v → IsOutside new v.word
-  outside_new v j e = inl (omega (arith, (static_low lies c objects s marked facts v.word (v, got_contains (start_statics c.program) j v e, refl)).1, k.begins))
+  outside_new v j e = inl (omega (arith, (static_low lies c objects s marked facts v.word (v, contains_got (start_statics c.program) j v e, refl)).1, k.begins))
 
   -- of the first one of the objects
   first : (P : Object → Type 0) (o : Object) → slice_get later 0 ≡ Some o → P new → P o
@@ -108,8 +109,8 @@ module _ (lies : StartLiesApart) (c : MarkedProgram) (marked : IsMarked c) (obje
     where
       beside : (i j : ℕ) (o e : Object) → slice_get later i ≡ Some o → slice_get later j ≡ Some e → i ≢ j → IsBeside o e
       beside zero zero o e g h n = absurd (n refl)
-      beside zero (suc j) o e g h n = first (λ z. IsBeside z e) o g (beside_new e (got_contains objects j e h))
-      beside (suc i) zero o e g h n = first (λ z. IsBeside o z) e h (turned new o (beside_new o (got_contains objects i o g)))
+      beside zero (suc j) o e g h n = first (λ z. IsBeside z e) o g (beside_new e (contains_got objects j e h))
+      beside (suc i) zero o e g h n = first (λ z. IsBeside o z) e h (turned new o (beside_new o (contains_got objects i o g)))
       beside (suc i) (suc j) o e g h n = facts.apart.beside i j o e g h (λ same. n (ap suc same))
 
       mixed : (i j : ℕ) (o : Object) (v : StaticValue) → slice_get later i ≡ Some o → slice_get (start_statics c.program) j ≡ Some v → IsOutside o v.word
@@ -164,7 +165,7 @@ module _ (lies : StartLiesApart) (c : MarkedProgram) (marked : IsMarked c) (obje
       headers_of zero o g = first (λ z. slice_index after (header_word z.reference) ≡ header_of z) o g
           (set_here s.words (header_word a) word (omega (arith, k.inside, two_at_least c.program word, facts.unused.many)) ∙ sym (new_header c.program is_program a word header))
       headers_of (suc j) o g =
-          let l = got_contains objects j o g in
+          let l = contains_got objects j o g in
           unchanged (header_word o.reference) (elsewhere o (header_word o.reference) l (omega arith) (omega arith)) ∙ facts.typed.places.headers o l
 
       fields_of : (j : ℕ) (o : Object) (number : ℕ) (f : FieldInfo) → slice_get later j ≡ Some o → slice_get c.program.fields number ≡ Some f → is_static f.flags ≡ false → o.class ≡ f.class
@@ -178,7 +179,7 @@ module _ (lies : StartLiesApart) (c : MarkedProgram) (marked : IsMarked c) (obje
               let sized = sized_new (λ array. absurd (omega (arith, array, class, from))) in
               subst (λ i. f.index < i) (sym sized) (subst (λ d. f.index < instances_among d c.program.fields) (sym class) (instances_inside c.program number f is_program e n))
       fields_of (suc j) o number f g e n class =
-          let l = got_contains objects j o g in
+          let l = contains_got objects j o g in
           let from = (is_program.fields number f e).class.0 in
           let sized = facts.apart.sized j o g (λ array. absurd (omega (arith, array, class, from))) in
           let inside : f.index < length o.values = subst (λ i. f.index < i) (sym sized) (subst (λ d. f.index < instances_among d c.program.fields) (sym class) (instances_inside c.program number f is_program e n)) in
@@ -188,7 +189,7 @@ module _ (lies : StartLiesApart) (c : MarkedProgram) (marked : IsMarked c) (obje
       elements_of : (j : ℕ) (o : Object) (i : ℕ) → slice_get later j ≡ Some o → o.class ≡ INT_ARRAY_CLASS → i < length o.values → slice_index after (value_word o.reference i) < 2 ^ 32
       elements_of zero o i g array lt = first (λ z. i < length z.values → slice_index after (value_word z.reference i) < 2 ^ 32) o g (λ lt. omega (arith, empty_value i lt)) lt
       elements_of (suc j) o i g array lt =
-          let l = got_contains objects j o g in
+          let l = contains_got objects j o g in
           let same = unchanged (value_word o.reference i) (elsewhere o (value_word o.reference i) l (omega arith) (omega (arith, lt))) in
           subst (λ v. v < 2 ^ 32) (sym same) (facts.typed.places.elements o i l array lt)
 
@@ -215,7 +216,7 @@ module _ (lies : StartLiesApart) (c : MarkedProgram) (marked : IsMarked c) (obje
     where
       headers_of : (j : ℕ) (o : Object) → slice_get later j ≡ Some o → IsHeader c.program (header_of o)
       headers_of zero o g = first (λ z. IsHeader c.program (header_of z)) o g (subst (IsHeader c.program) (sym (new_header c.program is_program a word header)) header)
-      headers_of (suc j) o g = facts.headers o (got_contains objects j o g)
+      headers_of (suc j) o g = facts.headers o (contains_got objects j o g)
 
       sides : (u : ℕ) (z : Thread) (b other : ℕ) → u ≢ t → slice_get s.threads u ≡ Some z → z.phase ≡ phases.Made b other → (a + size_by c.program word ≤ b) ⊎ (b + size_by c.program other ≤ a)
       sides u z b other differ e m = facts.new_objects.apart t u x z a b word other there e (λ same. differ (sym same)) made m
@@ -234,7 +235,7 @@ module _ (lies : StartLiesApart) (c : MarkedProgram) (marked : IsMarked c) (obje
           by_side : (a + size_by c.program word ≤ b) ⊎ (b + size_by c.program other ≤ a) → (object_end new ≤ b) ⊎ (b + size_by c.program other ≤ new.reference)
           by_side (inl h) = inl (omega (arith, h, ends))
           by_side (inr h) = inr h
-      beside_of (suc j) u z b other differ e m o g = let other_new = facts.new_objects.each u z b other e m in other_new.beside o (got_contains objects j o g)
+      beside_of (suc j) u z b other differ e m o g = let other_new = facts.new_objects.each u z b other e m in other_new.beside o (contains_got objects j o g)
 
   pub class_new : HasClass later (header_class word) a
   class_new = (new, contains_first new objects, refl, refl)

@@ -198,7 +198,7 @@ module _ (c : MarkedProgram) (x : Thread) (got : ℕ) where
   move_changes phase (moves.turns now k) i e has = one_more_turn x now
   move_changes _ (moves.enters_again m tried h l) i e has = runs_changed (phases.Enter m tried) e refl (record x { held = with_held (deeper h) x.held })
   move_changes _ (moves.enters_inside m tried t k) i e has = runs_changed (phases.Enter m tried) e refl (record x { attempt = Some (record t { inner = t.inner + 1 }) })
-  move_changes _ (moves.begins_to_try m tried noted f below l y g t unheld) i e has = runs_changed (phases.Enter m tried) e refl (record x { attempt = Some (begun_attempt m noted tried f below) })
+  move_changes _ (moves.begins_to_try m tried noted f below l y g t free) i e has = runs_changed (phases.Enter m tried) e refl (record x { attempt = Some (begun_attempt m noted tried f below) })
   move_changes phase (moves.takes_lock m kept k) i e has = by_kind runs_or_ends x (takes x m kept) phase e (takes_in (λ (w : Phase). runs_or_ends w ≡ false) got m phase kept k (λ count. refl) (λ r. refl)) (runs_to (λ (w : Phase). runs_or_ends w ≡ true) x refl refl)
   move_changes _ (moves.gives_up m a (moves.on_leave h l t)) i e has = behind_changed (phases.Leave m a) (record x { held = without_held m x.held }) a e refl has.1
   move_changes _ (moves.gives_up m a moves.flat_out) i e has = behind_changed (phases.FlatOut m a) (record x { held = without_held m x.held }) a e refl has.1

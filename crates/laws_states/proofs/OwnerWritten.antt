@@ -2,6 +2,7 @@
 use Rattle.std.proofs.Common.{◌≡◌, ◌≢◌, inl, ℕ, ◌+◌, ◌≤◌, Bool, true, false, cond, Option, Some, None, refl, sym, ap, ◌∙◌, subst}
 use Rattle.std.specs.Prelude.{◌==◌}
 use Rattle.std.proofs.lemmas.Bool.Decides.{Decides-eqb}
+use Rattle.std.proofs.lemmas.Bool.{ne_eqb}
 use Rattle.machine_types.specs.HeldMonitors.{held_at}
 use Rattle.machine_types.specs.Owners.{Locks, NotHeld, HeldFat, hold_by_word, hold_by_list, drawn_by, Knows, PhaseSaw, AttemptSawIn, IsKeptIn, Owns, AreLocks}
 use Rattle.machine_types.specs.Threads.{Attempt, Thread}
@@ -10,7 +11,7 @@ use Rattle.machine_types.specs.declared.lock.LockWord.{LockWord}
 use Rattle.machine_types.specs.declared.lock.LockWord.TheVariants as locks
 use Rattle.machine_types.specs.declared.phase.Phase.{Phase}
 use Rattle.machine_types.specs.declared.phase.Phase.TheVariants as phases
-use Rattle.laws_states.proofs.LockViews.{set_owner, not_there, same_there}
+use Rattle.laws_states.proofs.LockViews.{set_owner, same_there}
 use Rattle.laws_states.proofs.OwnersStep.{Owes, flat_in}
 
 module _ (v : Locks) (count : ℕ → ℕ) (one owner : ℕ) where
@@ -30,7 +31,7 @@ module _ (v : Locks) (count : ℕ → ℕ) (one owner : ℕ) where
   words_apart u (locks.Free c) d = refl
   words_apart u (locks.Held i) d = refl
   words_apart u (locks.Flagged i) d = refl
-  words_apart u (locks.Fat r) d = ap (λ (b : Bool). cond (cond b owner (v.owner r) == u + 1) (HeldFat r) NotHeld) (not_there one r (λ e. d (ap locks.Fat (sym e))))
+  words_apart u (locks.Fat r) d = ap (λ (b : Bool). cond (cond b owner (v.owner r) == u + 1) (HeldFat r) NotHeld) (ne_eqb one r (λ e. d (ap locks.Fat (sym e))))
 
   knows_same : (u : ℕ) (phase : Phase) → (v.owner one == u + 1) ≡ false → Knows v u phase → Knows (set_owner one owner v) u phase
   knows_same u (phases.Own m r toward) f h = record { unnamed = h.unnamed; below = h.below }

@@ -2,6 +2,7 @@
 use Rattle.std.proofs.Common.{◌≡◌, inl, inr, ℕ, ◌+◌, ◌<◌, ◌≤◌, nat_lt, Bool, true, false, cond, List, Option, Some, None, refl, sym, ap, ◌∙◌, subst, arith}
 use Rattle.std.specs.Prelude.{◌==◌, if◌then◌else◌}
 use Rattle.std.proofs.lemmas.Bool.Decides.{nat_tests, Decides-eqb}
+use Rattle.std.proofs.lemmas.Bool.{ne_eqb, eqb-false}
 use Rattle.machine_types.specs.HeldMonitors.{held_at, with_held, without_held}
 use Rattle.machine_types.specs.LockWords.{next_count}
 use Rattle.machine_types.specs.Owners.{Locks, Hold, NotHeld, HeldFlat, HeldFat, hold_by_word, hold_by_kept, hold_by_list, drawn_by, IsDrawn, Knows, PhaseSaw, AttemptSawIn, IsKeptIn, Owns, AreLocks, one_if_flat}
@@ -18,7 +19,7 @@ use Rattle.machine_types.specs.declared.phase.Phase.{Phase}
 use Rattle.machine_types.specs.declared.phase.Phase.TheVariants as phases
 use Rattle.laws_threads.proofs.HeldLists.{held_monitor, held_put, held_without}
 use Rattle.laws_states.proofs.CountedPhases.{IsPlain, plain_knows, plain_saw, plain_draws_none}
-use Rattle.laws_states.proofs.LockViews.{set_lock, set_owner, set_next, recounted, not_there, not_same, same_there, itself, another, fatly, thin_if_flat, flat_alone}
+use Rattle.laws_states.proofs.LockViews.{set_lock, set_owner, set_next, recounted, same_there, itself, another, fatly, thin_if_flat, flat_alone}
 use Rattle.laws_states.proofs.LockWritten.{lock_written, put_holds, drop_holds, put_keeps, drop_keeps}
 use Rattle.laws_states.proofs.OwnerWritten.{owner_written, words_apart, take_same, own_attempt, attempt_same}
 use Rattle.laws_states.proofs.OwnersStep.{Owes, flat_in}
@@ -271,7 +272,7 @@ module _ (v : Locks) (count : ℕ → ℕ) (t : ℕ) (was : Phase) (x : Thread) 
 
       known : (u : ℕ) (phase : Phase) → (drawn_by phase ≡ Some r → ⊥) → Knows v u phase → Knows (set_owner r (t + 1) v) u phase
       known u (phases.Own m i toward) never h = record { unnamed = h.unnamed; below = h.below }
-      known u (phases.FatIn m i toward) never h = (record { unnamed = h.0.unnamed; below = h.0.below }, ap (λ (b : Bool). cond b (t + 1) (v.owner i)) (not_there r i (λ e. never (ap Some (sym e)))) ∙ h.1)
+      known u (phases.FatIn m i toward) never h = (record { unnamed = h.0.unnamed; below = h.0.below }, ap (λ (b : Bool). cond b (t + 1) (v.owner i)) (ne_eqb r i (λ e. never (ap Some (sym e)))) ∙ h.1)
       known u (phases.TakeFat m i) never h = h
       known u (phases.WaitLook m i depth) never h = h
       known u (phases.Retake m i depth) never h = h
@@ -281,7 +282,7 @@ module _ (v : Locks) (count : ℕ → ℕ) (t : ℕ) (was : Phase) (x : Thread) 
 
   pub record_taken : (n r depth taken : ℕ) → v.lock n ≡ locks.Fat r → v.owner r ≡ 0 → Became x y (with_held (record { monitor = n; kept = keeps.Fat r; depth = depth }) x.held) taken → IsPlain now → Owes v (set_owner r (t + 1) v) count count t was now x y
   record_taken n r depth taken f z b plain = owner_written v count r (t + 1) t was now x y a o b.cfg
-      (λ u e. (not_there (t + 1) (u + 1) (λ g. e (omega (arith, g))), ap (λ (i : ℕ). i == u + 1) z ∙ not_there 0 (u + 1) (λ g. absurd (omega (arith, g)))))
+      (λ u e. (ne_eqb (t + 1) (u + 1) (λ g. e (omega (arith, g))), ap (λ (i : ℕ). i == u + 1) z ∙ ne_eqb 0 (u + 1) (λ g. absurd (omega (arith, g)))))
       (λ m. by_test m (n == m) refl ∙ sym (holds m))
       (λ m. subst (λ (hs : List Held). IsKeptIn (held_at hs m) (count m)) (sym b.held_is) (saved m))
       (plain_knows (set_owner r (t + 1) v) t now plain) (plain_saw (set_owner r (t + 1) v) count now plain) b.attempt (λ i e. absurd (none_drawn now i plain e))
@@ -295,7 +296,7 @@ module _ (v : Locks) (count : ℕ → ℕ) (t : ℕ) (was : Phase) (x : Thread) 
       by_test m true e =
           ap (λ (i : ℕ). hold_by_word t (v.lock i) (set_owner r (t + 1) v).owner) (sym ((Decides-eqb n m).0 e)) ∙ ap (λ (l : LockWord). hold_by_word t l (set_owner r (t + 1) v).owner) f
           ∙ ap (λ (q : Bool). cond (cond q (t + 1) (v.owner r) == t + 1) (HeldFat r) NotHeld) (same_there r) ∙ itself (t + 1) (HeldFat r)
-      by_test m false e = words_apart v count r (t + 1) t (v.lock m) (λ g. not_same n m e (a.one n m r f g)) ∙ o.holds m
+      by_test m false e = words_apart v count r (t + 1) t (v.lock m) (λ g. eqb-false n m e (a.one n m r f g)) ∙ o.holds m
 
       saved : (m : ℕ) → IsKeptIn (held_at (with_held (record { monitor = n; kept = keeps.Fat r; depth = depth }) x.held) m) (count m)
       saved m = subst (λ (q : Option Held). IsKeptIn q (count m)) (sym (held_put m (record { monitor = n; kept = keeps.Fat r; depth = depth }) x.held)) (at (n == m))
@@ -313,7 +314,7 @@ module _ (v : Locks) (count : ℕ → ℕ) (t : ℕ) (was : Phase) (x : Thread) 
   pub record_left : (n r : ℕ) (h : Held) → held_at x.held n ≡ Some h → h.kept ≡ keeps.Fat r → AreHeldOnce x.held → Became x y (without_held n x.held) 0
       → ((w : Locks) → w.lock n ≡ locks.Fat r → Knows w t now) → ((w : Locks) → PhaseSaw w count now) → ((i : ℕ) → drawn_by now ≡ Some i → ⊥) → Owes v (set_owner r 0 v) count count t was now x y
   record_left n r h k f once b knows take none = owner_written v count r 0 t was now x y a o b.cfg
-      (λ u e. (not_there 0 (u + 1) (λ q. absurd (omega (arith, q))), ap (λ (i : ℕ). i == u + 1) fat.1 ∙ not_there (t + 1) (u + 1) (λ q. e (omega (arith, q)))))
+      (λ u e. (ne_eqb 0 (u + 1) (λ q. absurd (omega (arith, q))), ap (λ (i : ℕ). i == u + 1) fat.1 ∙ ne_eqb (t + 1) (u + 1) (λ q. e (omega (arith, q)))))
       (λ m. by_test m (n == m) refl ∙ sym (holds m))
       (λ m. subst (λ (hs : List Held). IsKeptIn (held_at hs m) (count m)) (sym b.held_is) (subst (λ (q : Option Held). IsKeptIn q (count m)) (sym (held_without m n x.held once)) (saved m (n == m))))
       (knows (set_owner r 0 v) fat.0) (take (set_owner r 0 v)) b.attempt (λ i e. absurd (none i e))
@@ -334,7 +335,7 @@ module _ (v : Locks) (count : ℕ → ℕ) (t : ℕ) (was : Phase) (x : Thread) 
       by_test m true e =
           ap (λ (i : ℕ). hold_by_word t (v.lock i) (set_owner r 0 v).owner) (sym ((Decides-eqb n m).0 e)) ∙ ap (λ (l : LockWord). hold_by_word t l (set_owner r 0 v).owner) fat.0
           ∙ ap (λ (q : Bool). cond (cond q 0 (v.owner r) == t + 1) (HeldFat r) NotHeld) (same_there r) ∙ another 0 (t + 1) (HeldFat r) (λ q. absurd (omega (arith, q)))
-      by_test m false e = words_apart v count r 0 t (v.lock m) (λ q. not_same n m e (a.one n m r fat.0 q)) ∙ o.holds m
+      by_test m false e = words_apart v count r 0 t (v.lock m) (λ q. eqb-false n m e (a.one n m r fat.0 q)) ∙ o.holds m
 
       few : (m : ℕ) (q : Bool) → hold_by_list (held_at y.held m) ≡ cond q NotHeld (hold_by_list (held_at x.held m)) → count m + flat_in m y + x.counts.locked ≤ count m + flat_in m x + y.counts.locked
       few m true g = let none : flat_in m y ≡ 0 = ap one_if_flat g in let locked = b.locked in omega (arith, none, locked)

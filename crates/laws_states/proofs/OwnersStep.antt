@@ -3,6 +3,7 @@ use Rattle.std.proofs.Common.{◌≡◌, ◌≢◌, ◌⊎◌, inl, inr, ℕ, ze
 use Rattle.std.specs.Prelude.{◌==◌, slice_get, slice_set}
 use Rattle.std.specs.List.{sum_by}
 use Rattle.std.proofs.lemmas.Bool.Decides.{nat_tests, Decides-eqb}
+use Rattle.std.proofs.lemmas.Bool.{eqb-false}
 use Rattle.checked_program.specs.MarkedProgram.{MarkedProgram}
 use Rattle.machine_types.specs.Core.{Core}
 use Rattle.machine_types.specs.HeldMonitors.{held_at}
@@ -16,14 +17,9 @@ use Rattle.laws_threads.specs.StructureLaws.{counted_by}
 use Rattle.laws_threads.specs.StateLaws.{counted_of, counted_at}
 use Rattle.laws_states.proofs.Sums.{sum_set}
 use Rattle.laws_states.proofs.CountedPhases.{was_draws, phase_draws, counted_draws}
-use Rattle.laws_states.proofs.LockViews.{not_same}
+use Rattle.laws_threads.proofs.StateSteps.{set_there}
 
 -- ---- one thread of a list is changed
-
-pub set_there : {A : Type 0} (xs : List A) (i : ℕ) (x y z : A) → slice_get xs i ≡ Some x → slice_get (slice_set xs i y) i ≡ Some z → y ≡ z
-set_there [] i x y z e f = absurd (cc)
-set_there (a ∷ xs) zero x y z e f = cc
-set_there (a ∷ xs) (suc i) x y z e f = set_there xs i x y z e f
 
 pub set_other : {A : Type 0} (xs : List A) (i j : ℕ) (x : A) → (j == i) ≡ false → slice_get (slice_set xs i x) j ≡ slice_get xs j
 set_other [] i j x d = refl
@@ -69,7 +65,7 @@ module _ (c : MarkedProgram) (references later : List ℕ) (was : ℕ → Phase)
   was_apart u z g e r a b =
       let st = structure t x there in
       let sz = structure u z e in
-      owners.apart t u x z there e (λ q. not_same u t g (sym q)) r (was_draws x.phase (was t) r st.is_as a) (was_draws z.phase (was u) r sz.is_as b)
+      owners.apart t u x z there e (λ q. eqb-false u t g (sym q)) r (was_draws x.phase (was t) r st.is_as a) (was_draws z.phase (was u) r sz.is_as b)
 
   each_owns : (u : ℕ) (z : Thread) → slice_get (slice_set s.threads t y) u ≡ Some z → Owns (locks_in later after) more u (counted_at was t (slice_set s.threads t y) u) z
   each_owns u z e = by_number (u == t) refl
@@ -83,13 +79,13 @@ module _ (c : MarkedProgram) (references later : List ℕ) (was : ℕ → Phase)
           (subst (λ (q : Thread). Owns (locks_in later after) more t (counted_by (was t) q.phase) q) (here u z g e) owes.own))
       by_number false g =
           let old = there_too u z g e in
-          owes.others u (was u) z (not_same u t g) (owners.each u z old) (was_apart u z g old)
+          owes.others u (was u) z (eqb-false u t g) (owners.each u z old) (was_apart u z g old)
 
   drew : (u : ℕ) (z : Thread) → (u == t) ≡ false → slice_get s.threads u ≡ Some z → (r : ℕ) → drawn_by y.phase ≡ Some r → drawn_by z.phase ≡ Some r → ⊥
   drew u z g e r a b = by_old (owes.draws r (counted_draws (was t) y.phase r a))
     where
       by_old : (drawn_by (was t) ≡ Some r) ⊎ ((locks_in references s.words).next ≤ r) → ⊥
-      by_old (inl d) = let st = structure t x there in owners.apart t u x z there e (λ q. not_same u t g (sym q)) r (was_draws x.phase (was t) r st.is_as d) b
+      by_old (inl d) = let st = structure t x there in owners.apart t u x z there e (λ q. eqb-false u t g (sym q)) r (was_draws x.phase (was t) r st.is_as d) b
       by_old (inr d) =
           let sz = structure u z e in
           let owns = owners.each u z e in

@@ -26,16 +26,9 @@ use Rattle.laws_states.specs.PartsLaws.{EventsKeepParts}
 use Rattle.laws_states.specs.PartsStand.{FirstFits, HasReturned, HasFinished, DoneRoots, PartsStand}
 use Rattle.laws_states.proofs.DoneRoot.{one_done}
 use Rattle.laws_states.proofs.RootMoves.{RootFits, IsNoStart, moved_stays, root_goes}
-use Rattle.laws_states.proofs.EventFacts.{got_when_set}
+use Rattle.laws_states.proofs.EventFacts.{got_when_set, got_other}
 
 -- ---- one thread of a list is changed
-
-got_other : {A : Type 0} (xs : List A) (i j : ℕ) (x : A) → j ≢ i → slice_get (slice_set xs i x) j ≡ slice_get xs j
-got_other [] i j x n = refl
-got_other (z ∷ zs) zero zero x n = absurd (n refl)
-got_other (z ∷ zs) zero (suc j) x n = refl
-got_other (z ∷ zs) (suc i) zero x n = refl
-got_other (z ∷ zs) (suc i) (suc j) x n = got_other zs i j x (λ e. n (ap suc e))
 
 pub at_each : (threads : List Thread) (t : ℕ) (x now : Thread) (P : (u : ℕ) → Thread → Type 0) → slice_get threads t ≡ Some x → P t now → ((u : ℕ) (y : Thread) → slice_get threads u ≡ Some y → P u y)
     → (u : ℕ) (y : Thread) → slice_get (slice_set threads t now) u ≡ Some y → P u y

@@ -107,13 +107,13 @@ plain_moved c s got was (moves.turns now k) n h = absurd (turns_never s got was 
 plain_moved c s got _ (moves.makes at word size e f t) n h = record { phase = tt; attempt = same_look s.attempt }
 plain_moved c s got _ (moves.prints at i e f t) n h = goes s.attempt (printed s got i) (Running (went_on c.program at 0)) (same_look s.attempt)
 plain_moved c s got _ (moves.asks_to_wait at m e now f l t k) n h = record { phase = waits_plain m e.kept now k; attempt = same_look s.attempt }
-plain_moved c s got _ (moves.asks at m e now f l k) n h = record { phase = asks_plain m e.kept now k; attempt = same_look s.attempt }
+plain_moved c s got _ (moves.asks at m e now f y l k) n h = record { phase = asks_plain m e.kept now k; attempt = same_look s.attempt }
 plain_moved c s got _ (moves.starts number roots e) n h = goes_if s.attempt (record s { roots = roots }) _ h (same_look s.attempt)
 plain_moved c s got was (moves.takes_lock m kept k) n h = absurd (takes_in NeverPlain got m was kept k (λ count n. n) (λ r n. n) n)
 plain_moved c s got was (moves.gives_up m a k) n h = absurd (gives_up_in NeverPlain s m a was k (λ n. n) (λ n. n) n)
 plain_moved c s got _ (moves.enters_again m tried e l) n h = absurd n
 plain_moved c s got _ (moves.enters_inside m tried t k) n h = absurd n
-plain_moved c s got _ (moves.begins_to_try m tried noted f below e y l t unheld) n h = absurd n
+plain_moved c s got _ (moves.begins_to_try m tried noted f below e y l t free) n h = absurd n
 plain_moved c s got _ (moves.leaves_outer m a e l t) n h = absurd n
 plain_moved c s got _ (moves.leaves_inside m a t inner k e) n h = absurd n
 plain_moved c s got _ (moves.finishes_try m a t k e y) n h = absurd n

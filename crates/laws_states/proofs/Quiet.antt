@@ -126,10 +126,10 @@ module _ (is : Classes) where
   quiet_moved c s got _ (moves.makes at word size e f t) n h o same = absurd n
   quiet_moved c s got _ (moves.prints at i e l t) n h o same = on_quiet (printed s got i) (Running (went_on c.program at 0)) h
   quiet_moved c s got _ (moves.asks_to_wait at m e now f l t k) n h o same = record { held = h; phase = waits_quiet m e.kept now k }
-  quiet_moved c s got _ (moves.asks at m e now f l k) n h o same = record { held = h; phase = asks_quiet m e.kept now k }
+  quiet_moved c s got _ (moves.asks at m e now f y l k) n h o same = record { held = h; phase = asks_quiet m e.kept now k }
   quiet_moved c s got _ (moves.enters_again m tried e l) n h o same = runs_quiet (record s { held = with_held (deeper e) s.held }) (put_one (deeper e) s.held (held_is s.held m e h l) h)
   quiet_moved c s got _ (moves.enters_inside m tried t k) n h o same = runs_quiet (record s { attempt = _ }) h
-  quiet_moved c s got _ (moves.begins_to_try m tried noted f below e y l t unheld) n h o same = runs_quiet (record s { attempt = _ }) h
+  quiet_moved c s got _ (moves.begins_to_try m tried noted f below e y l t free) n h o same = runs_quiet (record s { attempt = _ }) h
   quiet_moved c s got was (moves.takes_lock m kept k) n h o same = let e : Held = record { monitor = m; kept = kept; depth = 1 } in runs_quiet (record s { held = with_held e s.held; counts = _ }) (put_one e s.held (takes_object got m was kept k o) h)
   quiet_moved c s got was (moves.gives_up m a k) n h o same = goes_quiet (record s { held = without_held m s.held }) (after c.program s.frames a) (without_one m s.held h) (subst (QuietPhase is) (sym same) (gives_up_quiet s m a was k))
   quiet_moved c s got _ (moves.leaves_outer m a e l t) n h o same = goes_quiet (record s { held = with_held (shallower e) s.held }) (after c.program s.frames a) (put_one (shallower e) s.held (held_is s.held m e h l) h) (subst (QuietPhase is) (sym same) tt)

@@ -19,11 +19,11 @@ use Rattle.laws_states.specs.RunFacts.{HaveWidth}
 use Rattle.laws_states.specs.RunLaws.{PartsKeepThreads}
 use Rattle.laws_states.specs.StateFacts.{StateFacts}
 use Rattle.laws_states.specs.StateLaws.{ProgramsKeepThreads, StartHasState, EventsKeepState, NextKeepsState}
-use Rattle.laws_states.proofs.OwnersStep.{set_there}
 use Rattle.laws_states.specs.ChangeLaws.{all_objects, run_objects, LocksFollow, CountsFollow, BitsFollow, EventsRespectOwners, RunsRespectOwners}
 use Rattle.laws_states.proofs.EventBits.{bits_by_phase}
 use Rattle.laws_states.proofs.EventCounts.{counts_by_phase}
 use Rattle.laws_states.proofs.EventLocks.{locks_by_phase}
+use Rattle.laws_threads.proofs.StateSteps.{set_there}
 
 pub events_respect_owners : SitesDiffer → SitesLieInside → EventsReachSites → EventsRespectOwners
 events_respect_owners differ inside reach c cfg objects was s t x marked facts e =

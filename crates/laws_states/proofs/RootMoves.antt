@@ -104,10 +104,10 @@ module _ (c : MarkedProgram) (s : Thread) (got : ℕ) (Bare : Type 0) (none : Ba
   stays_moved _ (moves.makes at word size e l t) ns w f = record { keeps = keeps_all; fits = tt }
   stays_moved _ (moves.prints at n e l t) ns w f = goes s.roots Bare (printed s got n) (Running _) keeps_all
   stays_moved _ (moves.asks_to_wait at m h now e l t k) ns w f = record { keeps = keeps_all; fits = waits_fit m h.kept now s.roots k }
-  stays_moved _ (moves.asks at m h now e l k) ns w f = record { keeps = keeps_all; fits = asks_fit m h.kept now s.roots k }
+  stays_moved _ (moves.asks at m h now e y l k) ns w f = record { keeps = keeps_all; fits = asks_fit m h.kept now s.roots k }
   stays_moved _ (moves.enters_again m n h l) ns w f = running s.roots Bare (record s { held = _ }) keeps_all
   stays_moved _ (moves.enters_inside m n t k) ns w f = running s.roots Bare (record s { attempt = _ }) (record { same = refl; none = claims_none m t k })
-  stays_moved _ (moves.begins_to_try m n noted x below e may l t unheld) ns w f = running s.roots Bare (record s { attempt = _ }) (record { same = refl; none = never_tries n may })
+  stays_moved _ (moves.begins_to_try m n noted x below e may l t free) ns w f = running s.roots Bare (record s { attempt = _ }) (record { same = refl; none = never_tries n may })
   stays_moved was (moves.takes_lock m kept k) ns w f = running s.roots Bare (record s { held = _; counts = _ }) keeps_all
   stays_moved was (moves.gives_up m a k) ns w f = goes_if s.roots Bare (record s { held = _ }) (after c.program s.frames a) f keeps_all
   stays_moved _ (moves.leaves_outer m a h l t) ns w f = goes_if s.roots Bare (record s { held = _ }) (after c.program s.frames a) f keeps_all

@@ -2,6 +2,7 @@
 use Rattle.std.proofs.Common.{◌≡◌, ◌≢◌, ◌⊎◌, inl, inr, ℕ, zero, suc, ◌+◌, ◌<◌, Bool, true, false, cond, List, [], ◌∷◌, Option, Some, None, refl, sym, ap, ◌∙◌, subst, arith}
 use Rattle.std.specs.Prelude.{◌==◌, IsSome, slice_get, slice_set}
 use Rattle.std.proofs.lemmas.Bool.Decides.{Decides-eqb}
+use Rattle.std.proofs.lemmas.Bool.{eqb-false}
 use Rattle.checked_program.specs.MarkedProgram.{MarkedProgram}
 use Rattle.machine_types.specs.Core.{Core}
 use Rattle.machine_types.specs.HeldMonitors.{held_at}
@@ -16,8 +17,9 @@ use Rattle.machine_types.specs.declared.phase.Phase.TheVariants as phases
 use Rattle.laws_threads.specs.StructureLaws.{counted_by}
 use Rattle.laws_threads.specs.StateLaws.{counted_of, counted_at}
 use Rattle.laws_states.proofs.Lists.{same_or_not}
-use Rattle.laws_states.proofs.LockViews.{not_same, fatly}
-use Rattle.laws_states.proofs.OwnersStep.{set_there, set_other}
+use Rattle.laws_states.proofs.LockViews.{fatly}
+use Rattle.laws_states.proofs.OwnersStep.{set_other}
+use Rattle.laws_threads.proofs.StateSteps.{set_there}
 
 -- ---- who owns a record
 
@@ -102,7 +104,7 @@ module _ (c : MarkedProgram) (references : List ℕ) (was : ℕ → Phase) (s : 
           let here : y ≡ z = set_there s.threads t x y z there at in
           subst (λ (o : Option Thread). Waits after u (counted_of (was t) o)) (sym at)
           (subst (λ (n : ℕ). Waits after n (counted_by (was t) z.phase)) (sym same) (subst (λ (q : Thread). Waits after t (counted_by (was t) q.phase)) here own))
-      by_number false g = others_wait u z (not_same u t g) (sym (set_other s.threads t u y g) ∙ e)
+      by_number false g = others_wait u z (eqb-false u t g) (sym (set_other s.threads t u y g) ∙ e)
 
   others_there : (r u : ℕ) → r < MONITOR_RECORDS → is_bit_set after r u ≡ true → IsSome (slice_get (slice_set s.threads t y) u)
   others_there r u low set = by_number (same_or_not u t)

@@ -2,6 +2,7 @@
 use Rattle.std.proofs.Common.{◌≡◌, ◌≢◌, ℕ, zero, suc, ◌+◌, ◌*◌, ◌<◌, nat_lt, Bool, true, false, cond, List, [], ◌∷◌, Some, refl, sym, ap, ◌∙◌, subst, arith}
 use Rattle.std.specs.Prelude.{slice_get, slice_index, slice_set, ◌==◌, ◌||◌}
 use Rattle.std.proofs.lemmas.Bool.Decides.{nat_tests, Decides-eqb}
+use Rattle.std.proofs.lemmas.Bool.{eqb-false}
 use Rattle.jvm_types.specs.Numbers.{has_number}
 use Rattle.checked_program.specs.MarkedProgram.{MarkedProgram, IsMarked}
 use Rattle.machine_types.specs.Core.{Core}
@@ -16,7 +17,7 @@ use Rattle.laws_states.specs.HeapFacts.{HeapFacts}
 use Rattle.laws_states.specs.SiteLaws.{SitesDiffer, SitesLieInside}
 use Rattle.laws_states.specs.Sites.{Site, Counter, OwnerOf, LockOf, site_word, HasObject, IsThere}
 use Rattle.laws_states.proofs.Lists.{contained_got, contains_first, contains_more, set_here, set_there}
-use Rattle.laws_states.proofs.LockViews.{set_lock, set_owner, set_next, not_same, same_there}
+use Rattle.laws_states.proofs.LockViews.{set_lock, set_owner, set_next, same_there}
 use Rattle.laws_states.proofs.LeftStands.{by_parts}
 
 -- ---- lock words
@@ -93,7 +94,7 @@ module _ (differ : SitesDiffer) (inside : SitesLieInside) (c : MarkedProgram) (o
           by_test true e = ap (λ (j : ℕ). lock_at (references_of objects) (slice_set s.words n value) j) (sym ((Decides-eqb n m).0 e))
               ∙ ap (λ (b : Bool). cond b (lock_of (slice_index (slice_set s.words n value) n)) (locks.Free 0)) (object_has objects n k)
               ∙ ap lock_of (set_here s.words n value (inside c objects s (LockOf n) marked heap k))
-          by_test false e = ap (λ (j : ℕ). cond (has_number (references_of objects) m) (lock_of j) (locks.Free 0)) (set_there s.words n m value (λ g. not_same n m e (sym g)))
+          by_test false e = ap (λ (j : ℕ). cond (has_number (references_of objects) m) (lock_of j) (locks.Free 0)) (set_there s.words n m value (λ g. eqb-false n m e (sym g)))
 
       owner : (r : ℕ) → owner_at (slice_set s.words n value) r ≡ owner_at s.words r
       owner r = owners_apart (LockOf n) value k r (λ e. cc)
@@ -114,7 +115,7 @@ module _ (differ : SitesDiffer) (inside : SitesLieInside) (c : MarkedProgram) (o
             where
               low_record : (r : ℕ) → r < MONITOR_RECORDS → nat_lt r MONITOR_RECORDS ≡ true
               low_record r low = grind (arith, nat_tests, low)
-          by_test false e = owners_apart (OwnerOf r) value low k (λ g. not_same r k e (cc))
+          by_test false e = owners_apart (OwnerOf r) value low k (λ g. eqb-false r k e (cc))
 
       next : slice_index (slice_set s.words (owner_word r) value) NEXT_RECORD_WORD ≡ slice_index s.words NEXT_RECORD_WORD
       next = other_site (OwnerOf r) (Counter NEXT_RECORD_WORD) value low (record_there c objects s) (λ e. cc)

@@ -311,7 +311,7 @@ module _ (c : MarkedProgram) (x : Thread) (got : ℕ) where
   leads_less : (phase now : Phase) → LeadsTo c.program x got phase now → BeginsNothing phase → Lessens x phase (with_phase x now)
   leads_less phase _ (moves.to_take m count k e) i = to_phase x phase (phases.Take m count) (looks_in (λ (w : Phase). place (phases.Take m count) < place w) m phase k (λ tried. omega arith) (omega arith))
   leads_less phase _ (moves.to_take_fat m r k e) i = to_phase x phase (phases.TakeFat m r) (looks_in (λ (w : Phase). place (phases.TakeFat m r) < place w) m phase k (λ tried. omega arith) (omega arith))
-  leads_less _ _ (moves.to_grow m count a h e kept) i =
+  leads_less _ _ (moves.to_grow m count a h e t kept) i =
       let far : leaving_held (held_at x.held m) ≡ leaving (keeps.Flat count) = ap leaving_held e ∙ ap leaving kept in
       to_phase x (phases.Leave m a) (phases.Grow m (towards.Leave a)) (omega (arith, far))
   leads_less _ _ (moves.to_element at array index stored e f t) i = absurd i
@@ -338,7 +338,7 @@ module _ (c : MarkedProgram) (x : Thread) (got : ℕ) where
   move_less phase (moves.turns now k) i has turns based = turned x phase now (turns_less phase now k turns)
   move_less _ (moves.enters_again m tried h l) i has turns based = ran_on x (phases.Enter m tried) (record x { held = with_held (deeper h) x.held }) refl (omega arith)
   move_less _ (moves.enters_inside m tried t k) i has turns based = ran_on x (phases.Enter m tried) (record x { attempt = Some (record t { inner = t.inner + 1 }) }) refl (omega arith)
-  move_less _ (moves.begins_to_try m tried noted f below e y l t unheld) i has turns based = ran_on x (phases.Enter m tried) (record x { attempt = Some (begun_attempt m noted tried f below) }) refl (omega arith)
+  move_less _ (moves.begins_to_try m tried noted f below e y l t free) i has turns based = ran_on x (phases.Enter m tried) (record x { attempt = Some (begun_attempt m noted tried f below) }) refl (omega arith)
   move_less phase (moves.takes_lock m kept k) i has turns based =
       ran_on x phase (record x { held = with_held (record { monitor = m; kept = kept; depth = 1 }) x.held; counts = record x.counts { locked = x.counts.locked + 1 } }) refl
       (takes_in (λ (w : Phase). 2 < place w) got m phase kept k (λ count. omega arith) (λ r. omega arith))

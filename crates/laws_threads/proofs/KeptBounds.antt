@@ -163,8 +163,8 @@ module _ (c : MarkedProgram) (s : Thread) (got : ℕ) where
   less : Spends s 0 2 → Spends s 0 1
   less k = spends_less s 0 2 0 1 k (omega arith) (omega arith)
 
-  lock_at : (m : ℕ) (phase : Phase) → Looks m phase → WordFits c.program (content_at c s phase) got → LockFits (lock_of got)
-  lock_at m _ (moves.entering tried) w = lock_found got w
+  lock_at : (m : ℕ) (phase : Phase) → Looks s m phase → WordFits c.program (content_at c s phase) got → LockFits (lock_of got)
+  lock_at m _ (moves.entering tried free) w = lock_found got w
   lock_at m _ moves.acquiring w = lock_found got w
 
   kept_at : (m : ℕ) (h : Held) → held_at s.held m ≡ Some h → Fit c.program s → KeptFits h.kept
@@ -181,8 +181,8 @@ module _ (c : MarkedProgram) (s : Thread) (got : ℕ) where
 
   goes_bounded : (phase : Phase) (o : Onward) → GoesBy c.program s got phase o → Ready phase → IsBounded c.program (goes_on s o)
   goes_bounded _ o (moves.by_effect at e _ found is silent d) b = goes_any c.program s o b.begins
-  goes_bounded _ _ (moves.by_machine at class found) b = goes_any c.program s (threw class at) b.begins
-  goes_bounded _ _ (moves.by_nobody at m count h found there l) b = goes_any c.program s (Running (went_on c.program at 0)) b.begins
+  goes_bounded _ _ (moves.by_machine at class found y) b = goes_any c.program s (threw class at) b.begins
+  goes_bounded _ _ (moves.by_nobody at m count h found y there l) b = goes_any c.program s (Running (went_on c.program at 0)) b.begins
   goes_bounded _ _ (moves.by_element word stored at found) b = goes c.program s (Running (went_on c.program at (element_made stored got))) tt (fit (phases.Element word stored) tt b) (spent (phases.Element word stored) tt b)
   goes_bounded _ _ (moves.by_object a word) b = goes c.program s (Running (pushed a s.frames)) tt (fit (phases.Made a word) tt b) (spent (phases.Made a word) tt b)
   goes_bounded _ _ (moves.by_handler x class at found) b =
@@ -197,13 +197,13 @@ module _ (c : MarkedProgram) (s : Thread) (got : ℕ) where
   to phase now u b fits turns steps waits entry k = let f = fit phase u b in bounded c.program s now f fits (turns f.limits.few_turns) (steps f.limits.few_steps) waits entry k
 
   leads_bounded : (phase now : Phase) → LeadsTo c.program s got phase now → Ready phase → WordFits c.program (content_at c s phase) got → IsBounded c.program (with_phase s now)
-  leads_bounded _ _ (moves.to_acquire m tried) b w = to (phases.Enter m tried) (phases.Acquire m) tt b tt (λ few. few) (λ few. few) tt tt (spent_on_entry (phases.Enter m tried) tt b)
+  leads_bounded _ _ (moves.to_acquire m tried free) b w = to (phases.Enter m tried) (phases.Acquire m) tt b tt (λ few. few) (λ few. few) tt tt (spent_on_entry (phases.Enter m tried) tt b)
   leads_bounded phase _ (moves.to_take m count k e) b w = to phase (phases.Take m count) (looks_in IsUnderWay m phase k (λ tried. tt) tt) b (subst LockFits e (lock_at m phase k w)) (λ few. few) (λ few. few) tt tt
       (spent_on_entry phase (looks_in IsEntry m phase k (λ tried. tt) tt) b)
   leads_bounded phase _ (moves.to_take_fat m r k e) b w = to phase (phases.TakeFat m r) (looks_in IsUnderWay m phase k (λ tried. tt) tt) b (subst LockFits e (lock_at m phase k w)) (λ few. few) (λ few. few) tt tt
       (spent_on_entry phase (looks_in IsEntry m phase k (λ tried. tt) tt) b)
   leads_bounded _ _ (moves.from_flag m u) b w = to (phases.Flag m u) (phases.Acquire m) tt b tt (λ few. few) (λ few. few) tt tt (spent_on_entry (phases.Flag m u) tt b)
-  leads_bounded _ _ (moves.to_grow m count a h e l) b w = to (phases.Leave m a) (phases.Grow m (towards.Leave a)) tt b tt (λ few. few) (λ few. few) tt tt (spent (phases.Leave m a) tt b)
+  leads_bounded _ _ (moves.to_grow m count a h e t l) b w = to (phases.Leave m a) (phases.Grow m (towards.Leave a)) tt b tt (λ few. few) (λ few. few) tt tt (spent (phases.Leave m a) tt b)
   leads_bounded _ _ (moves.to_own m toward e) b w = to (phases.Grow m toward) (phases.Own m got toward) tt b (grind (arith, nat_tests, e)) (λ few. few) (λ few. few) tt tt (spent (phases.Grow m toward) tt b)
   leads_bounded _ _ (moves.to_flat_out m a e) b w = to (phases.Grow m (towards.Leave a)) (phases.FlatOut m a) tt b tt (λ few. few) (λ few. few) tt tt (spent (phases.Grow m (towards.Leave a)) tt b)
   leads_bounded _ _ (moves.to_no_record m e) b w = to (phases.Grow m towards.Wait) (phases.Ending ends.Records) tt b tt (λ few. few) (λ few. few) tt tt (less (spent (phases.Grow m towards.Wait) tt b))
@@ -254,12 +254,12 @@ module _ (c : MarkedProgram) (s : Thread) (got : ℕ) where
   move_bounded _ (moves.makes at word size e f t) same b free flat w = made_bounded c.program s (making c.program at) got word b.begins
   move_bounded _ (moves.prints at n e f t) same b free flat w = printed_bounded c.program s (went_on c.program at 0) n got t b.begins
   move_bounded _ (moves.asks_to_wait at m h now e f l k) same b free flat w = waited c.program s (went_on c.program at 0) m h.kept now k b.begins (kept_at m h l b.begins.fit)
-  move_bounded _ (moves.asks at m h now e l k) same b free flat w = asked c.program s (went_on c.program at 0) m h.kept now k b.begins (kept_at m h l b.begins.fit)
+  move_bounded _ (moves.asks at m h now e y l k) same b free flat w = asked c.program s (went_on c.program at 0) m h.kept now k b.begins (kept_at m h l b.begins.fit)
   move_bounded _ (moves.enters_again m tried h l) same b free flat w = deeper_fits c.program s m h l (fit (phases.Enter m tried) tt b) (spent_on_entry (phases.Enter m tried) tt b) b.entry.0
   move_bounded _ (moves.enters_inside m tried t k) same b free flat w =
       inner_fits c.program s m t (tried_attempt m (held_at s.held m) s.attempt t k) (tried_monitor m (held_at s.held m) s.attempt t k) (fit (phases.Enter m tried) tt b) (spent_on_entry (phases.Enter m tried) tt b) b.entry.1
   move_bounded _ (moves.begins_to_try m tried noted f below e y l t unheld) same b free flat w =
-      began c.program s m noted tried f below (fit (phases.Enter m tried) tt b) (spent_on_entry (phases.Enter m tried) tt b) (subst LockFits l (lock_at m (phases.Enter m tried) (moves.entering tried) w))
+      began c.program s m noted tried f below (fit (phases.Enter m tried) tt b) (spent_on_entry (phases.Enter m tried) tt b) (subst LockFits l (lock_at m (phases.Enter m tried) (moves.entering tried unheld) w))
   move_bounded phase (moves.takes_lock m kept k) same b free flat w = takes_bounded m phase kept k b
   move_bounded phase (moves.gives_up m a k) same b free flat w = let u = gives_up_in IsUnderWay s m a phase k tt tt in
       let_go c.program s s.phase m a (leaves_now phase same (gives_up_in (Leaves c.program) s m a phase k tt tt)) (fit phase u b) (spent phase u b)

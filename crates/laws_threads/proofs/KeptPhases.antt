@@ -1,35 +1,27 @@
--- Each event keeps the types of all that its thread holds, phase by phase.
-use Rattle.std.proofs.Common.{◌≡◌, ℕ, zero, suc, ◌+◌, ◌-◌, ◌<◌, ◌^◌, inl, inr, Bool, true, false, List, [], ◌∷◌, length, Option, Some, None, refl, ap, sym, subst, ◌∙◌, arith}
-use Rattle.std.specs.Prelude.{◌==◌, nat_lt, drop, option_map, if◌then◌else◌}
+-- Each event keeps the types of all that its thread holds: each move does.
+use Rattle.std.proofs.Common.{◌≡◌, ℕ, suc, ◌+◌, ◌-◌, ◌<◌, ◌^◌, inl, inr, true, false, List, [], ◌∷◌, length, Option, Some, None, refl, ap, sym, subst, ◌∙◌, arith, ◌≤◌}
+use Rattle.std.specs.Prelude.{◌==◌, drop, option_map, nat_le}
+use Rattle.std.proofs.lemmas.Bool.Decides.{nat_tests}
 use Rattle.jvm_types.specs.CodeTable.{can_throw, row}
-use Rattle.jvm_types.specs.Numbers.{has_flag}
 use Rattle.jvm_types.specs.Verifying.{edges}
 use Rattle.jvm_types.specs.declared.code.Op.{Op}
 use Rattle.jvm_types.specs.declared.code.Op.TheVariants as ops
-use Rattle.jvm_types.specs.declared.outcome.End.TheVariants as ends
 use Rattle.jvm_types.specs.declared.outcome.Counts.{Counts}
 use Rattle.jvm_types.specs.declared.outcome.Thrown.{Thrown}
 use Rattle.jvm_types.specs.declared.program.MethodInfo.{MethodInfo}
 use Rattle.jvm_types.specs.declared.program.Program.{Program}
 use Rattle.jvm_types.specs.declared.program.Target.{Target}
 use Rattle.checked_program.specs.MarkedProgram.{MarkedProgram, IsMarked}
-use Rattle.machine_types.specs.Elision.{tries, begins, is_same, fails, elided, may_try}
+use Rattle.machine_types.specs.Elision.{elided}
 use Rattle.machine_types.specs.Events.{started, element_made, moved}
-use Rattle.machine_types.specs.Frames.{Top, top_of, effect_at, went_on, pushed}
-use Rattle.machine_types.specs.Going.{with_phase, runs, failed_turn, goes_on_if, goes_after}
+use Rattle.machine_types.specs.Frames.{Top, top_of, effect_at, went_on, pushed, handler_at, making}
+use Rattle.machine_types.specs.Going.{runs, goes_after}
 use Rattle.machine_types.specs.HeldMonitors.{held_at, with_held, without_held, deeper, shallower}
-use Rattle.machine_types.specs.Instructions.{begun, ran}
-use Rattle.machine_types.specs.LockWords.{word_of_lock, lock_of}
-use Rattle.machine_types.specs.declared.lock.LockWord.{LockWord}
-use Rattle.machine_types.specs.declared.lock.LockWord.TheVariants as locks
-use Rattle.machine_types.specs.Monitors.{Claim, Has, Tries, HasNot, claim_by, claim, acquires, enter_moves, takes, released, finishes, leave_moves, lets_go, grows_not, fattens, goes_to_wait, retakes, bit_of, lowest_of}
-use Rattle.machine_types.specs.Onward.{Running, after, dispatched}
+use Rattle.machine_types.specs.Onward.{Running, after, dispatched, Onward, handed}
 use Rattle.machine_types.specs.Structure.{TopIs, is_element_op, AfterShows}
 use Rattle.machine_types.specs.Threads.{Frame, Attempt, Thread}
 use Rattle.machine_types.specs.Typed.{Classes, FramesHold, FramesThrown, IsException, AfterHolds, TowardHolds, AttemptHolds, PhaseHolds, IsObject, with_object}
 use Rattle.machine_types.specs.Words.{header_class}
-use Rattle.jvm_types.specs.declared.fixed_words.TheConstants.{MONITOR_RECORDS}
-use Rattle.jvm_types.specs.declared.limits.TheConstants.{FLAG_FROM}
 use Rattle.machine_types.specs.declared.lock.Held.{Held}
 use Rattle.machine_types.specs.declared.lock.Kept.{Kept}
 use Rattle.machine_types.specs.declared.lock.Kept.TheVariants as keeps
@@ -38,16 +30,19 @@ use Rattle.machine_types.specs.declared.phase.Phase.{Phase}
 use Rattle.machine_types.specs.declared.phase.Phase.TheVariants as phases
 use Rattle.machine_types.specs.declared.phase.Toward.{Toward}
 use Rattle.machine_types.specs.declared.phase.Toward.TheVariants as towards
+use Rattle.machine_types.specs.Lawful.{NewFits}
+use Rattle.machine_types.specs.ReadyObjects.{class_of}
+use Rattle.machine_types.specs.Monitors.{grown}
+use Rattle.machine_types.specs.Instructions.{printed}
 use Rattle.laws_threads.specs.Allowed.{OneOf, Gives}
 use Rattle.laws_threads.proofs.Lifts.{frames_up}
 use Rattle.laws_threads.proofs.Landing.{stand_top}
-use Rattle.laws_threads.proofs.TopStand.{top_here}
-use Rattle.laws_threads.proofs.TopEffects.{allowed_here}
 use Rattle.laws_threads.proofs.Onwards.{Keeps, keeps_all, keeps_top, HasObjects, FoundHolds, AreInside, Onwards, IfOnwards, same_op, dispatches, goes_after_it}
 use Rattle.laws_threads.proofs.Doing.{runs_on}
-use Rattle.laws_threads.proofs.ThreadTypes.{IsBasedIn, EntryInside, Rests, TypedBy, runs_typed, phase_typed, turn_typed, goes_typed, goes_if_typed, fails_typed, same_typed}
-use Rattle.laws_threads.proofs.KeptRun.{instructed_typed}
-use Rattle.laws_threads.proofs.ThreadMove.{tried_attempt}
+use Rattle.laws_threads.proofs.ThreadTypes.{IsBasedIn, EntryInside, Rests, TypedBy, runs_typed, phase_typed, turn_typed, goes_typed, goes_if_typed, fails_typed, carries}
+use Rattle.laws_threads.proofs.KeptRun.{does_at, refuses_at, prints_at, waits_at, notifies_at, finds_element, makes_at}
+use Rattle.laws_threads.proofs.ThreadMove.{Looks, GoesBy, LeadsTo, TurnsTo, Asks, WaitsFrom, Move, becomes, begun_attempt, mover, by_move, of_mover, takes_in, gives_up_in, tried_attempt}
+use Rattle.laws_threads.proofs.ThreadMove as moves
 
 -- ---- what a phase asks
 
@@ -81,144 +76,18 @@ element_row p m is pc next target ops.Iastore (Some v) got e h = (inl refl, (tt,
 element_row p m is pc next target op None got e h = absurd (let bad : false ≡ true = e in cc)
 element_row p m is pc next target op (Some v) got e h = absurd (let bad : false ≡ true = e in cc)
 
-module _ (c : MarkedProgram) (marked : IsMarked c) (is : Classes) where
-  -- ---- a thread that changes but in what it holds of monitors
+-- ---- what a move needs of the thread that makes it
 
-  held_stays : (s : Thread) (held : List Held) (counts : Counts) → TypedBy c is s → TypedBy c is (record s { held = held; counts = counts })
-  held_stays s held counts t = record { values = record { phase = t.values.phase; attempt = t.values.attempt }; new = t.new; receivers = t.receivers; entry = t.entry }
+pub record IsTypedIn (c : MarkedProgram) (is : Classes) (s : Thread) (got : ℕ) (was : Phase) : Type 0 where
+  pub stays : TypedBy c is s
+  pub rests : Rests c is s
+  pub based : IsBasedIn s.frames s.attempt
+  pub holds : PhaseHolds c is was s.frames
+  pub shows : NeedsShown c was s.frames
+  pub finds : PhaseFinds c is was s.frames got
 
-  held_rests : (s : Thread) (held : List Held) (counts : Counts) → Rests c is s → Rests c is (record s { held = held; counts = counts })
-  held_rests s held counts r = record { attempt = r.attempt; inside = r.inside; entry = r.entry }
-
-  -- ---- the lock of a monitor
-
-  module _ (s : Thread) (m : ℕ) (object : IsObject is m) (frames : FramesHold c is s.frames) (rests : Rests c is s) where
-    pub acquires_typed : (lock : LockWord) → TypedBy c is (acquires s m lock)
-    acquires_typed (locks.Free n) = phase_typed c is s (phases.Take m n) (object, frames) tt rests
-    acquires_typed (locks.Held u) = by_test (nat_lt (s.turns + 1) FLAG_FROM)
-      where
-        by_test : (b : Bool) → TypedBy c is (failed_turn s (if b then phases.Acquire m else phases.Flag m u))
-        by_test true = turn_typed c is s (phases.Acquire m) (object, frames) tt frames rests
-        by_test false = turn_typed c is s (phases.Flag m u) (object, frames) tt frames rests
-    acquires_typed (locks.Flagged u) = turn_typed c is s (phases.Acquire m) (object, frames) tt frames rests
-    acquires_typed (locks.Fat r) = phase_typed c is s (phases.TakeFat m r) (object, frames) tt rests
-
-    pub takes_typed : (kept : Kept) → TypedBy c is (takes s m kept)
-    takes_typed kept =
-        let held = with_held (record { monitor = m; kept = kept; depth = 1 }) s.held in
-        let counts = record s.counts { locked = s.counts.locked + 1 } in
-        runs_typed c is (record s { held = held; counts = counts }) frames (held_rests s held counts rests)
-
-    begins_typed : (fs : List Frame) (noted number : ℕ) → s.frames ≡ fs → TypedBy c is s → TypedBy c is (begins s fs m noted number)
-    begins_typed [] noted number e stays = stays
-    begins_typed (f ∷ below) noted number e stays =
-        let attempt : Attempt = record { monitor = m; noted = noted; base = length below; number = number; inner = 0; entry = f } in
-        let inside = subst (AreInside c.program) e rests.inside in
-        runs_typed c is (record s { attempt = Some attempt }) frames
-        (record {
-          attempt = (object, subst (λ fs. FramesHold c is (f ∷ drop (length fs - length below) fs)) (sym e) (subst (λ n. FramesHold c is (f ∷ drop n (f ∷ below))) (sym one) (subst (FramesHold c is) e frames)));
-          inside = rests.inside;
-          entry = inside.0;
-        })
-      where
-        one : suc (length below) - length below ≡ 1
-        one = omega arith
-
-    tries_typed : (tried : ℕ) (lock : LockWord) → TypedBy c is s → TypedBy c is (tries s m tried lock)
-    tries_typed tried (locks.Free n) stays = by_test (nat_lt n s.cfg.range)
-      where
-        by_test : (b : Bool) → TypedBy c is (if b then begins s s.frames m n (tried + 1) else with_phase s (phases.Acquire m))
-        by_test true = begins_typed s.frames n (tried + 1) refl stays
-        by_test false = phase_typed c is s (phases.Acquire m) (object, frames) tt rests
-    tries_typed tried (locks.Held u) stays = phase_typed c is s (phases.Acquire m) (object, frames) tt rests
-    tries_typed tried (locks.Flagged u) stays = phase_typed c is s (phases.Acquire m) (object, frames) tt rests
-    tries_typed tried (locks.Fat r) stays = phase_typed c is s (phases.Acquire m) (object, frames) tt rests
-
-    -- the attempt of the section that is at hand
-    deeper_rests : (a : Attempt) (inner : ℕ) → s.attempt ≡ Some a → Rests c is (record s { attempt = Some (record a { inner = inner }) })
-    deeper_rests a inner e = record { attempt = subst (AttemptHolds c is s.frames) e rests.attempt; inside = rests.inside; entry = subst (EntryInside c.program) e rests.entry }
-
-    pub enters_typed : (tried : ℕ) (may : Bool) (claimed : Claim) (got : ℕ) → claim s m ≡ claimed → TypedBy c is s → TypedBy c is (enter_moves s m tried may claimed got)
-    enters_typed tried may (Has h) got e stays = runs_typed c is (record s { held = with_held (deeper h) s.held }) frames (held_rests s (with_held (deeper h) s.held) s.counts rests)
-    enters_typed tried may (Tries a) got e stays =
-        runs_typed c is (record s { attempt = Some (record a { inner = a.inner + 1 }) }) frames (deeper_rests a (a.inner + 1) (tried_attempt m (held_at s.held m) s.attempt a e))
-    enters_typed tried true HasNot got e stays = tries_typed tried (lock_of got) stays
-    enters_typed tried false HasNot got e stays = acquires_typed (lock_of got)
-
-  -- ---- behind a monitor
-
-  module _ (s : Thread) (m : ℕ) (a : After) (holds : AfterHolds c is a s.frames) (shows : AfterShows c m a s.frames) (stays : TypedBy c is s) (rests : Rests c is s) (based : IsBasedIn s.frames s.attempt) where
-    lets_go_typed : IsBasedIn (lets_go c.program s m a).frames (lets_go c.program s m a).attempt → TypedBy c is (lets_go c.program s m a)
-    lets_go_typed new = goes_if_typed c is (record s { held = without_held m s.held }) (after c.program s.frames a) (held_stays s (without_held m s.held) s.counts stays) (goes_after_it c marked is m a s.frames holds shows)
-        (held_rests s (without_held m s.held) s.counts rests) based new
-
-    shallower_typed : (held : List Held) → IsBasedIn (goes_after c.program (record s { held = held }) a).frames (goes_after c.program (record s { held = held }) a).attempt → TypedBy c is (goes_after c.program (record s { held = held }) a)
-    shallower_typed held new = goes_if_typed c is (record s { held = held }) (after c.program s.frames a) (held_stays s held s.counts stays) (goes_after_it c marked is m a s.frames holds shows) (held_rests s held s.counts rests) based new
-
-    released_typed : (kept : Kept) (got : ℕ) → IsBasedIn (released c.program s m a kept got).frames (released c.program s m a kept got).attempt → TypedBy c is (released c.program s m a kept got)
-    released_typed (keeps.Fat r) got new = lets_go_typed new
-    released_typed (keeps.Flat n) got new = by_test (got == word_of_lock (locks.Held s.number)) new
-      where
-        by_test : (b : Bool) → IsBasedIn (if b then lets_go c.program s m a else with_phase s (phases.Grow m (towards.Leave a))).frames (if b then lets_go c.program s m a else with_phase s (phases.Grow m (towards.Leave a))).attempt
-            → TypedBy c is (if b then lets_go c.program s m a else with_phase s (phases.Grow m (towards.Leave a)))
-        by_test true new = lets_go_typed new
-        by_test false new = phase_typed c is s (phases.Grow m (towards.Leave a)) holds tt rests
-
-    finishes_typed : (t : Attempt) (inner got : ℕ) → s.attempt ≡ Some t → IsBasedIn (finishes c.program s a t inner got).frames (finishes c.program s a t inner got).attempt → TypedBy c is (finishes c.program s a t inner got)
-    finishes_typed t zero got e new = by_test (is_same t got) new
-      where
-        by_test : (b : Bool) → IsBasedIn (if b then goes_after c.program (elided s) a else fails s t).frames (if b then goes_after c.program (elided s) a else fails s t).attempt → TypedBy c is (if b then goes_after c.program (elided s) a else fails s t)
-        by_test true new = goes_if_typed c is (elided s) (after c.program s.frames a) (record { values = record { phase = stays.values.phase; attempt = tt }; new = stays.new; receivers = stays.receivers; entry = tt })
-            (goes_after_it c marked is m a s.frames holds shows) (record { attempt = tt; inside = rests.inside; entry = tt }) tt new
-        by_test false new = fails_typed c is s t e rests
-    finishes_typed t (suc inner) got e new =
-        let attempt = subst (AttemptHolds c is s.frames) e rests.attempt in
-        let entry = subst (EntryInside c.program) e rests.entry in
-        goes_if_typed c is (record s { attempt = Some (record t { inner = inner }) }) (after c.program s.frames a)
-        (record { values = record { phase = stays.values.phase; attempt = attempt }; new = stays.new; receivers = stays.receivers; entry = entry })
-        (goes_after_it c marked is m a s.frames holds shows) (record { attempt = attempt; inside = rests.inside; entry = entry }) (subst (IsBasedIn s.frames) e based) new
-
-    leaves_typed : (claimed : Claim) (got : ℕ) → claim s m ≡ claimed → IsBasedIn (leave_moves c.program s m a claimed got).frames (leave_moves c.program s m a claimed got).attempt → TypedBy c is (leave_moves c.program s m a claimed got)
-    leaves_typed (Has h) got e new = by_test (nat_lt 1 h.depth) new
-      where
-        by_test : (b : Bool)
-            → IsBasedIn (if b then goes_after c.program (record s { held = with_held (shallower h) s.held }) a else released c.program s m a h.kept got).frames
-            (if b then goes_after c.program (record s { held = with_held (shallower h) s.held }) a else released c.program s m a h.kept got).attempt
-            → TypedBy c is (if b then goes_after c.program (record s { held = with_held (shallower h) s.held }) a else released c.program s m a h.kept got)
-        by_test true new = shallower_typed (with_held (shallower h) s.held) new
-        by_test false new = released_typed h.kept got new
-    leaves_typed (Tries t) got e new = finishes_typed t t.inner got (tried_attempt m (held_at s.held m) s.attempt t e) new
-    leaves_typed HasNot got e new = stays
-
-  -- ---- a fat lock, and waiting
-
-  module _ (s : Thread) (rests : Rests c is s) where
-    grows_typed : (m : ℕ) (toward : Toward) → TowardHolds c is toward s.frames → TypedBy c is (grows_not s m toward)
-    grows_typed m (towards.Leave a) h = phase_typed c is s (phases.FlatOut m a) h tt rests
-    grows_typed m towards.Wait h = phase_typed c is s (phases.Ending ends.Records) h tt rests
-
-    fattens_typed : (m r : ℕ) (toward : Toward) (held : Option Held) → TowardHolds c is toward s.frames → TypedBy c is s → TypedBy c is (fattens s m r toward held)
-    fattens_typed m r toward None h stays = stays
-    fattens_typed m r (towards.Leave a) (Some k) h stays = record { values = record { phase = h; attempt = rests.attempt }; new = tt; receivers = rests.inside; entry = rests.entry }
-    fattens_typed m r towards.Wait (Some k) h stays = record { values = record { phase = h; attempt = rests.attempt }; new = tt; receivers = rests.inside; entry = rests.entry }
-
-    to_wait_typed : (m r : ℕ) (held : Option Held) → FramesHold c is s.frames → TypedBy c is s → TypedBy c is (goes_to_wait s m r held)
-    to_wait_typed m r None h stays = stays
-    to_wait_typed m r (Some k) h stays = record { values = record { phase = h; attempt = rests.attempt }; new = tt; receivers = rests.inside; entry = rests.entry }
-
--- ---- all phases
-
-module _ (c : MarkedProgram) (marked : IsMarked c) (is : Classes) (has : HasObjects c.program is) (s : Thread) (stays : TypedBy c is s) (rests : Rests c is s) (based : IsBasedIn s.frames s.attempt) where
-  ran_typed : (fs : List Frame) (got : ℕ) → s.frames ≡ fs → FramesHold c is fs → PhaseFinds c is phases.Run fs got
-      → IsBasedIn (ran c.program s (top_of c.program fs) got).frames (ran c.program s (top_of c.program fs) got).attempt → TypedBy c is (ran c.program s (top_of c.program fs) got)
-  ran_typed [] got e h finds new = stays
-  ran_typed (f ∷ fs) got e h finds new =
-      let k = h.0.stands in
-      let at : Top = top_here c f fs k in
-      let found = stand_top c marked f fs k in
-      subst (λ o. IsBasedIn (ran c.program s o got).frames (ran c.program s o got).attempt → TypedBy c is (ran c.program s o got)) (sym found)
-      (λ new. instructed_typed c marked is has (begun s) f fs h.0 h.1 e (record { values = record { phase = stays.values.phase; attempt = stays.values.attempt }; new = stays.new; receivers = stays.receivers; entry = stays.entry })
-      (record { attempt = rests.attempt; inside = rests.inside; entry = rests.entry }) based (effect_at c.program at) got refl (allowed_here c marked is has.out f h.0) (finds at found) new) new
+module _ (c : MarkedProgram) (marked : IsMarked c) (is : Classes) (has : HasObjects c.program is) where
+  -- ---- how it goes on
 
   element_kept : (word : ℕ) (stored : Option ℕ) (fs : List Frame) (got : ℕ) → FramesHold c is fs → TopIs c (is_element_op stored) fs → got < 2 ^ 32
       → IfOnwards c is fs (option_map (λ at. Running (went_on c.program at (element_made stored got))) (top_of c.program fs))
@@ -249,57 +118,174 @@ module _ (c : MarkedProgram) (marked : IsMarked c) (is : Classes) (has : HasObje
   thrown_kept x class [] k h top = tt
   thrown_kept x class (f ∷ fs) k h top = dispatches c marked is x class f fs k h.0 h.1 top
 
-  pub moved_typed : (phase : Phase) (got : ℕ) → StartTyped c is s phase → PhaseHolds c is phase s.frames → NeedsShown c phase s.frames → PhaseFinds c is phase s.frames got
+  runs_still : (fs : List Frame) → FramesHold c is fs → Onwards c is fs (Running fs)
+  runs_still fs h = record { holds = h; keeps = keeps_all fs; inside = λ all. all }
+
+  module _ (s : Thread) (got : ℕ) where
+    goes_holds : (was : Phase) (o : Onward) → GoesBy c.program s got was o → IsTypedIn c is s got was → Onwards c is s.frames o
+    goes_holds _ o (moves.by_effect at e _ found same silent d) t = does_at c marked is has e got o s.frames at t.holds found same (t.finds at found) d
+    goes_holds _ _ (moves.by_machine at class found k) t = refuses_at c marked is has class s.frames at t.holds found k
+    goes_holds _ _ (moves.by_nobody at m count h found y there l) t = notifies_at c marked is has m s.frames at t.holds found y
+    goes_holds _ o (moves.by_element word stored at found) t = subst (λ w. IfOnwards c is s.frames (option_map (λ at. Running (went_on c.program at (element_made stored got))) w)) found (element_kept word stored s.frames got t.holds.1 t.shows t.finds)
+    goes_holds _ _ (moves.by_object a word) t = made_kept a word s.frames t.finds t.holds
+    goes_holds _ o (moves.by_handler x class at found) t = subst (λ w. IfOnwards c is s.frames (option_map (λ at. handed x class at (handler_at (class_of class) at)) w)) found (thrown_kept x class s.frames t.holds.0 t.holds.1 t.shows)
+    goes_holds _ _ (moves.by_none m r e) t = runs_still s.frames t.holds
+    goes_holds _ _ (moves.by_one m r u) t = runs_still s.frames t.holds
+    goes_holds _ _ (moves.by_all m r) t = runs_still s.frames t.holds
+
+    -- ---- to another phase
+
+    abbrev Holds : Phase → Type 0
+    Holds now = PhaseHolds c is now s.frames × NewFits now c.program.heap
+
+    looks_holds : (m : ℕ) (was : Phase) → Looks s m was → PhaseHolds c is was s.frames → IsObject is m × FramesHold c is s.frames
+    looks_holds m _ (moves.entering tried free) h = h
+    looks_holds m _ moves.acquiring h = h
+
+    leads_holds : (was now : Phase) → LeadsTo c.program s got was now → PhaseHolds c is was s.frames → Holds now
+    leads_holds _ _ (moves.to_acquire m tried free) h = (h, tt)
+    leads_holds was _ (moves.to_take m count k e) h = (looks_holds m was k h, tt)
+    leads_holds was _ (moves.to_take_fat m r k e) h = (looks_holds m was k h, tt)
+    leads_holds _ _ (moves.from_flag m u) h = (h, tt)
+    leads_holds _ _ (moves.to_grow m count a x e t l) h = (h, tt)
+    leads_holds _ _ (moves.to_own m toward e) h = (h, tt)
+    leads_holds _ _ (moves.to_flat_out m a e) h = (h, tt)
+    leads_holds _ _ (moves.to_no_record m e) h = (h, tt)
+    leads_holds _ _ (moves.to_fat_in m r toward) h = (h, tt)
+    leads_holds _ _ (moves.to_wait_out m r) h = (h, tt)
+    leads_holds _ _ (moves.to_retake m r depth e) h = (h, tt)
+    leads_holds _ _ (moves.to_notify_one m r e) h = (h, tt)
+    leads_holds _ _ (moves.to_end e) h = (h, tt)
+    leads_holds _ _ (moves.to_element at array index stored found same e) h = ((finds_element c marked is has array index stored s.frames at h found same, h), tt)
+    leads_holds _ _ (moves.to_no_print at found e) h = (h, tt)
+
+    turns_holds : (was now : Phase) → TurnsTo s got was now → PhaseHolds c is was s.frames → Holds now × FramesHold c is s.frames
+    turns_holds was _ (moves.looks_again m k) h = let l = looks_holds m was k h in ((l, tt), l.1)
+    turns_holds was _ (moves.flags m u k e) h = let l = looks_holds m was k h in ((l, tt), l.1)
+    turns_holds _ _ (moves.takes_not m count e) h = ((h, tt), h.1)
+    turns_holds _ _ (moves.takes_not_fat m r e) h = ((h, tt), h.1)
+    turns_holds _ _ (moves.waits_on m r depth e) h = ((h, tt), h)
+    turns_holds _ _ (moves.retakes_not m r depth e) h = ((h, tt), h)
+
+    -- behind an instruction that waits or notifies
+    module _ (fs : List Frame) (h : FramesHold c is fs) where
+      waits_holds : (m : ℕ) (kept : Kept) (now : Phase) → WaitsFrom m kept now → PhaseHolds c is now fs × NewFits now c.program.heap
+      waits_holds m _ _ (moves.grows_first count) = (h, tt)
+      waits_holds m _ _ (moves.waits_fat r) = (h, tt)
+
+      asks_holds : (m : ℕ) (kept : Kept) (now : Phase) → Asks m kept now → PhaseHolds c is now fs × NewFits now c.program.heap
+      asks_holds m _ _ (moves.looks_who r) = (h, tt)
+      asks_holds m _ _ (moves.clears_all r) = (h, tt)
+
+    grown_holds : (m r : ℕ) (toward : Toward) → TowardHolds c is toward s.frames → Holds (grown m r toward)
+    grown_holds m r (towards.Leave a) h = (h, tt)
+    grown_holds m r towards.Wait h = (h, tt)
+
+  module _ (s : Thread) (got : ℕ) (was : Phase) (t : IsTypedIn c is s got was) where
+    -- another list of held monitors, other counts
+    rests_held : (held : List Held) (counts : Counts) → Rests c is (record s { held = held; counts = counts })
+    rests_held held counts = record { attempt = t.rests.attempt; inside = t.rests.inside; entry = t.rests.entry }
+
+    runs_held : (held : List Held) (counts : Counts) → FramesHold c is s.frames → TypedBy c is (runs (record s { held = held; counts = counts }))
+    runs_held held counts h = runs_typed c is (record s { held = held; counts = counts }) h (rests_held held counts)
+
+    -- behind a monitor
+    leaves_typed : (m : ℕ) (a : After) → AfterHolds c is a s.frames → AfterShows c m a s.frames → (held : List Held) (attempt : Option Attempt) (counts : Counts)
+        → AttemptHolds c is s.frames attempt → EntryInside c.program attempt → IsBasedIn s.frames attempt
+        → IsBasedIn (goes_after c.program (record s { held = held; attempt = attempt; counts = counts }) a).frames (goes_after c.program (record s { held = held; attempt = attempt; counts = counts }) a).attempt
+        → TypedBy c is (goes_after c.program (record s { held = held; attempt = attempt; counts = counts }) a)
+    leaves_typed m a holds shows held attempt counts inside entry based new =
+        goes_if_typed c is (record s { held = held; attempt = attempt; counts = counts }) (after c.program s.frames a)
+        (record { values = record { phase = t.stays.values.phase; attempt = inside }; new = t.stays.new; receivers = t.stays.receivers; entry = entry })
+        (goes_after_it c marked is m a s.frames holds shows) (record { attempt = inside; inside = t.rests.inside; entry = entry }) based new
+
+    left_typed : (m : ℕ) (a : After) → AfterHolds c is a s.frames → AfterShows c m a s.frames → (held : List Held) → IsBasedIn (goes_after c.program (record s { held = held }) a).frames (goes_after c.program (record s { held = held }) a).attempt
+        → TypedBy c is (goes_after c.program (record s { held = held }) a)
+    left_typed m a holds shows held new = leaves_typed m a holds shows held s.attempt s.counts t.rests.attempt t.rests.entry t.based new
+
+    -- the attempt, as deep or less deep
+    attempt_holds : (o : Attempt) → s.attempt ≡ Some o → AttemptHolds c is s.frames (Some o) × EntryInside c.program (Some o)
+    attempt_holds o e = (subst (AttemptHolds c is s.frames) e t.rests.attempt, subst (EntryInside c.program) e t.rests.entry)
+
+    -- behind an instruction, to a phase
+    steps_typed : (fs : List Frame) (now : Phase) (turns : ℕ) → Onwards c is s.frames (Running fs) → PhaseHolds c is now fs × NewFits now c.program.heap → IsBasedIn fs s.attempt → TypedBy c is (record s { frames = fs; phase = now; turns = turns })
+    steps_typed fs now turns k h new = record { values = record { phase = h.0; attempt = carries c is s.attempt s.frames fs k.keeps t.based new t.rests.attempt }; new = h.1; receivers = k.inside t.rests.inside; entry = t.rests.entry }
+
+  -- ---- all moves
+
+  module _ (s : Thread) (got : ℕ) where
+    abbrev Becomes : (was : Phase) → Move c s got was → Type 0
+    Becomes was k = IsTypedIn c is s got was → StartTyped c is s was → IsBasedIn (becomes c s got was k).frames (becomes c s got was k).attempt → TypedBy c is (becomes c s got was k)
+
+    move_typed : (was : Phase) (k : Move c s got was) → Becomes was k
+    move_typed was (moves.stays k) t start new = t.stays
+    move_typed was (moves.goes o k) t start new = goes_typed c is s o (goes_holds s got was o k t) t.rests t.based new
+    move_typed was (moves.fails_in x e d k) t start new = fails_typed c is s x e t.rests
+    move_typed was (moves.leads now k) t start new = let h = leads_holds s got was now k t.holds in phase_typed c is s now h.0 h.1 t.rests
+    move_typed was (moves.turns now k) t start new = let h = turns_holds s got was now k t.holds in turn_typed c is s now h.0.0 h.0.1 h.1 t.rests
+    move_typed _ (moves.makes at word size found e fits) t start new =
+        let k = makes_at c marked is has got word size s.frames at t.holds found e in
+        record {
+          values = record { phase = k.holds; attempt = carries c is s.attempt s.frames (making c.program at) k.keeps t.based new t.rests.attempt };
+          new = inside k.least fits;
+          receivers = k.inside t.rests.inside;
+          entry = t.rests.entry;
+        }
+      where
+        inside : 2 ≤ size → nat_le (got + size) c.program.heap ≡ true → got < c.program.heap
+        inside two e = grind (arith, nat_tests, two, e)
+    move_typed _ (moves.prints at n found e y) t start new =
+        goes_typed c is (printed s got n) (Running (went_on c.program at 0)) (prints_at c marked is has n s.frames at t.holds found e) (record { attempt = t.rests.attempt; inside = t.rests.inside; entry = t.rests.entry }) t.based new
+    move_typed _ (moves.asks_to_wait at m h now found e l k) t start new = let on = waits_at c marked is has m s.frames at t.holds found e in
+        steps_typed s got phases.Run t (went_on c.program at 0) now 0 on (waits_holds s got (went_on c.program at 0) on.holds m h.kept now k) new
+    move_typed _ (moves.asks at m h now found y l k) t start new = let on = notifies_at c marked is has m s.frames at t.holds found y in
+        steps_typed s got phases.Run t (went_on c.program at 0) now s.turns on (asks_holds s got (went_on c.program at 0) on.holds m h.kept now k) new
+    move_typed was (moves.enters_again m tried h l) t start new = runs_held s got was t (with_held (deeper h) s.held) s.counts t.holds.1
+    move_typed was (moves.enters_inside m tried x k) t start new = let h = attempt_holds s got was t x (tried_attempt m (held_at s.held m) s.attempt x k) in
+        runs_typed c is (record s { attempt = Some (record x { inner = x.inner + 1 }) }) t.holds.1 (record { attempt = h.0; inside = t.rests.inside; entry = h.1 })
+    move_typed _ (moves.begins_to_try m tried noted f below e y l x free) t start new =
+        let own : FramesHold c is (f ∷ below) = subst (FramesHold c is) e t.holds.1 in
+        runs_typed c is (record s { attempt = Some (begun_attempt m noted tried f below) }) t.holds.1
+        (record {
+          attempt = (t.holds.0, subst (λ fs. FramesHold c is (f ∷ drop (length fs - length below) fs)) (sym e) (subst (λ n. FramesHold c is (f ∷ drop n (f ∷ below))) (sym one) own));
+          inside = t.rests.inside;
+          entry = (subst (AreInside c.program) e t.rests.inside).0;
+        })
+      where
+        one : suc (length below) - length below ≡ 1
+        one = omega arith
+    move_typed was (moves.takes_lock m kept k) t start new =
+        runs_held s got was t (with_held (record { monitor = m; kept = kept; depth = 1 }) s.held) (record s.counts { locked = s.counts.locked + 1 })
+        (takes_in (λ phase. PhaseHolds c is phase s.frames → FramesHold c is s.frames) got m was kept k (λ count h. h.1) (λ r h. h.1) t.holds)
+    move_typed was (moves.gives_up m a k) t start new =
+        let h = gives_up_in (λ phase. PhaseHolds c is phase s.frames → NeedsShown c phase s.frames → AfterHolds c is a s.frames × AfterShows c m a s.frames) s m a was k (λ h shows. (h, shows)) (λ h shows. (h, shows)) t.holds t.shows in
+        left_typed s got was t m a h.0 h.1 (without_held m s.held) new
+    move_typed was (moves.leaves_outer m a h l e) t start new = left_typed s got was t m a t.holds t.shows (with_held (shallower h) s.held) new
+    move_typed was (moves.leaves_inside m a x inner k e) t start new = let there = tried_attempt m (held_at s.held m) s.attempt x k in let h = attempt_holds s got was t x there in
+        leaves_typed s got was t m a t.holds t.shows s.held (Some (record x { inner = inner })) s.counts h.0 h.1 (subst (IsBasedIn s.frames) there t.based) new
+    move_typed was (moves.finishes_try m a x k e y) t start new = leaves_typed s got was t m a t.holds t.shows s.held None (record s.counts { elided = s.counts.elided + 1 }) tt tt tt new
+    move_typed _ (moves.fattens_lock m r toward h l) t start new = let k = grown_holds s got m r toward t.holds in
+        record { values = record { phase = k.0; attempt = t.rests.attempt }; new = k.1; receivers = t.rests.inside; entry = t.rests.entry }
+    move_typed _ (moves.gives_up_to_wait m r h l) t start new = record { values = record { phase = t.holds; attempt = t.rests.attempt }; new = tt; receivers = t.rests.inside; entry = t.rests.entry }
+    move_typed was (moves.retakes_lock m r depth e) t start new = runs_held s got was t (with_held (record { monitor = m; kept = keeps.Fat r; depth = depth }) s.held) s.counts t.holds
+    move_typed _ (moves.starts number roots e) t start new = subst (λ rs. IsBasedIn (started c.program s rs).frames (started c.program s rs).attempt → TypedBy c is (started c.program s rs)) e start new
+
+  -- an instruction is counted before it does anything
+  start_counted : (p : Program) (phase : Phase) (s : Thread) → StartTyped c is s phase → StartTyped c is (mover p phase s) phase
+  start_counted p phases.Run s start = tt
+  start_counted p phase s start = start
+
+  pub moved_typed : (s : Thread) → TypedBy c is s → Rests c is s → IsBasedIn s.frames s.attempt → (phase : Phase) (got : ℕ) → StartTyped c is s phase → PhaseHolds c is phase s.frames → NeedsShown c phase s.frames → PhaseFinds c is phase s.frames got
       → IsBasedIn (moved c s phase got).frames (moved c s phase got).attempt → TypedBy c is (moved c s phase got)
-  moved_typed phases.Idle got start h shows finds new = stays
-  moved_typed phases.Start got start h shows finds new = start new
-  moved_typed phases.Run got start h shows finds new = ran_typed s.frames got refl h finds new
-  moved_typed (phases.Element word stored) got start h shows finds new =
-      goes_if_typed c is s (option_map (λ at. Running (went_on c.program at (element_made stored got))) (top_of c.program s.frames)) stays (element_kept word stored s.frames got h.1 shows finds) rests based new
-  moved_typed (phases.Made a word) got start h shows finds new = goes_typed c is s (Running (pushed a s.frames)) (made_kept a word s.frames finds h) rests based new
-  moved_typed (phases.Throw x class) got start h shows finds new =
-      same_typed c is s s.attempt got (goes_on_if s (dispatched c.program x class s.frames)) refl rests new
-      (λ new. goes_if_typed c is s (dispatched c.program x class s.frames) stays (thrown_kept x class s.frames h.0 h.1 shows) rests based new)
-  moved_typed (phases.Enter m tried) got start h shows finds new = enters_typed c marked is s m h.0 h.1 rests tried (may_try c s tried) (claim s m) got refl stays
-  moved_typed (phases.Acquire m) got start h shows finds new = acquires_typed c marked is s m h.0 h.1 rests (lock_of got)
-  moved_typed (phases.Take m count) got start h shows finds new = by_test (got == word_of_lock (locks.Free count))
+  moved_typed s stays rests based phase got start holds shows finds = by_move (λ y. IsBasedIn y.frames y.attempt → TypedBy c is y) c s phase got (λ k. move_typed (mover c.program phase s) got phase k counted (start_counted c.program phase s start))
     where
-      by_test : (b : Bool) → TypedBy c is (if b then takes s m (keeps.Flat count) else failed_turn s (phases.Acquire m))
-      by_test true = takes_typed c marked is s m h.0 h.1 rests (keeps.Flat count)
-      by_test false = turn_typed c is s (phases.Acquire m) h tt h.1 rests
-  moved_typed (phases.Flag m u) got start h shows finds new = phase_typed c is s (phases.Acquire m) h tt rests
-  moved_typed (phases.TakeFat m r) got start h shows finds new = by_test (got == 0)
-    where
-      by_test : (b : Bool) → TypedBy c is (if b then takes s m (keeps.Fat r) else failed_turn s (phases.TakeFat m r))
-      by_test true = takes_typed c marked is s m h.0 h.1 rests (keeps.Fat r)
-      by_test false = turn_typed c is s (phases.TakeFat m r) h tt h.1 rests
-  moved_typed (phases.Leave m a) got start h shows finds new = leaves_typed c marked is s m a h shows stays rests based (claim s m) got refl new
-  moved_typed (phases.Grow m toward) got start h shows finds new = by_test (nat_lt got MONITOR_RECORDS)
-    where
-      by_test : (b : Bool) → TypedBy c is (if b then with_phase s (phases.Own m got toward) else grows_not s m toward)
-      by_test true = phase_typed c is s (phases.Own m got toward) h tt rests
-      by_test false = grows_typed c marked is s rests m toward h
-  moved_typed (phases.FlatOut m a) got start h shows finds new = lets_go_typed c marked is s m a h shows stays rests based new
-  moved_typed (phases.Own m r toward) got start h shows finds new = phase_typed c is s (phases.FatIn m r toward) h tt rests
-  moved_typed (phases.FatIn m r toward) got start h shows finds new = fattens_typed c marked is s rests m r toward (held_at s.held m) h stays
-  moved_typed (phases.WaitBit m r) got start h shows finds new = phase_typed c is s (phases.WaitOut m r) h tt rests
-  moved_typed (phases.WaitOut m r) got start h shows finds new = to_wait_typed c marked is s rests m r (held_at s.held m) h stays
-  moved_typed (phases.WaitLook m r depth) got start h shows finds new = by_test (has_flag (bit_of s.number) got)
-    where
-      by_test : (b : Bool) → TypedBy c is (if b then failed_turn s (phases.WaitLook m r depth) else with_phase s (phases.Retake m r depth))
-      by_test true = turn_typed c is s (phases.WaitLook m r depth) h tt h rests
-      by_test false = phase_typed c is s (phases.Retake m r depth) h tt rests
-  moved_typed (phases.Retake m r depth) got start h shows finds new = by_test (got == 0)
-    where
-      by_test : (b : Bool) → TypedBy c is (if b then retakes s m r depth else failed_turn s (phases.Retake m r depth))
-      by_test true = let held = with_held (record { monitor = m; kept = keeps.Fat r; depth = depth }) s.held in runs_typed c is (record s { held = held }) h (record { attempt = rests.attempt; inside = rests.inside; entry = rests.entry })
-      by_test false = turn_typed c is s (phases.Retake m r depth) h tt h rests
-  moved_typed (phases.NotifyLook m r) got start h shows finds new = by_test (got == 0)
-    where
-      by_test : (b : Bool) → TypedBy c is (if b then runs s else with_phase s (phases.NotifyOne m r (lowest_of got)))
-      by_test true = runs_typed c is s h rests
-      by_test false = phase_typed c is s (phases.NotifyOne m r (lowest_of got)) h tt rests
-  moved_typed (phases.NotifyOne m r u) got start h shows finds new = runs_typed c is s h rests
-  moved_typed (phases.NotifyAll m r) got start h shows finds new = runs_typed c is s h rests
-  moved_typed (phases.Ending e) got start h shows finds new = phase_typed c is s (phases.Ended e) h tt rests
-  moved_typed (phases.Ended e) got start h shows finds new = stays
+      counted : IsTypedIn c is (mover c.program phase s) got phase
+      counted = of_mover (λ y. IsTypedIn c is y got phase) c.program phase s (record { stays = stays; rests = rests; based = based; holds = holds; shows = shows; finds = finds })
+          (record {
+            stays = record { values = record { phase = stays.values.phase; attempt = stays.values.attempt }; new = stays.new; receivers = stays.receivers; entry = stays.entry };
+            rests = record { attempt = rests.attempt; inside = rests.inside; entry = rests.entry };
+            based = based;
+            holds = holds;
+            shows = shows;
+            finds = finds;
+          })

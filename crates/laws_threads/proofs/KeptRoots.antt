@@ -226,8 +226,8 @@ framed_push : (a : ℕ) (fs : List Frame) → HasFrame fs → HasFrame (pushed a
 framed_push a [] f = absurd f
 framed_push a (x ∷ fs) f = tt
 
-looks_framed : (m : ℕ) (was : Phase) → Looks m was → HasFrames was
-looks_framed m _ (moves.entering tried) = tt
+looks_framed : {s : Thread} (m : ℕ) (was : Phase) → Looks s m was → HasFrames was
+looks_framed m _ (moves.entering tried free) = tt
 looks_framed m _ moves.acquiring = tt
 
 takes_framed : (got m : ℕ) (was : Phase) (kept : Kept) → Takes got m was kept → HasFrames was
@@ -258,8 +258,8 @@ module _ (c : MarkedProgram) (s : Thread) (got : ℕ) (h : IsRooted c.program s)
 
   goes_framed : (was : Phase) (o : Onward) → GoesBy c.program s got was o → FramesFit was s.frames s.roots → OnwardFits o
   goes_framed _ o (moves.by_effect at e _ found is silent d) f = subst (λ (w : Option Onward). IfSome w OnwardFits) d (does c.program at e got)
-  goes_framed _ _ (moves.by_machine at class found) f = tt
-  goes_framed _ _ (moves.by_nobody at m count e found there l) f = tt
+  goes_framed _ _ (moves.by_machine at class found y) f = tt
+  goes_framed _ _ (moves.by_nobody at m count e found y there l) f = tt
   goes_framed _ _ (moves.by_element word stored at found) f = tt
   goes_framed _ _ (moves.by_object a word) f = framed_push a s.frames (frame_in (phases.Made a word) s.frames s.roots tt f)
   goes_framed _ _ (moves.by_handler x class at found) f = hands c.program x class at (handler_at (class_of class) at)
@@ -286,10 +286,10 @@ module _ (c : MarkedProgram) (s : Thread) (got : ℕ) (h : IsRooted c.program s)
   moved_framed _ (moves.makes at word size e l t) f = record { roots = h.roots; frames = tt }
   moved_framed _ (moves.prints at n e l t) f = goes c.program (printed s got n) (Running (went_on c.program at 0)) h.roots tt
   moved_framed _ (moves.asks_to_wait at m e now found is l k) f = record { roots = h.roots; frames = waits_framed m e.kept now k (went_on c.program at 0) s.roots tt }
-  moved_framed _ (moves.asks at m e now found l k) f = record { roots = h.roots; frames = asked_framed m e.kept now k (went_on c.program at 0) s.roots tt }
+  moved_framed _ (moves.asks at m e now found y l k) f = record { roots = h.roots; frames = asked_framed m e.kept now k (went_on c.program at 0) s.roots tt }
   moved_framed _ (moves.enters_again m tried e l) f = record { roots = h.roots; frames = runs_framed (phases.Enter m tried) tt f }
   moved_framed _ (moves.enters_inside m tried t k) f = record { roots = h.roots; frames = runs_framed (phases.Enter m tried) tt f }
-  moved_framed _ (moves.begins_to_try m tried noted x below e y l t unheld) f = record { roots = h.roots; frames = runs_framed (phases.Enter m tried) tt f }
+  moved_framed _ (moves.begins_to_try m tried noted x below e y l t free) f = record { roots = h.roots; frames = runs_framed (phases.Enter m tried) tt f }
   moved_framed was (moves.takes_lock m kept k) f = record { roots = h.roots; frames = runs_framed was (takes_framed got m was kept k) f }
   moved_framed was (moves.gives_up m a k) f = left_framed (without_held m s.held) s.attempt s.counts a (gives_up_framed m a was k f)
   moved_framed _ (moves.leaves_outer m a e l t) f = left_framed (with_held (shallower e) s.held) s.attempt s.counts a (frame_in (phases.Leave m a) s.frames s.roots tt f)

@@ -32,7 +32,7 @@ use Rattle.laws_threads.proofs.FramePlaces.{sound_at, Lands}
 use Rattle.laws_threads.proofs.ShownFrames.{landed, whole_landed, by_top, fits_at}
 use Rattle.laws_threads.proofs.TagValues.{row_stack, row_locals}
 
-contains_got : {X : Type 0} (xs : List X) (i : ℕ) (x : X) → slice_get xs i ≡ Some x → Contains xs x
+pub contains_got : {X : Type 0} (xs : List X) (i : ℕ) (x : X) → slice_get xs i ≡ Some x → Contains xs x
 contains_got [] i x e = absurd (cc)
 contains_got (y ∷ xs) zero x e = (0, omega arith, same_some e)
 contains_got (y ∷ xs) (suc i) x e = let l = contains_got xs i x e in (suc l.0, (let low = l.1 in omega (arith, low)), l.2)

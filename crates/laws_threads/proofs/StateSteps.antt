@@ -19,7 +19,7 @@ use Rattle.laws_threads.proofs.ThreadSteps.{structure_kept}
 
 -- ---- one thread of a list is changed
 
-set_there : {A : Type 0} (xs : List A) (i : ℕ) (x y z : A) → slice_get xs i ≡ Some x → slice_get (slice_set xs i y) i ≡ Some z → y ≡ z
+pub set_there : {A : Type 0} (xs : List A) (i : ℕ) (x y z : A) → slice_get xs i ≡ Some x → slice_get (slice_set xs i y) i ≡ Some z → y ≡ z
 set_there [] i x y z e f = absurd (cc)
 set_there (a ∷ xs) zero x y z e f = cc
 set_there (a ∷ xs) (suc i) x y z e f = set_there xs i x y z e f

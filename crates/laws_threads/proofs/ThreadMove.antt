@@ -43,9 +43,9 @@ use Rattle.machine_types.specs.declared.phase.Toward.TheVariants as towards
 -- ---- what led to a move, by the phase that the thread was in
 
 -- it looks at the lock word of a monitor that it enters
-pub data Looks (m : ℕ) : Phase → Type 0 where
-  entering : (tried : ℕ) → Looks m (phases.Enter m tried)
-  acquiring : Looks m (phases.Acquire m)
+pub data Looks (s : Thread) (m : ℕ) : Phase → Type 0 where
+  entering : (tried : ℕ) → claim s m ≡ HasNot → Looks s m (phases.Enter m tried)
+  acquiring : Looks s m (phases.Acquire m)
 
 -- an effect of which `done` says all
 abbrev pub IsByDone : Effect → Type 0
@@ -56,6 +56,18 @@ IsByDone (Waits m) = ⊥
 IsByDone (Notifies m) = ⊥
 IsByDone (NotifiesAll m) = ⊥
 IsByDone e = Unit {0}
+
+-- it notifies one or all
+pub data IsNotify (p : Program) (at : Top) (m : ℕ) : Type 0 where
+  of_one : effect_at p at ≡ Notifies m → IsNotify p at m
+  of_all : effect_at p at ≡ NotifiesAll m → IsNotify p at m
+
+-- what the machine throws in place of an effect
+pub data Refuses (p : Program) (at : Top) : Thrown → Type 0 where
+  past_end : (array index : ℕ) (stored : Option ℕ) → effect_at p at ≡ Indexes array index stored → Refuses p at ArrayIndexOutOfBoundsException
+  no_memory : (word size : ℕ) → effect_at p at ≡ Makes word size → Refuses p at OutOfMemoryError
+  waits_unheld : (m : ℕ) → effect_at p at ≡ Waits m → Refuses p at IllegalMonitorStateException
+  notifies_unheld : (m : ℕ) → IsNotify p at m → Refuses p at IllegalMonitorStateException
 
 -- what its event takes is not there
 pub data Lacks (c : MarkedProgram) (s : Thread) (got : ℕ) : Phase → Type 0 where
@@ -72,8 +84,8 @@ pub data Lacks (c : MarkedProgram) (s : Thread) (got : ℕ) : Phase → Type 0 w
 
 pub data GoesBy (p : Program) (s : Thread) (got : ℕ) : Phase → Onward → Type 0 where
   by_effect : (at : Top) (e : Effect) (o : Onward) → top_of p s.frames ≡ Some at → effect_at p at ≡ e → IsByDone e → done p at e got ≡ Some o → GoesBy p s got phases.Run o
-  by_machine : (at : Top) (class : Thrown) → top_of p s.frames ≡ Some at → GoesBy p s got phases.Run (threw class at)
-  by_nobody : (at : Top) (m count : ℕ) (h : Held) → top_of p s.frames ≡ Some at → held_at s.held m ≡ Some h → h.kept ≡ keeps.Flat count → GoesBy p s got phases.Run (Running (went_on p at 0))
+  by_machine : (at : Top) (class : Thrown) → top_of p s.frames ≡ Some at → Refuses p at class → GoesBy p s got phases.Run (threw class at)
+  by_nobody : (at : Top) (m count : ℕ) (h : Held) → top_of p s.frames ≡ Some at → IsNotify p at m → held_at s.held m ≡ Some h → h.kept ≡ keeps.Flat count → GoesBy p s got phases.Run (Running (went_on p at 0))
   by_element : (word : ℕ) (stored : Option ℕ) (at : Top) → top_of p s.frames ≡ Some at → GoesBy p s got (phases.Element word stored) (Running (went_on p at (element_made stored got)))
   by_object : (a word : ℕ) → GoesBy p s got (phases.Made a word) (Running (pushed a s.frames))
   by_handler : (x : ℕ) (class : Thrown) (at : Top) → top_of p s.frames ≡ Some at → GoesBy p s got (phases.Throw x class) (handed x class at (handler_at (class_of class) at))
@@ -89,11 +101,11 @@ pub data Checks (p : Program) (s : Thread) (t : Attempt) : Phase → Type 0 wher
 
 -- to another phase, and no more
 pub data LeadsTo (p : Program) (s : Thread) (got : ℕ) : Phase → Phase → Type 0 where
-  to_acquire : (m tried : ℕ) → LeadsTo p s got (phases.Enter m tried) (phases.Acquire m)
-  to_take : {was : Phase} (m count : ℕ) → Looks m was → lock_of got ≡ locks.Free count → LeadsTo p s got was (phases.Take m count)
-  to_take_fat : {was : Phase} (m r : ℕ) → Looks m was → lock_of got ≡ locks.Fat r → LeadsTo p s got was (phases.TakeFat m r)
+  to_acquire : (m tried : ℕ) → claim s m ≡ HasNot → LeadsTo p s got (phases.Enter m tried) (phases.Acquire m)
+  to_take : {was : Phase} (m count : ℕ) → Looks s m was → lock_of got ≡ locks.Free count → LeadsTo p s got was (phases.Take m count)
+  to_take_fat : {was : Phase} (m r : ℕ) → Looks s m was → lock_of got ≡ locks.Fat r → LeadsTo p s got was (phases.TakeFat m r)
   from_flag : (m u : ℕ) → LeadsTo p s got (phases.Flag m u) (phases.Acquire m)
-  to_grow : (m count : ℕ) (a : After) (h : Held) → held_at s.held m ≡ Some h → h.kept ≡ keeps.Flat count → LeadsTo p s got (phases.Leave m a) (phases.Grow m (towards.Leave a))
+  to_grow : (m count : ℕ) (a : After) (h : Held) → held_at s.held m ≡ Some h → nat_lt 1 h.depth ≡ false → h.kept ≡ keeps.Flat count → LeadsTo p s got (phases.Leave m a) (phases.Grow m (towards.Leave a))
   to_own : (m : ℕ) (toward : Toward) → nat_lt got MONITOR_RECORDS ≡ true → LeadsTo p s got (phases.Grow m toward) (phases.Own m got toward)
   to_flat_out : (m : ℕ) (a : After) → nat_lt got MONITOR_RECORDS ≡ false → LeadsTo p s got (phases.Grow m (towards.Leave a)) (phases.FlatOut m a)
   to_no_record : (m : ℕ) → nat_lt got MONITOR_RECORDS ≡ false → LeadsTo p s got (phases.Grow m towards.Wait) (phases.Ending ends.Records)
@@ -108,8 +120,8 @@ pub data LeadsTo (p : Program) (s : Thread) (got : ℕ) : Phase → Phase → Ty
 
 -- by a turn that failed
 pub data TurnsTo (s : Thread) (got : ℕ) : Phase → Phase → Type 0 where
-  looks_again : {was : Phase} (m : ℕ) → Looks m was → TurnsTo s got was (phases.Acquire m)
-  flags : {was : Phase} (m u : ℕ) → Looks m was → lock_of got ≡ locks.Held u → TurnsTo s got was (phases.Flag m u)
+  looks_again : {was : Phase} (m : ℕ) → Looks s m was → TurnsTo s got was (phases.Acquire m)
+  flags : {was : Phase} (m u : ℕ) → Looks s m was → lock_of got ≡ locks.Held u → TurnsTo s got was (phases.Flag m u)
   takes_not : (m count : ℕ) → (got == word_of_lock (locks.Free count)) ≡ false → TurnsTo s got (phases.Take m count) (phases.Acquire m)
   takes_not_fat : (m r : ℕ) → (got == 0) ≡ false → TurnsTo s got (phases.TakeFat m r) (phases.TakeFat m r)
   waits_on : (m r depth : ℕ) → has_flag (bit_of s.number) got ≡ true → TurnsTo s got (phases.WaitLook m r depth) (phases.WaitLook m r depth)
@@ -146,11 +158,11 @@ pub data Move (c : MarkedProgram) (s : Thread) (got : ℕ) : Phase → Type 0 wh
   makes : (at : Top) (word size : ℕ) → top_of c.program s.frames ≡ Some at → effect_at c.program at ≡ Makes word size → nat_le (got + size) c.program.heap ≡ true → Move c s got phases.Run
   prints : (at : Top) (n : ℕ) → top_of c.program s.frames ≡ Some at → effect_at c.program at ≡ Prints n → has_print_left s ≡ true → Move c s got phases.Run
   asks_to_wait : (at : Top) (m : ℕ) (h : Held) (now : Phase) → top_of c.program s.frames ≡ Some at → effect_at c.program at ≡ Waits m → held_at s.held m ≡ Some h → WaitsFrom m h.kept now → Move c s got phases.Run
-  asks : (at : Top) (m : ℕ) (h : Held) (now : Phase) → top_of c.program s.frames ≡ Some at → held_at s.held m ≡ Some h → Asks m h.kept now → Move c s got phases.Run
+  asks : (at : Top) (m : ℕ) (h : Held) (now : Phase) → top_of c.program s.frames ≡ Some at → IsNotify c.program at m → held_at s.held m ≡ Some h → Asks m h.kept now → Move c s got phases.Run
   -- an entry
   enters_again : (m tried : ℕ) (h : Held) → held_at s.held m ≡ Some h → Move c s got (phases.Enter m tried)
   enters_inside : (m tried : ℕ) (t : Attempt) → claim s m ≡ Tries t → Move c s got (phases.Enter m tried)
-  begins_to_try : (m tried noted : ℕ) (f : Frame) (below : List Frame) → s.frames ≡ f ∷ below → may_try c s tried ≡ true → lock_of got ≡ locks.Free noted → nat_lt noted s.cfg.range ≡ true → held_at s.held m ≡ None → Move c s got (phases.Enter m tried)
+  begins_to_try : (m tried noted : ℕ) (f : Frame) (below : List Frame) → s.frames ≡ f ∷ below → may_try c s tried ≡ true → lock_of got ≡ locks.Free noted → nat_lt noted s.cfg.range ≡ true → claim s m ≡ HasNot → Move c s got (phases.Enter m tried)
   takes_lock : {was : Phase} (m : ℕ) (kept : Kept) → Takes got m was kept → Move c s got was
   -- an exit
   gives_up : {was : Phase} (m : ℕ) (a : After) → GivesUp s m a was → Move c s got was
@@ -177,10 +189,10 @@ becomes c s got was (turns now k) = failed_turn s now
 becomes c s got _ (makes at word size e f t) = record s { frames = making c.program at; phase = phases.Made got word }
 becomes c s got _ (prints at n e f t) = goes_on (printed s got n) (Running (went_on c.program at 0))
 becomes c s got _ (asks_to_wait at m h now e f l k) = record s { frames = went_on c.program at 0; phase = now; turns = 0 }
-becomes c s got _ (asks at m h now e l k) = record s { frames = went_on c.program at 0; phase = now }
+becomes c s got _ (asks at m h now e y l k) = record s { frames = went_on c.program at 0; phase = now }
 becomes c s got _ (enters_again m tried h l) = runs (record s { held = with_held (deeper h) s.held })
 becomes c s got _ (enters_inside m tried t k) = runs (record s { attempt = Some (record t { inner = t.inner + 1 }) })
-becomes c s got _ (begins_to_try m tried noted f below e y l t unheld) = runs (record s { attempt = Some (begun_attempt m noted tried f below) })
+becomes c s got _ (begins_to_try m tried noted f below e y l t free) = runs (record s { attempt = Some (begun_attempt m noted tried f below) })
 becomes c s got was (takes_lock m kept k) = takes s m kept
 becomes c s got was (gives_up m a k) = lets_go c.program s m a
 becomes c s got _ (leaves_outer m a h l t) = goes_after c.program (record s { held = with_held (shallower h) s.held }) a
@@ -240,7 +252,7 @@ tried_monitor m None (Some b) a e = by_monitor (b.monitor == m) refl e
     by_monitor true t e = let same : b ≡ a = cc in subst (λ (x : Attempt). x.monitor ≡ m) same ((Decides-eqb b.monitor m).0 t)
     by_monitor false t e = absurd (cc)
 
-not_held : (m : ℕ) (held : Option Held) (attempt : Option Attempt) → claim_by m held attempt ≡ HasNot → held ≡ None
+pub not_held : (m : ℕ) (held : Option Held) (attempt : Option Attempt) → claim_by m held attempt ≡ HasNot → held ≡ None
 not_held m (Some h) attempt e = absurd (cc)
 not_held m None attempt e = refl
 
@@ -255,12 +267,12 @@ module _ (c : MarkedProgram) (s : Thread) (got : ℕ) where
     done_made e is silent None d = record { move = stays (no_way at e found is silent d); is = refl }
     done_made e is silent (Some o) d = record { move = goes o (by_effect at e o found is silent d); is = refl }
 
-    thrown_made : (class : Thrown) → Made phases.Run (goes_on s (threw class at))
-    thrown_made class = record { move = goes (threw class at) (by_machine at class found); is = refl }
+    thrown_made : (class : Thrown) → Refuses c.program at class → Made phases.Run (goes_on s (threw class at))
+    thrown_made class k = record { move = goes (threw class at) (by_machine at class found k); is = refl }
 
-    if_held_made : (m : ℕ) (o : Option Held) → held_at s.held m ≡ o → (more : Kept → Thread) → ((h : Held) → held_at s.held m ≡ Some h → Made phases.Run (more h.kept)) → Made phases.Run (if_held s at o more)
-    if_held_made m None e more f = thrown_made IllegalMonitorStateException
-    if_held_made m (Some h) e more f = f h e
+    if_held_made : (m : ℕ) (o : Option Held) → held_at s.held m ≡ o → Refuses c.program at IllegalMonitorStateException → (more : Kept → Thread) → ((h : Held) → held_at s.held m ≡ Some h → Made phases.Run (more h.kept)) → Made phases.Run (if_held s at o more)
+    if_held_made m None e k more f = thrown_made IllegalMonitorStateException k
+    if_held_made m (Some h) e k more f = f h e
 
     waits_made : (m : ℕ) → effect_at c.program at ≡ Waits m → (h : Held) → held_at s.held m ≡ Some h → Made phases.Run (waits (record s { frames = went_on c.program at 0 }) m h.kept)
     waits_made m is h e = by_kept h.kept refl
@@ -269,21 +281,21 @@ module _ (c : MarkedProgram) (s : Thread) (got : ℕ) where
         by_kept (keeps.Flat count) l = record { move = asks_to_wait at m h (phases.Grow m towards.Wait) found is e (subst (λ (k : Kept). WaitsFrom m k (phases.Grow m towards.Wait)) (sym l) (grows_first count)); is = refl }
         by_kept (keeps.Fat r) l = record { move = asks_to_wait at m h (phases.WaitBit m r) found is e (subst (λ (k : Kept). WaitsFrom m k (phases.WaitBit m r)) (sym l) (waits_fat r)); is = refl }
 
-    notifies_made : (m : ℕ) (phase : ℕ → Phase) → ((r : ℕ) → Asks m (keeps.Fat r) (phase r)) → (h : Held) → held_at s.held m ≡ Some h → Made phases.Run (notifies (record s { frames = went_on c.program at 0 }) phase h.kept)
-    notifies_made m phase asked h e = by_kept h.kept refl
+    notifies_made : (m : ℕ) (phase : ℕ → Phase) → IsNotify c.program at m → ((r : ℕ) → Asks m (keeps.Fat r) (phase r)) → (h : Held) → held_at s.held m ≡ Some h → Made phases.Run (notifies (record s { frames = went_on c.program at 0 }) phase h.kept)
+    notifies_made m phase y asked h e = by_kept h.kept refl
       where
         by_kept : (k : Kept) → h.kept ≡ k → Made phases.Run (notifies (record s { frames = went_on c.program at 0 }) phase k)
-        by_kept (keeps.Flat count) l = record { move = goes (Running (went_on c.program at 0)) (by_nobody at m count h found e l); is = refl }
-        by_kept (keeps.Fat r) l = record { move = asks at m h (phase r) found e (subst (λ (k : Kept). Asks m k (phase r)) (sym l) (asked r)); is = refl }
+        by_kept (keeps.Flat count) l = record { move = goes (Running (went_on c.program at 0)) (by_nobody at m count h found y e l); is = refl }
+        by_kept (keeps.Fat r) l = record { move = asks at m h (phase r) found y e (subst (λ (k : Kept). Asks m k (phase r)) (sym l) (asked r)); is = refl }
 
     did_made : (e : Effect) → effect_at c.program at ≡ e → Made phases.Run (did c.program s at e got)
     did_made (Indexes array index stored) is = by_test (Made phases.Run) (nat_lt (low index) (header_length got)) _ _
-        (λ t. record { move = leads (phases.Element (value_word array (low index)) stored) (to_element at array index stored found is t); is = refl }) (λ t. thrown_made ArrayIndexOutOfBoundsException)
-    did_made (Makes word size) is = by_test (Made phases.Run) (nat_le (got + size) c.program.heap) _ _ (λ t. record { move = makes at word size found is t; is = refl }) (λ t. thrown_made OutOfMemoryError)
+        (λ t. record { move = leads (phases.Element (value_word array (low index)) stored) (to_element at array index stored found is t); is = refl }) (λ t. thrown_made ArrayIndexOutOfBoundsException (past_end array index stored is))
+    did_made (Makes word size) is = by_test (Made phases.Run) (nat_le (got + size) c.program.heap) _ _ (λ t. record { move = makes at word size found is t; is = refl }) (λ t. thrown_made OutOfMemoryError (no_memory word size is))
     did_made (Prints n) is = by_test (Made phases.Run) (has_print_left s) _ _ (λ t. record { move = prints at n found is t; is = refl }) (λ t. record { move = leads (phases.Ending ends.Prints) (to_no_print at found t); is = refl })
-    did_made (Waits m) is = if_held_made m (held_at s.held m) refl (waits (record s { frames = went_on c.program at 0 }) m) (waits_made m is)
-    did_made (Notifies m) is = if_held_made m (held_at s.held m) refl (notifies (record s { frames = went_on c.program at 0 }) (phases.NotifyLook m)) (notifies_made m (phases.NotifyLook m) looks_who)
-    did_made (NotifiesAll m) is = if_held_made m (held_at s.held m) refl (notifies (record s { frames = went_on c.program at 0 }) (phases.NotifyAll m)) (notifies_made m (phases.NotifyAll m) clears_all)
+    did_made (Waits m) is = if_held_made m (held_at s.held m) refl (waits_unheld m is) (waits (record s { frames = went_on c.program at 0 }) m) (waits_made m is)
+    did_made (Notifies m) is = if_held_made m (held_at s.held m) refl (notifies_unheld m (of_one is)) (notifies (record s { frames = went_on c.program at 0 }) (phases.NotifyLook m)) (notifies_made m (phases.NotifyLook m) (of_one is) looks_who)
+    did_made (NotifiesAll m) is = if_held_made m (held_at s.held m) refl (notifies_unheld m (of_all is)) (notifies (record s { frames = went_on c.program at 0 }) (phases.NotifyAll m)) (notifies_made m (phases.NotifyAll m) (of_all is) clears_all)
     did_made (Goes to made) is = done_made (Goes to made) is tt (done c.program at (Goes to made) got) refl
     did_made (Throws x) is = done_made (Throws x) is tt (done c.program at (Throws x) got) refl
     did_made (Reads v) is = done_made (Reads v) is tt (done c.program at (Reads v) got) refl
@@ -307,7 +319,7 @@ module _ (c : MarkedProgram) (s : Thread) (got : ℕ) where
 
   -- ---- an entry
 
-  acquired_made : (m : ℕ) (was : Phase) → Looks m was → (lock : LockWord) → lock_of got ≡ lock → Made was (acquires s m lock)
+  acquired_made : (m : ℕ) (was : Phase) → Looks s m was → (lock : LockWord) → lock_of got ≡ lock → Made was (acquires s m lock)
   acquired_made m was k (locks.Free count) e = record { move = leads (phases.Take m count) (to_take m count k e); is = refl }
   acquired_made m was k (locks.Held u) e = by_turns (nat_lt (s.turns + 1) FLAG_FROM)
     where
@@ -319,33 +331,33 @@ module _ (c : MarkedProgram) (s : Thread) (got : ℕ) where
 
   module _ (m tried : ℕ) where
     -- a section is marked in a frame
-    begins_made : (noted : ℕ) (fs : List Frame) → s.frames ≡ fs → may_try c s tried ≡ true → held_at s.held m ≡ None → lock_of got ≡ locks.Free noted → nat_lt noted s.cfg.range ≡ true → Made (phases.Enter m tried) (begins s fs m noted (tried + 1))
-    begins_made noted [] e y unheld l t =
+    begins_made : (noted : ℕ) (fs : List Frame) → s.frames ≡ fs → may_try c s tried ≡ true → claim s m ≡ HasNot → lock_of got ≡ locks.Free noted → nat_lt noted s.cfg.range ≡ true → Made (phases.Enter m tried) (begins s fs m noted (tried + 1))
+    begins_made noted [] e y free l t =
         let marked : enters_marked c s.frames ≡ true = (both_are_true (s.cfg.elide && nat_lt tried MOST_ATTEMPTS) (enters_marked c s.frames) y).1 in
         let bad : enters_marked c [] ≡ true = subst (λ (fs : List Frame). enters_marked c fs ≡ true) e marked in absurd (cc)
-    begins_made noted (f ∷ below) e y unheld l t = record { move = begins_to_try m tried noted f below e y l t unheld; is = refl }
+    begins_made noted (f ∷ below) e y free l t = record { move = begins_to_try m tried noted f below e y l t free; is = refl }
 
-    acquires_next : Made (phases.Enter m tried) (with_phase s (phases.Acquire m))
-    acquires_next = record { move = leads (phases.Acquire m) (to_acquire m tried); is = refl }
+    acquires_next : claim s m ≡ HasNot → Made (phases.Enter m tried) (with_phase s (phases.Acquire m))
+    acquires_next free = record { move = leads (phases.Acquire m) (to_acquire m tried free); is = refl }
 
-    tried_made : may_try c s tried ≡ true → held_at s.held m ≡ None → (lock : LockWord) → lock_of got ≡ lock → Made (phases.Enter m tried) (tries s m tried lock)
-    tried_made y unheld (locks.Free count) e = by_test (Made (phases.Enter m tried)) (nat_lt count s.cfg.range) _ _ (begins_made count s.frames refl y unheld e) (λ t. acquires_next)
-    tried_made y unheld (locks.Held u) e = acquires_next
-    tried_made y unheld (locks.Flagged u) e = acquires_next
-    tried_made y unheld (locks.Fat r) e = acquires_next
+    tried_made : may_try c s tried ≡ true → claim s m ≡ HasNot → (lock : LockWord) → lock_of got ≡ lock → Made (phases.Enter m tried) (tries s m tried lock)
+    tried_made y free (locks.Free count) e = by_test (Made (phases.Enter m tried)) (nat_lt count s.cfg.range) _ _ (begins_made count s.frames refl y free e) (λ t. acquires_next free)
+    tried_made y free (locks.Held u) e = acquires_next free
+    tried_made y free (locks.Flagged u) e = acquires_next free
+    tried_made y free (locks.Fat r) e = acquires_next free
 
     entered_made : (may : Bool) → may_try c s tried ≡ may → (k : Claim) → claim s m ≡ k → Made (phases.Enter m tried) (enter_moves s m tried may k got)
     entered_made may y (Has h) e = record { move = enters_again m tried h (has_held m (held_at s.held m) s.attempt h e); is = refl }
     entered_made may y (Tries t) e = record { move = enters_inside m tried t e; is = refl }
-    entered_made true y HasNot e = tried_made y (not_held m (held_at s.held m) s.attempt e) (lock_of got) refl
-    entered_made false y HasNot e = acquired_made m (phases.Enter m tried) (entering tried) (lock_of got) refl
+    entered_made true y HasNot e = tried_made y e (lock_of got) refl
+    entered_made false y HasNot e = acquired_made m (phases.Enter m tried) (entering tried e) (lock_of got) refl
 
   -- ---- an exit
 
   module _ (m : ℕ) (a : After) where
     released_made : (h : Held) → held_at s.held m ≡ Some h → nat_lt 1 h.depth ≡ false → (k : Kept) → h.kept ≡ k → Made (phases.Leave m a) (released c.program s m a k got)
     released_made h e t (keeps.Flat count) l = by_test (Made (phases.Leave m a)) (got == word_of_lock (locks.Held s.number)) _ _
-        (λ y. record { move = gives_up m a (on_leave h e t); is = refl }) (λ y. record { move = leads (phases.Grow m (towards.Leave a)) (to_grow m count a h e l); is = refl })
+        (λ y. record { move = gives_up m a (on_leave h e t); is = refl }) (λ y. record { move = leads (phases.Grow m (towards.Leave a)) (to_grow m count a h e t l); is = refl })
     released_made h e t (keeps.Fat r) l = record { move = gives_up m a (on_leave h e t); is = refl }
 
     finished_made : (t : Attempt) → claim s m ≡ Tries t → (inner : ℕ) → t.inner ≡ inner → Made (phases.Leave m a) (finishes c.program s a t inner got)
@@ -476,8 +488,8 @@ if_either P b x y h k = by_test P b x y (λ t. h) (λ t. k)
 
 -- ---- the phases that led to a move
 
-pub looks_in : (P : Phase → Type 0) (m : ℕ) (was : Phase) → Looks m was → ((tried : ℕ) → P (phases.Enter m tried)) → P (phases.Acquire m) → P was
-looks_in P m _ (entering tried) f h = f tried
+pub looks_in : (P : Phase → Type 0) {s : Thread} (m : ℕ) (was : Phase) → Looks s m was → ((tried : ℕ) → P (phases.Enter m tried)) → P (phases.Acquire m) → P was
+looks_in P m _ (entering tried free) f h = f tried
 looks_in P m _ acquiring f h = h
 
 pub takes_in : (P : Phase → Type 0) (got m : ℕ) (was : Phase) (kept : Kept) → Takes got m was kept → ((count : ℕ) → P (phases.Take m count)) → ((r : ℕ) → P (phases.TakeFat m r)) → P was
