@@ -1,6 +1,6 @@
 -- A thread makes an instruction.
 use Rattle.std.proofs.Common.{◌≡◌, ℕ, ◌+◌, Bool, true, false, cond, List, [], ◌∷◌, ◌++◌, Option, Some, None, refl, sym, ap, ◌∙◌, subst, arith}
-use Rattle.std.specs.Prelude.{nat_lt, nat_le, slice_get, option_map}
+use Rattle.std.specs.Prelude.{slice_get, option_map}
 use Rattle.jvm_types.specs.Members.{is_synchronized}
 use Rattle.jvm_types.specs.Verifying.{is_return}
 use Rattle.jvm_types.specs.declared.code.Insn.{Insn}
@@ -9,11 +9,10 @@ use Rattle.jvm_types.specs.declared.outcome.Thrown as outcomes
 use Rattle.jvm_types.specs.declared.outcome.Thrown.TheVariants.{StackOverflowError, IllegalMonitorStateException, OutOfMemoryError, ArrayIndexOutOfBoundsException}
 use Rattle.jvm_types.specs.declared.program.MethodInfo.{MethodInfo}
 use Rattle.checked_program.specs.MarkedProgram.{MarkedProgram, IsMarked}
-use Rattle.machine_types.specs.Elision.{is_checked, is_same, if_same, fails}
 use Rattle.machine_types.specs.Frames.{Top, top_of, frames_of, effect_at, went, went_on, waiting, making, has_room, monitor_of, returned}
 use Rattle.machine_types.specs.Going.{with_phase, goes_on, goes_on_if}
 use Rattle.machine_types.specs.HeldMonitors.{held_at}
-use Rattle.machine_types.specs.Instructions.{has_print_left, indexed, made, printed, if_held, waits, notifies, did, instructed}
+use Rattle.machine_types.specs.Instructions.{made, printed}
 use Rattle.machine_types.specs.Ints.{low}
 use Rattle.machine_types.specs.Onward.{Onward, Running, Throwing, Entering, Leaving, threw, called, entered, returns, back, done}
 use Rattle.machine_types.specs.ReadyObjects.{thrown_of}
@@ -47,7 +46,9 @@ use Rattle.laws_threads.proofs.Inside.{inside_may}
 use Rattle.laws_threads.proofs.Steps.{steps_inside}
 use Rattle.laws_threads.proofs.ElementEffects.{element_at}
 use Rattle.laws_threads.proofs.GoingOn.{OnwardShows, AttemptGoesOn, none_goes_on, onward_stands, going}
-use Rattle.laws_threads.proofs.Turns.{running, failing, no_attempt}
+use Rattle.laws_threads.proofs.ThreadMove.{Asks, WaitsFrom, IsNotify, of_one, of_all, Refuses, past_end, no_memory, waits_unheld, notifies_unheld}
+use Rattle.laws_threads.proofs.ThreadMove as moves
+use Rattle.laws_threads.proofs.Turns.{running, no_attempt}
 
 -- ---- where there is an onward
 
@@ -169,6 +170,19 @@ module _ (c : MarkedProgram) (marked : IsMarked c) (s : Thread) (at : Top) (t : 
   threw_on : (x : outcomes.Thrown) (e : Effect) → effect_at c.program at ≡ e → may_throw e ≡ true → s.attempt ≡ None → StaysStructured c was (goes_on s (threw x at))
   threw_on x e f g none = going c was s k.once (threw x at) k.shown (threw_shows c marked s.frames k.shown at t k.show x e f g) deep (none_goes_on c (threw x at) s.held s.attempt none)
 
+  none_by : (e : Effect) → effect_at c.program at ≡ e → ((m : ℕ) → MayDo c m at e → ⊥) → s.attempt ≡ None
+  none_by e f never = unless_inside e f never s.attempt refl
+
+  pub does : (e : Effect) (got : ℕ) (onward : Onward) → effect_at c.program at ≡ e → done c.program at e got ≡ Some onward → StaysStructured c was (goes_on s onward)
+  does e got onward f d = subst (λ (o : Option Onward). StaysStructured c was (goes_on_if s o)) d (step e f got)
+
+  pub refuses : (x : outcomes.Thrown) → Refuses c.program at x → StaysStructured c was (goes_on s (threw x at))
+  refuses _ (past_end array index stored f) = threw_on ArrayIndexOutOfBoundsException (effects.Indexes array index stored) f refl (none_by (effects.Indexes array index stored) f (λ m n. n))
+  refuses _ (no_memory word size f) = threw_on OutOfMemoryError (effects.Makes word size) f refl (none_by (effects.Makes word size) f (λ m n. n))
+  refuses _ (waits_unheld m f) = threw_on IllegalMonitorStateException (effects.Waits m) f refl (none_by (effects.Waits m) f (λ m n. n))
+  refuses _ (notifies_unheld m (of_one f)) = threw_on IllegalMonitorStateException (effects.Notifies m) f refl (none_by (effects.Notifies m) f (λ m n. n))
+  refuses _ (notifies_unheld m (of_all f)) = threw_on IllegalMonitorStateException (effects.NotifiesAll m) f refl (none_by (effects.NotifiesAll m) f (λ m n. n))
+
   -- ---- an element
 
   top_at_element : (array index : ℕ) (stored : Option ℕ) → effect_at c.program at ≡ effects.Indexes array index stored → TopIs c (is_element_op stored) s.frames
@@ -176,122 +190,81 @@ module _ (c : MarkedProgram) (marked : IsMarked c) (s : Thread) (at : Top) (t : 
       subst (λ (fs : List Frame). TopIs c (is_element_op stored) fs) (sym top.1.frames)
       (top.0, subst (λ (insn : Insn). is_element_op stored insn.op ≡ true) (sym top.1.insn) (element_at c.program at.insn.next at.target at.insn.op at.frame.locals at.frame.stack array index stored f))
 
-  element_begins : (array index found count : ℕ) (stored : Option ℕ) → effect_at c.program at ≡ effects.Indexes array index stored → s.attempt ≡ None → StaysStructured c was (indexed s at array found stored count)
-  element_begins array index found count stored f none = by_count (nat_lt found count)
-    where
-      by_count : (b : Bool) → StaysStructured c was (cond b (with_phase s (phases.Element (value_word array found) stored)) (goes_on s (threw ArrayIndexOutOfBoundsException at)))
-      by_count true = record {
-        is_as = refl;
-        stands = record { shown = k.shown; show = k.show; depths = k.depths; once = k.once; phase_shows = top_at_element array index stored f };
-        attempt = no_attempt c (phases.Element (value_word array found) stored) s.frames s.held s.attempt none;
-      }
-      by_count false = threw_on ArrayIndexOutOfBoundsException (effects.Indexes array index stored) f refl none
+  pub element_begins : (array index : ℕ) (stored : Option ℕ) → effect_at c.program at ≡ effects.Indexes array index stored → StaysStructured c was (with_phase s (phases.Element (value_word array (low index)) stored))
+  element_begins array index stored f = record {
+    is_as = refl;
+    stands = record { shown = k.shown; show = k.show; depths = k.depths; once = k.once; phase_shows = top_at_element array index stored f };
+    attempt = no_attempt c (phases.Element (value_word array (low index)) stored) s.frames s.held s.attempt (none_by (effects.Indexes array index stored) f (λ m n. n));
+  }
 
   -- ---- a new object, and a print
 
-  object_begins : (word size got : ℕ) → effect_at c.program at ≡ effects.Makes word size → s.attempt ≡ None → StaysStructured c was (made c.program s at word size got)
-  object_begins word size got f none = by_heap (nat_le (got + size) c.program.heap)
-    where
-      by_heap : (b : Bool) → StaysStructured c was (cond b (record s { frames = making c.program at; phase = phases.Made got word }) (goes_on s (threw OutOfMemoryError at)))
-      by_heap true = record {
-        is_as = refl;
-        stands = record { shown = k.shown; show = making_law c s.frames k.shown at word size marked t k.show f; depths = k.depths; once = k.once; phase_shows = tt };
-        attempt = no_attempt c (phases.Made got word) (making c.program at) s.held s.attempt none;
-      }
-      by_heap false = threw_on OutOfMemoryError (effects.Makes word size) f refl none
+  pub object_begins : (word size got : ℕ) → effect_at c.program at ≡ effects.Makes word size → StaysStructured c was (record s { frames = making c.program at; phase = phases.Made got word })
+  object_begins word size got f = record {
+    is_as = refl;
+    stands = record { shown = k.shown; show = making_law c s.frames k.shown at word size marked t k.show f; depths = k.depths; once = k.once; phase_shows = tt };
+    attempt = no_attempt c (phases.Made got word) (making c.program at) s.held s.attempt (none_by (effects.Makes word size) f (λ m n. n));
+  }
 
-  prints_one : (n got : ℕ) → effect_at c.program at ≡ effects.Prints n → s.attempt ≡ None → StaysStructured c was (did c.program s at (effects.Prints n) got)
-  prints_one n got f none = by_limit (has_print_left s)
-    where
-      by_limit : (b : Bool) → StaysStructured c was (cond b (goes_on (printed s got n) (Running (went_on c.program at 0))) (with_phase s (phases.Ending ends.Prints)))
-      by_limit true = going c was (printed s got n) k.once (Running (went_on c.program at 0)) k.shown (done_shows c marked s.frames k.shown at t k.show (effects.Prints n) f got) deep (none_goes_on c (Running (went_on c.program at 0)) s.held s.attempt none)
-      by_limit false = record { is_as = refl; stands = k; attempt = inside }
+  pub prints_one : (n got : ℕ) → effect_at c.program at ≡ effects.Prints n → StaysStructured c was (goes_on (printed s got n) (Running (went_on c.program at 0)))
+  prints_one n got f = going c was (printed s got n) k.once (Running (went_on c.program at 0)) k.shown (done_shows c marked s.frames k.shown at t k.show (effects.Prints n) f got) deep
+      (none_goes_on c (Running (went_on c.program at 0)) s.held s.attempt (none_by (effects.Prints n) f (λ m n. n)))
+
+  pub prints_no_more : StaysStructured c was (with_phase s (phases.Ending ends.Prints))
+  prints_no_more = record { is_as = refl; stands = k; attempt = inside }
 
   -- ---- what asks that a monitor is held
 
   went_shows : (e : Effect) → effect_at c.program at ≡ e → goes_to at.insn.next e ≡ Some at.insn.next → Show c Whole (went_on c.program at 0) k.shown
   went_shows e f g = effects_law c s.frames k.shown at at.insn.next 0 marked t k.show (ap (goes_to at.insn.next) f ∙ g)
 
-  waits_for : (m : ℕ) → effect_at c.program at ≡ effects.Waits m → s.attempt ≡ None → (o : Option Held) → held_at s.held m ≡ o → StaysStructured c was (if_held s at o (waits (record s { frames = went_on c.program at 0 }) m))
-  waits_for m f none None e = threw_on IllegalMonitorStateException (effects.Waits m) f refl none
-  waits_for m f none (Some h) e = by_kept h.kept refl
+  pub waits_for : (m : ℕ) (h : Held) (now : Phase) → effect_at c.program at ≡ effects.Waits m → held_at s.held m ≡ Some h → WaitsFrom m h.kept now → StaysStructured c was (record s { frames = went_on c.program at 0; phase = now; turns = 0 })
+  waits_for m h now f e w = by_kept h.kept refl now w
     where
       shows : Show c Whole (went_on c.program at 0) k.shown
       shows = went_shows (effects.Waits m) f refl
 
-      by_kept : (kept : Kept) → h.kept ≡ kept → StaysStructured c was (waits (record s { frames = went_on c.program at 0 }) m kept)
-      by_kept (keeps.Flat count) g = record {
+      none : s.attempt ≡ None
+      none = none_by (effects.Waits m) f (λ m n. n)
+
+      by_kept : (kept : Kept) → h.kept ≡ kept → (now : Phase) → WaitsFrom m kept now → StaysStructured c was (record s { frames = went_on c.program at 0; phase = now; turns = 0 })
+      by_kept _ g _ (moves.grows_first count) = record {
         is_as = refl;
         stands = record { shown = k.shown; show = shows; depths = k.depths; once = k.once; phase_shows = record { toward_shows = tt; flat = subst (λ (o : Option Held). IsFlat o) (sym e) (count, g); once = tt } };
         attempt = no_attempt c (phases.Grow m towards.Wait) (went_on c.program at 0) s.held s.attempt none;
       }
-      by_kept (keeps.Fat r) g = record {
+      by_kept _ g _ (moves.waits_fat r) = record {
         is_as = refl;
         stands = record { shown = k.shown; show = shows; depths = k.depths; once = k.once; phase_shows = (tt, subst (λ (o : Option Held). IsFat r o) (sym e) g) };
         attempt = no_attempt c (phases.WaitBit m r) (went_on c.program at 0) s.held s.attempt none;
       }
 
-  notifies_one : (m : ℕ) → effect_at c.program at ≡ effects.Notifies m → s.attempt ≡ None → (o : Option Held) → held_at s.held m ≡ o → StaysStructured c was (if_held s at o (notifies (record s { frames = went_on c.program at 0 }) (phases.NotifyLook m)))
-  notifies_one m f none None e = threw_on IllegalMonitorStateException (effects.Notifies m) f refl none
-  notifies_one m f none (Some h) e = by_kept h.kept refl
+  -- one or all
+  notify_shows : (m : ℕ) → IsNotify c.program at m → Show c Whole (went_on c.program at 0) k.shown × (s.attempt ≡ None)
+  notify_shows m (of_one f) = (went_shows (effects.Notifies m) f refl, none_by (effects.Notifies m) f (λ m n. n))
+  notify_shows m (of_all f) = (went_shows (effects.NotifiesAll m) f refl, none_by (effects.NotifiesAll m) f (λ m n. n))
+
+  pub notifies_nobody : (m : ℕ) → IsNotify c.program at m → StaysStructured c was (goes_on s (Running (went_on c.program at 0)))
+  notifies_nobody m y = let shows = notify_shows m y in
+      running c was (record s { frames = went_on c.program at 0 }) (record { shown = k.shown; show = shows.0; depths = k.depths; once = k.once; phase_shows = tt }) (no_attempt c phases.Run (went_on c.program at 0) s.held s.attempt shows.1)
+
+  pub notifies_some : (m : ℕ) (h : Held) (now : Phase) → IsNotify c.program at m → held_at s.held m ≡ Some h → Asks m h.kept now → StaysStructured c was (record s { frames = went_on c.program at 0; phase = now })
+  notifies_some m h now y e w = by_kept h.kept refl now w
     where
-      shows : Show c Whole (went_on c.program at 0) k.shown
-      shows = went_shows (effects.Notifies m) f refl
+      shows : Show c Whole (went_on c.program at 0) k.shown × (s.attempt ≡ None)
+      shows = notify_shows m y
 
-      by_kept : (kept : Kept) → h.kept ≡ kept → StaysStructured c was (notifies (record s { frames = went_on c.program at 0 }) (phases.NotifyLook m) kept)
-      by_kept (keeps.Flat count) g = running c was (record s { frames = went_on c.program at 0 }) (record { shown = k.shown; show = shows; depths = k.depths; once = k.once; phase_shows = tt }) (no_attempt c phases.Run (went_on c.program at 0) s.held s.attempt none)
-      by_kept (keeps.Fat r) g = record {
+      fat : (r : ℕ) → h.kept ≡ keeps.Fat r → IsFat r (held_at s.held m)
+      fat r g = subst (λ (o : Option Held). IsFat r o) (sym e) g
+
+      by_kept : (kept : Kept) → h.kept ≡ kept → (now : Phase) → Asks m kept now → StaysStructured c was (record s { frames = went_on c.program at 0; phase = now })
+      by_kept _ g _ (moves.looks_who r) = record {
         is_as = refl;
-        stands = record { shown = k.shown; show = shows; depths = k.depths; once = k.once; phase_shows = (tt, subst (λ (o : Option Held). IsFat r o) (sym e) g) };
-        attempt = no_attempt c (phases.NotifyLook m r) (went_on c.program at 0) s.held s.attempt none;
+        stands = record { shown = k.shown; show = shows.0; depths = k.depths; once = k.once; phase_shows = (tt, fat r g) };
+        attempt = no_attempt c (phases.NotifyLook m r) (went_on c.program at 0) s.held s.attempt shows.1;
       }
-
-  notifies_each : (m : ℕ) → effect_at c.program at ≡ effects.NotifiesAll m → s.attempt ≡ None → (o : Option Held) → held_at s.held m ≡ o → StaysStructured c was (if_held s at o (notifies (record s { frames = went_on c.program at 0 }) (phases.NotifyAll m)))
-  notifies_each m f none None e = threw_on IllegalMonitorStateException (effects.NotifiesAll m) f refl none
-  notifies_each m f none (Some h) e = by_kept h.kept refl
-    where
-      shows : Show c Whole (went_on c.program at 0) k.shown
-      shows = went_shows (effects.NotifiesAll m) f refl
-
-      by_kept : (kept : Kept) → h.kept ≡ kept → StaysStructured c was (notifies (record s { frames = went_on c.program at 0 }) (phases.NotifyAll m) kept)
-      by_kept (keeps.Flat count) g = running c was (record s { frames = went_on c.program at 0 }) (record { shown = k.shown; show = shows; depths = k.depths; once = k.once; phase_shows = tt }) (no_attempt c phases.Run (went_on c.program at 0) s.held s.attempt none)
-      by_kept (keeps.Fat r) g = record {
+      by_kept _ g _ (moves.clears_all r) = record {
         is_as = refl;
-        stands = record { shown = k.shown; show = shows; depths = k.depths; once = k.once; phase_shows = (tt, subst (λ (o : Option Held). IsFat r o) (sym e) g) };
-        attempt = no_attempt c (phases.NotifyAll m r) (went_on c.program at 0) s.held s.attempt none;
+        stands = record { shown = k.shown; show = shows.0; depths = k.depths; once = k.once; phase_shows = (tt, fat r g) };
+        attempt = no_attempt c (phases.NotifyAll m r) (went_on c.program at 0) s.held s.attempt shows.1;
       }
-
-  -- ---- all of them
-
-  pub did_keeps : (e : Effect) → effect_at c.program at ≡ e → (got : ℕ) → StaysStructured c was (did c.program s at e got)
-  did_keeps (effects.Indexes array index stored) f got = element_begins array index (low index) (header_length got) stored f (unless_inside (effects.Indexes array index stored) f (λ m n. n) s.attempt refl)
-  did_keeps (effects.Makes word size) f got = object_begins word size got f (unless_inside (effects.Makes word size) f (λ m n. n) s.attempt refl)
-  did_keeps (effects.Prints n) f got = prints_one n got f (unless_inside (effects.Prints n) f (λ m n. n) s.attempt refl)
-  did_keeps (effects.Waits m) f got = waits_for m f (unless_inside (effects.Waits m) f (λ m n. n) s.attempt refl) (held_at s.held m) refl
-  did_keeps (effects.Notifies m) f got = notifies_one m f (unless_inside (effects.Notifies m) f (λ m n. n) s.attempt refl) (held_at s.held m) refl
-  did_keeps (effects.NotifiesAll m) f got = notifies_each m f (unless_inside (effects.NotifiesAll m) f (λ m n. n) s.attempt refl) (held_at s.held m) refl
-  did_keeps e f got = step e f got
-
--- ---- behind the check of an attempt
-
-pub checked : (c : MarkedProgram) (was : Phase) (s : Thread) (phase : Phase) → AttemptStandsIn c phase s.frames s.held s.attempt → (got : ℕ) (more : Thread) → StaysStructured c was more → StaysStructured c was (if_same s s.attempt got more)
-checked c was s phase inside got more on = by_attempt s.attempt inside
-  where
-    by_attempt : (o : Option Attempt) → AttemptStandsIn c phase s.frames s.held o → StaysStructured c was (if_same s o got more)
-    by_attempt None k = on
-    by_attempt (Some a) k = by_word (is_same a got)
-      where
-        by_word : (b : Bool) → StaysStructured c was (cond b more (fails s a))
-        by_word true = on
-        by_word false = failing c was phase s a k
-
-pub instruction_keeps : (c : MarkedProgram) (was : Phase) (s : Thread) → IsMarked c → Stands c phases.Run s.frames s.held s.attempt → AttemptStandsIn c phases.Run s.frames s.held s.attempt → StaysStructured c was s → (at : Top) → top_of c.program s.frames ≡ Some at → (got : ℕ)
-    → StaysStructured c was (instructed c.program s at (effect_at c.program at) got)
-instruction_keeps c was s marked k inside same at t got = by_check (is_checked at.frame.pc (effect_at c.program at))
-  where
-    on : StaysStructured c was (did c.program s at (effect_at c.program at) got)
-    on = did_keeps c marked s at t k inside was same (effect_at c.program at) refl got
-
-    by_check : (b : Bool) → StaysStructured c was (cond b (if_same s s.attempt got (did c.program s at (effect_at c.program at) got)) (did c.program s at (effect_at c.program at) got))
-    by_check true = checked c was s phases.Run inside got (did c.program s at (effect_at c.program at) got) on
-    by_check false = on

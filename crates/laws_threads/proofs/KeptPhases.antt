@@ -1,6 +1,6 @@
 -- Each event keeps the types of all that its thread holds: each move does.
 use Rattle.std.proofs.Common.{◌≡◌, ℕ, suc, ◌+◌, ◌-◌, ◌<◌, ◌^◌, inl, inr, true, false, List, [], ◌∷◌, length, Option, Some, None, refl, ap, sym, subst, ◌∙◌, arith, ◌≤◌}
-use Rattle.std.specs.Prelude.{◌==◌, drop, option_map, nat_le}
+use Rattle.std.specs.Prelude.{drop, option_map, nat_le}
 use Rattle.std.proofs.lemmas.Bool.Decides.{nat_tests}
 use Rattle.jvm_types.specs.CodeTable.{can_throw, row}
 use Rattle.jvm_types.specs.Verifying.{edges}
@@ -12,7 +12,6 @@ use Rattle.jvm_types.specs.declared.program.MethodInfo.{MethodInfo}
 use Rattle.jvm_types.specs.declared.program.Program.{Program}
 use Rattle.jvm_types.specs.declared.program.Target.{Target}
 use Rattle.checked_program.specs.MarkedProgram.{MarkedProgram, IsMarked}
-use Rattle.machine_types.specs.Elision.{elided}
 use Rattle.machine_types.specs.Events.{started, element_made, moved}
 use Rattle.machine_types.specs.Frames.{Top, top_of, effect_at, went_on, pushed, handler_at, making}
 use Rattle.machine_types.specs.Going.{runs, goes_after}

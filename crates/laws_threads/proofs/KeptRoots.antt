@@ -14,7 +14,6 @@ use Rattle.jvm_types.specs.declared.program.MethodInfo.{MethodInfo}
 use Rattle.jvm_types.specs.declared.program.Program.{Program}
 use Rattle.jvm_types.specs.declared.program.Row.{Row}
 use Rattle.machine_types.specs.Bounds.{part_roots, FramesFit, IsRooted}
-use Rattle.machine_types.specs.Elision.{elided}
 use Rattle.machine_types.specs.Events.{started}
 use Rattle.machine_types.specs.Frames.{Top, top_of, frames_of, pushed, went_on, has_room, waiting, entry_frame, arguments_of, monitor_of, returned, handler_at}
 use Rattle.machine_types.specs.Going.{with_phase, runs, failed_turn, goes_on, goes_on_if, goes_after, root_over}

@@ -1,5 +1,5 @@
 -- The event that begins an instruction keeps the types of all that its thread holds.
-use Rattle.std.proofs.Common.{◌≡◌, ℕ, ◌+◌, ◌<◌, ◌≤◌, inl, inr, true, List, [], ◌∷◌, ◌++◌, length, Option, Some, None, refl, ap, sym, subst, ◌∙◌, arith}
+use Rattle.std.proofs.Common.{◌≡◌, ℕ, ◌<◌, ◌≤◌, inl, inr, true, List, [], ◌∷◌, ◌++◌, length, Option, Some, None, refl, ap, sym, subst, ◌∙◌, arith}
 use Rattle.std.specs.Prelude.{map, drop}
 use Rattle.std.specs.List.{AllByRecursion}
 use Rattle.std.proofs.lemmas.Bool.Decides.{nat_tests}
@@ -28,7 +28,6 @@ use Rattle.machine_types.specs.Onward.{Onward, Running, threw, done}
 use Rattle.machine_types.specs.Threads.{Frame}
 use Rattle.machine_types.specs.Typed.{Classes, Holds, FrameHolds, HoldBelow, FramesHold, ElementStands, with_object}
 use Rattle.machine_types.specs.Words.{header, header_class, value_word}
-use Rattle.machine_types.specs.declared.lock.Kept.TheVariants as keeps
 use Rattle.laws_threads.specs.Allowed.{OneOf, Gives, GivenHolds, WriteHolds, MadeAs, Allowed, IsByMachine}
 use Rattle.laws_threads.proofs.Lifts.{frame_up, below_up}
 use Rattle.laws_threads.proofs.TypedMoves.{goes}

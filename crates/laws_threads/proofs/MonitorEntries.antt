@@ -1,20 +1,16 @@
 -- A thread enters a monitor.
-use Rattle.std.proofs.Common.{◌≡◌, ℕ, ◌+◌, Bool, true, false, cond, List, [], ◌∷◌, length, Option, Some, None, refl, sym, ap, subst, arith}
-use Rattle.std.specs.Prelude.{◌==◌, nat_lt}
-use Rattle.std.proofs.lemmas.Bool.Decides.{nat_tests}
-use Rattle.jvm_types.specs.declared.limits.TheConstants.{FLAG_FROM}
+use Rattle.std.proofs.Common.{◌≡◌, ℕ, ◌+◌, Bool, true, false, cond, List, ◌∷◌, length, Option, Some, None, refl, sym, ap, subst, arith}
+use Rattle.std.specs.Prelude.{◌==◌}
+use Rattle.std.proofs.lemmas.Bool.{eq-eqb}
 use Rattle.checked_program.specs.MarkedProgram.{MarkedProgram, IsMarked}
-use Rattle.machine_types.specs.Elision.{tries, begins, enters_marked}
+use Rattle.machine_types.specs.Elision.{enters_marked}
 use Rattle.machine_types.specs.Going.{with_phase, runs, failed_turn}
 use Rattle.machine_types.specs.HeldMonitors.{held_at, with_held, deeper}
-use Rattle.machine_types.specs.LockWords.{lock_of}
-use Rattle.machine_types.specs.Monitors.{Tries, HasNot, claim, claim_by, acquires, enter_moves, takes}
-use Rattle.machine_types.specs.Structure.{TopEnters, Stands, AttemptStands, AttemptStandsIn, held_depth, tried_depth, once_at}
+use Rattle.machine_types.specs.Monitors.{Tries, HasNot, claim_by, takes}
+use Rattle.machine_types.specs.Structure.{Stands, AttemptStands, AttemptStandsIn, held_depth, tried_depth, once_at}
 use Rattle.machine_types.specs.Threads.{Frame, Attempt, Thread}
 use Rattle.machine_types.specs.declared.lock.Held.{Held}
 use Rattle.machine_types.specs.declared.lock.Kept.{Kept}
-use Rattle.machine_types.specs.declared.lock.LockWord.{LockWord}
-use Rattle.machine_types.specs.declared.lock.LockWord.TheVariants as locks
 use Rattle.machine_types.specs.declared.phase.Phase.{Phase}
 use Rattle.machine_types.specs.declared.phase.Phase.TheVariants as phases
 use Rattle.laws_threads.specs.StructureLaws.{StaysStructured, turned_from}
@@ -51,18 +47,21 @@ module _ (c : MarkedProgram) (s : Thread) (m : ℕ) where
   flag_turns u k = record { counts = tt; stands = to_flag u k; inside = no_attempt c (phases.Flag m u) s.frames s.held s.attempt k.phase_shows.no_attempt }
 
   -- by what the lock word says
-  pub acquiring : (was : Phase) → turned_from was ≡ phases.Acquire m → Stands c (phases.Acquire m) s.frames s.held s.attempt → (lock : LockWord) → StaysStructured c was (acquires s m lock)
-  acquiring was from k (locks.Free count) = record { is_as = refl; stands = to_take count k; attempt = no_attempt c (phases.Take m count) s.frames s.held s.attempt k.phase_shows.no_attempt }
-  acquiring was from k (locks.Held u) = by_turns (nat_lt (s.turns + 1) FLAG_FROM)
-    where
-      limit : TurnsIn c (turned_from was) s
-      limit = subst (λ (phase : Phase). TurnsIn c phase s) (sym from) (acquire_turns k)
+  module _ (was : Phase) (from : turned_from was ≡ phases.Acquire m) (k : Stands c (phases.Acquire m) s.frames s.held s.attempt) where
+    limit : TurnsIn c (turned_from was) s
+    limit = subst (λ (phase : Phase). TurnsIn c phase s) (sym from) (acquire_turns k)
 
-      by_turns : (few : Bool) → StaysStructured c was (failed_turn s (cond few (phases.Acquire m) (phases.Flag m u)))
-      by_turns true = turning c was s (phases.Acquire m) (acquire_turns k) limit
-      by_turns false = turning c was s (phases.Flag m u) (flag_turns u k) limit
-  acquiring was from k (locks.Flagged u) = turning c was s (phases.Acquire m) (acquire_turns k) (subst (λ (phase : Phase). TurnsIn c phase s) (sym from) (acquire_turns k))
-  acquiring was from k (locks.Fat r) = record { is_as = refl; stands = to_take_fat r k; attempt = no_attempt c (phases.TakeFat m r) s.frames s.held s.attempt k.phase_shows.no_attempt }
+    pub takes_next : (count : ℕ) → StaysStructured c was (with_phase s (phases.Take m count))
+    takes_next count = record { is_as = refl; stands = to_take count k; attempt = no_attempt c (phases.Take m count) s.frames s.held s.attempt k.phase_shows.no_attempt }
+
+    pub takes_fat_next : (r : ℕ) → StaysStructured c was (with_phase s (phases.TakeFat m r))
+    takes_fat_next r = record { is_as = refl; stands = to_take_fat r k; attempt = no_attempt c (phases.TakeFat m r) s.frames s.held s.attempt k.phase_shows.no_attempt }
+
+    pub looks_again : StaysStructured c was (failed_turn s (phases.Acquire m))
+    looks_again = turning c was s (phases.Acquire m) (acquire_turns k) limit
+
+    pub flags : (u : ℕ) → StaysStructured c was (failed_turn s (phases.Flag m u))
+    flags u = turning c was s (phases.Flag m u) (flag_turns u k) limit
 
   -- the lock was not free
   pub turned_back : (count : ℕ) → Stands c (phases.Acquire m) s.frames s.held s.attempt → StaysStructured c (phases.Take m count) (failed_turn s (phases.Acquire m))
@@ -128,9 +127,9 @@ module _ (begin : BeginsAttempt) (entered_again : EntersInside) (c : MarkedProgr
   to_acquire e none = record { shown = k.shown; show = k.show; depths = k.depths; once = k.once; phase_shows = record { entry = k.phase_shows; not_held = e; no_attempt = none } }
 
   -- an attempt begins
-  begun : IsMarked c → held_at s.held m ≡ None → s.attempt ≡ None → enters_marked c s.frames ≡ true → (noted number : ℕ) (fs : List Frame) → s.frames ≡ fs → StaysStructured c (phases.Enter m tried) (begins s fs m noted number)
-  begun marked e none may noted number [] f = absurd (subst (λ (fs : List Frame). TopEnters c m fs) f k.phase_shows.enters)
-  begun marked e none may noted number (f ∷ below) same = running c (phases.Enter m tried) (record s { attempt = Some a }) stands (subst (λ (fs : List Frame). AttemptStands c phases.Run fs s.held a) (sym same) tried_there)
+  pub begun : IsMarked c → held_at s.held m ≡ None → s.attempt ≡ None → enters_marked c s.frames ≡ true → (noted number : ℕ) (f : Frame) (below : List Frame) → s.frames ≡ f ∷ below
+      → StaysStructured c (phases.Enter m tried) (runs (record s { attempt = Some (record { monitor = m; noted = noted; base = length below; number = number; inner = 0; entry = f }) }))
+  begun marked e none may noted number f below same = running c (phases.Enter m tried) (record s { attempt = Some a }) stands (subst (λ (fs : List Frame). AttemptStands c phases.Run fs s.held a) (sym same) tried_there)
     where
       a : Attempt
       a = record { monitor = m; noted = noted; base = length below; number = number; inner = 0; entry = f }
@@ -150,19 +149,8 @@ module _ (begin : BeginsAttempt) (entered_again : EntersInside) (c : MarkedProgr
         phase_shows = entered_frame c m s.frames k.phase_shows.enters;
       }
 
-  -- by the lock word that was found
-  trying : IsMarked c → held_at s.held m ≡ None → s.attempt ≡ None → enters_marked c s.frames ≡ true → (lock : LockWord) → StaysStructured c (phases.Enter m tried) (tries s m tried lock)
-  trying marked e none may (locks.Free noted) = by_range (nat_lt noted s.cfg.range)
-    where
-      by_range : (within : Bool) → StaysStructured c (phases.Enter m tried) (cond within (begins s s.frames m noted (tried + 1)) (with_phase s (phases.Acquire m)))
-      by_range true = begun marked e none may noted (tried + 1) s.frames refl
-      by_range false = looks_at_lock c s m (phases.Enter m tried) (to_acquire e none)
-  trying marked e none may (locks.Held u) = looks_at_lock c s m (phases.Enter m tried) (to_acquire e none)
-  trying marked e none may (locks.Flagged u) = looks_at_lock c s m (phases.Enter m tried) (to_acquire e none)
-  trying marked e none may (locks.Fat r) = looks_at_lock c s m (phases.Enter m tried) (to_acquire e none)
-
   -- inside an attempt on the monitor
-  deeper_inside : (a : Attempt) → s.attempt ≡ Some a → a.monitor ≡ m → StaysStructured c (phases.Enter m tried) (runs (record s { attempt = Some (record a { inner = a.inner + 1 }) }))
+  pub deeper_inside : (a : Attempt) → s.attempt ≡ Some a → a.monitor ≡ m → StaysStructured c (phases.Enter m tried) (runs (record s { attempt = Some (record a { inner = a.inner + 1 }) }))
   deeper_inside a e on = running c (phases.Enter m tried) (record s { attempt = Some (record a { inner = a.inner + 1 }) }) stands (entered_again c m tried s.frames s.held a (subst (λ (o : Option Attempt). AttemptStandsIn c (phases.Enter m tried) s.frames s.held o) e inside))
     where
       stands : Stands c phases.Run s.frames s.held (Some (record a { inner = a.inner + 1 }))
@@ -174,21 +162,12 @@ module _ (begin : BeginsAttempt) (entered_again : EntersInside) (c : MarkedProgr
         phase_shows = entered_frame c m s.frames k.phase_shows.enters;
       }
 
-  pub entering : IsMarked c → (may : Bool) (got : ℕ) → (may ≡ true → enters_marked c s.frames ≡ true) → StaysStructured c (phases.Enter m tried) (enter_moves s m tried may (claim s m) got)
-  entering marked may got on = by_held (held_at s.held m) refl s.attempt refl
+  -- no attempt on it is under way where it is neither held nor tried
+  pub none_tried : (held : Option Held) (o : Option Attempt) → claim_by m held o ≡ HasNot → AttemptStandsIn c (phases.Enter m tried) s.frames s.held o → o ≡ None
+  none_tried (Some h) o e k = absurd (cc)
+  none_tried None None e k = refl
+  none_tried None (Some a) e k = absurd (by_monitor (a.monitor == m) (eq-eqb a.monitor m (sym k.inside)) e)
     where
-      unheld : (b : Bool) → b ≡ may → held_at s.held m ≡ None → s.attempt ≡ None → StaysStructured c (phases.Enter m tried) (enter_moves s m tried b HasNot got)
-      unheld true f e none = trying marked e none (on (sym f)) (lock_of got)
-      unheld false f e none = acquiring c s m (phases.Enter m tried) refl (to_acquire e none) (lock_of got)
-
-      inside_of : (a : Attempt) → s.attempt ≡ Some a → m ≡ a.monitor
-      inside_of a e = (subst (λ (o : Option Attempt). AttemptStandsIn c (phases.Enter m tried) s.frames s.held o) e inside).inside
-
-      by_monitor : (a : Attempt) → s.attempt ≡ Some a → (b : Bool) → (a.monitor == m) ≡ b → StaysStructured c (phases.Enter m tried) (enter_moves s m tried may (cond b (Tries a) HasNot) got)
-      by_monitor a e true f = deeper_inside a e (sym (inside_of a e))
-      by_monitor a e false f = let same : m ≡ a.monitor = inside_of a e in absurd (grind (arith, nat_tests, f, same))
-
-      by_held : (o : Option Held) → held_at s.held m ≡ o → (q : Option Attempt) → s.attempt ≡ q → StaysStructured c (phases.Enter m tried) (enter_moves s m tried may (claim_by m o q) got)
-      by_held (Some h) e q f = again h e
-      by_held None e None f = unheld may refl e f
-      by_held None e (Some a) f = by_monitor a f (a.monitor == m) refl
+      by_monitor : (b : Bool) → b ≡ true → cond b (Tries a) HasNot ≡ HasNot → ⊥
+      by_monitor true f e = cc
+      by_monitor false f e = cc

@@ -1,17 +1,17 @@
 -- A thread leaves a monitor.
-use Rattle.std.proofs.Common.{◌≡◌, ℕ, zero, suc, ◌+◌, ◌<◌, Bool, true, false, cond, List, [], ◌∷◌, length, drop, Option, Some, None, refl, sym, ap, ◌∙◌, subst, arith}
+use Rattle.std.proofs.Common.{◌≡◌, ℕ, suc, ◌+◌, ◌<◌, Bool, true, false, cond, List, [], ◌∷◌, length, drop, Option, Some, None, refl, sym, ap, ◌∙◌, subst, arith}
 use Rattle.std.specs.Prelude.{◌==◌, nat_lt, option_map}
 use Rattle.std.specs.List.{AllZip}
 use Rattle.std.proofs.lemmas.Bool.Decides.{nat_tests}
+use Rattle.std.proofs.lemmas.Bool.{ltb-true}
 use Rattle.jvm_types.specs.Types.{TypeFrame}
 use Rattle.jvm_types.specs.declared.outcome.Thrown as outcomes
 use Rattle.checked_program.specs.MarkedProgram.{MarkedProgram, IsMarked}
-use Rattle.machine_types.specs.Elision.{is_same, fails, elided}
+use Rattle.machine_types.specs.Elision.{elided}
 use Rattle.machine_types.specs.Frames.{Top, frames_of, returned}
 use Rattle.machine_types.specs.Going.{with_phase, goes_on, goes_on_if, goes_after}
 use Rattle.machine_types.specs.HeldMonitors.{held_at, with_held, without_held, shallower}
-use Rattle.machine_types.specs.LockWords.{word_of_lock}
-use Rattle.machine_types.specs.Monitors.{Tries, HasNot, claim, claim_by, lets_go, released, finishes, leave_moves}
+use Rattle.machine_types.specs.Monitors.{lets_go}
 use Rattle.machine_types.specs.Onward.{Onward, Running, after, back, unwound}
 use Rattle.machine_types.specs.Shown.{Show}
 use Rattle.machine_types.specs.Standing.{Whole, Thrown}
@@ -19,9 +19,7 @@ use Rattle.machine_types.specs.Structure.{AfterShows, AreHeldOnce, IsFlat, Stand
 use Rattle.machine_types.specs.Threads.{Frame, Attempt, Thread}
 use Rattle.machine_types.specs.Typed.{Classes, Holds, AfterHolds, FrameHolds, FramesHold}
 use Rattle.machine_types.specs.declared.lock.Held.{Held}
-use Rattle.machine_types.specs.declared.lock.Kept.{Kept}
 use Rattle.machine_types.specs.declared.lock.Kept.TheVariants as keeps
-use Rattle.machine_types.specs.declared.lock.LockWord.TheVariants as locks
 use Rattle.machine_types.specs.declared.phase.After.{After}
 use Rattle.machine_types.specs.declared.phase.After.TheVariants as afters
 use Rattle.machine_types.specs.declared.phase.Phase.{Phase}
@@ -37,7 +35,7 @@ use Rattle.laws_threads.proofs.Leaves.{leaves_inside}
 use Rattle.laws_threads.proofs.HeldLists.{OneLess, lowered, depth_some, held_positive}
 use Rattle.laws_threads.proofs.HeldLists as lists
 use Rattle.laws_threads.proofs.GoingOn.{OnwardShows, AttemptGoesOn, none_goes_on, onward_stands, going}
-use Rattle.laws_threads.proofs.Turns.{failing, no_attempt, held_outside}
+use Rattle.laws_threads.proofs.Turns.{no_attempt, held_outside}
 
 -- ---- the height of a stack
 
@@ -117,63 +115,45 @@ module _ (is : Classes) (c : MarkedProgram) (marked : IsMarked c) (was : Phase) 
       (record { show = k.show; leaves = k.phase_shows; holds = holds; once = one.once; depths = λ n. let d = k.depths n in let e = one.depths n in omega arith })
       (λ onward rest e shows. none_goes_on c onward less s.attempt none)
 
-  released_by : (h : Held) → held_at s.held m ≡ Some h → h.depth ≡ 1 → s.attempt ≡ None → (kept : Kept) → h.kept ≡ kept → (got : ℕ) → StaysStructured c was (released c.program s m a kept got)
-  released_by h e deep none (keeps.Fat r) f got = left_with (without_held m s.held) (lists.released m s.held k.once (depth_some m s.held h e ∙ deep)) none
-  released_by h e deep none (keeps.Flat count) f got = by_word (got == word_of_lock (locks.Held s.number))
-    where
-      grows : Stands c (phases.Grow m (towards.Leave a)) s.frames s.held s.attempt
-      grows = record {
-        shown = k.shown;
-        show = k.show;
-        depths = k.depths;
-        once = k.once;
-        phase_shows = record { toward_shows = k.phase_shows; flat = subst (λ (o : Option Held). IsFlat o) (sym e) (count, f); once = depth_some m s.held h e ∙ deep };
-      }
+  module _ (h : Held) (e : held_at s.held m ≡ Some h) where
+    none_under_way : s.attempt ≡ None
+    none_under_way = held_outside c (phases.Leave m a) m h s.frames s.held s.attempt (λ n same. same) e inside
 
-      by_word : (b : Bool) → StaysStructured c was (cond b (lets_go c.program s m a) (with_phase s (phases.Grow m (towards.Leave a))))
-      by_word true = left_with (without_held m s.held) (lists.released m s.held k.once (depth_some m s.held h e ∙ deep)) none
-      by_word false = record { is_as = refl; stands = grows; attempt = no_attempt c (phases.Grow m (towards.Leave a)) s.frames s.held s.attempt none }
+    last_deep : nat_lt 1 h.depth ≡ false → h.depth ≡ 1
+    last_deep f = let some : 0 < h.depth = held_positive m s.held h k.once e in grind (arith, nat_tests, f, some)
 
-  left_held : (h : Held) → held_at s.held m ≡ Some h → (got : ℕ) → StaysStructured c was (cond (nat_lt 1 h.depth) (goes_after c.program (record s { held = with_held (shallower h) s.held }) a) (released c.program s m a h.kept got))
-  left_held h e got = by_depth (nat_lt 1 h.depth) refl
-    where
-      none : s.attempt ≡ None
-      none = held_outside c (phases.Leave m a) m h s.frames s.held s.attempt (λ n same. same) e inside
+    pub left_deeper : nat_lt 1 h.depth ≡ true → StaysStructured c was (goes_after c.program (record s { held = with_held (shallower h) s.held }) a)
+    left_deeper f = left_with (with_held (shallower h) s.held) (lowered m s.held h k.once e (ltb-true 1 h.depth f)) none_under_way
 
-      some : 0 < h.depth
-      some = held_positive m s.held h k.once e
+    pub left_last : nat_lt 1 h.depth ≡ false → StaysStructured c was (lets_go c.program s m a)
+    left_last f = left_with (without_held m s.held) (lists.released m s.held k.once (depth_some m s.held h e ∙ last_deep f)) none_under_way
 
-      by_depth : (b : Bool) → nat_lt 1 h.depth ≡ b → StaysStructured c was (cond b (goes_after c.program (record s { held = with_held (shallower h) s.held }) a) (released c.program s m a h.kept got))
-      by_depth true f = left_with (with_held (shallower h) s.held) (lowered m s.held h k.once e (grind (arith, nat_tests, f))) none
-      by_depth false f = released_by h e (grind (arith, nat_tests, f, some)) none h.kept refl got
+    pub grows_first : (count : ℕ) → nat_lt 1 h.depth ≡ false → h.kept ≡ keeps.Flat count → StaysStructured c was (with_phase s (phases.Grow m (towards.Leave a)))
+    grows_first count f l = record { is_as = refl; stands = grows; attempt = no_attempt c (phases.Grow m (towards.Leave a)) s.frames s.held s.attempt none_under_way }
+      where
+        grows : Stands c (phases.Grow m (towards.Leave a)) s.frames s.held s.attempt
+        grows = record {
+          shown = k.shown;
+          show = k.show;
+          depths = k.depths;
+          once = k.once;
+          phase_shows = record { toward_shows = k.phase_shows; flat = subst (λ (o : Option Held). IsFlat o) (sym e) (count, l); once = depth_some m s.held h e ∙ last_deep f };
+        }
 
   -- of the monitor of an attempt
-  left_tried : (t : Attempt) → s.attempt ≡ Some t → t.monitor ≡ m → (inner : ℕ) → t.inner ≡ inner → (got : ℕ) → StaysStructured c was (finishes c.program s a t inner got)
-  left_tried t e on zero f got = by_word (is_same t got)
-    where
-      by_word : (b : Bool) → StaysStructured c was (cond b (goes_after c.program (elided s) a) (fails s t))
-      by_word true = left is c marked was m a (elided s) k.shown
-          (record { show = k.show; leaves = k.phase_shows; holds = holds; once = k.once; depths = λ n. let d = k.depths n in let tried : tried_depth n s.attempt ≡ tried_depth n (Some t) = ap (tried_depth n) e in let one = tried_once n in omega arith })
-          (λ onward rest e shows. tt)
-        where
-          tried_once : (n : ℕ) → tried_depth n (Some t) ≡ once_at m n
-          tried_once n = last_try (t.monitor == n) t.inner f ∙ ap (λ (i : ℕ). once_at i n) on
-      by_word false = failing c was (phases.Leave m a) s t (subst (λ (o : Option Attempt). AttemptStandsIn c (phases.Leave m a) s.frames s.held o) e inside)
-  left_tried t e on (suc inner) f got = left is c marked was m a (record s { attempt = Some (record t { inner = inner }) }) k.shown
-      (record { show = k.show; leaves = k.phase_shows; holds = holds; once = k.once; depths = λ n. let d = k.depths n in let tried : tried_depth n s.attempt ≡ tried_depth n (Some t) = ap (tried_depth n) e in let less = tried_less n in omega arith })
-      (λ onward rest g shows. leaves_inside c m a s.frames s.held t inner onward marked (subst (λ (o : Option Attempt). AttemptStandsIn c (phases.Leave m a) s.frames s.held o) e inside) (subst (λ (o : Option Attempt). Stands c (phases.Leave m a) s.frames s.held o) e k) f g (onward_stands c onward rest shows))
-    where
-      tried_less : (n : ℕ) → tried_depth n (Some t) ≡ tried_depth n (Some (record t { inner = inner })) + once_at m n
-      tried_less n = one_try (t.monitor == n) t.inner inner f ∙ ap (λ (i : ℕ). cond (t.monitor == n) (inner + 1) 0 + once_at i n) on
+  module _ (t : Attempt) (e : s.attempt ≡ Some t) (on : t.monitor ≡ m) where
+    pub left_elided : t.inner ≡ 0 → StaysStructured c was (goes_after c.program (elided s) a)
+    left_elided f = left is c marked was m a (elided s) k.shown
+        (record { show = k.show; leaves = k.phase_shows; holds = holds; once = k.once; depths = λ n. let d = k.depths n in let tried : tried_depth n s.attempt ≡ tried_depth n (Some t) = ap (tried_depth n) e in let one = tried_once n in omega arith })
+        (λ onward rest e shows. tt)
+      where
+        tried_once : (n : ℕ) → tried_depth n (Some t) ≡ once_at m n
+        tried_once n = last_try (t.monitor == n) t.inner f ∙ ap (λ (i : ℕ). once_at i n) on
 
-  pub leaving : (same : StaysStructured c was s) (got : ℕ) → StaysStructured c was (leave_moves c.program s m a (claim s m) got)
-  leaving same got = by_held (held_at s.held m) refl s.attempt refl
-    where
-      by_monitor : (t : Attempt) → s.attempt ≡ Some t → (b : Bool) → (t.monitor == m) ≡ b → StaysStructured c was (leave_moves c.program s m a (cond b (Tries t) HasNot) got)
-      by_monitor t e true f = left_tried t e (grind (arith, nat_tests, f)) t.inner refl got
-      by_monitor t e false f = same
-
-      by_held : (o : Option Held) → held_at s.held m ≡ o → (q : Option Attempt) → s.attempt ≡ q → StaysStructured c was (leave_moves c.program s m a (claim_by m o q) got)
-      by_held (Some h) e q f = left_held h e got
-      by_held None e None f = same
-      by_held None e (Some t) f = by_monitor t f (t.monitor == m) refl
+    pub left_inside : (inner : ℕ) → t.inner ≡ suc inner → StaysStructured c was (goes_after c.program (record s { attempt = Some (record t { inner = inner }) }) a)
+    left_inside inner f = left is c marked was m a (record s { attempt = Some (record t { inner = inner }) }) k.shown
+        (record { show = k.show; leaves = k.phase_shows; holds = holds; once = k.once; depths = λ n. let d = k.depths n in let tried : tried_depth n s.attempt ≡ tried_depth n (Some t) = ap (tried_depth n) e in let less = tried_less n in omega arith })
+        (λ onward rest g shows. leaves_inside c m a s.frames s.held t inner onward marked (subst (λ (o : Option Attempt). AttemptStandsIn c (phases.Leave m a) s.frames s.held o) e inside) (subst (λ (o : Option Attempt). Stands c (phases.Leave m a) s.frames s.held o) e k) f g (onward_stands c onward rest shows))
+      where
+        tried_less : (n : ℕ) → tried_depth n (Some t) ≡ tried_depth n (Some (record t { inner = inner })) + once_at m n
+        tried_less n = one_try (t.monitor == n) t.inner inner f ∙ ap (λ (i : ℕ). cond (t.monitor == n) (inner + 1) 0 + once_at i n) on

@@ -1,10 +1,10 @@
 -- Each event of a thread keeps its locking structured.
-use Rattle.std.proofs.Common.{◌≡◌, ℕ, ◌<◌, Bool, true, false, cond, List, [], ◌∷◌, ◌++◌, length, Option, Some, None, refl, sym, ap, ◌∙◌, subst, arith}
-use Rattle.std.specs.Prelude.{◌==◌, nat_lt, slice_get, option_map, ◌&&◌, IsTrue}
+use Rattle.std.proofs.Common.{◌≡◌, ℕ, ◌<◌, Bool, true, false, cond, List, [], ◌∷◌, ◌++◌, length, Option, Some, None, refl, sym, ap, ◌∙◌, subst, arith, ◌+◌}
+use Rattle.std.specs.Prelude.{nat_lt, slice_get, option_map, ◌&&◌, IsTrue}
 use Rattle.std.specs.List.{AllByRecursion}
 use Rattle.jvm_types.specs.CodeTable.{can_throw}
 use Rattle.jvm_types.specs.Members.{is_static, is_synchronized}
-use Rattle.jvm_types.specs.Numbers.{has_flag, has_number}
+use Rattle.jvm_types.specs.Numbers.{has_number}
 use Rattle.jvm_types.specs.declared.outcome.End.{End}
 use Rattle.jvm_types.specs.declared.outcome.End.TheVariants as ends
 use Rattle.jvm_types.specs.declared.outcome.Thrown as outcomes
@@ -14,30 +14,27 @@ use Rattle.jvm_types.specs.declared.program.Row.{Row}
 use Rattle.checked_program.specs.MarkedProgram.{MarkedProgram, IsMarked}
 use Rattle.machine_types.specs.Elision.{may_try, enters_marked}
 use Rattle.machine_types.specs.Bounds.{IsRooted, part_roots}
-use Rattle.machine_types.specs.Events.{started, element_made, element_done, moved}
+use Rattle.machine_types.specs.Events.{started, element_made, moved}
 use Rattle.machine_types.specs.Frames.{Top, top_of, frames_of, went_on, pushed, has_room, entry_frame, monitor_of, handler_at}
-use Rattle.machine_types.specs.Going.{with_phase, runs, failed_turn, goes_on, goes_on_if}
+use Rattle.machine_types.specs.Going.{with_phase, failed_turn, goes_on, goes_on_if}
 use Rattle.machine_types.specs.HeldMonitors.{held_at, without_held}
-use Rattle.machine_types.specs.Instructions.{begun, ran}
 use Rattle.machine_types.specs.Lawful as lawful
-use Rattle.machine_types.specs.LockWords.{word_of_lock, lock_of}
-use Rattle.machine_types.specs.Monitors.{lets_go, takes, grows_not, retakes, bit_of, lowest_of}
-use Rattle.machine_types.specs.Onward.{Running, Leaving, Uncaught, rooted, root_arguments, handed, unwound, dispatched}
+use Rattle.machine_types.specs.Monitors.{lets_go, lowest_of, HasNot, claim}
+use Rattle.machine_types.specs.Onward.{Running, Leaving, Uncaught, rooted, root_arguments, handed, unwound, Onward}
 use Rattle.machine_types.specs.ReadyObjects.{class_of}
 use Rattle.machine_types.specs.Shown.{Show}
 use Rattle.machine_types.specs.Standing.{Whole, Thrown}
 use Rattle.machine_types.specs.Structure.{HasFrame, TopIs, Stands, AttemptStandsIn, IsStructured, IsAs, IsLimitAt, IsPhaseInside, count_in, any_op}
 use Rattle.machine_types.specs.Threads.{Frame, Attempt, Thread}
 use Rattle.machine_types.specs.Typed.{Classes, AfterHolds, PhaseHolds, ThreadHolds}
-use Rattle.jvm_types.specs.declared.fixed_words.TheConstants.{MONITOR_RECORDS}
 use Rattle.jvm_types.specs.declared.limits.TheConstants.{MOST_ATTEMPTS}
 use Rattle.machine_types.specs.declared.lock.Held.{Held}
-use Rattle.machine_types.specs.declared.lock.Kept.TheVariants as keeps
-use Rattle.machine_types.specs.declared.lock.LockWord.TheVariants as locks
 use Rattle.machine_types.specs.declared.phase.After.{After}
 use Rattle.machine_types.specs.declared.phase.After.TheVariants as afters
 use Rattle.machine_types.specs.declared.phase.Phase.{Phase}
 use Rattle.machine_types.specs.declared.phase.Phase.TheVariants as phases
+use Rattle.machine_types.specs.declared.phase.Toward.TheVariants as towards
+use Rattle.machine_types.specs.declared.lock.Kept.{Kept}
 use Rattle.laws_threads.specs.StructureLaws.{StaysStructured, StructureIsKept, counted_by, turned_from}
 use Rattle.laws_threads.specs.CallLaws.{IsLeft}
 use Rattle.laws_threads.specs.ThrowLaws.{ThrowsOn}
@@ -48,14 +45,15 @@ use Rattle.laws_threads.proofs.FrameThrows.{caught_law, unwound_law}
 use Rattle.laws_threads.proofs.MoveProofs.{elements_law, pushed_law}
 use Rattle.laws_threads.proofs.Steps.{no_element_inside}
 use Rattle.laws_threads.proofs.Throws.{throws_inside}
-use Rattle.laws_threads.proofs.HeldLists.{OneLess}
 use Rattle.laws_threads.proofs.HeldLists as lists
-use Rattle.laws_threads.proofs.MonitorEntries.{from_take, from_flag, from_take_fat, acquiring, turned_back, turned_back_fat, looks_at_lock, taken, entering}
+use Rattle.laws_threads.proofs.MonitorEntries.{from_take, from_flag, from_take_fat, takes_next, takes_fat_next, looks_again, flags, turned_back, turned_back_fat, looks_at_lock, taken, again, to_acquire, begun, deeper_inside, none_tried}
 use Rattle.laws_threads.proofs.GoingOn.{OnwardShows, AttemptGoesOn, none_goes_on, onward_stands, going}
-use Rattle.laws_threads.proofs.Instructions.{checked, instruction_keeps}
-use Rattle.laws_threads.proofs.Releases.{left_with, leaving}
+use Rattle.laws_threads.proofs.Instructions as instruction
+use Rattle.laws_threads.proofs.ThreadMove.{Looks, Lacks, GoesBy, Checks, LeadsTo, TurnsTo, Takes, GivesUp, Move, becomes, mover, by_move, of_mover, not_held, tried_attempt, tried_monitor}
+use Rattle.laws_threads.proofs.ThreadMove as moves
+use Rattle.laws_threads.proofs.Releases.{left_with, left_deeper, left_last, grows_first, left_elided, left_inside}
 use Rattle.laws_threads.proofs.StaticRoots.{roots_static}
-use Rattle.laws_threads.proofs.Turns.{no_attempt, outside}
+use Rattle.laws_threads.proofs.Turns.{failing, no_attempt, outside}
 use Rattle.laws_threads.proofs.Waits.{to_own, not_grown, to_fat_in, fattened, to_wait_out, given_up, waits_on, to_retake, retakes_not, retaken, notified, to_notify_one, notified_one, notified_all}
 
 -- ---- an exception and one frame
@@ -80,33 +78,29 @@ module _ (c : MarkedProgram) (marked : IsMarked c) (fs : List Frame) (shown : Li
       by_flag true f own = record { leaves = left.0.leaves f; now = shown; counts = λ n. omega arith; show = subst (λ (gs : List Frame). Show c Thrown gs shown) is_top show }
       by_flag false f own = subst (λ (ns : List ℕ). OnwardShows c (unwound x class at.below) ns) (sym own) (unwound_onward at.below left.0.rest left.0.show left.1)
 
-module _ (c : MarkedProgram) (marked : IsMarked c) (was : Phase) (s : Thread) (same : StaysStructured c was s) where
-  throw_keeps : (x : ℕ) (class : outcomes.Thrown) → Stands c (phases.Throw x class) s.frames s.held s.attempt → AttemptStandsIn c (phases.Throw x class) s.frames s.held s.attempt → StaysStructured c was (goes_on_if s (dispatched c.program x class s.frames))
-  throw_keeps x class k inside = by_top (top_of c.program s.frames) refl
+module _ (c : MarkedProgram) (marked : IsMarked c) (was : Phase) (s : Thread) where
+  throw_keeps : (x : ℕ) (class : outcomes.Thrown) → Stands c (phases.Throw x class) s.frames s.held s.attempt → AttemptStandsIn c (phases.Throw x class) s.frames s.held s.attempt → (at : Top) → top_of c.program s.frames ≡ Some at
+      → StaysStructured c was (goes_on s (handed x class at (handler_at (class_of class) at)))
+  throw_keeps x class k inside at t = going c was s k.once (handed x class at (handler_at (class_of class) at)) k.shown shows (λ m. let d = k.depths m in omega arith) (by_attempt s.attempt refl)
     where
-      by_attempt : (at : Top) → top_of c.program s.frames ≡ Some at → OnwardShows c (handed x class at (handler_at (class_of class) at)) k.shown → (o : Option Attempt) → s.attempt ≡ o → AttemptGoesOn c (handed x class at (handler_at (class_of class) at)) s.held o
-      by_attempt at t shows None e = tt
-      by_attempt at t shows (Some a) e = throws_inside c x class s.frames s.held a at marked (subst (λ (o : Option Attempt). AttemptStandsIn c (phases.Throw x class) s.frames s.held o) e inside)
-          (subst (λ (o : Option Attempt). Stands c (phases.Throw x class) s.frames s.held o) e k) t (onward_stands c (handed x class at (handler_at (class_of class) at)) k.shown shows)
+      shows : OnwardShows c (handed x class at (handler_at (class_of class) at)) k.shown
+      shows = handed_shows c marked s.frames k.shown at t k.show k.phase_shows x class (handler_at (class_of class) at) refl
 
-      by_top : (o : Option Top) → top_of c.program s.frames ≡ o → StaysStructured c was (goes_on_if s (option_map (λ (at : Top). handed x class at (handler_at (class_of class) at)) o))
-      by_top None t = same
-      by_top (Some at) t = let shows = handed_shows c marked s.frames k.shown at t k.show k.phase_shows x class (handler_at (class_of class) at) refl in
-          going c was s k.once (handed x class at (handler_at (class_of class) at)) k.shown shows (λ m. let d = k.depths m in omega arith) (by_attempt at t shows s.attempt refl)
+      by_attempt : (o : Option Attempt) → s.attempt ≡ o → AttemptGoesOn c (handed x class at (handler_at (class_of class) at)) s.held o
+      by_attempt None e = tt
+      by_attempt (Some a) e = throws_inside c x class s.frames s.held a at marked (subst (λ (o : Option Attempt). AttemptStandsIn c (phases.Throw x class) s.frames s.held o) e inside)
+          (subst (λ (o : Option Attempt). Stands c (phases.Throw x class) s.frames s.held o) e k) t (onward_stands c (handed x class at (handler_at (class_of class) at)) k.shown shows)
 
   -- ---- an element, and a new object
 
-  element_keeps : (word : ℕ) (stored : Option ℕ) (value : ℕ) → Stands c (phases.Element word stored) s.frames s.held s.attempt → AttemptStandsIn c (phases.Element word stored) s.frames s.held s.attempt → StaysStructured c was (element_done c.program s value)
-  element_keeps word stored value k inside = by_top (top_of c.program s.frames) refl
+  element_keeps : (word : ℕ) (stored : Option ℕ) (value : ℕ) → Stands c (phases.Element word stored) s.frames s.held s.attempt → AttemptStandsIn c (phases.Element word stored) s.frames s.held s.attempt → (at : Top) → top_of c.program s.frames ≡ Some at
+      → StaysStructured c was (goes_on s (Running (went_on c.program at value)))
+  element_keeps word stored value k inside at t = going c was s k.once (Running (went_on c.program at value)) k.shown (tt, elements_law c s.frames k.shown at stored value marked t k.show k.phase_shows) (λ m. let d = k.depths m in omega arith)
+      (none_goes_on c (Running (went_on c.program at value)) s.held s.attempt (none s.attempt refl))
     where
       none : (o : Option Attempt) → s.attempt ≡ o → o ≡ None
       none None e = refl
       none (Some a) e = absurd (no_element_inside c word stored s.frames s.held a marked (subst (λ (o : Option Attempt). AttemptStandsIn c (phases.Element word stored) s.frames s.held o) e inside) (subst (λ (o : Option Attempt). Stands c (phases.Element word stored) s.frames s.held o) e k))
-
-      by_top : (o : Option Top) → top_of c.program s.frames ≡ o → StaysStructured c was (goes_on_if s (option_map (λ (at : Top). Running (went_on c.program at value)) o))
-      by_top None t = same
-      by_top (Some at) t = going c was s k.once (Running (went_on c.program at value)) k.shown (tt, elements_law c s.frames k.shown at stored value marked t k.show k.phase_shows) (λ m. let d = k.depths m in omega arith)
-          (none_goes_on c (Running (went_on c.program at value)) s.held s.attempt (none s.attempt refl))
 
   pushed_frame : (a : ℕ) (fs : List Frame) → HasFrame fs → HasFrame (pushed a fs)
   pushed_frame a [] k = absurd k
@@ -130,9 +124,9 @@ module _ (c : MarkedProgram) (marked : IsMarked c) (was : Phase) (s : Thread) (s
       by_room true = (tt, roots_law c s.number number m marked e static)
       by_room false = refl
 
-  start_keeps : (roots : List ℕ) → AllByRecursion (λ (number : ℕ). IsTrue (has_number (part_roots c.program s.number s.part) number)) roots → Stands c phases.Start s.frames s.held s.attempt → s.attempt ≡ None → StaysStructured c was (started c.program s roots)
-  start_keeps [] all k none = same
-  start_keeps (number ∷ roots) all k none = by_method (slice_get c.program.methods number) refl
+  start_keeps : StaysStructured c was s → (roots : List ℕ) → AllByRecursion (λ (number : ℕ). IsTrue (has_number (part_roots c.program s.number s.part) number)) roots → Stands c phases.Start s.frames s.held s.attempt → s.attempt ≡ None → StaysStructured c was (started c.program s roots)
+  start_keeps same [] all k none = same
+  start_keeps same (number ∷ roots) all k none = by_method (slice_get c.program.methods number) refl
     where
       by_method : (o : Option MethodInfo) → slice_get c.program.methods number ≡ o → StaysStructured c was (goes_on_if (record s { roots = roots }) (option_map (rooted c.program s.number number) o))
       by_method None e = record { is_as = same.is_as; stands = same.stands; attempt = same.attempt }
@@ -164,10 +158,13 @@ over_counts was ends.Turns l = refl
 over_counts was ends.Records l = refl
 over_counts was e l = sym l
 
--- ---- all phases
+-- ---- all moves
 
 module _ (begin : BeginsAttempt) (entered_again : EntersInside) (is : Classes) (c : MarkedProgram) (marked : IsMarked c) (was : Phase) (s : Thread) (got : ℕ) (structured : IsStructured c was s)
     (roots : AllByRecursion (λ (number : ℕ). IsTrue (has_number (part_roots c.program s.number s.part) number)) s.roots) where
+  abbrev Keeps : Thread → Type 0
+  Keeps y = StaysStructured c was y
+
   at : (phase : Phase) → was ≡ phase → Stands c phase s.frames s.held s.attempt
   at phase e = subst (λ (x : Phase). Stands c x s.frames s.held s.attempt) e structured.stands
 
@@ -191,11 +188,6 @@ module _ (begin : BeginsAttempt) (entered_again : EntersInside) (is : Classes) (
       leaves : Stands c (phases.Leave m a) s.frames s.held s.attempt
       leaves = record { shown = k.shown; show = k.show; depths = k.depths; once = k.once; phase_shows = k.phase_shows.toward_shows }
 
-  ran_keeps : s.phase ≡ phases.Run → was ≡ phases.Run → (o : Option Top) → top_of c.program s.frames ≡ o → StaysStructured c was (ran c.program s o got)
-  ran_keeps here e None t = same phases.Run here (sym e)
-  ran_keeps here e (Some top) t = let k = same phases.Run here (sym e) in
-      instruction_keeps c was (begun s) marked (at phases.Run e) (within phases.Run e) (record { is_as = k.is_as; stands = k.stands; attempt = k.attempt }) top t got
-
   may_marked : (tried : ℕ) → may_try c s tried ≡ true → enters_marked c s.frames ≡ true
   may_marked tried e = last_of s.cfg.elide (nat_lt tried MOST_ATTEMPTS) (enters_marked c s.frames) e
     where
@@ -205,78 +197,126 @@ module _ (begin : BeginsAttempt) (entered_again : EntersInside) (is : Classes) (
       last_of true false false e = e
       last_of false b false e = e
 
-  by_phase : (phase : Phase) → s.phase ≡ phase → IsAs phase was → PhaseHolds c is phase s.frames → StaysStructured c was (moved c s phase got)
-  by_phase phases.Start here e holds = start_keeps c marked was s (same phases.Start here (sym e)) s.roots roots (at phases.Start e) (none_in phases.Start (λ m k. k) e)
-  by_phase phases.Run here e holds = ran_keeps here e (top_of c.program s.frames) refl
-  by_phase (phases.Element word stored) here e holds = element_keeps c marked was s (same (phases.Element word stored) here (sym e)) word stored (element_made stored got) (at (phases.Element word stored) e) (within (phases.Element word stored) e)
-  by_phase (phases.Made a word) here e holds = made_keeps c marked was s (same (phases.Made a word) here (sym e)) a word (at (phases.Made a word) e) (none_in (phases.Made a word) (λ m k. k) e)
-  by_phase (phases.Throw x class) here e holds = checked c was s (phases.Throw x class) (within (phases.Throw x class) e) got (goes_on_if s (dispatched c.program x class s.frames))
-      (throw_keeps c marked was s (same (phases.Throw x class) here (sym e)) x class (at (phases.Throw x class) e) (within (phases.Throw x class) e))
-  by_phase (phases.Enter m tried) here e holds = from (phases.Enter m tried) (moved c s (phases.Enter m tried) got) e (entering begin entered_again c s m tried (at (phases.Enter m tried) e) (within (phases.Enter m tried) e) marked (may_try c s tried) got (may_marked tried))
-  by_phase (phases.Acquire m) here e holds = acquiring c s m was (ap turned_from e) (at (phases.Acquire m) e) (lock_of got)
-  by_phase (phases.Take m count) here e holds = by_word (got == word_of_lock (locks.Free count))
-    where
-      k : Stands c (phases.Acquire m) s.frames s.held s.attempt
-      k = from_take c s m count (at (phases.Take m count) e)
+  -- where its event takes nothing
+  lacks_keeps : (phase : Phase) → Lacks c s got phase → s.phase ≡ phase → IsAs phase was → Keeps s
+  lacks_keeps _ moves.idle here e = same phases.Idle here (sym e)
+  lacks_keeps _ (moves.over reason) here e = same (phases.Ended reason) here (over_counts was reason e)
+  lacks_keeps _ (moves.no_root r) here e = same phases.Start here (sym e)
+  lacks_keeps _ (moves.no_instruction t) here e = same phases.Run here (sym e)
+  lacks_keeps _ (moves.no_way top x t f silent d) here e = same phases.Run here (sym e)
+  lacks_keeps _ (moves.no_place word stored t) here e = same (phases.Element word stored) here (sym e)
+  lacks_keeps _ (moves.no_catcher x class t) here e = same (phases.Throw x class) here (sym e)
+  lacks_keeps _ (moves.no_claim m a f) here e = same (phases.Leave m a) here (sym e)
+  lacks_keeps _ (moves.not_fat m r toward f) here e = same (phases.FatIn m r toward) here (sym e)
+  lacks_keeps _ (moves.not_waiting m r f) here e = same (phases.WaitOut m r) here (sym e)
 
-      by_word : (b : Bool) → StaysStructured c was (cond b (takes s m (keeps.Flat count)) (failed_turn s (phases.Acquire m)))
-      by_word true = taken c s m was (keeps.Flat count) k
-      by_word false = from (phases.Take m count) (failed_turn s (phases.Acquire m)) e (turned_back c s m count k)
-  by_phase (phases.Flag m u) here e holds = looks_at_lock c s m was (from_flag c s m u (at (phases.Flag m u) e))
-  by_phase (phases.TakeFat m r) here e holds = by_word (got == 0)
-    where
-      k : Stands c (phases.Acquire m) s.frames s.held s.attempt
-      k = from_take_fat c s m r (at (phases.TakeFat m r) e)
+  goes_keeps : (phase : Phase) (o : Onward) → GoesBy c.program s got phase o → s.phase ≡ phase → IsAs phase was → Keeps (goes_on s o)
+  goes_keeps _ o (moves.by_effect top x _ t f silent d) here e = instruction.does c marked s top t (at phases.Run e) (within phases.Run e) was (same phases.Run here (sym e)) x got o f d
+  goes_keeps _ _ (moves.by_machine top class t y) here e = instruction.refuses c marked s top t (at phases.Run e) (within phases.Run e) was (same phases.Run here (sym e)) class y
+  goes_keeps _ _ (moves.by_nobody top m count h t y there l) here e = instruction.notifies_nobody c marked s top t (at phases.Run e) (within phases.Run e) was (same phases.Run here (sym e)) m y
+  goes_keeps _ _ (moves.by_element word stored top t) here e = element_keeps c marked was s word stored (element_made stored got) (at (phases.Element word stored) e) (within (phases.Element word stored) e) top t
+  goes_keeps _ _ (moves.by_object a word) here e = made_keeps c marked was s a word (at (phases.Made a word) e) (none_in (phases.Made a word) (λ m k. k) e)
+  goes_keeps _ _ (moves.by_handler x class top t) here e = throw_keeps c marked was s x class (at (phases.Throw x class) e) (within (phases.Throw x class) e) top t
+  goes_keeps _ _ (moves.by_none m r f) here e = from (phases.NotifyLook m r) _ e (notified c s m r (none_in (phases.NotifyLook m r) (λ n k. k) e) (at (phases.NotifyLook m r) e))
+  goes_keeps _ _ (moves.by_one m r u) here e = from (phases.NotifyOne m r u) _ e (notified_one c s m r (none_in (phases.NotifyOne m r u) (λ n k. k) e) u (at (phases.NotifyOne m r u) e))
+  goes_keeps _ _ (moves.by_all m r) here e = from (phases.NotifyAll m r) _ e (notified_all c s m r (none_in (phases.NotifyAll m r) (λ n k. k) e) (at (phases.NotifyAll m r) e))
 
-      by_word : (b : Bool) → StaysStructured c was (cond b (takes s m (keeps.Fat r)) (failed_turn s (phases.TakeFat m r)))
-      by_word true = taken c s m was (keeps.Fat r) k
-      by_word false = from (phases.TakeFat m r) (failed_turn s (phases.TakeFat m r)) e (turned_back_fat c s m r k)
-  by_phase (phases.Leave m a) here e holds = leaving is c marked was s m a (at (phases.Leave m a) e) (within (phases.Leave m a) e) holds (same (phases.Leave m a) here (sym e)) got
-  by_phase (phases.Grow m toward) here e holds = from (phases.Grow m toward) (moved c s (phases.Grow m toward) got) e (by_records (nat_lt got MONITOR_RECORDS))
-    where
-      none : s.attempt ≡ None
-      none = none_in (phases.Grow m toward) (λ n k. k) e
+  checks_inside : (phase : Phase) (t : Attempt) → Checks c.program s t phase → IsAs phase was → AttemptStandsIn c phase s.frames s.held s.attempt
+  checks_inside _ t (moves.at_instruction top f x) e = within phases.Run e
+  checks_inside _ t (moves.at_throw x class) e = within (phases.Throw x class) e
+  checks_inside _ t (moves.at_end m a k i) e = within (phases.Leave m a) e
 
-      by_records : (b : Bool) → StaysStructured c (phases.Grow m toward) (cond b (with_phase s (phases.Own m got toward)) (grows_not s m toward))
-      by_records true = to_own c s m none got toward (at (phases.Grow m toward) e)
-      by_records false = not_grown c s m none toward (at (phases.Grow m toward) e)
-  by_phase (phases.FlatOut m a) here e holds = left_flat m a (at (phases.FlatOut m a) e) (none_in (phases.FlatOut m a) (λ n k. k) e) holds
-  by_phase (phases.Own m r toward) here e holds = from (phases.Own m r toward) (moved c s (phases.Own m r toward) got) e (to_fat_in c s m (none_in (phases.Own m r toward) (λ n k. k) e) r toward (at (phases.Own m r toward) e))
-  by_phase (phases.FatIn m r toward) here e holds = from (phases.FatIn m r toward) (moved c s (phases.FatIn m r toward) got) e (fattened c s m (none_in (phases.FatIn m r toward) (λ n k. k) e) r toward (held_at s.held m) refl (at (phases.FatIn m r toward) e))
-  by_phase (phases.WaitBit m r) here e holds = from (phases.WaitBit m r) (moved c s (phases.WaitBit m r) got) e (to_wait_out c s m r (none_in (phases.WaitBit m r) (λ n k. k) e) (at (phases.WaitBit m r) e))
-  by_phase (phases.WaitOut m r) here e holds = from (phases.WaitOut m r) (moved c s (phases.WaitOut m r) got) e (given_up c s m r (none_in (phases.WaitOut m r) (λ n k. k) e) (held_at s.held m) refl (at (phases.WaitOut m r) e))
-  by_phase (phases.WaitLook m r depth) here e holds = from (phases.WaitLook m r depth) (moved c s (phases.WaitLook m r depth) got) e (by_bit (has_flag (bit_of s.number) got))
-    where
-      none : s.attempt ≡ None
-      none = none_in (phases.WaitLook m r depth) (λ n k. k) e
+  -- ---- an entry
 
-      by_bit : (b : Bool) → StaysStructured c (phases.WaitLook m r depth) (cond b (failed_turn s (phases.WaitLook m r depth)) (with_phase s (phases.Retake m r depth)))
-      by_bit true = waits_on c s m r none depth (at (phases.WaitLook m r depth) e)
-      by_bit false = to_retake c s m r none depth (at (phases.WaitLook m r depth) e)
-  by_phase (phases.Retake m r depth) here e holds = from (phases.Retake m r depth) (moved c s (phases.Retake m r depth) got) e (by_word (got == 0))
-    where
-      none : s.attempt ≡ None
-      none = none_in (phases.Retake m r depth) (λ n k. k) e
+  -- of a monitor that is neither held nor tried
+  module _ (m tried : ℕ) (free : claim s m ≡ HasNot) (e : was ≡ phases.Enter m tried) where
+    not_held_on : held_at s.held m ≡ None
+    not_held_on = not_held m (held_at s.held m) s.attempt free
 
-      by_word : (b : Bool) → StaysStructured c (phases.Retake m r depth) (cond b (retakes s m r depth) (failed_turn s (phases.Retake m r depth)))
-      by_word true = retaken c s m r none depth (at (phases.Retake m r depth) e)
-      by_word false = retakes_not c s m r none depth (at (phases.Retake m r depth) e)
-  by_phase (phases.NotifyLook m r) here e holds = from (phases.NotifyLook m r) (moved c s (phases.NotifyLook m r) got) e (by_word (got == 0))
-    where
-      none : s.attempt ≡ None
-      none = none_in (phases.NotifyLook m r) (λ n k. k) e
+    none_on : s.attempt ≡ None
+    none_on = none_tried begin entered_again c s m tried (at (phases.Enter m tried) e) (within (phases.Enter m tried) e) (held_at s.held m) s.attempt free (within (phases.Enter m tried) e)
 
-      by_word : (b : Bool) → StaysStructured c (phases.NotifyLook m r) (cond b (runs s) (with_phase s (phases.NotifyOne m r (lowest_of got))))
-      by_word true = notified c s m r none (at (phases.NotifyLook m r) e)
-      by_word false = to_notify_one c s m r none (lowest_of got) (at (phases.NotifyLook m r) e)
-  by_phase (phases.NotifyOne m r u) here e holds = from (phases.NotifyOne m r u) (moved c s (phases.NotifyOne m r u) got) e (notified_one c s m r (none_in (phases.NotifyOne m r u) (λ n k. k) e) u (at (phases.NotifyOne m r u) e))
-  by_phase (phases.NotifyAll m r) here e holds = from (phases.NotifyAll m r) (moved c s (phases.NotifyAll m r) got) e (notified_all c s m r (none_in (phases.NotifyAll m r) (λ n k. k) e) (at (phases.NotifyAll m r) e))
-  by_phase (phases.Ending reason) here e holds = ends_keeps c was s reason e structured.stands structured.attempt
-  by_phase (phases.Ended reason) here e holds = same (phases.Ended reason) here (over_counts was reason e)
-  by_phase phases.Idle here e holds = same phases.Idle here (sym e)
+    entered_stands : Stands c (phases.Acquire m) s.frames s.held s.attempt
+    entered_stands = to_acquire begin entered_again c s m tried (at (phases.Enter m tried) e) (within (phases.Enter m tried) e) not_held_on none_on
+
+  looks_stands : (m : ℕ) (phase : Phase) → Looks s m phase → IsAs phase was → (turned_from was ≡ phases.Acquire m) × Stands c (phases.Acquire m) s.frames s.held s.attempt
+  looks_stands m _ (moves.entering tried free) e = (ap turned_from e, entered_stands m tried free e)
+  looks_stands m _ moves.acquiring e = (ap turned_from e, at (phases.Acquire m) e)
+
+  takes_stands : (m : ℕ) (phase : Phase) (kept : Kept) → Takes got m phase kept → IsAs phase was → Stands c (phases.Acquire m) s.frames s.held s.attempt
+  takes_stands m _ _ (moves.a_flat count f) e = from_take c s m count (at (phases.Take m count) e)
+  takes_stands m _ _ (moves.a_fat r f) e = from_take_fat c s m r (at (phases.TakeFat m r) e)
+
+  -- ---- to another phase
+
+  leads_keeps : (phase now : Phase) → LeadsTo c.program s got phase now → s.phase ≡ phase → IsAs phase was → PhaseHolds c is phase s.frames → Keeps (with_phase s now)
+  leads_keeps _ _ (moves.to_acquire m tried free) here e h = looks_at_lock c s m was (entered_stands m tried free e)
+  leads_keeps phase _ (moves.to_take m count k f) here e h = let l = looks_stands m phase k e in takes_next c s m was l.0 l.1 count
+  leads_keeps phase _ (moves.to_take_fat m r k f) here e h = let l = looks_stands m phase k e in takes_fat_next c s m was l.0 l.1 r
+  leads_keeps _ _ (moves.from_flag m u) here e h = looks_at_lock c s m was (from_flag c s m u (at (phases.Flag m u) e))
+  leads_keeps _ _ (moves.to_grow m count a x f last l) here e h = grows_first is c marked was s m a (at (phases.Leave m a) e) (within (phases.Leave m a) e) h x f count last l
+  leads_keeps _ _ (moves.to_own m toward f) here e h = from (phases.Grow m toward) _ e (to_own c s m (none_in (phases.Grow m toward) (λ n k. k) e) got toward (at (phases.Grow m toward) e))
+  leads_keeps _ _ (moves.to_flat_out m a f) here e h = from (phases.Grow m (towards.Leave a)) _ e (not_grown c s m (none_in (phases.Grow m (towards.Leave a)) (λ n k. k) e) (towards.Leave a) (at (phases.Grow m (towards.Leave a)) e))
+  leads_keeps _ _ (moves.to_no_record m f) here e h = from (phases.Grow m towards.Wait) _ e (not_grown c s m (none_in (phases.Grow m towards.Wait) (λ n k. k) e) towards.Wait (at (phases.Grow m towards.Wait) e))
+  leads_keeps _ _ (moves.to_fat_in m r toward) here e h = from (phases.Own m r toward) _ e (to_fat_in c s m (none_in (phases.Own m r toward) (λ n k. k) e) r toward (at (phases.Own m r toward) e))
+  leads_keeps _ _ (moves.to_wait_out m r) here e h = from (phases.WaitBit m r) _ e (to_wait_out c s m r (none_in (phases.WaitBit m r) (λ n k. k) e) (at (phases.WaitBit m r) e))
+  leads_keeps _ _ (moves.to_retake m r depth f) here e h = from (phases.WaitLook m r depth) _ e (to_retake c s m r (none_in (phases.WaitLook m r depth) (λ n k. k) e) depth (at (phases.WaitLook m r depth) e))
+  leads_keeps _ _ (moves.to_notify_one m r f) here e h = from (phases.NotifyLook m r) _ e (to_notify_one c s m r (none_in (phases.NotifyLook m r) (λ n k. k) e) (lowest_of got) (at (phases.NotifyLook m r) e))
+  leads_keeps _ _ (moves.to_end reason) here e h = ends_keeps c was s reason e structured.stands structured.attempt
+  leads_keeps _ _ (moves.to_element top array index stored t f x) here e h = instruction.element_begins c marked s top t (at phases.Run e) (within phases.Run e) was (same phases.Run here (sym e)) array index stored f
+  leads_keeps _ _ (moves.to_no_print top t f) here e h = instruction.prints_no_more c marked s top t (at phases.Run e) (within phases.Run e) was (same phases.Run here (sym e))
+
+  turns_keeps : (phase now : Phase) → TurnsTo s got phase now → IsAs phase was → Keeps (failed_turn s now)
+  turns_keeps phase _ (moves.looks_again m k) e = let l = looks_stands m phase k e in looks_again c s m was l.0 l.1
+  turns_keeps phase _ (moves.flags m u k f) e = let l = looks_stands m phase k e in flags c s m was l.0 l.1 u
+  turns_keeps _ _ (moves.takes_not m count f) e = from (phases.Take m count) _ e (turned_back c s m count (from_take c s m count (at (phases.Take m count) e)))
+  turns_keeps _ _ (moves.takes_not_fat m r f) e = from (phases.TakeFat m r) _ e (turned_back_fat c s m r (from_take_fat c s m r (at (phases.TakeFat m r) e)))
+  turns_keeps _ _ (moves.waits_on m r depth f) e = from (phases.WaitLook m r depth) _ e (waits_on c s m r (none_in (phases.WaitLook m r depth) (λ n k. k) e) depth (at (phases.WaitLook m r depth) e))
+  turns_keeps _ _ (moves.retakes_not m r depth f) e = from (phases.Retake m r depth) _ e (retakes_not c s m r (none_in (phases.Retake m r depth) (λ n k. k) e) depth (at (phases.Retake m r depth) e))
+
+  gives_up_keeps : (m : ℕ) (a : After) (phase : Phase) → GivesUp s m a phase → IsAs phase was → PhaseHolds c is phase s.frames → Keeps (lets_go c.program s m a)
+  gives_up_keeps m a _ (moves.on_leave x f t) e h = left_last is c marked was s m a (at (phases.Leave m a) e) (within (phases.Leave m a) e) h x f t
+  gives_up_keeps m a _ moves.flat_out e h = left_flat m a (at (phases.FlatOut m a) e) (none_in (phases.FlatOut m a) (λ m k. k) e) h
+
+  move_keeps : (phase : Phase) (k : Move c s got phase) → s.phase ≡ phase → IsAs phase was → PhaseHolds c is phase s.frames → Keeps (becomes c s got phase k)
+  move_keeps phase (moves.stays k) here e h = lacks_keeps phase k here e
+  move_keeps phase (moves.goes o k) here e h = goes_keeps phase o k here e
+  move_keeps phase (moves.fails_in t f d k) here e h = failing c was phase s t (subst (λ (o : Option Attempt). AttemptStandsIn c phase s.frames s.held o) f (checks_inside phase t k e))
+  move_keeps phase (moves.leads now k) here e h = leads_keeps phase now k here e h
+  move_keeps phase (moves.turns now k) here e h = turns_keeps phase now k e
+  move_keeps _ (moves.makes top word size t f x) here e h = instruction.object_begins c marked s top t (at phases.Run e) (within phases.Run e) was (same phases.Run here (sym e)) word size got f
+  move_keeps _ (moves.prints top n t f x) here e h = instruction.prints_one c marked s top t (at phases.Run e) (within phases.Run e) was (same phases.Run here (sym e)) n got f
+  move_keeps _ (moves.asks_to_wait top m x now t f l k) here e h = instruction.waits_for c marked s top t (at phases.Run e) (within phases.Run e) was (same phases.Run here (sym e)) m x now f l k
+  move_keeps _ (moves.asks top m x now t y l k) here e h = instruction.notifies_some c marked s top t (at phases.Run e) (within phases.Run e) was (same phases.Run here (sym e)) m x now y l k
+  move_keeps _ (moves.enters_again m tried x f) here e h = from (phases.Enter m tried) _ e (again begin entered_again c s m tried (at (phases.Enter m tried) e) (within (phases.Enter m tried) e) x f)
+  move_keeps _ (moves.enters_inside m tried t k) here e h =
+      from (phases.Enter m tried) _ e (deeper_inside begin entered_again c s m tried (at (phases.Enter m tried) e) (within (phases.Enter m tried) e) t (tried_attempt m (held_at s.held m) s.attempt t k) (tried_monitor m (held_at s.held m) s.attempt t k))
+  move_keeps _ (moves.begins_to_try m tried noted f below there may l x free) here e h =
+      from (phases.Enter m tried) _ e (begun begin entered_again c s m tried (at (phases.Enter m tried) e) (within (phases.Enter m tried) e) marked (not_held_on m tried free e) (none_on m tried free e) (may_marked tried may) noted (tried + 1) f below there)
+  move_keeps phase (moves.takes_lock m kept k) here e h = taken c s m was kept (takes_stands m phase kept k e)
+  move_keeps phase (moves.gives_up m a k) here e h = gives_up_keeps m a phase k e h
+  move_keeps _ (moves.leaves_outer m a x f t) here e h = left_deeper is c marked was s m a (at (phases.Leave m a) e) (within (phases.Leave m a) e) h x f t
+  move_keeps _ (moves.leaves_inside m a t inner k f) here e h =
+      left_inside is c marked was s m a (at (phases.Leave m a) e) (within (phases.Leave m a) e) h t (tried_attempt m (held_at s.held m) s.attempt t k) (tried_monitor m (held_at s.held m) s.attempt t k) inner f
+  move_keeps _ (moves.finishes_try m a t k f y) here e h =
+      left_elided is c marked was s m a (at (phases.Leave m a) e) (within (phases.Leave m a) e) h t (tried_attempt m (held_at s.held m) s.attempt t k) (tried_monitor m (held_at s.held m) s.attempt t k) f
+  move_keeps _ (moves.fattens_lock m r toward x f) here e h = from (phases.FatIn m r toward) _ e (fattened c s m (none_in (phases.FatIn m r toward) (λ n k. k) e) r toward (Some x) f (at (phases.FatIn m r toward) e))
+  move_keeps _ (moves.gives_up_to_wait m r x f) here e h = from (phases.WaitOut m r) _ e (given_up c s m r (none_in (phases.WaitOut m r) (λ n k. k) e) (Some x) f (at (phases.WaitOut m r) e))
+  move_keeps _ (moves.retakes_lock m r depth f) here e h = from (phases.Retake m r depth) _ e (retaken c s m r (none_in (phases.Retake m r depth) (λ n k. k) e) depth (at (phases.Retake m r depth) e))
+  move_keeps _ (moves.starts number more f) here e h =
+      start_keeps c marked was s (same phases.Start here (sym e)) (number ∷ more) (subst (AllByRecursion (λ (number : ℕ). IsTrue (has_number (part_roots c.program s.number s.part) number))) f roots) (at phases.Start e) (none_in phases.Start (λ m k. k) e)
+
+-- the thread that makes the move
+abbrev Before : Classes → MarkedProgram → (was phase : Phase) → Thread → Type 0
+Before is c was phase s = IsStructured c was s × AllByRecursion (λ (number : ℕ). IsTrue (has_number (part_roots c.program s.number s.part) number)) s.roots × (s.phase ≡ phase) × PhaseHolds c is phase s.frames
 
 pub structure_kept : BeginsAttempt → EntersInside → (is : Classes) (c : MarkedProgram) (was : Phase) (s : Thread) (got : ℕ) → IsMarked c → IsStructured c was s → ThreadHolds c is s → IsRooted c.program s → StaysStructured c was (moved c s s.phase got)
-structure_kept begin entered_again is c was s got marked structured holds rooted = by_phase begin entered_again is c marked was s got structured rooted.roots s.phase refl structured.is_as holds.phase
+structure_kept begin entered_again is c was s got marked structured holds rooted =
+    by_move (StaysStructured c was) c s s.phase got (λ k. move_keeps begin entered_again is c marked was (mover c.program s.phase s) got counted.0 counted.1 s.phase k counted.2 structured.is_as counted.3)
+  where
+    -- an instruction is counted before it does anything
+    counted : Before is c was s.phase (mover c.program s.phase s)
+    counted = of_mover (Before is c was s.phase) c.program s.phase s (structured, rooted.roots, refl, holds.phase) (record { is_as = structured.is_as; stands = structured.stands; attempt = structured.attempt }, rooted.roots, refl, holds.phase)
 
 pub kept : BeginsAttempt → EntersInside → StructureIsKept
 kept begin entered_again c was s got marked structured typed rooted = structure_kept begin entered_again (lawful.within c.program) c was s got marked structured typed.values rooted
