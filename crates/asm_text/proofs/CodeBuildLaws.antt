@@ -5,6 +5,7 @@ use Rattle.std.specs.List.{AllByRecursion, list_all}
 use Rattle.std.specs.Option.{option_map}
 use Rattle.std.proofs.lemmas.Bool.Decides.{nat_tests}
 use Rattle.std.proofs.lemmas.List.{append-nil}
+use Rattle.std.proofs.lemmas.Bool.{and_parts}
 use Rattle.jvm_types.specs.ClassGrammar.{IsByte}
 use Rattle.jvm_types.specs.CodeTable.{Form, Table, Lookup, form_of}
 use Rattle.jvm_types.specs.CodeGrammar.{padding_size, SpellsOperands, SpellsInsns, IsCode}
@@ -26,7 +27,7 @@ use Rattle.asm_text.specs.declared.items.Item.TheVariants.{CodeBytes, Instructio
 use Rattle.asm_text.specs.declared.places.CodePart.{CodePart}
 use Rattle.asm_text.specs.declared.places.CodePart.TheVariants as code_parts
 use Rattle.asm_text.specs.declared.places.Place.TheVariants as places
-use Rattle.asm_text.proofs.WordLaws.{both, small_back}
+use Rattle.asm_text.proofs.WordLaws.{small_back}
 use Rattle.asm_text.proofs.EncodeLaws.{insn_operands, LineHolds, line_holds, IsPadded, operands_spelled}
 use Rattle.asm_text.proofs.BuildLaws.{Leads, first_line, leads_as, stays, entered, CodeUpTo, LeadsInCode, code_up_more}
 
@@ -43,7 +44,7 @@ zero_run : (whole pre xs rest : List ℕ) (n at : ℕ) → whole ≡ pre ++ (xs 
 zero_run whole pre [] rest n at e l a h = tt
 zero_run whole pre (x ∷ xs) rest zero at e l a h = absurd (omega arith)
 zero_run whole pre (x ∷ xs) rest (suc n) at e l a h =
-    let p = both (slice_index_or whole at 0 == 0) (are_zeros whole (at + 1) n) h in
+    let p = and_parts (slice_index_or whole at 0 == 0) (are_zeros whole (at + 1) n) h in
     let here : slice_index_or whole at 0 ≡ x = ap (λ (w : List ℕ). slice_index_or w at 0) e ∙ ap (λ (k : ℕ). slice_index_or (pre ++ x ∷ (xs ++ rest)) k 0) (sym a) ∙ at_end pre x (xs ++ rest) in
     (sym here ∙ is_zero _ p.0, zero_run whole (pre ++ x ∷ []) xs rest n (at + 1) (e ∙ sym (append_assoc pre (x ∷ []) (xs ++ rest))) (omega arith) (omega (arith, a, length-append pre (x ∷ []))) p.1)
 
@@ -106,7 +107,7 @@ insns_lead kind c m k whole done rest [] part w l s h u = record {
     all : done ≡ whole
     all = sym (append-nil done) ∙ ap (λ t. done ++ t) (sym s) ∙ sym w
 insns_lead kind c m k whole done rest (insn ∷ insns) part w l s h u =
-    let q = both (is_padded whole insn.pc insn.op) (list_all (λ (insn : Insn). is_padded whole insn.pc insn.op) insns) h in
+    let q = and_parts (is_padded whole insn.pc insn.op) (list_all (λ (insn : Insn). is_padded whole insn.pc insn.op) insns) h in
     let more = insns_lead kind c m k whole (done ++ s.0) s.1 insns code_parts.Instructions whole_is l (subst (λ (n : ℕ). SpellsInsns n insns s.1) next_is s.6) q.1 refl in
     record {
       next = more.next;
@@ -136,13 +137,13 @@ insns_lead kind c m k whole done rest (insn ∷ insns) part w l s h u =
     made : is_padded whole insn.pc insn.op ≡ true → encoded done (slice_index_or whole insn.pc 0) (insn_operands (slice_index_or whole insn.pc 0) insn.op) ≡ done ++ s.0
     made z = ap (λ (b : ℕ). encoded done b (insn_operands b insn.op)) op_at ∙ encoded_is done s.5.operands s.1 s.5.opcode insn.op short s.5.spelled (padded_at z) ∙ ap (λ t. done ++ t) (sym s.5.is)
 
-no_fault : {A : Type 0} (o : Option A) → not (is_some o) ≡ true → o ≡ None
+pub no_fault : {A : Type 0} (o : Option A) → not (is_some o) ≡ true → o ≡ None
 no_fault None h = refl
 no_fault (Some x) h = absurd (cc)
 
 insns_are : (bytes : List ℕ) → are_insns bytes ≡ true → (not (is_some (code_fault bytes [])) ≡ true) × (list_all (λ (insn : Insn). is_padded bytes insn.pc insn.op) (insns_of 0 0 bytes) ≡ true)
 unfolding are_insns
-insns_are bytes h = both (not (is_some (code_fault bytes []))) (list_all (λ (insn : Insn). is_padded bytes insn.pc insn.op) (insns_of 0 0 bytes)) h
+insns_are bytes h = and_parts (not (is_some (code_fault bytes []))) (list_all (λ (insn : Insn). is_padded bytes insn.pc insn.op) (insns_of 0 0 bytes)) h
 
 -- listed instructions are those of the code
 pub code_read : (bytes : List ℕ) → AllByRecursion IsByte bytes → are_insns bytes ≡ true → IsCode bytes [] (insns_of 0 0 bytes)

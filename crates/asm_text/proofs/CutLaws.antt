@@ -8,6 +8,7 @@ use Rattle.std.proofs.lemmas.List.{take-append-drop, length-take-le, get_or-take
 use Rattle.std.proofs.lemmas.List.Elements.{recursion_from_All}
 use Rattle.std.proofs.lemmas.List.Quantifiers.{position-Some}
 use Rattle.std.proofs.lemmas.List.Sums.{fails_before_first}
+use Rattle.std.proofs.lemmas.Bool.{ltb-false}
 use Rattle.asm_text.proofs.TextLaws.{IsCut}
 use Rattle.asm_text.proofs.WordLaws.{HasNoNewline}
 
@@ -33,12 +34,9 @@ past : (t : Bool) (n : ℕ) → cond t (Some n) None ≡ None → t ≡ false
 past true n e = absurd (cc)
 past false n e = refl
 
-at_least : (m n : ℕ) → nat_lt m n ≡ false → n ≤ m
-at_least m n h = grind (arith, nat_tests)
-
 -- where there is no newline
 pub cut_none : (rest : List ℕ) → position (λ b. b == 10) rest ≡ None → HasNoNewline rest
-cut_none rest e = recursion_from_All (λ b. (b == 10) ≡ false) rest (λ k d l. fails_before_first (λ b. b == 10) rest k d (before k l (at_least _ _ (past _ _ e))))
+cut_none rest e = recursion_from_All (λ b. (b == 10) ≡ false) rest (λ k d l. fails_before_first (λ b. b == 10) rest k d (before k l (ltb-false _ _ (past _ _ e))))
   where
     before : (k : ℕ) → k < length rest → length rest ≤ position_or_len (λ b. b == 10) rest → k < position_or_len (λ b. b == 10) rest
     before k l h = omega arith

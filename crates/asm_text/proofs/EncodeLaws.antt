@@ -61,7 +61,7 @@ rows_hold : (b : ℕ) (rs : FormRows) → AllByRecursion (RowHolds b) rs → Lin
 rows_hold b [] h = tt
 rows_hold b (r ∷ rs) h = by_row b r.0 r.1 (first_row rs) h.0 (rows_hold b rs h.1)
 
-same_number : (b k : ℕ) → (b == k) ≡ true → k ≡ b
+pub same_number : (b k : ℕ) → (b == k) ≡ true → k ≡ b
 same_number b k h = grind (arith, nat_tests)
 
 -- the row of one opcode

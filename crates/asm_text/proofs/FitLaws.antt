@@ -7,6 +7,7 @@ use Rattle.std.specs.Int.{w8, w16, w32}
 use Rattle.std.specs.Option.{option_map}
 use Rattle.std.proofs.lemmas.Bool.Decides.{nat_tests}
 use Rattle.std.proofs.lemmas.Int.{ints}
+use Rattle.std.proofs.lemmas.Bool.{and_from}
 use Rattle.jvm_types.specs.CodeTable.{Form, Plain, Byte, Short, SignedByte, SignedShort, Branch, WideBranch, LocalAndStep, IntArray, Table, Lookup, form_of}
 use Rattle.jvm_types.specs.CodeGrammar.{offset, SpellsOperands, SpellsInsns}
 use Rattle.jvm_types.specs.ClassGrammar.{IsByte, IsUtf8Byte, FieldsFit, IsClass, IsIndex, IsAttr, IsHandler, IsCodeAttr, IsFieldAttr, IsMethodAttr, IsField, IsMethod}
@@ -31,11 +32,10 @@ use Rattle.asm_text.specs.declared.shapes.Shape.TheVariants as shapes
 use Rattle.asm_text.specs.declared.items.MemberKind.TheVariants as kinds
 use Rattle.asm_text.specs.declared.items.Item.{Item}
 use Rattle.asm_text.specs.declared.items.Item.TheVariants.{Entry, Interface, Attribute, Row}
-use Rattle.asm_text.proofs.WordLaws.{together}
-use Rattle.asm_text.proofs.TextLaws.{all_append}
 use Rattle.asm_text.proofs.EncodeLaws.{insn_operands, case_numbers, LineLaw, LineHolds, line_holds, high_is, target_fits, near_far}
 use Rattle.asm_text.proofs.CodeBuildLaws.{insn_item, code_items, code_items_by, code_read, at_end}
 use Rattle.asm_text.proofs.ClassBuildLaws.{code_attr_items, member_attr_items, member_items, class_items, each}
+use Rattle.jvm_types.proofs.EachAfter.{all_append}
 
 -- ---- operands
 
@@ -77,11 +77,11 @@ target_in pc to p h = in_unsigned 4294967296 to (target_fits pc to p h)
 
 targets_in : (pc : ℕ) (targets : List ℕ) → pc < 65536 → AllByRecursion (λ to. FitsSigned w32 (offset pc to)) targets → list_all is_target (map pos targets) ≡ true
 targets_in pc [] p h = refl
-targets_in pc (to ∷ targets) p h = together _ _ (target_in pc to p h.0) (targets_in pc targets p h.1)
+targets_in pc (to ∷ targets) p h = and_from _ _ (target_in pc to p h.0) (targets_in pc targets p h.1)
 
 pairs_in : (pc : ℕ) (cases : List Case) → pc < 65536 → AllByRecursion (λ c. FitsSigned w32 c.key × FitsSigned w32 (offset pc c.target)) cases → are_pairs (flat_map case_numbers cases) ≡ true
 pairs_in pc [] p h = refl
-pairs_in pc (c ∷ cases) p h = together _ _ (together _ _ (s4_in c.key h.0.0) (target_in pc c.target p h.0.1)) (pairs_in pc cases p h.1)
+pairs_in pc (c ∷ cases) p h = and_from _ _ (and_from _ _ (s4_in c.key h.0.0) (target_in pc c.target p h.0.1)) (pairs_in pc cases p h.1)
 
 operands_in : (pc b : ℕ) (f : Form) (op : Op) (bytes : List ℕ) → pc < 65536 → LineLaw b f → SpellsOperands pc f op bytes → operands_fit (shape_of f) (insn_operands b op) ≡ true
 operands_in pc b (Plain plain) op bytes p law s = ap (λ (o : Op). operands_fit shapes.Plain (insn_operands b o)) s.0 ∙ ap (operands_fit shapes.Plain) law
@@ -92,14 +92,14 @@ operands_in pc b (SignedShort make) op bytes p law s = ap (λ (o : Op). operands
 operands_in pc b (Branch make) op bytes p law s = ap (λ (o : Op). operands_fit shapes.Branch (insn_operands b o)) s.1 ∙ ap (operands_fit shapes.Branch) (law s.0) ∙ target_in pc s.0 p (near_far (offset pc s.0) s.3)
 operands_in pc b (WideBranch make) op bytes p law s = ap (λ (o : Op). operands_fit shapes.WideBranch (insn_operands b o)) s.1 ∙ ap (operands_fit shapes.WideBranch) (law s.0) ∙ target_in pc s.0 p s.3
 operands_in pc b (LocalAndStep make) op bytes p law s =
-    ap (λ (o : Op). operands_fit shapes.LocalAndStep (insn_operands b o)) s.2 ∙ ap (operands_fit shapes.LocalAndStep) (law s.0 s.1) ∙ together _ _ (in_unsigned 256 s.0 s.4) (s1_in s.1 s.5)
+    ap (λ (o : Op). operands_fit shapes.LocalAndStep (insn_operands b o)) s.2 ∙ ap (operands_fit shapes.LocalAndStep) (law s.0 s.1) ∙ and_from _ _ (in_unsigned 256 s.0 s.4) (s1_in s.1 s.5)
 operands_in pc b (IntArray array) op bytes p law s = ap (λ (o : Op). operands_fit shapes.IntArray (insn_operands b o)) s.0 ∙ ap (operands_fit shapes.IntArray) law
 operands_in pc b Table op bytes p law s =
     ap (λ (o : Op). operands_fit shapes.Table (insn_operands b o)) s.is ∙ ap (operands_fit shapes.Table) (law s.otherwise s.low s.targets)
-    ∙ together _ _ (target_in pc s.otherwise p s.default_fits) (together _ _ (together _ _ (s4_in s.low s.low_fits) (ap is_s4 (high_is s.low s.high s.targets s.counted) ∙ s4_in s.high s.high_fits)) (targets_in pc s.targets p s.offsets_fit))
+    ∙ and_from _ _ (target_in pc s.otherwise p s.default_fits) (and_from _ _ (and_from _ _ (s4_in s.low s.low_fits) (ap is_s4 (high_is s.low s.high s.targets s.counted) ∙ s4_in s.high s.high_fits)) (targets_in pc s.targets p s.offsets_fit))
 operands_in pc b Lookup op bytes p law s =
     ap (λ (o : Op). operands_fit shapes.Lookup (insn_operands b o)) s.is ∙ ap (operands_fit shapes.Lookup) (law s.otherwise s.cases)
-    ∙ together _ _ (target_in pc s.otherwise p s.default_fits) (pairs_in pc s.cases p s.cases_fit)
+    ∙ and_from _ _ (target_in pc s.otherwise p s.default_fits) (pairs_in pc s.cases p s.cases_fit)
 
 insn_in : (pc opcode : ℕ) (op : Op) (operands : List ℕ) (o : Option Form) → pc < 65536 → LineHolds opcode o → IsSomeAnd o (λ f. SpellsOperands pc f op operands) → IsSomeAnd (option_map shape_of o) (λ shape. operands_fit shape (insn_operands opcode op) ≡ true)
 insn_in pc opcode op operands None p law s = absurd s

@@ -7,6 +7,7 @@ use Rattle.std.specs.Int.{w32}
 use lib.IntN.{negsuc}
 use Rattle.std.proofs.lemmas.Bool.Decides.{nat_tests}
 use Rattle.std.proofs.lemmas.Int.{ints}
+use Rattle.std.proofs.lemmas.Bool.{ltb-true, and_parts, and_from}
 use Rattle.jvm_types.specs.ClassGrammar.{IsByte}
 use Rattle.jvm_types.specs.declared.class_file.Constant.{Constant}
 use Rattle.jvm_types.specs.declared.class_file.Constant.TheVariants as constants
@@ -26,42 +27,41 @@ use Rattle.asm_text.specs.declared.line_names.LineName.{LineName}
 use Rattle.asm_text.specs.declared.line_names.LineName.TheVariants as names
 use Rattle.asm_text.specs.declared.shapes.Shape.{Shape}
 use Rattle.asm_text.specs.declared.shapes.Shape.TheVariants as shapes
-use Rattle.asm_text.proofs.WordLaws.{both, together, unsigned_back, u2_back, u4_back, IsSigned, signed_back, hex_back, hex_fits, small_fits, are_plain, IsWritten, words_back, HasNoNewline, no_newline}
+use Rattle.asm_text.proofs.WordLaws.{unsigned_back, u2_back, u4_back, IsSigned, signed_back, hex_back, hex_fits, small_fits, are_plain, IsWritten, words_back, HasNoNewline, no_newline}
+use Rattle.asm_text.proofs.CodeBuildLaws.{no_fault}
+use Rattle.asm_text.proofs.EncodeLaws.{same_number}
 
 -- ---- operands
-
-below : (m n : ℕ) → nat_lt m n ≡ true → m < n
-below m n h = grind (arith, nat_tests)
 
 not_below : (m n : ℕ) → not (nat_lt m n) ≡ true → n ≤ m
 not_below m n h = grind (arith, nat_tests)
 
 from_zero : (end : ℕ) (n : ℤ) → end ≤ 4294967296 → is_between (pos 0) (pos end) n ≡ true → IsSigned 4294967296 n
-from_zero end (pos n) few h = let k = below n end (both _ _ h).1 in omega arith
+from_zero end (pos n) few h = let k = ltb-true n end (and_parts _ _ h).1 in omega arith
 from_zero end (negsuc n) few h = absurd (cc)
 
 from_low : (low end : ℕ) (n : ℤ) → low < 2147483648 → end ≤ 4294967296 → is_between (negsuc low) (pos end) n ≡ true → IsSigned 4294967296 n
-from_low low end (pos n) less few h = let k = below n end (both true (nat_lt n end) h).1 in omega arith
-from_low low end (negsuc n) less few h = let k = not_below low n (both (not (nat_lt low n)) true h).0 in omega arith
+from_low low end (pos n) less few h = let k = ltb-true n end (and_parts true (nat_lt n end) h).1 in omega arith
+from_low low end (negsuc n) less few h = let k = not_below low n (and_parts (not (nat_lt low n)) true h).0 in omega arith
 
 targets_in : (tos : List ℤ) → list_all is_target tos ≡ true → AllByRecursion (IsSigned 4294967296) tos
 targets_in [] h = tt
-targets_in (to ∷ tos) h = let p = both _ _ h in (from_zero 4294967296 to (omega arith) p.0, targets_in tos p.1)
+targets_in (to ∷ tos) h = let p = and_parts _ _ h in (from_zero 4294967296 to (omega arith) p.0, targets_in tos p.1)
 
 pairs_in : (pairs : List ℤ) → are_pairs pairs ≡ true → AllByRecursion (IsSigned 4294967296) pairs
 pairs_in [] h = tt
 pairs_in (key ∷ []) h = absurd (cc)
 pairs_in (key ∷ to ∷ pairs) h =
-    let p = both (is_s4 key && is_target to) (are_pairs pairs) h in
-    let q = both (is_s4 key) (is_target to) p.0 in
+    let p = and_parts (is_s4 key && is_target to) (are_pairs pairs) h in
+    let q = and_parts (is_s4 key) (is_target to) p.0 in
     (from_low 2147483647 2147483648 key (omega arith) (omega arith) q.0, (from_zero 4294967296 to (omega arith) q.1, pairs_in pairs p.1))
 
 bounds_in : (bounds : List ℤ) → bounds_fit bounds ≡ true → AllByRecursion (IsSigned 4294967296) bounds
 bounds_in [] h = absurd (cc)
 bounds_in (low ∷ []) h = absurd (cc)
 bounds_in (low ∷ high ∷ tos) h =
-    let p = both (is_s4 low && is_s4 high) (list_all is_target tos) h in
-    let q = both (is_s4 low) (is_s4 high) p.0 in
+    let p = and_parts (is_s4 low && is_s4 high) (list_all is_target tos) h in
+    let q = and_parts (is_s4 low) (is_s4 high) p.0 in
     (from_low 2147483647 2147483648 low (omega arith) (omega arith) q.0, (from_low 2147483647 2147483648 high (omega arith) (omega arith) q.1, targets_in tos p.1))
 
 -- operands in their fields have at most 32 bits
@@ -73,10 +73,10 @@ operands_in shapes.SignedByte (n ∷ []) h = (from_low 127 128 n (omega arith) (
 operands_in shapes.SignedShort (n ∷ []) h = (from_low 32767 32768 n (omega arith) (omega arith) h, tt)
 operands_in shapes.Branch (n ∷ []) h = (from_zero 4294967296 n (omega arith) h, tt)
 operands_in shapes.WideBranch (n ∷ []) h = (from_zero 4294967296 n (omega arith) h, tt)
-operands_in shapes.LocalAndStep (m ∷ n ∷ []) h = let p = both _ _ h in (from_zero 256 m (omega arith) p.0, (from_low 127 128 n (omega arith) (omega arith) p.1, tt))
+operands_in shapes.LocalAndStep (m ∷ n ∷ []) h = let p = and_parts _ _ h in (from_zero 256 m (omega arith) p.0, (from_low 127 128 n (omega arith) (omega arith) p.1, tt))
 operands_in shapes.IntArray (n ∷ []) h = (from_zero 256 n (omega arith) h, tt)
-operands_in shapes.Table (otherwise ∷ bounds) h = let p = both (is_target otherwise) (bounds_fit bounds) h in (from_zero 4294967296 otherwise (omega arith) p.0, bounds_in bounds p.1)
-operands_in shapes.Lookup (otherwise ∷ pairs) h = let p = both (is_target otherwise) (are_pairs pairs) h in (from_zero 4294967296 otherwise (omega arith) p.0, pairs_in pairs p.1)
+operands_in shapes.Table (otherwise ∷ bounds) h = let p = and_parts (is_target otherwise) (bounds_fit bounds) h in (from_zero 4294967296 otherwise (omega arith) p.0, bounds_in bounds p.1)
+operands_in shapes.Lookup (otherwise ∷ pairs) h = let p = and_parts (is_target otherwise) (are_pairs pairs) h in (from_zero 4294967296 otherwise (omega arith) p.0, pairs_in pairs p.1)
 operands_in s ns h = absurd (cc)
 
 operands_written : (ns : List ℤ) → AllByRecursion (IsSigned 4294967296) ns → AllByRecursion IsWritten (map Signed ns)
@@ -106,18 +106,15 @@ all_named : are_named 256 ≡ true
 unfolding mnemonic
 all_named = refl
 
-same_number : (a b : ℕ) → (a == b) ≡ true → b ≡ a
-same_number a b t = grind (arith, nat_tests)
-
 less : (a b : ℕ) → (a == b) ≡ false → a < suc b → a < b
 less a b t l = grind (arith, nat_tests)
 
 named_below : (n opcode : ℕ) → are_named n ≡ true → opcode < n → is_named opcode ≡ true
 named_below zero opcode h l = absurd (omega arith)
-named_below (suc n) opcode h l = by_place (λ k. named_below n opcode (both (is_named n) (are_named n) h).1 k) (opcode == n) refl
+named_below (suc n) opcode h l = by_place (λ k. named_below n opcode (and_parts (is_named n) (are_named n) h).1 k) (opcode == n) refl
   where
     by_place : (opcode < n → is_named opcode ≡ true) → (t : Bool) → (opcode == n) ≡ t → is_named opcode ≡ true
-    by_place more true t = subst (λ (x : ℕ). is_named x ≡ true) (same_number opcode n t) (both (is_named n) (are_named n) h).0
+    by_place more true t = subst (λ (x : ℕ). is_named x ≡ true) (same_number opcode n t) (and_parts (is_named n) (are_named n) h).0
     by_place more false t = more (less opcode n t l)
 
 pub record IsInsnName (opcode : ℕ) : Type 0 where
@@ -126,17 +123,13 @@ pub record IsInsnName (opcode : ℕ) : Type 0 where
   pub plain : are_plain name ≡ true
   pub own : line_name_of name ≡ None
 
-none_is : {A : Type 0} (o : Option A) → not (is_some o) ≡ true → o ≡ None
-none_is None h = refl
-none_is (Some x) h = absurd (cc)
-
 insn_name : (opcode : ℕ) (P : Shape → Type 0) → opcode < 256 → IsSomeAnd (shape_at opcode) P → IsInsnName opcode
 insn_name opcode P l h = at (shape_at opcode) (mnemonic opcode) refl h (named_below 256 opcode all_named l)
   where
     at : (s : Option Shape) (m : Option (List ℕ)) → mnemonic opcode ≡ m → IsSomeAnd s P → (not (is_some s) || is_insn_name m) ≡ true → IsInsnName opcode
     at None m e h k = absurd h
     at (Some s) None e h k = absurd (cc)
-    at (Some s) (Some name) e h k = let p = both (are_plain name) _ k in record { name = name; is = e; plain = p.0; own = none_is _ p.1 }
+    at (Some s) (Some name) e h k = let p = and_parts (are_plain name) _ k in record { name = name; is = e; plain = p.0; own = no_fault _ p.1 }
 
 operands_of : (o : Option Shape) (ns : List ℤ) → IsSomeAnd o (λ s. operands_fit s ns ≡ true) → AllByRecursion (IsSigned 4294967296) ns
 operands_of None ns h = absurd h
@@ -331,7 +324,7 @@ only_item line item f e = ap rough_item (same_end 10 line (line_body item) e) �
 -- what the answers of reading a line mean
 pub read_some : (line whole : List ℕ) (item : Item) → item ≡ rough_item line → (insn_fits item && bytes_eq (line_text (item_line item)) whole) ≡ true → IsRead whole (Some item)
 read_some line whole item e h =
-    let p = both (insn_fits item) (bytes_eq (line_text (item_line item)) whole) h in
+    let p = and_parts (insn_fits item) (bytes_eq (line_text (item_line item)) whole) h in
     (subst (λ (x : Item). ItemFits x) (sym e) (read_fits (words line) (subst (λ (x : Item). insn_fits x ≡ true) e p.0)), sym ((bytes_eq-Decides (line_text (item_line item)) whole).0 p.1))
 
 pub read_none : (line whole : List ℕ) (item : Item) → item ≡ rough_item line → whole ≡ line ++ 10 ∷ [] → (insn_fits item && bytes_eq (line_text (item_line item)) whole) ≡ false → IsRead whole None
@@ -339,7 +332,7 @@ read_none line whole item e w h other f says =
     let same : item ≡ other = e ∙ only_item line other f (sym w ∙ says) in
     let fits : insn_fits item ≡ true = subst (λ (x : Item). insn_fits x ≡ true) (sym same) (fits_insn other f) in
     let said : line_text (item_line item) ≡ whole = subst (λ (x : Item). line_text (item_line x) ≡ whole) (sym same) (sym says) in
-    let k : (insn_fits item && bytes_eq (line_text (item_line item)) whole) ≡ true = together _ _ fits ((bytes_eq-Decides (line_text (item_line item)) whole).1 said) in
+    let k : (insn_fits item && bytes_eq (line_text (item_line item)) whole) ≡ true = and_from _ _ fits ((bytes_eq-Decides (line_text (item_line item)) whole).1 said) in
     cc
 
 -- one line says one thing

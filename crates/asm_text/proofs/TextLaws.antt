@@ -14,16 +14,13 @@ use Rattle.asm_text.specs.declared.places.Place.TheVariants as places
 use Rattle.asm_text.specs.declared.drafts.Draft.{Draft}
 use Rattle.asm_text.proofs.WordLaws.{HasNoNewline, same_line}
 use Rattle.asm_text.proofs.LineLaws.{line_body, body_has_no_newline}
+use Rattle.jvm_types.proofs.EachAfter.{all_append}
 
 -- ---- one more line
 
 pub items_append : (xs ys : List Item) → items_text (xs ++ ys) ≡ items_text xs ++ items_text ys
 items_append [] ys = refl
 items_append (x ∷ xs) ys = ap (λ t. line_text (item_line x) ++ t) (items_append xs ys) ∙ sym (append_assoc (line_text (item_line x)) (items_text xs) (items_text ys))
-
-pub all_append : {A : Type 0} (P : A → Type 0) (xs ys : List A) → AllByRecursion P xs → AllByRecursion P ys → AllByRecursion P (xs ++ ys)
-all_append P [] ys h k = k
-all_append P (x ∷ xs) ys h k = (h.0, all_append P xs ys h.1 k)
 
 place_more : (p : Place) (xs : List Item) (x : Item) (q r : Place) → place_behind p xs ≡ Some q → after q x ≡ Some r → place_behind p (xs ++ x ∷ []) ≡ Some r
 place_more p [] x q r h k = by_next (after p x) (subst (λ (y : Place). after y x ≡ Some r) (same h) k)

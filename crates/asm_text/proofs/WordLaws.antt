@@ -16,21 +16,10 @@ use Rattle.std.proofs.lemmas.List.Splits.{slice_split_at, slice_split_none}
 use Rattle.std.proofs.lemmas.List.Elements.{All-from_recursion}
 use Rattle.std.proofs.lemmas.List.Folds.{list_all-append}
 use Rattle.std.proofs.lemmas.List.{append-nil}
+use Rattle.std.proofs.lemmas.Bool.{lt-ltb, and_parts, and_from}
 use Rattle.jvm_types.specs.ClassGrammar.{IsByte}
 use Rattle.asm_text.specs.Lines.{Value, Number, Signed, Hex, hex_digit, hex_byte, hex_text, value_text, values_text}
 use Rattle.asm_text.specs.Words.{words, read_on, unsigned, small, signed, hex_digit_of, hex_bytes}
-
--- ---- tests
-
-pub both : (a b : Bool) → (a && b) ≡ true → (a ≡ true) × (b ≡ true)
-both true b h = (refl, h)
-both false b h = absurd (cc)
-
-pub together : (a b : Bool) → a ≡ true → b ≡ true → (a && b) ≡ true
-together a b h k = rw h (rw k refl)
-
-is_below : (m n : ℕ) → m < n → nat_lt m n ≡ true
-is_below m n h = grind (arith, nat_tests)
 
 -- ---- numbers
 
@@ -41,7 +30,7 @@ pub unsigned_back : (n : ℕ) → n < 2 ^ 64 → unsigned (decimal n) ≡ n
 unsigned_back n h = rw (digits_value-decimal own n h) (omega arith)
 
 pub small_back : (limit n : ℕ) → n < limit → small limit n ≡ n
-small_back limit n h = rw (is_below n limit h) refl
+small_back limit n h = rw (lt-ltb n limit h) refl
 
 pub u2_back : (n : ℕ) → n < 2 ^ 16 → small 65536 (unsigned (decimal n)) ≡ n
 u2_back n h = ap (small 65536) (unsigned_back n (omega arith)) ∙ small_back 65536 n (omega arith)
@@ -138,14 +127,14 @@ decimal_plain n h = decimal_by_steps (λ n ds. are_plain ds ≡ true) one more n
     one n h = grind (arith, nat_tests)
 
     more : (n : ℕ) (ds : List ℕ) → 10 ≤ n → are_plain ds ≡ true → are_plain (ds ++ (48 + n % 10) ∷ []) ≡ true
-    more n ds h k = list_all-append is_plain ds ((48 + n % 10) ∷ []) ∙ together (are_plain ds) _ k (one (n % 10) (omega arith))
+    more n ds h k = list_all-append is_plain ds ((48 + n % 10) ∷ []) ∙ and_from (are_plain ds) _ k (one (n % 10) (omega arith))
 
 digit_plain : (n : ℕ) → is_plain (hex_digit n) ≡ true
 digit_plain n = grind (arith, nat_tests)
 
 hex_plain : (bytes : List ℕ) → are_plain (flat_map hex_byte bytes) ≡ true
 hex_plain [] = refl
-hex_plain (b ∷ bytes) = together _ _ (digit_plain (b / 16)) (together _ _ (digit_plain (b % 16)) (hex_plain bytes))
+hex_plain (b ∷ bytes) = and_from _ _ (digit_plain (b / 16)) (and_from _ _ (digit_plain (b % 16)) (hex_plain bytes))
 
 -- the number is one of 64 bits
 abbrev pub IsWritten : Value → Type 0
@@ -166,7 +155,7 @@ not_low c b h k = grind (arith, nat_tests)
 
 no_low : (c : ℕ) (text : List ℕ) → c ≤ 32 → are_plain text ≡ true → AllByRecursion (λ b. (b == c) ≡ false) text
 no_low c [] h k = tt
-no_low c (b ∷ text) h k = let p = both (is_plain b) (are_plain text) k in (not_low c b h p.0, no_low c text h p.1)
+no_low c (b ∷ text) h k = let p = and_parts (is_plain b) (are_plain text) k in (not_low c b h p.0, no_low c text h p.1)
 
 -- a line has its name and its values as its words
 pub words_back : (name : List ℕ) (values : List Value) → are_plain name ≡ true → AllByRecursion IsWritten values → words (name ++ values_text values) ≡ name ∷ map value_text values

@@ -18,7 +18,7 @@ use Rattle.checked_program.specs.Marks.{called_method}
 
 -- ---- each method has an instruction
 
-some_each : (ms : List MethodInfo) → ((i : ℕ) (m : MethodInfo) → slice_get ms i ≡ Some m → 0 < length m.code) → length ms ≤ sum_by (λ m. length m.code) ms
+pub some_each : (ms : List MethodInfo) → ((i : ℕ) (m : MethodInfo) → slice_get ms i ≡ Some m → 0 < length m.code) → length ms ≤ sum_by (λ m. length m.code) ms
 some_each [] h = omega arith
 some_each (m ∷ ms) h = omega (arith, sum_by-cons (λ m. length m.code) m ms, h 0 m refl, some_each ms (λ i n e. h (suc i) n e))
 

@@ -105,7 +105,7 @@ record Takes (called : MethodInfo) (r : OpRow) : Type 0 where
   is : r.takes ≡ arguments called ++ receiver
   one : is_static called.flags ≡ false → receiver ≡ receiver_want (is_init called) called.class ∷ []
 
-no_init : (a b c : Bool) → not (a || b || c) ≡ true → b ≡ false
+pub no_init : (a b c : Bool) → not (a || b || c) ≡ true → b ≡ false
 no_init true b c e = absurd (cc)
 no_init false true c e = absurd (cc)
 no_init false false c e = refl

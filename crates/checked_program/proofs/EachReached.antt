@@ -1,16 +1,13 @@
 -- A test that each reached instruction of a method passes, for programs that are written out, by computing.
 use Rattle.std.proofs.Common.{◌≡◌, ℕ, zero, suc, Bool, true, false, List, [], ◌∷◌, Option, Some, None, subst, refl}
 use Rattle.std.specs.Prelude.{◌&&◌, slice_get}
+use Rattle.std.proofs.lemmas.Bool.{and_parts}
 use Rattle.jvm_types.specs.declared.code.Insn.{Insn}
 use Rattle.jvm_types.specs.declared.program.Target.{Target}
 use Rattle.jvm_types.specs.declared.program.MethodInfo.{MethodInfo}
 use Rattle.jvm_types.specs.declared.program.Program.{Program}
 use Rattle.checked_program.specs.LockTags.{TagShape}
 use Rattle.checked_program.specs.TaggedCode.{Tagged, IsAt}
-
-pub both : (a b : Bool) → a && b ≡ true → (a ≡ true) × (b ≡ true)
-both true b e = (refl, e)
-both false b e = cc
 
 abbrev pub Test : Type 0
 Test = MethodInfo → Insn → Target → TagShape → Bool
@@ -25,10 +22,10 @@ pub by_number : (q : Insn → Target → TagShape → Bool) (insns : List Insn) 
 by_number q (insn ∷ insns) (target ∷ targets) (None ∷ frames) all zero a b g e h k = cc
 by_number q (insn ∷ insns) (target ∷ targets) (Some f ∷ frames) all zero a b g e h k =
     let x : insn ≡ a = cc in let y : target ≡ b = cc in let z : f ≡ g = cc in
-    let t : q insn target f ≡ true = (both (q insn target f) (all_reached q insns targets frames) all).0 in
+    let t : q insn target f ≡ true = (and_parts (q insn target f) (all_reached q insns targets frames) all).0 in
     subst (λ (i : Insn). q i b g ≡ true) x (subst (λ (t : Target). q insn t g ≡ true) y (subst (λ (s : TagShape). q insn target s ≡ true) z t))
 by_number q (insn ∷ insns) (target ∷ targets) (None ∷ frames) all (suc i) a b g e h k = by_number q insns targets frames all i a b g e h k
-by_number q (insn ∷ insns) (target ∷ targets) (Some f ∷ frames) all (suc i) a b g e h k = by_number q insns targets frames (both (q insn target f) (all_reached q insns targets frames) all).1 i a b g e h k
+by_number q (insn ∷ insns) (target ∷ targets) (Some f ∷ frames) all (suc i) a b g e h k = by_number q insns targets frames (and_parts (q insn target f) (all_reached q insns targets frames) all).1 i a b g e h k
 by_number q [] targets frames all i a b g e h k = cc
 by_number q (insn ∷ insns) [] frames all i a b g e h k = cc
 by_number q (insn ∷ insns) (target ∷ targets) [] all i a b g e h k = cc

@@ -6,6 +6,7 @@ use Rattle.std.proofs.lemmas.List.{length-append, length-replicate, length-map, 
 use Rattle.checked_program.specs.LockTags.{filled_tags, same_tag, same_tags, meet_tags, without}
 use Rattle.checked_program.specs.declared.tag.Tag.{Tag}
 use Rattle.checked_program.specs.declared.tag.Tag.TheVariants.{Untagged, At}
+use Rattle.graph_closure.proofs.SpreadLaws.{none_below}
 
 pub length_filled : (n : ℕ) (ts : List Tag) → length (filled_tags n ts) ≡ max n (length ts)
 length_filled n ts = length-append ts (replicate (n - length ts) Untagged) ∙ ap (λ k. length ts + k) (length-replicate (n - length ts) Untagged) ∙ omega arith
@@ -88,14 +89,11 @@ one_more false fewer c d e = or_true fewer
 fewer_more : (m k : ℕ) → nat_lt (suc m) (suc k) ≡ nat_lt m k
 fewer_more m k = grind (arith, nat_tests)
 
-some_fewer : (k : ℕ) → nat_lt 0 (suc k) ≡ true
+pub some_fewer : (k : ℕ) → nat_lt 0 (suc k) ≡ true
 some_fewer k = grind (arith, nat_tests)
 
-none_fewer : (m : ℕ) → nat_lt m 0 ≡ false
-none_fewer m = grind (arith, nat_tests)
-
 told_untagged : (k m : ℕ) (us : List Tag) → m ≡ min k (length us) → nat_lt m k ≡ not (same_tags (replicate k Untagged) (meet_tags (replicate k Untagged) us))
-told_untagged zero m us e = none_fewer m
+told_untagged zero m us e = none_below m
 told_untagged (suc k) m [] e = let none : m ≡ 0 = omega (arith, e) in rw none (some_fewer k)
 told_untagged (suc k) zero (u ∷ us) e = absurd (omega (arith, e))
 told_untagged (suc k) (suc m) (u ∷ us) e = rw (both_untagged (same_tag Untagged u), fewer_more m k) (told_untagged k m us (omega (arith, e)))

@@ -1,6 +1,6 @@
 -- Tests of a program that is written out, from which it follows that a class is frozen and a field guarded.
 use Rattle.std.proofs.Common.{◌≡◌, ◌<◌, ℕ, zero, suc, Bool, true, false, List, [], ◌∷◌, length, Option, Some, None, refl, sym, subst, arith}
-use Rattle.std.proofs.lemmas.Bool.{eqb-true}
+use Rattle.std.proofs.lemmas.Bool.{eqb-true, eq-eqb, and_parts}
 use Rattle.std.proofs.lemmas.Bool.Decides.{nat_tests}
 use Rattle.std.specs.Prelude.{◌==◌, ◌+◌, ◌&&◌, ◌||◌, not, drop, slice_get, slice_index_or}
 use Rattle.std.specs.List.{list_any}
@@ -20,7 +20,7 @@ use Rattle.checked_program.specs.TaggedCode.{Tagged, IsAt, Goes, onward, caught,
 use Rattle.checked_program.specs.FrozenPlaces.{may_take, KeepThis, KeepsThis, is_final_of, PutsOnThis, KeepsInside, IsFrozenClass, locks_this, PutsGuarded}
 use Rattle.checked_program.specs.declared.tag.Tag.{Tag}
 use Rattle.checked_program.specs.declared.tag.Tag.TheVariants.{Untagged, This, At}
-use Rattle.checked_program.proofs.EachReached.{both, Test, all_in, in_method}
+use Rattle.checked_program.proofs.EachReached.{Test, all_in, in_method}
 
 -- ---- tests of a tag
 
@@ -49,10 +49,10 @@ below q (suc n) = q n && below q n
 
 pub by_place : (q : ℕ → Bool) (n k : ℕ) → below q n ≡ true → k < n → q k ≡ true
 by_place q zero k e lt = absurd (grind arith)
-by_place q (suc n) k e lt = by_last (k == n) refl (λ l. by_place q n k (both (q n) (below q n) e).1 l)
+by_place q (suc n) k e lt = by_last (k == n) refl (λ l. by_place q n k (and_parts (q n) (below q n) e).1 l)
   where
     by_last : (b : Bool) → (k == n) ≡ b → (k < n → q k ≡ true) → q k ≡ true
-    by_last true h more = subst (λ (j : ℕ). q j ≡ true) (sym (eqb-true k n h)) (both (q n) (below q n) e).0
+    by_last true h more = subst (λ (j : ℕ). q j ≡ true) (sym (eqb-true k n h)) (and_parts (q n) (below q n) e).0
     by_last false h more = more (grind (arith, nat_tests))
 
 abbrev pub takes_well : Program → Test
@@ -66,15 +66,15 @@ keep_this (t ∷ ts) us = unless_this t (is_this (slice_index_or us 0 Untagged))
 
 pub keeps_each : (ts us : List Tag) → keep_this ts us ≡ true → KeepThis ts us
 keeps_each [] us e k h = cc
-keeps_each (t ∷ ts) us e zero h = that_is_this _ (if_this t _ (both (unless_this t (is_this (slice_index_or us 0 Untagged))) (keep_this ts (drop 1 us)) e).0 h)
-keeps_each (t ∷ ts) [] e (suc k) h = keeps_each ts [] (both (unless_this t false) (keep_this ts []) e).1 k h
-keeps_each (t ∷ ts) (u ∷ us) e (suc k) h = keeps_each ts us (both (unless_this t (is_this u)) (keep_this ts us) e).1 k h
+keeps_each (t ∷ ts) us e zero h = that_is_this _ (if_this t _ (and_parts (unless_this t (is_this (slice_index_or us 0 Untagged))) (keep_this ts (drop 1 us)) e).0 h)
+keeps_each (t ∷ ts) [] e (suc k) h = keeps_each ts [] (and_parts (unless_this t false) (keep_this ts []) e).1 k h
+keeps_each (t ∷ ts) (u ∷ us) e (suc k) h = keeps_each ts us (and_parts (unless_this t (is_this u)) (keep_this ts us) e).1 k h
 
 abbrev pub keeps_this : TagShape → TagShape → Bool
 keeps_this f g = keep_this f.stack g.stack && keep_this f.locals g.locals
 
 pub keeps_frame : (f g : TagShape) → keeps_this f g ≡ true → KeepsThis f g
-keeps_frame f g e = let h : (keep_this f.stack g.stack ≡ true) × (keep_this f.locals g.locals ≡ true) = both (keep_this f.stack g.stack) (keep_this f.locals g.locals) e in
+keeps_frame f g e = let h : (keep_this f.stack g.stack ≡ true) × (keep_this f.locals g.locals ≡ true) = and_parts (keep_this f.stack g.stack) (keep_this f.locals g.locals) e in
     record { stack = keeps_each f.stack g.stack h.0; locals = keeps_each f.locals g.locals h.1 }
 
 -- an edge to each other instruction
@@ -86,9 +86,9 @@ abbrev pub joins_well : Program → Tagged → ℕ → Test
 joins_well p tags mi m insn target f = all_in (λ n other next g. edge_keeps p m insn target f other g) p tags mi
 
 pub edge_is_kept : (p : Program) (m : MethodInfo) (insn : Insn) (target : Target) (f : TagShape) (other : Insn) (g h : TagShape) → edge_keeps p m insn target f other g ≡ true → Goes p m insn target f other h → KeepsThis h g
-edge_is_kept p m insn target f _ g _ e (onward other goes) = keeps_frame _ g (implied (has_number (edges insn) other.pc) _ (both (not (has_number (edges insn) other.pc) || keeps_this (tags_after insn (row_of p m insn target) f) g)
+edge_is_kept p m insn target f _ g _ e (onward other goes) = keeps_frame _ g (implied (has_number (edges insn) other.pc) _ (and_parts (not (has_number (edges insn) other.pc) || keeps_this (tags_after insn (row_of p m insn target) f) g)
     (not (list_any (λ handler. handler.handler == other.pc) (catchers m insn)) || keeps_this (tags_at_handler f) g) e).0 goes)
-edge_is_kept p m insn target f _ g _ e (caught other goes) = keeps_frame _ g (implied (list_any (λ handler. handler.handler == other.pc) (catchers m insn)) _ (both (not (has_number (edges insn) other.pc) || keeps_this (tags_after insn (row_of p m insn target) f) g)
+edge_is_kept p m insn target f _ g _ e (caught other goes) = keeps_frame _ g (implied (list_any (λ handler. handler.handler == other.pc) (catchers m insn)) _ (and_parts (not (has_number (edges insn) other.pc) || keeps_this (tags_after insn (row_of p m insn target) f) g)
     (not (list_any (λ handler. handler.handler == other.pc) (catchers m insn)) || keeps_this (tags_at_handler f) g) e).1 goes)
 
 -- ---- what is put
@@ -108,12 +108,9 @@ abbrev pub puts_guarded : ℕ → MethodInfo → Op → Target → TagShape → 
 puts_guarded fi m (ops.Putfield i) (targets.Field other) f = not (other == fi) || writes_guarded m f
 puts_guarded fi m op target f = true
 
-same_number : (a b : ℕ) → a ≡ b → (a == b) ≡ true
-same_number a b e = grind (arith, nat_tests)
-
 pub guarded_is_put : (fi : ℕ) (m : MethodInfo) (op : Op) (target : Target) (f : TagShape) → puts_guarded fi m op target f ≡ true → PutsGuarded fi m op target f
 guarded_is_put fi m (ops.Putfield i) (targets.Field other) f e = λ h.
-    let w : (is_this (slice_index_or f.stack 1 Untagged) ≡ true) × (is_init m || (list_any is_this f.held || locks_this m) ≡ true) = both _ _ (implied (other == fi) (writes_guarded m f) e (same_number other fi h)) in
+    let w : (is_this (slice_index_or f.stack 1 Untagged) ≡ true) × (is_init m || (list_any is_this f.held || locks_this m) ≡ true) = and_parts _ _ (implied (other == fi) (writes_guarded m f) e (eq-eqb other fi h)) in
     (that_is_this _ w.0, w.1)
 guarded_is_put fi m op target f e = tt
 
@@ -126,9 +123,9 @@ all_methods q mi (m ∷ ms) = q mi m && all_methods q (suc mi) ms
 pub by_method : (q : ℕ → MethodInfo → Bool) (from : ℕ) (ms : List MethodInfo) (mi : ℕ) (m : MethodInfo) → all_methods q from ms ≡ true → slice_get ms mi ≡ Some m → q (from + mi) m ≡ true
 by_method q from [] mi m e h = cc
 by_method q from (n ∷ ms) zero m e h = let x : n ≡ m = cc in let y : from + 0 ≡ from = omega arith in
-    subst (λ (a : MethodInfo). q (from + 0) a ≡ true) x (subst (λ (j : ℕ). q j n ≡ true) (sym y) (both (q from n) (all_methods q (suc from) ms) e).0)
+    subst (λ (a : MethodInfo). q (from + 0) a ≡ true) x (subst (λ (j : ℕ). q j n ≡ true) (sym y) (and_parts (q from n) (all_methods q (suc from) ms) e).0)
 by_method q from (n ∷ ms) (suc mi) m e h = let y : suc from + mi ≡ from + suc mi = omega arith in
-    subst (λ (j : ℕ). q j m ≡ true) y (by_method q (suc from) ms mi m (both (q from n) (all_methods q (suc from) ms) e).1 h)
+    subst (λ (j : ℕ). q j m ≡ true) y (by_method q (suc from) ms mi m (and_parts (q from n) (all_methods q (suc from) ms) e).1 h)
 
 pub of_program : (q : ℕ → MethodInfo → Bool) (ms : List MethodInfo) (mi : ℕ) (m : MethodInfo) → all_methods q 0 ms ≡ true → slice_get ms mi ≡ Some m → q mi m ≡ true
 of_program q ms mi m e h = let y : 0 + mi ≡ mi = omega arith in subst (λ (j : ℕ). q j m ≡ true) y (by_method q 0 ms mi m e h)
@@ -159,9 +156,9 @@ keeps_inside p tags mi = all_in (takes_well p) p tags mi && (first_keeps (slice_
 
 pub is_inside : (p : Program) (tags : Tagged) (mi : ℕ) (m : MethodInfo) → keeps_inside p tags mi ≡ true → KeepsInside p tags mi m
 is_inside p tags mi m e =
-    let a : (all_in (takes_well p) p tags mi ≡ true) × (first_keeps (slice_get p.methods mi) (slice_get tags mi) && (all_in (joins_well p tags mi) p tags mi && all_in (finals_well p) p tags mi) ≡ true) = both _ _ e in
-    let b : (first_keeps (slice_get p.methods mi) (slice_get tags mi) ≡ true) × (all_in (joins_well p tags mi) p tags mi && all_in (finals_well p) p tags mi ≡ true) = both _ _ a.1 in
-    let c : (all_in (joins_well p tags mi) p tags mi ≡ true) × (all_in (finals_well p) p tags mi ≡ true) = both _ _ b.1 in
+    let a : (all_in (takes_well p) p tags mi ≡ true) × (first_keeps (slice_get p.methods mi) (slice_get tags mi) && (all_in (joins_well p tags mi) p tags mi && all_in (finals_well p) p tags mi) ≡ true) = and_parts _ _ e in
+    let b : (first_keeps (slice_get p.methods mi) (slice_get tags mi) ≡ true) × (all_in (joins_well p tags mi) p tags mi && all_in (finals_well p) p tags mi ≡ true) = and_parts _ _ a.1 in
+    let c : (all_in (joins_well p tags mi) p tags mi ≡ true) × (all_in (finals_well p) p tags mi ≡ true) = and_parts _ _ b.1 in
     record {
       taken = λ i insn target f at k lt h. if_this (slice_index_or f.stack k Untagged) _ (by_place (λ k. unless_this (slice_index_or f.stack k Untagged) (may_take p m.class insn.op target k)) _ k (in_method (takes_well p) p tags mi a.0 i m insn target f at) lt) h;
       entered = λ insn target f at. entry_is_kept p tags mi b.0 m insn target f at;

@@ -4,7 +4,7 @@ pub mod FilledTags
 pub mod TriedPrograms
 mod TagTries
 pub mod EachReached
-mod FrozenChecks
+pub mod FrozenChecks
 mod MarkChecks
 mod UseTries
 mod MarkTries

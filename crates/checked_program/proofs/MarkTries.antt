@@ -1,6 +1,6 @@
 -- Marks of small programs: each mark, with the rules that go before it refuted.
 use Rattle.std.proofs.Common.{◌≡◌, ◌<◌, ℕ, Bool, true, false, List, [], ◌∷◌, Some, refl, sym, subst, arith}
-use Rattle.std.proofs.lemmas.Bool.{eqb-true}
+use Rattle.std.proofs.lemmas.Bool.{eqb-true, and_parts}
 use Rattle.std.proofs.lemmas.Bool.Decides.{nat_tests}
 use Rattle.std.specs.Prelude.{◌==◌, ◌&&◌, ◌||◌, not, slice_index_or}
 use Rattle.jvm_types.specs.declared.code.Insn.{Insn}
@@ -19,7 +19,7 @@ use Rattle.checked_program.specs.declared.section.Mode.{Mode}
 use Rattle.checked_program.specs.declared.section.Mode.TheVariants.{OnThis, OffThis}
 use Rattle.checked_program.specs.declared.section.FieldUse.{FieldUse}
 use Rattle.checked_program.specs.declared.section.FieldUse.TheVariants.{Frozen, Guarded, Open}
-use Rattle.checked_program.proofs.EachReached.{both, Test, all_in, in_method}
+use Rattle.checked_program.proofs.EachReached.{Test, all_in, in_method}
 use Rattle.checked_program.proofs.MarkChecks.{first_is, none_applies, none_broken, not_beyond, call_is_ok, called_is_ok, none_ok, none_is_called, IsClosed, calls_to, breaks_from}
 use Rattle.checked_program.proofs.UseTries.{uses_of_many}
 use Rattle.checked_program.proofs.TriedPrograms.{many, tags_of}
@@ -157,7 +157,7 @@ abbrev is_sum : Callee → Bool
 is_sum a = (a.method == 2) && is_on a.mode
 
 is_sum_method : (a : Callee) → is_sum a ≡ true → a.method ≡ 2
-is_sum_method a e = eqb-true a.method 2 (both (a.method == 2) (is_on a.mode) e).0
+is_sum_method a e = eqb-true a.method 2 (and_parts (a.method == 2) (is_on a.mode) e).0
 
 sum_calls_none : (mode : Mode) → (all_in (calls_to is_sum many mode) many tags 2 ≡ true) × (all_in (calls_to none_ok many mode) many tags 2 ≡ true)
 sum_calls_none OnThis = (refl, refl)
@@ -171,7 +171,7 @@ sum_is_closed : IsClosed many tags is_sum
 sum_is_closed a e = subst (λ (u : ℕ). all_in (calls_to is_sum many a.mode) many tags u ≡ true) (sym (is_sum_method a e)) (sum_calls_none a.mode).0
 
 sum_breaks_none : (a : Callee) → is_sum a ≡ true → all_in (breaks_from 8 many uses a.mode) many tags a.method ≡ true
-sum_breaks_none a e = subst (λ (u : ℕ). all_in (breaks_from 8 many uses a.mode) many tags u ≡ true) (sym (is_sum_method a e)) (sum_keeps a.mode (both (a.method == 2) (is_on a.mode) e).1)
+sum_breaks_none a e = subst (λ (u : ℕ). all_in (breaks_from 8 many uses a.mode) many tags u ≡ true) (sym (is_sum_method a e)) (sum_keeps a.mode (and_parts (a.method == 2) (is_on a.mode) e).1)
 
 twice_calls_sum : (b : Callee) → IsCalledBy many tags (section 12 Method) b → is_sum b ≡ true
 twice_calls_sum b c = called_is_ok many tags (section 12 Method) is_sum b sum_is_closed refl c

@@ -1,6 +1,6 @@
 -- The reach of a method of a small program: that of `twice` is its own code and that of `sum`.
 use Rattle.std.proofs.Common.{◌≡◌, ℕ, zero, suc, Bool, true, false, List, [], ◌∷◌, Option, Some, None, refl, sym, subst, arith}
-use Rattle.std.proofs.lemmas.Bool.{eqb-true}
+use Rattle.std.proofs.lemmas.Bool.{eqb-true, and_parts}
 use Rattle.std.specs.Prelude.{◌==◌, ◌&&◌, slice_get, Contains}
 use Rattle.std.specs.List.{IsDistinct}
 use Rattle.jvm_types.specs.declared.code.Insn.{Insn}
@@ -8,7 +8,6 @@ use Rattle.jvm_types.specs.declared.program.Target.{Target}
 use Rattle.jvm_types.specs.declared.program.MethodInfo.{MethodInfo}
 use Rattle.checked_program.specs.Marks.{called_method}
 use Rattle.checked_program.specs.Reach.{HasCall, HasCalls, IsReach}
-use Rattle.checked_program.proofs.EachReached.{both}
 use Rattle.checked_program.proofs.TriedPrograms.{many}
 
 -- each call in a method's code passes a test
@@ -22,8 +21,8 @@ all_calls q insns targets = true
 
 by_number : (q : ℕ → Bool) (insns : List Insn) (targets : List Target) → all_calls q insns targets ≡ true → (i : ℕ) (a : Insn) (b : Target) → slice_get insns i ≡ Some a → slice_get targets i ≡ Some b → passes q (called_method a.op b) ≡ true
 by_number q (insn ∷ insns) (target ∷ targets) all zero a b e h = let x : insn ≡ a = cc in let y : target ≡ b = cc in
-    subst (λ (k : Insn). passes q (called_method k.op b) ≡ true) x (subst (λ (t : Target). passes q (called_method insn.op t) ≡ true) y (both (passes q (called_method insn.op target)) (all_calls q insns targets) all).0)
-by_number q (insn ∷ insns) (target ∷ targets) all (suc i) a b e h = by_number q insns targets (both (passes q (called_method insn.op target)) (all_calls q insns targets) all).1 i a b e h
+    subst (λ (k : Insn). passes q (called_method k.op b) ≡ true) x (subst (λ (t : Target). passes q (called_method insn.op t) ≡ true) y (and_parts (passes q (called_method insn.op target)) (all_calls q insns targets) all).0)
+by_number q (insn ∷ insns) (target ∷ targets) all (suc i) a b e h = by_number q insns targets (and_parts (passes q (called_method insn.op target)) (all_calls q insns targets) all).1 i a b e h
 by_number q [] targets all i a b e h = cc
 by_number q (insn ∷ insns) [] all i a b e h = cc
 

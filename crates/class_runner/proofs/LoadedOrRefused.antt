@@ -42,6 +42,7 @@ use Rattle.laws_programs.proofs.CodeOrder.{laid_out}
 use Rattle.class_runner.specs.Loading.{AreRead, ArePassed, IsAccepted, IsFirstRefused, IsUnlinked, IsUntyped, IsUntagged, IsRefusedBy, read_fault, decode_fault}
 use Rattle.class_runner.specs.LoadingLaws.{IsLoadable, AcceptedOrRefused}
 use Rattle.class_runner.proofs.LoadedOnce.{spelled_long, spelled_classes, linked_long}
+use Rattle.jvm_types.proofs.EachAfter.{all_append}
 
 -- ---- C: reading
 
@@ -68,17 +69,13 @@ attrs_bytes pool (member_attrs.Code code ∷ attrs) h = h.0.bytes
 attrs_bytes pool (member_attrs.ConstantValue name value ∷ attrs) h = absurd h.0
 attrs_bytes pool (member_attrs.Other a ∷ attrs) h = attrs_bytes pool attrs h.1
 
-both_parts : {X : Type 0} (P : X → Type 0) (xs ys : List X) → AllByRecursion P xs → AllByRecursion P ys → AllByRecursion P (xs ++ ys)
-both_parts P [] ys h k = k
-both_parts P (x ∷ xs) ys h k = (h.0, both_parts P xs ys h.1 k)
-
 own_bytes : (file : ℕ) (pool : List Constant) (place : ℕ) (ms : List Member) → AllByRecursion (IsMethod pool) ms → AllByRecursion HasBytes (declared_from file pool place ms)
 own_bytes file pool place [] h = tt
 own_bytes file pool place (m ∷ ms) h = (attrs_bytes pool m.attrs h.0.member.attrs.each, own_bytes file pool (place + 1) ms h.1)
 
 methods_bytes : (file : ℕ) (cs : List ClassFile) → AllByRecursion IsClass cs → AllByRecursion HasBytes (declared_by (λ c. c.methods) file cs)
 methods_bytes file [] h = tt
-methods_bytes file (c ∷ cs) h = both_parts HasBytes (declared_from file c.constants 0 c.methods) (declared_by (λ x. x.methods) (file + 1) cs) (own_bytes file c.constants 0 c.methods h.0.methods.each) (methods_bytes (file + 1) cs h.1)
+methods_bytes file (c ∷ cs) h = all_append HasBytes (declared_from file c.constants 0 c.methods) (declared_by (λ x. x.methods) (file + 1) cs) (own_bytes file c.constants 0 c.methods h.0.methods.each) (methods_bytes (file + 1) cs h.1)
 
 abbrev AreDecoded : List Declared → Type 0
 AreDecoded ds = ((code : List (List Insn)) × AllZip IsDecoded ds code) ⊎ ((rule : KRule) × (place : Place) × (decode_fault ds ≡ Some (K rule, place)))

@@ -3,7 +3,7 @@
 use Rattle.std.proofs.Common.{◌≡◌, ℕ, suc, ◌+◌, ◌/◌, ◌<◌, ◌≤◌, ◌^◌, Bool, true, false, not, ◌&&◌, ◌==◌, List, [], ◌∷◌, ◌++◌, length, codes, refl, sym, subst, ◌∙◌, arith, get_or, nat_lt, nat_le, cond}
 use Rattle.std.specs.Prelude.{Decides, count_by}
 use Rattle.std.specs.List.{AllByRecursion, flat_map, list_all}
-use Rattle.std.proofs.lemmas.Bool.{leb-true, ltb-true}
+use Rattle.std.proofs.lemmas.Bool.{leb-true, ltb-true, lt-ltb, and_parts, and_from}
 use Rattle.std.proofs.lemmas.Bool.Decides.{nat_tests, Decides-eqb}
 use Rattle.jvm_types.specs.Numbers.{u2, u4, has_flag}
 use Rattle.jvm_types.specs.Spelling.{counted, constant, handler, attr, code_body, member_attr, member, class_file}
@@ -28,14 +28,6 @@ use Rattle.class_writer.specs.Testing.{has_due_gaps, is_utf8_byte, is_constant, 
 use Rattle.class_writer.specs.Writing.{IsKnown, IsWritten}
 
 -- ---- tests and lists
-
-both_true : (a b : Bool) → (a && b) ≡ true → (a ≡ true) × (b ≡ true)
-both_true true b e = (refl, e)
-both_true false b e = absurd cc
-
-true_both : (a b : Bool) → a ≡ true → b ≡ true → (a && b) ≡ true
-true_both true b e f = f
-true_both false b e f = absurd cc
 
 not_true : (b : Bool) → not b ≡ true → b ≡ false
 not_true true e = absurd cc
@@ -77,7 +69,7 @@ each_from_test : {A : Type 0} (test : A → Bool) (fits : A → Type 0) (spell :
     → IsBytes (flat_map spell xs) → AllByRecursion Is xs
 each_from_test test fits spell Is tells [] t f h = tt
 each_from_test test fits spell Is tells (x ∷ xs) t f h =
-    let p = both_true (test x) (list_all test xs) t in
+    let p = and_parts (test x) (list_all test xs) t in
     let q = parted (spell x) (flat_map spell xs) h in
     (tells x p.0 f.0 q.0, each_from_test test fits spell Is tells xs p.1 f.1 q.1)
 
@@ -87,7 +79,7 @@ counted_from_test test fits spell Is tells xs t f h = record { count = f.count; 
 
 test_from_each : {A : Type 0} (test : A → Bool) (Is : A → Type 0) → ((x : A) → Is x → test x ≡ true) → (xs : List A) → AllByRecursion Is xs → list_all test xs ≡ true
 test_from_each test Is meets [] all = refl
-test_from_each test Is meets (x ∷ xs) all = true_both (test x) (list_all test xs) (meets x all.0) (test_from_each test Is meets xs all.1)
+test_from_each test Is meets (x ∷ xs) all = and_from (test x) (list_all test xs) (meets x all.0) (test_from_each test Is meets xs all.1)
 
 -- ---- numbers
 
@@ -108,30 +100,27 @@ index_from_test kind pool i t h = record { number = u2_fits i h; names = Names-f
 gaps_from_test : (due : Bool) (cs : List Constant) → has_due_gaps due cs ≡ true → GapsFit due cs
 gaps_from_test true [] t = absurd cc
 gaps_from_test false [] t = refl
-gaps_from_test true (c ∷ cs) t = let p = both_true (is_gap c) (has_due_gaps (is_wide c) cs) t in (p.0, gaps_from_test (is_wide c) cs p.1)
-gaps_from_test false (c ∷ cs) t = let p = both_true (not (is_gap c)) (has_due_gaps (is_wide c) cs) t in (not_true (is_gap c) p.0, gaps_from_test (is_wide c) cs p.1)
+gaps_from_test true (c ∷ cs) t = let p = and_parts (is_gap c) (has_due_gaps (is_wide c) cs) t in (p.0, gaps_from_test (is_wide c) cs p.1)
+gaps_from_test false (c ∷ cs) t = let p = and_parts (not (is_gap c)) (has_due_gaps (is_wide c) cs) t in (not_true (is_gap c) p.0, gaps_from_test (is_wide c) cs p.1)
 
 test_from_gaps : (due : Bool) (cs : List Constant) → GapsFit due cs → has_due_gaps due cs ≡ true
 test_from_gaps true [] h = absurd cc
 test_from_gaps false [] h = refl
-test_from_gaps true (c ∷ cs) h = true_both (is_gap c) (has_due_gaps (is_wide c) cs) h.0 (test_from_gaps (is_wide c) cs h.1)
-test_from_gaps false (c ∷ cs) h = true_both (not (is_gap c)) (has_due_gaps (is_wide c) cs) (true_not (is_gap c) h.0) (test_from_gaps (is_wide c) cs h.1)
+test_from_gaps true (c ∷ cs) h = and_from (is_gap c) (has_due_gaps (is_wide c) cs) h.0 (test_from_gaps (is_wide c) cs h.1)
+test_from_gaps false (c ∷ cs) h = and_from (not (is_gap c)) (has_due_gaps (is_wide c) cs) (true_not (is_gap c) h.0) (test_from_gaps (is_wide c) cs h.1)
 
 byte_from_test : (b : ℕ) → is_utf8_byte b ≡ true → IsUtf8Byte b
-byte_from_test b t = let p = both_true (nat_lt 0 b) (nat_lt b 240) t in (ltb-true 0 b p.0, ltb-true b 240 p.1)
+byte_from_test b t = let p = and_parts (nat_lt 0 b) (nat_lt b 240) t in (ltb-true 0 b p.0, ltb-true b 240 p.1)
 
 text_from_test : (text : List ℕ) → list_all is_utf8_byte text ≡ true → AllByRecursion IsUtf8Byte text
 text_from_test [] t = tt
-text_from_test (b ∷ text) t = let p = both_true (is_utf8_byte b) (list_all is_utf8_byte text) t in (byte_from_test b p.0, text_from_test text p.1)
-
-lt_test : (a b : ℕ) → a < b → nat_lt a b ≡ true
-lt_test a b h = grind (arith, nat_tests)
+text_from_test (b ∷ text) t = let p = and_parts (is_utf8_byte b) (list_all is_utf8_byte text) t in (byte_from_test b p.0, text_from_test text p.1)
 
 le_test : (a b : ℕ) → a ≤ b → nat_le a b ≡ true
 le_test a b h = grind (arith, nat_tests)
 
 test_from_byte : (b : ℕ) → IsUtf8Byte b → is_utf8_byte b ≡ true
-test_from_byte b h = true_both (nat_lt 0 b) (nat_lt b 240) (lt_test 0 b h.0) (lt_test b 240 h.1)
+test_from_byte b h = and_from (nat_lt 0 b) (nat_lt b 240) (lt-ltb 0 b h.0) (lt-ltb b 240 h.1)
 
 abbrev IsEntry : List Constant → Constant → Type 0
 IsEntry pool c = FieldsFit c × IndicesFit pool c
@@ -146,20 +135,20 @@ constant_from_test pool (Double n) t f h = (u8_fits n h.1.0, tt)
 constant_from_test pool (Class name) t f h = (u2_fits name h.1.0, Names-from_test kinds.Utf8 pool name t)
 constant_from_test pool (Text string) t f h = (u2_fits string h.1.0, Names-from_test kinds.Utf8 pool string t)
 constant_from_test pool (Field class member) t f h =
-    let p = both_true (names kinds.Class pool class) (names kinds.NameAndType pool member) t in
+    let p = and_parts (names kinds.Class pool class) (names kinds.NameAndType pool member) t in
     ((u2_fits class h.1.0, u2_fits member h.1.1.1.0), (Names-from_test kinds.Class pool class p.0, Names-from_test kinds.NameAndType pool member p.1))
 constant_from_test pool (Method class member) t f h =
-    let p = both_true (names kinds.Class pool class) (names kinds.NameAndType pool member) t in
+    let p = and_parts (names kinds.Class pool class) (names kinds.NameAndType pool member) t in
     ((u2_fits class h.1.0, u2_fits member h.1.1.1.0), (Names-from_test kinds.Class pool class p.0, Names-from_test kinds.NameAndType pool member p.1))
 constant_from_test pool (InterfaceMethod class member) t f h =
-    let p = both_true (names kinds.Class pool class) (names kinds.NameAndType pool member) t in
+    let p = and_parts (names kinds.Class pool class) (names kinds.NameAndType pool member) t in
     ((u2_fits class h.1.0, u2_fits member h.1.1.1.0), (Names-from_test kinds.Class pool class p.0, Names-from_test kinds.NameAndType pool member p.1))
 constant_from_test pool (NameAndType name descriptor) t f h =
-    let p = both_true (names kinds.Utf8 pool name) (names kinds.Utf8 pool descriptor) t in
+    let p = and_parts (names kinds.Utf8 pool name) (names kinds.Utf8 pool descriptor) t in
     ((u2_fits name h.1.0, u2_fits descriptor h.1.1.1.0), (Names-from_test kinds.Utf8 pool name p.0, Names-from_test kinds.Utf8 pool descriptor p.1))
 
 two_meet : (kind other : IndexKind) (pool : List Constant) (i j : ℕ) → Names kind pool i → Names other pool j → (names kind pool i && names other pool j) ≡ true
-two_meet kind other pool i j p q = true_both (names kind pool i) (names other pool j) (test_from_Names kind pool i p) (test_from_Names other pool j q)
+two_meet kind other pool i j p q = and_from (names kind pool i) (names other pool j) (test_from_Names kind pool i p) (test_from_Names other pool j q)
 
 test_from_constant : (pool : List Constant) (c : Constant) → IsEntry pool c → is_constant pool c ≡ true
 test_from_constant pool Gap h = refl
@@ -177,13 +166,13 @@ test_from_constant pool (NameAndType name descriptor) h = two_meet kinds.Utf8 ki
 
 pool_from_test : (pool : List Constant) → is_pool pool ≡ true → IsCounted IsKnown pool → IsBytes (counted constant pool) → IsPool pool
 pool_from_test pool t f h =
-    let p = both_true (has_due_gaps true pool) (list_all (is_constant pool) pool) t in
+    let p = and_parts (has_due_gaps true pool) (list_all (is_constant pool) pool) t in
     let each = each_from_test (is_constant pool) IsKnown constant (IsEntry pool) (constant_from_test pool) pool p.1 f.each h.1.1 in
     record { count = f.count; gaps = gaps_from_test true pool p.0; fields = each_first FieldsFit (IndicesFit pool) pool each; indices = each_second FieldsFit (IndicesFit pool) pool each }
 
 test_from_pool : (pool : List Constant) → IsPool pool → is_pool pool ≡ true
 test_from_pool pool is =
-    true_both (has_due_gaps true pool) (list_all (is_constant pool) pool) (test_from_gaps true pool is.gaps)
+    and_from (has_due_gaps true pool) (list_all (is_constant pool) pool) (test_from_gaps true pool is.gaps)
     (test_from_each (is_constant pool) (IsEntry pool) (test_from_constant pool) pool (each_both FieldsFit (IndicesFit pool) pool is.fields is.indices))
 
 -- ---- attributes
@@ -210,8 +199,8 @@ named_from_test text pool i t h = record { number = u2_fits i h; named = IsTextA
 
 code_from_test : (pool : List Constant) (c : Code) → is_code pool c ≡ true → CodeFits c → IsBytes (member_attr (member_attrs.Code c)) → IsCodeAttr pool c
 code_from_test pool c t f h =
-    let p = both_true (is_named (codes "Code") pool c.name && list_all (is_handler pool) c.rows) (list_all (is_attr pool) c.attrs) t in
-    let q = both_true (is_named (codes "Code") pool c.name) (list_all (is_handler pool) c.rows) p.0 in
+    let p = and_parts (is_named (codes "Code") pool c.name && list_all (is_handler pool) c.rows) (list_all (is_attr pool) c.attrs) t in
+    let q = and_parts (is_named (codes "Code") pool c.name) (list_all (is_handler pool) c.rows) p.0 in
     let body : IsBytes (code_body c) = h.1.1.1.1.1.1 in
     let behind = parted (c.bytes ++ counted handler c.rows) (counted attr c.attrs) body.1.1.1.1.1.1.1.1 in
     let front = parted c.bytes (counted handler c.rows) behind.0 in
@@ -228,39 +217,39 @@ code_from_test pool c t f h =
 
 test_from_code : (pool : List Constant) (c : Code) → IsCodeAttr pool c → is_code pool c ≡ true
 test_from_code pool c is =
-    true_both (is_named (codes "Code") pool c.name && list_all (is_handler pool) c.rows) (list_all (is_attr pool) c.attrs)
-    (true_both (is_named (codes "Code") pool c.name) (list_all (is_handler pool) c.rows) (test_from_IsTextAt (codes "Code") pool c.name is.name.named) (test_from_each (is_handler pool) (IsHandler pool) (test_from_handler pool) c.rows is.rows.each))
+    and_from (is_named (codes "Code") pool c.name && list_all (is_handler pool) c.rows) (list_all (is_attr pool) c.attrs)
+    (and_from (is_named (codes "Code") pool c.name) (list_all (is_handler pool) c.rows) (test_from_IsTextAt (codes "Code") pool c.name is.name.named) (test_from_each (is_handler pool) (IsHandler pool) (test_from_handler pool) c.rows is.rows.each))
     (test_from_each (is_attr pool) (IsAttr pool) (test_from_attr pool) c.attrs is.attrs.each)
 
 field_attr_from_test : (pool : List Constant) (a : MemberAttr) → is_field_attr pool a ≡ true → MemberAttrFits a → IsBytes (member_attr a) → IsFieldAttr pool a
 field_attr_from_test pool (member_attrs.Code c) t f h = absurd cc
 field_attr_from_test pool (member_attrs.ConstantValue name value) t f h =
-    let p = both_true (is_named (codes "ConstantValue") pool name) (names kinds.Value pool value) t in
+    let p = and_parts (is_named (codes "ConstantValue") pool name) (names kinds.Value pool value) t in
     (named_from_test (codes "ConstantValue") pool name p.0 h.0, index_from_test kinds.Value pool value p.1 h.1.1.1.1.1.1.0)
 field_attr_from_test pool (member_attrs.Other a) t f h =
-    let p = both_true (is_attr pool a) (not (is_named (codes "ConstantValue") pool a.name)) t in
+    let p = and_parts (is_attr pool a) (not (is_named (codes "ConstantValue") pool a.name)) t in
     (attr_from_test pool a p.0 f h, no_IsTextAt (codes "ConstantValue") pool a.name (not_true (is_named (codes "ConstantValue") pool a.name) p.1))
 
 test_from_field_attr : (pool : List Constant) (a : MemberAttr) → IsFieldAttr pool a → is_field_attr pool a ≡ true
 test_from_field_attr pool (member_attrs.Code c) is = absurd is
 test_from_field_attr pool (member_attrs.ConstantValue name value) is =
-    true_both (is_named (codes "ConstantValue") pool name) (names kinds.Value pool value) (test_from_IsTextAt (codes "ConstantValue") pool name is.0.named) (test_from_Names kinds.Value pool value is.1.names)
+    and_from (is_named (codes "ConstantValue") pool name) (names kinds.Value pool value) (test_from_IsTextAt (codes "ConstantValue") pool name is.0.named) (test_from_Names kinds.Value pool value is.1.names)
 test_from_field_attr pool (member_attrs.Other a) is =
-    true_both (is_attr pool a) (not (is_named (codes "ConstantValue") pool a.name)) (test_from_attr pool a is.0)
+    and_from (is_attr pool a) (not (is_named (codes "ConstantValue") pool a.name)) (test_from_attr pool a is.0)
     (true_not (is_named (codes "ConstantValue") pool a.name) (no_test (codes "ConstantValue") pool a.name is.1))
 
 method_attr_from_test : (pool : List Constant) (a : MemberAttr) → is_method_attr pool a ≡ true → MemberAttrFits a → IsBytes (member_attr a) → IsMethodAttr pool a
 method_attr_from_test pool (member_attrs.Code c) t f h = code_from_test pool c t f h
 method_attr_from_test pool (member_attrs.ConstantValue name value) t f h = absurd cc
 method_attr_from_test pool (member_attrs.Other a) t f h =
-    let p = both_true (is_attr pool a) (not (is_named (codes "Code") pool a.name)) t in
+    let p = and_parts (is_attr pool a) (not (is_named (codes "Code") pool a.name)) t in
     (attr_from_test pool a p.0 f h, no_IsTextAt (codes "Code") pool a.name (not_true (is_named (codes "Code") pool a.name) p.1))
 
 test_from_method_attr : (pool : List Constant) (a : MemberAttr) → IsMethodAttr pool a → is_method_attr pool a ≡ true
 test_from_method_attr pool (member_attrs.Code c) is = test_from_code pool c is
 test_from_method_attr pool (member_attrs.ConstantValue name value) is = absurd is
 test_from_method_attr pool (member_attrs.Other a) is =
-    true_both (is_attr pool a) (not (is_named (codes "Code") pool a.name)) (test_from_attr pool a is.0)
+    and_from (is_attr pool a) (not (is_named (codes "Code") pool a.name)) (test_from_attr pool a is.0)
     (true_not (is_named (codes "Code") pool a.name) (no_test (codes "Code") pool a.name is.1))
 
 -- ---- fields and methods
@@ -268,7 +257,7 @@ test_from_method_attr pool (member_attrs.Other a) is =
 member_from_test : (test : MemberAttr → Bool) (Is : MemberAttr → Type 0) → Tells test MemberAttrFits member_attr Is → (pool : List Constant) (m : Member) → has_names pool m ≡ true → list_all test m.attrs ≡ true → MemberFits m
     → IsBytes (member m) → IsMember Is pool m
 member_from_test test Is tells pool m t u f h =
-    let p = both_true (names kinds.Utf8 pool m.name) (names kinds.Utf8 pool m.descriptor) t in
+    let p = and_parts (names kinds.Utf8 pool m.name) (names kinds.Utf8 pool m.descriptor) t in
     record {
       flags = u2_fits m.flags h.0;
       name = index_from_test kinds.Utf8 pool m.name p.0 h.1.1.0;
@@ -281,12 +270,12 @@ test_from_names Is pool m is = two_meet kinds.Utf8 kinds.Utf8 pool m.name m.desc
 
 field_from_test : (pool : List Constant) (m : Member) → is_field pool m ≡ true → MemberFits m → IsBytes (member m) → IsField pool m
 field_from_test pool m t f h =
-    let p = both_true (has_names pool m) (list_all (is_field_attr pool) m.attrs) t in
+    let p = and_parts (has_names pool m) (list_all (is_field_attr pool) m.attrs) t in
     member_from_test (is_field_attr pool) (IsFieldAttr pool) (field_attr_from_test pool) pool m p.0 p.1 f h
 
 test_from_field : (pool : List Constant) (m : Member) → IsField pool m → is_field pool m ≡ true
 test_from_field pool m is =
-    true_both (has_names pool m) (list_all (is_field_attr pool) m.attrs) (test_from_names (IsFieldAttr pool) pool m is) (test_from_each (is_field_attr pool) (IsFieldAttr pool) (test_from_field_attr pool) m.attrs is.attrs.each)
+    and_from (has_names pool m) (list_all (is_field_attr pool) m.attrs) (test_from_names (IsFieldAttr pool) pool m is) (test_from_each (is_field_attr pool) (IsFieldAttr pool) (test_from_field_attr pool) m.attrs is.attrs.each)
 
 abbrev one_if_code : MemberAttr → ℕ
 one_if_code a = cond (is_code_attr a) 1 0
@@ -308,8 +297,8 @@ codes_counted (member_attrs.Other a ∷ attrs) =
 
 body_from_test : (m : Member) → has_body m ≡ true → HasBody m
 body_from_test m t =
-    let p = both_true ((count_by is_code_attr m.attrs == 1) && not (has_flag 256 m.flags)) (not (has_flag 1024 m.flags)) t in
-    let q = both_true (count_by is_code_attr m.attrs == 1) (not (has_flag 256 m.flags)) p.0 in
+    let p = and_parts ((count_by is_code_attr m.attrs == 1) && not (has_flag 256 m.flags)) (not (has_flag 1024 m.flags)) t in
+    let q = and_parts (count_by is_code_attr m.attrs == 1) (not (has_flag 256 m.flags)) p.0 in
     record {
       one = sym (codes_counted m.attrs) ∙ (Decides-eqb (count_by is_code_attr m.attrs) 1).0 q.0;
       not_native = not_true (has_flag 256 m.flags) q.1;
@@ -318,20 +307,20 @@ body_from_test m t =
 
 test_from_body : (m : Member) → HasBody m → has_body m ≡ true
 test_from_body m is =
-    true_both ((count_by is_code_attr m.attrs == 1) && not (has_flag 256 m.flags)) (not (has_flag 1024 m.flags))
-    (true_both (count_by is_code_attr m.attrs == 1) (not (has_flag 256 m.flags)) ((Decides-eqb (count_by is_code_attr m.attrs) 1).1 (codes_counted m.attrs ∙ is.one)) (true_not (has_flag 256 m.flags) is.not_native))
+    and_from ((count_by is_code_attr m.attrs == 1) && not (has_flag 256 m.flags)) (not (has_flag 1024 m.flags))
+    (and_from (count_by is_code_attr m.attrs == 1) (not (has_flag 256 m.flags)) ((Decides-eqb (count_by is_code_attr m.attrs) 1).1 (codes_counted m.attrs ∙ is.one)) (true_not (has_flag 256 m.flags) is.not_native))
     (true_not (has_flag 1024 m.flags) is.not_abstract)
 
 method_from_test : (pool : List Constant) (m : Member) → is_method pool m ≡ true → MemberFits m → IsBytes (member m) → IsMethod pool m
 method_from_test pool m t f h =
-    let p = both_true (has_names pool m && list_all (is_method_attr pool) m.attrs) (has_body m) t in
-    let q = both_true (has_names pool m) (list_all (is_method_attr pool) m.attrs) p.0 in
+    let p = and_parts (has_names pool m && list_all (is_method_attr pool) m.attrs) (has_body m) t in
+    let q = and_parts (has_names pool m) (list_all (is_method_attr pool) m.attrs) p.0 in
     record { member = member_from_test (is_method_attr pool) (IsMethodAttr pool) (method_attr_from_test pool) pool m q.0 q.1 f h; body = body_from_test m p.1 }
 
 test_from_method : (pool : List Constant) (m : Member) → IsMethod pool m → is_method pool m ≡ true
 test_from_method pool m is =
-    true_both (has_names pool m && list_all (is_method_attr pool) m.attrs) (has_body m)
-    (true_both (has_names pool m) (list_all (is_method_attr pool) m.attrs) (test_from_names (IsMethodAttr pool) pool m is.member) (test_from_each (is_method_attr pool) (IsMethodAttr pool) (test_from_method_attr pool) m.attrs is.member.attrs.each))
+    and_from (has_names pool m && list_all (is_method_attr pool) m.attrs) (has_body m)
+    (and_from (has_names pool m) (list_all (is_method_attr pool) m.attrs) (test_from_names (IsMethodAttr pool) pool m is.member) (test_from_each (is_method_attr pool) (IsMethodAttr pool) (test_from_method_attr pool) m.attrs is.member.attrs.each))
     (test_from_body m is.body)
 
 -- ---- the class
@@ -339,14 +328,14 @@ test_from_method pool m is =
 class_from_test : (c : ClassFile) → keeps_rules c ≡ true → IsWritten c → IsBytes (class_file c) → length (class_file c) ≤ 1048576 → IsClass c
 class_from_test c t f h short =
     let pool : List Constant = c.constants in
-    let p = both_true (has_version c && is_pool pool && has_classes c) (has_members c) t in
-    let q = both_true (has_version c && is_pool pool) (has_classes c) p.0 in
-    let r = both_true (has_version c) (is_pool pool) q.0 in
-    let version = both_true (nat_le 45 c.major) (nat_le c.major 50) r.0 in
-    let classes = both_true (names kinds.Class pool c.this_class && names kinds.Class pool c.super_class) (list_all (names kinds.Class pool) c.interfaces) q.1 in
-    let own = both_true (names kinds.Class pool c.this_class) (names kinds.Class pool c.super_class) classes.0 in
-    let members = both_true (list_all (is_field pool) c.fields && list_all (is_method pool) c.methods) (list_all (is_attr pool) c.attrs) p.1 in
-    let both = both_true (list_all (is_field pool) c.fields) (list_all (is_method pool) c.methods) members.0 in
+    let p = and_parts (has_version c && is_pool pool && has_classes c) (has_members c) t in
+    let q = and_parts (has_version c && is_pool pool) (has_classes c) p.0 in
+    let r = and_parts (has_version c) (is_pool pool) q.0 in
+    let version = and_parts (nat_le 45 c.major) (nat_le c.major 50) r.0 in
+    let classes = and_parts (names kinds.Class pool c.this_class && names kinds.Class pool c.super_class) (list_all (names kinds.Class pool) c.interfaces) q.1 in
+    let own = and_parts (names kinds.Class pool c.this_class) (names kinds.Class pool c.super_class) classes.0 in
+    let members = and_parts (list_all (is_field pool) c.fields && list_all (is_method pool) c.methods) (list_all (is_attr pool) c.attrs) p.1 in
+    let both = and_parts (list_all (is_field pool) c.fields) (list_all (is_method pool) c.methods) members.0 in
     let to_pool : List ℕ = u4 3405691582 ++ u2 c.minor ++ u2 c.major ++ counted constant pool in
     let to_super : List ℕ = to_pool ++ u2 c.flags ++ u2 c.this_class ++ u2 c.super_class in
     let attrs = parted (to_super ++ counted u2 c.interfaces ++ counted member c.fields ++ counted member c.methods) (counted attr c.attrs) h in
@@ -375,15 +364,15 @@ class_from_test c t f h short =
 test_from_class : (c : ClassFile) → IsClass c → keeps_rules c ≡ true
 test_from_class c is =
     let pool : List Constant = c.constants in
-    let version : has_version c ≡ true = true_both (nat_le 45 c.major) (nat_le c.major 50) (le_test 45 c.major is.from_45) (le_test c.major 50 is.to_50) in
-    let classes : has_classes c ≡ true = true_both (names kinds.Class pool c.this_class && names kinds.Class pool c.super_class) (list_all (names kinds.Class pool) c.interfaces)
+    let version : has_version c ≡ true = and_from (nat_le 45 c.major) (nat_le c.major 50) (le_test 45 c.major is.from_45) (le_test c.major 50 is.to_50) in
+    let classes : has_classes c ≡ true = and_from (names kinds.Class pool c.this_class && names kinds.Class pool c.super_class) (list_all (names kinds.Class pool) c.interfaces)
     (two_meet kinds.Class kinds.Class pool c.this_class c.super_class is.this_class.names is.super_class.names)
     (test_from_each (names kinds.Class pool) (IsIndex kinds.Class pool) (λ i at. test_from_Names kinds.Class pool i at.names) c.interfaces is.interfaces.each) in
-    let members : has_members c ≡ true = true_both (list_all (is_field pool) c.fields && list_all (is_method pool) c.methods) (list_all (is_attr pool) c.attrs)
-    (true_both (list_all (is_field pool) c.fields) (list_all (is_method pool) c.methods) (test_from_each (is_field pool) (IsField pool) (test_from_field pool) c.fields is.fields.each) (test_from_each (is_method pool) (IsMethod pool) (test_from_method pool) c.methods is.methods.each))
+    let members : has_members c ≡ true = and_from (list_all (is_field pool) c.fields && list_all (is_method pool) c.methods) (list_all (is_attr pool) c.attrs)
+    (and_from (list_all (is_field pool) c.fields) (list_all (is_method pool) c.methods) (test_from_each (is_field pool) (IsField pool) (test_from_field pool) c.fields is.fields.each) (test_from_each (is_method pool) (IsMethod pool) (test_from_method pool) c.methods is.methods.each))
     (test_from_each (is_attr pool) (IsAttr pool) (test_from_attr pool) c.attrs is.attrs.each) in
-    true_both (has_version c && is_pool pool && has_classes c) (has_members c)
-    (true_both (has_version c && is_pool pool) (has_classes c) (true_both (has_version c) (is_pool pool) version (test_from_pool pool is.pool)) classes)
+    and_from (has_version c && is_pool pool && has_classes c) (has_members c)
+    (and_from (has_version c && is_pool pool) (has_classes c) (and_from (has_version c) (is_pool pool) version (test_from_pool pool is.pool)) classes)
     members
 
 pub class_decided : (c : ClassFile) (bytes : List ℕ) (test : Bool) → bytes ≡ class_file c → ((i : ℕ) → get_or bytes i 0 < 256) → IsWritten c → length bytes ≤ 1048576 → test ≡ keeps_rules c → Decides test (IsClass c)

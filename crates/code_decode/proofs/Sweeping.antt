@@ -2,6 +2,7 @@
 use Rattle.std.proofs.Common.{◌≡◌, ℕ, zero, suc, ◌+◌, ◌-◌, ◌*◌, ◌<◌, ◌≤◌, ℤ, pos, Bool, true, false, List, [], ◌∷◌, ◌++◌, length, map, drop, Option, Some, None, Result, Ok, Err, refl, sym, ap, subst, ◌∙◌, arith, append_assoc, add-one, drop-cons, length-drop, length-append}
 use Rattle.std.specs.Prelude.{slice_index_or, int_lt, nat_lt, not, nat_abs, ◌==◌, ◌||◌, if◌then◌else◌, ◌-ℤ◌, ◌+ℤ◌}
 use Rattle.std.proofs.lemmas.Bool.Decides.{nat_tests}
+use Rattle.std.proofs.lemmas.Bool.{ltb-false}
 use Rattle.lists.proofs.ListLaws.{one_more}
 use Rattle.lists.proofs.TestLaws.{or_assoc, or_false}
 use Rattle.jvm_types.specs.Numbers.{has_number}
@@ -28,11 +29,8 @@ fits_by : (n : ℕ) (ts : List ℤ) (room : ℕ) (rule : KRule) (e : Extent) (t 
 fits_by n ts room rule e true k h = absurd (cc)
 fits_by n ts room rule e false k h = let g : n ≡ e.size = ap size_in h in subst (λ (m : ℕ). m ≤ room) g (k refl)
 
-enough : (m n : ℕ) → nat_lt m n ≡ false → n ≤ m
-enough m n e = grind (arith, nat_tests, e)
-
 sized_fits : (n : ℕ) (ts : List ℤ) (rest : List ℕ) (e : Extent) → sized n ts rest ≡ Ok e → e.size ≤ length rest
-sized_fits n ts rest e h = fits_by n ts (length rest) K2 e (nat_lt (length rest) n) (enough (length rest) n) h
+sized_fits n ts rest e h = fits_by n ts (length rest) K2 e (nat_lt (length rest) n) (ltb-false (length rest) n) h
 
 behind_fits : (pad n : ℕ) (rest : List ℕ) → 0 < n → n ≤ length (drop pad rest) → pad + n ≤ length rest
 behind_fits pad n rest some h = omega (arith, length-drop pad rest)
@@ -52,7 +50,7 @@ table_fits pc pad rest e h = by_length (nat_lt (length (drop pad rest)) 12) h
     n = nat_abs (s4_of (drop 8 (drop pad rest)) -ℤ s4_of (drop 4 (drop pad rest)) +ℤ pos 1)
 
     last : table_of pc pad (nat_abs (s4_of (drop 8 (drop pad rest)) -ℤ s4_of (drop 4 (drop pad rest)) +ℤ pos 1)) (drop pad rest) ≡ Ok e → e.size ≤ length rest
-    last h = fits_by _ _ (length rest) K2 e _ (λ f. behind_fits pad _ rest (omega arith) (enough _ _ f)) h
+    last h = fits_by _ _ (length rest) K2 e _ (λ f. behind_fits pad _ rest (omega arith) (ltb-false _ _ f)) h
 
     by_order : (t : Bool) → (if t then Err K6 else table_of pc pad (nat_abs (s4_of (drop 8 (drop pad rest)) -ℤ s4_of (drop 4 (drop pad rest)) +ℤ pos 1)) (drop pad rest)) ≡ Ok e → e.size ≤ length rest
     by_order true h = absurd (cc)
@@ -71,7 +69,7 @@ lookup_of_fits pc pad n rest e h = by_length (nat_lt (length (drop pad rest)) (8
     by_length : (t : Bool) → nat_lt (length (drop pad rest)) (8 + 8 * n) ≡ t
         → (if t then Err K2 else (if not (ascend n (drop 8 (drop pad rest))) then Err K6 else Ok (record { size = pad + (8 + 8 * n); targets = landing pc (s4_of (drop pad rest)) ∷ case_offsets pc n (drop 8 (drop pad rest)) }))) ≡ Ok e → e.size ≤ length rest
     by_length true f h = absurd (cc)
-    by_length false f h = by_keys (not (ascend n (drop 8 (drop pad rest)))) (enough _ _ f) h
+    by_length false f h = by_keys (not (ascend n (drop 8 (drop pad rest)))) (ltb-false _ _ f) h
 
 lookup_fits : (pc pad : ℕ) (rest : List ℕ) (e : Extent) → lookup_extent pc pad (drop pad rest) ≡ Ok e → e.size ≤ length rest
 lookup_fits pc pad rest e h = by_length (nat_lt (length (drop pad rest)) 8) h

@@ -3,19 +3,19 @@ use Rattle.std.proofs.Common.{◌≡◌, ℕ, suc, ◌<◌, Bool, true, false, L
 use Rattle.std.specs.Prelude.{◌==◌, if◌then◌else◌}
 use Rattle.std.specs.Option.{option_map}
 use Rattle.std.proofs.lemmas.Bool.Decides.{nat_tests}
+use Rattle.std.proofs.lemmas.Bool.{ne_eqb}
 use Rattle.jvm_types.specs.Verifying.{new_class}
 use Rattle.jvm_types.specs.declared.code.Insn.{Insn}
 use Rattle.jvm_types.specs.declared.program.Target.{Target}
 use Rattle.jvm_types.specs.declared.program.Target.TheVariants.{Class}
 use Rattle.code_table.specs.PcTables.{number_at, Ascend}
 use Rattle.code_table.specs.NewClasses.{class_named, class_at}
-use Rattle.code_table.proofs.PcLaws.{other_number}
 
 -- behind the pc there is none
 none_behind : (low : ℕ) (code : List Insn) (targets : List Target) (pc : ℕ) → Ascend low code → pc < low → new_class code targets pc ≡ None
 none_behind low [] targets pc a h = refl
 none_behind low (insn ∷ insns) [] pc a h = refl
-none_behind low (insn ∷ insns) (Class class ∷ ts) pc a h = rw (other_number insn.pc pc (omega (arith, a.0, h))) (none_behind (suc insn.pc) insns ts pc a.1 (omega (arith, a.0, h)))
+none_behind low (insn ∷ insns) (Class class ∷ ts) pc a h = rw (ne_eqb insn.pc pc (omega (arith, a.0, h))) (none_behind (suc insn.pc) insns ts pc a.1 (omega (arith, a.0, h)))
 none_behind low (insn ∷ insns) (t ∷ ts) pc a h = none_behind (suc insn.pc) insns ts pc a.1 (omega (arith, a.0, h))
 
 one_on : (t : Target) (ts : List Target) (o : Option ℕ) → class_at ts o ≡ class_at (t ∷ ts) (option_map suc o)

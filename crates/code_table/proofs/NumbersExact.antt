@@ -3,10 +3,11 @@ use Rattle.std.proofs.Common.{◌≡◌, ℕ, zero, suc, ◌≤◌, Bool, true, 
 use Rattle.std.specs.Prelude.{◌==◌, if◌then◌else◌, slice_get, IsSomeAnd}
 use Rattle.std.specs.Option.{option_map}
 use Rattle.std.proofs.lemmas.Bool.Decides.{nat_tests}
+use Rattle.std.proofs.lemmas.Bool.{eq-eqb, ne_eqb}
 use Rattle.jvm_types.specs.declared.code.Insn.{Insn}
 use Rattle.code_table.specs.PcTables.{number_at, Ascend}
 use Rattle.code_table.specs.NumberLaws.{NumbersAreExact}
-use Rattle.code_table.proofs.PcLaws.{same_number, other_number, ascend_at}
+use Rattle.code_table.proofs.PcLaws.{ascend_at}
 use Rattle.code_table.proofs.LaidOut.{ascend}
 
 abbrev StandsAt : List Insn → ℕ → ℕ → Type 0
@@ -23,10 +24,10 @@ stands (x ∷ xs) pc i e = by_test (x.pc == pc) (number_at xs pc) refl e (stands
 
 pub number_here : (low : ℕ) (code : List Insn) (i : ℕ) (insn : Insn) → Ascend low code → slice_get code i ≡ Some insn → number_at code insn.pc ≡ Some i
 number_here low [] i insn a e = absurd (cc)
-number_here low (x ∷ xs) zero insn a e = let same : x ≡ insn = cc in rw (same, same_number insn.pc insn.pc refl) refl
+number_here low (x ∷ xs) zero insn a e = let same : x ≡ insn = cc in rw (same, eq-eqb insn.pc insn.pc refl) refl
 number_here low (x ∷ xs) (suc i) insn a e =
     let later : suc x.pc ≤ insn.pc = ascend_at (suc x.pc) xs i insn a.1 e in
-    rw (other_number x.pc insn.pc (omega arith), number_here (suc x.pc) xs i insn a.1 e) refl
+    rw (ne_eqb x.pc insn.pc (omega arith), number_here (suc x.pc) xs i insn a.1 e) refl
 
 at_some : (code : List Insn) (pc i : ℕ) (o : Option Insn) → Ascend 0 code → slice_get code i ≡ o → IsSomeAnd o (λ insn. insn.pc ≡ pc) → number_at code pc ≡ Some i
 at_some code pc i None a e h = absurd h

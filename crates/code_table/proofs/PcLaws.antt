@@ -3,17 +3,11 @@ use Rattle.std.proofs.Common.{◌≡◌, ◌≢◌, ℕ, zero, suc, ◌+◌, ◌
 use Rattle.std.specs.Prelude.{◌==◌, ◌||◌, if◌then◌else◌, slice_get, slice_set, slice_index_or}
 use Rattle.std.specs.Option.{option_map, is_some}
 use Rattle.std.specs.List.{list_any, AllByRecursion}
-use Rattle.std.proofs.lemmas.Bool.{cases_eq}
+use Rattle.std.proofs.lemmas.Bool.{cases_eq, eq-eqb, ne_eqb}
 use Rattle.std.proofs.lemmas.Bool.Decides.{nat_tests}
 use Rattle.std.proofs.lemmas.List.{get_or-set_same, get_or-set_other}
 use Rattle.jvm_types.specs.declared.code.Insn.{Insn}
 use Rattle.code_table.specs.PcTables.{number_at, Ascend, IsPcTable}
-
-pub same_number : (m n : ℕ) → m ≡ n → (m == n) ≡ true
-same_number m n e = grind (arith, nat_tests, e)
-
-pub other_number : (m n : ℕ) → m ≢ n → (m == n) ≡ false
-other_number m n e = grind (arith, nat_tests, e)
 
 pub ascend_at : (low : ℕ) (code : List Insn) (i : ℕ) (insn : Insn) → Ascend low code → slice_get code i ≡ Some insn → low ≤ insn.pc
 ascend_at low [] i insn a e = absurd (cc)
@@ -41,18 +35,18 @@ not_before low [] i insn a e = absurd (cc)
 not_before low (x ∷ xs) zero insn a e = refl
 not_before low (x ∷ xs) (suc i) insn a e =
     let later : suc x.pc ≤ insn.pc = ascend_at (suc x.pc) xs i insn a.1 e in
-    rw (other_number x.pc insn.pc (omega arith), not_before (suc x.pc) xs i insn a.1 e) refl
+    rw (ne_eqb x.pc insn.pc (omega arith), not_before (suc x.pc) xs i insn a.1 e) refl
 
 here_then : (low : ℕ) (code : List Insn) (i : ℕ) (insn : Insn) → Ascend low code → slice_get code i ≡ Some insn → number_at (take (suc i) code) insn.pc ≡ Some i
 here_then low [] i insn a e = absurd (cc)
-here_then low (x ∷ xs) zero insn a e = let same : x ≡ insn = cc in rw (same, same_number insn.pc insn.pc refl) refl
+here_then low (x ∷ xs) zero insn a e = let same : x ≡ insn = cc in rw (same, eq-eqb insn.pc insn.pc refl) refl
 here_then low (x ∷ xs) (suc i) insn a e =
     let later : suc x.pc ≤ insn.pc = ascend_at (suc x.pc) xs i insn a.1 e in
-    rw (other_number x.pc insn.pc (omega arith), here_then (suc x.pc) xs i insn a.1 e) refl
+    rw (ne_eqb x.pc insn.pc (omega arith), here_then (suc x.pc) xs i insn a.1 e) refl
 
 other_then : (code : List Insn) (i : ℕ) (insn : Insn) (pc : ℕ) → slice_get code i ≡ Some insn → pc ≢ insn.pc → number_at (take (suc i) code) pc ≡ number_at (take i code) pc
 other_then [] i insn pc e h = absurd (cc)
-other_then (x ∷ xs) zero insn pc e h = let same : x ≡ insn = cc in rw (same, other_number insn.pc pc (λ f. h (sym f))) refl
+other_then (x ∷ xs) zero insn pc e h = let same : x ≡ insn = cc in rw (same, ne_eqb insn.pc pc (λ f. h (sym f))) refl
 other_then (x ∷ xs) (suc i) insn pc e h = rw (other_then xs i insn pc e h) refl
 
 pub places_more : (code : List Insn) (numbers : List (Option ℕ)) (i : ℕ) (insn : Insn) → Ascend 0 code → slice_get code i ≡ Some insn → insn.pc < length numbers

@@ -8,10 +8,7 @@ use Rattle.jvm_types.specs.ProgramInvariant.{IsProgram}
 use Rattle.jvm_types.specs.declared.program.MethodInfo.{MethodInfo}
 use Rattle.jvm_types.specs.declared.program.Program.{Program}
 use Rattle.laws_programs.proofs.CodeOrder.{methods_laid_out, starts}
-
-counted : (ms : List MethodInfo) → ((i : ℕ) (m : MethodInfo) → slice_get ms i ≡ Some m → 0 < length m.code) → length ms ≤ sum_by (λ m. length m.code) ms
-counted [] some = omega arith
-counted (m ∷ ms) some = omega (arith, some 0 m refl, counted ms (λ i n e. some (suc i) n e), sum_by-cons (λ (n : MethodInfo). length n.code) m ms)
+use Rattle.checked_program.proofs.CalledMethods.{some_each}
 
 some_code : (p : Program) (i : ℕ) (m : MethodInfo) → IsProgram p → slice_get p.methods i ≡ Some m → 0 < length m.code
 some_code p i m is e = let first = starts m (methods_laid_out p i m is e) in slice_get_within m.code 0 first.0 first.1
@@ -19,4 +16,4 @@ some_code p i m is e = let first = starts m (methods_laid_out p i m is e) in sli
 pub few_methods : (p : Program) → IsProgram p → length p.methods ≤ 67108864
 few_methods p is =
     let size : sum_by (λ m. length m.code) p.methods ≤ 67108864 = is.size in
-    omega (arith, counted p.methods (λ i m e. some_code p i m is e), size)
+    omega (arith, some_each p.methods (λ i m e. some_code p i m is e), size)

@@ -4,6 +4,7 @@ use Rattle.std.specs.Prelude.{◌==◌, if◌then◌else◌}
 use Rattle.std.specs.List.{remove}
 use Rattle.std.proofs.lemmas.Bool.Decides.{nat_tests}
 use Rattle.std.proofs.lemmas.List.{drop_more, set_split}
+use Rattle.std.proofs.lemmas.Bool.{eq-eqb}
 use Rattle.machine_types.specs.HeldMonitors.{held_at, with_held, without_held}
 use Rattle.machine_types.specs.declared.lock.Held.{Held}
 
@@ -16,9 +17,6 @@ pub put_new : (e : Held) (hs : List Held) → held_at hs e.monitor ≡ None → 
 put_new e [] none = refl
 put_new e (h ∷ hs) none = put_after e h hs (h.monitor == e.monitor) (put_new e hs) none
 
-same_test : (a b : ℕ) → a ≡ b → (a == b) ≡ true
-same_test a b e = grind (arith, nat_tests)
-
 -- the entry at i is the first of its monitor
 pub placed : (m : ℕ) (hs : List Held) (i : ℕ) (d : Held) → i < length hs → (get_or hs i d).monitor ≡ m
     → without_held m hs ≡ take i hs ++ without_held m (drop i hs) → ((e : Held) → e.monitor ≡ m → with_held e hs ≡ take i hs ++ with_held e (drop i hs))
@@ -26,7 +24,7 @@ pub placed : (m : ℕ) (hs : List Held) (i : ℕ) (d : Held) → i < length hs �
 placed m hs i d l same rest other =
     let h = get_or hs i d in
     let opened : drop i hs ≡ h ∷ drop (i + 1) hs = drop_more hs i d l in
-    let test : (h.monitor == m) ≡ true = same_test h.monitor m same in
+    let test : (h.monitor == m) ≡ true = eq-eqb h.monitor m same in
     let gone : without_held m (drop i hs) ≡ drop (i + 1) hs = rw (opened, test) refl in
     let swapped : (e : Held) → e.monitor ≡ m → with_held e (drop i hs) ≡ e ∷ drop (i + 1) hs = (λ e q. rw (opened, q, test) refl) in (
       rest ∙ ap (λ r. take i hs ++ r) gone ∙ ap (λ (j : ℕ). take i hs ++ drop j hs) (add-one i),

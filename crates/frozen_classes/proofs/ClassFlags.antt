@@ -2,7 +2,7 @@
 use Rattle.std.proofs.Common.{◌≡◌, ◌≢◌, ℕ, zero, suc, ◌-◌, ◌<◌, ◌≤◌, Bool, true, false, not, ◌&&◌, List, [], ◌∷◌, length, replicate, Option, Some, None, refl, sym, ap, subst, ◌∙◌, arith, ⊎_elim, inl, inr, ◌⊎◌}
 use Rattle.std.specs.Prelude.{nat_lt, nat_le, if◌then◌else◌, slice_get, slice_set, slice_index_or}
 use Rattle.std.specs.Option.{option_map}
-use Rattle.std.proofs.lemmas.Bool.{cases_eq}
+use Rattle.std.proofs.lemmas.Bool.{cases_eq, ltb-true, ltb-false, leb-true}
 use Rattle.std.proofs.lemmas.Bool.Decides.{nat_tests}
 use Rattle.std.proofs.lemmas.List.{length-set, length-replicate, get_or-replicate, get_or-set_same, get_or-set_other, get_or_past}
 use Rattle.std.proofs.lemmas.Option.{slice_get_within, slice_get-map, get_or_from_slice_get, same_Some}
@@ -20,21 +20,12 @@ use Rattle.frozen_classes.specs.FrozenClasses.{TellsFrozen, AreFrozenClasses}
 use Rattle.frozen_classes.specs.KeptThis.{keeps_all, leak_of, noted, frozen_upto}
 use Rattle.frozen_classes.proofs.KeptInside.{is_inside, passes_all}
 
-le_from : (a b : ℕ) → nat_le a b ≡ true → a ≤ b
-le_from a b = grind (arith, nat_tests)
-
-lt_from : (a b : ℕ) → nat_lt a b ≡ true → a < b
-lt_from a b = grind (arith, nat_tests)
-
-not_lt : (a b : ℕ) → nat_lt a b ≡ false → b ≤ a
-not_lt a b = grind (arith, nat_tests)
-
 not_le : (a b : ℕ) → nat_le a b ≡ false → b < a
 not_le a b = grind (arith, nat_tests)
 
 -- ---- one note
 
-noted_long : (flags : List Bool) (o : Option ℕ) → length (noted flags o) ≡ length flags
+pub noted_long : (flags : List Bool) (o : Option ℕ) → length (noted flags o) ≡ length flags
 noted_long flags None = refl
 noted_long flags (Some c) = by_test (nat_le (file_class 0) c && nat_lt (c - file_class 0) (length flags))
   where
@@ -48,7 +39,7 @@ stays_noted flags (Some c) k e = by_test (nat_le (file_class 0) c) (nat_lt (c - 
   where
     by_test : (b d : Bool) → nat_lt (c - file_class 0) (length flags) ≡ d → slice_index_or (if b && d then slice_set flags (c - file_class 0) false else flags) k false ≡ false
     by_test true true h = ⊎_elim
-        (λ (q : k ≡ c - file_class 0). subst (λ (j : ℕ). slice_index_or (slice_set flags (c - file_class 0) false) j false ≡ false) (sym q) (get_or-set_same flags (c - file_class 0) false false (lt_from (c - file_class 0) (length flags) h)))
+        (λ (q : k ≡ c - file_class 0). subst (λ (j : ℕ). slice_index_or (slice_set flags (c - file_class 0) false) j false ≡ false) (sym q) (get_or-set_same flags (c - file_class 0) false false (ltb-true (c - file_class 0) (length flags) h)))
         (λ (q : k ≢ c - file_class 0). get_or-set_other flags (c - file_class 0) k false false q ∙ e) (cases_eq k (c - file_class 0))
     by_test true false h = e
     by_test false d h = e
@@ -60,8 +51,8 @@ noted_here flags k = by_test (nat_le (file_class 0) (file_class k)) (nat_lt (fil
     place = omega arith
 
     by_test : (b d : Bool) → nat_le (file_class 0) (file_class k) ≡ b → nat_lt (file_class k - file_class 0) (length flags) ≡ d → slice_index_or (if b && d then slice_set flags (file_class k - file_class 0) false else flags) k false ≡ false
-    by_test true true g h = subst (λ (j : ℕ). slice_index_or (slice_set flags j false) k false ≡ false) (sym place) (get_or-set_same flags k false false (subst (λ (j : ℕ). j < length flags) place (lt_from (file_class k - file_class 0) (length flags) h)))
-    by_test true false g h = get_or_past flags k false (subst (λ (j : ℕ). length flags ≤ j) place (not_lt (file_class k - file_class 0) (length flags) h))
+    by_test true true g h = subst (λ (j : ℕ). slice_index_or (slice_set flags j false) k false ≡ false) (sym place) (get_or-set_same flags k false false (subst (λ (j : ℕ). j < length flags) place (ltb-true (file_class k - file_class 0) (length flags) h)))
+    by_test true false g h = get_or_past flags k false (subst (λ (j : ℕ). length flags ≤ j) place (ltb-false (file_class k - file_class 0) (length flags) h))
     by_test false d g h = absurd (omega (arith, not_le (file_class 0) (file_class k) g))
 
 noted_by : (flags : List Bool) (o : Option ℕ) (k : ℕ) → slice_index_or (noted flags o) k false ≡ false → (slice_index_or flags k false ≡ false) ⊎ (o ≡ Some (file_class k))
@@ -70,7 +61,7 @@ noted_by flags (Some c) k e = by_test (nat_le (file_class 0) c) (nat_lt (c - fil
   where
     by_test : (b d : Bool) → nat_le (file_class 0) c ≡ b → slice_index_or (if b && d then slice_set flags (c - file_class 0) false else flags) k false ≡ false → (slice_index_or flags k false ≡ false) ⊎ (Some c ≡ Some (file_class k))
     by_test true true g x = ⊎_elim
-        (λ (q : k ≡ c - file_class 0). let low : file_class 0 ≤ c = le_from (file_class 0) c g in let same : c ≡ file_class k = omega (arith, q, low) in inr (ap Some same))
+        (λ (q : k ≡ c - file_class 0). let low : file_class 0 ≤ c = leb-true (file_class 0) c g in let same : c ≡ file_class k = omega (arith, q, low) in inr (ap Some same))
         (λ (q : k ≢ c - file_class 0). inl (sym (get_or-set_other flags (c - file_class 0) k false false q) ∙ x)) (cases_eq k (c - file_class 0))
     by_test true false g x = inl x
     by_test false d g x = inl x

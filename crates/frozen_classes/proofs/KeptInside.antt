@@ -2,7 +2,7 @@
 use Rattle.std.proofs.Common.{◌≡◌, ℕ, zero, suc, ◌-◌, Bool, true, false, not, ◌&&◌, ◌||◌, cond, List, [], ◌∷◌, length, map, replicate, Option, Some, None, refl, sym, ap, subst, ◌∙◌, arith, ⊎_elim, inl, inr, ◌⊎◌}
 use Rattle.std.specs.Prelude.{◌==◌, if◌then◌else◌, slice_get, slice_index_or, IsSomeAnd}
 use Rattle.std.specs.List.{list_any, filter}
-use Rattle.std.proofs.lemmas.Bool.{and_from, or_left, or_right}
+use Rattle.std.proofs.lemmas.Bool.{and_from, or_left, or_right, eq-eqb, eqb-true, and_parts, or_cases}
 use Rattle.std.proofs.lemmas.Bool.Decides.{nat_tests}
 use Rattle.std.proofs.lemmas.Option.{slice_get_within, same_Some}
 use Rattle.jvm_types.specs.Numbers.{has_number}
@@ -27,7 +27,8 @@ use Rattle.checked_program.specs.FrozenPlaces.{may_take, KeepThis, KeepsThis, is
 use Rattle.checked_program.specs.declared.tag.Tag.{Tag}
 use Rattle.checked_program.specs.declared.tag.Tag.TheVariants.{Untagged, This}
 use Rattle.frozen_classes.specs.KeptThis.{all_before, this_at, keeps_after, keeps_caught, reached_frame, frame_of, passes, passes_at, joins_all, catches_well, caught_well, takes_well, puts_well, keeps_here, keeps_at, begins_well, keeps_all}
-use Rattle.frozen_classes.proofs.KeptPlaces.{both, implied, implies, that_is_this, all_each, all_from, after_from, after_to, caught_from, caught_to}
+use Rattle.frozen_classes.proofs.KeptPlaces.{implies, all_each, all_from, after_from, after_to, caught_from, caught_to}
+use Rattle.checked_program.proofs.FrozenChecks.{that_is_this, implied}
 
 -- ---- the pcs of a list
 
@@ -35,25 +36,15 @@ abbrev all_pass : (ℕ → Bool) → List ℕ → Bool
 all_pass q [] = true
 all_pass q (x ∷ xs) = q x && all_pass q xs
 
-equal_from : (a b : ℕ) → (a == b) ≡ true → a ≡ b
-equal_from a b = grind (arith, nat_tests)
-
-equal_to : (a b : ℕ) → a ≡ b → (a == b) ≡ true
-equal_to a b = grind (arith, nat_tests)
-
-or_cases : (a b : Bool) → (a || b) ≡ true → (a ≡ true) ⊎ (b ≡ true)
-or_cases true b e = inl refl
-or_cases false b e = inr e
-
 pass_each : (q : ℕ → Bool) (xs : List ℕ) (x : ℕ) → all_pass q xs ≡ true → has_number xs x ≡ true → q x ≡ true
 pass_each q [] x e h = absurd (let bad : false ≡ true = h in cc)
 pass_each q (y ∷ xs) x e h =
-    let parts = both (q y) (all_pass q xs) e in
-    ⊎_elim (λ (k : (y == x) ≡ true). subst (λ (j : ℕ). q j ≡ true) (equal_from y x k) parts.0) (λ (k : has_number xs x ≡ true). pass_each q xs x parts.1 k) (or_cases (y == x) (has_number xs x) h)
+    let parts = and_parts (q y) (all_pass q xs) e in
+    ⊎_elim (λ (k : (y == x) ≡ true). subst (λ (j : ℕ). q j ≡ true) (eqb-true y x k) parts.0) (λ (k : has_number xs x ≡ true). pass_each q xs x parts.1 k) (or_cases (y == x) (has_number xs x) h)
 
 pass_from : (q : ℕ → Bool) (xs : List ℕ) → ((x : ℕ) → has_number xs x ≡ true → q x ≡ true) → all_pass q xs ≡ true
 pass_from q [] h = refl
-pass_from q (y ∷ xs) h = and_from (q y) (all_pass q xs) (h y (or_left (y == y) (has_number xs y) (equal_to y y refl))) (pass_from q xs (λ x e. h x (or_right (y == x) (has_number xs x) e)))
+pass_from q (y ∷ xs) h = and_from (q y) (all_pass q xs) (h y (or_left (y == y) (has_number xs y) (eq-eqb y y refl))) (pass_from q xs (λ x e. h x (or_right (y == x) (has_number xs x) e)))
 
 -- ---- handlers
 
@@ -111,7 +102,7 @@ stands : (o : Option Insn) (pc : ℕ) (other : Insn) → IsSomeAnd o (λ insn. i
 stands (Some insn) pc other h e = subst (λ (i : Insn). i.pc ≡ pc) (same_Some insn other e) h
 stands None pc other h e = absurd h
 
-stands_to : (o : Option Insn) (insn : Insn) → o ≡ Some insn → IsSomeAnd o (λ x. x.pc ≡ insn.pc)
+pub stands_to : (o : Option Insn) (insn : Insn) → o ≡ Some insn → IsSomeAnd o (λ x. x.pc ≡ insn.pc)
 stands_to o insn e = rw e refl
 
 -- ---- the start
@@ -170,7 +161,7 @@ module _ (p : Program) (tags : Tagged) (mi : ℕ) (m : MethodInfo) (frames : Lis
 
   module _ (e : keeps_all p m frames ≡ true) where
     parts : (begins_well m (frame_of m frames 0) ≡ true) × (all_before (λ i. keeps_at p m frames (slice_get m.code i) (slice_get m.targets i) (slice_get frames i)) (length m.code) ≡ true)
-    parts = both (begins_well m (frame_of m frames 0)) (all_before (λ i. keeps_at p m frames (slice_get m.code i) (slice_get m.targets i) (slice_get frames i)) (length m.code)) e
+    parts = and_parts (begins_well m (frame_of m frames 0)) (all_before (λ i. keeps_at p m frames (slice_get m.code i) (slice_get m.targets i) (slice_get frames i)) (length m.code)) e
 
     here : (i : ℕ) (insn : Insn) (target : Target) (f : TagShape) → IsAt p tags mi i m insn target f → keeps_here p m frames insn target (row_of p m insn target) f ≡ true
     here i insn target f at =
@@ -186,9 +177,9 @@ module _ (p : Program) (tags : Tagged) (mi : ℕ) (m : MethodInfo) (frames : Lis
 
     split : (i : ℕ) (insn : Insn) (target : Target) (f : TagShape) → IsAt p tags mi i m insn target f → Here insn target f
     split i insn target f at =
-        let a = both (takes_well p m.class insn.op target f (length (row_of p m insn target).takes)) (puts_well p m.class insn.op target f && (joins_all m frames (row_of p m insn target) f (edges insn) && caught_well m frames f insn)) (here i insn target f at) in
-        let b = both (puts_well p m.class insn.op target f) (joins_all m frames (row_of p m insn target) f (edges insn) && caught_well m frames f insn) a.1 in
-        let c = both (joins_all m frames (row_of p m insn target) f (edges insn)) (caught_well m frames f insn) b.1 in
+        let a = and_parts (takes_well p m.class insn.op target f (length (row_of p m insn target).takes)) (puts_well p m.class insn.op target f && (joins_all m frames (row_of p m insn target) f (edges insn) && caught_well m frames f insn)) (here i insn target f at) in
+        let b = and_parts (puts_well p m.class insn.op target f) (joins_all m frames (row_of p m insn target) f (edges insn) && caught_well m frames f insn) a.1 in
+        let c = and_parts (joins_all m frames (row_of p m insn target) f (edges insn)) (caught_well m frames f insn) b.1 in
         record { takes = a.0; puts = b.0; joins = c.0; catches = c.1 }
 
     joined : (i j : ℕ) (insn other : Insn) (target next : Target) (f g h : TagShape) → IsAt p tags mi i m insn target f → IsAt p tags mi j m other next g → Goes p m insn target f other h → KeepsThis h g

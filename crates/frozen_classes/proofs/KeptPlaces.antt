@@ -1,7 +1,7 @@
 -- Where a place has `this`, before an instruction and after it.
 use Rattle.std.proofs.Common.{◌≡◌, ◌≢◌, ℕ, zero, suc, ◌+◌, ◌-◌, ◌<◌, ◌≤◌, Bool, true, false, not, ◌&&◌, ◌||◌, List, [], ◌∷◌, ◌++◌, length, map, drop, Option, Some, None, refl, sym, ap, subst, ◌∙◌, arith, ⊎_elim}
 use Rattle.std.specs.Prelude.{◌==◌, nat_lt, if◌then◌else◌, slice_get, slice_set, slice_index_or}
-use Rattle.std.proofs.lemmas.Bool.{cases_eq, and_from}
+use Rattle.std.proofs.lemmas.Bool.{cases_eq, and_from, eq-eqb, ltb-true, ltb-false, ne_eqb, and_parts}
 use Rattle.std.proofs.lemmas.Bool.Decides.{nat_tests}
 use Rattle.std.proofs.lemmas.List.{length-map, length-set, get_or_append_left, get_or-append-add, get_or-map, get_or-drop, get_or-set_same, get_or-set_other, get_or_past}
 use Rattle.std.proofs.lemmas.Option.{slice_get-get_or}
@@ -22,21 +22,9 @@ use Rattle.checked_program.specs.FrozenPlaces.{KeepThis, KeepsThis}
 use Rattle.checked_program.specs.declared.tag.Tag.{Tag}
 use Rattle.checked_program.specs.declared.tag.Tag.TheVariants.{Untagged, This, At}
 use Rattle.frozen_classes.specs.KeptThis.{all_before, this_at, given_this, some_given_this, stack_this_after, local_this_after, keeps_before, keeps_after, keeps_caught}
+use Rattle.checked_program.proofs.FrozenChecks.{that_is_this, implied}
 
 -- ---- tests
-
-pub both : (a b : Bool) → a && b ≡ true → (a ≡ true) × (b ≡ true)
-both true b e = (refl, e)
-both false b e = cc
-
-pub that_is_this : (t : Tag) → is_this t ≡ true → t ≡ This
-that_is_this This e = refl
-that_is_this Untagged e = cc
-that_is_this (At pc) e = cc
-
-pub implied : (a b : Bool) → not a || b ≡ true → a ≡ true → b ≡ true
-implied true b e h = e
-implied false b e h = cc
 
 pub implies : (a b : Bool) → (a ≡ true → b ≡ true) → not a || b ≡ true
 implies true b h = h refl
@@ -46,7 +34,7 @@ implies false b h = refl
 
 pub all_each : (q : ℕ → Bool) (n k : ℕ) → all_before q n ≡ true → k < n → q k ≡ true
 all_each q zero k e l = absurd (omega (arith, l))
-all_each q (suc n) k e l = ⊎_elim (λ (h : k ≡ n). subst (λ (j : ℕ). q j ≡ true) (sym h) (both (all_before q n) (q n) e).1) (λ (h : k ≢ n). all_each q n k (both (all_before q n) (q n) e).0 (omega (arith, l, h))) (cases_eq k n)
+all_each q (suc n) k e l = ⊎_elim (λ (h : k ≡ n). subst (λ (j : ℕ). q j ≡ true) (sym h) (and_parts (all_before q n) (q n) e).1) (λ (h : k ≢ n). all_each q n k (and_parts (all_before q n) (q n) e).0 (omega (arith, l, h))) (cases_eq k n)
 
 pub all_from : (q : ℕ → Bool) (n : ℕ) → ((k : ℕ) → k < n → q k ≡ true) → all_before q n ≡ true
 all_from q zero h = refl
@@ -76,25 +64,13 @@ given_is f (Fresh type) = refl
 given_is f (Taken place) = refl
 given_is f (Local i) = refl
 
-less_from : (a b : ℕ) → nat_lt a b ≡ true → a < b
-less_from a b = grind (arith, nat_tests)
-
-not_less : (a b : ℕ) → nat_lt a b ≡ false → b ≤ a
-not_less a b = grind (arith, nat_tests)
-
-less_to : (a b : ℕ) → a < b → nat_lt a b ≡ true
-less_to a b = grind (arith, nat_tests)
-
-not_less_to : (a b : ℕ) → b ≤ a → nat_lt a b ≡ false
-not_less_to a b = grind (arith, nat_tests)
-
 moved_stack : (r : OpRow) (f : TagShape) (k : ℕ) → this_at (stack_after Untagged (λ type. Untagged) r f.stack f.locals) k ≡ stack_this_after r f k
 moved_stack r f k = by_test (nat_lt k (length r.gives)) refl
   where
     by_test : (b : Bool) → nat_lt k (length r.gives) ≡ b
         → this_at (map (value_of Untagged (λ type. Untagged) f.stack f.locals) r.gives ++ drop (length r.takes) f.stack) k ≡ (if b then some_given_this f (slice_get r.gives k) else this_at f.stack (length r.takes + (k - length r.gives)))
     by_test true e =
-        let low : k < length r.gives = less_from k (length r.gives) e in
+        let low : k < length r.gives = ltb-true k (length r.gives) e in
         let long : length (map (value_of Untagged (λ type. Untagged) f.stack f.locals) r.gives) ≡ length r.gives = length-map r.gives (value_of Untagged (λ type. Untagged) f.stack f.locals) in
         let left : slice_index_or (map (value_of Untagged (λ type. Untagged) f.stack f.locals) r.gives ++ drop (length r.takes) f.stack) k Untagged ≡ slice_index_or (map (value_of Untagged (λ type. Untagged) f.stack f.locals) r.gives) k Untagged =
         get_or_append_left (map (value_of Untagged (λ type. Untagged) f.stack f.locals) r.gives) (drop (length r.takes) f.stack) Untagged k (omega (arith, low, long)) in
@@ -102,7 +78,7 @@ moved_stack r f k = by_test (nat_lt k (length r.gives)) refl
         get_or-map (value_of Untagged (λ type. Untagged) f.stack f.locals) r.gives k (Taken 0) Untagged low in
         ap is_this (left ∙ mapped) ∙ given_is f (slice_index_or r.gives k (Taken 0)) ∙ sym (ap (some_given_this f) (slice_get-get_or r.gives k (Taken 0) low))
     by_test false e =
-        let high : length r.gives ≤ k = not_less k (length r.gives) e in
+        let high : length r.gives ≤ k = ltb-false k (length r.gives) e in
         let long : length (map (value_of Untagged (λ type. Untagged) f.stack f.locals) r.gives) ≡ length r.gives = length-map r.gives (value_of Untagged (λ type. Untagged) f.stack f.locals) in
         let right : slice_index_or (map (value_of Untagged (λ type. Untagged) f.stack f.locals) r.gives ++ drop (length r.takes) f.stack) (length (map (value_of Untagged (λ type. Untagged) f.stack f.locals) r.gives) + (k - length r.gives)) Untagged ≡ slice_index_or (drop (length r.takes) f.stack) (k - length r.gives) Untagged =
         get_or-append-add (map (value_of Untagged (λ type. Untagged) f.stack f.locals) r.gives) (drop (length r.takes) f.stack) (k - length r.gives) Untagged in
@@ -144,24 +120,18 @@ same_locals p m target pc op ts f k = refl
 
 -- ---- what it leaves in locals
 
-same_number : (a b : ℕ) → a ≡ b → (a == b) ≡ true
-same_number a b = grind (arith, nat_tests)
-
-other_number : (a b : ℕ) → a ≢ b → (a == b) ≡ false
-other_number a b = grind (arith, nat_tests)
-
 set_this : (ls : List Tag) (i : ℕ) (v : Tag) (k : ℕ) → this_at (slice_set ls i v) k ≡ (if (k == i) && nat_lt k (length ls) then is_this v else this_at ls k)
-set_this ls i v k = ⊎_elim (λ (q : k ≡ i). here q) (λ (q : k ≢ i). rw (other_number k i q) (ap is_this (get_or-set_other ls i k v Untagged q))) (cases_eq k i)
+set_this ls i v k = ⊎_elim (λ (q : k ≡ i). here q) (λ (q : k ≢ i). rw (ne_eqb k i q) (ap is_this (get_or-set_other ls i k v Untagged q))) (cases_eq k i)
   where
     at_i : (b : Bool) → nat_lt i (length ls) ≡ b → this_at (slice_set ls i v) i ≡ (if b then is_this v else this_at ls i)
-    at_i true e = ap is_this (get_or-set_same ls i v Untagged (less_from i (length ls) e))
+    at_i true e = ap is_this (get_or-set_same ls i v Untagged (ltb-true i (length ls) e))
     at_i false e =
-        let high : length ls ≤ i = not_less i (length ls) e in
+        let high : length ls ≤ i = ltb-false i (length ls) e in
         let long : length (slice_set ls i v) ≡ length ls = length-set ls i v in
         ap is_this (get_or_past (slice_set ls i v) i Untagged (omega (arith, high, long)) ∙ sym (get_or_past ls i Untagged high))
 
     here : k ≡ i → this_at (slice_set ls i v) k ≡ (if (k == i) && nat_lt k (length ls) then is_this v else this_at ls k)
-    here q = rw (same_number k i q) (subst (λ (j : ℕ). this_at (slice_set ls i v) j ≡ (if nat_lt j (length ls) then is_this v else this_at ls j)) (sym q) (at_i (nat_lt i (length ls)) refl))
+    here q = rw (eq-eqb k i q) (subst (λ (j : ℕ). this_at (slice_set ls i v) j ≡ (if nat_lt j (length ls) then is_this v else this_at ls j)) (sym q) (at_i (nat_lt i (length ls)) refl))
 
 moved_locals : (writes : Option (ℕ × Given)) (f : TagShape) (k : ℕ) → this_at (locals_after Untagged (λ type. Untagged) writes f.stack f.locals) k ≡ local_this_after writes f k
 moved_locals None f k = refl
@@ -173,15 +143,15 @@ stack_within : (r : OpRow) (f : TagShape) (k : ℕ) → stack_this_after r f k �
 stack_within r f k e = by_test (nat_lt k (length r.gives)) refl e
   where
     by_test : (b : Bool) → nat_lt k (length r.gives) ≡ b → (if b then some_given_this f (slice_get r.gives k) else this_at f.stack (length r.takes + (k - length r.gives))) ≡ true → k < length r.gives + length f.stack
-    by_test true h x = omega (arith, less_from k (length r.gives) h)
-    by_test false h x = omega (arith, not_less k (length r.gives) h, this_within f.stack (length r.takes + (k - length r.gives)) x)
+    by_test true h x = omega (arith, ltb-true k (length r.gives) h)
+    by_test false h x = omega (arith, ltb-false k (length r.gives) h, this_within f.stack (length r.takes + (k - length r.gives)) x)
 
 locals_within : (writes : Option (ℕ × Given)) (f : TagShape) (k : ℕ) → local_this_after writes f k ≡ true → k < length f.locals
 locals_within None f k e = this_within f.locals k e
 locals_within (Some write) f k e = by_test (k == write.0) (nat_lt k (length f.locals)) refl e
   where
     by_test : (b c : Bool) → nat_lt k (length f.locals) ≡ c → (if b && c then given_this f write.1 else this_at f.locals k) ≡ true → k < length f.locals
-    by_test true true h x = less_from k (length f.locals) h
+    by_test true true h x = ltb-true k (length f.locals) h
     by_test true false h x = this_within f.locals k x
     by_test false c h x = this_within f.locals k x
 
@@ -196,7 +166,7 @@ module _ (p : Program) (m : MethodInfo) (insn : Insn) (target : Target) (f g : T
 
   pub after_from : keeps_after (row_of p m insn target) f g ≡ true → KeepsThis (tags_after insn (row_of p m insn target) f) g
   after_from e =
-      let parts = both (keeps_before (stack_this_after (row_of p m insn target) f) g.stack (length (row_of p m insn target).gives + length f.stack)) (keeps_before (local_this_after (row_of p m insn target).writes f) g.locals (length f.locals)) e in
+      let parts = and_parts (keeps_before (stack_this_after (row_of p m insn target) f) g.stack (length (row_of p m insn target).gives + length f.stack)) (keeps_before (local_this_after (row_of p m insn target).writes f) g.locals (length f.locals)) e in
       record {
         stack = keep_from (tags_after insn (row_of p m insn target) f).stack g.stack (stack_this_after (row_of p m insn target) f) (length (row_of p m insn target).gives + length f.stack) stack_same (stack_within (row_of p m insn target) f) parts.0;
         locals = keep_from (tags_after insn (row_of p m insn target) f).locals g.locals (local_this_after (row_of p m insn target).writes f) (length f.locals) locals_same (locals_within (row_of p m insn target).writes f) parts.1;

@@ -1,7 +1,7 @@
 -- Laws of the least closed set, and of the state in the course of its computation.
 use Rattle.std.proofs.Common.{◌≡◌, ℕ, zero, suc, ◌+◌, ◌-◌, ◌<◌, ◌≤◌, ◌≢◌, Bool, true, false, not, ◌&&◌, List, [], ◌∷◌, ◌++◌, length, refl, sym, ap, ◌∙◌, subst, arith, ⊎_elim, inl, inr, ◌⊎◌, get_or-set_same, get_or-set_other}
 use Rattle.std.specs.Prelude.{replicate, ◌==◌, nat_lt, if◌then◌else◌, slice_index, slice_index_or, slice_set}
-use Rattle.std.proofs.lemmas.Bool.{cases_eq, cases_lt}
+use Rattle.std.proofs.lemmas.Bool.{cases_eq, cases_lt, eq-eqb, lt-ltb, eqb-true, ne_eqb, le-ltb}
 use Rattle.std.proofs.lemmas.List.{length-set, length-append}
 use Rattle.std.proofs.lemmas.Bool.Decides.{nat_tests}
 use Rattle.graph_closure.specs.LeastSet.{one_if, chosen, Settles, settle, IsSpread, IsGraph}
@@ -9,17 +9,8 @@ use Rattle.graph_closure.specs.Chains.{IsIn, handled, Going, IsChained, weight, 
 
 -- ---- tests
 
-pub equal_from : (x b : ℕ) → (x == b) ≡ true → x ≡ b
-equal_from x b = grind (arith, nat_tests)
-
 pub differ_from : (x b : ℕ) → (x == b) ≡ false → x ≢ b
 differ_from x b = grind (arith, nat_tests)
-
-pub equal_to : (x b : ℕ) → x ≡ b → (x == b) ≡ true
-equal_to x b = grind (arith, nat_tests)
-
-pub differ_to : (x b : ℕ) → x ≢ b → (x == b) ≡ false
-differ_to x b = grind (arith, nat_tests)
 
 -- ---- the chains
 
@@ -46,7 +37,7 @@ latest_goes to b zero e h = absurd (cc)
 latest_goes to b (suc k) e h = by_test (slice_index to k == b) refl h (latest_goes to b k e)
   where
     by_test : (t : Bool) → (slice_index to k == b) ≡ t → (if t then suc k else latest to b k) ≡ suc e → (latest to b k ≡ suc e → slice_index to e ≡ b) → slice_index to e ≡ b
-    by_test true w m more = let same : k ≡ e = omega (arith, m) in subst (λ x. slice_index to x ≡ b) same (equal_from (slice_index to k) b w)
+    by_test true w m more = let same : k ≡ e = omega (arith, m) in subst (λ x. slice_index to x ≡ b) same (eqb-true (slice_index to k) b w)
     by_test false w m more = more m
 
 pub latest_again : (to : List ℕ) (b k : ℕ) → latest to b (latest to b k) ≡ latest to b k
@@ -65,7 +56,7 @@ pub lasts_more : (to last : List ℕ) (nodes e : ℕ) → length last ≡ nodes 
 lasts_more to last nodes e long h c g = rw latest_more (by_test (slice_index to e == c) refl)
   where
     by_test : (t : Bool) → (slice_index to e == c) ≡ t → slice_index (slice_set last (slice_index to e) (e + 1)) c ≡ (if t then e + 1 else latest to c e)
-    by_test true w = let same : slice_index to e ≡ c = equal_from (slice_index to e) c w in let inside : c < length last = omega arith in rw same (rw get_or-set_same refl)
+    by_test true w = let same : slice_index to e ≡ c = eqb-true (slice_index to e) c w in let inside : c < length last = omega arith in rw same (rw get_or-set_same refl)
     by_test false w = let other : c ≢ slice_index to e = λ q. differ_from (slice_index to e) c w (sym q) in rw get_or-set_other (h c g)
 
 -- ---- counts
@@ -142,7 +133,7 @@ counted_out true false false w = refl
 counted_out false t false w = refl
 counted_out d t true w = absurd (let no : true ≡ false = w in cc)
 
-none_below : (e : ℕ) → nat_lt e 0 ≡ false
+pub none_below : (e : ℕ) → nat_lt e 0 ≡ false
 none_below e = grind (arith, nat_tests)
 
 not_counted : (d t u : Bool) → t ≡ true → u ≡ true → (d && not (t && u)) ≡ false
@@ -163,20 +154,14 @@ first_part : (d t : Bool) → (d && t) ≡ true → d ≡ true
 first_part true t w = refl
 first_part false t w = w
 
-is_below : (e k : ℕ) → e < k → nat_lt e k ≡ true
-is_below e k = grind (arith, nat_tests)
-
-is_above : (e k : ℕ) → k ≤ e → nat_lt e k ≡ false
-is_above e k = grind (arith, nat_tests)
-
 -- the end: nothing waits
 module _ (from to start need : List ℕ) (done : List Bool) (g : IsGraph (length start) from to) (b : ℕ) (s : Going from to start need [] done b 0) where
   at_end : (a : ℕ) → a < length start → slice_index_or done a false ≡ (slice_index need a == 0)
   at_end a l = by_done (slice_index_or done a false) refl
     where
       by_done : (d : Bool) → slice_index_or done a false ≡ d → d ≡ (slice_index need a == 0)
-      by_done true w = sym (equal_to (slice_index need a) 0 (s.past a w))
-      by_done false w = sym (differ_to (slice_index need a) 0 (λ q. ⊎_elim (λ y. (let no : true ≡ false = sym y ∙ w in cc)) (λ i. i) (s.waits a l q)))
+      by_done true w = sym (eq-eqb (slice_index need a) 0 (s.past a w))
+      by_done false w = sym (ne_eqb (slice_index need a) 0 (λ q. ⊎_elim (λ y. (let no : true ≡ false = sym y ∙ w in cc)) (λ i. i) (s.waits a l q)))
 
   same : (e : ℕ) → e < length from → handled to done b 0 e ≡ (slice_index need (slice_index to e) == 0)
   same e l = counted_out (slice_index_or done (slice_index to e) false) (slice_index to e == b) (nat_lt e 0) (none_below e) ∙ at_end (slice_index to e) (g.ends e l)
@@ -187,7 +172,7 @@ module _ (from to start need : List ℕ) (done : List Bool) (g : IsGraph (length
   end_closed : (a : ℕ) → Settles from to start a → slice_index need a ≡ 0
   end_closed a (settle x h into enough) =
       let more : chosen from h a (length from) ≤ chosen from (λ e. slice_index need (slice_index to e) == 0) a (length from) =
-      chosen-le from h (λ e. slice_index need (slice_index to e) == 0) a (length from) (λ e l w. equal_to (slice_index need (slice_index to e)) 0 (end_closed (slice_index to e) (into e l w))) in
+      chosen-le from h (λ e. slice_index need (slice_index to e) == 0) a (length from) (λ e l w. eq-eqb (slice_index need (slice_index to e)) 0 (end_closed (slice_index to e) (into e l w))) in
       omega (arith, end_left a, enough, more)
 
   pub ended : IsSpread from to start need
@@ -235,9 +220,9 @@ taken from to start need work done c b g s off = record {
     same e l = ⊎_elim
         (λ (q : slice_index to e ≡ b).
         let low : e < latest to b (length to) = ⊎_elim (λ i. i) (λ i. absurd (latest_passes to b (length to) e i (omega (arith, l, g.alike)) q)) (cases_lt e (latest to b (length to))) in
-        counted_out (slice_index_or done (slice_index to e) false) (slice_index to e == c) (nat_lt e 0) (none_below e) ∙ (rw (q, off) (sym (not_counted (slice_index_or (slice_set done b true) b false) (b == b) (nat_lt e (latest to b (length to))) (equal_to b b refl) (is_below e (latest to b (length to)) low)))))
+        counted_out (slice_index_or done (slice_index to e) false) (slice_index to e == c) (nat_lt e 0) (none_below e) ∙ (rw (q, off) (sym (not_counted (slice_index_or (slice_set done b true) b false) (b == b) (nat_lt e (latest to b (length to))) (eq-eqb b b refl) (lt-ltb e (latest to b (length to)) low)))))
         (λ (q : slice_index to e ≢ b).
-        counted_out (slice_index_or done (slice_index to e) false) (slice_index to e == c) (nat_lt e 0) (none_below e) ∙ (rw get_or-set_other (sym (elsewhere (slice_index_or done (slice_index to e) false) (slice_index to e == b) (nat_lt e (latest to b (length to))) (differ_to (slice_index to e) b q)))))
+        counted_out (slice_index_or done (slice_index to e) false) (slice_index to e == c) (nat_lt e 0) (none_below e) ∙ (rw get_or-set_other (sym (elsewhere (slice_index_or done (slice_index to e) false) (slice_index to e == b) (nat_lt e (latest to b (length to))) (ne_eqb (slice_index to e) b q)))))
         (cases_eq (slice_index to e) b)
 
 -- an edge is counted
@@ -269,27 +254,27 @@ counted from to start need work now done b e g l goes is s new = record {
 
     at_x : (x : ℕ) → slice_index next x ≡ slice_index need x - one_if (a == x)
     at_x x = ⊎_elim
-        (λ (q : x ≡ a). subst (λ z. slice_index next z ≡ slice_index need z - one_if (a == z)) (sym q) (rw (equal_to a a refl) same_place))
-        (λ (q : x ≢ a). rw (differ_to a x (λ p. q (sym p))) (rw get_or-set_other (omega arith)))
+        (λ (q : x ≡ a). subst (λ z. slice_index next z ≡ slice_index need z - one_if (a == z)) (sym q) (rw (eq-eqb a a refl) same_place))
+        (λ (q : x ≢ a). rw (ne_eqb a x (λ p. q (sym p))) (rw get_or-set_other (omega arith)))
         (cases_eq x a)
 
     off : handled to done b (suc e) e ≡ false
-    off = not_counted (slice_index_or done (slice_index to e) false) (slice_index to e == b) (nat_lt e (suc e)) (equal_to (slice_index to e) b goes) (is_below e (suc e) (omega arith))
+    off = not_counted (slice_index_or done (slice_index to e) false) (slice_index to e == b) (nat_lt e (suc e)) (eq-eqb (slice_index to e) b goes) (lt-ltb e (suc e) (omega arith))
 
     on : handled to done b (latest to b e) e ≡ true
-    on = counted_out (slice_index_or done (slice_index to e) false) (slice_index to e == b) (nat_lt e (latest to b e)) (is_above e (latest to b e) (latest-le to b e)) ∙ (rw goes is)
+    on = counted_out (slice_index_or done (slice_index to e) false) (slice_index to e == b) (nat_lt e (latest to b e)) (le-ltb e (latest to b e) (latest-le to b e)) ∙ (rw goes is)
 
     sides : (k : ℕ) → k < length from → k ≢ e → slice_index to k ≡ b → nat_lt k (suc e) ≡ nat_lt k (latest to b e)
     sides k m n q = ⊎_elim
-        (λ i. is_below k (suc e) (omega (arith, i, latest-le to b e)) ∙ sym (is_below k (latest to b e) i))
-        (λ i. ⊎_elim (λ j. absurd (latest_passes to b e k i j q)) (λ j. is_above k (suc e) (omega (arith, j, n)) ∙ sym (is_above k (latest to b e) i)) (cases_lt k e))
+        (λ i. lt-ltb k (suc e) (omega (arith, i, latest-le to b e)) ∙ sym (lt-ltb k (latest to b e) i))
+        (λ i. ⊎_elim (λ j. absurd (latest_passes to b e k i j q)) (λ j. le-ltb k (suc e) (omega (arith, j, n)) ∙ sym (le-ltb k (latest to b e) i)) (cases_lt k e))
         (cases_lt k (latest to b e))
 
     others : (k : ℕ) → k < length from → k ≢ e → handled to done b (suc e) k ≡ handled to done b (latest to b e) k
     others k m n = ⊎_elim
         (λ (q : slice_index to k ≡ b). ap (λ t. slice_index_or done (slice_index to k) false && not ((slice_index to k == b) && t)) (sides k m n q))
-        (λ (q : slice_index to k ≢ b). elsewhere (slice_index_or done (slice_index to k) false) (slice_index to k == b) (nat_lt k (suc e)) (differ_to (slice_index to k) b q)
-        ∙ sym (elsewhere (slice_index_or done (slice_index to k) false) (slice_index to k == b) (nat_lt k (latest to b e)) (differ_to (slice_index to k) b q)))
+        (λ (q : slice_index to k ≢ b). elsewhere (slice_index_or done (slice_index to k) false) (slice_index to k == b) (nat_lt k (suc e)) (ne_eqb (slice_index to k) b q)
+        ∙ sym (elsewhere (slice_index_or done (slice_index to k) false) (slice_index to k == b) (nat_lt k (latest to b e)) (ne_eqb (slice_index to k) b q)))
         (cases_eq (slice_index to k) b)
 
     more : (x : ℕ) → chosen from (handled to done b (latest to b e)) x (length from) ≡ chosen from (handled to done b (suc e)) x (length from) + one_if (a == x)
@@ -312,7 +297,7 @@ counted from to start need work now done b e g l goes is s new = record {
         keeps false j = j
 
         adds : (x : ℕ) → slice_index need x ≢ 0 → slice_index next x ≡ 0 → (t : Bool) → (slice_index need a == 1) ≡ t → IsIn x (if t then work ++ a ∷ [] else work)
-        adds x q w t y = ⊎_elim (λ (z : x ≡ a). one z t y) (λ (z : x ≢ a). absurd (let no_less : one_if (a == x) ≡ 0 = rw (differ_to a x (λ p. z (sym p))) refl in omega (arith, at_x x, no_less, q, w))) (cases_eq x a)
+        adds x q w t y = ⊎_elim (λ (z : x ≡ a). one z t y) (λ (z : x ≢ a). absurd (let no_less : one_if (a == x) ≡ 0 = rw (ne_eqb a x (λ p. z (sym p))) refl in omega (arith, at_x x, no_less, q, w))) (cases_eq x a)
           where
             one : x ≡ a → (t : Bool) → (slice_index need a == 1) ≡ t → IsIn x (if t then work ++ a ∷ [] else work)
             one z true y = rw z (in_last a work)
@@ -329,7 +314,7 @@ counted from to start need work now done b e g l goes is s new = record {
         known j = ((s.within x j).0, zero_stays x (s.within x j).1)
 
         by_test : (t : Bool) → (slice_index need a == 1) ≡ t → IsIn x (if t then work ++ a ∷ [] else work) → (x < length start) × (slice_index next x ≡ 0)
-        by_test true y j = ⊎_elim known (λ (q : a ≡ x). subst (λ z. (z < length start) × (slice_index next z ≡ 0)) q (g.starts e l, let one : slice_index need a ≡ 1 = equal_from (slice_index need a) 1 y in omega (arith, same_place, one))) (in_popped x a work j)
+        by_test true y j = ⊎_elim known (λ (q : a ≡ x). subst (λ z. (z < length start) × (slice_index next z ≡ 0)) q (g.starts e l, let one : slice_index need a ≡ 1 = eqb-true (slice_index need a) 1 y in omega (arith, same_place, one))) (in_popped x a work j)
         by_test false y j = known j
 
 -- ---- the work gets less
@@ -339,8 +324,8 @@ weight_step zero true e = absurd (let bad : false ≡ true = e in cc)
 weight_step zero false e = omega arith
 weight_step (suc zero) true e = omega arith
 weight_step (suc zero) false e = absurd (let bad : true ≡ false = e in cc)
-weight_step (suc (suc v)) true e = absurd (let bad : suc (suc v) ≡ 1 = equal_from (suc (suc v)) 1 e in omega (arith, bad))
-weight_step (suc (suc v)) false e = rw (is_below 0 (suc (suc v) - 1) (omega arith), is_below 0 (suc (suc v)) (omega arith)) (omega arith)
+weight_step (suc (suc v)) true e = absurd (let bad : suc (suc v) ≡ 1 = eqb-true (suc (suc v)) 1 e in omega (arith, bad))
+weight_step (suc (suc v)) false e = rw (lt-ltb 0 (suc (suc v) - 1) (omega arith), lt-ltb 0 (suc (suc v)) (omega arith)) (omega arith)
 
 -- ---- the nodes that need nothing
 
@@ -360,7 +345,7 @@ zeros_only need zero a i = absurd i
 zeros_only need (suc n) a i = by_test (slice_index need n == 0) refl i (λ j. zeros_only need n a j)
   where
     by_test : (t : Bool) → (slice_index need n == 0) ≡ t → IsIn a (if t then zeros need n ++ n ∷ [] else zeros need n) → (IsIn a (zeros need n) → (a < n) × (slice_index need a ≡ 0)) → (a < suc n) × (slice_index need a ≡ 0)
-    by_test true w i more = ⊎_elim (λ j. (let l : a < n = (more j).0 in omega (arith, l), (more j).1)) (λ (q : n ≡ a). (omega (arith, q), subst (λ x. slice_index need x ≡ 0) q (equal_from (slice_index need n) 0 w))) (in_popped a n (zeros need n) i)
+    by_test true w i more = ⊎_elim (λ j. (let l : a < n = (more j).0 in omega (arith, l), (more j).1)) (λ (q : n ≡ a). (omega (arith, q), subst (λ x. slice_index need x ≡ 0) q (eqb-true (slice_index need n) 0 w))) (in_popped a n (zeros need n) i)
     by_test false w i more = (let l : a < n = (more i).0 in omega (arith, l), (more i).1)
 
 -- ---- for the loops

@@ -4,11 +4,11 @@ use Rattle.std.specs.Prelude.{◌==◌, ◌↔◌, slice_index, slice_index_or, 
 use Rattle.std.proofs.lemmas.List.{length-map, get_or-map, get_or_past, take-append-le}
 use Rattle.std.proofs.Math.Seq.{take-length}
 use Rattle.std.specs.List.{AllByRecursion, list_any, IsDistinct}
-use Rattle.std.proofs.lemmas.Bool.{cases_eq, cases_lt}
+use Rattle.std.proofs.lemmas.Bool.{cases_eq, cases_lt, eq-eqb, eqb-true}
 use Rattle.std.proofs.lemmas.Map.Steps.{length-le_from_distinct_below}
 use Rattle.graph_closure.specs.LeastSet.{one_if, chosen, Settles, settle, IsSpread, IsGraph}
 use Rattle.graph_closure.specs.Walks.{IsEdge, Walks, Leads, LeadsOn, Recurs, FindsLeading, FindsRecurring, AreLeading, AreRecurring, AreDegrees, need_unless}
-use Rattle.graph_closure.proofs.SpreadLaws.{equal_from, differ_from, equal_to, chosen-le}
+use Rattle.graph_closure.proofs.SpreadLaws.{differ_from, chosen-le}
 
 -- ---- counts and edges
 
@@ -22,7 +22,7 @@ some_chosen from h a (suc m) l = by_test (slice_index from m == a) (h m) refl re
 
     by_test : (t u : Bool) → (slice_index from m == a) ≡ t → h m ≡ u → 0 < chosen from h a m + one_if (t && u) → (0 < chosen from h a m → (e : ℕ) × (e < m) × (slice_index from e ≡ a) × (h e ≡ true))
         → (e : ℕ) × (e < suc m) × (slice_index from e ≡ a) × (h e ≡ true)
-    by_test true true v w k more = (m, omega arith, equal_from (slice_index from m) a v, w)
+    by_test true true v w k more = (m, omega arith, eqb-true (slice_index from m) a v, w)
     by_test true false v w k more = less (more (omega (arith, k)))
     by_test false u v w k more = less (more (omega (arith, k)))
 
@@ -36,7 +36,7 @@ some_left from h a (suc m) l = by_test (slice_index from m == a) (h m) refl refl
 
     by_test : (t u : Bool) → (slice_index from m == a) ≡ t → h m ≡ u → chosen from h a m + one_if (t && u) < chosen from (λ e. true) a m + one_if (t && true)
         → (chosen from h a m < chosen from (λ e. true) a m → (e : ℕ) × (e < m) × (slice_index from e ≡ a) × (h e ≡ false)) → (e : ℕ) × (e < suc m) × (slice_index from e ≡ a) × (h e ≡ false)
-    by_test true false v w k more = (m, omega arith, equal_from (slice_index from m) a v, w)
+    by_test true false v w k more = (m, omega arith, eqb-true (slice_index from m) a v, w)
     by_test true true v w k more = less (more (omega (arith, k)))
     by_test false u v w k more = less (more (omega (arith, k)))
 
@@ -44,7 +44,7 @@ some_left from h a (suc m) l = by_test (slice_index from m == a) (h m) refl refl
 counts_one : (from : List ℕ) (h : ℕ → Bool) (a m e : ℕ) → e < m → slice_index from e ≡ a → h e ≡ true → 0 < chosen from h a m
 counts_one from h a zero e l f c = absurd (omega (arith, l))
 counts_one from h a (suc m) e l f c = ⊎_elim
-    (λ (q : e ≡ m). let here : slice_index from m ≡ a = subst (λ x. slice_index from x ≡ a) q f in let on : h m ≡ true = subst (λ x. h x ≡ true) q c in rw (equal_to (slice_index from m) a here, on) (omega arith))
+    (λ (q : e ≡ m). let here : slice_index from m ≡ a = subst (λ x. slice_index from x ≡ a) q f in let on : h m ≡ true = subst (λ x. h x ≡ true) q c in rw (eq-eqb (slice_index from m) a here, on) (omega arith))
     (λ (q : e ≢ m). let less : 0 < chosen from h a m = counts_one from h a m e (omega (arith, l, q)) f c in omega (arith, less))
     (cases_eq e m)
 
@@ -88,8 +88,8 @@ module _ (from to start : List ℕ) (g : IsGraph (length start) from to) (one : 
 
   found : (a : ℕ) (ns : List ℕ) (b : ℕ) → Walks from to a ns b → slice_index start b ≡ 0 → Settles from to start a
   found a [] b w z = settle a (λ e. false) (λ e l c. absurd (let bad : false ≡ true = c in cc)) (rw w (omega (arith, z)))
-  found a (n ∷ ns) b w z = settle a (λ k. k == w.0.0) (λ e l c. let q : e ≡ w.0.0 = equal_from e w.0.0 c in rw (q, w.0.3) (found n ns b w.1 z))
-      (let some : 0 < chosen from (λ k. k == w.0.0) a (length from) = counts_one from (λ k. k == w.0.0) a (length from) w.0.0 w.0.1 w.0.2 (equal_to w.0.0 w.0.0 refl) in omega (arith, one a, some))
+  found a (n ∷ ns) b w z = settle a (λ k. k == w.0.0) (λ e l c. let q : e ≡ w.0.0 = eqb-true e w.0.0 c in rw (q, w.0.3) (found n ns b w.1 z))
+      (let some : 0 < chosen from (λ k. k == w.0.0) a (length from) = counts_one from (λ k. k == w.0.0) a (length from) w.0.0 w.0.1 w.0.2 (eq-eqb w.0.0 w.0.0 refl) in omega (arith, one a, some))
 
 pub finds_leading : FindsLeading
 finds_leading from to start need g s one a l = (λ z. leading from to start g one a l ((s.exact a l).0 z), λ r. (s.exact a l).1 (found from to start g one a r.2.0 r.0 r.2.1 r.3))
@@ -129,7 +129,7 @@ module _ (from to start : List ℕ) (g : IsGraph (length start) from to) (degree
     member a (v ∷ vs) P all e = here (eqb a v) refl e (λ q. member a vs P all.1 q)
       where
         here : (t : Bool) → eqb a v ≡ t → (t || list_any (eqb a) vs) ≡ true → (list_any (eqb a) vs ≡ true → P a) → P a
-        here true x q more = subst P (sym (equal_from a v x)) all.0
+        here true x q more = subst P (sym (eqb-true a v x)) all.0
         here false x q more = more q
 
     each : (a b : ℕ) (vs : List ℕ) → IsEdge from to a b → AllByRecursion (λ v. LeadsOn from to v a) vs → AllByRecursion (λ v. LeadsOn from to v b) vs
@@ -189,10 +189,10 @@ module _ (from to : List ℕ) (into : List Bool) (need : List ℕ) (g : IsGraph 
         let low : a < length need = rw (s.long, starts_long) l in
         let is : slice_index_or (map (λ n. n == 0) need) a false ≡ (slice_index need a == 0) = get_or-map (λ n. n == 0) need a 0 false low in
         rw is (
-          λ e. let r = (found_at a l).0 (equal_from (slice_index need a) 0 e) in
+          λ e. let r = (found_at a l).0 (eqb-true (slice_index need a) 0 e) in
               let inside : r.0 < length into = rw (← starts_long) r.1 in
               (r.0, inside, r.2, (none_at (slice_index_or into r.0 false)).0 (sym (start_at r.0 inside) ∙ r.3)),
-          λ r. equal_to (slice_index need a) 0 ((found_at a l).1 (r.0, rw starts_long r.1, r.2, start_at r.0 r.1 ∙ (none_at (slice_index_or into r.0 false)).1 r.3)),
+          λ r. eq-eqb (slice_index need a) 0 ((found_at a l).1 (r.0, rw starts_long r.1, r.2, start_at r.0 r.1 ∙ (none_at (slice_index_or into r.0 false)).1 r.3)),
         );
   }
 
@@ -201,7 +201,7 @@ module _ (from to : List ℕ) (n : ℕ) (start need : List ℕ) (g : IsGraph n f
   cycle_at a l = finds_recurring from to start need (rw d.long g) s (λ b m. d.each b (rw (← d.long) m)) a (rw d.long l)
 
   by_need : (a : ℕ) → a < n → (b : Bool) → (slice_index need a == 0) ≡ b → (not b ≡ true) ↔ Recurs from to a
-  by_need a l true e = (λ f. absurd (let bad : false ≡ true = f in cc), λ r. absurd ((cycle_at a l).0 (equal_from (slice_index need a) 0 e) r))
+  by_need a l true e = (λ f. absurd (let bad : false ≡ true = f in cc), λ r. absurd ((cycle_at a l).0 (eqb-true (slice_index need a) 0 e) r))
   by_need a l false e = (λ f. (cycle_at a l).1 (differ_from (slice_index need a) 0 e), λ r. refl)
 
   pub cycles_found : AreRecurring from to n (map (λ k. not (k == 0)) need)
@@ -239,7 +239,7 @@ counted_more from counts n e long upto inside a l = rw chosen_next (by_test (sli
   where
     by_test : (t : Bool) → (slice_index from e == a) ≡ t → slice_index (slice_set counts (slice_index from e) (slice_index counts (slice_index from e) + 1)) a ≡ chosen from (λ k. true) a e + one_if t
     by_test true w =
-        let same : slice_index from e ≡ a = equal_from (slice_index from e) a w in
+        let same : slice_index from e ≡ a = eqb-true (slice_index from e) a w in
         let low : a < length counts = omega (arith, l, long) in
         rw same (rw get_or-set_same (ap (λ k. k + 1) (upto a l)))
     by_test false w = let other : a ≢ slice_index from e = λ q. differ_from (slice_index from e) a w (sym q) in rw get_or-set_other (let was : slice_index counts a ≡ chosen from (λ k. true) a e = upto a l in was ∙ none_more (chosen from (λ k. true) a e))

@@ -16,17 +16,12 @@ use Rattle.table_runner.specs.Accessing.{made}
 use Rattle.table_runner.specs.Handed.{Handed, IsEventOf, IsTableOf, event_at}
 use Rattle.table_runner.specs.Running.{AreSame}
 use Rattle.green_runner.specs.Passes.{HasTurn, HaveTurns, MakeEvents}
+use Rattle.table_runner.proofs.SameHands.{same_itself}
 
 -- ---- one event
 
-pub same_itself : (h : Handed) → AreSame h h
-same_itself h = record { program = refl; cfg = refl; table = refl; numbers = λ u. refl }
-
 pub same_both : (h k l : Handed) → AreSame h k → AreSame k l → AreSame h l
 same_both h k l a b = record { program = b.program ∙ a.program; cfg = b.cfg ∙ a.cfg; table = b.table ∙ a.table; numbers = λ u. b.numbers u ∙ a.numbers u }
-
-pub table_same : (table : TableId) (c : MarkedProgram) (cfg : Config) (h k : Handed) → AreSame h k → IsTableOf table c cfg h → IsTableOf table c cfg k
-table_same table c cfg h k same was = (was.0 ∙ sym same.table, was.1 ∙ sym same.program, was.2 ∙ sym same.cfg)
 
 event_same : (h : Handed) (t : ℕ) (after : Handed) → IsEventOf h t after → AreSame h after
 event_same h t after e = subst (AreSame h) (sym e.leaves) (record { program = refl; cfg = refl; table = refl; numbers = at })

@@ -16,7 +16,7 @@ use Rattle.table_runner.specs.Handed.{Handed, IsTableOf}
 use Rattle.table_runner.specs.Running.{AreSame, RestOf}
 use Rattle.table_runner.specs.Sharing.{AreJoined}
 use Rattle.green_runner.specs.Shares.{AreShared, AreTogether, holds}
-use Rattle.green_runner.proofs.Passes.{table_same}
+use Rattle.table_runner.proofs.SameHands.{of_still}
 
 -- ---- two hands that are joined
 
@@ -83,7 +83,7 @@ pub tables_still : (table : TableId) (c : MarkedProgram) (cfg : Config) (xs ys :
     → ((i : ℕ) (d : Handed) → i < length xs → AreSame (slice_index_or xs i d) (slice_index_or ys i d))
     → All (IsTableOf table c cfg) xs → All (IsTableOf table c cfg) ys
 tables_still table c cfg xs ys e k of i d lt =
-    table_same table c cfg (slice_index_or xs i d) (slice_index_or ys i d) (k i d (omega (arith, lt, e))) (of i d (omega (arith, lt, e)))
+    of_still table c cfg (slice_index_or xs i d) (slice_index_or ys i d) (k i d (omega (arith, lt, e))) (of i d (omega (arith, lt, e)))
 
 -- ---- their hands are taken in
 

@@ -4,6 +4,7 @@ use Rattle.std.specs.Prelude.{◌==◌, nat_lt, if◌then◌else◌, slice_get, 
 use Rattle.std.specs.List.{list_any, filter, filter_map, cons_option}
 use Rattle.std.proofs.lemmas.Bool.Decides.{nat_tests}
 use Rattle.std.proofs.lemmas.Option.{slice_get_within, same_Some}
+use Rattle.std.proofs.lemmas.Bool.{eq-eqb, lt-ltb, eqb-true, or_right, or_cases}
 use Rattle.jvm_types.specs.Numbers.{has_number}
 use Rattle.jvm_types.specs.CodeTable.{can_throw}
 use Rattle.jvm_types.specs.Verifying.{edges, covers, covering, IsLaidOut}
@@ -32,6 +33,7 @@ use Rattle.guard_analysis.specs.BlockWalks.{handler_pcs, catch_pcs, way_pcs, way
 use Rattle.guard_analysis.specs.SectionGrades.{depth_on_this, depth_at, AreGrades, IsBlockMark, section_in}
 use Rattle.guard_analysis.proofs.CallEdges.{with_tags, frames_there}
 use Rattle.guard_analysis.proofs.SectionMarks.{has_earliest, has_elsewhere}
+use Rattle.frozen_classes.proofs.KeptInside.{stands_to}
 
 -- ---- lists
 
@@ -67,27 +69,13 @@ mapped_in f [] x j i e = absurd i
 mapped_in f (y ∷ xs) x j (inl q) e = let here : f y ≡ Some j = ap f q ∙ e in subst (λ o. IsIn j (cons_option o (filter_map f xs))) (sym here) (inl refl)
 mapped_in f (y ∷ xs) x j (inr i) e = cons_in (f y) (filter_map f xs) j (mapped_in f xs x j i e)
 
-equal_from : (x b : ℕ) → (x == b) ≡ true → x ≡ b
-equal_from x b = grind (arith, nat_tests)
-
-equal_to : (x b : ℕ) → x ≡ b → (x == b) ≡ true
-equal_to x b = grind (arith, nat_tests)
-
-or_parts : (b c : Bool) → (b || c) ≡ true → (b ≡ true) ⊎ (c ≡ true)
-or_parts true c e = inl refl
-or_parts false c e = inr e
-
-or_right : (b c : Bool) → c ≡ true → (b || c) ≡ true
-or_right true c e = refl
-or_right false c e = e
-
 number_in : (xs : List ℕ) (x : ℕ) → has_number xs x ≡ true → IsIn x xs
 number_in [] x e = absurd (let bad : false ≡ true = e in cc)
-number_in (y ∷ xs) x e = ⊎_elim (λ k. inl (equal_from y x k)) (λ k. inr (number_in xs x k)) (or_parts (y == x) (has_number xs x) e)
+number_in (y ∷ xs) x e = ⊎_elim (λ k. inl (eqb-true y x k)) (λ k. inr (number_in xs x k)) (or_cases (y == x) (has_number xs x) e)
 
 in_number : (xs : List ℕ) (x : ℕ) → IsIn x xs → has_number xs x ≡ true
 in_number [] x i = absurd i
-in_number (y ∷ xs) x (inl e) = rw (equal_to y x e) refl
+in_number (y ∷ xs) x (inl e) = rw (eq-eqb y x e) refl
 in_number (y ∷ xs) x (inr i) = or_right (y == x) (has_number xs x) (in_number xs x i)
 
 -- ---- handlers
@@ -110,11 +98,11 @@ same_pcs at (h ∷ rows) = by_test (covers at h) (catches_all h) refl (same_pcs 
 
 row_in : (rows : List Row) (pc : ℕ) → leads_to pc rows ≡ true → IsIn pc (pcs_of rows)
 row_in [] pc e = absurd (let bad : false ≡ true = e in cc)
-row_in (h ∷ rows) pc e = ⊎_elim (λ k. inl (equal_from h.handler pc k)) (λ k. inr (row_in rows pc k)) (or_parts (h.handler == pc) (leads_to pc rows) e)
+row_in (h ∷ rows) pc e = ⊎_elim (λ k. inl (eqb-true h.handler pc k)) (λ k. inr (row_in rows pc k)) (or_cases (h.handler == pc) (leads_to pc rows) e)
 
 in_row : (rows : List Row) (pc : ℕ) → IsIn pc (pcs_of rows) → leads_to pc rows ≡ true
 in_row [] pc i = absurd i
-in_row (h ∷ rows) pc (inl e) = rw (equal_to h.handler pc e) refl
+in_row (h ∷ rows) pc (inl e) = rw (eq-eqb h.handler pc e) refl
 in_row (h ∷ rows) pc (inr i) = or_right (h.handler == pc) (leads_to pc rows) (in_row rows pc i)
 
 catch_same : (m : MethodInfo) (insn : Insn) → catch_pcs m insn ≡ pcs_of (catchers m insn)
@@ -140,9 +128,6 @@ some_at : (o : Option Insn) (pc : ℕ) → IsSomeAnd o (λ insn. insn.pc ≡ pc)
 some_at (Some insn) pc h = (insn, refl, h)
 some_at None pc h = absurd h
 
-at_some : (o : Option Insn) (insn : Insn) → o ≡ Some insn → IsSomeAnd o (λ x. x.pc ≡ insn.pc)
-at_some o insn e = rw e refl
-
 -- ---- a reached instruction
 
 is_reached_at : (depth : ℕ) (oi : Option Insn) (ot : Option Target) (of : Option (Option TagShape)) → deep_at depth oi ot of ≡ true → (insn : Insn) × (target : Target) × (f : TagShape) × (oi ≡ Some insn) × (ot ≡ Some target) × (of ≡ Some (Some f)) × (depth < length f.held)
@@ -151,9 +136,6 @@ is_reached_at depth (Some insn) (Some target) (Some None) e = absurd (let bad : 
 is_reached_at depth (Some insn) (Some target) None e = absurd (let bad : false ≡ true = e in cc)
 is_reached_at depth (Some insn) None of e = absurd (let bad : false ≡ true = e in cc)
 is_reached_at depth None ot of e = absurd (let bad : false ≡ true = e in cc)
-
-is_below : (n k : ℕ) → n < k → nat_lt n k ≡ true
-is_below n k = grind (arith, nat_tests)
 
 pub entry_parts : (oi : Option Insn) (ot : Option Target) (of : Option (Option TagShape)) (depth : ℕ) → depth_on_this oi ot of ≡ Some depth
     → (insn : Insn) × (target : Target) × (f : TagShape) × (oi ≡ Some insn) × (ot ≡ Some target) × (of ≡ Some (Some f)) × (slice_index_or f.stack 0 Untagged ≡ This) × (length f.held ≡ depth)
@@ -193,7 +175,7 @@ module _ (p : Program) (tags : List Tags) (is : IsProgram p) (mi : ℕ) (m : Met
   stands i insn target f a b c = record { in_program = at_m; in_code = a; names = b; frames = t.frames; of_method = frames_there p tags is mi t at_t; frame = c }
 
   deep_of : (depth i : ℕ) → IsDeep p (tagged_by tags) mi depth i → is_deep m t.frames depth i ≡ true
-  deep_of depth i d = rw (code_is i d.m d.insn d.target d.f d.at, target_is i d.m d.insn d.target d.f d.at, frame_is i d.m d.insn d.target d.f d.at) (is_below depth (length d.f.held) d.deep)
+  deep_of depth i d = rw (code_is i d.m d.insn d.target d.f d.at, target_is i d.m d.insn d.target d.f d.at, frame_is i d.m d.insn d.target d.f d.at) (lt-ltb depth (length d.f.held) d.deep)
 
   of_deep : (depth i : ℕ) → is_deep m t.frames depth i ≡ true → IsDeep p (tagged_by tags) mi depth i
   of_deep depth i e =
@@ -204,7 +186,7 @@ module _ (p : Program) (tags : List Tags) (is : IsProgram p) (mi : ℕ) (m : Met
   edge_way i j e =
       let from : slice_get m.code i ≡ Some e.insn = code_is i e.m e.insn e.target e.f e.from in
       let to : slice_get m.code j ≡ Some e.other = code_is j e.m e.other e.next e.g e.to in
-      let found : number_at m.code e.other.pc ≡ Some j = (exact m e.other.pc j laid).1 (at_some (slice_get m.code j) e.other to) in
+      let found : number_at m.code e.other.pc ≡ Some j = (exact m e.other.pc j laid).1 (stands_to (slice_get m.code j) e.other to) in
       let pcs : IsIn e.other.pc (way_pcs m e.insn) = goes_in p m e.insn e.target e.f e.other e.h (subst (λ (x : MethodInfo). Goes p x e.insn e.target e.f e.other e.h) (method_is e.m e.from.in_program) e.goes) in
       subst (λ o. IsIn j (ways_at m o)) (sym from) (mapped_in (λ pc. number_at m.code pc) (way_pcs m e.insn) e.other.pc j pcs found)
 

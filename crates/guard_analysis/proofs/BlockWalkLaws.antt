@@ -1,7 +1,7 @@
 -- A walk finds exactly the own instructions of a block.
 use Rattle.std.proofs.Common.{◌≡◌, ℕ, ◌+◌, ◌*◌, ◌<◌, ◌≤◌, ◌≢◌, Bool, true, false, not, ◌&&◌, List, [], ◌∷◌, ◌++◌, length, Option, Some, None, refl, sym, ap, subst, ◌∙◌, arith, ⊎_elim, inl, inr, get_or-set_same, get_or-set_other, cond}
 use Rattle.std.specs.Prelude.{◌==◌, nat_lt, if◌then◌else◌, slice_get, slice_set, slice_index}
-use Rattle.std.proofs.lemmas.Bool.{cases_eq}
+use Rattle.std.proofs.lemmas.Bool.{cases_eq, eqb-true, ltb-true}
 use Rattle.std.proofs.lemmas.Bool.Decides.{nat_tests}
 use Rattle.std.proofs.lemmas.List.{length-append, length-set, get_or_append_left, get_or_push}
 use Rattle.std.proofs.lemmas.List.Sums.{sum_by-set}
@@ -18,12 +18,6 @@ has_more xs x y h = let low : h.0 < length xs = h.1 in (h.0, rw length-append (o
 
 has_last : (xs : List ℕ) (y : ℕ) → Has (xs ++ y ∷ []) y
 has_last xs y = (length xs, rw length-append (omega arith), get_or_push xs y 0 (length xs) refl)
-
-equal_from : (x b : ℕ) → (x == b) ≡ true → x ≡ b
-equal_from x b = grind (arith, nat_tests)
-
-less_from : (x b : ℕ) → nat_lt x b ≡ true → x < b
-less_from x b = grind (arith, nat_tests)
 
 -- ---- what a visit leaves
 
@@ -112,14 +106,14 @@ module _ (stamp n : ℕ) (P : ℕ → Type 0) where
 
       by_test : (b c : Bool) → nat_lt j (length w.seen) ≡ b → (slice_index w.seen j == stamp) ≡ c → After true w j (if b && not c then record { seen = slice_set w.seen j stamp; own = w.own ++ j ∷ [] } else w)
       by_test true false e f =
-          let inside : j < length w.seen = less_from j (length w.seen) e in
+          let inside : j < length w.seen = ltb-true j (length w.seen) e in
           let unlike : slice_index w.seen j ≢ stamp = grind (arith, nat_tests) in
           record {
             grows = put_grows stamp w j inside unlike;
             good = record { long = length-set w.seen j stamp ∙ g.long; low = put_low stamp w j inside unlike g.low; marked = put_marked stamp w j inside unlike g.marked; own = own_more w.own j g.own (h refl).1 };
             found = λ e. has_last w.own j;
           }
-      by_test true true e f = record { grows = grows_none stamp w; good = g; found = λ e. g.marked j (equal_from (slice_index w.seen j) stamp f) }
+      by_test true true e f = record { grows = grows_none stamp w; good = g; found = λ e. g.marked j (eqb-true (slice_index w.seen j) stamp f) }
       by_test false c e f = absurd (let inside : j < n = (h refl).0 in let test : nat_lt j (length w.seen) ≡ true = rw g.long (less_to j n inside) in let bad : true ≡ false = sym test ∙ e in cc)
         where
           less_to : (x b : ℕ) → x < b → nat_lt x b ≡ true

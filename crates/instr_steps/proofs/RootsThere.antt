@@ -3,6 +3,7 @@ use Rattle.std.proofs.Common.{◌≡◌, ◌<◌, ℕ, zero, suc, ◌+◌, Bool,
 use Rattle.std.specs.Prelude.{◌==◌, ◌||◌, IfSome, IsTrue, slice_get, if◌then◌else◌, codes}
 use Rattle.std.specs.List.{AllByRecursion}
 use Rattle.std.proofs.lemmas.Bool.Decides.{nat_tests}
+use Rattle.std.proofs.lemmas.Bool.{eqb-true}
 use Rattle.lists.proofs.ListLaws.{all_weaker}
 use Rattle.jvm_types.specs.Members.{is_class_init_name}
 use Rattle.jvm_types.specs.Numbers.{has_number}
@@ -17,11 +18,8 @@ all_of : (P : ℕ → Type 0) (xs ys : List ℕ) → AllByRecursion P xs → All
 all_of P [] ys a b = b
 all_of P (x ∷ xs) ys a b = (a.0, all_of P xs ys a.1 b)
 
-same_number : (x y : ℕ) → (x == y) ≡ true → x ≡ y
-same_number x y t = grind (arith, nat_tests, t)
-
 first_or_later : (P : ℕ → Type 0) (x : ℕ) (xs : List ℕ) (y : ℕ) (t : Bool) → (x == y) ≡ t → P x → (has_number xs y ≡ true → P y) → (t || has_number xs y) ≡ true → P y
-first_or_later P x xs y true t first later e = subst P (same_number x y t) first
+first_or_later P x xs y true t first later e = subst P (eqb-true x y t) first
 first_or_later P x xs y false t first later e = later e
 
 picked : (P : ℕ → Type 0) (xs : List ℕ) (y : ℕ) → AllByRecursion P xs → has_number xs y ≡ true → P y

@@ -15,9 +15,7 @@ use Rattle.laws_states.specs.HeapFacts.{HeapFacts}
 use Rattle.laws_states.specs.HeapLaws.{StartHasHeap}
 use Rattle.laws_states.proofs.Lists.{contained_got}
 use Rattle.laws_objects.specs.ConstructionLaws.{no_builders, StartHasConstruction}
-
-none_built : {X : Type 0} (x : X) → None ≡ Some x → ⊥
-none_built x e = cc
+use Rattle.machine_types.proofs.FactsAtStart.{none_built}
 
 module _ (c : MarkedProgram) (cfg : Config) (marked : IsMarked c) (heap : HeapFacts c (start_objects c.program) (start c cfg)) where
   kind_keeps : (kind : Kind) (v : ℕ) → KindHolds (HasClass (start_objects c.program)) kind v → KindKeeps no_builders (slice_index (start c cfg).words NEXT_FREE_WORD) kind v

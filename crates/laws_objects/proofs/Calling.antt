@@ -38,7 +38,6 @@ use Rattle.machine_types.specs.Worlds.{Made, Begun, Builder, builder, World, IsF
 use Rattle.laws_threads.proofs.Callers.{row_of_call}
 use Rattle.laws_threads.proofs.Calls.{CallRow, deepest_first}
 use Rattle.laws_threads.proofs.Landing.{rules_at}
-use Rattle.laws_threads.proofs.Lists.{all_get}
 use Rattle.laws_objects.proofs.BuiltEffects.{StartsNone}
 use Rattle.laws_objects.proofs.CalledFrames.{below_moved, waits_on, caller_waits, begun_world, old_begun, young_waits, below_begun, ReceiverAt, start_slot, arguments_start, none_started, none_append}
 use Rattle.laws_objects.proofs.EnteredFrames.{ArgsOld, args_map, static_args, instance_args, static_enters, instance_enters}
@@ -47,6 +46,7 @@ use Rattle.laws_objects.proofs.Moves.{Steps, stays, StartsOld, Suit, suit_at}
 use Rattle.laws_objects.proofs.Operands.{TakenOld, is_getfield, takes_old}
 use Rattle.laws_objects.proofs.Slots.{plainly}
 use Rattle.laws_objects.proofs.WorldChanges.{none_some, given_here, world_given, goes_given, lost_given, not_lost}
+use Rattle.laws_programs.proofs.LocalGoing.{at_index}
 
 -- ---- calls
 
@@ -255,7 +255,7 @@ module _ (c : MarkedProgram) (marked : IsMarked c) (frozen : ℕ → Bool) (are 
 
               by_init : (b : Bool) → is_init m ≡ b → ⊥
               by_init true i = own (built frozen m i ∙ sym (ap frozen same) ∙ e)
-              by_init false i = all_get (λ u. u ≢ types.This) k.stands.types.stack (length (arguments called)) types.This (no_this_at c marked frozen are f k.stands i).stack type refl
+              by_init false i = at_index (λ u. u ≢ types.This) k.stands.types.stack (length (arguments called)) types.This (no_this_at c marked frozen are f k.stands i).stack type refl
           by_class false q h =
               let object : called.class ≡ OBJECT_CLASS = grind (arith, nat_tests, h) in
               let file : 17 ≤ called.class = (marked.checked.program.methods number called there).class.0 in

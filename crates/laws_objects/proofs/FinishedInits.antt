@@ -24,8 +24,6 @@ use Rattle.machine_types.specs.declared.phase.Phase.TheVariants as phases
 use Rattle.laws_threads.specs.PartLaws.{counted_next}
 use Rattle.laws_threads.specs.StateLaws.{counted_after}
 use Rattle.laws_threads.proofs.Landing.{stand_top}
-use Rattle.laws_states.proofs.EventFacts.{got_when_set}
-use Rattle.laws_states.proofs.InstructionsFollow.{frames_are}
 use Rattle.laws_states.proofs.Lists.{contained_got}
 use Rattle.laws_states.specs.ChangeLaws.{all_objects, run_objects}
 use Rattle.laws_states.specs.HeapFacts.{objects_after}
@@ -36,6 +34,8 @@ use Rattle.laws_objects.proofs.FrameChanges.{frame_at, under, top_here, in_place
 use Rattle.laws_objects.proofs.ThreadMoves.{BasedIn}
 use Rattle.laws_objects.proofs.UnreturnedInits.{IsYoung, HasInit, init_stays, init_splits, Splits, HasBack, IsInside, world_begun, put_back_low, based_of, has_back_on, back_frames, away_frames}
 use Rattle.laws_objects.proofs.Unused.{others_strange, uses_not, places_have_not}
+use Rattle.machine_types.proofs.Lists.{got_when_set}
+use Rattle.machine_types.proofs.PlainPartLaws.{frames_are}
 
 -- ---- the thread behind an event of its own
 

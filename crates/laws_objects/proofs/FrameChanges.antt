@@ -47,9 +47,9 @@ use Rattle.machine_types.specs.declared.phase.Toward.TheVariants as towards
 use Rattle.laws_threads.specs.EntryFrames.{frames_in, KeepsEntry}
 use Rattle.laws_threads.proofs.AttemptMoves.{put_back_top}
 use Rattle.laws_threads.proofs.Inside.{base_below}
-use Rattle.laws_states.proofs.InstructionsFollow.{frames_are}
 use Rattle.laws_threads.proofs.EntryKept.{steps_kept, throws_kept, leaves_kept}
 use Rattle.laws_objects.proofs.ThreadMoves.{AreKnown, AttemptFrom, from_same, known_at, known_with, known_without, goes_frames, goes_attempt}
+use Rattle.machine_types.proofs.PlainPartLaws.{frames_are}
 
 -- ---- the frame that has so many below it
 

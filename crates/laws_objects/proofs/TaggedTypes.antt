@@ -33,6 +33,7 @@ use Rattle.checked_program.specs.declared.tag.Tag.TheVariants.{Untagged, This as
 use Rattle.laws_sections.proofs.TagLocal.{acts_land, start_at}
 use Rattle.laws_sections.proofs.TagOrder.{tag_order}
 use Rattle.laws_sections.proofs.VisitsLocal.{Lands, ActLands, IsClosed, local}
+use Rattle.laws_programs.proofs.VisitsEnd.{initialised_length}
 
 -- ---- any such fact
 
@@ -133,12 +134,9 @@ meets_long (t ∷ ts) (u ∷ us) e = ap suc (meets_long ts us (omega (arith, e))
 meets_many : (g : TypeFrame) (f h : TagShape) → AreAsMany g f → AreAsMany g h → AreAsMany g (tag_meeting.meet f h)
 meets_many g f h a b = record { stack = meets_long f.stack h.stack (a.stack ∙ sym b.stack) ∙ a.stack; locals = meets_long f.locals h.locals (a.locals ∙ sym b.locals) ∙ a.locals }
 
-initialised_long : (t : VType) (class : ℕ) (ts : List VType) → length (initialised t class ts) ≡ length ts
-initialised_long t class ts = length-map ts _
-
 after_start_many : (o : Option (VType × ℕ)) (g : TypeFrame) (f : TagShape) → AreAsMany g f → AreAsMany (after_start o g) f
 after_start_many None g f k = k
-after_start_many (Some object) g f k = record { stack = k.stack ∙ sym (initialised_long object.0 object.1 g.stack); locals = k.locals ∙ sym (initialised_long object.0 object.1 g.locals) }
+after_start_many (Some object) g f k = record { stack = k.stack ∙ sym (initialised_length object.0 object.1 g.stack); locals = k.locals ∙ sym (initialised_length object.0 object.1 g.locals) }
 
 module _ {A B : Type 0} (a : A) (x : VType → A) (b : B) (y : VType → B) where
   stack_many : (r : OpRow) (s l : List A) (t k : List B) → length s ≡ length t → length (stack_after a x r s l) ≡ length (stack_after b y r t k)

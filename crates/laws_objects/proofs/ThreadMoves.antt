@@ -19,7 +19,6 @@ use Rattle.machine_types.specs.declared.phase.Phase.{Phase}
 use Rattle.machine_types.specs.declared.phase.Phase.TheVariants as phases
 use Rattle.laws_threads.specs.EntryFrames.{frames_in, KeepsEntry}
 use Rattle.laws_threads.specs.StructureLaws.{counted_by}
-use Rattle.laws_threads.proofs.Lists.{all_get}
 use Rattle.laws_states.proofs.Lists.{contained_got, contains_first, contains_more}
 use Rattle.laws_objects.proofs.CountedPhases.{PhaseFits}
 use Rattle.laws_objects.proofs.KeptFrames.{KeepsAt, phase_frames_kept, phase_kept, attempt_kept}
@@ -27,6 +26,7 @@ use Rattle.laws_objects.proofs.Moves.{Steps}
 use Rattle.laws_objects.proofs.Onwards.{OnwardKeeps}
 use Rattle.laws_objects.proofs.Views.{IsOwnIn, IsNoneOf, own_or_not, known_on}
 use Rattle.laws_objects.proofs.WorldChanges.{none_some, goes_same, goes_both, world_same, KeepsLost, lost_same}
+use Rattle.laws_programs.proofs.LocalGoing.{at_index}
 
 -- ---- what is kept of a thread, in a world that it leaves
 
@@ -62,7 +62,7 @@ all_of P [] f = tt
 all_of P (x ∷ xs) f = (f x (contains_first x xs), all_of P xs (λ y k. f y (contains_more x xs y k)))
 
 of_all : {A : Type 0} (P : A → Type 0) (xs : List A) → AllByRecursion P xs → (x : A) → Contains xs x → P x
-of_all P xs all x k = all_get P xs k.0 x all (contained_got xs x k)
+of_all P xs all x k = at_index P xs k.0 x all (contained_got xs x k)
 
 pub known_at : (w : World) (next t m : ℕ) (hs : List Held) (h : Held) → AreKnown w next t hs → held_at hs m ≡ Some h → IsOwnOrFinished w next t h.monitor
 known_at w next t m [] h k e = absurd (cc)

@@ -31,11 +31,12 @@ use Rattle.machine_types.specs.Threads.{Frame}
 use Rattle.machine_types.specs.Worlds.{World, IsFinished}
 use Rattle.laws_threads.proofs.Callers.{handler_in}
 use Rattle.laws_threads.proofs.Landing.{rules_at, tag_rules_at}
-use Rattle.laws_threads.proofs.FrameCalls.{static_is_free}
 use Rattle.laws_threads.proofs.TypedMoves.{handler_found}
 use Rattle.laws_objects.proofs.Landing.{inside_at, IsJoined, land}
 use Rattle.laws_objects.proofs.Slots.{slots_map, slots_map_if, slot_later, ref_slot}
 use Rattle.laws_programs.proofs.LocalGoing.{at_index}
+use Rattle.laws_programs.proofs.LocalEdges.{second_false}
+use Rattle.laws_programs.proofs.NewEdges.{none_of}
 
 -- whatever the frame was about to do, its stack says nothing more, nor do its slots with what a `new` made
 pub loosened : (c : MarkedProgram) (frozen : ℕ → Bool) (w : World) (next t h : ℕ) (turn : Turn) (f : Frame) → FrameKeeps c frozen w next t h turn f → FrameKeeps c frozen w next t h Throws f
@@ -59,10 +60,6 @@ frames_unwound c frozen w next t f [] k = tt
 frames_unwound c frozen w next t f (g ∷ fs) k = (loosened c frozen w next t (length fs) (WaitsFor f.receiver k.0.begun) g k.0.keeps, k.1)
 
 -- ---- where a row covers no local has what a `new` made
-
-none_of : (test : VType → Bool) (ts : List VType) → list_any test ts ≡ false → AllByRecursion (λ t. test t ≡ false) ts
-none_of test [] e = tt
-none_of test (t ∷ ts) e = let h = or_parts (test t) (list_any test ts) e in (h.0, none_of test ts h.1)
 
 found_covers : (pc class : ℕ) (rows : List Row) (r : Row) → handler_of pc class rows ≡ Some r → list_any (covers pc) rows ≡ true
 found_covers pc class [] r e = absurd (cc)
@@ -116,7 +113,7 @@ module _ (c : MarkedProgram) (marked : IsMarked c) (frozen : ℕ → Bool) (are 
       let b = list_any (covers k.insn.pc) k.method.rows && list_any is_new k.types.locals in
       let x = or_parts ((s || a) || b) (is_return k.insn.op && not k.types.ready) (rules_at c marked f k).rules.objects in
       let y = or_parts (s || a) b x.0 in
-      none_of is_new k.types.locals (static_is_free (list_any (covers k.insn.pc) k.method.rows) (list_any is_new k.types.locals) y.1 (found_covers k.insn.pc class k.method.rows r e))
+      none_of is_new k.types.locals (second_false (list_any (covers k.insn.pc) k.method.rows) (list_any is_new k.types.locals) y.1 (found_covers k.insn.pc class k.method.rows r e))
 
   pub handled : (f : Frame) (k : FrameKeeps c frozen w next t h Throws f) (x class : ℕ) (r : Row) → can_throw k.stands.insn.op ≡ true → IsFinished w next x → handler_of f.pc class k.stands.method.rows ≡ Some r
       → FrameKeeps c frozen w next t h Runs (record f { pc = r.handler; stack = x ∷ [] })

@@ -19,7 +19,6 @@ use Rattle.machine_types.specs.Worlds.{Begun, builder}
 use Rattle.machine_types.specs.declared.config.Config.{Config}
 use Rattle.machine_types.specs.declared.phase.Phase.{Phase}
 use Rattle.machine_types.specs.declared.phase.Phase.TheVariants as phases
-use Rattle.laws_states.proofs.EventFacts.{got_when_set}
 use Rattle.jvm_types.specs.declared.program.MethodInfo.{MethodInfo}
 use Rattle.laws_threads.specs.StateLaws.{counted_after}
 use Rattle.machine_types.specs.Settings.{AreSettings}
@@ -31,6 +30,7 @@ use Rattle.laws_objects.proofs.BuiltRuns.{TellsClass, tells_class, AreBuiltLaws,
 use Rattle.laws_objects.proofs.FrameChanges.{frame_at, counted_below, top_here, Stay, TriesGo, IsUnwound, FramesGo, frames_go}
 use Rattle.laws_objects.proofs.LosingInits.{init_begun}
 use Rattle.laws_objects.proofs.WorldChanges.{none_some}
+use Rattle.machine_types.proofs.Lists.{got_when_set}
 
 -- ---- the thread behind its event
 

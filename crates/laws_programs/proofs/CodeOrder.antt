@@ -19,6 +19,7 @@ use Rattle.jvm_types.specs.declared.program.Target.{Target}
 use Rattle.jvm_types.specs.declared.program.Target.TheVariants as targets
 use Rattle.jvm_types.proofs.EachAfter.{all_weaker}
 use Rattle.laws_programs.specs.CodeLaws.{MethodsAreLaidOut, PcsAscend, OneInsn, PcsAreShort, CodeStarts, NextFollows, Begins, StartsBegin, BranchesBegin, HandlersBegin, InsnsHaveTargets, ClassOfNew}
+use Rattle.laws_programs.proofs.LocalGoing.{at_index}
 
 -- ---- a method of a program is laid out
 
@@ -128,14 +129,9 @@ begin_at (x ∷ insns) pc h = by_test (x.pc == pc) refl h (begin_at insns pc)
 pub begin : StartsBegin
 begin m pc h = let found = begin_at m.code pc h in record { number = found.0; insn = found.1; there = found.2; starts = found.3 }
 
-each : {X : Type 0} (P : X → Type 0) (xs : List X) (i : ℕ) (x : X) → AllByRecursion P xs → slice_get xs i ≡ Some x → P x
-each P [] i x all e = absurd (cc)
-each P (y ∷ xs) zero x all e = let same : y ≡ x = cc in subst P same all.0
-each P (y ∷ xs) (suc i) x all e = each P xs i x all.1 e
-
 pub branches_begin : BranchesBegin
 branches_begin m i insn laid e =
-    all_weaker (IsStart m.code) (Begins m) (begin m) (branches_to insn.op) (each (λ (x : Insn). AllByRecursion (IsStart m.code) (branches_to x.op)) m.code i insn laid.code.targets e)
+    all_weaker (IsStart m.code) (Begins m) (begin m) (branches_to insn.op) (at_index (λ (x : Insn). AllByRecursion (IsStart m.code) (branches_to x.op)) m.code i insn laid.code.targets e)
 
 handlers_in : (m : MethodInfo) (size : ℕ) (rows : List Row) (handlers : List Handler) → AllZip (λ (r : Row) (h : Handler). (r.start ≡ h.start) × (r.end ≡ h.end) × (r.handler ≡ h.handler)) rows handlers
     → AllByRecursion (RowFits m.code size) handlers → AllByRecursion (λ (r : Row). Begins m r.handler) rows

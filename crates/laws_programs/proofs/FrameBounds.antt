@@ -3,7 +3,7 @@
 use Rattle.std.proofs.Common.{◌≡◌, ℕ, suc, ◌+◌, ◌-◌, ◌≤◌, Bool, true, false, cond, not, ◌&&◌, ◌||◌, List, [], ◌∷◌, length, Option, Some, None, refl, ap, ◌∙◌, arith, length-append, length-drop, length-set}
 use Rattle.std.specs.Prelude.{◌==◌}
 use Rattle.std.proofs.lemmas.List.{length-map}
-use Rattle.std.proofs.lemmas.Bool.{ltb-false}
+use Rattle.std.proofs.lemmas.Bool.{ltb-false, and_from, or_left}
 use Rattle.std.proofs.lemmas.Bool.Decides.{nat_tests}
 use Rattle.jvm_types.specs.ClassTree.{is_subclass}
 use Rattle.jvm_types.specs.CodeTable.{stack_after, locals_after, is_init}
@@ -19,6 +19,7 @@ use Rattle.jvm_types.specs.declared.program.Row.{Row}
 use Rattle.jvm_types.specs.declared.refusal.VRule.{VRule}
 use Rattle.jvm_types.specs.declared.refusal.VRule.TheVariants.{V1, V2, V3, V4, V7}
 use Rattle.jvm_types.specs.declared.class_numbers.TheConstants.{THROWABLE_CLASS}
+use Rattle.laws_programs.proofs.VisitsEndRanks.{meets_short}
 
 pub record IsBounded (m : MethodInfo) (f : TypeFrame) : Type 0 where
   pub locals : length f.locals ≡ length (entry_frame m).locals
@@ -35,19 +36,11 @@ meets_length [] us e = refl
 meets_length (t ∷ ts) [] e = absurd (omega arith)
 meets_length (t ∷ ts) (u ∷ us) e = ap suc (meets_length ts us (omega arith))
 
-meets_short : (ts us : List VType) → length (meets ts us) ≤ length ts
-meets_short [] us = omega arith
-meets_short (t ∷ ts) [] = omega arith
-meets_short (t ∷ ts) (u ∷ us) = omega (arith, meets_short ts us)
-
-both_true : (a b : Bool) → a ≡ true → b ≡ true → (a && b) ≡ true
-both_true a b e f = rw e f
-
 pub meet_bounded : (m : MethodInfo) (f g : TypeFrame) → IsBounded m f → IsBounded m g → IsBounded m (meet_frames f g)
 meet_bounded m f g b c = record {
   locals = omega (arith, meets_length f.locals g.locals (omega (arith, b.locals, c.locals)), b.locals);
   stack = omega (arith, meets_short f.stack g.stack, b.stack);
-  ready = λ e. both_true f.ready g.ready (b.ready e) (c.ready e);
+  ready = λ e. and_from f.ready g.ready (b.ready e) (c.ready e);
 }
 
 -- ---- the rules that hold
@@ -70,18 +63,15 @@ within_locals m insn r f e =
 
 -- ---- the frame after an instruction
 
-first_true : (a b : Bool) → a ≡ true → (a || b) ≡ true
-first_true a b e = rw e refl
-
 started_bounded : (m : MethodInfo) (object : Option (VType × ℕ)) (f : TypeFrame) → IsBounded m f → IsBounded m (after_start object f)
 started_bounded m None f b = b
 started_bounded m (Some object) f b = record {
   locals = length-map f.locals _ ∙ b.locals;
   stack = simp length-map b.stack;
-  ready = λ e. first_true f.ready (same_type object.0 This) (b.ready e);
+  ready = λ e. or_left f.ready (same_type object.0 This) (b.ready e);
 }
 
-locals_kept : (write : Option (ℕ × Given)) (stack locals : List VType) → length (locals_after Top (λ t. t) write stack locals) ≡ length locals
+pub locals_kept : (write : Option (ℕ × Given)) (stack locals : List VType) → length (locals_after Top (λ t. t) write stack locals) ≡ length locals
 locals_kept None stack locals = refl
 locals_kept (Some write) stack locals = length-set _ _ _
 

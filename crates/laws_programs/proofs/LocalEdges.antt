@@ -70,11 +70,11 @@ same_depth (Some g) depth e = equal (length g.stack) e
     equal : (n : ℕ) → not (n == depth) ≡ false → n ≡ depth
     equal n e = grind (arith, nat_tests, e)
 
-unclashed : (t : Bool) (pc : ℕ) (more : Option ℕ) → cond t (Some pc) more ≡ None → (t ≡ false) × (more ≡ None)
+pub unclashed : (t : Bool) (pc : ℕ) (more : Option ℕ) → cond t (Some pc) more ≡ None → (t ≡ false) × (more ≡ None)
 unclashed true pc more e = absurd (cc)
 unclashed false pc more e = (refl, e)
 
-second_false : (t u : Bool) → (t && u) ≡ false → t ≡ true → u ≡ false
+pub second_false : (t u : Bool) → (t && u) ≡ false → t ≡ true → u ≡ false
 second_false true u e f = e
 second_false false u e f = absurd (cc)
 

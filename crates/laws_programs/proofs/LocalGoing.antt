@@ -18,7 +18,7 @@ use Rattle.jvm_types.specs.declared.program.Target.{Target}
 use Rattle.laws_programs.proofs.FrameBounds.{entry_bounded}
 use Rattle.laws_programs.proofs.LocalRisen.{frame_self, IsRisen, risen_at, risen_length, frames_of, fits_risen}
 use Rattle.laws_programs.proofs.LocalBrought.{AreBounded}
-use Rattle.laws_programs.proofs.LocalEdges.{Carries}
+use Rattle.laws_programs.proofs.LocalEdges.{Carries, unclashed}
 use Rattle.laws_programs.proofs.LocalVisit.{Leads, sound_risen, cleared, cleared_frames, visit_carries, visit_sound}
 
 -- ---- a method that is laid out
@@ -61,7 +61,7 @@ pub record IsGoing (p : Program) (m : MethodInfo) (nodes : List Node) : Type 0 w
   pub sound : (i : ℕ) (node : Node) (insn : Insn) (target : Target) (f : TypeFrame) → slice_get nodes i ≡ Some node → node.waits ≡ false → slice_get m.code i ≡ Some insn → slice_get m.targets i ≡ Some target
       → node.frame ≡ Some f → IsSound m insn (row p m insn.pc target insn.op) (frames_of nodes) f
 
-first_long : (m : MethodInfo) (code : List Insn) → length (first_nodes m code) ≡ length code
+pub first_long : (m : MethodInfo) (code : List Insn) → length (first_nodes m code) ≡ length code
 first_long m [] = refl
 first_long m (insn ∷ code) = ap suc (length-map code _)
 
@@ -106,7 +106,7 @@ first_going p m laid = record {
 
 -- ---- one visit
 
-got_set : {A : Type 0} (xs : List A) (i j : ℕ) (x y : A) → slice_get (slice_set xs i x) j ≡ Some y → ((j ≡ i) × (x ≡ y)) ⊎ (slice_get xs j ≡ Some y)
+pub got_set : {A : Type 0} (xs : List A) (i j : ℕ) (x y : A) → slice_get (slice_set xs i x) j ≡ Some y → ((j ≡ i) × (x ≡ y)) ⊎ (slice_get xs j ≡ Some y)
 got_set [] i j x y e = inr e
 got_set (a ∷ xs) zero zero x y e = inl (refl, cc)
 got_set (a ∷ xs) zero (suc j) x y e = inr e
@@ -151,15 +151,10 @@ pub all_go : (p : Program) (m : MethodInfo) → IsLaidOut m → (is : List ℕ) 
 all_go p m laid [] nodes last going v = subst (λ (ns : List Node). IsGoing p m ns × (next_visit ns ≡ None)) (sym v.1) (going, v.0)
 all_go p m laid (i ∷ is) nodes last going v = all_go p m laid is v.1 last (visit_goes p m nodes v.1 i laid going v.2) v.3
 
--- where none is to be visited none waits
-unwaiting : (t : Bool) (k : ℕ) (more : Option ℕ) → cond t (Some k) more ≡ None → (t ≡ false) × (more ≡ None)
-unwaiting true k more h = absurd (cc)
-unwaiting false k more h = (refl, h)
-
 rests : (k : ℕ) (nodes : List Node) (i : ℕ) (node : Node) → waiting_from k nodes ≡ None → slice_get nodes i ≡ Some node → node.waits ≡ false
 rests k [] i node h e = absurd (cc)
-rests k (a ∷ nodes) zero node h e = ap (λ (n : Node). n.waits) (sym (some_same e)) ∙ (unwaiting a.waits k (waiting_from (suc k) nodes) h).0
-rests k (a ∷ nodes) (suc i) node h e = rests (suc k) nodes i node (unwaiting a.waits k (waiting_from (suc k) nodes) h).1 e
+rests k (a ∷ nodes) zero node h e = ap (λ (n : Node). n.waits) (sym (some_same e)) ∙ (unclashed a.waits k (waiting_from (suc k) nodes) h).0
+rests k (a ∷ nodes) (suc i) node h e = rests (suc k) nodes i node (unclashed a.waits k (waiting_from (suc k) nodes) h).1 e
 
 frame_from : (nodes : List Node) (i : ℕ) (frame : Option TypeFrame) → slice_get (frames_of nodes) i ≡ Some frame → (node : Node) × (slice_get nodes i ≡ Some node) × (node.frame ≡ frame)
 frame_from [] i frame e = absurd (cc)

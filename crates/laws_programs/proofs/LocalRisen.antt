@@ -96,7 +96,7 @@ same_types (New p) (New q) e = let same : p ≡ q = grind (arith, nat_tests, e) 
 same_types Top Top e = refl
 same_types t u e = absurd (cc)
 
-same_lists : (ts us : List VType) → all_pairs same_type ts us ≡ true → ts ≡ us
+pub same_lists : (ts us : List VType) → all_pairs same_type ts us ≡ true → ts ≡ us
 same_lists [] [] e = refl
 same_lists [] (u ∷ us) e = absurd (cc)
 same_lists (t ∷ ts) [] e = absurd (cc)

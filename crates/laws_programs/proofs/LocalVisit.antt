@@ -19,6 +19,7 @@ use Rattle.laws_programs.proofs.FrameBounds.{IsBounded, unbroken, after_bounded}
 use Rattle.laws_programs.proofs.LocalRisen.{AreRisen, all_risen_self, all_risen_trans, risen_length, frames_of, fits_risen}
 use Rattle.laws_programs.proofs.LocalBrought.{IsFrameBounded, AreBounded}
 use Rattle.laws_programs.proofs.LocalEdges.{Carries, all_carried, all_fit, edges_deep, Handles, handles}
+use Rattle.laws_programs.proofs.VisitsEnd.{unless_broken_ok}
 
 -- ---- where an instruction leads to
 
@@ -58,10 +59,6 @@ sound_risen m insn r f xs ys h s = record {
 
 -- ---- a visit that breaks no rule
 
-pub held : (pc : ℕ) (rule : Option VRule) (more : Result (List Node) (VRule × ℕ)) (mid : List Node) → unless_broken pc rule more ≡ Ok mid → (rule ≡ None) × (more ≡ Ok mid)
-held pc (Some rule) more mid e = absurd (cc)
-held pc None more mid e = (refl, e)
-
 pub unclashed : (at : Option ℕ) (more : Result (List Node) (VRule × ℕ)) (mid : List Node) → unless_clash at more ≡ Ok mid → (at ≡ None) × (more ≡ Ok mid)
 unclashed (Some at) more mid e = absurd (cc)
 unclashed None more mid e = (refl, e)
@@ -74,9 +71,9 @@ module _ (m : MethodInfo) (insn : Insn) (r : OpRow) (f : TypeFrame) (leads : Lea
   row_visit nodes mid c l e =
       let after : TypeFrame = frame_after m r f in
       let next : List Node = all_brought m.code (edges insn) after nodes in
-      let before = held insn.pc (broken_before m insn r f) (gone_on m insn f after nodes) mid e in
+      let before = unless_broken_ok insn.pc (broken_before m insn r f) (gone_on m insn f after nodes) mid e in
       let apart = unclashed (clash m.code (edges insn) (length after.stack) nodes) (unless_broken insn.pc (broken_after m insn) (handled m insn.pc f (covering m insn.pc) next)) mid before.1 in
-      let later = held insn.pc (broken_after m insn) (handled m insn.pc f (covering m insn.pc) next) mid apart.1 in
+      let later = unless_broken_ok insn.pc (broken_after m insn) (handled m insn.pc f (covering m insn.pc) next) mid apart.1 in
       let bound : IsBounded m after = after_bounded m insn r f before.0 b in
       let deep = edges_deep m.code (edges insn) (length after.stack) nodes apart.0 in
       let carries : Carries m nodes next = all_carried m after bound m.code (edges insn) nodes c deep in

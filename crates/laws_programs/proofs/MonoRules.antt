@@ -1,7 +1,7 @@
 -- The rules at one instruction, but those on uninitialised objects: where none is broken at a frame, none is below it.
 use Rattle.std.proofs.Common.{◌≡◌, ℕ, zero, suc, ◌-◌, ◌+◌, Bool, true, false, not, ◌||◌, List, [], ◌∷◌, length, Option, Some, None, refl, ap, ◌∙◌}
 use Rattle.std.specs.Prelude.{nat_lt, slice_get}
-use Rattle.std.proofs.lemmas.Bool.{or_parts, or_from}
+use Rattle.std.proofs.lemmas.Bool.{or_parts, or_from, not-false}
 use Rattle.jvm_types.specs.declared.op_row.Want.{Want}
 use Rattle.jvm_types.specs.declared.op_row.OpRow.{OpRow}
 use Rattle.jvm_types.specs.Types.{TypeFrame, is_below, all_pairs, frame_below}
@@ -17,12 +17,8 @@ use Rattle.laws_programs.proofs.MonoFrames.{mismatch, head_below, tail_below}
 
 -- ---- types of operands
 
-suiting : (b : Bool) → not b ≡ false → b ≡ true
-suiting true e = refl
-suiting false e = absurd (cc)
-
 match_below : (m : MethodInfo) (want : Want) (t u : VType) → is_below t u ≡ true → mismatch m want u ≡ false → mismatch m want t ≡ false
-match_below m want t u h k = ap not (suits_below m want t u h (suiting (suits m want u) k))
+match_below m want t u h k = ap not (suits_below m want t u h (not-false (suits m want u) k))
 
 taken_below : (m : MethodInfo) (wants : List Want) (ts us : List VType) → all_pairs is_below ts us ≡ true → some_taken (mismatch m) wants us ≡ false → some_taken (mismatch m) wants ts ≡ false
 taken_below m [] ts us h k = refl

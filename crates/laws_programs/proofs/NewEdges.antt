@@ -18,7 +18,7 @@ use Rattle.jvm_types.specs.declared.program.MethodInfo.{MethodInfo}
 use Rattle.jvm_types.specs.declared.program.Program.{Program}
 use Rattle.jvm_types.proofs.EachAfter.{all_append}
 use Rattle.jvm_types.proofs.FrameOrder.{stack_below, locals_below}
-use Rattle.laws_programs.proofs.LocalEdges.{picks}
+use Rattle.laws_programs.proofs.LocalEdges.{picks, second_false}
 use Rattle.laws_programs.proofs.RowsKeep.{IsFine, IsFineWrite, types_fine, row_fine}
 use Rattle.laws_programs.proofs.RuleUses.{hold}
 use Rattle.laws_programs.specs.NewLaws.{IsBehind, AreBehind, NewStaysBehind, BehindRises}
@@ -71,10 +71,6 @@ branch_fine P top p m pc target (ops.Tableswitch otherwise low ts) to b = (tt, t
 branch_fine P top p m pc target (ops.Lookupswitch otherwise cs) to b = (tt, tt)
 branch_fine P top p m pc target op to b = absurd (let bad : false ≡ true = b in cc)
 
-and_false : (x y : Bool) → (x && y) ≡ false → x ≡ true → y ≡ false
-and_false true y e h = e
-and_false false y e h = absurd (let bad : false ≡ true = h in cc)
-
 -- the cases of V7
 record AreSpared (m : MethodInfo) (insn : Insn) (f : TypeFrame) : Type 0 where
   branches : (list_any (λ to. nat_le to insn.pc) (branches_to insn.op) && (list_any is_uninitialised f.stack || list_any is_uninitialised f.locals)) ≡ false
@@ -90,7 +86,7 @@ spared p m insn target f e =
     let y = or_parts (s || a) b x.0 in
     record { branches = (or_parts s a y.0).1; handlers = y.1 }
 
-none_of : (test : VType → Bool) (ts : List VType) → list_any test ts ≡ false → AllByRecursion (λ t. test t ≡ false) ts
+pub none_of : (test : VType → Bool) (ts : List VType) → list_any test ts ≡ false → AllByRecursion (λ t. test t ≡ false) ts
 none_of test [] e = tt
 none_of test (t ∷ ts) e = let h = or_parts (test t) (list_any test ts) e in (h.0, none_of test ts h.1)
 
@@ -129,13 +125,13 @@ module _ (p : Program) (m : MethodInfo) (insn : Insn) (target : Target) (f : Typ
     where
       back : list_any (λ t. nat_le t insn.pc) (branches_to insn.op) ≡ true → AreBehind to (frame_after m (row p m insn.pc target insn.op) f)
       back e =
-          let none = or_parts (list_any is_uninitialised f.stack) (list_any is_uninitialised f.locals) (and_false (list_any (λ t. nat_le t insn.pc) (branches_to insn.op)) (list_any is_uninitialised f.stack || list_any is_uninitialised f.locals) (spared p m insn target f ok).branches e) in
+          let none = or_parts (list_any is_uninitialised f.stack) (list_any is_uninitialised f.locals) (second_false (list_any (λ t. nat_le t insn.pc) (branches_to insn.op)) (list_any is_uninitialised f.stack || list_any is_uninitialised f.locals) (spared p m insn target f ok).branches e) in
           let fine = branch_fine IsNoNew refl p m insn.pc target insn.op to b in
           let h = types_fine IsNoNew refl (λ c. refl) m (row p m insn.pc target insn.op) f fine.0 fine.1 (weaker f.stack (none_of is_uninitialised f.stack none.0)) (weaker f.locals (none_of is_uninitialised f.locals none.1)) in
           record { stack = none_behind to (frame_after m (row p m insn.pc target insn.op) f).stack h.0; locals = none_behind to (frame_after m (row p m insn.pc target insn.op) f).locals h.1 }
 
   at_handler : (handler : Row) (to : ℕ) → list_any (covers insn.pc) m.rows ≡ true → AreBehind to (frame_at_handler handler f)
-  at_handler handler to e = record { stack = (tt, tt); locals = none_behind to f.locals (none_of is_new f.locals (and_false (list_any (covers insn.pc) m.rows) (list_any is_new f.locals) (spared p m insn target f ok).handlers e)) }
+  at_handler handler to e = record { stack = (tt, tt); locals = none_behind to f.locals (none_of is_new f.locals (second_false (list_any (covers insn.pc) m.rows) (list_any is_new f.locals) (spared p m insn target f ok).handlers e)) }
 
 -- ---- all edges
 

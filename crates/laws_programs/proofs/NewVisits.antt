@@ -22,9 +22,10 @@ use Rattle.jvm_types.proofs.EachAfter.{all_append}
 use Rattle.laws_programs.proofs.LeastFrames.{behind}
 use Rattle.laws_programs.proofs.LocalRisen.{frames_of}
 use Rattle.laws_programs.proofs.LocalEdges.{uncaught}
-use Rattle.laws_programs.proofs.LocalVisit.{held, unclashed, cleared, cleared_frames}
+use Rattle.laws_programs.proofs.LocalVisit.{unclashed, cleared, cleared_frames}
 use Rattle.laws_programs.proofs.NewEdges.{stays_behind}
 use Rattle.laws_programs.specs.NewLaws.{IsBehind, AreBehind, NewIsBehind}
+use Rattle.laws_programs.proofs.VisitsEnd.{unless_broken_ok}
 
 -- ---- the frame at the start has none
 
@@ -147,9 +148,9 @@ module _ (p : Program) (m : MethodInfo) where
       let r : OpRow = row p m insn.pc target insn.op in
       let g : TypeFrame = frame_after m r f in
       let next : List Node = all_brought m.code (edges insn) g nodes in
-      let before = held insn.pc (broken_before m insn r f) (gone_on m insn f g nodes) mid e in
+      let before = unless_broken_ok insn.pc (broken_before m insn r f) (gone_on m insn f g nodes) mid e in
       let apart = unclashed (clash m.code (edges insn) (length g.stack) nodes) _ mid before.1 in
-      let later = held insn.pc (broken_after m insn) (handled m insn.pc f (covering m insn.pc) next) mid apart.1 in
+      let later = unless_broken_ok insn.pc (broken_after m insn) (handled m insn.pc f (covering m insn.pc) next) mid apart.1 in
       let behind = stays_behind p m insn target f after before.0 a in
       handled_behind m insn.pc f (covering m insn.pc) next mid behind.1 (all_brought_behind m.code (edges insn) g nodes behind.0 k) later.1
 

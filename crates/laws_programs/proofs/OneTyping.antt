@@ -8,10 +8,10 @@ use Rattle.jvm_types.specs.declared.refusal.VRule.{VRule}
 
 -- ---- what is equal to one thing
 
-some_waits : (x : Option ℕ) (i : ℕ) → x ≡ None → x ≡ Some i → ⊥
+pub some_waits : (x : Option ℕ) (i : ℕ) → x ≡ None → x ≡ Some i → ⊥
 some_waits x i e f = cc
 
-one_waits : (x : Option ℕ) (i j : ℕ) → x ≡ Some i → x ≡ Some j → i ≡ j
+pub one_waits : (x : Option ℕ) (i j : ℕ) → x ≡ Some i → x ≡ Some j → i ≡ j
 one_waits x i j e f = cc
 
 one_mid : (x : Result (List Node) (VRule × ℕ)) (mid other : List Node) → x ≡ Ok mid → x ≡ Ok other → mid ≡ other

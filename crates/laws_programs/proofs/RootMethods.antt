@@ -15,12 +15,9 @@ use Rattle.jvm_types.specs.declared.program.MethodInfo.{MethodInfo}
 use Rattle.jvm_types.specs.declared.program.Program.{Program}
 use Rattle.laws_programs.proofs.FieldOrder.{before_at}
 use Rattle.laws_programs.specs.RootLaws.{IsRoot, ClassInitsAreRoots, EntriesAreRoots, RunIsRoot, RunStands, OneMethod}
+use Rattle.laws_programs.proofs.LocalEdges.{second_false}
 
 -- ---- tests
-
-second_false : (a b : Bool) → (a && b) ≡ false → a ≡ true → b ≡ false
-second_false true b e h = e
-second_false false b e h = absurd (cc)
 
 other_side : (a b : Bool) → (a || b) ≡ true → a ≡ false → b ≡ true
 other_side true b e h = absurd (cc)

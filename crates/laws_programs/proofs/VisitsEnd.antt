@@ -20,6 +20,7 @@ use Rattle.jvm_types.specs.declared.program.Program.{Program}
 use Rattle.jvm_types.specs.declared.refusal.VRule.{VRule}
 use Rattle.jvm_types.specs.declared.refusal.VRule.TheVariants.{V1, V2}
 use Rattle.laws_programs.proofs.VisitsEndRanks.{Falls, types_rank, types_falls, types_small, meets_short}
+use Rattle.laws_programs.proofs.FrameBounds.{locals_kept}
 
 -- ---- bounds on the frames
 
@@ -121,7 +122,7 @@ all_brought_lowers m code (to ∷ tos) f nodes h k =
 
 -- ---- what a visit that breaks no rule went on with
 
-unless_broken_ok : (pc : ℕ) (x : Option VRule) (more : Result (List Node) (VRule × ℕ)) (mid : List Node) → unless_broken pc x more ≡ Ok mid → (x ≡ None) × (more ≡ Ok mid)
+pub unless_broken_ok : (pc : ℕ) (x : Option VRule) (more : Result (List Node) (VRule × ℕ)) (mid : List Node) → unless_broken pc x more ≡ Ok mid → (x ≡ None) × (more ≡ Ok mid)
 unless_broken_ok pc None more mid e = (refl, e)
 unless_broken_ok pc (Some rule) more mid e = absurd (cc)
 
@@ -159,11 +160,7 @@ room_after m insn r f e =
 stack_length : (r : OpRow) (stack locals : List VType) → length (stack_after Top (λ t. t) r stack locals) ≡ length stack - length r.takes + length r.gives
 stack_length r stack locals = grind (arith, length-append, length-drop, length-map)
 
-locals_length : (write : Option (ℕ × Given)) (stack locals : List VType) → length (locals_after Top (λ t. t) write stack locals) ≡ length locals
-locals_length None stack locals = refl
-locals_length (Some write) stack locals = length-set locals write.0 (value_of Top (λ t. t) stack locals write.1)
-
-initialised_length : (t : VType) (class : ℕ) (ts : List VType) → length (initialised t class ts) ≡ length ts
+pub initialised_length : (t : VType) (class : ℕ) (ts : List VType) → length (initialised t class ts) ≡ length ts
 initialised_length t class [] = refl
 initialised_length t class (u ∷ ts) = ap suc (initialised_length t class ts)
 
@@ -179,7 +176,7 @@ after_within m insn r f e h =
     let moved : TypeFrame = record { stack = stack_after Top (λ t. t) r f.stack f.locals; locals = locals_after Top (λ t. t) r.writes f.stack f.locals; ready = f.ready } in
     started_within m (started m.class r.takes f.stack) moved (record {
       stack = omega (arith, room_after m insn r f e, stack_length r f.stack f.locals);
-      locals = omega (arith, h.locals, locals_length r.writes f.stack f.locals);
+      locals = omega (arith, h.locals, locals_kept r.writes f.stack f.locals);
     })
 
 -- ---- one visit

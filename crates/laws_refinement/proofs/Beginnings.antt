@@ -29,7 +29,6 @@ use Rattle.laws_threads.specs.InsideMoves.{NoElementInside}
 use Rattle.laws_states.specs.RunFacts.{HaveWidth}
 use Rattle.laws_states.proofs.WordViews.{lock_of_word}
 use Rattle.laws_states.specs.StateLaws.{ProgramsKeepThreads, RunsHaveState, IsInState}
-use Rattle.laws_states.proofs.EventFacts.{got_when_set}
 use Rattle.laws_refinement.proofs.Inside.{Inside, is_inside}
 use Rattle.laws_refinement.specs.Entries.{failed_here, KeepsCount}
 use Rattle.laws_refinement.specs.EntryLaws.{ThreadsKeepCount, FewFail, IsDue, HasBegun, DueBegin, BegunAreDue, AttemptsStay, AttemptsOnlyLook}

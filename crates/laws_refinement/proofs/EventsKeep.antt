@@ -10,7 +10,7 @@ use Rattle.machine_types.specs.Threads.{Thread}
 use Rattle.machine_types.proofs.OnlyLive.{only_live_change}
 use Rattle.laws_threads.specs.GivenThread.{Given, GivenIsKept}
 use Rattle.laws_refinement.proofs.StageFits.{PartIs}
-use Rattle.laws_states.proofs.EventFacts.{got_other}
+use Rattle.machine_types.proofs.Lists.{got_other}
 
 abbrev now : MarkedProgram → Core → Thread → Thread
 now c s x = moved c x x.phase (found_by s.words (wanted c x x.phase))

@@ -33,7 +33,6 @@ use Rattle.laws_threads.specs.GivenThread.{GivenIsKept}
 use Rattle.laws_states.specs.HeapFacts.{objects_after}
 use Rattle.laws_states.specs.RunFacts.{HaveWidth}
 use Rattle.laws_states.specs.StateFacts.{StateFacts}
-use Rattle.laws_states.proofs.EventFacts.{got_when_set}
 use Rattle.laws_states.proofs.OwnersStep.{set_other as got_other}
 use Rattle.laws_objects.specs.ConstructionLaws.{no_builders, BuildsOn}
 use Rattle.laws_simulation.specs.StandsBeside.{StandsBeside}
@@ -50,6 +49,7 @@ use Rattle.laws_refinement.specs.RunsStand.{told_after, RunStands, RunsStand}
 use Rattle.laws_refinement.proofs.Pasts.{set_there, set_other, set_many}
 use Rattle.laws_refinement.proofs.NextUntried.{none_tries, same_threads}
 use Rattle.laws_refinement.proofs.EventMoves.{MovesIn, event_moves}
+use Rattle.machine_types.proofs.Lists.{got_when_set}
 
 -- ---- what holds after a list of events, with its plain steps
 

@@ -17,6 +17,7 @@ use Rattle.machine_types.specs.Effects.{effect}
 use Rattle.machine_types.specs.declared.effect.Variable.{Variable}
 use Rattle.machine_types.specs.declared.effect.Effect.TheVariants.{Writes}
 use Rattle.laws_objects.proofs.WrittenFields.{no_static_read, no_read}
+use Rattle.laws_sections.proofs.FieldWrites.{in_init}
 
 -- ---- the rule of an instruction that writes a field
 
@@ -45,18 +46,13 @@ both_not false true c e = absurd (cc)
 both_not false false true e = absurd (cc)
 both_not false false false e = (refl, refl)
 
-not_other : (is same : Bool) → (is && not same) ≡ false → is ≡ true → same ≡ true
-not_other true true e f = refl
-not_other true false e f = absurd (cc)
-not_other false same e f = absurd (cc)
-
 class_of_writer : (static : Bool) (m : MethodInfo) (class flags : ℕ) → field_rule static true (site_in m) class flags ≡ None → (is_private flags ≡ true) ⊎ (is_final flags ≡ true) → class ≡ m.class
 class_of_writer static m class flags rule (inl private) =
     let none = both_not (is_other_sort static flags) (is_hidden (site_in m) class flags) (is_final flags && not (initializes (site_in m) static class)) rule in
-    (Decides-eqb class m.class).0 (not_other (is_private flags) (class == m.class) none.0 private)
+    (Decides-eqb class m.class).0 (in_init (is_private flags) (class == m.class) none.0 private)
 class_of_writer static m class flags rule (inr final) =
     let none = both_not (is_other_sort static flags) (is_hidden (site_in m) class flags) (is_final flags && not (initializes (site_in m) static class)) rule in
-    let writes : initializes (site_in m) static class ≡ true = not_other (is_final flags) (initializes (site_in m) static class) none.1 final in
+    let writes : initializes (site_in m) static class ≡ true = in_init (is_final flags) (initializes (site_in m) static class) none.1 final in
     (Decides-eqb class m.class).0 (and_parts (class == m.class) (if static then is_class_init_name m.name else is_init_name m.name) writes).0
 
 -- the method m writes the field

@@ -47,7 +47,7 @@ use Rattle.laws_states.specs.StateFacts.{StateFacts}
 use Rattle.laws_simulation.specs.StandsBeside.{StandsBeside, end_of_done}
 use Rattle.laws_simulation.proofs.Assembled.{got_same_length, moved_beside}
 use Rattle.laws_simulation.proofs.GoingOnAlike.{IsUnderWay, OwnFits, going_alike, none_ends}
-use Rattle.laws_simulation.proofs.HoldingsAlike.{depth_is_held, free_then, put_else, without_else, without_here}
+use Rattle.laws_simulation.proofs.HoldingsAlike.{depth_is_held, free_then, put_else, without_else}
 use Rattle.laws_simulation.proofs.OwnBits.{IsAwake, no_own_bit}
 use Rattle.laws_simulation.proofs.WaitBits.{same_wait_bit}
 use Rattle.laws_simulation.proofs.Moving.{goes_attempt, goes_held, goes_old, goes_part}
@@ -57,6 +57,7 @@ use Rattle.laws_refinement.proofs.DoneSections.{IsDone, is_done, as_noted, event
 use Rattle.laws_refinement.proofs.PartsUnderWay.{part_runs}
 use Rattle.laws_refinement.proofs.FinishedPlaces.{staying_value}
 use Rattle.laws_refinement.proofs.WholeSections.{IsWhole, whole, holdings_behind, at_end, behind_section, section_acts}
+use Rattle.machine_types.proofs.PlainStepLaws.{none_left}
 
 -- ---- holdings: the monitor is free before and behind, and the others are as they were
 
@@ -64,7 +65,7 @@ same_behind : (hs : List Holding) (m t inner n : ℕ) → holding_at hs m ≡ No
 same_behind hs m t inner n free = by_monitor (same_or_not m n)
   where
     by_monitor : (m ≡ n) ⊎ (m ≢ n) → holding_at (holdings_behind hs m t inner) n ≡ holding_at hs n
-    by_monitor (inl e) = subst (λ (i : ℕ). holding_at (holdings_behind hs m t inner) i ≡ holding_at hs i) e (without_here m _ ∙ sym free)
+    by_monitor (inl e) = subst (λ (i : ℕ). holding_at (holdings_behind hs m t inner) i ≡ holding_at hs i) e (none_left m _ ∙ sym free)
     by_monitor (inr d) = without_else n m _ d ∙ put_else n (hold m t (suc inner)) _ d ∙ put_else n (hold m t 1) hs d
 
 module _ (differ : SitesDiffer) (c : MarkedProgram) (cfg : Config) (objects : List Object) (was : ℕ → Phase) (s : Core) (t : ℕ) (x : Thread) (a : Attempt) (q : Plain) (marked : IsMarked c) (facts : StateFacts c cfg objects was s)

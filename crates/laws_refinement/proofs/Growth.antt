@@ -25,12 +25,12 @@ use Rattle.laws_threads.specs.StateLaws.{counted_after}
 use Rattle.laws_states.specs.FoundLaws.{HeapWordsFit}
 use Rattle.laws_states.specs.HeapFacts.{objects_after, objects_of}
 use Rattle.laws_states.proofs.Lists.{same_or_not}
-use Rattle.laws_states.proofs.EventFacts.{got_when_set}
 use Rattle.laws_refinement.specs.ElidedSteps.{OwnKeepsAttempt, EventStands, found_of, next_free}
 use Rattle.laws_refinement.proofs.GoingOn.{Grows, Knows, inner_as, replayed_more}
 use Rattle.laws_refinement.proofs.Instructions.{ByFate}
 use Rattle.laws_refinement.proofs.OutsideAttempts.{BeginsIf, IsAtInstruction, outside_moves}
 use Rattle.laws_refinement.proofs.Phases.{EventInside, event_inside}
+use Rattle.machine_types.proofs.Lists.{got_when_set}
 
 -- ---- places that stay go on to stay
 

@@ -26,13 +26,13 @@ use Rattle.laws_threads.specs.InsideMoves.{NoElementInside}
 use Rattle.laws_threads.specs.StateLaws.{counted_after}
 use Rattle.laws_states.specs.HeapFacts.{objects_by, objects_of}
 use Rattle.laws_states.specs.StateLaws.{EventsKeepState}
-use Rattle.laws_states.proofs.EventFacts.{got_when_set}
 use Rattle.laws_simulation.specs.StandsBeside.{StandsBeside, end_of_done, ends_shown, own_end}
-use Rattle.laws_simulation.proofs.Assembled.{got_same_length, moved_beside, set_as_it_is}
+use Rattle.laws_simulation.proofs.Assembled.{got_same_length, moved_beside}
 use Rattle.laws_refinement.specs.ElidedSteps.{AttemptsStandBeside, IsNotFinished, found_of}
 use Rattle.laws_refinement.proofs.Inside.{Inside, KnownInside, is_inside}
 use Rattle.laws_refinement.proofs.InsideMoves.{Moves, moves_inside}
 use Rattle.laws_refinement.proofs.InsideWords.{words_stay}
+use Rattle.machine_types.proofs.Lists.{set_as_it_is, got_when_set}
 
 -- ---- inside an attempt a part neither ends by itself nor makes an object
 

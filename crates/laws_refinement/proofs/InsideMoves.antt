@@ -20,6 +20,7 @@ use Rattle.machine_types.specs.declared.phase.Phase.TheVariants as phases
 use Rattle.laws_threads.specs.EntryFrames.{KeepsEntry, StepsKeepEntry, ThrowsKeepEntry, LeavesKeepEntry}
 use Rattle.laws_threads.specs.InsideEffects.{MayDo}
 use Rattle.laws_refinement.proofs.Inside.{Inside, KnownInside}
+use Rattle.checked_program.proofs.FilledTags.{some_fewer}
 
 -- ---- what a thread x is when it has become y
 
@@ -123,9 +124,6 @@ module _ (c : MarkedProgram) (x : Thread) (a : Attempt) (phase : Phase) where
 
 -- ---- all phases
 
-pub is_some : (n : ℕ) → nat_lt 0 (suc n) ≡ true
-is_some n = grind (arith, nat_tests)
-
 module _ (steps : StepsKeepEntry) (throws : ThrowsKeepEntry) (leaves : LeavesKeepEntry) (c : MarkedProgram) (x : Thread) (a : Attempt) (tried : x.attempt ≡ Some a) (based : a.base < length x.frames) (got : ℕ) where
   now_begun : Keeps x (begun x) (x.counts.instructions + 1) (sections_of x)
   now_begun = record { held = refl; roots = refl; part = refl; prints = refl; begun = refl; done = refl }
@@ -175,7 +173,7 @@ module _ (steps : StepsKeepEntry) (throws : ThrowsKeepEntry) (leaves : LeavesKee
   finishes_inside n e (suc inner) =
       let b : Attempt = record a { inner = inner } in
       let z : Thread = record x { attempt = Some b } in
-      subst (λ (some : Bool). Moves c x (goes_after c.program z e) a (phases.Leave n e) (cond some GoesOn (fate_by (is_same a got) Finishes))) (sym (is_some inner))
+      subst (λ (some : Bool). Moves c x (goes_after c.program z e) a (phases.Leave n e) (cond some GoesOn (fate_by (is_same a got) Finishes))) (sym (some_fewer inner))
       (goes_inside c x a (phases.Leave n e) z (goes_after c.program z e) b (record { held = refl; roots = refl; part = refl; prints = refl; begun = refl; done = refl }) refl refl refl refl
       (went_if b z (after c.program x.frames e) based (λ onward is. leaves c.program x.frames b e onward is)))
 

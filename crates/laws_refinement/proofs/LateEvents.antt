@@ -34,10 +34,10 @@ use Rattle.laws_threads.specs.InsideEffects.{MayDo}
 use Rattle.laws_threads.specs.TopFrames.{IsAllowed}
 use Rattle.laws_states.specs.RunSafety.{GoesOnBy, HasAfter, HasEvent, HasInstruction}
 use Rattle.laws_states.proofs.HeldOrTried.{tried_at}
-use Rattle.laws_states.proofs.InstructionsFollow.{frames_are}
 use Rattle.laws_refinement.proofs.Inside.{AtInstruction, KnownInside}
 use Rattle.laws_refinement.specs.TornRuns.{begun_in}
 use Rattle.laws_refinement.proofs.InstructionsAhead.{IsTop, all_ahead, is_top, next_is_later, returned_on, top_goes_on, top_is_left}
+use Rattle.machine_types.proofs.PlainPartLaws.{frames_are}
 
 -- ---- what is left to begin: nothing of a frame that is about to be left, and nothing where the next check is sure to come first
 

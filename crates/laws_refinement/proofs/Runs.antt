@@ -23,11 +23,11 @@ use Rattle.laws_states.specs.StateLaws.{ProgramsKeepThreads, RunsHaveState, IsIn
 use Rattle.laws_threads.specs.InsideEffects.{InsideMayDo}
 use Rattle.laws_threads.specs.InsideMoves.{NoElementInside}
 use Rattle.laws_states.proofs.GrowingRuns.{one_more}
-use Rattle.laws_states.proofs.EventFacts.{got_when_set, got_other}
 use Rattle.laws_refinement.proofs.Inside.{is_inside}
 use Rattle.laws_refinement.specs.Entries.{failed_of, failed_with, failed_from, failed_here, KeepsCount, IsCounted}
 use Rattle.laws_refinement.specs.EntryLaws.{ThreadsKeepCount}
 use Rattle.laws_refinement.proofs.Counts.{Counts, event_counted}
+use Rattle.machine_types.proofs.Lists.{got_when_set, got_other}
 
 -- ---- an event
 

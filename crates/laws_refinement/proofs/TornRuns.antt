@@ -33,7 +33,7 @@ use Rattle.laws_refinement.proofs.InstructionsAhead.{all_ahead}
 use Rattle.laws_refinement.proofs.LateEvents.{Falls, goes_on_with, late, left_in}
 use Rattle.laws_refinement.proofs.ReachedAhead.{reached_ahead}
 use Rattle.laws_states.proofs.GrowingRuns.{one_more}
-use Rattle.laws_states.proofs.EventFacts.{got_when_set, got_other}
+use Rattle.machine_types.proofs.Lists.{got_when_set, got_other}
 
 -- ---- an attempt that is over begins nothing
 

@@ -26,7 +26,7 @@ use Rattle.laws_states.proofs.PlainMoves.{goes_attempt}
 use Rattle.laws_refinement.proofs.Inside.{Inside, KnownInside}
 use Rattle.laws_refinement.specs.EntryLaws.{HasFailed}
 use Rattle.laws_refinement.proofs.OutsideEntries.{is_entering, in_run}
-use Rattle.laws_refinement.proofs.InsideMoves.{is_some}
+use Rattle.checked_program.proofs.FilledTags.{some_fewer}
 
 -- x is the thread before
 abbrev pub HasFate : (x y : Thread) → Attempt → Fate → Type 0
@@ -124,7 +124,7 @@ module _ (c : MarkedProgram) (x : Thread) (a : Attempt) (tries : x.attempt ≡ S
       by_test false = put_back_to x refl refl refl refl
   finishes_inside e (suc inner) k =
       let z : Thread = record x { attempt = Some (record a { inner = inner }) } in
-      subst (λ (some : Bool). HasFate x (goes_after c.program z e) a (cond some GoesOn (fate_by (is_same a got) Finishes))) (sym (is_some inner)) (inner, goes_attempt z (after c.program x.frames e), goes_failed z (after c.program x.frames e))
+      subst (λ (some : Bool). HasFate x (goes_after c.program z e) a (cond some GoesOn (fate_by (is_same a got) Finishes))) (sym (some_fewer inner)) (inner, goes_attempt z (after c.program x.frames e), goes_failed z (after c.program x.frames e))
 
   moves_at : (phase : Phase) → x.phase ≡ phase → KnownInside c x a phase → HasFate x (moved c x phase got) a (fate c x a phase got)
   moves_at phases.Run e k = subst (λ (o : Option Top). HasFate x (ran c.program x o got) a (run_fate c a o got)) (sym k.found) (instructed_inside k.at (effect_at c.program k.at) k.may)

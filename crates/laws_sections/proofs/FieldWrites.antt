@@ -39,7 +39,7 @@ last_rule false true c e = absurd (cc)
 last_rule false false true e = absurd (cc)
 last_rule false false false e = refl
 
-in_init : (final initializes : Bool) → (final && not initializes) ≡ false → final ≡ true → initializes ≡ true
+pub in_init : (final initializes : Bool) → (final && not initializes) ≡ false → final ≡ true → initializes ≡ true
 in_init true true e f = refl
 in_init true false e f = absurd (cc)
 in_init false initializes e f = absurd (cc)

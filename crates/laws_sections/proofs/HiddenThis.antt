@@ -23,11 +23,11 @@ use Rattle.laws_programs.proofs.CodeOrder.{have_targets}
 
 -- ---- how many values a row takes
 
-long_arguments : (called : MethodInfo) → length (arguments called) ≡ length called.args
+pub long_arguments : (called : MethodInfo) → length (arguments called) ≡ length called.args
 long_arguments called = length-map (reverse called.args) want_of ∙ length-reverse called.args
 
 -- the values taken, with the receiver behind them
-with_receiver : (called : MethodInfo) (receiver : Want) → length (arguments called ++ receiver ∷ []) ≡ suc (length called.args)
+pub with_receiver : (called : MethodInfo) (receiver : Want) → length (arguments called ++ receiver ∷ []) ≡ suc (length called.args)
 with_receiver called receiver = omega (arith, length-append (arguments called) (receiver ∷ []), long_arguments called)
 
 put_takes : (o : Option FieldInfo) (P : FieldInfo → Type 0) → IsSomeAnd o P → length (put_row o).takes ≡ 2

@@ -21,15 +21,12 @@ use Rattle.checked_program.specs.declared.section.Mode.{Mode}
 use Rattle.checked_program.specs.declared.section.Mode.TheVariants.{OnThis, OffThis}
 use Rattle.checked_program.specs.declared.section.FieldUse.{FieldUse}
 use Rattle.checked_program.specs.declared.section.FieldUse.TheVariants.{Frozen, Guarded, Open}
+use Rattle.checked_program.proofs.FrozenChecks.{that_is_this}
 
 -- ---- the object of the section
 
-is_this_tag : (t : Tag) → is_this t ≡ true → t ≡ This
-is_this_tag This e = refl
-is_this_tag t e = absurd (let bad : false ≡ true = e in cc)
-
 pub own_object : (mode : Mode) (t : Tag) → is_own_object mode t ≡ true → (mode ≡ OnThis) × (t ≡ This)
-own_object OnThis t e = (refl, is_this_tag t e)
+own_object OnThis t e = (refl, that_is_this t e)
 own_object OffThis t e = absurd (let bad : false ≡ true = e in cc)
 
 use_at : (p : Program) (tags : Tagged) (uses : List FieldUse) (fi : ℕ) → AreUses p tags uses → (x : FieldUse) → slice_index_or uses fi Open ≡ x → x ≢ Open → IsUse p tags fi x

@@ -71,7 +71,7 @@ pub return_law : ReturnLaw
 return_law p tags s o a b parts mode all = (all.0, all.1)
 
 -- an instruction that calls a method leaves no monitor
-no_exit : (op : Op) (target : Target) (u : ℕ) → called_method op target ≡ Some u → op ≡ ops.Monitorexit → ⊥
+pub no_exit : (op : Op) (target : Target) (u : ℕ) → called_method op target ≡ Some u → op ≡ ops.Monitorexit → ⊥
 no_exit op target u c e = let bad : called_method ops.Monitorexit target ≡ Some u = subst (λ x. called_method x target ≡ Some u) e c in none target bad
   where
     none : (target : Target) → called_method ops.Monitorexit target ≡ Some u → ⊥

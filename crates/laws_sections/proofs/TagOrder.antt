@@ -1,7 +1,7 @@
 -- The order of frames of tags: a tag may be lost along an edge, and where two frames meet a place keeps what both bring.
 use Rattle.std.proofs.Common.{◌≡◌, Bool, true, false, not, List, [], ◌∷◌, refl, sym, ap, ◌∙◌, subst, arith}
 use Rattle.std.specs.Prelude.{◌&&◌, if◌then◌else◌}
-use Rattle.std.proofs.lemmas.Bool.{and_parts, eq-eqb}
+use Rattle.std.proofs.lemmas.Bool.{and_parts, eq-eqb, and_from, not-false}
 use Rattle.std.proofs.lemmas.Bool.Decides.{nat_tests}
 use Rattle.checked_program.specs.declared.tag.Tag.{Tag}
 use Rattle.checked_program.specs.declared.tag.Tag.TheVariants.{Untagged, This, At}
@@ -32,13 +32,9 @@ one_list (t ∷ ts) (u ∷ us) e =
     let more : ts ≡ us = one_list ts us parts.1 in
     cc
 
-both : (a b : Bool) → a ≡ true → b ≡ true → (a && b) ≡ true
-both true b e f = f
-both false b e f = absurd (cc)
-
 pub own_tags : (ts : List Tag) → same_tags ts ts ≡ true
 own_tags [] = refl
-own_tags (t ∷ ts) = both (same_tag t t) (same_tags ts ts) (own_tag t) (own_tags ts)
+own_tags (t ∷ ts) = and_from (same_tag t t) (same_tags ts ts) (own_tag t) (own_tags ts)
 
 pub one_frame : (f g : TagShape) → tag_meeting.same f g ≡ true → f ≡ g
 one_frame f g e =
@@ -94,13 +90,9 @@ meets_right [] us = tt
 meets_right (t ∷ ts) [] = tt
 meets_right (t ∷ ts) (u ∷ us) = (meet_right t u (same_tag t u) refl, meets_right ts us)
 
-is_true : (b : Bool) → not b ≡ false → b ≡ true
-is_true true e = refl
-is_true false e = absurd (cc)
-
 -- frames with one held list
 same_held : (g f : TagShape) → tag_meeting.clashes g f ≡ false → g.held ≡ f.held
-same_held g f e = one_list g.held f.held (is_true (same_tags g.held f.held) e)
+same_held g f e = one_list g.held f.held (not-false (same_tags g.held f.held) e)
 
 frame_left : (g f : TagShape) → tag_meeting.clashes g f ≡ false → IsShapeBelow g (tag_meeting.meet g f)
 frame_left g f e = record { stack = meets_left g.stack f.stack; locals = meets_left g.locals f.locals; held = refl }

@@ -2,14 +2,9 @@
 -- from later nodes they lead from those at the start.
 use Rattle.std.proofs.Common.{◌≡◌, ℕ, List, [], ◌∷◌, map, Option, Some, None, Result, Ok, Err, refl, sym, ap, ◌∙◌, subst}
 use Rattle.checked_program.specs.Visits.{Node, Plan, visited, next_visit, first_nodes, Visits, Breaks, HasFrames, IsBroken}
+use Rattle.laws_programs.proofs.OneTyping.{some_waits, one_waits}
 
 -- ---- what is equal to one thing
-
-some_waits : (x : Option ℕ) (i : ℕ) → x ≡ None → x ≡ Some i → ⊥
-some_waits x i e f = cc
-
-one_waits : (x : Option ℕ) (i j : ℕ) → x ≡ Some i → x ≡ Some j → i ≡ j
-one_waits x i j e f = cc
 
 one_mid : {A R : Type 0} (x : Result (List (Node A)) (R × ℕ)) (mid other : List (Node A)) → x ≡ Ok mid → x ≡ Ok other → mid ≡ other
 one_mid x mid other e f = cc

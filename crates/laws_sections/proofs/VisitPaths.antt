@@ -8,19 +8,9 @@ use Rattle.jvm_types.specs.declared.code.Insn.{Insn}
 use Rattle.jvm_types.proofs.EachAfter.{all_weaker}
 use Rattle.checked_program.specs.Visits.{Act, Break, Bring, Node, Plan, unreached, joined, brought, all_brought, clash, unless_clash, acted, acts_on, visited_node, visited, waiting_from, next_visit, nodes_for, first_nodes, Visits, HasFrames}
 use Rattle.laws_sections.proofs.VisitedNodes.{IsFirstOf, Orders, IsBelow, IsRisen, AreRisen, frame_trans, risen_self, risen_length, risen_from, risen_to, LandsOn, IsActFine, Sound, sound_risen, Does, does}
+use Rattle.laws_programs.proofs.LocalGoing.{got_set}
 
 -- ---- a node is set
-
-got_set : {B : Type 0} (xs : List B) (i j : ℕ) (x y : B) → slice_get (slice_set xs i x) j ≡ Some y → ((j ≡ i) × (x ≡ y)) ⊎ (slice_get xs j ≡ Some y)
-got_set [] i j x y e = inr e
-got_set (a ∷ xs) zero zero x y e = inl (refl, cc)
-got_set (a ∷ xs) zero (suc j) x y e = inr e
-got_set (a ∷ xs) (suc i) zero x y e = inr e
-got_set (a ∷ xs) (suc i) (suc j) x y e = further (got_set xs i j x y e)
-  where
-    further : ((j ≡ i) × (x ≡ y)) ⊎ (slice_get xs j ≡ Some y) → ((suc j ≡ suc i) × (x ≡ y)) ⊎ (slice_get xs j ≡ Some y)
-    further (inl h) = inl (ap suc h.0, h.1)
-    further (inr h) = inr h
 
 set_to : {B : Type 0} (xs : List B) (i j : ℕ) (x n a : B) → slice_get xs i ≡ Some n → slice_get xs j ≡ Some a → ((a ≡ n) × (slice_get (slice_set xs i x) j ≡ Some x)) ⊎ (slice_get (slice_set xs i x) j ≡ Some a)
 set_to [] i j x n a e f = absurd (cc)

@@ -24,17 +24,12 @@ use Rattle.machine_types.specs.declared.phase.Phase.TheVariants as phases
 use Rattle.machine_types.specs.declared.plain.Act.{Act}
 use Rattle.laws_states.specs.HeapFacts.{objects_by, objects_of}
 use Rattle.laws_states.proofs.Assembled.{got_set}
-use Rattle.laws_states.proofs.Lists.{got_below, same_or_not}
-use Rattle.laws_states.proofs.EventFacts.{got_when_set, got_other}
+use Rattle.laws_states.proofs.Lists.{same_or_not}
 use Rattle.laws_simulation.specs.StandsBeside.{IsAmong, IsBeingMade, IsPlainNew, StandsBeside, ends_shown}
 use Rattle.laws_simulation.specs.StepsBeside.{StepsBeside}
+use Rattle.machine_types.proofs.Lists.{got_when_set, got_other, got_below}
 
 -- ---- lists
-
-pub set_as_it_is : {A : Type 0} (xs : List A) (i : ℕ) (x : A) → slice_get xs i ≡ Some x → slice_set xs i x ≡ xs
-set_as_it_is [] i x e = refl
-set_as_it_is (y ∷ ys) zero x e = let same : y ≡ x = cc in ap (λ z. z ∷ ys) (sym same)
-set_as_it_is (y ∷ ys) (suc i) x e = ap (λ zs. y ∷ zs) (set_as_it_is ys i x e)
 
 pub got_same_length : {A B : Type 0} (xs : List A) (ys : List B) (i : ℕ) (x : A) → length ys ≡ length xs → slice_get xs i ≡ Some x → (y : B) × (slice_get ys i ≡ Some y)
 got_same_length xs [] i x e g = absurd (omega (arith, e, got_below xs i x g))

@@ -20,9 +20,9 @@ use Rattle.machine_types.specs.declared.lock.Held.{Held}
 use Rattle.machine_types.specs.declared.phase.Phase.{Phase}
 use Rattle.machine_types.specs.declared.phase.Phase.TheVariants as phases
 use Rattle.laws_states.proofs.Lists.{same_or_not}
-use Rattle.laws_states.proofs.EventFacts.{got_when_set, got_other}
 use Rattle.laws_simulation.specs.StandsBeside.{IsBeingMade, IsAmong, IsPlainNew, ends_shown, StandsBeside}
 use Rattle.laws_simulation.proofs.WaitBits.{fits_by}
+use Rattle.machine_types.proofs.Lists.{got_when_set, got_other}
 
 -- ---- threads that make objects, where one that makes none goes on
 

@@ -51,7 +51,7 @@ use Rattle.laws_states.specs.StateFacts.{StateFacts}
 use Rattle.laws_threads.proofs.FramePlaces.{tops_stand_law}
 use Rattle.laws_simulation.specs.StandsBeside.{StandsBeside}
 use Rattle.laws_simulation.specs.StepsBeside.{IsOfFrames, FrameSteps}
-use Rattle.laws_simulation.proofs.Assembled.{one_step, set_as_it_is}
+use Rattle.laws_simulation.proofs.Assembled.{one_step}
 use Rattle.laws_simulation.proofs.EventSteps.{Does, GoesFrom, LeavesWords, in_effect, not_checked, load_leaves, same_words, becomes, goes_beside, does_one, instruction_step}
 use Rattle.laws_simulation.proofs.GoingOnAlike.{IsAwake, IsUnderWay, awake_fits, none_ends}
 use Rattle.laws_simulation.proofs.HoldingsAlike.{is_holder_then}
@@ -61,6 +61,7 @@ use Rattle.laws_simulation.proofs.TopPlaces.{MayDo, may_do, variable_value, head
 use Rattle.laws_simulation.proofs.WaitBits.{same_wait_bit}
 use Rattle.laws_simulation.proofs.HeldToLeave.{IsHeld, leaves_held, exits_held, held_not_null}
 use Rattle.laws_simulation.proofs.PrintWords.{print_fits}
+use Rattle.machine_types.proofs.Lists.{set_as_it_is}
 
 pub is_some_thrown : (o : Option Thrown) → IsSome o → (x : Thrown) × (o ≡ Some x)
 is_some_thrown None k = absurd (cc)

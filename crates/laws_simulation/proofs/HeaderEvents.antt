@@ -25,12 +25,12 @@ use Rattle.machine_types.specs.declared.phase.Phase.TheVariants as phases
 use Rattle.laws_states.specs.HeapFacts.{objects_by}
 use Rattle.laws_simulation.specs.StandsBeside.{StandsBeside}
 use Rattle.laws_simulation.specs.StepsBeside.{StepsBeside}
-use Rattle.laws_simulation.proofs.Assembled.{set_as_it_is}
 use Rattle.laws_simulation.proofs.GoingOnAlike.{IsAwake}
 use Rattle.laws_simulation.proofs.OwnThread.{IsBusy}
 use Rattle.laws_simulation.proofs.Scene.{Scene, GoesOn, awake, counts_as, going, none_on, comes_beside, steps_of_event}
 use Rattle.laws_simulation.proofs.StoredHeader.{stored}
 use Rattle.laws_simulation.proofs.RunScene.{twin, runs_on, frames_are, status_fits}
+use Rattle.machine_types.proofs.Lists.{set_as_it_is}
 
 module _ (c : MarkedProgram) (cfg : Config) (objects : List Object) (was : ℕ → Phase) (s : Core) (t : ℕ) (x : Thread) (q : Plain) (scene : Scene c cfg objects was s t x q)
     (a word : ℕ) (made : x.phase ≡ phases.Made a word) where

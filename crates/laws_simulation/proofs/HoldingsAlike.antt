@@ -13,7 +13,7 @@ use Rattle.machine_types.specs.declared.lock.Held.{Held}
 use Rattle.laws_threads.proofs.HeldLists.{held_put, held_without}
 use Rattle.laws_states.proofs.Lists.{same_or_not}
 use Rattle.laws_states.proofs.LockViews.{same_there}
-use Rattle.laws_states.proofs.EventFacts.{got_when_set, got_other}
+use Rattle.machine_types.proofs.Lists.{got_when_set, got_other}
 
 -- of each thread and each monitor
 abbrev pub HoldAlike : List Holding → List Thread → Type 0
@@ -69,9 +69,6 @@ put_here h hs = holding_put h.monitor h hs ∙ ap (λ (b : Bool). cond b (Some h
 
 pub put_else : (m : ℕ) (h : Holding) (hs : List Holding) → h.monitor ≢ m → holding_at (with_holding h hs) m ≡ holding_at hs m
 put_else m h hs d = holding_put m h hs ∙ ap (λ (b : Bool). cond b (Some h) (holding_at hs m)) (ne_eqb h.monitor m d)
-
-pub without_here : (n : ℕ) (hs : List Holding) → holding_at (without_holding n hs) n ≡ None
-without_here n hs = holding_without n n hs ∙ ap (λ (b : Bool). cond b None (holding_at hs n)) (same_there n)
 
 pub without_else : (m n : ℕ) (hs : List Holding) → n ≢ m → holding_at (without_holding n hs) m ≡ holding_at hs m
 without_else m n hs d = holding_without m n hs ∙ ap (λ (b : Bool). cond b None (holding_at hs m)) (ne_eqb n m d)

@@ -27,12 +27,12 @@ use Rattle.laws_states.specs.HeapFacts.{objects_by}
 use Rattle.laws_states.specs.Sites.{HeaderOf}
 use Rattle.laws_simulation.specs.StandsBeside.{StandsBeside}
 use Rattle.laws_simulation.specs.StepsBeside.{StepsBeside}
-use Rattle.laws_simulation.proofs.Assembled.{set_as_it_is}
 use Rattle.laws_simulation.proofs.GoingOnAlike.{none_ends}
 use Rattle.laws_simulation.proofs.PlainValues.{value_found}
 use Rattle.laws_simulation.proofs.Scene.{Scene, GoesOn, Memory, going, none_on, comes_beside, StepsBy, steps_of_event, looked}
 use Rattle.laws_simulation.proofs.MemoryParts.{stays}
 use Rattle.laws_simulation.proofs.RunScene.{twin, runs_on, frames_are, status_fits, busy, lives, makes_none, wakes, may, wants, acts_are, moves, does}
+use Rattle.machine_types.proofs.Lists.{set_as_it_is}
 
 module _ (c : MarkedProgram) (cfg : Config) (objects : List Object) (was : ℕ → Phase) (s : Core) (t : ℕ) (x : Thread) (q : Plain) (scene : Scene c cfg objects was s t x q)
     (runs : x.phase ≡ phases.Run) (at : Top) (found : top_of c.program x.frames ≡ Some at) where

@@ -18,12 +18,12 @@ use Rattle.machine_types.specs.declared.phase.Phase.{Phase}
 use Rattle.machine_types.specs.declared.phase.Phase.TheVariants as phases
 use Rattle.machine_types.specs.declared.plain.Act.{Act}
 use Rattle.laws_states.proofs.Phases.{IsOldPhase}
-use Rattle.laws_states.proofs.EventFacts.{got_when_set, got_other}
 use Rattle.laws_simulation.specs.StandsBeside.{StandsBeside, IsBeingMade, ends_shown}
-use Rattle.laws_simulation.proofs.Assembled.{set_as_it_is, moved_beside}
+use Rattle.laws_simulation.proofs.Assembled.{moved_beside}
 use Rattle.laws_simulation.proofs.OwnThread.{IsBusy}
 use Rattle.laws_simulation.proofs.HoldingsAlike.{HoldAlike}
 use Rattle.laws_simulation.proofs.WaitBits.{fits_by, new_lock, same_wait_bit_in}
+use Rattle.machine_types.proofs.Lists.{set_as_it_is, got_when_set, got_other}
 
 -- ---- words in which all stands that the plain machine has
 

@@ -27,10 +27,8 @@ use Rattle.machine_types.specs.declared.phase.Phase.TheVariants as phases
 use Rattle.laws_states.specs.Sites.{Site, Counter, HeaderOf, ValueOf, NewHeaderOf, StaticAt, site_word, IsThere}
 use Rattle.laws_states.proofs.Lists.{contained_got, same_or_not, set_here, set_there}
 use Rattle.laws_states.proofs.Headers.{new_header}
-use Rattle.laws_states.proofs.Sites.{two_at_least}
 use Rattle.laws_states.proofs.WordSteps.{apart_on}
 use Rattle.laws_states.proofs.WordViews.{object_has, has_object}
-use Rattle.laws_states.proofs.EventFacts.{got_when_set}
 use Rattle.laws_simulation.specs.StandsBeside.{IsAmong, IsBeingMade, IsPlainNew}
 use Rattle.laws_simulation.proofs.AssembledObjects.{MakesNone, pending_on, making_on, made_before, made_by_others}
 use Rattle.laws_simulation.proofs.PlainObjects.{contains_before, contains_last, contained_last, added_place, new_value, IsZeroIn, new_end, apart_added}
@@ -39,6 +37,8 @@ use Rattle.laws_simulation.proofs.PlainWrites.{shape_reference, shape_class, sha
 use Rattle.laws_simulation.proofs.WaitBits.{bit_by, same_bit, same_lock}
 use Rattle.laws_simulation.proofs.Scene.{Scene, Memory}
 use Rattle.laws_threads.proofs.MonitorMoves.{contains_got}
+use Rattle.machine_types.proofs.Lists.{got_when_set}
+use Rattle.machine_types.proofs.AttemptsPlain.{size_two}
 
 -- a field or an element, or a static field
 abbrev pub IsValueSite : Site → Type 0
@@ -206,7 +206,7 @@ module _ (c : MarkedProgram) (cfg : Config) (objects : List Object) (was : ℕ �
     begins = subst (λ (n : ℕ). words_of c.program ≤ n) scene.beside.agrees.next scene.facts.heap.begins
 
     two : 2 ≤ size_by c.program word
-    two = two_at_least c.program word
+    two = size_two c.program word
 
     ends : object_end fresh ≡ q.next + size_by c.program word
     ends = new_end q.next word (size_by c.program word) (omega (arith, two))

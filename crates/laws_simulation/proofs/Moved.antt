@@ -33,13 +33,13 @@ use Rattle.laws_states.specs.SiteLaws.{SitesLieInside}
 use Rattle.laws_states.specs.Sites.{BitsOf}
 use Rattle.laws_states.proofs.Lists.{set_here, set_there, same_or_not}
 use Rattle.laws_states.proofs.LockViews.{fatly}
-use Rattle.laws_states.proofs.EventFacts.{got_when_set, got_other}
 use Rattle.std.proofs.lemmas.List.{length-set}
 use Rattle.laws_simulation.specs.StandsBeside.{StandsBeside, own_end, end_of_done, ends_shown}
 use Rattle.laws_simulation.proofs.HoldingsAlike.{HoldAlike, alike_kept}
 use Rattle.laws_simulation.proofs.WaitBits.{bit_by, fits_by}
 use Rattle.laws_simulation.proofs.WaitersHaveBits.{bit_in, bit_of_fat}
 use Rattle.laws_simulation.proofs.Moments.{Moment, AreRecordsWritten, record_written, lock_same, lock_kept, holdings_alike, moved_beside}
+use Rattle.machine_types.proofs.Lists.{got_when_set, got_other}
 
 -- ---- ends of parts
 

@@ -22,7 +22,6 @@ use Rattle.machine_types.specs.declared.config.Config.{Config}
 use Rattle.machine_types.specs.declared.phase.Phase.{Phase}
 use Rattle.machine_types.specs.declared.phase.Phase.TheVariants as phases
 use Rattle.laws_threads.specs.PartLaws.{PartFits, PartsFit}
-use Rattle.laws_states.proofs.Lists.{got_below}
 use Rattle.laws_states.specs.PartsStand.{HasReturned}
 use Rattle.laws_states.specs.StateFacts.{StateFacts}
 use Rattle.laws_simulation.specs.StandsBeside.{StandsBeside, ends_shown, end_of_done}
@@ -30,6 +29,7 @@ use Rattle.laws_simulation.specs.StepsBeside.{NextStandsBeside}
 use Rattle.laws_simulation.proofs.PartBegins.{Alike, Pairs, same_pairs, begins_beside}
 use Rattle.laws_simulation.proofs.PartsDue.{rests_between, no_attempt}
 use Rattle.laws_threads.proofs.PartSteps.{returned}
+use Rattle.machine_types.proofs.Lists.{got_below}
 
 -- ---- `run` is there where there are workers
 

@@ -29,7 +29,6 @@ use Rattle.laws_states.specs.SiteLaws.{SitesLieInside}
 use Rattle.laws_states.proofs.Lists.{same_or_not}
 use Rattle.laws_states.proofs.WordViews.{set_self}
 use Rattle.laws_states.proofs.LockViews.{same_there}
-use Rattle.laws_states.proofs.EventFacts.{got_when_set, got_other}
 use Rattle.laws_simulation.proofs.Assembled.{got_same_length}
 use Rattle.std.proofs.lemmas.List.{length-set}
 use Rattle.laws_simulation.specs.StepsBeside.{StepsBeside}
@@ -40,6 +39,7 @@ use Rattle.laws_simulation.proofs.BitWords.{low_if_set, clear_here, clear_other}
 use Rattle.laws_simulation.proofs.Moments.{Moment, AreRecordsWritten, IsLater, same_words, first_step, own_status, own_frames, own_roots, own_ends, own_as, holdings_alike, moved_beside, stepped}
 use Rattle.laws_simulation.proofs.Moved.{HasFat, ends_alike, run_end, run_made, runs_outside, bits_written, counted, waits_now, owning, bit_now, bit_later, bits_kept, own_off, quiet_beside, alone_beside, bits_here, bits_else, bits_less, waits_less}
 use Rattle.laws_simulation.proofs.Sleepers.{IsAsleep, asleep, sleeps, wakes_up}
+use Rattle.machine_types.proofs.Lists.{got_when_set, got_other}
 
 got_some : {A : Type 0} (o : Option A) → IsSome o → (a : A) × (o ≡ Some a)
 got_some None h = absurd (cc)

@@ -35,7 +35,6 @@ use Rattle.laws_states.specs.HeapFacts.{objects_by}
 use Rattle.laws_states.proofs.Lists.{same_or_not}
 use Rattle.laws_states.specs.PartsLaws.{EventsKeepParts}
 use Rattle.laws_states.specs.PartsStand.{DoneRoots}
-use Rattle.laws_states.proofs.EventFacts.{got_when_set}
 use Rattle.laws_simulation.specs.StandsBeside.{ends_shown, end_of_done}
 use Rattle.laws_simulation.specs.StepsBeside.{StepsBeside}
 use Rattle.laws_simulation.proofs.Assembled.{one_step}
@@ -45,6 +44,7 @@ use Rattle.laws_simulation.proofs.MemoryParts.{stays}
 use Rattle.laws_simulation.proofs.PartsDue.{rests_between, idle_workers, first_there, workers_over, init_returned}
 use Rattle.laws_simulation.proofs.RootNumbers.{root_there}
 use Rattle.laws_simulation.proofs.RunScene.{twin, status_fits}
+use Rattle.machine_types.proofs.Lists.{got_when_set}
 
 -- ---- how a root goes on: the thread is not to begin another one
 

@@ -14,9 +14,7 @@ use Rattle.machine_types.specs.declared.phase.Phase.TheVariants as phases
 use Rattle.machine_types.proofs.AtStart.{thread_in, is_start_thread}
 use Rattle.laws_simulation.specs.StandsBeside.{own_end, ends_shown}
 use Rattle.laws_simulation.specs.StepsBeside.{StartStandsBeside}
-
-plain_thread : (p : Program) (t : ℕ) (y : PlainThread) → slice_get (plain_start p).threads t ≡ Some y → plain.start_thread p t ≡ y
-plain_thread p t y e = let k : 0 + t ≡ t = omega arith in subst (λ (i : ℕ). plain.start_thread p i ≡ y) k (thread_in (plain.start_thread p) 0 (p.workers + 1) t y e)
+use Rattle.machine_types.proofs.PlainAtStart.{plain_thread}
 
 first_ends : (roots : List ℕ) → (first_thread roots).ended ≡ own_end (part_phase roots)
 first_ends [] = refl

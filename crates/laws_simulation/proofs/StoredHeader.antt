@@ -22,8 +22,8 @@ use Rattle.laws_simulation.proofs.AssembledObjects.{MakesNone, made_by_others}
 use Rattle.laws_simulation.proofs.PlainPlaces.{value_of_header}
 use Rattle.laws_simulation.proofs.Scene.{Scene, Memory}
 use Rattle.laws_simulation.proofs.MemoryParts.{place_bits, place_counter}
-use Rattle.laws_states.proofs.EventFacts.{got_other}
 use Rattle.laws_threads.proofs.MonitorMoves.{contains_got}
+use Rattle.machine_types.proofs.Lists.{got_other}
 
 first_or_more : {X : Type 0} (y : X) (xs : List X) (x : X) → Contains (y ∷ xs) x → (x ≡ y) ⊎ Contains xs x
 first_or_more {X} y xs x k = by_index k.0 (contained_got (y ∷ xs) x k)

@@ -37,7 +37,6 @@ use Rattle.machine_types.specs.declared.plain.Act.{Act}
 use Rattle.machine_types.specs.declared.plain.Act.TheVariants as acts
 use Rattle.laws_states.proofs.Lists.{same_or_not}
 use Rattle.laws_states.proofs.LockViews.{thin_if_flat}
-use Rattle.laws_states.proofs.EventFacts.{got_when_set, got_other}
 use Rattle.laws_simulation.proofs.Assembled.{got_same_length}
 use Rattle.laws_simulation.specs.StandsBeside.{StandsBeside, own_end, ends_shown}
 use Rattle.laws_simulation.specs.StepsBeside.{StepsBeside, IsOfWaiting, WaitingSteps}
@@ -45,6 +44,7 @@ use Rattle.laws_simulation.proofs.HoldingsAlike.{alike_kept, is_holder_then, no_
 use Rattle.laws_simulation.proofs.WaitersHaveBits.{NobodyWaits, nobody_on_thin, none_waits, none_woken}
 use Rattle.laws_simulation.proofs.Moments.{Moment, same_words, first_step, own_status, own_frames, own_roots, own_ends, own_as, lock_same, holdings_alike, stepped}
 use Rattle.laws_simulation.proofs.Moved.{ends_alike, run_end, run_made, runs_outside, own_off, alone_beside}
+use Rattle.machine_types.proofs.Lists.{got_when_set, got_other}
 
 module _ {c : MarkedProgram} {cfg : Config} {objects : List Object} {was : ℕ → Phase} {s : Core} {t : ℕ} {x : Thread} {q : Plain} {y : PlainThread} (k : Moment c cfg objects was s t x q phases.Run y) (at : Top) (found : top_of c.program x.frames ≡ Some at) where
   -- ---- by what the instruction is

@@ -25,7 +25,7 @@ use Rattle.machine_types.specs.declared.phase.Phase.{Phase}
 use Rattle.machine_types.specs.declared.phase.Phase.TheVariants as phases
 use Rattle.machine_types.specs.declared.phase.Toward.{Toward}
 use Rattle.machine_types.specs.declared.phase.Toward.TheVariants as towards
-use Rattle.laws_states.proofs.Lists.{got_below}
+use Rattle.machine_types.proofs.Lists.{got_below}
 
 -- ---- what a bit means
 

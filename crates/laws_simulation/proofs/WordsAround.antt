@@ -16,17 +16,18 @@ use Rattle.laws_states.specs.HeapFacts.{HeapFacts}
 use Rattle.laws_states.specs.SiteLaws.{SitesDiffer, SitesLieInside}
 use Rattle.laws_states.specs.Sites.{Site, Counter, OwnerOf, LockOf, site_word, HasObject, IsThere}
 use Rattle.laws_states.proofs.Lists.{contained_got, set_there}
-use Rattle.laws_states.proofs.Sites.{New, block, InNew, in_block, same_block, two_at_least}
+use Rattle.laws_states.proofs.Sites.{New, block, InNew, in_block, same_block}
 use Rattle.laws_states.proofs.WordViews.{record_there}
 use Rattle.laws_simulation.specs.StandsBeside.{StandsBeside, IsBeingMade}
 use Rattle.laws_simulation.proofs.PlainPlaces.{no_lock_place, place_low}
 use Rattle.laws_simulation.proofs.WaitBits.{bits_when_set, bits_when_thin, bits_when_fat}
 use Rattle.laws_simulation.proofs.Landing.{WordsStay}
+use Rattle.machine_types.proofs.AttemptsPlain.{size_two}
 
 module _ (lies : StartLiesApart) (differ : SitesDiffer) (inside : SitesLieInside) (c : MarkedProgram) (objects : List Object) (s : Core) (marked : IsMarked c) (heap : HeapFacts c objects s)
     (low : (m r : ℕ) → lock_at (references_of objects) s.words m ≡ locks.Fat r → r < MONITOR_RECORDS) (q : Plain) (beside : StandsBeside c.program objects s q) where
   being_made : (m : ℕ) → IsBeingMade s.threads m → InNew c.program s m m
-  being_made m k = record { t = k.0; thread = k.1; word = k.2; there = k.3; made = k.4; from = omega arith; to = omega (arith, two_at_least c.program k.2) }
+  being_made m k = record { t = k.0; thread = k.1; word = k.2; there = k.3; made = k.4; from = omega arith; to = omega (arith, size_two c.program k.2) }
 
   -- no object that is being made lies there
   new_apart : (site : Site) (m : ℕ) → IsThere c.program objects s site → (block site ≡ New m → ⊥) → IsBeingMade s.threads m → m ≢ site_word site

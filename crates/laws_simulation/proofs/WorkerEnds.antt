@@ -14,8 +14,8 @@ use Rattle.machine_types.specs.Threads.{Thread}
 use Rattle.machine_types.specs.declared.config.Config.{Config}
 use Rattle.laws_threads.specs.GivenThread.{Given, GivenIsKept}
 use Rattle.laws_simulation.specs.OutcomeLaws.{WorkersKeepNone, EventsKeepNone, NextKeepsNone, StartKeepsNone}
-use Rattle.laws_states.proofs.EventFacts.{got_when_set}
 use Rattle.laws_states.proofs.OwnersStep.{set_other}
+use Rattle.machine_types.proofs.Lists.{got_when_set}
 
 -- ---- an event
 

@@ -26,6 +26,7 @@ use Rattle.laws_states.specs.LeftWords.{LeftMayStand}
 use Rattle.laws_states.specs.RunFacts.{HaveWidth, AreThreads, RunFacts}
 use Rattle.laws_states.specs.RunLaws.{EventsKeepFacts, EventsKeepThreads, ReachedFits}
 use Rattle.laws_states.proofs.Reached.{leaves_small}
+use Rattle.machine_types.proofs.Lists.{got_when_set, got_other}
 
 set_each : (P : ℕ → Type 0) (words : List ℕ) (w v : ℕ) → P v → ((i : ℕ) → P (slice_index words i)) → (i : ℕ) → P (slice_index (slice_set words w v) i)
 set_each P [] w v h all i = all i
@@ -33,18 +34,6 @@ set_each P (n ∷ ns) zero v h all zero = h
 set_each P (n ∷ ns) zero v h all (suc i) = all (suc i)
 set_each P (n ∷ ns) (suc w) v h all zero = all zero
 set_each P (n ∷ ns) (suc w) v h all (suc i) = set_each P ns w v h (λ j. all (suc j)) i
-
-pub got_when_set : {A : Type 0} (xs : List A) (i : ℕ) (x y : A) → slice_get xs i ≡ Some x → slice_get (slice_set xs i y) i ≡ Some y
-got_when_set [] i x y e = cc
-got_when_set (z ∷ zs) zero x y e = refl
-got_when_set (z ∷ zs) (suc i) x y e = got_when_set zs i x y e
-
-pub got_other : {A : Type 0} (xs : List A) (i j : ℕ) (x : A) → j ≢ i → slice_get (slice_set xs i x) j ≡ slice_get xs j
-got_other [] i j x n = refl
-got_other (z ∷ zs) zero zero x n = absurd (n refl)
-got_other (z ∷ zs) zero (suc j) x n = refl
-got_other (z ∷ zs) (suc i) zero x n = refl
-got_other (z ∷ zs) (suc i) (suc j) x n = got_other zs i j x (λ e. n (ap suc e))
 
 module _ (inside : SitesLieInside) (reach : EventsReachSites) (fit : HeapWordsFit) (leaves : LeftMayStand) (c : MarkedProgram) (cfg : Config) (s : Core) (t : ℕ) (marked : IsMarked c) (width : HaveWidth cfg)
     (threads : AreThreads c cfg s) (facts : RunFacts c cfg s) where

@@ -14,7 +14,7 @@ use Rattle.machine_types.specs.Parts.{run_roots}
 use Rattle.machine_types.specs.Threads.{Thread}
 use Rattle.machine_types.specs.declared.config.Config.{Config}
 use Rattle.laws_states.specs.GrowingRuns.{OneMoreHappens, RunsKeepSizes, HasSizes, IsOfRun, behind, ThreadsStayOfRuns}
-use Rattle.laws_states.proofs.EventFacts.{got_when_set}
+use Rattle.machine_types.proofs.Lists.{got_when_set}
 
 -- ---- one happening more
 

@@ -28,23 +28,7 @@ use Rattle.machine_types.specs.declared.phase.After.TheVariants.{Next, Return}
 use Rattle.machine_types.specs.declared.phase.Phase.{Phase}
 use Rattle.machine_types.specs.declared.phase.Phase.TheVariants as phases
 use Rattle.laws_threads.specs.EntryFrames.{frames_in}
-
--- ---- the top frame and those below
-
-same_frames : (f : Frame) (below : List Frame) (m : MethodInfo) (o : Option Insn) (q : Option Target) (at : Top) → top_at f below m o q ≡ Some at → frames_of at ≡ f ∷ below
-same_frames f below m None q at e = absurd (cc)
-same_frames f below m (Some insn) None at e = absurd (cc)
-same_frames f below m (Some insn) (Some target) at e =
-    let same : record { frame = f; below = below; method = m; insn = insn; target = target } ≡ at = cc in
-    ap frames_of (sym same)
-
-frames_at : (f : Frame) (below : List Frame) (o : Option MethodInfo) (at : Top) → top_in f below o ≡ Some at → frames_of at ≡ f ∷ below
-frames_at f below None at e = absurd (cc)
-frames_at f below (Some m) at e = same_frames f below m (at_pc m.code m.code f.pc) (at_pc m.code m.targets f.pc) at e
-
-pub frames_are : (p : Program) (fs : List Frame) (at : Top) → top_of p fs ≡ Some at → frames_of at ≡ fs
-frames_are p [] at e = absurd (cc)
-frames_are p (f ∷ below) at e = frames_at f below (slice_get p.methods f.method) at e
+use Rattle.machine_types.proofs.PlainPartLaws.{of_top, of_method, frames_are}
 
 -- ---- a return and a failure leave no more frames
 

@@ -68,4 +68,4 @@ mod SafeStates
 pub mod InstructionsFollow
 mod WorkFalls
 mod WorkOfStates
-mod OrdersRun
+pub mod OrdersRun

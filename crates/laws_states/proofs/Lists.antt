@@ -4,16 +4,7 @@ use Rattle.std.specs.Prelude.{Contains, slice_get, slice_index, slice_index_or, 
 use Rattle.std.proofs.lemmas.Bool.Decides.{nat_tests}
 use Rattle.std.proofs.lemmas.List.{get_or-set_same, get_or-set_other}
 use Rattle.laws_threads.proofs.MonitorMoves.{contains_got}
-
-pub got_below : {X : Type 0} (xs : List X) (i : ℕ) (x : X) → slice_get xs i ≡ Some x → i < length xs
-got_below [] i x e = cc
-got_below (y ∷ xs) zero x e = omega arith
-got_below (y ∷ xs) (suc i) x e = omega (arith, got_below xs i x e)
-
-got_contained : {X : Type 0} (xs : List X) (i : ℕ) (x : X) → i < length xs → slice_index_or xs i x ≡ x → slice_get xs i ≡ Some x
-got_contained [] i x lt e = absurd (omega (arith, lt))
-got_contained (y ∷ xs) zero x lt e = ap Some e
-got_contained (y ∷ xs) (suc i) x lt e = got_contained xs i x (omega (arith, lt)) e
+use Rattle.machine_types.proofs.Lists.{got_contained}
 
 pub contained_got : {X : Type 0} (xs : List X) (x : X) (k : Contains xs x) → slice_get xs k.0 ≡ Some x
 contained_got xs x k = got_contained xs k.0 x k.1 k.2

@@ -25,11 +25,12 @@ use Rattle.machine_types.specs.Words.{header_class, header_length, header_word, 
 use Rattle.machine_types.specs.declared.phase.Phase.TheVariants as phases
 use Rattle.laws_states.specs.HeapFacts.{HeapFacts}
 use Rattle.laws_states.proofs.Lists.{contained_got, contains_more, contains_first, set_here, set_there}
-use Rattle.laws_states.proofs.Sites.{two_at_least, static_low}
+use Rattle.laws_states.proofs.Sites.{static_low}
 use Rattle.laws_states.proofs.Headers.{new_header}
 use Rattle.laws_states.proofs.Lifted.{kind_up}
 use Rattle.laws_states.proofs.Assembled.{Behind}
 use Rattle.laws_threads.proofs.MonitorMoves.{contains_got}
+use Rattle.machine_types.proofs.AttemptsPlain.{size_two}
 
 -- null, 0 and false
 zero_holds : (is : Classes) (kind : Kind) (v : ℕ) → v ≡ 0 → KindHolds is kind v
@@ -60,7 +61,7 @@ module _ (lies : StartLiesApart) (c : MarkedProgram) (marked : IsMarked c) (obje
   long = length-replicate {A = ℕ} (size_by c.program word - OBJECT_HEAD_WORDS) 0
 
   ends : object_end new ≡ a + size_by c.program word
-  ends = omega (arith, long, two_at_least c.program word)
+  ends = omega (arith, long, size_two c.program word)
 
   unchanged : (n : ℕ) → n ≢ header_word a → slice_index after n ≡ slice_index s.words n
   unchanged n differ = set_there s.words (header_word a) n word differ
@@ -147,7 +148,7 @@ module _ (lies : StartLiesApart) (c : MarkedProgram) (marked : IsMarked c) (obje
     where
       by_side : (object_end o ≤ a) ⊎ (a + size_by c.program word ≤ o.reference) → ⊥
       by_side (inl h) = omega (arith, h, e, to)
-      by_side (inr h) = omega (arith, h, e, from, two_at_least c.program word)
+      by_side (inr h) = omega (arith, h, e, from, size_two c.program word)
 
   -- and a field or an element of the new one is 0
   empty_value : (i : ℕ) → i < length new.values → slice_index after (value_word a i) ≡ 0
@@ -163,7 +164,7 @@ module _ (lies : StartLiesApart) (c : MarkedProgram) (marked : IsMarked c) (obje
     where
       headers_of : (j : ℕ) (o : Object) → slice_get later j ≡ Some o → slice_index after (header_word o.reference) ≡ header_of o
       headers_of zero o g = first (λ z. slice_index after (header_word z.reference) ≡ header_of z) o g
-          (set_here s.words (header_word a) word (omega (arith, k.inside, two_at_least c.program word, facts.unused.many)) ∙ sym (new_header c.program is_program a word header))
+          (set_here s.words (header_word a) word (omega (arith, k.inside, size_two c.program word, facts.unused.many)) ∙ sym (new_header c.program is_program a word header))
       headers_of (suc j) o g =
           let l = contains_got objects j o g in
           unchanged (header_word o.reference) (elsewhere o (header_word o.reference) l (omega arith) (omega arith)) ∙ facts.typed.places.headers o l
@@ -206,7 +207,7 @@ module _ (lies : StartLiesApart) (c : MarkedProgram) (marked : IsMarked c) (obje
     up = up;
     long = length-set s.words (header_word a) word;
     free = omega (arith, unchanged NEXT_FREE_WORD (λ e. omega (arith, e, k.begins)));
-    unused = λ n le. unchanged n (λ e. omega (arith, e, le, k.below, two_at_least c.program word));
+    unused = λ n le. unchanged n (λ e. omega (arith, e, le, k.below, size_two c.program word));
     apart = apart_new;
     places = places_new;
     headers = λ o l. headers_of l.0 o (contained_got later o l);
@@ -225,7 +226,7 @@ module _ (lies : StartLiesApart) (c : MarkedProgram) (marked : IsMarked c) (obje
       new_elsewhere u z b other n differ e m from to same = by_side (sides u z b other differ e m)
         where
           by_side : (a + size_by c.program word ≤ b) ⊎ (b + size_by c.program other ≤ a) → ⊥
-          by_side (inl h) = omega (arith, h, same, from, two_at_least c.program word)
+          by_side (inl h) = omega (arith, h, same, from, size_two c.program word)
           by_side (inr h) = omega (arith, h, same, to)
 
       beside_of : (j u : ℕ) (z : Thread) (b other : ℕ) → u ≢ t → slice_get s.threads u ≡ Some z → z.phase ≡ phases.Made b other → (o : Object) → slice_get later j ≡ Some o

@@ -26,7 +26,7 @@ finds_passing test (x ∷ xs) t e = by_test (test x) refl e (λ e. finds_passing
     by_test true k e more = let same : x ≡ t = cc in subst (λ (n : ℕ). test n ≡ true) same k
     by_test false k e more = more e
 
-second_of : (a b : Bool) → (a && b) ≡ true → b ≡ true
+pub second_of : (a b : Bool) → (a && b) ≡ true → b ≡ true
 second_of true b e = e
 second_of false b e = absurd (cc)
 

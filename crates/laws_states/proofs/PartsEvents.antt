@@ -26,7 +26,7 @@ use Rattle.laws_states.specs.PartsLaws.{EventsKeepParts}
 use Rattle.laws_states.specs.PartsStand.{FirstFits, HasReturned, HasFinished, DoneRoots, PartsStand}
 use Rattle.laws_states.proofs.DoneRoot.{one_done}
 use Rattle.laws_states.proofs.RootMoves.{RootFits, IsNoStart, moved_stays, root_goes}
-use Rattle.laws_states.proofs.EventFacts.{got_when_set, got_other}
+use Rattle.machine_types.proofs.Lists.{got_when_set, got_other}
 
 -- ---- one thread of a list is changed
 

@@ -19,6 +19,7 @@ use Rattle.laws_states.specs.HeapFacts.{HeapFacts}
 use Rattle.laws_states.specs.SiteLaws.{SitesDiffer, SitesLieInside}
 use Rattle.laws_states.specs.Sites.{Site, Counter, OwnerOf, BitsOf, LockOf, HeaderOf, ValueOf, NewHeaderOf, StaticAt, site_word, HasStatic, IsThere}
 use Rattle.laws_states.proofs.Lists.{contained_got, same_or_not}
+use Rattle.machine_types.proofs.AttemptsPlain.{size_two}
 
 -- ---- the words that belong together
 
@@ -60,13 +61,6 @@ Inside p objects s (Old reference) x = InObject objects reference x
 Inside p objects s (New reference) x = InNew p s reference x
 Inside p objects s (Single word) x = HasStatic p word × (x ≡ word)
 
-pub two_at_least : (p : Program) (word : ℕ) → 2 ≤ size_by p word
-two_at_least p word = by_test (header_class word == INT_ARRAY_CLASS)
-  where
-    by_test : (b : Bool) → 2 ≤ (if b then array_size (header_length word) else object_size p (header_class word))
-    by_test true = omega arith
-    by_test false = omega arith
-
 pub in_block : (p : Program) (objects : List Object) (s : Core) (site : Site) → IsThere p objects s site → Inside p objects s (block site) (site_word site)
 in_block p objects s (Counter word) k = (omega (arith, k.0), omega (arith, k.1))
 in_block p objects s (OwnerOf r) k = (omega arith, omega (arith, k))
@@ -74,7 +68,7 @@ in_block p objects s (BitsOf r) k = (omega arith, omega (arith, k))
 in_block p objects s (LockOf reference) k = record { object = k.0; there = k.1; is = k.2; from = omega arith; to = omega (arith, k.2) }
 in_block p objects s (HeaderOf reference) k = record { object = k.0; there = k.1; is = k.2; from = omega arith; to = omega (arith, k.2) }
 in_block p objects s (ValueOf reference index) k = record { object = k.0; there = k.1; is = k.2; from = omega arith; to = omega (arith, k.2, k.3) }
-in_block p objects s (NewHeaderOf reference) k = record { t = k.0; thread = k.1; word = k.2; there = k.3; made = k.4; from = omega arith; to = omega (arith, two_at_least p k.2) }
+in_block p objects s (NewHeaderOf reference) k = record { t = k.0; thread = k.1; word = k.2; there = k.3; made = k.4; from = omega arith; to = omega (arith, size_two p k.2) }
 in_block p objects s (StaticAt word) k = (k, refl)
 
 -- ---- blocks are apart

@@ -19,22 +19,8 @@ use Rattle.laws_states.proofs.Lists.{contained_got}
 use Rattle.machine_types.specs.declared.lock.LockWord.TheVariants as locks
 use Rattle.laws_states.specs.SharedWords.{IsLock, LocksFit, RecordsFit}
 use Rattle.laws_states.proofs.LeftStands.{word_is_lock}
-
--- ---- lists of words
-
-behind : (xs ys : List ℕ) (k : ℕ) → slice_index (xs ++ ys) (length xs + k) ≡ slice_index ys k
-behind [] ys k = ap (slice_index ys) (omega arith)
-behind (x ∷ xs) ys k = let at : length (x ∷ xs) + k ≡ suc (length xs + k) = omega arith in ap (slice_index (x ∷ xs ++ ys)) at ∙ behind xs ys k
-
-in_front : (xs ys : List ℕ) (k : ℕ) → k < length xs → slice_index (xs ++ ys) k ≡ slice_index xs k
-in_front [] ys k lt = absurd (omega (arith, lt))
-in_front (x ∷ xs) ys zero lt = refl
-in_front (x ∷ xs) ys (suc k) lt = in_front xs ys k (omega (arith, lt))
-
-zeros : (n k : ℕ) → slice_index (replicate n 0) k ≡ 0
-zeros zero k = refl
-zeros (suc n) zero = refl
-zeros (suc n) (suc k) = zeros n k
+use Rattle.machine_types.proofs.WordsAtStart.{behind, in_front}
+use Rattle.machine_types.proofs.PlacesAtStart.{in_replicated}
 
 -- ---- where an object stands among some words, there is a 0
 
@@ -120,7 +106,7 @@ record_zero : (p : Program) (records j : ℕ) → j < records → slice_index (a
 record_zero p records j lt =
     let at : 4 + j ≡ suc (suc (suc (suc j))) = omega arith in
     ap (λ (l : List ℕ). slice_index l (4 + j)) (from_ready p records) ∙ in_front (records_part p records) (ready_part ++ (class_part p ++ unused_part p)) (4 + j) (omega (arith, lt, length_records p records))
-    ∙ ap (slice_index (records_part p records)) at ∙ zeros records j
+    ∙ ap (slice_index (records_part p records)) at ∙ in_replicated records j
 
 pub records_at_start : (p : Program) → RecordsFit (start_words p)
 records_at_start p = record { owners = λ r lt. owner r lt; bits = λ r lt. bits r lt }

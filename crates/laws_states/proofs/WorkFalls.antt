@@ -35,8 +35,9 @@ use Rattle.laws_threads.proofs.ThreadMove.{Lacks, GoesBy, Checks, LeadsTo, Turns
 use Rattle.laws_threads.proofs.ThreadMove as moves
 use Rattle.laws_states.specs.RunSafety.{HasAfter, HasRoot, HasInstruction, HasEvent}
 use Rattle.laws_states.specs.WorkLeft.{leaving, leaving_held, chain, trying, inside, chains_left, work_in, work_left, EventsLessenWork}
-use Rattle.laws_states.proofs.InstructionsFollow.{Follows, frames_are, returned_fewer, runs_follow}
+use Rattle.laws_states.proofs.InstructionsFollow.{Follows, returned_fewer, runs_follow}
 use Rattle.laws_states.proofs.NextEvents.{has_event}
+use Rattle.machine_types.proofs.PlainPartLaws.{frames_are}
 
 -- ---- sums
 

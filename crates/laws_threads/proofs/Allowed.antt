@@ -35,8 +35,8 @@ use Rattle.machine_types.specs.Ints.{low, word_of, int_of, narrowed, added, divi
 use Rattle.machine_types.specs.ReadyObjects.{out_object}
 use Rattle.machine_types.specs.Typed.{Classes, IsNullOr, KindHolds, Holds, IsElementOn}
 use Rattle.machine_types.specs.Words.{header, array_size, value_word}
-use Rattle.laws_threads.proofs.Calls.{as_many}
 use Rattle.laws_threads.specs.Allowed.{IsOf, IsFieldAt, WantHolds, TakenHold, HasLocal, OneOf, Allowed}
+use Rattle.laws_sections.proofs.HiddenThis.{long_arguments}
 
 low_lt : (n : ℕ) → low n < 2 ^ 32
 low_lt n = omega arith
@@ -188,7 +188,7 @@ module _ (p : Program) (m : MethodInfo) (is : Classes) (stack : List ℕ) where
       → TakenHold m is (arguments called ++ want ∷ []) s → Allows insn (targets.Method number) r (calls_on (slice_get s (length called.args)) number)
   calls_method insn r called want number s t e h =
       let at = below_args (arguments called) want s h in
-      called_on insn r (slice_get s (length called.args)) at.0 number called t e (subst (λ (n : ℕ). slice_get s n ≡ Some at.0) (as_many called) at.1)
+      called_on insn r (slice_get s (length called.args)) at.0 number called t e (subst (λ (n : ℕ). slice_get s n ≡ Some at.0) (long_arguments called) at.1)
 
   tall : (wants : List Want) (s : List ℕ) → TakenHold m is wants s → nat_lt (length s) (length wants) ≡ false
   tall [] s h = grind (arith, nat_tests)
@@ -197,7 +197,7 @@ module _ (p : Program) (m : MethodInfo) (is : Classes) (stack : List ℕ) where
 
   calls_plain : (insn : Insn) (r : OpRow) (called : MethodInfo) (number : ℕ) (s : List ℕ) → slice_get p.methods number ≡ Some called
       → TakenHold m is (arguments called) s → Allows insn (targets.Method number) r (if nat_lt (length s) (length called.args) then Stuck else Calls number)
-  calls_plain insn r called number s e h = by_test (nat_lt (length s) (length called.args)) (ap (nat_lt (length s)) (sym (as_many called)) ∙ tall (arguments called) s h)
+  calls_plain insn r called number s e h = by_test (nat_lt (length s) (length called.args)) (ap (nat_lt (length s)) (sym (long_arguments called)) ∙ tall (arguments called) s h)
     where
       by_test : (b : Bool) → b ≡ false → Allows insn (targets.Method number) r (if b then Stuck else Calls number)
       by_test false f = (called, refl, e)

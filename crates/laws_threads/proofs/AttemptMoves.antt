@@ -32,6 +32,7 @@ use Rattle.laws_threads.proofs.FramesInside.{one_more, put_back_over}
 use Rattle.laws_threads.proofs.Inside.{base_below}
 use Rattle.laws_threads.proofs.SectionFrames.{Runs, Caller, IsExitOf, section_of_runs, moved, caller}
 use Rattle.laws_threads.proofs.Standings.{top_is}
+use Rattle.laws_sections.proofs.SectionCalls.{no_exit}
 
 -- ---- edges
 
@@ -53,9 +54,6 @@ call_falls (ops.Invokevirtual i) target u e = refl
 call_falls (ops.Invokespecial i) target u e = refl
 call_falls (ops.Invokestatic i) target u e = refl
 call_falls op target u e = absurd (cc)
-
-pub call_is_no_exit : (op : Op) (target : Target) (u : ℕ) → called_method op target ≡ Some u → op ≡ ops.Monitorexit → ⊥
-call_is_no_exit op target u e is = let bad : None ≡ Some u = subst (λ o. called_method o target ≡ Some u) is e in cc
 
 -- ---- frames come and go
 
@@ -135,7 +133,7 @@ module _ (c : MarkedProgram) (marked : IsMarked c) (phase : Phase) (f : Frame) (
           ⊎_elim
           (λ (runs : RunsSection c a (g ∷ frames_inside a more)). stands_inner c phase phases.Run (f ∷ b ∷ more) (g ∷ more) held a n k tt (omega (arith, low))
           (put_back_over a g more low ∙ sym (put_back_over a f (b ∷ more) (omega (arith, low)) ∙ put_back_over a b more low)) (subst (RunsSection c a) (sym (one_more a g more low)) runs))
-          (λ (y : (frames_inside a more ≡ []) × IsExitOf c marked a b kb). absurd (call_is_no_exit kb.insn.op x.1.call.target f.method call y.1.exits))
+          (λ (y : (frames_inside a more ≡ []) × IsExitOf c marked a b kb). absurd (no_exit kb.insn.op x.1.call.target f.method call y.1.exits))
           (moved c marked a b g (frames_inside a more) x.1.runs l (tags_after kb.insn (row_of c.program kb.method kb.insn kb.target) kb.tags) refl refl (onward l.insn edge))
 
   pub unwound_on : (below : List Frame) (n r : ℕ) (class : Thrown) (k : AttemptStands c phase (f ∷ below) held a) → Runs c a f (frames_inside a below) → (a.base ≡ length below → ⊥) → GoesOnInside c (unwound r class below) held (record a { inner = n })

@@ -22,6 +22,7 @@ use Rattle.checked_program.specs.TaggedCode.{Tagged}
 use Rattle.laws_sections.specs.FrameLaws.{IsReceiver}
 use Rattle.machine_types.specs.Frames.{first_or_null, entry_frame}
 use Rattle.laws_threads.proofs.EffectOps.{HasReceiver}
+use Rattle.laws_sections.proofs.HiddenThis.{with_receiver}
 
 index_is : (s : List ℕ) (n v : ℕ) → slice_get s n ≡ Some v → slice_index s n ≡ v
 index_is [] n v e = absurd (cc)
@@ -47,17 +48,11 @@ first_taken (x ∷ s) (suc n) v e =
     none [] q = cc
     none (y ∷ xs) q = cc
 
-many_taken : (called : MethodInfo) (w : Want) → length (arguments called ++ w ∷ []) ≡ suc (length called.args)
-many_taken called w =
-    let args : length (arguments called) ≡ length called.args = length-map (reverse called.args) want_of ∙ length-reverse called.args in
-    let all = length-append (arguments called) (w ∷ []) in
-    omega (arith, args, all)
-
 virtual_takes : (called : MethodInfo) → length (virtual_row (Some called)).takes ≡ suc (length called.args)
-virtual_takes called = many_taken called _
+virtual_takes called = with_receiver called _
 
 special_takes : (called : MethodInfo) → length (special_row (Some called)).takes ≡ suc (length called.args)
-special_takes called = many_taken called _
+special_takes called = with_receiver called _
 
 module _ (p : Program) (number : ℕ) (called : MethodInfo) (there : slice_get p.methods number ≡ Some called) (s : List ℕ) where
   abbrev receiver_by : OpRow → ℕ

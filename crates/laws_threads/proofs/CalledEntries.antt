@@ -29,7 +29,8 @@ use Rattle.laws_threads.specs.Allowed.{WantHolds, TakenHold}
 use Rattle.laws_threads.proofs.Lists.{zip_has, map_at, zip_length, zip_append, zip_reverse, reverse_map}
 use Rattle.laws_threads.proofs.Values.{ValuesHold}
 use Rattle.laws_threads.proofs.Landing.{tags_at, land}
-use Rattle.laws_threads.proofs.Calls.{CallRow, HasReceiver, as_many, deepest_first}
+use Rattle.laws_threads.proofs.Calls.{CallRow, HasReceiver, deepest_first}
+use Rattle.laws_sections.proofs.HiddenThis.{long_arguments}
 
 -- ---- arguments
 
@@ -134,7 +135,7 @@ module _ (m : MethodInfo) (is : Classes) where
           by_kind (inl k) =
               let v = has k.0 in
               let want = receiver_want (is_init called) called.class in
-              let count : length r.takes ≡ suc (length called.args) = ap (λ (x : OpRow). length x.takes) call.is ∙ ap length k.1 ∙ omega (arith, length-append (arguments called) (want ∷ []), as_many called) in
+              let count : length r.takes ≡ suc (length called.args) = ap (λ (x : OpRow). length x.takes) call.is ∙ ap length k.1 ∙ omega (arith, length-append (arguments called) (want ∷ []), long_arguments called) in
               let first = deepest_first (length called.args) s v.0 v.1 in
               let zip = subst (λ (ws : List Want). AllZip (WantHolds m is) ws (reverse (take (length r.takes) s))) (wants_in_order want) (ordered (arguments called ++ want ∷ []) k.1) in
               on_receiver number (reverse (take (length r.takes) s)) (is_init called) v.0 first.0 k.0 (ap (λ n. reverse (take n s)) count ∙ first.1) v.2 zip

@@ -21,6 +21,8 @@ use Rattle.checked_program.specs.CheckedLaws.{receiver_want}
 use Rattle.machine_types.specs.declared.effect.Effect.TheVariants.{Throws, Calls}
 use Rattle.machine_types.specs.Effects.{calls_on, calls_instance, effect}
 use Rattle.machine_types.specs.Frames.{first_or_null}
+use Rattle.checked_program.proofs.CheckedPlaces.{no_init}
+use Rattle.laws_sections.proofs.HiddenThis.{long_arguments}
 
 -- ---- the row of a call
 
@@ -28,11 +30,6 @@ pub record CallRow (called : MethodInfo) (r : OpRow) : Type 0 where
   pub takes : List Want
   pub is : r ≡ stack_row takes (result_of called)
   pub by : ((is_static called.flags ≡ false) × (takes ≡ arguments called ++ receiver_want (is_init called) called.class ∷ [])) ⊎ ((is_static called.flags ≡ true) × (takes ≡ arguments called))
-
-no_init : (a b c : Bool) → not (a || b || c) ≡ true → b ≡ false
-no_init true b c e = absurd (cc)
-no_init false true c e = absurd (cc)
-no_init false false c e = refl
 
 virtual_call : (called : MethodInfo) → is_static called.flags ≡ false → is_init called ≡ false → CallRow called (virtual_row (Some called))
 virtual_call called s e = record { takes = arguments called ++ AnObject called.class ∷ []; is = refl; by = inl (s, ap (λ b. arguments called ++ receiver_want b called.class ∷ []) (sym e)) }
@@ -60,9 +57,6 @@ call_row p site pc number (ops.Invokestatic i) r called e h =
     subst (λ (x : OpRow). CallRow called x) (sym h.its) (subst (λ (x : MethodInfo). CallRow x (static_row (Some h.method))) same (static_call h.method h.sort))
 call_row p site pc number op r called e h = absurd (assumption)
 
-pub as_many : (called : MethodInfo) → length (arguments called) ≡ length called.args
-as_many called = length-map (reverse called.args) want_of ∙ length-reverse called.args
-
 -- as many values as the method has arguments, with its receiver
 pub takes_arguments : (called : MethodInfo) (r : OpRow) → CallRow called r → length r.takes ≡ receiver_count called + length called.args
 takes_arguments called r call = ap (λ (x : OpRow). length x.takes) call.is ∙ by_kind call.by
@@ -72,8 +66,8 @@ takes_arguments called r call = ap (λ (x : OpRow). length x.takes) call.is ∙ 
 
     by_kind : ((is_static called.flags ≡ false) × (call.takes ≡ arguments called ++ receiver_want (is_init called) called.class ∷ [])) ⊎ ((is_static called.flags ≡ true) × (call.takes ≡ arguments called))
         → length call.takes ≡ receiver_count called + length called.args
-    by_kind (inl k) = counted false call.takes k.0 (ap length k.1 ∙ length-append (arguments called) (receiver_want (is_init called) called.class ∷ []) ∙ omega (arith, as_many called))
-    by_kind (inr k) = counted true call.takes k.0 (ap length k.1 ∙ omega (arith, as_many called))
+    by_kind (inl k) = counted false call.takes k.0 (ap length k.1 ∙ length-append (arguments called) (receiver_want (is_init called) called.class ∷ []) ∙ omega (arith, long_arguments called))
+    by_kind (inr k) = counted true call.takes k.0 (ap length k.1 ∙ omega (arith, long_arguments called))
 
 -- ---- its receiver
 

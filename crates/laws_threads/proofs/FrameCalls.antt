@@ -32,6 +32,7 @@ use Rattle.laws_threads.proofs.FramePlaces.{Lands, lands, top_by}
 use Rattle.laws_threads.proofs.MarkedMethods.{MethodAt, method_at}
 use Rattle.laws_threads.proofs.ShownFrames.{by_top, fits_at, holds_at, whole_landed}
 use Rattle.laws_threads.proofs.TagValues.{dropped}
+use Rattle.laws_programs.proofs.LocalEdges.{second_false}
 
 -- ---- the locals that a method begins with
 
@@ -140,12 +141,8 @@ call_enters_law c fs at number called is e d y =
 no_own : (m : MethodInfo) (f : Frame) → is_synchronized m.flags ≡ false → own_entry m f ≡ []
 no_own m f e = ap (λ (b : Bool). cond b (monitor_of m f ∷ []) []) e
 
-pub static_is_free : (a b : Bool) → (a && b) ≡ false → a ≡ true → b ≡ false
-static_is_free true b e s = e
-static_is_free false b e s = absurd (cc)
-
 pub roots_law : RootsShow
 roots_law c t number m is e s =
-    let free : is_synchronized m.flags ≡ false = static_is_free (is_static m.flags) (is_synchronized m.flags) (is.checked.program.methods number m e).unsynchronized s in
+    let free : is_synchronized m.flags ≡ false = second_false (is_static m.flags) (is_synchronized m.flags) (is.checked.program.methods number m e).unsynchronized s in
     let own : own_entry m (entry_frame number m (root_arguments t m)) ≡ [] = no_own m (entry_frame number m (root_arguments t m)) free in
     (own_entry m (entry_frame number m (root_arguments t m)), [], ap (λ (xs : List ℕ). xs ++ []) (sym own), entry_shows c is number m (root_arguments t m) e (λ q. absurd (let bad : true ≡ false = sym s ∙ q in cc)), refl)

@@ -21,13 +21,9 @@ use Rattle.machine_types.specs.Standing.{Standing, tags_of}
 use Rattle.machine_types.specs.Threads.{Frame}
 use Rattle.laws_threads.specs.StandingLaws.{IsSame, OneStanding, IsTop, TopsStand, FramesHaveTops}
 use Rattle.laws_threads.proofs.MarkedMethods.{IsMethod, MethodAt, method_at, method_with, found_at}
+use Rattle.laws_programs.proofs.EdgeTargets.{not_first}
 
 -- ---- the item at a pc
-
-pub not_first : (insns : List Insn) (i : ℕ) (x : Insn) (pc : ℕ) → is_start insns pc ≡ false → slice_get insns i ≡ Some x → (pc == x.pc) ≡ false
-not_first [] i x pc n e = absurd (cc)
-not_first (y ∷ insns) zero x pc n e = let same : y ≡ x = same_some e in let no : (x.pc == pc) ≡ false = subst (λ (z : Insn). (z.pc == pc) ≡ false) same (or_parts (y.pc == pc) (is_start insns pc) n).0 in grind (arith, nat_tests, no)
-not_first (y ∷ insns) (suc i) x pc n e = not_first insns i x pc (or_parts (y.pc == pc) (is_start insns pc) n).1 e
 
 pub at_number : {A : Type 0} (code : List Insn) (xs : List A) (i : ℕ) (insn : Insn) (x : A) → AreDistinct code → slice_get code i ≡ Some insn → slice_get xs i ≡ Some x → at_pc code xs insn.pc ≡ Some x
 at_number [] xs i insn x d e f = absurd (cc)

@@ -18,11 +18,6 @@ map_at g [] i x e = absurd (cc)
 map_at g (y ∷ xs) zero x e = let e : y ≡ x = cc in ap (λ z. Some (g z)) e
 map_at g (y ∷ xs) (suc i) x e = map_at g xs i x e
 
-pub all_get : {A : Type 0} (P : A → Type 0) (xs : List A) (i : ℕ) (x : A) → AllByRecursion P xs → slice_get xs i ≡ Some x → P x
-all_get P [] i x all e = absurd (cc)
-all_get P (y ∷ xs) zero x all e = let same : y ≡ x = cc in subst P same all.0
-all_get P (y ∷ xs) (suc i) x all e = all_get P xs i x all.1 e
-
 -- ---- lists whose items are related
 
 pub zip_at : {A B : Type 0} (R : A → B → Type 0) (xs : List A) (ys : List B) (i : ℕ) (x : A) (y : B) → AllZip R xs ys → slice_get xs i ≡ Some x → slice_get ys i ≡ Some y → R x y

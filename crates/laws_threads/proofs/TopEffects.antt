@@ -53,8 +53,9 @@ use Rattle.laws_threads.proofs.Values.{ValuesHold}
 use Rattle.laws_threads.proofs.Typing.{operands, edge_at}
 use Rattle.laws_threads.proofs.Allowed.{MakesAt, below_args, effect_allowed}
 use Rattle.laws_threads.proofs.Landing.{laid_at, rules_at, stand_top}
-use Rattle.laws_threads.proofs.Calls.{CallRow, call_row, as_many, takes_arguments, HasReceiver, call_receiver, receiver_first}
+use Rattle.laws_threads.proofs.Calls.{CallRow, call_row, takes_arguments, HasReceiver, call_receiver, receiver_first}
 use Rattle.laws_threads.proofs.TopStand.{top_here, row_here}
+use Rattle.laws_sections.proofs.HiddenThis.{long_arguments}
 
 -- ---- the effect is allowed
 
@@ -165,7 +166,7 @@ module _ (c : MarkedProgram) (marked : IsMarked c) where
             let takes : r.takes ≡ arguments called ++ receiver_want (is_init called) called.class ∷ [] = ap (λ (x : OpRow). x.takes) call.is ∙ k.1 in
             let want = receiver_want (is_init called) called.class in
             let at = below_args c.program h.stands.method (within c.program) [] (arguments called) want f.stack (subst (λ (ws : List Want). TakenHold h.stands.method (within c.program) ws f.stack) takes taken) in
-            let there : slice_get f.stack (length called.args) ≡ Some at.0 = subst (λ (n : ℕ). slice_get f.stack n ≡ Some at.0) (as_many called) at.1 in
+            let there : slice_get f.stack (length called.args) ≡ Some at.0 = subst (λ (n : ℕ). slice_get f.stack n ≡ Some at.0) (long_arguments called) at.1 in
             let same : at.0 ≡ v = same_some (sym there ∙ has.1) in
             let inside = receiver_inside (is_init called) called.class at.0 file at.2 (subst (λ (n : ℕ). 0 < n) (sym same) has.2) in
             subst (IsReference c.program) (same ∙ sym index) (subst (λ (n : ℕ). 0 < n) (sym same) has.2, inside)

@@ -11,11 +11,6 @@ use Rattle.jvm_types.specs.declared.class_file.Member.{Member as ClassMember}
 use Rattle.jvm_types.specs.declared.class_file.ClassFile.{ClassFile}
 use Rattle.link_scope.specs.Scoping.{FileOf, IsFileOf}
 
-pub class_at : (files : List ClassFile) (file : ℕ) (c : ClassFile) → AllByRecursion IsClass files → slice_get files file ≡ Some c → IsClass c
-class_at [] file c all e = absurd cc
-class_at (d ∷ ds) zero c all e = let same : d ≡ c = cc in subst IsClass same all.0
-class_at (d ∷ ds) (suc n) c all e = class_at ds n c all.1 e
-
 -- members are counted in two bytes
 pub field_number : (f : FileOf) (number : ℕ) (m : ClassMember) → IsFileOf f → slice_get f.class.fields number ≡ Some m → number < 65536
 field_number f number m is e = omega (arith, is.class.fields.count, slice_get_within f.class.fields number m e)

@@ -1,7 +1,7 @@
 -- The methods of a load keep the rules of methods.
 use Rattle.std.proofs.Common.{◌≡◌, ◌≤◌, ◌<◌, ◌^◌, ℕ, zero, suc, ◌+◌, ◌*◌, ◌/◌, ◌%◌, Bool, true, false, ◌&&◌, List, [], ◌∷◌, ◌++◌, length, codes, refl, sym, subst, ap, ◌∙◌, arith, nat_lt, slice_get, Some}
 use Rattle.std.specs.List.{AllByRecursion, flat_map, list_all, range_with_len}
-use Rattle.std.proofs.lemmas.Bool.{ltb-true}
+use Rattle.std.proofs.lemmas.Bool.{ltb-true, and_parts}
 use Rattle.std.proofs.lemmas.List.{length-append}
 use Rattle.jvm_types.specs.Numbers.{has_flag, u2, u4}
 use Rattle.jvm_types.specs.Pool.{NamesUtf8}
@@ -31,7 +31,7 @@ use Rattle.load_classes.specs.LoadClass.{
   load_constants,
   load_methods,
 }
-use Rattle.load_classes.proofs.LoadPool.{all_range, both, names_text}
+use Rattle.load_classes.proofs.LoadPool.{all_range, names_text}
 
 -- ---- a method
 
@@ -98,7 +98,7 @@ byte_test b = nat_lt b 256
 
 bytes_from_test : (bs : List ℕ) → list_all byte_test bs ≡ true → AllByRecursion IsByte bs
 bytes_from_test [] t = tt
-bytes_from_test (b ∷ bs) t = let p = both (byte_test b) (list_all byte_test bs) t in (ltb-true b 256 p.0, bytes_from_test bs p.1)
+bytes_from_test (b ∷ bs) t = let p = and_parts (byte_test b) (list_all byte_test bs) t in (ltb-true b 256 p.0, bytes_from_test bs p.1)
 
 factors_are_small : (x size : ℕ) → AllByRecursion (λ factor. factor < 100) (factors x size)
 factors_are_small x zero = tt
@@ -160,10 +160,10 @@ known_stands : (size flags name descriptor stack locals : ℕ) (bytes : List ℕ
     → (nat_lt flags 65536 && (nat_lt name 65536 && (nat_lt descriptor 65536 && (nat_lt stack 65536 && nat_lt locals 65536)))) ≡ true → length bytes < 2 ^ 16 → AllByRecursion IsByte bytes
     → has_flag NATIVE flags ≡ false → has_flag ABSTRACT flags ≡ false → IsMethod (load_constants size) (method flags name descriptor stack locals bytes)
 known_stands size flags name descriptor stack locals bytes named described t short each native abstracted =
-    let a = both (nat_lt flags 65536) _ t in
-    let b = both (nat_lt name 65536) _ a.1 in
-    let c = both (nat_lt descriptor 65536) _ b.1 in
-    let d = both (nat_lt stack 65536) (nat_lt locals 65536) c.1 in
+    let a = and_parts (nat_lt flags 65536) _ t in
+    let b = and_parts (nat_lt name 65536) _ a.1 in
+    let c = and_parts (nat_lt descriptor 65536) _ b.1 in
+    let d = and_parts (nat_lt stack 65536) (nat_lt locals 65536) c.1 in
     method_stands (load_constants size) flags name descriptor stack locals bytes (record {
       code = refl;
       named = named;

@@ -2,7 +2,7 @@
 use Rattle.std.proofs.Common.{◌≡◌, ◌≤◌, ◌<◌, ◌^◌, ℕ, zero, suc, ◌+◌, ◌*◌, Bool, true, false, not, ◌&&◌, List, [], ◌∷◌, ◌++◌, length, codes, refl, sym, subst, ap, ◌∙◌, arith, nat_lt, slice_get, Some}
 use Rattle.std.specs.List.{AllByRecursion, flat_map, list_all, range_with_len}
 use Rattle.std.specs.Fmt.{decimal}
-use Rattle.std.proofs.lemmas.Bool.{ltb-true}
+use Rattle.std.proofs.lemmas.Bool.{ltb-true, and_parts}
 use Rattle.std.proofs.lemmas.List.{length-append}
 use Rattle.jvm_types.specs.Pool.{NamesUtf8, NamesNameAndType}
 use Rattle.jvm_types.specs.ClassGrammar.{is_wide, is_gap, GapsFit, IsUtf8Byte, FieldsFit, IndicesFit, IsPool}
@@ -22,10 +22,6 @@ get_behind : (xs ys : List Constant) (n : ℕ) → slice_get (xs ++ ys) (length 
 get_behind [] ys n = let e : length {A = Constant} [] + n ≡ n = omega arith in ap (slice_get ys) e
 get_behind (x ∷ xs) ys n = let e : length (x ∷ xs) + n ≡ suc (length xs + n) = omega arith in ap (slice_get (x ∷ (xs ++ ys))) e ∙ get_behind xs ys n
 
-pub both : (a b : Bool) → (a && b) ≡ true → (a ≡ true) × (b ≡ true)
-both true b t = (refl, t)
-both false b t = absurd cc
-
 -- ---- the entries that each load has
 
 abbrev adders_of : ℕ → List Constant
@@ -36,7 +32,7 @@ byte_test b = nat_lt 0 b && nat_lt b 240
 
 text_from_test : (text : List ℕ) → list_all byte_test text ≡ true → AllByRecursion IsUtf8Byte text
 text_from_test [] t = tt
-text_from_test (b ∷ text) t = let p = both (byte_test b) (list_all byte_test text) t in let q = both (nat_lt 0 b) (nat_lt b 240) p.0 in ((ltb-true 0 b q.0, ltb-true b 240 q.1), text_from_test text p.1)
+text_from_test (b ∷ text) t = let p = and_parts (byte_test b) (list_all byte_test text) t in let q = and_parts (nat_lt 0 b) (nat_lt b 240) p.0 in ((ltb-true 0 b q.0, ltb-true b 240 q.1), text_from_test text p.1)
 
 abbrev index_test : ℕ → Bool
 index_test i = nat_lt i 65536
@@ -51,11 +47,11 @@ entry_test (NameAndType name descriptor) = index_test name && index_test descrip
 entry_test c = false
 
 both_indices : (i j : ℕ) → (index_test i && index_test j) ≡ true → (i < 2 ^ 16) × (j < 2 ^ 16)
-both_indices i j t = let p = both (index_test i) (index_test j) t in (ltb-true i 65536 p.0, ltb-true j 65536 p.1)
+both_indices i j t = let p = and_parts (index_test i) (index_test j) t in (ltb-true i 65536 p.0, ltb-true j 65536 p.1)
 
 entry_from_test : (c : Constant) → entry_test c ≡ true → FieldsFit c
 entry_from_test Gap t = tt
-entry_from_test (Utf8 text) t = let p = both (nat_lt (length text) 65536) (list_all byte_test text) t in (ltb-true (length text) 65536 p.0, text_from_test text p.1)
+entry_from_test (Utf8 text) t = let p = and_parts (nat_lt (length text) 65536) (list_all byte_test text) t in (ltb-true (length text) 65536 p.0, text_from_test text p.1)
 entry_from_test (Class name) t = ltb-true name 65536 t
 entry_from_test (Field class member) t = both_indices class member t
 entry_from_test (Method class member) t = both_indices class member t
@@ -69,7 +65,7 @@ entry_from_test (InterfaceMethod class member) t = absurd cc
 
 entries_from_test : (cs : List Constant) → list_all entry_test cs ≡ true → AllByRecursion FieldsFit cs
 entries_from_test [] t = tt
-entries_from_test (c ∷ cs) t = let p = both (entry_test c) (list_all entry_test cs) t in (entry_from_test c p.0, entries_from_test cs p.1)
+entries_from_test (c ∷ cs) t = let p = and_parts (entry_test c) (list_all entry_test cs) t in (entry_from_test c p.0, entries_from_test cs p.1)
 
 -- ---- what the methods that add are named by
 
@@ -122,8 +118,8 @@ is_plain c = not (is_gap c) && not (is_wide c)
 gaps_plain : (cs rest : List Constant) → list_all is_plain cs ≡ true → GapsFit false rest → GapsFit false (cs ++ rest)
 gaps_plain [] rest t h = h
 gaps_plain (c ∷ cs) rest t h =
-    let p = both (is_plain c) (list_all is_plain cs) t in
-    let q = both (not (is_gap c)) (not (is_wide c)) p.0 in
+    let p = and_parts (is_plain c) (list_all is_plain cs) t in
+    let q = and_parts (not (is_gap c)) (not (is_wide c)) p.0 in
     (no (is_gap c) q.0, subst (λ (due : Bool). GapsFit due (cs ++ rest)) (sym (no (is_wide c) q.1)) (gaps_plain cs rest p.1 h))
   where
     no : (b : Bool) → not b ≡ true → b ≡ false

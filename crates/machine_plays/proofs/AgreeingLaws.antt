@@ -3,6 +3,7 @@ use Rattle.std.proofs.Common.{◌≡◌, ℕ, Bool, true, false, List, [], ◌�
 use Rattle.std.specs.Prelude.{◌==◌, not, ◌&&◌, ◌||◌}
 use Rattle.std.specs.List.{list_all, list_any}
 use Rattle.std.proofs.lemmas.Bool.Decides.{nat_tests}
+use Rattle.std.proofs.lemmas.Bool.{eqb-true}
 use Rattle.jvm_types.specs.Numbers.{has_number}
 use Rattle.jvm_types.specs.declared.outcome.End.{End}
 use Rattle.jvm_types.specs.declared.outcome.End.TheVariants as ends
@@ -26,16 +27,13 @@ use Rattle.machine_plays.proofs.Agreeing.{same_list, same_frame, same_frames, sa
 
 -- ---- what is the same is equal
 
-same_number : (m n : ℕ) → (m == n) ≡ true → m ≡ n
-same_number m n e = grind (arith, nat_tests)
-
 equal_lists : (xs ys : List ℕ) → same_list xs ys ≡ true → xs ≡ ys
 equal_lists [] [] e = refl
 equal_lists [] (y ∷ ys) e = cc
 equal_lists (x ∷ xs) [] e = cc
 equal_lists (x ∷ xs) (y ∷ ys) e =
     let parts : ((x == y) ≡ true) × (same_list xs ys ≡ true) = both_are_true (x == y) (same_list xs ys) e in
-    let first : x ≡ y = same_number x y parts.0 in
+    let first : x ≡ y = eqb-true x y parts.0 in
     let rest : xs ≡ ys = equal_lists xs ys parts.1 in λ i. first i ∷ rest i
 
 equal_frame : (f g : Frame) → same_frame f g ≡ true → f ≡ g
@@ -44,9 +42,9 @@ equal_frame f g e =
     let b : ((f.pc == g.pc) ≡ true) × (((f.receiver == g.receiver) && (same_list f.locals g.locals && same_list f.stack g.stack)) ≡ true) = both_are_true _ _ a.1 in
     let c : ((f.receiver == g.receiver) ≡ true) × ((same_list f.locals g.locals && same_list f.stack g.stack) ≡ true) = both_are_true _ _ b.1 in
     let d : (same_list f.locals g.locals ≡ true) × (same_list f.stack g.stack ≡ true) = both_are_true _ _ c.1 in
-    let method : f.method ≡ g.method = same_number f.method g.method a.0 in
-    let pc : f.pc ≡ g.pc = same_number f.pc g.pc b.0 in
-    let receiver : f.receiver ≡ g.receiver = same_number f.receiver g.receiver c.0 in
+    let method : f.method ≡ g.method = eqb-true f.method g.method a.0 in
+    let pc : f.pc ≡ g.pc = eqb-true f.pc g.pc b.0 in
+    let receiver : f.receiver ≡ g.receiver = eqb-true f.receiver g.receiver c.0 in
     let locals : f.locals ≡ g.locals = equal_lists f.locals g.locals d.0 in
     let stack : f.stack ≡ g.stack = equal_lists f.stack g.stack d.1 in
     λ i. record { method = method i; pc = pc i; receiver = receiver i; locals = locals i; stack = stack i }
@@ -77,14 +75,14 @@ thrown_back thrown.StackOverflowError = refl
 
 same_thrown : (x y : Thrown) → (class_of x == class_of y) ≡ true → x ≡ y
 same_thrown x y e =
-    let one : Some x ≡ Some y = sym (thrown_back x) ∙ ap thrown_of (same_number (class_of x) (class_of y) e) ∙ thrown_back y in cc
+    let one : Some x ≡ Some y = sym (thrown_back x) ∙ ap thrown_of (eqb-true (class_of x) (class_of y) e) ∙ thrown_back y in cc
 
 equal_after : (a b : After) → same_after a b ≡ true → a ≡ b
 equal_after afters.Next afters.Next e = refl
 equal_after afters.Return afters.Return e = refl
 equal_after (afters.Unwind x class) (afters.Unwind y other) e =
     let parts : ((x == y) ≡ true) × ((class_of class == class_of other) ≡ true) = both_are_true (x == y) (class_of class == class_of other) e in
-    let first : x ≡ y = same_number x y parts.0 in
+    let first : x ≡ y = eqb-true x y parts.0 in
     let second : class ≡ other = same_thrown class other parts.1 in λ i. afters.Unwind (first i) (second i)
 equal_after a b e = cc
 
@@ -98,24 +96,24 @@ equal plain.Ready plain.Ready e = refl
 equal plain.Run plain.Run e = refl
 equal (plain.Throw x class) (plain.Throw y other) e =
     let parts : ((x == y) ≡ true) × ((class_of class == class_of other) ≡ true) = both_are_true (x == y) (class_of class == class_of other) e in
-    let first : x ≡ y = same_number x y parts.0 in
+    let first : x ≡ y = eqb-true x y parts.0 in
     let second : class ≡ other = same_thrown class other parts.1 in λ i. plain.Throw (first i) (second i)
-equal (plain.Enter m) (plain.Enter n) e = ap plain.Enter (same_number m n e)
+equal (plain.Enter m) (plain.Enter n) e = ap plain.Enter (eqb-true m n e)
 equal (plain.Leave m a) (plain.Leave n b) e =
     let parts : ((m == n) ≡ true) × (same_after a b ≡ true) = both_are_true (m == n) (same_after a b) e in
-    let first : m ≡ n = same_number m n parts.0 in
+    let first : m ≡ n = eqb-true m n parts.0 in
     let second : a ≡ b = equal_after a b parts.1 in λ i. plain.Leave (first i) (second i)
-equal (plain.Wait m) (plain.Wait n) e = ap plain.Wait (same_number m n e)
-equal (plain.Notify m) (plain.Notify n) e = ap plain.Notify (same_number m n e)
-equal (plain.NotifyAll m) (plain.NotifyAll n) e = ap plain.NotifyAll (same_number m n e)
+equal (plain.Wait m) (plain.Wait n) e = ap plain.Wait (eqb-true m n e)
+equal (plain.Notify m) (plain.Notify n) e = ap plain.Notify (eqb-true m n e)
+equal (plain.NotifyAll m) (plain.NotifyAll n) e = ap plain.NotifyAll (eqb-true m n e)
 equal (plain.Waiting m d) (plain.Waiting n f) e =
     let parts : ((m == n) ≡ true) × ((d == f) ≡ true) = both_are_true (m == n) (d == f) e in
-    let first : m ≡ n = same_number m n parts.0 in
-    let second : d ≡ f = same_number d f parts.1 in λ i. plain.Waiting (first i) (second i)
+    let first : m ≡ n = eqb-true m n parts.0 in
+    let second : d ≡ f = eqb-true d f parts.1 in λ i. plain.Waiting (first i) (second i)
 equal (plain.Woken m d) (plain.Woken n f) e =
     let parts : ((m == n) ≡ true) × ((d == f) ≡ true) = both_are_true (m == n) (d == f) e in
-    let first : m ≡ n = same_number m n parts.0 in
-    let second : d ≡ f = same_number d f parts.1 in λ i. plain.Woken (first i) (second i)
+    let first : m ≡ n = eqb-true m n parts.0 in
+    let second : d ≡ f = eqb-true d f parts.1 in λ i. plain.Woken (first i) (second i)
 equal (plain.Ended x) (plain.Ended y) e = ap plain.Ended (equal_end x y e)
 equal x y e = cc
 
@@ -132,11 +130,11 @@ waits_there bit (n ∷ ns) status all m is set = by_test (n == m) refl is (λ h.
     here e = subst (λ (b : Bool). (not b || waits_on status m) ≡ true) set e
 
     by_test : (b : Bool) → (n == m) ≡ b → b || has_number ns m ≡ true → (has_number ns m ≡ true → waits_on status m ≡ true) → waits_on status m ≡ true
-    by_test true k h more = here (subst (λ (j : ℕ). (not (bit j) || waits_on status j) ≡ true) (same_number n m k) parts.0)
+    by_test true k h more = here (subst (λ (j : ℕ). (not (bit j) || waits_on status j) ≡ true) (eqb-true n m k) parts.0)
     by_test false k h more = more h
 
 waiting : (status : Status) (m : ℕ) → waits_on status m ≡ true → (depth : ℕ) × (status ≡ plain.Waiting m depth)
-waiting (plain.Waiting n d) m e = (d, ap (λ (k : ℕ). plain.Waiting k d) (same_number n m e))
+waiting (plain.Waiting n d) m e = (d, ap (λ (k : ℕ). plain.Waiting k d) (eqb-true n m e))
 waiting status m e = cc
 
 none_set : (bit : ℕ → Bool) (references : List ℕ) → ((m : ℕ) → bit m ≡ false) → list_any bit references ≡ false

@@ -4,6 +4,7 @@
 use Rattle.std.proofs.Common.{◌≡◌, ℕ, Bool, true, false, zero, suc, ◌+◌, List, [], ◌∷◌, Option, Some, None, refl, sym, ap, ◌∙◌, ◌<◌, ◌≤◌, arith}
 use Rattle.jvm_types.specs.ClassTree.{is_subclass}
 use Rattle.std.specs.Prelude.{is_some, length, nat_lt, slice_index, slice_index_or, slice_set}
+use Rattle.std.proofs.lemmas.Bool.{lt-ltb, ltb-true}
 use Rattle.checked_program.specs.MarkedProgram.{MarkedProgram}
 use Rattle.machine_types.specs.History.{Past, no_past}
 use Rattle.machine_types.specs.LockWords.{lock_of}
@@ -199,14 +200,8 @@ settled at s =
 
 -- ---- many rounds
 
-less : (m n : ℕ) → nat_lt m n ≡ true → m < n
-less m n e = grind (arith, e)
-
-is_less : (m n : ℕ) → m < n → nat_lt m n ≡ true
-is_less m n l = grind (arith, l)
-
 below : (turns n limit : ℕ) → nat_lt (turns + 900) limit ≡ true → n < 900 → nat_lt (turns + n + 1) limit ≡ true
-below turns n limit e l = let far : turns + 900 < limit = less (turns + 900) limit e in is_less (turns + n + 1) limit (omega (arith, far, l))
+below turns n limit e l = let far : turns + 900 < limit = ltb-true (turns + 900) limit e in lt-ltb (turns + n + 1) limit (omega (arith, far, l))
 
 one_more_round : (c : MarkedProgram) (at : Point) → Settled at → (events n : ℕ) → n < 900 → after 2 c (turned at events n) ≡ turned at (suc (suc events)) (suc n)
 one_more_round c at s events n l = one_round c at.play.told.core.words (thread_at at 0) (thread_at at 1) (thread_at at 2) (past_of at 0) (past_of at 1) (past_of at 2) (beside_of at) events at.play.steps n (wanted_by at 1) (wanted_by at 2) 2 1 s.first_lock s.second_lock s.counts

@@ -3,6 +3,7 @@ use Rattle.std.proofs.Common.{◌≡◌, ◌≢◌, ℕ, zero, suc, ◌+◌, Boo
 use Rattle.std.specs.Prelude.{◌==◌, option_map, option_and_then, slice_get, slice_set}
 use Rattle.std.proofs.lemmas.Bool.Decides.{nat_tests}
 use Rattle.std.proofs.lemmas.List.{set-set}
+use Rattle.std.proofs.lemmas.Bool.{eqb-true}
 use Rattle.lists.proofs.ListLaws.{same_some}
 use Rattle.jvm_types.specs.declared.program.Program.{Program}
 use Rattle.machine_types.specs.Effects.{Effect, Writes, Indexes, Makes, Prints, Returns, Leaves, Waits, Notifies, NotifiesAll, read_by}
@@ -18,7 +19,7 @@ use Rattle.machine_types.specs.declared.phase.After.{After}
 use Rattle.machine_types.specs.declared.plain.Act.{Act}
 use Rattle.machine_types.specs.declared.plain.Act.TheVariants as acts
 use Rattle.machine_types.proofs.Lists.{set_as_it_is, got_when_set}
-use Rattle.machine_types.proofs.PlainStepLaws.{is_same, are_same, found_when_put}
+use Rattle.machine_types.proofs.PlainStepLaws.{is_same, found_when_put}
 
 -- ---- the plain state in which a thread stands as in a replay, with the monitor
 
@@ -107,7 +108,7 @@ holds q t m x f = ap (is_holder t) f.holding ∙ is_same t
 if_held_as : (q : Plain) (t m n : ℕ) (x z : Alone) (at : Top) (begun : ℕ) (o : Onward) (b : Bool) → (n == m) ≡ b → Stands q t m x → goes (record x { begun = begun }) (cond b (Some o) None) ≡ Some z
     → with_thread q t (if_held q t n x.thread at (goes_on x.thread o)) ≡ stands_as q t m z
 if_held_as q t m n x z at begun o true k f e =
-    let holder : is_holder t (holding_at q.holdings n) ≡ true = ap (λ (i : ℕ). is_holder t (holding_at q.holdings i)) (are_same n m k) ∙ holds q t m x f in
+    let holder : is_holder t (holding_at q.holdings n) ≡ true = ap (λ (i : ℕ). is_holder t (holding_at q.holdings i)) (eqb-true n m k) ∙ holds q t m x f in
     rw holder (onward_as q t m x z begun o f e)
 if_held_as q t m n x z at begun o false k f e = cc
 
@@ -126,7 +127,7 @@ if_left_as q t m x z at begun o f e = onward_as q t m x z begun o f e
 leaves_as : (p : Program) (q : Plain) (t m n : ℕ) (x z : Alone) (at : Top) (begun : ℕ) (b : Bool) → (n == m) ≡ b → Stands q t m x → m ≢ 0
     → goes (record x { begun = begun }) (cond b (Some (Leaving n Next (went_on p at 0))) None) ≡ Some z → did p q t x.thread at (Leaves n) 0 ≡ Some (stands_as q t m z)
 leaves_as p q t m n x z at begun true k f some e =
-    let other : (n == 0) ≡ false = is_other n m (are_same n m k) some in
+    let other : (n == 0) ≡ false = is_other n m (eqb-true n m k) some in
     let left : with_thread q t (if_held q t n x.thread at (goes_on x.thread (Leaving n Next (went_on p at 0)))) ≡ stands_as q t m z = if_held_as q t m n x z at begun (Leaving n Next (went_on p at 0)) true k f e in
     rw other (ap Some left)
   where
@@ -161,7 +162,7 @@ instructed_as p q t m x z (Some at) f some e = got_as p q t m x z at (x.begun + 
 
 entered_as : (q : Plain) (t m n : ℕ) (x z : Alone) (b : Bool) → (n == m) ≡ b → Stands q t m x → cond b (Some (enters x)) None ≡ Some z → entered q t n x.thread (holding_at q.holdings n) ≡ Some (stands_as q t m z)
 entered_as q t m n x z true k f e =
-    ap (λ (i : ℕ). entered q t i x.thread (holding_at q.holdings i)) (are_same n m k)
+    ap (λ (i : ℕ). entered q t i x.thread (holding_at q.holdings i)) (eqb-true n m k)
     ∙ ap (entered q t m x.thread) f.holding
     ∙ ap (λ (b : Bool). cond b (Some (with_thread (held_by q m t (x.depth + 1)) t (with_status x.thread plain.Run))) None) (is_same t)
     ∙ ap (λ (y : Alone). Some (stands_as q t m y)) (same_some e)
@@ -179,7 +180,7 @@ left_as p q t m x z a zero e = cc
 exited_as : (p : Program) (q : Plain) (t m n : ℕ) (a : After) (x z : Alone) (b : Bool) → (n == m) ≡ b → Stands q t m x → cond b (leaves p x a x.depth) None ≡ Some z
     → exited p q t n a x.thread (holding_at q.holdings n) ≡ Some (stands_as q t m z)
 exited_as p q t m n a x z true k f e =
-    ap (λ (i : ℕ). exited p q t i a x.thread (holding_at q.holdings i)) (are_same n m k)
+    ap (λ (i : ℕ). exited p q t i a x.thread (holding_at q.holdings i)) (eqb-true n m k)
     ∙ ap (exited p q t m a x.thread) f.holding
     ∙ ap (λ (b : Bool). cond b (option_map (λ o. with_thread (left q t m x.depth) t (goes_on x.thread o)) (after p x.thread.frames a)) None) (is_same t)
     ∙ left_as p q t m x z a x.depth e

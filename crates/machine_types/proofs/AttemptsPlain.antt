@@ -88,7 +88,7 @@ has_field o index lt =
 
 -- ---- no new object has them
 
-size_two : (p : Program) (word : ℕ) → 2 ≤ size_by p word
+pub size_two : (p : Program) (word : ℕ) → 2 ≤ size_by p word
 size_two p word = by_test (header_class word == INT_ARRAY_CLASS)
   where
     by_test : (b : Bool) → 2 ≤ cond b (2 + header_length word) (2 + instances_among (header_class word) p.fields)

@@ -108,7 +108,7 @@ new_objects c cfg = record {
   apart = λ t u x y a b word other e h ne k l. absurd (none_made x.phase a word (fresh_phase c cfg t x e) k);
 }
 
-none_built : {X : Type 0} (x : X) → None ≡ Some x → ⊥
+pub none_built : {X : Type 0} (x : X) → None ≡ Some x → ⊥
 none_built x e = cc
 
 construction : (c : MarkedProgram) (cfg : Config) (frozen : ℕ → Bool) → IsProgram c.program → AreFrozen c frozen → Construction c frozen no_world (phase_at_start c cfg) (start_objects c.program) (start c cfg)

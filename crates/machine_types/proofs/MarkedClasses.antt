@@ -1,6 +1,7 @@
 -- The classes of which a field may be read without a lock are frozen, and a test tells them.
 use Rattle.std.proofs.Common.{◌≡◌, ℕ, zero, suc, Bool, true, false, List, [], ◌∷◌, length, Some, refl, sym, ap, ◌∙◌, subst, arith}
 use Rattle.std.specs.Prelude.{◌==◌, ◌&&◌, ◌||◌, slice_get}
+use Rattle.std.proofs.lemmas.Bool.{eqb-true}
 use Rattle.jvm_types.specs.declared.program.FieldInfo.{FieldInfo}
 use Rattle.jvm_types.specs.declared.program.Program.{Program}
 use Rattle.checked_program.specs.FrozenPlaces.{IsFrozenClass, IsFrozenField, IsGuardedField, IsUse, AreUses}
@@ -9,7 +10,7 @@ use Rattle.checked_program.specs.declared.section.FieldUse.{FieldUse}
 use Rattle.checked_program.specs.declared.section.FieldUse.TheVariants.{Frozen, Guarded, Open}
 use Rattle.machine_types.specs.MarkLaws.{HasFrozenTest}
 use Rattle.machine_types.specs.Standing.{tags_of}
-use Rattle.machine_types.proofs.PlainStepLaws.{is_same, are_same}
+use Rattle.machine_types.proofs.PlainStepLaws.{is_same}
 
 abbrev is_closed : FieldUse → Bool
 is_closed Open = false
@@ -68,11 +69,11 @@ module _ (p : Program) (tags : Tagged) (uses : List FieldUse) (are : AreUses p t
   frozen_class class fi field Open e k t = absurd (let bad : false ≡ true = t in cc)
   frozen_class class fi field Frozen e k t =
       let same : k.field ≡ field = (let s : Some k.field ≡ Some field = sym k.is ∙ e in cc) in
-      let of_class : field.class ≡ class = are_same field.class class t in
+      let of_class : field.class ≡ class = eqb-true field.class class t in
       subst (IsFrozenClass p tags) (ap (λ (z : FieldInfo). z.class) same ∙ of_class) k.frozen
   frozen_class class fi field Guarded e k t =
       let same : k.field ≡ field = (let s : Some k.field ≡ Some field = sym k.is ∙ e in cc) in
-      let of_class : field.class ≡ class = are_same field.class class t in
+      let of_class : field.class ≡ class = eqb-true field.class class t in
       subst (IsFrozenClass p tags) (ap (λ (z : FieldInfo). z.class) same ∙ of_class) k.frozen
 
   told_frozen : (fi : ℕ) (k : IsFrozenField p tags fi) (used : FieldUse) → slice_get uses fi ≡ Some used → IsUse p tags fi used → is_told p.fields uses k.field.class ≡ true

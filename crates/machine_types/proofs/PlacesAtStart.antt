@@ -3,7 +3,7 @@ use Rattle.std.proofs.Common.{◌≡◌, ◌≢◌, ◌⊎◌, ⊎_elim, inl, in
 use Rattle.std.specs.Prelude.{filter, flat_map, map, replicate, Contains, not, nat_le, nat_lt, ◌==◌, ◌&&◌, slice_get, slice_index}
 use Rattle.std.specs.List.{list_all, range_with_len, sum_by}
 use Rattle.std.proofs.lemmas.List.{length-map, length-replicate}
-use Rattle.std.proofs.lemmas.Bool.{cases_order, eqb-true}
+use Rattle.std.proofs.lemmas.Bool.{cases_order, eqb-true, leb-true}
 use Rattle.std.proofs.lemmas.Bool.Decides.{nat_tests}
 use Rattle.lists.proofs.TestLaws.{both_are_true}
 use Rattle.lists.proofs.ListLaws.{same_some}
@@ -220,9 +220,6 @@ pub record IsPlaced (o : Object) (to : ℕ) : Type 0 where
 abbrev is_placed : (to : ℕ) → Object → Bool
 is_placed to o = nat_le FIRST_READY_WORD o.reference && (nat_le (object_end o) to && (nat_lt o.class (file_class 0) && (length o.values == 0)))
 
-at_most : (m n : ℕ) → nat_le m n ≡ true → m ≤ n
-at_most m n e = grind (arith, nat_tests)
-
 less : (m n : ℕ) → nat_lt m n ≡ true → m < n
 less m n e = grind (arith, nat_tests)
 
@@ -231,7 +228,7 @@ placed to o e =
     let a : (nat_le FIRST_READY_WORD o.reference ≡ true) × ((nat_le (object_end o) to && (nat_lt o.class (file_class 0) && (length o.values == 0))) ≡ true) = both_are_true _ _ e in
     let b : (nat_le (object_end o) to ≡ true) × ((nat_lt o.class (file_class 0) && (length o.values == 0)) ≡ true) = both_are_true _ _ a.1 in
     let c : (nat_lt o.class (file_class 0) ≡ true) × ((length o.values == 0) ≡ true) = both_are_true _ _ b.1 in
-    record { begins = at_most FIRST_READY_WORD o.reference a.0; to_word = at_most (object_end o) to b.0; built_in = less o.class (file_class 0) c.0; empty = eqb-true (length o.values) 0 c.1 }
+    record { begins = leb-true FIRST_READY_WORD o.reference a.0; to_word = leb-true (object_end o) to b.0; built_in = less o.class (file_class 0) c.0; empty = eqb-true (length o.values) 0 c.1 }
 
 pub ready_placed : (i : ℕ) (o : Object) → slice_get ready_objects i ≡ Some o → IsPlaced o FIRST_CLASS_WORD
 ready_placed i o e = placed FIRST_CLASS_WORD o (every (is_placed FIRST_CLASS_WORD) ready_objects refl i o e)
@@ -248,7 +245,7 @@ two {X} test (z ∷ zs) all zero (suc j) x y e h lt =
 two test (z ∷ zs) all (suc i) (suc j) x y e h lt = two test zs (both_are_true (list_all (λ w. test z w) zs) (each_two test zs) all).1 i j x y e h (omega (arith, lt))
 
 ready_apart : (i j : ℕ) (o e : Object) → slice_get ready_objects i ≡ Some o → slice_get ready_objects j ≡ Some e → i < j → object_end o ≤ e.reference
-ready_apart i j o e g h lt = at_most (object_end o) e.reference (two (λ x y. nat_le (object_end x) y.reference) ready_objects refl i j o e g h lt)
+ready_apart i j o e g h lt = leb-true (object_end o) e.reference (two (λ x y. nat_le (object_end x) y.reference) ready_objects refl i j o e g h lt)
 
 -- ---- the classes themselves
 
@@ -441,7 +438,7 @@ length_front p records is =
       length-replicate {A = ℕ} records 0,
     )
 
-in_replicated : (n x : ℕ) → slice_index (replicate n 0) x ≡ 0
+pub in_replicated : (n x : ℕ) → slice_index (replicate n 0) x ≡ 0
 in_replicated zero x = refl
 in_replicated (suc n) zero = refl
 in_replicated (suc n) (suc x) = in_replicated n x

@@ -95,7 +95,7 @@ fits : (c : MarkedProgram) (cfg : Config) (bit : ℕ → Bool) (t : ℕ) → Thr
 fits c cfg bit zero = fits_first c cfg bit (init_roots c.program)
 fits c cfg bit (suc t) = record { frames = refl; status = refl; roots = refl }
 
-plain_thread : (p : Program) (t : ℕ) (y : PlainThread) → slice_get (plain_start p).threads t ≡ Some y → plain.start_thread p t ≡ y
+pub plain_thread : (p : Program) (t : ℕ) (y : PlainThread) → slice_get (plain_start p).threads t ≡ Some y → plain.start_thread p t ≡ y
 plain_thread p t y e = let k : 0 + t ≡ t = omega arith in subst (λ (i : ℕ). plain.start_thread p i ≡ y) k (thread_in (plain.start_thread p) 0 (p.workers + 1) t y e)
 
 none_held : (c : MarkedProgram) (cfg : Config) (t m : ℕ) (o : Option Thread) → slice_get (start c cfg).threads t ≡ o → None ≡ depth_of o m

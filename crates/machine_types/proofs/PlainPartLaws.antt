@@ -2,6 +2,7 @@
 use Rattle.std.proofs.Common.{◌≡◌, ◌≢◌, inl, inr, ℕ, zero, suc, ◌+◌, Bool, true, false, List, [], ◌∷◌, map, Option, Some, None, refl, sym, ap, ◌∙◌, subst}
 use Rattle.std.specs.Prelude.{cond, drop, ◌==◌, nat_lt, nat_le, option_map, option_and_then, slice_get}
 use Rattle.std.specs.List.{list_all, list_any}
+use Rattle.std.proofs.lemmas.Bool.{eqb-true}
 use Rattle.lists.proofs.TestLaws.{both_are_true}
 use Rattle.lists.proofs.ListLaws.{same_some}
 use Rattle.jvm_types.specs.declared.code.Insn.{Insn}
@@ -32,7 +33,7 @@ use Rattle.machine_types.specs.declared.phase.After.TheVariants as afters
 use Rattle.machine_types.specs.declared.plain.Act.{Act}
 use Rattle.machine_types.specs.declared.plain.Act.TheVariants as acts
 use Rattle.machine_types.proofs.Lists.{got_when_set, got_other, every}
-use Rattle.machine_types.proofs.PlainStepLaws.{by_status, is_same, are_same, depth_is, none_left}
+use Rattle.machine_types.proofs.PlainStepLaws.{by_status, is_same, depth_is, none_left}
 
 -- ---- the last exit
 
@@ -114,7 +115,7 @@ stays_awake : (m : ℕ) (status : Status) → ((depth : ℕ) → status ≢ plai
 stays_awake m (plain.Waiting n depth) none = by_test (n == m) refl
   where
     by_test : (b : Bool) → (n == m) ≡ b → cond b (plain.Woken n depth) (plain.Waiting n depth) ≡ plain.Waiting n depth
-    by_test true e = absurd (none depth (ap (λ (k : ℕ). plain.Waiting k depth) (are_same n m e)))
+    by_test true e = absurd (none depth (ap (λ (k : ℕ). plain.Waiting k depth) (eqb-true n m e)))
     by_test false e = refl
 stays_awake m status none = refl
 
@@ -337,15 +338,15 @@ instructions_change_memory p q r t x act h n = kept_by p q r t x act x.status (b
 
 -- ---- exceptions
 
-of_top : (f : Frame) (below : List Frame) (m : MethodInfo) (insn : Option Insn) (target : Option Target) (at : Top) → top_at f below m insn target ≡ Some at → frames_of at ≡ f ∷ below
+pub of_top : (f : Frame) (below : List Frame) (m : MethodInfo) (insn : Option Insn) (target : Option Target) (at : Top) → top_at f below m insn target ≡ Some at → frames_of at ≡ f ∷ below
 of_top f below m (Some insn) (Some target) at e = ap frames_of (sym (same_some e))
 of_top f below m insn target at e = cc
 
-of_method : (f : Frame) (below : List Frame) (m : Option MethodInfo) (at : Top) → top_in f below m ≡ Some at → frames_of at ≡ f ∷ below
+pub of_method : (f : Frame) (below : List Frame) (m : Option MethodInfo) (at : Top) → top_in f below m ≡ Some at → frames_of at ≡ f ∷ below
 of_method f below None at e = cc
 of_method f below (Some m) at e = of_top f below m (at_pc m.code m.code f.pc) (at_pc m.code m.targets f.pc) at e
 
-frames_are : (p : Program) (fs : List Frame) (at : Top) → top_of p fs ≡ Some at → frames_of at ≡ fs
+pub frames_are : (p : Program) (fs : List Frame) (at : Top) → top_of p fs ≡ Some at → frames_of at ≡ fs
 frames_are p [] at e = cc
 frames_are p (f ∷ below) at e = of_method f below (slice_get p.methods f.method) at e
 

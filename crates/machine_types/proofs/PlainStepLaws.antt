@@ -3,6 +3,7 @@ use Rattle.std.specs.List.{list_any}
 use Rattle.std.proofs.Common.{◌≡◌, ◌≢◌, ℕ, zero, suc, ◌+◌, Bool, true, false, List, [], ◌∷◌, Option, Some, None, refl, sym, ap, ◌∙◌, subst, arith}
 use Rattle.std.specs.Prelude.{cond, not, ◌==◌, ◌||◌, option_map, slice_get, slice_set, if◌then◌else◌}
 use Rattle.std.proofs.lemmas.Bool.Decides.{nat_tests}
+use Rattle.std.proofs.lemmas.Bool.{eqb-true, ne_eqb}
 use Rattle.jvm_types.specs.declared.outcome.End.TheVariants as ends
 use Rattle.jvm_types.specs.declared.program.Program.{Program}
 use Rattle.machine_types.specs.Agreement.{depth_for}
@@ -51,15 +52,9 @@ by_status p q r t x act status h s = sym (ap (step_of p q t act) h.thread ∙ ap
 pub is_same : (n : ℕ) → (n == n) ≡ true
 is_same n = grind (arith, nat_tests)
 
-pub are_same : (n k : ℕ) → (n == k) ≡ true → n ≡ k
-are_same n k e = grind (arith, nat_tests)
-
-are_apart : (n k : ℕ) → n ≢ k → (n == k) ≡ false
-are_apart n k e = grind (arith, nat_tests)
-
 -- of another thread than the holder
 none_for : (t u : ℕ) (h : Holding) → (h.holder == t) ≡ true → u ≢ t → depth_for u (Some h) ≡ None
-none_for t u h e n = rw (are_apart h.holder u (λ i. n (sym i ∙ are_same h.holder t e))) refl
+none_for t u h e n = rw (ne_eqb h.holder u (λ i. n (sym i ∙ eqb-true h.holder t e))) refl
 
 pub own_for : (t : ℕ) (h : Holding) → (h.holder == t) ≡ true → depth_for t (Some h) ≡ Some h.depth
 own_for t h e = rw e refl
@@ -216,7 +211,7 @@ woken_by q r t u n m depth x y true e apart g s f =
     let is : with_thread (with_thread q u (with_status y (plain.Woken n depth))) t (with_status x plain.Run) ≡ r = cc in
     let got : slice_get (slice_set (slice_set q.threads u (with_status y (plain.Woken n depth))) t (with_status x plain.Run)) u ≡ Some (with_status y (plain.Woken n depth))
     = got_other (slice_set q.threads u (with_status y (plain.Woken n depth))) t u (with_status x plain.Run) apart ∙ got_when_set q.threads u y _ g in
-    let same : n ≡ m = are_same n m e in (
+    let same : n ≡ m = eqb-true n m e in (
       y,
       depth,
       g,

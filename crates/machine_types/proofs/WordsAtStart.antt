@@ -24,11 +24,11 @@ use Rattle.machine_types.proofs.PlacesAtStart.{one_static, one_below, none_of, a
 
 -- ---- lists of words
 
-behind : (xs ys : List ℕ) (k : ℕ) → slice_index (xs ++ ys) (length xs + k) ≡ slice_index ys k
+pub behind : (xs ys : List ℕ) (k : ℕ) → slice_index (xs ++ ys) (length xs + k) ≡ slice_index ys k
 behind [] ys k = ap (slice_index ys) (omega arith)
 behind (x ∷ xs) ys k = let at : length (x ∷ xs) + k ≡ suc (length xs + k) = omega arith in ap (slice_index (x ∷ xs ++ ys)) at ∙ behind xs ys k
 
-in_front : (xs ys : List ℕ) (k : ℕ) → k < length xs → slice_index (xs ++ ys) k ≡ slice_index xs k
+pub in_front : (xs ys : List ℕ) (k : ℕ) → k < length xs → slice_index (xs ++ ys) k ≡ slice_index xs k
 in_front [] ys k lt = absurd (omega (arith, lt))
 in_front (x ∷ xs) ys zero lt = refl
 in_front (x ∷ xs) ys (suc k) lt = in_front xs ys k (omega (arith, lt))

@@ -5,6 +5,7 @@ use Rattle.std.specs.List.{AllZip}
 use Rattle.std.proofs.lemmas.Bool.Decides.{nat_tests}
 use Rattle.std.proofs.lemmas.List.{length-append}
 use Rattle.std.proofs.lemmas.Option.{same_Some}
+use Rattle.std.proofs.lemmas.Bool.{and_parts}
 use Rattle.jvm_types.specs.ProgramInvariant.{IsProgram}
 use Rattle.jvm_types.specs.declared.program.MethodInfo.{MethodInfo}
 use Rattle.jvm_types.specs.declared.program.Program.{Program}
@@ -29,17 +30,13 @@ use Rattle.mark_reasons.specs.declared.reason.Reason.{Reason}
 use Rattle.mark_reasons.proofs.Nodes.{inside_breaks}
 use Rattle.mark_reasons.proofs.SearchLaws.{last_got}
 
-both_are_true : (a b : Bool) → (a && b) ≡ true → (a ≡ true) × (b ≡ true)
-both_are_true true b e = (refl, e)
-both_are_true false b e = absurd (let bad : false ≡ true = e in cc)
-
 -- ---- an own instruction
 
 module _ (p : Program) (uses : List FieldUse) (tags : List Tags) (is : IsProgram p) (s : Section) (m : MethodInfo) (t : Tags) (own : List Bool)
     (at_m : slice_get p.methods s.method ≡ Some m) (at_t : slice_get tags s.method ≡ Some t) (are : AreOwn p (tagged_by tags) s.method s.spot own) where
   pub own_is_fault : (rule i : ℕ) → 0 < rule → own_breaks p uses m t own rule i ≡ true → LeadsToFault p (tagged_by tags) uses s [] (own_site s.method i) rule
   own_is_fault rule i l e =
-      let both = both_are_true (slice_index_or own i false) (node_fault p uses (Some m) (Some t) OnThis i == rule) e in
+      let both = and_parts (slice_index_or own i false) (node_fault p uses (Some m) (Some t) OnThis i == rule) e in
       let test : (node_fault p uses (Some m) (Some t) OnThis i == rule) ≡ true = both.1 in
       let same : node_fault p uses (Some m) (Some t) OnThis i ≡ rule = grind (arith, nat_tests) in
       let some : 0 < node_fault p uses (Some m) (Some t) OnThis i = omega (arith, l, same) in

@@ -4,6 +4,7 @@ use Rattle.std.specs.Prelude.{◌==◌, ◌&&◌, nat_lt, bytes_eq, if◌then◌
 use Rattle.std.specs.List.{list_all}
 use Rattle.std.proofs.lemmas.Bool.Decides.{nat_tests}
 use Rattle.std.proofs.lemmas.Slice.Eq.{bytes_eq-Decides}
+use Rattle.std.proofs.lemmas.Bool.{eqb-true, ltb-true, and_parts}
 use Rattle.mnemonics.specs.Mnemonics.{Names, named, mnemonic, opcode_among, opcode_of, all_names, constants, loads, stores, stack_moves, arithmetic, control, references}
 
 abbrev pub is_opcode : Option ℕ → ℕ → Bool
@@ -18,10 +19,6 @@ is_name (Some name) text = bytes_eq name text
 abbrev pub is_row : ℕ × List ℕ → Bool
 is_row r = is_opcode (opcode_among all_names r.1) r.0 && (is_name (mnemonic r.0) r.1 && nat_lt r.0 256)
 
-both : (a b : Bool) → (a && b) ≡ true → (a ≡ true) × (b ≡ true)
-both true b h = (refl, h)
-both false b h = absurd (cc)
-
 opcode_is : (o : Option ℕ) (b : ℕ) → is_opcode o b ≡ true → o ≡ Some b
 opcode_is None b h = absurd (cc)
 opcode_is (Some c) b h = ap Some (same c b h)
@@ -32,12 +29,6 @@ opcode_is (Some c) b h = ap Some (same c b h)
 name_is : (o : Option (List ℕ)) (text : List ℕ) → is_name o text ≡ true → o ≡ Some text
 name_is None text h = absurd (cc)
 name_is (Some name) text h = ap Some ((bytes_eq-Decides name text).0 h)
-
-same_number : (b c : ℕ) → (b == c) ≡ true → b ≡ c
-same_number b c h = grind (arith, nat_tests)
-
-below : (b c : ℕ) → nat_lt b c ≡ true → b < c
-below b c h = grind (arith, nat_tests)
 
 some_is : {A : Type 0} {x y : A} → Some x ≡ Some y → x ≡ y
 some_is e = cc
@@ -73,19 +64,19 @@ references_are = refl
 
 among : (rs : Names) (b : ℕ) (name : List ℕ) → list_all is_row rs ≡ true → named rs b ≡ Some name → (opcode_among all_names name ≡ Some b) × (b < 256)
 among [] b name ok e = absurd (cc)
-among (r ∷ rs) b name ok e = by_test (λ h. among rs b name (both (is_row r) (list_all is_row rs) ok).1 h) (b == r.0) refl e
+among (r ∷ rs) b name ok e = by_test (λ h. among rs b name (and_parts (is_row r) (list_all is_row rs) ok).1 h) (b == r.0) refl e
   where
     row : (is_row r ≡ true) × (list_all is_row rs ≡ true)
-    row = both (is_row r) (list_all is_row rs) ok
+    row = and_parts (is_row r) (list_all is_row rs) ok
 
     parts : (is_opcode (opcode_among all_names r.1) r.0 ≡ true) × ((is_name (mnemonic r.0) r.1 && nat_lt r.0 256) ≡ true)
-    parts = both (is_opcode (opcode_among all_names r.1) r.0) (is_name (mnemonic r.0) r.1 && nat_lt r.0 256) row.0
+    parts = and_parts (is_opcode (opcode_among all_names r.1) r.0) (is_name (mnemonic r.0) r.1 && nat_lt r.0 256) row.0
 
     rest : (is_name (mnemonic r.0) r.1 ≡ true) × (nat_lt r.0 256 ≡ true)
-    rest = both (is_name (mnemonic r.0) r.1) (nat_lt r.0 256) parts.1
+    rest = and_parts (is_name (mnemonic r.0) r.1) (nat_lt r.0 256) parts.1
 
     by_test : (named rs b ≡ Some name → (opcode_among all_names name ≡ Some b) × (b < 256)) → (t : Bool) → (b == r.0) ≡ t → (if t then Some r.1 else named rs b) ≡ Some name → (opcode_among all_names name ≡ Some b) × (b < 256)
-    by_test more true t h = subst (λ (x : List ℕ). (opcode_among all_names x ≡ Some b) × (b < 256)) (some_is h) (subst (λ (x : ℕ). (opcode_among all_names r.1 ≡ Some x) × (x < 256)) (sym (same_number b r.0 t)) (opcode_is _ _ parts.0, below _ _ rest.1))
+    by_test more true t h = subst (λ (x : List ℕ). (opcode_among all_names x ≡ Some b) × (b < 256)) (some_is h) (subst (λ (x : ℕ). (opcode_among all_names r.1 ≡ Some x) × (x < 256)) (sym (eqb-true b r.0 t)) (opcode_is _ _ parts.0, ltb-true _ _ rest.1))
     by_test more false t h = more h
 
 group : (t : Bool) (rs : Names) (b : ℕ) (name : List ℕ) (y : Option (List ℕ)) → list_all is_row rs ≡ true → (y ≡ Some name → (opcode_among all_names name ≡ Some b) × (b < 256)) → (if t then named rs b else y) ≡ Some name → (opcode_among all_names name ≡ Some b) × (b < 256)
@@ -112,16 +103,16 @@ all_are = refl
 
 named_by : (rs : Names) (b : ℕ) (name : List ℕ) → list_all is_row rs ≡ true → opcode_among rs name ≡ Some b → mnemonic b ≡ Some name
 named_by [] b name ok e = absurd (cc)
-named_by (r ∷ rs) b name ok e = by_test (λ h. named_by rs b name (both (is_row r) (list_all is_row rs) ok).1 h) (bytes_eq r.1 name) refl e
+named_by (r ∷ rs) b name ok e = by_test (λ h. named_by rs b name (and_parts (is_row r) (list_all is_row rs) ok).1 h) (bytes_eq r.1 name) refl e
   where
     row : (is_row r ≡ true) × (list_all is_row rs ≡ true)
-    row = both (is_row r) (list_all is_row rs) ok
+    row = and_parts (is_row r) (list_all is_row rs) ok
 
     parts : (is_opcode (opcode_among all_names r.1) r.0 ≡ true) × ((is_name (mnemonic r.0) r.1 && nat_lt r.0 256) ≡ true)
-    parts = both (is_opcode (opcode_among all_names r.1) r.0) (is_name (mnemonic r.0) r.1 && nat_lt r.0 256) row.0
+    parts = and_parts (is_opcode (opcode_among all_names r.1) r.0) (is_name (mnemonic r.0) r.1 && nat_lt r.0 256) row.0
 
     rest : (is_name (mnemonic r.0) r.1 ≡ true) × (nat_lt r.0 256 ≡ true)
-    rest = both (is_name (mnemonic r.0) r.1) (nat_lt r.0 256) parts.1
+    rest = and_parts (is_name (mnemonic r.0) r.1) (nat_lt r.0 256) parts.1
 
     by_test : (opcode_among rs name ≡ Some b → mnemonic b ≡ Some name) → (t : Bool) → bytes_eq r.1 name ≡ t → (if t then Some r.0 else opcode_among rs name) ≡ Some b → mnemonic b ≡ Some name
     by_test more true t h = subst (λ (x : ℕ). mnemonic x ≡ Some name) (some_is h) (name_is _ _ rest.0 ∙ ap Some ((bytes_eq-Decides r.1 name).0 t))

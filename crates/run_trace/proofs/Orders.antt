@@ -4,6 +4,7 @@ use Rattle.std.specs.Prelude.{◌&&◌, nat_lt, slice_index_or, if◌then◌else
 use Rattle.machine_types.specs.Core.{Core, Of, lives}
 use Rattle.machine_types.specs.Schedules.{Ordered, is_live_worker, ordered, turn_of}
 use Rattle.replay_runner.proofs.Turns.{drop_next}
+use Rattle.laws_states.proofs.OrdersRun.{second_of}
 
 pub drop_over : (xs : List ℕ) (i : ℕ) → length xs ≤ i → drop i xs ≡ []
 drop_over [] zero h = refl
@@ -21,9 +22,5 @@ module _ (s : Core) (order : List ℕ) (place t : ℕ) (there : place < length o
   pub has_no_turn : is_live_worker s t ≡ false → ordered s (drop place order) ≡ ordered s (drop (place + 1) order)
   has_no_turn dead = ap (ordered s) here ∙ ap (λ (b : Bool). if b then turn_of (Of t) (Ordered (drop (place + 1) order)) else ordered s (drop (place + 1) order)) dead
 
-and_right : (a b : Bool) → (a && b) ≡ true → b ≡ true
-and_right true b e = e
-and_right false b e = cc
-
 pub worker_lives : (s : Core) (t : ℕ) → is_live_worker s t ≡ true → lives s t ≡ true
-worker_lives s t e = and_right (nat_lt 0 t) (lives s t) e
+worker_lives s t e = second_of (nat_lt 0 t) (lives s t) e

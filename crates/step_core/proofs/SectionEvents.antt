@@ -2,6 +2,7 @@
 use Rattle.std.proofs.Common.{◌≡◌, ◌<◌, ◌≤◌, ◌+◌, ◌-◌, ◌*◌, ℕ, suc, List, [], ◌∷◌, true, false, length, Option, Some, None, refl, sym, ap, ◌∙◌, subst, arith}
 use Rattle.std.specs.Prelude.{◌==◌, ◌/◌, ◌%◌, nat_lt, IfSome, IsSome, option_map, slice_index, slice_set}
 use Rattle.std.proofs.lemmas.Bool.Decides.{nat_tests}
+use Rattle.std.proofs.lemmas.Bool.{eq-eqb, lt-ltb, le-ltb}
 use Rattle.jvm_types.specs.declared.limits.TheConstants.{MOST_FRAMES, MOST_LIMIT}
 use Rattle.checked_program.specs.MarkedProgram.{MarkedProgram}
 use Rattle.machine_types.specs.Bounds.{under_way}
@@ -22,14 +23,7 @@ use Rattle.laws_threads.specs.HeldLaws.{HeldHasRoom}
 use Rattle.step_core.specs.Alone.{Alone, IsFine, alone, stepped}
 use Rattle.step_core.specs.Running.{running_at}
 use Rattle.step_core.specs.Sections.{IsExit, entering}
-use Rattle.step_core.proofs.EventsMore.{less_told}
 use Rattle.step_core.proofs.WordsKept.{load_keeps}
-
-same_told : (n m : ℕ) → n ≡ m → (n == m) ≡ true
-same_told n m e = grind (arith, nat_tests)
-
-not_less : (n m : ℕ) → m ≤ n → nat_lt n m ≡ false
-not_less n m l = grind (arith, nat_tests)
 
 lock_of_free : (n : ℕ) → lock_of (word_of_lock (Free n)) ≡ Free n
 lock_of_free n =
@@ -49,7 +43,7 @@ pub enters_inside : (c : MarkedProgram) (s : Thread) (f : Frames) (count m : ℕ
     → s.attempt ≡ Some a → held_at s.held m ≡ None → a.monitor ≡ m
     → stepped c (alone (entering s f count m) words)
     ≡ alone (runs (running_at (record s { turns = 0; attempt = Some (record a { inner = a.inner + 1 }) }) f count)) words
-enters_inside c s f count m words a some held own = rw (held, some, same_told a.monitor m own) refl
+enters_inside c s f count m words a some held own = rw (held, some, eq-eqb a.monitor m own) refl
 
 -- with the first attempt of an entry by the top one of these frames
 abbrev pub attempt_begun : Thread → Frames → (m noted : ℕ) → Thread
@@ -64,7 +58,7 @@ begins_by : (c : MarkedProgram) (s : Thread) (f : Frames) (count m noted : ℕ) 
     → stepped c (alone (entering s f count m) words) ≡ alone (runs (running_at (attempt_begun s f m noted) f count)) words
 begins_by c s f count m noted words [] is some held none may word few = absurd (omega (arith, some))
 begins_by c s f count m noted words (frame ∷ rest) is some held none may word few =
-    rw (held, none, may, load_keeps words m, word, lock_of_free noted, less_told noted s.cfg.range few, is) refl
+    rw (held, none, may, load_keeps words m, word, lock_of_free noted, lt-ltb noted s.cfg.range few, is) refl
 
 pub begins_attempt : (c : MarkedProgram) (s : Thread) (f : Frames) (count m noted : ℕ) (words : List ℕ)
     → 0 < length f.frames → held_at s.held m ≡ None → s.attempt ≡ None
@@ -97,34 +91,34 @@ pub takes_lock : (c : MarkedProgram) (s : Thread) (f : Frames) (count m noted : 
     → stepped c (alone (taking s f count m noted) words)
     ≡ alone (runs (running_at (taken s m noted) f count)) (slice_set words m (word_of_lock (Held s.number)))
 takes_lock c s f count m noted words word =
-    rw (word, same_told (word_of_lock (Free noted)) (word_of_lock (Free noted)) refl) refl
+    rw (word, eq-eqb (word_of_lock (Free noted)) (word_of_lock (Free noted)) refl) refl
 
 -- ---- exits
 
 pub exits_once : (c : MarkedProgram) (m : ℕ) (s : Thread) (words : List ℕ) (h : Entry)
     → held_at s.held m ≡ Some h → 1 < h.depth
     → IsExit c m s (record s { held = with_held (shallower h) s.held }) words words
-exits_once c m s words h held deep = λ f count a. rw (held, less_told 1 h.depth deep) refl
+exits_once c m s words h held deep = λ f count a. rw (held, lt-ltb 1 h.depth deep) refl
 
 pub exits_last : (c : MarkedProgram) (m : ℕ) (s : Thread) (words : List ℕ) (h : Entry) (noted : ℕ)
     → held_at s.held m ≡ Some h → h.depth ≤ 1 → h.kept ≡ keeps.Flat noted
     → slice_index words m ≡ word_of_lock (Held s.number)
     → IsExit c m s (record s { held = without_held m s.held }) words (slice_set words m (freed s noted))
 exits_last c m s words h noted held last kept is = λ f count a.
-    rw (held, not_less 1 h.depth last, kept, is, same_told (word_of_lock (Held s.number)) (word_of_lock (Held s.number)) refl) refl
+    rw (held, le-ltb 1 h.depth last, kept, is, eq-eqb (word_of_lock (Held s.number)) (word_of_lock (Held s.number)) refl) refl
 
 pub ends_attempt : (c : MarkedProgram) (m : ℕ) (s : Thread) (words : List ℕ) (t : Attempt)
     → s.attempt ≡ Some t → held_at s.held m ≡ None → t.monitor ≡ m → t.inner ≡ 0
     → is_same t (slice_index words m) ≡ true
     → IsExit c m s (elided s) words words
 ends_attempt c m s words t some held own last same = λ f count a.
-    rw (held, some, same_told t.monitor m own, last, same, load_keeps words m) refl
+    rw (held, some, eq-eqb t.monitor m own, last, same, load_keeps words m) refl
 
 pub leaves_inside : (c : MarkedProgram) (m : ℕ) (s : Thread) (words : List ℕ) (t : Attempt) (n : ℕ)
     → s.attempt ≡ Some t → held_at s.held m ≡ None → t.monitor ≡ m → t.inner ≡ suc n
     → IsExit c m s (record s { attempt = Some (record t { inner = n }) }) words words
 leaves_inside c m s words t n some held own deep = λ f count a.
-    rw (held, some, same_told t.monitor m own, deep) refl
+    rw (held, some, eq-eqb t.monitor m own, deep) refl
 
 -- ---- what the calls leave that make those events
 

@@ -3,7 +3,7 @@ mod HandedThreads
 mod ManyEvents
 pub mod SharedViews
 mod HandsApart
-mod SameHands
+pub mod SameHands
 mod Reports
 mod WholeHands
 mod NextThreads

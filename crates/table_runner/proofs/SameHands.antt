@@ -9,7 +9,7 @@ use Rattle.table_runner.specs.Running.{AreSame, IsWorker, RunsHere}
 pub same_itself : (h : Handed) → AreSame h h
 same_itself h = record { program = refl; cfg = refl; table = refl; numbers = λ u. refl }
 
-of_still : (table : TableId) (c : MarkedProgram) (cfg : Config) (h k : Handed) → AreSame h k
+pub of_still : (table : TableId) (c : MarkedProgram) (cfg : Config) (h k : Handed) → AreSame h k
     → IsTableOf table c cfg h → IsTableOf table c cfg k
 of_still table c cfg h k s of = (of.0 ∙ sym s.table, of.1 ∙ sym s.program, of.2 ∙ sym s.cfg)
 

@@ -1,11 +1,12 @@
 use Rattle.std.proofs.Common.{◌+◌, sym, subst, ◌∙◌}
 use Rattle.std.specs.List.{range_with_len}
-use Rattle.green_runner.proofs.Passes.{MidPass, pass_on, table_same, turns_same}
+use Rattle.green_runner.proofs.Passes.{MidPass, pass_on, turns_same}
 use Rattle.green_runner.proofs.passing.pass.Goals as goal
+use Rattle.table_runner.proofs.SameHands.{of_still}
 
 pub give_turn-live-requires-clause-table : goal.give_turn-live-requires-clause-table
 give_turn-live-requires-clause-table c =
-    table_same c.args.table.now.shared.table_id c.args.table.now.shared.key.program.told c.args.table.now.shared.key.cfg c.args.hands.now c.loop-t.hands
+    of_still c.args.table.now.shared.table_id c.args.table.now.shared.key.program.told c.args.table.now.shared.key.cfg c.args.hands.now c.loop-t.hands
     (turns_same c.args.turn (range_with_len 0 c.loop-t.t) c.args.hands.now c.loop-t.hands c.loop-t.invariant.turns) c.requires.table
 
 pub give_turn-live-requires-clause-program : goal.give_turn-live-requires-clause-program

@@ -1,11 +1,12 @@
 use Rattle.std.proofs.Common.{◌≡◌, suc, ◌+◌, sym, subst, ◌∙◌, arith}
 use Rattle.green_runner.specs.Passes.{MakeEvents}
-use Rattle.green_runner.proofs.Passes.{made_same, one_more, table_same}
+use Rattle.green_runner.proofs.Passes.{made_same, one_more}
 use Rattle.green_runner.proofs.passing.take_turn.Goals as goal
+use Rattle.table_runner.proofs.SameHands.{of_still}
 
 pub event-requires-clause-table : goal.event-requires-clause-table
 event-requires-clause-table c =
-    table_same c.args.table.now.shared.table_id c.args.table.now.shared.key.program.told c.args.table.now.shared.key.cfg c.args.hands.now c.loop-made.hands
+    of_still c.args.table.now.shared.table_id c.args.table.now.shared.key.program.told c.args.table.now.shared.key.cfg c.args.hands.now c.loop-made.hands
     (made_same c.args.t c.loop-made.made c.args.hands.now c.loop-made.hands c.loop-made.invariant) c.requires.table
 
 pub event-requires-clause-program : goal.event-requires-clause-program

@@ -4,8 +4,8 @@ use Rattle.std.proofs.lemmas.List.Sums.{sum_by-drop_more}
 use Rattle.std.proofs.lemmas.Option.{slice_get_read}
 use Rattle.jvm_types.specs.Layout.{static_count, class_words}
 use Rattle.jvm_types.specs.declared.class_file.ClassFile.{ClassFile}
-use Rattle.link_rules.proofs.Files.{class_at}
 use Rattle.link_rules.proofs.words.fixed_words.Goals as goal
+use Rattle.link_scope.proofs.Files.{class_at}
 
 pub loop-class-preserved : goal.loop-class-preserved
 loop-class-preserved c =
