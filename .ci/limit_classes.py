@@ -5,7 +5,7 @@ import sys
 TOP = os.path.dirname(os.path.dirname(os.path.abspath(__file__)))
 sys.path.insert(0, os.path.join(TOP, "bench"))
 
-from loading import STATIC, ClassFile, u1, u2, u4  # noqa: E402
+from loading import STATIC, SYNCHRONIZED, ClassFile, u1, u2, u4  # noqa: E402
 from worked import worked  # noqa: E402
 
 OBJECT = "java/lang/Object"
@@ -113,8 +113,8 @@ class Blocks:
         return rows
 
 
-def counts(instructions):
-    """`init` makes so many instructions, a multiple of 3."""
+def counts(instructions, name="init"):
+    """A method makes so many instructions, a multiple of 3."""
     code = Code()
     code.number(instructions // 3 - 1)
     code.put(ISTORE_0)
@@ -122,7 +122,44 @@ def counts(instructions):
     code.put(IINC, u1(0), u1(255), ILOAD_0)
     code.branch(IFNE, "again")
     code.put(RETURN)
+    return code.method(name=name)
+
+
+def throws(thrown):
+    """`init` throws a new object of a class of java/lang."""
+    code = Code()
+    code.new(f"java/lang/{thrown}")
+    code.put(ATHROW)
     return code.method()
+
+
+def waits_done():
+    """`done` waits on a new object, which nobody notifies."""
+    code = Code()
+    code.new()
+    code.put(ASTORE, u1(0))
+    blocks = Blocks(code)
+    blocks.enter_local(0)
+    code.put(ALOAD_0, VIRTUAL, u2(code.file.member(10, OBJECT, "wait", "()V")))
+    return code.method(rows=blocks.rows(), name="done")
+
+
+def sections(number, methods):
+    """Class A0, A1, .. of that number with so many synchronized methods, each of which answers 1."""
+    file = ClassFile(f"A{number}")
+    for method in range(methods):
+        file.method(SYNCHRONIZED, f"m{method}", "()I", ICONST_1 + IRETURN)
+    return file.content()
+
+
+def refused_last(number, methods):
+    """Class A0, A1, .. of that number with so many methods that return, and one more, whose code
+    takes a value from an empty stack."""
+    file = ClassFile(f"A{number}")
+    for method in range(methods):
+        file.method(STATIC, f"m{method}", "()V", RETURN)
+    file.method(STATIC, f"m{methods}", "()V", POP + RETURN)
+    return file.content()
 
 
 def prints(count, name="init", descriptor="()V"):
