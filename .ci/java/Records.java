@@ -2,8 +2,8 @@
 public class Records {
     private static Object last;
 
-    private static void waits() throws InterruptedException {
-        while (true) {
+    static void waits(int count) throws InterruptedException {
+        for (int waited = 0; waited < count; waited++) {
             Object own = new Object();
             synchronized (own) {
                 last = own;
@@ -13,7 +13,7 @@ public class Records {
     }
 
     /** Wakes 1,024 waits. */
-    private static void wakes() {
+    static void wakes() {
         Object seen = null;
         for (int woken = 0; woken < 1024; woken++) {
             while (last == seen) {
@@ -27,7 +27,7 @@ public class Records {
 
     public static void run(int number) throws InterruptedException {
         if (number == 1) {
-            waits();
+            waits(1025);
         } else {
             wakes();
         }
