@@ -1,4 +1,4 @@
-"""Class files that come up to a limit, for `.ci/limits`."""
+"""Class files that come up to a limit, for `.ci/limits` and `.ci/explained`."""
 import os
 import sys
 
@@ -18,6 +18,7 @@ ALOAD_0, ALOAD, ASTORE = b"\x2a", b"\x19", b"\x3a"
 IFEQ, IFNE, IF_ICMPNE, GOTO = b"\x99", b"\x9a", b"\xa0", b"\xa7"
 IRETURN, RETURN, ATHROW, ENTER, LEAVE = b"\xac", b"\xb1", b"\xbf", b"\xc2", b"\xc3"
 GETSTATIC, VIRTUAL, SPECIAL, CALL, NEW = b"\xb2", b"\xb6", b"\xb7", b"\xb8", b"\xbb"
+NEWARRAY = b"\xbc"
 
 
 class Code:
@@ -160,6 +161,23 @@ def refused_last(number, methods):
         file.method(STATIC, f"m{method}", "()V", RETURN)
     file.method(STATIC, f"m{methods}", "()V", POP + RETURN)
     return file.content()
+
+
+def calls_on(count, last):
+    """A synchronized `m0` calls m1, that calls the next, and so on up to the last of so many: it calls
+    the method of that name, or makes an array where there is none."""
+    code = Code()
+    for number in range(count):
+        code.call(f"m{number + 1}", "()V")
+        code.put(RETURN)
+        code.method(flags=STATIC if number else SYNCHRONIZED, name=f"m{number}")
+        code = Code(code.file)
+    if last:
+        code.call(last, "()V")
+    else:
+        code.put(ICONST_1, NEWARRAY, u1(10), POP)
+    code.put(RETURN)
+    return code.method(name=f"m{count}")
 
 
 def prints(count, name="init", descriptor="()V"):
