@@ -6,11 +6,17 @@ use Rattle.jvm_types.specs.Verifying.{IsTypingOf}
 use Rattle.jvm_types.specs.declared.typing.Typing.{Typing}
 use Rattle.jvm_types.specs.declared.program.MethodInfo.{MethodInfo}
 use Rattle.jvm_types.specs.declared.program.Program.{Program}
+use Rattle.jvm_types.specs.declared.refusal.VRule.{VRule}
 use Rattle.laws_programs.proofs.KnownTyping.{typing_of_one}
 use Rattle.laws_programs.proofs.OneTyping.{no_refusal}
+use Rattle.code_visits.specs.Analyses.{IsStopped}
+use Rattle.code_visits.specs.declared.stop.Stop.{Stop}
+use Rattle.code_visits.specs.declared.stop.Stop.TheVariants as stops
 use Rattle.code_verifier.specs.declared.error.VerifyError.{VerifyError}
 use Rattle.code_verifier.specs.declared.error.VerifyError.TheVariants.{Memory, Refused}
-use Rattle.code_verifier.specs.Settling.{IsRefusal}
+use Rattle.code_verifier.specs.Visiting.{error_of, IsRefusal}
+use Rattle.code_visits.specs.TypePlan.{type_plan}
+use Rattle.code_visits.proofs.TypeVisits.{is_refused}
 
 pub only_by : (p : Program) (m : MethodInfo) (result : Result Typing VerifyError) → IfOk result (IsTypingOf p m) → (t : Typing) → IsTypingOf p m t → IfOk result (λ found. found ≡ t)
 only_by p m result ok t is = IfOk-weaker result (IsTypingOf p m) (λ found. found ≡ t) (λ found h. typing_of_one p m found t h is) ok
@@ -21,3 +27,8 @@ not_refused p m t (Refused rule pc) is h = absurd (no_refusal p m t.frames rule 
 
 pub typed_by : (p : Program) (m : MethodInfo) (result : Result Typing VerifyError) → IfErr result (IsRefusal p m) → (t : Typing) → IsTypingOf p m t → IfErr result (λ e. e ≡ Memory)
 typed_by p m result refused t is = IfErr-weaker result (IsRefusal p m) (λ e. e ≡ Memory) (λ e h. not_refused p m t e is h) refused
+
+-- why its visits stopped is why it is refused
+pub refused_so : (p : Program) (m : MethodInfo) (stop : Stop VRule) → IsStopped (type_plan p m) stop → IsRefusal p m (error_of stop)
+refused_so p m stops.Memory h = tt
+refused_so p m (stops.Refused rule pc) h = is_refused p m rule pc h

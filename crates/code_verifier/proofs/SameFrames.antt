@@ -50,35 +50,16 @@ meet_self (Ref c) = ap Ref (meet_same_class c)
 meet_self (New p) = same_place p (p == p) (same_number p)
 meet_self t = refl
 
-type_self : (t : VType) → same_type t t ≡ true
-type_self (Ref c) = same_number c
-type_self (New p) = same_number p
-type_self t = refl
-
 meets_self : (ts : List VType) → meets ts ts ≡ ts
 meets_self [] = refl
 meets_self (t ∷ ts) = ap (λ x. x ∷ meets ts ts) (meet_self t) ∙ ap (λ xs. t ∷ xs) (meets_self ts)
-
-types_self : (ts : List VType) → all_pairs same_type ts ts ≡ true
-types_self [] = refl
-types_self (t ∷ ts) = rw (type_self t) (types_self ts)
 
 both_self : (a : Bool) → (a && a) ≡ a
 both_self true = refl
 both_self false = refl
 
-ready_self : (a : Bool) → same_ready a a ≡ true
-ready_self true = refl
-ready_self false = refl
-
 frame_self : (f : TypeFrame) → meet_frames f f ≡ f
 frame_self f = λ i. record { stack = meets_self f.stack i; locals = meets_self f.locals i; ready = both_self f.ready i }
 
-same_self : (f : TypeFrame) → same_frame f f ≡ true
-same_self f = rw (types_self f.stack, types_self f.locals) (ready_self f.ready)
-
 pub met_unchanged : (f g : TypeFrame) → f ≡ g → f ≡ meet_frames f g
 met_unchanged f g e = sym (frame_self f) ∙ ap (λ h. meet_frames f h) e
-
-pub told_unchanged : (f g : TypeFrame) → f ≡ g → false ≡ not (same_frame f (meet_frames f g))
-told_unchanged f g e = sym (ap not (same_self f)) ∙ ap (λ h. not (same_frame f h)) (met_unchanged f g e)

@@ -1,15 +1,25 @@
 -- Frames that stay as they are where they meet others.
-use Rattle.std.proofs.Common.{◌≡◌, ℕ, zero, suc, ◌+◌, Bool, true, false, not, List, [], ◌∷◌, drop, length, Option, Some, None, refl, sym, ap, ◌∙◌, add-one, arith}
-use Rattle.std.specs.Prelude.{◌&&◌, ◌||◌, slice_get, slice_set}
+use Rattle.std.proofs.Common.{◌≡◌, ℕ, zero, suc, ◌+◌, Bool, true, false, not, List, [], ◌∷◌, drop, length, Option, Some, None, Ok, refl, sym, subst, ap, ◌∙◌, add-one, arith}
+use Rattle.std.specs.Prelude.{◌&&◌, ◌||◌, if◌then◌else◌, slice_get}
 use Rattle.std.specs.Option.{IfSome}
 use Rattle.jvm_types.specs.Types.{TypeFrame, filled, same_type, meet, all_pairs, meets, meet_frames, same_frame}
-use Rattle.jvm_types.specs.Verifying.{Node, node_at, node_met}
 use Rattle.jvm_types.specs.declared.program.MethodInfo.{MethodInfo}
+use Rattle.jvm_types.specs.declared.refusal.VRule.TheVariants.{V5}
 use Rattle.jvm_types.specs.declared.typing.VType.{VType}
 use Rattle.jvm_types.specs.declared.typing.VType.TheVariants.{Ref}
 use Rattle.laws_programs.proofs.LocalRisen.{same_frames}
-use Rattle.code_verifier.specs.Visiting.{with_object, HasLocals}
+use Rattle.code_table.specs.PcTables.{number_at, Ascend}
+use Rattle.checked_program.specs.Visits.{Node, brought, clashes_with, clash, unless_clash}
+use Rattle.code_visits.specs.Waiting.{node_at}
+use Rattle.code_visits.specs.Analyses.{clash_place}
+use Rattle.code_visits.proofs.BroughtLaws.{at_place, brought_at}
+use Rattle.code_visits.proofs.ClashLaws.{clash_at}
+use Rattle.code_visits.proofs.StayLaws.{stays_there}
+use Rattle.code_visits.specs.TypePlan.{type_meeting, goes}
+use Rattle.code_visits.specs.TypePlan.{local_count}
+use Rattle.code_verifier.specs.Visiting.{HasLocals, HaveLocals, does, with_object}
 use Rattle.code_verifier.proofs.FrameLaws.{frames_told}
+use Rattle.code_visits.proofs.TypeVisits.{not_other, types_meet}
 
 -- ---- types
 
@@ -66,26 +76,19 @@ frame_stays frame f class first t long fill deep top one all ready =
     (frames_told frame (with_object class f) first (not (all_pairs same_type frame.stack (meets frame.stack (Ref class ∷ [])))) (not (all_pairs same_type first (meets first f.locals))) frame.ready f.ready long fill refl refl refl refl)
     (one_pair frame.stack t (Ref class) (one_type frame.stack t deep top) one) all ready
 
--- ---- a node
+-- ---- an edge that adds nothing
 
-or_none : (b : Bool) → (b || false) ≡ b
-or_none true = refl
-or_none false = refl
+-- of an instruction whose frame has one value on its stack and stays as it is
+pub adds_none : (m : MethodInfo) (to i : ℕ) (g f : TypeFrame) (nodes : List (Node TypeFrame)) → Ascend 0 m.code → HaveLocals m nodes → number_at m.code to ≡ Some i → Some g ≡ (node_at nodes i).frame
+    → length f.stack ≡ 1 → length g.stack ≡ 1 → same_frame g (meet_frames g f) ≡ true → does m (goes (to ∷ []) f ∷ []) nodes ≡ Ok nodes
+adds_none m to i g f nodes a level place there one deep same =
+    let apart : clashes_with type_meeting (node_at nodes i).frame f ≡ false = ap (λ o. clashes_with type_meeting o f) (sym there) ∙ not_other (length g.stack) (length f.stack) (deep ∙ sym one) in
+    let clear : clash type_meeting m.code (to ∷ []) f nodes ≡ None =
+    clash_at type_meeting 0 m.code to f nodes a ∙ ap (λ o. clash_place type_meeting o to f nodes) place ∙ ap (λ (b : Bool). if b then Some to else None) apart in
+    let stays : brought type_meeting m.code to f nodes ≡ nodes =
+    brought_at type_meeting m.code to f nodes level.long ∙ ap (λ o. at_place type_meeting o f nodes) place
+    ∙ stays_there type_meeting local_count nodes i g f types_meet there (sym (same_frames g (meet_frames g f) same)) in
+    ap (λ (o : Option ℕ). unless_clash V5 o (Ok (brought type_meeting m.code to f nodes))) clear ∙ ap Ok stays
 
-node_stays : (node : Node) (g f : TypeFrame) → Some g ≡ node.frame → same_frame g (meet_frames g f) ≡ true → node_met node node.frame f ≡ node
-node_stays node g f e s =
-    ap (λ o. node_met node o f) (sym e)
-    ∙ (λ i. record { frame = (ap Some (sym (same_frames g (meet_frames g f) s)) ∙ e) i; waits = (ap (λ b. node.waits || not b) s ∙ or_none node.waits) i })
-
-set_there : (nodes : List Node) (i : ℕ) (node : Node) → node ≡ node_at nodes i → slice_set nodes i node ≡ nodes
-set_there [] i node e = refl
-set_there (x ∷ xs) zero node e = ap (λ y. y ∷ xs) e
-set_there (x ∷ xs) (suc i) node e = ap (λ ys. x ∷ ys) (set_there xs i node e)
-
-pub stays_there : (nodes : List Node) (i : ℕ) (g f : TypeFrame) → Some g ≡ (node_at nodes i).frame → same_frame g (meet_frames g f) ≡ true
-    → slice_set nodes i (node_met (node_at nodes i) (node_at nodes i).frame f) ≡ nodes
-stays_there nodes i g f e s = set_there nodes i (node_met (node_at nodes i) (node_at nodes i).frame f) (node_stays (node_at nodes i) g f e s)
-
-pub as_wide : (m : MethodInfo) (f : TypeFrame) (o : Option TypeFrame) → HasLocals m f → IfSome o (HasLocals m) → IfSome o (λ g. length g.locals ≡ length f.locals)
-as_wide m f None h k = tt
-as_wide m f (Some g) h k = k ∙ sym h
+pub as_wide : (m : MethodInfo) (f : TypeFrame) (o : Option TypeFrame) (g : TypeFrame) → HasLocals m f → IfSome o (HasLocals m) → Some g ≡ o → local_count g ≡ local_count f
+as_wide m f o g h k e = subst (λ (x : Option TypeFrame). IfSome x (HasLocals m)) (sym e) k ∙ sym h

@@ -1,4 +1,2 @@
 pub mod Faults
-pub mod Waiting
 pub mod Visiting
-pub mod Settling

@@ -1,51 +1,40 @@
 -- What the visits keep of the nodes of a method, and what one of them answers.
-use Rattle.std.specs.Prelude.{◌≡◌, ℕ, min, if◌then◌else◌, List, [], ◌∷◌, length, Option, Some, None, Result, Ok, Err}
-use Rattle.std.specs.Option.{IfSome}
-use Rattle.std.specs.List.{AllByRecursion}
+use Rattle.std.specs.Prelude.{◌≡◌, ℕ, List, [], ◌∷◌, Option, Some, None, Result, Ok, Err}
 use Rattle.jvm_types.specs.Types.{TypeFrame, entry_frame}
-use Rattle.jvm_types.specs.Verifying.{Node, node_at, has_other_depth, brought, clash, frame_at_handler, catch_fault, unless_caught, covering, broken_before, frame_after}
+use Rattle.jvm_types.specs.Verifying.{covering, broken_before, frame_after, IsRefused}
 use Rattle.jvm_types.specs.declared.code.Insn.{Insn}
 use Rattle.jvm_types.specs.declared.op_row.OpRow.{OpRow}
-use Rattle.jvm_types.specs.declared.program.Row.{Row}
 use Rattle.jvm_types.specs.declared.program.MethodInfo.{MethodInfo}
+use Rattle.jvm_types.specs.declared.program.Program.{Program}
 use Rattle.jvm_types.specs.declared.refusal.VRule.{VRule}
 use Rattle.jvm_types.specs.declared.typing.VType.TheVariants.{Ref}
+use Rattle.checked_program.specs.Visits.{Act, Node, acted}
+use Rattle.code_visits.specs.Level.{AreLevel}
+use Rattle.code_visits.specs.declared.stop.Stop.{Stop}
+use Rattle.code_visits.specs.declared.stop.Stop.TheVariants as stops
+use Rattle.code_visits.specs.TypePlan.{local_count, type_meeting}
 use Rattle.code_verifier.specs.declared.error.VerifyError.{VerifyError}
 use Rattle.code_verifier.specs.declared.error.VerifyError.TheVariants.{Memory, Refused}
 
--- as many locals as the frame at pc 0 has
+-- ---- frames and nodes
+
+-- as many as the frame at pc 0
 abbrev pub HasLocals : MethodInfo → TypeFrame → Type 0
-HasLocals m f = length f.locals ≡ length (entry_frame m).locals
+HasLocals m f = local_count f ≡ local_count (entry_frame m)
+
+-- one node for each instruction, and each frame has these locals
+abbrev pub HaveLocals : MethodInfo → List (Node TypeFrame) → Type 0
+HaveLocals m nodes = AreLevel local_count (local_count (entry_frame m)) m.code nodes
 
 -- with one object of the class on its stack
 abbrev pub with_object : ℕ → TypeFrame → TypeFrame
 with_object class f = record { stack = Ref class ∷ []; locals = f.locals; ready = f.ready }
 
--- one node for each instruction, and each frame has these locals
-pub record AreLevel (m : MethodInfo) (nodes : List Node) : Type 0 where
-  pub long : length nodes ≡ length m.code
-  pub wide : AllByRecursion (λ (node : Node). IfSome node.frame (HasLocals m)) nodes
+-- ---- one visit
 
--- the lesser of two pcs, where they are there
-abbrev pub lesser : Option ℕ → Option ℕ → Option ℕ
-lesser None other = other
-lesser (Some pc) None = Some pc
-lesser (Some pc) (Some at) = Some (min pc at)
-
--- the pc that an edge leads to, where the instruction of this number is there and has a frame of another depth
-abbrev pub clash_place : Option ℕ → ℕ → ℕ → List Node → Option ℕ
-clash_place None to depth nodes = None
-clash_place (Some i) to depth nodes = if has_other_depth (node_at nodes i).frame depth then Some to else None
-
--- what a visit, or a part of one, leaves of the nodes; or the rule that it breaks; or memory ran out
-abbrev pub Leaves : {A : Type 0} → Result (List Node) (VRule × ℕ) → List Node → Result A VerifyError → Type 0
-Leaves visit nodes (Ok done) = visit ≡ Ok nodes
-Leaves visit nodes (Err Memory) = Unit {0}
-Leaves visit nodes (Err (Refused rule pc)) = visit ≡ Err (rule, pc)
-
--- the edge to the handler of one covering row
-abbrev pub caught : MethodInfo → ℕ → TypeFrame → Row → List Node → Result (List Node) (VRule × ℕ)
-caught m pc f handler nodes = unless_caught (catch_fault m pc handler) (clash m.code (handler.handler ∷ []) 1 nodes) (Ok (brought m.code handler.handler (frame_at_handler handler f) nodes))
+-- some acts of a visit
+abbrev pub does : MethodInfo → List (Act TypeFrame VRule) → List (Node TypeFrame) → Result (List (Node TypeFrame)) (VRule × ℕ)
+does m acts nodes = acted type_meeting m.code acts nodes
 
 -- what is kept of a frame for the handlers of the rows that cover a pc: all but the stack, where there are some
 abbrev pub Keeps : MethodInfo → ℕ → TypeFrame → Option TypeFrame → Type 0
@@ -59,7 +48,19 @@ pub record IsPrepared (m : MethodInfo) (insn : Insn) (r : OpRow) (f after : Type
   pub keeps : Keeps m insn.pc f kept
 
 -- these; or the rule that is broken there; or memory ran out
-abbrev pub Prepares : MethodInfo → Insn → OpRow → TypeFrame → Result (TypeFrame × Option TypeFrame) VerifyError → Type 0
+abbrev pub Prepares : MethodInfo → Insn → OpRow → TypeFrame → Result (TypeFrame × Option TypeFrame) (Stop VRule) → Type 0
 Prepares m insn r f (Ok made) = IsPrepared m insn r f made.0 made.1
-Prepares m insn r f (Err Memory) = Unit {0}
-Prepares m insn r f (Err (Refused rule pc)) = (broken_before m insn r f ≡ Some rule) × (pc ≡ insn.pc)
+Prepares m insn r f (Err stops.Memory) = Unit {0}
+Prepares m insn r f (Err (stops.Refused rule pc)) = (broken_before m insn r f ≡ Some rule) × (pc ≡ insn.pc)
+
+-- ---- the answer
+
+-- why a method has no typing, by why its visits stopped
+abbrev pub error_of : Stop VRule → VerifyError
+error_of stops.Memory = Memory
+error_of (stops.Refused rule pc) = Refused rule pc
+
+-- memory ran out, or the method is refused so
+abbrev pub IsRefusal : Program → MethodInfo → VerifyError → Type 0
+IsRefusal p m Memory = Unit {0}
+IsRefusal p m (Refused rule pc) = IsRefused p m rule pc

@@ -1,7 +1,10 @@
 //! Why a method was not verified.
 
+ghost use Rattle.std.specs.Prelude.{◌≡◌};
+ghost use Rattle.code_verifier.specs.Visiting.{error_of};
+
+use code_visits::Stop;
 use jvm_types::VRule;
-use std::alloc::AllocError;
 
 /// Why a method has no typing.
 #[derive(Clone, Copy, Debug, PartialEq, Eq)]
@@ -12,13 +15,12 @@ pub enum VerifyError {
     Refused(VRule, u32),
 }
 
-impl From<AllocError> for VerifyError {
-    ghost use Rattle.std.specs.Prelude.{◌≡◌};
-    ghost use Rattle.code_verifier.specs.declared.error.VerifyError.TheVariants.{Memory};
-
-    ghost from_gives = { λ _ e. e ≡ Memory };
-
-    fn from(_error: AllocError) -> VerifyError {
-        VerifyError::Memory
+/// Why a method has no typing, by why its visits stopped.
+pub fn error_of(stop: Stop<VRule>) -> VerifyError
+    ensures { result ≡ error_of stop }
+{
+    match stop {
+        Stop::Memory => VerifyError::Memory,
+        Stop::Refused(rule, pc) => VerifyError::Refused(rule, pc),
     }
 }

@@ -1,16 +1,18 @@
 //! Edges to the handlers of the rows that cover an instruction.
 
-ghost use Rattle.std.specs.Prelude.{◌≡◌, ◌∷◌, [], IfOk, OnOk};
+ghost use Rattle.std.specs.Prelude.{◌≡◌, ◌∷◌, [], Ok, true, IfOk, OnOk};
 ghost use Rattle.std.specs.Option.{IfSome};
 ghost use Rattle.jvm_types.specs.Types.{TypeFrame};
-ghost use Rattle.jvm_types.specs.Verifying.{caught_class, catch_fault, covering, handled};
-ghost use Rattle.code_verifier.specs.Visiting.{HasLocals, AreLevel, Leaves, Keeps, caught};
+ghost use Rattle.jvm_types.specs.Verifying.{caught_class, catch_fault, covering};
+ghost use Rattle.code_visits.specs.Analyses.{Leaves};
+ghost use Rattle.code_visits.specs.TypePlan.{goes, caught_acts, handled_acts};
+ghost use Rattle.code_verifier.specs.Visiting.{HasLocals, HaveLocals, Keeps, does, with_object};
 
-use crate::edges::{adds_nothing, bring_last, clash_at};
-use crate::error::VerifyError;
+use crate::analysis::Verification;
 use crate::frames::{with_object, without_stack};
-use crate::nodes::Nodes;
+use crate::meeting::stays;
 use code_table::is_subclass;
+use code_visits::{Nodes, Stop, go_along};
 use handler_rows::HandledMethod;
 use jvm_types::class_numbers::THROWABLE_CLASS;
 use jvm_types::{MethodInfo, Row, TypeFrame, VRule};
@@ -40,47 +42,66 @@ fn catch_fault(m: &MethodInfo, pc: u32, row: &Row) -> Option<(VRule, u32)>
     }
 }
 
+/// Whether an edge that brings the locals of a frame, with one object of a class, changes nothing; it may be told to.
+fn adds_nothing(
+    m: &HandledMethod<'_>,
+    nodes: &Nodes<TypeFrame>,
+    to: u32,
+    f: &TypeFrame,
+    class: u16,
+) -> bool
+    requires level { HaveLocals m.now nodes.now }
+    requires locals { HasLocals m.now f.now }
+    ensures { result ≡ true → does m.now (goes (to ∷ []) (with_object class f.now) ∷ []) nodes.now ≡ Ok nodes.now }
+{
+    m.laid_out();
+    let Some(i) = m.find(to) else {
+        return false;
+    };
+    match nodes.frame(i) {
+        Some(frame) => stays(frame, f, class),
+        None => false,
+    }
+}
+
 /// The edge to the handler of a row that covers a pc.
 fn catch_row(
     alloc: Global,
     m: &HandledMethod<'_>,
-    nodes: &mut Nodes,
+    nodes: &mut Nodes<TypeFrame>,
     pc: u32,
     f: &TypeFrame,
     row: &Row,
-) -> Result<(), VerifyError>
-    requires level { AreLevel m.now nodes.old }
+) -> Result<(), Stop<VRule>>
+    requires level { HaveLocals m.now nodes.old }
     requires locals { HasLocals m.now f.now }
-    ensures left { Leaves (caught m.now pc f.now row.now nodes.old) nodes.new result }
-    ensures level { OnOk result (AreLevel m.now nodes.new) }
+    ensures left { Leaves (does m.now (caught_acts m.now pc f.now row.now) nodes.old) nodes.new result }
+    ensures level { OnOk result (HaveLocals m.now nodes.new) }
 {
     if let Some((rule, at)) = catch_fault(m.method(), pc, row) {
-        return Err(VerifyError::Refused(rule, at));
-    }
-    if let Some(at) = clash_at(m, nodes, row.handler, 1) {
-        return Err(VerifyError::Refused(VRule::V5, at));
+        return Err(Stop::Refused(rule, at));
     }
     let class = caught_class(row);
     if adds_nothing(m, nodes, row.handler, f, class) {
         return Ok(());
     }
     let at_handler = with_object(alloc, f, class)?;
-    bring_last(alloc, m, nodes, row.handler, at_handler)?;
-    Ok(())
+    let tos = [row.handler];
+    go_along::<Verification, _>(alloc, m, nodes, VRule::V5, &tos, at_handler)
 }
 
 /// The edges to the handlers of the rows that cover a pc, row by row.
 fn handle(
     alloc: Global,
     m: &HandledMethod<'_>,
-    nodes: &mut Nodes,
+    nodes: &mut Nodes<TypeFrame>,
     pc: u32,
     f: &TypeFrame,
-) -> Result<(), VerifyError>
-    requires level { AreLevel m.now nodes.old }
+) -> Result<(), Stop<VRule>>
+    requires level { HaveLocals m.now nodes.old }
     requires locals { HasLocals m.now f.now }
-    ensures left { Leaves (handled m.now pc f.now (covering m.now pc) nodes.old) nodes.new result }
-    ensures level { OnOk result (AreLevel m.now nodes.new) }
+    ensures left { Leaves (does m.now (handled_acts m.now pc f.now (covering m.now pc)) nodes.old) nodes.new result }
+    ensures level { OnOk result (HaveLocals m.now nodes.new) }
 {
     let mut k = 0;
     while let Some((behind, row)) = m.next_row(k, pc, 0) {
@@ -110,14 +131,14 @@ pub fn keep_for_handlers(
 pub fn handle_kept(
     alloc: Global,
     m: &HandledMethod<'_>,
-    nodes: &mut Nodes,
+    nodes: &mut Nodes<TypeFrame>,
     pc: u32,
     kept: &Option<TypeFrame>,
-) -> Result<(), VerifyError>
-    requires level { AreLevel m.now nodes.old }
+) -> Result<(), Stop<VRule>>
+    requires level { HaveLocals m.now nodes.old }
     requires locals { IfSome kept.now (HasLocals m.now) }
-    ensures left { (f : TypeFrame) → Keeps m.now pc f kept.now → Leaves (handled m.now pc f (covering m.now pc) nodes.old) nodes.new result }
-    ensures level { OnOk result (AreLevel m.now nodes.new) }
+    ensures left { (f : TypeFrame) → Keeps m.now pc f kept.now → Leaves (does m.now (handled_acts m.now pc f (covering m.now pc)) nodes.old) nodes.new result }
+    ensures level { OnOk result (HaveLocals m.now nodes.new) }
 {
     match kept {
         Some(f) => handle(alloc, m, nodes, pc, f),

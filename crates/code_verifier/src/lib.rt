@@ -2,20 +2,18 @@
 #![tactic(auto)]
 
 mod after;
-mod budget;
-mod edges;
+mod analysis;
 mod entry;
 mod error;
 mod frames;
 mod handlers;
 mod meeting;
-mod nodes;
 mod operands;
 mod rules;
 mod type_lists;
 mod verifying;
 mod visit;
 
-pub use budget::{Budget, MOST_KEPT};
+pub use code_visits::{Budget, MOST_KEPT};
 pub use error::VerifyError;
 pub use verifying::{verify, verify_within};

@@ -1,7 +1,9 @@
 //! Frames where edges meet.
 
-ghost use Rattle.std.specs.Prelude.{◌≡◌, ◌&&◌, true, not, length, IfOk};
+ghost use Rattle.std.specs.Prelude.{◌≡◌, ◌&&◌, true, false, not, length, IfOk};
 ghost use Rattle.jvm_types.specs.Types.{meet_frames, same_frame};
+ghost use Rattle.code_visits.specs.TypePlan.{type_meeting};
+ghost use Rattle.code_visits.specs.TypePlan.{local_count};
 ghost use Rattle.code_verifier.specs.Visiting.{with_object};
 
 use crate::type_lists::{
@@ -10,11 +12,18 @@ use crate::type_lists::{
 use jvm_types::{TypeFrame, VType};
 use std::alloc::{AllocError, Global};
 
-/// Whether a frame is another; it may be told not to be where last locals of which nothing is known are kept in one of
-/// them alone.
-fn is_same(frame: &TypeFrame, other: &TypeFrame) -> bool
-    requires { length frame.now.locals ≡ length other.now.locals }
-    ensures { result ≡ true → frame.now ≡ other.now }
+/// V5: whether two frames may not meet, since their stacks are not as deep.
+pub fn clashes(frame: &TypeFrame, other: &TypeFrame) -> bool
+    ensures { result ≡ type_meeting.clashes frame.now other.now }
+{
+    frame.stack().len() != other.stack().len()
+}
+
+/// Whether a frame is another, and so stays as it is where they meet; it may be told not to be where last locals of which
+/// nothing is known are kept in one of them alone.
+pub fn is_same(frame: &TypeFrame, other: &TypeFrame) -> bool
+    requires { local_count frame.now ≡ local_count other.now }
+    ensures { result ≡ true → type_meeting.meet frame.now other.now ≡ frame.now }
 {
     if frame.is_ready() != other.is_ready() {
         return false;
@@ -34,8 +43,9 @@ fn loses_this(frame: &TypeFrame, other: &TypeFrame) -> bool
 
 /// Whether a frame stays as it is where it meets the locals of another, with one object of a class on the stack.
 pub fn stays(frame: &TypeFrame, other: &TypeFrame, class: u16) -> bool
-    requires { length frame.now.locals ≡ length other.now.locals }
-    ensures { result ≡ true → same_frame frame.now (meet_frames frame.now (with_object class other.now)) ≡ true }
+    requires { local_count frame.now ≡ local_count other.now }
+    ensures same { result ≡ true → same_frame frame.now (meet_frames frame.now (with_object class other.now)) ≡ true }
+    ensures deep { result ≡ true → length frame.now.stack ≡ 1 }
 {
     if frame.stack().len() != 1 {
         return false;
@@ -53,14 +63,11 @@ pub fn meet_frames(
     frame: TypeFrame,
     other: &TypeFrame,
 ) -> Result<(TypeFrame, bool), AllocError>
-    requires depth { length frame.stack ≡ length other.now.stack }
-    requires locals { length frame.locals ≡ length other.now.locals }
-    ensures met { IfOk result (λ r. r.0 ≡ meet_frames frame other.now) }
-    ensures told { IfOk result (λ r. r.1 ≡ not (same_frame frame (meet_frames frame other.now))) }
+    requires apart { type_meeting.clashes frame other.now ≡ false }
+    requires wide { local_count frame ≡ local_count other.now }
+    ensures met { IfOk result (λ r. r.0 ≡ type_meeting.meet frame other.now) }
+    ensures told { IfOk result (λ r. r.1 ≡ not (type_meeting.same frame (type_meeting.meet frame other.now))) }
 {
-    if is_same(&frame, other) {
-        return Ok((frame, false));
-    }
     let local_count = frame.local_count();
     let (mut stack, mut locals, was_ready) = frame.into_parts(alloc)?;
     let stack_changed = meet_stacks(&mut stack, other.stack());

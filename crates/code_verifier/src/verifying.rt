@@ -1,54 +1,17 @@
 //! Verification of a method by inferred types (JVMS 4.10.2).
 
-ghost use Rattle.std.specs.Prelude.{◌≡◌, ◌<◌, ◌≤◌, length, slice_get, IfOk, IfErr, OnOk, IsSomeAnd};
+ghost use Rattle.std.specs.Prelude.{◌≡◌, ◌<◌, ◌≤◌, length, slice_get, IfOk, IfErr, IsSomeAnd};
 ghost use Rattle.jvm_types.specs.ProgramInvariant.{IsProgram};
-ghost use Rattle.jvm_types.specs.Verifying.{first_nodes, IsLaidOut, IsTypingOf};
+ghost use Rattle.jvm_types.specs.Verifying.{IsLaidOut, IsTypingOf};
 ghost use Rattle.jvm_types.specs.declared.typing.Typing.{Typing as MethodTyping};
-ghost use Rattle.laws_programs.proofs.VisitsEnd.{IsKept};
-ghost use Rattle.code_verifier.specs.Visiting.{AreLevel};
-ghost use Rattle.code_verifier.specs.Settling.{Settle, IsBreak, IsRefusal};
+ghost use Rattle.code_verifier.specs.Visiting.{IsRefusal};
 ghost use Rattle.code_verifier.specs.declared.error.VerifyError.TheVariants.{Memory};
 
-use crate::budget::{Budget, MOST_KEPT};
-use crate::entry::entry_frame;
-use crate::error::VerifyError;
-use crate::nodes::Nodes;
-use crate::visit::visit;
-use handler_rows::HandledMethod;
+use crate::analysis::Verification;
+use crate::error::{VerifyError, error_of};
+use code_visits::{Budget, MOST_KEPT, visit_all};
 use jvm_types::{MethodInfo, Program, Typing};
-use std::alloc::{AllocError, Global};
-
-/// At the start pc 0 waits with the entry frame.
-fn first_nodes(alloc: Global, m: &MethodInfo, budget: Budget) -> Result<Nodes, AllocError>
-    ensures { IfOk result (λ nodes. nodes ≡ first_nodes m.now m.now.code) }
-{
-    let mut nodes = Nodes::unreached(alloc, m.code.len(), budget)?;
-    if m.code.is_empty() {
-        return Ok(nodes);
-    }
-    let entry = entry_frame(alloc, m)?;
-    nodes.bring_last(alloc, 0, entry)?;
-    Ok(nodes)
-}
-
-/// Visits until nothing waits, or to the first visit that breaks a rule.
-fn settle(
-    alloc: Global,
-    p: &Program,
-    m: &HandledMethod<'_>,
-    nodes: &mut Nodes,
-) -> Result<(), VerifyError>
-    requires level { AreLevel m.now nodes.old }
-    requires kept { IsKept m.now nodes.old }
-    ensures settled { OnOk result (Settle p.now m.now nodes.old nodes.new) }
-    ensures broken { IfErr result (IsBreak p.now m.now nodes.old) }
-{
-    m.laid_out();
-    while let Some(i) = nodes.take_next() {
-        visit(alloc, p, m, nodes, i)?;
-    }
-    Ok(())
-}
+use std::alloc::Global;
 
 /// Verifies a method whose instructions follow one another, each with a target.
 pub(crate) fn verify_method(
@@ -62,11 +25,10 @@ pub(crate) fn verify_method(
     ensures refused { IfErr result (IsRefusal p.now m.now) }
     ensures spent { budget.new ≤ budget.old }
 {
-    let indexed = HandledMethod::of(alloc, m)?;
-    let mut nodes = first_nodes(alloc, m, Budget::of(budget.left()))?;
-    settle(alloc, p, &indexed, &mut nodes)?;
-    budget.lower(nodes.bytes_left());
-    Ok(nodes.into_typing(alloc)?)
+    match visit_all::<Verification>(alloc, p, m, budget) {
+        Ok(frames) => Ok(Typing { frames }),
+        Err(stop) => Err(error_of(stop)),
+    }
 }
 
 /// The typing of the method of this number (JVMS 4.10.2): types are inferred, and the instruction that is visited

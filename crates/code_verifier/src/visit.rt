@@ -1,18 +1,20 @@
 //! One visit of an instruction: its rules, its normal edges, then those to handlers.
 
-ghost use Rattle.std.specs.Prelude.{◌≡◌, Some, OnOk, slice_get};
+ghost use Rattle.std.specs.Prelude.{◌≡◌, OnOk};
 ghost use Rattle.std.specs.Option.{IfSome};
 ghost use Rattle.jvm_types.specs.Types.{TypeFrame};
-ghost use Rattle.jvm_types.specs.Verifying.{node_at, gone_on, visited_insn};
-ghost use Rattle.code_verifier.specs.Visiting.{HasLocals, AreLevel, Leaves, Keeps, Prepares};
+ghost use Rattle.checked_program.specs.Visits.{acts_on};
+ghost use Rattle.code_visits.specs.Waiting.{node_at};
+ghost use Rattle.code_visits.specs.Analyses.{Leaves};
+ghost use Rattle.code_visits.specs.TypePlan.{gone_acts, type_plan};
+ghost use Rattle.code_verifier.specs.Visiting.{HasLocals, HaveLocals, Keeps, Prepares, does};
 
 use crate::after::frame_after;
-use crate::edges::{bring_all, clash};
-use crate::error::VerifyError;
+use crate::analysis::Verification;
 use crate::handlers::{handle_kept, keep_for_handlers};
-use crate::nodes::Nodes;
 use crate::rules::{broken_after, broken_before};
 use code_table::{edges, row};
+use code_visits::{Nodes, Stop, go_along};
 use handler_rows::HandledMethod;
 use jvm_types::{Insn, OpRow, Program, TypeFrame, VRule};
 use std::alloc::Global;
@@ -21,24 +23,21 @@ use std::alloc::Global;
 fn go_on(
     alloc: Global,
     m: &HandledMethod<'_>,
-    nodes: &mut Nodes,
+    nodes: &mut Nodes<TypeFrame>,
     insn: &Insn,
     kept: &Option<TypeFrame>,
     after: TypeFrame,
-) -> Result<(), VerifyError>
-    requires level { AreLevel m.now nodes.old }
+) -> Result<(), Stop<VRule>>
+    requires level { HaveLocals m.now nodes.old }
     requires locals { IfSome kept.now (HasLocals m.now) }
     requires locals_after { HasLocals m.now after }
-    ensures left { (f : TypeFrame) → Keeps m.now insn.now.pc f kept.now → Leaves (gone_on m.now insn.now f after nodes.old) nodes.new result }
-    ensures level { OnOk result (AreLevel m.now nodes.new) }
+    ensures left { (f : TypeFrame) → Keeps m.now insn.now.pc f kept.now → Leaves (does m.now (gone_acts m.now insn.now f after) nodes.old) nodes.new result }
+    ensures level { OnOk result (HaveLocals m.now nodes.new) }
 {
     let tos = edges(alloc, insn)?;
-    if let Some(at) = clash(m, nodes, &tos, after.stack().len()) {
-        return Err(VerifyError::Refused(VRule::V5, at));
-    }
-    bring_all(alloc, m, nodes, &tos, after)?;
+    go_along::<Verification, _>(alloc, m, nodes, VRule::V5, &tos, after)?;
     if let Some(rule) = broken_after(m, insn) {
-        return Err(VerifyError::Refused(rule, insn.pc));
+        return Err(Stop::Refused(rule, insn.pc));
     }
     handle_kept(alloc, m, nodes, insn.pc, kept)
 }
@@ -50,11 +49,11 @@ fn prepare(
     insn: &Insn,
     row: &OpRow,
     f: &TypeFrame,
-) -> Result<(TypeFrame, Option<TypeFrame>), VerifyError>
+) -> Result<(TypeFrame, Option<TypeFrame>), Stop<VRule>>
     ensures { Prepares m.now insn.now row.now f.now result }
 {
     if let Some(rule) = broken_before(m, insn, row, f) {
-        return Err(VerifyError::Refused(rule, insn.pc));
+        return Err(Stop::Refused(rule, insn.pc));
     }
     let after = frame_after(alloc, m.method(), row, f)?;
     let kept = keep_for_handlers(alloc, m, insn.pc, f)?;
@@ -66,12 +65,12 @@ pub fn visit(
     alloc: Global,
     p: &Program,
     m: &HandledMethod<'_>,
-    nodes: &mut Nodes,
+    nodes: &mut Nodes<TypeFrame>,
     i: usize,
-) -> Result<(), VerifyError>
-    requires level { AreLevel m.now nodes.old }
-    ensures left { Leaves (visited_insn p.now m.now (slice_get m.now.code i) (slice_get m.now.targets i) (node_at nodes.old i).frame nodes.old) nodes.new result }
-    ensures level { OnOk result (AreLevel m.now nodes.new) }
+) -> Result<(), Stop<VRule>>
+    requires level { HaveLocals m.now nodes.old }
+    ensures left { Leaves (does m.now (acts_on (type_plan p.now m.now) i (node_at nodes.old i).frame) nodes.old) nodes.new result }
+    ensures level { OnOk result (HaveLocals m.now nodes.new) }
 {
     let method = m.method();
     let (Some(insn), Some(target)) = (method.code.get(i), method.targets.get(i)) else {

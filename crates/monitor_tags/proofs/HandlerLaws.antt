@@ -10,9 +10,9 @@ use Rattle.jvm_types.specs.declared.program.MethodInfo.{MethodInfo}
 use Rattle.jvm_types.specs.declared.program.Row.{Row}
 use Rattle.jvm_types.specs.declared.refusal.SRule.{SRule}
 use Rattle.checked_program.specs.LockTags.{TagShape}
-use Rattle.checked_program.specs.Tagging.{catches_all, until_all, catchers}
+use Rattle.checked_program.specs.Tagging.{tag_meeting, catches_all, until_all, catchers}
 use Rattle.monitor_tags.specs.Visiting.{Nodes, does, goes, to_handlers}
-use Rattle.monitor_tags.proofs.VisitLaws.{then_does}
+use Rattle.code_visits.proofs.ActLaws.{then_acted}
 
 -- ---- whether there are some
 
@@ -46,5 +46,5 @@ last_done m f rows rest row nodes mid whole e c inv l = sym inv ∙ ap (λ rows.
 pub one_done : (m : MethodInfo) (f : TagShape) (rows rest : List Row) (row : Row) (nodes mid : Nodes) (whole : Result Nodes (SRule × ℕ)) → rows ≡ row ∷ rest → catches_all row ≡ false
     → does m (to_handlers f (until_all rows)) nodes ≡ whole → does m (goes (row.handler ∷ []) f ∷ []) nodes ≡ Ok mid → does m (to_handlers f (until_all rest)) mid ≡ whole
 one_done m f rows rest row nodes mid whole e c inv l =
-    sym (then_does m (goes (row.handler ∷ []) f ∷ []) (to_handlers f (until_all rest)) nodes mid l)
+    sym (then_acted tag_meeting m.code (goes (row.handler ∷ []) f ∷ []) (to_handlers f (until_all rest)) nodes mid l)
     ∙ ap (λ rows. does m (to_handlers f rows) nodes) (sym (until_more rows rest row e c)) ∙ inv

@@ -4,12 +4,16 @@ use Rattle.std.specs.Prelude.{IfOk, IfErr}
 use Rattle.std.proofs.lemmas.Result.{IfOk-weaker, IfErr-weaker}
 use Rattle.jvm_types.specs.declared.program.MethodInfo.{MethodInfo}
 use Rattle.jvm_types.specs.declared.program.Program.{Program}
-use Rattle.checked_program.specs.Tagging.{IsTaggingOf}
+use Rattle.jvm_types.specs.declared.refusal.SRule.{SRule}
+use Rattle.checked_program.specs.Tagging.{tag_plan, IsTaggingOf}
 use Rattle.checked_program.specs.declared.tag.Tags.{Tags}
 use Rattle.laws_sections.proofs.TagAnswers.{one_tagging_all, no_refusal}
+use Rattle.code_visits.specs.Analyses.{IsStopped}
+use Rattle.code_visits.specs.declared.stop.Stop.{Stop}
+use Rattle.code_visits.specs.declared.stop.Stop.TheVariants as stops
 use Rattle.monitor_tags.specs.declared.error.TagError.{TagError}
 use Rattle.monitor_tags.specs.declared.error.TagError.TheVariants.{Memory, Refused}
-use Rattle.monitor_tags.specs.Visiting.{IsRefusal}
+use Rattle.monitor_tags.specs.Visiting.{error_of, IsRefusal}
 
 one_of : (p : Program) (m : MethodInfo) (found t : Tags) → IsTaggingOf p m found → IsTaggingOf p m t → found ≡ t
 one_of p m found t a b = λ i. record { frames = one_tagging_all p m found.frames t.frames a b i }
@@ -23,3 +27,8 @@ not_refused p m t (Refused rule pc) is h = absurd (no_refusal p m t.frames rule 
 
 pub tagged_by : (p : Program) (m : MethodInfo) (result : Result Tags TagError) → IfErr result (IsRefusal p m) → (t : Tags) → IsTaggingOf p m t → IfErr result (λ e. e ≡ Memory)
 tagged_by p m result refused t is = IfErr-weaker result (IsRefusal p m) (λ e. e ≡ Memory) (λ e h. not_refused p m t e is h) refused
+
+-- why its visits stopped is why it is refused
+pub refused_so : (p : Program) (m : MethodInfo) (stop : Stop SRule) → IsStopped (tag_plan p m) stop → IsRefusal p m (error_of stop)
+refused_so p m stops.Memory h = tt
+refused_so p m (stops.Refused rule pc) h = h

@@ -1,13 +1,11 @@
 -- Frames that stay as they are where they meet others.
-use Rattle.std.proofs.Common.{◌≡◌, ℕ, zero, suc, ◌+◌, Bool, true, false, not, List, [], ◌∷◌, drop, Some, refl, sym, ap, ◌∙◌, add-one}
-use Rattle.std.specs.Prelude.{◌&&◌, ◌||◌, if◌then◌else◌, slice_get, slice_set}
+use Rattle.std.proofs.Common.{◌≡◌, ℕ, zero, suc, ◌+◌, Bool, true, List, [], ◌∷◌, drop, Some, refl, sym, ap, ◌∙◌, add-one}
+use Rattle.std.specs.Prelude.{◌&&◌, if◌then◌else◌, slice_get}
 use Rattle.checked_program.specs.LockTags.{TagShape, same_tag, same_tags, meet_tags}
 use Rattle.checked_program.specs.Tagging.{tag_meeting}
-use Rattle.checked_program.specs.Visits.{Node, joined}
 use Rattle.checked_program.specs.declared.tag.Tag.{Tag}
 use Rattle.checked_program.specs.declared.tag.Tag.TheVariants.{Untagged}
-use Rattle.laws_sections.proofs.TagOrder.{one_list, own_tags}
-use Rattle.monitor_tags.specs.Waiting.{node_at}
+use Rattle.laws_sections.proofs.TagOrder.{one_list}
 
 -- ---- tags
 
@@ -34,27 +32,3 @@ frame_stays f g stack stack' locals locals' a b c d h k =
     let stacks : meet_tags f.stack g.stack ≡ f.stack = sym (one_list f.stack (meet_tags f.stack g.stack) (rw (← a, ← b) h)) in
     let all : meet_tags f.locals g.locals ≡ f.locals = sym (one_list f.locals (meet_tags f.locals g.locals) (rw (← c, ← d) k)) in
     λ i. record { stack = stacks i; locals = all i; held = f.held }
-
--- ---- a node
-
-or_none : (b : Bool) → (b || false) ≡ b
-or_none true = refl
-or_none false = refl
-
-own_frame : (g : TagShape) → tag_meeting.same g g ≡ true
-own_frame g = rw (own_tags g.stack, own_tags g.locals) (own_tags g.held)
-
-node_stays : (node : Node TagShape) (g f : TagShape) → Some g ≡ node.frame → tag_meeting.meet g f ≡ g → joined tag_meeting node.waits node.frame f ≡ node
-node_stays node g f e s =
-    let same : tag_meeting.same g (tag_meeting.meet g f) ≡ true = ap (λ h. tag_meeting.same g h) s ∙ own_frame g in
-    ap (λ o. joined tag_meeting node.waits o f) (sym e)
-    ∙ (λ i. record { frame = (ap Some s ∙ e) i; waits = (ap (λ b. node.waits || not b) same ∙ or_none node.waits) i })
-
-set_there : (nodes : List (Node TagShape)) (i : ℕ) (node : Node TagShape) → node ≡ node_at nodes i → slice_set nodes i node ≡ nodes
-set_there [] i node e = refl
-set_there (x ∷ xs) zero node e = ap (λ y. y ∷ xs) e
-set_there (x ∷ xs) (suc i) node e = ap (λ ys. x ∷ ys) (set_there xs i node e)
-
-pub stays_there : (nodes : List (Node TagShape)) (i : ℕ) (g f : TagShape) → Some g ≡ (node_at nodes i).frame → tag_meeting.meet g f ≡ g
-    → slice_set nodes i (joined tag_meeting (node_at nodes i).waits (node_at nodes i).frame f) ≡ nodes
-stays_there nodes i g f e s = set_there nodes i (joined tag_meeting (node_at nodes i).waits (node_at nodes i).frame f) (node_stays (node_at nodes i) g f e s)

@@ -1,3 +1,3 @@
 pub mod Held
-pub mod Waiting
 pub mod Visiting
+pub mod TagVisits

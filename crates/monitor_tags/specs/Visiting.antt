@@ -1,5 +1,5 @@
 -- What one visit of the nodes of a method answers, and the visits in all.
-use Rattle.std.specs.Prelude.{◌≡◌, ℕ, min, Bool, false, if◌then◌else◌, List, [], ◌∷◌, map, Option, Some, None, Result, Ok, Err}
+use Rattle.std.specs.Prelude.{◌≡◌, ℕ, Bool, false, if◌then◌else◌, List, [], ◌∷◌, map, Option, Some, None, Result, Ok, Err}
 use Rattle.jvm_types.specs.Verifying.{covering}
 use Rattle.jvm_types.specs.declared.code.Insn.{Insn}
 use Rattle.jvm_types.specs.declared.op_row.OpRow.{OpRow}
@@ -9,9 +9,11 @@ use Rattle.jvm_types.specs.declared.program.Row.{Row}
 use Rattle.jvm_types.specs.declared.refusal.SRule.{SRule}
 use Rattle.jvm_types.specs.declared.refusal.SRule.TheVariants.{S1, S2, S3}
 use Rattle.checked_program.specs.LockTags.{TagShape}
-use Rattle.checked_program.specs.Tagging.{tag_meeting, tag_plan, tags_after, tags_at_handler, until_all, catchers, enters_untagged, exits_other, leaves_held, IsTagRefused}
-use Rattle.checked_program.specs.Visits.{Node, Act, Bring, acted, clashes_with, Breaks}
-use Rattle.monitor_tags.specs.Waiting.{node_at}
+use Rattle.checked_program.specs.Tagging.{tag_meeting, tags_after, tags_at_handler, until_all, catchers, enters_untagged, exits_other, leaves_held, IsTagRefused}
+use Rattle.checked_program.specs.Visits.{Node, Act, Bring, acted}
+use Rattle.code_visits.specs.Level.{AreLevel}
+use Rattle.code_visits.specs.declared.stop.Stop.{Stop}
+use Rattle.code_visits.specs.declared.stop.Stop.TheVariants as stops
 use Rattle.monitor_tags.specs.declared.error.TagError.{TagError}
 use Rattle.monitor_tags.specs.declared.error.TagError.TheVariants.{Memory, Refused}
 use Rattle.monitor_tags.specs.declared.visit.Going.{Going}
@@ -19,29 +21,14 @@ use Rattle.monitor_tags.specs.declared.visit.Going.{Going}
 abbrev pub Nodes : Type 0
 Nodes = List (Node TagShape)
 
--- ---- edges
-
--- the lesser of two pcs, where they are there
-abbrev pub lesser : Option ℕ → Option ℕ → Option ℕ
-lesser None other = other
-lesser (Some pc) None = Some pc
-lesser (Some pc) (Some at) = Some (min pc at)
-
--- the pc that an edge leads to, where the instruction of this number is there and has a frame that may not meet the one brought
-abbrev pub clash_place : Option ℕ → ℕ → TagShape → Nodes → Option ℕ
-clash_place None to f nodes = None
-clash_place (Some i) to f nodes = if clashes_with tag_meeting (node_at nodes i).frame f then Some to else None
+-- one node for each instruction
+abbrev pub AreLong : MethodInfo → Nodes → Type 0
+AreLong m nodes = AreLevel (λ (f : TagShape). 0) 0 m.code nodes
 
 -- ---- what a visit does
 
 abbrev pub Done : Type 0
 Done = Result Nodes (SRule × ℕ)
-
--- what a visit, or a part of one, leaves of the nodes; or the rule that it breaks; or memory ran out
-abbrev pub Leaves : {A : Type 0} → Done → Nodes → Result A TagError → Type 0
-Leaves visit nodes (Ok done) = visit ≡ Ok nodes
-Leaves visit nodes (Err Memory) = Unit {0}
-Leaves visit nodes (Err (Refused rule pc)) = visit ≡ Err (rule, pc)
 
 -- some acts of a visit
 abbrev pub does : MethodInfo → List (Act TagShape SRule) → Nodes → Done
@@ -73,17 +60,17 @@ abbrev pub first_rule : Bool → Bool → Option SRule
 first_rule enters exits = if enters then Some S1 else if exits then Some S2 else None
 
 -- this; or the rule that is broken there; or memory ran out
-abbrev pub Prepares : MethodInfo → Insn → OpRow → TagShape → Result Going TagError → Type 0
+abbrev pub Prepares : MethodInfo → Insn → OpRow → TagShape → Result Going (Stop SRule) → Type 0
 Prepares m insn r f (Ok g) = IsGoing m insn r f g
-Prepares m insn r f (Err Memory) = Unit {0}
-Prepares m insn r f (Err (Refused rule pc)) = (first_rule (enters_untagged insn.op f.stack) (exits_other insn.op f.stack f.held) ≡ Some rule) × (pc ≡ insn.pc)
+Prepares m insn r f (Err stops.Memory) = Unit {0}
+Prepares m insn r f (Err (stops.Refused rule pc)) = (first_rule (enters_untagged insn.op f.stack) (exits_other insn.op f.stack f.held) ≡ Some rule) × (pc ≡ insn.pc)
 
 -- ---- the answer
 
--- memory ran out, or some visits from these nodes on lead to this refusal
-abbrev pub IsBreak : Program → MethodInfo → Nodes → TagError → Type 0
-IsBreak p m nodes Memory = Unit {0}
-IsBreak p m nodes (Refused rule pc) = (visits : List ℕ) × Breaks (tag_plan p m) nodes visits (rule, pc)
+-- why a method has no tagging, by why its visits stopped
+abbrev pub error_of : Stop SRule → TagError
+error_of stops.Memory = Memory
+error_of (stops.Refused rule pc) = Refused rule pc
 
 -- memory ran out, or the method is refused so
 abbrev pub IsRefusal : Program → MethodInfo → TagError → Type 0

@@ -2,14 +2,15 @@
 
 ghost use Rattle.std.specs.Prelude.{◌≡◌, ◌∷◌, ◌++◌, [], true, map, drop, IfOk, OnOk};
 ghost use Rattle.jvm_types.specs.CodeTable.{value_of, stack_after, locals_after};
-ghost use Rattle.checked_program.specs.LockTags.{without};
+ghost use Rattle.checked_program.specs.LockTags.{entry_tags, without};
 ghost use Rattle.checked_program.specs.Tagging.{moved_tags, tags_after, tags_at_handler};
 ghost use Rattle.checked_program.specs.declared.tag.Tag.TheVariants.{Untagged, At};
 ghost use Rattle.monitor_tags.specs.Held.{entered};
 
 use crate::tag_stacks::untag;
 use checked_program::{Tag, TagFrame, TagLocals, same_tag};
-use jvm_types::{Given, Insn, Op, OpRow, Stack};
+use jvm_types::flags::is_static;
+use jvm_types::{Given, Insn, MethodInfo, Op, OpRow, Rows, Stack};
 use std::alloc::{AllocError, Global};
 
 /// The tag of a value that is pushed, or written to a local; what an instruction makes is untagged.
@@ -159,4 +160,16 @@ pub fn copy(alloc: Global, f: &TagFrame) -> Result<TagFrame, AllocError>
     ensures { IfOk result (λ g. g ≡ f.now) }
 {
     f.with_stack(f.stack().copy(alloc)?)
+}
+
+/// The frame at pc 0: `this` is in local 0 of an instance method.
+pub fn frame_at_entry(alloc: Global, m: &MethodInfo) -> Result<TagFrame, AllocError>
+    ensures { IfOk result (λ f. f ≡ entry_tags m.now) }
+{
+    let mut first = Rows::new(alloc);
+    if !is_static(m.flags) {
+        first.push(Tag::This)?;
+    }
+    let locals = TagLocals::new(first, usize::from(m.max_locals));
+    TagFrame::new(alloc, Stack::new(alloc), locals, Stack::new(alloc))
 }

@@ -1,7 +1,10 @@
 //! Why a method was not tagged.
 
+ghost use Rattle.std.specs.Prelude.{◌≡◌};
+ghost use Rattle.monitor_tags.specs.Visiting.{error_of};
+
+use code_visits::Stop;
 use jvm_types::SRule;
-use std::alloc::AllocError;
 
 /// Why a method has no tagging.
 #[derive(Clone, Copy, Debug, PartialEq, Eq)]
@@ -12,13 +15,12 @@ pub enum TagError {
     Refused(SRule, u32),
 }
 
-impl From<AllocError> for TagError {
-    ghost use Rattle.std.specs.Prelude.{◌≡◌};
-    ghost use Rattle.monitor_tags.specs.declared.error.TagError.TheVariants.{Memory};
-
-    ghost from_gives = { λ _ e. e ≡ Memory };
-
-    fn from(_error: AllocError) -> TagError {
-        TagError::Memory
+/// Why a method has no tagging, by why its visits stopped.
+pub fn error_of(stop: Stop<SRule>) -> TagError
+    ensures { result ≡ error_of stop }
+{
+    match stop {
+        Stop::Memory => TagError::Memory,
+        Stop::Refused(rule, pc) => TagError::Refused(rule, pc),
     }
 }

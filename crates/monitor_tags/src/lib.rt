@@ -3,11 +3,10 @@
 #![tactic(auto)]
 
 mod after;
-mod edges;
+mod analysis;
 mod error;
 mod handlers;
 mod meeting;
-mod nodes;
 mod rules;
 mod tag_stacks;
 mod tagging;

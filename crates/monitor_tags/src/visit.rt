@@ -1,21 +1,21 @@
 //! One visit of an instruction: its rules, its edges, then those to handlers.
 
-ghost use Rattle.std.specs.Prelude.{◌≡◌, length, slice_get};
+ghost use Rattle.std.specs.Prelude.{◌≡◌, slice_get, OnOk};
 ghost use Rattle.jvm_types.specs.declared.op_row.OpRow.{OpRow};
 ghost use Rattle.checked_program.specs.LockTags.{TagShape};
 ghost use Rattle.checked_program.specs.Tagging.{tag_acts, tag_plan};
 ghost use Rattle.checked_program.specs.Visits.{acts_on};
-ghost use Rattle.monitor_tags.specs.Waiting.{node_at};
-ghost use Rattle.monitor_tags.specs.Visiting.{Leaves, IsGoing, Prepares, does};
+ghost use Rattle.code_visits.specs.Waiting.{node_at};
+ghost use Rattle.code_visits.specs.Analyses.{Leaves};
+ghost use Rattle.monitor_tags.specs.Visiting.{AreLong, IsGoing, Prepares, does};
 
 use crate::after::frame_after;
-use crate::edges::go_along;
-use crate::error::TagError;
+use crate::analysis::Tagging;
 use crate::handlers::{handle_kept, keep_for_handlers};
-use crate::nodes::Nodes;
 use crate::rules::{enters_untagged, exits_other, leaves_held};
 use checked_program::TagFrame;
 use code_table::{edges, row};
+use code_visits::{Nodes, Stop, go_along};
 use handler_rows::HandledMethod;
 use jvm_types::{Insn, OpRow, Program, SRule};
 use std::alloc::Global;
@@ -36,14 +36,14 @@ fn prepare(
     insn: &Insn,
     row: &OpRow,
     f: &TagFrame,
-) -> Result<Going, TagError>
+) -> Result<Going, Stop<SRule>>
     ensures { Prepares m.now insn.now row.now f.now result }
 {
     if enters_untagged(&insn.op, f.stack()) {
-        return Err(TagError::Refused(SRule::S1, insn.pc));
+        return Err(Stop::Refused(SRule::S1, insn.pc));
     }
     if exits_other(&insn.op, f.stack(), f.held()) {
-        return Err(TagError::Refused(SRule::S2, insn.pc));
+        return Err(Stop::Refused(SRule::S2, insn.pc));
     }
     Ok(Going {
         after: frame_after(alloc, insn, row, f)?,
@@ -56,18 +56,19 @@ fn prepare(
 fn go_on(
     alloc: Global,
     m: &HandledMethod<'_>,
-    nodes: &mut Nodes,
+    nodes: &mut Nodes<TagFrame>,
     insn: &Insn,
     going: Going,
-) -> Result<(), TagError>
-    requires { length nodes.old ≡ length m.now.code }
-    ensures { (r : OpRow) → (f : TagShape) → IsGoing m.now insn.now r f going → Leaves (does m.now (tag_acts m.now insn.now r f) nodes.old) nodes.new result }
+) -> Result<(), Stop<SRule>>
+    requires level { AreLong m.now nodes.old }
+    ensures left { (r : OpRow) → (f : TagShape) → IsGoing m.now insn.now r f going → Leaves (does m.now (tag_acts m.now insn.now r f) nodes.old) nodes.new result }
+    ensures level { OnOk result (AreLong m.now nodes.new) }
 {
     let tos = edges(alloc, insn)?;
-    go_along(alloc, m, nodes, &tos, going.after)?;
+    go_along::<Tagging, _>(alloc, m, nodes, SRule::S3, &tos, going.after)?;
     handle_kept(alloc, m, nodes, insn, &going.at_handler)?;
     if going.leaves {
-        return Err(TagError::Refused(SRule::S4, insn.pc));
+        return Err(Stop::Refused(SRule::S4, insn.pc));
     }
     Ok(())
 }
@@ -77,11 +78,12 @@ pub fn visit(
     alloc: Global,
     p: &Program,
     m: &HandledMethod<'_>,
-    nodes: &mut Nodes,
+    nodes: &mut Nodes<TagFrame>,
     i: usize,
-) -> Result<(), TagError>
-    requires { length nodes.old ≡ length m.now.code }
-    ensures { Leaves (does m.now (acts_on (tag_plan p.now m.now) i (node_at nodes.old i).frame) nodes.old) nodes.new result }
+) -> Result<(), Stop<SRule>>
+    requires level { AreLong m.now nodes.old }
+    ensures left { Leaves (does m.now (acts_on (tag_plan p.now m.now) i (node_at nodes.old i).frame) nodes.old) nodes.new result }
+    ensures level { OnOk result (AreLong m.now nodes.new) }
 {
     let method = m.method();
     let (Some(insn), Some(target)) = (method.code.get(i), method.targets.get(i)) else {

@@ -1,9 +1,9 @@
-use Rattle.laws_programs.proofs.VisitsEnd.{first_kept}
-use Rattle.code_verifier.proofs.LaidOut.{first_level}
+use Rattle.code_visits.proofs.TypeVisits.{has_typing}
+use Rattle.code_verifier.proofs.OneAnswer.{refused_so}
 use Rattle.code_verifier.proofs.verifying.verify_method.Goals as goal
 
-pub settle-requires-clause-level : goal.settle-requires-clause-level
-settle-requires-clause-level c = rw (c.in_ok-nodes.ensures, c.in_ok-indexed.ensures) (first_level c.args.m.now)
+pub returns-in-Ok-clause-ok : goal.returns-in-Ok-clause-ok
+returns-in-Ok-clause-ok c = has_typing c.args.p.now c.args.m.now c.in-Ok.frames c.in-Ok.ensures.ok
 
-pub settle-requires-clause-kept : goal.settle-requires-clause-kept
-settle-requires-clause-kept c = rw (c.in_ok-nodes.ensures, c.in_ok-indexed.ensures) (first_kept c.args.m.now c.requires)
+pub returns-in-Err-clause-refused : goal.returns-in-Err-clause-refused
+returns-in-Err-clause-refused c = rw c.error_of.ensures (refused_so c.args.p.now c.args.m.now c.in-Err.stop c.in-Err.ensures.refused)

@@ -7,8 +7,8 @@ use Rattle.monitor_tags.specs.Visiting.{Prepares}
 use Rattle.monitor_tags.proofs.VisitLaws.{unprepared, leaves_at}
 use Rattle.monitor_tags.proofs.visit.visit.Goals as goal
 
-pub returns-in_err-going : goal.returns-in_err-going
-returns-in_err-going c =
+pub returns-in_err-going-clause-left : goal.returns-in_err-going-clause-left
+returns-in_err-going-clause-left c =
     let e = err_from_is_err_and c.from_residual-in_err-going.result c.from_residual-in_err-going.ensures.1 in
     rw (e.1, e.2) (leaves_at c.args.p.now c.args.m.now c.args.i c.args.nodes.now c.args.nodes.now (Err c.in_err-going.field-0.0) c.in-Some-Some.insn.now c.in-Some-Some.target.now c.in-Some.frame.now c.in_ok-row.row
     (sym (c.in-Some-Some.ensures.value ∙ ap (λ (m : MethodInfo). slice_get m.code c.args.i) c.method-method.ensures.is)) (sym (c.in-Some-Some.ensures'.value ∙ ap (λ (m : MethodInfo). slice_get m.targets c.args.i) c.method-method.ensures.is)) (sym c.in-Some.ensures)

@@ -1,6 +1,0 @@
-use Rattle.std.proofs.Common.{sym}
-use Rattle.code_verifier.proofs.ClashLaws.{clash_at}
-use Rattle.code_verifier.proofs.edges.clash_at.Goals as goal
-
-pub returns : goal.returns
-returns c = rw (c.clash_place.ensures, c.find.ensures) (sym (clash_at 0 c.args.m.now.code c.args.to c.args.depth c.args.nodes.now c.laid_out.ensures.ascend))

@@ -1,0 +1,27 @@
+use Rattle.std.proofs.Common.{◌≡◌, ℕ, true, List, Some, refl, sym, ap, ◌∙◌, zero-add}
+use Rattle.std.specs.Prelude.{slice_get, slice_set}
+use Rattle.std.specs.Ordering.{nat_cmp}
+use Rattle.std.specs.BTreeSet.{insert_key}
+use Rattle.checked_program.specs.Visits.{Node}
+use Rattle.code_visits.specs.declared.nodes.StoredNode.{StoredNode}
+use Rattle.code_visits.specs.Waiting.{node_at, node_is, waiting_numbers}
+use Rattle.code_visits.proofs.WaitingLaws.{node_at_get, numbers_more, at_stored, set_stored}
+use Rattle.code_visits.proofs.nodes.Nodes.wait.Goals as goal
+
+waiting_node : {A : Type 0} (nodes : List (Node A)) (i : ℕ) (x : StoredNode A) → slice_get nodes i ≡ Some (node_is x)
+    → slice_set nodes i (record { frame = x.frame; waits = true }) ≡ slice_set nodes i (record { frame = (node_at nodes i).frame; waits = true })
+waiting_node nodes i x at = rw (node_at_get nodes i (node_is x) at) refl
+
+pub invariant_of-self-2 : goal.invariant_of-self-2
+invariant_of-self-2 g c =
+    let at : slice_get c.args.self.now c.args.i ≡ Some (node_is c.index_mut.result.now) = at_stored c.self.inside.nodes.items c.args.self.now c.args.i c.index_mut.result.now c.self.view_is c.requires c.index_mut.ensures.value in
+    let other = record c.index_mut.result.now { waits = true } in
+    c.in_ok-insert.ensures.keys ∙ ap (λ keys. insert_key nat_cmp keys c.args.i) (c.self.invariant ∙ ap (λ nodes. waiting_numbers 0 nodes) c.self.view_is)
+    ∙ ap (λ n. insert_key nat_cmp (waiting_numbers 0 c.args.self.now) n) (sym (zero-add c.args.i))
+    ∙ numbers_more 0 c.args.self.now c.args.i (node_is c.index_mut.result.now) (node_is other) at refl
+    ∙ ap (λ nodes. waiting_numbers 0 nodes) (sym (set_stored c.self.inside.nodes.items c.args.self.now c.args.i other c.self.view_is))
+
+pub returns : goal.returns
+returns g c =
+    let at : slice_get c.args.self.now c.args.i ≡ Some (node_is c.index_mut.result.now) = at_stored c.self.inside.nodes.items c.args.self.now c.args.i c.index_mut.result.now c.self.view_is c.requires c.index_mut.ensures.value in
+    set_stored c.self.inside.nodes.items c.args.self.now c.args.i (record c.index_mut.result.now { waits = true }) c.self.view_is ∙ waiting_node c.args.self.now c.args.i c.index_mut.result.now at

@@ -1,0 +1,4 @@
+pub mod Waiting
+pub mod Level
+pub mod Analyses
+pub mod TypePlan

@@ -1,0 +1,173 @@
+//! What is known of each instruction in the course of the visits.
+
+ghost use Rattle.std.specs.Prelude.{◌≡◌, ◌<◌, length, map, replicate, slice_set, true, false, Some, IfOk, OnOk};
+ghost use Rattle.std.specs.Option.{option_copied, IfSome, IfNone};
+ghost use Rattle.checked_program.specs.Visits.{next_visit, unreached};
+ghost use Rattle.code_visits.specs.Waiting.{node_at, met, changes};
+ghost use Rattle.code_visits.specs.Level.{Fits};
+
+use crate::budget::Budget;
+use crate::frames::Frames;
+use jvm_types::Rows;
+use std::alloc::{AllocError, Global};
+use std::collections::BTreeSet;
+use std::marker::Model;
+
+/// What is known of an instruction: the frame that its edges met in, and whether that has changed since it was
+/// visited.
+#[derive(Drop)]
+struct StoredNode<F> {
+    frame: Option<F>,
+    waits: bool,
+}
+
+/// The nodes of the instructions in order, and the numbers of those that wait.
+#[derive(Drop)]
+pub struct Nodes<F> {
+    nodes: Vec<StoredNode<F>>,
+    waiting: BTreeSet<usize>,
+    budget: Budget,
+}
+
+impl<F> Model for Nodes<F> {
+    ghost use Rattle.std.specs.Prelude.{◌≡◌, List, map};
+    ghost use Rattle.checked_program.specs.Visits.{Node};
+    ghost use Rattle.code_visits.specs.Waiting.{node_is, waiting_numbers};
+
+    ghost Value = { List (Node F) };
+
+    ghost view = { λ n. map node_is n.nodes.items };
+
+    ghost invariant = { λ n. n.waiting.keys ≡ waiting_numbers 0 (map node_is n.nodes.items) };
+}
+
+/// An edge brings a frame; answers whether that changes the one that is there.
+fn bring_frame<D: Frames>(
+    alloc: Global,
+    budget: &mut Budget,
+    frame: &mut Option<D::Frame>,
+    f: &D::Frame,
+) -> Result<bool, AllocError>
+    requires { Fits D.meeting D.width frame.old f.now }
+    ensures frame { OnOk result (frame.new ≡ Some (met D.meeting frame.old f.now)) }
+    ensures changed { IfOk result (λ changed. changed ≡ changes D.meeting frame.old f.now) }
+{
+    match frame.take() {
+        Some(g) => {
+            let (met, changed) = D::meet(alloc, g, f)?;
+            *frame = Some(met);
+            Ok(changed)
+        }
+        None => {
+            budget.take(D::bytes_of(f))?;
+            *frame = Some(D::copy(alloc, f)?);
+            Ok(true)
+        }
+    }
+}
+
+/// The frame of the instruction of this number becomes that where it and another meet; answers whether that changes
+/// it.
+pub(crate) fn meet_at<D: Frames>(
+    alloc: Global,
+    nodes: &mut Nodes<D::Frame>,
+    i: usize,
+    f: &D::Frame,
+) -> Result<bool, AllocError>
+    requires inside { i < length nodes.old }
+    requires fits { Fits D.meeting D.width (node_at nodes.old i).frame f.now }
+    ensures met { OnOk result (nodes.new ≡ slice_set nodes.old i (record (node_at nodes.old i) { frame = Some (met D.meeting (node_at nodes.old i).frame f.now) })) }
+    ensures changed { IfOk result (λ changed. changed ≡ changes D.meeting (node_at nodes.old i).frame f.now) }
+{
+    bring_frame::<D>(alloc, &mut nodes.budget, &mut nodes.nodes[i].frame, f)
+}
+
+impl<F: Drop> Nodes<F> {
+    /// So many nodes that no edge reaches yet, for each of which so many bytes are reckoned. They keep no more than the
+    /// budget has.
+    pub(crate) fn unreached(
+        alloc: Global,
+        count: usize,
+        node_bytes: usize,
+        mut budget: Budget,
+    ) -> Result<Nodes<F>, AllocError>
+        ensures { IfOk result (λ nodes. nodes ≡ replicate count unreached) }
+    {
+        budget.take(count.saturating_mul(node_bytes))?;
+        let mut nodes = Vec::with_capacity(alloc, count)?;
+        for _i in 0..count {
+            nodes.push(StoredNode {
+                frame: None,
+                waits: false,
+            })?;
+        }
+        Ok(Nodes {
+            nodes,
+            waiting: BTreeSet::new(alloc),
+            budget,
+        })
+    }
+
+    /// How many bytes may still be kept.
+    pub(crate) fn bytes_left(&self) -> usize {
+        self.budget.left()
+    }
+
+    /// The frame of the instruction of this number.
+    pub fn frame(&self, i: usize) -> Option<&F>
+        ensures { option_copied result ≡ (node_at self.now i).frame }
+    {
+        match self.nodes.get(i) {
+            Some(node) => node.frame.as_ref(),
+            None => None,
+        }
+    }
+
+    /// Takes the waiting instruction of least number, which then waits no more.
+    pub(crate) fn take_next(&mut self) -> Option<usize>
+        ensures next { result ≡ next_visit self.old }
+        ensures inside { IfSome result (λ i. i < length self.old) }
+        ensures none { IfNone result (self.new ≡ self.old) }
+        ensures some { IfSome result (λ i. self.new ≡ slice_set self.old i (record (node_at self.old i) { waits = false })) }
+    {
+        let i = self.waiting.pop_first()?;
+        self.nodes[i].waits = false;
+        Some(i)
+    }
+
+    /// The instruction of this number waits.
+    pub(crate) fn wait(&mut self, i: usize) -> Result<(), AllocError>
+        requires { i < length self.old }
+        ensures { OnOk result (self.new ≡ slice_set self.old i (record (node_at self.old i) { waits = true })) }
+    {
+        self.waiting.insert(i)?;
+        self.nodes[i].waits = true;
+        Ok(())
+    }
+
+    /// A frame of so many bytes, which is kept, is brought to the instruction of this number, which no edge reached
+    /// before.
+    pub(crate) fn enter(&mut self, i: usize, f: F, bytes: usize) -> Result<(), AllocError>
+        requires { i < length self.old }
+        ensures { OnOk result (self.new ≡ slice_set self.old i (record { frame = Some f; waits = true })) }
+    {
+        self.budget.take(bytes)?;
+        self.waiting.insert(i)?;
+        self.nodes[i] = StoredNode {
+            frame: Some(f),
+            waits: true,
+        };
+        Ok(())
+    }
+
+    /// The last frames.
+    pub(crate) fn into_frames(self, alloc: Global) -> Result<Rows<Option<F>>, AllocError>
+        ensures { IfOk result (λ frames. frames ≡ map (λ node. node.frame) self) }
+    {
+        let mut frames = Rows::from_vec(Vec::with_capacity(alloc, self.nodes.len())?);
+        for node in self.nodes {
+            frames.push(node.frame)?;
+        }
+        Ok(frames)
+    }
+}

@@ -1,7 +1,0 @@
-use Rattle.std.proofs.Common.{◌≡◌, map, replicate}
-use Rattle.checked_program.specs.Visits.{unreached}
-use Rattle.monitor_tags.specs.Waiting.{node_is}
-use Rattle.monitor_tags.proofs.nodes.Nodes.unreached.Given as goal
-
-abbrev pub invariant-loop-i : goal.invariant-loop-i
-invariant-loop-i l = map node_is l.nodes.items ≡ replicate l._i unreached
