@@ -165,6 +165,18 @@ impl Machine {
         }
     }
 
+    /// One event of thread `t`, which is live.
+    #[inline(always)]
+    pub(crate) fn live_event(&mut self, p: &Checked, t: u8)
+        requires program { p.now ≡ self.old.program }
+        requires live { lives self.old.core t ≡ true }
+        ensures event { self.new ≡ record self.old { core = event self.old.program self.old.core t } }
+        ensures less { all_work self.new.core < all_work self.old.core }
+    {
+        events_lessen_all_work();
+        go(&mut self.threads[t as usize], p, &mut self.words);
+    }
+
     /// One event of thread `t`: `false` where it is not live or there is none, and then nothing changes.
     #[inline(always)]
     pub fn event(&mut self, p: &Checked, t: u8) -> bool
@@ -174,11 +186,10 @@ impl Machine {
         ensures still { result ≡ false → self.new ≡ self.old }
         ensures less { lives self.old.core t ≡ true → all_work self.new.core < all_work self.old.core }
     {
-        events_lessen_all_work();
         if !self.lives(t) {
             return false;
         }
-        go(&mut self.threads[t as usize], p, &mut self.words);
+        self.live_event(p, t);
         true
     }
 
