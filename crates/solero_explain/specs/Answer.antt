@@ -18,6 +18,7 @@ use Rattle.jvm_types.specs.declared.refusal.Place.{Place}
 use Rattle.jvm_types.specs.declared.refusal.Rule.{Rule}
 use Rattle.jvm_types.specs.declared.refusal.Rule.TheVariants as rules
 use Rattle.mark_reasons.specs.ReasonTexts.{IsMarksExplained}
+use Rattle.reason_json.specs.ReasonJson.{AreMarksInJson}
 use Rattle.refusal_places.specs.Explained.{Explains}
 use Rattle.refusal_places.specs.declared.facts.Form.{Form}
 use Rattle.refusal_places.specs.declared.facts.Form.TheVariants.{Lines, Json}
@@ -50,10 +51,15 @@ abbrev pub accepted_text : Form → List ℕ
 accepted_text Lines = line (codes "accepted")
 accepted_text Json = codes "{" ++ text_member (codes "what") (codes "accepted") ++ line (codes "}")
 
+-- the marks of a program with their reasons
+abbrev pub AreMarksTold : Form → MarkedProgram → List ℕ → Type 0
+AreMarksTold Lines checked text = IsMarksExplained checked text
+AreMarksTold Json checked text = AreMarksInJson checked text
+
 -- what is told of a program
 abbrev pub IsTold : What → Form → MarkedProgram → List ℕ → Type 0
 IsTold whats.Refusal form checked text = text ≡ accepted_text form
-IsTold whats.Marks form checked text = IsMarksExplained checked text
+IsTold whats.Marks form checked text = AreMarksTold form checked text
 IsTold whats.Run form checked text = ⊥
 
 -- told of the program that the files are loaded to

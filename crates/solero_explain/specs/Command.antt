@@ -32,11 +32,10 @@ abbrev pub what_of : Option Text → Option What
 what_of None = None
 what_of (Some text) = if bytes_eq text (codes "refusal") then Some Refusal else if bytes_eq text (codes "marks") then Some Marks else if bytes_eq text (codes "run") then Some Run else None
 
--- marks and runs are told in lines alone
+-- a run is told in lines alone
 abbrev pub is_told_in : What → Form → Bool
-is_told_in Refusal form = true
-is_told_in what Lines = true
-is_told_in what Json = false
+is_told_in Run Json = false
+is_told_in what form = true
 
 -- an order, and a part of the lines, are read with a run alone
 abbrev pub not_read : What → List Text

@@ -79,8 +79,8 @@ fn is_told_in(what: What, form: Form) -> bool
     ensures { result ≡ is_in what form }
 {
     match what {
-        What::Refusal => true,
-        What::Marks | What::Run => form == Form::Lines,
+        What::Refusal | What::Marks => true,
+        What::Run => form == Form::Lines,
     }
 }
 

@@ -6,7 +6,7 @@ ghost use Rattle.host_io.specs.Faults.{CountsFault};
 ghost use Rattle.host_io.specs.Reading.{first_long};
 ghost use Rattle.host_io.specs.declared.shelf.NamedFile.{NamedFile as File};
 ghost use Rattle.refusal_places.specs.declared.facts.Form.TheVariants.{Json};
-ghost use Rattle.solero_explain.specs.Answer.{AreAccepted, IsDue, IsTold, accepted_text as the_accepted_text, name_at as the_name_at};
+ghost use Rattle.solero_explain.specs.Answer.{AreAccepted, AreMarksTold, IsDue, IsTold, accepted_text as the_accepted_text, name_at as the_name_at};
 ghost use Rattle.solero_explain.specs.Command.{Asked, command};
 ghost use Rattle.solero_explain.specs.Delivery.{Delivers};
 ghost use Rattle.class_runner.specs.Loading.{IsLoaded};
@@ -30,6 +30,7 @@ use json_lines::write_text_member;
 use jvm_types::limits::MOST_FILE_BYTES;
 use jvm_types::{Bytes, CRule, Place, Rows, Rule, in_file};
 use mark_reasons::marks_explained;
+use reason_json::marks_in_json;
 use refusal_places::{Form, explained_refusal};
 use run_texts::unread_file;
 use run_trace::{TraceError, explain_run};
@@ -237,7 +238,7 @@ fn found_of(alloc: Global, request: &Request, contents: &Rows<Bytes>, checked: C
             Err(AllocError) => Found::Due(Due::OutOfMemory),
         },
         What::Refusal => Found::Due(due_of(accepted_text(alloc, request.form))),
-        What::Marks => Found::Due(due_of(marks_explained(alloc, &checked))),
+        What::Marks => Found::Due(due_of(marks_text(alloc, request.form, &checked))),
     }
 }
 
@@ -248,6 +249,16 @@ fn due_of(text: Result<Bytes, AllocError>) -> Due
     match text {
         Ok(text) => Due::Told(text),
         Err(AllocError) => Due::OutOfMemory,
+    }
+}
+
+// The marks with their reasons.
+fn marks_text(alloc: Global, form: Form, checked: &Checked) -> Result<Bytes, AllocError>
+    ensures { IfOk result (AreMarksTold form checked.now) }
+{
+    match form {
+        Form::Lines => marks_explained(alloc, checked),
+        Form::Json => marks_in_json(alloc, checked),
     }
 }
 

@@ -11,7 +11,7 @@ use run_trace::Part;
 pub enum What {
     /// Which rule refuses the files, and where.
     Refusal,
-    /// The marks of the program's sections, and why a section isn't marked M0; in lines alone.
+    /// The marks of the program's sections, and why a section isn't marked M0.
     Marks,
     /// What happens in a run, event by event; in lines alone.
     Run,
