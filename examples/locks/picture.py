@@ -40,7 +40,8 @@ def from_line(line):
     found = re.match(r"(\d+) thread (\d+)(?: in attempt \d+)?,? ?(.*)", line)
     if not found:
         return None
-    place, *notes = found[3].split(", ")
+    # What the event stands for in a plain run is left out.
+    place, *notes = re.sub(r", (plain: .*|\d+ owed)$", "", found[3]).split(", ")
     if not re.search(r" at \d+ ", place):
         place, notes = "", [place, *notes]
     words = [word_of(note) for note in notes if word_of(note)[0]]
@@ -49,24 +50,20 @@ def from_line(line):
 
 
 def texts(value):
-    """What a member of an object says, whatever kind it has."""
-    if value is None or value == "" or value == []:
-        return []
+    """What a member of an object says, whatever kind it has; None says nothing."""
     if isinstance(value, list):
         return [text for one in value for text in texts(one)]
-    if isinstance(value, dict):
-        return [" ".join(str(part) for part in value.values())]
-    return [str(value)]
+    return [] if value is None else [text for text in str(value).strip(" ,").split(", ") if text]
 
 
 def from_object(line):
     told = json.loads(line)
-    if "number" not in told or told.get("thread") is None:
+    if told.get("what", "event") != "event" or "number" not in told or "thread" not in told:
         return None
     place = ""
     if "pc" in told:
-        name = ".".join(texts(told.get("class")) + texts(told.get("method")))
-        place = f"{name} at {told['pc']} {told.get('mnemonic', '')}".strip()
+        insn = told.get("instruction", told.get("mnemonic", ""))
+        place = f"{told.get('class')}.{told.get('method')} at {told['pc']} {insn}".strip()
     notes = texts(told.get("does"))
     word = " ".join(texts(told.get("word"))) or None
     before, after = texts(told.get("before")), texts(told.get("after"))
