@@ -1,1 +1,2 @@
+mod FieldOrder
 mod NamesSoFar

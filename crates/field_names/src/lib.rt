@@ -3,4 +3,4 @@
 
 mod names;
 
-pub use names::field_names;
+pub use names::{field_names, names_are_in_order};

@@ -5,7 +5,7 @@ ghost use Rattle.std.specs.List.{AllZip};
 ghost use Rattle.jvm_types.specs.ClassGrammar.{Spells};
 ghost use Rattle.jvm_types.specs.ClassNames.{text_at};
 ghost use Rattle.jvm_types.specs.declared.class_file.ClassFile.{ClassFile as Class};
-ghost use Rattle.field_names.specs.FieldNames.{names_in, names_of};
+ghost use Rattle.field_names.specs.FieldNames.{names_in, names_of, NamesAreInOrder};
 
 use class_reader::{ReadError, read_class};
 use constant_pools::pool_texts::text_at;
@@ -38,8 +38,8 @@ fn add_file(names: &mut Rows<Bytes>, alloc: Global, file: &Bytes) -> Result<(), 
     }
 }
 
-/// The names of the fields of the classes that some files spell, in the order of the files and of their fields (JVMS 4.5). That
-/// is the order in which the program has its fields that the files are linked to.
+/// The names of the fields of the classes that some files spell, in the order of the files and of their fields (JVMS 4.5): that
+/// in which the program that the files are linked to has its fields (`names_are_in_order`).
 pub fn field_names(alloc: Global, files: &Rows<Bytes>) -> Result<Rows<Bytes>, AllocError>
     ensures { IfOk result (λ names. (classes : List Class) → AllZip Spells files.now classes → names ≡ names_of classes) }
 {
@@ -49,3 +49,8 @@ pub fn field_names(alloc: Global, files: &Rows<Bytes>) -> Result<Rows<Bytes>, Al
     }
     Ok(names)
 }
+
+/// Law: a program that files are linked to has the fields of their classes in the order in which their names stand.
+pub fn names_are_in_order()
+    ensures { NamesAreInOrder }
+{}
