@@ -4,13 +4,13 @@ use Rattle.std.proofs.lemmas.List.{map-append}
 use Rattle.std.specs.List.{AllZip}
 use Rattle.jvm_types.specs.ClassNames.{text_at}
 use Rattle.jvm_types.specs.Layout.{class_words, fields_from, fields_of}
-use Rattle.jvm_types.specs.Members.{Declared, declared_by, declared_fields, declared_from, is_static, name_of}
+use Rattle.jvm_types.specs.Members.{Declared, declared_by, declared_from, is_static, name_of}
 use Rattle.jvm_types.specs.declared.class_file.ClassFile.{ClassFile}
 use Rattle.jvm_types.specs.declared.class_file.Constant.{Constant}
 use Rattle.jvm_types.specs.declared.class_file.Member.{Member as ClassMember}
 use Rattle.jvm_types.specs.declared.program.FieldInfo.{FieldInfo}
 use Rattle.jvm_types.specs.declared.program.Program.{Program}
-use Rattle.field_names.specs.FieldNames.{names_in, names_of, IsDeclaredBy, NameFields, NamesAreInOrder}
+use Rattle.field_names.specs.FieldNames.{names_of, IsDeclaredBy, NameFields, NamesAreInOrder}
 
 zip_append : (xs us : List Declared) (ys vs : List FieldInfo) → AllZip IsDeclaredBy xs ys → AllZip IsDeclaredBy us vs → AllZip IsDeclaredBy (xs ++ us) (ys ++ vs)
 zip_append [] us [] vs h k = k
