@@ -1,1 +1,2 @@
+mod DoingActs
 mod TopByNumber

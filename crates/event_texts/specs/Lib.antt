@@ -4,4 +4,7 @@ pub mod PhaseTexts
 pub mod ValueTexts
 pub mod Sights
 pub mod MarkTexts
+pub mod Acts
+pub mod Shares
 pub mod Lines
+pub mod EndLines

@@ -1,5 +1,5 @@
 -- The line of an event: its number, the thread and the attempt that it is in, where it stands, what it does in words where it is
--- no instruction, the word that it accesses with what it found and left there, and what becomes of attempts, locks and the part.
+-- no instruction, the word that it accesses with what it found and left there, what becomes of attempts, locks and the part, and the plain steps that it stands for.
 use Rattle.std.specs.Prelude.{ℕ, Bool, true, false, List, [], ◌++◌, codes, Option, Some, None}
 use Rattle.std.specs.Fmt.{decimal}
 use Rattle.jvm_types.specs.declared.program.Program.{Program}
@@ -10,6 +10,7 @@ use Rattle.place_names.specs.PlaceText.{place_text}
 use Rattle.run_texts.specs.Report.{line}
 use Rattle.event_texts.specs.MarkTexts.{marks_text}
 use Rattle.event_texts.specs.PhaseTexts.{phase_text}
+use Rattle.event_texts.specs.Shares.{Share, share_text}
 use Rattle.event_texts.specs.ValueTexts.{value_text, word_text}
 use Rattle.event_texts.specs.declared.sights.Spot.{Spot}
 use Rattle.event_texts.specs.declared.sights.Before.{Before}
@@ -40,5 +41,5 @@ access_text p names b a (Some Rest) = []
 access_text p names b a (Some (Load w)) = accessed_text p names b a true
 access_text p names b a (Some access) = accessed_text p names b a false
 
-abbrev pub line_text : Program → (names : List (List ℕ)) → (number : ℕ) → Before → After → List ℕ
-line_text p names number b a = head_text number b ++ spot_text p b.spot ++ phase_text b.phase ++ access_text p names b a b.access ++ line (marks_text b a)
+abbrev pub line_text : Program → (names : List (List ℕ)) → (number : ℕ) → Before → Share → After → List ℕ
+line_text p names number b share a = head_text number b ++ spot_text p b.spot ++ phase_text b.phase ++ access_text p names b a b.access ++ line (marks_text b a ++ share_text share)

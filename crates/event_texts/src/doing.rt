@@ -14,6 +14,7 @@ use machine_types::Effect;
 /// What an instruction does, and what its constant names.
 #[derive(Clone, Copy, Debug, PartialEq, Eq)]
 pub struct Doing {
+    pub pc: u32,
     pub effect: Effect,
     pub target: Target,
 }
@@ -28,7 +29,8 @@ pub fn next_doing(s: &ThreadState, p: &Checked) -> Option<Doing>
     let Some(m) = p.program().methods.get(s.method() as usize) else {
         return None;
     };
-    let Some(i) = p.number_at(s.method(), s.pc()) else {
+    let pc = s.pc();
+    let Some(i) = p.number_at(s.method(), pc) else {
         return None;
     };
     let Some(insn) = m.code.get(i) else {
@@ -40,6 +42,7 @@ pub fn next_doing(s: &ThreadState, p: &Checked) -> Option<Doing>
     let op = &insn.op;
     let effect = effect(p.program(), insn.next, *target, op, s.locals(), s.stack());
     Some(Doing {
+        pc,
         effect,
         target: *target,
     })

@@ -5,9 +5,11 @@ ghost use Rattle.run_texts.specs.Report.{line};
 ghost use Rattle.event_texts.specs.Lines.{access_text, head_text, line_text, spot_text, value_words};
 ghost use Rattle.event_texts.specs.MarkTexts.{marks_text};
 ghost use Rattle.event_texts.specs.PhaseTexts.{phase_text};
+ghost use Rattle.event_texts.specs.Shares.{share_text};
 
 use crate::marks::MarksText;
 use crate::phases::PhaseText;
+use crate::shares::Share;
 use crate::sights::{After, Before, Spot};
 use crate::values::{write_value, write_word};
 use checked_program::Checked;
@@ -39,7 +41,7 @@ impl fmt::Display for InsideText {
 }
 
 /// Adds the number of the event, its thread, and the attempt that it is in.
-fn write_head(
+pub(crate) fn write_head(
     text: &mut Vec<u8>,
     alloc: Global,
     number: u64,
@@ -55,7 +57,7 @@ fn write_head(
 }
 
 /// Adds where the thread stands.
-fn write_spot(
+pub(crate) fn write_spot(
     text: &mut Vec<u8>,
     alloc: Global,
     c: &Checked,
@@ -73,7 +75,11 @@ fn write_spot(
 }
 
 /// Adds what the thread does where it is no instruction.
-fn write_phase(text: &mut Vec<u8>, alloc: Global, before: &Before) -> Result<(), AllocError>
+pub(crate) fn write_phase(
+    text: &mut Vec<u8>,
+    alloc: Global,
+    before: &Before,
+) -> Result<(), AllocError>
     ensures { OnOk result (text.new.items ≡ text.old.items ++ phase_text before.now.phase) }
 {
     let phase = PhaseText(before.phase);
@@ -123,24 +129,25 @@ fn write_access(
     write_values(text, alloc, p, before, after, loads)
 }
 
-/// Adds what becomes of attempts, locks and the part, and the end of the line.
+/// Adds what becomes of attempts, locks and the part, what the event stands for, and the end of the line.
 fn write_marks(
     text: &mut Vec<u8>,
     alloc: Global,
     before: &Before,
+    share: &Share,
     after: &After,
 ) -> Result<(), AllocError>
-    ensures { OnOk result (text.new.items ≡ text.old.items ++ line (marks_text before.now after.now)) }
+    ensures { OnOk result (text.new.items ≡ text.old.items ++ line (marks_text before.now after.now ++ share_text share.now)) }
 {
     let marks = MarksText(*before, *after);
     let mut words = String::new(alloc);
-    writeln!(words, "{marks}")?;
+    writeln!(words, "{marks}{share}")?;
     text.extend_from_slice(words.as_bytes())
 }
 
 /// Adds the line of an event of a number: `N thread T`, ` in attempt K` where it is in one, its place, what it does in words
-/// where it is no instruction, its word with what it found and left there, and what becomes of attempts, locks and the part.
-/// `names` has the names of the fields of the program in their order.
+/// where it is no instruction, its word with what it found and left there, what becomes of attempts, locks and the part, and what
+/// it stands for in the plain machine. `names` has the names of the fields of the program in their order.
 pub fn write_line(
     text: &mut Vec<u8>,
     alloc: Global,
@@ -148,13 +155,14 @@ pub fn write_line(
     names: &Rows<Bytes>,
     number: u64,
     before: &Before,
+    share: &Share,
     after: &After,
 ) -> Result<(), AllocError>
-    ensures { OnOk result (text.new.items ≡ text.old.items ++ line_text c.now.program names.now number before.now after.now) }
+    ensures { OnOk result (text.new.items ≡ text.old.items ++ line_text c.now.program names.now number before.now share.now after.now) }
 {
     write_head(text, alloc, number, before)?;
     write_spot(text, alloc, c, before.spot)?;
     write_phase(text, alloc, before)?;
     write_access(text, alloc, c.program(), names, before, after)?;
-    write_marks(text, alloc, before, after)
+    write_marks(text, alloc, before, share, after)
 }

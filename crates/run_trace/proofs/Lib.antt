@@ -1,4 +1,5 @@
+mod FoundWords
 mod LongerRuns
 mod Orders
-mod Tellings
+mod Owings
 mod Walks

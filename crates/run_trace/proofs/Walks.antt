@@ -1,21 +1,26 @@
 -- What was walked, walked on by a turn, and to the end.
-use Rattle.std.proofs.Common.{◌≡◌, ℕ, List, [], ◌∷◌, ◌++◌, Option, Some, None, refl, sym, ap, subst, ◌∙◌}
+use Rattle.std.proofs.Common.{◌≡◌, ℕ, ◌+◌, List, [], ◌∷◌, ◌++◌, map, Option, Some, None, refl, sym, ap, subst, ◌∙◌}
 use Rattle.std.proofs.lemmas.List.{append-nil}
 use Rattle.std.specs.Option.{option_map}
 use Rattle.checked_program.specs.MarkedProgram.{MarkedProgram}
 use Rattle.jvm_types.specs.declared.outcome.Outcome.{Outcome}
-use Rattle.machine_types.specs.Core.{Core, Happening, all_happened, core, happened, outcome, start}
+use Rattle.machine_types.specs.Core.{Core, Happening, core, happened, outcome, start}
+use Rattle.machine_types.specs.History as history
+use Rattle.machine_types.specs.History.{Told, all_told, told_start}
 use Rattle.machine_types.specs.Schedules.{Stage, First, Turn, turn_at}
 use Rattle.machine_types.specs.declared.config.Config.{Config}
 use Rattle.replay_runner.specs.Replays.{Leads}
 use Rattle.replay_runner.specs.Running.{Running}
 use Rattle.replay_runner.proofs.Turns.{led_on, schedule_of}
 use Rattle.run_texts.specs.Report.{report_text}
-use Rattle.run_trace.specs.EventLines.{lines_from, next_number, told_line}
+use Rattle.event_texts.specs.Shares as shares
+use Rattle.run_trace.specs.EventLines.{ends_from, event_end, lines_from, next_number, seen_in, told_line}
+use Rattle.run_trace.specs.Owing.{owed_after, seen_by}
 use Rattle.run_trace.specs.declared.events.Part.{Part}
-use Rattle.run_trace.specs.Traces.{Happened, IsWholeTrace, Walked, WalksOn, number_after}
+use Rattle.run_trace.specs.Traces.{Happened, IsStarted, IsWholeTrace, Walked, WalksOn, number_after}
 use Rattle.run_trace.specs.declared.traces.Tracing.{Tracing}
-use Rattle.run_trace.proofs.LongerRuns.{comes_to, lines_on, number_on, told_both}
+use Rattle.run_trace.proofs.LongerRuns.{ends_on, lines_on, number_on, told_both, told_on}
+use Rattle.run_trace.proofs.Owings.{nothing_owed, owed_on, same_seen}
 
 abbrev turn_to : Happening → Stage → Option Turn
 turn_to h stage = Some (record { happening = h; stage = stage })
@@ -26,19 +31,25 @@ module _ (c : MarkedProgram) (cfg : Config) (order : List ℕ) (names : List (Li
   turned : (m n : Tracing) (h : Happening) (stage : Stage) (told now : Option (List ℕ)) (before after : ℕ) → Happened c names part h m n told now before after
       → Walked c cfg order names part first m (turn_to h stage) told → Walked c cfg order names part first n (turn_at stage n.machine.core) now
   turned m n h stage told now before after did w =
-      let came : all_happened c (start c cfg) w.happenings ≡ m.machine.core = comes_to c (First order) (start c cfg) w.happenings w.stage m.machine.core w.leads in
+      let hs = w.happenings in
+      let u : Told = all_told c (told_start c cfg) hs in
       let core_is : happened c m.machine.core h ≡ n.machine.core = ap (λ (d : MarkedProgram). happened d m.machine.core h) (sym w.program) ∙ sym (ap (λ (r : Running). r.core) did.machine) in
-      let own : told_line c names part m.number m.machine.core h ≡ told_line c names part (number_after 1 w.happenings) (all_happened c (start c cfg) w.happenings) h = λ i. told_line c names part (w.number i) (sym came i) h in
+      let seen_is : seen_by c m.machine.core m.owed h ≡ seen_in c u h = (λ i. seen_by c (sym w.core i) (w.owed i) h) ∙ sym (same_seen c u h) in
+      let own : told_line c names part m.number m.machine.core (seen_by c m.machine.core m.owed h) h ≡ told_line c names part (number_after 1 hs) u.core (seen_in c u h) h = λ i. told_line c names part (w.number i) (sym w.core i) (seen_is i) h in
+      let owes : n.owed ≡ map shares.owed (history.told c u h).pasts = did.owed ∙ (λ i. owed_after (w.owed i) h (seen_by c (sym w.core i) (w.owed i) h)) ∙ sym (owed_on c u h) in
       record {
         program = ap (λ (r : Running). r.program) did.machine ∙ w.program;
         settings = ap (λ (r : Running). r.cfg) did.machine ∙ w.settings;
-        happenings = w.happenings ++ h ∷ [];
+        happenings = hs ++ h ∷ [];
         stage = stage;
-        leads = subst (λ (s : Core). Leads c (First order) (start c cfg) (w.happenings ++ h ∷ []) stage s) core_is (led_on c (First order) (start c cfg) w.happenings w.stage m.machine.core h stage w.leads w.turn);
+        leads = subst (λ (s : Core). Leads c (First order) (start c cfg) (hs ++ h ∷ []) stage s) core_is (led_on c (First order) (start c cfg) hs w.stage m.machine.core h stage w.leads w.turn);
         turn = refl;
-        number = did.number ∙ ap next_number w.number ∙ sym (number_on 1 w.happenings h);
-        text = told_both first told now (lines_from c names part 1 (start c cfg) w.happenings) (told_line c names part m.number m.machine.core h) w.text did.text
-            ∙ ap (λ (text : List ℕ). option_map (λ t. t ++ text) first) (ap (λ (text : List ℕ). lines_from c names part 1 (start c cfg) w.happenings ++ text) own ∙ sym (lines_on c names part 1 (start c cfg) w.happenings h));
+        number = did.number ∙ ap next_number w.number ∙ sym (number_on 1 hs h);
+        core = ap (λ (v : Told). v.core) (told_on c (told_start c cfg) hs h) ∙ ap (λ (s : Core). happened c s h) w.core ∙ core_is;
+        owed = owes ∙ sym (ap (λ (v : Told). map shares.owed v.pasts) (told_on c (told_start c cfg) hs h));
+        ends = did.ends ∙ (λ i. w.ends i ++ event_end c (w.number i) (sym w.core i) (seen_is i) h) ∙ sym (ends_on c 1 (told_start c cfg) hs h);
+        text = told_both first told now (lines_from c names part 1 (told_start c cfg) hs) (told_line c names part m.number m.machine.core (seen_by c m.machine.core m.owed h) h) w.text did.text
+            ∙ ap (λ (text : List ℕ). option_map (λ t. t ++ text) first) (ap (λ (text : List ℕ). lines_from c names part 1 (told_start c cfg) hs ++ text) own ∙ sym (lines_on c names part 1 (told_start c cfg) hs h));
       }
 
 -- ---- on from a turn
@@ -65,16 +76,19 @@ module _ (c : MarkedProgram) (order : List ℕ) (names : List (List ℕ)) (part 
 
 -- ---- the whole run
 
-pub walked_at_start : (c : MarkedProgram) (cfg : Config) (order : List ℕ) (names : List (List ℕ)) (part : Part) (told : Option (List ℕ)) (m : Tracing) → m.machine ≡ record { program = c; cfg = cfg; core = start c cfg } → m.number ≡ 1
+pub walked_at_start : (c : MarkedProgram) (cfg : Config) (order : List ℕ) (names : List (List ℕ)) (part : Part) (told : Option (List ℕ)) (m : Tracing) → IsStarted c cfg m
     → Walked c cfg order names part told m (turn_at (First order) m.machine.core) told
-walked_at_start c cfg order names part told m e number = record {
-  program = ap (λ (r : Running). r.program) e;
-  settings = ap (λ (r : Running). r.cfg) e;
+walked_at_start c cfg order names part told m begun = record {
+  program = ap (λ (r : Running). r.program) begun.machine;
+  settings = ap (λ (r : Running). r.cfg) begun.machine;
   happenings = [];
   stage = First order;
-  leads = (refl, sym (ap (λ (r : Running). r.core) e));
+  leads = (refl, sym (ap (λ (r : Running). r.core) begun.machine));
   turn = refl;
-  number = number;
+  number = begun.number;
+  core = sym (ap (λ (r : Running). r.core) begun.machine);
+  owed = begun.owed ∙ sym (nothing_owed (c.program.workers + 1));
+  ends = begun.ends;
   text = by_told told;
 }
   where
@@ -82,19 +96,24 @@ walked_at_start c cfg order names part told m e number = record {
     by_told None = refl
     by_told (Some t) = ap Some (sym (append-nil t))
 
-pub whole : (c : MarkedProgram) (cfg : Config) (order : List ℕ) (names : List (List ℕ)) (part : Part) (told mid now : Option (List ℕ)) (before between after : ℕ) (m n : Tracing) (o : Outcome)
-    → m.machine ≡ record { program = c; cfg = cfg; core = start c cfg } → m.number ≡ 1 → WalksOn c order names part m (turn_at (First order) m.machine.core) told before n None mid between
-    → o ≡ outcome n.machine.core → now ≡ option_map (λ t. t ++ report_text o) mid → after ≡ between → IsWholeTrace c cfg order names part told now before after o
+-- the lines were told, then the ends, and then the report
+pub whole : (c : MarkedProgram) (cfg : Config) (order : List ℕ) (names : List (List ℕ)) (part : Part) (told mid late now : Option (List ℕ)) (before between beyond after : ℕ) (m n : Tracing) (o : Outcome)
+    → IsStarted c cfg m → WalksOn c order names part m (turn_at (First order) m.machine.core) told before n None mid between → late ≡ option_map (λ t. t ++ n.ends.items) mid → beyond ≡ between
+    → o ≡ outcome n.machine.core → now ≡ option_map (λ t. t ++ report_text o) late → after ≡ beyond → IsWholeTrace c cfg order names part told now before after o
 unfolding core
-whole c cfg order names part told mid now before between after m n o e number on is put calm =
-    let w = on.walked cfg told (walked_at_start c cfg order names part told m e number) in
-    let all = schedule_of c (First order) (start c cfg) w.happenings w.stage n.machine.core w.leads w.turn in
-    let told_is : o ≡ outcome (core c cfg w.happenings) = is ∙ ap outcome (sym all.1) in
+whole c cfg order names part told mid late now before between beyond after m n o begun on ended still is put calm =
+    let w = on.walked cfg told (walked_at_start c cfg order names part told m begun) in
+    let hs = w.happenings in
+    let all = schedule_of c (First order) (start c cfg) hs w.stage n.machine.core w.leads w.turn in
+    let told_is : o ≡ outcome (core c cfg hs) = is ∙ ap outcome (sym all.1) in
+    let lines = lines_from c names part 1 (told_start c cfg) hs in
+    let with_ends : late ≡ option_map (λ t. t ++ (lines ++ ends_from c 1 (told_start c cfg) hs)) told =
+    told_both told mid late lines n.ends.items w.text ended ∙ ap (λ (ends : List ℕ). option_map (λ t. t ++ (lines ++ ends)) told) w.ends in
     record {
-      happenings = w.happenings;
+      happenings = hs;
       schedule = all.0;
       outcome_is = told_is;
-      text = told_both told mid now (lines_from c names part 1 (start c cfg) w.happenings) (report_text o) w.text put
-          ∙ ap (λ (x : Outcome). option_map (λ t. t ++ (lines_from c names part 1 (start c cfg) w.happenings ++ report_text x)) told) told_is;
-      calm = calm ∙ on.calm;
+      text = told_both told late now (lines ++ ends_from c 1 (told_start c cfg) hs) (report_text o) with_ends put
+          ∙ ap (λ (x : Outcome). option_map (λ t. t ++ ((lines ++ ends_from c 1 (told_start c cfg) hs) ++ report_text x)) told) told_is;
+      calm = calm ∙ still ∙ on.calm;
     }

@@ -1,14 +1,18 @@
--- A trace that was written to a sink: the lines of the events of the one schedule that an order stands for, and the report.
-use Rattle.std.specs.Prelude.{◌≡◌, ℕ, List, [], ◌∷◌, ◌++◌, Option, None, Result, Ok, Err}
+-- A trace that was written to a sink: the lines of the events of the one schedule that an order stands for, those of the ends that
+-- are no returns, and the report.
+use Rattle.std.specs.Prelude.{◌≡◌, ◌+◌, ℕ, List, [], ◌∷◌, ◌++◌, map, replicate, Option, None, Result, Ok, Err}
 use Rattle.std.specs.Option.{option_map}
 use Rattle.checked_program.specs.MarkedProgram.{MarkedProgram}
 use Rattle.jvm_types.specs.declared.outcome.Outcome.{Outcome}
 use Rattle.host_io.specs.Faults.{CountsFault}
 use Rattle.machine_types.specs.Core.{Happening, core, happened, outcome, start}
+use Rattle.machine_types.specs.History.{all_told, told_start}
 use Rattle.machine_types.specs.Schedules.{IsScheduleOf, Stage, First, Turn, turn_at}
 use Rattle.machine_types.specs.declared.config.Config.{Config}
+use Rattle.event_texts.specs.Shares as shares
 use Rattle.replay_runner.specs.Replays.{Leads}
-use Rattle.run_trace.specs.EventLines.{lines_from, next_number, told_line, trace_text}
+use Rattle.run_trace.specs.EventLines.{ends_from, event_end, lines_from, next_number, told_line, trace_text}
+use Rattle.run_trace.specs.Owing.{owed_after, seen_by}
 use Rattle.run_trace.specs.declared.events.Part.{Part}
 use Rattle.run_trace.specs.Turns.{turn_of_next}
 use Rattle.run_trace.specs.declared.turns.Next.{Next}
@@ -22,7 +26,9 @@ use Rattle.run_trace.specs.declared.traces.Tracing.{Tracing}
 pub record Happened (c : MarkedProgram) (names : List (List ℕ)) (part : Part) (h : Happening) (m n : Tracing) (told now : Option (List ℕ)) (before after : ℕ) : Type 0 where
   pub machine : n.machine ≡ record m.machine { core = happened m.machine.program m.machine.core h }
   pub number : n.number ≡ next_number m.number
-  pub text : now ≡ option_map (λ t. t ++ told_line c names part m.number m.machine.core h) told
+  pub owed : n.owed ≡ owed_after m.owed h (seen_by c m.machine.core m.owed h)
+  pub ends : n.ends.items ≡ m.ends.items ++ event_end c m.number m.machine.core (seen_by c m.machine.core m.owed h) h
+  pub text : now ≡ option_map (λ t. t ++ told_line c names part m.number m.machine.core (seen_by c m.machine.core m.owed h) h) told
   pub calm : after ≡ before
 
 -- there was no memory, and the sink had not failed; or it failed
@@ -31,6 +37,14 @@ Tells c names part h m n told now before after (Ok done) = Happened c names part
 Tells c names part h m n told now before after (Err Memory) = after ≡ before
 Tells c names part h m n told now before after (Err Failed) = CountsFault before after
 
+-- ---- the run at its start
+
+pub record IsStarted (c : MarkedProgram) (cfg : Config) (m : Tracing) : Type 0 where
+  pub machine : m.machine ≡ record { program = c; cfg = cfg; core = start c cfg }
+  pub number : m.number ≡ 1
+  pub owed : m.owed ≡ replicate (c.program.workers + 1) 0
+  pub ends : m.ends.items ≡ []
+
 -- ---- the run so far
 
 -- the number behind the lines of some events
@@ -38,7 +52,7 @@ abbrev pub number_after : (number : ℕ) → List Happening → ℕ
 number_after number [] = number
 number_after number (h ∷ hs) = number_after (next_number number) hs
 
--- the order has led the run to here, where this turn comes next; and a sink that told some bytes has the lines of its events
+-- the order has led the run to here, where this turn comes next and each thread owes so many steps; and a sink that told some bytes has the lines of its events
 pub record Walked (c : MarkedProgram) (cfg : Config) (order : List ℕ) (names : List (List ℕ)) (part : Part) (told : Option (List ℕ)) (n : Tracing) (next : Option Turn) (now : Option (List ℕ)) : Type 0 where
   pub program : n.machine.program ≡ c
   pub settings : n.machine.cfg ≡ cfg
@@ -47,7 +61,10 @@ pub record Walked (c : MarkedProgram) (cfg : Config) (order : List ℕ) (names :
   pub leads : Leads c (First order) (start c cfg) happenings stage n.machine.core
   pub turn : turn_at stage n.machine.core ≡ next
   pub number : n.number ≡ number_after 1 happenings
-  pub text : now ≡ option_map (λ t. t ++ lines_from c names part 1 (start c cfg) happenings) told
+  pub core : (all_told c (told_start c cfg) happenings).core ≡ n.machine.core
+  pub owed : n.owed ≡ map shares.owed (all_told c (told_start c cfg) happenings).pasts
+  pub ends : n.ends.items ≡ ends_from c 1 (told_start c cfg) happenings
+  pub text : now ≡ option_map (λ t. t ++ lines_from c names part 1 (told_start c cfg) happenings) told
 
 -- whatever was walked to the one is walked to the other; the sink has not failed
 pub record WalksOn (c : MarkedProgram) (order : List ℕ) (names : List (List ℕ)) (part : Part) (m : Tracing) (next : Option Turn) (told : Option (List ℕ)) (before : ℕ) (n : Tracing) (behind : Option Turn) (now : Option (List ℕ)) (after : ℕ) : Type 0 where

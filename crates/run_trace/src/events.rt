@@ -1,14 +1,17 @@
 //! One event of a run with its line, and the begin of a part with its own.
 
-ghost use Rattle.std.specs.Prelude.{◌≡◌, ◌<◌, ◌++◌, true, slice_get, OnOk};
+ghost use Rattle.std.specs.Prelude.{◌≡◌, ◌<◌, ◌++◌, true, slice_get, slice_set, OnOk};
 ghost use Rattle.std.specs.Option.{option_map};
 ghost use Rattle.machine_types.specs.Core.{Of, event, lives, next};
 ghost use Rattle.laws_states.specs.WorkLeft.{all_work};
-ghost use Rattle.run_trace.specs.EventLines.{event_line, line_between, part_line, seen_before, shown, word_in};
-ghost use Rattle.machine_types.specs.Accesses.{accessed};
+ghost use Rattle.machine_types.specs.Accesses.{found_by};
+ghost use Rattle.run_trace.specs.EventLines.{end_between, event_end, event_line, line_between, part_line, shown};
+ghost use Rattle.run_trace.specs.Owing.{owed_after, owed_at, seen_by};
 
 use checked_program::Checked;
-use event_texts::{Before, see_after, see_before, write_line};
+use event_texts::{
+    Before, Share, owed_behind, see_after, see_before, share_of, write_end_line, write_line,
+};
 use jvm_types::{Bytes, Rows};
 use machine_types::Access;
 use replay_runner::Machine;
@@ -42,72 +45,119 @@ pub fn told_of<'a>(part: Part, number: u64, text: &'a [u8]) -> &'a [u8]
     }
 }
 
-/// The number of the word of an access.
-fn place_of(access: Access) -> u32
-    ensures { result ≡ accessed access }
+/// What an access finds in its word; 0 where there is none.
+#[tactic(auto, using(crate::proofs::FoundWords::word_read))]
+fn found_in(machine: &Machine, access: Option<Access>) -> u64
+    ensures { result ≡ found_by machine.now.core.words access }
 {
     match access {
-        Access::Load(word) => word,
-        Access::Store(word, _) => word,
-        Access::Cas(word, _, _) => word,
-        Access::Add(word, _) => word,
-        Access::Or(word, _) => word,
-        Access::And(word, _) => word,
-        Access::Rest => 0,
+        None | Some(Access::Rest) => 0,
+        Some(Access::Load(word)) => machine.word(word),
+        Some(Access::Store(word, _)) => machine.word(word),
+        Some(Access::Cas(word, _, _)) => machine.word(word),
+        Some(Access::Add(word, _)) => machine.word(word),
+        Some(Access::Or(word, _)) => machine.word(word),
+        Some(Access::And(word, _)) => machine.word(word),
     }
 }
 
-/// What stands in the word of an access; 0 where there is none.
-fn word_in(machine: &Machine, access: Option<Access>) -> u64
-    ensures { result ≡ word_in machine.now.core.words access }
+/// A thread before its event, and what the event stands for in the plain machine.
+#[derive(Debug, Drop)]
+pub struct Seen {
+    pub before: Before,
+    pub share: Share,
+}
+
+/// How many steps a thread owes.
+fn owed_at(owed: &Rows<u64>, t: u8) -> u64
+    ensures { result ≡ owed_at owed.now t }
 {
-    match access {
-        Some(access) => machine.word(place_of(access)),
+    match owed.get(t as usize) {
+        Some(steps) => *steps,
         None => 0,
     }
 }
 
 /// A thread before its event.
-fn look(machine: &Machine, p: &Checked, t: u8) -> Option<Before>
+fn look(machine: &Machine, p: &Checked, owed: &Rows<u64>, t: u8) -> Option<Seen>
     requires { p.now ≡ machine.now.program }
-    ensures { result ≡ option_map (seen_before p.now machine.now.core.words) (slice_get machine.now.core.threads t) }
+    ensures { result ≡ seen_by p.now machine.now.core owed.now (Of t) }
 {
     match machine.thread(t) {
         Some(s) => {
             let access = want(s, p);
-            Some(see_before(s, p, access, word_in(machine, access)))
+            let found = found_in(machine, access);
+            Some(Seen {
+                before: see_before(s, p, access, found),
+                share: share_of(s, p, found, owed_at(owed, t)),
+            })
         }
         None => None,
     }
 }
 
-/// Adds the line of an event by the thread before it, and by the machine behind it.
+/// A thread owes so many steps.
+fn put_owed(owed: &mut Rows<u64>, t: u8, steps: u64)
+    ensures { owed.new ≡ slice_set owed.old t steps }
+{
+    if (t as usize) < owed.len() {
+        owed.set(t as usize, steps);
+    }
+}
+
+/// How many it owes behind its event.
+fn settle(owed: &mut Rows<u64>, t: u8, seen: &Option<Seen>)
+    ensures { owed.new ≡ owed_after owed.old (Of t) seen.now }
+{
+    if let Some(seen) = seen {
+        let steps = owed_behind(&seen.share, owed_at(owed, t));
+        put_owed(owed, t, steps);
+    }
+}
+
+/// Adds the line of an event by the thread before it, and by the machine behind it; and to the ends that of the end which it leads
+/// to, where that is no return.
 fn write_between(
     text: &mut Vec<u8>,
+    ends: &mut Vec<u8>,
     alloc: Global,
     p: &Checked,
     names: &Rows<Bytes>,
     number: u64,
-    before: Option<Before>,
+    seen: &Option<Seen>,
     machine: &Machine,
     t: u8,
 ) -> Result<(), AllocError>
-    ensures { OnOk result (text.new.items ≡ text.old.items ++ line_between p.now names.now number machine.now.core.words before (slice_get machine.now.core.threads t)) }
+    ensures end { OnOk result (ends.new.items ≡ ends.old.items ++ end_between p.now number seen.now (slice_get machine.now.core.threads t)) }
+    ensures line { OnOk result (text.new.items ≡ text.old.items ++ line_between p.now names.now number machine.now.core.words seen.now (slice_get machine.now.core.threads t)) }
 {
-    match (before, machine.thread(t)) {
-        (Some(before), Some(s)) => {
-            let after = see_after(s, word_in(machine, before.access));
-            write_line(text, alloc, p, names, number, &before, &after)
+    match (seen, machine.thread(t)) {
+        (Some(seen), Some(s)) => {
+            let after = see_after(s, found_in(machine, seen.before.access));
+            write_line(
+                text,
+                alloc,
+                p,
+                names,
+                number,
+                &seen.before,
+                &seen.share,
+                &after,
+            )?;
+            write_end_line(ends, alloc, p, number, &seen.before, &after)
         }
         _ => Ok(()),
     }
 }
 
-/// Makes the next event of a live thread, and adds its line.
+/// Makes the next event of a live thread, and adds its line, and to the ends that of an end which is no return. Behind it the
+/// threads owe what they owe.
 pub fn make_event(
     text: &mut Vec<u8>,
+    ends: &mut Vec<u8>,
     alloc: Global,
     machine: &mut Machine,
+    owed: &mut Rows<u64>,
     p: &Checked,
     names: &Rows<Bytes>,
     number: u64,
@@ -117,11 +167,14 @@ pub fn make_event(
     requires live { lives machine.old.core t ≡ true }
     ensures event { machine.new ≡ record machine.old { core = event machine.old.program machine.old.core t } }
     ensures less { all_work machine.new.core < all_work machine.old.core }
-    ensures line { OnOk result (text.new.items ≡ text.old.items ++ event_line p.now names.now number machine.old.core (Of t)) }
+    ensures owed { owed.new ≡ owed_after owed.old (Of t) (seen_by p.now machine.old.core owed.old (Of t)) }
+    ensures end { OnOk result (ends.new.items ≡ ends.old.items ++ event_end p.now number machine.old.core (seen_by p.now machine.old.core owed.old (Of t)) (Of t)) }
+    ensures line { OnOk result (text.new.items ≡ text.old.items ++ event_line p.now names.now number machine.old.core (seen_by p.now machine.old.core owed.old (Of t)) (Of t)) }
 {
-    let before = look(machine, p, t);
+    let seen = look(machine, p, owed, t);
     machine.event(p, t);
-    write_between(text, alloc, p, names, number, before, machine, t)
+    settle(owed, t, &seen);
+    write_between(text, ends, alloc, p, names, number, &seen, machine, t)
 }
 
 /// Displays which part begins, by how many parts began before.

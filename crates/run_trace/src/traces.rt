@@ -1,13 +1,14 @@
 //! The trace of a run.
 
-ghost use Rattle.std.specs.Prelude.{◌≡◌, ◌<◌, ◌≤◌, true, length, IfOk};
+ghost use Rattle.std.specs.Prelude.{◌≡◌, ◌<◌, ◌≤◌, true, length, replicate, Err, IfOk, OnErr};
 ghost use Rattle.machine_types.specs.Core.{Of, NextPart, lives};
 ghost use Rattle.machine_types.specs.Schedules.{First, turn_at};
 ghost use Rattle.machine_types.specs.Settings.{AreSettings};
 ghost use Rattle.laws_states.specs.WorkLeft.{all_work};
 ghost use Rattle.run_texts.specs.Report.{report_text};
 ghost use Rattle.run_trace.specs.EventLines.{next_number};
-ghost use Rattle.run_trace.specs.Traces.{IsPut, IsTraced, IsWalk, IsWalkToEnd, Tells};
+ghost use Rattle.run_trace.specs.Traces.{IsPut, IsStarted, IsTraced, IsWalk, IsWalkToEnd, Tells};
+ghost use Rattle.run_trace.specs.declared.traces.TraceError.TheVariants.{Memory};
 ghost use Rattle.run_trace.specs.Turns.{IsNoEvent, next_ahead, parts_ahead, stage_of};
 
 use crate::events::{Part, make_event, make_part, told_of};
@@ -36,6 +37,39 @@ pub struct Tracing {
     machine: Machine,
     /// The number of the next line.
     number: u64,
+    /// How many steps of the plain machine each thread owes of its open attempt.
+    owed: Rows<u64>,
+    /// The lines of the ends so far that are no returns.
+    ends: Vec<u8>,
+}
+
+/// No thread of so many owes a step.
+fn nothing_owed(alloc: Global, threads: usize) -> Result<Rows<u64>, AllocError>
+    ensures { IfOk result (λ owed. owed ≡ replicate threads 0) }
+{
+    Ok(Rows::from_vec(vec![in alloc; 0; threads]?))
+}
+
+/// The run at its start.
+fn start(alloc: Global, p: &Checked, cfg: &Config) -> Result<Tracing, TraceError>
+    requires { AreSettings cfg.now }
+    ensures ok { IfOk result (IsStarted p.now cfg.now) }
+    ensures err { OnErr result (result ≡ Err Memory) }
+{
+    let machine = match Machine::start(alloc, p, cfg) {
+        Ok(machine) => machine,
+        Err(AllocError) => return Err(TraceError::Memory),
+    };
+    let owed = match nothing_owed(alloc, p.workers() as usize + 1) {
+        Ok(owed) => owed,
+        Err(AllocError) => return Err(TraceError::Memory),
+    };
+    Ok(Tracing {
+        machine,
+        number: 1,
+        owed,
+        ends: Vec::new(alloc),
+    })
 }
 
 /// The number of the line behind one; it stands still at its end.
@@ -72,7 +106,17 @@ fn tell_event<K: Sink>(
 {
     let mut text = Vec::new(alloc);
     let number = trace.number;
-    let made = make_event(&mut text, alloc, &mut trace.machine, p, names, number, t);
+    let made = make_event(
+        &mut text,
+        &mut trace.ends,
+        alloc,
+        &mut trace.machine,
+        &mut trace.owed,
+        p,
+        names,
+        number,
+        t,
+    );
     trace.number = next_number(number);
     match made {
         Ok(()) => write_text(sink, told_of(part, number, text.as_slice())),
@@ -163,7 +207,8 @@ fn tell_report<K: Sink>(alloc: Global, outcome: &Outcome, sink: &mut K) -> Resul
 /// next event, and writes to the sink a line for each event of the run in order, or for those of a part, as the run goes: its number; the thread, and
 /// the attempt that it is in; the class, method and pc where the thread stands, with the mnemonic; what it does in words, where
 /// that is no instruction; the word that it accesses, with what it found and left there; where an attempt begins, fails or
-/// finishes, a lock is taken or made fat, and how the thread comes to its end. Behind them stands the report of the run.
+/// finishes, a lock is taken or made fat, and how the thread comes to its end; and the steps of the plain machine that it stands
+/// for. Behind them stands a line for each end that is no return, and the report of the run.
 /// `names` has the names of the fields of the program in their order; a field without a name is told by its number.
 ///
 /// It answers the outcome of the run; `Failed` where the sink fails, and `Memory` where there is no memory. The memory that it
@@ -180,12 +225,9 @@ pub fn explain_run<K: Sink>(
     requires { AreSettings cfg.now }
     ensures { IsTraced p.now cfg.now order.now names.now part (K.text sink.old) (K.text sink.new) (K.faults sink.old) (K.faults sink.new) result }
 {
-    let machine = match Machine::start(alloc, p, cfg) {
-        Ok(machine) => machine,
-        Err(AllocError) => return Err(TraceError::Memory),
-    };
-    let mut trace = Tracing { machine, number: 1 };
+    let mut trace = start(alloc, p, cfg)?;
     tell_all(alloc, &mut trace, p, names, part, order.as_slice(), sink)?;
+    write_text(sink, trace.ends.as_slice())?;
     let _workers = trace.machine.workers();
     let outcome = trace.machine.outcome();
     tell_report(alloc, &outcome, sink)?;

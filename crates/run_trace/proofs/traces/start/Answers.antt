@@ -1,0 +1,11 @@
+use Rattle.std.proofs.Common.{ℕ, ◌+◌, refl, ap, ◌∙◌}
+use Rattle.std.specs.Prelude.{replicate}
+use Rattle.run_trace.proofs.traces.start.Goals as goal
+
+pub returns-clause-ok : goal.returns-clause-ok
+returns-clause-ok c = record {
+  machine = c.in-Ok.ensures;
+  number = refl;
+  owed = c.in-Ok-nothing_owed.ensures ∙ ap (λ (n : ℕ). replicate (n + 1) 0) c.workers.ensures.workers;
+  ends = c.new.ensures.items;
+}
