@@ -1,5 +1,5 @@
+use Rattle.solero_explain.proofs.Commands.{is_a_free_command, is_a_simple_command}
 use Rattle.solero_explain.proofs.command.matches_in.Goals as goal
-use Rattle.command_words.proofs.Commands.{is_a_simple_command, is_a_free_command}
 
 pub found_in-requires-clause-simple : goal.found_in-requires-clause-simple
 found_in-requires-clause-simple c = is_a_simple_command _ c.in_ok-command.ensures
