@@ -9,8 +9,8 @@ use Rattle.jvm_types.specs.declared.class_file.Handler.{Handler}
 use Rattle.jvm_types.specs.declared.class_file.Code.{Code}
 use Rattle.jvm_types.specs.declared.class_file.Member.{Member}
 use Rattle.jvm_types.specs.declared.class_file.ClassFile.{ClassFile}
-use Rattle.asm_text.specs.Places.{after, place_behind, behind_next, class_rank, code_rank}
-use Rattle.asm_text.specs.Drafting.{added, drafted, draft, no_member, no_code, place_or}
+use Rattle.asm_text.specs.Places.{place_after, place_behind, behind_next, class_rank, code_rank}
+use Rattle.asm_text.specs.Drafting.{line_added, drafted, draft, no_member, no_code, place_or}
 use Rattle.asm_text.specs.declared.items.MemberKind.{MemberKind}
 use Rattle.asm_text.specs.declared.items.Item.{Item}
 use Rattle.asm_text.specs.declared.items.Item.TheVariants.{Entry, Interface, Attribute, Row}
@@ -31,10 +31,10 @@ pub record Leads (place : Place) (d : Draft) (items : List Item) (next : Place) 
 pub stays : (place : Place) (d : Draft) → Leads place d [] place d
 stays place d = record { follow = refl; makes = refl }
 
-pub first_line : (place next : Place) (d : Draft) (item : Item) (items : List Item) (last : Place) (e : Draft) → after place item ≡ Some next → Leads next (added place d item) items last e → Leads place d (item ∷ items) last e
+pub first_line : (place next : Place) (d : Draft) (item : Item) (items : List Item) (last : Place) (e : Draft) → place_after place item ≡ Some next → Leads next (line_added place d item) items last e → Leads place d (item ∷ items) last e
 first_line place next d item items last e h l = record {
   follow = ap (λ (o : Option Place). behind_next o (λ p. place_behind p items)) h ∙ l.follow;
-  makes = ap (λ (o : Option Place). drafted (place_or place o) (added place d item) items) h ∙ l.makes;
+  makes = ap (λ (o : Option Place). drafted (place_or place o) (line_added place d item) items) h ∙ l.makes;
 }
 
 pub both_lead : (place : Place) (d : Draft) (xs : List Item) (middle : Place) (e : Draft) (ys : List Item) (last : Place) (f : Draft) → Leads place d xs middle e → Leads middle e ys last f → Leads place d (xs ++ ys) last f
@@ -43,9 +43,9 @@ both_lead place d [] middle e ys last f l k =
   where
     some_is : {p q : Place} → Some p ≡ Some q → q ≡ p
     some_is e = cc
-both_lead place d (x ∷ xs) middle e ys last f l k = by_next (λ next l. both_lead next (added place d x) xs middle e ys last f l k) (after place x) refl l.follow l.makes
+both_lead place d (x ∷ xs) middle e ys last f l k = by_next (λ next l. both_lead next (line_added place d x) xs middle e ys last f l k) (place_after place x) refl l.follow l.makes
   where
-    by_next : ((next : Place) → Leads next (added place d x) xs middle e → Leads next (added place d x) (xs ++ ys) last f) → (o : Option Place) → after place x ≡ o → behind_next o (λ p. place_behind p xs) ≡ Some middle → drafted (place_or place o) (added place d x) xs ≡ e → Leads place d (x ∷ (xs ++ ys)) last f
+    by_next : ((next : Place) → Leads next (line_added place d x) xs middle e → Leads next (line_added place d x) (xs ++ ys) last f) → (o : Option Place) → place_after place x ≡ o → behind_next o (λ p. place_behind p xs) ≡ Some middle → drafted (place_or place o) (line_added place d x) xs ≡ e → Leads place d (x ∷ (xs ++ ys)) last f
     by_next more None h follow makes = absurd (cc)
     by_next more (Some next) h follow makes = first_line place next d x (xs ++ ys) last f h (more next (record { follow = follow; makes = makes }))
 

@@ -11,7 +11,7 @@ use Rattle.jvm_types.specs.declared.class_file.MemberAttr.TheVariants as member_
 use Rattle.jvm_types.specs.declared.class_file.Member.{Member}
 use Rattle.jvm_types.specs.declared.class_file.ClassFile.{ClassFile}
 use Rattle.asm_text.specs.Places.{part_of, class_rank}
-use Rattle.asm_text.specs.Drafting.{draft, new_draft, no_class, no_member, no_code, member_of, code_of, with_member, with_member_attr, with_bytes}
+use Rattle.asm_text.specs.Drafting.{draft, new_draft, no_class, no_member, no_code, member_of, started_code, with_member, with_member_attr, with_bytes}
 use Rattle.asm_text.specs.declared.items.MemberKind.{MemberKind}
 use Rattle.asm_text.specs.declared.items.MemberKind.TheVariants as kinds
 use Rattle.asm_text.specs.declared.items.Item.{Item}
@@ -50,7 +50,7 @@ HasBytes attr = Unit {0}
 code_attr_leads : (kind : MemberKind) (c : ClassFile) (m : Member) (k : Code) → AllByRecursion IsByte k.bytes
     → Leads (places.Member kind) (draft c m no_code) (code_attr_items k) (places.Member kind) (draft c (with_member_attr m (member_attrs.Code k)) no_code)
 code_attr_leads kind c m k b =
-    let head = code_of k.name k.max_stack k.max_locals in
+    let head = started_code k.name k.max_stack k.max_locals in
     let x = code_leads kind c m head k.bytes b in
     let y = rows_lead kind x.next c m (with_bytes head k.bytes) k.rows x.up in
     let z = code_attrs_lead kind y.next c m (record (with_bytes head k.bytes) { rows = k.rows }) k.attrs (code_up_more 2 3 y.next (omega arith) y.up) in

@@ -19,7 +19,7 @@ use Rattle.jvm_types.specs.declared.class_file.ClassFile.{ClassFile}
 use Rattle.jvm_types.proofs.CodeExact.{read_is_code}
 use Rattle.asm_text.specs.CodeLines.{are_zeros, is_padded, are_insns}
 use Rattle.asm_text.specs.Operands.{shape_of, shape_at}
-use Rattle.asm_text.specs.Encoding.{zeros, shape_bytes, encoded}
+use Rattle.asm_text.specs.Encoding.{zero_bytes, shape_bytes, encoded}
 use Rattle.asm_text.specs.Drafting.{draft, with_bytes}
 use Rattle.asm_text.specs.declared.items.MemberKind.{MemberKind}
 use Rattle.asm_text.specs.declared.items.Item.{Item}
@@ -48,18 +48,18 @@ zero_run whole pre (x ∷ xs) rest (suc n) at e l a h =
     let here : slice_index_or whole at 0 ≡ x = ap (λ (w : List ℕ). slice_index_or w at 0) e ∙ ap (λ (k : ℕ). slice_index_or (pre ++ x ∷ (xs ++ rest)) k 0) (sym a) ∙ at_end pre x (xs ++ rest) in
     (sym here ∙ is_zero _ p.0, zero_run whole (pre ++ x ∷ []) xs rest n (at + 1) (e ∙ sym (append_assoc pre (x ∷ []) (xs ++ rest))) (omega arith) (omega (arith, a, length-append pre (x ∷ []))) p.1)
 
-zeros_are : (xs : List ℕ) (n : ℕ) → AllByRecursion (λ b. b ≡ 0) xs → length xs ≡ n → n ≤ 3 → xs ≡ zeros n
-zeros_are [] n h l few = ap zeros l
-zeros_are (a ∷ []) n h l few = ap (λ (x : ℕ). x ∷ []) h.0 ∙ ap zeros l
-zeros_are (a ∷ b ∷ []) n h l few = ap (λ (x : ℕ). x ∷ b ∷ []) h.0 ∙ ap (λ (x : ℕ). 0 ∷ x ∷ []) h.1.0 ∙ ap zeros l
-zeros_are (a ∷ b ∷ c ∷ []) n h l few = ap (λ (x : ℕ). x ∷ b ∷ c ∷ []) h.0 ∙ ap (λ (x : ℕ). 0 ∷ x ∷ c ∷ []) h.1.0 ∙ ap (λ (x : ℕ). 0 ∷ 0 ∷ x ∷ []) h.1.1.0 ∙ ap zeros l
+zeros_are : (xs : List ℕ) (n : ℕ) → AllByRecursion (λ b. b ≡ 0) xs → length xs ≡ n → n ≤ 3 → xs ≡ zero_bytes n
+zeros_are [] n h l few = ap zero_bytes l
+zeros_are (a ∷ []) n h l few = ap (λ (x : ℕ). x ∷ []) h.0 ∙ ap zero_bytes l
+zeros_are (a ∷ b ∷ []) n h l few = ap (λ (x : ℕ). x ∷ b ∷ []) h.0 ∙ ap (λ (x : ℕ). 0 ∷ x ∷ []) h.1.0 ∙ ap zero_bytes l
+zeros_are (a ∷ b ∷ c ∷ []) n h l few = ap (λ (x : ℕ). x ∷ b ∷ c ∷ []) h.0 ∙ ap (λ (x : ℕ). 0 ∷ x ∷ c ∷ []) h.1.0 ∙ ap (λ (x : ℕ). 0 ∷ 0 ∷ x ∷ []) h.1.1.0 ∙ ap zero_bytes l
 zeros_are (a ∷ b ∷ c ∷ d ∷ xs) n h l few = absurd (omega arith)
 
 few_pad : (pc : ℕ) → padding_size pc ≤ 3
 few_pad pc = omega arith
 
 switch_padded : (done operands rest : List ℕ) (opcode : ℕ) → are_zeros (done ++ opcode ∷ (operands ++ rest)) (length done + 1) (padding_size (length done)) ≡ true
-    → (padding others : List ℕ) → operands ≡ padding ++ others → length padding ≡ padding_size (length done) → padding ≡ zeros (padding_size (length done))
+    → (padding others : List ℕ) → operands ≡ padding ++ others → length padding ≡ padding_size (length done) → padding ≡ zero_bytes (padding_size (length done))
 switch_padded done operands rest opcode h padding others e l =
     zeros_are padding (padding_size (length done)) (zero_run _ (done ++ opcode ∷ []) padding (others ++ rest) (padding_size (length done)) (length done + 1) whole_is l (omega (arith, length-append done (opcode ∷ []))) h) l (few_pad (length done))
   where

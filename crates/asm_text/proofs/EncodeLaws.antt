@@ -16,7 +16,7 @@ use Rattle.jvm_types.specs.declared.code.Op.TheVariants.{Nop, AconstNull, Bipush
 use Rattle.asm_text.specs.Lines.{Value, Number, Signed, Hex}
 use Rattle.asm_text.specs.CodeLines.{high_of, case_values, operands, names_local, values_of}
 use Rattle.asm_text.specs.Operands.{shape_of, is_target}
-use Rattle.asm_text.specs.Encoding.{low1, low2, low4, way, zeros, ways, pair_ways, operand_bytes}
+use Rattle.asm_text.specs.Encoding.{low1, low2, low4, way, zero_bytes, ways, pair_ways, operand_bytes}
 use Rattle.asm_text.specs.declared.shapes.Shape.TheVariants as shapes
 
 -- ---- the numbers of a line
@@ -427,8 +427,8 @@ pair_count cases h = ap u4 (count (length cases) (length (flat_map case_numbers 
 
 -- the padding of a switch is of zeros
 abbrev pub IsPadded : ℕ → Form → List ℕ → Type 0
-IsPadded pc Table bytes = (padding rest : List ℕ) → bytes ≡ padding ++ rest → length padding ≡ padding_size pc → padding ≡ zeros (padding_size pc)
-IsPadded pc Lookup bytes = (padding rest : List ℕ) → bytes ≡ padding ++ rest → length padding ≡ padding_size pc → padding ≡ zeros (padding_size pc)
+IsPadded pc Table bytes = (padding rest : List ℕ) → bytes ≡ padding ++ rest → length padding ≡ padding_size pc → padding ≡ zero_bytes (padding_size pc)
+IsPadded pc Lookup bytes = (padding rest : List ℕ) → bytes ≡ padding ++ rest → length padding ≡ padding_size pc → padding ≡ zero_bytes (padding_size pc)
 IsPadded pc f bytes = Unit {0}
 
 pub high_is : (low high : ℤ) (targets : List ℕ) → pos (length targets) ≡ high -ℤ low +ℤ pos 1 → high_of low targets ≡ high

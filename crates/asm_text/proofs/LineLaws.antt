@@ -14,12 +14,12 @@ use Rattle.jvm_types.specs.declared.class_file.Constant.TheVariants as constants
 use Rattle.mnemonics.specs.Mnemonics.{mnemonic, opcode_of}
 use Rattle.mnemonics.proofs.OpcodeLaws.{opcode_back, opcode_fits, mnemonic_back}
 use Rattle.asm_text.specs.Lines.{Signed, Line, value_text, values_text, line_text}
-use Rattle.asm_text.specs.CodeLines.{name_of}
+use Rattle.asm_text.specs.CodeLines.{name_or_empty}
 use Rattle.asm_text.specs.Operands.{is_between, is_target, is_s4, are_pairs, bounds_fit, operands_fit, shape_at}
 use Rattle.asm_text.specs.Items.{item_line, ItemFits, ConstantFits}
 use Rattle.asm_text.specs.Words.{words, word_at, read_on, unsigned, small, signed, u2_word, u4_word, u8_word, hex_word, operand_words}
 use Rattle.asm_text.specs.LineNames.{line_name_of}
-use Rattle.asm_text.specs.Reading.{item_in, item_by, rough_item, insn_fits, shape_fits, named_item, IsRead}
+use Rattle.asm_text.specs.Reading.{item_in, item_by, rough_item, insn_fits, shape_fits, named_item, IsLineRead}
 use Rattle.asm_text.specs.declared.items.MemberKind.TheVariants as kinds
 use Rattle.asm_text.specs.declared.items.Item.{Item}
 use Rattle.asm_text.specs.declared.items.Item.TheVariants as items
@@ -203,7 +203,7 @@ constant_back (constants.NameAndType name descriptor) f = λ i. items.Entry (con
 insn_back : (opcode : ℕ) (ns : List ℤ) → IsInsnName opcode → AllByRecursion (IsSigned 4294967296) ns
     → item_in ((item_line (items.Instruction opcode ns)).name ∷ map value_text (item_line (items.Instruction opcode ns)).values) ≡ items.Instruction opcode ns
 insn_back opcode ns n h =
-    ap (λ (x : Option (List ℕ)). item_in (name_of x ∷ map value_text (map Signed ns))) n.is
+    ap (λ (x : Option (List ℕ)). item_in (name_or_empty x ∷ map value_text (map Signed ns))) n.is
     ∙ ap (λ (x : Option LineName). item_by x (opcode_of n.name) (n.name ∷ map value_text (map Signed ns))) n.own
     ∙ ap (λ (x : Option ℕ). item_by None x (n.name ∷ map value_text (map Signed ns))) (opcode_back opcode n.name n.is)
     ∙ ap (items.Instruction opcode) (operands_back ns h)
@@ -322,12 +322,12 @@ pub only_item : (line : List ℕ) (item : Item) → ItemFits item → line ++ 10
 only_item line item f e = ap rough_item (same_end 10 line (line_body item) e) ∙ read_back item f
 
 -- what the answers of reading a line mean
-pub read_some : (line whole : List ℕ) (item : Item) → item ≡ rough_item line → (insn_fits item && bytes_eq (line_text (item_line item)) whole) ≡ true → IsRead whole (Some item)
+pub read_some : (line whole : List ℕ) (item : Item) → item ≡ rough_item line → (insn_fits item && bytes_eq (line_text (item_line item)) whole) ≡ true → IsLineRead whole (Some item)
 read_some line whole item e h =
     let p = and_parts (insn_fits item) (bytes_eq (line_text (item_line item)) whole) h in
     (subst (λ (x : Item). ItemFits x) (sym e) (read_fits (words line) (subst (λ (x : Item). insn_fits x ≡ true) e p.0)), sym ((bytes_eq-Decides (line_text (item_line item)) whole).0 p.1))
 
-pub read_none : (line whole : List ℕ) (item : Item) → item ≡ rough_item line → whole ≡ line ++ 10 ∷ [] → (insn_fits item && bytes_eq (line_text (item_line item)) whole) ≡ false → IsRead whole None
+pub read_none : (line whole : List ℕ) (item : Item) → item ≡ rough_item line → whole ≡ line ++ 10 ∷ [] → (insn_fits item && bytes_eq (line_text (item_line item)) whole) ≡ false → IsLineRead whole None
 read_none line whole item e w h other f says =
     let same : item ≡ other = e ∙ only_item line other f (sym w ∙ says) in
     let fits : insn_fits item ≡ true = subst (λ (x : Item). insn_fits x ≡ true) (sym same) (fits_insn other f) in

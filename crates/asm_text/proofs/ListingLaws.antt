@@ -17,11 +17,11 @@ use Rattle.jvm_types.specs.declared.class_file.ClassFile.{ClassFile}
 use Rattle.asm_text.specs.Lines.{Number, Signed, Line, line_text, text_of, values_text}
 use Rattle.asm_text.specs.CodeLines.{high_of, case_values, operands, names_local, insn_line, are_insns, code_lines, bytes_line}
 use Rattle.asm_text.specs.ClassLines.{constant_line, interface_line, attr_line, row_line, end_line, code_line, member_line, file_line, code_attr_lines, member_attr_lines, member_lines, class_lines, Lists}
-use Rattle.asm_text.specs.Items.{item_line, items_text, ItemFits, member_name}
-use Rattle.asm_text.specs.Places.{place_behind, behind_next, after, is_end}
+use Rattle.asm_text.specs.Items.{item_line, items_text, ItemFits, member_keyword}
+use Rattle.asm_text.specs.Places.{place_behind, behind_next, place_after, is_end}
 use Rattle.asm_text.specs.Drafting.{drafted, new_draft}
 use Rattle.asm_text.specs.Drafted.{IsWholeDraft}
-use Rattle.asm_text.specs.Assembling.{Begins, IsFormed, ListsAtMostOneClass, ListingsAreFormed}
+use Rattle.asm_text.specs.Assembling.{HasFirstLines, IsFormed, ListsAtMostOneClass, ListingsAreFormed}
 use Rattle.asm_text.specs.declared.items.MemberKind.{MemberKind}
 use Rattle.asm_text.specs.declared.items.MemberKind.TheVariants as kinds
 use Rattle.asm_text.specs.declared.items.Item.{Item}
@@ -100,8 +100,8 @@ member_attr_text (member_attrs.Code k) = code_attr_text k
 member_attr_text (member_attrs.ConstantValue name constant) = refl
 member_attr_text (member_attrs.Other a) = refl
 
-member_text : (kind : MemberKind) (m : Member) → text_of (member_lines (member_name kind) m) ≡ items_text (member_items kind m)
-member_text kind m = ap (λ (t : List ℕ). line_text (member_line (member_name kind) m) ++ t) (parts_text _ _ _ _ (flat_text member_attr_lines member_attr_items member_attr_text m.attrs) refl)
+member_text : (kind : MemberKind) (m : Member) → text_of (member_lines (member_keyword kind) m) ≡ items_text (member_items kind m)
+member_text kind m = ap (λ (t : List ℕ). line_text (member_line (member_keyword kind) m) ++ t) (parts_text _ _ _ _ (flat_text member_attr_lines member_attr_items member_attr_text m.attrs) refl)
 
 pub class_text : (c : ClassFile) → text_of (class_lines c) ≡ items_text (class_items c)
 class_text c = ap (λ (t : List ℕ). line_text (file_line c) ++ t) (
@@ -145,7 +145,7 @@ continues (x ∷ xs) (y ∷ ys) rest f g e =
 listed_text : (text : List ℕ) (c : ClassFile) → Lists text c → text ≡ items_text (class_items c)
 listed_text text c h = h.listed ∙ class_text c
 
-begun : (text : List ℕ) (c : ClassFile) (items : List Item) (place : Place) (rest : List ℕ) → Lists text c → Begins text items place rest → Continues items (class_items c) rest
+begun : (text : List ℕ) (c : ClassFile) (items : List Item) (place : Place) (rest : List ℕ) → Lists text c → HasFirstLines text items place rest → Continues items (class_items c) rest
 begun text c items place rest h b = continues items (class_items c) rest b.fit (class_fits c h.is) (sym b.parts ∙ listed_text text c h)
 
 nothing : (more : List Item) → [] ≡ items_text more → more ≡ []
@@ -169,7 +169,7 @@ behind_front p [] ys q h = ap (λ (x : Place). place_behind x ys) (some_is h)
   where
     some_is : {a b : Place} → Some a ≡ Some b → a ≡ b
     some_is e = cc
-behind_front p (x ∷ xs) ys q h = by_next (λ next h. behind_front next xs ys q h) (after p x) h
+behind_front p (x ∷ xs) ys q h = by_next (λ next h. behind_front next xs ys q h) (place_after p x) h
   where
     by_next : ((next : Place) → place_behind next xs ≡ Some q → place_behind next (xs ++ ys) ≡ place_behind q ys) → (o : Option Place) → behind_next o (λ next. place_behind next xs) ≡ Some q
         → behind_next o (λ next. place_behind next (xs ++ ys)) ≡ place_behind q ys
@@ -199,7 +199,7 @@ listings_formed text c number h u =
 
     at : (more : List Item) → u.rest ≡ items_text more → place_behind u.place more ≡ Some (places.Class (class_leads c h.is).next) → AllByRecursion ItemFits more → ⊥
     at [] t k f = end_is u.place (places.Class (class_leads c h.is).next) k refl (u.unformed.early t)
-    at (x ∷ more) t k f = blocked (after u.place x) (λ next. place_behind next more) _ (u.unformed.front x (items_text more) f.0 t) k
+    at (x ∷ more) t k f = blocked (place_after u.place x) (λ next. place_behind next more) _ (u.unformed.front x (items_text more) f.0 t) k
 
 -- no text lists two classes
 pub one_class : ListsAtMostOneClass

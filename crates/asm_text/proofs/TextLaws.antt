@@ -4,10 +4,10 @@ use Rattle.std.specs.List.{AllByRecursion}
 use Rattle.std.proofs.lemmas.List.{append-nil}
 use Rattle.asm_text.specs.Lines.{line_text}
 use Rattle.asm_text.specs.Items.{item_line, items_text, ItemFits}
-use Rattle.asm_text.specs.Places.{after, place_behind, behind_next, is_end}
-use Rattle.asm_text.specs.Drafting.{added, drafted, new_draft, place_or}
-use Rattle.asm_text.specs.Drafted.{IsLine, IsNext, AreDrafted, IsWholeDraft, is_whole}
-use Rattle.asm_text.specs.Assembling.{Begins, IsFirstUnformed}
+use Rattle.asm_text.specs.Places.{place_after, place_behind, behind_next, is_end}
+use Rattle.asm_text.specs.Drafting.{line_added, drafted, new_draft, place_or}
+use Rattle.asm_text.specs.Drafted.{IsLine, IsNextPlace, AreDrafted, IsWholeDraft, is_whole}
+use Rattle.asm_text.specs.Assembling.{HasFirstLines, IsFirstUnformed}
 use Rattle.asm_text.specs.declared.items.Item.{Item}
 use Rattle.asm_text.specs.declared.places.Place.{Place}
 use Rattle.asm_text.specs.declared.places.Place.TheVariants as places
@@ -22,8 +22,8 @@ pub items_append : (xs ys : List Item) → items_text (xs ++ ys) ≡ items_text 
 items_append [] ys = refl
 items_append (x ∷ xs) ys = ap (λ t. line_text (item_line x) ++ t) (items_append xs ys) ∙ sym (append_assoc (line_text (item_line x)) (items_text xs) (items_text ys))
 
-place_more : (p : Place) (xs : List Item) (x : Item) (q r : Place) → place_behind p xs ≡ Some q → after q x ≡ Some r → place_behind p (xs ++ x ∷ []) ≡ Some r
-place_more p [] x q r h k = by_next (after p x) (subst (λ (y : Place). after y x ≡ Some r) (same h) k)
+place_more : (p : Place) (xs : List Item) (x : Item) (q r : Place) → place_behind p xs ≡ Some q → place_after q x ≡ Some r → place_behind p (xs ++ x ∷ []) ≡ Some r
+place_more p [] x q r h k = by_next (place_after p x) (subst (λ (y : Place). place_after y x ≡ Some r) (same h) k)
   where
     same : {a b : Place} → Some a ≡ Some b → b ≡ a
     same e = cc
@@ -31,25 +31,25 @@ place_more p [] x q r h k = by_next (after p x) (subst (λ (y : Place). after y 
     by_next : (o : Option Place) → o ≡ Some r → behind_next o (λ next. Some next) ≡ Some r
     by_next None e = absurd (cc)
     by_next (Some next) e = e
-place_more p (y ∷ xs) x q r h k = by_next (λ next h. place_more next xs x q r h k) (after p y) h
+place_more p (y ∷ xs) x q r h k = by_next (λ next h. place_more next xs x q r h k) (place_after p y) h
   where
     by_next : ((next : Place) → place_behind next xs ≡ Some q → place_behind next (xs ++ x ∷ []) ≡ Some r) → (o : Option Place) → behind_next o (λ next. place_behind next xs) ≡ Some q → behind_next o (λ next. place_behind next (xs ++ x ∷ [])) ≡ Some r
     by_next more None h = absurd (cc)
     by_next more (Some next) h = more next h
 
-drafted_more : (p : Place) (d : Draft) (xs : List Item) (x : Item) (q : Place) → place_behind p xs ≡ Some q → drafted p d (xs ++ x ∷ []) ≡ added q (drafted p d xs) x
-drafted_more p d [] x q h = ap (λ (y : Place). added y d x) (same h)
+drafted_more : (p : Place) (d : Draft) (xs : List Item) (x : Item) (q : Place) → place_behind p xs ≡ Some q → drafted p d (xs ++ x ∷ []) ≡ line_added q (drafted p d xs) x
+drafted_more p d [] x q h = ap (λ (y : Place). line_added y d x) (same h)
   where
     same : {a b : Place} → Some a ≡ Some b → a ≡ b
     same e = cc
-drafted_more p d (y ∷ xs) x q h = by_next (λ next h. drafted_more next (added p d y) xs x q h) (after p y) h
+drafted_more p d (y ∷ xs) x q h = by_next (λ next h. drafted_more next (line_added p d y) xs x q h) (place_after p y) h
   where
-    by_next : ((next : Place) → place_behind next xs ≡ Some q → drafted next (added p d y) (xs ++ x ∷ []) ≡ added q (drafted next (added p d y) xs) x) → (o : Option Place) → behind_next o (λ next. place_behind next xs) ≡ Some q → drafted (place_or p o) (added p d y) (xs ++ x ∷ []) ≡ added q (drafted (place_or p o) (added p d y) xs) x
+    by_next : ((next : Place) → place_behind next xs ≡ Some q → drafted next (line_added p d y) (xs ++ x ∷ []) ≡ line_added q (drafted next (line_added p d y) xs) x) → (o : Option Place) → behind_next o (λ next. place_behind next xs) ≡ Some q → drafted (place_or p o) (line_added p d y) (xs ++ x ∷ []) ≡ line_added q (drafted (place_or p o) (line_added p d y) xs) x
     by_next more None h = absurd (cc)
     by_next more (Some next) h = more next h
 
-pub one_more : (text : List ℕ) (items : List Item) (item : Item) (place next : Place) (rest more : List ℕ) → Begins text items place rest → ItemFits item → rest ≡ line_text (item_line item) ++ more → after place item ≡ Some next
-    → Begins text (items ++ item ∷ []) next more
+pub one_more : (text : List ℕ) (items : List Item) (item : Item) (place next : Place) (rest more : List ℕ) → HasFirstLines text items place rest → ItemFits item → rest ≡ line_text (item_line item) ++ more → place_after place item ≡ Some next
+    → HasFirstLines text (items ++ item ∷ []) next more
 one_more text items item place next rest more b f says k = record {
   parts = b.parts ∙ ap (λ t. items_text items ++ t) says ∙ sym (append_assoc (items_text items) (line_text (item_line item)) more)
       ∙ ap (λ t. (items_text items ++ t) ++ more) (sym (append-nil (line_text (item_line item)))) ∙ ap (λ t. t ++ more) (sym (items_append items (item ∷ [])));
@@ -74,7 +74,7 @@ pub next_drafted : (text : List ℕ) (place next : Place) (old new : Draft) (num
 next_drafted text place next old new number rest line more a cut l = record {
   items = a.items ++ l.item ∷ [];
   begins = one_more text a.items l.item place next rest more a.begins l.fits (cut.parts ∙ sym (whole_and_more line more) ∙ ap (λ t. t ++ more) l.says) l.follows;
-  makes = l.makes ∙ ap (λ (d : Draft). added place d l.item) a.makes ∙ sym (drafted_more places.Start new_draft a.items l.item place a.begins.follow);
+  makes = l.makes ∙ ap (λ (d : Draft). line_added place d l.item) a.makes ∙ sym (drafted_more places.Start new_draft a.items l.item place a.begins.follow);
   counted = omega (arith, a.counted, length-append a.items (l.item ∷ []));
   short = omega (arith, a.short, longer line more, ap length cut.parts);
 }
@@ -83,7 +83,7 @@ pub none_drafted : (text : List ℕ) (d : Draft) → d ≡ new_draft → AreDraf
 none_drafted text d e = record { items = []; begins = record { parts = refl; fit = tt; follow = refl }; makes = e; counted = refl; short = omega arith }
 
 -- a line that has no form at its place
-pub unformed_line : (text : List ℕ) (place : Place) (old new : Draft) (number : ℕ) (rest line more : List ℕ) → AreDrafted text place old number rest → IsCut rest line more → IsNext place (line ++ 10 ∷ []) old new None
+pub unformed_line : (text : List ℕ) (place : Place) (old new : Draft) (number : ℕ) (rest line more : List ℕ) → AreDrafted text place old number rest → IsCut rest line more → IsNextPlace place (line ++ 10 ∷ []) old new None
     → IsFirstUnformed text number
 unformed_line text place old new number rest line more a cut none = record {
   items = a.items;
@@ -131,5 +131,5 @@ whole_draft text place draft number rest a w = let n = nothing_left rest place w
   place = place;
   ended = n.1;
   makes = a.makes;
-  begins = subst (λ (r : List ℕ). Begins text a.items place r) n.0 a.begins;
+  begins = subst (λ (r : List ℕ). HasFirstLines text a.items place r) n.0 a.begins;
 }

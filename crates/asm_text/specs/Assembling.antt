@@ -6,7 +6,7 @@ use Rattle.jvm_types.specs.declared.refusal.ARule.TheVariants.{A1, A2}
 use Rattle.asm_text.specs.Lines.{line_text}
 use Rattle.asm_text.specs.ClassLines.{Lists}
 use Rattle.asm_text.specs.Items.{item_line, items_text, ItemFits}
-use Rattle.asm_text.specs.Places.{after, place_behind, is_end}
+use Rattle.asm_text.specs.Places.{place_after, place_behind, is_end}
 use Rattle.asm_text.specs.declared.items.Item.{Item}
 use Rattle.asm_text.specs.declared.places.Place.{Place}
 use Rattle.asm_text.specs.declared.places.Place.TheVariants.{Start}
@@ -14,14 +14,14 @@ use Rattle.asm_text.specs.declared.asm_error.AsmError.{AsmError}
 use Rattle.asm_text.specs.declared.asm_error.AsmError.TheVariants.{Memory, Refused}
 
 -- the text begins with these lines, each of which has a form at its place; what is behind them, and at which place
-pub record Begins (text : List ℕ) (items : List Item) (place : Place) (rest : List ℕ) : Type 0 where
+pub record HasFirstLines (text : List ℕ) (items : List Item) (place : Place) (rest : List ℕ) : Type 0 where
   pub parts : text ≡ items_text items ++ rest
   pub fit : AllByRecursion ItemFits items
   pub follow : place_behind Start items ≡ Some place
 
 -- no line at the front has a form at the place, or there is none and more lines have to come
 pub record IsUnformed (place : Place) (rest : List ℕ) : Type 0 where
-  pub front : (item : Item) (more : List ℕ) → ItemFits item → rest ≡ line_text (item_line item) ++ more → after place item ≡ None
+  pub front : (item : Item) (more : List ℕ) → ItemFits item → rest ≡ line_text (item_line item) ++ more → place_after place item ≡ None
   pub early : rest ≡ [] → is_end place ≡ false
 
 -- the number of the first line without a form at its place, or of the line that is wanted behind the last one
@@ -29,7 +29,7 @@ pub record IsFirstUnformed (text : List ℕ) (number : ℕ) : Type 0 where
   pub items : List Item
   pub place : Place
   pub rest : List ℕ
-  pub begins : Begins text items place rest
+  pub begins : HasFirstLines text items place rest
   pub unformed : IsUnformed place rest
   pub counted : number ≡ length items + 1
 
@@ -37,7 +37,7 @@ pub record IsFirstUnformed (text : List ℕ) (number : ℕ) : Type 0 where
 pub record IsFormed (text : List ℕ) : Type 0 where
   pub items : List Item
   pub place : Place
-  pub begins : Begins text items place []
+  pub begins : HasFirstLines text items place []
   pub ended : is_end place ≡ true
 
 abbrev pub ListsNone : List ℕ → Type 0

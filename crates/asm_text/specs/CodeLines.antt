@@ -63,12 +63,12 @@ abbrev pub values_of : ℕ → Op → List Value
 values_of opcode op = if names_local opcode then [] else operands op
 
 -- the empty name for an opcode of no instruction
-abbrev pub name_of : Option (List ℕ) → List ℕ
-name_of None = []
-name_of (Some name) = name
+abbrev pub name_or_empty : Option (List ℕ) → List ℕ
+name_or_empty None = []
+name_or_empty (Some name) = name
 
 abbrev pub op_line : ℕ → Op → Line
-op_line opcode op = record { name = name_of (mnemonic opcode); values = values_of opcode op }
+op_line opcode op = record { name = name_or_empty (mnemonic opcode); values = values_of opcode op }
 
 -- the instruction whose opcode is the byte at its pc
 abbrev pub insn_line : List ℕ → Insn → Line

@@ -5,9 +5,9 @@ use Rattle.class_writer.specs.declared.error.WriteError.TheVariants as write_err
 use Rattle.jvm_types.specs.declared.refusal.ARule.TheVariants.{A1, A2}
 use Rattle.asm_text.specs.Lines.{line_text}
 use Rattle.asm_text.specs.Items.{item_line, ItemFits}
-use Rattle.asm_text.specs.Places.{after, is_end}
-use Rattle.asm_text.specs.Drafting.{added, drafted, new_draft}
-use Rattle.asm_text.specs.Assembling.{Begins, IsFirstUnformed}
+use Rattle.asm_text.specs.Places.{place_after, is_end}
+use Rattle.asm_text.specs.Drafting.{line_added, drafted, new_draft}
+use Rattle.asm_text.specs.Assembling.{HasFirstLines, IsFirstUnformed}
 use Rattle.asm_text.specs.declared.items.Item.{Item}
 use Rattle.asm_text.specs.declared.places.Place.{Place}
 use Rattle.asm_text.specs.declared.places.Place.TheVariants.{Start}
@@ -20,13 +20,13 @@ pub record IsLine (place : Place) (line : List ℕ) (old new : Draft) (next : Pl
   pub item : Item
   pub fits : ItemFits item
   pub says : line ≡ line_text (item_line item)
-  pub follows : after place item ≡ Some next
-  pub makes : new ≡ added place old item
+  pub follows : place_after place item ≡ Some next
+  pub makes : new ≡ line_added place old item
 
 -- the place behind a line, or that it has no form at its place
-abbrev pub IsNext : Place → List ℕ → Draft → Draft → Option Place → Type 0
-IsNext place line old new (Some next) = IsLine place line old new next
-IsNext place line old new None = (item : Item) → ItemFits item → line ≡ line_text (item_line item) → after place item ≡ None
+abbrev pub IsNextPlace : Place → List ℕ → Draft → Draft → Option Place → Type 0
+IsNextPlace place line old new (Some next) = IsLine place line old new next
+IsNextPlace place line old new None = (item : Item) → ItemFits item → line ≡ line_text (item_line item) → place_after place item ≡ None
 
 -- a text may end at the place, and nothing is left
 abbrev pub is_whole : List ℕ → Place → Bool
@@ -36,7 +36,7 @@ is_whole (b ∷ rest) place = false
 -- the lines so far
 pub record AreDrafted (text : List ℕ) (place : Place) (draft : Draft) (number : ℕ) (rest : List ℕ) : Type 0 where
   pub items : List Item
-  pub begins : Begins text items place rest
+  pub begins : HasFirstLines text items place rest
   pub makes : draft ≡ drafted Start new_draft items
   pub counted : number ≡ length items + 1
   pub short : number + length rest ≤ length text + 1
@@ -44,7 +44,7 @@ pub record AreDrafted (text : List ℕ) (place : Place) (draft : Draft) (number 
 pub record IsWholeDraft (text : List ℕ) (draft : Draft) : Type 0 where
   pub items : List Item
   pub place : Place
-  pub begins : Begins text items place []
+  pub begins : HasFirstLines text items place []
   pub ended : is_end place ≡ true
   pub makes : draft ≡ drafted Start new_draft items
 

@@ -23,8 +23,8 @@ low4 n = u4 (cast_unsigned w64 n % 4294967296)
 abbrev pub way : ℕ → ℤ → ℤ
 way pc to = (if is_target to then to else pos 0) -ℤ pos pc
 
-abbrev pub zeros : ℕ → List ℕ
-zeros n = take n (0 ∷ 0 ∷ 0 ∷ [])
+abbrev pub zero_bytes : ℕ → List ℕ
+zero_bytes n = take n (0 ∷ 0 ∷ 0 ∷ [])
 
 -- the way to each target
 abbrev pub ways : ℕ → List ℤ → List ℕ
@@ -54,8 +54,8 @@ operand_bytes pc shapes.Branch (to ∷ []) = low2 (way pc to)
 operand_bytes pc shapes.WideBranch (to ∷ []) = low4 (way pc to)
 operand_bytes pc shapes.LocalAndStep (local ∷ step ∷ []) = low1 local ++ low1 step
 operand_bytes pc shapes.IntArray (number ∷ []) = low1 number
-operand_bytes pc shapes.Table (otherwise ∷ bounds) = zeros (padding_size pc) ++ (low4 (way pc otherwise) ++ bounds_bytes pc bounds)
-operand_bytes pc shapes.Lookup (otherwise ∷ pairs) = zeros (padding_size pc) ++ (low4 (way pc otherwise) ++ (u4 (length pairs / 2 % 4294967296) ++ pair_ways pc true pairs))
+operand_bytes pc shapes.Table (otherwise ∷ bounds) = zero_bytes (padding_size pc) ++ (low4 (way pc otherwise) ++ bounds_bytes pc bounds)
+operand_bytes pc shapes.Lookup (otherwise ∷ pairs) = zero_bytes (padding_size pc) ++ (low4 (way pc otherwise) ++ (u4 (length pairs / 2 % 4294967296) ++ pair_ways pc true pairs))
 operand_bytes pc shape operands = []
 
 abbrev pub shape_bytes : ℕ → Option Shape → List ℤ → List ℕ

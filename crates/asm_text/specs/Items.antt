@@ -7,7 +7,7 @@ use Rattle.jvm_types.specs.declared.class_file.Constant.{Constant}
 use Rattle.jvm_types.specs.declared.class_file.Constant.TheVariants.{Gap, Utf8, Integer, Float, Long, Double, Class, Text, Field, Method, InterfaceMethod, NameAndType}
 use Rattle.mnemonics.specs.Mnemonics.{mnemonic}
 use Rattle.asm_text.specs.Lines.{Number, Signed, Line, text_of}
-use Rattle.asm_text.specs.CodeLines.{name_of, bytes_line}
+use Rattle.asm_text.specs.CodeLines.{name_or_empty, bytes_line}
 use Rattle.asm_text.specs.Operands.{shape_at, operands_fit}
 use Rattle.asm_text.specs.ClassLines.{constant_line, interface_line, attr_line, row_line, end_line, constant_value_line}
 use Rattle.asm_text.specs.declared.items.MemberKind.{MemberKind}
@@ -17,21 +17,21 @@ use Rattle.asm_text.specs.declared.items.Item.TheVariants.{FileHead, Entry, Inte
 
 -- ---- lines
 
-abbrev pub member_name : MemberKind → List ℕ
-member_name kinds.Field = codes "fmember"
-member_name kinds.Method = codes "mmember"
+abbrev pub member_keyword : MemberKind → List ℕ
+member_keyword kinds.Field = codes "fmember"
+member_keyword kinds.Method = codes "mmember"
 
 -- the line that says this
 abbrev pub item_line : Item → Line
 item_line (FileHead minor major flags class super) = record { name = codes "file"; values = Number minor ∷ Number major ∷ Number flags ∷ Number class ∷ Number super ∷ [] }
 item_line (Entry c) = constant_line c
 item_line (Interface class) = interface_line class
-item_line (MemberHead kind flags name descriptor) = record { name = member_name kind; values = Number flags ∷ Number name ∷ Number descriptor ∷ [] }
+item_line (MemberHead kind flags name descriptor) = record { name = member_keyword kind; values = Number flags ∷ Number name ∷ Number descriptor ∷ [] }
 item_line (Attribute a) = attr_line a
 item_line (InitialValue name constant) = constant_value_line name constant
 item_line (CodeHead name stack locals) = record { name = codes "code"; values = Number name ∷ Number stack ∷ Number locals ∷ [] }
 item_line (CodeBytes bytes) = bytes_line bytes
-item_line (Instruction opcode operands) = record { name = name_of (mnemonic opcode); values = map Signed operands }
+item_line (Instruction opcode operands) = record { name = name_or_empty (mnemonic opcode); values = map Signed operands }
 item_line (Row h) = row_line h
 item_line End = end_line
 

@@ -37,22 +37,22 @@ abbrev pub in_code : CodePart → CodePart → Place → Option Place
 in_code own part next = if nat_lt (code_rank own) (code_rank part) then None else Some next
 
 -- the place behind a line; None: no such line has a form at the place before
-abbrev pub after : Place → Item → Option Place
-after Start (FileHead minor major flags class super) = Some (Class parts.Constants)
-after (Class part) (Entry c) = in_class parts.Constants part (Class parts.Constants)
-after (Class part) (Interface class) = in_class parts.Interfaces part (Class parts.Interfaces)
-after (Class part) (MemberHead kind flags name descriptor) = in_class (part_of kind) part (Member kind)
-after (Class part) (Attribute a) = in_class parts.Attributes part (Class parts.Attributes)
-after (Member kind) (Attribute a) = Some (Member kind)
-after (Member kind) (InitialValue name constant) = Some (Member kind)
-after (Member kind) (CodeHead name stack locals) = Some (Code kind code_parts.Start)
-after (Member kind) End = Some (Class (part_of kind))
-after (Code kind part) (CodeBytes bytes) = in_code code_parts.Start part (Code kind code_parts.Rows)
-after (Code kind part) (Instruction opcode operands) = in_code code_parts.Instructions part (Code kind code_parts.Instructions)
-after (Code kind part) (Row h) = in_code code_parts.Rows part (Code kind code_parts.Rows)
-after (Code kind part) (Attribute a) = in_code code_parts.Attributes part (Code kind code_parts.Attributes)
-after (Code kind part) End = Some (Member kind)
-after place item = None
+abbrev pub place_after : Place → Item → Option Place
+place_after Start (FileHead minor major flags class super) = Some (Class parts.Constants)
+place_after (Class part) (Entry c) = in_class parts.Constants part (Class parts.Constants)
+place_after (Class part) (Interface class) = in_class parts.Interfaces part (Class parts.Interfaces)
+place_after (Class part) (MemberHead kind flags name descriptor) = in_class (part_of kind) part (Member kind)
+place_after (Class part) (Attribute a) = in_class parts.Attributes part (Class parts.Attributes)
+place_after (Member kind) (Attribute a) = Some (Member kind)
+place_after (Member kind) (InitialValue name constant) = Some (Member kind)
+place_after (Member kind) (CodeHead name stack locals) = Some (Code kind code_parts.Start)
+place_after (Member kind) End = Some (Class (part_of kind))
+place_after (Code kind part) (CodeBytes bytes) = in_code code_parts.Start part (Code kind code_parts.Rows)
+place_after (Code kind part) (Instruction opcode operands) = in_code code_parts.Instructions part (Code kind code_parts.Instructions)
+place_after (Code kind part) (Row h) = in_code code_parts.Rows part (Code kind code_parts.Rows)
+place_after (Code kind part) (Attribute a) = in_code code_parts.Attributes part (Code kind code_parts.Attributes)
+place_after (Code kind part) End = Some (Member kind)
+place_after place item = None
 
 -- the place behind lines that follow one another
 abbrev pub behind_next : Option Place → (Place → Option Place) → Option Place
@@ -61,7 +61,7 @@ behind_next (Some place) more = more place
 
 abbrev pub place_behind : Place → List Item → Option Place
 place_behind place [] = Some place
-place_behind place (item ∷ items) = behind_next (after place item) (λ next. place_behind next items)
+place_behind place (item ∷ items) = behind_next (place_after place item) (λ next. place_behind next items)
 
 -- a text may end here
 abbrev pub is_end : Place → Bool

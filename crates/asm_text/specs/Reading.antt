@@ -61,6 +61,6 @@ insn_fits (items.Instruction opcode operands) = shape_fits (shape_at opcode) ope
 insn_fits item = true
 
 -- what a line with its newline says, or None where it has no form
-abbrev pub IsRead : List ℕ → Option Item → Type 0
-IsRead line (Some item) = ItemFits item × (line ≡ line_text (item_line item))
-IsRead line None = (item : Item) → ItemFits item → line ≡ line_text (item_line item) → ⊥
+abbrev pub IsLineRead : List ℕ → Option Item → Type 0
+IsLineRead line (Some item) = ItemFits item × (line ≡ line_text (item_line item))
+IsLineRead line None = (item : Item) → ItemFits item → line ≡ line_text (item_line item) → ⊥

@@ -5,7 +5,7 @@ ghost use Rattle.jvm_types.specs.ClassGrammar.{IsClass};
 ghost use Rattle.jvm_types.specs.declared.class_file.ClassFile.{ClassFile as Listed};
 ghost use Rattle.asm_text.specs.ClassLines.{Lists};
 ghost use Rattle.asm_text.specs.Assembling.{Assembles, IsFormed};
-ghost use Rattle.asm_text.specs.Drafted.{IsDrafted, IsNext, is_whole, IsVerdict};
+ghost use Rattle.asm_text.specs.Drafted.{IsDrafted, IsNextPlace, is_whole, IsVerdict};
 
 use crate::asm_error::AsmError;
 use crate::class_lines::listing;
@@ -56,7 +56,7 @@ fn read_next(
     whole: &[u8],
 ) -> Result<Option<Place>, AllocError>
     requires { whole.now ≡ line.now ++ 10 ∷ [] }
-    ensures { IfOk result (λ found. IsNext place whole.now draft.old draft.new found) }
+    ensures { IfOk result (λ found. IsNextPlace place whole.now draft.old draft.new found) }
 {
     let Some(item) = read_line(alloc, line, whole)? else {
         return Ok(None);

@@ -6,7 +6,7 @@ ghost use Rattle.jvm_types.specs.CodeGrammar.{IsCode, padding_size};
 ghost use Rattle.jvm_types.specs.declared.code.Op.TheVariants.{Iinc, Tableswitch, Lookupswitch};
 ghost use Rattle.mnemonics.specs.Mnemonics.{mnemonic};
 ghost use Rattle.asm_text.specs.Lines.{Number, line_text, text_of, values_text};
-ghost use Rattle.asm_text.specs.CodeLines.{are_zeros, bytes_line, case_values, code_lines, insn_line, is_padded, name_of, names_local, op_line, operands, values_of};
+ghost use Rattle.asm_text.specs.CodeLines.{are_zeros, bytes_line, case_values, code_lines, insn_line, is_padded, name_or_empty, names_local, op_line, operands, values_of};
 ghost use Rattle.asm_text.specs.Steps.{AreInsns};
 
 use crate::lines::{write_hex, write_number, write_signed};
@@ -172,7 +172,7 @@ fn names_local(opcode: u8) -> bool
 }
 
 pub fn name_of(opcode: u8) -> &'static str
-    ensures { result.now ≡ name_of (mnemonic opcode) }
+    ensures { result.now ≡ name_or_empty (mnemonic opcode) }
 {
     match mnemonic(opcode) {
         Some(name) => name,

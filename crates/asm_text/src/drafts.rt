@@ -1,7 +1,7 @@
 //! The class that lines say, line by line.
 
 ghost use Rattle.std.specs.Prelude.{◌≡◌, IfOk, OnOk};
-ghost use Rattle.asm_text.specs.Drafting.{added, attr_added, code_of, ended, member_of, new_draft, no_class, with_member};
+ghost use Rattle.asm_text.specs.Drafting.{line_added, attr_added, started_code, draft_ended, member_of, new_draft, no_class, with_member};
 
 use crate::encoding::encode;
 use crate::items::{Item, MemberKind};
@@ -31,7 +31,7 @@ fn member_of(alloc: Global, flags: u16, name: u16, descriptor: u16) -> Member
 }
 
 fn code_of(alloc: Global, name: u16, max_stack: u16, max_locals: u16) -> Code
-    ensures { result ≡ code_of name max_stack max_locals }
+    ensures { result ≡ started_code name max_stack max_locals }
 {
     Code {
         max_stack,
@@ -94,7 +94,7 @@ fn add_member(c: &mut ClassFile, kind: MemberKind, member: Member) -> Result<(),
 }
 
 fn end(d: &mut Draft, alloc: Global, place: Place) -> Result<(), AllocError>
-    ensures { OnOk result (d.new ≡ ended place d.old) }
+    ensures { OnOk result (d.new ≡ draft_ended place d.old) }
 {
     match place {
         Place::Code(_, _) => {
@@ -111,7 +111,7 @@ fn end(d: &mut Draft, alloc: Global, place: Place) -> Result<(), AllocError>
 
 /// Adds a line at its place.
 pub fn add(d: &mut Draft, alloc: Global, place: Place, item: Item) -> Result<(), AllocError>
-    ensures { OnOk result (d.new ≡ added place d.old item) }
+    ensures { OnOk result (d.new ≡ line_added place d.old item) }
 {
     match item {
         Item::FileHead(minor, major, flags, this_class, super_class) => {

@@ -4,7 +4,7 @@ ghost use Rattle.std.specs.Prelude.{◌≡◌, ◌++◌, ◌∷◌, true, length
 ghost use Rattle.jvm_types.specs.Numbers.{u4};
 ghost use Rattle.asm_text.specs.Words.{small};
 ghost use Rattle.jvm_types.specs.CodeGrammar.{padding_size};
-ghost use Rattle.asm_text.specs.Encoding.{bounds_bytes, encoded, key_or_way, low1, low2, low4, operand_bytes, pair_ways, shape_bytes, way, ways, zeros};
+ghost use Rattle.asm_text.specs.Encoding.{bounds_bytes, encoded, key_or_way, low1, low2, low4, operand_bytes, pair_ways, shape_bytes, way, ways, zero_bytes};
 
 use crate::shapes::{Shape, is_target, shape_at};
 use byteorder::{BigEndian, ByteOrder};
@@ -86,7 +86,7 @@ fn put_pair_ways(code: &mut Bytes, pc: u16, pairs: &[i64]) -> Result<(), AllocEr
 
 /// The bytes that pad a switch.
 fn put_padding(code: &mut Bytes, pc: u16) -> Result<(), AllocError>
-    ensures { OnOk result (code.new ≡ code.old ++ zeros (padding_size pc)) }
+    ensures { OnOk result (code.new ≡ code.old ++ zero_bytes (padding_size pc)) }
 {
     let size = 3 - usize::from(pc) % 4;
     code.extend_from_slice(&[0, 0, 0][..size])

@@ -4,7 +4,7 @@ ghost use Rattle.std.specs.Prelude.{◌≡◌, ◌++◌, ◌∷◌, [], ◌&&◌
 ghost use Rattle.asm_text.specs.Lines.{line_text};
 ghost use Rattle.asm_text.specs.Items.{item_line};
 ghost use Rattle.asm_text.specs.Words.{words, u2_word};
-ghost use Rattle.asm_text.specs.Reading.{named_item, rough_item, insn_fits, shape_fits, IsRead};
+ghost use Rattle.asm_text.specs.Reading.{named_item, rough_item, insn_fits, shape_fits, IsLineRead};
 
 use crate::item_writing::write_item;
 use crate::items::{Item, MemberKind};
@@ -138,7 +138,7 @@ fn is_said(alloc: Global, item: &Item, whole: &[u8]) -> Result<bool, AllocError>
 /// with it.
 pub fn read_line(alloc: Global, line: &[u8], whole: &[u8]) -> Result<Option<Item>, AllocError>
     requires { whole.now ≡ line.now ++ 10 ∷ [] }
-    ensures { IfOk result (λ found. IsRead whole.now found) }
+    ensures { IfOk result (λ found. IsLineRead whole.now found) }
 {
     let item = rough_item(alloc, line)?;
     if is_said(alloc, &item, whole)? {

@@ -2,8 +2,8 @@
 
 ghost use Rattle.std.specs.Prelude.{◌≡◌, ◌++◌, map, OnOk, string_bytes};
 ghost use Rattle.asm_text.specs.Lines.{Signed, line_text, values_text};
-ghost use Rattle.asm_text.specs.CodeLines.{bytes_line, name_of};
-ghost use Rattle.asm_text.specs.Items.{item_line, member_name};
+ghost use Rattle.asm_text.specs.CodeLines.{bytes_line, name_or_empty};
+ghost use Rattle.asm_text.specs.Items.{item_line, member_keyword};
 
 use crate::class_lines::{write_attr, write_row};
 use crate::code_lines::{name_of, write_bytes};
@@ -13,7 +13,7 @@ use crate::pool_lines::write_constant;
 use std::alloc::AllocError;
 
 fn member_name(kind: MemberKind) -> &'static str
-    ensures { result.now ≡ member_name kind }
+    ensures { result.now ≡ member_keyword kind }
 {
     match kind {
         MemberKind::Field => "fmember",

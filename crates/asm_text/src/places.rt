@@ -1,7 +1,7 @@
 //! The places between the lines of a listing.
 
 ghost use Rattle.std.specs.Prelude.{◌≡◌};
-ghost use Rattle.asm_text.specs.Places.{after, class_rank, code_rank, in_class, in_code, is_end, part_of};
+ghost use Rattle.asm_text.specs.Places.{place_after, class_rank, code_rank, in_class, in_code, is_end, part_of};
 
 use crate::items::{Item, MemberKind};
 
@@ -86,7 +86,7 @@ fn in_code(own: CodePart, part: CodePart, next: Place) -> Option<Place>
 }
 
 fn after_in_class(part: ClassPart, item: &Item) -> Option<Place>
-    ensures { result ≡ after (Place.Class part) item.now }
+    ensures { result ≡ place_after (Place.Class part) item.now }
 {
     match item {
         Item::Entry(_) => in_class(
@@ -110,7 +110,7 @@ fn after_in_class(part: ClassPart, item: &Item) -> Option<Place>
 }
 
 fn after_in_member(kind: MemberKind, item: &Item) -> Option<Place>
-    ensures { result ≡ after (Place.Member kind) item.now }
+    ensures { result ≡ place_after (Place.Member kind) item.now }
 {
     match item {
         Item::Attribute(_) | Item::InitialValue(_, _) => Some(Place::Member(kind)),
@@ -121,7 +121,7 @@ fn after_in_member(kind: MemberKind, item: &Item) -> Option<Place>
 }
 
 fn after_in_code(kind: MemberKind, part: CodePart, item: &Item) -> Option<Place>
-    ensures { result ≡ after (Place.Code kind part) item.now }
+    ensures { result ≡ place_after (Place.Code kind part) item.now }
 {
     match item {
         Item::CodeBytes(_) => in_code(CodePart::Start, part, Place::Code(kind, CodePart::Rows)),
@@ -143,7 +143,7 @@ fn after_in_code(kind: MemberKind, part: CodePart, item: &Item) -> Option<Place>
 
 /// The place behind a line, or `None` where it may not stand there.
 pub fn after(place: Place, item: &Item) -> Option<Place>
-    ensures { result ≡ after place item.now }
+    ensures { result ≡ place_after place item.now }
 {
     match place {
         Place::Start => match item {

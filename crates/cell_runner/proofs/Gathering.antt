@@ -11,7 +11,7 @@ use Rattle.solero_cell.specs.CellViews.{share, sum_of}
 use Rattle.cell_runner.specs.declared.hands.Hand.{Hand}
 use Rattle.solero_cell.specs.Calls.{Seated}
 use Rattle.solero_cell.specs.CellViews.{halved, newcomer}
-use Rattle.cell_runner.specs.HandsOfCell.{AreReady, HasFew, HasGathered, HasJoined, HasWorked, HaveWorked, IsFresh, IsLeft, IsOver, IsReady}
+use Rattle.cell_runner.specs.HandsOfCell.{AreReady, HasFew, HasGathered, HasJoined, HasWorked, HaveWorked, IsFreshSeat, IsShareLeft, AreRoundsOver, IsReady}
 use mathlib.Core.Logic.{dite}
 use native.Mathlib.Decide.{ℕ_discrete}
 
@@ -38,7 +38,7 @@ or_false : (b c d : Bool) → d ≡ (b || c) → d ≡ false → (b ≡ false) �
 or_false false c d e f = (refl, sym e ∙ f)
 or_false true c d e f = absurd (let bad : true ≡ false = sym e ∙ f in cc)
 
-over_joined : (k m rounds : ℕ) (h w both : Hand) → HasJoined h w both → IsOver k rounds h → IsOver m rounds w → IsOver (k + m) rounds both
+over_joined : (k m rounds : ℕ) (h w both : Hand) → HasJoined h w both → AreRoundsOver k rounds h → AreRoundsOver m rounds w → AreRoundsOver (k + m) rounds both
 over_joined k m rounds h w both j o p =
     let writes : both.report.writes ≡ h.report.writes + w.report.writes = ap (λ r. r.writes) j.report in
     let reads : both.report.reads ≡ h.report.reads + w.report.reads = ap (λ r. r.reads) j.report in
@@ -80,22 +80,22 @@ module _ (table : TableId) (opening : Record) (rounds turns : ℕ) where
 
   -- ---- the hands in a list
 
-  pub fresh_kept : (n : ℕ) (s t : Seated) → t.table_id ≡ s.table_id → t.view ≡ halved s.view → IsFresh table opening n s
-      → IsFresh table opening (n + 1) t
+  pub fresh_kept : (n : ℕ) (s t : Seated) → t.table_id ≡ s.table_id → t.view ≡ halved s.view → IsFreshSeat table opening n s
+      → IsFreshSeat table opening (n + 1) t
   fresh_kept n s t same view f = record {
     of = (f.of.0 ∙ sym same, f.of.1 ∙ sym (ap (λ v. v.opening) view));
     view = view ∙ ap halved f.view;
   }
 
-  fresh_made : (n : ℕ) (s t : Seated) → t.table_id ≡ s.table_id → t.view ≡ newcomer s.view → IsFresh table opening n s
-      → IsFresh table opening (n + 1) t
+  fresh_made : (n : ℕ) (s t : Seated) → t.table_id ≡ s.table_id → t.view ≡ newcomer s.view → IsFreshSeat table opening n s
+      → IsFreshSeat table opening (n + 1) t
   fresh_made n s t same view f = record {
     of = (f.of.0 ∙ sym same, f.of.1 ∙ sym (ap (λ v. v.opening) view));
     view = view ∙ ap newcomer f.view;
   }
 
   pub ready_made : (n : ℕ) (s : Seated) (h : Hand) → h.seat.table_id ≡ s.table_id → h.seat.view ≡ newcomer s.view
-      → h.report ≡ record { writes = 0; reads = 0; stopped = 0 } → h.is_full ≡ false → IsFresh table opening n s
+      → h.report ≡ record { writes = 0; reads = 0; stopped = 0 } → h.is_full ≡ false → IsFreshSeat table opening n s
       → IsReady table opening (n + 1) h
   ready_made n s h same view report full f = record { fresh = fresh_made n s h.seat same view f; report = report; full = full }
 
@@ -129,8 +129,8 @@ left_joined parts depth n e =
     let two : 2 ^ (n + 1) ≡ 2 * 2 ^ n = pow-add 2 n 1 ∙ omega arith in
     rw (e, pow-add 2 depth (n + 1), two) (grind arith)
 
-pub one_more_left : (n : ℕ) (h w both : Hand) → HasJoined h w both → IsLeft (n + 1) h → w.seat.view.share ≡ share 1 (n + 1)
-    → IsLeft n both
+pub one_more_left : (n : ℕ) (h w both : Hand) → HasJoined h w both → IsShareLeft (n + 1) h → w.seat.view.share ≡ share 1 (n + 1)
+    → IsShareLeft n both
 one_more_left n h w both j left e =
     let s = h.seat.view.share in
     let is : both.seat.view.share ≡ sum_of s (share 1 (n + 1)) = j.share ∙ ap (sum_of s) e in

@@ -8,8 +8,8 @@ use lib.ListN.{get_elem?}
 use Rattle.atomic_table.specs.Seated.{TableId}
 use Rattle.solero_cell.specs.declared.views.Record.{Record}
 use Rattle.solero_cell.specs.declared.views.View.{View}
-use Rattle.solero_cell.specs.Calls.{IsAlone, IsAtEnd, IsWhole}
-use Rattle.solero_cell.specs.CellRules.{Fits, Shows, is_between, one_if, written}
+use Rattle.solero_cell.specs.Calls.{IsOnlySeat, IsAtEnd, IsWhole}
+use Rattle.solero_cell.specs.CellRules.{ViewFits, HasOneHistory, is_in_span, one_if, written_count}
 use Rattle.solero_cell.specs.CellViews.{spent}
 use Rattle.cell_runner.specs.declared.hands.Hand.{Hand}
 use Rattle.cell_runner.specs.CellRuns.{IsCellRun, all_zero}
@@ -25,7 +25,7 @@ module _ (f : View → ℕ) (none : f spent ≡ 0) where
       let rest = sum_of_spent us (λ i v at. all (suc i) v at) in
       omega (arith, here, rest, sum_by-cons f u us)
 
-  sum_of_one : (views : List View) (number : ℕ) (v : View) → get_elem? views number ≡ some v → IsAlone number views → sum_by f views ≡ f v
+  sum_of_one : (views : List View) (number : ℕ) (v : View) → get_elem? views number ≡ some v → IsOnlySeat number views → sum_by f views ≡ f v
   sum_of_one [] number v at alone = absurd (some-ne-none v (sym at))
   sum_of_one (u ∷ us) zero v at alone =
       let here : f u ≡ f v = ap f (some-injective u v at) in
@@ -41,11 +41,11 @@ module _ (f : View → ℕ) (none : f spent ≡ 0) where
 note_spent : (v : View) → v ≡ spent → v.note ≡ Some (2 ^ 62 - 1) → ⊥
 note_spent v e n = let bad : None ≡ Some (2 ^ 62 - 1) = sym (ap (λ (x : View). x.note) e) ∙ n in absurd (cc)
 
-note_below : (o : Record) (words : List ℕ) (views : List View) (number : ℕ) (v : View) (s : Shows o words views)
+note_below : (o : Record) (words : List ℕ) (views : List View) (number : ℕ) (v : View) (s : HasOneHistory o words views)
     → get_elem? views number ≡ some v → v.note ≡ Some (2 ^ 62 - 1) → 2 ^ 62 - 1 ≤ o.count + length s.history
 note_below o words views number v s here n = by (s.each number v here)
   where
-    by : Fits o s.history words v → 2 ^ 62 - 1 ≤ o.count + length s.history
+    by : ViewFits o s.history words v → 2 ^ 62 - 1 ≤ o.count + length s.history
     by (inl e) = absurd (note_spent v e n)
     by (inr k) = subst (λ m. IfSome m (λ c. c ≤ o.count + length s.history)) n k.1.note
 
@@ -60,10 +60,10 @@ pub reported : (workers rounds turns : ℕ) (table : TableId) (h : Hand) → wor
     → IsCellRun workers rounds turns h.report
 reported workers rounds turns table h few g whole e =
     let v = h.seat.view in
-    let shows : Shows all_zero e.words e.views = subst (λ (o : Record). Shows o e.words e.views) (sym g.of.1) e.shows in
-    let alone : IsAlone e.number e.views = e.whole whole in
+    let shows : HasOneHistory all_zero e.words e.views = subst (λ (o : Record). HasOneHistory o e.words e.views) (sym g.of.1) e.shows in
+    let alone : IsOnlySeat e.number e.views = e.whole whole in
     let count : length shows.history ≡ h.report.writes =
-    sym shows.count ∙ sum_of_one written refl e.views e.number v e.here alone ∙ sym g.counted.writes in
+    sym shows.count ∙ sum_of_one written_count refl e.views e.number v e.here alone ∙ sym g.counted.writes in
     let room : h.is_full ≡ false = not_full h.is_full (λ full.
     let le = note_below all_zero e.words e.views e.number v shows e.here (g.counted.full full) in
     absurd (omega (arith, le, count, few, g.over.writes))) in
@@ -71,7 +71,7 @@ reported workers rounds turns table h few g whole e =
       words = e.words;
       views = e.views;
       shows = shows;
-      once = λ n. shows.once n ∙ ap (λ last. one_if (is_between n 0 last)) (omega (arith, count));
+      once = λ n. shows.once n ∙ ap (λ last. one_if (is_in_span n 0 last)) (omega (arith, count));
       got = g.counted.reads ∙ sym (sum_of_one (λ (u : View). u.reads) refl e.views e.number v e.here alone);
       failed = subst (λ n. h.report.stopped * turns ≤ n) (sym (sum_of_one (λ (u : View). u.failed) refl e.views e.number v e.here alone)) g.stopped;
       stopped = g.over.stopped;

@@ -1,12 +1,12 @@
 -- What one worker came to.
 use Rattle.std.proofs.Common.{◌≡◌, ℕ, ◌-◌, ◌*◌, ◌≤◌, arith}
 use Rattle.cell_runner.specs.declared.hands.Hand.{Hand}
-use Rattle.cell_runner.specs.HandsOfCell.{HasEnded, IsGoing, IsOver}
+use Rattle.cell_runner.specs.HandsOfCell.{HasEnded, HasNotEnded, AreRoundsOver}
 
 none_left : (s rounds n : ℕ) → s ≡ 1 → (1 - s) * rounds ≤ n
 none_left s rounds n e = rw e (omega arith)
 
-pub ended_over : (rounds w r : ℕ) (h : Hand) → w ≤ rounds → r ≤ rounds → HasEnded w r h → IsOver 1 rounds h
+pub ended_over : (rounds w r : ℕ) (h : Hand) → w ≤ rounds → r ≤ rounds → HasEnded w r h → AreRoundsOver 1 rounds h
 ended_over rounds w r h few few' e = record {
   stopped = e.once;
   writes = omega (arith, e.writes_below, few);
@@ -18,7 +18,7 @@ ended_over rounds w r h few few' e = record {
 all_left : (s rounds n : ℕ) → s ≡ 0 → n ≡ rounds → (1 - s) * rounds ≤ n
 all_left s rounds n e f = rw (e, f) (omega arith)
 
-pub made_over : (rounds : ℕ) (h : Hand) → IsGoing h → h.report.writes ≡ rounds → h.report.reads ≡ rounds → IsOver 1 rounds h
+pub made_over : (rounds : ℕ) (h : Hand) → HasNotEnded h → h.report.writes ≡ rounds → h.report.reads ≡ rounds → AreRoundsOver 1 rounds h
 made_over rounds h going w r = record {
   stopped = omega (arith, going.0);
   writes = omega (arith, w);

@@ -3,7 +3,7 @@ use Rattle.std.specs.Prelude.{◌≡◌, ℕ, ◌-◌, ◌*◌, ◌≤◌, List,
 use Rattle.std.specs.List.{sum_by}
 use Rattle.solero_cell.specs.declared.views.Record.{Record}
 use Rattle.solero_cell.specs.declared.views.View.{View}
-use Rattle.solero_cell.specs.CellRules.{Shows, times, one_if, is_between}
+use Rattle.solero_cell.specs.CellRules.{HasOneHistory, times, one_if, is_in_span}
 use Rattle.solero_cell.specs.CellViews.{record_of}
 use Rattle.cell_runner.specs.declared.report.CellReport.{CellReport}
 
@@ -12,20 +12,20 @@ abbrev pub all_zero : Record
 all_zero = record_of 0 (replicate 64 0)
 
 -- each worker that did not stop has made its rounds, and none has made more
-abbrev pub AreMade : (workers stopped rounds made : ℕ) → Type 0
-AreMade workers stopped rounds made = ((workers - stopped) * rounds ≤ made) × (made ≤ workers * rounds)
+abbrev pub AreRoundsMade : (workers stopped rounds made : ℕ) → Type 0
+AreRoundsMade workers stopped rounds made = ((workers - stopped) * rounds ≤ made) × (made ≤ workers * rounds)
 
 -- the report of some run: at its end the cell has these words, and its seats know this, by the rule of the cell
 pub record IsCellRun (workers rounds turns : ℕ) (r : CellReport) : Type 0 where
   pub words : List ℕ
   pub views : List View
-  pub shows : Shows all_zero words views
+  pub shows : HasOneHistory all_zero words views
   -- the seats' own writes have the counts 1 to `writes`, each once
-  pub once : (n : ℕ) → sum_by (times n) views ≡ one_if (is_between n 0 r.writes)
+  pub once : (n : ℕ) → sum_by (times n) views ≡ one_if (is_in_span n 0 r.writes)
   -- the reads of all seats that were Got
   pub got : r.reads ≡ sum_by (λ v. v.reads) views
   -- the tries of all seats that failed are as many as each worker that stopped may fail in a row, at least
   pub failed : r.stopped * turns ≤ sum_by (λ v. v.failed) views
   pub stopped : r.stopped ≤ workers
-  pub written : AreMade workers r.stopped rounds r.writes
-  pub read : AreMade workers r.stopped rounds r.reads
+  pub written : AreRoundsMade workers r.stopped rounds r.writes
+  pub read : AreRoundsMade workers r.stopped rounds r.reads

@@ -2,7 +2,7 @@
 use Rattle.std.specs.Prelude.{◌≡◌, ℕ, ◌+◌, ◌-◌, ◌*◌, ◌^◌, ◌<◌, ◌≤◌, true, false, ◌||◌, List, length, Some, slice_index_or}
 use Rattle.atomic_table.specs.Seated.{TableId}
 use Rattle.solero_cell.specs.declared.views.Record.{Record}
-use Rattle.solero_cell.specs.Calls.{Seated, IsTableOf}
+use Rattle.solero_cell.specs.Calls.{Seated, IsTableOfSeat}
 use Rattle.solero_cell.specs.CellViews.{new_view, share, sum_of}
 use Rattle.cell_runner.specs.declared.report.CellReport.{CellReport}
 use Rattle.cell_runner.specs.declared.hands.Hand.{Hand}
@@ -14,7 +14,7 @@ use Rattle.cell_runner.specs.declared.hands.Tried.TheVariants.{Done, Failed, Ful
 -- ---- one worker
 
 -- the counts are those that the seat knows; a seat that found the cell full has noted its last count
-pub record IsCounted (h : Hand) : Type 0 where
+pub record IsCountedHand (h : Hand) : Type 0 where
   pub writes : h.report.writes ≡ length h.seat.view.writes
   pub reads : h.report.reads ≡ h.seat.view.reads
   pub full : h.is_full ≡ true → h.seat.view.note ≡ Some (2 ^ 62 - 1)
@@ -24,26 +24,26 @@ abbrev pub HasStopped : (turns : ℕ) → Hand → Type 0
 HasStopped turns h = h.report.stopped * turns ≤ h.seat.view.failed
 
 -- the worker has not ended
-abbrev pub IsGoing : Hand → Type 0
-IsGoing h = (h.report.stopped ≡ 0) × (h.is_full ≡ false)
+abbrev pub HasNotEnded : Hand → Type 0
+HasNotEnded h = (h.report.stopped ≡ 0) × (h.is_full ≡ false)
 
 -- the same seat later
-pub record IsSame (s t : Seated) : Type 0 where
+pub record IsSameSeat (s t : Seated) : Type 0 where
   pub table : t.table_id ≡ s.table_id
   pub opening : t.view.opening ≡ s.view.opening
   pub share : t.view.share ≡ s.view.share
 
 -- the report with one task more
-abbrev pub made : Task → CellReport → CellReport
-made Write r = record r { writes = r.writes + 1 }
-made Read r = record r { reads = r.reads + 1 }
+abbrev pub task_made : Task → CellReport → CellReport
+task_made Write r = record r { writes = r.writes + 1 }
+task_made Read r = record r { reads = r.reads + 1 }
 
 -- a try: the task is done, or nothing is
-abbrev pub IsTried : Task → (was : Hand) → Tried → (now : Hand) → Type 0
-IsTried task was Done now = (now.report ≡ made task was.report) × (now.is_full ≡ false)
-IsTried task was Failed now =
+abbrev pub IsTaskTried : Task → (was : Hand) → Tried → (now : Hand) → Type 0
+IsTaskTried task was Done now = (now.report ≡ task_made task was.report) × (now.is_full ≡ false)
+IsTaskTried task was Failed now =
     (now.report ≡ was.report) × (now.is_full ≡ false) × (now.seat.view.failed ≡ was.seat.view.failed + 1)
-IsTried task was Full now = (now.report ≡ was.report) × (now.is_full ≡ true)
+IsTaskTried task was Full now = (now.report ≡ was.report) × (now.is_full ≡ true)
 
 -- the worker has ended, with no more writes and reads than these
 pub record HasEnded (writes reads : ℕ) (h : Hand) : Type 0 where
@@ -53,7 +53,7 @@ pub record HasEnded (writes reads : ℕ) (h : Hand) : Type 0 where
   pub stopped : h.is_full ≡ false → h.report.stopped ≡ 1
 
 -- what so many workers came to: none has made more than its rounds, and each that neither stopped nor found the cell full has made them
-pub record IsOver (workers rounds : ℕ) (h : Hand) : Type 0 where
+pub record AreRoundsOver (workers rounds : ℕ) (h : Hand) : Type 0 where
   pub stopped : h.report.stopped ≤ workers
   pub writes : h.report.writes ≤ workers * rounds
   pub reads : h.report.reads ≤ workers * rounds
@@ -63,13 +63,13 @@ pub record IsOver (workers rounds : ℕ) (h : Hand) : Type 0 where
 -- ---- all workers
 
 -- a seat of a new cell, behind so many cuts
-pub record IsFresh (table : TableId) (opening : Record) (cuts : ℕ) (s : Seated) : Type 0 where
-  pub of : IsTableOf table opening s
+pub record IsFreshSeat (table : TableId) (opening : Record) (cuts : ℕ) (s : Seated) : Type 0 where
+  pub of : IsTableOfSeat table opening s
   pub view : s.view ≡ new_view opening opening (share 1 cuts)
 
 -- the hand of a worker that has done nothing yet
 pub record IsReady (table : TableId) (opening : Record) (cuts : ℕ) (h : Hand) : Type 0 where
-  pub fresh : IsFresh table opening cuts h.seat
+  pub fresh : IsFreshSeat table opening cuts h.seat
   pub report : h.report ≡ record { writes = 0; reads = 0; stopped = 0 }
   pub full : h.is_full ≡ false
 
@@ -80,10 +80,10 @@ AreReady table opening hands =
 
 -- hands at the cell that have taken in those of so many workers, which have ended
 pub record HasGathered (table : TableId) (opening : Record) (workers rounds turns : ℕ) (h : Hand) : Type 0 where
-  pub of : IsTableOf table opening h.seat
-  pub counted : IsCounted h
+  pub of : IsTableOfSeat table opening h.seat
+  pub counted : IsCountedHand h
   pub stopped : HasStopped turns h
-  pub over : IsOver workers rounds h
+  pub over : AreRoundsOver workers rounds h
 
 -- the hand of a worker that has ended
 pub record HasWorked (table : TableId) (opening : Record) (cuts rounds turns : ℕ) (h : Hand) : Type 0 where
@@ -99,19 +99,19 @@ abbrev pub HasFew : CellReport → Type 0
 HasFew r = (r.writes ≤ 8000) × (r.reads ≤ 8000) × (r.stopped ≤ 8)
 
 -- the reports of both
-abbrev pub added : CellReport → CellReport → CellReport
-added r s = record { writes = r.writes + s.writes; reads = r.reads + s.reads; stopped = r.stopped + s.stopped }
+abbrev pub reports_added : CellReport → CellReport → CellReport
+reports_added r s = record { writes = r.writes + s.writes; reads = r.reads + s.reads; stopped = r.stopped + s.stopped }
 
 -- two hands in one: what both came to, and what both seats knew
 pub record HasJoined (h k both : Hand) : Type 0 where
   pub table : both.seat.table_id ≡ h.seat.table_id
   pub opening : both.seat.view.opening ≡ h.seat.view.opening
-  pub report : both.report ≡ added h.report k.report
+  pub report : both.report ≡ reports_added h.report k.report
   pub full : both.is_full ≡ (h.is_full || k.is_full)
-  pub counted : IsCounted both
+  pub counted : IsCountedHand both
   pub failed : both.seat.view.failed ≡ h.seat.view.failed + k.seat.view.failed
   pub share : both.seat.view.share ≡ sum_of h.seat.view.share k.seat.view.share
 
 -- the share is what so many cuts have left of the whole
-abbrev pub IsLeft : (cuts : ℕ) → Hand → Type 0
-IsLeft cuts h = h.seat.view.share.parts * 2 ^ cuts ≡ 2 ^ h.seat.view.share.depth
+abbrev pub IsShareLeft : (cuts : ℕ) → Hand → Type 0
+IsShareLeft cuts h = h.seat.view.share.parts * 2 ^ cuts ≡ 2 ^ h.seat.view.share.depth

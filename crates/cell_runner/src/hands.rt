@@ -1,9 +1,9 @@
 //! A seat of the cell, beside what its worker came to.
 
 ghost use Rattle.std.specs.Prelude.{◌≡◌, ◌+◌, ◌<◌, ◌≤◌, ◌^◌, MatchBool, length, false};
-ghost use Rattle.solero_cell.specs.Calls.{IsTableOf};
-ghost use Rattle.solero_cell.specs.CellViews.{joined};
-ghost use Rattle.cell_runner.specs.HandsOfCell.{HasEnded, HasFew, HasJoined, HasStopped, IsCounted, IsGoing, IsOver, IsSame, IsTried, added, made};
+ghost use Rattle.solero_cell.specs.Calls.{IsTableOfSeat};
+ghost use Rattle.solero_cell.specs.CellViews.{joined_views};
+ghost use Rattle.cell_runner.specs.HandsOfCell.{HasEnded, HasFew, HasJoined, HasStopped, IsCountedHand, HasNotEnded, AreRoundsOver, IsSameSeat, IsTaskTried, reports_added, task_made};
 
 use crate::report::CellReport;
 use solero_cell::{CellRead, CellSeat, CellTable, CellWrite, MOST_VALUES};
@@ -52,14 +52,14 @@ impl Hand {
 
     /// One try at a write.
     fn try_write(&mut self, table: &CellTable, values: &[u64]) -> Tried
-        requires table { IsTableOf table.now.shared.table_id table.now.shared.key self.old.seat }
+        requires table { IsTableOfSeat table.now.shared.table_id table.now.shared.key self.old.seat }
         requires values { length values.now ≡ length self.old.seat.view.opening.values }
-        requires going { IsGoing self.old }
-        requires counted { IsCounted self.old }
+        requires going { HasNotEnded self.old }
+        requires counted { IsCountedHand self.old }
         requires few { self.old.report.writes ≤ 1000 }
-        ensures same { IsSame self.old.seat self.new.seat }
-        ensures counted { IsCounted self.new }
-        ensures tried { IsTried Task.Write self.old result self.new }
+        ensures same { IsSameSeat self.old.seat self.new.seat }
+        ensures counted { IsCountedHand self.new }
+        ensures tried { IsTaskTried Task.Write self.old result self.new }
     {
         match self.seat.write(table, values) {
             CellWrite::Wrote(_) => {
@@ -76,14 +76,14 @@ impl Hand {
 
     /// One try at a read.
     fn try_read(&mut self, table: &CellTable) -> Tried
-        requires table { IsTableOf table.now.shared.table_id table.now.shared.key self.old.seat }
+        requires table { IsTableOfSeat table.now.shared.table_id table.now.shared.key self.old.seat }
         requires values { length self.old.seat.view.opening.values ≡ 64 }
-        requires going { IsGoing self.old }
-        requires counted { IsCounted self.old }
+        requires going { HasNotEnded self.old }
+        requires counted { IsCountedHand self.old }
         requires few { self.old.report.reads ≤ 1000 }
-        ensures same { IsSame self.old.seat self.new.seat }
-        ensures counted { IsCounted self.new }
-        ensures tried { IsTried Task.Read self.old result self.new }
+        ensures same { IsSameSeat self.old.seat self.new.seat }
+        ensures counted { IsCountedHand self.new }
+        ensures tried { IsTaskTried Task.Read self.old result self.new }
     {
         match self.seat.read(table, &mut [0; MOST_VALUES]) {
             CellRead::Got(_) => {
@@ -96,14 +96,14 @@ impl Hand {
 
     /// One try at a task.
     fn attempt(&mut self, table: &CellTable, task: Task, values: &[u64]) -> Tried
-        requires table { IsTableOf table.now.shared.table_id table.now.shared.key self.old.seat }
+        requires table { IsTableOfSeat table.now.shared.table_id table.now.shared.key self.old.seat }
         requires values { (length values.now ≡ 64) × (length self.old.seat.view.opening.values ≡ 64) }
-        requires going { IsGoing self.old }
-        requires counted { IsCounted self.old }
+        requires going { HasNotEnded self.old }
+        requires counted { IsCountedHand self.old }
         requires few { (self.old.report.writes ≤ 1000) × (self.old.report.reads ≤ 1000) }
-        ensures same { IsSame self.old.seat self.new.seat }
-        ensures counted { IsCounted self.new }
-        ensures tried { IsTried task self.old result self.new }
+        ensures same { IsSameSeat self.old.seat self.new.seat }
+        ensures counted { IsCountedHand self.new }
+        ensures tried { IsTaskTried task self.old result self.new }
     {
         match task {
             Task::Write => self.try_write(table, values),
@@ -114,15 +114,15 @@ impl Hand {
     /// Tries at a task until one succeeds: `false` where the worker ends, since `turns` tries in a
     /// row have failed or the cell is full.
     fn succeed(&mut self, table: &CellTable, task: Task, values: &[u64], turns: u32) -> bool
-        requires table { IsTableOf table.now.shared.table_id table.now.shared.key self.old.seat }
+        requires table { IsTableOfSeat table.now.shared.table_id table.now.shared.key self.old.seat }
         requires values { (length values.now ≡ 64) × (length self.old.seat.view.opening.values ≡ 64) }
-        requires going { IsGoing self.old }
-        requires counted { IsCounted self.old }
+        requires going { HasNotEnded self.old }
+        requires counted { IsCountedHand self.old }
         requires few { (self.old.report.writes ≤ 1000) × (self.old.report.reads ≤ 1000) }
-        ensures same { IsSame self.old.seat self.new.seat }
-        ensures counted { IsCounted self.new }
+        ensures same { IsSameSeat self.old.seat self.new.seat }
+        ensures counted { IsCountedHand self.new }
         ensures stopped { HasStopped turns self.new }
-        ensures made { MatchBool result (IsGoing self.new × (self.new.report ≡ made task self.old.report)) (HasEnded self.old.report.writes self.old.report.reads self.new) }
+        ensures made { MatchBool result (HasNotEnded self.new × (self.new.report ≡ task_made task self.old.report)) (HasEnded self.old.report.writes self.old.report.reads self.new) }
     {
         for _ in 0..turns {
             match self.attempt(table, task, values) {
@@ -137,15 +137,15 @@ impl Hand {
 
     /// A write and a read: `false` where the worker ends before both are made.
     fn round(&mut self, table: &CellTable, values: &[u64], turns: u32) -> bool
-        requires table { IsTableOf table.now.shared.table_id table.now.shared.key self.old.seat }
+        requires table { IsTableOfSeat table.now.shared.table_id table.now.shared.key self.old.seat }
         requires values { (length values.now ≡ 64) × (length self.old.seat.view.opening.values ≡ 64) }
-        requires going { IsGoing self.old }
-        requires counted { IsCounted self.old }
+        requires going { HasNotEnded self.old }
+        requires counted { IsCountedHand self.old }
         requires few { (self.old.report.writes < 1000) × (self.old.report.reads ≤ 1000) }
-        ensures same { IsSame self.old.seat self.new.seat }
-        ensures counted { IsCounted self.new }
+        ensures same { IsSameSeat self.old.seat self.new.seat }
+        ensures counted { IsCountedHand self.new }
         ensures stopped { HasStopped turns self.new }
-        ensures made { MatchBool result (IsGoing self.new × (self.new.report ≡ made Task.Read (made Task.Write self.old.report))) (HasEnded (self.old.report.writes + 1) self.old.report.reads self.new) }
+        ensures made { MatchBool result (HasNotEnded self.new × (self.new.report ≡ task_made Task.Read (task_made Task.Write self.old.report))) (HasEnded (self.old.report.writes + 1) self.old.report.reads self.new) }
     {
         if !self.succeed(table, Task::Write, values, turns) {
             return false;
@@ -155,16 +155,16 @@ impl Hand {
 
     /// The rounds of a worker, which writes its number.
     pub(crate) fn work(&mut self, table: &CellTable, number: u8, rounds: u32, turns: u32)
-        requires table { IsTableOf table.now.shared.table_id table.now.shared.key self.old.seat }
+        requires table { IsTableOfSeat table.now.shared.table_id table.now.shared.key self.old.seat }
         requires values { length self.old.seat.view.opening.values ≡ 64 }
-        requires going { IsGoing self.old }
+        requires going { HasNotEnded self.old }
         requires none { (self.old.report.writes ≡ 0) × (self.old.report.reads ≡ 0) }
-        requires counted { IsCounted self.old }
+        requires counted { IsCountedHand self.old }
         requires few { rounds ≤ 1000 }
-        ensures same { IsSame self.old.seat self.new.seat }
-        ensures counted { IsCounted self.new }
+        ensures same { IsSameSeat self.old.seat self.new.seat }
+        ensures counted { IsCountedHand self.new }
         ensures stopped { HasStopped turns self.new }
-        ensures over { IsOver 1 rounds self.new }
+        ensures over { AreRoundsOver 1 rounds self.new }
     {
         let values = [number as u64; MOST_VALUES];
         for _ in 0..rounds {
@@ -176,11 +176,11 @@ impl Hand {
 
     /// Takes in the hand of others.
     fn take_in(mut self, table: &CellTable, other: Hand) -> Hand
-        requires table { IsTableOf table.now.shared.table_id table.now.shared.key self.seat }
-        requires other { IsTableOf table.now.shared.table_id table.now.shared.key other.seat }
+        requires table { IsTableOfSeat table.now.shared.table_id table.now.shared.key self.seat }
+        requires other { IsTableOfSeat table.now.shared.table_id table.now.shared.key other.seat }
         requires few { HasFew self.report × HasFew other.report }
-        ensures seat { (result.seat.table_id ≡ self.seat.table_id) × (result.seat.view ≡ joined self.seat.view other.seat.view) }
-        ensures report { result.report ≡ added self.report other.report }
+        ensures seat { (result.seat.table_id ≡ self.seat.table_id) × (result.seat.view ≡ joined_views self.seat.view other.seat.view) }
+        ensures report { result.report ≡ reports_added self.report other.report }
         ensures full { result.is_full ≡ self.is_full }
     {
         let Hand { seat, report, .. } = other;
@@ -194,9 +194,9 @@ impl Hand {
     /// Takes in the hand of others. A join keeps one of two notes: that of the seat which found the
     /// cell full, where one did.
     pub(crate) fn join(self, table: &CellTable, other: Hand) -> Hand
-        requires table { IsTableOf table.now.shared.table_id table.now.shared.key self.seat }
-        requires other { IsTableOf table.now.shared.table_id table.now.shared.key other.seat }
-        requires counted { IsCounted self × IsCounted other }
+        requires table { IsTableOfSeat table.now.shared.table_id table.now.shared.key self.seat }
+        requires other { IsTableOfSeat table.now.shared.table_id table.now.shared.key other.seat }
+        requires counted { IsCountedHand self × IsCountedHand other }
         requires few { HasFew self.report × HasFew other.report }
         ensures { HasJoined self other result }
     {

@@ -1,7 +1,7 @@
 //! The run of a cell.
 
 ghost use Rattle.std.specs.Prelude.{◌≡◌, ℕ, ◌*◌, ◌<◌, ◌≤◌, IfOk};
-ghost use Rattle.solero_cell.specs.Calls.{IsTableOf, IsWhole};
+ghost use Rattle.solero_cell.specs.Calls.{IsTableOfSeat, IsWhole};
 ghost use Rattle.cell_runner.specs.CellRuns.{IsCellRun, all_zero};
 ghost use Rattle.cell_runner.specs.HandsOfCell.{HasGathered};
 
@@ -20,7 +20,7 @@ pub const MOST_ROUNDS: u32 = 1_000;
 /// Ends the cell, when all workers have ended: what they came to. None has found the cell full,
 /// which has had at most 8,000 writes.
 fn finish(table: CellTable, all: Hand) -> CellReport
-    requires table { IsTableOf table.shared.table_id table.shared.key all.seat }
+    requires table { IsTableOfSeat table.shared.table_id table.shared.key all.seat }
     requires opening { table.shared.key ≡ all_zero }
     requires whole { IsWhole all.seat.view.share }
     ensures { (workers rounds turns : ℕ) → workers * rounds ≤ 8000 → HasGathered table.shared.table_id table.shared.key workers rounds turns all → IsCellRun workers rounds turns result }

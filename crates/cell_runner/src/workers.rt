@@ -2,7 +2,7 @@
 
 ghost use Rattle.std.specs.Prelude.{◌≡◌, ◌+◌, ◌<◌, ◌≤◌, length, IfOk, OnOk};
 ghost use Rattle.solero_cell.specs.Calls.{IsWhole};
-ghost use Rattle.cell_runner.specs.HandsOfCell.{AreReady, HasGathered, HasWorked, HaveWorked, IsFresh, IsReady};
+ghost use Rattle.cell_runner.specs.HandsOfCell.{AreReady, HasGathered, HasWorked, HaveWorked, IsFreshSeat, IsReady};
 
 use crate::hands::Hand;
 use jvm_types::Gate;
@@ -59,8 +59,8 @@ fn split_hands(
     seat: &mut CellSeat,
     workers: u8,
 ) -> Result<Vec<Hand>, AllocError>
-    requires fresh { IsFresh table.now.shared.table_id table.now.shared.key 0 seat.old }
-    ensures fresh { OnOk result (IsFresh table.now.shared.table_id table.now.shared.key workers seat.new) }
+    requires fresh { IsFreshSeat table.now.shared.table_id table.now.shared.key 0 seat.old }
+    ensures fresh { OnOk result (IsFreshSeat table.now.shared.table_id table.now.shared.key workers seat.new) }
     ensures ready { IfOk result (λ hands. AreReady table.now.shared.table_id table.now.shared.key hands.items × (length hands.items ≡ workers)) }
 {
     let mut hands = Vec::new(alloc);
@@ -81,7 +81,7 @@ pub(crate) fn run_workers<R: Threads + Sync, G: Gate + Sync>(
     rounds: u32,
     turns: u32,
 ) -> Result<Hand, AllocError>
-    requires fresh { IsFresh table.now.shared.table_id table.now.shared.key 0 seat }
+    requires fresh { IsFreshSeat table.now.shared.table_id table.now.shared.key 0 seat }
     requires workers { workers ≤ 8 }
     requires values { length table.now.shared.key.values ≡ 64 }
     requires rounds { rounds ≤ 1000 }

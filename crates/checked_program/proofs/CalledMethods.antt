@@ -5,7 +5,7 @@ use Rattle.std.specs.List.{sum_by}
 use Rattle.std.proofs.lemmas.List.Sums.{sum_by-cons}
 use Rattle.std.proofs.lemmas.Option.{slice_get_within, same_Some}
 use Rattle.jvm_types.specs.ProgramInvariant.{IsProgram, IsTargetOf}
-use Rattle.jvm_types.specs.Members.{Site}
+use Rattle.jvm_types.specs.Members.{MethodSite}
 use Rattle.jvm_types.specs.declared.code.Op.{Op}
 use Rattle.jvm_types.specs.declared.code.Op.TheVariants as ops
 use Rattle.jvm_types.specs.declared.limits.TheConstants.{MOST_INSTRUCTIONS}
@@ -35,7 +35,7 @@ some_inside [] u P h = absurd h
 some_inside (m ∷ ms) zero P h = omega arith
 some_inside (m ∷ ms) (suc u) P h = let more : u < length ms = some_inside ms u P h in omega (arith, more)
 
-pub named : (p : Program) (site : Site) (op : Op) (target : Target) (u : ℕ) → called_method op target ≡ Some u → IsTargetOf p site op target → u < length p.methods
+pub named : (p : Program) (site : MethodSite) (op : Op) (target : Target) (u : ℕ) → called_method op target ≡ Some u → IsTargetOf p site op target → u < length p.methods
 named p site (ops.Invokevirtual i) (targets.Method v) u e t = let same : v ≡ u = same_Some v u e in subst (λ x. x < length p.methods) same (some_inside p.methods v _ t)
 named p site (ops.Invokespecial i) (targets.Method v) u e t = let same : v ≡ u = same_Some v u e in subst (λ x. x < length p.methods) same (some_inside p.methods v _ t)
 named p site (ops.Invokestatic i) (targets.Method v) u e t = let same : v ≡ u = same_Some v u e in subst (λ x. x < length p.methods) same (some_inside p.methods v _ t)

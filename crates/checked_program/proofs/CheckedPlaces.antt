@@ -7,7 +7,7 @@ use Rattle.jvm_types.specs.CodeTable.{arguments, is_init, row, virtual_row, spec
 use Rattle.jvm_types.specs.declared.op_row.Want.{Want}
 use Rattle.jvm_types.specs.declared.op_row.Want.TheVariants.{AnObject, ToStart}
 use Rattle.jvm_types.specs.declared.op_row.OpRow.{OpRow}
-use Rattle.jvm_types.specs.Members.{Site, is_static, is_init_name, is_class_init_name}
+use Rattle.jvm_types.specs.Members.{MethodSite, is_static, is_init_name, is_class_init_name}
 use Rattle.jvm_types.specs.ProgramInvariant.{IsTargetOf, site_in}
 use Rattle.jvm_types.specs.Types.{TypeFrame}
 use Rattle.jvm_types.specs.Verifying.{IsLaidOut, IsTypingOf, covers}
@@ -23,7 +23,7 @@ use Rattle.jvm_types.specs.declared.typing.Typing.{Typing}
 use Rattle.laws_programs.specs.TargetLaws.{HasRow}
 use Rattle.laws_programs.proofs.CodeOrder.{laid_out, have_targets}
 use Rattle.laws_programs.proofs.TargetRows.{rows_stand}
-use Rattle.laws_programs.specs.EdgeLaws.{Stands}
+use Rattle.laws_programs.specs.EdgeLaws.{FrameStandsAt}
 use Rattle.laws_programs.proofs.EdgeTargets.{found}
 use Rattle.laws_programs.proofs.EntryFrame.{arguments_fit_all}
 use Rattle.laws_programs.proofs.FrameLast.{frame_law}
@@ -33,7 +33,7 @@ use Rattle.laws_programs.proofs.RuleUses.{hold, arguments_suit_all, receiver_goo
 use Rattle.checked_program.specs.CheckedProgram.{CheckedProgram, IsChecked, AreTypings}
 use Rattle.checked_program.specs.Marks.{called_method}
 use Rattle.checked_program.specs.Tagging.{catches_all, until_all}
-use Rattle.checked_program.specs.CheckedLaws.{AreFramesOf, CheckedIsSound, CalledFit, IsPlace, FramesHavePlaces, Holds, PlacesHold, receiver_want, CallsSuit, CatchersAreAmong}
+use Rattle.checked_program.specs.CheckedLaws.{AreFramesOf, CheckedIsSound, CalledFit, IsPlace, FramesHavePlaces, HoldsAtInstruction, CheckedPlacesHold, receiver_want, CallsSuit, CatchersAreAmong}
 
 -- ---- typings at their numbers
 
@@ -66,7 +66,7 @@ frames_of_typing c number m typing is e t =
 
 pub have_places : FramesHavePlaces
 have_places c method pc m typing f is e t d =
-    let at : Stands m typing.frames pc f = found m typing.frames pc f d in
+    let at : FrameStandsAt m typing.frames pc f = found m typing.frames pc f d in
     let target = have_targets c.program method at.number m at.insn is.program e at.there in (
       at.number,
       at.insn,
@@ -75,7 +75,7 @@ have_places c method pc m typing f is e t d =
       record { method = method; typing = typing; in_program = e; its_typing = t; its_frames = refl; in_code = at.there; its_target = target.1; has = at.has },
     )
 
-held_at : (c : CheckedProgram) (m : MethodInfo) (frames : List (Option TypeFrame)) (i : ℕ) (insn : Insn) (target : Target) (f : TypeFrame) → IsChecked c → (at : IsPlace c m frames i insn target f) → Holds c.program m at.typing.frames insn target f
+held_at : (c : CheckedProgram) (m : MethodInfo) (frames : List (Option TypeFrame)) (i : ℕ) (insn : Insn) (target : Target) (f : TypeFrame) → IsChecked c → (at : IsPlace c m frames i insn target f) → HoldsAtInstruction c.program m at.typing.frames insn target f
 held_at c m frames i insn target f is at =
     let of = frames_of_typing c at.method m at.typing is at.in_program at.its_typing in
     let has : slice_get at.typing.frames i ≡ Some (Some f) = subst (λ (fs : List (Option TypeFrame)). slice_get fs i ≡ Some (Some f)) at.its_frames at.has in
@@ -94,8 +94,8 @@ held_at c m frames i insn target f is at =
       behind = new_behind c.program m at.typing.frames i insn f of.laid of.typed at.in_code has;
     }
 
-pub places_hold_all : PlacesHold
-places_hold_all c m frames i insn target f is at = subst (λ (fs : List (Option TypeFrame)). Holds c.program m fs insn target f) (sym at.its_frames) (held_at c m frames i insn target f is at)
+pub places_hold_all : CheckedPlacesHold
+places_hold_all c m frames i insn target f is at = subst (λ (fs : List (Option TypeFrame)). HoldsAtInstruction c.program m fs insn target f) (sym at.its_frames) (held_at c m frames i insn target f is at)
 
 -- ---- calls
 
@@ -127,7 +127,7 @@ static_takes called e = record { receiver = []; is = sym (append-nil (arguments 
 same_method : (p : Program) (u number : ℕ) (a b : MethodInfo) → Some u ≡ Some number → slice_get p.methods u ≡ Some a → slice_get p.methods number ≡ Some b → a ≡ b
 same_method p u number a b e f g = some_same (sym f ∙ ap (slice_get p.methods) (some_same e) ∙ g)
 
-row_takes : (p : Program) (site : Site) (pc : ℕ) (op : Op) (target : Target) (r : OpRow) (number : ℕ) (called : MethodInfo) → called_method op target ≡ Some number → slice_get p.methods number ≡ Some called
+row_takes : (p : Program) (site : MethodSite) (pc : ℕ) (op : Op) (target : Target) (r : OpRow) (number : ℕ) (called : MethodInfo) → called_method op target ≡ Some number → slice_get p.methods number ≡ Some called
     → HasRow p site pc target op r → Takes called r
 row_takes p site pc (ops.Invokevirtual i) (targets.Method u) r number called e d h =
     let same = same_method p u number h.method called e h.there d in

@@ -5,7 +5,7 @@ use Rattle.std.specs.Prelude.{◌==◌, ◌&&◌, ◌||◌, nat_le, nat_lt, if�
 use Rattle.jvm_types.specs.declared.program.Program.{Program}
 use Rattle.checked_program.specs.TaggedCode.{Tagged}
 use Rattle.checked_program.specs.Sections.{Section}
-use Rattle.checked_program.specs.Marks.{Callee, callee, called_method, receiver_tag, is_own_object, mode_if, Calls, CallsThrough, IsCalledBy, fault, BreaksAt, CalleeBreaks, CalleeRecurs, Applies, elsewhere, itself, called, recurring, IsOnThis, turn}
+use Rattle.checked_program.specs.Marks.{Callee, callee, called_method, receiver_tag, is_own_object, mode_if, Calls, CallsThrough, IsCalledBy, section_fault, BreaksAt, CalleeBreaks, CalleeRecurs, Applies, elsewhere, itself, called, recurring, IsOnThis, turn}
 use Rattle.checked_program.specs.declared.section.Mode.{Mode}
 use Rattle.checked_program.specs.declared.section.Mode.TheVariants.{OnThis}
 use Rattle.checked_program.specs.declared.section.FieldUse.{FieldUse}
@@ -17,7 +17,7 @@ abbrev pub is_from : ℕ → ℕ → Bool
 is_from n f = (f == 0) || (nat_le n f && nat_lt f 8)
 
 abbrev pub breaks_from : ℕ → Program → List FieldUse → Mode → Test
-breaks_from n p uses mode m insn target f = is_from n (fault p uses mode insn.op target f.stack)
+breaks_from n p uses mode m insn target f = is_from n (section_fault p uses mode insn.op target f.stack)
 
 pub not_earlier_by : (b : Bool) (n k f : ℕ) → (k == 8) ≡ b → is_from n f ≡ true → f ≡ k → 0 < k → (if b then 0 else k) < n → ⊥
 not_earlier_by true n k f e t h some lt = grind (arith, nat_tests)

@@ -9,7 +9,7 @@ use Rattle.jvm_types.specs.declared.program.MethodInfo.{MethodInfo}
 use Rattle.checked_program.specs.LockTags.{TagShape, is_this}
 use Rattle.checked_program.specs.TaggedCode.{Tagged, IsAt}
 use Rattle.checked_program.specs.Sections.{Section, sections}
-use Rattle.checked_program.specs.Marks.{Callee, callee, called_method, receiver_tag, is_own_object, mode_if, fault, IsCalledBy, CallsItself, Applies, elsewhere, itself, called, recurring, IsOnThis, turn, HasMark, IsMarkOf, AreMarks}
+use Rattle.checked_program.specs.Marks.{Callee, callee, called_method, receiver_tag, is_own_object, mode_if, section_fault, IsCalledBy, CallsItself, Applies, elsewhere, itself, called, recurring, IsOnThis, turn, HasMark, IsMarkOf, AreMarks}
 use Rattle.checked_program.specs.declared.tag.Tag.{Tag}
 use Rattle.checked_program.specs.declared.tag.Tag.TheVariants.{Untagged, This, At}
 use Rattle.checked_program.specs.declared.section.Spot.{Spot}
@@ -42,7 +42,7 @@ all_sections = refl
 abbrev OfMethod : ℕ → ℕ → Type 0
 OfMethod mi n = HasMark many tags uses (section mi Method) n
 
-breaks_own : (mi i n : ℕ) (m : MethodInfo) (insn : Insn) (target : Target) (f : TagShape) → IsAt many tags mi i m insn target f → fault many uses OnThis insn.op target f.stack ≡ n → 0 < n → Applies many tags uses (section mi Method) n
+breaks_own : (mi i n : ℕ) (m : MethodInfo) (insn : Insn) (target : Target) (f : TagShape) → IsAt many tags mi i m insn target f → section_fault many uses OnThis insn.op target f.stack ≡ n → 0 < n → Applies many tags uses (section mi Method) n
 breaks_own mi i n m insn target f at e some = itself (record { i = i; own = record { m = m; insn = insn; target = target; f = f; at = at }; breaks = record { m = m; insn = insn; target = target; f = f; at = at; fault_is = e; some = some } })
 
 writes : OfMethod 1 1

@@ -13,7 +13,7 @@ use Rattle.jvm_types.specs.declared.program.Row.{Row}
 use Rattle.jvm_types.specs.declared.program.MethodInfo.{MethodInfo}
 use Rattle.jvm_types.specs.declared.program.Program.{Program}
 use Rattle.jvm_types.specs.declared.refusal.SRule.{SRule}
-use Rattle.checked_program.specs.Visits.{Node, first_nodes, next_visit, visited}
+use Rattle.checked_program.specs.Visits.{PlanNode, plan_nodes, next_waiting, plan_visited}
 use Rattle.checked_program.specs.LockTags.{TagShape}
 use Rattle.checked_program.specs.Tagging.{tag_plan}
 use Rattle.checked_program.specs.TaggedCode.{Tagged}
@@ -25,21 +25,21 @@ pub data Answer : Type 0 where
   Accepted : (frames : List (Option TagShape)) → Answer
   Refused : (rule : SRule) (pc : ℕ) → Answer
 
-abbrev pub after_visit : Result (List (Node TagShape)) (SRule × ℕ) → (List (Node TagShape) → Answer) → Answer
+abbrev pub after_visit : Result (List (PlanNode TagShape)) (SRule × ℕ) → (List (PlanNode TagShape) → Answer) → Answer
 after_visit (Err fault) more = Refused fault.0 fault.1
 after_visit (Ok nodes) more = more nodes
 
-abbrev pub at_visit : Option ℕ → List (Node TagShape) → (ℕ → Result (List (Node TagShape)) (SRule × ℕ)) → (List (Node TagShape) → Answer) → Answer
+abbrev pub at_visit : Option ℕ → List (PlanNode TagShape) → (ℕ → Result (List (PlanNode TagShape)) (SRule × ℕ)) → (List (PlanNode TagShape) → Answer) → Answer
 at_visit None nodes visit more = Accepted (map (λ node. node.frame) nodes)
 at_visit (Some i) nodes visit more = after_visit (visit i) more
 
 -- up to so many visits
-abbrev pub run : ℕ → Program → MethodInfo → List (Node TagShape) → Answer
+abbrev pub run : ℕ → Program → MethodInfo → List (PlanNode TagShape) → Answer
 run zero p m nodes = Running
-run (suc n) p m nodes = at_visit (next_visit nodes) nodes (λ i. visited (tag_plan p m) i nodes) (λ more. run n p m more)
+run (suc n) p m nodes = at_visit (next_waiting nodes) nodes (λ i. plan_visited (tag_plan p m) i nodes) (λ more. run n p m more)
 
 abbrev pub tagged : Program → MethodInfo → Answer
-tagged p m = run 60 p m (first_nodes (tag_plan p m))
+tagged p m = run 60 p m (plan_nodes (tag_plan p m))
 
 abbrev pub frames_in : Answer → List (Option TagShape)
 frames_in (Accepted frames) = frames

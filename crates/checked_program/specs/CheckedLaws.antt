@@ -61,7 +61,7 @@ FramesHavePlaces = (c : CheckedProgram) (method pc : ℕ) (m : MethodInfo) (typi
     → frame_at m.code typing.frames pc ≡ Some f → (i : ℕ) × (insn : Insn) × (target : Target) × (insn.pc ≡ pc) × IsPlace c m typing.frames i insn target f
 
 -- what holds there: the target fits and has its row, no rule is broken and each edge fits, and the frame is within its bounds
-pub record Holds (p : Program) (m : MethodInfo) (frames : List (Option TypeFrame)) (insn : Insn) (target : Target) (f : TypeFrame) : Type 0 where
+pub record HoldsAtInstruction (p : Program) (m : MethodInfo) (frames : List (Option TypeFrame)) (insn : Insn) (target : Target) (f : TypeFrame) : Type 0 where
   pub names : IsTargetOf p (site_in m) insn.op target
   pub has_row : HasRow p (site_in m) insn.pc target insn.op (row p m insn.pc target insn.op)
   pub rules : RulesHold m insn (row p m insn.pc target insn.op) f
@@ -71,8 +71,8 @@ pub record Holds (p : Program) (m : MethodInfo) (frames : List (Option TypeFrame
   pub ready : is_init m ≡ false → f.ready ≡ true
   pub behind : AreBehind insn.pc f
 
-abbrev pub PlacesHold : Type 0
-PlacesHold = (c : CheckedProgram) (m : MethodInfo) (frames : List (Option TypeFrame)) (i : ℕ) (insn : Insn) (target : Target) (f : TypeFrame) → IsChecked c → IsPlace c m frames i insn target f → Holds c.program m frames insn target f
+abbrev pub CheckedPlacesHold : Type 0
+CheckedPlacesHold = (c : CheckedProgram) (m : MethodInfo) (frames : List (Option TypeFrame)) (i : ℕ) (insn : Insn) (target : Target) (f : TypeFrame) → IsChecked c → IsPlace c m frames i insn target f → HoldsAtInstruction c.program m frames insn target f
 
 -- ---- calls
 

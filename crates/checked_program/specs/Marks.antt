@@ -108,32 +108,32 @@ abbrev pub call_fault : Bool → Bool → ℕ
 call_fault true own = enter_fault own
 call_fault false own = 0
 
-abbrev pub read_fault : FieldUse → Bool → ℕ
-read_fault Frozen own = 0
-read_fault Guarded true = 0
-read_fault Guarded false = 5
-read_fault Open own = 5
+abbrev pub use_fault : FieldUse → Bool → ℕ
+use_fault Frozen own = 0
+use_fault Guarded true = 0
+use_fault Guarded false = 5
+use_fault Open own = 5
 
 -- The rule that an instruction breaks, in a method called on this or off it; 0 for none. M1: it writes a field, a static or
 -- an element. M2: it allocates. M3: it enters a monitor that is not the section's. M4: it prints, waits or notifies. M5: it
 -- reads a place that is neither frozen nor a guarded one of the section's own object.
-abbrev pub fault : Program → List FieldUse → Mode → Op → Target → List Tag → ℕ
-fault p uses mode (ops.Putfield i) target stack = 1
-fault p uses mode (ops.Putstatic i) target stack = 1
-fault p uses mode ops.Iastore target stack = 1
-fault p uses mode (ops.New i) target stack = 2
-fault p uses mode ops.Newarray target stack = 2
-fault p uses mode ops.Monitorenter target stack = enter_fault (is_own_object mode (slice_index_or stack 0 Untagged))
-fault p uses mode (ops.Invokevirtual i) (targets.Method u) stack = call_fault (is_locking (slice_get p.methods u)) (is_own_object mode (receiver_tag p (ops.Invokevirtual i) (targets.Method u) stack))
-fault p uses mode (ops.Invokespecial i) (targets.Method u) stack = call_fault (is_locking (slice_get p.methods u)) (is_own_object mode (receiver_tag p (ops.Invokespecial i) (targets.Method u) stack))
-fault p uses mode (ops.Invokevirtual i) targets.Println stack = 4
-fault p uses mode (ops.Invokevirtual i) targets.Wait stack = 4
-fault p uses mode (ops.Invokevirtual i) targets.Notify stack = 4
-fault p uses mode (ops.Invokevirtual i) targets.NotifyAll stack = 4
-fault p uses mode (ops.Getstatic i) (targets.Field fi) stack = 5
-fault p uses mode ops.Iaload target stack = 5
-fault p uses mode (ops.Getfield i) (targets.Field fi) stack = read_fault (slice_index_or uses fi Open) (is_own_object mode (slice_index_or stack 0 Untagged))
-fault p uses mode op target stack = 0
+abbrev pub section_fault : Program → List FieldUse → Mode → Op → Target → List Tag → ℕ
+section_fault p uses mode (ops.Putfield i) target stack = 1
+section_fault p uses mode (ops.Putstatic i) target stack = 1
+section_fault p uses mode ops.Iastore target stack = 1
+section_fault p uses mode (ops.New i) target stack = 2
+section_fault p uses mode ops.Newarray target stack = 2
+section_fault p uses mode ops.Monitorenter target stack = enter_fault (is_own_object mode (slice_index_or stack 0 Untagged))
+section_fault p uses mode (ops.Invokevirtual i) (targets.Method u) stack = call_fault (is_locking (slice_get p.methods u)) (is_own_object mode (receiver_tag p (ops.Invokevirtual i) (targets.Method u) stack))
+section_fault p uses mode (ops.Invokespecial i) (targets.Method u) stack = call_fault (is_locking (slice_get p.methods u)) (is_own_object mode (receiver_tag p (ops.Invokespecial i) (targets.Method u) stack))
+section_fault p uses mode (ops.Invokevirtual i) targets.Println stack = 4
+section_fault p uses mode (ops.Invokevirtual i) targets.Wait stack = 4
+section_fault p uses mode (ops.Invokevirtual i) targets.Notify stack = 4
+section_fault p uses mode (ops.Invokevirtual i) targets.NotifyAll stack = 4
+section_fault p uses mode (ops.Getstatic i) (targets.Field fi) stack = 5
+section_fault p uses mode ops.Iaload target stack = 5
+section_fault p uses mode (ops.Getfield i) (targets.Field fi) stack = use_fault (slice_index_or uses fi Open) (is_own_object mode (slice_index_or stack 0 Untagged))
+section_fault p uses mode op target stack = 0
 
 -- the instruction i of a method breaks a rule
 pub record BreaksAt (p : Program) (tags : Tagged) (uses : List FieldUse) (a : Callee) (i n : ℕ) : Type 0 where
@@ -142,7 +142,7 @@ pub record BreaksAt (p : Program) (tags : Tagged) (uses : List FieldUse) (a : Ca
   pub target : Target
   pub f : TagShape
   pub at : IsAt p tags a.method i m insn target f
-  pub fault_is : fault p uses a.mode insn.op target f.stack ≡ n
+  pub fault_is : section_fault p uses a.mode insn.op target f.stack ≡ n
   pub some : 0 < n
 
 -- ---- the rules of a section

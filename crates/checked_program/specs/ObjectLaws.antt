@@ -17,25 +17,25 @@ use Rattle.checked_program.specs.Marks.{args_of}
 use Rattle.checked_program.specs.declared.tag.Tag.{Tag}
 use Rattle.checked_program.specs.declared.tag.Tag.TheVariants.{Untagged, This}
 
-abbrev pub IsOther : List Tag → ℕ → Type 0
-IsOther stack k = slice_index_or stack k Untagged ≢ This
+abbrev pub IsNotThis : List Tag → ℕ → Type 0
+IsNotThis stack k = slice_index_or stack k Untagged ≢ This
 
 -- an instruction puts `this` in no place and no local, gives it to no method and no caller, throws it not, locks it not, and
 -- compares it with no other value
 abbrev pub HidesThis : Program → Op → Target → List Tag → Type 0
-HidesThis p (ops.Putfield i) target stack = IsOther stack 0
-HidesThis p (ops.Putstatic i) target stack = IsOther stack 0
-HidesThis p (ops.Astore i) target stack = IsOther stack 0
-HidesThis p (ops.Invokevirtual i) (targets.Method u) stack = (k : ℕ) → k ≤ args_of (slice_get p.methods u) → IsOther stack k
-HidesThis p (ops.Invokevirtual i) target stack = IsOther stack 0
-HidesThis p (ops.Invokespecial i) (targets.Method u) stack = (k : ℕ) → k ≤ args_of (slice_get p.methods u) → IsOther stack k
-HidesThis p (ops.Invokestatic i) (targets.Method u) stack = (k : ℕ) → k < args_of (slice_get p.methods u) → IsOther stack k
-HidesThis p ops.Areturn target stack = IsOther stack 0
-HidesThis p ops.Athrow target stack = IsOther stack 0
-HidesThis p ops.Monitorenter target stack = IsOther stack 0
-HidesThis p ops.Monitorexit target stack = IsOther stack 0
-HidesThis p (ops.IfAcmpeq to) target stack = IsOther stack 0 × IsOther stack 1
-HidesThis p (ops.IfAcmpne to) target stack = IsOther stack 0 × IsOther stack 1
+HidesThis p (ops.Putfield i) target stack = IsNotThis stack 0
+HidesThis p (ops.Putstatic i) target stack = IsNotThis stack 0
+HidesThis p (ops.Astore i) target stack = IsNotThis stack 0
+HidesThis p (ops.Invokevirtual i) (targets.Method u) stack = (k : ℕ) → k ≤ args_of (slice_get p.methods u) → IsNotThis stack k
+HidesThis p (ops.Invokevirtual i) target stack = IsNotThis stack 0
+HidesThis p (ops.Invokespecial i) (targets.Method u) stack = (k : ℕ) → k ≤ args_of (slice_get p.methods u) → IsNotThis stack k
+HidesThis p (ops.Invokestatic i) (targets.Method u) stack = (k : ℕ) → k < args_of (slice_get p.methods u) → IsNotThis stack k
+HidesThis p ops.Areturn target stack = IsNotThis stack 0
+HidesThis p ops.Athrow target stack = IsNotThis stack 0
+HidesThis p ops.Monitorenter target stack = IsNotThis stack 0
+HidesThis p ops.Monitorexit target stack = IsNotThis stack 0
+HidesThis p (ops.IfAcmpeq to) target stack = IsNotThis stack 0 × IsNotThis stack 1
+HidesThis p (ops.IfAcmpne to) target stack = IsNotThis stack 0 × IsNotThis stack 1
 HidesThis p op target stack = Unit {0}
 
 -- in an `<init>` of a frozen class every instruction does so

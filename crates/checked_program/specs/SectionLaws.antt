@@ -77,12 +77,12 @@ abbrev pub HasNone : ℕ → List Part → Type 0
 HasNone mi [] = Unit {0}
 HasNone mi (a ∷ parts) = (a.method ≢ mi) × HasNone mi parts
 
-abbrev pub AreApart : List Part → Type 0
-AreApart [] = Unit {0}
-AreApart (a ∷ parts) = HasNone a.method parts × AreApart parts
+abbrev pub HaveOwnMethods : List Part → Type 0
+HaveOwnMethods [] = Unit {0}
+HaveOwnMethods (a ∷ parts) = HasNone a.method parts × HaveOwnMethods parts
 
 abbrev pub ApartLaw : Type 0
-ApartLaw = (p : Program) (tags : Tagged) (uses : List FieldUse) (s : Section) (o : ℕ) (parts : List Part) (mode : Mode) → HasMark p tags uses s 0 → AreParts p tags s o parts mode → AreApart parts
+ApartLaw = (p : Program) (tags : Tagged) (uses : List FieldUse) (s : Section) (o : ℕ) (parts : List Part) (mode : Mode) → HasMark p tags uses s 0 → AreParts p tags s o parts mode → HaveOwnMethods parts
 
 -- ---- the read law
 

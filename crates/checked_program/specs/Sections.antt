@@ -8,7 +8,7 @@ use Rattle.jvm_types.specs.declared.program.Target.{Target}
 use Rattle.jvm_types.specs.declared.program.MethodInfo.{MethodInfo}
 use Rattle.jvm_types.specs.declared.program.Program.{Program}
 use Rattle.checked_program.specs.LockTags.{TagShape}
-use Rattle.checked_program.specs.TaggedCode.{Tagged, IsAt, IsReached, IsEdge}
+use Rattle.checked_program.specs.TaggedCode.{Tagged, IsAt, IsInstructionReached, IsReachedEdge}
 use Rattle.checked_program.specs.FrozenPlaces.{locks_this}
 use Rattle.checked_program.specs.declared.section.Spot.{Spot}
 use Rattle.checked_program.specs.declared.section.Spot.TheVariants.{Method, Block}
@@ -49,7 +49,7 @@ pub record IsDeep (p : Program) (tags : Tagged) (mi depth i : ℕ) : Type 0 wher
 -- from one instruction to another by edges, over these, and all are that deep
 abbrev pub StaysDeep : Program → Tagged → (mi depth i : ℕ) → List ℕ → ℕ → Type 0
 StaysDeep p tags mi depth i [] j = (i ≡ j) × IsDeep p tags mi depth i
-StaysDeep p tags mi depth i (k ∷ ks) j = (IsDeep p tags mi depth i) × (IsEdge p tags mi i k) × StaysDeep p tags mi depth k ks j
+StaysDeep p tags mi depth i (k ∷ ks) j = (IsDeep p tags mi depth i) × (IsReachedEdge p tags mi i k) × StaysDeep p tags mi depth k ks j
 
 -- the block that begins at a pc: its `monitorenter`, by its number
 pub record BeginsAt (p : Program) (tags : Tagged) (mi pc enter : ℕ) (f : TagShape) : Type 0 where
@@ -66,11 +66,11 @@ pub record IsInBlock (p : Program) (tags : Tagged) (mi pc i : ℕ) : Type 0 wher
   pub f : TagShape
   pub begins : BeginsAt p tags mi pc enter f
   pub first : ℕ
-  pub edge : IsEdge p tags mi enter first
+  pub edge : IsReachedEdge p tags mi enter first
   pub over : List ℕ
   pub stays : StaysDeep p tags mi (length f.held) first over i
 
 -- the instruction i of its method is a section's own
 abbrev pub IsOwn : Program → Tagged → ℕ → Spot → ℕ → Type 0
-IsOwn p tags mi Method i = IsReached p tags mi i
+IsOwn p tags mi Method i = IsInstructionReached p tags mi i
 IsOwn p tags mi (Block pc) i = IsInBlock p tags mi pc i

@@ -30,7 +30,7 @@ pub record IsAt (p : Program) (tags : Tagged) (mi i : ℕ) (m : MethodInfo) (ins
   pub frame : slice_get frames i ≡ Some (Some f)
 
 -- some such instruction
-pub record IsReached (p : Program) (tags : Tagged) (mi i : ℕ) : Type 0 where
+pub record IsInstructionReached (p : Program) (tags : Tagged) (mi i : ℕ) : Type 0 where
   pub m : MethodInfo
   pub insn : Insn
   pub target : Target
@@ -46,7 +46,7 @@ pub data Goes (p : Program) (m : MethodInfo) (insn : Insn) (target : Target) (f 
   caught : (other : Insn) → list_any (λ handler. handler.handler == other.pc) (catchers m insn) ≡ true → Goes p m insn target f other (tags_at_handler f)
 
 -- an edge of the method mi from the instruction i to the instruction j, both reached
-pub record IsEdge (p : Program) (tags : Tagged) (mi i j : ℕ) : Type 0 where
+pub record IsReachedEdge (p : Program) (tags : Tagged) (mi i j : ℕ) : Type 0 where
   pub m : MethodInfo
   pub insn : Insn
   pub target : Target

@@ -14,7 +14,7 @@ use Rattle.jvm_types.specs.declared.program.MethodInfo.{MethodInfo}
 use Rattle.jvm_types.specs.declared.program.Program.{Program}
 use Rattle.jvm_types.specs.declared.refusal.SRule.{SRule}
 use Rattle.jvm_types.specs.declared.refusal.SRule.TheVariants.{S1, S2, S3, S4}
-use Rattle.checked_program.specs.Visits.{Meeting, Act, Break, Bring, Plan, HasFrames, IsBroken, Fits}
+use Rattle.checked_program.specs.Visits.{Meeting, Act, Break, Bring, Plan, HasFrames, IsBroken, EdgeFits}
 use Rattle.checked_program.specs.LockTags.{TagShape, same_tag, same_tags, meet_tags, without, entry_tags, IsShapeBelow}
 use Rattle.checked_program.specs.declared.tag.Tag.{Tag}
 use Rattle.checked_program.specs.declared.tag.Tag.TheVariants.{Untagged, This, At}
@@ -128,15 +128,15 @@ IsTagRefused p m rule pc = IsBroken (tag_plan p m) rule pc
 
 -- at an instruction with these tags no rule is broken, and each edge brings the held list of its target and, where a place
 -- there has a tag, that tag
-pub record IsSound (m : MethodInfo) (insn : Insn) (r : OpRow) (frames : List (Option TagShape)) (f : TagShape) : Type 0 where
+pub record IsTagSound (m : MethodInfo) (insn : Insn) (r : OpRow) (frames : List (Option TagShape)) (f : TagShape) : Type 0 where
   pub enters : enters_untagged insn.op f.stack ≡ false
   pub exits : exits_other insn.op f.stack f.held ≡ false
   pub leaves : leaves_held m insn f.held ≡ false
-  pub edges_fit : AllByRecursion (Fits IsShapeBelow m.code frames (tags_after insn r f)) (edges insn)
-  pub handlers_fit : AllByRecursion (λ handler. Fits IsShapeBelow m.code frames (tags_at_handler f) handler.handler) (catchers m insn)
+  pub edges_fit : AllByRecursion (EdgeFits IsShapeBelow m.code frames (tags_after insn r f)) (edges insn)
+  pub handlers_fit : AllByRecursion (λ handler. EdgeFits IsShapeBelow m.code frames (tags_at_handler f) handler.handler) (catchers m insn)
 
 pub record IsTagAssignment (p : Program) (m : MethodInfo) (frames : List (Option TagShape)) : Type 0 where
   pub long : length frames ≡ length m.code
-  pub entry : Fits IsShapeBelow m.code frames (entry_tags m) 0
+  pub entry : EdgeFits IsShapeBelow m.code frames (entry_tags m) 0
   pub sound : (i : ℕ) (insn : Insn) (target : Target) (f : TagShape) → slice_get m.code i ≡ Some insn → slice_get m.targets i ≡ Some target
-      → slice_get frames i ≡ Some (Some f) → IsSound m insn (row p m insn.pc target insn.op) frames f
+      → slice_get frames i ≡ Some (Some f) → IsTagSound m insn (row p m insn.pc target insn.op) frames f

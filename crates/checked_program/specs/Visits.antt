@@ -30,107 +30,107 @@ pub record Plan (A R : Type 0) : Type 0 where
 
 -- what is known of an instruction in the course of the visits: the frame that its edges met in, and whether that has
 -- changed since it was visited
-pub record Node (A : Type 0) : Type 0 where
+pub record PlanNode (A : Type 0) : Type 0 where
   pub frame : Option A
   pub waits : Bool
 
-abbrev pub unreached : {A : Type 0} → Node A
+abbrev pub unreached : {A : Type 0} → PlanNode A
 unreached = record { frame = None; waits = false }
 
 -- an edge brings a frame
-abbrev pub joined : {A : Type 0} → Meeting A → Bool → Option A → A → Node A
+abbrev pub joined : {A : Type 0} → Meeting A → Bool → Option A → A → PlanNode A
 joined d waits None f = record { frame = Some f; waits = true }
 joined d waits (Some g) f = record { frame = Some (d.meet g f); waits = waits || not (d.same g (d.meet g f)) }
 
-abbrev pub brought : {A : Type 0} → Meeting A → List Insn → ℕ → A → List (Node A) → List (Node A)
-brought d (insn ∷ insns) to f (node ∷ nodes) = if insn.pc == to then joined d node.waits node.frame f ∷ nodes else node ∷ brought d insns to f nodes
-brought d insns to f nodes = nodes
+abbrev pub edge_brought : {A : Type 0} → Meeting A → List Insn → ℕ → A → List (PlanNode A) → List (PlanNode A)
+edge_brought d (insn ∷ insns) to f (node ∷ nodes) = if insn.pc == to then joined d node.waits node.frame f ∷ nodes else node ∷ edge_brought d insns to f nodes
+edge_brought d insns to f nodes = nodes
 
-abbrev pub all_brought : {A : Type 0} → Meeting A → List Insn → List ℕ → A → List (Node A) → List (Node A)
-all_brought d code [] f nodes = nodes
-all_brought d code (to ∷ tos) f nodes = all_brought d code tos f (brought d code to f nodes)
+abbrev pub edges_brought : {A : Type 0} → Meeting A → List Insn → List ℕ → A → List (PlanNode A) → List (PlanNode A)
+edges_brought d code [] f nodes = nodes
+edges_brought d code (to ∷ tos) f nodes = edges_brought d code tos f (edge_brought d code to f nodes)
 
 -- of the instructions where the frame is brought, the first where it may not meet the one there
 abbrev pub clashes_with : {A : Type 0} → Meeting A → Option A → A → Bool
 clashes_with d None f = false
 clashes_with d (Some g) f = d.clashes g f
 
-abbrev pub clash : {A : Type 0} → Meeting A → List Insn → List ℕ → A → List (Node A) → Option ℕ
-clash d (insn ∷ insns) tos f (node ∷ nodes) = if has_number tos insn.pc && clashes_with d node.frame f then Some insn.pc else clash d insns tos f nodes
-clash d insns tos f nodes = None
+abbrev pub meeting_clash : {A : Type 0} → Meeting A → List Insn → List ℕ → A → List (PlanNode A) → Option ℕ
+meeting_clash d (insn ∷ insns) tos f (node ∷ nodes) = if has_number tos insn.pc && clashes_with d node.frame f then Some insn.pc else meeting_clash d insns tos f nodes
+meeting_clash d insns tos f nodes = None
 
-abbrev pub unless_clash : {A R : Type 0} → R → Option ℕ → Result (List (Node A)) (R × ℕ) → Result (List (Node A)) (R × ℕ)
-unless_clash rule (Some pc) more = Err (rule, pc)
-unless_clash rule None more = more
+abbrev pub unless_meeting_clash : {A R : Type 0} → R → Option ℕ → Result (List (PlanNode A)) (R × ℕ) → Result (List (PlanNode A)) (R × ℕ)
+unless_meeting_clash rule (Some pc) more = Err (rule, pc)
+unless_meeting_clash rule None more = more
 
 -- the acts of an instruction in order, up to the first that breaks a rule
-abbrev pub acted : {A R : Type 0} → Meeting A → List Insn → List (Act A R) → List (Node A) → Result (List (Node A)) (R × ℕ)
+abbrev pub acted : {A R : Type 0} → Meeting A → List Insn → List (Act A R) → List (PlanNode A) → Result (List (PlanNode A)) (R × ℕ)
 acted d code [] nodes = Ok nodes
 acted d code (Break rule pc ∷ acts) nodes = Err (rule, pc)
-acted d code (Bring rule tos f ∷ acts) nodes = unless_clash rule (clash d code tos f nodes) (acted d code acts (all_brought d code tos f nodes))
+acted d code (Bring rule tos f ∷ acts) nodes = unless_meeting_clash rule (meeting_clash d code tos f nodes) (acted d code acts (edges_brought d code tos f nodes))
 
 abbrev pub acts_on : {A R : Type 0} → Plan A R → ℕ → Option A → List (Act A R)
 acts_on p i None = []
 acts_on p i (Some f) = p.acts i f
 
 -- the visit of the instruction of a number, which then waits no more unless an edge to itself changes it
-abbrev pub visited_node : {A R : Type 0} → Plan A R → ℕ → Option (Node A) → List (Node A) → Result (List (Node A)) (R × ℕ)
+abbrev pub visited_node : {A R : Type 0} → Plan A R → ℕ → Option (PlanNode A) → List (PlanNode A) → Result (List (PlanNode A)) (R × ℕ)
 visited_node p i None nodes = Ok nodes
 visited_node p i (Some node) nodes = acted p.meeting p.code (acts_on p i node.frame) (slice_set nodes i (record node { waits = false }))
 
-abbrev pub visited : {A R : Type 0} → Plan A R → ℕ → List (Node A) → Result (List (Node A)) (R × ℕ)
-visited p i nodes = visited_node p i (slice_get nodes i) nodes
+abbrev pub plan_visited : {A R : Type 0} → Plan A R → ℕ → List (PlanNode A) → Result (List (PlanNode A)) (R × ℕ)
+plan_visited p i nodes = visited_node p i (slice_get nodes i) nodes
 
 -- ---- all visits
 
 -- the instruction that waits and has the least pc, by its number
-abbrev pub waiting_from : {A : Type 0} → ℕ → List (Node A) → Option ℕ
-waiting_from i [] = None
-waiting_from i (node ∷ nodes) = if node.waits then Some i else waiting_from (suc i) nodes
+abbrev pub first_waiting : {A : Type 0} → ℕ → List (PlanNode A) → Option ℕ
+first_waiting i [] = None
+first_waiting i (node ∷ nodes) = if node.waits then Some i else first_waiting (suc i) nodes
 
-abbrev pub next_visit : {A : Type 0} → List (Node A) → Option ℕ
-next_visit nodes = waiting_from 0 nodes
+abbrev pub next_waiting : {A : Type 0} → List (PlanNode A) → Option ℕ
+next_waiting nodes = first_waiting 0 nodes
 
 -- at the start pc 0 waits with the first frame
-abbrev pub nodes_for : {A : Type 0} → A → List Insn → List (Node A)
+abbrev pub nodes_for : {A : Type 0} → A → List Insn → List (PlanNode A)
 nodes_for f [] = []
 nodes_for f (insn ∷ insns) = record { frame = Some f; waits = true } ∷ map (λ other. unreached) insns
 
-abbrev pub first_nodes : {A R : Type 0} → Plan A R → List (Node A)
-first_nodes p = nodes_for p.first p.code
+abbrev pub plan_nodes : {A R : Type 0} → Plan A R → List (PlanNode A)
+plan_nodes p = nodes_for p.first p.code
 
 -- the visits from some nodes on, by the numbers of the instructions, until nothing waits
-abbrev pub Visits : {A R : Type 0} → Plan A R → List (Node A) → List ℕ → List (Node A) → Type 0
-Visits p nodes [] last = (next_visit nodes ≡ None) × (last ≡ nodes)
-Visits {A = A} p nodes (i ∷ is) last = (next_visit nodes ≡ Some i) × (mid : List (Node A)) × (visited p i nodes ≡ Ok mid) × Visits p mid is last
+abbrev pub PlanVisits : {A R : Type 0} → Plan A R → List (PlanNode A) → List ℕ → List (PlanNode A) → Type 0
+PlanVisits p nodes [] last = (next_waiting nodes ≡ None) × (last ≡ nodes)
+PlanVisits {A = A} p nodes (i ∷ is) last = (next_waiting nodes ≡ Some i) × (mid : List (PlanNode A)) × (plan_visited p i nodes ≡ Ok mid) × PlanVisits p mid is last
 
 -- the visits until one breaks a rule; there is at least that one
-abbrev pub Breaks : {A R : Type 0} → Plan A R → List (Node A) → List ℕ → R × ℕ → Type 0
-Breaks p nodes [] fault = ⊥
-Breaks p nodes (i ∷ []) fault = (next_visit nodes ≡ Some i) × (visited p i nodes ≡ Err fault)
-Breaks {A = A} p nodes (i ∷ j ∷ is) fault = (next_visit nodes ≡ Some i) × (mid : List (Node A)) × (visited p i nodes ≡ Ok mid) × Breaks p mid (j ∷ is) fault
+abbrev pub PlanBreaks : {A R : Type 0} → Plan A R → List (PlanNode A) → List ℕ → R × ℕ → Type 0
+PlanBreaks p nodes [] fault = ⊥
+PlanBreaks p nodes (i ∷ []) fault = (next_waiting nodes ≡ Some i) × (plan_visited p i nodes ≡ Err fault)
+PlanBreaks {A = A} p nodes (i ∷ j ∷ is) fault = (next_waiting nodes ≡ Some i) × (mid : List (PlanNode A)) × (plan_visited p i nodes ≡ Ok mid) × PlanBreaks p mid (j ∷ is) fault
 
 -- ---- the answer
 
 -- no visit breaks a rule, and these are the last frames; an instruction that no visit reached has none
 pub record HasFrames {A R : Type 0} (p : Plan A R) (frames : List (Option A)) : Type 0 where
   pub visits : List ℕ
-  pub last : List (Node A)
-  pub made : Visits p (first_nodes p) visits last
+  pub last : List (PlanNode A)
+  pub made : PlanVisits p (plan_nodes p) visits last
   pub are : frames ≡ map (λ node. node.frame) last
 
 -- a rule is broken, at a pc
 pub record IsBroken {A R : Type 0} (p : Plan A R) (rule : R) (pc : ℕ) : Type 0 where
   pub visits : List ℕ
-  pub broken : Breaks p (first_nodes p) visits (rule, pc)
+  pub broken : PlanBreaks p (plan_nodes p) visits (rule, pc)
 
 -- ---- frames by pc
 
 -- the frame at a pc
-abbrev pub frame_at : {A : Type 0} → List Insn → List (Option A) → ℕ → Option A
-frame_at (insn ∷ insns) (frame ∷ frames) pc = if insn.pc == pc then frame else frame_at insns frames pc
-frame_at insns frames pc = None
+abbrev pub frame_at_pc : {A : Type 0} → List Insn → List (Option A) → ℕ → Option A
+frame_at_pc (insn ∷ insns) (frame ∷ frames) pc = if insn.pc == pc then frame else frame_at_pc insns frames pc
+frame_at_pc insns frames pc = None
 
 -- the frame that an edge brings fits the one at its target
-abbrev pub Fits : {A : Type 0} → (A → A → Type 0) → List Insn → List (Option A) → A → ℕ → Type 0
-Fits below code frames f to = IsSomeAnd (frame_at code frames to) (λ g. below f g)
+abbrev pub EdgeFits : {A : Type 0} → (A → A → Type 0) → List Insn → List (Option A) → A → ℕ → Type 0
+EdgeFits below code frames f to = IsSomeAnd (frame_at_pc code frames to) (λ g. below f g)

@@ -1,6 +1,6 @@
 //! Laws of checked programs, on which what runs one rests: each function only states one.
 
-ghost use Rattle.checked_program.specs.CheckedLaws.{CalledFit, CallsSuit, CatchersAreAmong, CheckedIsSound, FramesHavePlaces, PlacesHold, ReachIsOne};
+ghost use Rattle.checked_program.specs.CheckedLaws.{CalledFit, CallsSuit, CatchersAreAmong, CheckedIsSound, FramesHavePlaces, CheckedPlacesHold, ReachIsOne};
 
 /// Each method has its typing, under which each instruction is sound.
 pub fn checked_is_sound()
@@ -19,7 +19,7 @@ pub fn frames_have_places()
 
 /// At each instruction with a frame the target fits, no rule is broken, each edge fits, and the frame is within its bounds.
 pub fn places_hold()
-    ensures { PlacesHold }
+    ensures { CheckedPlacesHold }
 {}
 
 /// At a call the values on top are what the called method takes.

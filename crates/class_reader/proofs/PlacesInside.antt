@@ -14,7 +14,7 @@ use Rattle.jvm_types.proofs.AttrLaws.{AreParts}
 use Rattle.jvm_types.proofs.FaultPlaces.{Near, index_placed, code_placed, filled_near}
 use Rattle.class_reader.specs.declared.items.Stop.{Stop}
 use Rattle.class_reader.specs.declared.items.Stop.TheVariants as stops
-use Rattle.class_reader.specs.Giving.{Fails, HasPlace}
+use Rattle.class_reader.specs.Giving.{Fails, HasPlaceInFile}
 
 pub bytes_fit : (bytes : List ℕ) → ((i : ℕ) → get_or bytes i 0 < 256) → IsBytes bytes
 bytes_fit [] h = tt
@@ -23,14 +23,14 @@ bytes_fit (b ∷ bytes) h = (h 0, bytes_fit bytes (λ i. h (suc i)))
 pub left_within : {A : Type 0} (n : ℕ) (r : Result A Fault) (f : Fault) → r ≡ Err f → Near n r → f.left ≤ n
 left_within n r f e near = IfErr-at_err (λ g. g.left ≤ n) e near.place
 
-has_place : {A : Type 0} (n behind : ℕ) (e : Stop) (r : Result A Fault) → Fails e r → Near n r → n + behind < 2 ^ 63 → HasPlace behind e
+has_place : {A : Type 0} (n behind : ℕ) (e : Stop) (r : Result A Fault) → Fails e r → Near n r → n + behind < 2 ^ 63 → HasPlaceInFile behind e
 has_place n behind stops.Memory r fails near room = tt
 has_place n behind (stops.At rule left) r fails near room = let le = left_within n r (record { rule = rule; left = left }) fails near in omega arith
 
-pub code_has_place : (pool : List Constant) (name : ℕ) (body : List ℕ) (behind : ℕ) (e : Stop) → ((i : ℕ) → get_or body i 0 < 256) → length body + behind < 2 ^ 63 → Fails e (whole (code_at pool name body)) → HasPlace behind e
+pub code_has_place : (pool : List Constant) (name : ℕ) (body : List ℕ) (behind : ℕ) (e : Stop) → ((i : ℕ) → get_or body i 0 < 256) → length body + behind < 2 ^ 63 → Fails e (whole (code_at pool name body)) → HasPlaceInFile behind e
 code_has_place pool name body behind e fits room fails =
     has_place (length body) behind e (whole (code_at pool name body)) fails (filled_near code_body (AreParts pool name) (code_at pool name) (code_placed pool name) body (bytes_fit body fits)) room
 
-pub value_has_place : (pool : List Constant) (body : List ℕ) (behind : ℕ) (e : Stop) → ((i : ℕ) → get_or body i 0 < 256) → length body + behind < 2 ^ 63 → Fails e (whole (index_at kinds.Value pool body)) → HasPlace behind e
+pub value_has_place : (pool : List Constant) (body : List ℕ) (behind : ℕ) (e : Stop) → ((i : ℕ) → get_or body i 0 < 256) → length body + behind < 2 ^ 63 → Fails e (whole (index_at kinds.Value pool body)) → HasPlaceInFile behind e
 value_has_place pool body behind e fits room fails =
     has_place (length body) behind e (whole (index_at kinds.Value pool body)) fails (filled_near u2 (IsIndex kinds.Value pool) (index_at kinds.Value pool) (index_placed kinds.Value pool) body (bytes_fit body fits)) room

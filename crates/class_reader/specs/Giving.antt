@@ -5,7 +5,7 @@ use Rattle.jvm_types.specs.declared.class_file.MemberAttr.{MemberAttr}
 use Rattle.jvm_types.specs.declared.class_file.MemberAttr.TheVariants as member_attrs
 use Rattle.jvm_types.specs.declared.class_file.Constant.{Constant}
 use Rattle.jvm_types.specs.declared.class_file.Constant.TheVariants.{Gap}
-use Rattle.jvm_types.specs.ReadingSteps.{Fault, fault, ◌>>=◌, u2_at, u4_at, moved}
+use Rattle.jvm_types.specs.ReadingSteps.{Fault, fault, ◌>>=◌, u2_at, u4_at, fault_moved}
 use Rattle.jvm_types.specs.declared.index_kind.IndexKind.TheVariants as kinds
 use Rattle.jvm_types.specs.ReadingPool.{index_at, constant_at}
 use Rattle.jvm_types.specs.ReadingClass.{class_fault}
@@ -45,7 +45,7 @@ entry_at false bytes = constant_at bytes
 -- a fault of a body that was cut out, as one of the file
 abbrev pub moved_stop : ℕ → ℕ → Stop → Stop
 moved_stop at_length behind stops.Memory = stops.Memory
-moved_stop at_length behind (stops.At rule left) = stops.At (moved rule left at_length behind).rule (moved rule left at_length behind).left
+moved_stop at_length behind (stops.At rule left) = stops.At (fault_moved rule left at_length behind).rule (fault_moved rule left at_length behind).left
 
 -- memory ran out, or this is the first condition that stands
 abbrev pub IsFirstFault : List ℕ → ReadError → Type 0
@@ -57,9 +57,9 @@ abbrev pub attr_of : ℕ → List ℕ → Attr
 attr_of name body = record { name = name; body = body }
 
 -- a place in a body that is cut out has its place in the file
-abbrev pub HasPlace : ℕ → Stop → Type 0
-HasPlace behind stops.Memory = Unit {0}
-HasPlace behind (stops.At rule left) = left + behind < 2 ^ 64
+abbrev pub HasPlaceInFile : ℕ → Stop → Type 0
+HasPlaceInFile behind stops.Memory = Unit {0}
+HasPlaceInFile behind (stops.At rule left) = left + behind < 2 ^ 64
 
 -- a Code
 abbrev pub is_code : MemberAttr → Bool

@@ -3,9 +3,9 @@
 ghost use Rattle.std.specs.Prelude.{◌≡◌, ◌+◌, ◌<◌, ◌^◌, length, IfOk};
 ghost use Rattle.jvm_types.specs.ReadingSteps.{whole};
 ghost use Rattle.jvm_types.specs.ReadingPool.{index_at};
-ghost use Rattle.jvm_types.specs.ReadingClass.{attr_at, handler_at, code_at, code_of, value_of, field_attr_at, method_attr_at};
+ghost use Rattle.jvm_types.specs.ReadingClass.{attr_at, table_row_at, code_at, code_attr, value_attr, field_attr_at, method_attr_at};
 ghost use Rattle.jvm_types.specs.declared.index_kind.IndexKind.TheVariants.{Value as OfValue};
-ghost use Rattle.class_reader.specs.Giving.{Gives, attr_of, moved_stop, HasPlace};
+ghost use Rattle.class_reader.specs.Giving.{Gives, attr_of, moved_stop, HasPlaceInFile};
 
 use crate::indices::read_index;
 use crate::items::{Stop, read_run, read_u2, read_u4};
@@ -51,9 +51,9 @@ pub struct HandlerStep;
 impl Step for HandlerStep {
     type Item = Handler;
 
-    ghost item_at = { handler_at };
+    ghost item_at = { table_row_at };
 
-    #[tactic(auto, unfolding(jvm_types::specs::ReadingClass::handler_at))]
+    #[tactic(auto, unfolding(jvm_types::specs::ReadingClass::table_row_at))]
     fn read<'a>(
         _alloc: Global,
         pool: &Rows<Constant>,
@@ -132,7 +132,7 @@ fn read_whole_value(pool: &Rows<Constant>, body: &[u8]) -> Result<u16, Stop>
 /// A stop in a body that was cut out, as one of the file: where the parts want more or fewer bytes
 /// than the length says, that is C7 at the length. Behind the body `behind` bytes are left.
 fn moved(stop: Stop, at_length: usize, behind: usize) -> Stop
-    requires { HasPlace behind stop }
+    requires { HasPlaceInFile behind stop }
     ensures { result ≡ moved_stop at_length behind stop }
 {
     match stop {
@@ -143,7 +143,7 @@ fn moved(stop: Stop, at_length: usize, behind: usize) -> Stop
 }
 
 /// The body of an attribute, read as a Code. Behind it `behind` bytes are left.
-#[tactic(auto, unfolding(jvm_types::specs::ReadingClass::code_of, jvm_types::specs::ReadingSteps::in_body))]
+#[tactic(auto, unfolding(jvm_types::specs::ReadingClass::code_attr, jvm_types::specs::ReadingSteps::in_body))]
 fn read_code_attr(
     alloc: Global,
     pool: &Rows<Constant>,
@@ -152,7 +152,7 @@ fn read_code_attr(
     behind: usize,
 ) -> Result<MemberAttr, Stop>
     requires { length body.now + behind < 2 ^ 63 }
-    ensures { Gives (λ x. x) result (code_of pool.now (attr_of name body.now) behind) }
+    ensures { Gives (λ x. x) result (code_attr pool.now (attr_of name body.now) behind) }
 {
     match read_whole_code(alloc, pool, name, body) {
         Ok(code) => Ok(MemberAttr::Code(code)),
@@ -161,7 +161,7 @@ fn read_code_attr(
 }
 
 /// The body of an attribute, read as the index of a constant. Behind it `behind` bytes are left.
-#[tactic(auto, unfolding(jvm_types::specs::ReadingClass::value_of, jvm_types::specs::ReadingSteps::in_body))]
+#[tactic(auto, unfolding(jvm_types::specs::ReadingClass::value_attr, jvm_types::specs::ReadingSteps::in_body))]
 fn read_value_attr(
     pool: &Rows<Constant>,
     name: u16,
@@ -169,7 +169,7 @@ fn read_value_attr(
     behind: usize,
 ) -> Result<MemberAttr, Stop>
     requires { length body.now + behind < 2 ^ 63 }
-    ensures { Gives (λ x. x) result (value_of pool.now (attr_of name body.now) behind) }
+    ensures { Gives (λ x. x) result (value_attr pool.now (attr_of name body.now) behind) }
 {
     match read_whole_value(pool, body) {
         Ok(constant) => Ok(MemberAttr::ConstantValue { name, constant }),

@@ -1,7 +1,7 @@
 //! Items of a class file: numbers (JVMS 4, "u1, u2, u4") and runs of bytes, from the front of a slice.
 
 ghost use Rattle.std.specs.Prelude.{◌≡◌, ◌+◌, ℕ, length, IfOk};
-ghost use Rattle.jvm_types.specs.ReadingSteps.{u1_at, u2_at, u4_at, run_at, wanted};
+ghost use Rattle.jvm_types.specs.ReadingSteps.{u1_at, u2_at, u4_at, byte_run_at, fault_unless};
 ghost use Rattle.class_reader.specs.Giving.{Gives, pair_at, long_at};
 
 use byteorder::{BigEndian, ByteOrder};
@@ -80,9 +80,9 @@ pub fn read_long(bytes: &[u8]) -> Result<(u64, &[u8]), Stop>
 }
 
 /// `count` bytes, and the bytes after them.
-#[tactic(auto, unfolding(jvm_types::specs::ReadingSteps::run_at))]
+#[tactic(auto, unfolding(jvm_types::specs::ReadingSteps::byte_run_at))]
 pub fn read_run(count: usize, bytes: &[u8]) -> Result<(&[u8], &[u8]), Stop>
-    ensures gives { Gives (λ x. (x.0.now, x.1.now)) result (run_at count bytes.now) }
+    ensures gives { Gives (λ x. (x.0.now, x.1.now)) result (byte_run_at count bytes.now) }
     ensures parts { IfOk result (λ x. length x.0.now + length x.1.now ≡ length bytes.now) }
 {
     if bytes.len() < count {
@@ -93,7 +93,7 @@ pub fn read_run(count: usize, bytes: &[u8]) -> Result<(&[u8], &[u8]), Stop>
 
 /// The rule at its place, unless the condition is met.
 pub fn check(is_met: bool, rule: CRule, left: usize) -> Result<(), Stop>
-    ensures { Gives (λ x. x) result (wanted is_met rule left) }
+    ensures { Gives (λ x. x) result (fault_unless is_met rule left) }
 {
     if is_met {
         Ok(())

@@ -2,7 +2,7 @@
 
 ghost use Rattle.std.specs.Prelude.{◌≡◌, ◌+◌, ◌<◌, ◌^◌, true, length, Decides};
 ghost use Rattle.jvm_types.specs.ClassGrammar.{IsUtf8Byte};
-ghost use Rattle.jvm_types.specs.ReadingPool.{text_wanted, text_at, tagged_at, constant_at, entries_at};
+ghost use Rattle.jvm_types.specs.ReadingPool.{text_wanted, utf8_at, tagged_at, constant_at, entries_at};
 ghost use Rattle.class_reader.specs.Giving.{Gives, entry_at};
 
 use crate::items::{Stop, read_long, read_pair, read_run, read_u1, read_u2, read_u4};
@@ -31,9 +31,9 @@ fn check_text(text: &[u8], behind: usize) -> Result<(), Stop>
     Ok(())
 }
 
-#[tactic(auto, unfolding(jvm_types::specs::ReadingPool::text_at))]
+#[tactic(auto, unfolding(jvm_types::specs::ReadingPool::utf8_at))]
 fn read_text(alloc: Global, bytes: &[u8]) -> Result<(Constant, &[u8]), Stop>
-    ensures { Gives (λ x. (x.0, x.1.now)) result (text_at bytes.now) }
+    ensures { Gives (λ x. (x.0, x.1.now)) result (utf8_at bytes.now) }
 {
     let (len, rest) = read_u2(bytes)?;
     let (text, rest) = read_run(usize::from(len), rest)?;
@@ -42,7 +42,7 @@ fn read_text(alloc: Global, bytes: &[u8]) -> Result<(Constant, &[u8]), Stop>
 }
 
 /// What stands behind a tag. From the tag on `at_tag` bytes are left.
-#[tactic(auto, unfolding(jvm_types::specs::ReadingPool::tagged_at, jvm_types::specs::ReadingPool::one_at, jvm_types::specs::ReadingPool::two_at, jvm_types::specs::ReadingPool::word_at, jvm_types::specs::ReadingPool::wide_at))]
+#[tactic(auto, unfolding(jvm_types::specs::ReadingPool::tagged_at, jvm_types::specs::ReadingPool::one_at, jvm_types::specs::ReadingPool::two_at, jvm_types::specs::ReadingPool::word_entry_at, jvm_types::specs::ReadingPool::wide_at))]
 fn read_tagged(
     alloc: Global,
     tag: u8,

@@ -11,7 +11,7 @@ use Rattle.jvm_types.specs.declared.refusal.Rule.{Rule}
 use Rattle.jvm_types.specs.declared.refusal.Rule.TheVariants.{C, K, L, V, S, A}
 use Rattle.jvm_types.specs.declared.refusal.Place.{Place}
 use Rattle.class_runner.specs.Loading.{read_fault}
-use Rattle.class_runner.specs.Stages.{file_fault, IsUnread, AreReadSoFar}
+use Rattle.class_runner.specs.Stages.{file_fault, IsClassUnread, AreReadSoFar}
 use Rattle.class_runner.specs.declared.loading.FileError.{FileError}
 use Rattle.class_runner.specs.declared.loading.FileError.TheVariants.{Memory, Refused}
 
@@ -37,7 +37,7 @@ goes_on files i classes bytes c within is spelled faultless so_far = record {
   fault = sym (faulted files i bytes within is ∙ passes (class_fault bytes) _ (read_fault (i + 1) (drop (i + 1) files)) faultless) ∙ so_far.fault;
 }
 
-found_first : (o other : Option (Rule × Place)) (e : FileError) → IsUnread o e → IsUnread (option_or o other) e
+found_first : (o other : Option (Rule × Place)) (e : FileError) → IsClassUnread o e → IsClassUnread (option_or o other) e
 found_first o other Memory h = tt
 found_first o other (Refused (C rule) place) h = rw h refl
 found_first o other (Refused (K rule) place) h = h
@@ -46,7 +46,7 @@ found_first o other (Refused (V rule) place) h = h
 found_first o other (Refused (S rule) place) h = h
 found_first o other (Refused (A rule) place) h = h
 
-pub stops : (files : List (List ℕ)) (i : ℕ) (classes : List ClassFile) (bytes : List ℕ) (e : FileError) → i < length files → bytes ≡ get_or files i bytes → IsUnread (file_fault i bytes) e
-    → AreReadSoFar files i classes → IsUnread (read_fault 0 files) e
+pub stops : (files : List (List ℕ)) (i : ℕ) (classes : List ClassFile) (bytes : List ℕ) (e : FileError) → i < length files → bytes ≡ get_or files i bytes → IsClassUnread (file_fault i bytes) e
+    → AreReadSoFar files i classes → IsClassUnread (read_fault 0 files) e
 stops files i classes bytes e within is unread so_far =
-    subst (λ (o : Option (Rule × Place)). IsUnread o e) (sym (faulted files i bytes within is) ∙ so_far.fault) (found_first (file_fault i bytes) (read_fault (i + 1) (drop (i + 1) files)) e unread)
+    subst (λ (o : Option (Rule × Place)). IsClassUnread o e) (sym (faulted files i bytes within is) ∙ so_far.fault) (found_first (file_fault i bytes) (read_fault (i + 1) (drop (i + 1) files)) e unread)

@@ -21,7 +21,7 @@ use Rattle.jvm_types.specs.declared.refusal.Rule.TheVariants.{C, K, L, V, S, A}
 use Rattle.jvm_types.specs.declared.refusal.Place.{Place}
 use Rattle.jvm_types.proofs.CodeLaws.{faultless}
 use Rattle.class_runner.specs.Loading.{decode_fault}
-use Rattle.class_runner.specs.Stages.{own_methods, method_fault, IsUndecoded, AreDecodedSoFar}
+use Rattle.class_runner.specs.Stages.{own_methods, method_code_fault, IsUndecoded, AreDecodedSoFar}
 use Rattle.class_runner.specs.declared.loading.FileError.{FileError}
 use Rattle.class_runner.specs.declared.loading.FileError.TheVariants.{Memory, Refused}
 
@@ -73,9 +73,9 @@ found_first o other (Refused (V rule) place) h = h
 found_first o other (Refused (S rule) place) h = h
 found_first o other (Refused (A rule) place) h = h
 
-stops : (d : Declared) (left all : List Declared) (code : List (List Insn)) (e : FileError) → IsUndecoded (method_fault d.file d.place (code_of d.member.attrs)) e → AreDecodedSoFar (d ∷ left) all code → IsUndecoded (decode_fault all) e
+stops : (d : Declared) (left all : List Declared) (code : List (List Insn)) (e : FileError) → IsUndecoded (method_code_fault d.file d.place (code_of d.member.attrs)) e → AreDecodedSoFar (d ∷ left) all code → IsUndecoded (decode_fault all) e
 stops d left all code e undecoded so_far =
-    subst (λ (o : Option (Rule × Place)). IsUndecoded o e) so_far.fault (found_first (method_fault d.file d.place (code_of d.member.attrs)) (decode_fault left) e undecoded)
+    subst (λ (o : Option (Rule × Place)). IsUndecoded o e) so_far.fault (found_first (method_code_fault d.file d.place (code_of d.member.attrs)) (decode_fault left) e undecoded)
 
 pub method_next : (file : ℕ) (pool : List Constant) (i : ℕ) (ms : List Member) (m : Member) (insns : List Insn) (left all : List Declared) (code : List (List Insn)) → i < length ms → m ≡ get_or ms i m
     → IsCode (code_of m.attrs).bytes (code_of m.attrs).rows insns → AreDecodedSoFar (declared_from file pool i (drop i ms) ++ left) all code
@@ -85,7 +85,7 @@ method_next file pool i ms m insns left all code within is decoded so_far =
     (subst (λ (ds : List Declared). AreDecodedSoFar ds all code) (own_at file pool i ms m left within is) so_far)
 
 pub method_stops : (file : ℕ) (pool : List Constant) (i : ℕ) (ms : List Member) (m : Member) (left all : List Declared) (code : List (List Insn)) (e : FileError) → i < length ms → m ≡ get_or ms i m
-    → IsUndecoded (method_fault file i (code_of m.attrs)) e → AreDecodedSoFar (declared_from file pool i (drop i ms) ++ left) all code → IsUndecoded (decode_fault all) e
+    → IsUndecoded (method_code_fault file i (code_of m.attrs)) e → AreDecodedSoFar (declared_from file pool i (drop i ms) ++ left) all code → IsUndecoded (decode_fault all) e
 method_stops file pool i ms m left all code e within is undecoded so_far =
     stops (declared file pool i m) (declared_from file pool (i + 1) (drop (i + 1) ms) ++ left) all code e undecoded
     (subst (λ (ds : List Declared). AreDecodedSoFar ds all code) (own_at file pool i ms m left within is) so_far)

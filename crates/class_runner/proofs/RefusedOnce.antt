@@ -22,7 +22,7 @@ use Rattle.jvm_types.specs.declared.refusal.Place.{Place}
 use Rattle.laws_programs.proofs.OneTyping.{no_refusal, one_refusal}
 use Rattle.laws_sections.proofs.TagAnswers.{no_refusal as no_tag_refusal, one_refusal_all}
 use Rattle.class_runner.specs.Loading.{AreRead, IsFirstRefused, IsFirstUntyped, IsFirstUntagged, IsUnlinked, IsUntyped, IsUntagged, IsRefusedBy, read_fault, decode_fault}
-use Rattle.class_runner.specs.LoadingLaws.{OneRefusal}
+use Rattle.class_runner.specs.LoadingLaws.{FilesHaveOneRefusal}
 use Rattle.class_runner.proofs.LoadedOnce.{classes_once, read_once, same_program, never_both, no_read_fault, no_decode_fault, none_untyped}
 
 abbrev Same : Rule → Rule → Place → Place → Type 0
@@ -137,7 +137,7 @@ once_s files heap workers rule other place at u w =
 
 -- ---- the whole
 
-pub refused_once : OneRefusal
+pub refused_once : FilesHaveOneRefusal
 refused_once files heap workers (C rule) (C other) place at r s = same_fault (read_fault 0 files) (C rule) (C other) place at r s
 refused_once files heap workers (C rule) (K other) place at r s = absurd (never_c files s.0 rule place s.1 r)
 refused_once files heap workers (C rule) (L other) place at r s = let w = read_at_l files heap workers other at s in absurd (never_c files w.classes rule place w.read.spelled r)

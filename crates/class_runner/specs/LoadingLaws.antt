@@ -14,8 +14,8 @@ abbrev pub OneLoading : Type 0
 OneLoading = (files : List (List ℕ)) (heap workers : ℕ) (c d : MarkedProgram) → IsLoaded files heap workers c → IsLoaded files heap workers d → c ≡ d
 
 -- files are refused by one rule, at one place
-abbrev pub OneRefusal : Type 0
-OneRefusal = (files : List (List ℕ)) (heap workers : ℕ) (rule other : Rule) (place at : Place) → IsRefusedBy files heap workers rule place → IsRefusedBy files heap workers other at → (rule ≡ other) × (place ≡ at)
+abbrev pub FilesHaveOneRefusal : Type 0
+FilesHaveOneRefusal = (files : List (List ℕ)) (heap workers : ℕ) (rule other : Rule) (place at : Place) → IsRefusedBy files heap workers rule place → IsRefusedBy files heap workers other at → (rule ≡ other) × (place ≡ at)
 
 -- no files that are accepted are refused; what is loaded is accepted
 abbrev pub AcceptedNotRefused : Type 0

@@ -32,10 +32,10 @@ abbrev pub file_fault : ℕ → List ℕ → Option (Rule × Place)
 file_fault file bytes = option_map (λ f. (rules.C f.0, in_file file f.1)) (class_fault bytes)
 
 -- memory ran out, or this is the fault
-abbrev pub IsUnread : Option (Rule × Place) → FileError → Type 0
-IsUnread fault errors.Memory = Unit {0}
-IsUnread fault (errors.Refused (rules.C rule) place) = fault ≡ Some (rules.C rule, place)
-IsUnread fault e = ⊥
+abbrev pub IsClassUnread : Option (Rule × Place) → FileError → Type 0
+IsClassUnread fault errors.Memory = Unit {0}
+IsClassUnread fault (errors.Refused (rules.C rule) place) = fault ≡ Some (rules.C rule, place)
+IsClassUnread fault e = ⊥
 
 -- the files before this one spell these classes
 pub record AreReadSoFar (files : List (List ℕ)) (file : ℕ) (classes : List ClassFile) : Type 0 where
@@ -49,8 +49,8 @@ abbrev pub own_methods : ℕ → ClassFile → List Declared
 own_methods file c = declared_from file c.constants 0 c.methods
 
 -- the fault of one method's code
-abbrev pub method_fault : (file place : ℕ) → Code → Option (Rule × Place)
-method_fault file place code = option_map (λ f. (rules.K f.0, in_method file place f.1)) (code_fault code.bytes code.rows)
+abbrev pub method_code_fault : (file place : ℕ) → Code → Option (Rule × Place)
+method_code_fault file place code = option_map (λ f. (rules.K f.0, in_method file place f.1)) (code_fault code.bytes code.rows)
 
 -- memory ran out, or this is the fault
 abbrev pub IsUndecoded : Option (Rule × Place) → FileError → Type 0

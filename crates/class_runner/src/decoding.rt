@@ -8,7 +8,7 @@ ghost use Rattle.jvm_types.specs.Members.{Declared, declared_methods};
 ghost use Rattle.jvm_types.specs.Linked.{code_of as the_code};
 ghost use Rattle.jvm_types.specs.Linkable.{IsDecoded};
 ghost use Rattle.class_runner.specs.Loading.{decode_fault};
-ghost use Rattle.class_runner.specs.Stages.{own_methods, method_fault, IsUndecoded, AreDecodedSoFar};
+ghost use Rattle.class_runner.specs.Stages.{own_methods, method_code_fault, IsUndecoded, AreDecodedSoFar};
 
 use crate::loading::FileError;
 use code_decode::{CodeError, decode};
@@ -27,7 +27,7 @@ fn decode_method(
     requires body { HasBody method.now }
     requires rows { length (the_code method.now.attrs).rows ≤ MOST_COUNTED }
     ensures ok { IfOk result (λ insns. IsCode (the_code method.now.attrs).bytes (the_code method.now.attrs).rows insns) }
-    ensures refused { IfErr result (λ e. IsUndecoded (method_fault file number (the_code method.now.attrs)) e) }
+    ensures refused { IfErr result (λ e. IsUndecoded (method_code_fault file number (the_code method.now.attrs)) e) }
 {
     let Some(code) = code_of(method.attrs.as_slice()) else {
         unreachable!()

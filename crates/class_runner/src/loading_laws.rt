@@ -1,6 +1,6 @@
 //! Laws of loading, for all files: each function only states one.
 
-ghost use Rattle.class_runner.specs.LoadingLaws.{AcceptedNotRefused, AcceptedOrRefused, LoadedAccepted, OneLoading, OneRefusal};
+ghost use Rattle.class_runner.specs.LoadingLaws.{AcceptedNotRefused, AcceptedOrRefused, LoadedAccepted, OneLoading, FilesHaveOneRefusal};
 
 /// Files are loaded to one program.
 pub fn one_loading()
@@ -9,7 +9,7 @@ pub fn one_loading()
 
 /// Files are refused by one rule, at one place.
 pub fn one_refusal()
-    ensures { OneRefusal }
+    ensures { FilesHaveOneRefusal }
 {}
 
 /// Files that are loaded to a program are accepted.

@@ -5,7 +5,7 @@ ghost use Rattle.std.specs.List.{AllZip};
 ghost use Rattle.jvm_types.specs.ClassGrammar.{Spells};
 ghost use Rattle.jvm_types.specs.ReadingClass.{class_fault};
 ghost use Rattle.class_runner.specs.Loading.{read_fault};
-ghost use Rattle.class_runner.specs.Stages.{file_fault, IsUnread};
+ghost use Rattle.class_runner.specs.Stages.{file_fault, IsClassUnread};
 
 use crate::loading::FileError;
 use class_reader::{ReadError, read_class};
@@ -17,7 +17,7 @@ use std::alloc::Global;
 fn read_file(alloc: Global, file: u16, bytes: &Bytes) -> Result<ClassFile, FileError>
     ensures ok { IfOk result (λ c. Spells bytes.now c) }
     ensures faultless { OnOk result (class_fault bytes.now ≡ None) }
-    ensures refused { IfErr result (λ e. IsUnread (file_fault file bytes.now) e) }
+    ensures refused { IfErr result (λ e. IsClassUnread (file_fault file bytes.now) e) }
 {
     match read_class(alloc, bytes) {
         Ok(class) => Ok(class),
@@ -32,7 +32,7 @@ fn read_file(alloc: Global, file: u16, bytes: &Bytes) -> Result<ClassFile, FileE
 pub fn read_files(alloc: Global, files: &[Bytes]) -> Result<Rows<ClassFile>, FileError>
     requires { length files.now ≤ MOST_FILES }
     ensures ok { IfOk result (λ classes. AllZip Spells files.now classes) }
-    ensures refused { IfErr result (λ e. IsUnread (read_fault 0 files.now) e) }
+    ensures refused { IfErr result (λ e. IsClassUnread (read_fault 0 files.now) e) }
 {
     let mut classes = Rows::new(alloc);
     for (file, bytes) in files.iter().enumerate() {

@@ -7,10 +7,10 @@ use Rattle.jvm_types.specs.declared.class_file.Code.{Code}
 use Rattle.jvm_types.specs.declared.class_file.MemberAttr.TheVariants as member_attrs
 use Rattle.class_writer.specs.declared.error.WriteError.{WriteError}
 use Rattle.class_writer.specs.declared.error.WriteError.TheVariants.{Memory, TooLarge, NoSpelling}
-use Rattle.class_writer.specs.Writing.{Writes, PartsFit}
+use Rattle.class_writer.specs.Writing.{Writes, CodePartsFit}
 
 -- the body that was written by itself is the body of the attribute
-written_whole : {A : Type 0} (c : Code) (old mid new : List ℕ) (r : Result A WriteError) → PartsFit c → mid ≡ old ++ u2 c.name
+written_whole : {A : Type 0} (c : Code) (old mid new : List ℕ) (r : Result A WriteError) → CodePartsFit c → mid ≡ old ++ u2 c.name
     → Writes (length (code_body c) < 2 ^ 32) (length (code_body c) < 2 ^ 32) (u4 (length (code_body c)) ++ code_body c) mid new r → Writes (CodeFits c) (CodeFits c) (member_attr (member_attrs.Code c)) old new r
 written_whole c old mid new (Ok u) parts at w = (
   record { body = w.0; bytes = parts.bytes; rows = parts.rows; attrs = parts.attrs },
@@ -20,7 +20,7 @@ written_whole c old mid new (Err Memory) parts at w = tt
 written_whole c old mid new (Err TooLarge) parts at w = λ fits. w fits.body
 written_whole c old mid new (Err NoSpelling) parts at w = w
 
-pub code_writes : {A : Type 0} (c : Code) (body old mid new : List ℕ) (r : Result A WriteError) → PartsFit c → body ≡ code_body c → mid ≡ old ++ u2 c.name
+pub code_writes : {A : Type 0} (c : Code) (body old mid new : List ℕ) (r : Result A WriteError) → CodePartsFit c → body ≡ code_body c → mid ≡ old ++ u2 c.name
     → Writes (length body < 2 ^ 32) (length body < 2 ^ 32) (u4 (length body) ++ body) mid new r → Writes (CodeFits c) (CodeFits c) (member_attr (member_attrs.Code c)) old new r
 code_writes c body old mid new r parts is at w =
     written_whole c old mid new r parts at (subst (λ (x : List ℕ). Writes (length x < 2 ^ 32) (length x < 2 ^ 32) (u4 (length x) ++ x) mid new r) is w)

@@ -24,8 +24,8 @@ use Rattle.jvm_types.specs.declared.class_file.ClassFile.{ClassFile}
 use Rattle.jvm_types.proofs.IndexLaws.{Names-from_test, test_from_Names, IsTextAt-from_test, test_from_IsTextAt, no_IsTextAt, no_test}
 use Rattle.jvm_types.proofs.StepLaws.{IsBytes}
 use Rattle.jvm_types.proofs.EachAfter.{sum_first}
-use Rattle.class_writer.specs.Testing.{has_due_gaps, is_utf8_byte, is_constant, is_pool, is_attr, is_handler, is_named, is_code, is_field_attr, is_method_attr, has_names, is_field, is_code_attr, has_body, is_method, has_version, has_classes, has_members, keeps_rules}
-use Rattle.class_writer.specs.Writing.{IsKnown, IsWritten}
+use Rattle.class_writer.specs.Testing.{has_due_gaps, is_utf8_byte, is_constant, is_pool, is_attr, is_handler, is_text_at, is_pool_code, is_field_attr, is_method_attr, has_names, is_field, is_code_attr, has_body, is_method, has_version, has_classes, has_members, keeps_rules}
+use Rattle.class_writer.specs.Writing.{IsKnown, IsClassWritten}
 
 -- ---- tests and lists
 
@@ -194,13 +194,13 @@ handler_from_test pool r t f h = record {
 test_from_handler : (pool : List Constant) (r : Handler) → IsHandler pool r → is_handler pool r ≡ true
 test_from_handler pool r is = test_from_Names kinds.CatchType pool r.catch_type is.catch_type.names
 
-named_from_test : (text : List ℕ) (pool : List Constant) (i : ℕ) → is_named text pool i ≡ true → i / 256 < 256 → IsNamed pool i text
+named_from_test : (text : List ℕ) (pool : List Constant) (i : ℕ) → is_text_at text pool i ≡ true → i / 256 < 256 → IsNamed pool i text
 named_from_test text pool i t h = record { number = u2_fits i h; named = IsTextAt-from_test text pool i t }
 
-code_from_test : (pool : List Constant) (c : Code) → is_code pool c ≡ true → CodeFits c → IsBytes (member_attr (member_attrs.Code c)) → IsCodeAttr pool c
+code_from_test : (pool : List Constant) (c : Code) → is_pool_code pool c ≡ true → CodeFits c → IsBytes (member_attr (member_attrs.Code c)) → IsCodeAttr pool c
 code_from_test pool c t f h =
-    let p = and_parts (is_named (codes "Code") pool c.name && list_all (is_handler pool) c.rows) (list_all (is_attr pool) c.attrs) t in
-    let q = and_parts (is_named (codes "Code") pool c.name) (list_all (is_handler pool) c.rows) p.0 in
+    let p = and_parts (is_text_at (codes "Code") pool c.name && list_all (is_handler pool) c.rows) (list_all (is_attr pool) c.attrs) t in
+    let q = and_parts (is_text_at (codes "Code") pool c.name) (list_all (is_handler pool) c.rows) p.0 in
     let body : IsBytes (code_body c) = h.1.1.1.1.1.1 in
     let behind = parted (c.bytes ++ counted handler c.rows) (counted attr c.attrs) body.1.1.1.1.1.1.1.1 in
     let front = parted c.bytes (counted handler c.rows) behind.0 in
@@ -215,42 +215,42 @@ code_from_test pool c t f h =
       attrs = counted_from_test (is_attr pool) BodyFits attr (IsAttr pool) (attr_from_test pool) c.attrs p.1 f.attrs behind.1;
     }
 
-test_from_code : (pool : List Constant) (c : Code) → IsCodeAttr pool c → is_code pool c ≡ true
+test_from_code : (pool : List Constant) (c : Code) → IsCodeAttr pool c → is_pool_code pool c ≡ true
 test_from_code pool c is =
-    and_from (is_named (codes "Code") pool c.name && list_all (is_handler pool) c.rows) (list_all (is_attr pool) c.attrs)
-    (and_from (is_named (codes "Code") pool c.name) (list_all (is_handler pool) c.rows) (test_from_IsTextAt (codes "Code") pool c.name is.name.named) (test_from_each (is_handler pool) (IsHandler pool) (test_from_handler pool) c.rows is.rows.each))
+    and_from (is_text_at (codes "Code") pool c.name && list_all (is_handler pool) c.rows) (list_all (is_attr pool) c.attrs)
+    (and_from (is_text_at (codes "Code") pool c.name) (list_all (is_handler pool) c.rows) (test_from_IsTextAt (codes "Code") pool c.name is.name.named) (test_from_each (is_handler pool) (IsHandler pool) (test_from_handler pool) c.rows is.rows.each))
     (test_from_each (is_attr pool) (IsAttr pool) (test_from_attr pool) c.attrs is.attrs.each)
 
 field_attr_from_test : (pool : List Constant) (a : MemberAttr) → is_field_attr pool a ≡ true → MemberAttrFits a → IsBytes (member_attr a) → IsFieldAttr pool a
 field_attr_from_test pool (member_attrs.Code c) t f h = absurd cc
 field_attr_from_test pool (member_attrs.ConstantValue name value) t f h =
-    let p = and_parts (is_named (codes "ConstantValue") pool name) (names kinds.Value pool value) t in
+    let p = and_parts (is_text_at (codes "ConstantValue") pool name) (names kinds.Value pool value) t in
     (named_from_test (codes "ConstantValue") pool name p.0 h.0, index_from_test kinds.Value pool value p.1 h.1.1.1.1.1.1.0)
 field_attr_from_test pool (member_attrs.Other a) t f h =
-    let p = and_parts (is_attr pool a) (not (is_named (codes "ConstantValue") pool a.name)) t in
-    (attr_from_test pool a p.0 f h, no_IsTextAt (codes "ConstantValue") pool a.name (not_true (is_named (codes "ConstantValue") pool a.name) p.1))
+    let p = and_parts (is_attr pool a) (not (is_text_at (codes "ConstantValue") pool a.name)) t in
+    (attr_from_test pool a p.0 f h, no_IsTextAt (codes "ConstantValue") pool a.name (not_true (is_text_at (codes "ConstantValue") pool a.name) p.1))
 
 test_from_field_attr : (pool : List Constant) (a : MemberAttr) → IsFieldAttr pool a → is_field_attr pool a ≡ true
 test_from_field_attr pool (member_attrs.Code c) is = absurd is
 test_from_field_attr pool (member_attrs.ConstantValue name value) is =
-    and_from (is_named (codes "ConstantValue") pool name) (names kinds.Value pool value) (test_from_IsTextAt (codes "ConstantValue") pool name is.0.named) (test_from_Names kinds.Value pool value is.1.names)
+    and_from (is_text_at (codes "ConstantValue") pool name) (names kinds.Value pool value) (test_from_IsTextAt (codes "ConstantValue") pool name is.0.named) (test_from_Names kinds.Value pool value is.1.names)
 test_from_field_attr pool (member_attrs.Other a) is =
-    and_from (is_attr pool a) (not (is_named (codes "ConstantValue") pool a.name)) (test_from_attr pool a is.0)
-    (true_not (is_named (codes "ConstantValue") pool a.name) (no_test (codes "ConstantValue") pool a.name is.1))
+    and_from (is_attr pool a) (not (is_text_at (codes "ConstantValue") pool a.name)) (test_from_attr pool a is.0)
+    (true_not (is_text_at (codes "ConstantValue") pool a.name) (no_test (codes "ConstantValue") pool a.name is.1))
 
 method_attr_from_test : (pool : List Constant) (a : MemberAttr) → is_method_attr pool a ≡ true → MemberAttrFits a → IsBytes (member_attr a) → IsMethodAttr pool a
 method_attr_from_test pool (member_attrs.Code c) t f h = code_from_test pool c t f h
 method_attr_from_test pool (member_attrs.ConstantValue name value) t f h = absurd cc
 method_attr_from_test pool (member_attrs.Other a) t f h =
-    let p = and_parts (is_attr pool a) (not (is_named (codes "Code") pool a.name)) t in
-    (attr_from_test pool a p.0 f h, no_IsTextAt (codes "Code") pool a.name (not_true (is_named (codes "Code") pool a.name) p.1))
+    let p = and_parts (is_attr pool a) (not (is_text_at (codes "Code") pool a.name)) t in
+    (attr_from_test pool a p.0 f h, no_IsTextAt (codes "Code") pool a.name (not_true (is_text_at (codes "Code") pool a.name) p.1))
 
 test_from_method_attr : (pool : List Constant) (a : MemberAttr) → IsMethodAttr pool a → is_method_attr pool a ≡ true
 test_from_method_attr pool (member_attrs.Code c) is = test_from_code pool c is
 test_from_method_attr pool (member_attrs.ConstantValue name value) is = absurd is
 test_from_method_attr pool (member_attrs.Other a) is =
-    and_from (is_attr pool a) (not (is_named (codes "Code") pool a.name)) (test_from_attr pool a is.0)
-    (true_not (is_named (codes "Code") pool a.name) (no_test (codes "Code") pool a.name is.1))
+    and_from (is_attr pool a) (not (is_text_at (codes "Code") pool a.name)) (test_from_attr pool a is.0)
+    (true_not (is_text_at (codes "Code") pool a.name) (no_test (codes "Code") pool a.name is.1))
 
 -- ---- fields and methods
 
@@ -325,7 +325,7 @@ test_from_method pool m is =
 
 -- ---- the class
 
-class_from_test : (c : ClassFile) → keeps_rules c ≡ true → IsWritten c → IsBytes (class_file c) → length (class_file c) ≤ 1048576 → IsClass c
+class_from_test : (c : ClassFile) → keeps_rules c ≡ true → IsClassWritten c → IsBytes (class_file c) → length (class_file c) ≤ 1048576 → IsClass c
 class_from_test c t f h short =
     let pool : List Constant = c.constants in
     let p = and_parts (has_version c && is_pool pool && has_classes c) (has_members c) t in
@@ -375,7 +375,7 @@ test_from_class c is =
     (and_from (has_version c && is_pool pool) (has_classes c) (and_from (has_version c) (is_pool pool) version (test_from_pool pool is.pool)) classes)
     members
 
-pub class_decided : (c : ClassFile) (bytes : List ℕ) (test : Bool) → bytes ≡ class_file c → ((i : ℕ) → get_or bytes i 0 < 256) → IsWritten c → length bytes ≤ 1048576 → test ≡ keeps_rules c → Decides test (IsClass c)
+pub class_decided : (c : ClassFile) (bytes : List ℕ) (test : Bool) → bytes ≡ class_file c → ((i : ℕ) → get_or bytes i 0 < 256) → IsClassWritten c → length bytes ≤ 1048576 → test ≡ keeps_rules c → Decides test (IsClass c)
 class_decided c bytes test spelled fits written short is = (
   λ t. class_from_test c (sym is ∙ t) written (subst IsBytes spelled (bytes_each bytes fits)) (subst (λ (x : List ℕ). length x ≤ 1048576) spelled short),
   λ class. is ∙ test_from_class c class,

@@ -51,21 +51,21 @@ is_attr pool a = names kinds.Utf8 pool a.name
 abbrev pub is_handler : List Constant → Handler → Bool
 is_handler pool h = names kinds.CatchType pool h.catch_type
 
-abbrev pub is_named : List ℕ → List Constant → ℕ → Bool
-is_named text pool i = is_text text (slice_get pool i)
+abbrev pub is_text_at : List ℕ → List Constant → ℕ → Bool
+is_text_at text pool i = is_text text (slice_get pool i)
 
-abbrev pub is_code : List Constant → Code → Bool
-is_code pool c = is_named (codes "Code") pool c.name && list_all (is_handler pool) c.rows && list_all (is_attr pool) c.attrs
+abbrev pub is_pool_code : List Constant → Code → Bool
+is_pool_code pool c = is_text_at (codes "Code") pool c.name && list_all (is_handler pool) c.rows && list_all (is_attr pool) c.attrs
 
 abbrev pub is_field_attr : List Constant → MemberAttr → Bool
 is_field_attr pool (member_attrs.Code c) = false
-is_field_attr pool (member_attrs.ConstantValue name value) = is_named (codes "ConstantValue") pool name && names kinds.Value pool value
-is_field_attr pool (member_attrs.Other a) = is_attr pool a && not (is_named (codes "ConstantValue") pool a.name)
+is_field_attr pool (member_attrs.ConstantValue name value) = is_text_at (codes "ConstantValue") pool name && names kinds.Value pool value
+is_field_attr pool (member_attrs.Other a) = is_attr pool a && not (is_text_at (codes "ConstantValue") pool a.name)
 
 abbrev pub is_method_attr : List Constant → MemberAttr → Bool
-is_method_attr pool (member_attrs.Code c) = is_code pool c
+is_method_attr pool (member_attrs.Code c) = is_pool_code pool c
 is_method_attr pool (member_attrs.ConstantValue name value) = false
-is_method_attr pool (member_attrs.Other a) = is_attr pool a && not (is_named (codes "Code") pool a.name)
+is_method_attr pool (member_attrs.Other a) = is_attr pool a && not (is_text_at (codes "Code") pool a.name)
 
 -- ---- fields and methods
 

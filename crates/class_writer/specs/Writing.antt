@@ -9,21 +9,21 @@ use Rattle.jvm_types.specs.declared.class_file.TheConstants.{MAGIC}
 use Rattle.jvm_types.specs.declared.class_file.Code.{Code}
 use Rattle.jvm_types.specs.Numbers.{u2, u4}
 use Rattle.jvm_types.specs.Spelling.{counted, constant}
-use Rattle.jvm_types.specs.Counts.{BodyFits, MemberFits, CountsFit}
+use Rattle.jvm_types.specs.Counts.{BodyFits, MemberFits, ClassCountsFit}
 use Rattle.jvm_types.specs.ClassGrammar.{IsCounted, Spells}
 use Rattle.class_writer.specs.declared.error.WriteError.{WriteError}
 use Rattle.class_writer.specs.declared.error.WriteError.TheVariants.{Memory, TooLarge, NoSpelling}
 
 -- a part was not written: want of memory is a free answer, and else some length of it does not fit its field
-abbrev pub Fails : Type 0 → WriteError → Type 0
-Fails fits Memory = Unit {0}
-Fails fits TooLarge = fits → ⊥
-Fails fits NoSpelling = ⊥
+abbrev pub IsWriteFailure : Type 0 → WriteError → Type 0
+IsWriteFailure fits Memory = Unit {0}
+IsWriteFailure fits TooLarge = fits → ⊥
+IsWriteFailure fits NoSpelling = ⊥
 
 -- the spelling of a part stands behind what was there, and this is known of the part
 abbrev pub Writes : {A : Type 0} → Type 0 → Type 0 → List ℕ → List ℕ → List ℕ → Result A WriteError → Type 0
 Writes fits known spelling old new (Ok u) = known × (new ≡ old ++ spelling)
-Writes fits known spelling old new (Err e) = Fails fits e
+Writes fits known spelling old new (Err e) = IsWriteFailure fits e
 
 -- what is known of an entry that was written: the length of a text, and the range of a signed number, which its bytes do not
 -- tell
@@ -33,7 +33,7 @@ IsKnown (Integer n) = FitsSigned w32 n
 IsKnown c = Unit {0}
 
 -- the parts of a Code attribute
-pub record PartsFit (c : Code) : Type 0 where
+pub record CodePartsFit (c : Code) : Type 0 where
   pub bytes : length c.bytes < 2 ^ 32
   pub rows : length c.rows < 2 ^ 16
   pub attrs : IsCounted BodyFits c.attrs
@@ -43,7 +43,7 @@ abbrev pub head_bytes : ClassFile → List ℕ
 head_bytes c = u4 MAGIC ++ u2 c.minor ++ u2 c.major ++ counted constant c.constants ++ u2 c.flags ++ u2 c.this_class ++ u2 c.super_class
 
 -- what is known of a class that was written
-pub record IsWritten (c : ClassFile) : Type 0 where
+pub record IsClassWritten (c : ClassFile) : Type 0 where
   pub constants : IsCounted IsKnown c.constants
   pub interfaces : length c.interfaces < 2 ^ 16
   pub fields : IsCounted MemberFits c.fields
@@ -55,5 +55,5 @@ pub record IsWritten (c : ClassFile) : Type 0 where
 abbrev pub Answers : ClassFile → Result (List ℕ) WriteError → Type 0
 Answers c (Ok bytes) = Spells bytes c
 Answers c (Err Memory) = Unit {0}
-Answers c (Err TooLarge) = CountsFit c → ⊥
-Answers c (Err NoSpelling) = CountsFit c × ((bytes : List ℕ) → Spells bytes c → ⊥)
+Answers c (Err TooLarge) = ClassCountsFit c → ⊥
+Answers c (Err NoSpelling) = ClassCountsFit c × ((bytes : List ℕ) → Spells bytes c → ⊥)

@@ -2,7 +2,7 @@
 
 ghost use Rattle.std.specs.Prelude.{◌≡◌, ◌≤◌, ◌++◌, ◌↔◌, ◌∷◌, [], length, IsTrue, IfOk, OnOk, OnErr, MatchOption};
 ghost use Rattle.jvm_types.specs.declared.class_file.Constant.TheVariants.{Gap};
-ghost use Rattle.class_writer.specs.Building.{empty_class, entries_of, length_with, IsNew, IsFirst, Builds};
+ghost use Rattle.class_writer.specs.Building.{empty_class, pool_entries_of, length_with, IsNew, IsFirstIndex, Builds};
 
 use crate::error::BuildError;
 use constant_pools::index_kinds::is_wide;
@@ -49,7 +49,7 @@ fn is_same(left: &Constant, right: &Constant) -> bool
 
 /// The first index of a constant in the pool.
 fn find(pool: &Rows<Constant>, constant: &Constant) -> Option<usize>
-    ensures { MatchOption result (IsNew pool.now constant.now) (IsFirst pool.now constant.now) }
+    ensures { MatchOption result (IsNew pool.now constant.now) (IsFirstIndex pool.now constant.now) }
 {
     for (i, entry) in pool.as_slice().iter().enumerate() {
         if is_same(entry, constant) {
@@ -61,7 +61,7 @@ fn find(pool: &Rows<Constant>, constant: &Constant) -> Option<usize>
 
 /// How many indices a constant takes (JVMS 4.4.5).
 fn entries_of(constant: &Constant) -> usize
-    ensures { result ≡ length (entries_of constant.now) }
+    ensures { result ≡ length (pool_entries_of constant.now) }
 {
     if is_wide(constant) { 2 } else { 1 }
 }
@@ -69,7 +69,7 @@ fn entries_of(constant: &Constant) -> usize
 /// Adds a constant at the end, and a gap behind one that takes two indices. Where memory runs out
 /// nothing changes.
 fn append(pool: &mut Rows<Constant>, constant: Constant) -> Result<(), AllocError>
-    ensures ok { OnOk result (pool.new ≡ pool.old ++ entries_of constant) }
+    ensures ok { OnOk result (pool.new ≡ pool.old ++ pool_entries_of constant) }
     ensures err { OnErr result (pool.new ≡ pool.old) }
 {
     let takes_two = is_wide(&constant);

@@ -4,8 +4,8 @@ ghost use Rattle.std.specs.Prelude.{◌≡◌, ◌<◌, ◌^◌, ◌++◌, lengt
 ghost use Rattle.jvm_types.specs.Numbers.{u1, u2, u4, u8};
 ghost use Rattle.jvm_types.specs.Spelling.{code_body, member_attr, class_file};
 ghost use Rattle.jvm_types.specs.ClassGrammar.{IsCounted};
-ghost use Rattle.jvm_types.specs.Counts.{TextFits, CodeFits, CountsFit};
-ghost use Rattle.class_writer.specs.Writing.{Writes, IsKnown, PartsFit, IsWritten, head_bytes};
+ghost use Rattle.jvm_types.specs.Counts.{TextFits, CodeFits, ClassCountsFit};
+ghost use Rattle.class_writer.specs.Writing.{Writes, IsKnown, CodePartsFit, IsClassWritten, head_bytes};
 
 use crate::error::WriteError;
 use crate::list_writing::{Part, write_list};
@@ -133,7 +133,7 @@ impl Part for Constant {
 
 /// Writes what stands behind the length of a `Code` attribute.
 fn write_code_body(alloc: Global, code: &Code, out: &mut Bytes) -> Result<(), WriteError>
-    ensures { Writes (PartsFit code.now) (PartsFit code.now) (code_body code.now) out.old out.new result }
+    ensures { Writes (CodePartsFit code.now) (CodePartsFit code.now) (code_body code.now) out.old out.new result }
 {
     write_u2(code.max_stack, out)?;
     write_u2(code.max_locals, out)?;
@@ -208,7 +208,7 @@ fn write_head(alloc: Global, c: &ClassFile, out: &mut Bytes) -> Result<(), Write
 
 /// Writes all parts of a class.
 pub fn write_parts(alloc: Global, c: &ClassFile, out: &mut Bytes) -> Result<(), WriteError>
-    ensures { Writes (CountsFit c.now) (IsWritten c.now) (class_file c.now) out.old out.new result }
+    ensures { Writes (ClassCountsFit c.now) (IsClassWritten c.now) (class_file c.now) out.old out.new result }
 {
     write_head(alloc, c, out)?;
     write_list(alloc, &c.interfaces, out)?;

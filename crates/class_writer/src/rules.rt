@@ -4,7 +4,7 @@ ghost use Rattle.std.specs.Prelude.{◌≡◌};
 ghost use Rattle.std.specs.List.{list_all};
 ghost use Rattle.jvm_types.specs.ReadingPool.{names};
 ghost use Rattle.jvm_types.specs.declared.index_kind.IndexKind.TheVariants.{Class};
-ghost use Rattle.class_writer.specs.Testing.{is_attr, is_handler, is_code, is_field_attr, is_method_attr, has_names, is_field, is_code_attr, has_body, is_method, has_version, has_classes, has_members, keeps_rules};
+ghost use Rattle.class_writer.specs.Testing.{is_attr, is_handler, is_pool_code, is_field_attr, is_method_attr, has_names, is_field, is_code_attr, has_body, is_method, has_version, has_classes, has_members, keeps_rules};
 
 use crate::pool_rules::is_pool;
 use constant_pools::index_kinds::{is_named, names};
@@ -37,7 +37,7 @@ fn are_handlers(pool: &Rows<Constant>, items: &Rows<Handler>) -> bool
 }
 
 fn is_code(pool: &Rows<Constant>, code: &Code) -> bool
-    ensures { result ≡ is_code pool.now code.now }
+    ensures { result ≡ is_pool_code pool.now code.now }
 {
     is_named(pool, code.name, b"Code")
         && are_handlers(pool, &code.rows)

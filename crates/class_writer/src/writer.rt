@@ -3,7 +3,7 @@
 ghost use Rattle.std.specs.Prelude.{◌≡◌, Decides};
 ghost use Rattle.jvm_types.specs.Spelling.{class_file};
 ghost use Rattle.jvm_types.specs.ClassGrammar.{IsClass};
-ghost use Rattle.class_writer.specs.Writing.{IsWritten, Answers};
+ghost use Rattle.class_writer.specs.Writing.{IsClassWritten, Answers};
 
 use crate::error::WriteError;
 use crate::parts::write_parts;
@@ -14,7 +14,7 @@ use std::alloc::Global;
 
 /// Whether a class with this spelling is one of the class grammar.
 fn is_class(bytes: &[u8], c: &ClassFile) -> bool
-    requires written { IsWritten c.now }
+    requires written { IsClassWritten c.now }
     requires spelled { bytes.now ≡ class_file c.now }
     ensures { Decides result (IsClass c.now) }
 {

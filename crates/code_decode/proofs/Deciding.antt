@@ -10,8 +10,8 @@ use Rattle.jvm_types.specs.declared.class_file.Handler.{Handler}
 use Rattle.jvm_types.specs.declared.refusal.KRule.{KRule}
 use Rattle.jvm_types.specs.declared.refusal.KRule.TheVariants.{K5}
 use Rattle.code_decode.specs.declared.sweep.Branching.{Branching}
-use Rattle.code_decode.specs.Decoding.{outline, AreMarks, starts_in}
-use Rattle.code_decode.specs.Marking.{all_marked, unmarked_branch, marked_row, unmarked_row, IsDecoded, IsMemory}
+use Rattle.code_decode.specs.Decoding.{outline, AreMarkedAt, branch_starts}
+use Rattle.code_decode.specs.Marking.{all_marked, unmarked_branch, marked_row, unmarked_row, IsCodeDecoded, IsWantOfMemory}
 use Rattle.code_decode.specs.declared.error.CodeError.{CodeError}
 use Rattle.code_decode.specs.declared.error.CodeError.TheVariants.{Memory, Refused}
 use Rattle.jvm_types.specs.ReadCode.{insns_of}
@@ -19,22 +19,22 @@ use Rattle.jvm_types.proofs.CodeOnce.{once}
 use Rattle.jvm_types.proofs.CodeExact.{read_is_code}
 use Rattle.jvm_types.proofs.CodeLaws.{faultless}
 
-all_same : (marks : List Bool) (starts : List ℕ) (tos : List ℤ) → AreMarks marks starts → all_marked marks tos ≡ all_at starts tos
+all_same : (marks : List Bool) (starts : List ℕ) (tos : List ℤ) → AreMarkedAt marks starts → all_marked marks tos ≡ all_at starts tos
 all_same marks starts [] h = refl
 all_same marks starts (to ∷ tos) h = rw (h (nat_abs to)) (rw (all_same marks starts tos h) refl)
 
-branch_same : (marks : List Bool) (starts : List ℕ) (bs : List Branching) → AreMarks marks starts → unmarked_branch marks bs ≡ branch_fault starts (map outline bs)
+branch_same : (marks : List Bool) (starts : List ℕ) (bs : List Branching) → AreMarkedAt marks starts → unmarked_branch marks bs ≡ branch_fault starts (map outline bs)
 branch_same marks starts [] h = refl
 branch_same marks starts (b ∷ bs) h = rw (all_same marks starts b.targets h) (rw (branch_same marks starts bs h) refl)
 
-row_same : (marks : List Bool) (starts : List ℕ) (size : ℕ) (h : Handler) → AreMarks marks starts → marked_row marks size h ≡ row_fits starts size h
+row_same : (marks : List Bool) (starts : List ℕ) (size : ℕ) (h : Handler) → AreMarkedAt marks starts → marked_row marks size h ≡ row_fits starts size h
 row_same marks starts size h m = rw (m h.start) (rw (m h.end) (rw (m h.handler) refl))
 
-rows_same : (marks : List Bool) (starts : List ℕ) (size number : ℕ) (hs : List Handler) → AreMarks marks starts → unmarked_row marks size number hs ≡ handler_fault starts size number hs
+rows_same : (marks : List Bool) (starts : List ℕ) (size number : ℕ) (hs : List Handler) → AreMarkedAt marks starts → unmarked_row marks size number hs ≡ handler_fault starts size number hs
 rows_same marks starts size number [] m = refl
 rows_same marks starts size number (h ∷ hs) m = rw (row_same marks starts size h m) (rw (rows_same marks starts size (number + 1) hs m) refl)
 
-pcs_same : (bs : List Branching) → map (λ (r : Outline). r.pc) (map outline bs) ≡ starts_in bs
+pcs_same : (bs : List Branching) → map (λ (r : Outline). r.pc) (map outline bs) ≡ branch_starts bs
 pcs_same [] = refl
 pcs_same (b ∷ bs) = ap (λ ns. b.pc ∷ ns) (pcs_same bs)
 
@@ -47,10 +47,10 @@ no_size code rows e = rw e refl
 pub read_fault : (code : List ℕ) (rows : List Handler) (rule : KRule) (at : ℕ) → 0 < length code → length code ≤ 65535 → outlines 0 0 code ≡ Err (rule, at) → code_fault code rows ≡ Some (rule, at)
 read_fault code rows rule at some few e = rw (sized (length code) some few) (rw e refl)
 
-pub by_marks : (code : List ℕ) (rows : List Handler) (marks : List Bool) (bs : List Branching) → 0 < length code → length code ≤ 65535 → outlines 0 0 code ≡ Ok (map outline bs) → AreMarks marks (starts_in bs)
+pub by_marks : (code : List ℕ) (rows : List Handler) (marks : List Bool) (bs : List Branching) → 0 < length code → length code ≤ 65535 → outlines 0 0 code ≡ Ok (map outline bs) → AreMarkedAt marks (branch_starts bs)
     → code_fault code rows ≡ or_else (unmarked_branch marks bs) (unmarked_row marks (length code) 0 rows)
 by_marks code rows marks bs some few e m =
-    rw (sized (length code) some few) (rw e (rw (pcs_same bs) (rw (branch_same marks (starts_in bs) bs m) (rw (rows_same marks (starts_in bs) (length code) 0 rows m) refl))))
+    rw (sized (length code) some few) (rw e (rw (pcs_same bs) (rw (branch_same marks (branch_starts bs) bs m) (rw (rows_same marks (branch_starts bs) (length code) 0 rows m) refl))))
 
 pub are_bytes : (bytes : List ℕ) → ((i : ℕ) → slice_index_or bytes i 0 < 2 ^ 8) → AllByRecursion (λ b. b < 2 ^ 8) bytes
 are_bytes [] h = tt
@@ -63,7 +63,7 @@ pub only_by : (code : List ℕ) (rows : List Handler) (r : Result (List Insn) Co
 only_by code rows (Ok found) h insns k = once code rows rows found insns h k
 only_by code rows (Err e) h insns k = tt
 
-pub spelled_by : (code : List ℕ) (rows : List Handler) (r : Result (List Insn) CodeError) → IsDecoded code rows r → (insns : List Insn) → IsCode code rows insns → IfErr r (λ e. IsMemory e)
+pub spelled_by : (code : List ℕ) (rows : List Handler) (r : Result (List Insn) CodeError) → IsCodeDecoded code rows r → (insns : List Insn) → IsCode code rows insns → IfErr r (λ e. IsWantOfMemory e)
 spelled_by code rows (Ok found) h insns k = tt
 spelled_by code rows (Err Memory) h insns k = tt
 spelled_by code rows (Err (Refused rule at)) h insns k = let f : code_fault code rows ≡ None = faultless code rows insns k in absurd (cc)

@@ -8,7 +8,7 @@ use Rattle.lists.proofs.TestLaws.{or_assoc, or_false}
 use Rattle.jvm_types.specs.Numbers.{has_number}
 use Rattle.jvm_types.specs.CodeTable.{Form, Plain, Byte, Short, SignedByte, SignedShort, Branch, WideBranch, LocalAndStep, IntArray, Table, Lookup, form_of}
 use Rattle.jvm_types.specs.CodeGrammar.{padding_size}
-use Rattle.jvm_types.specs.CodeFault.{Extent, Outline, s4_of, landing, sized, case_offsets, ascend, array_extent, table_of, table_extent, lookup_of, lookup_extent, extent_of, known_extent, followed, outlines}
+use Rattle.jvm_types.specs.CodeFault.{Extent, Outline, s4_of, landing, sized, case_offsets, ascend, array_extent, table_of, table_extent, lookup_of, lookup_extent, extent_of, known_extent, outline_followed, outlines}
 use Rattle.jvm_types.specs.declared.code.Insn.{Insn}
 use Rattle.jvm_types.specs.declared.code.Op.{Op}
 use Rattle.jvm_types.specs.declared.refusal.KRule.{KRule}
@@ -17,7 +17,7 @@ use Rattle.jvm_types.specs.ReadCode.{with_insn, insns_of}
 use Rattle.code_decode.specs.declared.sweep.Sweep.{Sweep}
 use Rattle.code_decode.specs.declared.sweep.Branching.{Branching}
 use Rattle.code_decode.specs.declared.operands.Found.{Found}
-use Rattle.code_decode.specs.Decoding.{Read, extent, IsStep, with_front, outline, AreMarks, starts_in, Swept}
+use Rattle.code_decode.specs.Decoding.{OutlinesRead, extent, IsDecodeStep, with_front, outline, AreMarkedAt, branch_starts, Swept}
 
 -- ---- operands lie inside the code
 
@@ -95,7 +95,7 @@ extent_fits pc (IntArray op) rest e h = array_fits rest e h
 extent_fits pc Table rest e h = table_fits pc (padding_size pc) rest e h
 extent_fits pc Lookup rest e h = lookup_fits pc (padding_size pc) rest e h
 
-pub step_fits : (pc : ℕ) (o : Option Form) (rest : List ℕ) (found : Found) → IsStep pc o rest (Ok found) → found.size ≤ length rest
+pub step_fits : (pc : ℕ) (o : Option Form) (rest : List ℕ) (found : Found) → IsDecodeStep pc o rest (Ok found) → found.size ≤ length rest
 step_fits pc None rest found h = absurd h
 step_fits pc (Some f) rest found h = extent_fits pc f rest (extent found) h.0
 
@@ -133,7 +133,7 @@ map_more f (y ∷ xs) x = ap (λ ys. f y ∷ ys) (map_more f xs x)
 
 -- ---- a step of the sweep
 
-front_more : (front : List Outline) (x : Outline) (read : Read) → with_front front (followed x read) ≡ with_front (front ++ x ∷ []) read
+front_more : (front : List Outline) (x : Outline) (read : OutlinesRead) → with_front front (outline_followed x read) ≡ with_front (front ++ x ∷ []) read
 front_more front x (Ok others) = ap (λ (rs : List Outline). Ok rs) (sym (append_assoc front (x ∷ []) others))
 front_more front x (Err fault) = refl
 
@@ -148,7 +148,7 @@ pub passed : (code : List ℕ) (pc skip : ℕ) (b : ℕ) (s : Sweep) → 0 < ski
 passed code pc skip b s some here h =
     let k : skip ≡ suc (skip - 1) = omega arith in
     record {
-      outlines_read = sym (ap (λ (x : Read). with_front (map outline s.branchings) x) (outlines_skip skip (skip - 1) (drop pc code) k here)) ∙ h.outlines_read;
+      outlines_read = sym (ap (λ (x : OutlinesRead). with_front (map outline s.branchings) x) (outlines_skip skip (skip - 1) (drop pc code) k here)) ∙ h.outlines_read;
       insns_read = sym (ap (λ (x : List Insn). s.insns.items ++ x) (insns_skip skip (skip - 1) (drop pc code) k here)) ∙ h.insns_read;
       marked = λ i. mark_false s.starts i ∙ h.marked i;
       length_is = length_more s.starts false pc h.length_is;
@@ -160,42 +160,42 @@ passed code pc skip b s some here h =
     insns_skip : (skip k : ℕ) (bytes : List ℕ) → skip ≡ suc k → bytes ≡ b ∷ drop (pc + 1) code → insns_of skip pc bytes ≡ insns_of k (pc + 1) (drop (pc + 1) code)
     insns_skip skip k bytes e f = rw e (rw f refl)
 
-known_is : (pc : ℕ) (o : Option Form) (rest : List ℕ) (found : Found) → IsStep pc o rest (Ok found) → known_extent pc o rest ≡ Ok (extent found)
+known_is : (pc : ℕ) (o : Option Form) (rest : List ℕ) (found : Found) → IsDecodeStep pc o rest (Ok found) → known_extent pc o rest ≡ Ok (extent found)
 known_is pc None rest found h = absurd h
 known_is pc (Some f) rest found h = h.0
 
 abbrev insn_at : ℕ → ℕ → Op → Insn
 insn_at pc next op = record { pc = pc; next = next; op = op }
 
-insn_is : (pc : ℕ) (o : Option Form) (rest : List ℕ) (found : Found) (more : ℕ → List Insn) → IsStep pc o rest (Ok found)
+insn_is : (pc : ℕ) (o : Option Form) (rest : List ℕ) (found : Found) (more : ℕ → List Insn) → IsDecodeStep pc o rest (Ok found)
     → with_insn pc o (known_extent pc o rest) rest more ≡ insn_at pc (pc + 1 + found.size) found.op ∷ more found.size
 insn_is pc None rest found more h = absurd h
 insn_is pc (Some f) rest found more h = rw h.0 (ap (λ (op : Op). insn_at pc (pc + 1 + found.size) op ∷ more found.size) (sym h.1))
 
 outlines_step : (pc b : ℕ) (bytes rest : List ℕ) (found : Found) → bytes ≡ b ∷ rest → known_extent pc (form_of b) rest ≡ Ok (extent found)
-    → outlines 0 pc bytes ≡ followed (record { pc = pc; targets = found.targets }) (outlines found.size (pc + 1) rest)
+    → outlines 0 pc bytes ≡ outline_followed (record { pc = pc; targets = found.targets }) (outlines found.size (pc + 1) rest)
 outlines_step pc b bytes rest found e f = rw e (rw f refl)
 
-insns_step : (pc b : ℕ) (bytes rest : List ℕ) (found : Found) → bytes ≡ b ∷ rest → IsStep pc (form_of b) rest (Ok found)
+insns_step : (pc b : ℕ) (bytes rest : List ℕ) (found : Found) → bytes ≡ b ∷ rest → IsDecodeStep pc (form_of b) rest (Ok found)
     → insns_of 0 pc bytes ≡ insn_at pc (pc + 1 + found.size) found.op ∷ insns_of found.size (pc + 1) rest
 insns_step pc b bytes rest found e h = rw e (insn_is pc (form_of b) rest found (λ size. insns_of size (pc + 1) rest) h)
 
-marked_more : (marks : List Bool) (branchings : List Branching) (pc : ℕ) (targets : List ℤ) → length marks ≡ pc → AreMarks marks (starts_in branchings)
-    → AreMarks (marks ++ true ∷ []) (starts_in (branchings ++ record { pc = pc; targets = targets } ∷ []))
+marked_more : (marks : List Bool) (branchings : List Branching) (pc : ℕ) (targets : List ℤ) → length marks ≡ pc → AreMarkedAt marks (branch_starts branchings)
+    → AreMarkedAt (marks ++ true ∷ []) (branch_starts (branchings ++ record { pc = pc; targets = targets } ∷ []))
 marked_more marks branchings pc targets e h i =
-    mark_true marks i ∙ (ap (λ t. t || length marks == i) (h i) ∙ (ap (λ n. has_number (starts_in branchings) i || n == i) e
-    ∙ sym (ap (λ ns. has_number ns i) (map_more (λ (b : Branching). b.pc) branchings (record { pc = pc; targets = targets })) ∙ has_more (starts_in branchings) pc i)))
+    mark_true marks i ∙ (ap (λ t. t || length marks == i) (h i) ∙ (ap (λ n. has_number (branch_starts branchings) i || n == i) e
+    ∙ sym (ap (λ ns. has_number ns i) (map_more (λ (b : Branching). b.pc) branchings (record { pc = pc; targets = targets })) ∙ has_more (branch_starts branchings) pc i)))
 
 pub visited : (code : List ℕ) (pc b : ℕ) (found : Found) (s t : Sweep) → t.insns.items ≡ s.insns.items ++ insn_at pc (pc + 1 + found.size) found.op ∷ []
     → t.branchings ≡ s.branchings ++ record { pc = pc; targets = found.targets } ∷ [] → t.starts ≡ s.starts ++ true ∷ []
-    → drop pc code ≡ b ∷ drop (pc + 1) code → IsStep pc (form_of b) (drop (pc + 1) code) (Ok found) → Swept code pc 0 s → Swept code (pc + 1) found.size t
+    → drop pc code ≡ b ∷ drop (pc + 1) code → IsDecodeStep pc (form_of b) (drop (pc + 1) code) (Ok found) → Swept code pc 0 s → Swept code (pc + 1) found.size t
 visited code pc b found s t insns branchings starts at h so_far =
     let rest : List ℕ = drop (pc + 1) code in
-    let one : outlines 0 pc (drop pc code) ≡ followed (record { pc = pc; targets = found.targets }) (outlines found.size (pc + 1) (drop (pc + 1) code)) = outlines_step pc b (drop pc code) (drop (pc + 1) code) found at (known_is pc (form_of b) (drop (pc + 1) code) found h) in
+    let one : outlines 0 pc (drop pc code) ≡ outline_followed (record { pc = pc; targets = found.targets }) (outlines found.size (pc + 1) (drop (pc + 1) code)) = outlines_step pc b (drop pc code) (drop (pc + 1) code) found at (known_is pc (form_of b) (drop (pc + 1) code) found h) in
     record {
       outlines_read = rw branchings (ap (λ (front : List Outline). with_front front (outlines found.size (pc + 1) (drop (pc + 1) code))) (map_more outline s.branchings (record { pc = pc; targets = found.targets }))
           ∙ (sym (front_more (map outline s.branchings) (record { pc = pc; targets = found.targets }) (outlines found.size (pc + 1) (drop (pc + 1) code)))
-          ∙ (sym (ap (λ (x : Read). with_front (map outline s.branchings) x) one) ∙ so_far.outlines_read)));
+          ∙ (sym (ap (λ (x : OutlinesRead). with_front (map outline s.branchings) x) one) ∙ so_far.outlines_read)));
       insns_read = rw insns (one_more s.insns.items (insn_at pc (pc + 1 + found.size) found.op) (insns_of found.size (pc + 1) (drop (pc + 1) code)) (insns_of 0 0 code)
           (sym (ap (λ (x : List Insn). s.insns.items ++ x) (insns_step pc b (drop pc code) (drop (pc + 1) code) found at h)) ∙ so_far.insns_read));
       marked = rw (branchings, starts) (marked_more s.starts s.branchings pc found.targets so_far.length_is so_far.marked);

@@ -38,10 +38,10 @@ IsSized op size targets (Ok found) = (found.op ≡ op) × (found.size ≡ size) 
 IsSized op size targets (Err Memory) = Unit {0}
 IsSized op size targets (Err (Rule rule)) = ⊥
 
-abbrev pub IsTableOf : ℕ → ℕ → ℤ → ℕ → List ℕ → Result Found Stop → Type 0
-IsTableOf pc pad low n body (Ok found) = (table_of pc pad n body ≡ Ok (extent found)) × (found.op ≡ Tableswitch (nat_abs (landing pc (s4_of body))) low (map nat_abs (offsets pc n (drop 12 body))))
-IsTableOf pc pad low n body (Err Memory) = Unit {0}
-IsTableOf pc pad low n body (Err (Rule rule)) = table_of pc pad n body ≡ Err rule
+abbrev pub IsSwitchTable : ℕ → ℕ → ℤ → ℕ → List ℕ → Result Found Stop → Type 0
+IsSwitchTable pc pad low n body (Ok found) = (table_of pc pad n body ≡ Ok (extent found)) × (found.op ≡ Tableswitch (nat_abs (landing pc (s4_of body))) low (map nat_abs (offsets pc n (drop 12 body))))
+IsSwitchTable pc pad low n body (Err Memory) = Unit {0}
+IsSwitchTable pc pad low n body (Err (Rule rule)) = table_of pc pad n body ≡ Err rule
 
 -- the first pair of a `lookupswitch`
 abbrev pub case_of : ℕ → List ℕ → Case
@@ -58,19 +58,19 @@ IsLookup pc pad body (Err Memory) = Unit {0}
 IsLookup pc pad body (Err (Rule rule)) = lookup_extent pc pad body ≡ Err rule
 
 -- the instruction of an opcode with this form
-abbrev pub IsStep : ℕ → Option Form → List ℕ → Result Found Stop → Type 0
-IsStep pc form rest (Err Memory) = Unit {0}
-IsStep pc form rest (Err (Rule rule)) = known_extent pc form rest ≡ Err rule
-IsStep pc None rest (Ok found) = ⊥
-IsStep pc (Some f) rest (Ok found) = (extent_of pc f rest ≡ Ok (extent found)) × (found.op ≡ op_of pc f rest)
+abbrev pub IsDecodeStep : ℕ → Option Form → List ℕ → Result Found Stop → Type 0
+IsDecodeStep pc form rest (Err Memory) = Unit {0}
+IsDecodeStep pc form rest (Err (Rule rule)) = known_extent pc form rest ≡ Err rule
+IsDecodeStep pc None rest (Ok found) = ⊥
+IsDecodeStep pc (Some f) rest (Ok found) = (extent_of pc f rest ≡ Ok (extent found)) × (found.op ≡ op_of pc f rest)
 
 -- ---- the sweep
 
-abbrev pub Read : Type 0
-Read = Result (List Outline) (KRule × ℕ)
+abbrev pub OutlinesRead : Type 0
+OutlinesRead = Result (List Outline) (KRule × ℕ)
 
 -- what was found before, and what is found behind it
-abbrev pub with_front : List Outline → Read → Read
+abbrev pub with_front : List Outline → OutlinesRead → OutlinesRead
 with_front front (Ok others) = Ok (front ++ others)
 with_front front (Err fault) = Err fault
 
@@ -78,17 +78,17 @@ abbrev pub outline : Branching → Outline
 outline b = record { pc = b.pc; targets = b.targets }
 
 -- a mark at each of these numbers, and at no other
-abbrev pub AreMarks : List Bool → List ℕ → Type 0
-AreMarks marks starts = (i : ℕ) → slice_index_or marks i false ≡ has_number starts i
+abbrev pub AreMarkedAt : List Bool → List ℕ → Type 0
+AreMarkedAt marks starts = (i : ℕ) → slice_index_or marks i false ≡ has_number starts i
 
-abbrev pub starts_in : List Branching → List ℕ
-starts_in branchings = map (λ b. b.pc) branchings
+abbrev pub branch_starts : List Branching → List ℕ
+branch_starts branchings = map (λ b. b.pc) branchings
 
 -- the code was swept up to a pc, from which some bytes still belong to the instruction before
 pub record Swept (code : List ℕ) (pc skip : ℕ) (s : Sweep) : Type 0 where
   pub outlines_read : with_front (map outline s.branchings) (outlines skip pc (drop pc code)) ≡ outlines 0 0 code
   pub insns_read : s.insns.items ++ insns_of skip pc (drop pc code) ≡ insns_of 0 0 code
-  pub marked : AreMarks s.starts (starts_in s.branchings)
+  pub marked : AreMarkedAt s.starts (branch_starts s.branchings)
   pub length_is : length s.starts ≡ pc
 
 -- the code has a fault of the sweep, unless memory ran out
@@ -103,5 +103,5 @@ Advances code pc s (Err e) = IsSweepFault code e
 
 -- the whole code was swept
 abbrev pub IsSwept : List ℕ → Result Sweep CodeError → Type 0
-IsSwept code (Ok s) = (outlines 0 0 code ≡ Ok (map outline s.branchings)) × (s.insns.items ≡ insns_of 0 0 code) × AreMarks s.starts (starts_in s.branchings)
+IsSwept code (Ok s) = (outlines 0 0 code ≡ Ok (map outline s.branchings)) × (s.insns.items ≡ insns_of 0 0 code) × AreMarkedAt s.starts (branch_starts s.branchings)
 IsSwept code (Err e) = IsSweepFault code e

@@ -10,11 +10,11 @@ use Rattle.code_decode.specs.declared.error.CodeError.{CodeError}
 use Rattle.code_decode.specs.declared.error.CodeError.TheVariants as errors
 use Rattle.jvm_types.specs.ReadCode.{insns_of}
 
-abbrev pub mark : List Bool → ℕ → Bool
-mark marks i = slice_index_or marks i false
+abbrev pub has_mark : List Bool → ℕ → Bool
+has_mark marks i = slice_index_or marks i false
 
 abbrev pub mark_at : List Bool → ℤ → Bool
-mark_at marks to = not (int_lt to (pos 0)) && mark marks (nat_abs to)
+mark_at marks to = not (int_lt to (pos 0)) && has_mark marks (nat_abs to)
 
 abbrev pub all_marked : List Bool → List ℤ → Bool
 all_marked marks [] = true
@@ -25,23 +25,23 @@ unmarked_branch marks [] = None
 unmarked_branch marks (b ∷ bs) = if all_marked marks b.targets then unmarked_branch marks bs else Some (K3, b.pc)
 
 abbrev pub marked_row : List Bool → ℕ → Handler → Bool
-marked_row marks size h = nat_lt h.start h.end && mark marks h.start && (mark marks h.end || h.end == size) && mark marks h.handler
+marked_row marks size h = nat_lt h.start h.end && has_mark marks h.start && (has_mark marks h.end || h.end == size) && has_mark marks h.handler
 
 abbrev pub unmarked_row : List Bool → ℕ → ℕ → List Handler → Option (KRule × ℕ)
 unmarked_row marks size number [] = None
 unmarked_row marks size number (h ∷ hs) = if marked_row marks size h then unmarked_row marks size (number + 1) hs else Some (K4, number)
 
 -- memory ran out, or this is the first fault
-abbrev pub IsFirstFault : List ℕ → List Handler → CodeError → Type 0
-IsFirstFault code rows errors.Memory = Unit {0}
-IsFirstFault code rows (errors.Refused rule at) = code_fault code rows ≡ Some (rule, at)
+abbrev pub IsFirstCodeFault : List ℕ → List Handler → CodeError → Type 0
+IsFirstCodeFault code rows errors.Memory = Unit {0}
+IsFirstCodeFault code rows (errors.Refused rule at) = code_fault code rows ≡ Some (rule, at)
 
 -- memory ran out
-abbrev pub IsMemory : CodeError → Type 0
-IsMemory errors.Memory = Unit {0}
-IsMemory (errors.Refused rule at) = ⊥
+abbrev pub IsWantOfMemory : CodeError → Type 0
+IsWantOfMemory errors.Memory = Unit {0}
+IsWantOfMemory (errors.Refused rule at) = ⊥
 
 -- the instructions that are read off the code, or its first fault
-abbrev pub IsDecoded : List ℕ → List Handler → Result (List Insn) CodeError → Type 0
-IsDecoded code rows (Ok insns) = (code_fault code rows ≡ None) × (insns ≡ insns_of 0 0 code)
-IsDecoded code rows (Err e) = IsFirstFault code rows e
+abbrev pub IsCodeDecoded : List ℕ → List Handler → Result (List Insn) CodeError → Type 0
+IsCodeDecoded code rows (Ok insns) = (code_fault code rows ≡ None) × (insns ≡ insns_of 0 0 code)
+IsCodeDecoded code rows (Err e) = IsFirstCodeFault code rows e

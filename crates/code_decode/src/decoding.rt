@@ -5,7 +5,7 @@ ghost use Rattle.std.specs.Result.{result_err};
 ghost use Rattle.jvm_types.specs.CodeFault.{or_else};
 ghost use Rattle.jvm_types.specs.CodeGrammar.{IsCode};
 ghost use Rattle.jvm_types.specs.declared.code.Insn.{Insn as Instruction};
-ghost use Rattle.code_decode.specs.Marking.{IsDecoded, IsFirstFault, IsMemory, unmarked_branch, unmarked_row};
+ghost use Rattle.code_decode.specs.Marking.{IsCodeDecoded, IsFirstCodeFault, IsWantOfMemory, unmarked_branch, unmarked_row};
 
 use crate::error::{CodeError, Fault};
 use crate::marks::{check_branches, check_handlers};
@@ -26,7 +26,7 @@ fn check_places(swept: &Sweep, size: usize, rows: &[Handler]) -> Result<(), Faul
 
 fn decode_slice(alloc: Global, code: &[u8], rows: &[Handler]) -> Result<Rows<Insn>, CodeError>
     requires { length rows.now ≤ MOST_COUNTED }
-    ensures is { IsDecoded code.now rows.now result }
+    ensures is { IsCodeDecoded code.now rows.now result }
     ensures code { IfOk result (λ insns. IsCode code.now rows.now insns) }
 {
     let size = code.len();
@@ -47,8 +47,8 @@ pub fn decode(alloc: Global, code: &Bytes, rows: &Rows<Handler>) -> Result<Rows<
     requires { length rows.now ≤ MOST_COUNTED }
     ensures ok { IfOk result (λ insns. IsCode code.now rows.now insns) }
     ensures only { (insns : List Instruction) → IsCode code.now rows.now insns → IfOk result (λ found. found ≡ insns) }
-    ensures spelled { (insns : List Instruction) → IsCode code.now rows.now insns → IfErr result (λ e. IsMemory e) }
-    ensures refused { IfErr result (λ e. IsFirstFault code.now rows.now e) }
+    ensures spelled { (insns : List Instruction) → IsCode code.now rows.now insns → IfErr result (λ e. IsWantOfMemory e) }
+    ensures refused { IfErr result (λ e. IsFirstCodeFault code.now rows.now e) }
 {
     decode_slice(alloc, code.as_slice(), rows.as_slice())
 }

@@ -2,7 +2,7 @@
 
 ghost use Rattle.std.specs.Prelude.{◌≡◌, ◌≤◌, length};
 ghost use Rattle.std.specs.Result.{result_err};
-ghost use Rattle.code_decode.specs.Marking.{mark, mark_at, all_marked, unmarked_branch, marked_row, unmarked_row};
+ghost use Rattle.code_decode.specs.Marking.{has_mark, mark_at, all_marked, unmarked_branch, marked_row, unmarked_row};
 
 use crate::error::Fault;
 use crate::sweep::Branching;
@@ -10,7 +10,7 @@ use jvm_types::limits::MOST_COUNTED;
 use jvm_types::{Handler, KRule};
 
 fn mark(marks: &[bool], pc: usize) -> bool
-    ensures { result ≡ mark marks.now pc }
+    ensures { result ≡ has_mark marks.now pc }
 {
     match marks.get(pc) {
         Some(mark) => *mark,

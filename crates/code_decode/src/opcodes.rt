@@ -3,7 +3,7 @@
 ghost use Rattle.std.specs.Prelude.{◌≡◌, ◌≤◌};
 ghost use Rattle.jvm_types.specs.CodeTable.{form_of, first_row, constants, loads, stores, stack_moves, arithmetic, control, references, Branch as NearBranch, LocalAndStep, IntArray};
 ghost use Rattle.jvm_types.specs.CodeGrammar.{padding_size};
-ghost use Rattle.code_decode.specs.Decoding.{IsStep};
+ghost use Rattle.code_decode.specs.Decoding.{IsDecodeStep};
 
 use crate::numbers::{behind, landing, pc_of, read_s2, read_s4, read_u1, read_u2};
 use crate::operands::{Found, Stop, branch, plain, sized};
@@ -20,7 +20,7 @@ fn unknown() -> Result<Found, Stop>
 
 /// 0x00 to 0x13: a constant is pushed.
 fn constants(alloc: Global, opcode: u8, pc: u16, rest: &[u8]) -> Result<Found, Stop>
-    ensures { IsStep pc (first_row (constants opcode)) rest.now result }
+    ensures { IsDecodeStep pc (first_row (constants opcode)) rest.now result }
 {
     match opcode {
         0x00 => plain(alloc, Op::Nop),
@@ -40,7 +40,7 @@ fn constants(alloc: Global, opcode: u8, pc: u16, rest: &[u8]) -> Result<Found, S
 
 /// 0x15 to 0x2e: a local or an element is pushed.
 fn loads(alloc: Global, opcode: u8, pc: u16, rest: &[u8]) -> Result<Found, Stop>
-    ensures { IsStep pc (first_row (loads opcode)) rest.now result }
+    ensures { IsDecodeStep pc (first_row (loads opcode)) rest.now result }
 {
     match opcode {
         0x15 => sized(alloc, Op::Iload(u16::from(read_u1(rest)?)), 1),
@@ -54,7 +54,7 @@ fn loads(alloc: Global, opcode: u8, pc: u16, rest: &[u8]) -> Result<Found, Stop>
 
 /// 0x36 to 0x4f: a local or an element is written.
 fn stores(alloc: Global, opcode: u8, pc: u16, rest: &[u8]) -> Result<Found, Stop>
-    ensures { IsStep pc (first_row (stores opcode)) rest.now result }
+    ensures { IsDecodeStep pc (first_row (stores opcode)) rest.now result }
 {
     match opcode {
         0x36 => sized(alloc, Op::Istore(u16::from(read_u1(rest)?)), 1),
@@ -68,7 +68,7 @@ fn stores(alloc: Global, opcode: u8, pc: u16, rest: &[u8]) -> Result<Found, Stop
 
 /// 0x57 to 0x5f: the stack alone.
 fn stack_moves(alloc: Global, opcode: u8, pc: u16, rest: &[u8]) -> Result<Found, Stop>
-    ensures { IsStep pc (first_row (stack_moves opcode)) rest.now result }
+    ensures { IsDecodeStep pc (first_row (stack_moves opcode)) rest.now result }
 {
     match opcode {
         0x57 => plain(alloc, Op::Pop),
@@ -84,7 +84,7 @@ fn stack_moves(alloc: Global, opcode: u8, pc: u16, rest: &[u8]) -> Result<Found,
 
 /// 0x84: `iinc`.
 fn iinc(alloc: Global, pc: u16, rest: &[u8]) -> Result<Found, Stop>
-    ensures { IsStep pc (Some (LocalAndStep Op.Iinc)) rest.now result }
+    ensures { IsDecodeStep pc (Some (LocalAndStep Op.Iinc)) rest.now result }
 {
     match rest {
         [local, step, ..] => {
@@ -97,7 +97,7 @@ fn iinc(alloc: Global, pc: u16, rest: &[u8]) -> Result<Found, Stop>
 
 /// 0x60 to 0x93: arithmetic on ints, and conversions of an int.
 fn arithmetic(alloc: Global, opcode: u8, pc: u16, rest: &[u8]) -> Result<Found, Stop>
-    ensures { IsStep pc (first_row (arithmetic opcode)) rest.now result }
+    ensures { IsDecodeStep pc (first_row (arithmetic opcode)) rest.now result }
 {
     match opcode {
         0x60 => plain(alloc, Op::Iadd),
@@ -122,7 +122,7 @@ fn arithmetic(alloc: Global, opcode: u8, pc: u16, rest: &[u8]) -> Result<Found, 
 
 /// 0x99 to 0xb1: branches, switches and returns.
 fn control(alloc: Global, opcode: u8, pc: u16, rest: &[u8]) -> Result<Found, Stop>
-    ensures { IsStep pc (first_row (control opcode)) rest.now result }
+    ensures { IsDecodeStep pc (first_row (control opcode)) rest.now result }
 {
     match opcode {
         0x99 => test(alloc, Cmp::Eq, pc, rest),
@@ -160,7 +160,7 @@ fn control(alloc: Global, opcode: u8, pc: u16, rest: &[u8]) -> Result<Found, Sto
 
 /// An int on the stack against 0.
 fn test(alloc: Global, cmp: Cmp, pc: u16, rest: &[u8]) -> Result<Found, Stop>
-    ensures { IsStep pc (Some (NearBranch (Op.If cmp))) rest.now result }
+    ensures { IsDecodeStep pc (Some (NearBranch (Op.If cmp))) rest.now result }
 {
     let way = i32::from(read_s2(rest)?);
     branch(alloc, Op::If(cmp, pc_of(pc, way)), 2, landing(pc, way))
@@ -168,7 +168,7 @@ fn test(alloc: Global, cmp: Cmp, pc: u16, rest: &[u8]) -> Result<Found, Stop>
 
 /// Two ints on the stack.
 fn compare(alloc: Global, cmp: Cmp, pc: u16, rest: &[u8]) -> Result<Found, Stop>
-    ensures { IsStep pc (Some (NearBranch (Op.IfIcmp cmp))) rest.now result }
+    ensures { IsDecodeStep pc (Some (NearBranch (Op.IfIcmp cmp))) rest.now result }
 {
     let way = i32::from(read_s2(rest)?);
     branch(alloc, Op::IfIcmp(cmp, pc_of(pc, way)), 2, landing(pc, way))
@@ -184,7 +184,7 @@ fn padding_size(pc: u16) -> usize
 
 /// 0xbc: `newarray`, whose type has to be int.
 fn newarray(alloc: Global, pc: u16, rest: &[u8]) -> Result<Found, Stop>
-    ensures { IsStep pc (Some (IntArray Op.Newarray)) rest.now result }
+    ensures { IsDecodeStep pc (Some (IntArray Op.Newarray)) rest.now result }
 {
     if read_u1(rest)? == 10 {
         sized(alloc, Op::Newarray, 1)
@@ -195,7 +195,7 @@ fn newarray(alloc: Global, pc: u16, rest: &[u8]) -> Result<Found, Stop>
 
 /// 0xb2 to 0xc8: fields, methods, objects and monitors, and the extended branches.
 fn references(alloc: Global, opcode: u8, pc: u16, rest: &[u8]) -> Result<Found, Stop>
-    ensures { IsStep pc (first_row (references opcode)) rest.now result }
+    ensures { IsDecodeStep pc (first_row (references opcode)) rest.now result }
 {
     match opcode {
         0xb2 => sized(alloc, Op::Getstatic(read_u2(rest)?), 2),
@@ -229,7 +229,7 @@ fn references(alloc: Global, opcode: u8, pc: u16, rest: &[u8]) -> Result<Found, 
 
 /// The instruction at a pc, by its opcode and the bytes behind it.
 pub fn step(alloc: Global, opcode: u8, pc: u16, rest: &[u8]) -> Result<Found, Stop>
-    ensures { IsStep pc (form_of opcode) rest.now result }
+    ensures { IsDecodeStep pc (form_of opcode) rest.now result }
 {
     if opcode < 0x15 {
         constants(alloc, opcode, pc, rest)

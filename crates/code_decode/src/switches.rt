@@ -3,7 +3,7 @@
 ghost use Rattle.std.specs.Prelude.{◌≡◌, ◌≤◌, ◌≤ℤ◌, ◌-ℤ◌, ◌+ℤ◌, ◌^◌, ◌+◌, ◌*◌, [], ◌∷◌, ◌++◌, pos, map, drop, nat_abs, int_lt, length, IfOk, OnOk};
 ghost use Rattle.jvm_types.specs.CodeFault.{s4_of, landing, offsets, case_offsets, ascend};
 ghost use Rattle.jvm_types.specs.ReadCode.{cases_of};
-ghost use Rattle.code_decode.specs.Decoding.{IsTable, IsTableOf, IsLookup, case_of};
+ghost use Rattle.code_decode.specs.Decoding.{IsTable, IsSwitchTable, IsLookup, case_of};
 
 use crate::numbers::{behind, landing, pc_of, s4_of};
 use crate::operands::{Found, Stop};
@@ -96,7 +96,7 @@ fn table_of(
     requires pad { pad ≤ 3 }
     requires count { count ≤ 2 ^ 32 }
     requires room { 12 ≤ length body.now }
-    ensures { IsTableOf pc pad low count body.now result }
+    ensures { IsSwitchTable pc pad low count body.now result }
 {
     if body.len() < 12 + 4 * count {
         return Err(Stop::Rule(KRule::K2));

@@ -7,6 +7,6 @@ abbrev pub class_named : Option Target → Option ℕ
 class_named (Some (Class class)) = Some class
 class_named target = None
 
-abbrev pub class_at : List Target → Option ℕ → Option ℕ
-class_at targets None = None
-class_at targets (Some i) = class_named (slice_get targets i)
+abbrev pub class_at_target : List Target → Option ℕ → Option ℕ
+class_at_target targets None = None
+class_at_target targets (Some i) = class_named (slice_get targets i)

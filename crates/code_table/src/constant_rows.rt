@@ -2,7 +2,7 @@
 
 ghost use Rattle.std.specs.Prelude.{◌≡◌, ◌∷◌, [], map, reverse, Some, None, IfOk};
 ghost use Rattle.std.specs.Option.{option_copied};
-ghost use Rattle.jvm_types.specs.CodeTable.{stack_row, type_of, want_of, arguments, result_of, is_init, no_row, get_static_row, get_row, put_row, put_static_row, virtual_row, special_row, static_row, returned, constant_row};
+ghost use Rattle.jvm_types.specs.CodeTable.{stack_row, type_of, want_of, arguments, result_of, is_init, no_row, get_static_row, get_row, put_row, put_static_row, virtual_row, special_row, static_row, returned_want, constant_row};
 ghost use Rattle.jvm_types.specs.declared.op_row.Given.TheVariants.{Fresh};
 ghost use Rattle.jvm_types.specs.declared.program.Target.TheVariants as targets;
 
@@ -155,7 +155,7 @@ fn static_row(alloc: Global, called: Option<&MethodInfo>) -> Result<OpRow, Alloc
 
 /// `areturn` asks for the class of the descriptor, where that names one.
 pub fn returned(result_kind: Option<Kind>) -> Want
-    ensures { result ≡ returned result_kind }
+    ensures { result ≡ returned_want result_kind }
 {
     match result_kind {
         Some(Kind::Ref(class)) => Want::AnObject(class),

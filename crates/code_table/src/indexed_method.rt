@@ -3,7 +3,7 @@
 ghost use Rattle.std.specs.Prelude.{◌≡◌, IfOk};
 ghost use Rattle.jvm_types.specs.Verifying.{new_class, IsLaidOut};
 ghost use Rattle.code_table.specs.PcTables.{number_at, Ascend};
-ghost use Rattle.code_table.specs.NewClasses.{class_at};
+ghost use Rattle.code_table.specs.NewClasses.{class_at_target};
 
 use crate::pc_table::PcTable;
 use jvm_types::{MethodInfo, Target};
@@ -31,7 +31,7 @@ impl<'a> Model for IndexedMethod<'a> {
 
 /// The class that the target of this number names.
 fn class_at(targets: &[Target], number: Option<usize>) -> Option<u16>
-    ensures { result ≡ class_at targets.now number }
+    ensures { result ≡ class_at_target targets.now number }
 {
     match targets.get(number?) {
         Some(Target::Class(class)) => Some(*class),

@@ -14,7 +14,7 @@ use Rattle.code_visits.specs.declared.stop.Stop.{Stop}
 use Rattle.code_visits.specs.declared.stop.Stop.TheVariants as stops
 use Rattle.code_verifier.specs.declared.error.VerifyError.{VerifyError}
 use Rattle.code_verifier.specs.declared.error.VerifyError.TheVariants.{Memory, Refused}
-use Rattle.code_verifier.specs.Visiting.{error_of, IsRefusal}
+use Rattle.code_verifier.specs.Visiting.{verify_error_of, IsRefusal}
 use Rattle.code_visits.specs.TypePlan.{type_plan}
 use Rattle.code_visits.proofs.TypeVisits.{is_refused}
 
@@ -29,6 +29,6 @@ pub typed_by : (p : Program) (m : MethodInfo) (result : Result Typing VerifyErro
 typed_by p m result refused t is = IfErr-weaker result (IsRefusal p m) (λ e. e ≡ Memory) (λ e h. not_refused p m t e is h) refused
 
 -- why its visits stopped is why it is refused
-pub refused_so : (p : Program) (m : MethodInfo) (stop : Stop VRule) → IsStopped (type_plan p m) stop → IsRefusal p m (error_of stop)
+pub refused_so : (p : Program) (m : MethodInfo) (stop : Stop VRule) → IsStopped (type_plan p m) stop → IsRefusal p m (verify_error_of stop)
 refused_so p m stops.Memory h = tt
 refused_so p m (stops.Refused rule pc) h = is_refused p m rule pc h

@@ -9,15 +9,15 @@ use Rattle.jvm_types.specs.declared.typing.VType.{VType}
 use Rattle.jvm_types.specs.declared.typing.VType.TheVariants.{Ref}
 use Rattle.laws_programs.proofs.LocalRisen.{same_frames}
 use Rattle.code_table.specs.PcTables.{number_at, Ascend}
-use Rattle.checked_program.specs.Visits.{Node, brought, clashes_with, clash, unless_clash}
-use Rattle.code_visits.specs.Waiting.{node_at}
+use Rattle.checked_program.specs.Visits.{PlanNode, edge_brought, clashes_with, meeting_clash, unless_meeting_clash}
+use Rattle.code_visits.specs.Waiting.{plan_node_at}
 use Rattle.code_visits.specs.Analyses.{clash_place}
 use Rattle.code_visits.proofs.BroughtLaws.{at_place, brought_at}
 use Rattle.code_visits.proofs.ClashLaws.{clash_at}
 use Rattle.code_visits.proofs.StayLaws.{stays_there}
-use Rattle.code_visits.specs.TypePlan.{type_meeting, goes}
-use Rattle.code_visits.specs.TypePlan.{local_count}
-use Rattle.code_verifier.specs.Visiting.{HasLocals, HaveLocals, does, with_object}
+use Rattle.code_visits.specs.TypePlan.{type_meeting, goes_typed}
+use Rattle.code_visits.specs.TypePlan.{type_local_count}
+use Rattle.code_verifier.specs.Visiting.{HasLocals, HaveLocals, type_acts_done, with_object_stack}
 use Rattle.code_verifier.proofs.FrameLaws.{frames_told}
 use Rattle.code_visits.proofs.TypeVisits.{not_other, types_meet}
 
@@ -69,26 +69,26 @@ one_pair ts t u e s = ap (λ xs. all_pairs same_type xs (meets xs (u ∷ []))) e
 
 pub frame_stays : (frame f : TypeFrame) (class : ℕ) (first : List VType) (t : VType) → length frame.locals ≡ length f.locals → filled (length frame.locals) first ≡ frame.locals
     → length frame.stack ≡ 1 → slice_get frame.stack 0 ≡ Some t → same_type t (meet t (Ref class)) ≡ true → all_pairs same_type first (meets first f.locals) ≡ true → (frame.ready && not f.ready) ≡ false
-    → same_frame frame (meet_frames frame (with_object class f)) ≡ true
+    → same_frame frame (meet_frames frame (with_object_stack class f)) ≡ true
 frame_stays frame f class first t long fill deep top one all ready =
     by_told (all_pairs same_type frame.stack (meets frame.stack (Ref class ∷ []))) (all_pairs same_type first (meets first f.locals)) frame.ready f.ready
-    (same_frame frame (meet_frames frame (with_object class f)))
-    (frames_told frame (with_object class f) first (not (all_pairs same_type frame.stack (meets frame.stack (Ref class ∷ [])))) (not (all_pairs same_type first (meets first f.locals))) frame.ready f.ready long fill refl refl refl refl)
+    (same_frame frame (meet_frames frame (with_object_stack class f)))
+    (frames_told frame (with_object_stack class f) first (not (all_pairs same_type frame.stack (meets frame.stack (Ref class ∷ [])))) (not (all_pairs same_type first (meets first f.locals))) frame.ready f.ready long fill refl refl refl refl)
     (one_pair frame.stack t (Ref class) (one_type frame.stack t deep top) one) all ready
 
 -- ---- an edge that adds nothing
 
 -- of an instruction whose frame has one value on its stack and stays as it is
-pub adds_none : (m : MethodInfo) (to i : ℕ) (g f : TypeFrame) (nodes : List (Node TypeFrame)) → Ascend 0 m.code → HaveLocals m nodes → number_at m.code to ≡ Some i → Some g ≡ (node_at nodes i).frame
-    → length f.stack ≡ 1 → length g.stack ≡ 1 → same_frame g (meet_frames g f) ≡ true → does m (goes (to ∷ []) f ∷ []) nodes ≡ Ok nodes
+pub adds_none : (m : MethodInfo) (to i : ℕ) (g f : TypeFrame) (nodes : List (PlanNode TypeFrame)) → Ascend 0 m.code → HaveLocals m nodes → number_at m.code to ≡ Some i → Some g ≡ (plan_node_at nodes i).frame
+    → length f.stack ≡ 1 → length g.stack ≡ 1 → same_frame g (meet_frames g f) ≡ true → type_acts_done m (goes_typed (to ∷ []) f ∷ []) nodes ≡ Ok nodes
 adds_none m to i g f nodes a level place there one deep same =
-    let apart : clashes_with type_meeting (node_at nodes i).frame f ≡ false = ap (λ o. clashes_with type_meeting o f) (sym there) ∙ not_other (length g.stack) (length f.stack) (deep ∙ sym one) in
-    let clear : clash type_meeting m.code (to ∷ []) f nodes ≡ None =
+    let apart : clashes_with type_meeting (plan_node_at nodes i).frame f ≡ false = ap (λ o. clashes_with type_meeting o f) (sym there) ∙ not_other (length g.stack) (length f.stack) (deep ∙ sym one) in
+    let clear : meeting_clash type_meeting m.code (to ∷ []) f nodes ≡ None =
     clash_at type_meeting 0 m.code to f nodes a ∙ ap (λ o. clash_place type_meeting o to f nodes) place ∙ ap (λ (b : Bool). if b then Some to else None) apart in
-    let stays : brought type_meeting m.code to f nodes ≡ nodes =
+    let stays : edge_brought type_meeting m.code to f nodes ≡ nodes =
     brought_at type_meeting m.code to f nodes level.long ∙ ap (λ o. at_place type_meeting o f nodes) place
-    ∙ stays_there type_meeting local_count nodes i g f types_meet there (sym (same_frames g (meet_frames g f) same)) in
-    ap (λ (o : Option ℕ). unless_clash V5 o (Ok (brought type_meeting m.code to f nodes))) clear ∙ ap Ok stays
+    ∙ stays_there type_meeting type_local_count nodes i g f types_meet there (sym (same_frames g (meet_frames g f) same)) in
+    ap (λ (o : Option ℕ). unless_meeting_clash V5 o (Ok (edge_brought type_meeting m.code to f nodes))) clear ∙ ap Ok stays
 
-pub as_wide : (m : MethodInfo) (f : TypeFrame) (o : Option TypeFrame) (g : TypeFrame) → HasLocals m f → IfSome o (HasLocals m) → Some g ≡ o → local_count g ≡ local_count f
+pub as_wide : (m : MethodInfo) (f : TypeFrame) (o : Option TypeFrame) (g : TypeFrame) → HasLocals m f → IfSome o (HasLocals m) → Some g ≡ o → type_local_count g ≡ type_local_count f
 as_wide m f o g h k e = subst (λ (x : Option TypeFrame). IfSome x (HasLocals m)) (sym e) k ∙ sym h

@@ -4,7 +4,7 @@ use Rattle.std.specs.Prelude.{slice_get}
 use Rattle.std.specs.Option.{IfSome}
 use Rattle.std.proofs.lemmas.List.{length-map, length-set}
 use Rattle.jvm_types.specs.CodeTable.{row, locals_after}
-use Rattle.jvm_types.specs.Types.{TypeFrame, entry_frame}
+use Rattle.jvm_types.specs.Types.{TypeFrame, entry_type_frame}
 use Rattle.jvm_types.specs.Verifying.{started, after_start, frame_after, mistypes, broken_before, broken_after, catch_fault, covering, edges, takes_too_many, gives_too_many, lacks_locals, misuses_object}
 use Rattle.jvm_types.specs.declared.code.Insn.{Insn}
 use Rattle.jvm_types.specs.declared.op_row.Given.{Given}
@@ -18,17 +18,17 @@ use Rattle.jvm_types.specs.declared.refusal.VRule.TheVariants.{V1, V2, V3, V4, V
 use Rattle.jvm_types.specs.declared.typing.VType.{VType}
 use Rattle.jvm_types.specs.declared.typing.VType.TheVariants.{Top}
 use Rattle.laws_programs.proofs.FrameBounds.{unbroken}
-use Rattle.checked_program.specs.Visits.{Node, acts_on}
-use Rattle.code_visits.specs.Waiting.{node_at}
+use Rattle.checked_program.specs.Visits.{PlanNode, acts_on}
+use Rattle.code_visits.specs.Waiting.{plan_node_at}
 use Rattle.code_visits.specs.Level.{AreLevel}
 use Rattle.code_visits.specs.Analyses.{Leaves}
 use Rattle.code_visits.specs.declared.stop.Stop.{Stop}
 use Rattle.code_visits.specs.declared.stop.Stop.TheVariants as stops
 use Rattle.code_visits.proofs.ActLaws.{then_acted, leaves_first}
 use Rattle.code_visits.proofs.ClashLaws.{wide_at}
-use Rattle.code_visits.specs.TypePlan.{type_meeting, goes, caught_acts, handled_acts, later_acts, gone_acts, type_acts, type_plan}
-use Rattle.code_visits.specs.TypePlan.{local_count}
-use Rattle.code_verifier.specs.Visiting.{HasLocals, HaveLocals, Keeps, IsPrepared, Prepares, does}
+use Rattle.code_visits.specs.TypePlan.{type_meeting, goes_typed, caught_acts, handled_acts, later_acts, gone_acts, type_acts, type_plan}
+use Rattle.code_visits.specs.TypePlan.{type_local_count}
+use Rattle.code_verifier.specs.Visiting.{HasLocals, HaveLocals, KeptTypeFrame, IsPrepared, Prepares, type_acts_done}
 
 -- ---- before the edges
 
@@ -56,81 +56,81 @@ after_length m r f = started_length (started m.class r.takes f.stack) _ ∙ writ
 pub after_wide : (m : MethodInfo) (insn : Insn) (r : OpRow) (f after : TypeFrame) (kept : Option TypeFrame) → IsPrepared m insn r f after kept → HasLocals m f → HasLocals m after
 after_wide m insn r f after kept p h = ap (λ (s : TypeFrame). length s.locals) p.after_is ∙ after_length m r f ∙ h
 
-pub kept_wide : (m : MethodInfo) (pc : ℕ) (f : TypeFrame) (kept : Option TypeFrame) → Keeps m pc f kept → HasLocals m f → IfSome kept (HasLocals m)
+pub kept_wide : (m : MethodInfo) (pc : ℕ) (f : TypeFrame) (kept : Option TypeFrame) → KeptTypeFrame m pc f kept → HasLocals m f → IfSome kept (HasLocals m)
 kept_wide m pc f None k h = tt
 kept_wide m pc f (Some g) k h = ap (λ (s : TypeFrame). length s.locals) k ∙ h
 
-pub found_wide : (m : MethodInfo) (nodes : List (Node TypeFrame)) (i : ℕ) (f : TypeFrame) → HaveLocals m nodes → Some f ≡ (node_at nodes i).frame → HasLocals m f
-found_wide m nodes i f level e = subst (λ (o : Option TypeFrame). IfSome o (HasLocals m)) (sym e) (wide_at local_count (local_count (entry_frame m)) nodes i level.wide)
+pub found_wide : (m : MethodInfo) (nodes : List (PlanNode TypeFrame)) (i : ℕ) (f : TypeFrame) → HaveLocals m nodes → Some f ≡ (plan_node_at nodes i).frame → HasLocals m f
+found_wide m nodes i f level e = subst (λ (o : Option TypeFrame). IfSome o (HasLocals m)) (sym e) (wide_at type_local_count (type_local_count (entry_type_frame m)) nodes i level.wide)
 
-pub level_for : (m : MethodInfo) (nodes : List (Node TypeFrame)) (f : TypeFrame) → HasLocals m f → HaveLocals m nodes → AreLevel local_count (local_count f) m.code nodes
-level_for m nodes f k level = subst (λ (n : ℕ). AreLevel local_count n m.code nodes) (sym k) level
+pub level_for : (m : MethodInfo) (nodes : List (PlanNode TypeFrame)) (f : TypeFrame) → HasLocals m f → HaveLocals m nodes → AreLevel type_local_count (type_local_count f) m.code nodes
+level_for m nodes f k level = subst (λ (n : ℕ). AreLevel type_local_count n m.code nodes) (sym k) level
 
-pub level_from : (m : MethodInfo) (nodes : List (Node TypeFrame)) (f : TypeFrame) → HasLocals m f → AreLevel local_count (local_count f) m.code nodes → HaveLocals m nodes
-level_from m nodes f k level = subst (λ (n : ℕ). AreLevel local_count n m.code nodes) k level
+pub level_from : (m : MethodInfo) (nodes : List (PlanNode TypeFrame)) (f : TypeFrame) → HasLocals m f → AreLevel type_local_count (type_local_count f) m.code nodes → HaveLocals m nodes
+level_from m nodes f k level = subst (λ (n : ℕ). AreLevel type_local_count n m.code nodes) k level
 
 -- ---- the parts of a visit
 
-pub gone_first : (m : MethodInfo) (insn : Insn) (f after : TypeFrame) (tos : List ℕ) (nodes mid last : List (Node TypeFrame)) (e : Stop VRule) → tos ≡ edges insn
-    → Leaves {B = Unit {0}} (does m (goes tos after ∷ []) nodes) mid (Err e) → Leaves {B = Unit {0}} (does m (gone_acts m insn f after) nodes) last (Err e)
-gone_first m insn f after tos nodes mid last e t h = leaves_first (Unit {0}) (Unit {0}) type_meeting m.code (goes (edges insn) after ∷ []) (later_acts m insn f) nodes mid last e
-    (subst (λ (l : List ℕ). Leaves {B = Unit {0}} (does m (goes l after ∷ []) nodes) mid (Err e)) t h)
+pub gone_first : (m : MethodInfo) (insn : Insn) (f after : TypeFrame) (tos : List ℕ) (nodes mid last : List (PlanNode TypeFrame)) (e : Stop VRule) → tos ≡ edges insn
+    → Leaves {B = Unit {0}} (type_acts_done m (goes_typed tos after ∷ []) nodes) mid (Err e) → Leaves {B = Unit {0}} (type_acts_done m (gone_acts m insn f after) nodes) last (Err e)
+gone_first m insn f after tos nodes mid last e t h = leaves_first (Unit {0}) (Unit {0}) type_meeting m.code (goes_typed (edges insn) after ∷ []) (later_acts m insn f) nodes mid last e
+    (subst (λ (l : List ℕ). Leaves {B = Unit {0}} (type_acts_done m (goes_typed l after ∷ []) nodes) mid (Err e)) t h)
 
-gone_then : (m : MethodInfo) (insn : Insn) (f after : TypeFrame) (tos : List ℕ) (nodes mid : List (Node TypeFrame)) → tos ≡ edges insn
-    → does m (goes tos after ∷ []) nodes ≡ Ok mid → does m (gone_acts m insn f after) nodes ≡ does m (later_acts m insn f) mid
-gone_then m insn f after tos nodes mid t a = then_acted type_meeting m.code (goes (edges insn) after ∷ []) (later_acts m insn f) nodes mid (ap (λ l. does m (goes l after ∷ []) nodes) (sym t) ∙ a)
+gone_then : (m : MethodInfo) (insn : Insn) (f after : TypeFrame) (tos : List ℕ) (nodes mid : List (PlanNode TypeFrame)) → tos ≡ edges insn
+    → type_acts_done m (goes_typed tos after ∷ []) nodes ≡ Ok mid → type_acts_done m (gone_acts m insn f after) nodes ≡ type_acts_done m (later_acts m insn f) mid
+gone_then m insn f after tos nodes mid t a = then_acted type_meeting m.code (goes_typed (edges insn) after ∷ []) (later_acts m insn f) nodes mid (ap (λ l. type_acts_done m (goes_typed l after ∷ []) nodes) (sym t) ∙ a)
 
-pub gone_broken : (m : MethodInfo) (insn : Insn) (f after : TypeFrame) (tos : List ℕ) (nodes mid : List (Node TypeFrame)) (rule : VRule) → tos ≡ edges insn
-    → does m (goes tos after ∷ []) nodes ≡ Ok mid → broken_after m insn ≡ Some rule → does m (gone_acts m insn f after) nodes ≡ Err (rule, insn.pc)
+pub gone_broken : (m : MethodInfo) (insn : Insn) (f after : TypeFrame) (tos : List ℕ) (nodes mid : List (PlanNode TypeFrame)) (rule : VRule) → tos ≡ edges insn
+    → type_acts_done m (goes_typed tos after ∷ []) nodes ≡ Ok mid → broken_after m insn ≡ Some rule → type_acts_done m (gone_acts m insn f after) nodes ≡ Err (rule, insn.pc)
 gone_broken m insn f after tos nodes mid rule t a e = gone_then m insn f after tos nodes mid t a ∙ rw e refl
 
-pub gone_by : (m : MethodInfo) (insn : Insn) (f after : TypeFrame) (tos : List ℕ) (nodes mid last : List (Node TypeFrame)) (result : Result (Unit {0}) (Stop VRule)) → tos ≡ edges insn
-    → does m (goes tos after ∷ []) nodes ≡ Ok mid → broken_after m insn ≡ None → Leaves (does m (handled_acts m insn.pc f (covering m insn.pc)) mid) last result
-    → Leaves (does m (gone_acts m insn f after) nodes) last result
+pub gone_by : (m : MethodInfo) (insn : Insn) (f after : TypeFrame) (tos : List ℕ) (nodes mid last : List (PlanNode TypeFrame)) (result : Result (Unit {0}) (Stop VRule)) → tos ≡ edges insn
+    → type_acts_done m (goes_typed tos after ∷ []) nodes ≡ Ok mid → broken_after m insn ≡ None → Leaves (type_acts_done m (handled_acts m insn.pc f (covering m insn.pc)) mid) last result
+    → Leaves (type_acts_done m (gone_acts m insn f after) nodes) last result
 gone_by m insn f after tos nodes mid last result t a e h = rw (gone_then m insn f after tos nodes mid t a, e) h
 
-pub unprepared : (m : MethodInfo) (insn : Insn) (r : OpRow) (f : TypeFrame) (e : Stop VRule) (nodes last : List (Node TypeFrame)) → Prepares m insn r f (Err e) → Leaves {B = Unit {0}} (does m (type_acts m insn r f) nodes) last (Err e)
+pub unprepared : (m : MethodInfo) (insn : Insn) (r : OpRow) (f : TypeFrame) (e : Stop VRule) (nodes last : List (PlanNode TypeFrame)) → Prepares m insn r f (Err e) → Leaves {B = Unit {0}} (type_acts_done m (type_acts m insn r f) nodes) last (Err e)
 unprepared m insn r f stops.Memory nodes last p = tt
 unprepared m insn r f (stops.Refused rule pc) nodes last p = rw (p.0, p.1) refl
 
-pub prepared : (m : MethodInfo) (insn : Insn) (r : OpRow) (f after : TypeFrame) (kept : Option TypeFrame) (nodes last : List (Node TypeFrame)) (result : Result (Unit {0}) (Stop VRule))
-    → IsPrepared m insn r f after kept → Leaves (does m (gone_acts m insn f after) nodes) last result → Leaves (does m (type_acts m insn r f) nodes) last result
+pub prepared : (m : MethodInfo) (insn : Insn) (r : OpRow) (f after : TypeFrame) (kept : Option TypeFrame) (nodes last : List (PlanNode TypeFrame)) (result : Result (Unit {0}) (Stop VRule))
+    → IsPrepared m insn r f after kept → Leaves (type_acts_done m (gone_acts m insn f after) nodes) last result → Leaves (type_acts_done m (type_acts m insn r f) nodes) last result
 prepared m insn r f after kept nodes last result p h = rw (p.unbroken, ← p.after_is) h
 
-pub leaves_at : (p : Program) (m : MethodInfo) (i : ℕ) (nodes mid : List (Node TypeFrame)) (result : Result (Unit {0}) (Stop VRule)) (insn : Insn) (target : Target) (f : TypeFrame) (r : OpRow)
-    → slice_get m.code i ≡ Some insn → slice_get m.targets i ≡ Some target → (node_at nodes i).frame ≡ Some f → r ≡ row p m insn.pc target insn.op
-    → Leaves (does m (type_acts m insn r f) nodes) mid result → Leaves (does m (acts_on (type_plan p m) i (node_at nodes i).frame) nodes) mid result
+pub leaves_at : (p : Program) (m : MethodInfo) (i : ℕ) (nodes mid : List (PlanNode TypeFrame)) (result : Result (Unit {0}) (Stop VRule)) (insn : Insn) (target : Target) (f : TypeFrame) (r : OpRow)
+    → slice_get m.code i ≡ Some insn → slice_get m.targets i ≡ Some target → (plan_node_at nodes i).frame ≡ Some f → r ≡ row p m insn.pc target insn.op
+    → Leaves (type_acts_done m (type_acts m insn r f) nodes) mid result → Leaves (type_acts_done m (acts_on (type_plan p m) i (plan_node_at nodes i).frame) nodes) mid result
 leaves_at p m i nodes mid result insn target f r a b d e h = rw (d, a, b, ← e) h
 
-pub unframed : (p : Program) (m : MethodInfo) (i : ℕ) (nodes : List (Node TypeFrame)) → (node_at nodes i).frame ≡ None → does m (acts_on (type_plan p m) i (node_at nodes i).frame) nodes ≡ Ok nodes
+pub unframed : (p : Program) (m : MethodInfo) (i : ℕ) (nodes : List (PlanNode TypeFrame)) → (plan_node_at nodes i).frame ≡ None → type_acts_done m (acts_on (type_plan p m) i (plan_node_at nodes i).frame) nodes ≡ Ok nodes
 unframed p m i nodes e = rw e refl
 
-pub no_insn : (p : Program) (m : MethodInfo) (i : ℕ) (nodes : List (Node TypeFrame)) → slice_get m.code i ≡ None → does m (acts_on (type_plan p m) i (node_at nodes i).frame) nodes ≡ Ok nodes
-no_insn p m i nodes e = by_frame (node_at nodes i).frame
+pub no_insn : (p : Program) (m : MethodInfo) (i : ℕ) (nodes : List (PlanNode TypeFrame)) → slice_get m.code i ≡ None → type_acts_done m (acts_on (type_plan p m) i (plan_node_at nodes i).frame) nodes ≡ Ok nodes
+no_insn p m i nodes e = by_frame (plan_node_at nodes i).frame
   where
-    by_frame : (o : Option TypeFrame) → does m (acts_on (type_plan p m) i o) nodes ≡ Ok nodes
+    by_frame : (o : Option TypeFrame) → type_acts_done m (acts_on (type_plan p m) i o) nodes ≡ Ok nodes
     by_frame None = refl
     by_frame (Some f) = rw e refl
 
-pub no_target : (p : Program) (m : MethodInfo) (i : ℕ) (nodes : List (Node TypeFrame)) → slice_get m.targets i ≡ None → does m (acts_on (type_plan p m) i (node_at nodes i).frame) nodes ≡ Ok nodes
-no_target p m i nodes e = by_frame (node_at nodes i).frame (slice_get m.code i) refl
+pub no_target : (p : Program) (m : MethodInfo) (i : ℕ) (nodes : List (PlanNode TypeFrame)) → slice_get m.targets i ≡ None → type_acts_done m (acts_on (type_plan p m) i (plan_node_at nodes i).frame) nodes ≡ Ok nodes
+no_target p m i nodes e = by_frame (plan_node_at nodes i).frame (slice_get m.code i) refl
   where
-    by_frame : (o : Option TypeFrame) (insn : Option Insn) → slice_get m.code i ≡ insn → does m (acts_on (type_plan p m) i o) nodes ≡ Ok nodes
+    by_frame : (o : Option TypeFrame) (insn : Option Insn) → slice_get m.code i ≡ insn → type_acts_done m (acts_on (type_plan p m) i o) nodes ≡ Ok nodes
     by_frame None insn k = refl
     by_frame (Some f) None k = rw k refl
     by_frame (Some f) (Some insn) k = rw (k, e) refl
 
 -- ---- the handlers, row by row
 
-pub caught_broken : (m : MethodInfo) (pc : ℕ) (f : TypeFrame) (row : Row) (nodes : List (Node TypeFrame)) (fault : VRule × ℕ) → catch_fault m pc row ≡ Some fault → does m (caught_acts m pc f row) nodes ≡ Err (fault.0, fault.1)
+pub caught_broken : (m : MethodInfo) (pc : ℕ) (f : TypeFrame) (row : Row) (nodes : List (PlanNode TypeFrame)) (fault : VRule × ℕ) → catch_fault m pc row ≡ Some fault → type_acts_done m (caught_acts m pc f row) nodes ≡ Err (fault.0, fault.1)
 caught_broken m pc f row nodes fault e = rw e refl
 
-pub row_done : (m : MethodInfo) (pc : ℕ) (f : TypeFrame) (rows rest : List Row) (row : Row) (nodes mid : List (Node TypeFrame)) (whole : Result (List (Node TypeFrame)) (VRule × ℕ)) → rows ≡ row ∷ rest
-    → does m (handled_acts m pc f rows) nodes ≡ whole → does m (caught_acts m pc f row) nodes ≡ Ok mid → does m (handled_acts m pc f rest) mid ≡ whole
+pub row_done : (m : MethodInfo) (pc : ℕ) (f : TypeFrame) (rows rest : List Row) (row : Row) (nodes mid : List (PlanNode TypeFrame)) (whole : Result (List (PlanNode TypeFrame)) (VRule × ℕ)) → rows ≡ row ∷ rest
+    → type_acts_done m (handled_acts m pc f rows) nodes ≡ whole → type_acts_done m (caught_acts m pc f row) nodes ≡ Ok mid → type_acts_done m (handled_acts m pc f rest) mid ≡ whole
 row_done m pc f rows rest row nodes mid whole e inv l =
-    sym (then_acted type_meeting m.code (caught_acts m pc f row) (handled_acts m pc f rest) nodes mid l) ∙ ap (λ rows. does m (handled_acts m pc f rows) nodes) (sym e) ∙ inv
+    sym (then_acted type_meeting m.code (caught_acts m pc f row) (handled_acts m pc f rest) nodes mid l) ∙ ap (λ rows. type_acts_done m (handled_acts m pc f rows) nodes) (sym e) ∙ inv
 
-pub row_stopped : (m : MethodInfo) (pc : ℕ) (f : TypeFrame) (rows rest : List Row) (row : Row) (nodes mid last : List (Node TypeFrame)) (whole : Result (List (Node TypeFrame)) (VRule × ℕ)) (e : Stop VRule) → rows ≡ row ∷ rest
-    → does m (handled_acts m pc f rows) nodes ≡ whole → Leaves {B = Unit {0}} (does m (caught_acts m pc f row) nodes) mid (Err e) → Leaves {B = Unit {0}} whole last (Err e)
-row_stopped m pc f rows rest row nodes mid last whole e k inv h = subst (λ w. Leaves {B = Unit {0}} w last (Err e)) (ap (λ rows. does m (handled_acts m pc f rows) nodes) (sym k) ∙ inv)
+pub row_stopped : (m : MethodInfo) (pc : ℕ) (f : TypeFrame) (rows rest : List Row) (row : Row) (nodes mid last : List (PlanNode TypeFrame)) (whole : Result (List (PlanNode TypeFrame)) (VRule × ℕ)) (e : Stop VRule) → rows ≡ row ∷ rest
+    → type_acts_done m (handled_acts m pc f rows) nodes ≡ whole → Leaves {B = Unit {0}} (type_acts_done m (caught_acts m pc f row) nodes) mid (Err e) → Leaves {B = Unit {0}} whole last (Err e)
+row_stopped m pc f rows rest row nodes mid last whole e k inv h = subst (λ w. Leaves {B = Unit {0}} w last (Err e)) (ap (λ rows. type_acts_done m (handled_acts m pc f rows) nodes) (sym k) ∙ inv)
     (leaves_first (Unit {0}) (Unit {0}) type_meeting m.code (caught_acts m pc f row) (handled_acts m pc f rest) nodes mid last e h)

@@ -21,12 +21,12 @@ impl Frames for Verification {
     type Frame = TypeFrame;
 
     ghost use Rattle.code_visits.specs.TypePlan.{type_meeting};
-    ghost use Rattle.code_visits.specs.TypePlan.{local_count};
+    ghost use Rattle.code_visits.specs.TypePlan.{type_local_count};
     ghost use Rattle.code_visits.proofs.TypeVisits.{types_meet};
 
     ghost meeting = { type_meeting };
 
-    ghost width = { local_count };
+    ghost width = { type_local_count };
 
     ghost lawful = { types_meet };
 
@@ -64,13 +64,13 @@ impl Analysis for Verification {
     const NODE_BYTES: usize = 128;
 
     ghost use Rattle.std.specs.Prelude.{slice_get};
-    ghost use Rattle.jvm_types.specs.Types.{entry_frame};
-    ghost use Rattle.code_visits.specs.TypePlan.{acts_at, TypesKept, types_work};
+    ghost use Rattle.jvm_types.specs.Types.{entry_type_frame};
+    ghost use Rattle.code_visits.specs.TypePlan.{type_acts_at, TypesKept, types_work};
     ghost use Rattle.code_visits.proofs.TypesEnd.{types_end};
 
-    ghost first = { entry_frame };
+    ghost first = { entry_type_frame };
 
-    ghost acts = { λ p m i f. acts_at p m (slice_get m.code i) (slice_get m.targets i) f };
+    ghost acts = { λ p m i f. type_acts_at p m (slice_get m.code i) (slice_get m.targets i) f };
 
     ghost is_kept = { λ p m nodes. TypesKept m nodes };
 

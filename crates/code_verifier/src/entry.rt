@@ -2,7 +2,7 @@
 
 ghost use Rattle.std.specs.Prelude.{◌≡◌, ◌++◌, map, not, IfOk, OnOk};
 ghost use Rattle.jvm_types.specs.CodeTable.{type_of};
-ghost use Rattle.jvm_types.specs.Types.{receiver_types, entry_frame};
+ghost use Rattle.jvm_types.specs.Types.{receiver_types, entry_type_frame};
 
 use code_table::{is_init, type_of};
 use jvm_types::flags::is_static;
@@ -35,7 +35,7 @@ fn push_arguments(types: &mut Rows<VType>, args: &[Kind]) -> Result<(), AllocErr
 
 /// The frame at pc 0. It has more locals than `max_locals` where the arguments do not fit.
 pub fn entry_frame(alloc: Global, m: &MethodInfo) -> Result<TypeFrame, AllocError>
-    ensures { IfOk result (λ f. f ≡ entry_frame m.now) }
+    ensures { IfOk result (λ f. f ≡ entry_type_frame m.now) }
 {
     let mut locals = receiver_types(alloc, m)?;
     push_arguments(&mut locals, m.args.as_slice())?;

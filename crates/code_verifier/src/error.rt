@@ -1,7 +1,7 @@
 //! Why a method was not verified.
 
 ghost use Rattle.std.specs.Prelude.{◌≡◌};
-ghost use Rattle.code_verifier.specs.Visiting.{error_of};
+ghost use Rattle.code_verifier.specs.Visiting.{verify_error_of};
 
 use code_visits::Stop;
 use jvm_types::VRule;
@@ -17,7 +17,7 @@ pub enum VerifyError {
 
 /// Why a method has no typing, by why its visits stopped.
 pub fn error_of(stop: Stop<VRule>) -> VerifyError
-    ensures { result ≡ error_of stop }
+    ensures { result ≡ verify_error_of stop }
 {
     match stop {
         Stop::Memory => VerifyError::Memory,

@@ -3,7 +3,7 @@
 ghost use Rattle.std.specs.Prelude.{◌≡◌, ◌||◌, [], slice_get, IfOk};
 ghost use Rattle.std.specs.List.{list_any};
 ghost use Rattle.jvm_types.specs.Types.{is_uninitialised, is_new};
-ghost use Rattle.code_verifier.specs.Visiting.{with_object};
+ghost use Rattle.code_verifier.specs.Visiting.{with_object_stack};
 
 use crate::type_lists::{some_new, some_uninitialised};
 use jvm_types::{Stack, TypeFrame, VType};
@@ -46,7 +46,7 @@ pub fn without_stack(alloc: Global, f: &TypeFrame) -> Result<TypeFrame, AllocErr
 
 /// A copy with another stack: one object of the class.
 pub fn with_object(alloc: Global, f: &TypeFrame, class: u16) -> Result<TypeFrame, AllocError>
-    ensures { IfOk result (λ g. g ≡ with_object class f.now) }
+    ensures { IfOk result (λ g. g ≡ with_object_stack class f.now) }
 {
     let mut stack = Stack::new(alloc);
     stack.push(VType::Ref(class))?;

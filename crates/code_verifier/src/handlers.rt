@@ -5,8 +5,8 @@ ghost use Rattle.std.specs.Option.{IfSome};
 ghost use Rattle.jvm_types.specs.Types.{TypeFrame};
 ghost use Rattle.jvm_types.specs.Verifying.{caught_class, catch_fault, covering};
 ghost use Rattle.code_visits.specs.Analyses.{Leaves};
-ghost use Rattle.code_visits.specs.TypePlan.{goes, caught_acts, handled_acts};
-ghost use Rattle.code_verifier.specs.Visiting.{HasLocals, HaveLocals, Keeps, does, with_object};
+ghost use Rattle.code_visits.specs.TypePlan.{goes_typed, caught_acts, handled_acts};
+ghost use Rattle.code_verifier.specs.Visiting.{HasLocals, HaveLocals, KeptTypeFrame, type_acts_done, with_object_stack};
 
 use crate::analysis::Verification;
 use crate::frames::{with_object, without_stack};
@@ -52,7 +52,7 @@ fn adds_nothing(
 ) -> bool
     requires level { HaveLocals m.now nodes.now }
     requires locals { HasLocals m.now f.now }
-    ensures { result ≡ true → does m.now (goes (to ∷ []) (with_object class f.now) ∷ []) nodes.now ≡ Ok nodes.now }
+    ensures { result ≡ true → type_acts_done m.now (goes_typed (to ∷ []) (with_object_stack class f.now) ∷ []) nodes.now ≡ Ok nodes.now }
 {
     m.laid_out();
     let Some(i) = m.find(to) else {
@@ -75,7 +75,7 @@ fn catch_row(
 ) -> Result<(), Stop<VRule>>
     requires level { HaveLocals m.now nodes.old }
     requires locals { HasLocals m.now f.now }
-    ensures left { Leaves (does m.now (caught_acts m.now pc f.now row.now) nodes.old) nodes.new result }
+    ensures left { Leaves (type_acts_done m.now (caught_acts m.now pc f.now row.now) nodes.old) nodes.new result }
     ensures level { OnOk result (HaveLocals m.now nodes.new) }
 {
     if let Some((rule, at)) = catch_fault(m.method(), pc, row) {
@@ -100,7 +100,7 @@ fn handle(
 ) -> Result<(), Stop<VRule>>
     requires level { HaveLocals m.now nodes.old }
     requires locals { HasLocals m.now f.now }
-    ensures left { Leaves (does m.now (handled_acts m.now pc f.now (covering m.now pc)) nodes.old) nodes.new result }
+    ensures left { Leaves (type_acts_done m.now (handled_acts m.now pc f.now (covering m.now pc)) nodes.old) nodes.new result }
     ensures level { OnOk result (HaveLocals m.now nodes.new) }
 {
     let mut k = 0;
@@ -118,7 +118,7 @@ pub fn keep_for_handlers(
     pc: u32,
     f: &TypeFrame,
 ) -> Result<Option<TypeFrame>, AllocError>
-    ensures { IfOk result (Keeps m.now pc f.now) }
+    ensures { IfOk result (KeptTypeFrame m.now pc f.now) }
 {
     if m.is_covered(pc) {
         Ok(Some(without_stack(alloc, f)?))
@@ -137,7 +137,7 @@ pub fn handle_kept(
 ) -> Result<(), Stop<VRule>>
     requires level { HaveLocals m.now nodes.old }
     requires locals { IfSome kept.now (HasLocals m.now) }
-    ensures left { (f : TypeFrame) → Keeps m.now pc f kept.now → Leaves (does m.now (handled_acts m.now pc f (covering m.now pc)) nodes.old) nodes.new result }
+    ensures left { (f : TypeFrame) → KeptTypeFrame m.now pc f kept.now → Leaves (type_acts_done m.now (handled_acts m.now pc f (covering m.now pc)) nodes.old) nodes.new result }
     ensures level { OnOk result (HaveLocals m.now nodes.new) }
 {
     match kept {

@@ -3,8 +3,8 @@
 ghost use Rattle.std.specs.Prelude.{◌≡◌, ◌&&◌, true, false, not, length, IfOk};
 ghost use Rattle.jvm_types.specs.Types.{meet_frames, same_frame};
 ghost use Rattle.code_visits.specs.TypePlan.{type_meeting};
-ghost use Rattle.code_visits.specs.TypePlan.{local_count};
-ghost use Rattle.code_verifier.specs.Visiting.{with_object};
+ghost use Rattle.code_visits.specs.TypePlan.{type_local_count};
+ghost use Rattle.code_verifier.specs.Visiting.{with_object_stack};
 
 use crate::type_lists::{
     first_type, locals_stay, meet_locals, meet_stacks, same_types, type_stays,
@@ -22,7 +22,7 @@ pub fn clashes(frame: &TypeFrame, other: &TypeFrame) -> bool
 /// Whether a frame is another, and so stays as it is where they meet; it may be told not to be where last locals of which
 /// nothing is known are kept in one of them alone.
 pub fn is_same(frame: &TypeFrame, other: &TypeFrame) -> bool
-    requires { local_count frame.now ≡ local_count other.now }
+    requires { type_local_count frame.now ≡ type_local_count other.now }
     ensures { result ≡ true → type_meeting.meet frame.now other.now ≡ frame.now }
 {
     if frame.is_ready() != other.is_ready() {
@@ -43,8 +43,8 @@ fn loses_this(frame: &TypeFrame, other: &TypeFrame) -> bool
 
 /// Whether a frame stays as it is where it meets the locals of another, with one object of a class on the stack.
 pub fn stays(frame: &TypeFrame, other: &TypeFrame, class: u16) -> bool
-    requires { local_count frame.now ≡ local_count other.now }
-    ensures same { result ≡ true → same_frame frame.now (meet_frames frame.now (with_object class other.now)) ≡ true }
+    requires { type_local_count frame.now ≡ type_local_count other.now }
+    ensures same { result ≡ true → same_frame frame.now (meet_frames frame.now (with_object_stack class other.now)) ≡ true }
     ensures deep { result ≡ true → length frame.now.stack ≡ 1 }
 {
     if frame.stack().len() != 1 {
@@ -64,7 +64,7 @@ pub fn meet_frames(
     other: &TypeFrame,
 ) -> Result<(TypeFrame, bool), AllocError>
     requires apart { type_meeting.clashes frame other.now ≡ false }
-    requires wide { local_count frame ≡ local_count other.now }
+    requires wide { type_local_count frame ≡ type_local_count other.now }
     ensures met { IfOk result (λ r. r.0 ≡ type_meeting.meet frame other.now) }
     ensures told { IfOk result (λ r. r.1 ≡ not (type_meeting.same frame (type_meeting.meet frame other.now))) }
 {

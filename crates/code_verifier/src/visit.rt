@@ -4,10 +4,10 @@ ghost use Rattle.std.specs.Prelude.{◌≡◌, OnOk};
 ghost use Rattle.std.specs.Option.{IfSome};
 ghost use Rattle.jvm_types.specs.Types.{TypeFrame};
 ghost use Rattle.checked_program.specs.Visits.{acts_on};
-ghost use Rattle.code_visits.specs.Waiting.{node_at};
+ghost use Rattle.code_visits.specs.Waiting.{plan_node_at};
 ghost use Rattle.code_visits.specs.Analyses.{Leaves};
 ghost use Rattle.code_visits.specs.TypePlan.{gone_acts, type_plan};
-ghost use Rattle.code_verifier.specs.Visiting.{HasLocals, HaveLocals, Keeps, Prepares, does};
+ghost use Rattle.code_verifier.specs.Visiting.{HasLocals, HaveLocals, KeptTypeFrame, Prepares, type_acts_done};
 
 use crate::after::frame_after;
 use crate::analysis::Verification;
@@ -31,7 +31,7 @@ fn go_on(
     requires level { HaveLocals m.now nodes.old }
     requires locals { IfSome kept.now (HasLocals m.now) }
     requires locals_after { HasLocals m.now after }
-    ensures left { (f : TypeFrame) → Keeps m.now insn.now.pc f kept.now → Leaves (does m.now (gone_acts m.now insn.now f after) nodes.old) nodes.new result }
+    ensures left { (f : TypeFrame) → KeptTypeFrame m.now insn.now.pc f kept.now → Leaves (type_acts_done m.now (gone_acts m.now insn.now f after) nodes.old) nodes.new result }
     ensures level { OnOk result (HaveLocals m.now nodes.new) }
 {
     let tos = edges(alloc, insn)?;
@@ -69,7 +69,7 @@ pub fn visit(
     i: usize,
 ) -> Result<(), Stop<VRule>>
     requires level { HaveLocals m.now nodes.old }
-    ensures left { Leaves (does m.now (acts_on (type_plan p.now m.now) i (node_at nodes.old i).frame) nodes.old) nodes.new result }
+    ensures left { Leaves (type_acts_done m.now (acts_on (type_plan p.now m.now) i (plan_node_at nodes.old i).frame) nodes.old) nodes.new result }
     ensures level { OnOk result (HaveLocals m.now nodes.new) }
 {
     let method = m.method();

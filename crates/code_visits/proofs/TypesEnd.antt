@@ -6,7 +6,7 @@ use Rattle.jvm_types.specs.Verifying as typing
 use Rattle.jvm_types.specs.declared.program.MethodInfo.{MethodInfo}
 use Rattle.jvm_types.specs.declared.program.Program.{Program}
 use Rattle.laws_programs.proofs.VisitsEnd.{IsKept, first_kept, visit_keeps, visit_works}
-use Rattle.checked_program.specs.Visits.{Node}
+use Rattle.checked_program.specs.Visits.{PlanNode}
 use Rattle.code_visits.specs.Analyses.{Ends}
 use Rattle.code_visits.specs.TypePlan.{type_plan, typed, TypesKept, types_work}
 use Rattle.code_visits.proofs.TypeVisits.{visited_typed, next_typed, first_typed}

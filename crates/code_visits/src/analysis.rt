@@ -4,8 +4,8 @@ ghost use Rattle.std.specs.Prelude.{◌≡◌, ℕ, List, IfOk, OnOk};
 ghost use Rattle.jvm_types.specs.Verifying.{IsLaidOut};
 ghost use Rattle.jvm_types.specs.declared.program.MethodInfo.{MethodInfo as Method};
 ghost use Rattle.jvm_types.specs.declared.program.Program.{Program as Linked};
-ghost use Rattle.checked_program.specs.Visits.{Act, Node, acted, acts_on};
-ghost use Rattle.code_visits.specs.Waiting.{node_at};
+ghost use Rattle.checked_program.specs.Visits.{Act, PlanNode, acted, acts_on};
+ghost use Rattle.code_visits.specs.Waiting.{plan_node_at};
 ghost use Rattle.code_visits.specs.Level.{AreLevel};
 ghost use Rattle.code_visits.specs.Analyses.{plan_of, Ends, Leaves};
 
@@ -31,10 +31,10 @@ pub trait Analysis: Frames {
     ghost acts: { Linked → Method → ℕ → Self.Frame → List (Act Self.Frame Self.Rule) };
 
     /// What the visits keep of the nodes.
-    ghost is_kept: { Linked → Method → List (Node Self.Frame) → Type 0 };
+    ghost is_kept: { Linked → Method → List (PlanNode Self.Frame) → Type 0 };
 
     /// The work that is left; each visit leaves less.
-    ghost work: { Linked → Method → List (Node Self.Frame) → ℕ };
+    ghost work: { Linked → Method → List (PlanNode Self.Frame) → ℕ };
 
     /// The frame at pc 0.
     fn first(alloc: Global, m: &MethodInfo) -> Result<Self::Frame, AllocError>
@@ -49,7 +49,7 @@ pub trait Analysis: Frames {
         i: usize,
     ) -> Result<(), Stop<Self::Rule>>
         requires level { AreLevel Self.width (Self.width (first m.now)) m.now.code nodes.old }
-        ensures left { Leaves (acted Self.meeting m.now.code (acts_on (plan_of Self.meeting first acts p.now m.now) i (node_at nodes.old i).frame) nodes.old) nodes.new result }
+        ensures left { Leaves (acted Self.meeting m.now.code (acts_on (plan_of Self.meeting first acts p.now m.now) i (plan_node_at nodes.old i).frame) nodes.old) nodes.new result }
         ensures level { OnOk result (AreLevel Self.width (Self.width (first m.now)) m.now.code nodes.new) };
 
     ghost ends: { (p : Linked) (m : Method) → IsLaidOut m → Ends (plan_of Self.meeting first acts p m) (is_kept p m) (work p m) };

@@ -1,8 +1,8 @@
 //! Edges: the frames that an instruction brings to others.
 
 ghost use Rattle.std.specs.Prelude.{◌≡◌, ℕ, List, [], ◌∷◌, None, OnOk};
-ghost use Rattle.checked_program.specs.Visits.{Bring, acted, brought, all_brought, clash, clashes_with};
-ghost use Rattle.code_visits.specs.Waiting.{node_at};
+ghost use Rattle.checked_program.specs.Visits.{Bring, acted, edge_brought, edges_brought, meeting_clash, clashes_with};
+ghost use Rattle.code_visits.specs.Waiting.{plan_node_at};
 ghost use Rattle.code_visits.specs.Level.{AreLevel};
 ghost use Rattle.code_visits.specs.Analyses.{lesser, clash_place, Leaves};
 
@@ -25,7 +25,7 @@ fn lesser(pc: Option<u32>, other: Option<u32>) -> Option<u32>
 
 /// Whether the instruction of this number has a frame that may not meet another.
 fn clashes_there<D: Frames>(nodes: &Nodes<D::Frame>, i: usize, f: &D::Frame) -> bool
-    ensures { result ≡ clashes_with D.meeting (node_at nodes.now i).frame f.now }
+    ensures { result ≡ clashes_with D.meeting (plan_node_at nodes.now i).frame f.now }
 {
     match nodes.frame(i) {
         Some(g) => D::clashes(g, f),
@@ -62,7 +62,7 @@ fn clash_at<D: Frames>(
     to: u32,
     f: &D::Frame,
 ) -> Option<u32>
-    ensures { result ≡ clash D.meeting m.now.code (to ∷ []) f.now nodes.now }
+    ensures { result ≡ meeting_clash D.meeting m.now.code (to ∷ []) f.now nodes.now }
 {
     m.laid_out();
     clash_place::<D>(nodes, m.find(to), to, f)
@@ -75,7 +75,7 @@ fn clash<D: Frames>(
     tos: &[u32],
     f: &D::Frame,
 ) -> Option<u32>
-    ensures { result ≡ clash D.meeting m.now.code tos.now f.now nodes.now }
+    ensures { result ≡ meeting_clash D.meeting m.now.code tos.now f.now nodes.now }
 {
     m.laid_out();
     let mut least = None;
@@ -94,8 +94,8 @@ fn bring<D: Frames>(
     f: &D::Frame,
 ) -> Result<(), AllocError>
     requires level { AreLevel D.width (D.width f.now) m.now.code nodes.old }
-    requires apart { clash D.meeting m.now.code (to ∷ []) f.now nodes.old ≡ None }
-    ensures { OnOk result (nodes.new ≡ brought D.meeting m.now.code to f.now nodes.old) }
+    requires apart { meeting_clash D.meeting m.now.code (to ∷ []) f.now nodes.old ≡ None }
+    ensures { OnOk result (nodes.new ≡ edge_brought D.meeting m.now.code to f.now nodes.old) }
 {
     m.laid_out();
     match m.find(to) {
@@ -113,8 +113,8 @@ fn bring_last<D: Frames>(
     f: D::Frame,
 ) -> Result<(), AllocError>
     requires level { AreLevel D.width (D.width f) m.now.code nodes.old }
-    requires apart { clash D.meeting m.now.code (to ∷ []) f nodes.old ≡ None }
-    ensures { OnOk result (nodes.new ≡ brought D.meeting m.now.code to f nodes.old) }
+    requires apart { meeting_clash D.meeting m.now.code (to ∷ []) f nodes.old ≡ None }
+    ensures { OnOk result (nodes.new ≡ edge_brought D.meeting m.now.code to f nodes.old) }
 {
     m.laid_out();
     match m.find(to) {
@@ -132,10 +132,10 @@ fn bring_each<D: Frames>(
     f: &D::Frame,
 ) -> Result<(), AllocError>
     requires level { AreLevel D.width (D.width f.now) m.now.code nodes.old }
-    requires apart { clash D.meeting m.now.code tos.now f.now nodes.old ≡ None }
-    ensures brought { OnOk result (nodes.new ≡ all_brought D.meeting m.now.code tos.now f.now nodes.old) }
+    requires apart { meeting_clash D.meeting m.now.code tos.now f.now nodes.old ≡ None }
+    ensures brought { OnOk result (nodes.new ≡ edges_brought D.meeting m.now.code tos.now f.now nodes.old) }
     ensures level { OnOk result (AreLevel D.width (D.width f.now) m.now.code nodes.new) }
-    ensures apart { OnOk result ((others : List ℕ) → clash D.meeting m.now.code others f.now nodes.old ≡ None → clash D.meeting m.now.code others f.now nodes.new ≡ None) }
+    ensures apart { OnOk result ((others : List ℕ) → meeting_clash D.meeting m.now.code others f.now nodes.old ≡ None → meeting_clash D.meeting m.now.code others f.now nodes.new ≡ None) }
 {
     m.laid_out();
     for to in tos {
@@ -153,8 +153,8 @@ fn bring_all<D: Frames>(
     f: D::Frame,
 ) -> Result<(), AllocError>
     requires level { AreLevel D.width (D.width f) m.now.code nodes.old }
-    requires apart { clash D.meeting m.now.code tos.now f nodes.old ≡ None }
-    ensures brought { OnOk result (nodes.new ≡ all_brought D.meeting m.now.code tos.now f nodes.old) }
+    requires apart { meeting_clash D.meeting m.now.code tos.now f nodes.old ≡ None }
+    ensures brought { OnOk result (nodes.new ≡ edges_brought D.meeting m.now.code tos.now f nodes.old) }
     ensures level { OnOk result (AreLevel D.width (D.width f) m.now.code nodes.new) }
 {
     m.laid_out();

@@ -2,7 +2,7 @@
 
 ghost use Rattle.std.specs.Prelude.{◌≡◌, ℕ, not, true, false, IfOk};
 ghost use Rattle.checked_program.specs.Visits.{Meeting};
-ghost use Rattle.code_visits.specs.Level.{IsLawful};
+ghost use Rattle.code_visits.specs.Level.{IsLawfulMeeting};
 
 use std::alloc::{AllocError, Global};
 
@@ -43,5 +43,5 @@ pub trait Frames {
         ensures met { IfOk result (λ r. r.0 ≡ meeting.meet f other.now) }
         ensures told { IfOk result (λ r. r.1 ≡ not (meeting.same f (meeting.meet f other.now))) };
 
-    ghost lawful: { IsLawful meeting width };
+    ghost lawful: { IsLawfulMeeting meeting width };
 }

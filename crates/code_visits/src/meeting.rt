@@ -3,8 +3,8 @@
 ghost use Rattle.std.specs.Prelude.{◌≡◌, ◌<◌, length, slice_set, true, OnOk};
 ghost use Rattle.std.specs.Option.{IfSome};
 ghost use Rattle.checked_program.specs.Visits.{joined};
-ghost use Rattle.code_visits.specs.Waiting.{node_at};
-ghost use Rattle.code_visits.specs.Level.{Fits};
+ghost use Rattle.code_visits.specs.Waiting.{plan_node_at};
+ghost use Rattle.code_visits.specs.Level.{IsAsWide};
 
 use crate::frames::Frames;
 use crate::nodes::{Nodes, meet_at};
@@ -12,8 +12,8 @@ use std::alloc::{AllocError, Global};
 
 /// Whether the instruction of this number has a frame that meeting another doesn't change.
 fn stays_at<D: Frames>(nodes: &Nodes<D::Frame>, i: usize, f: &D::Frame) -> bool
-    requires { Fits D.meeting D.width (node_at nodes.now i).frame f.now }
-    ensures { result ≡ true → slice_set nodes.now i (joined D.meeting (node_at nodes.now i).waits (node_at nodes.now i).frame f.now) ≡ nodes.now }
+    requires { IsAsWide D.meeting D.width (plan_node_at nodes.now i).frame f.now }
+    ensures { result ≡ true → slice_set nodes.now i (joined D.meeting (plan_node_at nodes.now i).waits (plan_node_at nodes.now i).frame f.now) ≡ nodes.now }
 {
     match nodes.frame(i) {
         Some(frame) => D::stays(frame, f),
@@ -29,8 +29,8 @@ pub fn bring_to<D: Frames>(
     f: &D::Frame,
 ) -> Result<(), AllocError>
     requires inside { i < length nodes.old }
-    requires fits { Fits D.meeting D.width (node_at nodes.old i).frame f.now }
-    ensures { OnOk result (nodes.new ≡ slice_set nodes.old i (joined D.meeting (node_at nodes.old i).waits (node_at nodes.old i).frame f.now)) }
+    requires fits { IsAsWide D.meeting D.width (plan_node_at nodes.old i).frame f.now }
+    ensures { OnOk result (nodes.new ≡ slice_set nodes.old i (joined D.meeting (plan_node_at nodes.old i).waits (plan_node_at nodes.old i).frame f.now)) }
 {
     if stays_at::<D>(nodes, i, f) {
         return Ok(());
@@ -49,8 +49,8 @@ pub fn bring_last_to<D: Frames>(
     f: D::Frame,
 ) -> Result<(), AllocError>
     requires inside { i < length nodes.old }
-    requires fits { Fits D.meeting D.width (node_at nodes.old i).frame f }
-    ensures { OnOk result (nodes.new ≡ slice_set nodes.old i (joined D.meeting (node_at nodes.old i).waits (node_at nodes.old i).frame f)) }
+    requires fits { IsAsWide D.meeting D.width (plan_node_at nodes.old i).frame f }
+    ensures { OnOk result (nodes.new ≡ slice_set nodes.old i (joined D.meeting (plan_node_at nodes.old i).waits (plan_node_at nodes.old i).frame f)) }
 {
     if nodes.frame(i).is_none() {
         let bytes = D::bytes_of(&f);

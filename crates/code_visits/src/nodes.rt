@@ -2,9 +2,9 @@
 
 ghost use Rattle.std.specs.Prelude.{◌≡◌, ◌<◌, length, map, replicate, slice_set, true, false, Some, IfOk, OnOk};
 ghost use Rattle.std.specs.Option.{option_copied, IfSome, IfNone};
-ghost use Rattle.checked_program.specs.Visits.{next_visit, unreached};
-ghost use Rattle.code_visits.specs.Waiting.{node_at, met, changes};
-ghost use Rattle.code_visits.specs.Level.{Fits};
+ghost use Rattle.checked_program.specs.Visits.{next_waiting, unreached};
+ghost use Rattle.code_visits.specs.Waiting.{plan_node_at, met, changes};
+ghost use Rattle.code_visits.specs.Level.{IsAsWide};
 
 use crate::budget::Budget;
 use crate::frames::Frames;
@@ -31,10 +31,10 @@ pub struct Nodes<F> {
 
 impl<F> Model for Nodes<F> {
     ghost use Rattle.std.specs.Prelude.{◌≡◌, List, map};
-    ghost use Rattle.checked_program.specs.Visits.{Node};
+    ghost use Rattle.checked_program.specs.Visits.{PlanNode};
     ghost use Rattle.code_visits.specs.Waiting.{node_is, waiting_numbers};
 
-    ghost Value = { List (Node F) };
+    ghost Value = { List (PlanNode F) };
 
     ghost view = { λ n. map node_is n.nodes.items };
 
@@ -48,7 +48,7 @@ fn bring_frame<D: Frames>(
     frame: &mut Option<D::Frame>,
     f: &D::Frame,
 ) -> Result<bool, AllocError>
-    requires { Fits D.meeting D.width frame.old f.now }
+    requires { IsAsWide D.meeting D.width frame.old f.now }
     ensures frame { OnOk result (frame.new ≡ Some (met D.meeting frame.old f.now)) }
     ensures changed { IfOk result (λ changed. changed ≡ changes D.meeting frame.old f.now) }
 {
@@ -75,9 +75,9 @@ pub(crate) fn meet_at<D: Frames>(
     f: &D::Frame,
 ) -> Result<bool, AllocError>
     requires inside { i < length nodes.old }
-    requires fits { Fits D.meeting D.width (node_at nodes.old i).frame f.now }
-    ensures met { OnOk result (nodes.new ≡ slice_set nodes.old i (record (node_at nodes.old i) { frame = Some (met D.meeting (node_at nodes.old i).frame f.now) })) }
-    ensures changed { IfOk result (λ changed. changed ≡ changes D.meeting (node_at nodes.old i).frame f.now) }
+    requires fits { IsAsWide D.meeting D.width (plan_node_at nodes.old i).frame f.now }
+    ensures met { OnOk result (nodes.new ≡ slice_set nodes.old i (record (plan_node_at nodes.old i) { frame = Some (met D.meeting (plan_node_at nodes.old i).frame f.now) })) }
+    ensures changed { IfOk result (λ changed. changed ≡ changes D.meeting (plan_node_at nodes.old i).frame f.now) }
 {
     bring_frame::<D>(alloc, &mut nodes.budget, &mut nodes.nodes[i].frame, f)
 }
@@ -115,7 +115,7 @@ impl<F: Drop> Nodes<F> {
 
     /// The frame of the instruction of this number.
     pub fn frame(&self, i: usize) -> Option<&F>
-        ensures { option_copied result ≡ (node_at self.now i).frame }
+        ensures { option_copied result ≡ (plan_node_at self.now i).frame }
     {
         match self.nodes.get(i) {
             Some(node) => node.frame.as_ref(),
@@ -125,10 +125,10 @@ impl<F: Drop> Nodes<F> {
 
     /// Takes the waiting instruction of least number, which then waits no more.
     pub(crate) fn take_next(&mut self) -> Option<usize>
-        ensures next { result ≡ next_visit self.old }
+        ensures next { result ≡ next_waiting self.old }
         ensures inside { IfSome result (λ i. i < length self.old) }
         ensures none { IfNone result (self.new ≡ self.old) }
-        ensures some { IfSome result (λ i. self.new ≡ slice_set self.old i (record (node_at self.old i) { waits = false })) }
+        ensures some { IfSome result (λ i. self.new ≡ slice_set self.old i (record (plan_node_at self.old i) { waits = false })) }
     {
         let i = self.waiting.pop_first()?;
         self.nodes[i].waits = false;
@@ -138,7 +138,7 @@ impl<F: Drop> Nodes<F> {
     /// The instruction of this number waits.
     pub(crate) fn wait(&mut self, i: usize) -> Result<(), AllocError>
         requires { i < length self.old }
-        ensures { OnOk result (self.new ≡ slice_set self.old i (record (node_at self.old i) { waits = true })) }
+        ensures { OnOk result (self.new ≡ slice_set self.old i (record (plan_node_at self.old i) { waits = true })) }
     {
         self.waiting.insert(i)?;
         self.nodes[i].waits = true;

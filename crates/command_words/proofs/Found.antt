@@ -6,7 +6,7 @@ use Rattle.clap.specs.Simple.{App, matches_of}
 use Rattle.clap.specs.Kinds.{IsAmong, Kinds}
 use Rattle.clap.specs.Faults.{fault_of}
 use Rattle.clap.specs.declared.error.kind.ErrorKind.{ErrorKind}
-use Rattle.command_words.specs.Words.{found}
+use Rattle.command_words.specs.Words.{found_in_words}
 
 calm : (faults : Kinds) (rows : List Row) → faults ≡ [] → Some rows ≡ (if is_empty faults then Some rows else None)
 calm faults rows none = rw none refl
@@ -17,10 +17,10 @@ faulty (x ∷ xs) rows k among =
     let some : is_empty (x ∷ xs) ≡ false = ne_eqb (length (x ∷ xs)) 0 (λ e. omega arith) in
     rw some refl
 
-pub found_rows : (a : App) (words : List Text) (rows : List Row) → fault_of a words ≡ [] → rows ≡ matches_of a words → Some rows ≡ found a words
-unfolding found
+pub found_rows : (a : App) (words : List Text) (rows : List Row) → fault_of a words ≡ [] → rows ≡ matches_of a words → Some rows ≡ found_in_words a words
+unfolding found_in_words
 found_rows a words rows none found_in = ap Some found_in ∙ calm (fault_of a words) (matches_of a words) none
 
-pub found_none : (a : App) (words : List Text) (k : ErrorKind) → IsAmong k (fault_of a words) → None ≡ found a words
-unfolding found
+pub found_none : (a : App) (words : List Text) (k : ErrorKind) → IsAmong k (fault_of a words) → None ≡ found_in_words a words
+unfolding found_in_words
 found_none a words k among = faulty (fault_of a words) (matches_of a words) k among

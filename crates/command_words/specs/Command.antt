@@ -5,8 +5,8 @@ use Rattle.clap.specs.Simple.{App}
 use Rattle.jvm_types.specs.declared.limits.TheConstants.{MOST_LIMIT, MOST_WORKERS}
 use Rattle.machine_types.specs.declared.config.Config.{Config}
 use Rattle.command_words.specs.RunValues.{are_few, heap_of, order_of, settings_of, threads_of}
-use Rattle.command_words.specs.Values.{◌>>=◌, number, number_or, within}
-use Rattle.command_words.specs.Words.{command_of, found, gives_any, names_of}
+use Rattle.command_words.specs.Values.{◌>>=◌, number, number_or, number_within}
+use Rattle.command_words.specs.Words.{command_of, found_in_words, gives_any, names_of}
 use Rattle.command_words.specs.declared.request.Green.{Green}
 use Rattle.command_words.specs.declared.request.Memory.{Memory}
 use Rattle.command_words.specs.declared.request.Mode.{Mode}
@@ -42,7 +42,7 @@ memory_or_table (Some text) = if bytes_eq text (codes "table") then Some Table e
 -- workers of the system that run the threads of the program, and how many events each gives a thread before the next
 abbrev pub green : (workers : Text) (turn : Option Text) → Option Green
 green workers turn = do
-  many ← within 1 MOST_WORKERS (number workers)
+  many ← number_within 1 MOST_WORKERS (number workers)
   turn ← number_or USUAL_TURN 1 MOST_TURN turn
   Some (record { workers = many; turn = turn })
 
@@ -54,16 +54,16 @@ green_or_none Table (Some workers) turn = green workers turn >>= (λ g. Some (So
 green_or_none Locked (Some workers) turn = None
 
 -- how many files a mode takes: a program is made of 1 to 64, one is listed or assembled, and a load and a cell have none
-abbrev pub takes : Mode → ℕ → Bool
-takes (modes.Program task) count = are_few count
-takes modes.List count = count == 1
-takes modes.Assemble count = count == 1
-takes modes.Load count = count == 0
-takes modes.Cell count = count == 0
+abbrev pub takes_files : Mode → ℕ → Bool
+takes_files (modes.Program task) count = are_few count
+takes_files modes.List count = count == 1
+takes_files modes.Assemble count = count == 1
+takes_files modes.Load count = count == 0
+takes_files modes.Cell count = count == 0
 
 -- the names of the files, where the mode takes so many
 abbrev pub files_for : Mode → List Text → Option (List Text)
-files_for mode names = if takes mode (length names) then Some names else None
+files_for mode names = if takes_files mode (length names) then Some names else None
 
 -- ---- the whole
 
@@ -108,4 +108,4 @@ asked rows = do
 
 -- what the words ask for; None where they are not read
 unfoldable pub command : List Text → Option Asked
-command words = found the_command words >>= asked
+command words = found_in_words the_command words >>= asked

@@ -17,14 +17,14 @@ number text =
     let digits = without_leading_plus text in
     if nat_lt 0 (length digits) && list_all (λ c. is_digit c 10) digits && nat_lt (digits_value 10 digits) (2 ^ 32) then Some (digits_value 10 digits) else None
 
-abbrev pub within : (least most : ℕ) → Option ℕ → Option ℕ
-within least most None = None
-within least most (Some n) = if nat_le least n && nat_le n most then Some n else None
+abbrev pub number_within : (least most : ℕ) → Option ℕ → Option ℕ
+number_within least most None = None
+number_within least most (Some n) = if nat_le least n && nat_le n most then Some n else None
 
 -- the number of an option, from one number to another; another one stands where the option isn't given
 abbrev pub number_or : (unless least most : ℕ) → Option Text → Option ℕ
 number_or unless least most None = Some unless
-number_or unless least most (Some text) = within least most (number text)
+number_or unless least most (Some text) = number_within least most (number text)
 
 abbrev pub on_or_off : Option Text → Option Bool
 on_or_off None = Some true

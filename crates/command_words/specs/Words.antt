@@ -30,8 +30,8 @@ command_of program options = with_names (fold with_option (new_app program) opti
 
 -- what is found in the words, the first of which is the program's name, where clap finds no fault in them; an option that is given
 -- twice is such a fault, and so is a call for help
-unfoldable pub found : App → List Text → Option (List Row)
-found command words = if is_empty (fault_of command words) then Some (matches_of command words) else None
+unfoldable pub found_in_words : App → List Text → Option (List Row)
+found_in_words command words = if is_empty (fault_of command words) then Some (matches_of command words) else None
 
 -- the files that are named
 abbrev pub names_of : List Row → List Text

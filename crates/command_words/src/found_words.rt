@@ -2,7 +2,7 @@
 ghost use Rattle.std.specs.Prelude.{◌≡◌, IfOk, Some, codes, length, map, option_map, true};
 ghost use Rattle.std.specs.Option.{option_copied};
 ghost use Rattle.clap.specs.Words.{all_of, app_of, first_of, found_of, is_simple, is_simple_and_free, rows_of};
-ghost use Rattle.command_words.specs.Words.{command_of, found, gives_any as gives_any_of, is_given as is_option_given, texts, with_names as names_in, with_option as option_in};
+ghost use Rattle.command_words.specs.Words.{command_of, found_in_words, gives_any as gives_any_of, is_given as is_option_given, texts, with_names as names_in, with_option as option_in};
 
 use clap::error::ErrorKind;
 use clap::{Arg, ArgAction, ArgMatches, Command};
@@ -52,7 +52,7 @@ pub fn found_in<'a>(
 ) -> Result<Option<ArgMatches<'a>>, AllocError>
     requires simple { is_simple (app_of command) ≡ true }
     requires free { is_simple_and_free (app_of command) ≡ true }
-    ensures { IfOk result (λ m. option_map (λ x. rows_of (found_of x)) m ≡ found (app_of command.entry) (texts words.entry.now)) }
+    ensures { IfOk result (λ m. option_map (λ x. rows_of (found_of x)) m ≡ found_in_words (app_of command.entry) (texts words.entry.now)) }
 {
     match command.try_get_matches_from(words) {
         Ok(matches) => Ok(Some(matches)),

@@ -1,7 +1,7 @@
 //! What the words of the command ask for.
 ghost use Rattle.std.specs.Prelude.{◌≡◌, length};
 ghost use Rattle.command_words.specs.Bounds.{AreInBounds};
-ghost use Rattle.command_words.specs.Command.{takes};
+ghost use Rattle.command_words.specs.Command.{takes_files};
 
 use crate::run_values::are_few;
 use jvm_types::Bytes;
@@ -39,7 +39,7 @@ impl Mode {
     /// Whether so many files may be named: 1 to 64 for a program, one to be listed or assembled, none for a
     /// load and a cell.
     pub fn takes(self, count: usize) -> bool
-        ensures { result ≡ takes self count }
+        ensures { result ≡ takes_files self count }
     {
         match self {
             Mode::Program(_) => are_few(count),

@@ -4,7 +4,7 @@ ghost use Rattle.std.specs.List.{list_all};
 ghost use Rattle.std.specs.Option.{option_copied};
 ghost use Rattle.command_words.specs.Command.{green as the_green, green_or_none as the_green_or_none, memory_or_table as the_memory, mode_or_replay as the_mode};
 ghost use Rattle.command_words.specs.Bounds.{IsGreen};
-ghost use Rattle.command_words.specs.Values.{is_worker as is_the_worker, number as the_number, number_or as the_number_or, on_or_off as the_switch, order_or_none as the_order, within as the_number_within};
+ghost use Rattle.command_words.specs.Values.{is_worker as is_the_worker, number as the_number, number_or as the_number_or, on_or_off as the_switch, order_or_none as the_order, number_within as the_number_within};
 
 use crate::request::{Green, Memory, Mode, Task};
 use jvm_types::Bytes;

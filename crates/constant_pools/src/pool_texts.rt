@@ -1,14 +1,14 @@
 //! The texts that the entries of a constant pool name (JVMS 4.4.1, 4.4.7), and the names of classes (JVMS 4.1).
 
 ghost use Rattle.std.specs.Prelude.{◌≡◌, slice_get, IfOk, Some};
-ghost use Rattle.jvm_types.specs.ClassNames.{text_of, text_at, class_text_at, class_name, class_names};
+ghost use Rattle.jvm_types.specs.ClassNames.{entry_text, text_at, class_text_at, class_name, class_names};
 
 use jvm_types::{Bytes, ClassFile, Constant, Rows};
 use std::alloc::{AllocError, Global};
 
 /// The text of an entry, and no bytes where it has none.
 pub fn text_of(entry: &Constant) -> &[u8]
-    ensures { result.now ≡ text_of (Some entry.now) }
+    ensures { result.now ≡ entry_text (Some entry.now) }
 {
     match entry {
         Constant::Utf8(text) => text.as_slice(),

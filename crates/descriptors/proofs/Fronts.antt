@@ -4,7 +4,7 @@ use Rattle.std.specs.Prelude.{◌==◌}
 use Rattle.std.specs.Option.{option_and_then, option_map}
 use Rattle.std.specs.List.{list_any}
 use Rattle.std.proofs.lemmas.Bool.{cond_both, eqb-true, or_parts}
-use Rattle.jvm_types.specs.Descriptors.{Types, Reading, followed, array_of, class_kind, types_from, read_from, only_kind, field_kind, Signature, result_kind, returned}
+use Rattle.jvm_types.specs.Descriptors.{Types, Reading, followed, array_of, class_kind, types_from, read_from, only_kind, field_kind, Signature, result_kind, signature_returned}
 use Rattle.jvm_types.specs.declared.program.Kind.{Kind}
 use Rattle.jvm_types.specs.declared.program.Kind.TheVariants as kinds
 use Rattle.descriptors.specs.Signatures.{IsCut, IsFront, IsArgs, ends_args}
@@ -148,16 +148,16 @@ module _ (names : List (List ℕ)) where
   pub one_arg : (text rest : List ℕ) (ks : List Kind) (f : Front) → joined ks (types_at rest) ≡ types_at text → IsFront names rest (Some f) → joined (ks ++ f.kind ∷ []) (types_at f.rest.now) ≡ types_at text
   one_arg text rest ks f e h = joined_more ks f.kind (types_at f.rest.now) ∙ ap (joined ks) (sym h.0) ∙ e
 
-  not_closed : (ks : List Kind) (rest : List ℕ) → ends_args rest ≡ false → returned names ks rest ≡ None
+  not_closed : (ks : List Kind) (rest : List ℕ) → ends_args rest ≡ false → signature_returned names ks rest ≡ None
   not_closed ks [] n = absurd cc
   not_closed ks (byte ∷ rest) n = ap (λ b. cond b (option_map (λ kind. record { args = ks; result = kind }) (result_kind names rest)) None) n
 
   abbrev behind_args : Option Types → Option Signature
-  behind_args o = option_and_then (λ t. returned names t.kinds t.rest) o
+  behind_args o = option_and_then (λ t. signature_returned names t.kinds t.rest) o
 
   stopped : (ks : List Kind) (o : Option Types) (rest : List ℕ) → ends_args rest ≡ false → ((t : Types) → o ≡ Some t → t.rest ≡ rest) → behind_args (joined ks o) ≡ None
   stopped ks None rest n h = refl
-  stopped ks (Some t) rest n h = ap (returned names (ks ++ t.kinds)) (h t refl) ∙ not_closed (ks ++ t.kinds) rest n
+  stopped ks (Some t) rest n h = ap (signature_returned names (ks ++ t.kinds)) (h t refl) ∙ not_closed (ks ++ t.kinds) rest n
 
   pub no_arg : (text rest : List ℕ) (ks : List Kind) → joined ks (types_at rest) ≡ types_at text → IsFront names rest None → ends_args rest ≡ false → IsArgs names text None
   no_arg text rest ks e h n = ap behind_args (sym e) ∙ stopped ks (types_at rest) rest n (λ t f. stays rest t f (h t f))

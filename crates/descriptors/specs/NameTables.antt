@@ -15,5 +15,5 @@ abbrev pub names_in : List (Bor (List ℕ)) → List (List ℕ)
 names_in names = map {B = List ℕ} (λ (n : Bor (List ℕ)). n.now) names
 
 -- each class of the files with these names, and each built-in one, has its number
-abbrev pub IsTableOf : List (List ℕ) → BTreeMap (Bor (List ℕ)) ℕ → Type 0
-IsTableOf names table = (name : List ℕ) → find table name ≡ class_number names name
+abbrev pub IsNameTable : List (List ℕ) → BTreeMap (Bor (List ℕ)) ℕ → Type 0
+IsNameTable names table = (name : List ℕ) → find table name ≡ class_number names name

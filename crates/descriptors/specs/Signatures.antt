@@ -2,7 +2,7 @@
 use Rattle.std.specs.Prelude.{◌≡◌, ℕ, ◌<◌, ◌==◌, Bool, true, false, List, [], ◌∷◌, ◌++◌, length, Option, Some, None}
 use Rattle.std.specs.Option.{option_and_then}
 use Rattle.std.specs.List.{list_any}
-use Rattle.jvm_types.specs.Descriptors.{Types, followed, read_from, returned, Signature as Meaning}
+use Rattle.jvm_types.specs.Descriptors.{Types, followed, read_from, signature_returned, Signature as Meaning}
 use Rattle.descriptors.specs.declared.reading.Signature.{Signature}
 use Rattle.descriptors.specs.declared.reading.Front.{Front}
 use Rattle.descriptors.specs.declared.reading.Cut.{Cut}
@@ -29,5 +29,5 @@ ends_args (byte ∷ bytes) = byte == 41
 
 -- the types of arguments, and what stands behind them; or there is no signature with these arguments
 abbrev pub IsArgs : List (List ℕ) → List ℕ → Option Args → Type 0
-IsArgs names text None = option_and_then (λ t. returned names t.kinds t.rest) (read_from names text).types ≡ None
+IsArgs names text None = option_and_then (λ t. signature_returned names t.kinds t.rest) (read_from names text).types ≡ None
 IsArgs names text (Some a) = (read_from names text).types ≡ Some (record { kinds = a.kinds; rest = a.rest.now })

@@ -27,13 +27,13 @@ pub struct ClassNumbers<'a> {
 
 impl<'a> Model for ClassNumbers<'a> {
     ghost use Rattle.std.specs.Prelude.{ℕ, List};
-    ghost use Rattle.descriptors.specs.NameTables.{IsTableOf, names_in};
+    ghost use Rattle.descriptors.specs.NameTables.{IsNameTable, names_in};
 
     ghost Value = { List (List ℕ) };
 
     ghost view = { λ c. names_in c.names };
 
-    ghost invariant = { λ c. IsTableOf (names_in c.names) c.numbers };
+    ghost invariant = { λ c. IsNameTable (names_in c.names) c.numbers };
 }
 
 impl<'a> ClassNumbers<'a> {

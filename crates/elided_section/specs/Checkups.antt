@@ -11,6 +11,6 @@ abbrev pub checkup : (noted found : ℕ) → Checkup
 checkup noted found = if found == word_of_lock (Free noted) then Same else Differs noted found
 
 -- what the check at the end of a section makes of the thread
-abbrev pub finished : Thread → Checkup → Thread
-finished s Same = elided s
-finished s (Differs noted found) = s
+abbrev pub section_finished : Thread → Checkup → Thread
+section_finished s Same = elided s
+section_finished s (Differs noted found) = s

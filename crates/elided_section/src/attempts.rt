@@ -4,7 +4,7 @@ ghost use Rattle.std.specs.Prelude.{◌≡◌, ◌<◌, ◌^◌, length, IfSome,
 ghost use Rattle.jvm_types.specs.declared.limits.TheConstants.{MOST_LIMIT};
 ghost use Rattle.machine_types.specs.Elision.{begins, fails};
 ghost use Rattle.frames.specs.KeptAttempts.{IsBased};
-ghost use Rattle.elided_section.specs.Checkups.{checkup, finished};
+ghost use Rattle.elided_section.specs.Checkups.{checkup, section_finished};
 ghost use Rattle.elided_section.specs.declared.checkup.Checkup.TheVariants.{Differs};
 
 use crate::checkup::{Checkup, compare};
@@ -41,7 +41,7 @@ pub fn finish(s: &mut ThreadState, found: u64) -> Checkup
     requires noted { IfSome s.old.attempt (λ a. a.noted < 2 ^ 62) }
     requires count { s.old.counts.elided < MOST_LIMIT }
     ensures result { IfSome s.old.attempt (λ a. result ≡ checkup a.noted found) }
-    ensures state { s.new ≡ finished s.old result }
+    ensures state { s.new ≡ section_finished s.old result }
 {
     let checkup = check(s, found);
     if checkup == Checkup::Same {

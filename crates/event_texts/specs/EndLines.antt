@@ -8,7 +8,7 @@ use Rattle.jvm_types.specs.declared.program.Program.{Program}
 use Rattle.machine_types.specs.declared.phase.Phase.{Phase}
 use Rattle.machine_types.specs.declared.phase.Phase.TheVariants as phases
 use Rattle.run_texts.specs.Report.{end_text, line}
-use Rattle.event_texts.specs.Lines.{head_text, spot_text}
+use Rattle.event_texts.specs.Lines.{event_head_text, event_spot_text}
 use Rattle.event_texts.specs.PhaseTexts.{phase_text}
 use Rattle.event_texts.specs.SharedWords.{SharedWord, Owner, Lock}
 use Rattle.event_texts.specs.declared.sights.Before.{Before}
@@ -38,10 +38,10 @@ holder_text zero = codes ""
 holder_text (suc t) = codes ", held by thread " ++ decimal t
 
 abbrev pub stop_line : Program → (number : ℕ) → Before → End → List ℕ
-stop_line p number b end = end_text end ++ codes ": " ++ head_text number b ++ spot_text p b.spot ++ phase_text b.phase ++ line (holder_text (holder end b))
+stop_line p number b end = end_text end ++ codes ": " ++ event_head_text number b ++ event_spot_text p b.spot ++ phase_text b.phase ++ line (holder_text (holder end b))
 
 -- of an event, by the phase behind it: nothing where no part came to an end, or where it returned
-abbrev pub end_line : Program → (number : ℕ) → Before → Phase → List ℕ
-end_line p number b (phases.Ending ends.Returned) = []
-end_line p number b (phases.Ending end) = stop_line p number b end
-end_line p number b phase = []
+abbrev pub event_end_line : Program → (number : ℕ) → Before → Phase → List ℕ
+event_end_line p number b (phases.Ending ends.Returned) = []
+event_end_line p number b (phases.Ending end) = stop_line p number b end
+event_end_line p number b phase = []

@@ -8,10 +8,10 @@ use Rattle.machine_types.specs.declared.access.Access.TheVariants.{Load, Rest}
 use Rattle.machine_types.specs.declared.attempt.AttemptHead.{AttemptHead}
 use Rattle.place_names.specs.PlaceText.{place_text}
 use Rattle.run_texts.specs.Report.{line}
-use Rattle.event_texts.specs.MarkTexts.{marks_text}
+use Rattle.event_texts.specs.MarkTexts.{event_marks_text}
 use Rattle.event_texts.specs.PhaseTexts.{phase_text}
 use Rattle.event_texts.specs.Shares.{Share, share_text}
-use Rattle.event_texts.specs.ValueTexts.{value_text, word_text}
+use Rattle.event_texts.specs.ValueTexts.{shared_value_text, word_text}
 use Rattle.event_texts.specs.declared.sights.Spot.{Spot}
 use Rattle.event_texts.specs.declared.sights.Before.{Before}
 use Rattle.event_texts.specs.declared.sights.After.{After}
@@ -20,17 +20,17 @@ abbrev pub inside_text : Option AttemptHead → List ℕ
 inside_text None = codes ""
 inside_text (Some a) = codes " in attempt " ++ decimal a.number
 
-abbrev pub head_text : (number : ℕ) → Before → List ℕ
-head_text number b = decimal number ++ codes " thread " ++ decimal b.thread ++ inside_text b.attempt
+abbrev pub event_head_text : (number : ℕ) → Before → List ℕ
+event_head_text number b = decimal number ++ codes " thread " ++ decimal b.thread ++ inside_text b.attempt
 
-abbrev pub spot_text : Program → Option Spot → List ℕ
-spot_text p None = []
-spot_text p (Some spot) = codes " " ++ place_text p spot.method spot.pc
+abbrev pub event_spot_text : Program → Option Spot → List ℕ
+event_spot_text p None = []
+event_spot_text p (Some spot) = codes " " ++ place_text p spot.method spot.pc
 
 -- a load leaves what it found
 abbrev pub value_words : Program → Before → After → (loads : Bool) → List ℕ
-value_words p b a true = codes " " ++ value_text p b.word b.found
-value_words p b a false = codes " " ++ value_text p b.word b.found ++ codes " -> " ++ value_text p b.word a.left
+value_words p b a true = codes " " ++ shared_value_text p b.word b.found
+value_words p b a false = codes " " ++ shared_value_text p b.word b.found ++ codes " -> " ++ shared_value_text p b.word a.left
 
 abbrev pub accessed_text : Program → (names : List (List ℕ)) → Before → After → (loads : Bool) → List ℕ
 accessed_text p names b a loads = codes ", " ++ word_text p names b.word ++ value_words p b a loads
@@ -41,5 +41,5 @@ access_text p names b a (Some Rest) = []
 access_text p names b a (Some (Load w)) = accessed_text p names b a true
 access_text p names b a (Some access) = accessed_text p names b a false
 
-abbrev pub line_text : Program → (names : List (List ℕ)) → (number : ℕ) → Before → Share → After → List ℕ
-line_text p names number b share a = head_text number b ++ spot_text p b.spot ++ phase_text b.phase ++ access_text p names b a b.access ++ line (marks_text b a ++ share_text share)
+abbrev pub event_line_text : Program → (names : List (List ℕ)) → (number : ℕ) → Before → Share → After → List ℕ
+event_line_text p names number b share a = event_head_text number b ++ event_spot_text p b.spot ++ phase_text b.phase ++ access_text p names b a b.access ++ line (event_marks_text b a ++ share_text share)

@@ -25,7 +25,7 @@ abbrev pub end_mark : Phase → List ℕ
 end_mark (phases.Ending e) = codes ", comes to its end: " ++ end_text e
 end_mark phase = codes ""
 
-abbrev pub marks_text : Before → After → List ℕ
-marks_text b a = attempt_mark b.attempt a.attempt (nat_lt b.counts.failed a.counts.failed)
+abbrev pub event_marks_text : Before → After → List ℕ
+event_marks_text b a = attempt_mark b.attempt a.attempt (nat_lt b.counts.failed a.counts.failed)
     ++ lock_mark (nat_lt b.counts.locked a.counts.locked) (nat_lt b.counts.inflated a.counts.inflated)
     ++ end_mark a.phase

@@ -3,7 +3,7 @@ use Rattle.std.specs.Prelude.{ℕ, List, ◌++◌, codes, Some, None}
 use Rattle.std.specs.Fmt.{decimal}
 use Rattle.machine_types.specs.declared.phase.Phase.{Phase}
 use Rattle.machine_types.specs.declared.phase.Phase.TheVariants as phases
-use Rattle.run_texts.specs.Report.{class_name, end_text}
+use Rattle.run_texts.specs.Report.{thrown_name, end_text}
 
 abbrev pub phase_text : Phase → List ℕ
 phase_text phases.Idle = codes ", idle"
@@ -12,7 +12,7 @@ phase_text phases.Run = codes ""
 phase_text (phases.Element word None) = codes ", loads the element"
 phase_text (phases.Element word (Some v)) = codes ", stores the element"
 phase_text (phases.Made a word) = codes ", stores the header"
-phase_text (phases.Throw x class) = codes ", throws " ++ class_name class
+phase_text (phases.Throw x class) = codes ", throws " ++ thrown_name class
 phase_text (phases.Enter m tried) = codes ", enters " ++ decimal m
 phase_text (phases.Acquire m) = codes ", looks at the lock of " ++ decimal m
 phase_text (phases.Take m count) = codes ", takes the lock of " ++ decimal m

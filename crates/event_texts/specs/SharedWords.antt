@@ -65,26 +65,26 @@ leave_word m (Some h) = kept_word m h.kept
 
 -- ---- all phases
 
-abbrev pub word_of : Thread → Option Doing → Phase → SharedWord
-word_of s d phases.Run = run_word (option_map head_of s.attempt) d
-word_of s d (phases.Element word stored) = element_of d
-word_of s d (phases.Made a word) = Header a
-word_of s d (phases.Throw x class) = tried_lock (option_map head_of s.attempt)
-word_of s d (phases.Enter m tried) = Lock m
-word_of s d (phases.Acquire m) = Lock m
-word_of s d (phases.Take m count) = Lock m
-word_of s d (phases.Flag m u) = Lock m
-word_of s d (phases.TakeFat m r) = Owner r
-word_of s d (phases.Leave m a) = leave_word m (held_at s.held m)
-word_of s d (phases.Grow m toward) = NextRecord
-word_of s d (phases.FlatOut m a) = Lock m
-word_of s d (phases.Own m r toward) = Owner r
-word_of s d (phases.FatIn m r toward) = Lock m
-word_of s d (phases.WaitBit m r) = Waiting r
-word_of s d (phases.WaitOut m r) = Owner r
-word_of s d (phases.WaitLook m r depth) = Waiting r
-word_of s d (phases.Retake m r depth) = Owner r
-word_of s d (phases.NotifyLook m r) = Waiting r
-word_of s d (phases.NotifyOne m r u) = Waiting r
-word_of s d (phases.NotifyAll m r) = Waiting r
-word_of s d phase = Null
+abbrev pub shared_word_of : Thread → Option Doing → Phase → SharedWord
+shared_word_of s d phases.Run = run_word (option_map head_of s.attempt) d
+shared_word_of s d (phases.Element word stored) = element_of d
+shared_word_of s d (phases.Made a word) = Header a
+shared_word_of s d (phases.Throw x class) = tried_lock (option_map head_of s.attempt)
+shared_word_of s d (phases.Enter m tried) = Lock m
+shared_word_of s d (phases.Acquire m) = Lock m
+shared_word_of s d (phases.Take m count) = Lock m
+shared_word_of s d (phases.Flag m u) = Lock m
+shared_word_of s d (phases.TakeFat m r) = Owner r
+shared_word_of s d (phases.Leave m a) = leave_word m (held_at s.held m)
+shared_word_of s d (phases.Grow m toward) = NextRecord
+shared_word_of s d (phases.FlatOut m a) = Lock m
+shared_word_of s d (phases.Own m r toward) = Owner r
+shared_word_of s d (phases.FatIn m r toward) = Lock m
+shared_word_of s d (phases.WaitBit m r) = Waiting r
+shared_word_of s d (phases.WaitOut m r) = Owner r
+shared_word_of s d (phases.WaitLook m r depth) = Waiting r
+shared_word_of s d (phases.Retake m r depth) = Owner r
+shared_word_of s d (phases.NotifyLook m r) = Waiting r
+shared_word_of s d (phases.NotifyOne m r u) = Waiting r
+shared_word_of s d (phases.NotifyAll m r) = Waiting r
+shared_word_of s d phase = Null

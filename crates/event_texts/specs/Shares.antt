@@ -13,12 +13,12 @@ pub use Rattle.event_texts.specs.declared.shares.Share.TheVariants.{Steps, Owes,
 -- ---- by the past of the thread
 
 -- a count stands still at the end of 64 bits
-abbrev pub counted : ℕ → ℕ
-counted n = min n (2 ^ 64 - 1)
+abbrev pub bounded_count : ℕ → ℕ
+bounded_count n = min n (2 ^ 64 - 1)
 
 -- how many steps are due of the open attempt
 abbrev pub owed : Past → ℕ
-owed d = counted (length d.due)
+owed d = bounded_count (length d.due)
 
 -- in an attempt, by what is shown of its event, and by how many steps were owed before it and are behind it
 abbrev pub inside_share : (shown : List Act) → (was now : ℕ) → Share
@@ -33,7 +33,7 @@ share_at c s (Some a) got d = inside_share (shown_at c s (Some a) got d) (owed d
 -- ---- the same by how many steps are owed, in place of a list of them
 
 abbrev pub share_in : List Act → Fate → (was : ℕ) → Share
-share_in acts GoesOn was = Owes (counted (was + length acts))
+share_in acts GoesOn was = Owes (bounded_count (was + length acts))
 share_in acts Fails was = Owes 0
 share_in acts Finishes was = Section was
 

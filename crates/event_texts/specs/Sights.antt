@@ -6,7 +6,7 @@ use Rattle.machine_types.specs.declared.access.Access.{Access}
 use Rattle.machine_types.specs.Frames.{top_of}
 use Rattle.machine_types.specs.Threads.{Frame, Thread, head_of}
 use Rattle.event_texts.specs.Doings.{doing_at}
-use Rattle.event_texts.specs.SharedWords.{word_of}
+use Rattle.event_texts.specs.SharedWords.{shared_word_of}
 use Rattle.event_texts.specs.declared.sights.Spot.{Spot}
 use Rattle.event_texts.specs.declared.sights.Before.{Before}
 use Rattle.event_texts.specs.declared.sights.After.{After}
@@ -22,13 +22,13 @@ before_of p s access found = record {
   spot = spot_of s.frames;
   phase = s.phase;
   access = access;
-  word = word_of s (option_map (doing_at p) (top_of p s.frames)) s.phase;
+  word = shared_word_of s (option_map (doing_at p) (top_of p s.frames)) s.phase;
   found = found;
   counts = s.counts;
 }
 
-abbrev pub after_of : Thread → (left : ℕ) → After
-after_of s left = record {
+abbrev pub after_event : Thread → (left : ℕ) → After
+after_event s left = record {
   attempt = option_map head_of s.attempt;
   phase = s.phase;
   counts = s.counts;

@@ -66,10 +66,10 @@ abbrev pub field_value : Option FieldInfo → ℕ → List ℕ
 field_value None n = decimal n
 field_value (Some f) n = kind_text f.kind n
 
-abbrev pub value_text : Program → SharedWord → ℕ → List ℕ
-value_text p (Lock m) n = lock_text (n % 4) (n / 4)
-value_text p (Owner r) n = owner_text n
-value_text p (Field a number) n = field_value (slice_get p.fields number) n
-value_text p (StaticField number) n = field_value (slice_get p.fields number) n
-value_text p (Element a index) n = signed_decimal (int_of n)
-value_text p word n = decimal n
+abbrev pub shared_value_text : Program → SharedWord → ℕ → List ℕ
+shared_value_text p (Lock m) n = lock_text (n % 4) (n / 4)
+shared_value_text p (Owner r) n = owner_text n
+shared_value_text p (Field a number) n = field_value (slice_get p.fields number) n
+shared_value_text p (StaticField number) n = field_value (slice_get p.fields number) n
+shared_value_text p (Element a index) n = signed_decimal (int_of n)
+shared_value_text p word n = decimal n

@@ -2,7 +2,7 @@
 
 ghost use Rattle.std.specs.Prelude.{◌≡◌, ◌<◌, ◌==◌, ◌^◌, [], ◌∷◌};
 ghost use Rattle.machine_types.specs.Frames.{top_of};
-ghost use Rattle.machine_types.specs.History.{acts_of, enter_acts, if_so, instruction_acts, leave_acts, notified, release_acts, run_acts};
+ghost use Rattle.machine_types.specs.History.{acts_of, enter_acts, act_if, instruction_acts, leave_acts, notify_acts, release_acts, run_acts};
 ghost use Rattle.machine_types.specs.HeldMonitors.{held_at};
 ghost use Rattle.machine_types.specs.Lawful.{IsLawful};
 ghost use Rattle.machine_types.specs.LockWords.{word_of_lock};
@@ -87,14 +87,14 @@ impl Acts {
 }
 
 fn if_so(so: bool, act: Act) -> Acts
-    ensures { result ≡ if_so so act }
+    ensures { result ≡ act_if so act }
 {
     if so { Acts::one(act) } else { Acts::none() }
 }
 
 /// A notification, which on a flat lock is done with its instruction.
 fn notified(held: Option<Held>, act: Act) -> Acts
-    ensures { result ≡ notified held act }
+    ensures { result ≡ notify_acts held act }
 {
     match held {
         Some(h) => match h.kept {

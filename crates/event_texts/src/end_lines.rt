@@ -1,7 +1,7 @@
 //! Where a part of a thread came to an end that is no return, as a line.
 
 ghost use Rattle.std.specs.Prelude.{◌≡◌, ◌++◌, ◌%◌, ◌/◌, codes, OnOk};
-ghost use Rattle.event_texts.specs.EndLines.{end_line, holder, holder_text, lock_owner, stop_line};
+ghost use Rattle.event_texts.specs.EndLines.{event_end_line, holder, holder_text, lock_owner, stop_line};
 ghost use Rattle.run_texts.specs.Report.{end_text, line};
 
 use crate::lines::{write_head, write_phase, write_spot};
@@ -102,7 +102,7 @@ pub fn write_end_line(
     before: &Before,
     after: &After,
 ) -> Result<(), AllocError>
-    ensures { OnOk result (text.new.items ≡ text.old.items ++ end_line c.now.program number before.now after.now.phase) }
+    ensures { OnOk result (text.new.items ≡ text.old.items ++ event_end_line c.now.program number before.now after.now.phase) }
 {
     match after.phase {
         Phase::Ending(End::Returned) => Ok(()),

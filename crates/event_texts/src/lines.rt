@@ -2,8 +2,8 @@
 
 ghost use Rattle.std.specs.Prelude.{◌≡◌, ◌++◌, OnOk};
 ghost use Rattle.run_texts.specs.Report.{line};
-ghost use Rattle.event_texts.specs.Lines.{access_text, head_text, line_text, spot_text, value_words};
-ghost use Rattle.event_texts.specs.MarkTexts.{marks_text};
+ghost use Rattle.event_texts.specs.Lines.{access_text, event_head_text, event_line_text, event_spot_text, value_words};
+ghost use Rattle.event_texts.specs.MarkTexts.{event_marks_text};
 ghost use Rattle.event_texts.specs.PhaseTexts.{phase_text};
 ghost use Rattle.event_texts.specs.Shares.{share_text};
 
@@ -47,7 +47,7 @@ pub(crate) fn write_head(
     number: u64,
     before: &Before,
 ) -> Result<(), AllocError>
-    ensures { OnOk result (text.new.items ≡ text.old.items ++ head_text number before.now) }
+    ensures { OnOk result (text.new.items ≡ text.old.items ++ event_head_text number before.now) }
 {
     let thread = before.thread;
     let inside = InsideText(before.attempt);
@@ -63,7 +63,7 @@ pub(crate) fn write_spot(
     c: &Checked,
     spot: Option<Spot>,
 ) -> Result<(), AllocError>
-    ensures { OnOk result (text.new.items ≡ text.old.items ++ spot_text c.now.program spot) }
+    ensures { OnOk result (text.new.items ≡ text.old.items ++ event_spot_text c.now.program spot) }
 {
     match spot {
         Some(spot) => {
@@ -137,7 +137,7 @@ fn write_marks(
     share: &Share,
     after: &After,
 ) -> Result<(), AllocError>
-    ensures { OnOk result (text.new.items ≡ text.old.items ++ line (marks_text before.now after.now ++ share_text share.now)) }
+    ensures { OnOk result (text.new.items ≡ text.old.items ++ line (event_marks_text before.now after.now ++ share_text share.now)) }
 {
     let marks = MarksText(*before, *after);
     let mut words = String::new(alloc);
@@ -158,7 +158,7 @@ pub fn write_line(
     share: &Share,
     after: &After,
 ) -> Result<(), AllocError>
-    ensures { OnOk result (text.new.items ≡ text.old.items ++ line_text c.now.program names.now number before.now share.now after.now) }
+    ensures { OnOk result (text.new.items ≡ text.old.items ++ event_line_text c.now.program names.now number before.now share.now after.now) }
 {
     write_head(text, alloc, number, before)?;
     write_spot(text, alloc, c, before.spot)?;

@@ -82,9 +82,9 @@ pub struct MarksText(pub Before, pub After);
 
 impl fmt::Display for MarksText {
     ghost use Rattle.std.specs.Prelude.{Some};
-    ghost use Rattle.event_texts.specs.MarkTexts.{marks_text};
+    ghost use Rattle.event_texts.specs.MarkTexts.{event_marks_text};
 
-    ghost output = { λ m. Some (marks_text m.0 m.1) };
+    ghost output = { λ m. Some (event_marks_text m.0 m.1) };
 
     fn fmt<W: fmt::Write>(&self, f: &mut fmt::Formatter<W>) -> fmt::Result {
         let was = self.0.counts;

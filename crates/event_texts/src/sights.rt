@@ -2,7 +2,7 @@
 
 ghost use Rattle.std.specs.Prelude.{◌≡◌, ◌<◌, length};
 ghost use Rattle.frames.specs.FrameLists.{top};
-ghost use Rattle.event_texts.specs.Sights.{after_of, before_of, spot_of};
+ghost use Rattle.event_texts.specs.Sights.{after_event, before_of, spot_of};
 
 use crate::doing::next_doing;
 use crate::words::{SharedWord, word_of};
@@ -77,7 +77,7 @@ pub fn see_before(s: &ThreadState, p: &Checked, access: Option<Access>, found: u
 
 /// A thread behind its event, which left this in its word.
 pub fn see_after(s: &ThreadState, left: u64) -> After
-    ensures { result ≡ after_of s.now left }
+    ensures { result ≡ after_event s.now left }
 {
     After {
         attempt: s.attempt(),

@@ -1,7 +1,7 @@
 //! The words that threads share, and what stands in them, as text.
 
 ghost use Rattle.std.specs.Prelude.{◌≡◌, ◌++◌, slice_get, OnOk};
-ghost use Rattle.event_texts.specs.ValueTexts.{field_class, field_name, field_value, object_text, value_text, word_text};
+ghost use Rattle.event_texts.specs.ValueTexts.{field_class, field_name, field_value, object_text, shared_value_text, word_text};
 
 use crate::words::SharedWord;
 use instr_effects::ints::int_of;
@@ -134,7 +134,7 @@ pub fn write_value(
     word: SharedWord,
     n: u64,
 ) -> Result<(), AllocError>
-    ensures { OnOk result (text.new.items ≡ text.old.items ++ value_text p.now word n) }
+    ensures { OnOk result (text.new.items ≡ text.old.items ++ shared_value_text p.now word n) }
 {
     let mut words = String::new(alloc);
     match word {

@@ -35,5 +35,5 @@ asks s phase = false
 abbrev pub asked_in : Thread → Phase → Option Access
 asked_in s phase = if asks s phase then wanted s.program s phase else None
 
-abbrev pub asked : Thread → Option Access
-asked s = asked_in s s.phase
+abbrev pub asked_access : Thread → Option Access
+asked_access s = asked_in s s.phase

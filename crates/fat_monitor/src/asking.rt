@@ -6,7 +6,7 @@ ghost use Rattle.jvm_types.specs.declared.limits.TheConstants.{MOST_WORKERS};
 ghost use Rattle.machine_types.specs.Bounds.{KeptFits, PhaseFits};
 ghost use Rattle.machine_types.specs.HeldMonitors.{held_at};
 ghost use Rattle.machine_types.specs.Monitors.{claim, count_kept, freed, leave_wants, release};
-ghost use Rattle.fat_monitor.specs.Asking.{asked, asked_in, is_last_exit};
+ghost use Rattle.fat_monitor.specs.Asking.{asked_access, asked_in, is_last_exit};
 
 use crate::bits::{all_but, bit_of};
 use frames::ThreadState;
@@ -111,7 +111,7 @@ pub fn ask(s: &ThreadState) -> Option<Access>
     requires number { s.now.number ≤ MOST_WORKERS }
     requires phase { PhaseFits s.now.phase }
     requires kept { AllByRecursion (λ h. KeptFits h.kept) s.now.held }
-    ensures { result ≡ asked s.now }
+    ensures { result ≡ asked_access s.now }
 {
     ask_in(s, s.phase())
 }

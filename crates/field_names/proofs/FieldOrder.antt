@@ -3,14 +3,14 @@ use Rattle.std.proofs.Common.{◌≡◌, ℕ, ◌+◌, List, [], ◌∷◌, ◌+
 use Rattle.std.proofs.lemmas.List.{map-append}
 use Rattle.std.specs.List.{AllZip}
 use Rattle.jvm_types.specs.ClassNames.{text_at}
-use Rattle.jvm_types.specs.Layout.{class_words, fields_from, fields_of}
+use Rattle.jvm_types.specs.Layout.{class_word_count, fields_from, fields_of}
 use Rattle.jvm_types.specs.Members.{Declared, declared_by, declared_from, is_static, name_of}
 use Rattle.jvm_types.specs.declared.class_file.ClassFile.{ClassFile}
 use Rattle.jvm_types.specs.declared.class_file.Constant.{Constant}
 use Rattle.jvm_types.specs.declared.class_file.Member.{Member as ClassMember}
 use Rattle.jvm_types.specs.declared.program.FieldInfo.{FieldInfo}
 use Rattle.jvm_types.specs.declared.program.Program.{Program}
-use Rattle.field_names.specs.FieldNames.{names_of, IsDeclaredBy, NameFields, NamesAreInOrder}
+use Rattle.field_names.specs.FieldNames.{all_field_names, IsDeclaredBy, NameFields, NamesAreInOrder}
 
 zip_append : (xs us : List Declared) (ys vs : List FieldInfo) → AllZip IsDeclaredBy xs ys → AllZip IsDeclaredBy us vs → AllZip IsDeclaredBy (xs ++ us) (ys ++ vs)
 zip_append [] us [] vs h k = k
@@ -25,13 +25,13 @@ of_class names file pool number place word (m ∷ ms) = (record { class = refl; 
 of_classes : (names : List (List ℕ)) (file word : ℕ) (cs : List ClassFile) → AllZip IsDeclaredBy (declared_by (λ c. c.fields) file cs) (fields_from names file word cs)
 of_classes names file word [] = tt
 of_classes names file word (c ∷ cs) = zip_append (declared_from file c.constants 0 c.fields) (declared_by (λ c. c.fields) (file + 1) cs) _ _
-    (of_class names file c.constants 0 0 (word + 2) c.fields) (of_classes names (file + 1) (word + class_words c) cs)
+    (of_class names file c.constants 0 0 (word + 2) c.fields) (of_classes names (file + 1) (word + class_word_count c) cs)
 
 named_in : (file number : ℕ) (pool : List Constant) (ms : List ClassMember) → map (λ m. text_at pool m.name) ms ≡ map name_of (declared_from file pool number ms)
 named_in file number pool [] = refl
 named_in file number pool (m ∷ ms) = λ i. text_at pool m.name ∷ named_in file (number + 1) pool ms i
 
-named : (file : ℕ) (cs : List ClassFile) → names_of cs ≡ map name_of (declared_by (λ c. c.fields) file cs)
+named : (file : ℕ) (cs : List ClassFile) → all_field_names cs ≡ map name_of (declared_by (λ c. c.fields) file cs)
 named file [] = refl
 named file (c ∷ cs) = (λ i. named_in file 0 c.constants c.fields i ++ named (file + 1) cs i) ∙ sym (map-append name_of (declared_from file c.constants 0 c.fields) (declared_by (λ c. c.fields) (file + 1) cs))
 

@@ -5,11 +5,11 @@ use Rattle.std.specs.List.{AllZip}
 use Rattle.std.specs.Prelude.{slice_index_or}
 use Rattle.jvm_types.specs.ClassGrammar.{Spells}
 use Rattle.jvm_types.specs.declared.class_file.ClassFile.{ClassFile}
-use Rattle.field_names.specs.FieldNames.{names_in, names_of}
+use Rattle.field_names.specs.FieldNames.{field_names_in, all_field_names}
 
 -- the names of the files before a number, where those of the others complete them
 abbrev pub AreNamed : (files : List (List ℕ)) → (i : ℕ) → (names : List (List ℕ)) → Type 0
-AreNamed files i names = (classes : List ClassFile) → AllZip Spells files classes → (rest : List ClassFile) × AllZip Spells (drop i files) rest × (names ++ names_of rest ≡ names_of classes)
+AreNamed files i names = (classes : List ClassFile) → AllZip Spells files classes → (rest : List ClassFile) × AllZip Spells (drop i files) rest × (names ++ all_field_names rest ≡ all_field_names classes)
 
 drop_next : (xs : List (List ℕ)) (i : ℕ) (x : List ℕ) → i < length xs → slice_index_or xs i x ≡ x → drop i xs ≡ x ∷ drop (i + 1) xs
 drop_next xs i x h e = let next : suc i ≡ i + 1 = omega arith in by_item xs i h e ∙ ap (λ (k : ℕ). x ∷ drop k xs) next
@@ -19,12 +19,12 @@ drop_next xs i x h e = let next : suc i ≡ i + 1 = omega arith in by_item xs i 
     by_item (y ∷ ys) zero h e = ap (λ (z : List ℕ). z ∷ ys) e
     by_item (y ∷ ys) (suc i) h e = by_item ys i (omega (arith, h)) e
 
-pub one_more : (files names more : List (List ℕ)) (i : ℕ) (file : List ℕ) → i < length files → slice_index_or files i file ≡ file → ((c : ClassFile) → Spells file c → more ≡ names ++ names_in c) → AreNamed files i names → AreNamed files (i + 1) more
+pub one_more : (files names more : List (List ℕ)) (i : ℕ) (file : List ℕ) → i < length files → slice_index_or files i file ≡ file → ((c : ClassFile) → Spells file c → more ≡ names ++ field_names_in c) → AreNamed files i names → AreNamed files (i + 1) more
 one_more files names more i file h e add so classes all = let left = so classes all in by_rest left.0 (subst (λ (fs : List (List ℕ)). AllZip Spells fs left.0) (drop_next files i file h e) left.1) left.2
   where
-    by_rest : (rest : List ClassFile) → AllZip Spells (file ∷ drop (i + 1) files) rest → names ++ names_of rest ≡ names_of classes → (after : List ClassFile) × AllZip Spells (drop (i + 1) files) after × (more ++ names_of after ≡ names_of classes)
+    by_rest : (rest : List ClassFile) → AllZip Spells (file ∷ drop (i + 1) files) rest → names ++ all_field_names rest ≡ all_field_names classes → (after : List ClassFile) × AllZip Spells (drop (i + 1) files) after × (more ++ all_field_names after ≡ all_field_names classes)
     by_rest [] a is = absurd a
-    by_rest (c ∷ cs) a is = (cs, a.1, ap (λ (ns : List (List ℕ)). ns ++ names_of cs) (add c a.0) ∙ append_assoc names (names_in c) (names_of cs) ∙ is)
+    by_rest (c ∷ cs) a is = (cs, a.1, ap (λ (ns : List (List ℕ)). ns ++ all_field_names cs) (add c a.0) ∙ append_assoc names (field_names_in c) (all_field_names cs) ∙ is)
 
 drop_over : (xs : List (List ℕ)) (i : ℕ) → length xs ≤ i → drop i xs ≡ []
 drop_over [] zero h = refl
@@ -32,9 +32,9 @@ drop_over [] (suc i) h = refl
 drop_over (x ∷ xs) zero h = absurd (omega (arith, h))
 drop_over (x ∷ xs) (suc i) h = drop_over xs i (omega (arith, h))
 
-pub all_named : (files names : List (List ℕ)) (i : ℕ) → length files ≤ i → AreNamed files i names → (classes : List ClassFile) → AllZip Spells files classes → names ≡ names_of classes
+pub all_named : (files names : List (List ℕ)) (i : ℕ) → length files ≤ i → AreNamed files i names → (classes : List ClassFile) → AllZip Spells files classes → names ≡ all_field_names classes
 all_named files names i h so classes all = let left = so classes all in by_rest left.0 (subst (λ (fs : List (List ℕ)). AllZip Spells fs left.0) (drop_over files i h) left.1) left.2
   where
-    by_rest : (rest : List ClassFile) → AllZip Spells [] rest → names ++ names_of rest ≡ names_of classes → names ≡ names_of classes
+    by_rest : (rest : List ClassFile) → AllZip Spells [] rest → names ++ all_field_names rest ≡ all_field_names classes → names ≡ all_field_names classes
     by_rest [] a is = sym (append-nil names) ∙ is
     by_rest (c ∷ cs) a is = absurd a

@@ -5,7 +5,7 @@ ghost use Rattle.std.specs.List.{AllZip};
 ghost use Rattle.jvm_types.specs.ClassGrammar.{Spells};
 ghost use Rattle.jvm_types.specs.ClassNames.{text_at};
 ghost use Rattle.jvm_types.specs.declared.class_file.ClassFile.{ClassFile as Class};
-ghost use Rattle.field_names.specs.FieldNames.{names_in, names_of, NamesAreInOrder};
+ghost use Rattle.field_names.specs.FieldNames.{field_names_in, all_field_names, NamesAreInOrder};
 
 use class_reader::{ReadError, read_class};
 use constant_pools::pool_texts::text_at;
@@ -29,7 +29,7 @@ fn add_names(
 
 /// Adds the names of the fields of the class that a file spells; none where it spells no class.
 fn add_file(names: &mut Rows<Bytes>, alloc: Global, file: &Bytes) -> Result<(), AllocError>
-    ensures { OnOk result ((c : Class) → Spells file.now c → names.new ≡ names.old ++ names_in c) }
+    ensures { OnOk result ((c : Class) → Spells file.now c → names.new ≡ names.old ++ field_names_in c) }
 {
     match read_class(alloc, file) {
         Ok(class) => add_names(names, alloc, &class.constants, class.fields.as_slice()),
@@ -41,7 +41,7 @@ fn add_file(names: &mut Rows<Bytes>, alloc: Global, file: &Bytes) -> Result<(), 
 /// The names of the fields of the classes that some files spell, in the order of the files and of their fields (JVMS 4.5): that
 /// in which the program that the files are linked to has its fields (`names_are_in_order`).
 pub fn field_names(alloc: Global, files: &Rows<Bytes>) -> Result<Rows<Bytes>, AllocError>
-    ensures { IfOk result (λ names. (classes : List Class) → AllZip Spells files.now classes → names ≡ names_of classes) }
+    ensures { IfOk result (λ names. (classes : List Class) → AllZip Spells files.now classes → names ≡ all_field_names classes) }
 {
     let mut names = Rows::new(alloc);
     for file in files.as_slice() {

@@ -31,11 +31,11 @@ pub struct FrameStack {
 impl Model for FrameStack {
     ghost use Rattle.std.specs.Prelude.{drop, slice_set};
     ghost use Rattle.frames.specs.FrameLists.{Frames};
-    ghost use Rattle.frames.specs.Laid.{frames_of, Laid};
+    ghost use Rattle.frames.specs.Laid.{laid_frames, Laid};
 
     ghost Value = { Frames };
 
-    ghost view = { λ s. record { program = s.program.told; frames = frames_of (drop s.start (slice_set s.heads.items s.start s.top)) (drop s.free s.slots.items) } };
+    ghost view = { λ s. record { program = s.program.told; frames = laid_frames (drop s.start (slice_set s.heads.items s.start s.top)) (drop s.free s.slots.items) } };
 
     ghost invariant = { λ s. Laid s.program.told (slice_set s.heads.items s.start s.top) s.start s.slots.items s.free };
 }
@@ -235,7 +235,7 @@ impl FrameStack {
 impl FrameStack {
     ghost use Rattle.std.specs.Prelude.{slice_get, Some, true, false, OnOk, OnErr};
     ghost use Rattle.machine_types.specs.Frames.{has_room};
-    ghost use Rattle.frames.specs.FrameLists.{argument_count, called, rooted, entered, HasArguments};
+    ghost use Rattle.frames.specs.FrameLists.{argument_count, frames_of_call, frames_of_root, frames_entered, HasArguments};
 
     /// Whether a frame of the method fits on those that are there.
     #[inline(always)]
@@ -253,7 +253,7 @@ impl FrameStack {
         requires room { has_room self.old.program self.old.frames m.now ≡ true }
         requires frame { 0 < length self.old.frames }
         requires given { argument_count m.now ≤ length (top self.old.frames).stack }
-        ensures { self.new ≡ record self.old { frames = called number m.now (top self.old.frames) (below self.old.frames) } }
+        ensures { self.new ≡ record self.old { frames = frames_of_call number m.now (top self.old.frames) (below self.old.frames) } }
     {
         let stack = m.max_stack as usize;
         let locals = m.max_locals as usize;
@@ -282,7 +282,7 @@ impl FrameStack {
         requires fits { argument_count m.now ≤ m.now.max_locals }
         requires room { has_room self.old.program self.old.frames m.now ≡ true }
         requires none { self.old.frames ≡ [] }
-        ensures { self.new ≡ record self.old { frames = rooted t number m.now } }
+        ensures { self.new ≡ record self.old { frames = frames_of_root t number m.now } }
     {
         let stack = m.max_stack as usize;
         let locals = m.max_locals as usize;
@@ -307,7 +307,7 @@ impl FrameStack {
         requires method { slice_get self.old.program.methods number ≡ Some m.now }
         requires fits { argument_count m.now ≤ m.now.max_locals }
         requires given { HasArguments m.now self.old.frames }
-        ensures ok { OnOk result (self.new ≡ record self.old { frames = entered t number m.now self.old.frames }) }
+        ensures ok { OnOk result (self.new ≡ record self.old { frames = frames_entered t number m.now self.old.frames }) }
         ensures room { OnOk result (has_room self.old.program self.old.frames m.now ≡ true) }
         ensures err { OnErr result (self.new ≡ self.old) }
         ensures full { OnErr result (has_room self.old.program self.old.frames m.now ≡ false) }

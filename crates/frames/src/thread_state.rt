@@ -7,7 +7,7 @@ ghost use Rattle.machine_types.specs.Frames.{has_room};
 ghost use Rattle.jvm_types.specs.declared.limits.TheConstants.{MOST_FRAMES};
 ghost use Rattle.machine_types.specs.HeldMonitors.{held_at, with_held, without_held, places_of};
 ghost use Rattle.machine_types.specs.Threads.{Frame, Attempt, head_of};
-ghost use Rattle.frames.specs.FrameLists.{top, below, with_top, max_stack, entered, HasArguments};
+ghost use Rattle.frames.specs.FrameLists.{top, below, with_top, max_stack, frames_entered, HasArguments};
 ghost use Rattle.frames.specs.KeptAttempts.{IsBased, restored, with_inner};
 ghost use Rattle.frames.specs.RootLists.{later_roots};
 ghost use Rattle.frames.specs.ThreadParts.{start_phase, part_begun};
@@ -484,7 +484,7 @@ impl ThreadState {
         requires program { p.now ≡ self.old.program }
         requires method { method < length p.now.program.methods }
         requires given { IfSome (slice_get p.now.program.methods method) (λ m. HasArguments m self.old.frames) }
-        ensures ok { OnOk result (IfSome (slice_get p.now.program.methods method) (λ m. self.new ≡ record self.old { frames = entered self.old.number method m self.old.frames })) }
+        ensures ok { OnOk result (IfSome (slice_get p.now.program.methods method) (λ m. self.new ≡ record self.old { frames = frames_entered self.old.number method m self.old.frames })) }
         ensures room { OnOk result (IfSome (slice_get p.now.program.methods method) (λ m. has_room p.now.program self.old.frames m ≡ true)) }
         ensures err { OnErr result (self.new ≡ self.old) }
         ensures full { OnErr result (IfSome (slice_get p.now.program.methods method) (λ m. has_room p.now.program self.old.frames m ≡ false)) }

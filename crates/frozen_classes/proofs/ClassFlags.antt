@@ -17,7 +17,7 @@ use Rattle.checked_program.specs.TaggedCode.{tagged_by}
 use Rattle.checked_program.specs.FrozenPlaces.{KeepsInside, IsFrozenClass}
 use Rattle.checked_program.specs.declared.tag.Tags.{Tags}
 use Rattle.frozen_classes.specs.FrozenClasses.{TellsFrozen, AreFrozenClasses}
-use Rattle.frozen_classes.specs.KeptThis.{keeps_all, leak_of, noted, frozen_upto}
+use Rattle.frozen_classes.specs.KeptThis.{keeps_all, leak_of, class_noted, frozen_upto}
 use Rattle.frozen_classes.proofs.KeptInside.{is_inside, passes_all}
 
 not_le : (a b : ℕ) → nat_le a b ≡ false → b < a
@@ -25,7 +25,7 @@ not_le a b = grind (arith, nat_tests)
 
 -- ---- one note
 
-pub noted_long : (flags : List Bool) (o : Option ℕ) → length (noted flags o) ≡ length flags
+pub noted_long : (flags : List Bool) (o : Option ℕ) → length (class_noted flags o) ≡ length flags
 noted_long flags None = refl
 noted_long flags (Some c) = by_test (nat_le (file_class 0) c && nat_lt (c - file_class 0) (length flags))
   where
@@ -33,7 +33,7 @@ noted_long flags (Some c) = by_test (nat_le (file_class 0) c && nat_lt (c - file
     by_test true = length-set flags (c - file_class 0) false
     by_test false = refl
 
-stays_noted : (flags : List Bool) (o : Option ℕ) (k : ℕ) → slice_index_or flags k false ≡ false → slice_index_or (noted flags o) k false ≡ false
+stays_noted : (flags : List Bool) (o : Option ℕ) (k : ℕ) → slice_index_or flags k false ≡ false → slice_index_or (class_noted flags o) k false ≡ false
 stays_noted flags None k e = e
 stays_noted flags (Some c) k e = by_test (nat_le (file_class 0) c) (nat_lt (c - file_class 0) (length flags)) refl
   where
@@ -44,7 +44,7 @@ stays_noted flags (Some c) k e = by_test (nat_le (file_class 0) c) (nat_lt (c - 
     by_test true false h = e
     by_test false d h = e
 
-noted_here : (flags : List Bool) (k : ℕ) → slice_index_or (noted flags (Some (file_class k))) k false ≡ false
+noted_here : (flags : List Bool) (k : ℕ) → slice_index_or (class_noted flags (Some (file_class k))) k false ≡ false
 noted_here flags k = by_test (nat_le (file_class 0) (file_class k)) (nat_lt (file_class k - file_class 0) (length flags)) refl refl
   where
     place : file_class k - file_class 0 ≡ k
@@ -55,7 +55,7 @@ noted_here flags k = by_test (nat_le (file_class 0) (file_class k)) (nat_lt (fil
     by_test true false g h = get_or_past flags k false (subst (λ (j : ℕ). length flags ≤ j) place (ltb-false (file_class k - file_class 0) (length flags) h))
     by_test false d g h = absurd (omega (arith, not_le (file_class 0) (file_class k) g))
 
-noted_by : (flags : List Bool) (o : Option ℕ) (k : ℕ) → slice_index_or (noted flags o) k false ≡ false → (slice_index_or flags k false ≡ false) ⊎ (o ≡ Some (file_class k))
+noted_by : (flags : List Bool) (o : Option ℕ) (k : ℕ) → slice_index_or (class_noted flags o) k false ≡ false → (slice_index_or flags k false ≡ false) ⊎ (o ≡ Some (file_class k))
 noted_by flags None k e = inl e
 noted_by flags (Some c) k e = by_test (nat_le (file_class 0) c) (nat_lt (c - file_class 0) (length flags)) refl e
   where
@@ -77,7 +77,7 @@ module _ (p : Program) (tags : List Tags) where
   noted_in zero u k l e = absurd (omega (arith, l))
   noted_in (suc n) u k l e = ⊎_elim
       (λ (q : u ≡ n). let last : leak_of p (slice_get p.methods n) (slice_get tags n) ≡ Some (file_class k) = subst (λ (j : ℕ). leak_of p (slice_get p.methods j) (slice_get tags j) ≡ Some (file_class k)) q e in
-      subst (λ (o : Option ℕ). slice_index_or (noted (frozen_upto p tags n) o) k false ≡ false) (sym last) (noted_here (frozen_upto p tags n) k))
+      subst (λ (o : Option ℕ). slice_index_or (class_noted (frozen_upto p tags n) o) k false ≡ false) (sym last) (noted_here (frozen_upto p tags n) k))
       (λ (q : u ≢ n). stays_noted (frozen_upto p tags n) (leak_of p (slice_get p.methods n) (slice_get tags n)) k (noted_in n u k (omega (arith, l, q)) e)) (cases_eq u n)
 
   some_noted : (n k : ℕ) → k < length p.names → slice_index_or (frozen_upto p tags n) k false ≡ false → (u : ℕ) × (leak_of p (slice_get p.methods u) (slice_get tags u) ≡ Some (file_class k))

@@ -26,7 +26,7 @@ use Rattle.checked_program.specs.TaggedCode.{Tagged, IsAt, Goes, onward, caught,
 use Rattle.checked_program.specs.FrozenPlaces.{may_take, KeepThis, KeepsThis, is_final_of, PutsOnThis, KeepsInside}
 use Rattle.checked_program.specs.declared.tag.Tag.{Tag}
 use Rattle.checked_program.specs.declared.tag.Tag.TheVariants.{Untagged, This}
-use Rattle.frozen_classes.specs.KeptThis.{all_before, this_at, keeps_after, keeps_caught, reached_frame, frame_of, passes, passes_at, joins_all, catches_well, caught_well, takes_well, puts_well, keeps_here, keeps_at, begins_well, keeps_all}
+use Rattle.frozen_classes.specs.KeptThis.{all_before, this_at, keeps_after, keeps_caught, reached_frame, reached_frame_at, passes_test, passes_at, joins_all, catches_well, caught_well, takes_well, puts_well, keeps_here, keeps_at, begins_well, keeps_all}
 use Rattle.frozen_classes.proofs.KeptPlaces.{implies, all_each, all_from, after_from, after_to, caught_from, caught_to}
 use Rattle.checked_program.proofs.FrozenChecks.{that_is_this, implied}
 
@@ -80,10 +80,10 @@ module _ (m : MethodInfo) (frames : List (Option TagShape)) where
 
 -- ---- what stands at a number
 
-passes_each : (test : TagShape → Bool) (oi : Option Insn) (ot : Option Target) (of : Option (Option TagShape)) (insn : Insn) (target : Target) (g : TagShape) → oi ≡ Some insn → ot ≡ Some target → of ≡ Some (Some g) → passes test (reached_frame oi ot of) ≡ true → test g ≡ true
-passes_each test oi ot of insn target g a b c e = let there : reached_frame oi ot of ≡ Some g = rw (a, b, c) refl in subst (λ (o : Option TagShape). passes test o ≡ true) there e
+passes_each : (test : TagShape → Bool) (oi : Option Insn) (ot : Option Target) (of : Option (Option TagShape)) (insn : Insn) (target : Target) (g : TagShape) → oi ≡ Some insn → ot ≡ Some target → of ≡ Some (Some g) → passes_test test (reached_frame oi ot of) ≡ true → test g ≡ true
+passes_each test oi ot of insn target g a b c e = let there : reached_frame oi ot of ≡ Some g = rw (a, b, c) refl in subst (λ (o : Option TagShape). passes_test test o ≡ true) there e
 
-passes_from : (test : TagShape → Bool) (oi : Option Insn) (ot : Option Target) (of : Option (Option TagShape)) → ((insn : Insn) (target : Target) (g : TagShape) → oi ≡ Some insn → ot ≡ Some target → of ≡ Some (Some g) → test g ≡ true) → passes test (reached_frame oi ot of) ≡ true
+passes_from : (test : TagShape → Bool) (oi : Option Insn) (ot : Option Target) (of : Option (Option TagShape)) → ((insn : Insn) (target : Target) (g : TagShape) → oi ≡ Some insn → ot ≡ Some target → of ≡ Some (Some g) → test g ≡ true) → passes_test test (reached_frame oi ot of) ≡ true
 passes_from test (Some insn) (Some target) (Some (Some g)) h = h insn target g refl refl refl
 passes_from test (Some insn) (Some target) (Some None) h = refl
 passes_from test (Some insn) (Some target) None h = refl
@@ -160,8 +160,8 @@ module _ (p : Program) (tags : Tagged) (mi : ℕ) (m : MethodInfo) (frames : Lis
   -- ---- from the tests
 
   module _ (e : keeps_all p m frames ≡ true) where
-    parts : (begins_well m (frame_of m frames 0) ≡ true) × (all_before (λ i. keeps_at p m frames (slice_get m.code i) (slice_get m.targets i) (slice_get frames i)) (length m.code) ≡ true)
-    parts = and_parts (begins_well m (frame_of m frames 0)) (all_before (λ i. keeps_at p m frames (slice_get m.code i) (slice_get m.targets i) (slice_get frames i)) (length m.code)) e
+    parts : (begins_well m (reached_frame_at m frames 0) ≡ true) × (all_before (λ i. keeps_at p m frames (slice_get m.code i) (slice_get m.targets i) (slice_get frames i)) (length m.code) ≡ true)
+    parts = and_parts (begins_well m (reached_frame_at m frames 0)) (all_before (λ i. keeps_at p m frames (slice_get m.code i) (slice_get m.targets i) (slice_get frames i)) (length m.code)) e
 
     here : (i : ℕ) (insn : Insn) (target : Target) (f : TagShape) → IsAt p tags mi i m insn target f → keeps_here p m frames insn target (row_of p m insn target) f ≡ true
     here i insn target f at =
@@ -205,7 +205,7 @@ module _ (p : Program) (tags : Tagged) (mi : ℕ) (m : MethodInfo) (frames : Lis
   -- ---- to the tests
 
   module _ (inside : KeepsInside p tags mi m) where
-    begins : begins_well m (frame_of m frames 0) ≡ true
+    begins : begins_well m (reached_frame_at m frames 0) ≡ true
     begins = passes_from (λ (f : TagShape). is_static m.flags || this_at f.locals 0) (slice_get m.code 0) (slice_get m.targets 0) (slice_get frames 0)
         (λ insn target f a b c. entry_to (is_static m.flags) m.max_locals f.locals (inside.entered insn target f (is_at 0 insn target f a b c)).locals)
 
@@ -230,6 +230,6 @@ module _ (p : Program) (tags : Tagged) (mi : ℕ) (m : MethodInfo) (frames : Lis
           (and_from (joins_all m frames (row_of p m insn target) f (edges insn)) (caught_well m frames f insn) joins_to catches_to))
 
     pub passes_all : keeps_all p m frames ≡ true
-    passes_all = and_from (begins_well m (frame_of m frames 0)) (all_before (λ i. keeps_at p m frames (slice_get m.code i) (slice_get m.targets i) (slice_get frames i)) (length m.code)) begins
+    passes_all = and_from (begins_well m (reached_frame_at m frames 0)) (all_before (λ i. keeps_at p m frames (slice_get m.code i) (slice_get m.targets i) (slice_get frames i)) (length m.code)) begins
         (all_from (λ i. keeps_at p m frames (slice_get m.code i) (slice_get m.targets i) (slice_get frames i)) (length m.code)
         (λ i low. keeps_at_from p m frames (slice_get m.code i) (slice_get m.targets i) (slice_get frames i) (λ insn target f a b c. here_to i insn target f (is_at i insn target f a b c))))

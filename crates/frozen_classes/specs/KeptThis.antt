@@ -66,17 +66,17 @@ abbrev pub reached_frame : Option Insn → Option Target → Option (Option TagS
 reached_frame (Some insn) (Some target) (Some f) = f
 reached_frame insn target f = None
 
-abbrev pub frame_of : MethodInfo → List (Option TagShape) → ℕ → Option TagShape
-frame_of m frames j = reached_frame (slice_get m.code j) (slice_get m.targets j) (slice_get frames j)
+abbrev pub reached_frame_at : MethodInfo → List (Option TagShape) → ℕ → Option TagShape
+reached_frame_at m frames j = reached_frame (slice_get m.code j) (slice_get m.targets j) (slice_get frames j)
 
 -- with a test of what stands at the target, where that is reached
-abbrev pub passes : (TagShape → Bool) → Option TagShape → Bool
-passes test None = true
-passes test (Some g) = test g
+abbrev pub passes_test : (TagShape → Bool) → Option TagShape → Bool
+passes_test test None = true
+passes_test test (Some g) = test g
 
 abbrev pub passes_at : MethodInfo → List (Option TagShape) → (TagShape → Bool) → Option ℕ → Bool
 passes_at m frames test None = true
-passes_at m frames test (Some j) = passes test (frame_of m frames j)
+passes_at m frames test (Some j) = passes_test test (reached_frame_at m frames j)
 
 abbrev pub joins_all : MethodInfo → List (Option TagShape) → OpRow → TagShape → List ℕ → Bool
 joins_all m frames r f [] = true
@@ -111,10 +111,10 @@ keeps_at p m frames insn target f = true
 
 -- where the method begins, `this` is in local 0
 abbrev pub begins_well : MethodInfo → Option TagShape → Bool
-begins_well m frame = passes (λ f. is_static m.flags || this_at f.locals 0) frame
+begins_well m frame = passes_test (λ f. is_static m.flags || this_at f.locals 0) frame
 
 abbrev pub keeps_all : Program → MethodInfo → List (Option TagShape) → Bool
-keeps_all p m frames = begins_well m (frame_of m frames 0) && all_before (λ i. keeps_at p m frames (slice_get m.code i) (slice_get m.targets i) (slice_get frames i)) (length m.code)
+keeps_all p m frames = begins_well m (reached_frame_at m frames 0) && all_before (λ i. keeps_at p m frames (slice_get m.code i) (slice_get m.targets i) (slice_get frames i)) (length m.code)
 
 -- ---- classes
 
@@ -123,11 +123,11 @@ abbrev pub leak_of : Program → Option MethodInfo → Option Tags → Option �
 leak_of p (Some m) (Some t) = if is_init m && not (keeps_all p m t.frames) then Some m.class else None
 leak_of p m t = None
 
-abbrev pub noted : List Bool → Option ℕ → List Bool
-noted flags None = flags
-noted flags (Some c) = if nat_le (file_class 0) c && nat_lt (c - file_class 0) (length flags) then slice_set flags (c - file_class 0) false else flags
+abbrev pub class_noted : List Bool → Option ℕ → List Bool
+class_noted flags None = flags
+class_noted flags (Some c) = if nat_le (file_class 0) c && nat_lt (c - file_class 0) (length flags) then slice_set flags (c - file_class 0) false else flags
 
 -- after the first methods
 abbrev pub frozen_upto : Program → List Tags → ℕ → List Bool
 frozen_upto p tags zero = replicate (length p.names) true
-frozen_upto p tags (suc u) = noted (frozen_upto p tags u) (leak_of p (slice_get p.methods u) (slice_get tags u))
+frozen_upto p tags (suc u) = class_noted (frozen_upto p tags u) (leak_of p (slice_get p.methods u) (slice_get tags u))

@@ -6,7 +6,7 @@ ghost use Rattle.jvm_types.specs.Verifying.{IsLaidOut};
 ghost use Rattle.checked_program.specs.MarkedProgram.{AreTaggings};
 ghost use Rattle.checked_program.specs.TaggedCode.{tagged_by};
 ghost use Rattle.frozen_classes.specs.FrozenClasses.{AreFrozenClasses};
-ghost use Rattle.frozen_classes.specs.KeptThis.{frozen_upto, leak_of, noted};
+ghost use Rattle.frozen_classes.specs.KeptThis.{frozen_upto, leak_of, class_noted};
 
 use crate::insn_kept::keeps_all;
 use checked_program::Tags;
@@ -49,7 +49,7 @@ fn leak_at(
 
 /// A class with an `<init>` that lets its object out is not frozen.
 fn note(flags: &mut Rows<bool>, class: Option<u16>)
-    ensures { flags.new ≡ noted flags.old class }
+    ensures { flags.new ≡ class_noted flags.old class }
 {
     match class {
         Some(c) => {

@@ -4,7 +4,7 @@ ghost use Rattle.std.specs.Prelude.{◌≡◌, IfOk};
 ghost use Rattle.std.specs.Option.{option_copied};
 ghost use Rattle.jvm_types.specs.Verifying.{covers, edges};
 ghost use Rattle.code_table.specs.PcTables.{number_at};
-ghost use Rattle.frozen_classes.specs.KeptThis.{catches_well, caught_well, frame_of, joins_all, keeps_after, keeps_caught, passes, passes_at};
+ghost use Rattle.frozen_classes.specs.KeptThis.{catches_well, caught_well, reached_frame_at, joins_all, keeps_after, keeps_caught, passes_test, passes_at};
 
 use crate::places::{keeps_after, keeps_caught};
 use checked_program::{TagFrame, Tags};
@@ -14,7 +14,7 @@ use std::alloc::{AllocError, Global};
 
 /// The tags of the instruction of a number, where it is reached.
 pub(crate) fn reached_tags<'a>(m: &MethodInfo, t: &'a Tags, j: usize) -> Option<&'a TagFrame>
-    ensures { option_copied result ≡ frame_of m.now t.now.frames j }
+    ensures { option_copied result ≡ reached_frame_at m.now t.now.frames j }
 {
     match m.code.get(j) {
         Some(_) => match m.targets.get(j) {
@@ -30,7 +30,7 @@ pub(crate) fn reached_tags<'a>(m: &MethodInfo, t: &'a Tags, j: usize) -> Option<
 }
 
 fn joins_one(row: &OpRow, f: &TagFrame, m: &MethodInfo, t: &Tags, j: usize) -> bool
-    ensures { result ≡ passes (keeps_after row.now f.now) (frame_of m.now t.now.frames j) }
+    ensures { result ≡ passes_test (keeps_after row.now f.now) (reached_frame_at m.now t.now.frames j) }
 {
     match reached_tags(m, t, j) {
         Some(g) => keeps_after(row, f, g),
@@ -39,7 +39,7 @@ fn joins_one(row: &OpRow, f: &TagFrame, m: &MethodInfo, t: &Tags, j: usize) -> b
 }
 
 fn catches_one(f: &TagFrame, m: &MethodInfo, t: &Tags, j: usize) -> bool
-    ensures { result ≡ passes (keeps_caught f.now) (frame_of m.now t.now.frames j) }
+    ensures { result ≡ passes_test (keeps_caught f.now) (reached_frame_at m.now t.now.frames j) }
 {
     match reached_tags(m, t, j) {
         Some(g) => keeps_caught(f, g),

@@ -2,7 +2,7 @@
 
 ghost use Rattle.std.specs.Prelude.{◌≡◌, ◌&&◌, length, slice_get, IfOk};
 ghost use Rattle.checked_program.specs.FrozenPlaces.{is_field_of, is_final_of, may_take};
-ghost use Rattle.frozen_classes.specs.KeptThis.{all_before, begins_well, frame_of, keeps_all, keeps_at, keeps_here, puts_well, takes_well};
+ghost use Rattle.frozen_classes.specs.KeptThis.{all_before, begins_well, reached_frame_at, keeps_all, keeps_at, keeps_here, puts_well, takes_well};
 
 use crate::edges_kept::{caught_well, joins_all, reached_tags};
 use crate::places::{local_this, stack_this};
@@ -131,7 +131,7 @@ fn keeps_at(
 }
 
 fn begins_well(m: &MethodInfo, t: &Tags) -> bool
-    ensures { result ≡ begins_well m.now (frame_of m.now t.now.frames 0) }
+    ensures { result ≡ begins_well m.now (reached_frame_at m.now t.now.frames 0) }
 {
     match reached_tags(m, t, 0) {
         Some(f) => is_static(m.flags) || local_this(f, 0),

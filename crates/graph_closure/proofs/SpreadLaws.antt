@@ -5,7 +5,7 @@ use Rattle.std.proofs.lemmas.Bool.{cases_eq, cases_lt, eq-eqb, lt-ltb, eqb-true,
 use Rattle.std.proofs.lemmas.List.{length-set, length-append}
 use Rattle.std.proofs.lemmas.Bool.Decides.{nat_tests}
 use Rattle.graph_closure.specs.LeastSet.{one_if, chosen, Settles, settle, IsSpread, IsGraph}
-use Rattle.graph_closure.specs.Chains.{IsIn, handled, Going, IsChained, weight, zeros, latest}
+use Rattle.graph_closure.specs.Chains.{IsIn, is_edge_counted, Going, IsChained, weight, zeros, latest}
 
 -- ---- tests
 
@@ -163,11 +163,11 @@ module _ (from to start need : List ℕ) (done : List Bool) (g : IsGraph (length
       by_done true w = sym (eq-eqb (slice_index need a) 0 (s.past a w))
       by_done false w = sym (ne_eqb (slice_index need a) 0 (λ q. ⊎_elim (λ y. (let no : true ≡ false = sym y ∙ w in cc)) (λ i. i) (s.waits a l q)))
 
-  same : (e : ℕ) → e < length from → handled to done b 0 e ≡ (slice_index need (slice_index to e) == 0)
+  same : (e : ℕ) → e < length from → is_edge_counted to done b 0 e ≡ (slice_index need (slice_index to e) == 0)
   same e l = counted_out (slice_index_or done (slice_index to e) false) (slice_index to e == b) (nat_lt e 0) (none_below e) ∙ at_end (slice_index to e) (g.ends e l)
 
   end_left : (a : ℕ) → slice_index need a ≡ slice_index start a - chosen from (λ e. slice_index need (slice_index to e) == 0) a (length from)
-  end_left a = rw (← chosen_same from (handled to done b 0) (λ e. slice_index need (slice_index to e) == 0) a (length from) same) (s.left a)
+  end_left a = rw (← chosen_same from (is_edge_counted to done b 0) (λ e. slice_index need (slice_index to e) == 0) a (length from) same) (s.left a)
 
   end_closed : (a : ℕ) → Settles from to start a → slice_index need a ≡ 0
   end_closed a (settle x h into enough) =
@@ -184,7 +184,7 @@ pub begun : (from to start work : List ℕ) (done : List Bool) (b : ℕ) → len
 begun from to start work done b all off waits within = record {
   long = refl;
   all = all;
-  left = λ a. let none : chosen from (handled to done b 0) a (length from) ≡ 0 = chosen_none from (handled to done b 0) a (length from) (λ e l. rw (off (slice_index to e)) refl) in omega (arith, none);
+  left = λ a. let none : chosen from (is_edge_counted to done b 0) a (length from) ≡ 0 = chosen_none from (is_edge_counted to done b 0) a (length from) (λ e l. rw (off (slice_index to e)) refl) in omega (arith, none);
   past = λ a w. absurd (let bad : true ≡ false = sym w ∙ off a in cc);
   waits = λ a l w. inr (waits a l w);
   within = within;
@@ -197,7 +197,7 @@ pub taken : (from to start need work : List ℕ) (done : List Bool) (c b : ℕ) 
 taken from to start need work done c b g s off = record {
   long = s.long;
   all = length-set done b true ∙ s.all;
-  left = λ a. rw (← chosen_same from (handled to done c 0) (handled to (slice_set done b true) b (latest to b (length to))) a (length from) same) (s.left a);
+  left = λ a. rw (← chosen_same from (is_edge_counted to done c 0) (is_edge_counted to (slice_set done b true) b (latest to b (length to))) a (length from) same) (s.left a);
   past = past;
   waits = waits;
   within = λ a i. s.within a (in_pushed a b work i);
@@ -216,7 +216,7 @@ taken from to start need work done c b g s off = record {
         (λ (q : a ≢ b). ⊎_elim (λ y. inl (rw get_or-set_other y)) (λ i. ⊎_elim (λ j. inr j) (λ p. absurd (q (sym p))) (in_popped a b work i)) (s.waits a l w))
         (cases_eq a b)
 
-    same : (e : ℕ) → e < length from → handled to done c 0 e ≡ handled to (slice_set done b true) b (latest to b (length to)) e
+    same : (e : ℕ) → e < length from → is_edge_counted to done c 0 e ≡ is_edge_counted to (slice_set done b true) b (latest to b (length to)) e
     same e l = ⊎_elim
         (λ (q : slice_index to e ≡ b).
         let low : e < latest to b (length to) = ⊎_elim (λ i. i) (λ i. absurd (latest_passes to b (length to) e i (omega (arith, l, g.alike)) q)) (cases_lt e (latest to b (length to))) in
@@ -237,7 +237,7 @@ counted from to start need work now done b e g l goes is s new = record {
   past = λ x w. zero_stays x (s.past x w);
   waits = waits;
   within = within;
-  derived = λ x i w. ⊎_elim (λ (q : slice_index need x ≡ 0). s.derived x i q) (λ (q : slice_index need x ≢ 0). settle x (handled to done b (latest to b e)) (λ k m c. s.derived (slice_index to k) (g.ends k m) (s.past (slice_index to k) (first_part (slice_index_or done (slice_index to k) false) (not ((slice_index to k == b) && nat_lt k (latest to b e))) c))) (omega (arith, left x, w))) (cases_eq (slice_index need x) 0);
+  derived = λ x i w. ⊎_elim (λ (q : slice_index need x ≡ 0). s.derived x i q) (λ (q : slice_index need x ≢ 0). settle x (is_edge_counted to done b (latest to b e)) (λ k m c. s.derived (slice_index to k) (g.ends k m) (s.past (slice_index to k) (first_part (slice_index_or done (slice_index to k) false) (not ((slice_index to k == b) && nat_lt k (latest to b e))) c))) (omega (arith, left x, w))) (cases_eq (slice_index need x) 0);
 }
   where
     a : ℕ
@@ -258,10 +258,10 @@ counted from to start need work now done b e g l goes is s new = record {
         (λ (q : x ≢ a). rw (ne_eqb a x (λ p. q (sym p))) (rw get_or-set_other (omega arith)))
         (cases_eq x a)
 
-    off : handled to done b (suc e) e ≡ false
+    off : is_edge_counted to done b (suc e) e ≡ false
     off = not_counted (slice_index_or done (slice_index to e) false) (slice_index to e == b) (nat_lt e (suc e)) (eq-eqb (slice_index to e) b goes) (lt-ltb e (suc e) (omega arith))
 
-    on : handled to done b (latest to b e) e ≡ true
+    on : is_edge_counted to done b (latest to b e) e ≡ true
     on = counted_out (slice_index_or done (slice_index to e) false) (slice_index to e == b) (nat_lt e (latest to b e)) (le-ltb e (latest to b e) (latest-le to b e)) ∙ (rw goes is)
 
     sides : (k : ℕ) → k < length from → k ≢ e → slice_index to k ≡ b → nat_lt k (suc e) ≡ nat_lt k (latest to b e)
@@ -270,17 +270,17 @@ counted from to start need work now done b e g l goes is s new = record {
         (λ i. ⊎_elim (λ j. absurd (latest_passes to b e k i j q)) (λ j. le-ltb k (suc e) (omega (arith, j, n)) ∙ sym (le-ltb k (latest to b e) i)) (cases_lt k e))
         (cases_lt k (latest to b e))
 
-    others : (k : ℕ) → k < length from → k ≢ e → handled to done b (suc e) k ≡ handled to done b (latest to b e) k
+    others : (k : ℕ) → k < length from → k ≢ e → is_edge_counted to done b (suc e) k ≡ is_edge_counted to done b (latest to b e) k
     others k m n = ⊎_elim
         (λ (q : slice_index to k ≡ b). ap (λ t. slice_index_or done (slice_index to k) false && not ((slice_index to k == b) && t)) (sides k m n q))
         (λ (q : slice_index to k ≢ b). elsewhere (slice_index_or done (slice_index to k) false) (slice_index to k == b) (nat_lt k (suc e)) (ne_eqb (slice_index to k) b q)
         ∙ sym (elsewhere (slice_index_or done (slice_index to k) false) (slice_index to k == b) (nat_lt k (latest to b e)) (ne_eqb (slice_index to k) b q)))
         (cases_eq (slice_index to k) b)
 
-    more : (x : ℕ) → chosen from (handled to done b (latest to b e)) x (length from) ≡ chosen from (handled to done b (suc e)) x (length from) + one_if (a == x)
-    more x = chosen_more from (handled to done b (suc e)) (handled to done b (latest to b e)) x (length from) e l off on others
+    more : (x : ℕ) → chosen from (is_edge_counted to done b (latest to b e)) x (length from) ≡ chosen from (is_edge_counted to done b (suc e)) x (length from) + one_if (a == x)
+    more x = chosen_more from (is_edge_counted to done b (suc e)) (is_edge_counted to done b (latest to b e)) x (length from) e l off on others
 
-    left : (x : ℕ) → slice_index next x ≡ slice_index start x - chosen from (handled to done b (latest to b e)) x (length from)
+    left : (x : ℕ) → slice_index next x ≡ slice_index start x - chosen from (is_edge_counted to done b (latest to b e)) x (length from)
     left x = omega (arith, at_x x, more x, s.left x)
 
     zero_stays : (x : ℕ) → slice_index need x ≡ 0 → slice_index next x ≡ 0

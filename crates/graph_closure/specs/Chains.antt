@@ -20,13 +20,13 @@ IsIn a [] = ⊥
 IsIn a (x ∷ xs) = (x ≡ a) ⊎ IsIn a xs
 
 -- an edge was counted: its target is done, and where it is the one that is worked at, it is one of those from `at` on
-abbrev pub handled : List ℕ → List Bool → ℕ → ℕ → ℕ → Bool
-handled to done b at e = slice_index_or done (slice_index to e) false && not ((slice_index to e == b) && nat_lt e at)
+abbrev pub is_edge_counted : List ℕ → List Bool → ℕ → ℕ → ℕ → Bool
+is_edge_counted to done b at e = slice_index_or done (slice_index to e) false && not ((slice_index to e == b) && nat_lt e at)
 
 pub record Going (from to start need work : List ℕ) (done : List Bool) (b at : ℕ) : Type 0 where
   pub long : length need ≡ length start
   pub all : length done ≡ length start
-  pub left : (a : ℕ) → slice_index need a ≡ slice_index start a - chosen from (handled to done b at) a (length from)
+  pub left : (a : ℕ) → slice_index need a ≡ slice_index start a - chosen from (is_edge_counted to done b at) a (length from)
   pub past : (a : ℕ) → slice_index_or done a false ≡ true → slice_index need a ≡ 0
   pub waits : (a : ℕ) → a < length start → slice_index need a ≡ 0 → (slice_index_or done a false ≡ true) ⊎ IsIn a work
   pub within : (a : ℕ) → IsIn a work → (a < length start) × (slice_index need a ≡ 0)

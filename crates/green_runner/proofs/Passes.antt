@@ -12,10 +12,10 @@ use Rattle.machine_types.specs.Threads.{Thread}
 use Rattle.machine_types.specs.declared.config.Config.{Config}
 use Rattle.table_rule.specs.Views.{held_in}
 use Rattle.table_rule.proofs.Entries.{held_else, held_here}
-use Rattle.table_runner.specs.Accessing.{made}
+use Rattle.table_runner.specs.Accessing.{made_by_event}
 use Rattle.table_runner.specs.Handed.{Handed, IsEventOf, IsTableOf, event_at}
 use Rattle.table_runner.specs.Running.{AreSame}
-use Rattle.green_runner.specs.Passes.{HasTurn, HaveTurns, MakeEvents}
+use Rattle.green_runner.specs.Passes.{HasTakenTurn, HaveTurns, MakeEvents}
 use Rattle.table_runner.proofs.SameHands.{same_itself}
 
 -- ---- one event
@@ -27,7 +27,7 @@ event_same : (h : Handed) (t : ℕ) (after : Handed) → IsEventOf h t after →
 event_same h t after e = subst (AreSame h) (sym e.leaves) (record { program = refl; cfg = refl; table = refl; numbers = at })
   where
     now : Thread
-    now = made (event_at h t e.state) e.got
+    now = made_by_event (event_at h t e.state) e.got
 
     here : (u : ℕ) → u ≡ t → is_some (held_in (slice_set h.threads t (Some now)) u) ≡ is_some (held_in h.threads u)
     here u same =
@@ -39,7 +39,7 @@ event_same h t after e = subst (AreSame h) (sym e.leaves) (record { program = re
     at u = dite (ℕ_discrete u t) (here u) (λ n. ap is_some (held_else h.threads t u (Some now) n))
 
 event_else : (h : Handed) (t u : ℕ) (after : Handed) → IsEventOf h t after → u ≢ t → held_in after.threads u ≡ held_in h.threads u
-event_else h t u after e n = ap (λ (k : Handed). held_in k.threads u) e.leaves ∙ held_else h.threads t u (Some (made (event_at h t e.state) e.got)) n
+event_else h t u after e n = ap (λ (k : Handed). held_in k.threads u) e.leaves ∙ held_else h.threads t u (Some (made_by_event (event_at h t e.state) e.got)) n
 
 -- ---- events of one thread
 
@@ -64,22 +64,22 @@ was_live t (suc n) h after some m = m.0
 
 -- ---- turns
 
-pub turn_same : (turn t : ℕ) (h after : Handed) → HasTurn turn t h after → AreSame h after
+pub turn_same : (turn t : ℕ) (h after : Handed) → HasTakenTurn turn t h after → AreSame h after
 turn_same turn t h after k = made_same t k.events h after k.made
 
-pub turn_else : (turn t u : ℕ) (h after : Handed) → HasTurn turn t h after → u ≢ t → held_in after.threads u ≡ held_in h.threads u
+pub turn_else : (turn t u : ℕ) (h after : Handed) → HasTakenTurn turn t h after → u ≢ t → held_in after.threads u ≡ held_in h.threads u
 turn_else turn t u h after k n = made_else t k.events u h after k.made n
 
 -- of a thread that is not live, or not here
-pub no_turn : (turn t : ℕ) (h : Handed) → is_live_thread (held_in h.threads t) ≡ false → HasTurn turn t h h
+pub no_turn : (turn t : ℕ) (h : Handed) → is_live_thread (held_in h.threads t) ≡ false → HasTakenTurn turn t h h
 no_turn turn t h dead = record { events = 0; few = omega arith; made = refl; over = λ less. dead }
 
 pub turns_same : (turn : ℕ) (ts : List ℕ) (h after : Handed) → HaveTurns turn ts h after → AreSame h after
 turns_same turn [] h after k = subst (AreSame h) (sym k) (same_itself h)
 turns_same turn (t ∷ ts) h after k = same_both h k.0 after (turn_same turn t h k.0 k.1) (turns_same turn ts k.0 after k.2)
 
-pub turns_more : (turn : ℕ) (ts : List ℕ) (t : ℕ) (h k after : Handed) → HaveTurns turn ts h k → HasTurn turn t k after → HaveTurns turn (ts ++ t ∷ []) h after
-turns_more turn [] t h k after m e = (after, subst (λ (z : Handed). HasTurn turn t z after) m e, refl)
+pub turns_more : (turn : ℕ) (ts : List ℕ) (t : ℕ) (h k after : Handed) → HaveTurns turn ts h k → HasTakenTurn turn t k after → HaveTurns turn (ts ++ t ∷ []) h after
+turns_more turn [] t h k after m e = (after, subst (λ (z : Handed). HasTakenTurn turn t z after) m e, refl)
 turns_more turn (u ∷ ts) t h k after m e = (m.0, m.1, turns_more turn ts t m.0 k after m.2 e)
 
 pub numbers_more : (a n : ℕ) → range_with_len a n ++ (a + n) ∷ [] ≡ range_with_len a (suc n)
@@ -94,7 +94,7 @@ numbers_more a (suc n) =
 pub record IsTurn (h : Handed) (turn t : ℕ) (live : Bool) (after : Handed) : Type 0 where
   pub live_is : live ≡ is_live_thread (held_in h.threads t)
   pub still : live ≡ false → after ≡ h
-  pub turn_is : HasTurn turn t h after
+  pub turn_is : HasTakenTurn turn t h after
 
 pub turn_full : (h after : Handed) (turn t made : ℕ) → 0 < turn → made ≡ turn → MakeEvents t made h after → IsTurn h turn t true after
 turn_full h after turn t made some is m = record {

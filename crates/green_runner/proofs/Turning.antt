@@ -17,7 +17,7 @@ use Rattle.laws_refinement.specs.ScheduleOver.{SchedulesEndOver}
 use Rattle.laws_states.specs.WorkLeft.{all_work}
 use Rattle.run_parts.specs.Ended.{IsEndOfRun}
 use Rattle.replay_runner.specs.Running.{Running, events, run_on}
-use Rattle.green_runner.specs.Turning.{Comes, Finishes, Gives, IsSameRun, NoWorkerLives}
+use Rattle.green_runner.specs.Turning.{Comes, IsRunFinished, IsLedByOrder, IsSameRun, NoWorkerLives}
 use Rattle.green_runner.specs.Turns.{IsRunInTurns, one_round, rounds}
 
 -- ---- lists of happenings
@@ -167,11 +167,11 @@ module _ (c : MarkedProgram) where
 
 -- ---- a machine
 
-pub gives_none : (m : Running) → Gives m [] m
+pub gives_none : (m : Running) → IsLedByOrder m [] m
 gives_none m = record { same = refl; comes = comes_itself m.program (λ rest. Ordered rest) m.core }
 
 -- the program of the machine stays
-pub gives_both : (m n r : Running) (a b : List ℕ) → Gives m a n → Gives n b r → Gives m (a ++ b) r
+pub gives_both : (m n r : Running) (a b : List ℕ) → IsLedByOrder m a n → IsLedByOrder n b r → IsLedByOrder m (a ++ b) r
 gives_both m n r a b f g =
     let program : n.program ≡ m.program = ap (λ (z : Running). z.program) f.same in
     record {
@@ -179,15 +179,15 @@ gives_both m n r a b f g =
       comes = order_both m.program a b m.core n.core r.core f.comes (subst (λ (c : MarkedProgram). Comes c (λ rest. Ordered (b ++ rest)) n.core (λ rest. Ordered rest) r.core) program g.comes);
     }
 
-pub gives_event : (m n : Running) (t : ℕ) → 0 < t → n ≡ record m { core = event m.program m.core t } → Gives m (t ∷ []) n
-gives_event m n t some e = subst (Gives m (t ∷ [])) (sym e) (record { same = refl; comes = order_event m.program t m.core some })
+pub gives_event : (m n : Running) (t : ℕ) → 0 < t → n ≡ record m { core = event m.program m.core t } → IsLedByOrder m (t ∷ []) n
+gives_event m n t some e = subst (IsLedByOrder m (t ∷ [])) (sym e) (record { same = refl; comes = order_event m.program t m.core some })
 
-pub gives_passed : (m : Running) (k t : ℕ) → lives m.core t ≡ false → Gives m (replicate k t) m
+pub gives_passed : (m : Running) (k t : ℕ) → lives m.core t ≡ false → IsLedByOrder m (replicate k t) m
 gives_passed m k t dead = record { same = refl; comes = order_passed m.program k t m.core dead }
 
 -- an order that is the same
-pub gives_as : (m n : Running) (a b : List ℕ) → a ≡ b → Gives m a n → Gives m b n
-gives_as m n a b e g = subst (λ (o : List ℕ). Gives m o n) e g
+pub gives_as : (m n : Running) (a b : List ℕ) → a ≡ b → IsLedByOrder m a n → IsLedByOrder m b n
+gives_as m n a b e g = subst (λ (o : List ℕ). IsLedByOrder m o n) e g
 
 -- ---- turns
 
@@ -227,7 +227,7 @@ rounds_both turn workers (suc n) more =
 -- ---- the end of a run
 
 -- where nothing comes next
-pub finishes : (m n : Running) (f g : List ℕ → Stage) → IsSameRun m n → Comes m.program f m.core g n.core → ((rest : List ℕ) → turn_at (g rest) n.core ≡ None) → Finishes m f n
+pub finishes : (m n : Running) (f g : List ℕ → Stage) → IsSameRun m n → Comes m.program f m.core g n.core → ((rest : List ℕ) → turn_at (g rest) n.core ≡ None) → IsRunFinished m f n
 finishes m n f g same a end = record {
   same = same;
   happenings = a.happenings ++ [];
@@ -236,7 +236,7 @@ finishes m n f g same a end = record {
 }
 
 -- behind what came first
-pub finishes_behind : (m n r : Running) (f g : List ℕ → Stage) → IsSameRun m n → Comes m.program f m.core g n.core → Finishes n g r → Finishes m f r
+pub finishes_behind : (m n r : Running) (f g : List ℕ → Stage) → IsSameRun m n → Comes m.program f m.core g n.core → IsRunFinished n g r → IsRunFinished m f r
 finishes_behind m n r f g same a k =
     let program : n.program ≡ m.program = ap (λ (z : Running). z.program) same in
     record {
@@ -248,17 +248,17 @@ finishes_behind m n r f g same a k =
     }
 
 pub in_turns : (c : MarkedProgram) (cfg : Config) (turn n : ℕ) (m r : Running) (o : Outcome) → m ≡ record { program = c; cfg = cfg; core = start c cfg }
-    → Finishes m (λ rest. First (rounds turn c.program.workers n ++ rest)) r → o ≡ outcome r.core → IsRunInTurns c cfg turn o
+    → IsRunFinished m (λ rest. First (rounds turn c.program.workers n ++ rest)) r → o ≡ outcome r.core → IsRunInTurns c cfg turn o
 unfolding core
 in_turns c cfg turn n m r o e k is =
-    let s : Finishes (record { program = c; cfg = cfg; core = start c cfg }) (λ rest. First (rounds turn c.program.workers n ++ rest)) r = subst (λ (z : Running). Finishes z (λ rest. First (rounds turn c.program.workers n ++ rest)) r) e k in
+    let s : IsRunFinished (record { program = c; cfg = cfg; core = start c cfg }) (λ rest. First (rounds turn c.program.workers n ++ rest)) r = subst (λ (z : Running). IsRunFinished z (λ rest. First (rounds turn c.program.workers n ++ rest)) r) e k in
     (s.happenings, (n, λ more. subst (λ (order : List ℕ). IsSchedule c (First order) (start c cfg) s.happenings) (sym (rounds_both turn c.program.workers n more)) (s.schedule (rounds turn c.program.workers more))), is ∙ ap outcome (sym s.state))
 
 -- ---- the loops over events and over workers
 
 -- behind some events of a worker's turn
 pub record MidTurn (m : Running) (t made : ℕ) (n : Running) : Type 0 where
-  pub gives : Gives m (replicate made t) n
+  pub gives : IsLedByOrder m (replicate made t) n
   pub none : made ≡ 0 → n ≡ m
   pub live : 0 < made → lives m.core t ≡ true
   pub less : 0 < made → all_work n.core < all_work m.core
@@ -289,14 +289,14 @@ mid_more m n r t made some k live e less = record {
 -- the whole of a turn: whether the worker was live
 pub record IsTurn (m : Running) (t turn : ℕ) (live : Bool) (n : Running) : Type 0 where
   pub live_is : live ≡ lives m.core t
-  pub gives : Gives m (replicate turn t) n
+  pub gives : IsLedByOrder m (replicate turn t) n
   pub still : live ≡ false → n ≡ m
   pub less : live ≡ true → all_work n.core < all_work m.core
 
 pub turn_full : (m n : Running) (t turn made : ℕ) → 0 < turn → made ≡ turn → MidTurn m t made n → IsTurn m t turn true n
 turn_full m n t turn made some is k = record {
   live_is = sym (k.live (omega (arith, some, is)));
-  gives = subst (λ i. Gives m (replicate i t) n) is k.gives;
+  gives = subst (λ i. IsLedByOrder m (replicate i t) n) is k.gives;
   still = λ e. absurd (let bad : true ≡ false = e in cc);
   less = λ e. k.less (omega (arith, some, is));
 }
@@ -307,7 +307,7 @@ turn_over m n r t turn made lt k dead e = subst (IsTurn m t turn (nat_lt 0 made)
     above : (i : ℕ) → nat_lt 0 (suc i) ≡ true
     above i = grind (arith, nat_tests)
 
-    all : Gives m (replicate turn t) n
+    all : IsLedByOrder m (replicate turn t) n
     all = gives_as m n (replicate made t ++ replicate (turn - made) t) (replicate turn t) (turn_rest made turn t (omega (arith, lt))) (gives_both m n n (replicate made t) (replicate (turn - made) t) k.gives (gives_passed n (turn - made) t dead))
 
     by_made : (i : ℕ) → made ≡ i → IsTurn m t turn (nat_lt 0 i) n
@@ -326,7 +326,7 @@ turn_over m n r t turn made lt k dead e = subst (IsTurn m t turn (nat_lt 0 made)
 
 -- behind the turns of some workers
 pub record MidRound (m : Running) (turn i : ℕ) (some : Bool) (n : Running) : Type 0 where
-  pub gives : Gives m (flat_map (replicate turn) (range_with_len 1 i)) n
+  pub gives : IsLedByOrder m (flat_map (replicate turn) (range_with_len 1 i)) n
   pub still : some ≡ false → n ≡ m
   pub dead : some ≡ false → (u : ℕ) → u < i → lives m.core (suc u) ≡ false
   pub less : some ≡ true → all_work n.core < all_work m.core
@@ -338,7 +338,7 @@ pub round_on : (m n r : Running) (turn i : ℕ) (some live : Bool) → MidRound 
 round_on m n r turn i some live k l = record {
   gives = gives_as m r (flat_map (replicate turn) (range_with_len 1 i) ++ replicate turn (1 + i)) (flat_map (replicate turn) (range_with_len 1 (i + 1)))
       (round_more turn 1 i ∙ ap (λ j. flat_map (replicate turn) (range_with_len 1 j)) next)
-      (gives_both m n r (flat_map (replicate turn) (range_with_len 1 i)) (replicate turn (1 + i)) k.gives (subst (λ t. Gives n (replicate turn t) r) one l.gives));
+      (gives_both m n r (flat_map (replicate turn) (range_with_len 1 i)) (replicate turn (1 + i)) k.gives (subst (λ t. IsLedByOrder n (replicate turn t) r) one l.gives));
   still = λ e. l.still (neither some live e).1 ∙ k.still (neither some live e).0;
   dead = λ e u lt. dite (ℕ_discrete u i)
       (λ same. ap (λ j. lives m.core (suc j)) same ∙ ap (lives m.core) next ∙ ap (λ (z : Running). lives z.core (i + 1)) (sym (k.still (neither some live e).0)) ∙ sym l.live_is ∙ (neither some live e).1)
@@ -378,22 +378,22 @@ round_dead m n turn workers long k u = ap (λ (z : Running). lives z.core (suc u
 -- ---- `done`
 
 pub done_ran : (m n r : Running) (k : ℕ) → NoWorkerLives m.core → may_begin m.core.threads ≡ true → n ≡ record m { core = next m.program m.core }
-    → r ≡ run_on n 0 k → lives r.core 0 ≡ false → Finishes m (λ rest. Ordered rest) r
+    → r ≡ run_on n 0 k → lives r.core 0 ≡ false → IsRunFinished m (λ rest. Ordered rest) r
 done_ran m n r k dead may begins runs over =
     let z : Running = record m { core = events m.program (next m.program m.core) 0 k } in
     let is : r ≡ z = runs ∙ ap (λ (y : Running). run_on y 0 k) begins in
-    subst (Finishes m (λ rest. Ordered rest)) (sym is)
+    subst (IsRunFinished m (λ rest. Ordered rest)) (sym is)
     (finishes m z (λ rest. Ordered rest) (λ rest. Last) refl
     (comes_both m.program (λ rest. Ordered rest) (λ rest. Last) (λ rest. Last) m.core (next m.program m.core) z.core (done_begins m.program m.core dead may) (done_events m.program k (next m.program m.core)))
     (λ rest. no_more m.program z.core (ap (λ (y : Running). lives y.core 0) (sym is) ∙ over)))
 
-pub no_done_begins : (m r : Running) → NoWorkerLives m.core → may_begin m.core.threads ≡ false → r ≡ m → Finishes m (λ rest. Ordered rest) r
-no_done_begins m r dead may is = subst (Finishes m (λ rest. Ordered rest)) (sym is)
+pub no_done_begins : (m r : Running) → NoWorkerLives m.core → may_begin m.core.threads ≡ false → r ≡ m → IsRunFinished m (λ rest. Ordered rest) r
+no_done_begins m r dead may is = subst (IsRunFinished m (λ rest. Ordered rest)) (sym is)
     (finishes m m (λ rest. Ordered rest) (λ rest. Ordered rest) refl (comes_itself m.program (λ rest. Ordered rest) m.core) (no_done m.program m.core dead may))
 
 -- ---- the workers, and `done`
 
-pub workers_ran : (m n r : Running) (order : List ℕ) → Gives m order n → Finishes n (λ rest. Ordered rest) r → Finishes m (λ rest. Ordered (order ++ rest)) r
+pub workers_ran : (m n r : Running) (order : List ℕ) → IsLedByOrder m order n → IsRunFinished n (λ rest. Ordered rest) r → IsRunFinished m (λ rest. Ordered (order ++ rest)) r
 workers_ran m n r order g k = finishes_behind m n r (λ rest. Ordered (order ++ rest)) (λ rest. Ordered rest) g.same g.comes k
 
 -- ---- `init`, and what comes behind it
@@ -404,16 +404,16 @@ init_ran m n k runs =
     subst (λ (y : Running). IsSameRun m y × Comes m.program (λ rest. First rest) m.core (λ rest. First rest) y.core) (sym runs) (refl, init_events m.program k m.core)
 
 pub init_alone : (m n r : Running) (k : ℕ) (order : List ℕ) → n ≡ run_on m 0 k → lives n.core 0 ≡ false → may_begin n.core.threads ≡ false → r ≡ n
-    → Finishes m (λ rest. First (order ++ rest)) r
+    → IsRunFinished m (λ rest. First (order ++ rest)) r
 init_alone m n r k order runs over may is =
     let ran = init_ran m n k runs in
     let program : n.program ≡ m.program = ap (λ (z : Running). z.program) ran.0 in
-    subst (Finishes m (λ rest. First (order ++ rest))) (sym is)
+    subst (IsRunFinished m (λ rest. First (order ++ rest))) (sym is)
     (finishes m n (λ rest. First (order ++ rest)) (λ rest. First (order ++ rest)) ran.0 (comes_under m.program order (λ rest. First rest) (λ rest. First rest) m.core n.core ran.1)
     (λ rest. no_workers m.program n.core over may (order ++ rest)))
 
 pub init_first : (m n b r : Running) (k : ℕ) (order : List ℕ) → n ≡ run_on m 0 k → lives n.core 0 ≡ false → may_begin n.core.threads ≡ true
-    → b ≡ record n { core = next n.program n.core } → Finishes b (λ rest. Ordered (order ++ rest)) r → Finishes m (λ rest. First (order ++ rest)) r
+    → b ≡ record n { core = next n.program n.core } → IsRunFinished b (λ rest. Ordered (order ++ rest)) r → IsRunFinished m (λ rest. First (order ++ rest)) r
 init_first m n b r k order runs over may begins rest_of =
     let ran = init_ran m n k runs in
     let program : n.program ≡ m.program = ap (λ (z : Running). z.program) ran.0 in
@@ -426,8 +426,8 @@ init_first m n b r k order runs over may begins rest_of =
     (comes_under m.program order (λ rest. First rest) (λ rest. Ordered rest) n.core b.core here)) rest_of
 
 -- one round more
-pub one_round_more : (m n r : Running) (turn workers k : ℕ) → Gives m (rounds turn workers k) n → Gives n (one_round turn workers) r
-    → (j : ℕ) × Gives m (rounds turn workers j) r
+pub one_round_more : (m n r : Running) (turn workers k : ℕ) → IsLedByOrder m (rounds turn workers k) n → IsLedByOrder n (one_round turn workers) r
+    → (j : ℕ) × IsLedByOrder m (rounds turn workers j) r
 one_round_more m n r turn workers k f g =
     (suc k, gives_as m r (rounds turn workers k ++ one_round turn workers) (rounds turn workers (suc k)) (rounds_more turn workers k) (gives_both m n r (rounds turn workers k) (one_round turn workers) f g))
 

@@ -12,7 +12,7 @@ MakeEvents t (suc n) h after =
     × ((next : Handed) × IsEventOf h t next × MakeEvents t n next after)
 
 -- behind a turn of thread t: so many events, or fewer and it is not live
-pub record HasTurn (turn t : ℕ) (h after : Handed) : Type 0 where
+pub record HasTakenTurn (turn t : ℕ) (h after : Handed) : Type 0 where
   pub events : ℕ
   pub few : events ≤ turn
   pub made : MakeEvents t events h after
@@ -21,4 +21,4 @@ pub record HasTurn (turn t : ℕ) (h after : Handed) : Type 0 where
 -- one turn after the other
 abbrev pub HaveTurns : (turn : ℕ) → (numbers : List ℕ) → Handed → Handed → Type 0
 HaveTurns turn [] h after = after ≡ h
-HaveTurns turn (t ∷ ts) h after = (next : Handed) × HasTurn turn t h next × HaveTurns turn ts next after
+HaveTurns turn (t ∷ ts) h after = (next : Handed) × HasTakenTurn turn t h next × HaveTurns turn ts next after

@@ -16,7 +16,7 @@ abbrev pub IsSameRun : Running → Running → Type 0
 IsSameRun m n = n ≡ record m { core = n.core }
 
 -- an order leads a machine on
-pub record Gives (m : Running) (order : List ℕ) (n : Running) : Type 0 where
+pub record IsLedByOrder (m : Running) (order : List ℕ) (n : Running) : Type 0 where
   pub same : IsSameRun m n
   pub comes : Comes m.program (λ rest. Ordered (order ++ rest)) m.core (λ rest. Ordered rest) n.core
 
@@ -24,7 +24,7 @@ abbrev pub NoWorkerLives : Core → Type 0
 NoWorkerLives s = (u : ℕ) → lives s (suc u) ≡ false
 
 -- the machine has come to the end of the run, from a stage on, whatever the rest of the order is
-pub record Finishes (m : Running) (from : List ℕ → Stage) (n : Running) : Type 0 where
+pub record IsRunFinished (m : Running) (from : List ℕ → Stage) (n : Running) : Type 0 where
   pub same : IsSameRun m n
   pub happenings : List Happening
   pub schedule : (rest : List ℕ) → IsSchedule m.program (from rest) m.core happenings

@@ -5,7 +5,7 @@ ghost use Rattle.std.specs.List.{range_with_len};
 ghost use Rattle.machine_types.specs.Core.{is_live_thread};
 ghost use Rattle.table_rule.specs.Views.{held_in};
 ghost use Rattle.table_runner.specs.Handed.{IsTableOf};
-ghost use Rattle.green_runner.specs.Passes.{HasTurn, HaveTurns};
+ghost use Rattle.green_runner.specs.Passes.{HasTakenTurn, HaveTurns};
 
 use checked_program::Checked;
 use table_runner::{CoreTable, Hands};
@@ -25,7 +25,7 @@ fn take_turn(hands: &mut Hands, table: &CoreTable, p: &Checked, t: u8, turn: u32
     requires some { 0 < turn }
     ensures live { result ≡ is_live_thread (held_in hands.old.threads t) }
     ensures still { result ≡ false → hands.new ≡ hands.old }
-    ensures turn { HasTurn turn t hands.old hands.new }
+    ensures turn { HasTakenTurn turn t hands.old hands.new }
 {
     for made in 0..turn {
         if !hands.event(table, p, t) {
@@ -42,7 +42,7 @@ fn give_turn(hands: &mut Hands, table: &CoreTable, p: &Checked, t: u8, turn: u32
     requires some { 0 < turn }
     ensures live { result ≡ is_live_thread (held_in hands.old.threads t) }
     ensures still { result ≡ false → hands.new ≡ hands.old }
-    ensures turn { HasTurn turn t hands.old hands.new }
+    ensures turn { HasTakenTurn turn t hands.old hands.new }
 {
     if hands.holds(t) {
         take_turn(hands, table, p, t, turn)

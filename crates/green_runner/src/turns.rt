@@ -5,7 +5,7 @@ ghost use Rattle.machine_types.specs.Core.{lives};
 ghost use Rattle.machine_types.specs.Schedules.{First, Ordered};
 ghost use Rattle.machine_types.specs.Settings.{AreSettings};
 ghost use Rattle.laws_states.specs.WorkLeft.{all_work};
-ghost use Rattle.green_runner.specs.Turning.{Finishes, Gives, NoWorkerLives};
+ghost use Rattle.green_runner.specs.Turning.{IsRunFinished, IsLedByOrder, NoWorkerLives};
 ghost use Rattle.green_runner.specs.Turns.{IsRunInTurns, one_round, rounds};
 
 use crate::passing::either;
@@ -21,7 +21,7 @@ fn take_turn(machine: &mut Machine, p: &Checked, t: u8, turn: u32) -> bool
     requires worker { 0 < t }
     requires some { 0 < turn }
     ensures live { result ≡ lives machine.old.core t }
-    ensures gives { Gives machine.old (replicate turn t) machine.new }
+    ensures gives { IsLedByOrder machine.old (replicate turn t) machine.new }
     ensures still { result ≡ false → machine.new ≡ machine.old }
     ensures less { result ≡ true → all_work machine.new.core < all_work machine.old.core }
 {
@@ -37,7 +37,7 @@ fn take_turn(machine: &mut Machine, p: &Checked, t: u8, turn: u32) -> bool
 fn take_round(machine: &mut Machine, p: &Checked, turn: u32) -> bool
     requires program { p.now ≡ machine.old.program }
     requires some { 0 < turn }
-    ensures gives { Gives machine.old (one_round turn p.now.program.workers) machine.new }
+    ensures gives { IsLedByOrder machine.old (one_round turn p.now.program.workers) machine.new }
     ensures dead { result ≡ false → NoWorkerLives machine.new.core }
     ensures less { result ≡ true → all_work machine.new.core < all_work machine.old.core }
 {
@@ -54,7 +54,7 @@ fn take_round(machine: &mut Machine, p: &Checked, turn: u32) -> bool
 fn run_rounds(machine: &mut Machine, p: &Checked, turn: u32)
     requires program { p.now ≡ machine.old.program }
     requires some { 0 < turn }
-    ensures gives { (n : ℕ) × Gives machine.old (rounds turn p.now.program.workers n) machine.new }
+    ensures gives { (n : ℕ) × IsLedByOrder machine.old (rounds turn p.now.program.workers n) machine.new }
     ensures dead { NoWorkerLives machine.new.core }
 {
     while take_round(machine, p, turn) {}
@@ -64,7 +64,7 @@ fn run_rounds(machine: &mut Machine, p: &Checked, turn: u32)
 fn run_done(machine: &mut Machine, p: &Checked)
     requires program { p.now ≡ machine.old.program }
     requires dead { NoWorkerLives machine.old.core }
-    ensures { Finishes machine.old (λ rest. Ordered rest) machine.new }
+    ensures { IsRunFinished machine.old (λ rest. Ordered rest) machine.new }
 {
     if machine.next(p) {
         machine.run_alone(p, 0);
@@ -75,7 +75,7 @@ fn run_done(machine: &mut Machine, p: &Checked)
 fn run_workers(machine: &mut Machine, p: &Checked, turn: u32)
     requires program { p.now ≡ machine.old.program }
     requires some { 0 < turn }
-    ensures { (n : ℕ) × Finishes machine.old (λ rest. Ordered (rounds turn p.now.program.workers n ++ rest)) machine.new }
+    ensures { (n : ℕ) × IsRunFinished machine.old (λ rest. Ordered (rounds turn p.now.program.workers n ++ rest)) machine.new }
 {
     run_rounds(machine, p, turn);
     run_done(machine, p);
@@ -85,7 +85,7 @@ fn run_workers(machine: &mut Machine, p: &Checked, turn: u32)
 fn run_parts(machine: &mut Machine, p: &Checked, turn: u32)
     requires program { p.now ≡ machine.old.program }
     requires some { 0 < turn }
-    ensures { (n : ℕ) × Finishes machine.old (λ rest. First (rounds turn p.now.program.workers n ++ rest)) machine.new }
+    ensures { (n : ℕ) × IsRunFinished machine.old (λ rest. First (rounds turn p.now.program.workers n ++ rest)) machine.new }
 {
     machine.run_alone(p, 0);
     if machine.next(p) {

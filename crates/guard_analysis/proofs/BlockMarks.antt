@@ -20,7 +20,7 @@ use Rattle.code_table.proofs.NumbersExact.{exact}
 use Rattle.laws_programs.proofs.CodeOrder.{methods_laid_out, one_number}
 use Rattle.checked_program.specs.LockTags.{TagShape, is_this}
 use Rattle.checked_program.specs.Tagging.{catches_all, until_all, catchers, tags_after, tags_at_handler}
-use Rattle.checked_program.specs.TaggedCode.{tagged_by, IsAt, IsEdge, Goes, onward, caught, row_of}
+use Rattle.checked_program.specs.TaggedCode.{tagged_by, IsAt, IsReachedEdge, Goes, onward, caught, row_of}
 use Rattle.checked_program.specs.Sections.{IsDeep, StaysDeep, BeginsAt, IsOwn}
 use Rattle.checked_program.specs.Marks.{IsOnThis, HasMark, IsMarkOf}
 use Rattle.checked_program.specs.declared.tag.Tag.{Tag}
@@ -29,8 +29,8 @@ use Rattle.checked_program.specs.declared.tag.Tags.{Tags}
 use Rattle.checked_program.specs.declared.section.Spot.TheVariants.{Block}
 use Rattle.checked_program.specs.declared.section.FieldUse.{FieldUse}
 use Rattle.graph_closure.specs.Chains.{IsIn}
-use Rattle.guard_analysis.specs.BlockWalks.{handler_pcs, catch_pcs, way_pcs, ways_from, ways_at, deep_at, is_deep, Stays, IsInside}
-use Rattle.guard_analysis.specs.SectionGrades.{depth_on_this, depth_at, AreGrades, IsBlockMark, section_in}
+use Rattle.guard_analysis.specs.BlockWalks.{handler_pcs, catch_pcs, way_pcs, ways_from, ways_at, deep_at, is_deep, IsPathInBlock, IsInside}
+use Rattle.guard_analysis.specs.SectionGrades.{depth_on_this, entry_depth_at, AreGrades, IsBlockMark, section_in}
 use Rattle.guard_analysis.proofs.CallEdges.{with_tags, frames_there}
 use Rattle.guard_analysis.proofs.SectionMarks.{has_earliest, has_elsewhere}
 use Rattle.frozen_classes.proofs.KeptInside.{stands_to}
@@ -182,7 +182,7 @@ module _ (p : Program) (tags : List Tags) (is : IsProgram p) (mi : ℕ) (m : Met
       let r = is_reached_at depth (slice_get m.code i) (slice_get m.targets i) (slice_get t.frames i) e in
       record { m = m; insn = r.0; target = r.1; f = r.2; at = stands i r.0 r.1 r.2 r.3 r.4 r.5; deep = r.6 }
 
-  edge_way : (i j : ℕ) → IsEdge p (tagged_by tags) mi i j → IsIn j (ways_from m i)
+  edge_way : (i j : ℕ) → IsReachedEdge p (tagged_by tags) mi i j → IsIn j (ways_from m i)
   edge_way i j e =
       let from : slice_get m.code i ≡ Some e.insn = code_is i e.m e.insn e.target e.f e.from in
       let to : slice_get m.code j ≡ Some e.other = code_is j e.m e.other e.next e.g e.to in
@@ -190,7 +190,7 @@ module _ (p : Program) (tags : List Tags) (is : IsProgram p) (mi : ℕ) (m : Met
       let pcs : IsIn e.other.pc (way_pcs m e.insn) = goes_in p m e.insn e.target e.f e.other e.h (subst (λ (x : MethodInfo). Goes p x e.insn e.target e.f e.other e.h) (method_is e.m e.from.in_program) e.goes) in
       subst (λ o. IsIn j (ways_at m o)) (sym from) (mapped_in (λ pc. number_at m.code pc) (way_pcs m e.insn) e.other.pc j pcs found)
 
-  way_edge : (i j : ℕ) (insn other : Insn) (target next : Target) (f g : TagShape) → IsAt p (tagged_by tags) mi i m insn target f → IsAt p (tagged_by tags) mi j m other next g → IsIn j (ways_from m i) → IsEdge p (tagged_by tags) mi i j
+  way_edge : (i j : ℕ) (insn other : Insn) (target next : Target) (f g : TagShape) → IsAt p (tagged_by tags) mi i m insn target f → IsAt p (tagged_by tags) mi j m other next g → IsIn j (ways_from m i) → IsReachedEdge p (tagged_by tags) mi i j
   way_edge i j insn other target next f g a b w =
       let from : IsIn j (ways_at m (Some insn)) = subst (λ o. IsIn j (ways_at m o)) a.in_code w in
       let x = in_mapped (λ pc. number_at m.code pc) (way_pcs m insn) j from in
@@ -200,15 +200,15 @@ module _ (p : Program) (tags : List Tags) (is : IsProgram p) (mi : ℕ) (m : Met
       let goes = in_goes p m insn target f other (subst (λ z. IsIn z (way_pcs m insn)) pc x.1) in
       record { m = m; insn = insn; target = target; f = f; from = a; other = other; next = next; g = g; to = b; h = goes.0; goes = goes.1 }
 
-  stays_of : (depth i : ℕ) (ks : List ℕ) (j : ℕ) → StaysDeep p (tagged_by tags) mi depth i ks j → Stays m t.frames depth i ks j
+  stays_of : (depth i : ℕ) (ks : List ℕ) (j : ℕ) → StaysDeep p (tagged_by tags) mi depth i ks j → IsPathInBlock m t.frames depth i ks j
   stays_of depth i [] j s = (s.0, deep_of depth i s.1)
   stays_of depth i (k ∷ ks) j s = (deep_of depth i s.0, edge_way i k s.1, stays_of depth k ks j s.2)
 
-  first_deep : (depth i : ℕ) (ks : List ℕ) (j : ℕ) → Stays m t.frames depth i ks j → is_deep m t.frames depth i ≡ true
+  first_deep : (depth i : ℕ) (ks : List ℕ) (j : ℕ) → IsPathInBlock m t.frames depth i ks j → is_deep m t.frames depth i ≡ true
   first_deep depth i [] j s = s.1
   first_deep depth i (k ∷ ks) j s = s.0
 
-  of_stays : (depth i : ℕ) (ks : List ℕ) (j : ℕ) → Stays m t.frames depth i ks j → StaysDeep p (tagged_by tags) mi depth i ks j
+  of_stays : (depth i : ℕ) (ks : List ℕ) (j : ℕ) → IsPathInBlock m t.frames depth i ks j → StaysDeep p (tagged_by tags) mi depth i ks j
   of_stays depth i [] j s = (s.0, of_deep depth i s.1)
   of_stays depth i (k ∷ ks) j s =
       let a = is_reached_at depth (slice_get m.code i) (slice_get m.targets i) (slice_get t.frames i) s.0 in
@@ -256,17 +256,17 @@ module _ (p : Program) (tags : List Tags) (is : IsProgram p) (mi : ℕ) (m : Met
       on_this : IsOnThis p (tagged_by tags) mi (Block insn.pc)
       on_this = (enter, f, begins, tag)
 
-    pub off_this : depth_at m t.frames enter ≡ None → IsOnThis p (tagged_by tags) mi (Block insn.pc) → ⊥
+    pub off_this : entry_depth_at m t.frames enter ≡ None → IsOnThis p (tagged_by tags) mi (Block insn.pc) → ⊥
     off_this none o =
         let here : o.0 ≡ enter = only o.0 o.1 o.2 in
         let frame : slice_get t.frames enter ≡ Some (Some o.1) = subst (λ e. slice_get t.frames e ≡ Some (Some o.1)) here (frame_is o.0 o.2.m o.2.insn o.2.target o.1 o.2.at) in
         let target : slice_get m.targets enter ≡ Some o.2.target = subst (λ e. slice_get m.targets e ≡ Some o.2.target) here (target_is o.0 o.2.m o.2.insn o.2.target o.1 o.2.at) in
-        let is_some : depth_at m t.frames enter ≡ Some (length o.1.held) = rw (at_insn, target, frame, o.3) refl in
+        let is_some : entry_depth_at m t.frames enter ≡ Some (length o.1.held) = rw (at_insn, target, frame, o.3) refl in
         let bad : None ≡ Some (length o.1.held) = sym none ∙ is_some in
         cc
 
     module _ (uses : List FieldUse) (grades : List ℕ) (are : AreGrades p (tagged_by tags) uses mi m grades) where
-      block_has : (o : Option ℕ) (n : ℕ) → depth_at m t.frames enter ≡ o → IsBlockMark m t.frames grades enter o n → HasMark p (tagged_by tags) uses (section_in mi (Block insn.pc)) n
+      block_has : (o : Option ℕ) (n : ℕ) → entry_depth_at m t.frames enter ≡ o → IsBlockMark m t.frames grades enter o n → HasMark p (tagged_by tags) uses (section_in mi (Block insn.pc)) n
       block_has None n e b = subst (λ k. HasMark p (tagged_by tags) uses (section_in mi (Block insn.pc)) k) (sym b) (has_elsewhere p (tagged_by tags) uses (section_in mi (Block insn.pc)) (off_this e))
       block_has (Some depth) n e b =
           let x = entry_parts (slice_get m.code enter) (slice_get m.targets enter) (slice_get t.frames enter) depth e in
@@ -278,12 +278,12 @@ module _ (p : Program) (tags : List Tags) (is : IsProgram p) (mi : ℕ) (m : Met
           (λ k l h. inside_own depth x.1 x.2 at x.6 x.7 (slice_index b.0 k) (b.1 k l))
           (λ i o. b.2 i (own_inside depth x.1 x.2 at x.6 x.7 i o)))
         where
-          last_deep : (depth i : ℕ) (ks : List ℕ) (j : ℕ) → Stays m t.frames depth i ks j → is_deep m t.frames depth j ≡ true
+          last_deep : (depth i : ℕ) (ks : List ℕ) (j : ℕ) → IsPathInBlock m t.frames depth i ks j → is_deep m t.frames depth j ≡ true
           last_deep depth i [] j s = subst (λ k. is_deep m t.frames depth k ≡ true) s.0 s.1
           last_deep depth i (k ∷ ks) j s = last_deep depth k ks j s.2
 
           in_code : (depth : ℕ) (target : Target) (f : TagShape) → IsAt p (tagged_by tags) mi enter m insn target f → slice_index_or f.stack 0 Untagged ≡ This → length f.held ≡ depth → (i : ℕ) → IsInside m t.frames depth enter i → i < length m.code
           in_code depth target f at tag deep i s = let r = is_reached_at depth (slice_get m.code i) (slice_get m.targets i) (slice_get t.frames i) (last_deep depth s.first s.over i s.stays) in slice_get_within m.code i r.0 r.3
 
-      pub block_marked : (n : ℕ) → IsBlockMark m t.frames grades enter (depth_at m t.frames enter) n → IsMarkOf p (tagged_by tags) uses (section_in mi (Block insn.pc)) (record { method = mi; spot = Block insn.pc; mark = n })
-      block_marked n b = record { method = refl; spot = refl; mark_is = block_has (depth_at m t.frames enter) n refl b }
+      pub block_marked : (n : ℕ) → IsBlockMark m t.frames grades enter (entry_depth_at m t.frames enter) n → IsMarkOf p (tagged_by tags) uses (section_in mi (Block insn.pc)) (record { method = mi; spot = Block insn.pc; mark = n })
+      block_marked n b = record { method = refl; spot = refl; mark_is = block_has (entry_depth_at m t.frames enter) n refl b }

@@ -10,7 +10,7 @@ use Rattle.jvm_types.specs.declared.code.Insn.{Insn}
 use Rattle.jvm_types.specs.declared.program.MethodInfo.{MethodInfo}
 use Rattle.checked_program.specs.LockTags.{TagShape}
 use Rattle.graph_closure.specs.Chains.{IsIn}
-use Rattle.guard_analysis.specs.BlockWalks.{ways_from, deep_at, is_deep, visited, all_visited, Stays, IsInside, Has, Walked, unseen, left_of, IsExplored}
+use Rattle.guard_analysis.specs.BlockWalks.{ways_from, deep_at, is_deep, walk_visited, all_visited, IsPathInBlock, IsInside, Has, Walked, unstamped, walk_left, IsExplored}
 use Rattle.guard_analysis.specs.declared.block_walk.Walk.{Walk}
 
 has_more : (xs : List ℕ) (x y : ℕ) → Has xs x → Has (xs ++ y ∷ []) x
@@ -25,7 +25,7 @@ pub record Grows (stamp : ℕ) (w v : Walk) : Type 0 where
   pub long : length v.seen ≡ length w.seen
   pub more : length w.own ≤ length v.own
   pub same : (t : ℕ) → t < length w.own → slice_index v.own t ≡ slice_index w.own t
-  pub lighter : 2 * unseen stamp v.seen + length v.own ≤ 2 * unseen stamp w.seen + length w.own
+  pub lighter : 2 * unstamped stamp v.seen + length v.own ≤ 2 * unstamped stamp w.seen + length w.own
 
 grows_none : (stamp : ℕ) (w : Walk) → Grows stamp w w
 grows_none stamp w = record { long = refl; more = omega arith; same = λ t l. refl; lighter = omega arith }
@@ -49,10 +49,10 @@ module _ (stamp : ℕ) (w : Walk) (j : ℕ) (inside : j < length w.seen) (unlike
   one_unless : Bool → ℕ
   one_unless b = cond (not b) 1 0
 
-  fewer : unseen stamp (slice_set w.seen j stamp) + 1 ≡ unseen stamp w.seen
+  fewer : unstamped stamp (slice_set w.seen j stamp) + 1 ≡ unstamped stamp w.seen
   unfolding one_unless
   fewer =
-      let sum : unseen stamp (slice_set w.seen j stamp) + one_unless (slice_index w.seen j == stamp) ≡ unseen stamp w.seen + one_unless (stamp == stamp) = sum_by-set (λ s. cond (not (s == stamp)) 1 0) w.seen j stamp 0 inside in
+      let sum : unstamped stamp (slice_set w.seen j stamp) + one_unless (slice_index w.seen j == stamp) ≡ unstamped stamp w.seen + one_unless (stamp == stamp) = sum_by-set (λ s. cond (not (s == stamp)) 1 0) w.seen j stamp 0 inside in
       let old : (slice_index w.seen j == stamp) ≡ false = grind (arith, nat_tests) in
       let new : (stamp == stamp) ≡ true = grind (arith, nat_tests) in
       let was : one_unless (slice_index w.seen j == stamp) ≡ 1 = ap one_unless old in
@@ -97,7 +97,7 @@ module _ (stamp n : ℕ) (P : ℕ → Type 0) where
     pub good : IsGood stamp n P v
     pub found : deep ≡ true → Has v.own j
 
-  visit_after : (deep : Bool) (w : Walk) (j : ℕ) → IsGood stamp n P w → (deep ≡ true → (j < n) × P j) → After deep w j (visited deep stamp w j)
+  visit_after : (deep : Bool) (w : Walk) (j : ℕ) → IsGood stamp n P w → (deep ≡ true → (j < n) × P j) → After deep w j (walk_visited deep stamp w j)
   visit_after false w j g h = record { grows = grows_none stamp w; good = g; found = λ e. absurd (let bad : false ≡ true = e in cc) }
   visit_after true w j g h = by_test (nat_lt j (length w.seen)) (slice_index w.seen j == stamp) refl refl
     where
@@ -136,20 +136,20 @@ module _ (m : MethodInfo) (frames : List (Option TagShape)) (depth stamp : ℕ) 
   all_after [] w g h = record { grows = grows_none stamp w; good = g; found = λ j i e. absurd i }
   all_after (j ∷ js) w g h =
       let first = visit_after stamp (length m.code) P (is_deep m frames depth j) w j g (λ e. (deep_inside j e, h j (inl refl) e)) in
-      let rest = all_after js (visited (is_deep m frames depth j) stamp w j) first.good (λ i k e. h i (inr k) e) in
+      let rest = all_after js (walk_visited (is_deep m frames depth j) stamp w j) first.good (λ i k e. h i (inr k) e) in
       record {
-        grows = grows_twice stamp w (visited (is_deep m frames depth j) stamp w j) (all_visited m frames depth stamp js (visited (is_deep m frames depth j) stamp w j)) first.grows rest.grows;
+        grows = grows_twice stamp w (walk_visited (is_deep m frames depth j) stamp w j) (all_visited m frames depth stamp js (walk_visited (is_deep m frames depth j) stamp w j)) first.grows rest.grows;
         good = rest.good;
         found = λ i k e. ⊎_elim
-            (λ (q : j ≡ i). has_grown stamp (visited (is_deep m frames depth j) stamp w j) (all_visited m frames depth stamp js (visited (is_deep m frames depth j) stamp w j)) i rest.grows
-            (subst (λ x. Has (visited (is_deep m frames depth j) stamp w j).own x) q (first.found (subst (λ x. is_deep m frames depth x ≡ true) (sym q) e))))
+            (λ (q : j ≡ i). has_grown stamp (walk_visited (is_deep m frames depth j) stamp w j) (all_visited m frames depth stamp js (walk_visited (is_deep m frames depth j) stamp w j)) i rest.grows
+            (subst (λ x. Has (walk_visited (is_deep m frames depth j) stamp w j).own x) q (first.found (subst (λ x. is_deep m frames depth x ≡ true) (sym q) e))))
             (λ q. rest.found i q e) k;
       }
 
 -- ---- the walk of a block
 
 module _ (m : MethodInfo) (frames : List (Option TagShape)) (depth stamp enter : ℕ) where
-  stays_more : (i : ℕ) (ks : List ℕ) (j k : ℕ) → Stays m frames depth i ks j → IsIn k (ways_from m j) → is_deep m frames depth k ≡ true → (over : List ℕ) × Stays m frames depth i over k
+  stays_more : (i : ℕ) (ks : List ℕ) (j k : ℕ) → IsPathInBlock m frames depth i ks j → IsIn k (ways_from m j) → is_deep m frames depth k ≡ true → (over : List ℕ) × IsPathInBlock m frames depth i over k
   stays_more i [] j k s w d = (k ∷ [], (s.1, subst (λ x. IsIn k (ways_from m x)) (sym s.0) w, (refl, d)))
   stays_more i (x ∷ xs) j k s w d = let r = stays_more x xs j k s.2 w d in (x ∷ r.0, (s.0, s.1, r.1))
 
@@ -189,24 +189,24 @@ module _ (m : MethodInfo) (frames : List (Option TagShape)) (depth stamp enter :
             (λ (q : t ≢ k). has_grown stamp w (all_visited m frames depth stamp (ways_from m (slice_index w.own k)) w) j r.grows (h.closed t j (omega (arith, g, q)) was d)) (cases_eq t k);
       }
 
-  pub walk_ends : (k : ℕ) (w : Walk) → Walked m frames depth stamp enter k w → k < length w.own → left_of stamp (all_visited m frames depth stamp (ways_from m (slice_index w.own k)) w) (k + 1) < left_of stamp w k
+  pub walk_ends : (k : ℕ) (w : Walk) → Walked m frames depth stamp enter k w → k < length w.own → walk_left stamp (all_visited m frames depth stamp (ways_from m (slice_index w.own k)) w) (k + 1) < walk_left stamp w k
   walk_ends k w h l = let r = step k w h l in omega (arith, r.grows.lighter, l)
 
   -- where the number and what is left are told by equations
   pub goes_on_shown : (k i : ℕ) (w v : Walk) → Walked m frames depth stamp enter k w → k < length w.own → i ≡ slice_index w.own k → v ≡ all_visited m frames depth stamp (ways_from m i) w → Walked m frames depth stamp enter (k + 1) v
   goes_on_shown k i w v h l e f = subst (λ x. Walked m frames depth stamp enter (k + 1) x) (sym (f ∙ ap (λ x. all_visited m frames depth stamp (ways_from m x) w) e)) (walk_goes_on k w h l)
 
-  pub ends_shown : (k i : ℕ) (w v : Walk) → Walked m frames depth stamp enter k w → k < length w.own → i ≡ slice_index w.own k → v ≡ all_visited m frames depth stamp (ways_from m i) w → left_of stamp v (k + 1) < left_of stamp w k
-  ends_shown k i w v h l e f = subst (λ x. left_of stamp x (k + 1) < left_of stamp w k) (sym (f ∙ ap (λ x. all_visited m frames depth stamp (ways_from m x) w) e)) (walk_ends k w h l)
+  pub ends_shown : (k i : ℕ) (w v : Walk) → Walked m frames depth stamp enter k w → k < length w.own → i ≡ slice_index w.own k → v ≡ all_visited m frames depth stamp (ways_from m i) w → walk_left stamp v (k + 1) < walk_left stamp w k
+  ends_shown k i w v h l e f = subst (λ x. walk_left stamp x (k + 1) < walk_left stamp w k) (sym (f ∙ ap (λ x. all_visited m frames depth stamp (ways_from m x) w) e)) (walk_ends k w h l)
 
   pub explored : (k : ℕ) (w : Walk) → Walked m frames depth stamp enter k w → length w.own ≤ k → IsExplored m frames depth stamp enter w
   explored k w h l = record { long = h.long; low = h.low; own = h.own; all = λ i s. come s.first s.over i (h.begun s.first s.begins (deep_first s.first s.over i s.stays)) s.stays }
     where
-      deep_first : (i : ℕ) (ks : List ℕ) (j : ℕ) → Stays m frames depth i ks j → is_deep m frames depth i ≡ true
+      deep_first : (i : ℕ) (ks : List ℕ) (j : ℕ) → IsPathInBlock m frames depth i ks j → is_deep m frames depth i ≡ true
       deep_first i [] j s = s.1
       deep_first i (x ∷ xs) j s = s.0
 
-      come : (i : ℕ) (ks : List ℕ) (j : ℕ) → Has w.own i → Stays m frames depth i ks j → Has w.own j
+      come : (i : ℕ) (ks : List ℕ) (j : ℕ) → Has w.own i → IsPathInBlock m frames depth i ks j → Has w.own j
       come i [] j a s = subst (λ x. Has w.own x) s.0 a
       come i (x ∷ xs) j a s =
           let low : a.0 < length w.own = a.1 in

@@ -12,7 +12,7 @@ use Rattle.jvm_types.specs.declared.program.MethodInfo.{MethodInfo}
 use Rattle.jvm_types.specs.declared.program.Program.{Program}
 use Rattle.checked_program.specs.LockTags.{TagShape}
 use Rattle.checked_program.specs.TaggedCode.{Tagged, tagged_by}
-use Rattle.checked_program.specs.Marks.{Callee, callee, Calls, Invokes, CallsThrough, CallsItself, BreaksAt, fault, receiver_tag, is_own_object, mode_if}
+use Rattle.checked_program.specs.Marks.{Callee, callee, Calls, Invokes, CallsThrough, CallsItself, BreaksAt, section_fault, receiver_tag, is_own_object, mode_if}
 use Rattle.checked_program.specs.declared.tag.Tags.{Tags}
 use Rattle.checked_program.specs.declared.section.Mode.{Mode}
 use Rattle.checked_program.specs.declared.section.Mode.TheVariants.{OnThis, OffThis}
@@ -71,7 +71,7 @@ pub record AtFault (oi : Option Insn) (ot : Option Target) (of : Option (Option 
   pub is_insn : oi ≡ Some insn
   pub is_target : ot ≡ Some target
   pub is_frame : of ≡ Some (Some f)
-  pub same : fault_at p uses mode oi ot of ≡ fault p uses mode insn.op target f.stack
+  pub same : fault_at p uses mode oi ot of ≡ section_fault p uses mode insn.op target f.stack
 
 pub fault_parts : (p : Program) (uses : List FieldUse) (mode : Mode) (oi : Option Insn) (ot : Option Target) (of : Option (Option TagShape)) → 0 < fault_at p uses mode oi ot of → AtFault oi ot of p uses mode
 fault_parts p uses mode (Some insn) (Some target) (Some (Some f)) h = record { insn = insn; target = target; f = f; is_insn = refl; is_target = refl; is_frame = refl; same = refl }

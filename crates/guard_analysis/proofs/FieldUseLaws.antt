@@ -21,7 +21,7 @@ use Rattle.checked_program.specs.FrozenPlaces.{PutsGuarded, WritesGuarded, locks
 use Rattle.checked_program.specs.declared.tag.Tag.{Tag}
 use Rattle.checked_program.specs.declared.tag.Tag.TheVariants.{Untagged, This, At}
 use Rattle.checked_program.specs.declared.tag.Tags.{Tags}
-use Rattle.guard_analysis.specs.FieldUses.{writes_guarded, unless_guarded, unguarded_write, unguarded_at, noted, noted_before, noted_in, unguarded_before}
+use Rattle.guard_analysis.specs.FieldUses.{writes_guarded, unless_guarded, unguarded_write, unguarded_at, field_noted, noted_before, noted_in, unguarded_before}
 use Rattle.guard_analysis.proofs.CallEdges.{with_tags, frames_there}
 
 -- ---- flags
@@ -53,7 +53,7 @@ none_set zero fi h = cc
 none_set (suc n) zero h = cc
 none_set (suc n) (suc fi) h = none_set n fi h
 
-noted_long : (flags : List Bool) (o : Option ℕ) → length (noted flags o) ≡ length flags
+noted_long : (flags : List Bool) (o : Option ℕ) → length (field_noted flags o) ≡ length flags
 noted_long flags None = refl
 noted_long flags (Some x) = by_test (nat_lt x (length flags))
   where
@@ -61,7 +61,7 @@ noted_long flags (Some x) = by_test (nat_lt x (length flags))
     by_test true = length-set flags x true
     by_test false = refl
 
-noted_true : (flags : List Bool) (o : Option ℕ) (fi : ℕ) → flag (noted flags o) fi ≡ true → (flag flags fi ≡ true) ⊎ (o ≡ Some fi)
+noted_true : (flags : List Bool) (o : Option ℕ) (fi : ℕ) → flag (field_noted flags o) fi ≡ true → (flag flags fi ≡ true) ⊎ (o ≡ Some fi)
 noted_true flags None fi h = inl h
 noted_true flags (Some x) fi h = by_test (nat_lt x (length flags)) h
   where
@@ -69,7 +69,7 @@ noted_true flags (Some x) fi h = by_test (nat_lt x (length flags)) h
     by_test true k = ⊎_elim (λ e. inl e) (λ e. inr (ap (λ (y : ℕ). Some y) e)) (set_true flags x fi k)
     by_test false k = inl k
 
-noted_keeps : (flags : List Bool) (o : Option ℕ) (fi : ℕ) → flag flags fi ≡ true → flag (noted flags o) fi ≡ true
+noted_keeps : (flags : List Bool) (o : Option ℕ) (fi : ℕ) → flag flags fi ≡ true → flag (field_noted flags o) fi ≡ true
 noted_keeps flags None fi h = h
 noted_keeps flags (Some x) fi h = by_test (nat_lt x (length flags))
   where
@@ -77,7 +77,7 @@ noted_keeps flags (Some x) fi h = by_test (nat_lt x (length flags))
     by_test true = set_keeps flags x fi h
     by_test false = h
 
-noted_here : (flags : List Bool) (o : Option ℕ) (fi : ℕ) → fi < length flags → o ≡ Some fi → flag (noted flags o) fi ≡ true
+noted_here : (flags : List Bool) (o : Option ℕ) (fi : ℕ) → fi < length flags → o ≡ Some fi → flag (field_noted flags o) fi ≡ true
 noted_here flags o fi l e = let test : nat_lt fi (length flags) ≡ true = grind (arith, nat_tests) in rw (e, test) (set_here flags fi l)
 
 -- ---- one method

@@ -13,7 +13,7 @@ use Rattle.jvm_types.specs.declared.program.MethodInfo.{MethodInfo}
 use Rattle.jvm_types.specs.declared.program.Program.{Program}
 use Rattle.checked_program.specs.LockTags.{TagShape}
 use Rattle.checked_program.specs.TaggedCode.{Tagged, tagged_by}
-use Rattle.checked_program.specs.Marks.{Callee, callee, Calls, BreaksAt, fault, enter_fault, call_fault, read_fault, receiver_tag, is_own_object, mode_if, called_method}
+use Rattle.checked_program.specs.Marks.{Callee, callee, Calls, BreaksAt, section_fault, enter_fault, call_fault, use_fault, receiver_tag, is_own_object, mode_if, called_method}
 use Rattle.checked_program.specs.declared.tag.Tag.{Tag}
 use Rattle.checked_program.specs.declared.tag.Tags.{Tags}
 use Rattle.checked_program.specs.declared.section.Mode.{Mode}
@@ -36,13 +36,13 @@ call_low : (b own : Bool) → call_fault b own ≤ 5
 call_low true own = enter_low own
 call_low false own = omega arith
 
-read_low : (u : FieldUse) (own : Bool) → read_fault u own ≤ 5
+read_low : (u : FieldUse) (own : Bool) → use_fault u own ≤ 5
 read_low Frozen own = omega arith
 read_low Guarded true = omega arith
 read_low Guarded false = omega arith
 read_low Open own = omega arith
 
-pub fault_low : (p : Program) (uses : List FieldUse) (mode : Mode) (op : Op) (target : Target) (stack : List Tag) → fault p uses mode op target stack ≤ 5
+pub fault_low : (p : Program) (uses : List FieldUse) (mode : Mode) (op : Op) (target : Target) (stack : List Tag) → section_fault p uses mode op target stack ≤ 5
 fault_low p uses mode ops.Monitorenter target stack = enter_low _
 fault_low p uses mode (ops.Invokevirtual i) (targets.Method u) stack = call_low _ _
 fault_low p uses mode (ops.Invokespecial i) (targets.Method u) stack = call_low _ _

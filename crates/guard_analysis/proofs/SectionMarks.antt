@@ -6,7 +6,7 @@ use Rattle.std.proofs.lemmas.Bool.Decides.{nat_tests}
 use Rattle.std.proofs.lemmas.Option.{slice_get_within, same_Some}
 use Rattle.jvm_types.specs.declared.program.MethodInfo.{MethodInfo}
 use Rattle.jvm_types.specs.declared.program.Program.{Program}
-use Rattle.checked_program.specs.TaggedCode.{Tagged, IsReached}
+use Rattle.checked_program.specs.TaggedCode.{Tagged, IsInstructionReached}
 use Rattle.checked_program.specs.Sections.{Section, IsOwn}
 use Rattle.checked_program.specs.Marks.{Applies, elsewhere, itself, called, recurring, IsOnThis, turn, HasMark, IsMarkOf}
 use Rattle.checked_program.specs.declared.section.Spot.TheVariants.{Method}
@@ -77,12 +77,12 @@ module _ (p : Program) (tags : Tagged) (uses : List FieldUse) (s : Section) wher
 -- ---- a method's own section
 
 module _ (p : Program) (tags : Tagged) (uses : List FieldUse) (mi : ℕ) (m : MethodInfo) (at_m : slice_get p.methods mi ≡ Some m) (grades : List ℕ) (are : AreGrades p tags uses mi m grades) where
-  pub reached_of : (i n : ℕ) → Forbids p tags uses mi i n → IsReached p tags mi i
+  pub reached_of : (i n : ℕ) → Forbids p tags uses mi i n → IsInstructionReached p tags mi i
   reached_of i n (breaks k b) = record { m = b.m; insn = b.insn; target = b.target; f = b.f; at = b.at }
   reached_of i n (calls first c l) = record { m = c.m; insn = c.insn; target = c.target; f = c.f; at = c.at }
   reached_of i n (recurs first c l) = record { m = c.m; insn = c.insn; target = c.target; f = c.f; at = c.at }
 
-  inside_of : (i : ℕ) → IsReached p tags mi i → i < length m.code
+  inside_of : (i : ℕ) → IsInstructionReached p tags mi i → i < length m.code
   inside_of i r = let same : r.m ≡ m = same_Some r.m m (sym r.at.in_program ∙ at_m) in subst (λ (x : MethodInfo). i < length x.code) same (slice_get_within r.m.code i r.insn r.at.in_code)
 
   pub whole_marked : IsMarkOf p tags uses (section_in mi Method) (record { method = mi; spot = Method; mark = earliest_before (λ i. slice_index grades i) (length grades) })

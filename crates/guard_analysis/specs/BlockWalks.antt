@@ -43,24 +43,24 @@ deep_at depth insn target f = false
 abbrev pub is_deep : MethodInfo → List (Option TagShape) → ℕ → ℕ → Bool
 is_deep m frames depth j = deep_at depth (slice_get m.code j) (slice_get m.targets j) (slice_get frames j)
 
-abbrev pub visited : Bool → ℕ → Walk → ℕ → Walk
-visited deep stamp w j = if deep && (nat_lt j (length w.seen) && not (slice_index w.seen j == stamp)) then record { seen = slice_set w.seen j stamp; own = w.own ++ j ∷ [] } else w
+abbrev pub walk_visited : Bool → ℕ → Walk → ℕ → Walk
+walk_visited deep stamp w j = if deep && (nat_lt j (length w.seen) && not (slice_index w.seen j == stamp)) then record { seen = slice_set w.seen j stamp; own = w.own ++ j ∷ [] } else w
 
 abbrev pub all_visited : MethodInfo → List (Option TagShape) → (depth stamp : ℕ) → List ℕ → Walk → Walk
 all_visited m frames depth stamp [] w = w
-all_visited m frames depth stamp (j ∷ js) w = all_visited m frames depth stamp js (visited (is_deep m frames depth j) stamp w j)
+all_visited m frames depth stamp (j ∷ js) w = all_visited m frames depth stamp js (walk_visited (is_deep m frames depth j) stamp w j)
 
 -- along such instructions, by numbers
-abbrev pub Stays : MethodInfo → List (Option TagShape) → (depth i : ℕ) → List ℕ → ℕ → Type 0
-Stays m frames depth i [] j = (i ≡ j) × (is_deep m frames depth i ≡ true)
-Stays m frames depth i (k ∷ ks) j = (is_deep m frames depth i ≡ true) × IsIn k (ways_from m i) × Stays m frames depth k ks j
+abbrev pub IsPathInBlock : MethodInfo → List (Option TagShape) → (depth i : ℕ) → List ℕ → ℕ → Type 0
+IsPathInBlock m frames depth i [] j = (i ≡ j) × (is_deep m frames depth i ≡ true)
+IsPathInBlock m frames depth i (k ∷ ks) j = (is_deep m frames depth i ≡ true) × IsIn k (ways_from m i) × IsPathInBlock m frames depth k ks j
 
 -- reached from the start of a block
 pub record IsInside (m : MethodInfo) (frames : List (Option TagShape)) (depth enter i : ℕ) : Type 0 where
   pub first : ℕ
   pub begins : IsIn first (ways_from m enter)
   pub over : List ℕ
-  pub stays : Stays m frames depth first over i
+  pub stays : IsPathInBlock m frames depth first over i
 
 abbrev pub Has : List ℕ → ℕ → Type 0
 Has xs x = (t : ℕ) × (t < length xs) × (slice_index xs t ≡ x)
@@ -75,11 +75,11 @@ pub record Walked (m : MethodInfo) (frames : List (Option TagShape)) (depth stam
   pub closed : (t j : ℕ) → t < k → IsIn j (ways_from m (slice_index w.own t)) → is_deep m frames depth j ≡ true → Has w.own j
 
 -- what is left to do
-abbrev pub unseen : ℕ → List ℕ → ℕ
-unseen stamp seen = count_by (λ s. not (s == stamp)) seen
+abbrev pub unstamped : ℕ → List ℕ → ℕ
+unstamped stamp seen = count_by (λ s. not (s == stamp)) seen
 
-abbrev pub left_of : ℕ → Walk → ℕ → ℕ
-left_of stamp w k = 2 * unseen stamp w.seen + length w.own - k
+abbrev pub walk_left : ℕ → Walk → ℕ → ℕ
+walk_left stamp w k = 2 * unstamped stamp w.seen + length w.own - k
 
 -- exactly the own instructions were found, and the next block may have the next stamp
 pub record IsExplored (m : MethodInfo) (frames : List (Option TagShape)) (depth stamp enter : ℕ) (w : Walk) : Type 0 where

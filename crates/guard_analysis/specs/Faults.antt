@@ -6,7 +6,7 @@ use Rattle.jvm_types.specs.declared.program.MethodInfo.{MethodInfo}
 use Rattle.jvm_types.specs.declared.program.Program.{Program}
 use Rattle.checked_program.specs.LockTags.{TagShape}
 use Rattle.checked_program.specs.TaggedCode.{Tagged}
-use Rattle.checked_program.specs.Marks.{Callee, CallsThrough, CallsItself, BreaksAt, fault}
+use Rattle.checked_program.specs.Marks.{Callee, CallsThrough, CallsItself, BreaksAt, section_fault}
 use Rattle.checked_program.specs.declared.tag.Tags.{Tags}
 use Rattle.checked_program.specs.declared.section.Mode.{Mode}
 use Rattle.checked_program.specs.declared.section.Mode.TheVariants.{OnThis}
@@ -16,7 +16,7 @@ use Rattle.guard_analysis.specs.CallGraph.{node_of, mode_at, call_at}
 -- ---- rules that a method breaks
 
 abbrev pub fault_at : Program → List FieldUse → Mode → Option Insn → Option Target → Option (Option TagShape) → ℕ
-fault_at p uses mode (Some insn) (Some target) (Some (Some f)) = fault p uses mode insn.op target f.stack
+fault_at p uses mode (Some insn) (Some target) (Some (Some f)) = section_fault p uses mode insn.op target f.stack
 fault_at p uses mode insn target f = 0
 
 abbrev pub breaks_before : Program → List FieldUse → MethodInfo → List (Option TagShape) → Mode → ℕ → Bool

@@ -39,14 +39,14 @@ unguarded_at m (Some insn) (Some target) (Some (Some f)) = unguarded_write m ins
 unguarded_at m insn target f = None
 
 -- a field noted among all
-abbrev pub noted : List Bool → Option ℕ → List Bool
-noted flags None = flags
-noted flags (Some fi) = if nat_lt fi (length flags) then slice_set flags fi true else flags
+abbrev pub field_noted : List Bool → Option ℕ → List Bool
+field_noted flags None = flags
+field_noted flags (Some fi) = if nat_lt fi (length flags) then slice_set flags fi true else flags
 
 -- with the fields that the first instructions of a method write so
 abbrev pub noted_before : MethodInfo → List (Option TagShape) → List Bool → ℕ → List Bool
 noted_before m frames flags zero = flags
-noted_before m frames flags (suc i) = noted (noted_before m frames flags i) (unguarded_at m (slice_get m.code i) (slice_get m.targets i) (slice_get frames i))
+noted_before m frames flags (suc i) = field_noted (noted_before m frames flags i) (unguarded_at m (slice_get m.code i) (slice_get m.targets i) (slice_get frames i))
 
 abbrev pub noted_in : Option MethodInfo → Option Tags → List Bool → List Bool
 noted_in (Some m) (Some t) flags = noted_before m t.frames flags (length m.code)

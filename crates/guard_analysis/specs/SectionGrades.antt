@@ -63,11 +63,11 @@ IsBlockMark m frames grades enter None n = n ≡ 8
 IsBlockMark m frames grades enter (Some depth) n = (own : List ℕ) × ((t : ℕ) → t < length own → IsInside m frames depth enter (slice_index own t)) × ((i : ℕ) → IsInside m frames depth enter i → Has own i)
     × (n ≡ earliest_before (λ t. slice_index grades (slice_index own t)) (length own))
 
-abbrev pub depth_at : MethodInfo → List (Option TagShape) → ℕ → Option ℕ
-depth_at m frames i = depth_on_this (slice_get m.code i) (slice_get m.targets i) (slice_get frames i)
+abbrev pub entry_depth_at : MethodInfo → List (Option TagShape) → ℕ → Option ℕ
+entry_depth_at m frames i = depth_on_this (slice_get m.code i) (slice_get m.targets i) (slice_get frames i)
 
 -- no walk has used a stamp above a number
-pub record IsFresh (m : MethodInfo) (i : ℕ) (w : Walk) : Type 0 where
+pub record IsFreshWalk (m : MethodInfo) (i : ℕ) (w : Walk) : Type 0 where
   pub long : length w.seen ≡ length m.code
   pub low : (j : ℕ) → slice_index w.seen j ≤ i
 

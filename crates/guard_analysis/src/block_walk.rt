@@ -4,7 +4,7 @@ ghost use Rattle.std.specs.Prelude.{◌≡◌, ◌<◌, ◌≤◌, ◌==◌, ℕ
 ghost use Rattle.std.specs.List.{filter_map};
 ghost use Rattle.jvm_types.specs.Verifying.{covers};
 ghost use Rattle.code_table.specs.PcTables.{number_at};
-ghost use Rattle.guard_analysis.specs.BlockWalks.{all_visited, catch_pcs, deep_at, is_deep, handler_pcs, way_pcs, ways_at, ways_from, visited, IsExplored, Walked};
+ghost use Rattle.guard_analysis.specs.BlockWalks.{all_visited, catch_pcs, deep_at, is_deep, handler_pcs, way_pcs, ways_at, ways_from, walk_visited, IsExplored, Walked};
 
 use checked_program::Tags;
 use code_table::{IndexedMethod, can_throw, edges};
@@ -116,7 +116,7 @@ fn has_stamp(seen: &Rows<usize>, j: usize, stamp: usize) -> bool
 }
 
 fn visit(walk: &mut Walk, deep: bool, stamp: usize, j: usize) -> Result<(), AllocError>
-    ensures { OnOk result (walk.new ≡ visited deep stamp walk.old j) }
+    ensures { OnOk result (walk.new ≡ walk_visited deep stamp walk.old j) }
 {
     if deep && j < walk.seen.len() && !has_stamp(&walk.seen, j, stamp) {
         walk.own.push(j)?;

@@ -2,7 +2,7 @@
 
 ghost use Rattle.std.specs.Prelude.{◌≡◌, length, slice_get, slice_index_or};
 ghost use Rattle.checked_program.specs.FrozenPlaces.{locks_this};
-ghost use Rattle.checked_program.specs.Marks.{call_fault, enter_fault, fault, is_locking, read_fault};
+ghost use Rattle.checked_program.specs.Marks.{call_fault, enter_fault, section_fault, is_locking, use_fault};
 ghost use Rattle.checked_program.specs.declared.section.FieldUse.TheVariants.{Open as open_use};
 ghost use Rattle.guard_analysis.specs.Faults.{breaks_before, fault_at, node_breaks};
 
@@ -55,7 +55,7 @@ fn call_fault(locking: bool, own: bool) -> u8
 }
 
 fn read_fault(field_use: FieldUse, own: bool) -> u8
-    ensures { result ≡ read_fault field_use own }
+    ensures { result ≡ use_fault field_use own }
 {
     match field_use {
         FieldUse::Frozen => 0,
@@ -74,7 +74,7 @@ fn fault(
     target: Target,
     frame: &TagFrame,
 ) -> u8
-    ensures { result ≡ fault p.now uses.now mode op.now target frame.now.stack }
+    ensures { result ≡ section_fault p.now uses.now mode op.now target frame.now.stack }
 {
     match op {
         Op::Putfield(_) => 1,

@@ -8,7 +8,7 @@ ghost use Rattle.checked_program.specs.declared.tag.Tag.TheVariants.{Untagged as
 ghost use Rattle.checked_program.specs.TaggedCode.{tagged_by};
 ghost use Rattle.checked_program.specs.FrozenPlaces.{AreUses};
 ghost use Rattle.frozen_classes.specs.FrozenClasses.{AreFrozenClasses};
-ghost use Rattle.guard_analysis.specs.FieldUses.{class_flag, noted, noted_before, noted_in, unguarded_at, unguarded_before, unguarded_write, use_at, use_by, uses_before, writes_guarded};
+ghost use Rattle.guard_analysis.specs.FieldUses.{class_flag, field_noted, noted_before, noted_in, unguarded_at, unguarded_before, unguarded_write, use_at, use_by, uses_before, writes_guarded};
 
 use crate::callees::flag_at;
 use crate::faults::locks_this;
@@ -86,7 +86,7 @@ pub fn unguarded_at(m: &MethodInfo, tags: &Tags, i: usize) -> Option<u32>
 }
 
 fn note(flags: &mut Rows<bool>, found: Option<u32>)
-    ensures { flags.new ≡ noted flags.old found }
+    ensures { flags.new ≡ field_noted flags.old found }
 {
     match found {
         Some(field) => {

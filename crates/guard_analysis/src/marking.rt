@@ -15,7 +15,7 @@ ghost use Rattle.graph_closure.specs.LeastSet.{IsGraph};
 ghost use Rattle.guard_analysis.specs.CallGraph.{call_graph};
 ghost use Rattle.guard_analysis.specs.BlockWalks.{IsExplored};
 ghost use Rattle.guard_analysis.specs.Faults.{AreCallees, grades_before};
-ghost use Rattle.guard_analysis.specs.SectionGrades.{depth_at, earlier, whole_of, earliest_before, section_in, sections_at, AreGrades, IsBlockMark, IsFresh, Marks};
+ghost use Rattle.guard_analysis.specs.SectionGrades.{entry_depth_at, earlier, whole_of, earliest_before, section_in, sections_at, AreGrades, IsBlockMark, IsFreshWalk, Marks};
 
 use crate::block_walk::{Walk, explore};
 use crate::callees::Callees;
@@ -83,7 +83,7 @@ fn depth_of(frame: &TagFrame) -> Option<usize>
 }
 
 pub fn depth_at(m: &MethodInfo, tags: &Tags, i: usize) -> Option<usize>
-    ensures { result ≡ depth_at m.now tags.now.frames i }
+    ensures { result ≡ entry_depth_at m.now tags.now.frames i }
 {
     match m.code.get(i) {
         Some(_) => match m.targets.get(i) {
@@ -109,9 +109,9 @@ fn mark_block(
     stamp: usize,
 ) -> Result<u8, AllocError>
     requires stamp { stamp ≡ i + 1 }
-    requires fresh { IsFresh m.now i walk.old }
-    ensures mark { IfOk result (IsBlockMark m.now tags.now.frames grades.now i (depth_at m.now tags.now.frames i)) }
-    ensures fresh { OnOk result (IsFresh m.now (i + 1) walk.new) }
+    requires fresh { IsFreshWalk m.now i walk.old }
+    ensures mark { IfOk result (IsBlockMark m.now tags.now.frames grades.now i (entry_depth_at m.now tags.now.frames i)) }
+    ensures fresh { OnOk result (IsFreshWalk m.now (i + 1) walk.new) }
 {
     match depth_at(m.method(), tags, i) {
         Some(depth) => {
@@ -142,9 +142,9 @@ fn mark_at(
     requires tagged { slice_get tags.now method ≡ Some t.now }
     requires grades { AreGrades p.now (tagged_by tags.now) uses.now method m.now grades.now }
     requires stamp { stamp ≡ i + 1 }
-    requires fresh { IsFresh m.now i walk.old }
+    requires fresh { IsFreshWalk m.now i walk.old }
     ensures marks { OnOk result (Marks p.now (tagged_by tags.now) uses.now (sections_at method (slice_get m.now.code i)) marks.old marks.new) }
-    ensures fresh { OnOk result (IsFresh m.now (i + 1) walk.new) }
+    ensures fresh { OnOk result (IsFreshWalk m.now (i + 1) walk.new) }
 {
     match m.method().code.get(i) {
         Some(insn) => match insn.op {

@@ -5,7 +5,7 @@ use Rattle.std.specs.List.{AllByRecursion}
 use Rattle.std.proofs.lemmas.Bool.Decides.{nat_tests}
 use Rattle.jvm_types.specs.declared.program.Row.{Row}
 use Rattle.handler_rows.specs.declared.hull.Hull.{Hull}
-use Rattle.handler_rows.specs.HandlerRows.{is_picked, picked, Passes}
+use Rattle.handler_rows.specs.HandlerRows.{is_picked, picked, AreRowsPassed}
 use Rattle.handler_rows.specs.Hulls.{IsWithin, IsWider, IsHull, AreHulls, may_have}
 
 -- ---- one hull
@@ -61,16 +61,16 @@ skipped pc from rows zero a = refl
 skipped pc from [] (suc n) a = refl
 skipped pc from (row ∷ rows) (suc n) a = ap (λ (t : Bool). if t then row ∷ picked pc from rows else picked pc from rows) a.0 ∙ skipped pc from rows n a.1
 
-passes : (pc from : ℕ) (rows : List Row) (n : ℕ) → 0 < n → n ≤ length rows → AllByRecursion (λ row. is_picked pc from row ≡ false) (take n rows) → Passes pc from rows n
+passes : (pc from : ℕ) (rows : List Row) (n : ℕ) → 0 < n → n ≤ length rows → AllByRecursion (λ row. is_picked pc from row ≡ false) (take n rows) → AreRowsPassed pc from rows n
 passes pc from rows zero some few a = absurd (omega (arith, some))
 passes pc from rows (suc n) some few a = (few, skipped pc from rows (suc n) a)
 
-pub hull_passed : (h : Hull) (pc from : ℕ) (rows : List Row) → IsHull rows h → may_have h pc from ≡ false → Passes pc from rows h.count
+pub hull_passed : (h : Hull) (pc from : ℕ) (rows : List Row) → IsHull rows h → may_have h pc from ≡ false → AreRowsPassed pc from rows h.count
 hull_passed h pc from rows is e = passes pc from rows h.count is.some is.few (none_had h pc from e (take h.count rows) is.all)
 
 -- ---- one row
 
-pub row_passed : (pc from : ℕ) (rows : List Row) (row : Row) → slice_get rows 0 ≡ Some row → is_picked pc from row ≡ false → Passes pc from rows 1
+pub row_passed : (pc from : ℕ) (rows : List Row) (row : Row) → slice_get rows 0 ≡ Some row → is_picked pc from row ≡ false → AreRowsPassed pc from rows 1
 row_passed pc from [] row e n = absurd (cc)
 row_passed pc from (x ∷ xs) row e n =
     let same : row ≡ x = cc in

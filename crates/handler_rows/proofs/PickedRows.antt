@@ -7,7 +7,7 @@ use Rattle.std.proofs.lemmas.Bool.Decides.{nat_tests}
 use Rattle.std.proofs.lemmas.List.{drop_all}
 use Rattle.jvm_types.specs.Verifying.{covers}
 use Rattle.jvm_types.specs.declared.program.Row.{Row}
-use Rattle.handler_rows.specs.HandlerRows.{is_picked, picked, IsNext, Passes}
+use Rattle.handler_rows.specs.HandlerRows.{is_picked, picked, IsNextPicked, AreRowsPassed}
 
 -- from 0 on every row that covers is picked
 from_start : (pc : ℕ) (row : Row) → is_picked pc 0 row ≡ covers pc row
@@ -49,7 +49,7 @@ some_covers pc (x ∷ rows) row others e = by_test (covers pc x) e (some_covers 
     by_test false e more = more e
 
 -- what a search from 0 on finds tells whether some row covers
-pub found_covers : {A : Type 0} (pc : ℕ) (rows : List Row) (found : Option A) (behind : A → ℕ) (row : A → Row) → IfNone found (picked pc 0 rows ≡ []) → IfSome found (λ x. IsNext pc 0 rows 0 (behind x) (row x))
+pub found_covers : {A : Type 0} (pc : ℕ) (rows : List Row) (found : Option A) (behind : A → ℕ) (row : A → Row) → IfNone found (picked pc 0 rows ≡ []) → IfSome found (λ x. IsNextPicked pc 0 rows 0 (behind x) (row x))
     → is_some found ≡ list_any (covers pc) rows
 found_covers pc rows None behind row n s = sym (none_covers pc rows (sym (all_picked pc rows) ∙ n))
 found_covers pc rows (Some x) behind row n s = sym (some_covers pc rows (row x) (picked pc 0 (drop (behind x) rows)) (sym (all_picked pc rows) ∙ s.1))
@@ -63,17 +63,17 @@ drop_drop (suc k) n (row ∷ rows) =
     let later : suc (n + k) ≡ n + suc k = omega arith in
     subst (λ (m : ℕ). drop n (drop k rows) ≡ drop m (row ∷ rows)) later (drop_drop k n rows)
 
-found_here : (pc from : ℕ) (rows : List Row) (k : ℕ) (d : Row) → k < length rows → Passes pc from (drop k rows) 0 → picked pc from (drop k rows) ≡ slice_index_or rows k d ∷ picked pc from (drop (suc k) rows)
+found_here : (pc from : ℕ) (rows : List Row) (k : ℕ) (d : Row) → k < length rows → AreRowsPassed pc from (drop k rows) 0 → picked pc from (drop k rows) ≡ slice_index_or rows k d ∷ picked pc from (drop (suc k) rows)
 found_here pc from [] k d inside p = absurd (omega (arith, inside))
 found_here pc from (row ∷ rows) zero d inside p = ap (λ (t : Bool). if t then row ∷ picked pc from rows else picked pc from rows) p
 found_here pc from (row ∷ rows) (suc k) d inside p = found_here pc from rows k d (omega (arith, inside)) p
 
 -- where the row of a number is picked, and none before it is
-pub found : (pc from : ℕ) (rows : List Row) (first k : ℕ) (d : Row) → k < length rows → picked pc from (drop k rows) ≡ picked pc from (drop first rows) → Passes pc from (drop k rows) 0
-    → IsNext pc from rows first (k + 1) (slice_index_or rows k d)
+pub found : (pc from : ℕ) (rows : List Row) (first k : ℕ) (d : Row) → k < length rows → picked pc from (drop k rows) ≡ picked pc from (drop first rows) → AreRowsPassed pc from (drop k rows) 0
+    → IsNextPicked pc from rows first (k + 1) (slice_index_or rows k d)
 found pc from rows first k d inside e p = (omega (arith, inside), sym e ∙ rw add-one (found_here pc from rows k d inside p))
 
 -- some rows on
-pub passed_on : (pc from : ℕ) (rows : List Row) (k n : ℕ) → Passes pc from (drop k rows) n → picked pc from (drop (k + n) rows) ≡ picked pc from (drop k rows)
+pub passed_on : (pc from : ℕ) (rows : List Row) (k n : ℕ) → AreRowsPassed pc from (drop k rows) n → picked pc from (drop (k + n) rows) ≡ picked pc from (drop k rows)
 passed_on pc from rows k zero p = ap (λ (m : ℕ). picked pc from (drop m rows)) (omega arith)
 passed_on pc from rows k (suc n) p = ap (λ (m : ℕ). picked pc from (drop m rows)) (omega arith) ∙ sym (ap (λ (xs : List Row). picked pc from xs) (drop_drop k (suc n) rows)) ∙ sym p.1

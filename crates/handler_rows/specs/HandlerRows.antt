@@ -11,10 +11,10 @@ abbrev pub picked : ℕ → ℕ → List Row → List Row
 picked pc from rows = filter (is_picked pc from) rows
 
 -- of the rows from a number on this is the first that is picked, and those from another number on stand behind it
-abbrev pub IsNext : ℕ → ℕ → List Row → ℕ → ℕ → Row → Type 0
-IsNext pc from rows first behind handler = (behind ≤ length rows) × (picked pc from (drop first rows) ≡ handler ∷ picked pc from (drop behind rows))
+abbrev pub IsNextPicked : ℕ → ℕ → List Row → ℕ → ℕ → Row → Type 0
+IsNextPicked pc from rows first behind handler = (behind ≤ length rows) × (picked pc from (drop first rows) ≡ handler ∷ picked pc from (drop behind rows))
 
 -- the first row is picked, or so many rows are not
-abbrev pub Passes : ℕ → ℕ → List Row → ℕ → Type 0
-Passes pc from rows zero = IsSomeAnd (slice_get rows 0) (λ handler. is_picked pc from handler ≡ true)
-Passes pc from rows (suc n) = (suc n ≤ length rows) × (picked pc from rows ≡ picked pc from (drop (suc n) rows))
+abbrev pub AreRowsPassed : ℕ → ℕ → List Row → ℕ → Type 0
+AreRowsPassed pc from rows zero = IsSomeAnd (slice_get rows 0) (λ handler. is_picked pc from handler ≡ true)
+AreRowsPassed pc from rows (suc n) = (suc n ≤ length rows) × (picked pc from rows ≡ picked pc from (drop (suc n) rows))

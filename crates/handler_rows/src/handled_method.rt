@@ -5,7 +5,7 @@ ghost use Rattle.std.specs.List.{list_any};
 ghost use Rattle.std.specs.Option.{IfSome, IfNone};
 ghost use Rattle.jvm_types.specs.Verifying.{covers, new_class, IsLaidOut};
 ghost use Rattle.code_table.specs.PcTables.{number_at, Ascend};
-ghost use Rattle.handler_rows.specs.HandlerRows.{picked, IsNext, Passes};
+ghost use Rattle.handler_rows.specs.HandlerRows.{picked, IsNextPicked, AreRowsPassed};
 ghost use Rattle.handler_rows.specs.Hulls.{IsHull};
 
 use crate::hull::{Hull, hull_of_number, hulls_of, is_picked};
@@ -85,7 +85,7 @@ impl<'a> HandledMethod<'a> {
     /// How many rows from this number on do not cover the pc, or begin before `from`: 0 where this one does both.
     fn passed(&self, k: usize, pc: u32, from: u32) -> usize
         requires { k < length self.now.rows }
-        ensures { Passes pc from (drop k self.now.rows) result }
+        ensures { AreRowsPassed pc from (drop k self.now.rows) result }
     {
         let hull = self.hull(k);
         if !hull.may_have(pc, from) {
@@ -102,7 +102,7 @@ impl<'a> HandledMethod<'a> {
     /// row behind it. Rows far from the pc are passed by sixty-four.
     pub fn next_row(&self, first: usize, pc: u32, from: u32) -> Option<(usize, &'a Row)>
         ensures none { IfNone result (picked pc from (drop first self.now.rows) ≡ []) }
-        ensures some { IfSome result (λ found. IsNext pc from self.now.rows first found.0 found.1.now) }
+        ensures some { IfSome result (λ found. IsNextPicked pc from self.now.rows first found.0 found.1.now) }
     {
         let rows = self.method().rows.as_slice();
         let mut k = first;

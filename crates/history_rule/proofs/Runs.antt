@@ -6,7 +6,7 @@ use Rattle.checked_program.specs.MarkedProgram.{MarkedProgram}
 use Rattle.machine_types.specs.PlainState.{Plain}
 use Rattle.machine_types.specs.PlainSteps.{plain_run, plain_step}
 use Rattle.machine_types.specs.declared.plain.PlainStep.{PlainStep}
-use Rattle.history_rule.specs.Steps.{IsBehind, Played}
+use Rattle.history_rule.specs.Steps.{IsPlayedOn, Played}
 
 -- one step more of a run that was made
 pub run_more : (p : Program) (steps : List PlainStep) (i : ℕ) (d : PlainStep) (q r after : Plain) → i < length steps → plain_run p q (take i steps) ≡ Some r → plain_step p r (get_or steps i d) ≡ Some after
@@ -30,8 +30,8 @@ run_rest p (x ∷ xs) (suc i) d r o l step = run_rest p xs i d r o (omega (arith
 
 -- ---- of a plain machine that counts its steps
 
-pub one_behind : (p : MarkedProgram) (steps : List PlainStep) (i : ℕ) (d : PlainStep) (old now new : Played) → p ≡ old.program → i < length steps → IsBehind old (take i steps) i now → plain_step p.program now.state (get_or steps i d) ≡ Some new.state
-    → new ≡ record now { state = new.state; steps = now.steps + 1 } → IsBehind old (take (i + 1) steps) (i + 1) new
+pub one_behind : (p : MarkedProgram) (steps : List PlainStep) (i : ℕ) (d : PlainStep) (old now new : Played) → p ≡ old.program → i < length steps → IsPlayedOn old (take i steps) i now → plain_step p.program now.state (get_or steps i d) ≡ Some new.state
+    → new ≡ record now { state = new.state; steps = now.steps + 1 } → IsPlayedOn old (take (i + 1) steps) (i + 1) new
 one_behind p steps i d old now new same l here step is =
     let next : i + 1 ≡ suc i = omega arith in
     let its : plain_step old.program.program now.state (get_or steps i d) ≡ Some new.state = subst (λ (c : MarkedProgram). plain_step c.program now.state (get_or steps i d) ≡ Some new.state) same step in

@@ -8,19 +8,19 @@ use Rattle.machine_types.specs.declared.effect.Effect.TheVariants.{Makes}
 use Rattle.machine_types.specs.PlainState.{Plain, Status, Waiting, Woken}
 
 -- the depth at which a thread that waits held its monitor
-abbrev pub depth_of : Status → ℕ
-depth_of (Waiting m depth) = depth
-depth_of (Woken m depth) = depth
-depth_of status = 0
+abbrev pub waiting_depth : Status → ℕ
+waiting_depth (Waiting m depth) = depth
+waiting_depth (Woken m depth) = depth
+waiting_depth status = 0
 
 -- behind so many steps no monitor was entered more often, and the next reference lies behind so many objects at most
 pub record IsSmall (steps : ℕ) (q : Plain) : Type 0 where
   pub held : AllByRecursion (λ h. h.depth ≤ steps) q.holdings
-  pub waits : AllByRecursion (λ x. depth_of x.status ≤ steps) q.threads
+  pub waits : AllByRecursion (λ x. waiting_depth x.status ≤ steps) q.threads
   pub next : q.next ≤ MOST_HEAP + (MOST_HEAP + OBJECT_HEAD_WORDS) * steps
 
 -- one step more adds to no number of 64 bits more than it holds
-pub record HasRoom (q : Plain) : Type 0 where
+pub record HasRoomForStep (q : Plain) : Type 0 where
   pub held : AllByRecursion (λ h. h.depth < 2 ^ 63) q.holdings
   pub next : q.next < 2 ^ 63
 

@@ -25,12 +25,12 @@ IsPlayed wanted old new (Ok false) = (wanted ≡ None) × (new ≡ old)
 IsPlayed wanted old new (Err e) = new ≡ old
 
 -- all steps are made; there is one that there is not; there is no memory
-abbrev pub IsRun : {E : Type 0} → Option Plain → (new : Plain) → Result Bool E → Type 0
-IsRun wanted new (Ok true) = wanted ≡ Some new
-IsRun wanted new (Ok false) = wanted ≡ None
-IsRun wanted new (Err e) = Unit {0}
+abbrev pub IsRunMade : {E : Type 0} → Option Plain → (new : Plain) → Result Bool E → Type 0
+IsRunMade wanted new (Ok true) = wanted ≡ Some new
+IsRunMade wanted new (Ok false) = wanted ≡ None
+IsRunMade wanted new (Err e) = Unit {0}
 
 -- these steps were made, so many
-pub record IsBehind (old : Played) (steps : List PlainStep) (n : ℕ) (new : Played) : Type 0 where
+pub record IsPlayedOn (old : Played) (steps : List PlainStep) (n : ℕ) (new : Played) : Type 0 where
   pub made : plain_run old.program.program old.state steps ≡ Some new.state
   pub same : new ≡ record old { state = new.state; steps = old.steps + n }

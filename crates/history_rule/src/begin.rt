@@ -3,9 +3,9 @@
 ghost use Rattle.std.specs.Prelude.{◌≡◌, ◌<◌, length, slice_get, Some, None};
 ghost use Rattle.std.specs.Option.{option_map};
 ghost use Rattle.machine_types.specs.PlainState.{PlainThread, with_thread};
-ghost use Rattle.machine_types.specs.PlainSteps.{begun, begins, may_do_done, step_at};
+ghost use Rattle.machine_types.specs.PlainSteps.{plain_begun, plain_begins, may_do_done, step_at};
 ghost use Rattle.machine_types.specs.declared.plain.Act.TheVariants as acts;
-ghost use Rattle.plain_threads.specs.Statuses.{status_of};
+ghost use Rattle.plain_threads.specs.Statuses.{plain_status_of};
 ghost use Rattle.history_rule.specs.Steps.{IsStep};
 
 use crate::plain_state::PlainState;
@@ -35,7 +35,7 @@ impl PlainState {
         mut roots: Stack<u32>,
     ) -> Result<bool, AllocError>
         requires { t < length self.old.threads }
-        ensures { (x : PlainThread) → slice_get self.old.threads t ≡ Some x → IsStep (option_map (with_thread self.old t) (begun p.now.program t x roots)) self.old self.new result }
+        ensures { (x : PlainThread) → slice_get self.old.threads t ≡ Some x → IsStep (option_map (with_thread self.old t) (plain_begun p.now.program t x roots)) self.old self.new result }
     {
         match roots.pop() {
             Some(number) => match p.program().methods.get(number as usize) {
@@ -59,7 +59,7 @@ impl PlainState {
         status: Status,
     ) -> Result<bool, AllocError>
         requires { t < length self.old.threads }
-        ensures { (x : PlainThread) → slice_get self.old.threads t ≡ Some x → IsStep (option_map (with_thread self.old t) (begins p.now.program t x (status_of status))) self.old self.new result }
+        ensures { (x : PlainThread) → slice_get self.old.threads t ≡ Some x → IsStep (option_map (with_thread self.old t) (plain_begins p.now.program t x (plain_status_of status))) self.old self.new result }
     {
         let roots = match status {
             Status::Ready => self.threads.at(t).roots().copy(alloc)?,
@@ -79,7 +79,7 @@ impl PlainState {
         status: Status,
     ) -> Result<bool, AllocError>
         requires { t < length self.old.threads }
-        ensures { (x : PlainThread) → slice_get self.old.threads t ≡ Some x → IsStep (step_at p.now.program self.old t x acts.Begin (status_of status)) self.old self.new result }
+        ensures { (x : PlainThread) → slice_get self.old.threads t ≡ Some x → IsStep (step_at p.now.program self.old t x acts.Begin (plain_status_of status)) self.old self.new result }
     {
         if !self.threads.is_due(t, self.threads.at(t).ended()) {
             return Ok(false);

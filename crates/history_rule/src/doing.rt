@@ -1,12 +1,12 @@
 //! The steps of instructions and exceptions.
 
 ghost use Rattle.std.specs.Prelude.{◌≡◌, ◌<◌, length, slice_get, Some, OnOk, OnErr};
-ghost use Rattle.machine_types.specs.PlainState.{PlainThread, with_thread, goes_on};
+ghost use Rattle.machine_types.specs.PlainState.{PlainThread, with_thread, plain_goes_on};
 ghost use Rattle.machine_types.specs.PlainSteps.{step_at};
 ghost use Rattle.machine_types.specs.PlainState as plain;
 ghost use Rattle.machine_types.specs.declared.plain.Act.TheVariants as acts;
 ghost use Rattle.history_rule.specs.Deeds.{deed_done};
-ghost use Rattle.history_rule.specs.Small.{HasRoom};
+ghost use Rattle.history_rule.specs.Small.{HasRoomForStep};
 ghost use Rattle.history_rule.specs.Steps.{IsStep};
 
 use crate::deed::Deed;
@@ -76,7 +76,7 @@ impl PlainState {
     /// A thread makes the instruction that its top frame stands at.
     pub fn instruct(&mut self, alloc: Global, p: &Checked, t: u8) -> Result<bool, AllocError>
         requires thread { t < length self.old.threads }
-        requires room { HasRoom self.old }
+        requires room { HasRoomForStep self.old }
         ensures { (x : PlainThread) → slice_get self.old.threads t ≡ Some x → IsStep (step_at p.now.program self.old t x acts.Do plain.Run) self.old self.new result }
     {
         let deed = self.plan(alloc, p, t)?;

@@ -3,7 +3,7 @@
 ghost use Rattle.std.specs.Prelude.{◌≡◌, ◌+◌, ◌≤◌, ℕ, length, take, Some};
 ghost use Rattle.machine_types.specs.PlainSteps.{plain_run};
 ghost use Rattle.history_rule.specs.declared.plain.TheConstants.{MOST_STEPS};
-ghost use Rattle.history_rule.specs.Steps.{IsRun, IsBehind};
+ghost use Rattle.history_rule.specs.Steps.{IsRunMade, IsPlayedOn};
 
 use crate::plain::{Plain, plain_step};
 use checked_program::Checked;
@@ -22,8 +22,8 @@ impl Plain {
     ) -> Result<bool, AllocError>
         requires program { p.now ≡ self.old.program }
         requires few { self.old.steps + length steps.now ≤ MOST_STEPS }
-        ensures run { IsRun (plain_run p.now.program self.old.state steps.now) self.new.state result }
-        ensures reached { (n : ℕ) × IsBehind self.old (take n steps.now) n self.new }
+        ensures run { IsRunMade (plain_run p.now.program self.old.state steps.now) self.new.state result }
+        ensures reached { (n : ℕ) × IsPlayedOn self.old (take n steps.now) n self.new }
     {
         for step in steps {
             if !plain_step(alloc, self, p, step)? {

@@ -2,9 +2,9 @@
 
 ghost use Rattle.std.specs.Prelude.{◌≡◌, ◌<◌, length, slice_get, Some, None, OnOk, OnErr};
 ghost use Rattle.machine_types.specs.PlainState.{PlainThread, Run, held_by, holding_at, is_holder, with_status, with_thread};
-ghost use Rattle.machine_types.specs.PlainSteps.{all_notified, entered, exited, notified, retaken, waited};
+ghost use Rattle.machine_types.specs.PlainSteps.{all_notified, plain_entered, exited, notified, retaken, waited};
 ghost use Rattle.plain_frames.specs.Changes.{after_of};
-ghost use Rattle.history_rule.specs.Small.{HasRoom};
+ghost use Rattle.history_rule.specs.Small.{HasRoomForStep};
 ghost use Rattle.history_rule.specs.Steps.{IsStep};
 
 use crate::plain_state::PlainState;
@@ -38,8 +38,8 @@ impl PlainState {
     /// A thread enters a monitor that is free, or that it holds.
     pub fn enter(&mut self, t: u8, m: u64) -> Result<bool, AllocError>
         requires thread { t < length self.old.threads }
-        requires room { HasRoom self.old }
-        ensures { (x : PlainThread) → slice_get self.old.threads t ≡ Some x → IsStep (entered self.old t m x (holding_at self.old.holdings m)) self.old self.new result }
+        requires room { HasRoomForStep self.old }
+        ensures { (x : PlainThread) → slice_get self.old.threads t ≡ Some x → IsStep (plain_entered self.old t m x (holding_at self.old.holdings m)) self.old self.new result }
     {
         let depth = match self.holdings.at(m) {
             None => 1,

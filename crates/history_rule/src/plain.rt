@@ -3,8 +3,8 @@
 ghost use Rattle.std.specs.Prelude.{◌≡◌, ◌<◌, slice_get, IfOk};
 ghost use Rattle.std.specs.Option.{option_map};
 ghost use Rattle.machine_types.specs.PlainState.{plain_start};
-ghost use Rattle.machine_types.specs.PlainSteps.{done_end, end_at, plain_step};
-ghost use Rattle.plain_threads.specs.Statuses.{status_of};
+ghost use Rattle.machine_types.specs.PlainSteps.{plain_done_end, end_at, plain_step};
+ghost use Rattle.plain_threads.specs.Statuses.{plain_status_of};
 ghost use Rattle.history_rule.specs.Steps.{IsPlayed};
 ghost use Rattle.history_rule.specs.declared.plain.TheConstants.{MOST_STEPS};
 
@@ -101,7 +101,7 @@ impl Plain {
 
     /// What a thread does next, or `None` where there is no such thread.
     pub fn status(&self, t: u8) -> Option<Status>
-        ensures { option_map status_of result ≡ option_map (λ x. x.status) (slice_get self.now.state.threads t) }
+        ensures { option_map plain_status_of result ≡ option_map (λ x. x.status) (slice_get self.now.state.threads t) }
     {
         self.state.status(t)
     }
@@ -116,7 +116,7 @@ impl Plain {
     /// How `done` ended, or `None` where it has not. Where the program has none, it has returned as soon as it is due.
     pub fn done_end(&self, alloc: Global, p: &Checked) -> Result<Option<End>, AllocError>
         requires { p.now ≡ self.now.program }
-        ensures { IfOk result (λ e. e ≡ done_end p.now.program self.now.state) }
+        ensures { IfOk result (λ e. e ≡ plain_done_end p.now.program self.now.state) }
     {
         self.state.done_end(alloc, p)
     }

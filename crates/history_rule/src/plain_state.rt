@@ -3,8 +3,8 @@
 ghost use Rattle.std.specs.Prelude.{◌≡◌, slice_get, IfOk};
 ghost use Rattle.std.specs.Option.{option_map};
 ghost use Rattle.machine_types.specs.PlainState.{plain_start};
-ghost use Rattle.machine_types.specs.PlainSteps.{done_end, end_at};
-ghost use Rattle.plain_threads.specs.Statuses.{status_of};
+ghost use Rattle.machine_types.specs.PlainSteps.{plain_done_end, end_at};
+ghost use Rattle.plain_threads.specs.Statuses.{plain_status_of};
 
 use crate::printed::Printed;
 use checked_program::Checked;
@@ -54,7 +54,7 @@ impl PlainState {
 
     /// What a thread does next, or `None` where there is no such thread.
     pub fn status(&self, t: u8) -> Option<Status>
-        ensures { option_map status_of result ≡ option_map (λ x. x.status) (slice_get self.now.threads t) }
+        ensures { option_map plain_status_of result ≡ option_map (λ x. x.status) (slice_get self.now.threads t) }
     {
         match self.threads.get(t) {
             Some(x) => Some(x.status()),
@@ -74,7 +74,7 @@ impl PlainState {
 
     /// How `done` ended, or `None` where it has not. Where the program has none, it has returned as soon as it is due.
     pub fn done_end(&self, alloc: Global, p: &Checked) -> Result<Option<End>, AllocError>
-        ensures { IfOk result (λ e. e ≡ done_end p.now.program self.now) }
+        ensures { IfOk result (λ e. e ≡ plain_done_end p.now.program self.now) }
     {
         let roots = done_roots(alloc, p)?;
         if roots.len() > 0 {

@@ -5,8 +5,8 @@ ghost use Rattle.jvm_types.specs.declared.program.Program.{Program};
 ghost use Rattle.machine_types.specs.PlainState.{PlainThread};
 ghost use Rattle.machine_types.specs.PlainSteps.{plain_step, step_at};
 ghost use Rattle.machine_types.specs.declared.plain.Act.TheVariants as acts;
-ghost use Rattle.plain_threads.specs.Statuses.{status_of};
-ghost use Rattle.history_rule.specs.Small.{HasRoom};
+ghost use Rattle.plain_threads.specs.Statuses.{plain_status_of};
+ghost use Rattle.history_rule.specs.Small.{HasRoomForStep};
 ghost use Rattle.history_rule.specs.Steps.{IsStep};
 
 use crate::plain_state::PlainState;
@@ -19,8 +19,8 @@ impl PlainState {
     /// A thread that is to enter a monitor does so.
     fn enter_step(&mut self, t: u8, status: Status) -> Result<bool, AllocError>
         requires thread { t < length self.old.threads }
-        requires room { HasRoom self.old }
-        ensures { (p : Program) (x : PlainThread) → slice_get self.old.threads t ≡ Some x → IsStep (step_at p self.old t x acts.Enter (status_of status)) self.old self.new result }
+        requires room { HasRoomForStep self.old }
+        ensures { (p : Program) (x : PlainThread) → slice_get self.old.threads t ≡ Some x → IsStep (step_at p self.old t x acts.Enter (plain_status_of status)) self.old self.new result }
     {
         match status {
             Status::Enter(m) => self.enter(t, m),
@@ -37,7 +37,7 @@ impl PlainState {
         status: Status,
     ) -> Result<bool, AllocError>
         requires { t < length self.old.threads }
-        ensures { (x : PlainThread) → slice_get self.old.threads t ≡ Some x → IsStep (step_at p.now.program self.old t x acts.Exit (status_of status)) self.old self.new result }
+        ensures { (x : PlainThread) → slice_get self.old.threads t ≡ Some x → IsStep (step_at p.now.program self.old t x acts.Exit (plain_status_of status)) self.old self.new result }
     {
         match status {
             Status::Leave(m, after) => self.exit(alloc, p, t, m, after),
@@ -48,7 +48,7 @@ impl PlainState {
     /// A thread that is to wait does so.
     fn wait_step(&mut self, t: u8, status: Status) -> Result<bool, AllocError>
         requires { t < length self.old.threads }
-        ensures { (p : Program) (x : PlainThread) → slice_get self.old.threads t ≡ Some x → IsStep (step_at p self.old t x acts.Wait (status_of status)) self.old self.new result }
+        ensures { (p : Program) (x : PlainThread) → slice_get self.old.threads t ≡ Some x → IsStep (step_at p self.old t x acts.Wait (plain_status_of status)) self.old self.new result }
     {
         match status {
             Status::Wait(m) => self.wait(t, m),
@@ -59,7 +59,7 @@ impl PlainState {
     /// A thread that is to notify does so.
     fn notify_step(&mut self, t: u8, one: Option<u8>, status: Status) -> Result<bool, AllocError>
         requires { t < length self.old.threads }
-        ensures { (p : Program) (x : PlainThread) → slice_get self.old.threads t ≡ Some x → IsStep (step_at p self.old t x (acts.Notify one) (status_of status)) self.old self.new result }
+        ensures { (p : Program) (x : PlainThread) → slice_get self.old.threads t ≡ Some x → IsStep (step_at p self.old t x (acts.Notify one) (plain_status_of status)) self.old self.new result }
     {
         match status {
             Status::Notify(m) => self.notify(t, m, one),
@@ -70,7 +70,7 @@ impl PlainState {
     /// A thread that is to notify all does so.
     fn notify_all_step(&mut self, t: u8, status: Status) -> Result<bool, AllocError>
         requires { t < length self.old.threads }
-        ensures { (p : Program) (x : PlainThread) → slice_get self.old.threads t ≡ Some x → IsStep (step_at p self.old t x acts.NotifyAll (status_of status)) self.old self.new result }
+        ensures { (p : Program) (x : PlainThread) → slice_get self.old.threads t ≡ Some x → IsStep (step_at p self.old t x acts.NotifyAll (plain_status_of status)) self.old self.new result }
     {
         match status {
             Status::NotifyAll(m) => {
@@ -84,7 +84,7 @@ impl PlainState {
     /// A thread that was woken takes its monitor back.
     fn retake_step(&mut self, t: u8, status: Status) -> Result<bool, AllocError>
         requires { t < length self.old.threads }
-        ensures { (p : Program) (x : PlainThread) → slice_get self.old.threads t ≡ Some x → IsStep (step_at p self.old t x acts.Retake (status_of status)) self.old self.new result }
+        ensures { (p : Program) (x : PlainThread) → slice_get self.old.threads t ≡ Some x → IsStep (step_at p self.old t x acts.Retake (plain_status_of status)) self.old self.new result }
     {
         match status {
             Status::Woken(m, depth) => self.retake(t, m, depth),
@@ -101,8 +101,8 @@ impl PlainState {
         status: Status,
     ) -> Result<bool, AllocError>
         requires thread { t < length self.old.threads }
-        requires room { HasRoom self.old }
-        ensures { (x : PlainThread) → slice_get self.old.threads t ≡ Some x → IsStep (step_at p.now.program self.old t x acts.Do (status_of status)) self.old self.new result }
+        requires room { HasRoomForStep self.old }
+        ensures { (x : PlainThread) → slice_get self.old.threads t ≡ Some x → IsStep (step_at p.now.program self.old t x acts.Do (plain_status_of status)) self.old self.new result }
     {
         match status {
             Status::Run => self.instruct(alloc, p, t),
@@ -121,8 +121,8 @@ impl PlainState {
         status: Status,
     ) -> Result<bool, AllocError>
         requires thread { t < length self.old.threads }
-        requires room { HasRoom self.old }
-        ensures { (x : PlainThread) → slice_get self.old.threads t ≡ Some x → IsStep (step_at p.now.program self.old t x act (status_of status)) self.old self.new result }
+        requires room { HasRoomForStep self.old }
+        ensures { (x : PlainThread) → slice_get self.old.threads t ≡ Some x → IsStep (step_at p.now.program self.old t x act (plain_status_of status)) self.old self.new result }
     {
         match act {
             Act::Begin => self.begin(alloc, p, t, status),
@@ -139,7 +139,7 @@ impl PlainState {
     /// Makes one step (JVMS 2.11.10; JLS 17.1, 17.2). `Ok(false)`: there is no such step, and nothing has changed. An error:
     /// there was no memory, and nothing has changed.
     pub fn step(&mut self, alloc: Global, p: &Checked, step: PlainStep) -> Result<bool, AllocError>
-        requires { HasRoom self.old }
+        requires { HasRoomForStep self.old }
         ensures { IsStep (plain_step p.now.program self.old step) self.old self.new result }
     {
         let status = match self.threads.get(step.thread) {

@@ -13,11 +13,11 @@ pub record Listed : Type 0 where
   pub faults : ℕ
 
 -- the next call fails: its number is on the list, or no file has that name
-abbrev pub fails : Listed → List ℕ → Bool
-fails s name = is_none (file_of s.files name) || list_any (nat_eq (risen s.calls)) s.failing
+abbrev pub is_failing : Listed → List ℕ → Bool
+is_failing s name = is_none (file_of s.files name) || list_any (nat_eq (risen s.calls)) s.failing
 
 abbrev pub after_reading : Listed → List ℕ → Listed
-after_reading s name = record s { calls = risen s.calls; faults = if fails s name then risen s.faults else s.faults }
+after_reading s name = record s { calls = risen s.calls; faults = if is_failing s name then risen s.faults else s.faults }
 
 -- the names that can't be read are those that no file has; where calls are to fail, names alone don't tell it
 abbrev pub unreadable_of : List NamedFile → (failing : List ℕ) → Option (List ℕ → Bool)

@@ -26,7 +26,7 @@ pub record CannotBeRead (files : Option (List NamedFile)) (unreadable : Option (
 
 -- All are read, and these are their contents. The shelf tells its files, or tells none at None, and its count of faults goes
 -- from before to after.
-pub record AreRead (files : Option (List NamedFile)) (names : List (List ℕ)) (before after : ℕ) (contents : List (List ℕ)) : Type 0 where
+pub record AreFilesRead (files : Option (List NamedFile)) (names : List (List ℕ)) (before after : ℕ) (contents : List (List ℕ)) : Type 0 where
   pub calm : after ≡ before
   pub many : length contents ≡ length names
   pub short : AllByRecursion (λ content. length content ≤ MOST_FILE_BYTES) contents

@@ -1,6 +1,6 @@
 //! Files that are read from a shelf, by their names, in order.
 ghost use Rattle.std.specs.Prelude.{◌≡◌, ◌≤◌, length, map, IfOk, IfErr, string_bytes};
-ghost use Rattle.host_io.specs.Reading.{AreRead, FailsWhereTold, IsUnread, IsNextRead};
+ghost use Rattle.host_io.specs.Reading.{AreFilesRead, FailsWhereTold, IsUnread, IsNextRead};
 
 use crate::shelf::{Shelf, ShelfError};
 use jvm_types::limits::{MOST_FILE_BYTES, MOST_FILES};
@@ -26,7 +26,7 @@ pub fn read_files<S: Shelf>(
     requires { length names.now ≤ MOST_FILES }
     ensures files { S.files shelf.new ≡ S.files shelf.old }
     ensures unreadable { S.unreadable shelf.new ≡ S.unreadable shelf.old }
-    ensures ok { IfOk result (λ contents. AreRead (S.files shelf.old) (map (λ n. string_bytes n) names.now)
+    ensures ok { IfOk result (λ contents. AreFilesRead (S.files shelf.old) (map (λ n. string_bytes n) names.now)
         (S.faults shelf.old) (S.faults shelf.new) contents) }
     ensures err { IfErr result (λ unread. IsUnread (S.files shelf.old) (S.unreadable shelf.old) (map (λ n. string_bytes n) names.now)
         (S.faults shelf.old) (S.faults shelf.new) unread.file unread.error) }

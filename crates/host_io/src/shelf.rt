@@ -1,7 +1,7 @@
 ghost use Rattle.std.specs.Prelude.{◌≡◌, ◌≢◌, ◌↔◌, ◌<◌, ◌≤◌, ℕ, Bool, false, List, Option, Some, None, IsTrue, IfOk, IfSome, length};
 ghost use Rattle.std.specs.Option.{option_copied};
 ghost use Rattle.host_io.specs.Shelf.{FailsBy, IsRead, file_of, content_of};
-ghost use Rattle.host_io.specs.ListShelf.{fails, after_reading, unreadable_of};
+ghost use Rattle.host_io.specs.ListShelf.{is_failing, after_reading, unreadable_of};
 ghost use Rattle.host_io.specs.declared.shelf.NamedFile.{NamedFile as File};
 ghost use Rattle.host_io.specs.declared.shelf.ShelfError.TheVariants.{Memory};
 
@@ -127,7 +127,7 @@ impl Shelf for ListShelf {
             self.old.faults self.new.faults result }
         ensures fails { IfSome (unreadable_of self.old.files self.old.failing) (λ test. FailsBy (test name.now) result) }
         // Which calls fail, and what they leave.
-        ensures failed { (result ≡ Err ShelfError.Failed) ↔ IsTrue (fails self.old name.now) }
+        ensures failed { (result ≡ Err ShelfError.Failed) ↔ IsTrue (is_failing self.old name.now) }
         ensures after { self.new ≡ after_reading self.old name.now }
     {
         self.calls = self.calls.saturating_add(1);

@@ -8,7 +8,7 @@ use Rattle.std.proofs.lemmas.Bool.{ne_eqb}
 use Rattle.std.proofs.lemmas.Int.{ints, to_z-of_z}
 use Rattle.std.proofs.lemmas.List.{length-drop}
 use Rattle.std.proofs.lemmas.Option.{slice_get-get_or}
-use Rattle.jvm_types.specs.CodeGrammar.{Ascend}
+use Rattle.jvm_types.specs.CodeGrammar.{KeysAscend}
 use Rattle.jvm_types.specs.declared.code.Case.{Case}
 use Rattle.machine_types.specs.Effects.{case_target}
 use Rattle.machine_types.specs.Ints.{low, word_of, int_of}
@@ -47,17 +47,17 @@ not_behind x y z h k e = omega (arith, ints, h, k, e)
 
 -- ---- pairs in the order of their keys
 
-tail_ascends : (c : Case) (cases : List Case) → Ascend (c ∷ cases) → Ascend cases
+tail_ascends : (c : Case) (cases : List Case) → KeysAscend (c ∷ cases) → KeysAscend cases
 tail_ascends c [] a = tt
 tail_ascends c (d ∷ cases) a = a.1
 
-below : (c : Case) (cases : List Case) (k : ℕ) (m : Case) → Ascend (c ∷ cases) → slice_get cases k ≡ Some m → c.key <ℤ m.key
+below : (c : Case) (cases : List Case) (k : ℕ) (m : Case) → KeysAscend (c ∷ cases) → slice_get cases k ≡ Some m → c.key <ℤ m.key
 below c [] k m a e = absurd (cc)
 below c (d ∷ cases) zero m a e = let same : d ≡ m = cc in subst (λ (x : Case). c.key <ℤ x.key) same a.0
 below c (d ∷ cases) (suc k) m a e = before c.key d.key m.key a.0 (below d cases k m a.1 e)
 
 -- the pairs before one whose key is not above the int
-skipped : (otherwise n k : ℕ) (cases : List Case) (m : Case) → Ascend cases → AreInts cases → slice_get cases k ≡ Some m → m.key ≤ℤ int_of n
+skipped : (otherwise n k : ℕ) (cases : List Case) (m : Case) → KeysAscend cases → AreInts cases → slice_get cases k ≡ Some m → m.key ≤ℤ int_of n
     → case_target otherwise (drop k cases) n ≡ case_target otherwise cases n
 skipped otherwise n k [] m a f e le = absurd (cc)
 skipped otherwise n zero (c ∷ cases) m a f e le = refl
@@ -65,13 +65,13 @@ skipped otherwise n (suc k) (c ∷ cases) m a f e le =
     skipped otherwise n k cases m (tail_ascends c cases a) f.1 e le
     ∙ sym (passed otherwise n c cases (not_key c.key n f.0 (not_behind c.key m.key (int_of n) (below c cases k m a e) le)))
 
-none_above : (otherwise n : ℕ) (d : Case) (cases : List Case) → Ascend (d ∷ cases) → AreInts (d ∷ cases) → int_of n <ℤ d.key → case_target otherwise (d ∷ cases) n ≡ otherwise
+none_above : (otherwise n : ℕ) (d : Case) (cases : List Case) → KeysAscend (d ∷ cases) → AreInts (d ∷ cases) → int_of n <ℤ d.key → case_target otherwise (d ∷ cases) n ≡ otherwise
 none_above otherwise n d [] a f lt = passed otherwise n d [] (not_key d.key n f.0 (differs (int_of n) d.key lt))
 none_above otherwise n d (e ∷ cases) a f lt =
     passed otherwise n d (e ∷ cases) (not_key d.key n f.0 (differs (int_of n) d.key lt)) ∙ none_above otherwise n e cases a.1 f.1 (before (int_of n) d.key e.key lt a.0)
 
 -- the pairs from one on whose key is above the int
-cut_off : (otherwise n k : ℕ) (cases : List Case) (m : Case) → Ascend cases → AreInts cases → slice_get cases k ≡ Some m → int_of n <ℤ m.key
+cut_off : (otherwise n k : ℕ) (cases : List Case) (m : Case) → KeysAscend cases → AreInts cases → slice_get cases k ≡ Some m → int_of n <ℤ m.key
     → case_target otherwise (take k cases) n ≡ case_target otherwise cases n
 cut_off otherwise n k [] m a f e lt = absurd (cc)
 cut_off otherwise n zero (c ∷ cases) m a f e lt =
@@ -82,7 +82,7 @@ cut_off otherwise n (suc k) (c ∷ cases) m a f e lt =
 
 -- ---- a part of such pairs
 
-drop_ascends : (k : ℕ) (cases : List Case) → Ascend cases → Ascend (drop k cases)
+drop_ascends : (k : ℕ) (cases : List Case) → KeysAscend cases → KeysAscend (drop k cases)
 drop_ascends zero [] a = tt
 drop_ascends (suc k) [] a = tt
 drop_ascends zero (c ∷ cases) a = a
@@ -94,7 +94,7 @@ drop_ints (suc k) [] f = tt
 drop_ints zero (c ∷ cases) f = f
 drop_ints (suc k) (c ∷ cases) f = drop_ints k cases f.1
 
-take_ascends : (k : ℕ) (cases : List Case) → Ascend cases → Ascend (take k cases)
+take_ascends : (k : ℕ) (cases : List Case) → KeysAscend cases → KeysAscend (take k cases)
 take_ascends zero [] a = tt
 take_ascends (suc k) [] a = tt
 take_ascends zero (c ∷ cases) a = tt

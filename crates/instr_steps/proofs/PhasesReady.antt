@@ -16,7 +16,7 @@ use Rattle.frames.specs.FrameLists.{top, max_stack}
 use Rattle.laws_threads.specs.TopFrames.{StandsAt}
 use Rattle.laws_threads.proofs.Callers.{handlers_fit}
 use Rattle.laws_threads.proofs.TopStand.{made_stand, thrown_stand}
-use Rattle.instr_steps.specs.Places.{IsAt, Place, at_place}
+use Rattle.instr_steps.specs.Places.{IsTopAt, Place, at_place}
 
 some_frame_in : (phase : Phase) (frames : List Frame) (roots : List ℕ) → (FramesFit phase [] roots → ⊥) → FramesFit phase frames roots → 0 < length frames
 some_frame_in phase [] roots none fit = absurd (none fit)
@@ -60,7 +60,7 @@ in_throw c s x class marked l phase =
     record { some = some; thrown = thrown; found = rw (thrown_stand c s.frames marked thrown some).1.found refl }
 
 pub thrown_at : (c : MarkedProgram) (frames : List Frame) (place : Place) → IsMarked c → FramesThrown c (within c.program) frames → 0 < length frames
-    → top_of c.program frames ≡ Some (at_place frames place) → IsAt c.program frames place
+    → top_of c.program frames ≡ Some (at_place frames place) → IsTopAt c.program frames place
 thrown_at c frames place marked thrown some found =
     let stands = thrown_stand c frames marked thrown some in
     subst (λ (at : Top). StandsAt c.program frames at) (same_some (sym stands.1.found ∙ found)) stands.1

@@ -6,9 +6,9 @@ abbrev pub IsElement : Phase → Type 0
 IsElement (Element word stored) = Unit {0}
 IsElement phase = ⊥
 
-abbrev pub IsMade : Phase → Type 0
-IsMade (Made a word) = Unit {0}
-IsMade phase = ⊥
+abbrev pub IsMadePhase : Phase → Type 0
+IsMadePhase (Made a word) = Unit {0}
+IsMadePhase phase = ⊥
 
 abbrev pub IsThrow : Phase → Type 0
 IsThrow (Throw x class) = Unit {0}

@@ -13,7 +13,7 @@ ghost use Rattle.frames.specs.FrameLists.{top};
 ghost use Rattle.instr_effects.specs.SwitchKeys.{AreKeys};
 ghost use Rattle.laws_threads.specs.TopFrames.{IsAllowed};
 ghost use Rattle.instr_steps.specs.Effecting.{CallerFitsAfter, CanFail};
-ghost use Rattle.instr_steps.specs.Places.{CanGo, IsAt, at_place};
+ghost use Rattle.instr_steps.specs.Places.{CanGo, IsTopAt, at_place};
 
 use crate::calls::{call, return_from};
 use crate::checks::passes;
@@ -43,7 +43,7 @@ fn look_up(otherwise: u32, cases: &[Case], stack: &[u64]) -> Effect
 #[inline(always)]
 pub fn effect_here(s: &ThreadState, p: &Checked, place: &Place) -> Effect
     requires some { 0 < length s.now.frames }
-    requires stands { IsAt p.now.program s.now.frames place.now }
+    requires stands { IsTopAt p.now.program s.now.frames place.now }
     ensures { result ≡ effect_at p.now.program (at_place s.now.frames place.now) }
 {
     let insn = place.insn();
@@ -63,7 +63,7 @@ pub fn effect_here(s: &ThreadState, p: &Checked, place: &Place) -> Effect
 pub fn do_effect(s: &mut ThreadState, p: &Checked, place: &Place, effect: Effect, got: u64)
     requires phase { s.old.phase ≡ Run }
     requires program { p.now ≡ s.old.program }
-    requires stands { IsAt p.now.program s.old.frames place.now }
+    requires stands { IsTopAt p.now.program s.old.frames place.now }
     requires row { CanGo p.now.program s.old.frames place.now }
     requires allowed { IsAllowed p.now.program (at_place s.old.frames place.now) effect }
     requires fits { WordFits p.now.program (effect_content p.now.program place.now.target effect) got }
@@ -97,7 +97,7 @@ pub fn do_effect(s: &mut ThreadState, p: &Checked, place: &Place, effect: Effect
 pub fn instruct(s: &mut ThreadState, p: &Checked, place: &Place, effect: Effect, got: u64)
     requires phase { s.old.phase ≡ Run }
     requires program { p.now ≡ s.old.program }
-    requires stands { IsAt p.now.program s.old.frames place.now }
+    requires stands { IsTopAt p.now.program s.old.frames place.now }
     requires row { CanGo p.now.program s.old.frames place.now }
     requires allowed { IsAllowed p.now.program (at_place s.old.frames place.now) effect }
     requires fits { WordFits p.now.program (effect_content p.now.program place.now.target effect) got }

@@ -7,7 +7,7 @@ ghost use Rattle.machine_types.specs.Going.{goes_on};
 ghost use Rattle.machine_types.specs.Onward.{handed, unwound, Running};
 ghost use Rattle.machine_types.specs.ReadyObjects.{class_of};
 ghost use Rattle.frames.specs.FrameLists.{top, with_top};
-ghost use Rattle.instr_steps.specs.Places.{IsAt, at_place};
+ghost use Rattle.instr_steps.specs.Places.{IsTopAt, at_place};
 
 use crate::places::Place;
 use checked_program::Checked;
@@ -40,7 +40,7 @@ fn handler(pc: u32, class: u16, rows: &[Row]) -> Option<u32>
 /// The top frame goes on at a handler, with the exception alone on its stack.
 fn go_to_handler(s: &mut ThreadState, p: &Checked, place: &Place, x: u32, to: u32)
     requires program { p.now ≡ s.old.program }
-    requires stands { IsAt p.now.program s.old.frames place.now }
+    requires stands { IsTopAt p.now.program s.old.frames place.now }
     requires room { 0 < place.now.method.max_stack }
     ensures { s.new ≡ goes_on s.old (Running (with_top (record (top s.old.frames) { pc = to; stack = x ∷ [] }) s.old.frames)) }
 {
@@ -70,7 +70,7 @@ pub fn unwind(s: &mut ThreadState, x: u32, class: Thrown)
 /// has left its monitor.
 pub fn hand(s: &mut ThreadState, p: &Checked, place: &Place, x: u32, class: Thrown)
     requires program { p.now ≡ s.old.program }
-    requires stands { IsAt p.now.program s.old.frames place.now }
+    requires stands { IsTopAt p.now.program s.old.frames place.now }
     requires receiver { (top s.old.frames).receiver < 4294967296 }
     requires room { IsSome (handler_at (class_of class) (at_place s.old.frames place.now)) → 0 < place.now.method.max_stack }
     ensures { s.new ≡ goes_on s.old (handed x class (at_place s.old.frames place.now) (handler_at (class_of class) (at_place s.old.frames place.now))) }

@@ -8,7 +8,7 @@ ghost use Rattle.machine_types.specs.Instructions.{did};
 ghost use Rattle.machine_types.specs.Onward.{Entering, Leaving};
 ghost use Rattle.machine_types.specs.declared.phase.After.TheVariants.{Next};
 ghost use Rattle.machine_types.specs.declared.effect.Effect.TheVariants.{Waits, Notifies, NotifiesAll};
-ghost use Rattle.instr_steps.specs.Places.{CanGo, IsAt, at_place};
+ghost use Rattle.instr_steps.specs.Places.{CanGo, IsTopAt, at_place};
 
 use crate::moves::{move_on, throw};
 use crate::places::Place;
@@ -20,7 +20,7 @@ use machine_types::{After, Kept, Phase, Toward};
 /// The thread is to enter a monitor.
 pub fn enter(s: &mut ThreadState, p: &Checked, place: &Place, monitor: u64)
     requires program { p.now ≡ s.old.program }
-    requires stands { IsAt p.now.program s.old.frames place.now }
+    requires stands { IsTopAt p.now.program s.old.frames place.now }
     requires row { CanGo p.now.program s.old.frames place.now }
     requires reference { monitor < p.now.program.heap }
     ensures { s.new ≡ goes_on s.old (Entering monitor (went_on p.now.program (at_place s.old.frames place.now) 0)) }
@@ -34,7 +34,7 @@ pub fn enter(s: &mut ThreadState, p: &Checked, place: &Place, monitor: u64)
 /// The thread is to leave a monitor.
 pub fn leave(s: &mut ThreadState, p: &Checked, place: &Place, monitor: u64)
     requires program { p.now ≡ s.old.program }
-    requires stands { IsAt p.now.program s.old.frames place.now }
+    requires stands { IsTopAt p.now.program s.old.frames place.now }
     requires row { CanGo p.now.program s.old.frames place.now }
     requires reference { monitor < p.now.program.heap }
     ensures { s.new ≡ goes_on s.old (Leaving monitor Next (went_on p.now.program (at_place s.old.frames place.now) 0)) }
@@ -47,7 +47,7 @@ pub fn leave(s: &mut ThreadState, p: &Checked, place: &Place, monitor: u64)
 /// A wait of a thread that holds the monitor; a flat lock is made fat first.
 pub fn wait(s: &mut ThreadState, p: &Checked, place: &Place, monitor: u64)
     requires program { p.now ≡ s.old.program }
-    requires stands { IsAt p.now.program s.old.frames place.now }
+    requires stands { IsTopAt p.now.program s.old.frames place.now }
     requires row { CanGo p.now.program s.old.frames place.now }
     requires reference { monitor < p.now.program.heap }
     ensures { s.new ≡ did p.now.program s.old (at_place s.old.frames place.now) (Waits monitor) 0 }
@@ -70,7 +70,7 @@ pub fn wait(s: &mut ThreadState, p: &Checked, place: &Place, monitor: u64)
 /// A notify of a thread that holds the monitor. On a flat lock nobody waits.
 pub fn notify(s: &mut ThreadState, p: &Checked, place: &Place, monitor: u64)
     requires program { p.now ≡ s.old.program }
-    requires stands { IsAt p.now.program s.old.frames place.now }
+    requires stands { IsTopAt p.now.program s.old.frames place.now }
     requires row { CanGo p.now.program s.old.frames place.now }
     requires reference { monitor < p.now.program.heap }
     ensures { s.new ≡ did p.now.program s.old (at_place s.old.frames place.now) (Notifies monitor) 0 }
@@ -92,7 +92,7 @@ pub fn notify(s: &mut ThreadState, p: &Checked, place: &Place, monitor: u64)
 /// The same for all that wait.
 pub fn notify_all(s: &mut ThreadState, p: &Checked, place: &Place, monitor: u64)
     requires program { p.now ≡ s.old.program }
-    requires stands { IsAt p.now.program s.old.frames place.now }
+    requires stands { IsTopAt p.now.program s.old.frames place.now }
     requires row { CanGo p.now.program s.old.frames place.now }
     requires reference { monitor < p.now.program.heap }
     ensures { s.new ≡ did p.now.program s.old (at_place s.old.frames place.now) (NotifiesAll monitor) 0 }

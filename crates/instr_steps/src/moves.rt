@@ -6,7 +6,7 @@ ghost use Rattle.machine_types.specs.Frames.{went, went_on};
 ghost use Rattle.machine_types.specs.Going.{goes_on, runs};
 ghost use Rattle.machine_types.specs.Onward.{Running, threw};
 ghost use Rattle.machine_types.specs.declared.phase.Phase.TheVariants.{Run};
-ghost use Rattle.instr_steps.specs.Places.{IsAt, CanGo, at_place};
+ghost use Rattle.instr_steps.specs.Places.{IsTopAt, CanGo, at_place};
 
 use crate::going_on::went;
 use crate::places::Place;
@@ -20,7 +20,7 @@ use machine_types::Phase;
 #[inline(always)]
 pub fn move_to(s: &mut ThreadState, p: &Checked, place: &Place, to: u32, made: u64)
     requires program { p.now ≡ s.old.program }
-    requires stands { IsAt p.now.program s.old.frames place.now }
+    requires stands { IsTopAt p.now.program s.old.frames place.now }
     requires row { CanGo p.now.program s.old.frames place.now }
     ensures { s.new ≡ record s.old { frames = went p.now.program (at_place s.old.frames place.now) to made } }
 {
@@ -44,7 +44,7 @@ pub fn move_to(s: &mut ThreadState, p: &Checked, place: &Place, to: u32, made: u
 #[inline(always)]
 pub fn move_on(s: &mut ThreadState, p: &Checked, place: &Place, made: u64)
     requires program { p.now ≡ s.old.program }
-    requires stands { IsAt p.now.program s.old.frames place.now }
+    requires stands { IsTopAt p.now.program s.old.frames place.now }
     requires row { CanGo p.now.program s.old.frames place.now }
     ensures { s.new ≡ record s.old { frames = went_on p.now.program (at_place s.old.frames place.now) made } }
 {
@@ -55,7 +55,7 @@ pub fn move_on(s: &mut ThreadState, p: &Checked, place: &Place, made: u64)
 #[inline(always)]
 pub fn go_to(s: &mut ThreadState, p: &Checked, place: &Place, to: u32, made: u64)
     requires program { p.now ≡ s.old.program }
-    requires stands { IsAt p.now.program s.old.frames place.now }
+    requires stands { IsTopAt p.now.program s.old.frames place.now }
     requires row { CanGo p.now.program s.old.frames place.now }
     ensures { s.new ≡ goes_on s.old (Running (went p.now.program (at_place s.old.frames place.now) to made)) }
 {
@@ -67,7 +67,7 @@ pub fn go_to(s: &mut ThreadState, p: &Checked, place: &Place, to: u32, made: u64
 #[inline(always)]
 pub fn go_on(s: &mut ThreadState, p: &Checked, place: &Place, made: u64)
     requires program { p.now ≡ s.old.program }
-    requires stands { IsAt p.now.program s.old.frames place.now }
+    requires stands { IsTopAt p.now.program s.old.frames place.now }
     requires row { CanGo p.now.program s.old.frames place.now }
     ensures { s.new ≡ goes_on s.old (Running (went_on p.now.program (at_place s.old.frames place.now) made)) }
 {
@@ -90,7 +90,7 @@ pub fn keep_running(s: &mut ThreadState)
 pub fn run_to(s: &mut ThreadState, p: &Checked, place: &Place, to: u32, made: u64)
     requires phase { s.old.phase ≡ Run }
     requires program { p.now ≡ s.old.program }
-    requires stands { IsAt p.now.program s.old.frames place.now }
+    requires stands { IsTopAt p.now.program s.old.frames place.now }
     requires row { CanGo p.now.program s.old.frames place.now }
     ensures { s.new ≡ goes_on s.old (Running (went p.now.program (at_place s.old.frames place.now) to made)) }
 {
@@ -103,7 +103,7 @@ pub fn run_to(s: &mut ThreadState, p: &Checked, place: &Place, to: u32, made: u6
 pub fn run_on(s: &mut ThreadState, p: &Checked, place: &Place, made: u64)
     requires phase { s.old.phase ≡ Run }
     requires program { p.now ≡ s.old.program }
-    requires stands { IsAt p.now.program s.old.frames place.now }
+    requires stands { IsTopAt p.now.program s.old.frames place.now }
     requires row { CanGo p.now.program s.old.frames place.now }
     ensures { s.new ≡ goes_on s.old (Running (went_on p.now.program (at_place s.old.frames place.now) made)) }
 {
@@ -112,7 +112,7 @@ pub fn run_on(s: &mut ThreadState, p: &Checked, place: &Place, made: u64)
 
 /// The thread throws an exception that the machine makes.
 pub fn throw(s: &mut ThreadState, p: &Checked, place: &Place, x: Thrown)
-    requires stands { IsAt p.now.program s.old.frames place.now }
+    requires stands { IsTopAt p.now.program s.old.frames place.now }
     ensures { s.new ≡ goes_on s.old (threw x (at_place s.old.frames place.now)) }
 {
     // the place tells that the frames are the top one and those below it

@@ -9,7 +9,7 @@ ghost use Rattle.machine_types.specs.Onward.{Running, Throwing};
 ghost use Rattle.machine_types.specs.ReadyObjects.{thrown_of};
 ghost use Rattle.machine_types.specs.Words.{header_class, header_length, value_word};
 ghost use Rattle.machine_types.specs.declared.effect.Effect.TheVariants.{Prints};
-ghost use Rattle.instr_steps.specs.Places.{CanGo, IsAt, at_place};
+ghost use Rattle.instr_steps.specs.Places.{CanGo, IsTopAt, at_place};
 
 use crate::moves::{go_on, throw};
 use crate::places::Place;
@@ -46,7 +46,7 @@ pub fn index(
     stored: Option<u64>,
     got: u64,
 )
-    requires stands { IsAt p.now.program s.old.frames place.now }
+    requires stands { IsTopAt p.now.program s.old.frames place.now }
     requires array { array < p.now.program.heap }
     requires count { header_length got ≤ p.now.program.heap }
     ensures { s.new ≡ indexed s.old (at_place s.old.frames place.now) array (low index) stored (header_length got) }
@@ -63,7 +63,7 @@ pub fn index(
 /// The length of the array whose header was found.
 pub fn measure(s: &mut ThreadState, p: &Checked, place: &Place, got: u64)
     requires program { p.now ≡ s.old.program }
-    requires stands { IsAt p.now.program s.old.frames place.now }
+    requires stands { IsTopAt p.now.program s.old.frames place.now }
     requires row { CanGo p.now.program s.old.frames place.now }
     requires count { header_length got ≤ p.now.program.heap }
     ensures { s.new ≡ goes_on s.old (Running (went_on p.now.program (at_place s.old.frames place.now) (header_length got))) }
@@ -74,7 +74,7 @@ pub fn measure(s: &mut ThreadState, p: &Checked, place: &Place, got: u64)
 
 /// The object whose header was found is thrown.
 pub fn raise(s: &mut ThreadState, p: &Checked, place: &Place, x: u64, got: u64)
-    requires stands { IsAt p.now.program s.old.frames place.now }
+    requires stands { IsTopAt p.now.program s.old.frames place.now }
     requires reference { x < p.now.program.heap }
     ensures { s.new ≡ goes_on_if s.old (option_map (λ class. Throwing x class (frames_of (at_place s.old.frames place.now))) (thrown_of (header_class got))) }
 {
@@ -88,7 +88,7 @@ pub fn raise(s: &mut ThreadState, p: &Checked, place: &Place, x: u64, got: u64)
 /// A new object at the word that was free, where the heap has room for it.
 pub fn make(s: &mut ThreadState, p: &Checked, place: &Place, word: u64, size: u64, free: u64)
     requires program { p.now ≡ s.old.program }
-    requires stands { IsAt p.now.program s.old.frames place.now }
+    requires stands { IsTopAt p.now.program s.old.frames place.now }
     requires row { CanGo p.now.program s.old.frames place.now }
     ensures { s.new ≡ made p.now.program s.old (at_place s.old.frames place.now) word size free }
 {
@@ -114,7 +114,7 @@ pub fn has_print_left(s: &ThreadState) -> bool
 /// A print with its ticket, or the end of a thread that may not print once more.
 pub fn print(s: &mut ThreadState, p: &Checked, place: &Place, value: u64, ticket: u64)
     requires program { p.now ≡ s.old.program }
-    requires stands { IsAt p.now.program s.old.frames place.now }
+    requires stands { IsTopAt p.now.program s.old.frames place.now }
     requires row { CanGo p.now.program s.old.frames place.now }
     ensures { s.new ≡ did p.now.program s.old (at_place s.old.frames place.now) (Prints value) ticket }
 {

@@ -11,7 +11,7 @@ ghost use Rattle.machine_types.specs.declared.phase.After.TheVariants.{Return};
 ghost use Rattle.machine_types.specs.Typed.{AfterHolds};
 ghost use Rattle.machine_types.specs.declared.phase.Phase.TheVariants.{Start, Throw};
 ghost use Rattle.instr_steps.specs.Outcomes.{did_in};
-ghost use Rattle.instr_steps.specs.Phases.{IsElement, IsMade, IsThrow};
+ghost use Rattle.instr_steps.specs.Phases.{IsElement, IsMadePhase, IsThrow};
 
 use crate::calls::{begin_first, give_back};
 use crate::did::{Did, did_in};
@@ -53,7 +53,7 @@ pub fn finish_element(s: &mut ThreadState, p: &Checked, got: u64)
 pub fn store_header(s: &mut ThreadState, p: &Checked)
     requires program { p.now ≡ s.old.program }
     requires lawful { IsLawful p.now s.old }
-    requires phase { IsMade s.old.phase }
+    requires phase { IsMadePhase s.old.phase }
     ensures { s.new ≡ moved p.now s.old s.old.phase 0 }
 {
     let _checked = p.program();

@@ -13,7 +13,7 @@ ghost use Rattle.machine_types.specs.declared.access.Access.TheVariants.{Load};
 ghost use Rattle.machine_types.specs.declared.phase.Phase.TheVariants.{Run};
 ghost use Rattle.frames.specs.FrameLists.{top};
 ghost use Rattle.instr_effects.specs.Fitting.{HasPlace};
-ghost use Rattle.instr_steps.specs.Places.{CanGo, IsAt, at_place};
+ghost use Rattle.instr_steps.specs.Places.{CanGo, IsTopAt, at_place};
 ghost use Rattle.instr_steps.specs.Outcomes.{did_in};
 
 use crate::did::{Did, did_in};
@@ -54,7 +54,7 @@ pub(crate) fn want_of(s: &ThreadState, effect: Effect) -> Option<Access>
 pub(crate) fn go_alone(s: &mut ThreadState, p: &Checked, place: &Place, to: u32, made: u64)
     requires phase { s.old.phase ≡ Run }
     requires program { p.now ≡ s.old.program }
-    requires stands { IsAt p.now.program s.old.frames place.now }
+    requires stands { IsTopAt p.now.program s.old.frames place.now }
     requires row { CanGo p.now.program s.old.frames place.now }
     requires count { s.old.counts.instructions < s.old.cfg.steps }
     requires alone { s.old.attempt ≡ None }

@@ -3,8 +3,8 @@
 ghost use Rattle.std.specs.Prelude.{◌≡◌, ◌<◌, length};
 ghost use Rattle.jvm_types.specs.CodeTable.{constant_row, row};
 ghost use Rattle.jvm_types.specs.declared.program.Target.TheVariants as targets;
-ghost use Rattle.machine_types.specs.Frames.{row_at};
-ghost use Rattle.instr_steps.specs.Places.{CanGo, IsAt, at_place};
+ghost use Rattle.machine_types.specs.Frames.{top_row};
+ghost use Rattle.instr_steps.specs.Places.{CanGo, IsTopAt, at_place};
 
 use crate::places::Place;
 use checked_program::Checked;
@@ -126,9 +126,9 @@ fn op_takes(m: &MethodInfo, p: &Program, pc: u32, target: Target, op: &Op) -> us
 
 /// How many values the instruction at which the top frame stands takes from its stack.
 pub fn takes(s: &ThreadState, p: &Checked, place: &Place) -> u16
-    requires stands { IsAt p.now.program s.now.frames place.now }
+    requires stands { IsTopAt p.now.program s.now.frames place.now }
     requires row { CanGo p.now.program s.now.frames place.now }
-    ensures { result ≡ length (row_at p.now.program (at_place s.now.frames place.now)).takes }
+    ensures { result ≡ length (top_row p.now.program (at_place s.now.frames place.now)).takes }
 {
     let m = place.method();
     // a stack has fewer values than a `u16` counts

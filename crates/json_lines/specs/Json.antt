@@ -9,8 +9,8 @@ use Rattle.json_lines.specs.declared.characters.TheConstants.{UNKNOWN}
 -- bytes each, the halves that JSON wants.
 
 -- a byte that goes on with a character
-abbrev pub goes_on : ℕ → Bool
-goes_on b = nat_le 0x80 b && nat_lt b 0xC0
+abbrev pub is_continuation : ℕ → Bool
+is_continuation b = nat_le 0x80 b && nat_lt b 0xC0
 
 -- it has six more bits
 abbrev pub with_bits : ℕ → ℕ → ℕ
@@ -26,15 +26,15 @@ no_character = going_on UNKNOWN 0
 
 -- the character of a first byte and of those behind it, where one, two or three go on with it
 abbrev pub of_two : ℕ → List ℕ → Character
-of_two a (b ∷ rest) = if goes_on b then going_on (with_bits (a - 0xC0) b) 1 else no_character
+of_two a (b ∷ rest) = if is_continuation b then going_on (with_bits (a - 0xC0) b) 1 else no_character
 of_two a rest = no_character
 
 abbrev pub of_three : ℕ → List ℕ → Character
-of_three a (b ∷ c ∷ rest) = if goes_on b && goes_on c then going_on (with_bits (with_bits (a - 0xE0) b) c) 2 else no_character
+of_three a (b ∷ c ∷ rest) = if is_continuation b && is_continuation c then going_on (with_bits (with_bits (a - 0xE0) b) c) 2 else no_character
 of_three a rest = no_character
 
 abbrev pub of_four : ℕ → List ℕ → Character
-of_four a (b ∷ c ∷ d ∷ rest) = if goes_on b && goes_on c && goes_on d then going_on (with_bits (with_bits (with_bits (a - 0xF0) b) c) d) 3 else no_character
+of_four a (b ∷ c ∷ d ∷ rest) = if is_continuation b && is_continuation c && is_continuation d then going_on (with_bits (with_bits (with_bits (a - 0xF0) b) c) d) 3 else no_character
 of_four a rest = no_character
 
 unfoldable pub character : ℕ → List ℕ → Character
@@ -71,15 +71,15 @@ character_text n =
 -- ---- strings and members
 
 -- A string without its quotes. The first bytes, so many, went on with a character before: nothing is shown of them.
-abbrev pub shown : (skip : ℕ) → Character → List ℕ
-shown skip front = if skip == 0 then character_text front.number else []
+abbrev pub character_shown : (skip : ℕ) → Character → List ℕ
+character_shown skip front = if skip == 0 then character_text front.number else []
 
-abbrev pub behind : (skip : ℕ) → Character → ℕ
-behind skip front = if skip == 0 then front.more else skip - 1
+abbrev pub skip_behind : (skip : ℕ) → Character → ℕ
+skip_behind skip front = if skip == 0 then front.more else skip - 1
 
 abbrev pub escaped : (skip : ℕ) → List ℕ → List ℕ
 escaped skip [] = []
-escaped skip (a ∷ rest) = shown skip (character a rest) ++ escaped (behind skip (character a rest)) rest
+escaped skip (a ∷ rest) = character_shown skip (character a rest) ++ escaped (skip_behind skip (character a rest)) rest
 
 -- a string
 unfoldable pub json_text : List ℕ → List ℕ

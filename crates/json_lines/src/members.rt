@@ -2,7 +2,7 @@
 
 ghost use Rattle.std.specs.Prelude.{◌≡◌, ◌<◌, ◌≤◌, ◌++◌, drop, length, IfOk, OnOk};
 ghost use Rattle.std.specs.Fmt.{decimal};
-ghost use Rattle.json_lines.specs.Json.{behind, character as the_character, shown, hex_digit as the_digit, unit_text, pair_text, character_text, escaped, json_text, text_member, number_member};
+ghost use Rattle.json_lines.specs.Json.{skip_behind, character as the_character, character_shown, hex_digit as the_digit, unit_text, pair_text, character_text, escaped, json_text, text_member, number_member};
 
 use crate::characters::{UNKNOWN, front_character};
 use std::alloc::{AllocError, Global};
@@ -60,8 +60,8 @@ fn after(n: usize, text: &[u8]) -> &[u8]
 
 // The character that begins with a byte, unless that is one of those to be skipped; answers how many of those behind it are.
 fn write_next(out: &mut Vec<u8>, skip: usize, first: u8, rest: &[u8]) -> Result<usize, AllocError>
-    ensures skip { IfOk result (λ n. n ≡ behind skip (the_character first rest.now)) }
-    ensures text { OnOk result (out.new.items ≡ out.old.items ++ shown skip (the_character first rest.now)) }
+    ensures skip { IfOk result (λ n. n ≡ skip_behind skip (the_character first rest.now)) }
+    ensures text { OnOk result (out.new.items ≡ out.old.items ++ character_shown skip (the_character first rest.now)) }
 {
     if skip > 0 {
         return Ok(skip - 1);

@@ -15,7 +15,7 @@ use Rattle.jvm_types.specs.declared.class_file.MemberAttr.TheVariants as member_
 use Rattle.jvm_types.specs.ClassGrammar.{IsCounted, IsIndex, IsAttr, IsNamed, IsHandler, IsCodeAttr, IsFieldAttr, IsMethodAttr}
 use Rattle.jvm_types.specs.ReadingSteps.{◌>>=◌, Fault, ended, whole, in_body}
 use Rattle.jvm_types.specs.ReadingPool.{is_text, index_at}
-use Rattle.jvm_types.specs.ReadingClass.{attr_at, handler_at, code_at, code_of, value_of, field_attr_at, method_attr_at}
+use Rattle.jvm_types.specs.ReadingClass.{attr_at, table_row_at, code_at, code_attr, value_attr, field_attr_at, method_attr_at}
 use Rattle.jvm_types.proofs.StepLaws.{IsBytes, Finds, on_bind, Took, Reads, on_step, u2_reads, u2_again, u4_reads, u4_again, run_reads, run_again, counted_reads}
 use Rattle.jvm_types.proofs.IndexLaws.{index_reads, IsTextAt-from_test, test_from_IsTextAt, no_IsTextAt, no_test}
 
@@ -46,8 +46,8 @@ attr_reads pool = record { takes = attr_takes pool; again = λ a rest is. attr_a
 
 -- ---- exception tables
 
-handler_takes : (pool : List Constant) (bytes : List ℕ) → IsBytes bytes → Finds (handler_at pool bytes) (Took handler (IsHandler pool) bytes)
-unfolding handler_at
+handler_takes : (pool : List Constant) (bytes : List ℕ) → IsBytes bytes → Finds (table_row_at pool bytes) (Took handler (IsHandler pool) bytes)
+unfolding table_row_at
 handler_takes pool bytes fits =
     on_step u2_reads bytes fits _ _ λ start a.
     on_step u2_reads start.1 a.rest _ _ λ end b.
@@ -61,8 +61,8 @@ handler_takes pool bytes fits =
       };
     }
 
-handler_again : (pool : List Constant) (h : Handler) (rest : List ℕ) → IsHandler pool h → handler_at pool (handler h ++ rest) ≡ Ok (h, rest)
-unfolding handler_at
+handler_again : (pool : List Constant) (h : Handler) (rest : List ℕ) → IsHandler pool h → table_row_at pool (handler h ++ rest) ≡ Ok (h, rest)
+unfolding table_row_at
 handler_again pool h rest is =
     rw (
       u2_again h.start (u2 h.end ++ (u2 h.handler ++ (u2 h.catch_type ++ rest))),
@@ -71,7 +71,7 @@ handler_again pool h rest is =
       (index_reads kinds.CatchType pool).again h.catch_type rest is.catch_type,
     )
 
-pub handler_reads : (pool : List Constant) → Reads handler (IsHandler pool) (handler_at pool)
+pub handler_reads : (pool : List Constant) → Reads handler (IsHandler pool) (table_row_at pool)
 handler_reads pool = record { takes = handler_takes pool; again = handler_again pool }
 
 -- ---- Code
@@ -93,7 +93,7 @@ code_takes pool name bytes fits =
     on_step u2_reads stack.1 a.rest _ _ λ locals b.
     on_step u4_reads locals.1 b.rest _ _ λ n c.
     on_step (run_reads n.0) n.1 c.rest _ _ λ code d.
-    on_step (counted_reads handler (IsHandler pool) (handler_at pool) (handler_reads pool)) code.1 d.rest _ _ λ rows e.
+    on_step (counted_reads handler (IsHandler pool) (table_row_at pool) (handler_reads pool)) code.1 d.rest _ _ λ rows e.
     on_step (counted_reads attr (IsAttr pool) (attr_at pool) (attr_reads pool)) rows.1 e.rest _ _ λ attrs f.
     let R : List ℕ = counted handler rows.0 in
     let A : List ℕ = counted attr attrs.0 in
@@ -119,7 +119,7 @@ code_again pool name c rest is =
       u2_again c.max_locals (u4 (length c.bytes) ++ (c.bytes ++ (rows ++ (attrs ++ rest)))),
       u4_again (length c.bytes) (c.bytes ++ (rows ++ (attrs ++ rest))),
       run_again c.bytes (rows ++ (attrs ++ rest)),
-      (counted_reads handler (IsHandler pool) (handler_at pool) (handler_reads pool)).again c.rows (attrs ++ rest) is.rows,
+      (counted_reads handler (IsHandler pool) (table_row_at pool) (handler_reads pool)).again c.rows (attrs ++ rest) is.rows,
       (counted_reads attr (IsAttr pool) (attr_at pool) (attr_reads pool)).again c.attrs rest is.attrs,
       ← is.named,
     )
@@ -171,8 +171,8 @@ record Kept (Fits : MemberAttr → Type 0) (a : Attr) (m : MemberAttr) : Type 0 
   same : attr a ≡ member_attr m
   fits : Fits m
 
-code_kept : (pool : List Constant) (a : Attr) (behind : ℕ) → IsAttr pool a → IsTextAt pool a.name (codes "Code") → Finds (code_of pool a behind) (Kept (IsMethodAttr pool) a)
-unfolding code_of
+code_kept : (pool : List Constant) (a : Attr) (behind : ℕ) → IsAttr pool a → IsTextAt pool a.name (codes "Code") → Finds (code_attr pool a behind) (Kept (IsMethodAttr pool) a)
+unfolding code_attr
 code_kept pool a behind is named =
     on_bind _ _ _ _ (inside_takes code_body (AreParts pool a.name) (code_at pool a.name) (code_reads pool a.name) (4 + length a.body + behind) behind a.body is.bytes) λ c f.
     record {
@@ -191,8 +191,8 @@ code_kept pool a behind is named =
       };
     }
 
-value_kept : (pool : List Constant) (a : Attr) (behind : ℕ) → IsAttr pool a → IsTextAt pool a.name (codes "ConstantValue") → Finds (value_of pool a behind) (Kept (IsFieldAttr pool) a)
-unfolding value_of
+value_kept : (pool : List Constant) (a : Attr) (behind : ℕ) → IsAttr pool a → IsTextAt pool a.name (codes "ConstantValue") → Finds (value_attr pool a behind) (Kept (IsFieldAttr pool) a)
+unfolding value_attr
 value_kept pool a behind is named =
     on_bind _ _ _ _ (inside_takes u2 (IsIndex kinds.Value pool) (index_at kinds.Value pool) (index_reads kinds.Value pool) (4 + length a.body + behind) behind a.body is.bytes) λ value f.
     record {
@@ -221,23 +221,23 @@ member_attr_takes pool text Is read kept other bytes fits =
 
 field_attr_takes : (pool : List Constant) (bytes : List ℕ) → IsBytes bytes → Finds (field_attr_at pool bytes) (Took member_attr (IsFieldAttr pool) bytes)
 unfolding field_attr_at
-field_attr_takes pool = member_attr_takes pool (codes "ConstantValue") (IsFieldAttr pool) (value_of pool) (value_kept pool) (λ a is other. (is, other))
+field_attr_takes pool = member_attr_takes pool (codes "ConstantValue") (IsFieldAttr pool) (value_attr pool) (value_kept pool) (λ a is other. (is, other))
 
 method_attr_takes : (pool : List Constant) (bytes : List ℕ) → IsBytes bytes → Finds (method_attr_at pool bytes) (Took member_attr (IsMethodAttr pool) bytes)
 unfolding method_attr_at
-method_attr_takes pool = member_attr_takes pool (codes "Code") (IsMethodAttr pool) (code_of pool) (code_kept pool) (λ a is other. (is, other))
+method_attr_takes pool = member_attr_takes pool (codes "Code") (IsMethodAttr pool) (code_attr pool) (code_kept pool) (λ a is other. (is, other))
 
 named_index : (pool : List Constant) (name : ℕ) (text : List ℕ) → IsNamed pool name text → IsIndex kinds.Utf8 pool name
 named_index pool name text is = record { number = is.number; names = (text, is.named) }
 
-code_stands : (pool : List Constant) (c : Code) (behind : ℕ) → IsCodeAttr pool c → code_of pool (record { name = c.name; body = code_body c }) behind ≡ Ok (member_attrs.Code c)
-unfolding code_of
+code_stands : (pool : List Constant) (c : Code) (behind : ℕ) → IsCodeAttr pool c → code_attr pool (record { name = c.name; body = code_body c }) behind ≡ Ok (member_attrs.Code c)
+unfolding code_attr
 code_stands pool c behind is =
     rw (inside_again code_body (AreParts pool c.name) (code_at pool c.name) (code_reads pool c.name) (4 + length (code_body c) + behind) behind c
     (record { named = refl; max_stack = is.max_stack; max_locals = is.max_locals; count = is.count; bytes = is.bytes; rows = is.rows; attrs = is.attrs }))
 
-value_stands : (pool : List Constant) (name value behind : ℕ) → IsIndex kinds.Value pool value → value_of pool (record { name = name; body = u2 value }) behind ≡ Ok (member_attrs.ConstantValue name value)
-unfolding value_of
+value_stands : (pool : List Constant) (name value behind : ℕ) → IsIndex kinds.Value pool value → value_attr pool (record { name = name; body = u2 value }) behind ≡ Ok (member_attrs.ConstantValue name value)
+unfolding value_attr
 value_stands pool name value behind is =
     rw (inside_again u2 (IsIndex kinds.Value pool) (index_at kinds.Value pool) (index_reads kinds.Value pool) (4 + length (u2 value) + behind) behind value is)
 

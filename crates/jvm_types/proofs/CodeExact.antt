@@ -7,7 +7,7 @@ use Rattle.std.proofs.lemmas.List.{take-append-drop, length-take-le}
 use Rattle.jvm_types.specs.Numbers.{has_number}
 use Rattle.jvm_types.specs.CodeTable.{Form, form_of, branches_to}
 use Rattle.jvm_types.specs.CodeGrammar.{SpellsOperands, SpellsInsns, IsStart, RowFits, IsCode}
-use Rattle.jvm_types.specs.CodeFault.{Extent, Outline, known_extent, followed, with_rest, outlines, is_at, all_at, branch_fault, row_fits, handler_fault, or_else, outline_fault, code_fault, FaultlessIsCode}
+use Rattle.jvm_types.specs.CodeFault.{Extent, Outline, known_extent, outline_followed, with_rest, outlines, is_at, all_at, branch_fault, row_fits, handler_fault, or_else, outline_fault, code_fault, FaultlessIsCode}
 use Rattle.jvm_types.specs.declared.class_file.Handler.{Handler}
 use Rattle.jvm_types.specs.declared.code.Insn.{Insn}
 use Rattle.jvm_types.specs.declared.refusal.KRule.{KRule}
@@ -29,7 +29,7 @@ with_rest_is : (pc : ℕ) (e : Extent) (rs : List Outline) (rest : List ℕ) →
     → (others : List Outline) × (outlines e.size (pc + 1) rest ≡ Ok others) × (rs ≡ record { pc = pc; targets = e.targets } ∷ others)
 with_rest_is pc e rs rest h = by_rest (outlines e.size (pc + 1) rest) refl h
   where
-    by_rest : (y : Result (List Outline) (KRule × ℕ)) → outlines e.size (pc + 1) rest ≡ y → followed (record { pc = pc; targets = e.targets }) y ≡ Ok rs
+    by_rest : (y : Result (List Outline) (KRule × ℕ)) → outlines e.size (pc + 1) rest ≡ y → outline_followed (record { pc = pc; targets = e.targets }) y ≡ Ok rs
         → (others : List Outline) × (outlines e.size (pc + 1) rest ≡ Ok others) × (rs ≡ record { pc = pc; targets = e.targets } ∷ others)
     by_rest (Ok others) f g = (others, f, cc)
     by_rest (Err fault) f g = absurd (cc)

@@ -9,7 +9,7 @@ use Rattle.std.proofs.Math.Seq.{drop-append_seam}
 use Rattle.std.proofs.Common.{length-append}
 use Rattle.jvm_types.specs.Numbers.{u1, u2, u4, s4}
 use Rattle.jvm_types.specs.CodeTable.{Form, Plain, Byte, Short, SignedByte, SignedShort, Branch, WideBranch, LocalAndStep, IntArray, Table, Lookup, branches_to}
-use Rattle.jvm_types.specs.CodeGrammar.{s1, s2, offset, padding_size, spelled_case, Ascend, SpellsOperands}
+use Rattle.jvm_types.specs.CodeGrammar.{s1, s2, offset, padding_size, spelled_case, KeysAscend, SpellsOperands}
 use Rattle.jvm_types.specs.CodeFault.{Extent, s2_of, s4_of, landing, sized, offsets, case_offsets, ascend, table_extent, lookup_extent, extent_of}
 use Rattle.jvm_types.specs.declared.code.Case.{Case}
 use Rattle.jvm_types.specs.declared.code.Op.{Op}
@@ -83,7 +83,7 @@ below_by m n x y e f h = rw e (rw f (below_is m n h))
 both_true : (a b : Bool) → a ≡ true → b ≡ true → (a && b) ≡ true
 both_true a b e f = rw e (rw f refl)
 
-ascend_back : (pc : ℕ) (cases : List Case) (rest : List ℕ) → AllByRecursion (λ c. FitsSigned w32 c.key × FitsSigned w32 (offset pc c.target)) cases → Ascend cases
+ascend_back : (pc : ℕ) (cases : List Case) (rest : List ℕ) → AllByRecursion (λ c. FitsSigned w32 c.key × FitsSigned w32 (offset pc c.target)) cases → KeysAscend cases
     → ascend (length cases) (flat_map (spelled_case pc) cases ++ rest) ≡ true
 ascend_back pc [] rest h a = refl
 ascend_back pc (c ∷ []) rest h a = refl
@@ -124,7 +124,7 @@ lookup_by pc pad n first ts body at4 at0 up at8 fits =
 pub fits_signed : (n : ℕ) → n < 2 ^ 31 → FitsSigned w32 (pos n)
 fits_signed n h = grind arith
 
-lookup_back : (pc pad : ℕ) (otherwise : ℕ) (cases : List Case) (rest : List ℕ) → FitsSigned w32 (offset pc otherwise) → length cases < 2 ^ 31 → Ascend cases
+lookup_back : (pc pad : ℕ) (otherwise : ℕ) (cases : List Case) (rest : List ℕ) → FitsSigned w32 (offset pc otherwise) → length cases < 2 ^ 31 → KeysAscend cases
     → AllByRecursion (λ c. FitsSigned w32 c.key × FitsSigned w32 (offset pc c.target)) cases
     → lookup_extent pc pad ((s4 (offset pc otherwise) ++ s4 (pos (length cases)) ++ flat_map (spelled_case pc) cases) ++ rest)
     ≡ Ok (record { size = pad + (8 + 8 * length cases); targets = pos otherwise ∷ map pos (map (λ c. c.target) cases) })

@@ -11,7 +11,7 @@ use Rattle.std.proofs.lemmas.List.{length-take-le}
 use Rattle.std.proofs.lemmas.Bool.Decides.{nat_tests}
 use Rattle.jvm_types.specs.Numbers.{u1, u2, u4, s4}
 use Rattle.jvm_types.specs.CodeTable.{Form, Plain, Byte, Short, SignedByte, SignedShort, Branch, WideBranch, LocalAndStep, IntArray, Table, Lookup}
-use Rattle.jvm_types.specs.CodeGrammar.{s1, s2, offset, padding_size, spelled_case, Ascend, SpellsTable, SpellsLookup, SpellsOperands}
+use Rattle.jvm_types.specs.CodeGrammar.{s1, s2, offset, padding_size, spelled_case, KeysAscend, SpellsTable, SpellsLookup, SpellsOperands}
 use Rattle.jvm_types.specs.CodeFault.{Extent, s2_of, s4_of, landing, sized, offsets, case_offsets, ascend, array_extent, table_of, table_extent, lookup_of, lookup_extent, extent_of}
 use Rattle.jvm_types.specs.declared.code.Op.{Op}
 use Rattle.jvm_types.specs.declared.refusal.KRule.{KRule}
@@ -260,7 +260,7 @@ both_are false b e = absurd (cc)
 is_below : (m n : ℤ) → int_lt m n ≡ true → m <ℤ n
 is_below m n e = first_of (grind (arith, e), search (arith, e))
 
-pairs_ascend : (pc n : ℕ) (bytes : List ℕ) → ascend n bytes ≡ true → Ascend (cases_of pc n bytes)
+pairs_ascend : (pc n : ℕ) (bytes : List ℕ) → ascend n bytes ≡ true → KeysAscend (cases_of pc n bytes)
 pairs_ascend pc zero bytes e = tt
 pairs_ascend pc (suc zero) bytes e = tt
 pairs_ascend pc (suc (suc n)) bytes e = let both = both_are (int_lt (s4_of bytes) (s4_of (drop 8 bytes))) (ascend (suc n) (drop 8 bytes)) e in

@@ -13,7 +13,7 @@ use Rattle.jvm_types.specs.declared.class_file.Constant.{Constant}
 use Rattle.jvm_types.specs.declared.class_file.Constant.TheVariants.{Gap, Utf8, Integer, Float, Long, Double, Class, Text, Field, Method, InterfaceMethod, NameAndType}
 use Rattle.jvm_types.specs.ClassGrammar.{IsUtf8Byte, FieldsFit, is_gap}
 use Rattle.jvm_types.specs.ReadingSteps.{Fault}
-use Rattle.jvm_types.specs.ReadingPool.{text_wanted, text_at, one_at, two_at, word_at, wide_at, tagged_at, constant_at}
+use Rattle.jvm_types.specs.ReadingPool.{text_wanted, utf8_at, one_at, two_at, word_entry_at, wide_at, tagged_at, constant_at}
 use Rattle.jvm_types.proofs.ByteOrder.{eight_back, u8_spelled}
 use Rattle.jvm_types.proofs.StepLaws.{IsBytes, Finds, on_bind, weaker, on_wanted, Took, Reads, on_step, u1_reads, u1_again, u2_reads, u2_again, u4_reads, u4_again, run_reads, run_again}
 
@@ -40,8 +40,8 @@ unfolding text_wanted
 text_stands [] behind each = refl
 text_stands (b ∷ text) behind each = rw (and_from _ _ (lt-ltb 0 b each.0.0) (lt-ltb b 240 each.0.1)) (text_stands text behind each.1)
 
-text_takes : (bytes : List ℕ) → IsBytes bytes → Finds (text_at bytes) (Entered 1 bytes)
-unfolding text_at
+text_takes : (bytes : List ℕ) → IsBytes bytes → Finds (utf8_at bytes) (Entered 1 bytes)
+unfolding utf8_at
 text_takes bytes fits =
     on_step u2_reads bytes fits _ _ λ n a.
     on_step (run_reads n.0) n.1 a.rest _ _ λ text b.
@@ -78,8 +78,8 @@ two_takes tag entry spelled is bytes fits =
     }
 
 word_takes : (tag : ℕ) (entry : ℕ → Constant) → ((n : ℕ) → n < 2 ^ 32 → constant (entry n) ≡ tag ∷ u4 n) → ((n : ℕ) → n < 2 ^ 32 → IsEntry (entry n))
-    → (bytes : List ℕ) → IsBytes bytes → Finds (word_at entry bytes) (Entered tag bytes)
-unfolding word_at
+    → (bytes : List ℕ) → IsBytes bytes → Finds (word_entry_at entry bytes) (Entered tag bytes)
+unfolding word_entry_at
 word_takes tag entry spelled is bytes fits =
     on_step u4_reads bytes fits _ _ λ n a.
     record { ok = record { parts = ap (λ (x : List ℕ). tag ∷ x) a.parts ∙ ap (λ (x : List ℕ). x ++ n.1) (sym (spelled n.0 a.fits)); fits = is n.0 a.fits; rest = a.rest } }
@@ -144,16 +144,16 @@ two_again : (entry : ℕ → ℕ → Constant) (m n : ℕ) (rest : List ℕ) →
 unfolding two_at
 two_again entry m n rest = rw (u2_again m (u2 n ++ rest), u2_again n rest)
 
-word_again : (entry : ℕ → Constant) (n : ℕ) (rest : List ℕ) → word_at entry (u4 n ++ rest) ≡ Ok (entry n, rest)
-unfolding word_at
+word_again : (entry : ℕ → Constant) (n : ℕ) (rest : List ℕ) → word_entry_at entry (u4 n ++ rest) ≡ Ok (entry n, rest)
+unfolding word_entry_at
 word_again entry n rest = rw (u4_again n rest)
 
 wide_again : (entry : ℕ → Constant) (n : ℕ) (rest : List ℕ) → wide_at entry (u8 n ++ rest) ≡ Ok (entry n, rest)
 unfolding wide_at
 wide_again entry n rest = rw (u4_again (n / 4294967296) (u4 (n % 4294967296) ++ rest), u4_again (n % 4294967296) rest, eight_back n)
 
-text_again : (text rest : List ℕ) → AllByRecursion IsUtf8Byte text → text_at (u2 (length text) ++ (text ++ rest)) ≡ Ok (Utf8 text, rest)
-unfolding text_at
+text_again : (text rest : List ℕ) → AllByRecursion IsUtf8Byte text → utf8_at (u2 (length text) ++ (text ++ rest)) ≡ Ok (Utf8 text, rest)
+unfolding utf8_at
 text_again text rest each = rw (u2_again (length text) (text ++ rest), run_again text rest, text_stands text (length rest) each)
 
 constant_again : (c : Constant) (rest : List ℕ) → IsEntry c → constant_at (constant c ++ rest) ≡ Ok (c, rest)

@@ -6,7 +6,7 @@ use Rattle.std.specs.List.{list_any}
 use Rattle.std.proofs.lemmas.Bool.{cond_both, eqb-true, or_parts}
 use Rattle.std.proofs.lemmas.Slice.Eq.{bytes_eq-Decides}
 use Rattle.jvm_types.specs.ClassNames.{class_number}
-use Rattle.jvm_types.specs.Descriptors.{Types, Reading, followed, array_of, class_kind, types_from, read_from, only_kind, field_kind, Signature, result_kind, returned, method_signature}
+use Rattle.jvm_types.specs.Descriptors.{Types, Reading, followed, array_of, class_kind, types_from, read_from, only_kind, field_kind, Signature, result_kind, signature_returned, method_signature}
 use Rattle.jvm_types.specs.DescriptorLaws.{SpellsKind, SpellsKinds, SpellsResult, SpellsSignature, FieldsAreSpelled, MethodsAreSpelled}
 use Rattle.jvm_types.specs.declared.program.Kind.{Kind}
 use Rattle.jvm_types.specs.declared.program.Kind.TheVariants as kinds
@@ -184,7 +184,7 @@ module _ (names : List (List ℕ)) where
       at true v = absurd (not_void ((bytes_eq-Decides text (codes "V")).0 v))
       at false v = ap (option_map (λ k. Some k)) (field_there text kind h)
 
-  returned_at : (bytes : List ℕ) (ks : List Kind) (rest : List ℕ) (s : Signature) → Front bytes (record { kinds = ks; rest = rest }) → returned names ks rest ≡ Some s → SpellsSignature names s (40 ∷ bytes)
+  returned_at : (bytes : List ℕ) (ks : List Kind) (rest : List ℕ) (s : Signature) → Front bytes (record { kinds = ks; rest = rest }) → signature_returned names ks rest ≡ Some s → SpellsSignature names s (40 ∷ bytes)
   returned_at bytes ks [] s f e = absurd cc
   returned_at bytes ks (byte ∷ rest) s f e = at (byte == 41) refl e
     where
@@ -202,11 +202,11 @@ module _ (names : List (List ℕ)) where
       at true b e = made b (result_kind names rest) refl e
       at false b e = absurd cc
 
-  behind_args : (bytes : List ℕ) (o : Option Types) (s : Signature) → Fronts bytes o → option_and_then (λ t. returned names t.kinds t.rest) o ≡ Some s → SpellsSignature names s (40 ∷ bytes)
+  behind_args : (bytes : List ℕ) (o : Option Types) (s : Signature) → Fronts bytes o → option_and_then (λ t. signature_returned names t.kinds t.rest) o ≡ Some s → SpellsSignature names s (40 ∷ bytes)
   behind_args bytes None s f e = absurd cc
   behind_args bytes (Some t) s f e = returned_at bytes t.kinds t.rest s (f t refl) e
 
-  method_at : (byte : ℕ) (bytes : List ℕ) (s : Signature) (b : Bool) → (byte == 40) ≡ b → cond b (option_and_then (λ t. returned names t.kinds t.rest) (read_from names bytes).types) None ≡ Some s → SpellsSignature names s (byte ∷ bytes)
+  method_at : (byte : ℕ) (bytes : List ℕ) (s : Signature) (b : Bool) → (byte == 40) ≡ b → cond b (option_and_then (λ t. signature_returned names t.kinds t.rest) (read_from names bytes).types) None ≡ Some s → SpellsSignature names s (byte ∷ bytes)
   method_at byte bytes s true b e = subst (λ n. SpellsSignature names s (n ∷ bytes)) (sym (eqb-true byte 40 b)) (behind_args bytes (read_from names bytes).types s (reads bytes).types e)
   method_at byte bytes s false b e = absurd cc
 
@@ -217,7 +217,7 @@ module _ (names : List (List ℕ)) where
   method_there : (text : List ℕ) (s : Signature) → SpellsSignature names s text → method_signature names text ≡ Some s
   method_there text s h =
       ap (method_signature names) h.is
-      ∙ ap (λ o. option_and_then (λ t. returned names t.kinds t.rest) o) (after_kinds s.args h.args (41 ∷ h.result) h.spelled_args refl)
+      ∙ ap (λ o. option_and_then (λ t. signature_returned names t.kinds t.rest) o) (after_kinds s.args h.args (41 ∷ h.result) h.spelled_args refl)
       ∙ ap (λ r. option_map (λ kind. record { args = s.args; result = kind }) r) (result_there h.result s.result h.spelled_result)
 
 -- ---- the laws

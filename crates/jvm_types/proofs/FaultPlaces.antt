@@ -16,9 +16,9 @@ use Rattle.jvm_types.specs.declared.class_file.Attr.{Attr}
 use Rattle.jvm_types.specs.declared.class_file.MemberAttr.{MemberAttr}
 use Rattle.jvm_types.specs.declared.class_file.MemberAttr.TheVariants as member_attrs
 use Rattle.jvm_types.specs.ClassGrammar.{is_wide, IsIndex, IsCounted, IsAttr, IsHandler, IsFieldAttr, IsMethodAttr, IsMember, IsField, IsMethod, IsClass}
-use Rattle.jvm_types.specs.ReadingSteps.{Fault, fault, ◌>>=◌, wanted, u1_at, u2_at, u4_at, run_at, many_at, counted_at, ended, whole, moved, in_body}
-use Rattle.jvm_types.specs.ReadingClass.{attr_at, handler_at, code_at, code_of, value_of, field_attr_at, method_attr_at, member_at, field_at, has_body, method_at, class_at, read_class}
-use Rattle.jvm_types.specs.ReadingPool.{names, is_text, index_at, text_wanted, text_at, one_at, two_at, word_at, wide_at, tagged_at, constant_at, entries_at, both_wanted, entry_wanted, entries_wanted, pool_at}
+use Rattle.jvm_types.specs.ReadingSteps.{Fault, fault, ◌>>=◌, fault_unless, u1_at, u2_at, u4_at, byte_run_at, many_at, counted_at, ended, whole, fault_moved, in_body}
+use Rattle.jvm_types.specs.ReadingClass.{attr_at, table_row_at, code_at, code_attr, value_attr, field_attr_at, method_attr_at, member_at, field_at, has_body, method_at, class_at, read_class}
+use Rattle.jvm_types.specs.ReadingPool.{names, is_text, index_at, text_wanted, utf8_at, one_at, two_at, word_entry_at, wide_at, tagged_at, constant_at, entries_at, both_wanted, entry_wanted, entries_wanted, pool_at}
 use Rattle.jvm_types.proofs.StepLaws.{IsBytes, Finds, Took, Reads, u1_reads, u2_reads, u4_reads, IsRun, run_reads, counted_reads}
 use Rattle.jvm_types.proofs.IndexLaws.{index_reads}
 use Rattle.jvm_types.proofs.ConstantLaws.{IsEntry, constant_reads}
@@ -52,11 +52,11 @@ near_step {spell = spell} {Fits = Fits} {item_at = item_at} placed n bytes fits 
     joined n (Took spell Fits bytes) (item_at bytes) f (placed.reads.takes bytes fits) (farther (length bytes) n (item_at bytes) le (placed.near bytes fits))
     λ x took. let s = shorter bytes x took in h x took (omega arith)
 
-near_wanted : {B : Type 0} (n : ℕ) (b : Bool) (rule : CRule) (left : ℕ) (f : Unit {0} → Result B Fault) → left ≤ n → Near n (f tt) → Near n (wanted b rule left >>= f)
+near_wanted : {B : Type 0} (n : ℕ) (b : Bool) (rule : CRule) (left : ℕ) (f : Unit {0} → Result B Fault) → left ≤ n → Near n (f tt) → Near n (fault_unless b rule left >>= f)
 near_wanted n true rule left f le h = h
 near_wanted n false rule left f le h = record { place = le }
 
-just_wanted : (n : ℕ) (b : Bool) (rule : CRule) (left : ℕ) → left ≤ n → Near n (wanted b rule left)
+just_wanted : (n : ℕ) (b : Bool) (rule : CRule) (left : ℕ) → left ≤ n → Near n (fault_unless b rule left)
 just_wanted n true rule left le = record { place = tt }
 just_wanted n false rule left le = record { place = le }
 
@@ -99,8 +99,8 @@ on_cond : {A : Type 0} (n : ℕ) (b : Bool) (x y : Result A Fault) → Near n x 
 on_cond n true x y h k = h
 on_cond n false x y h k = k
 
-pub run_placed : (n : ℕ) → Placed (λ text. text) (IsRun n) (run_at n)
-unfolding run_at
+pub run_placed : (n : ℕ) → Placed (λ text. text) (IsRun n) (byte_run_at n)
+unfolding byte_run_at
 run_placed n = record { reads = run_reads n; near = λ bytes fits. on_cond (length bytes) (ltb (length bytes) n) (fault C3 (length bytes)) (Ok (take n bytes, drop n bytes)) (record { place = omega arith }) (record { place = tt }) }
 
 -- ---- lists
@@ -141,8 +141,8 @@ unfolding text_wanted
 text_near most behind [] le = record { place = tt }
 text_near most behind (b ∷ text) le = near_wanted most (ltb 0 b && ltb b 240) C6 (length (b ∷ text) + behind) _ le (text_near most behind text (omega arith))
 
-text_at_near : (most : ℕ) (bytes : List ℕ) → IsBytes bytes → length bytes ≤ most → Near most (text_at bytes)
-unfolding text_at
+text_at_near : (most : ℕ) (bytes : List ℕ) → IsBytes bytes → length bytes ≤ most → Near most (utf8_at bytes)
+unfolding utf8_at
 text_at_near most bytes fits le =
     near_step u2_placed most bytes fits le _ λ n a short.
     near_step (run_placed n.0) most n.1 a.rest short _ λ text b shorter.
@@ -161,8 +161,8 @@ two_near most entry bytes fits le =
     near_step u2_placed most m.1 a.rest short _ λ n b shorter.
     record { place = tt }
 
-word_near : (most : ℕ) (entry : ℕ → Constant) (bytes : List ℕ) → IsBytes bytes → length bytes ≤ most → Near most (word_at entry bytes)
-unfolding word_at
+word_near : (most : ℕ) (entry : ℕ → Constant) (bytes : List ℕ) → IsBytes bytes → length bytes ≤ most → Near most (word_entry_at entry bytes)
+unfolding word_entry_at
 word_near most entry bytes fits le = near_step u4_placed most bytes fits le _ λ n a short. record { place = tt }
 
 wide_near : (most : ℕ) (entry : ℕ → Constant) (bytes : List ℕ) → IsBytes bytes → length bytes ≤ most → Near most (wide_at entry bytes)
@@ -252,8 +252,8 @@ attr_placed pool = record {
       record { place = tt };
 }
 
-pub handler_placed : (pool : List Constant) → Placed handler (IsHandler pool) (handler_at pool)
-unfolding handler_at
+pub handler_placed : (pool : List Constant) → Placed handler (IsHandler pool) (table_row_at pool)
+unfolding table_row_at
 handler_placed pool = record {
   reads = handler_reads pool;
   near = λ bytes fits.
@@ -274,7 +274,7 @@ code_placed pool name = record {
       near_step u2_placed most stack.1 a.rest p _ λ locals b q.
       near_step u4_placed most locals.1 b.rest q _ λ n c r.
       near_step (run_placed n.0) most n.1 c.rest r _ λ code d s.
-      near_step (counted_placed handler (IsHandler pool) (handler_at pool) (handler_placed pool)) most code.1 d.rest s _ λ rows e t.
+      near_step (counted_placed handler (IsHandler pool) (table_row_at pool) (handler_placed pool)) most code.1 d.rest s _ λ rows e t.
       near_step (counted_placed attr (IsAttr pool) (attr_at pool) (attr_placed pool)) most rows.1 e.rest t _ λ attrs f u.
       record { place = tt };
 }
@@ -292,7 +292,7 @@ whole_near spell Fits bytes (Err f) given near = record { place = near.place }
 pub filled_near : {A : Type 0} (spell : A → List ℕ) (Fits : A → Type 0) (item_at : List ℕ → Result (A × List ℕ) Fault) → Placed spell Fits item_at → (bytes : List ℕ) → IsBytes bytes → Near (length bytes) (whole (item_at bytes))
 filled_near spell Fits item_at placed bytes fits = whole_near spell Fits bytes (item_at bytes) (placed.reads.takes bytes fits) (placed.near bytes fits)
 
-moved_near : (rule : CRule) (left at_length behind most : ℕ) → left + behind ≤ most → at_length ≤ most → (moved rule left at_length behind).left ≤ most
+moved_near : (rule : CRule) (left at_length behind most : ℕ) → left + behind ≤ most → at_length ≤ most → (fault_moved rule left at_length behind).left ≤ most
 moved_near C3 left at_length behind most h k = k
 moved_near C8 left at_length behind most h k = k
 moved_near rule left at_length behind most h k = h
@@ -306,14 +306,14 @@ body_near most at_length behind n (Err f) h k near = let l = near.place in recor
 attr_room : (bytes : List ℕ) (a : Attr × List ℕ) (Fits : Attr → Type 0) → Took attr Fits bytes a → 4 + length a.0.body + length a.1 ≤ length bytes
 attr_room bytes a Fits took = omega (arith, ap length took.parts, length-append a.0.body a.1)
 
-value_near : (pool : List Constant) (a : Attr) (behind most : ℕ) → IsBytes a.body → 4 + length a.body + behind ≤ most → Near most (value_of pool a behind)
-unfolding value_of
+value_near : (pool : List Constant) (a : Attr) (behind most : ℕ) → IsBytes a.body → 4 + length a.body + behind ≤ most → Near most (value_attr pool a behind)
+unfolding value_attr
 value_near pool a behind most fits room =
     near_then most _ _ (body_near most (4 + length a.body + behind) behind (length a.body) (whole (index_at kinds.Value pool a.body)) (omega arith) room (filled_near u2 (IsIndex kinds.Value pool) (index_at kinds.Value pool) (index_placed kinds.Value pool) a.body fits)) λ value.
     record { place = tt }
 
-code_near : (pool : List Constant) (a : Attr) (behind most : ℕ) → IsBytes a.body → 4 + length a.body + behind ≤ most → Near most (code_of pool a behind)
-unfolding code_of
+code_near : (pool : List Constant) (a : Attr) (behind most : ℕ) → IsBytes a.body → 4 + length a.body + behind ≤ most → Near most (code_attr pool a behind)
+unfolding code_attr
 code_near pool a behind most fits room =
     near_then most _ _ (body_near most (4 + length a.body + behind) behind (length a.body) (whole (code_at pool a.name a.body)) (omega arith) room (filled_near code_body (AreParts pool a.name) (code_at pool a.name) (code_placed pool a.name) a.body fits)) λ c.
     record { place = tt }
@@ -324,7 +324,7 @@ field_attr_placed pool = record {
   reads = field_attr_reads pool;
   near = λ bytes fits.
       near_step (attr_placed pool) (length bytes) bytes fits (omega arith) _ λ a p short.
-      near_then (length bytes) _ _ (on_cond (length bytes) (is_text (codes "ConstantValue") (slice_get pool a.0.name)) (value_of pool a.0 (length a.1)) (Ok (member_attrs.Other a.0))
+      near_then (length bytes) _ _ (on_cond (length bytes) (is_text (codes "ConstantValue") (slice_get pool a.0.name)) (value_attr pool a.0 (length a.1)) (Ok (member_attrs.Other a.0))
       (value_near pool a.0 (length a.1) (length bytes) p.fits.bytes (attr_room bytes a (IsAttr pool) p)) (record { place = tt })) λ m.
       record { place = tt };
 }
@@ -335,7 +335,7 @@ method_attr_placed pool = record {
   reads = method_attr_reads pool;
   near = λ bytes fits.
       near_step (attr_placed pool) (length bytes) bytes fits (omega arith) _ λ a p short.
-      near_then (length bytes) _ _ (on_cond (length bytes) (is_text (codes "Code") (slice_get pool a.0.name)) (code_of pool a.0 (length a.1)) (Ok (member_attrs.Other a.0))
+      near_then (length bytes) _ _ (on_cond (length bytes) (is_text (codes "Code") (slice_get pool a.0.name)) (code_attr pool a.0 (length a.1)) (Ok (member_attrs.Other a.0))
       (code_near pool a.0 (length a.1) (length bytes) p.fits.bytes (attr_room bytes a (IsAttr pool) p)) (record { place = tt })) λ m.
       record { place = tt };
 }

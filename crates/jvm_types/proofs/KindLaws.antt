@@ -6,7 +6,7 @@ use Rattle.std.specs.List.{AllByRecursion, position_from}
 use Rattle.std.proofs.lemmas.Bool.{cond_both}
 use Rattle.std.proofs.lemmas.Bool.Decides.{nat_tests}
 use Rattle.jvm_types.specs.ClassNames.{numbered_names, class_number, is_class}
-use Rattle.jvm_types.specs.Descriptors.{Types, Reading, followed, array_of, class_kind, types_from, read_from, only_kind, field_kind, Signature, result_kind, returned, method_signature}
+use Rattle.jvm_types.specs.Descriptors.{Types, Reading, followed, array_of, class_kind, types_from, read_from, only_kind, field_kind, Signature, result_kind, signature_returned, method_signature}
 use Rattle.jvm_types.specs.ProgramInvariant.{IsKindOf}
 use Rattle.jvm_types.specs.declared.program.Kind.{Kind}
 use Rattle.jvm_types.specs.declared.program.Kind.TheVariants as kinds
@@ -135,11 +135,11 @@ module _ (p : Program) where
   made args None a h s e = absurd cc
   made args (Some kind) a h s e = subst KnownSignature (some_signature e) (record { args = a; result = h kind refl })
 
-  returned_in : (args : List Kind) (rest : List ℕ) → AllByRecursion (IsKindOf p) args → Signatures (returned p.names args rest)
+  returned_in : (args : List Kind) (rest : List ℕ) → AllByRecursion (IsKindOf p) args → Signatures (signature_returned p.names args rest)
   returned_in args [] a s e = absurd cc
   returned_in args (byte ∷ bytes) a s e = cond_both (byte == 41) _ None Signatures (λ b. made args (result_kind p.names bytes) a (result_in bytes)) (λ b s e. absurd cc) s e
 
-  behind_types : (o : Option Types) → Kinds o → Signatures (option_and_then (λ t. returned p.names t.kinds t.rest) o)
+  behind_types : (o : Option Types) → Kinds o → Signatures (option_and_then (λ t. signature_returned p.names t.kinds t.rest) o)
   behind_types None h s e = absurd cc
   behind_types (Some t) h s e = returned_in t.kinds t.rest (h t refl) s e
 

@@ -12,7 +12,7 @@ use Rattle.jvm_types.specs.ClassNames.{text_at, file_class}
 use Rattle.jvm_types.specs.ClassGrammar.{FieldsFit}
 use Rattle.jvm_types.specs.Descriptors.{field_kind}
 use Rattle.jvm_types.specs.Members.{is_static}
-use Rattle.jvm_types.specs.Layout.{static_count, class_words, first_constant, kept_int, start_of_constant, static_start, kind_of, field_info, fields_of, fields_from, laid_out_fields, fixed_words}
+use Rattle.jvm_types.specs.Layout.{static_count, class_word_count, first_constant, kept_int, start_of_constant, static_start, kind_of, field_info, fields_of, fields_from, laid_out_fields, fixed_words}
 use Rattle.jvm_types.specs.ProgramInvariant.{IsKindOf, statics_among, instances_among, IsFieldOf}
 use Rattle.jvm_types.specs.declared.class_file.Constant.{Constant}
 use Rattle.jvm_types.specs.declared.class_file.Constant.TheVariants.{Integer}
@@ -172,9 +172,9 @@ files_fit p file word (c ∷ cs) before l h o f =
     all_weaker (λ (e : FieldInfo). e.class ≤ file_class file) (λ (e : FieldInfo). e.class < file_class (file + 1)) (λ e l. omega (arith, l)) (before ++ fields) (all_append (λ (e : FieldInfo). e.class ≤ file_class file) before fields ordered (classes_same p.names file c.constants 0 (word + 2) c.fields)) in
     let count : statics_among (before ++ fields) ≡ statics_among before + statics_among fields = sum_by-append (λ f. cond (is_static f.flags) 1 0) before fields in
     let same : statics_among fields ≡ static_count c.fields = statics_same p.names file c.constants 0 (word + 2) c.fields in
-    each_append (IsFieldOf p) before fields (fields_from p.names (file + 1) (word + class_words c) cs)
+    each_append (IsFieldOf p) before fields (fields_from p.names (file + 1) (word + class_word_count c) cs)
     (class_fits p file c.constants 0 (word + 2) c.fields before (omega (arith, l)) h.0.0 ordered (none_yet (file_class file) before o) (omega (arith, f)) (omega (arith, h.0.1)))
-    (files_fit p (file + 1) (word + class_words c) cs (before ++ fields) (omega (arith, l)) h.1 ordered' (omega (arith, f, count, same)))
+    (files_fit p (file + 1) (word + class_word_count c) cs (before ++ fields) (omega (arith, l)) h.1 ordered' (omega (arith, f, count, same)))
 
 -- the fields of a program stand where its invariant has them
 pub fields_placed : (p : Program) (files : List ClassFile) → length files ≡ length p.names → AllByRecursion (λ (c : ClassFile). AllByRecursion FieldsFit c.constants × (length c.fields < 65536)) files → EachAfter (IsFieldOf p) [] (laid_out_fields p.names files)
@@ -182,14 +182,14 @@ fields_placed p files l h = files_fit p 0 FIRST_CLASS_WORD files [] (omega (arit
 
 -- ---- words
 
-words_from : (names : List (List ℕ)) (file word : ℕ) (cs : List ClassFile) → sum_by class_words cs ≡ 2 * length cs + statics_among (fields_from names file word cs)
+words_from : (names : List (List ℕ)) (file word : ℕ) (cs : List ClassFile) → sum_by class_word_count cs ≡ 2 * length cs + statics_among (fields_from names file word cs)
 words_from names file word [] = refl
 words_from names file word (c ∷ cs) =
     let fields : List FieldInfo = fields_of names file c.constants 0 (word + 2) c.fields in
-    let first : sum_by class_words (c ∷ cs) ≡ class_words c + sum_by class_words cs = sum_first class_words c cs in
-    let count : statics_among (fields ++ fields_from names (file + 1) (word + class_words c) cs) ≡ statics_among fields + statics_among (fields_from names (file + 1) (word + class_words c) cs) = sum_by-append (λ f. cond (is_static f.flags) 1 0) fields _ in
+    let first : sum_by class_word_count (c ∷ cs) ≡ class_word_count c + sum_by class_word_count cs = sum_first class_word_count c cs in
+    let count : statics_among (fields ++ fields_from names (file + 1) (word + class_word_count c) cs) ≡ statics_among fields + statics_among (fields_from names (file + 1) (word + class_word_count c) cs) = sum_by-append (λ f. cond (is_static f.flags) 1 0) fields _ in
     let same : statics_among fields ≡ static_count c.fields = statics_same names file c.constants 0 (word + 2) c.fields in
-    let rest : sum_by class_words cs ≡ 2 * length cs + statics_among (fields_from names (file + 1) (word + class_words c) cs) = words_from names (file + 1) (word + class_words c) cs in
+    let rest : sum_by class_word_count cs ≡ 2 * length cs + statics_among (fields_from names (file + 1) (word + class_word_count c) cs) = words_from names (file + 1) (word + class_word_count c) cs in
     omega (arith, first, count, same, rest)
 
 -- the fixed words of the files are those of the program

@@ -15,7 +15,7 @@ use Rattle.jvm_types.proofs.SizeLaws.{program_within}
 use Rattle.jvm_types.specs.ClassNames.{class_name, class_names, file_class}
 use Rattle.jvm_types.specs.ClassGrammar.{FieldsFit, IsClass}
 use Rattle.jvm_types.specs.Descriptors.{Signature, method_signature}
-use Rattle.jvm_types.specs.Members.{Declared, class_of, descriptor_of, declared_from, declared_by, declared_methods}
+use Rattle.jvm_types.specs.Members.{Declared, class_of_declared, descriptor_of, declared_from, declared_by, declared_methods}
 use Rattle.jvm_types.specs.Targets.{Scope}
 use Rattle.jvm_types.specs.Layout.{laid_out_fields, fixed_words}
 use Rattle.jvm_types.specs.Linked.{scope_of, coded_methods, code_of, site_of, resolved_target, resolved_row, resolved_signature, linked_method, linked_methods, program_of}
@@ -44,7 +44,7 @@ rows_kept s pool [] = tt
 rows_kept s pool (h ∷ rows) = (record { start = refl; «end» = refl; handler = refl }, rows_kept s pool rows)
 
 module _ (p : Program) (s : Scope) (fit : ScopeFits p s) where
-  ordered : (before : List (Declared × List Insn)) (d : Declared) → AllByRecursion (λ e. e.file ≤ d.file) (map (λ m. m.0) before) → AllByRecursion (λ e. e.class ≤ class_of d) (linked_methods s before)
+  ordered : (before : List (Declared × List Insn)) (d : Declared) → AllByRecursion (λ e. e.file ≤ d.file) (map (λ m. m.0) before) → AllByRecursion (λ e. e.class ≤ class_of_declared d) (linked_methods s before)
   ordered [] d h = tt
   ordered (m ∷ before) d h = (omega (arith, h.0), ordered before d h.1)
 

@@ -8,8 +8,8 @@ use Rattle.std.proofs.lemmas.Bool.{or_parts, ne_eqb, and_left}
 use Rattle.jvm_types.proofs.EachAfter.{EachAfter, each_append, all_append, all_weaker}
 use Rattle.jvm_types.specs.ClassNames.{text_at, class_name, class_names, file_class}
 use Rattle.jvm_types.specs.Descriptors.{method_signature}
-use Rattle.jvm_types.specs.Members.{is_static, is_synchronized, Declared, class_of, name_of, descriptor_of, declared_from, declared_by, declared_methods, first_rule}
-use Rattle.jvm_types.specs.LinkFaults.{LinkFault, first_fault, first_from, at_place, in_file, in_method, is_outside, is_taken, class_link_fault, class_pass, is_repeated, field_fault, method_fault, members_fault, member_pass}
+use Rattle.jvm_types.specs.Members.{is_static, is_synchronized, Declared, class_of_declared, name_of, descriptor_of, declared_from, declared_by, declared_methods, first_rule}
+use Rattle.jvm_types.specs.LinkFaults.{LinkFault, first_fault, first_from, rule_at_place, in_file, in_method, is_outside, is_taken, class_link_fault, class_pass, is_repeated, field_fault, method_fault, members_fault, member_pass}
 use Rattle.jvm_types.specs.declared.class_file.Constant.{Constant}
 use Rattle.jvm_types.specs.declared.class_file.Member.{Member as ClassMember}
 use Rattle.jvm_types.specs.declared.class_file.ClassFile.{ClassFile}
@@ -23,7 +23,7 @@ pub neither : {X : Type 0} (a b : Option X) → option_or a b ≡ None → (a �
 neither None b e = (refl, e)
 neither (Some x) b e = absurd cc
 
-pub no_rule : (place : Place) (rule : Option LRule) → at_place place rule ≡ None → rule ≡ None
+pub no_rule : (place : Place) (rule : Option LRule) → rule_at_place place rule ≡ None → rule ≡ None
 no_rule place None e = refl
 no_rule place (Some rule) e = absurd cc
 
@@ -94,7 +94,7 @@ names_distinct files e k name at =
 
 -- a method of the same class with the same name and descriptor
 abbrev pub is_same_declared : Declared → Declared → Bool
-is_same_declared e d = (class_of e == class_of d) && (bytes_eq (name_of e) (name_of d) && bytes_eq (descriptor_of e) (descriptor_of d))
+is_same_declared e d = (class_of_declared e == class_of_declared d) && (bytes_eq (name_of e) (name_of d) && bytes_eq (descriptor_of e) (descriptor_of d))
 
 -- what the second pass leaves of a method, behind those before it
 pub record DeclaredFits (names : List (List ℕ)) (before : List Declared) (d : Declared) : Type 0 where
@@ -120,7 +120,7 @@ unrepeated pool file place number m (n ∷ ms) e =
 elsewhere : (file : ℕ) (d : Declared) → d.file ≡ file → (before : List Declared) → AllByRecursion (λ e. e.file < file) before → AllByRecursion (λ e. is_same_declared e d ≡ false) before
 elsewhere file d f [] h = tt
 elsewhere file d f (e ∷ before) h =
-    (and_left (class_of e == class_of d) _ (ne_eqb (class_of e) (class_of d) (λ same. omega (arith, same, h.0, f))), elsewhere file d f before h.1)
+    (and_left (class_of_declared e == class_of_declared d) _ (ne_eqb (class_of_declared e) (class_of_declared d) (λ same. omega (arith, same, h.0, f))), elsewhere file d f before h.1)
 
 described_as : (names : List (List ℕ)) (file : ℕ) (c : ClassFile) (number : ℕ) (m : ClassMember) → method_fault names file c number m ≡ None
     → (is_none (method_signature names (text_at c.constants m.descriptor)) ≡ false) × (is_repeated c.constants (take number c.methods) m ≡ false) × (is_static m.flags && is_synchronized m.flags ≡ false)

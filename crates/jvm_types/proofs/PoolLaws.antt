@@ -11,7 +11,7 @@ use Rattle.jvm_types.specs.declared.index_kind.IndexKind.TheVariants as kinds
 use Rattle.jvm_types.specs.declared.class_file.Constant.{Constant}
 use Rattle.jvm_types.specs.declared.class_file.Constant.TheVariants.{Gap, Class, Text, Field, Method, InterfaceMethod, NameAndType}
 use Rattle.jvm_types.specs.ClassGrammar.{Names, is_wide, is_gap, GapsFit, FieldsFit, IndicesFit, IsPool}
-use Rattle.jvm_types.specs.ReadingSteps.{wanted}
+use Rattle.jvm_types.specs.ReadingSteps.{fault_unless}
 use Rattle.jvm_types.specs.ReadingPool.{names, entries_at, both_wanted, entry_wanted, entries_wanted, pool_at}
 use Rattle.jvm_types.proofs.StepLaws.{IsBytes, Finds, on_bind, weaker, on_wanted, Took, Reads, on_step, u2_reads, u2_again}
 use Rattle.jvm_types.proofs.IndexLaws.{Names-from_test, test_from_Names}
@@ -62,7 +62,7 @@ entries_again (c ∷ cs) false rest gaps fields =
 
 -- ---- their indices
 
-last_wanted : {P : Type 0} (b : Bool) (left : ℕ) → (b ≡ true → P) → Finds (wanted b C5 left) (λ ok. P)
+last_wanted : {P : Type 0} (b : Bool) (left : ℕ) → (b ≡ true → P) → Finds (fault_unless b C5 left) (λ ok. P)
 last_wanted true left h = record { ok = h refl }
 last_wanted false left h = record { ok = tt }
 
@@ -95,13 +95,13 @@ entry_holds pool c last left = last_wanted (not (is_wide c && last)) left λ e. 
 
 entry_stands : (pool : List Constant) (c : Constant) (last : Bool) (left : ℕ) → IndicesFit pool c → (is_wide c && last) ≡ false → entry_wanted pool c last left ≡ Ok tt
 unfolding entry_wanted
-entry_stands pool (Class name) last left h e = ap (λ (b : Bool). wanted b C5 (left - 1)) (test_from_Names kinds.Utf8 pool name h)
-entry_stands pool (Text string) last left h e = ap (λ (b : Bool). wanted b C5 (left - 1)) (test_from_Names kinds.Utf8 pool string h)
+entry_stands pool (Class name) last left h e = ap (λ (b : Bool). fault_unless b C5 (left - 1)) (test_from_Names kinds.Utf8 pool name h)
+entry_stands pool (Text string) last left h e = ap (λ (b : Bool). fault_unless b C5 (left - 1)) (test_from_Names kinds.Utf8 pool string h)
 entry_stands pool (Field m n) last left h e = both_stand kinds.Class kinds.NameAndType pool m n left h.0 h.1
 entry_stands pool (Method m n) last left h e = both_stand kinds.Class kinds.NameAndType pool m n left h.0 h.1
 entry_stands pool (InterfaceMethod m n) last left h e = both_stand kinds.Class kinds.NameAndType pool m n left h.0 h.1
 entry_stands pool (NameAndType m n) last left h e = both_stand kinds.Utf8 kinds.Utf8 pool m n left h.0 h.1
-entry_stands pool c last left h e = ap (λ (b : Bool). wanted (not b) C5 left) e
+entry_stands pool c last left h e = ap (λ (b : Bool). fault_unless (not b) C5 left) e
 
 -- no Long or Double at the end
 abbrev EndFits : List Constant → Type 0

@@ -6,10 +6,10 @@ use Rattle.std.proofs.lemmas.Bool.{ne_eqb}
 use Rattle.jvm_types.proofs.EachAfter.{all_append}
 use Rattle.jvm_types.proofs.TargetLaws.{FieldFits, MethodFits, ScopeFits}
 use Rattle.jvm_types.specs.ClassNames.{class_names, has_built_in_init}
-use Rattle.jvm_types.specs.Members.{Site, is_class_init_name, field_rule, call_rule, built_in_methods, init_of, Declared, class_of, name_of, descriptor_of, declared_from, declared_by, declared_fields, declared_methods, entries_from, is_static}
+use Rattle.jvm_types.specs.Members.{MethodSite, is_class_init_name, field_rule, call_rule, built_in_methods, init_of, Declared, class_of_declared, name_of, descriptor_of, declared_from, declared_by, declared_fields, declared_methods, entries_from, is_static}
 use Rattle.jvm_types.specs.declared.call.Call.TheVariants.{Virtual, Special, Static}
 use Rattle.jvm_types.specs.Targets.{Scope}
-use Rattle.jvm_types.specs.Layout.{fields_of, fields_from, laid_out_fields, class_words}
+use Rattle.jvm_types.specs.Layout.{fields_of, fields_from, laid_out_fields, class_word_count}
 use Rattle.jvm_types.specs.Linked.{scope_of, coded_methods, linked_methods, program_of}
 use Rattle.jvm_types.specs.Linkable.{IsDecoded}
 use Rattle.jvm_types.specs.declared.class_file.Constant.{Constant}
@@ -26,7 +26,7 @@ use Rattle.jvm_types.specs.declared.fixed_words.TheConstants.{FIRST_CLASS_WORD}
 -- ---- built-in members
 
 module _ (p : Program) where
-  unwritten : (site : Site) (b : Bool) → b ≡ false → cond (not (b && is_class_init_name site.name)) (Some L7) None ≡ None → ⊥
+  unwritten : (site : MethodSite) (b : Bool) → b ≡ false → cond (not (b && is_class_init_name site.name)) (Some L7) None ≡ None → ⊥
   unwritten site true e f = absurd cc
   unwritten site false e f = absurd cc
 
@@ -99,11 +99,11 @@ module _ (p : Program) where
 -- ---- members of files, beside what the program has of them
 
 pub record SameField (d : Declared) (f : FieldInfo) : Type 0 where
-  pub class : class_of d ≡ f.class
+  pub class : class_of_declared d ≡ f.class
   pub flags : d.member.flags ≡ f.flags
 
 pub record SameMethod (d : Declared) (m : MethodInfo) : Type 0 where
-  pub class : class_of d ≡ m.class
+  pub class : class_of_declared d ≡ m.class
   pub flags : d.member.flags ≡ m.flags
   pub name : name_of d ≡ m.name
 
@@ -120,7 +120,7 @@ class_same names file pool number place word (m ∷ ms) = (record { class = refl
 files_same : (names : List (List ℕ)) (file word : ℕ) (cs : List ClassFile) → AllZip SameField (declared_by (λ c. c.fields) file cs) (fields_from names file word cs)
 files_same names file word [] = tt
 files_same names file word (c ∷ cs) = zip_append SameField (declared_from file c.constants 0 c.fields) (declared_by (λ c. c.fields) (file + 1) cs) _ _
-    (class_same names file c.constants 0 0 (word + 2) c.fields) (files_same names (file + 1) (word + class_words c) cs)
+    (class_same names file c.constants 0 0 (word + 2) c.fields) (files_same names (file + 1) (word + class_word_count c) cs)
 
 methods_same : (s : Scope) (ds : List Declared) (code : List (List Insn)) → AllZip IsDecoded ds code → AllZip SameMethod ds (linked_methods s (zip ds code))
 methods_same s [] [] h = tt
@@ -132,7 +132,7 @@ methods_same s (d ∷ ds) (i ∷ code) h = (record { class = refl; flags = refl;
 
 module _ (p : Program) where
   field_entry : (number : ℕ) (d : Declared) (f : FieldInfo) → SameField d f → Some f ≡ slice_get p.fields number
-      → FieldFits p (record { class = class_of d; name = name_of d; descriptor = descriptor_of d; flags = d.member.flags; target = targets.Field number })
+      → FieldFits p (record { class = class_of_declared d; name = name_of d; descriptor = descriptor_of d; flags = d.member.flags; target = targets.Field number })
   field_entry number d f same at static writes site l e = subst (λ (o : Option FieldInfo). IsSomeAnd o (λ f. field_rule static writes site f.class f.flags ≡ None)) at
       (subst (λ (n : ℕ). field_rule static writes site f.class n ≡ None) same.flags (subst (λ (n : ℕ). field_rule static writes site n d.member.flags ≡ None) same.class e))
 
@@ -146,7 +146,7 @@ module _ (p : Program) where
   )
 
   method_entry : (number : ℕ) (d : Declared) (m : MethodInfo) → SameMethod d m → Some m ≡ slice_get p.methods number
-      → MethodFits p (record { class = class_of d; name = name_of d; descriptor = descriptor_of d; flags = d.member.flags; target = targets.Method number })
+      → MethodFits p (record { class = class_of_declared d; name = name_of d; descriptor = descriptor_of d; flags = d.member.flags; target = targets.Method number })
   method_entry number d m same at call site e = subst (λ (o : Option MethodInfo). IsSomeAnd o (λ m. call_rule call site m.class m.name m.flags ≡ None)) at
       (subst (λ (n : ℕ). call_rule call site m.class m.name n ≡ None) same.flags
       (subst (λ (n : List ℕ). call_rule call site m.class n d.member.flags ≡ None) same.name (subst (λ (n : ℕ). call_rule call site n (name_of d) d.member.flags ≡ None) same.class e)))

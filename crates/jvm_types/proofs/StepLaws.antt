@@ -10,7 +10,7 @@ use Rattle.jvm_types.specs.declared.refusal.CRule.TheVariants.{C3}
 use Rattle.jvm_types.specs.Numbers.{u1, u2, u4}
 use Rattle.jvm_types.specs.Spelling.{counted}
 use Rattle.jvm_types.specs.ClassGrammar.{IsByte, IsCounted}
-use Rattle.jvm_types.specs.ReadingSteps.{Fault, fault, ◌>>=◌, wanted, u1_at, u2_at, u4_at, run_at, many_at, counted_at}
+use Rattle.jvm_types.specs.ReadingSteps.{Fault, fault, ◌>>=◌, fault_unless, u1_at, u2_at, u4_at, byte_run_at, many_at, counted_at}
 use Rattle.jvm_types.proofs.ByteOrder.{two_back, u2_spelled, four_back, u4_spelled}
 
 -- ---- results
@@ -28,7 +28,7 @@ pub weaker : {A : Type 0} {r : Result A Fault} {P : A → Type 0} (Q : A → Typ
 weaker {r = r} {P = P} Q p h = record { ok = IfOk-weaker r P Q h p.ok }
 
 -- a condition, and the steps after it
-pub on_wanted : {B : Type 0} (b : Bool) (rule : CRule) (left : ℕ) (f : Unit {0} → Result B Fault) (Q : B → Type 0) → (b ≡ true → Finds (f tt) Q) → Finds (wanted b rule left >>= f) Q
+pub on_wanted : {B : Type 0} (b : Bool) (rule : CRule) (left : ℕ) (f : Unit {0} → Result B Fault) (Q : B → Type 0) → (b ≡ true → Finds (f tt) Q) → Finds (fault_unless b rule left >>= f) Q
 on_wanted true rule left f Q h = h refl
 on_wanted false rule left f Q h = record { ok = tt }
 
@@ -113,19 +113,19 @@ pub record IsRun (n : ℕ) (text : List ℕ) : Type 0 where
   pub count : length text ≡ n
   pub bytes : IsBytes text
 
-pub run_takes : (n : ℕ) (bytes : List ℕ) → IsBytes bytes → Finds (run_at n bytes) (Took (λ text. text) (IsRun n) bytes)
-unfolding run_at
+pub run_takes : (n : ℕ) (bytes : List ℕ) → IsBytes bytes → Finds (byte_run_at n bytes) (Took (λ text. text) (IsRun n) bytes)
+unfolding byte_run_at
 run_takes n bytes fits = on_if (ltb (length bytes) n) C3 (length bytes) (take n bytes, drop n bytes) (Took (λ text. text) (IsRun n) bytes) λ no.
     let long : n ≤ length bytes = ltb-false _ _ no in
     record { parts = sym (take-append-drop n bytes); fits = record { count = omega (arith, length-take n bytes); bytes = IsBytes-take n bytes fits }; rest = IsBytes-drop n bytes fits }
 
-pub run_again : (text rest : List ℕ) → run_at (length text) (text ++ rest) ≡ Ok (text, rest)
-unfolding run_at
+pub run_again : (text rest : List ℕ) → byte_run_at (length text) (text ++ rest) ≡ Ok (text, rest)
+unfolding byte_run_at
 run_again text rest =
     let long : ltb (length (text ++ rest)) (length text) ≡ false = le-ltb _ _ (omega (arith, length-append text rest)) in
     rw (long, take_at text rest (length text) refl, drop_at text rest (length text) refl)
 
-pub run_reads : (n : ℕ) → Reads (λ text. text) (IsRun n) (run_at n)
+pub run_reads : (n : ℕ) → Reads (λ text. text) (IsRun n) (byte_run_at n)
 run_reads n = record { takes = run_takes n; again = λ text rest fits. rw (← fits.count) (run_again text rest) }
 
 -- ---- lists

@@ -12,10 +12,10 @@ use Rattle.jvm_types.proofs.LayoutLaws.{entry_fits}
 use Rattle.jvm_types.specs.ClassNames.{class_number, named_class, class_text_at, text_at, is_class, can_be_made, system_name}
 use Rattle.jvm_types.specs.declared.class_numbers.TheConstants.{OBJECT_CLASS}
 use Rattle.jvm_types.specs.ClassGrammar.{FieldsFit}
-use Rattle.jvm_types.specs.Members.{Entry, Site, member_in, look_up, is_init_name, field_rule, call_rule}
+use Rattle.jvm_types.specs.Members.{Entry, MethodSite, member_in, look_up, is_init_name, field_rule, call_rule}
 use Rattle.jvm_types.specs.declared.call.Call.{Call}
 use Rattle.jvm_types.specs.declared.call.Call.TheVariants.{Virtual, Special, Static}
-use Rattle.jvm_types.specs.Targets.{Scope, unless_refused, found_target, member_target, class_at, field_target, method_target, loaded_target, made_target, new_target, target_of, caught, catch_class}
+use Rattle.jvm_types.specs.Targets.{Scope, unless_refused, found_target, member_target, class_at_index, field_target, method_target, loaded_target, made_target, new_target, target_of, class_or_fault, catch_class}
 use Rattle.jvm_types.specs.ProgramInvariant.{IsClassOf, IsFieldTarget, IsMethodTarget, IsValueTarget, IsNewTarget, IsTargetOf, IsCaught}
 use Rattle.jvm_types.specs.declared.class_file.Constant.{Constant}
 use Rattle.jvm_types.specs.declared.class_file.Constant.TheVariants as constants
@@ -68,10 +68,10 @@ member_fits P rule entries (Some class) described name descriptor h =
 
 -- all fields and methods that may be named stand for something of the program
 abbrev pub FieldFits : Program → Entry → Type 0
-FieldFits p e = (static writes : Bool) (site : Site) → 0 < site.class → field_rule static writes site e.class e.flags ≡ None → IsFieldTarget p site static writes e.target
+FieldFits p e = (static writes : Bool) (site : MethodSite) → 0 < site.class → field_rule static writes site e.class e.flags ≡ None → IsFieldTarget p site static writes e.target
 
 abbrev pub MethodFits : Program → Entry → Type 0
-MethodFits p e = (call : Call) (site : Site) → call_rule call site e.class e.name e.flags ≡ None → IsMethodTarget p site call e.target
+MethodFits p e = (call : Call) (site : MethodSite) → call_rule call site e.class e.name e.flags ≡ None → IsMethodTarget p site call e.target
 
 pub record ScopeFits (p : Program) (s : Scope) : Type 0 where
   pub names : s.names ≡ p.names
@@ -82,16 +82,16 @@ all_of : {X : Type 0} (P Q : X → Type 0) → ((x : X) → P x → Q x) → (xs
 all_of P Q w [] h = tt
 all_of P Q w (x ∷ xs) h = (w x h.0, all_of P Q w xs h.1)
 
-module _ (p : Program) (s : Scope) (fit : ScopeFits p s) (site : Site) (of_file : 0 < site.class) (pool : List Constant) (entries : AllByRecursion FieldsFit pool) where
+module _ (p : Program) (s : Scope) (fit : ScopeFits p s) (site : MethodSite) (of_file : 0 < site.class) (pool : List Constant) (entries : AllByRecursion FieldsFit pool) where
   field_fits : (static writes : Bool) (o : Option Constant) → Fits (IsFieldTarget p site static writes) (field_target s site pool static writes o)
   field_fits static writes (Some (constants.Field class member)) e =
-      member_fits (IsFieldTarget p site static writes) (λ e. field_rule static writes site e.class e.flags) s.fields (class_at s pool class) _ _ _
+      member_fits (IsFieldTarget p site static writes) (λ e. field_rule static writes site e.class e.flags) s.fields (class_at_index s pool class) _ _ _
       (all_of (FieldFits p) (λ e. field_rule static writes site e.class e.flags ≡ None → IsFieldTarget p site static writes e.target) (λ e h. h static writes site of_file) s.fields fit.fields) e
   field_fits static writes o e = absurd cc
 
   method_fits : (call : Call) (o : Option Constant) → Fits (IsMethodTarget p site call) (method_target s site pool call o)
   method_fits call (Some (constants.Method class member)) e =
-      member_fits (IsMethodTarget p site call) (λ e. call_rule call site e.class e.name e.flags) s.methods (class_at s pool class) _ _ _
+      member_fits (IsMethodTarget p site call) (λ e. call_rule call site e.class e.name e.flags) s.methods (class_at_index s pool class) _ _ _
       (all_of (MethodFits p) (λ e. call_rule call site e.class e.name e.flags ≡ None → IsMethodTarget p site call e.target) (λ e h. h call site) s.methods fit.methods) e
   method_fits call o e = absurd cc
 
@@ -135,7 +135,7 @@ module _ (p : Program) (s : Scope) (fit : ScopeFits p s) (site : Site) (of_file 
   target_fits (New i) e = new_fits (slice_get pool i) e
   target_fits op e = refl
 
-  caught_fits : (o : Option ℕ) → ((class : ℕ) → o ≡ Some class → IsClassOf p class) → result_err (caught o) ≡ None → IsCaught p (result_unwrap_or (caught o) 0)
+  caught_fits : (o : Option ℕ) → ((class : ℕ) → o ≡ Some class → IsClassOf p class) → result_err (class_or_fault o) ≡ None → IsCaught p (result_unwrap_or (class_or_fault o) 0)
   caught_fits None h e = absurd cc
   caught_fits (Some class) h e = inr (h class refl)
 

@@ -4,9 +4,9 @@ use Rattle.std.proofs.Common.{◌≡◌, ℕ, List, [], ◌∷◌, ◌++◌, ◌
 use Rattle.std.specs.Prelude.{map, slice_set}
 use Rattle.jvm_types.specs.declared.refusal.CRule.{CRule}
 use Rattle.jvm_types.specs.declared.refusal.CRule.TheVariants.{C1, C2, C3, C4, C5, C6, C7, C8, C9}
-use Rattle.jvm_types.specs.ReadingSteps.{u1_at, u2_at, u4_at, run_at, many_at, counted_at, whole, in_body}
-use Rattle.jvm_types.specs.ReadingPool.{index_at, text_wanted, text_at, one_at, two_at, word_at, wide_at, tagged_at, constant_at, entries_at, both_wanted, entry_wanted, entries_wanted, pool_at}
-use Rattle.jvm_types.specs.ReadingClass.{attr_at, handler_at, code_at, code_of, value_of, field_attr_at, method_attr_at, member_at, field_at, method_at, class_at, read_class, class_fault}
+use Rattle.jvm_types.specs.ReadingSteps.{u1_at, u2_at, u4_at, byte_run_at, many_at, counted_at, whole, in_body}
+use Rattle.jvm_types.specs.ReadingPool.{index_at, text_wanted, utf8_at, one_at, two_at, word_entry_at, wide_at, tagged_at, constant_at, entries_at, both_wanted, entry_wanted, entries_wanted, pool_at}
+use Rattle.jvm_types.specs.ReadingClass.{attr_at, table_row_at, code_at, code_attr, value_attr, field_attr_at, method_attr_at, member_at, field_at, method_at, class_at, read_class, class_fault}
 
 adds : List ℕ
 adds = 202 ∷ 254 ∷ 186 ∷ 190 ∷ 0 ∷ 0 ∷ 0 ∷ 50 ∷ 0 ∷ 20 ∷ 1 ∷ 0 ∷ 1 ∷ 65 ∷ 7 ∷ 0 ∷ 1 ∷ 1 ∷ 0 ∷ 16 ∷ 106 ∷ 97 ∷ 118 ∷
@@ -76,5 +76,5 @@ faults = None ∷ None
     ∷ Some (C3, 221) ∷ Some (C8, 223) ∷ []
 
 worked : map class_fault files ≡ faults
-unfolding adds pair one two long files faults u1_at u2_at u4_at run_at many_at counted_at whole in_body index_at text_wanted text_at one_at two_at word_at wide_at tagged_at constant_at entries_at both_wanted entry_wanted entries_wanted pool_at attr_at handler_at code_at code_of value_of field_attr_at method_attr_at member_at field_at method_at class_at read_class class_fault
+unfolding adds pair one two long files faults u1_at u2_at u4_at byte_run_at many_at counted_at whole in_body index_at text_wanted utf8_at one_at two_at word_entry_at wide_at tagged_at constant_at entries_at both_wanted entry_wanted entries_wanted pool_at attr_at table_row_at code_at code_attr value_attr field_attr_at method_attr_at member_at field_at method_at class_at read_class class_fault
 worked = refl

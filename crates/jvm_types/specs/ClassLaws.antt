@@ -3,7 +3,7 @@ use Rattle.std.specs.Prelude.{◌≡◌, ◌↔◌, ℕ, ◌≤◌, List, length
 use Rattle.std.specs.List.{AllByRecursion}
 use Rattle.jvm_types.specs.declared.class_file.ClassFile.{ClassFile}
 use Rattle.jvm_types.specs.ClassGrammar.{IsByte, IsClass, Spells}
-use Rattle.jvm_types.specs.Counts.{CountsFit}
+use Rattle.jvm_types.specs.Counts.{ClassCountsFit}
 use Rattle.jvm_types.specs.ReadingSteps.{Fault}
 use Rattle.jvm_types.specs.ReadingClass.{read_class, class_fault}
 
@@ -25,7 +25,7 @@ ReadsWhatIsSpelled = (bytes : List ℕ) (c : ClassFile) → AllByRecursion IsByt
 
 -- every class of the grammar has lengths that fit their fields
 abbrev pub ClassesFit : Type 0
-ClassesFit = (c : ClassFile) → IsClass c → CountsFit c
+ClassesFit = (c : ClassFile) → IsClass c → ClassCountsFit c
 
 -- a fault has its place in the bytes or at their end, so its offset is what stands before that place
 abbrev pub FaultsLieInside : Type 0

@@ -10,12 +10,12 @@ use Rattle.jvm_types.specs.declared.class_numbers.TheConstants.{SYSTEM_CLASS, CL
 -- ---- texts, which are compared byte by byte
 
 -- the text of an entry of the pool (JVMS 4.4.7), and no bytes where it has none
-abbrev pub text_of : Option Constant → List ℕ
-text_of (Some (Utf8 text)) = text
-text_of entry = []
+abbrev pub entry_text : Option Constant → List ℕ
+entry_text (Some (Utf8 text)) = text
+entry_text entry = []
 
 abbrev pub text_at : List Constant → ℕ → List ℕ
-text_at pool i = text_of (slice_get pool i)
+text_at pool i = entry_text (slice_get pool i)
 
 -- the name of the class that an entry of the pool names (JVMS 4.4.1)
 abbrev pub class_text_of : List Constant → Option Constant → List ℕ

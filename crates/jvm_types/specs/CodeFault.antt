@@ -108,14 +108,14 @@ pub record Outline : Type 0 where
   pub pc : ℕ
   pub targets : List ℤ
 
-abbrev pub followed : Outline → Result (List Outline) (KRule × ℕ) → Result (List Outline) (KRule × ℕ)
-followed r (Ok others) = Ok (r ∷ others)
-followed r (Err fault) = Err fault
+abbrev pub outline_followed : Outline → Result (List Outline) (KRule × ℕ) → Result (List Outline) (KRule × ℕ)
+outline_followed r (Ok others) = Ok (r ∷ others)
+outline_followed r (Err fault) = Err fault
 
 -- an instruction, and those that follow its operands
 abbrev pub with_rest : ℕ → Result Extent KRule → (ℕ → Result (List Outline) (KRule × ℕ)) → Result (List Outline) (KRule × ℕ)
 with_rest pc (Err rule) more = Err (rule, pc)
-with_rest pc (Ok e) more = followed (record { pc = pc; targets = e.targets }) (more e.size)
+with_rest pc (Ok e) more = outline_followed (record { pc = pc; targets = e.targets }) (more e.size)
 
 -- the instructions of the bytes from a pc on, of which the first few still belong to the instruction before;
 -- or the first of K1, K2 and K6

@@ -47,10 +47,10 @@ pub record SpellsTable (pc : ℕ) (op : Op) (bytes : List ℕ) : Type 0 where
   pub offsets_fit : AllByRecursion (λ to. FitsSigned w32 (offset pc to)) targets
 
 -- the keys of a `lookupswitch` ascend
-abbrev pub Ascend : List Case → Type 0
-Ascend [] = Unit {0}
-Ascend (c ∷ []) = Unit {0}
-Ascend (c ∷ d ∷ cases) = (c.key <ℤ d.key) × Ascend (d ∷ cases)
+abbrev pub KeysAscend : List Case → Type 0
+KeysAscend [] = Unit {0}
+KeysAscend (c ∷ []) = Unit {0}
+KeysAscend (c ∷ d ∷ cases) = (c.key <ℤ d.key) × KeysAscend (d ∷ cases)
 
 -- one pair: a key, and the offset that goes with it
 abbrev pub spelled_case : ℕ → Case → List ℕ
@@ -65,7 +65,7 @@ pub record SpellsLookup (pc : ℕ) (op : Op) (bytes : List ℕ) : Type 0 where
   pub spelled : bytes ≡ padding ++ (s4 (offset pc otherwise) ++ s4 (pos (length cases)) ++ flat_map (spelled_case pc) cases)
   pub padded : length padding ≡ padding_size pc
   pub count_fits : length cases < 2 ^ 31
-  pub ascending : Ascend cases
+  pub ascending : KeysAscend cases
   pub default_fits : FitsSigned w32 (offset pc otherwise)
   pub cases_fit : AllByRecursion (λ c. FitsSigned w32 c.key × FitsSigned w32 (offset pc c.target)) cases
 

@@ -36,7 +36,7 @@ MemberAttrFits (member_attrs.Other a) = BodyFits a
 abbrev pub MemberFits : Member → Type 0
 MemberFits m = IsCounted MemberAttrFits m.attrs
 
-pub record CountsFit (c : ClassFile) : Type 0 where
+pub record ClassCountsFit (c : ClassFile) : Type 0 where
   pub constants : IsCounted TextFits c.constants
   pub interfaces : length c.interfaces < 2 ^ 16
   pub fields : IsCounted MemberFits c.fields

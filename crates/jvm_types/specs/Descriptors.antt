@@ -73,11 +73,11 @@ abbrev pub result_kind : List (List ℕ) → List ℕ → Option (Option Kind)
 result_kind names text = if bytes_eq text (codes "V") then Some None else option_map (λ kind. Some kind) (field_kind names text)
 
 -- behind the arguments there is `)`, and a return descriptor
-abbrev pub returned : List (List ℕ) → List Kind → List ℕ → Option Signature
-returned names args [] = None
-returned names args (byte ∷ bytes) = if byte == 41 then option_map (λ kind. record { args = args; result = kind }) (result_kind names bytes) else None
+abbrev pub signature_returned : List (List ℕ) → List Kind → List ℕ → Option Signature
+signature_returned names args [] = None
+signature_returned names args (byte ∷ bytes) = if byte == 41 then option_map (λ kind. record { args = args; result = kind }) (result_kind names bytes) else None
 
 -- what a method descriptor says (JVMS 4.3.3): `(`, the types of the arguments, `)`, and what it returns
 abbrev pub method_signature : List (List ℕ) → List ℕ → Option Signature
 method_signature names [] = None
-method_signature names (byte ∷ bytes) = if byte == 40 then option_and_then (λ t. returned names t.kinds t.rest) (read_from names bytes).types else None
+method_signature names (byte ∷ bytes) = if byte == 40 then option_and_then (λ t. signature_returned names t.kinds t.rest) (read_from names bytes).types else None

@@ -24,12 +24,12 @@ abbrev pub static_count : List ClassMember → ℕ
 static_count fields = count_by (λ m. is_static m.flags) fields
 
 -- a class has a lock word and a header of its own, and its static fields
-abbrev pub class_words : ClassFile → ℕ
-class_words c = OBJECT_HEAD_WORDS + static_count c.fields
+abbrev pub class_word_count : ClassFile → ℕ
+class_word_count c = OBJECT_HEAD_WORDS + static_count c.fields
 
 -- the words that a program has from the start on; objects and arrays follow
 abbrev pub fixed_words : List ClassFile → ℕ
-fixed_words files = FIRST_CLASS_WORD + sum_by class_words files
+fixed_words files = FIRST_CLASS_WORD + sum_by class_word_count files
 
 -- ---- start values (JVMS 4.7.2, 5.5)
 
@@ -74,7 +74,7 @@ fields_of names file pool place word (m ∷ ms) =
 -- those of the classes from a file on, whose words begin at a word
 abbrev pub fields_from : List (List ℕ) → (file word : ℕ) → List ClassFile → List FieldInfo
 fields_from names file word [] = []
-fields_from names file word (c ∷ cs) = fields_of names file c.constants 0 (word + OBJECT_HEAD_WORDS) c.fields ++ fields_from names (file + 1) (word + class_words c) cs
+fields_from names file word (c ∷ cs) = fields_of names file c.constants 0 (word + OBJECT_HEAD_WORDS) c.fields ++ fields_from names (file + 1) (word + class_word_count c) cs
 
 abbrev pub laid_out_fields : List (List ℕ) → List ClassFile → List FieldInfo
 laid_out_fields names files = fields_from names 0 FIRST_CLASS_WORD files

@@ -9,7 +9,7 @@ use Rattle.std.specs.List.{list_any}
 use Rattle.jvm_types.specs.Numbers.{has_flag}
 use Rattle.jvm_types.specs.ClassNames.{text_at, class_text_at, class_name, class_names, is_built_in_name, file_class}
 use Rattle.jvm_types.specs.Descriptors.{field_kind, method_signature}
-use Rattle.jvm_types.specs.Members.{is_static, is_synchronized, is_class_init_name, Declared, name_of, descriptor_of, class_of, declared_methods, first_rule}
+use Rattle.jvm_types.specs.Members.{is_static, is_synchronized, is_class_init_name, Declared, name_of, descriptor_of, class_of_declared, declared_methods, first_rule}
 use Rattle.jvm_types.specs.Targets.{Scope, target_of, catch_class}
 use Rattle.jvm_types.specs.Layout.{fixed_words}
 use Rattle.jvm_types.specs.Linked.{scope_of, coded_methods, code_of, site_of, program_of}
@@ -41,8 +41,8 @@ abbrev pub first_from : {X : Type 0} → (ℕ → X → Option LinkFault) → �
 first_from check number [] = None
 first_from check number (x ∷ xs) = option_or (check number x) (first_from check (number + 1) xs)
 
-abbrev pub at_place : Place → Option LRule → Option LinkFault
-at_place place rule = option_map (λ r. (r, place)) rule
+abbrev pub rule_at_place : Place → Option LRule → Option LinkFault
+rule_at_place place rule = option_map (λ r. (r, place)) rule
 
 -- a place in no method
 abbrev pub in_file : (file at : ℕ) → Place
@@ -64,7 +64,7 @@ abbrev pub is_taken : List (List ℕ) → List ℕ → Bool
 is_taken earlier name = is_built_in_name name || list_any (bytes_eq name) earlier
 
 abbrev pub class_link_fault : List (List ℕ) → (file : ℕ) → ClassFile → Option LinkFault
-class_link_fault names file c = at_place (in_file file 0) (first_rule (
+class_link_fault names file c = rule_at_place (in_file file 0) (first_rule (
     (is_outside c, L6)
     ∷ (is_taken (take file names) (class_name c), L5) ∷ []))
 
@@ -78,13 +78,13 @@ abbrev pub is_repeated : List Constant → List ClassMember → ClassMember → 
 is_repeated pool earlier m = list_any (λ e. bytes_eq (text_at pool e.name) (text_at pool m.name) && bytes_eq (text_at pool e.descriptor) (text_at pool m.descriptor)) earlier
 
 abbrev pub field_fault : List (List ℕ) → (file : ℕ) → ClassFile → (number : ℕ) → ClassMember → Option LinkFault
-field_fault names file c number m = at_place (in_file file number) (first_rule (
+field_fault names file c number m = rule_at_place (in_file file number) (first_rule (
     (is_none (field_kind names (text_at c.constants m.descriptor)), L1)
     ∷ (is_repeated c.constants (take number c.fields) m, L5) ∷ []))
 
 -- a static method may not be synchronized; in the standard it may, on its class
 abbrev pub method_fault : List (List ℕ) → (file : ℕ) → ClassFile → (number : ℕ) → ClassMember → Option LinkFault
-method_fault names file c number m = at_place (in_method file number 0) (first_rule (
+method_fault names file c number m = rule_at_place (in_method file number 0) (first_rule (
     (is_none (method_signature names (text_at c.constants m.descriptor)), L1)
     ∷ (is_repeated c.constants (take number c.methods) m, L5)
     ∷ (is_static m.flags && is_synchronized m.flags, L9) ∷ []))
@@ -98,10 +98,10 @@ member_pass files = first_from (members_fault (class_names files)) 0 files
 -- ---- third pass, method by method: its instructions by pc, then its handler rows (JVMS 5.4.3, 4.7.3)
 
 abbrev pub insn_fault : Scope → Declared → Insn → Option LinkFault
-insn_fault s d insn = at_place (in_method d.file d.place insn.pc) (result_err (target_of s (site_of d) d.pool insn.op))
+insn_fault s d insn = rule_at_place (in_method d.file d.place insn.pc) (result_err (target_of s (site_of d) d.pool insn.op))
 
 abbrev pub row_fault : Scope → Declared → Handler → Option LinkFault
-row_fault s d h = at_place (in_method d.file d.place h.start) (result_err (catch_class s d.pool h.catch_type))
+row_fault s d h = rule_at_place (in_method d.file d.place h.start) (result_err (catch_class s d.pool h.catch_type))
 
 abbrev pub uses_fault : Scope → Declared × List Insn → Option LinkFault
 uses_fault s m = option_or (first_fault (map (insn_fault s m.0) m.1)) (first_fault (map (row_fault s m.0) (code_of m.0.member.attrs).rows))
@@ -127,20 +127,20 @@ is_wrong_root class name descriptor flags =
     || ((class == file_class 0) && is_entry name descriptor && not (is_static flags))
 
 abbrev pub is_wrong_method : Declared → Bool
-is_wrong_method d = is_wrong_root (class_of d) (name_of d) (descriptor_of d) d.member.flags
+is_wrong_method d = is_wrong_root (class_of_declared d) (name_of d) (descriptor_of d) d.member.flags
 
 abbrev pub is_run_method : Declared → Bool
-is_run_method d = (class_of d == file_class 0) && is_run (name_of d) (descriptor_of d)
+is_run_method d = (class_of_declared d == file_class 0) && is_run (name_of d) (descriptor_of d)
 
 abbrev pub root_pass : List ClassFile → (workers : ℕ) → Option LinkFault
-root_pass files workers = at_place (in_file 0 0) (first_rule (
+root_pass files workers = rule_at_place (in_file 0 0) (first_rule (
     (list_any is_wrong_method (declared_methods files), L4)
     ∷ (nat_lt 0 workers && not (list_any is_run_method (declared_methods files)), L4) ∷ []))
 
 -- ---- fifth pass: the fixed words fit in the heap
 
 abbrev pub word_pass : List ClassFile → (heap : ℕ) → Option LinkFault
-word_pass files heap = at_place (in_file 0 0) (first_rule ((nat_lt heap (fixed_words files), L8) ∷ []))
+word_pass files heap = rule_at_place (in_file 0 0) (first_rule ((nat_lt heap (fixed_words files), L8) ∷ []))
 
 -- ---- the whole
 

@@ -5,7 +5,7 @@ use Rattle.std.specs.Result.{result_unwrap_or}
 use Rattle.std.specs.List.{zip}
 use Rattle.jvm_types.specs.ClassNames.{class_names}
 use Rattle.jvm_types.specs.Descriptors.{Signature, method_signature}
-use Rattle.jvm_types.specs.Members.{built_in_fields, built_in_methods, Declared, class_of, name_of, descriptor_of, declared_fields, declared_methods, entries_from, Site}
+use Rattle.jvm_types.specs.Members.{built_in_fields, built_in_methods, Declared, class_of_declared, name_of, descriptor_of, declared_fields, declared_methods, entries_from, MethodSite}
 use Rattle.jvm_types.specs.Targets.{Scope, target_of, catch_class}
 use Rattle.jvm_types.specs.Layout.{laid_out_fields}
 use Rattle.jvm_types.specs.declared.class_file.Constant.{Constant}
@@ -42,11 +42,11 @@ code_of [] = no_code
 code_of (member_attrs.Code code ∷ attrs) = code
 code_of (attr ∷ attrs) = code_of attrs
 
-abbrev pub site_of : Declared → Site
-site_of d = record { class = class_of d; name = name_of d }
+abbrev pub site_of : Declared → MethodSite
+site_of d = record { class = class_of_declared d; name = name_of d }
 
 -- In what follows a name that does not resolve has some value. A program with such a name is refused.
-abbrev pub resolved_target : Scope → Site → List Constant → Insn → Target
+abbrev pub resolved_target : Scope → MethodSite → List Constant → Insn → Target
 resolved_target s site pool insn = result_unwrap_or (target_of s site pool insn.op) targets.Nothing
 
 abbrev pub resolved_row : Scope → List Constant → Handler → Row
@@ -60,7 +60,7 @@ linked_method s d insns =
     let code : Code = code_of d.member.attrs in
     let types : Signature = resolved_signature s (descriptor_of d) in
     record {
-      class = class_of d;
+      class = class_of_declared d;
       flags = d.member.flags;
       name = name_of d;
       descriptor = descriptor_of d;

@@ -77,8 +77,8 @@ pub record Declared : Type 0 where
   pub pool : List Constant
   pub member : ClassMember
 
-abbrev pub class_of : Declared → ℕ
-class_of d = file_class d.file
+abbrev pub class_of_declared : Declared → ℕ
+class_of_declared d = file_class d.file
 
 abbrev pub name_of : Declared → List ℕ
 name_of d = text_at d.pool d.member.name
@@ -105,7 +105,7 @@ declared_methods files = declared_by (λ c. c.methods) 0 files
 -- members as entries, each with its number in the program, from one on
 abbrev pub entries_from : (ℕ → Target) → ℕ → List Declared → List Entry
 entries_from target number [] = []
-entries_from target number (d ∷ ds) = record { class = class_of d; name = name_of d; descriptor = descriptor_of d; flags = d.member.flags; target = target number } ∷ entries_from target (number + 1) ds
+entries_from target number (d ∷ ds) = record { class = class_of_declared d; name = name_of d; descriptor = descriptor_of d; flags = d.member.flags; target = target number } ∷ entries_from target (number + 1) ds
 
 -- ---- look-up
 
@@ -124,17 +124,17 @@ first_rule [] = None
 first_rule (test ∷ tests) = if test.0 then Some test.1 else first_rule tests
 
 -- the method in which an instruction stands: its class, and its name
-pub record Site : Type 0 where
+pub record MethodSite : Type 0 where
   pub class : ℕ
   pub name : List ℕ
 
 -- a private member of another class (JVMS 5.4.4; package and protected access are not looked at)
-abbrev pub is_hidden : Site → ℕ → ℕ → Bool
+abbrev pub is_hidden : MethodSite → ℕ → ℕ → Bool
 is_hidden site class flags = is_private flags && not (class == site.class)
 
 -- Whether the site may write final fields of a class: static ones in its `<clinit>`, instance fields in its `<init>`, on
 -- whichever object (JVMS 6.5, `putfield` and `putstatic`, has it "in the current class"; here the method counts too).
-abbrev pub initializes : Site → Bool → ℕ → Bool
+abbrev pub initializes : MethodSite → Bool → ℕ → Bool
 initializes site static class = (class == site.class) && (if static then is_class_init_name site.name else is_init_name site.name)
 
 -- an instruction for static fields on an instance field, or the reverse
@@ -143,7 +143,7 @@ is_other_sort static flags = if static then not (is_static flags) else is_static
 
 -- The rule that refuses the use of a field with this class and these flags, by an instruction for static fields or not,
 -- which writes or not. `System.out` is of no file, so that no site may write it.
-abbrev pub field_rule : (static writes : Bool) → Site → (class flags : ℕ) → Option LRule
+abbrev pub field_rule : (static writes : Bool) → MethodSite → (class flags : ℕ) → Option LRule
 field_rule static writes site class flags = first_rule (
     (is_other_sort static flags, L2)
     ∷ (is_hidden site class flags, L3)
@@ -151,13 +151,13 @@ field_rule static writes site class flags = first_rule (
 
 -- Whether a call has the kind of its method (JVMS 4.9.1, 6.5). `invokespecial` is for an `<init>` and for a private instance
 -- method of the own class; the standard's calls of a superclass's methods by it are refused. Nothing calls a `<clinit>`.
-abbrev pub fits_call : Call → Site → (class : ℕ) (name : List ℕ) (flags : ℕ) → Bool
+abbrev pub fits_call : Call → MethodSite → (class : ℕ) (name : List ℕ) (flags : ℕ) → Bool
 fits_call Virtual site class name flags = not (is_static flags || is_init_name name || is_class_init_name name)
 fits_call Special site class name flags = not (is_static flags || is_class_init_name name) && (is_init_name name || (is_private flags && (class == site.class)))
 fits_call Static site class name flags = is_static flags && not (is_init_name name || is_class_init_name name)
 
 -- the rule that refuses a call of a method with this class, name and flags
-abbrev pub call_rule : Call → Site → (class : ℕ) (name : List ℕ) (flags : ℕ) → Option LRule
+abbrev pub call_rule : Call → MethodSite → (class : ℕ) (name : List ℕ) (flags : ℕ) → Option LRule
 call_rule call site class name flags = first_rule (
     (not (fits_call call site class name flags), L2)
     ∷ (is_hidden site class flags, L3) ∷ [])

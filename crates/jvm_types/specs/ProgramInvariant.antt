@@ -5,7 +5,7 @@ use Rattle.std.specs.List.{AllByRecursion, AllZip, count_by, sum_by, list_any}
 use Rattle.std.specs.Int.{w32}
 use Rattle.jvm_types.specs.ClassNames.{file_class, is_class, can_be_made, has_built_in_init}
 use Rattle.jvm_types.specs.Descriptors.{method_signature}
-use Rattle.jvm_types.specs.Members.{is_static, is_synchronized, Site, field_rule, call_rule}
+use Rattle.jvm_types.specs.Members.{is_static, is_synchronized, MethodSite, field_rule, call_rule}
 use Rattle.jvm_types.specs.declared.call.Call.{Call}
 use Rattle.jvm_types.specs.declared.call.Call.TheVariants.{Virtual, Special, Static}
 use Rattle.jvm_types.specs.Layout.{kept_int}
@@ -76,13 +76,13 @@ pub record IsFieldOf (p : Program) (before : List FieldInfo) (f : FieldInfo) : T
 -- ---- what instructions name
 
 -- a field that an instruction for static fields or not, which writes or not, may use at a site
-abbrev pub IsFieldTarget : Program → Site → (static writes : Bool) → Target → Type 0
+abbrev pub IsFieldTarget : Program → MethodSite → (static writes : Bool) → Target → Type 0
 IsFieldTarget p site static writes (targets.Field number) = IsSomeAnd (slice_get p.fields number) (λ f. field_rule static writes site f.class f.flags ≡ None)
 IsFieldTarget p site true false targets.Out = Unit {0}
 IsFieldTarget p site static writes target = ⊥
 
 -- a method that a call may name at a site
-abbrev pub IsMethodTarget : Program → Site → Call → Target → Type 0
+abbrev pub IsMethodTarget : Program → MethodSite → Call → Target → Type 0
 IsMethodTarget p site call (targets.Method number) = IsSomeAnd (slice_get p.methods number) (λ m. call_rule call site m.class m.name m.flags ≡ None)
 IsMethodTarget p site Special (targets.Init class) = IsTrue (has_built_in_init class)
 IsMethodTarget p site Virtual targets.Println = Unit {0}
@@ -102,7 +102,7 @@ IsNewTarget p (targets.Class class) = IsClassOf p class × IsTrue (can_be_made c
 IsNewTarget p target = ⊥
 
 -- what the constant of an instruction may name at a site; most have none
-abbrev pub IsTargetOf : Program → Site → Op → Target → Type 0
+abbrev pub IsTargetOf : Program → MethodSite → Op → Target → Type 0
 IsTargetOf p site (Ldc i) target = IsValueTarget target
 IsTargetOf p site (LdcW i) target = IsValueTarget target
 IsTargetOf p site (Getstatic i) target = IsFieldTarget p site true false target
@@ -134,7 +134,7 @@ pub record IsCoded (m : MethodInfo) : Type 0 where
 abbrev pub IsCaught : Program → ℕ → Type 0
 IsCaught p class = (class ≡ 0) ⊎ IsClassOf p class
 
-abbrev pub site_in : MethodInfo → Site
+abbrev pub site_in : MethodInfo → MethodSite
 site_in m = record { class = m.class; name = m.name }
 
 -- a method of the same class, name and descriptor

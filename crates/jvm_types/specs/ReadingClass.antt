@@ -24,7 +24,7 @@ use Rattle.jvm_types.specs.declared.class_file.Member.{Member}
 use Rattle.jvm_types.specs.declared.class_file.ClassFile.{ClassFile}
 use Rattle.jvm_types.specs.Numbers.{has_flag}
 use Rattle.jvm_types.specs.ClassGrammar.{codes_of}
-use Rattle.jvm_types.specs.ReadingSteps.{Fault, fault, ◌>>=◌, wanted, u2_at, u4_at, run_at, counted_at, whole, in_body}
+use Rattle.jvm_types.specs.ReadingSteps.{Fault, fault, ◌>>=◌, fault_unless, u2_at, u4_at, byte_run_at, counted_at, whole, in_body}
 use Rattle.jvm_types.specs.ReadingPool.{is_text, index_at, pool_at}
 use Rattle.jvm_types.specs.declared.limits.TheConstants.{MOST_FILE_BYTES, FIRST_VERSION, LAST_VERSION}
 use Rattle.jvm_types.specs.declared.flags.TheConstants.{NATIVE, ABSTRACT}
@@ -37,12 +37,12 @@ unfoldable pub attr_at : List Constant → List ℕ → Result (Attr × List ℕ
 attr_at pool bytes = do
   name ← index_at kinds.Utf8 pool bytes
   n ← u4_at name.1
-  body ← run_at n.0 n.1
+  body ← byte_run_at n.0 n.1
   Ok (record { name = name.0; body = body.0 }, body.1)
 
 -- a row of an exception table
-unfoldable pub handler_at : List Constant → List ℕ → Result (Handler × List ℕ) Fault
-handler_at pool bytes = do
+unfoldable pub table_row_at : List Constant → List ℕ → Result (Handler × List ℕ) Fault
+table_row_at pool bytes = do
   start ← u2_at bytes
   end ← u2_at start.1
   handler ← u2_at end.1
@@ -55,19 +55,19 @@ code_at pool name bytes = do
   max_stack ← u2_at bytes
   max_locals ← u2_at max_stack.1
   n ← u4_at max_locals.1
-  code ← run_at n.0 n.1
-  rows ← counted_at (handler_at pool) code.1
+  code ← byte_run_at n.0 n.1
+  rows ← counted_at (table_row_at pool) code.1
   attrs ← counted_at (attr_at pool) rows.1
   Ok (record { max_stack = max_stack.0; max_locals = max_locals.0; bytes = code.0; rows = rows.0; attrs = attrs.0; name = name }, attrs.1)
 
 -- the attribute that was cut out, read as a Code; behind it there are so many bytes
-unfoldable pub code_of : List Constant → Attr → ℕ → Result MemberAttr Fault
-code_of pool a behind = do
+unfoldable pub code_attr : List Constant → Attr → ℕ → Result MemberAttr Fault
+code_attr pool a behind = do
   c ← in_body (4 + length a.body + behind) behind (whole (code_at pool a.name a.body))
   Ok (member_attrs.Code c)
 
-unfoldable pub value_of : List Constant → Attr → ℕ → Result MemberAttr Fault
-value_of pool a behind = do
+unfoldable pub value_attr : List Constant → Attr → ℕ → Result MemberAttr Fault
+value_attr pool a behind = do
   value ← in_body (4 + length a.body + behind) behind (whole (index_at kinds.Value pool a.body))
   Ok (member_attrs.ConstantValue a.name value)
 
@@ -75,14 +75,14 @@ value_of pool a behind = do
 unfoldable pub field_attr_at : List Constant → List ℕ → Result (MemberAttr × List ℕ) Fault
 field_attr_at pool bytes = do
   a ← attr_at pool bytes
-  attr ← if is_text (codes "ConstantValue") (slice_get pool a.0.name) then value_of pool a.0 (length a.1) else Ok (member_attrs.Other a.0)
+  attr ← if is_text (codes "ConstantValue") (slice_get pool a.0.name) then value_attr pool a.0 (length a.1) else Ok (member_attrs.Other a.0)
   Ok (attr, a.1)
 
 -- an attribute of a method: by its name a Code, or kept unread
 unfoldable pub method_attr_at : List Constant → List ℕ → Result (MemberAttr × List ℕ) Fault
 method_attr_at pool bytes = do
   a ← attr_at pool bytes
-  attr ← if is_text (codes "Code") (slice_get pool a.0.name) then code_of pool a.0 (length a.1) else Ok (member_attrs.Other a.0)
+  attr ← if is_text (codes "Code") (slice_get pool a.0.name) then code_attr pool a.0 (length a.1) else Ok (member_attrs.Other a.0)
   Ok (attr, a.1)
 
 -- ---- fields and methods
@@ -107,7 +107,7 @@ has_body m = (length (codes_of m.attrs) == 1) && not (has_flag NATIVE m.flags) &
 unfoldable pub method_at : List Constant → List ℕ → Result (Member × List ℕ) Fault
 method_at pool bytes = do
   m ← member_at (method_attr_at pool) pool bytes
-  ok ← wanted (has_body m.0) C9 (length bytes)
+  ok ← fault_unless (has_body m.0) C9 (length bytes)
   Ok (m.0, m.1)
 
 -- ---- the class
@@ -115,10 +115,10 @@ method_at pool bytes = do
 unfoldable pub class_at : List ℕ → Result (ClassFile × List ℕ) Fault
 class_at bytes = do
   magic ← u4_at bytes
-  ok ← wanted (magic.0 == MAGIC) C1 (length bytes)
+  ok ← fault_unless (magic.0 == MAGIC) C1 (length bytes)
   minor ← u2_at magic.1
   major ← u2_at minor.1
-  ok ← wanted (nat_le FIRST_VERSION major.0 && nat_le major.0 LAST_VERSION) C2 (length minor.1)
+  ok ← fault_unless (nat_le FIRST_VERSION major.0 && nat_le major.0 LAST_VERSION) C2 (length minor.1)
   pool ← pool_at major.1
   flags ← u2_at pool.1
   this ← index_at kinds.Class pool.0 flags.1

@@ -9,7 +9,7 @@ use Rattle.jvm_types.specs.declared.class_file.TheConstants.{TEXT_BYTES_END}
 use Rattle.jvm_types.specs.declared.class_file.Constant.TheVariants.{Gap, Utf8, Integer, Float, Long, Double, Class, Text, Field, Method, InterfaceMethod, NameAndType}
 use Rattle.jvm_types.specs.Spelling.{constant}
 use Rattle.jvm_types.specs.ClassGrammar.{is_wide}
-use Rattle.jvm_types.specs.ReadingSteps.{Fault, fault, ◌>>=◌, wanted, u1_at, u2_at, u4_at, run_at}
+use Rattle.jvm_types.specs.ReadingSteps.{Fault, fault, ◌>>=◌, fault_unless, u1_at, u2_at, u4_at, byte_run_at}
 
 -- ---- indices
 
@@ -40,7 +40,7 @@ is_text text entry = false
 unfoldable pub index_at : IndexKind → List Constant → List ℕ → Result (ℕ × List ℕ) Fault
 index_at kind pool bytes = do
   i ← u2_at bytes
-  ok ← wanted (names kind pool i.0) C5 (length bytes)
+  ok ← fault_unless (names kind pool i.0) C5 (length bytes)
   Ok (i.0, i.1)
 
 -- ---- entries
@@ -49,14 +49,14 @@ index_at kind pool bytes = do
 unfoldable pub text_wanted : List ℕ → ℕ → Result (Unit {0}) Fault
 text_wanted [] behind = Ok tt
 text_wanted (b ∷ text) behind = do
-  ok ← wanted (nat_lt 0 b && nat_lt b TEXT_BYTES_END) C6 (length (b ∷ text) + behind)
+  ok ← fault_unless (nat_lt 0 b && nat_lt b TEXT_BYTES_END) C6 (length (b ∷ text) + behind)
   text_wanted text behind
 
 -- a text behind its length
-unfoldable pub text_at : List ℕ → Result (Constant × List ℕ) Fault
-text_at bytes = do
+unfoldable pub utf8_at : List ℕ → Result (Constant × List ℕ) Fault
+utf8_at bytes = do
   n ← u2_at bytes
-  text ← run_at n.0 n.1
+  text ← byte_run_at n.0 n.1
   ok ← text_wanted text.0 (length text.1)
   Ok (Utf8 text.0, text.1)
 
@@ -72,8 +72,8 @@ two_at entry bytes = do
   b ← u2_at a.1
   Ok (entry a.0 b.0, b.1)
 
-unfoldable pub word_at : (ℕ → Constant) → List ℕ → Result (Constant × List ℕ) Fault
-word_at entry bytes = do
+unfoldable pub word_entry_at : (ℕ → Constant) → List ℕ → Result (Constant × List ℕ) Fault
+word_entry_at entry bytes = do
   a ← u4_at bytes
   Ok (entry a.0, a.1)
 
@@ -86,9 +86,9 @@ wide_at entry bytes = do
 -- what stands behind a tag; C4 for any other tag
 unfoldable pub tagged_at : ℕ → ℕ → List ℕ → Result (Constant × List ℕ) Fault
 tagged_at tag at_tag bytes =
-    if tag == 1 then text_at bytes
-    else if tag == 3 then word_at (λ n. Integer (cast_signed w32 n)) bytes
-    else if tag == 4 then word_at Float bytes
+    if tag == 1 then utf8_at bytes
+    else if tag == 3 then word_entry_at (λ n. Integer (cast_signed w32 n)) bytes
+    else if tag == 4 then word_entry_at Float bytes
     else if tag == 5 then wide_at Long bytes
     else if tag == 6 then wide_at Double bytes
     else if tag == 7 then one_at Class bytes
@@ -121,18 +121,18 @@ entries_at (suc n) false bytes = do
 -- the two indices of an entry, which stand one and three bytes behind its tag
 unfoldable pub both_wanted : IndexKind → IndexKind → List Constant → ℕ → ℕ → ℕ → Result (Unit {0}) Fault
 both_wanted kind other pool i j left = do
-  ok ← wanted (names kind pool i) C5 (left - 1)
-  wanted (names other pool j) C5 (left - 3)
+  ok ← fault_unless (names kind pool i) C5 (left - 1)
+  fault_unless (names other pool j) C5 (left - 3)
 
 -- C5 at an index of the entry; and at its tag, where the last entry is a Long or a Double
 unfoldable pub entry_wanted : List Constant → Constant → Bool → ℕ → Result (Unit {0}) Fault
-entry_wanted pool (Class name) last left = wanted (names kinds.Utf8 pool name) C5 (left - 1)
-entry_wanted pool (Text string) last left = wanted (names kinds.Utf8 pool string) C5 (left - 1)
+entry_wanted pool (Class name) last left = fault_unless (names kinds.Utf8 pool name) C5 (left - 1)
+entry_wanted pool (Text string) last left = fault_unless (names kinds.Utf8 pool string) C5 (left - 1)
 entry_wanted pool (Field class member) last left = both_wanted kinds.Class kinds.NameAndType pool class member left
 entry_wanted pool (Method class member) last left = both_wanted kinds.Class kinds.NameAndType pool class member left
 entry_wanted pool (InterfaceMethod class member) last left = both_wanted kinds.Class kinds.NameAndType pool class member left
 entry_wanted pool (NameAndType name descriptor) last left = both_wanted kinds.Utf8 kinds.Utf8 pool name descriptor left
-entry_wanted pool c last left = wanted (not (is_wide c && last)) C5 left
+entry_wanted pool c last left = fault_unless (not (is_wide c && last)) C5 left
 
 -- the same of the entries one after another; from the first of them on there are so many bytes
 unfoldable pub entries_wanted : List Constant → List Constant → ℕ → Result (Unit {0}) Fault

@@ -18,9 +18,9 @@ abbrev pub ◌>>=◌ : {A B : Type 0} → Result A Fault → (A → Result B Fau
 (Err e) >>= f = Err e
 
 -- the fault, unless the test is met
-abbrev pub wanted : Bool → CRule → ℕ → Result (Unit {0}) Fault
-wanted true rule left = Ok tt
-wanted false rule left = fault rule left
+abbrev pub fault_unless : Bool → CRule → ℕ → Result (Unit {0}) Fault
+fault_unless true rule left = Ok tt
+fault_unless false rule left = fault rule left
 
 -- ---- items: C3 where one is cut, at its first byte
 
@@ -38,8 +38,8 @@ u4_at (a ∷ b ∷ c ∷ d ∷ rest) = Ok ((a * 256 + b) * 65536 + (c * 256 + d)
 u4_at bytes = fault C3 (length bytes)
 
 -- a run of so many bytes
-unfoldable pub run_at : ℕ → List ℕ → Result (List ℕ × List ℕ) Fault
-run_at n bytes = if nat_lt (length bytes) n then fault C3 (length bytes) else Ok (take n bytes, drop n bytes)
+unfoldable pub byte_run_at : ℕ → List ℕ → Result (List ℕ × List ℕ) Fault
+byte_run_at n bytes = if nat_lt (length bytes) n then fault C3 (length bytes) else Ok (take n bytes, drop n bytes)
 
 -- ---- lists
 
@@ -72,11 +72,11 @@ whole (Err f) = Err f
 
 -- A body is read by itself. Where its parts want more or fewer bytes than the length says, that is C7 at the length.
 -- Every other fault keeps its place: behind the body there are so many bytes.
-abbrev pub moved : CRule → ℕ → ℕ → ℕ → Fault
-moved C3 left at_length behind = record { rule = C7; left = at_length }
-moved C8 left at_length behind = record { rule = C7; left = at_length }
-moved rule left at_length behind = record { rule = rule; left = left + behind }
+abbrev pub fault_moved : CRule → ℕ → ℕ → ℕ → Fault
+fault_moved C3 left at_length behind = record { rule = C7; left = at_length }
+fault_moved C8 left at_length behind = record { rule = C7; left = at_length }
+fault_moved rule left at_length behind = record { rule = rule; left = left + behind }
 
 unfoldable pub in_body : {A : Type 0} → ℕ → ℕ → Result A Fault → Result A Fault
 in_body at_length behind (Ok x) = Ok x
-in_body at_length behind (Err f) = Err (moved f.rule f.left at_length behind)
+in_body at_length behind (Err f) = Err (fault_moved f.rule f.left at_length behind)

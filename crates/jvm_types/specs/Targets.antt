@@ -5,7 +5,7 @@ use Rattle.std.specs.declared.result.Result.{Result}
 use Rattle.std.specs.declared.result.Result.TheVariants.{Ok, Err}
 use Rattle.jvm_types.specs.ClassNames.{text_at, class_text_at, named_class, class_number, can_be_made}
 use Rattle.jvm_types.specs.Descriptors.{field_kind, method_signature}
-use Rattle.jvm_types.specs.Members.{Entry, Site, look_up, field_rule, call_rule}
+use Rattle.jvm_types.specs.Members.{Entry, MethodSite, look_up, field_rule, call_rule}
 use Rattle.jvm_types.specs.declared.call.Call.{Call}
 use Rattle.jvm_types.specs.declared.call.Call.TheVariants.{Virtual, Special, Static}
 use Rattle.jvm_types.specs.declared.class_file.Constant.{Constant}
@@ -49,24 +49,24 @@ member_descriptor pool (Some (constants.NameAndType name descriptor)) = text_at 
 member_descriptor pool entry = []
 
 -- a class by the index of its Class entry
-abbrev pub class_at : Scope → List Constant → ℕ → Option ℕ
-class_at s pool i = named_class s.names (class_text_at pool i)
+abbrev pub class_at_index : Scope → List Constant → ℕ → Option ℕ
+class_at_index s pool i = named_class s.names (class_text_at pool i)
 
 -- what a field constant names to an instruction for static fields or not, which writes or not (JVMS 5.4.3.2). A constant of
 -- another kind is not looked into.
-abbrev pub field_target : Scope → Site → List Constant → (static writes : Bool) → Option Constant → Result Target LRule
+abbrev pub field_target : Scope → MethodSite → List Constant → (static writes : Bool) → Option Constant → Result Target LRule
 field_target s site pool static writes (Some (constants.Field class member)) =
     let name : List ℕ = member_name pool (slice_get pool member) in
     let descriptor : List ℕ = member_descriptor pool (slice_get pool member) in
-    member_target (λ e. field_rule static writes site e.class e.flags) s.fields (class_at s pool class) (is_some (field_kind s.names descriptor)) name descriptor
+    member_target (λ e. field_rule static writes site e.class e.flags) s.fields (class_at_index s pool class) (is_some (field_kind s.names descriptor)) name descriptor
 field_target s site pool static writes entry = Err L2
 
 -- what a method constant names to a call (JVMS 5.4.3.3). An interface's method is a constant of another kind.
-abbrev pub method_target : Scope → Site → List Constant → Call → Option Constant → Result Target LRule
+abbrev pub method_target : Scope → MethodSite → List Constant → Call → Option Constant → Result Target LRule
 method_target s site pool call (Some (constants.Method class member)) =
     let name : List ℕ = member_name pool (slice_get pool member) in
     let descriptor : List ℕ = member_descriptor pool (slice_get pool member) in
-    member_target (λ e. call_rule call site e.class e.name e.flags) s.methods (class_at s pool class) (is_some (method_signature s.names descriptor)) name descriptor
+    member_target (λ e. call_rule call site e.class e.name e.flags) s.methods (class_at_index s pool class) (is_some (method_signature s.names descriptor)) name descriptor
 method_target s site pool call entry = Err L2
 
 -- ---- a number or a class
@@ -92,7 +92,7 @@ new_target s pool entry = Err L2
 
 -- ---- all instructions
 
-abbrev pub target_of : Scope → Site → List Constant → Op → Result Target LRule
+abbrev pub target_of : Scope → MethodSite → List Constant → Op → Result Target LRule
 target_of s site pool (Ldc i) = loaded_target (slice_get pool i)
 target_of s site pool (LdcW i) = loaded_target (slice_get pool i)
 target_of s site pool (Getstatic i) = field_target s site pool true false (slice_get pool i)
@@ -107,12 +107,12 @@ target_of s site pool op = Ok targets.Nothing
 
 -- ---- handler rows
 
-abbrev pub caught : Option ℕ → Result ℕ LRule
-caught None = Err L1
-caught (Some class) = Ok class
+abbrev pub class_or_fault : Option ℕ → Result ℕ LRule
+class_or_fault None = Err L1
+class_or_fault (Some class) = Ok class
 
 -- The class that a handler row catches (JVMS 4.7.3), 0 for every one. Any class with a number may stand there; that it is a
 -- throwable is for the verifier.
 abbrev pub catch_class : Scope → List Constant → ℕ → Result ℕ LRule
 catch_class s pool zero = Ok 0
-catch_class s pool (suc i) = caught (class_number s.names (class_text_at pool (suc i)))
+catch_class s pool (suc i) = class_or_fault (class_number s.names (class_text_at pool (suc i)))

@@ -103,5 +103,5 @@ abbrev pub receiver_types : MethodInfo → List VType
 receiver_types m = if is_static m.flags then [] else (if is_init m then This else Ref m.class) ∷ []
 
 -- the frame at pc 0; it has more locals than max_locals where the arguments do not fit
-abbrev pub entry_frame : MethodInfo → TypeFrame
-entry_frame m = record { stack = []; locals = filled m.max_locals (receiver_types m ++ map type_of m.args); ready = not (is_init m) }
+abbrev pub entry_type_frame : MethodInfo → TypeFrame
+entry_type_frame m = record { stack = []; locals = filled m.max_locals (receiver_types m ++ map type_of m.args); ready = not (is_init m) }

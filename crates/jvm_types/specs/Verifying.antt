@@ -10,7 +10,7 @@ use Rattle.jvm_types.specs.declared.op_row.Want.TheVariants.{AnyValue, AnInt, An
 use Rattle.jvm_types.specs.declared.op_row.OpRow.{OpRow}
 use Rattle.jvm_types.specs.CodeGrammar.{IsCode}
 use Rattle.jvm_types.specs.declared.class_file.Handler.{Handler}
-use Rattle.jvm_types.specs.Types.{TypeFrame, is_below, is_uninitialised, is_new, same_type, same_frame, frame_below, meet_frames, entry_frame}
+use Rattle.jvm_types.specs.Types.{TypeFrame, is_below, is_uninitialised, is_new, same_type, same_frame, frame_below, meet_frames, entry_type_frame}
 use Rattle.jvm_types.specs.declared.code.Insn.{Insn}
 use Rattle.jvm_types.specs.declared.code.Op.{Op}
 use Rattle.jvm_types.specs.declared.code.Op.TheVariants as ops
@@ -36,9 +36,9 @@ new_class (insn ∷ insns) (targets.Class class ∷ ts) pc = if insn.pc == pc th
 new_class (insn ∷ insns) (t ∷ ts) pc = new_class insns ts pc
 new_class insns ts pc = None
 
-abbrev pub is_class : Option ℕ → ℕ → Bool
-is_class None class = false
-is_class (Some c) class = c == class
+abbrev pub is_class_of : Option ℕ → ℕ → Bool
+is_class_of None class = false
+is_class_of (Some c) class = c == class
 
 -- V7: an uninitialised value where none may stand, or an `<init>` on an initialised one. `putfield` of a field
 -- of the own class on the uninitialised `this` is accepted, since javac writes it for inner classes.
@@ -59,7 +59,7 @@ suits m AnyReference t = is_uninitialised t || is_below t (Ref OBJECT_CLASS)
 suits m (AHolder class) This = class == m.class
 suits m (AHolder class) t = is_below t (Ref class)
 suits m (ToStart class) This = class == m.class || class == OBJECT_CLASS
-suits m (ToStart class) (New pc) = is_class (new_class m.code m.targets pc) class
+suits m (ToStart class) (New pc) = is_class_of (new_class m.code m.targets pc) class
 suits m (ToStart class) t = false
 
 -- whether some value that is taken, or the local that is read, has the fault
@@ -67,13 +67,13 @@ abbrev pub some_taken : (Want → VType → Bool) → List Want → List VType �
 some_taken fault (want ∷ wants) (t ∷ ts) = fault want t || some_taken fault wants ts
 some_taken fault wants ts = false
 
-abbrev pub at_local : (Want → VType → Bool) → Want → Option VType → Bool
-at_local fault want None = false
-at_local fault want (Some t) = fault want t
+abbrev pub is_fault_at_local : (Want → VType → Bool) → Want → Option VType → Bool
+is_fault_at_local fault want None = false
+is_fault_at_local fault want (Some t) = fault want t
 
 abbrev pub some_read : (Want → VType → Bool) → Option (ℕ × Want) → List VType → Bool
 some_read fault None locals = false
-some_read fault (Some read) locals = at_local fault read.1 (slice_get locals read.0)
+some_read fault (Some read) locals = is_fault_at_local fault read.1 (slice_get locals read.0)
 
 abbrev pub some_operand : (Want → VType → Bool) → OpRow → TypeFrame → Bool
 some_operand fault r f = some_taken fault r.takes f.stack || some_read fault r.reads f.locals
@@ -209,7 +209,7 @@ node_at nodes i = unwrapped (slice_get nodes i)
 -- at the start pc 0 waits with the entry frame
 abbrev pub first_nodes : MethodInfo → List Insn → List Node
 first_nodes m [] = []
-first_nodes m (insn ∷ insns) = record { frame = Some (entry_frame m); waits = true } ∷ map (λ other. record { frame = None; waits = false }) insns
+first_nodes m (insn ∷ insns) = record { frame = Some (entry_type_frame m); waits = true } ∷ map (λ other. record { frame = None; waits = false }) insns
 
 -- an edge brings a frame
 abbrev pub node_met : Node → Option TypeFrame → TypeFrame → Node
@@ -325,21 +325,21 @@ frame_at (insn ∷ insns) (frame ∷ frames) pc = if insn.pc == pc then frame el
 frame_at insns frames pc = None
 
 -- the frame that an edge brings is at or below the frame at its target
-abbrev pub Fits : List Insn → List (Option TypeFrame) → TypeFrame → ℕ → Type 0
-Fits code frames f to = IsSomeAnd (frame_at code frames to) (λ g. IsTrue (frame_below f g))
+abbrev pub FrameFits : List Insn → List (Option TypeFrame) → TypeFrame → ℕ → Type 0
+FrameFits code frames f to = IsSomeAnd (frame_at code frames to) (λ g. IsTrue (frame_below f g))
 
 -- at an instruction with this frame no rule is broken, and each edge fits the frame at its target
 pub record IsSound (m : MethodInfo) (insn : Insn) (r : OpRow) (frames : List (Option TypeFrame)) (f : TypeFrame) : Type 0 where
   pub before : broken_before m insn r f ≡ None
   pub after : broken_after m insn ≡ None
-  pub edges_fit : AllByRecursion (Fits m.code frames (frame_after m r f)) (edges insn)
+  pub edges_fit : AllByRecursion (FrameFits m.code frames (frame_after m r f)) (edges insn)
   pub rows_hold : AllByRecursion (λ handler. catch_fault m insn.pc handler ≡ None) (covering m insn.pc)
-  pub handlers_fit : AllByRecursion (λ handler. Fits m.code frames (frame_at_handler handler f) handler.handler) (covering m insn.pc)
+  pub handlers_fit : AllByRecursion (λ handler. FrameFits m.code frames (frame_at_handler handler f) handler.handler) (covering m insn.pc)
 
 -- an assignment of frames that meets all rows and edges, and under which no instruction breaks a rule
 pub record IsAssignment (p : Program) (m : MethodInfo) (frames : List (Option TypeFrame)) : Type 0 where
   pub long : length frames ≡ length m.code
-  pub entry : Fits m.code frames (entry_frame m) 0
+  pub entry : FrameFits m.code frames (entry_type_frame m) 0
   pub sound : (i : ℕ) (insn : Insn) (target : Target) (f : TypeFrame) → slice_get m.code i ≡ Some insn → slice_get m.targets i ≡ Some target
       → slice_get frames i ≡ Some (Some f) → IsSound m insn (row p m insn.pc target insn.op) frames f
 

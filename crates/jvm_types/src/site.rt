@@ -12,7 +12,7 @@ pub struct Site<'a> {
 }
 
 impl<'a> Model for Site<'a> {
-    ghost use Rattle.jvm_types.specs.Members.{Site as Standing};
+    ghost use Rattle.jvm_types.specs.Members.{MethodSite as Standing};
 
     ghost Value = { Standing };
 

@@ -19,7 +19,7 @@ use Rattle.machine_types.specs.Worlds.{Begun, Builder, builder, World}
 use Rattle.machine_types.specs.declared.config.Config.{Config}
 use Rattle.machine_types.specs.declared.phase.Phase.{Phase}
 use Rattle.laws_threads.specs.PartLaws.{NextKeepsStructure, counted_next}
-use Rattle.laws_threads.specs.StateLaws.{counted_at, counted_after}
+use Rattle.laws_threads.specs.StateLaws.{counted_phase_at, counted_after}
 use Rattle.laws_threads.specs.StructureLaws.{StructureIsKept}
 use Rattle.laws_states.specs.ChangeLaws.{EventsLeaveOthers, all_objects, run_objects}
 use Rattle.laws_states.specs.HeapFacts.{objects_of, objects_after}
@@ -151,10 +151,10 @@ module _ (laws : AreBuiltLaws) (c : MarkedProgram) (cfg : Config) (frozen : ℕ 
     found = found_by s.words (wanted c x x.phase)
 
     abbrev Behind : Option Thread → Type 0
-    Behind o = LostThere c cfg frozen v (objects_of c.program o objects) (counted_at was t (event_of c s t o).threads) (event_of c s t o)
+    Behind o = LostThere c cfg frozen v (objects_of c.program o objects) (counted_phase_at was t (event_of c s t o).threads) (event_of c s t o)
 
-    facts_so : StateFacts c cfg (objects_of c.program (Some x) objects) (counted_at was t (event_of c s t (Some x)).threads) (event_of c s t (Some x))
-    facts_so = subst (λ (o : Option Thread). StateFacts c cfg (objects_of c.program o objects) (counted_at was t (event_of c s t o).threads) (event_of c s t o)) here (laws.events_state c cfg objects was s t marked width k.facts)
+    facts_so : StateFacts c cfg (objects_of c.program (Some x) objects) (counted_phase_at was t (event_of c s t (Some x)).threads) (event_of c s t (Some x))
+    facts_so = subst (λ (o : Option Thread). StateFacts c cfg (objects_of c.program o objects) (counted_phase_at was t (event_of c s t o).threads) (event_of c s t o)) here (laws.events_state c cfg objects was s t marked width k.facts)
 
     pub lost_behind : (u : IsUnwound (was t) x (moved c x x.phase found)) → (moved c x x.phase found).attempt ≡ None → (i : IsInitOn c v u.frame) → frozen i.method.class ≡ true → k.world v ≡ Some (builder t (length u.below) Begun)
         → LostThere c cfg frozen v (objects_after c.program s t objects) (counted_after c was s t) (event c s t)

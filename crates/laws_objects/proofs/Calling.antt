@@ -6,9 +6,9 @@ use Rattle.std.proofs.lemmas.Bool.Decides.{nat_tests}
 use Rattle.std.proofs.lemmas.List.{length-append}
 use Rattle.lists.proofs.ListLaws.{same_some}
 use Rattle.jvm_types.specs.CodeTable.{arguments, is_init}
-use Rattle.jvm_types.specs.Members.{Site, is_static, is_init_name, is_class_init_name}
+use Rattle.jvm_types.specs.Members.{MethodSite, is_static, is_init_name, is_class_init_name}
 use Rattle.jvm_types.specs.ProgramInvariant.{site_in}
-use Rattle.jvm_types.specs.Verifying.{suits, new_class, is_class, started}
+use Rattle.jvm_types.specs.Verifying.{suits, new_class, is_class_of, started}
 use Rattle.jvm_types.specs.declared.class_numbers.TheConstants.{OBJECT_CLASS}
 use Rattle.jvm_types.specs.declared.code.Op.{Op}
 use Rattle.jvm_types.specs.declared.code.Op.TheVariants as ops
@@ -72,7 +72,7 @@ taken_at Old (want ∷ front) class [] v h e = absurd (cc)
 taken_at Old (want ∷ front) class (x ∷ s) v h e = taken_at Old front class s v h.1 e
 
 -- a static method that is called is no `<init>`
-static_no_init : (p : Program) (site : Site) (pc number : ℕ) (op : Op) (target : Target) (r : OpRow) (called : MethodInfo) → called_method op target ≡ Some number → slice_get p.methods number ≡ Some called → HasRow p site pc target op r
+static_no_init : (p : Program) (site : MethodSite) (pc number : ℕ) (op : Op) (target : Target) (r : OpRow) (called : MethodInfo) → called_method op target ≡ Some number → slice_get p.methods number ≡ Some called → HasRow p site pc target op r
     → is_static called.flags ≡ true → is_init called ≡ false
 static_no_init p site pc number (ops.Invokevirtual i) (targets.Method u) r called e there h s =
     let same : h.method ≡ called = same_some (sym h.there ∙ ap (slice_get p.methods) (same_some e) ∙ there) in
@@ -96,7 +96,7 @@ not_built frozen m e = ap (λ (b : Bool). b && frozen m.class) e
 built : (frozen : ℕ → Bool) (m : MethodInfo) → is_init m ≡ true → builds frozen m ≡ frozen m.class
 built frozen m e = ap (λ (b : Bool). b && frozen m.class) e
 
-class_frozen : (frozen : ℕ → Bool) (o : Option ℕ) (class : ℕ) → is_class o class ≡ true → is_frozen_class frozen o ≡ frozen class
+class_frozen : (frozen : ℕ → Bool) (o : Option ℕ) (class : ℕ) → is_class_of o class ≡ true → is_frozen_class frozen o ≡ frozen class
 class_frozen frozen None class e = absurd (cc)
 class_frozen frozen (Some d) class e = ap frozen (same d class e)
   where
@@ -210,7 +210,7 @@ module _ (c : MarkedProgram) (marked : IsMarked c) (frozen : ℕ → Bool) (are 
       begun_is o e = ap (λ (ws : List Want). started m.class ws k.stands.types.stack) takes_start ∙ e
 
       -- what a `new` of the caller made
-      calls_new : (y : Bool) → frozen called.class ≡ y → (q : ℕ) → is_class (new_class m.code m.targets q) called.class ≡ true → started m.class r.takes k.stands.types.stack ≡ Some (types.New q, called.class)
+      calls_new : (y : Bool) → frozen called.class ≡ y → (q : ℕ) → is_class_of (new_class m.code m.targets q) called.class ≡ true → started m.class r.takes k.stands.types.stack ≡ Some (types.New q, called.class)
           → SlotByType (IsFinished w next) (IsFresh w t (length fs) Runs) (makes_frozen frozen m) (types.New q) a → Steps w next t (CallKeeps (a ∷ rest))
       calls_new false e q of begun s =
           let young : makes_frozen frozen m q ≡ false = class_frozen frozen (new_class m.code m.targets q) called.class of ∙ e in

@@ -117,11 +117,11 @@ module _ (c : MarkedProgram) (marked : IsMarked c) (frozen : ℕ → Bool) (are 
 
   -- with the slots of its locals
   enters : (args : List ℕ) → ReceiverIs w next t h (builds frozen called) (entry_frame number called args).receiver
-      → SlotsAre (SlotOf frozen w next t h Runs called (entry_frame number called args).receiver) (types.entry_frame called).locals (entry_tags called).locals (entry_frame number called args).locals
+      → SlotsAre (SlotOf frozen w next t h Runs called (entry_frame number called args).receiver) (types.entry_type_frame called).locals (entry_tags called).locals (entry_frame number called args).locals
       → FrameKeeps c frozen w next t h Runs (entry_frame number called args)
   enters args receiver locals =
       let at = method_at c marked number called there in
-      land c marked frozen are w next t h null (entry_frame number called args) called at.frames at.tags (types.entry_frame called) (entry_tags called) there at.its_types at.its_tags at.holds.types.entry at.holds.sound.entry
+      land c marked frozen are w next t h null (entry_frame number called args) called at.frames at.tags (types.entry_type_frame called) (entry_tags called) there at.its_types at.its_tags at.holds.types.entry at.holds.sound.entry
       (entry_joined args) receiver tt locals
 
   -- a static method, also a root
@@ -129,7 +129,7 @@ module _ (c : MarkedProgram) (marked : IsMarked c) (frozen : ℕ → Bool) (are 
   static_enters args static own few old =
       enters args
       (subst (λ (b : Bool). ReceiverIs w next t h b (entry_frame number called args).receiver) (sym own) (subst (IsFinished w next) (sym receiver) null))
-      (subst (λ (gs : List Tag). SlotsAre (SlotOf frozen w next t h Runs called (entry_frame number called args).receiver) (types.entry_frame called).locals gs (entry_frame number called args).locals) (sym tags_are)
+      (subst (λ (gs : List Tag). SlotsAre (SlotOf frozen w next t h Runs called (entry_frame number called args).receiver) (types.entry_type_frame called).locals gs (entry_frame number called args).locals) (sym tags_are)
       (subst (λ (us : List VType). SlotsAre (SlotOf frozen w next t h Runs called (entry_frame number called args).receiver) us (replicate called.max_locals Untagged) (entry_frame number called args).locals) (sym types_are)
       (args_slots (IsFinished w next) null (IsFresh w t h Runs) (builds frozen called) (makes_frozen frozen called) (entry_frame number called args).receiver called.args args called.max_locals few old)))
     where
@@ -139,7 +139,7 @@ module _ (c : MarkedProgram) (marked : IsMarked c) (frozen : ℕ → Bool) (are 
       tags_are : (entry_tags called).locals ≡ replicate called.max_locals Untagged
       tags_are = ap (λ (b : Bool). if b then replicate called.max_locals Untagged else This ∷ replicate (called.max_locals - 1) Untagged) static
 
-      types_are : (types.entry_frame called).locals ≡ map type_of called.args ++ replicate (called.max_locals - length called.args) vtypes.Top
+      types_are : (types.entry_type_frame called).locals ≡ map type_of called.args ++ replicate (called.max_locals - length called.args) vtypes.Top
       types_are = let l = length-map called.args type_of in
           ap (λ (b : Bool). types.filled called.max_locals ((if b then [] else (if is_init called then vtypes.This else vtypes.Ref called.class) ∷ []) ++ map type_of called.args)) static
           ∙ ap (λ (n : ℕ). map type_of called.args ++ replicate (called.max_locals - n) vtypes.Top) l
@@ -160,7 +160,7 @@ module _ (c : MarkedProgram) (marked : IsMarked c) (frozen : ℕ → Bool) (are 
       → FrameKeeps c frozen w next t h Runs (entry_frame number called (a ∷ args))
   instance_enters a args static few old stands =
       enters (a ∷ args) (subst (ReceiverIs w next t h (builds frozen called)) (sym receiver) stands)
-      (subst (λ (gs : List Tag). SlotsAre (Is (entry_frame number called (a ∷ args)).receiver) (types.entry_frame called).locals gs (entry_frame number called (a ∷ args)).locals) (sym tags_are)
+      (subst (λ (gs : List Tag). SlotsAre (Is (entry_frame number called (a ∷ args)).receiver) (types.entry_type_frame called).locals gs (entry_frame number called (a ∷ args)).locals) (sym tags_are)
       (subst (λ (us : List VType). SlotsAre (Is (entry_frame number called (a ∷ args)).receiver) us (This ∷ replicate (called.max_locals - 1) Untagged) (entry_frame number called (a ∷ args)).locals) (sym types_are)
       (subst (λ (vs : List ℕ). SlotsAre (Is (entry_frame number called (a ∷ args)).receiver) (first ∷ map type_of called.args ++ replicate (called.max_locals - 1 - length called.args) vtypes.Top) (This ∷ replicate (called.max_locals - 1) Untagged) vs) (sym values_are) (
         subst (λ (x : ℕ). SlotIs (IsFinished w next) (IsFresh w t h Runs) (builds frozen called) (makes_frozen frozen called) x first This a) (sym receiver) (first_slot (builds frozen called) (is_init called) a stands),
@@ -173,7 +173,7 @@ module _ (c : MarkedProgram) (marked : IsMarked c) (frozen : ℕ → Bool) (are 
       tags_are : (entry_tags called).locals ≡ This ∷ replicate (called.max_locals - 1) Untagged
       tags_are = ap (λ (b : Bool). if b then replicate called.max_locals Untagged else This ∷ replicate (called.max_locals - 1) Untagged) static
 
-      types_are : (types.entry_frame called).locals ≡ first ∷ map type_of called.args ++ replicate (called.max_locals - 1 - length called.args) vtypes.Top
+      types_are : (types.entry_type_frame called).locals ≡ first ∷ map type_of called.args ++ replicate (called.max_locals - 1 - length called.args) vtypes.Top
       types_are = let l = length-map called.args type_of in
           ap (λ (b : Bool). types.filled called.max_locals ((if b then [] else first ∷ []) ++ map type_of called.args)) static
           ∙ ap (λ (n : ℕ). first ∷ map type_of called.args ++ replicate n vtypes.Top) (omega (arith, l))

@@ -22,7 +22,7 @@ use Rattle.machine_types.specs.Typed.{FramesHold, PhaseHolds, HasClass}
 use Rattle.machine_types.specs.Worlds.{Lost, Builder, World, GoesOn}
 use Rattle.machine_types.specs.declared.phase.Phase.{Phase}
 use Rattle.machine_types.specs.declared.phase.Phase.TheVariants as phases
-use Rattle.laws_threads.specs.StateLaws.{counted_of, counted_at}
+use Rattle.laws_threads.specs.StateLaws.{counted_of, counted_phase_at}
 use Rattle.laws_threads.specs.StructureLaws.{StaysStructured, StructureIsKept, counted_by}
 use Rattle.laws_states.specs.HeapFacts.{objects_by, objects_of}
 use Rattle.laws_states.specs.Sites.{ReachesIf}
@@ -52,8 +52,8 @@ module _ (lies : StartLiesApart) (structure : StructureIsKept) (c : MarkedProgra
   pub record BuildsFor (o : Option Thread) : Type 0 where
     pub later : World
     pub goes_on : GoesOn w later (slice_index s.words NEXT_FREE_WORD) (slice_index (event_of c s t o).words NEXT_FREE_WORD) t 0
-    pub keeps : Construction c frozen later (counted_at was t (event_of c s t o).threads) (objects_of c.program o objects) (event_of c s t o)
-    pub lost : (v : ℕ) (b : Builder) → LostIn c frozen w was objects s con v b → LostIn c frozen later (counted_at was t (event_of c s t o).threads) (objects_of c.program o objects) (event_of c s t o) keeps v b
+    pub keeps : Construction c frozen later (counted_phase_at was t (event_of c s t o).threads) (objects_of c.program o objects) (event_of c s t o)
+    pub lost : (v : ℕ) (b : Builder) → LostIn c frozen w was objects s con v b → LostIn c frozen later (counted_phase_at was t (event_of c s t o).threads) (objects_of c.program o objects) (event_of c s t o) keeps v b
 
   -- a thread behind it
   pub record Kept (IsLost : ℕ → Builder → Type 0) (later : World) (more u : ℕ) (phase : Phase) (y : Thread) : Type 0 where
@@ -192,10 +192,10 @@ module _ (lies : StartLiesApart) (structure : StructureIsKept) (c : MarkedProgra
           by_place (inr k) true g = absurd (k.0 (eqb-true u t g))
           by_place (inr k) false g = other u y k.0 k.1
 
-      abbrev pub built : Construction c frozen moves.later (counted_at was t (event_of c s t (Some x)).threads) (objects_of c.program (Some x) objects) (event_of c s t (Some x))
+      abbrev pub built : Construction c frozen moves.later (counted_phase_at was t (event_of c s t (Some x)).threads) (objects_of c.program (Some x) objects) (event_of c s t (Some x))
       built = record { frozen_are = con.frozen_are; world = moves.world con.world; each = λ u y f. (by_number u y f (u == t) refl).keeps; places = places }
 
-      pub loses : (v : ℕ) (b : Builder) → IsLost v b → LostIn c frozen moves.later (counted_at was t (event_of c s t (Some x)).threads) (objects_of c.program (Some x) objects) (event_of c s t (Some x)) built v b
+      pub loses : (v : ℕ) (b : Builder) → IsLost v b → LostIn c frozen moves.later (counted_phase_at was t (event_of c s t (Some x)).threads) (objects_of c.program (Some x) objects) (event_of c s t (Some x)) built v b
       loses v b l = record { item = l.item; is = l.behind; seen = λ u y f. (by_number u y f (u == t) refl).lost v b l }
 
       pub one_thread : BuildsFor (Some x)

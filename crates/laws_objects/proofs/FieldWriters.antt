@@ -42,7 +42,7 @@ use Rattle.machine_types.specs.declared.lock.Kept.{Kept}
 use Rattle.machine_types.specs.declared.lock.Kept.TheVariants as keeps
 use Rattle.machine_types.specs.declared.phase.Phase.{Phase}
 use Rattle.machine_types.specs.declared.phase.Phase.TheVariants as phases
-use Rattle.laws_threads.specs.Allowed.{IsFieldAt, TakenHold, Allowed}
+use Rattle.laws_threads.specs.Allowed.{IsNamedField, TakenHold, Allowed}
 use Rattle.laws_threads.proofs.Landing.{stand_top}
 use Rattle.laws_threads.proofs.Onwards.{same_op}
 use Rattle.laws_threads.proofs.TopStand.{top_here}
@@ -122,7 +122,7 @@ module _ (differ : SitesDiffer) (c : MarkedProgram) (objects : List Object) (s :
     number_is : number ≡ fi
     reference_is : reference ≡ o.reference
 
-  module _ (target : Target) (v : Variable) (f : FieldInfo) (at : IsFieldAt c.program (HasClass objects) target v f) where
+  module _ (target : Target) (v : Variable) (f : FieldInfo) (at : IsNamedField c.program (HasClass objects) target v f) where
     same_place : variable_word v ≡ value_word o.reference field.index → IsPlace at.number f at.reference
     same_place word = by_flag (is_static f.flags) refl (ap variable_word (sym at.variable) ∙ word)
       where
@@ -148,7 +148,7 @@ module _ (differ : SitesDiffer) (c : MarkedProgram) (objects : List Object) (s :
   -- ---- an instruction
 
   module _ (access : Access) (got : ℕ) (word : accessed access ≡ value_word o.reference field.index) where
-    module _ (f : Frame) (k : Standing c f) (v : Variable) (n : ℕ) (e : effect c.program k.insn.next k.target k.insn.op f.locals f.stack ≡ Writes v n) (g : FieldInfo) (at : IsFieldAt c.program (HasClass objects) k.target v g) where
+    module _ (f : Frame) (k : Standing c f) (v : Variable) (n : ℕ) (e : effect c.program k.insn.next k.target k.insn.op f.locals f.stack ≡ Writes v n) (g : FieldInfo) (at : IsNamedField c.program (HasClass objects) k.target v g) where
       names_field : IsTargetOf c.program (site_in k.method) k.insn.op (targets.Field at.number)
       names_field =
           let found = have_targets c.program f.method k.number k.method k.insn is_program k.at.in_program k.at.in_code in

@@ -17,7 +17,7 @@ use Rattle.jvm_types.specs.declared.program.Row.{Row}
 use Rattle.checked_program.specs.MarkedProgram.{MarkedProgram}
 use Rattle.machine_types.specs.Construction.{Throws as Loose, FramesKeep, PhaseKeepsFrames, PhaseKeeps}
 use Rattle.machine_types.specs.Elision.{may_try, begins, tries, put_back, fails, is_same, if_same, elided, is_checked}
-use Rattle.machine_types.specs.Events.{started, element_made, moved}
+use Rattle.machine_types.specs.Events.{thread_started, element_made, moved}
 use Rattle.machine_types.specs.Frames.{Top, top_of, frames_of, went, went_on, waiting, taken_from, making, pushed, has_room, entry_frame, arguments_of, monitor_of, returned, handler_at, effect_at}
 use Rattle.machine_types.specs.Going.{with_phase, runs, failed_turn, goes_on, goes_on_if}
 use Rattle.machine_types.specs.HeldMonitors.{held_at, with_held, without_held, deeper, shallower}
@@ -437,7 +437,7 @@ module _ (c : MarkedProgram) (was : Phase) (x : Thread) where
   turned : (phase : Phase) → Go (failed_turn x phase)
   turned phase = same (failed_turn x phase) refl refl
 
-  started_goes : x.frames ≡ [] → (roots : List ℕ) → Go (started c.program x roots)
+  started_goes : x.frames ≡ [] → (roots : List ℕ) → Go (thread_started c.program x roots)
   started_goes none [] = same x refl refl
   started_goes none (number ∷ roots) = by_root (option_map (rooted c.program x.number number) (slice_get c.program.methods number))
     where

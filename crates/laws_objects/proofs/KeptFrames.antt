@@ -6,7 +6,7 @@ use Rattle.jvm_types.specs.declared.typing.VType.{VType}
 use Rattle.jvm_types.specs.declared.typing.VType.TheVariants as types
 use Rattle.checked_program.specs.MarkedProgram.{MarkedProgram}
 use Rattle.checked_program.specs.declared.tag.Tag.{Tag}
-use Rattle.machine_types.specs.Construction.{if_so, builds, makes_frozen, SlotsAre, Turn, Runs, WaitsFor, Throws, FreshAtCall, IsFresh, ReceiverIs, SlotOf, StackIs, FrameKeeps, WaitKeeps, KeepBelow, FramesKeep, made_world, MadeKeeps, PhaseKeepsFrames, turn_by, AfterKeeps, TowardKeeps, PhaseKeeps, AttemptKeepsIn}
+use Rattle.machine_types.specs.Construction.{if_so, builds, makes_frozen, SlotsAre, BuilderTurn, Runs, WaitsFor, Throws, FreshAtCall, IsFresh, ReceiverIs, SlotOf, StackIs, FrameKeeps, WaitKeeps, KeepBelow, FramesKeep, made_world, MadeKeeps, PhaseKeepsFrames, turn_by, AfterKeeps, TowardKeeps, PhaseKeeps, AttemptKeepsIn}
 use Rattle.machine_types.specs.Elision.{put_back}
 use Rattle.machine_types.specs.Frames.{pushed}
 use Rattle.machine_types.specs.Standing.{row_at}
@@ -46,12 +46,12 @@ module _ (c : MarkedProgram) (frozen : ℕ → Bool) (w z : World) (next more t 
   at_call_kept h receiver (Some (types.Ref d, class)) keeps q v f = keeps v (Made q) f
   at_call_kept h receiver (Some (types.Top, class)) keeps q v f = keeps v (Made q) f
 
-  fresh_kept : (h : ℕ) (turn : Turn) → KeepsAt w z t h → (q v : ℕ) → IsFresh w t h turn q v → IsFresh z t h turn q v
+  fresh_kept : (h : ℕ) (turn : BuilderTurn) → KeepsAt w z t h → (q v : ℕ) → IsFresh w t h turn q v → IsFresh z t h turn q v
   fresh_kept h Runs keeps q v f = keeps v (Made q) f
   fresh_kept h (WaitsFor receiver begun) keeps q v f = at_call_kept h receiver begun keeps q v f
   fresh_kept h Throws keeps q v f = tt
 
-  slots_kept : (h : ℕ) (turn : Turn) → KeepsAt w z t h → (m : MethodInfo) (receiver : ℕ) (ts : List VType) (gs : List Tag) (vs : List ℕ)
+  slots_kept : (h : ℕ) (turn : BuilderTurn) → KeepsAt w z t h → (m : MethodInfo) (receiver : ℕ) (ts : List VType) (gs : List Tag) (vs : List ℕ)
       → SlotsAre (SlotOf frozen w next t h turn m receiver) ts gs vs → SlotsAre (SlotOf frozen z more t h turn m receiver) ts gs vs
   slots_kept h turn keeps m receiver ts gs vs a = slots_map (SlotOf frozen w next t h turn m receiver) (SlotOf frozen z more t h turn m receiver)
       (slot_later (IsFinished w next) (IsFinished z more) (IsFresh w t h turn) (IsFresh z t h turn) old (makes_frozen frozen m) (λ q v y f. fresh_kept h turn keeps q v f) (builds frozen m) receiver) ts gs vs a
@@ -60,13 +60,13 @@ module _ (c : MarkedProgram) (frozen : ℕ → Bool) (w z : World) (next more t 
   receiver_kept h keeps true a r = keeps a Begun r
   receiver_kept h keeps false a r = old a r
 
-  stack_kept : (h : ℕ) (turn : Turn) → KeepsAt w z t h → (m : MethodInfo) (receiver n : ℕ) (ts : List VType) (gs : List Tag) (vs : List ℕ)
+  stack_kept : (h : ℕ) (turn : BuilderTurn) → KeepsAt w z t h → (m : MethodInfo) (receiver n : ℕ) (ts : List VType) (gs : List Tag) (vs : List ℕ)
       → StackIs (SlotOf frozen w next t h turn m receiver) turn n ts gs vs → StackIs (SlotOf frozen z more t h turn m receiver) turn n ts gs vs
   stack_kept h Throws keeps m receiver n ts gs vs a = tt
   stack_kept h Runs keeps m receiver n ts gs vs a = slots_kept h Runs keeps m receiver ts gs vs a
   stack_kept h (WaitsFor b o) keeps m receiver n ts gs vs a = slots_kept h (WaitsFor b o) keeps m receiver (drop n ts) (drop n gs) vs a
 
-  pub frame_kept : (h : ℕ) (turn : Turn) (f : Frame) → KeepsAt w z t h → FrameKeeps c frozen w next t h turn f → FrameKeeps c frozen z more t h turn f
+  pub frame_kept : (h : ℕ) (turn : BuilderTurn) (f : Frame) → KeepsAt w z t h → FrameKeeps c frozen w next t h turn f → FrameKeeps c frozen z more t h turn f
   frame_kept h turn f keeps k = record {
     stands = k.stands;
     receiver = receiver_kept h keeps (builds frozen k.stands.method) f.receiver k.receiver;
@@ -82,7 +82,7 @@ module _ (c : MarkedProgram) (frozen : ℕ → Bool) (w z : World) (next more t 
   below_kept g [] keeps k = tt
   below_kept g (f ∷ fs) keeps k = (wait_kept (length fs) g.method g.receiver f (keeps (length fs) (omega arith)) k.0, below_kept f fs (λ h l. keeps h (omega (arith, l))) k.1)
 
-  pub frames_kept : (turn : Turn) (fs : List Frame) → KeepsUnder w z t (length fs) → FramesKeep c frozen w next t turn fs → FramesKeep c frozen z more t turn fs
+  pub frames_kept : (turn : BuilderTurn) (fs : List Frame) → KeepsUnder w z t (length fs) → FramesKeep c frozen w next t turn fs → FramesKeep c frozen z more t turn fs
   frames_kept turn [] keeps k = tt
   frames_kept turn (f ∷ fs) keeps k = (frame_kept (length fs) turn f (keeps (length fs) (omega arith)) k.0, below_kept f fs (λ h l. keeps h (omega (arith, l))) k.1)
 

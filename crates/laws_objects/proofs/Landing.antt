@@ -56,7 +56,7 @@ module _ (c : MarkedProgram) (marked : IsMarked c) (frozen : ℕ → Bool) (are 
 
   module _ (w : World) (next t h : ℕ) (null : IsFinished w next 0) where
     pub land : (g : Frame) (m : MethodInfo) (frames : List (Option TypeFrame)) (tags : List (Option TagShape)) (after : TypeFrame) (brought : TagShape) → slice_get c.program.methods g.method ≡ Some m
-        → slice_get (map (λ t. t.frames) c.typings) g.method ≡ Some frames → slice_get (tags_of c) g.method ≡ Some tags → types.Fits m.code frames after g.pc → visits.Fits IsShapeBelow m.code tags brought g.pc → IsJoined g m brought
+        → slice_get (map (λ t. t.frames) c.typings) g.method ≡ Some frames → slice_get (tags_of c) g.method ≡ Some tags → types.FrameFits m.code frames after g.pc → visits.EdgeFits IsShapeBelow m.code tags brought g.pc → IsJoined g m brought
         → ReceiverIs w next t h (builds frozen m) g.receiver → SlotsAre (SlotOf frozen w next t h Runs m g.receiver) after.stack brought.stack g.stack → SlotsAre (SlotOf frozen w next t h Runs m g.receiver) after.locals brought.locals g.locals
         → FrameKeeps c frozen w next t h Runs g
     land g m frames tags after brought e ty u fits below joined receiver stack locals =

@@ -9,7 +9,7 @@ use Rattle.jvm_types.specs.ProgramInvariant.{words_of}
 use Rattle.jvm_types.specs.declared.outcome.Thrown.{Thrown}
 use Rattle.jvm_types.specs.declared.program.MethodInfo.{MethodInfo}
 use Rattle.checked_program.specs.MarkedProgram.{MarkedProgram}
-use Rattle.machine_types.specs.Construction.{builds, Throws as Loose, Turn, ReceiverIs, FrameKeeps, KeepBelow, FramesKeep, ThreadKeeps}
+use Rattle.machine_types.specs.Construction.{builds, Throws as Loose, BuilderTurn, ReceiverIs, FrameKeeps, KeepBelow, FramesKeep, ThreadKeeps}
 use Rattle.machine_types.specs.Going.{goes_on}
 use Rattle.machine_types.specs.Onward.{unwound}
 use Rattle.machine_types.specs.Threads.{Frame, Thread}
@@ -88,7 +88,7 @@ module _ (w : World) (v t : ℕ) (b : Builder) (is : w v ≡ Some b) (mine : b.t
 
 -- ---- the receiver of an `<init>` of a frozen class is begun
 
-pub init_begun : (c : MarkedProgram) (frozen : ℕ → Bool) (w : World) (next t h v : ℕ) (turn : Turn) (f : Frame) → FrameKeeps c frozen w next t h turn f → (k : IsInitOn c v f) → frozen k.method.class ≡ true → w v ≡ Some (builder t h Begun)
+pub init_begun : (c : MarkedProgram) (frozen : ℕ → Bool) (w : World) (next t h v : ℕ) (turn : BuilderTurn) (f : Frame) → FrameKeeps c frozen w next t h turn f → (k : IsInitOn c v f) → frozen k.method.class ≡ true → w v ≡ Some (builder t h Begun)
 init_begun c frozen w next t h v turn f kept k young =
     let same : k.method ≡ kept.stands.method = same_some (sym k.there ∙ kept.stands.at.in_program) in
     let own : builds frozen kept.stands.method ≡ true = subst (λ (m : MethodInfo). builds frozen m ≡ true) same (both_true (is_init k.method) (frozen k.method.class) k.init young) in

@@ -7,7 +7,7 @@ use Rattle.std.proofs.lemmas.Bool.Decides.{nat_tests}
 use Rattle.jvm_types.specs.CodeTable.{row, stack_after, locals_after}
 use Rattle.jvm_types.specs.Numbers.{has_number}
 use Rattle.jvm_types.specs.Types.{TypeFrame, same_type}
-use Rattle.jvm_types.specs.Verifying.{suits, some_taken, some_read, new_class, is_class, started, initialised, after_start, frame_after, edges}
+use Rattle.jvm_types.specs.Verifying.{suits, some_taken, some_read, new_class, is_class_of, started, initialised, after_start, frame_after, edges}
 use Rattle.jvm_types.specs.declared.code.Op.{Op}
 use Rattle.jvm_types.specs.declared.code.Op.TheVariants as ops
 use Rattle.jvm_types.specs.declared.op_row.OpRow.{OpRow}
@@ -55,7 +55,7 @@ pub record StartsYoung (m : MethodInfo) (young : ℕ → Bool) (o : Option (VTyp
   pub class : ℕ
   pub is : o ≡ Some (types.New pc, class)
   pub young_is : young pc ≡ true
-  pub of_class : is_class (new_class m.code m.targets pc) class ≡ true
+  pub of_class : is_class_of (new_class m.code m.targets pc) class ≡ true
 
 abbrev pub Suit : MethodInfo → List Want → List VType → Type 0
 Suit m wants ts = some_taken (λ want t. not (suits m want t)) wants ts ≡ false
@@ -67,7 +67,7 @@ module _ (m : MethodInfo) (young : ℕ → Bool) where
   abbrev pub Starts : Option (VType × ℕ) → Type 0
   Starts o = StartsOld young o ⊎ StartsYoung m young o
 
-  new_starts : (q class : ℕ) → is_class (new_class m.code m.targets q) class ≡ true → Starts (Some (types.New q, class))
+  new_starts : (q class : ℕ) → is_class_of (new_class m.code m.targets q) class ≡ true → Starts (Some (types.New q, class))
   new_starts q class e = by_test (young q) refl
     where
       by_test : (b : Bool) → young q ≡ b → Starts (Some (types.New q, class))
@@ -78,7 +78,7 @@ module _ (m : MethodInfo) (young : ℕ → Bool) where
   starts [] ts h = inl tt
   starts (ToStart class ∷ wants) (types.This ∷ ts) h = inl tt
   starts (ToStart class ∷ wants) (types.New q ∷ ts) h =
-      new_starts q class (is_true (is_class (new_class m.code m.targets q) class) (or_parts (not (is_class (new_class m.code m.targets q) class)) (some_taken (λ want t. not (suits m want t)) wants ts) h).0)
+      new_starts q class (is_true (is_class_of (new_class m.code m.targets q) class) (or_parts (not (is_class_of (new_class m.code m.targets q) class)) (some_taken (λ want t. not (suits m want t)) wants ts) h).0)
   starts (AnyValue ∷ wants) (t ∷ ts) h = starts wants ts (suits_later m AnyValue t wants ts h)
   starts (AnInt ∷ wants) (t ∷ ts) h = starts wants ts (suits_later m AnInt t wants ts h)
   starts (AnyReference ∷ wants) (t ∷ ts) h = starts wants ts (suits_later m AnyReference t wants ts h)

@@ -8,7 +8,7 @@ use Rattle.jvm_types.specs.declared.op_row.Given.{Given}
 use Rattle.jvm_types.specs.declared.op_row.Given.TheVariants.{Fresh as Anew}
 use Rattle.jvm_types.specs.declared.typing.VType.{VType}
 use Rattle.jvm_types.specs.declared.typing.VType.TheVariants as types
-use Rattle.laws_programs.specs.NewLaws.{IsBehind, AreBehind}
+use Rattle.laws_programs.specs.NewLaws.{IsNewBefore, AreBehind}
 use Rattle.laws_programs.proofs.RowsKeep.{IsFine, row_fine}
 use Rattle.checked_program.specs.MarkedProgram.{MarkedProgram, IsMarked}
 use Rattle.checked_program.specs.declared.tag.Tag.{Tag}
@@ -35,7 +35,7 @@ module _ (Old More : ℕ → Type 0) (Fresh Later : ℕ → ℕ → Type 0) (old
   new_behind true q v l h = fresh q v l h
   new_behind false q v l h = old v h
 
-  type_behind : (u : VType) (v : ℕ) → IsBehind pc u → SlotByType Old Fresh young u v → SlotByType More Later young u v
+  type_behind : (u : VType) (v : ℕ) → IsNewBefore pc u → SlotByType Old Fresh young u v → SlotByType More Later young u v
   type_behind (types.New q) v l h = new_behind (young q) q v l h
   type_behind types.Null v l h = h
   type_behind (types.Ref c) v l h = old v h
@@ -43,7 +43,7 @@ module _ (Old More : ℕ → Type 0) (Fresh Later : ℕ → ℕ → Type 0) (old
   type_behind types.Int v l h = tt
   type_behind types.Top v l h = tt
 
-  own_behind : (u : VType) (g : Tag) (v : ℕ) → IsBehind pc u → OwnSlot Old Fresh young receiver u g v → OwnSlot More Later young receiver u g v
+  own_behind : (u : VType) (g : Tag) (v : ℕ) → IsNewBefore pc u → OwnSlot Old Fresh young receiver u g v → OwnSlot More Later young receiver u g v
   own_behind u This v l h = h
   own_behind (types.New q) Untagged v l h = new_behind (young q) q v l h
   own_behind (types.New q) (At k) v l h = new_behind (young q) q v l h
@@ -58,7 +58,7 @@ module _ (Old More : ℕ → Type 0) (Fresh Later : ℕ → ℕ → Type 0) (old
   own_behind types.Top Untagged v l h = tt
   own_behind types.Top (At k) v l h = tt
 
-  pub slot_behind : (own : Bool) (u : VType) (g : Tag) (v : ℕ) → IsBehind pc u → SlotIs Old Fresh own young receiver u g v → SlotIs More Later own young receiver u g v
+  pub slot_behind : (own : Bool) (u : VType) (g : Tag) (v : ℕ) → IsNewBefore pc u → SlotIs Old Fresh own young receiver u g v → SlotIs More Later own young receiver u g v
   slot_behind true u g v l h = own_behind u g v l h
   slot_behind false u g v l h = type_behind u v l h
 
@@ -109,8 +109,8 @@ module _ (c : MarkedProgram) (marked : IsMarked c) (frozen : ℕ → Bool) (are 
     locals = moved k.stands.types.locals k.stands.tags.locals f.locals behind.locals k.locals;
   }
     where
-      moved : (us : List VType) (gs : List Tag) (vs : List ℕ) → AllByRecursion (IsBehind pc) us → SlotsAre (SlotOf frozen w next t h Runs k.stands.method f.receiver) us gs vs → SlotsAre (SlotOf frozen stored_world more t h Runs k.stands.method f.receiver) us gs vs
-      moved = slots_map_if (IsBehind pc) (SlotOf frozen w next t h Runs k.stands.method f.receiver) (SlotOf frozen stored_world more t h Runs k.stands.method f.receiver)
+      moved : (us : List VType) (gs : List Tag) (vs : List ℕ) → AllByRecursion (IsNewBefore pc) us → SlotsAre (SlotOf frozen w next t h Runs k.stands.method f.receiver) us gs vs → SlotsAre (SlotOf frozen stored_world more t h Runs k.stands.method f.receiver) us gs vs
+      moved = slots_map_if (IsNewBefore pc) (SlotOf frozen w next t h Runs k.stands.method f.receiver) (SlotOf frozen stored_world more t h Runs k.stands.method f.receiver)
           (slot_behind (IsFinished w next) (IsFinished stored_world more) (IsFresh w t h Runs) (IsFresh stored_world t h Runs) old_made (makes_frozen frozen k.stands.method) f.receiver pc fresh_made (builds frozen k.stands.method))
 
   here : (y : Bool) → made_world header_world next y (builder t h (Made pc)) next ≡ (if y then Some (builder t h (Made pc)) else None)

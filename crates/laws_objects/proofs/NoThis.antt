@@ -4,7 +4,7 @@ use Rattle.std.specs.Prelude.{slice_get}
 use Rattle.std.specs.List.{AllByRecursion}
 use Rattle.jvm_types.specs.CodeTable.{row, is_init, type_of}
 use Rattle.jvm_types.specs.Members.{is_static}
-use Rattle.jvm_types.specs.Types.{TypeFrame, is_below, all_pairs, entry_frame, receiver_types}
+use Rattle.jvm_types.specs.Types.{TypeFrame, is_below, all_pairs, entry_type_frame, receiver_types}
 use Rattle.jvm_types.specs.Verifying.{frame_after, HasTyping, IsLaidOut}
 use Rattle.jvm_types.specs.declared.code.Insn.{Insn}
 use Rattle.jvm_types.specs.declared.program.Kind.{Kind}
@@ -70,7 +70,7 @@ receiver_other true init class e = tt
 receiver_other false true class e = absurd (cc)
 receiver_other false false class e = ((λ h. cc), tt)
 
-entry_other : (m : MethodInfo) → is_init m ≡ false → HaveNoThis (entry_frame m)
+entry_other : (m : MethodInfo) → is_init m ≡ false → HaveNoThis (entry_type_frame m)
 entry_other m e = record {
   stack = tt;
   locals = all_append IsOther (receiver_types m ++ map type_of m.args) _ (all_append IsOther (receiver_types m) (map type_of m.args) (receiver_other (is_static m.flags) (is_init m) m.class e) (kinds_other m.args))

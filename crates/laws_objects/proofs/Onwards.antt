@@ -4,7 +4,7 @@ use Rattle.std.specs.Prelude.{slice_get, option_map, reverse, take, if◌then◌
 use Rattle.std.specs.List.{AllByRecursion}
 use Rattle.lists.proofs.ListLaws.{same_some}
 use Rattle.jvm_types.specs.CodeTable.{can_throw, row}
-use Rattle.jvm_types.specs.Members.{Site, is_synchronized}
+use Rattle.jvm_types.specs.Members.{MethodSite, is_synchronized}
 use Rattle.jvm_types.specs.ProgramInvariant.{words_of, site_in}
 use Rattle.jvm_types.specs.Verifying.{edges, is_return}
 use Rattle.jvm_types.specs.declared.code.Op.{Op}
@@ -40,7 +40,7 @@ use Rattle.machine_types.specs.Words.{header_class, header_length}
 use Rattle.machine_types.specs.Worlds.{Begun, Builder, builder, World, IsFinished, IsOwnOrFinished, IsWorld, GoesOn}
 use Rattle.machine_types.specs.declared.phase.After.{After}
 use Rattle.machine_types.specs.declared.phase.After.TheVariants.{Next, Return, Unwind}
-use Rattle.laws_threads.specs.Allowed.{OneOf, IsFieldAt, IsByMachine, Allowed}
+use Rattle.laws_threads.specs.Allowed.{OneOf, IsNamedField, IsByMachine, Allowed}
 use Rattle.laws_threads.proofs.Landing.{stand_top, rules_at}
 use Rattle.laws_threads.proofs.TopStand.{top_here}
 use Rattle.laws_objects.proofs.BuiltEffects.{KindOld, TypeOld, GivenOld, RowOld, Built, effect_built, NamesField}
@@ -94,7 +94,7 @@ pub finished_known : (w : World) (next t v : ℕ) → IsFinished w next v → Is
 finished_known w next t v o = (o.0, λ b e. absurd (none_some (w v) b o.1 e))
 
 -- a `getfield` names a field
-getfield_names : (p : Program) (site : Site) (pc : ℕ) (target : Target) (op : Op) (r : OpRow) → HasRow p site pc target op r → is_getfield op ≡ true → (number : ℕ) × (target ≡ targets.Field number)
+getfield_names : (p : Program) (site : MethodSite) (pc : ℕ) (target : Target) (op : Op) (r : OpRow) → HasRow p site pc target op r → is_getfield op ≡ true → (number : ℕ) × (target ≡ targets.Field number)
 getfield_names p site pc (targets.Field number) (ops.Getfield i) r h e = (number, refl)
 getfield_names p site pc targets.Nothing (ops.Getfield i) r h e = absurd (let bad : true ≡ false = h in cc)
 getfield_names p site pc target (ops.Getfield i) r h e = absurd h
@@ -171,7 +171,7 @@ module _ (c : MarkedProgram) (marked : IsMarked c) (frozen : ℕ → Bool) (are 
 
   -- the word that an instruction finds in a field is one that it may hold
   abbrev pub FoundOld : Classes → Target → Effect → (got : ℕ) → Type 0
-  FoundOld is target (Reads v) got = (f : FieldInfo) → IsFieldAt c.program is target v f → KindOld (IsFinished w next) f.kind got
+  FoundOld is target (Reads v) got = (f : FieldInfo) → IsNamedField c.program is target v f → KindOld (IsFinished w next) f.kind got
   FoundOld is target e got = Unit {0}
 
   module _ (f : Frame) (fs : List Frame) (k : FrameKeeps c frozen w next t (length fs) Runs f) (b : KeepBelow c frozen w next t f fs) where
@@ -240,7 +240,7 @@ module _ (c : MarkedProgram) (marked : IsMarked c) (frozen : ℕ → Bool) (are 
         by_room true = by_flag (is_synchronized m.flags)
         by_room false = stays w next t (λ z. OnwardKeeps c frozen z next t (threw thrown.StackOverflowError at)) (throws_it thrown.StackOverflowError tt)
 
-    call_named : (site : Site) (pc number : ℕ) (op : Op) (target : Target) (row : OpRow) → HasRow c.program site pc target op row → target ≡ targets.Method number → called_method op target ≡ Some number
+    call_named : (site : MethodSite) (pc number : ℕ) (op : Op) (target : Target) (row : OpRow) → HasRow c.program site pc target op row → target ≡ targets.Method number → called_method op target ≡ Some number
     call_named site pc number op target row h e = subst (λ (x : Target). called_method op x ≡ Some number) (sym e) (by_op op (subst (λ (x : Target). HasRow c.program site pc x op row) e h))
       where
         by_op : (op : Op) → HasRow c.program site pc (targets.Method number) op row → called_method op (targets.Method number) ≡ Some number

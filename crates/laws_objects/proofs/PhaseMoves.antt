@@ -42,7 +42,7 @@ use Rattle.laws_threads.specs.StructureLaws.{StaysStructured, counted_by}
 use Rattle.laws_states.specs.HeapFacts.{HeapFacts}
 use Rattle.laws_states.proofs.Accesses.{out_there}
 use Rattle.laws_states.proofs.Lists.{set_here}
-use Rattle.laws_threads.specs.Allowed.{IsFieldAt, Allowed}
+use Rattle.laws_threads.specs.Allowed.{IsNamedField, Allowed}
 use Rattle.laws_threads.proofs.Landing.{stand_top}
 use Rattle.laws_threads.proofs.TopEffects.{allowed_here}
 use Rattle.laws_threads.proofs.TopStand.{top_here}
@@ -126,7 +126,7 @@ module _ (c : MarkedProgram) (marked : IsMarked c) (frozen : ℕ → Bool) (are 
   seen : (v : ℕ) → IsFinished w (slice_index s.words NEXT_FREE_WORD) v → IsFinished k.now (slice_index s.words NEXT_FREE_WORD) v
   seen v o = (o.0, k.now_is.others v (λ b e. absurd (none_some (w v) b o.1 e)) ∙ o.1)
 
-  field_found : (target : Target) (v : Variable) (f : FieldInfo) → IsFieldAt c.program (HasClass objects) target v f → KindOld (IsFinished k.now (slice_index s.words NEXT_FREE_WORD)) f.kind (slice_index s.words (variable_word v))
+  field_found : (target : Target) (v : Variable) (f : FieldInfo) → IsNamedField c.program (HasClass objects) target v f → KindOld (IsFinished k.now (slice_index s.words NEXT_FREE_WORD)) f.kind (slice_index s.words (variable_word v))
   field_found target v f at = kind_map (IsFinished k.now (slice_index s.words NEXT_FREE_WORD)) w (slice_index s.words NEXT_FREE_WORD) seen f.kind (slice_index s.words (variable_word v))
       (subst (λ (u : Variable). KindKeeps w (slice_index s.words NEXT_FREE_WORD) f.kind (slice_index s.words (variable_word u))) (sym at.variable) (by_flag (is_static f.flags) refl))
     where

@@ -50,7 +50,7 @@ use Rattle.laws_states.proofs.Lists.{contained_got, same_or_not, set_here, set_t
 use Rattle.laws_states.proofs.Places.{same_object}
 use Rattle.laws_states.proofs.Sites.{sites_apart, sites_inside}
 use Rattle.laws_states.proofs.WordViews.{set_self}
-use Rattle.laws_threads.specs.Allowed.{IsFieldAt, Allowed}
+use Rattle.laws_threads.specs.Allowed.{IsNamedField, Allowed}
 use Rattle.laws_objects.proofs.BuiltEffects.{KindOld, Built}
 use Rattle.laws_objects.proofs.InstructionMoves.{IsOutside}
 use Rattle.laws_objects.proofs.Onwards.{first_finished}
@@ -168,7 +168,7 @@ module _ (lies : StartLiesApart) (c : MarkedProgram) (marked : IsMarked c) (obje
 
   -- ---- a field
 
-  field_written : (target : Target) (v : Variable) (f : FieldInfo) (n : ℕ) → IsFieldAt c.program (HasClass objects) target v f → KindKeeps later more f.kind n → PlacesKeep c later more objects (words_after s.words (Some (Store (variable_word v) n)))
+  field_written : (target : Target) (v : Variable) (f : FieldInfo) (n : ℕ) → IsNamedField c.program (HasClass objects) target v f → KindKeeps later more f.kind n → PlacesKeep c later more objects (words_after s.words (Some (Store (variable_word v) n)))
   field_written target v f n at old = subst (λ (u : Variable). PlacesKeep c later more objects (words_after s.words (Some (Store (variable_word u) n)))) (sym at.variable) (by_flag (is_static f.flags) refl)
     where
       same_field : (other : ℕ) (g : FieldInfo) → slice_get c.program.fields other ≡ Some g → other ≡ at.number → KindKeeps later more g.kind n

@@ -11,7 +11,7 @@ use Rattle.jvm_types.specs.CodeTable.{type_of, arguments, is_init, result_of, va
 use Rattle.jvm_types.specs.Members.{is_static}
 use Rattle.jvm_types.specs.Numbers.{has_number}
 use Rattle.jvm_types.specs.Types.{TypeFrame, is_below}
-use Rattle.jvm_types.specs.Verifying.{suits, some_taken, new_class, is_class, started, initialised, after_start, frame_after, edges, is_return}
+use Rattle.jvm_types.specs.Verifying.{suits, some_taken, new_class, is_class_of, started, initialised, after_start, frame_after, edges, is_return}
 use Rattle.jvm_types.specs.declared.code.Op.{Op}
 use Rattle.jvm_types.specs.declared.code.Op.TheVariants as ops
 use Rattle.jvm_types.specs.declared.op_row.Given.{Given}
@@ -107,10 +107,10 @@ module _ (c : MarkedProgram) (marked : IsMarked c) (frozen : ℕ → Bool) (are 
               let int : is_below u types.Int ≡ true = is_true (is_below u types.Int) (or_parts (not (is_below u types.Int)) (some_taken (λ want t. not (suits m want t)) [] us) s).0 in
               below_both u int (subst (λ (x : VType). is_below x (types.Ref class) ≡ true) (sym same) (subst (λ (x : Kind). is_below w.type (type_of x) ≡ true) kind w.fits))
   result_of_op ops.Areturn r well old suit =
-      let top = top_result m (IsFinished w next) (SlotOf frozen w next t h Runs m f.receiver) k.stands.types.stack k.stands.tags.stack f.stack well k.stack (λ kind a rest e s. an_object kind a rest s (subst (λ (o : Option Kind). TakenOld (IsFinished w next) (Rattle.jvm_types.specs.CodeTable.returned o ∷ []) f.stack) e old)) in
+      let top = top_result m (IsFinished w next) (SlotOf frozen w next t h Runs m f.receiver) k.stands.types.stack k.stands.tags.stack f.stack well k.stack (λ kind a rest e s. an_object kind a rest s (subst (λ (o : Option Kind). TakenOld (IsFinished w next) (Rattle.jvm_types.specs.CodeTable.returned_want o ∷ []) f.stack) e old)) in
       subst (λ (s : List ℕ). ResultOld (IsFinished w next) m.result (given_back ops.Areturn s)) (sym top.2) top.3
     where
-      an_object : (kind : Kind) (a : ℕ) (rest : List ℕ) → f.stack ≡ a ∷ rest → TakenOld (IsFinished w next) (Rattle.jvm_types.specs.CodeTable.returned (Some kind) ∷ []) f.stack → KindOld (IsFinished w next) kind a
+      an_object : (kind : Kind) (a : ℕ) (rest : List ℕ) → f.stack ≡ a ∷ rest → TakenOld (IsFinished w next) (Rattle.jvm_types.specs.CodeTable.returned_want (Some kind) ∷ []) f.stack → KindOld (IsFinished w next) kind a
       an_object kinds.Int a rest e h = tt
       an_object kinds.Bool a rest e h = tt
       an_object (kinds.Ref class) a rest e h = (subst (TakenOld (IsFinished w next) (AnObject class ∷ [])) e h).0
@@ -288,7 +288,7 @@ module _ (c : MarkedProgram) (marked : IsMarked c) (frozen : ℕ → Bool) (are 
             let class : y.class ≡ called.class = started_class k.method.class y.pc y.class called.class (arguments called) k.types.stack (arguments_start called) (ap (λ (ws : List Want). started k.method.class ws k.types.stack) (sym takes) ∙ y.is) in
             ap (λ (b : Bool). b && frozen called.class) e ∙ sym (ap frozen class) ∙ sym (class_frozen (new_class k.method.code k.method.targets y.pc) y.class y.of_class) ∙ y.young_is
           where
-            class_frozen : (o : Option ℕ) (class : ℕ) → is_class o class ≡ true → is_frozen_class frozen o ≡ frozen class
+            class_frozen : (o : Option ℕ) (class : ℕ) → is_class_of o class ≡ true → is_frozen_class frozen o ≡ frozen class
             class_frozen None class e = absurd (cc)
             class_frozen (Some d) class e = ap frozen (same d class e)
               where

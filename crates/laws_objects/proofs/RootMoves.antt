@@ -18,7 +18,7 @@ use Rattle.checked_program.proofs.CheckedPlaces.{called_fit_all}
 use Rattle.checked_program.specs.MarkedProgram.{MarkedProgram, IsMarked, checked_part}
 use Rattle.machine_types.specs.Bounds.{part_roots}
 use Rattle.machine_types.specs.Construction.{AreFrozen, ThreadKeeps}
-use Rattle.machine_types.specs.Events.{started}
+use Rattle.machine_types.specs.Events.{thread_started}
 use Rattle.machine_types.specs.Frames.{has_room, entry_frame}
 use Rattle.machine_types.specs.Onward.{Running, Uncaught, root_arguments, rooted}
 use Rattle.machine_types.specs.Parts.{numbers_of, is_entry_named, entries_named, init_roots}
@@ -105,8 +105,8 @@ module _ (c : MarkedProgram) (marked : IsMarked c) (frozen : ℕ → Bool) (are 
 -- ---- a part begins with them
 
 module _ (c : MarkedProgram) (marked : IsMarked c) (frozen : ℕ → Bool) (are : AreFrozen c frozen) (w : World) (next more t : ℕ) (was : Phase) (x : Thread) (k : ThreadKeeps c frozen w next t was x) (is_world : IsWorld w (words_of c.program) next) (grows : next ≤ more) (stood : IsStructured c was x) where
-  pub starts_as : (roots : List ℕ) → AllByRecursion (λ (number : ℕ). IsTrue (has_number (part_roots c.program x.number x.part) number)) roots → was ≡ phases.Start → StaysStructured c was (started c.program x roots)
-      → Goal c marked frozen are w next more t was x k is_world grows stood (started c.program x roots)
+  pub starts_as : (roots : List ℕ) → AllByRecursion (λ (number : ℕ). IsTrue (has_number (part_roots c.program x.number x.part) number)) roots → was ≡ phases.Start → StaysStructured c was (thread_started c.program x roots)
+      → Goal c marked frozen are w next more t was x k is_world grows stood (thread_started c.program x roots)
   starts_as [] all e stands = unmoved c marked frozen are w next more t was x k is_world grows stood
   starts_as (number ∷ roots) all e stands =
       let o = option_map (rooted c.program x.number number) (slice_get c.program.methods number) in

@@ -12,7 +12,7 @@ use Rattle.checked_program.specs.MarkedProgram.{MarkedProgram, IsMarked}
 use Rattle.checked_program.specs.declared.tag.Tag.{Tag}
 use Rattle.checked_program.specs.declared.tag.Tag.TheVariants.{Untagged, This, At}
 use Rattle.machine_types.specs.HeldMonitors.{held_at}
-use Rattle.machine_types.specs.Shown.{tag_value, own_entry, entries_of, Shows}
+use Rattle.machine_types.specs.Shown.{tag_value, own_entry, shown_entries, Shows}
 use Rattle.machine_types.specs.Standing.{Standing, Whole}
 use Rattle.machine_types.specs.Structure.{Stands, count_in, held_depth}
 use Rattle.machine_types.specs.Threads.{Frame}
@@ -54,7 +54,7 @@ method_counted m f e = by_flag (is_synchronized m.flags) (and_parts (is_synchron
     by_flag true e = once_in f.receiver []
     by_flag false e = absurd (cc)
 
-pub entries_counted : (choice : ℕ → ℕ) (m : MethodInfo) (tags : TagShape) (f : Frame) → (list_any is_this tags.held ≡ true) ⊎ (locks_this m ≡ true) → 0 < count_in f.receiver (entries_of choice m tags f)
+pub entries_counted : (choice : ℕ → ℕ) (m : MethodInfo) (tags : TagShape) (f : Frame) → (list_any is_this tags.held ≡ true) ⊎ (locks_this m ≡ true) → 0 < count_in f.receiver (shown_entries choice m tags f)
 entries_counted choice m tags f (inl e) = front_counted f.receiver (map (tag_value choice f.receiver) tags.held) (own_entry m f) (tag_counted choice f.receiver tags.held e)
 entries_counted choice m tags f (inr e) = back_counted f.receiver (map (tag_value choice f.receiver) tags.held) (own_entry m f) (method_counted m f e)
 

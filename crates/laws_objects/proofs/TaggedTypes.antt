@@ -7,7 +7,7 @@ use Rattle.std.proofs.lemmas.List.{length-append, length-map, length-drop, lengt
 use Rattle.jvm_types.specs.CodeGrammar.{is_start}
 use Rattle.jvm_types.specs.CodeTable.{row, is_init, type_of, value_of, stack_after, locals_after}
 use Rattle.jvm_types.specs.Members.{is_static}
-use Rattle.jvm_types.specs.Types.{TypeFrame, frame_below, entry_frame, receiver_types}
+use Rattle.jvm_types.specs.Types.{TypeFrame, frame_below, entry_type_frame, receiver_types}
 use Rattle.jvm_types.specs.Verifying.{edges, covering, started, after_start, initialised, frame_after, frame_at_handler, HasTyping, IsLaidOut}
 use Rattle.jvm_types.specs.Verifying as types
 use Rattle.jvm_types.specs.declared.code.Insn.{Insn}
@@ -38,7 +38,7 @@ use Rattle.laws_programs.proofs.VisitsEnd.{initialised_length}
 -- ---- any such fact
 
 module _ (p : Program) (m : MethodInfo) (frames : List (Option TypeFrame)) (laid : IsLaidOut m) (typed : HasTyping p m frames) (P : TypeFrame → TagShape → Type 0)
-    (start : P (entry_frame m) (entry_tags m)) (rises : (g h : TypeFrame) (f : TagShape) → frame_below g h ≡ true → P g f → P h f) (meets : (g : TypeFrame) (f h : TagShape) → P g f → P g h → P g (tag_meeting.meet f h))
+    (start : P (entry_type_frame m) (entry_tags m)) (rises : (g h : TypeFrame) (f : TagShape) → frame_below g h ≡ true → P g f → P h f) (meets : (g : TypeFrame) (f h : TagShape) → P g f → P g h → P g (tag_meeting.meet f h))
     (onward : (insn : Insn) (target : Target) (g : TypeFrame) (f : TagShape) → P g f → P (frame_after m (row p m insn.pc target insn.op) g) (tags_after insn (row p m insn.pc target insn.op) f))
     (caught : (handler : Row) (g : TypeFrame) (f : TagShape) → P g f → P (frame_at_handler handler g) (tags_at_handler f)) where
   typing : types.IsAssignment p m frames
@@ -47,7 +47,7 @@ module _ (p : Program) (m : MethodInfo) (frames : List (Option TypeFrame)) (laid
   abbrev pub HasIt : ℕ → TagShape → Type 0
   HasIt i f = (g : TypeFrame) × (slice_get frames i ≡ Some (Some g)) × P g f
 
-  fit_lands : (g : TypeFrame) (f : TagShape) (to : ℕ) → P g f → types.Fits m.code frames g to → Lands HasIt m.code f to
+  fit_lands : (g : TypeFrame) (f : TagShape) (to : ℕ) → P g f → types.FrameFits m.code frames g to → Lands HasIt m.code f to
   fit_lands g f to k h =
       let l = lands m frames g to h in
       record {
@@ -55,7 +55,7 @@ module _ (p : Program) (m : MethodInfo) (frames : List (Option TypeFrame)) (laid
         live = λ j insn e at. (l.frame, ap (slice_get frames) (one_number m j l.number insn l.insn laid e l.there (at ∙ sym l.starts)) ∙ l.has, rises g l.frame f l.fits k);
       }
 
-  rows_land : (g : TypeFrame) (f : TagShape) (rows : List Row) → P g f → AllByRecursion (λ handler. types.Fits m.code frames (frame_at_handler handler g) handler.handler) rows
+  rows_land : (g : TypeFrame) (f : TagShape) (rows : List Row) → P g f → AllByRecursion (λ handler. types.FrameFits m.code frames (frame_at_handler handler g) handler.handler) rows
       → AllByRecursion (λ handler. Lands HasIt m.code (tags_at_handler f) handler.handler) (until_all rows)
   rows_land g f [] k h = tt
   rows_land g f (handler ∷ rows) k h = by_test (catches_all handler) (fit_lands (frame_at_handler handler g) (tags_at_handler f) handler.handler (caught handler g f k) h.0) (rows_land g f rows k h.1)
@@ -65,7 +65,7 @@ module _ (p : Program) (m : MethodInfo) (frames : List (Option TypeFrame)) (laid
       by_test true one more = (one, tt)
       by_test false one more = (one, more)
 
-  catchers_land : (insn : Insn) (g : TypeFrame) (f : TagShape) → P g f → AllByRecursion (λ handler. types.Fits m.code frames (frame_at_handler handler g) handler.handler) (covering m insn.pc)
+  catchers_land : (insn : Insn) (g : TypeFrame) (f : TagShape) → P g f → AllByRecursion (λ handler. types.FrameFits m.code frames (frame_at_handler handler g) handler.handler) (covering m insn.pc)
       → AllByRecursion (λ handler. Lands HasIt m.code (tags_at_handler f) handler.handler) (catchers m insn)
   catchers_land insn g f k h = by_test (types_throw insn)
     where
@@ -85,7 +85,7 @@ module _ (p : Program) (m : MethodInfo) (frames : List (Option TypeFrame)) (laid
           let r : OpRow = row p m insn.pc target insn.op in
           let sound = typing.sound i insn target g c t has.1 in
           acts_land HasIt m insn r f
-          (all_weaker (types.Fits m.code frames (frame_after m r g)) (Lands HasIt m.code (tags_after insn r f)) (λ to h. fit_lands (frame_after m r g) (tags_after insn r f) to (onward insn target g f has.2) h) (edges insn) sound.edges_fit)
+          (all_weaker (types.FrameFits m.code frames (frame_after m r g)) (Lands HasIt m.code (tags_after insn r f)) (λ to h. fit_lands (frame_after m r g) (tags_after insn r f) to (onward insn target g f has.2) h) (edges insn) sound.edges_fit)
           (catchers_land insn g f has.2 sound.handlers_fit)
 
       by_both : (o : Option Insn) → slice_get m.code i ≡ o → (q : Option Target) → slice_get m.targets i ≡ q → AllByRecursion (ActLands HasIt m.code) (acts_at p m o q f)
@@ -95,9 +95,9 @@ module _ (p : Program) (m : MethodInfo) (frames : List (Option TypeFrame)) (laid
 
   first_has : HasIt 0 (entry_tags m)
   first_has =
-      let l = lands m frames (entry_frame m) 0 typing.entry in
+      let l = lands m frames (entry_type_frame m) 0 typing.entry in
       let b = begins m laid in
-      (l.frame, ap (slice_get frames) (one_number m 0 l.number b.0 l.insn laid (ap (λ (code : List Insn). slice_get code 0) b.2) l.there (b.3 ∙ sym l.starts)) ∙ l.has, rises (entry_frame m) l.frame (entry_tags m) l.fits start)
+      (l.frame, ap (slice_get frames) (one_number m 0 l.number b.0 l.insn laid (ap (λ (code : List Insn). slice_get code 0) b.2) l.there (b.3 ∙ sym l.starts)) ∙ l.has, rises (entry_type_frame m) l.frame (entry_tags m) l.fits start)
 
   meets_have : (i : ℕ) (g f : TagShape) → HasIt i g → HasIt i f → HasIt i (tag_meeting.meet g f)
   meets_have i g f a b =
@@ -189,7 +189,7 @@ onward_many p m insn target g f k =
     let r : OpRow = row p m insn.pc target insn.op in
     after_start_many (started m.class r.takes g.stack) _ (tags_after insn r f) (by_op_many p m insn.pc target insn.op g f k)
 
-entry_many : (m : MethodInfo) → length (entry_frame m).locals ≡ m.max_locals → AreAsMany (entry_frame m) (entry_tags m)
+entry_many : (m : MethodInfo) → length (entry_type_frame m).locals ≡ m.max_locals → AreAsMany (entry_type_frame m) (entry_tags m)
 entry_many m fits = record { stack = refl; locals = by_flag (is_static m.flags) refl ∙ sym fits }
   where
     by_flag : (b : Bool) → is_static m.flags ≡ b → length (if b then replicate m.max_locals Untagged else Own ∷ replicate (m.max_locals - 1) Untagged) ≡ m.max_locals
@@ -201,7 +201,7 @@ entry_many m fits = record { stack = refl; locals = by_flag (is_static m.flags) 
         ap suc (length-replicate (m.max_locals - 1) Untagged) ∙ omega (arith, l, k, one, fits)
 
 -- where the arguments fit in the locals
-pub tags_many : (p : Program) (m : MethodInfo) (frames : List (Option TypeFrame)) (tags : List (Option TagShape)) → IsLaidOut m → HasTyping p m frames → HasTagging p m tags → length (entry_frame m).locals ≡ m.max_locals
+pub tags_many : (p : Program) (m : MethodInfo) (frames : List (Option TypeFrame)) (tags : List (Option TagShape)) → IsLaidOut m → HasTyping p m frames → HasTagging p m tags → length (entry_type_frame m).locals ≡ m.max_locals
     → (i : ℕ) (g : TypeFrame) (f : TagShape) → slice_get frames i ≡ Some (Some g) → slice_get tags i ≡ Some (Some f) → AreAsMany g f
 tags_many p m frames tags laid typed tagged fits =
     all_have p m frames laid typed AreAsMany (entry_many m fits) rises_many meets_many (onward_many p m) (λ handler g f k. record { stack = refl; locals = k.locals }) tags tagged

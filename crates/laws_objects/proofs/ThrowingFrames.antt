@@ -24,7 +24,7 @@ use Rattle.checked_program.specs.Visits as visits
 use Rattle.checked_program.specs.declared.tag.Tag.{Tag}
 use Rattle.checked_program.specs.declared.tag.Tag.TheVariants.{Untagged, This, At}
 use Rattle.checked_program.proofs.CheckedPlaces.{catchers_among}
-use Rattle.machine_types.specs.Construction.{AreFrozen, builds, makes_frozen, SlotByType, OwnSlot, SlotIs, Turn, Runs, WaitsFor, Throws, IsFresh, SlotOf, FrameKeeps, KeepBelow, FramesKeep}
+use Rattle.machine_types.specs.Construction.{AreFrozen, builds, makes_frozen, SlotByType, OwnSlot, SlotIs, BuilderTurn, Runs, WaitsFor, Throws, IsFresh, SlotOf, FrameKeeps, KeepBelow, FramesKeep}
 use Rattle.machine_types.specs.Frames.{handler_of}
 use Rattle.machine_types.specs.Standing.{Standing, row_at}
 use Rattle.machine_types.specs.Threads.{Frame}
@@ -39,7 +39,7 @@ use Rattle.laws_programs.proofs.LocalEdges.{second_false}
 use Rattle.laws_programs.proofs.NewEdges.{none_of}
 
 -- whatever the frame was about to do, its stack says nothing more, nor do its slots with what a `new` made
-pub loosened : (c : MarkedProgram) (frozen : ℕ → Bool) (w : World) (next t h : ℕ) (turn : Turn) (f : Frame) → FrameKeeps c frozen w next t h turn f → FrameKeeps c frozen w next t h Throws f
+pub loosened : (c : MarkedProgram) (frozen : ℕ → Bool) (w : World) (next t h : ℕ) (turn : BuilderTurn) (f : Frame) → FrameKeeps c frozen w next t h turn f → FrameKeeps c frozen w next t h Throws f
 loosened c frozen w next t h turn f k = record {
   stands = k.stands;
   receiver = k.receiver;
@@ -50,7 +50,7 @@ loosened c frozen w next t h turn f k = record {
 }
 
 -- an instruction throws
-pub frames_throw : (c : MarkedProgram) (frozen : ℕ → Bool) (w : World) (next t : ℕ) (turn : Turn) (fs : List Frame) → FramesKeep c frozen w next t turn fs → FramesKeep c frozen w next t Throws fs
+pub frames_throw : (c : MarkedProgram) (frozen : ℕ → Bool) (w : World) (next t : ℕ) (turn : BuilderTurn) (fs : List Frame) → FramesKeep c frozen w next t turn fs → FramesKeep c frozen w next t Throws fs
 frames_throw c frozen w next t turn [] k = tt
 frames_throw c frozen w next t turn (f ∷ fs) k = (loosened c frozen w next t (length fs) turn f k.0, k.1)
 
@@ -122,13 +122,13 @@ module _ (c : MarkedProgram) (marked : IsMarked c) (frozen : ℕ → Bool) (are 
       let rules = rules_at c marked f s in
       let tags = tag_rules_at c marked f s in
       let here : handler_of s.insn.pc class s.method.rows ≡ Some r = subst (λ (pc : ℕ). handler_of pc class s.method.rows ≡ Some r) (sym s.pc_is) e in
-      let found = handler_in (λ h. types.Fits s.method.code s.frames (frame_at_handler h s.types) h.handler) s.insn.pc class s.method.rows r rules.sound.handlers_fit here in
+      let found = handler_in (λ h. types.FrameFits s.method.code s.frames (frame_at_handler h s.types) h.handler) s.insn.pc class s.method.rows r rules.sound.handlers_fit here in
       let among = catchers_among s.method s.insn.pc class r (sym (handler_found s.insn.pc class s.method.rows) ∙ here) in
-      let handlers : AllByRecursion (λ handler. visits.Fits IsShapeBelow s.method.code s.at.frames (tags_at_handler s.tags) handler.handler) (until_all (covering s.method s.insn.pc)) =
-      subst (λ b. AllByRecursion (λ handler. visits.Fits IsShapeBelow s.method.code s.at.frames (tags_at_handler s.tags) handler.handler) (if b then until_all (covering s.method s.insn.pc) else [])) throws tags.handlers_fit in
+      let handlers : AllByRecursion (λ handler. visits.EdgeFits IsShapeBelow s.method.code s.at.frames (tags_at_handler s.tags) handler.handler) (until_all (covering s.method s.insn.pc)) =
+      subst (λ b. AllByRecursion (λ handler. visits.EdgeFits IsShapeBelow s.method.code s.at.frames (tags_at_handler s.tags) handler.handler) (if b then until_all (covering s.method s.insn.pc) else [])) throws tags.handlers_fit in
       land c marked frozen are w next t h null (record f { pc = r.handler; stack = x ∷ [] }) s.method s.frames s.at.frames (frame_at_handler r s.types) (tags_at_handler s.tags) s.at.in_program s.types_of_method s.at.of_method
       found.0
-      (at_index (λ (handler : Row). visits.Fits IsShapeBelow s.method.code s.at.frames (tags_at_handler s.tags) handler.handler) (until_all (covering s.method s.insn.pc)) among.0 r handlers among.1)
+      (at_index (λ (handler : Row). visits.EdgeFits IsShapeBelow s.method.code s.at.frames (tags_at_handler s.tags) handler.handler) (until_all (covering s.method s.insn.pc)) among.0 r handlers among.1)
       (joined among.0 among.1) k.receiver
       (ref_slot (IsFinished w next) null (IsFresh w t h Runs) (builds frozen s.method) (makes_frozen frozen s.method) f.receiver (builds frozen s.method) (caught_class r) x old, tt)
       (slots_map_if (λ u. is_new u ≡ false) (SlotOf frozen w next t h Throws s.method f.receiver) (SlotOf frozen w next t h Runs s.method f.receiver)

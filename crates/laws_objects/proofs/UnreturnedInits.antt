@@ -3,7 +3,7 @@ use Rattle.std.proofs.Common.{◌≡◌, ℕ, suc, ◌-◌, ◌<◌, ◌⊎◌, 
 use Rattle.std.specs.Prelude.{slice_get}
 use Rattle.std.proofs.lemmas.List.{length-drop}
 use Rattle.checked_program.specs.MarkedProgram.{MarkedProgram}
-use Rattle.machine_types.specs.Construction.{Turn, Runs, WaitsFor, KeepBelow, FramesKeep, PhaseKeepsFrames, made_world, turn_by, AttemptKeeps, AttemptKeepsIn, ThreadKeeps}
+use Rattle.machine_types.specs.Construction.{BuilderTurn, Runs, WaitsFor, KeepBelow, FramesKeep, PhaseKeepsFrames, made_world, turn_by, AttemptKeeps, AttemptKeepsIn, ThreadKeeps}
 use Rattle.machine_types.specs.Core.{next}
 use Rattle.machine_types.specs.Elision.{put_back}
 use Rattle.machine_types.specs.Going.{goes_on}
@@ -66,7 +66,7 @@ module _ (c : MarkedProgram) (frozen : ℕ → Bool) (t h v : ℕ) where
       by_place (inl p) more = subst (λ (i : ℕ). w v ≡ Some (builder t i Begun)) p.0 (init_begun c frozen w next t (length fs) v (WaitsFor g.receiver keeps.0.begun) f keeps.0.keeps p.1.init p.1.young)
       by_place (inr k) more = more k
 
-  frames_begun : (w : World) (next : ℕ) (turn : Turn) (fs : List Frame) → FramesKeep c frozen w next t turn fs → HasInit c frozen h v fs → w v ≡ Some (builder t h Begun)
+  frames_begun : (w : World) (next : ℕ) (turn : BuilderTurn) (fs : List Frame) → FramesKeep c frozen w next t turn fs → HasInit c frozen h v fs → w v ≡ Some (builder t h Begun)
   frames_begun w next turn [] keeps k = absurd (let e = k.there in cc)
   frames_begun w next turn (f ∷ fs) keeps k = by_place (init_splits c frozen h v f fs k)
     where

@@ -1,7 +1,7 @@
 -- An instruction that writes an instance field is a `putfield`, on the object below the value on its stack.
 use Rattle.std.proofs.Common.{◌≡◌, ◌⊎◌, inl, inr, ℕ, Bool, true, false, List, [], ◌∷◌, Option, Some, None, refl, sym, ap, ◌∙◌}
 use Rattle.std.specs.Prelude.{slice_get, slice_index, ◌==◌, if◌then◌else◌}
-use Rattle.jvm_types.specs.Members.{Site}
+use Rattle.jvm_types.specs.Members.{MethodSite}
 use Rattle.jvm_types.specs.ProgramInvariant.{IsTargetOf}
 use Rattle.jvm_types.specs.declared.code.Op.{Op}
 use Rattle.jvm_types.specs.declared.code.Op.TheVariants as ops
@@ -49,7 +49,7 @@ puts_of i f (n ∷ a ∷ stack) v word e = by_test (a == 0) e
     by_test false e = record { index = i; is = refl; variable = same_variable (variable_of f a) v (kept f.kind n) word e }
 
 -- an instruction that names the field, and writes a variable
-module _ (p : Program) (site : Site) (number next : ℕ) (f : FieldInfo) (v : Variable) (word : ℕ) (there : slice_get p.fields number ≡ Some f) where
+module _ (p : Program) (site : MethodSite) (number next : ℕ) (f : FieldInfo) (v : Variable) (word : ℕ) (there : slice_get p.fields number ≡ Some f) where
   pub field_put : (op : Op) (locals stack : List ℕ) → IsTargetOf p site op (targets.Field number) → effect p next (targets.Field number) op locals stack ≡ Writes v word → (v ≡ variable_of f 0) ⊎ Puts op f stack v
   field_put (ops.Ldc i) locals stack h e = absurd h
   field_put (ops.LdcW i) locals stack h e = absurd h

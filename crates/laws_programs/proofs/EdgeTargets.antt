@@ -5,14 +5,14 @@ use Rattle.std.proofs.lemmas.Bool.{or_parts}
 use Rattle.std.proofs.lemmas.Bool.Decides.{nat_tests}
 use Rattle.jvm_types.specs.CodeGrammar.{is_start}
 use Rattle.jvm_types.specs.Types.{TypeFrame, frame_below}
-use Rattle.jvm_types.specs.Verifying.{frame_at, Fits}
+use Rattle.jvm_types.specs.Verifying.{frame_at, FrameFits}
 use Rattle.jvm_types.specs.declared.code.Insn.{Insn}
 use Rattle.laws_programs.proofs.LeastFrames.{AreDistinct, distinct}
-use Rattle.laws_programs.specs.EdgeLaws.{EdgesLand, FramesStand, FramesAreFound}
+use Rattle.laws_programs.specs.EdgeLaws.{EdgesLand, FramesAreNumbered, FramesAreFound}
 
 -- ---- an edge
 
-landing : (code : List Insn) (frames : List (Option TypeFrame)) (f : TypeFrame) (to : ℕ) → Fits code frames f to
+landing : (code : List Insn) (frames : List (Option TypeFrame)) (f : TypeFrame) (to : ℕ) → FrameFits code frames f to
     → (i : ℕ) × (insn : Insn) × (g : TypeFrame) × (slice_get code i ≡ Some insn) × (insn.pc ≡ to) × (slice_get frames i ≡ Some (Some g)) × (frame_below f g ≡ true)
 landing [] frames f to h = absurd h
 landing (insn ∷ code) [] f to h = absurd h
@@ -26,7 +26,7 @@ landing (insn ∷ code) (frame ∷ frames) f to h = by_test (insn.pc == to) refl
     here (Some g) e same h = (0, insn, g, refl, same, ap (λ (o : Option TypeFrame). Some o) e, h)
 
     by_test : (t : Bool) → (insn.pc == to) ≡ t
-        → (Fits code frames f to → (i : ℕ) × (x : Insn) × (g : TypeFrame) × (slice_get code i ≡ Some x) × (x.pc ≡ to) × (slice_get frames i ≡ Some (Some g)) × (frame_below f g ≡ true))
+        → (FrameFits code frames f to → (i : ℕ) × (x : Insn) × (g : TypeFrame) × (slice_get code i ≡ Some x) × (x.pc ≡ to) × (slice_get frames i ≡ Some (Some g)) × (frame_below f g ≡ true))
         → IsSomeAnd (cond t frame (frame_at code frames to)) (λ g. IsTrue (frame_below f g)) → Found
     by_test true e more h = here frame refl (grind (arith, nat_tests, e)) h
     by_test false e more h = let l = more h in (suc l.0, l.1, l.2, l.3, l.4, l.5, l.6)
@@ -51,7 +51,7 @@ standing (y ∷ code) (frame ∷ frames) zero x o d e f =
 standing (y ∷ code) (frame ∷ frames) (suc i) x o d e f =
     ap (λ t. cond t frame (frame_at code frames x.pc)) (not_first code i x y.pc d.0 e) ∙ standing code frames i x o d.1 e f
 
-pub stand : FramesStand
+pub stand : FramesAreNumbered
 stand m frames i insn o laid e f = standing m.code frames i insn o (distinct 0 m.code laid.bytes laid.code.spelled) e f
 
 -- ---- the instruction of a frame

@@ -9,7 +9,7 @@ use Rattle.jvm_types.specs.declared.program.MethodInfo.{MethodInfo}
 use Rattle.jvm_types.specs.declared.typing.VType.{VType}
 use Rattle.jvm_types.specs.declared.typing.VType.TheVariants.{Top}
 use Rattle.laws_programs.proofs.FrameLast.{entry_locals}
-use Rattle.laws_programs.specs.EntryLaws.{receiver_count, ArgumentsFit, EntryFits, EntryHasReceiver, EntryHasArguments, EntryHasNoMore}
+use Rattle.laws_programs.specs.EntryLaws.{receiver_count, ArgumentsFit, EntryFramesFit, EntryHasReceiver, EntryHasArguments, EntryHasNoMore}
 
 -- ---- lists
 
@@ -57,7 +57,7 @@ given_long m = length-append (receiver_types m) (map type_of m.args) ∙ ap (λ 
 
 -- ---- the laws
 
-pub entry_fits_all : EntryFits
+pub entry_fits_all : EntryFramesFit
 entry_fits_all p m frames laid typed = entry_locals p m frames laid typed
 
 pub arguments_fit_all : ArgumentsFit

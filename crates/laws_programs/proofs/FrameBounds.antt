@@ -9,7 +9,7 @@ use Rattle.jvm_types.specs.ClassTree.{is_subclass}
 use Rattle.jvm_types.specs.CodeTable.{stack_after, locals_after, is_init}
 use Rattle.jvm_types.specs.declared.op_row.Given.{Given}
 use Rattle.jvm_types.specs.declared.op_row.OpRow.{OpRow}
-use Rattle.jvm_types.specs.Types.{TypeFrame, meets, meet_frames, entry_frame, same_type}
+use Rattle.jvm_types.specs.Types.{TypeFrame, meets, meet_frames, entry_type_frame, same_type}
 use Rattle.jvm_types.specs.Verifying.{first_broken, takes_too_many, gives_too_many, lacks_locals, misuses_object, mistypes, broken_before, started, after_start, frame_after, catch_fault, caught_class, frame_at_handler}
 use Rattle.jvm_types.specs.declared.code.Insn.{Insn}
 use Rattle.jvm_types.specs.declared.typing.VType.{VType}
@@ -22,11 +22,11 @@ use Rattle.jvm_types.specs.declared.class_numbers.TheConstants.{THROWABLE_CLASS}
 use Rattle.laws_programs.proofs.VisitsEndRanks.{meets_short}
 
 pub record IsBounded (m : MethodInfo) (f : TypeFrame) : Type 0 where
-  pub locals : length f.locals ≡ length (entry_frame m).locals
+  pub locals : length f.locals ≡ length (entry_type_frame m).locals
   pub stack : length f.stack ≤ m.max_stack
   pub ready : is_init m ≡ false → f.ready ≡ true
 
-pub entry_bounded : (m : MethodInfo) → IsBounded m (entry_frame m)
+pub entry_bounded : (m : MethodInfo) → IsBounded m (entry_type_frame m)
 entry_bounded m = record { locals = refl; stack = omega arith; ready = λ e. ap not e }
 
 -- ---- where two edges meet

@@ -7,8 +7,8 @@ use Rattle.std.proofs.lemmas.Bool.{or_parts, ltb-false}
 use Rattle.std.proofs.lemmas.Bool.Decides.{nat_tests}
 use Rattle.jvm_types.specs.CodeTable.{row}
 use Rattle.jvm_types.specs.declared.op_row.OpRow.{OpRow}
-use Rattle.jvm_types.specs.Types.{TypeFrame, filled, entry_frame}
-use Rattle.jvm_types.specs.Verifying.{names_no_local, lacks_locals, first_nodes, frame_at, Fits, IsFrameBelow, HasTyping, IsAssignment, IsLaidOut, FrameLaw}
+use Rattle.jvm_types.specs.Types.{TypeFrame, filled, entry_type_frame}
+use Rattle.jvm_types.specs.Verifying.{names_no_local, lacks_locals, first_nodes, frame_at, FrameFits, IsFrameBelow, HasTyping, IsAssignment, IsLaidOut, FrameLaw}
 use Rattle.jvm_types.specs.declared.code.Insn.{Insn}
 use Rattle.jvm_types.specs.declared.typing.VType.{VType}
 use Rattle.jvm_types.specs.declared.typing.VType.TheVariants.{Top}
@@ -26,7 +26,7 @@ few_locals : (m : MethodInfo) (r : OpRow) (f : TypeFrame) → lacks_locals m r f
 few_locals m r f e = ltb-false m.max_locals (length f.locals) (or_parts (names_no_local m r.reads || names_no_local m r.writes) (ltb m.max_locals (length f.locals)) e).1
 
 -- the first instruction has a frame
-entry_there : (insn : Insn) (code : List Insn) (frames : List (Option TypeFrame)) (f : TypeFrame) → insn.pc ≡ 0 → Fits (insn ∷ code) frames f 0 → (g : TypeFrame) × (slice_get frames 0 ≡ Some (Some g))
+entry_there : (insn : Insn) (code : List Insn) (frames : List (Option TypeFrame)) (f : TypeFrame) → insn.pc ≡ 0 → FrameFits (insn ∷ code) frames f 0 → (g : TypeFrame) × (slice_get frames 0 ≡ Some (Some g))
 entry_there insn code [] f e h = absurd h
 entry_there insn code (Some g ∷ frames) f e h = (g, refl)
 entry_there insn code (None ∷ frames) f e h = by_test (insn.pc == 0) (grind (arith, nat_tests, e)) h
@@ -48,18 +48,18 @@ module _ (p : Program) (m : MethodInfo) (frames : List (Option TypeFrame)) (laid
   bounded_at : (i : ℕ) (f : TypeFrame) → slice_get frames i ≡ Some (Some f) → IsBounded m f
   bounded_at i f e = at_index (IsFrameBounded m) frames i (Some f) bounded e
 
-  pub entry_locals : length (entry_frame m).locals ≡ m.max_locals
+  pub entry_locals : length (entry_type_frame m).locals ≡ m.max_locals
   entry_locals = counted (local_law p m frames laid typed) (begins m laid)
     where
-      counted : IsAssignment p m frames → ((insn : Insn) × (code : List Insn) × (m.code ≡ insn ∷ code) × (insn.pc ≡ 0)) → length (entry_frame m).locals ≡ m.max_locals
+      counted : IsAssignment p m frames → ((insn : Insn) × (code : List Insn) × (m.code ≡ insn ∷ code) × (insn.pc ≡ 0)) → length (entry_type_frame m).locals ≡ m.max_locals
       counted a b =
-          let first = entry_there b.0 b.1 frames (entry_frame m) b.3 (subst (λ (code : List Insn). Fits code frames (entry_frame m) 0) b.2 a.entry) in
+          let first = entry_there b.0 b.1 frames (entry_type_frame m) b.3 (subst (λ (code : List Insn). FrameFits code frames (entry_type_frame m) 0) b.2 a.entry) in
           let target = target_there m.targets (length b.1) (laid.targets ∙ ap length b.2) in
           let r : OpRow = row p m b.0.pc target.0 b.0.op in
           let sound = a.sound 0 b.0 target.0 first.0 (ap (λ (code : List Insn). slice_get code 0) b.2) target.1 first.1 in
           let few : length first.0.locals ≤ m.max_locals = few_locals m r first.0 (within_locals m b.0 r first.0 sound.before) in
-          let many : m.max_locals ≤ length (entry_frame m).locals = filled_length m.max_locals _ in
-          let same : length first.0.locals ≡ length (entry_frame m).locals = (bounded_at 0 first.0 first.1).locals in
+          let many : m.max_locals ≤ length (entry_type_frame m).locals = filled_length m.max_locals _ in
+          let same : length first.0.locals ≡ length (entry_type_frame m).locals = (bounded_at 0 first.0 first.1).locals in
           omega (arith, few, many, same)
 
 pub frame_law : FrameLaw

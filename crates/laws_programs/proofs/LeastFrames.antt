@@ -6,7 +6,7 @@ use Rattle.std.proofs.lemmas.Bool.{or_from, or_left, or_right}
 use Rattle.jvm_types.specs.Numbers.{has_number}
 use Rattle.jvm_types.specs.CodeGrammar.{SpellsInsns, SpellsOp, is_start}
 use Rattle.jvm_types.specs.Types.{TypeFrame, frame_below}
-use Rattle.jvm_types.specs.Verifying.{Node, node_at, node_met, brought, all_brought, has_other_depth, clash, frame_at, Fits, IsFrameBelow}
+use Rattle.jvm_types.specs.Verifying.{Node, node_at, node_met, brought, all_brought, has_other_depth, clash, frame_at, FrameFits, IsFrameBelow}
 use Rattle.jvm_types.specs.declared.code.Insn.{Insn}
 use Rattle.jvm_types.specs.declared.code.Op.{Op}
 use Rattle.jvm_types.proofs.FrameOrder.{pairs_length, stack_below, types_trans, types_meet_least}
@@ -22,7 +22,7 @@ below_some f g None h k = k
 below_some f g (Some other) h k = types_trans f g other h k
 
 pub fits_below : (code : List Insn) (others : List (Option TypeFrame)) (f g : TypeFrame) → frame_below f g ≡ true → (tos : List ℕ)
-    → AllByRecursion (Fits code others g) tos → AllByRecursion (Fits code others f) tos
+    → AllByRecursion (FrameFits code others g) tos → AllByRecursion (FrameFits code others f) tos
 fits_below code others f g h [] k = tt
 fits_below code others f g h (to ∷ tos) k = (below_some f g (frame_at code others to) h k.0, fits_below code others f g h tos k.1)
 
@@ -40,7 +40,7 @@ joined_below node None f g h k = k
 joined_below node (Some e) f None h k = k
 joined_below node (Some e) f (Some g) h k = types_meet_least e f g h k
 
-pub brought_below : (code : List Insn) (to : ℕ) (f : TypeFrame) (nodes : List Node) (others : List (Option TypeFrame)) → AreBelow nodes others → Fits code others f to
+pub brought_below : (code : List Insn) (to : ℕ) (f : TypeFrame) (nodes : List Node) (others : List (Option TypeFrame)) → AreBelow nodes others → FrameFits code others f to
     → AreBelow (brought code to f nodes) others
 brought_below [] to f nodes others below fits = below
 brought_below (insn ∷ insns) to f [] others below fits = below
@@ -53,7 +53,7 @@ brought_below (insn ∷ insns) to f (node ∷ nodes) (g ∷ others) below fits =
     by_test false fit more = (below.0, more fit)
 
 pub all_brought_below : (code : List Insn) (tos : List ℕ) (f : TypeFrame) (nodes : List Node) (others : List (Option TypeFrame)) → AreBelow nodes others
-    → AllByRecursion (Fits code others f) tos → AreBelow (all_brought code tos f nodes) others
+    → AllByRecursion (FrameFits code others f) tos → AreBelow (all_brought code tos f nodes) others
 all_brought_below code [] f nodes others below fits = below
 all_brought_below code (to ∷ tos) f nodes others below fits =
     all_brought_below code tos f (brought code to f nodes) others (brought_below code to f nodes others below fits.0) fits.1
@@ -126,7 +126,7 @@ depth_is (Some e) (Some g) f h k =
 
 -- where the frame fits each target, no target has a frame of another depth
 abbrev FitsEach : List Insn → List (Option TypeFrame) → List ℕ → TypeFrame → Type 0
-FitsEach code others tos f = (to : ℕ) → has_number tos to ≡ true → is_start code to ≡ true → Fits code others f to
+FitsEach code others tos f = (to : ℕ) → has_number tos to ≡ true → is_start code to ≡ true → FrameFits code others f to
 
 fits_later : (insn : Insn) (insns : List Insn) (g : Option TypeFrame) (others : List (Option TypeFrame)) (tos : List ℕ) (f : TypeFrame) → is_start insns insn.pc ≡ false
     → FitsEach (insn ∷ insns) (g ∷ others) tos f → FitsEach insns others tos f
@@ -155,14 +155,14 @@ no_clash_each (insn ∷ insns) tos f (node ∷ nodes) (g ∷ others) once below 
     by_test true e more = rw (depth_is node.frame g f below.0 (fits_here insn insns g others tos f fits e)) more
     by_test false e more = more
 
-fits_each : (code : List Insn) (others : List (Option TypeFrame)) (f : TypeFrame) (tos : List ℕ) → AllByRecursion (Fits code others f) tos → FitsEach code others tos f
+fits_each : (code : List Insn) (others : List (Option TypeFrame)) (f : TypeFrame) (tos : List ℕ) → AllByRecursion (FrameFits code others f) tos → FitsEach code others tos f
 fits_each code others f [] fits to h k = absurd (cc)
 fits_each code others f (first ∷ tos) fits to h k = by_test (first == to) refl h (λ e. fits_each code others f tos fits.1 to e k)
   where
-    by_test : (b : Bool) → (first == to) ≡ b → (b || has_number tos to) ≡ true → (has_number tos to ≡ true → Fits code others f to) → Fits code others f to
-    by_test true e h more = subst (Fits code others f) (eqb-true first to e) fits.0
+    by_test : (b : Bool) → (first == to) ≡ b → (b || has_number tos to) ≡ true → (has_number tos to ≡ true → FrameFits code others f to) → FrameFits code others f to
+    by_test true e h more = subst (FrameFits code others f) (eqb-true first to e) fits.0
     by_test false e h more = more h
 
 pub no_clash : (code : List Insn) (tos : List ℕ) (f : TypeFrame) (nodes : List Node) (others : List (Option TypeFrame)) → AreDistinct code → AreBelow nodes others
-    → AllByRecursion (Fits code others f) tos → clash code tos (length f.stack) nodes ≡ None
+    → AllByRecursion (FrameFits code others f) tos → clash code tos (length f.stack) nodes ≡ None
 no_clash code tos f nodes others once below fits = no_clash_each code tos f nodes others once below (fits_each code others f tos fits)

@@ -5,8 +5,8 @@ use Rattle.std.specs.List.{AllByRecursion}
 use Rattle.jvm_types.specs.CodeTable.{row}
 use Rattle.jvm_types.specs.declared.op_row.OpRow.{OpRow}
 use Rattle.jvm_types.specs.CodeGrammar.{SpellsInsns}
-use Rattle.jvm_types.specs.Types.{TypeFrame, frame_below, entry_frame}
-use Rattle.jvm_types.specs.Verifying.{Node, node_at, first_nodes, broken_before, frame_after, edges, frame_at_handler, catch_fault, brought, all_brought, clash, handled, unless_broken, covering, gone_on, visited_row, visited_insn, visited, Visits, Breaks, frame_at, Fits, IsSound, IsAssignment, IsLaidOut, LeastLaw, RefusalLaw}
+use Rattle.jvm_types.specs.Types.{TypeFrame, frame_below, entry_type_frame}
+use Rattle.jvm_types.specs.Verifying.{Node, node_at, first_nodes, broken_before, frame_after, edges, frame_at_handler, catch_fault, brought, all_brought, clash, handled, unless_broken, covering, gone_on, visited_row, visited_insn, visited, Visits, Breaks, frame_at, FrameFits, IsSound, IsAssignment, IsLaidOut, LeastLaw, RefusalLaw}
 use Rattle.jvm_types.specs.declared.code.Insn.{Insn}
 use Rattle.jvm_types.specs.declared.program.MethodInfo.{MethodInfo}
 use Rattle.jvm_types.specs.declared.program.Program.{Program}
@@ -32,11 +32,11 @@ handler_below handler f g h = parts_below (frame_at_handler handler f) (frame_at
 
 handled_keeps : (m : MethodInfo) (pc : ℕ) (f g : TypeFrame) (handlers : List Row) (nodes : List Node) (others : List (Option TypeFrame)) → AreDistinct m.code → AreBelow nodes others
     → frame_below f g ≡ true → AllByRecursion (λ handler. catch_fault m pc handler ≡ None) handlers
-    → AllByRecursion (λ handler. Fits m.code others (frame_at_handler handler g) handler.handler) handlers → Keeps others (handled m pc f handlers nodes)
+    → AllByRecursion (λ handler. FrameFits m.code others (frame_at_handler handler g) handler.handler) handlers → Keeps others (handled m pc f handlers nodes)
 handled_keeps m pc f g [] nodes others once below h hold fit = below
 handled_keeps m pc f g (handler ∷ handlers) nodes others once below h hold fit =
     let at : TypeFrame = frame_at_handler handler f in
-    let fits : Fits m.code others at handler.handler = below_some at (frame_at_handler handler g) (frame_at m.code others handler.handler) (handler_below handler f g h) fit.0 in
+    let fits : FrameFits m.code others at handler.handler = below_some at (frame_at_handler handler g) (frame_at m.code others handler.handler) (handler_below handler f g h) fit.0 in
     let same : clash m.code (handler.handler ∷ []) 1 nodes ≡ None = no_clash m.code (handler.handler ∷ []) at nodes others once below (fits, tt) in
     rw hold.0 (rw same (handled_keeps m pc f g handlers (brought m.code handler.handler at nodes) others once
     (brought_below m.code handler.handler at nodes others below fits) h hold.1 fit.1))
@@ -47,7 +47,7 @@ row_keeps : (m : MethodInfo) (insn : Insn) (r : OpRow) (f g : TypeFrame) (nodes 
     → frame_below f g ≡ true → IsSound m insn r others g → Keeps others (visited_row m insn r f nodes)
 row_keeps m insn r f g nodes others once below h sound = by_rule (broken_before m insn r f) (v7_alone m insn r f g h sound.before)
   where
-    fit : AllByRecursion (Fits m.code others (frame_after m r f)) (edges insn)
+    fit : AllByRecursion (FrameFits m.code others (frame_after m r f)) (edges insn)
     fit = fits_below m.code others (frame_after m r f) (frame_after m r g) (after_below m r f g h (suit_at m insn r g sound.before)) (edges insn) sound.edges_fit
 
     goes_on : Keeps others (gone_on m insn f (frame_after m r f) nodes)
@@ -96,7 +96,7 @@ unreached_below (insn ∷ insns) [] e = absurd (omega (arith, e))
 unreached_below (insn ∷ insns) (g ∷ others) e = (tt, unreached_below insns others (omega (arith, e)))
 
 start_below : (m : MethodInfo) (code : List Insn) (bytes : List ℕ) (others : List (Option TypeFrame)) → SpellsInsns 0 code bytes → length others ≡ length code
-    → Fits code others (entry_frame m) 0 → AreBelow (first_nodes m code) others
+    → FrameFits code others (entry_type_frame m) 0 → AreBelow (first_nodes m code) others
 start_below m [] bytes [] spelled long entry = tt
 start_below m [] bytes (g ∷ others) spelled long entry = absurd entry
 start_below m (insn ∷ insns) bytes [] spelled long entry = absurd entry

@@ -5,7 +5,7 @@ use Rattle.std.specs.List.{AllByRecursion}
 use Rattle.std.proofs.lemmas.Bool.{or_parts}
 use Rattle.jvm_types.specs.CodeGrammar.{is_start}
 use Rattle.jvm_types.specs.Types.{TypeFrame, meet_frames, same_frame}
-use Rattle.jvm_types.specs.Verifying.{Node, node_met, brought, frame_at, Fits, IsFrameBelow}
+use Rattle.jvm_types.specs.Verifying.{Node, node_met, brought, frame_at, FrameFits, IsFrameBelow}
 use Rattle.jvm_types.specs.declared.code.Insn.{Insn}
 use Rattle.jvm_types.specs.declared.program.MethodInfo.{MethodInfo}
 use Rattle.jvm_types.proofs.FrameOrder.{types_self, types_meet_left, types_meet_right}
@@ -99,15 +99,15 @@ module _ (m : MethodInfo) (f : TypeFrame) (b : IsBounded m f) where
         by_tests false false d more = more d
 
     pub brought_fits : (code : List Insn) (nodes : List Node) → AreBounded m nodes → is_start code to ≡ true → length nodes ≡ length code → IsDeep (length f.stack) (frame_at code (frames_of nodes) to)
-        → Fits code (frames_of (brought code to f nodes)) f to
+        → FrameFits code (frames_of (brought code to f nodes)) f to
     brought_fits [] nodes c s l d = absurd (cc)
     brought_fits (insn ∷ code) [] c s l d = absurd (omega arith)
     brought_fits (insn ∷ code) (node ∷ nodes) c s l d =
-        subst (λ (ns : List Node). Fits (insn ∷ code) (frames_of ns) f to) (by_parts (insn.pc == to) (node_met node node.frame f) node nodes (brought code to f nodes))
+        subst (λ (ns : List Node). FrameFits (insn ∷ code) (frames_of ns) f to) (by_parts (insn.pc == to) (node_met node node.frame f) node nodes (brought code to f nodes))
         (by_test (insn.pc == to) s d (λ s d. brought_fits code nodes c.1 s (omega arith) d))
       where
         by_test : (t : Bool) → (t || is_start code to) ≡ true → IsDeep (length f.stack) (cond t node.frame (frame_at code (frames_of nodes) to))
-            → (is_start code to ≡ true → IsDeep (length f.stack) (frame_at code (frames_of nodes) to) → Fits code (frames_of (brought code to f nodes)) f to)
+            → (is_start code to ≡ true → IsDeep (length f.stack) (frame_at code (frames_of nodes) to) → FrameFits code (frames_of (brought code to f nodes)) f to)
             → IsFrameBelow (Some f) (cond t (cond t (node_met node node.frame f) node).frame (frame_at code (frames_of (cond t nodes (brought code to f nodes))) to))
         by_test true s d more = joined_fits node.waits node.frame c.0 d
         by_test false s d more = more s d

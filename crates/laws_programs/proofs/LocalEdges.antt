@@ -6,7 +6,7 @@ use Rattle.std.proofs.lemmas.Bool.Decides.{nat_tests}
 use Rattle.jvm_types.specs.Numbers.{has_number}
 use Rattle.jvm_types.specs.CodeGrammar.{is_start}
 use Rattle.jvm_types.specs.Types.{TypeFrame}
-use Rattle.jvm_types.specs.Verifying.{Node, brought, all_brought, has_other_depth, clash, unless_caught, catch_fault, frame_at_handler, handled, frame_at, Fits}
+use Rattle.jvm_types.specs.Verifying.{Node, brought, all_brought, has_other_depth, clash, unless_caught, catch_fault, frame_at_handler, handled, frame_at, FrameFits}
 use Rattle.jvm_types.specs.declared.code.Insn.{Insn}
 use Rattle.jvm_types.specs.declared.program.MethodInfo.{MethodInfo}
 use Rattle.jvm_types.specs.declared.program.Row.{Row}
@@ -40,14 +40,14 @@ module _ (m : MethodInfo) (f : TypeFrame) (b : IsBounded m f) (code : List Insn)
       record { risen = all_risen_trans nodes next (all_brought code tos f next) one more.risen; bounded = more.bounded }
 
   pub all_fit : (tos : List ℕ) (nodes : List Node) → AreBounded m nodes → length nodes ≡ length code → AllByRecursion (λ to. is_start code to ≡ true) tos → AreDeep code (length f.stack) nodes tos
-      → AllByRecursion (Fits code (frames_of (all_brought code tos f nodes)) f) tos
+      → AllByRecursion (FrameFits code (frames_of (all_brought code tos f nodes)) f) tos
   all_fit [] nodes c l s d = tt
   all_fit (to ∷ tos) nodes c l s d =
       let next : List Node = brought code to f nodes in
       let bounded : AreBounded m next = brought_bounded m f b to code nodes c in
       let long : length next ≡ length code = sym (risen_length nodes next (brought_risen m f b to code nodes c d.0)) ∙ l in
       let deep : AreDeep code (length f.stack) next tos = deep_kept to nodes tos d.1 in
-      let one : Fits code (frames_of next) f to = brought_fits m f b to code nodes c s.0 l d.0 in
+      let one : FrameFits code (frames_of next) f to = brought_fits m f b to code nodes c s.0 l d.0 in
       (fits_risen code next (all_brought code tos f next) f to (all_carried tos next bounded deep).risen one, all_fit tos next bounded long s.1 deep)
 
 -- ---- where V5 holds
@@ -100,7 +100,7 @@ edges_deep code tos depth nodes e = picks (λ to. IsDeep depth (frame_at code (f
 pub record Handles (m : MethodInfo) (pc : ℕ) (f : TypeFrame) (handlers : List Row) (nodes mid : List Node) : Type 0 where
   pub carries : Carries m nodes mid
   pub hold : AllByRecursion (λ handler. catch_fault m pc handler ≡ None) handlers
-  pub fit : AllByRecursion (λ handler. Fits m.code (frames_of mid) (frame_at_handler handler f) handler.handler) handlers
+  pub fit : AllByRecursion (λ handler. FrameFits m.code (frames_of mid) (frame_at_handler handler f) handler.handler) handlers
 
 pub uncaught : (fault : Option (VRule × ℕ)) (at : Option ℕ) (more : Result (List Node) (VRule × ℕ)) (mid : List Node) → unless_caught fault at more ≡ Ok mid → (fault ≡ None) × (at ≡ None) × (more ≡ Ok mid)
 uncaught (Some fault) at more mid e = absurd (cc)

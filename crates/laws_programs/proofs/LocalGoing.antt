@@ -7,8 +7,8 @@ use Rattle.std.proofs.lemmas.Bool.{cond_both}
 use Rattle.std.proofs.lemmas.Bool.Decides.{nat_tests}
 use Rattle.jvm_types.specs.CodeTable.{row, branches_to}
 use Rattle.jvm_types.specs.CodeGrammar.{is_start, IsStart, SpellsInsns, RowFits}
-use Rattle.jvm_types.specs.Types.{TypeFrame, entry_frame}
-use Rattle.jvm_types.specs.Verifying.{Node, node_at, covers, first_nodes, visited, waiting_from, next_visit, Visits, frame_at, Fits, IsFrameBelow, IsSound, IsAssignment, IsLaidOut, LocalLaw}
+use Rattle.jvm_types.specs.Types.{TypeFrame, entry_type_frame}
+use Rattle.jvm_types.specs.Verifying.{Node, node_at, covers, first_nodes, visited, waiting_from, next_visit, Visits, frame_at, FrameFits, IsFrameBelow, IsSound, IsAssignment, IsLaidOut, LocalLaw}
 use Rattle.jvm_types.specs.declared.class_file.Handler.{Handler}
 use Rattle.jvm_types.specs.declared.code.Insn.{Insn}
 use Rattle.jvm_types.specs.declared.program.MethodInfo.{MethodInfo}
@@ -57,7 +57,7 @@ begins m laid = first m.code laid.code.spelled
 pub record IsGoing (p : Program) (m : MethodInfo) (nodes : List Node) : Type 0 where
   pub long : length nodes ≡ length m.code
   pub bounded : AreBounded m nodes
-  pub entry : Fits m.code (frames_of nodes) (entry_frame m) 0
+  pub entry : FrameFits m.code (frames_of nodes) (entry_type_frame m) 0
   pub sound : (i : ℕ) (node : Node) (insn : Insn) (target : Target) (f : TypeFrame) → slice_get nodes i ≡ Some node → node.waits ≡ false → slice_get m.code i ≡ Some insn → slice_get m.targets i ≡ Some target
       → node.frame ≡ Some f → IsSound m insn (row p m insn.pc target insn.op) (frames_of nodes) f
 
@@ -73,11 +73,11 @@ first_bounded : (m : MethodInfo) (code : List Insn) → AreBounded m (first_node
 first_bounded m [] = tt
 first_bounded m (insn ∷ code) = (entry_bounded m, none_bounded m code)
 
-first_entry : (m : MethodInfo) (insn : Insn) (code : List Insn) → insn.pc ≡ 0 → Fits (insn ∷ code) (frames_of (first_nodes m (insn ∷ code))) (entry_frame m) 0
+first_entry : (m : MethodInfo) (insn : Insn) (code : List Insn) → insn.pc ≡ 0 → FrameFits (insn ∷ code) (frames_of (first_nodes m (insn ∷ code))) (entry_type_frame m) 0
 first_entry m insn code e = by_test (insn.pc == 0) (grind (arith, nat_tests, e))
   where
-    by_test : (t : Bool) → t ≡ true → IsFrameBelow (Some (entry_frame m)) (cond t (Some (entry_frame m)) (frame_at code (frames_of (map (λ other. record { frame = None; waits = false }) code)) 0))
-    by_test true e = frame_self (Some (entry_frame m))
+    by_test : (t : Bool) → t ≡ true → IsFrameBelow (Some (entry_type_frame m)) (cond t (Some (entry_type_frame m)) (frame_at code (frames_of (map (λ other. record { frame = None; waits = false }) code)) 0))
+    by_test true e = frame_self (Some (entry_type_frame m))
     by_test false e = absurd (cc)
 
 some_same : {a b : Node} → Some a ≡ Some b → a ≡ b
@@ -101,8 +101,8 @@ first_going p m laid = record {
   sound = λ i node insn target f e w c t g. let none : Some f ≡ None = sym g ∙ first_waits m m.code i node e w in absurd (cc);
 }
   where
-    enters : ((insn : Insn) × (code : List Insn) × (m.code ≡ insn ∷ code) × (insn.pc ≡ 0)) → Fits m.code (frames_of (first_nodes m m.code)) (entry_frame m) 0
-    enters b = subst (λ (code : List Insn). Fits code (frames_of (first_nodes m code)) (entry_frame m) 0) (sym b.2) (first_entry m b.0 b.1 b.3)
+    enters : ((insn : Insn) × (code : List Insn) × (m.code ≡ insn ∷ code) × (insn.pc ≡ 0)) → FrameFits m.code (frames_of (first_nodes m m.code)) (entry_type_frame m) 0
+    enters b = subst (λ (code : List Insn). FrameFits code (frames_of (first_nodes m code)) (entry_type_frame m) 0) (sym b.2) (first_entry m b.0 b.1 b.3)
 
 -- ---- one visit
 
@@ -121,7 +121,7 @@ visit_goes : (p : Program) (m : MethodInfo) (nodes mid : List Node) (i : ℕ) �
 visit_goes p m nodes mid i laid going made = record {
   long = sym (risen_length (cleared nodes i) mid carries.risen) ∙ length-set _ _ _ ∙ going.long;
   bounded = carries.bounded;
-  entry = fits_risen m.code (cleared nodes i) mid (entry_frame m) 0 carries.risen (as_cleared (λ fs. Fits m.code fs (entry_frame m) 0) going.entry);
+  entry = fits_risen m.code (cleared nodes i) mid (entry_type_frame m) 0 carries.risen (as_cleared (λ fs. FrameFits m.code fs (entry_type_frame m) 0) going.entry);
   sound = λ j b insn target f e w c t g. sound j b insn target f (risen_at (cleared nodes i) mid j b carries.risen e) w c t g;
 }
   where

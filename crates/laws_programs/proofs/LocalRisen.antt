@@ -5,7 +5,7 @@ use Rattle.std.specs.List.{AllZip}
 use Rattle.std.proofs.lemmas.Bool.{and_parts}
 use Rattle.std.proofs.lemmas.Bool.Decides.{nat_tests}
 use Rattle.jvm_types.specs.Types.{TypeFrame, same_type, all_pairs, same_ready, same_frame}
-use Rattle.jvm_types.specs.Verifying.{Node, frame_at, Fits, IsFrameBelow}
+use Rattle.jvm_types.specs.Verifying.{Node, frame_at, FrameFits, IsFrameBelow}
 use Rattle.jvm_types.specs.declared.code.Insn.{Insn}
 use Rattle.jvm_types.specs.declared.typing.VType.{VType}
 use Rattle.jvm_types.specs.declared.typing.VType.TheVariants.{Int, Null, Ref, This, New, Top}
@@ -82,7 +82,7 @@ frame_at_risen (insn ∷ code) (a ∷ xs) (b ∷ ys) pc h = by_test (insn.pc == 
     by_test false more = more
 
 -- what fits goes on to fit
-pub fits_risen : (code : List Insn) (xs ys : List Node) (f : TypeFrame) (to : ℕ) → AreRisen xs ys → Fits code (frames_of xs) f to → Fits code (frames_of ys) f to
+pub fits_risen : (code : List Insn) (xs ys : List Node) (f : TypeFrame) (to : ℕ) → AreRisen xs ys → FrameFits code (frames_of xs) f to → FrameFits code (frames_of ys) f to
 fits_risen code xs ys f to h k = frame_trans (Some f) (frame_at code (frames_of xs) to) (frame_at code (frames_of ys) to) k (frame_at_risen code xs ys to h)
 
 -- ---- equal frames

@@ -6,7 +6,7 @@ use Rattle.jvm_types.specs.CodeTable.{row, branches_to, falls_through}
 use Rattle.jvm_types.specs.declared.op_row.OpRow.{OpRow}
 use Rattle.jvm_types.specs.CodeGrammar.{is_start}
 use Rattle.jvm_types.specs.Types.{TypeFrame}
-use Rattle.jvm_types.specs.Verifying.{Node, node_at, broken_before, broken_after, returns_wrongly, falls_off, edges, frame_after, all_brought, clash, covering, handled, unless_broken, unless_clash, gone_on, visited_row, visited_insn, visited, frame_at_handler, Fits, IsSound}
+use Rattle.jvm_types.specs.Verifying.{Node, node_at, broken_before, broken_after, returns_wrongly, falls_off, edges, frame_after, all_brought, clash, covering, handled, unless_broken, unless_clash, gone_on, visited_row, visited_insn, visited, frame_at_handler, FrameFits, IsSound}
 use Rattle.jvm_types.specs.declared.code.Insn.{Insn}
 use Rattle.jvm_types.specs.declared.program.MethodInfo.{MethodInfo}
 use Rattle.jvm_types.specs.declared.program.Program.{Program}
@@ -51,9 +51,9 @@ pub sound_risen : (m : MethodInfo) (insn : Insn) (r : OpRow) (f : TypeFrame) (xs
 sound_risen m insn r f xs ys h s = record {
   before = s.before;
   after = s.after;
-  edges_fit = all_weaker (Fits m.code (frames_of xs) (frame_after m r f)) (Fits m.code (frames_of ys) (frame_after m r f)) (λ to k. fits_risen m.code xs ys (frame_after m r f) to h k) (edges insn) s.edges_fit;
+  edges_fit = all_weaker (FrameFits m.code (frames_of xs) (frame_after m r f)) (FrameFits m.code (frames_of ys) (frame_after m r f)) (λ to k. fits_risen m.code xs ys (frame_after m r f) to h k) (edges insn) s.edges_fit;
   rows_hold = s.rows_hold;
-  handlers_fit = all_weaker (λ (handler : Row). Fits m.code (frames_of xs) (frame_at_handler handler f) handler.handler) (λ (handler : Row). Fits m.code (frames_of ys) (frame_at_handler handler f) handler.handler)
+  handlers_fit = all_weaker (λ (handler : Row). FrameFits m.code (frames_of xs) (frame_at_handler handler f) handler.handler) (λ (handler : Row). FrameFits m.code (frames_of ys) (frame_at_handler handler f) handler.handler)
       (λ handler k. fits_risen m.code xs ys (frame_at_handler handler f) handler.handler h k) (covering m insn.pc) s.handlers_fit;
 }
 
@@ -77,14 +77,14 @@ module _ (m : MethodInfo) (insn : Insn) (r : OpRow) (f : TypeFrame) (leads : Lea
       let bound : IsBounded m after = after_bounded m insn r f before.0 b in
       let deep = edges_deep m.code (edges insn) (length after.stack) nodes apart.0 in
       let carries : Carries m nodes next = all_carried m after bound m.code (edges insn) nodes c deep in
-      let fit : AllByRecursion (Fits m.code (frames_of next) after) (edges insn) = all_fit m after bound m.code (edges insn) nodes c l (edges_start m insn leads (falls_on m insn later.0)) deep in
+      let fit : AllByRecursion (FrameFits m.code (frames_of next) after) (edges insn) = all_fit m after bound m.code (edges insn) nodes c l (edges_start m insn leads (falls_on m insn later.0)) deep in
       let more : Handles m insn.pc f (covering m insn.pc) next mid =
       handles m insn.pc f b (covering m insn.pc) next mid carries.bounded (sym (risen_length nodes next carries.risen) ∙ l) leads.handlers later.1 in (
         record { risen = all_risen_trans nodes next mid carries.risen more.carries.risen; bounded = more.carries.bounded },
         record {
           before = before.0;
           after = later.0;
-          edges_fit = all_weaker (Fits m.code (frames_of next) after) (Fits m.code (frames_of mid) after) (λ to k. fits_risen m.code next mid after to more.carries.risen k) (edges insn) fit;
+          edges_fit = all_weaker (FrameFits m.code (frames_of next) after) (FrameFits m.code (frames_of mid) after) (λ to k. fits_risen m.code next mid after to more.carries.risen k) (edges insn) fit;
           rows_hold = more.hold;
           handlers_fit = more.fit;
         },

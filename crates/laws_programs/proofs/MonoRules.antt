@@ -5,7 +5,7 @@ use Rattle.std.proofs.lemmas.Bool.{or_parts, or_from, not-false}
 use Rattle.jvm_types.specs.declared.op_row.Want.{Want}
 use Rattle.jvm_types.specs.declared.op_row.OpRow.{OpRow}
 use Rattle.jvm_types.specs.Types.{TypeFrame, is_below, all_pairs, frame_below}
-use Rattle.jvm_types.specs.Verifying.{suits, some_taken, at_local, some_read, first_broken, takes_too_many, gives_too_many, names_no_local, lacks_locals, misuses_object, mistypes, broken_before}
+use Rattle.jvm_types.specs.Verifying.{suits, some_taken, is_fault_at_local, some_read, first_broken, takes_too_many, gives_too_many, names_no_local, lacks_locals, misuses_object, mistypes, broken_before}
 use Rattle.jvm_types.specs.declared.code.Insn.{Insn}
 use Rattle.jvm_types.specs.declared.program.MethodInfo.{MethodInfo}
 use Rattle.jvm_types.specs.declared.refusal.VRule.{VRule}
@@ -28,8 +28,8 @@ taken_below m (want ∷ wants) (t ∷ ts) (u ∷ us) h k =
     let parts = or_parts (mismatch m want u) (some_taken (mismatch m) wants us) k in
     or_from (mismatch m want t) (some_taken (mismatch m) wants ts) (match_below m want t u (head_below t u ts us h) parts.0) (taken_below m wants ts us (tail_below t u ts us h) parts.1)
 
-local_below : (m : MethodInfo) (want : Want) (ts us : List VType) (i : ℕ) → all_pairs is_below ts us ≡ true → at_local (mismatch m) want (slice_get us i) ≡ false
-    → at_local (mismatch m) want (slice_get ts i) ≡ false
+local_below : (m : MethodInfo) (want : Want) (ts us : List VType) (i : ℕ) → all_pairs is_below ts us ≡ true → is_fault_at_local (mismatch m) want (slice_get us i) ≡ false
+    → is_fault_at_local (mismatch m) want (slice_get ts i) ≡ false
 local_below m want [] us i h k = refl
 local_below m want (t ∷ ts) [] i h k = absurd (cc)
 local_below m want (t ∷ ts) (u ∷ us) zero h k = match_below m want t u (head_below t u ts us h) k

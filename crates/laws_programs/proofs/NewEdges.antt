@@ -21,18 +21,18 @@ use Rattle.jvm_types.proofs.FrameOrder.{stack_below, locals_below}
 use Rattle.laws_programs.proofs.LocalEdges.{picks, second_false}
 use Rattle.laws_programs.proofs.RowsKeep.{IsFine, IsFineWrite, types_fine, row_fine}
 use Rattle.laws_programs.proofs.RuleUses.{hold}
-use Rattle.laws_programs.specs.NewLaws.{IsBehind, AreBehind, NewStaysBehind, BehindRises}
+use Rattle.laws_programs.specs.NewLaws.{IsNewBefore, AreBehind, NewStaysBehind, BehindRises}
 
 -- ---- behind their `new`
 
-behind_top : (pc : ℕ) → IsBehind pc Top
+behind_top : (pc : ℕ) → IsNewBefore pc Top
 behind_top pc = tt
 
-rises : (pc to : ℕ) → pc ≤ to → (ts : List VType) → AllByRecursion (IsBehind pc) ts → AllByRecursion (IsBehind to) ts
+rises : (pc to : ℕ) → pc ≤ to → (ts : List VType) → AllByRecursion (IsNewBefore pc) ts → AllByRecursion (IsNewBefore to) ts
 rises pc to l [] a = tt
 rises pc to l (t ∷ ts) a = (one t a.0, rises pc to l ts a.1)
   where
-    one : (t : VType) → IsBehind pc t → IsBehind to t
+    one : (t : VType) → IsNewBefore pc t → IsNewBefore to t
     one (New q) h = omega (arith, h, l)
     one Int h = tt
     one Null h = tt
@@ -44,11 +44,11 @@ rises pc to l (t ∷ ts) a = (one t a.0, rises pc to l ts a.1)
 abbrev IsNoNew : VType → Type 0
 IsNoNew t = is_new t ≡ false
 
-none_behind : (to : ℕ) (ts : List VType) → AllByRecursion IsNoNew ts → AllByRecursion (IsBehind to) ts
+none_behind : (to : ℕ) (ts : List VType) → AllByRecursion IsNoNew ts → AllByRecursion (IsNewBefore to) ts
 none_behind to [] a = tt
 none_behind to (t ∷ ts) a = (one t a.0, none_behind to ts a.1)
   where
-    one : (t : VType) → is_new t ≡ false → IsBehind to t
+    one : (t : VType) → is_new t ≡ false → IsNewBefore to t
     one (New q) h = absurd (let bad : true ≡ false = h in cc)
     one Int h = tt
     one Null h = tt
@@ -113,8 +113,8 @@ reaches_back pc (t ∷ tos) to b l = by_test (t == to) refl b (λ h. reaches_bac
 module _ (p : Program) (m : MethodInfo) (insn : Insn) (target : Target) (f : TypeFrame) (ok : broken_before m insn (row p m insn.pc target insn.op) f ≡ None) (a : AreBehind insn.pc f) where
   after_all : AreBehind (suc insn.pc) (frame_after m (row p m insn.pc target insn.op) f)
   after_all =
-      let fine = row_fine (IsBehind (suc insn.pc)) tt tt tt (λ c. tt) p m insn.pc (omega arith) target insn.op in
-      let h = types_fine (IsBehind (suc insn.pc)) tt (λ c. tt) m (row p m insn.pc target insn.op) f fine.0 fine.1 (rises insn.pc (suc insn.pc) (omega arith) f.stack a.stack) (rises insn.pc (suc insn.pc) (omega arith) f.locals a.locals) in
+      let fine = row_fine (IsNewBefore (suc insn.pc)) tt tt tt (λ c. tt) p m insn.pc (omega arith) target insn.op in
+      let h = types_fine (IsNewBefore (suc insn.pc)) tt (λ c. tt) m (row p m insn.pc target insn.op) f fine.0 fine.1 (rises insn.pc (suc insn.pc) (omega arith) f.stack a.stack) (rises insn.pc (suc insn.pc) (omega arith) f.locals a.locals) in
       record { stack = h.0; locals = h.1 }
 
   after_branch : (to : ℕ) → has_number (branches_to insn.op) to ≡ true → AreBehind to (frame_after m (row p m insn.pc target insn.op) f)
@@ -158,11 +158,11 @@ stays_behind p m insn target f after ok a =
 
 -- ---- frames that are above
 
-behind_above : (pc : ℕ) (us vs : List VType) → all_pairs is_below us vs ≡ true → AllByRecursion (IsBehind pc) us → AllByRecursion (IsBehind pc) vs
+behind_above : (pc : ℕ) (us vs : List VType) → all_pairs is_below us vs ≡ true → AllByRecursion (IsNewBefore pc) us → AllByRecursion (IsNewBefore pc) vs
 behind_above pc [] [] e a = tt
 behind_above pc (u ∷ us) (v ∷ vs) e a = let parts = and_parts (is_below u v) (all_pairs is_below us vs) e in (one u v parts.0 a.0, behind_above pc us vs parts.1 a.1)
   where
-    one : (u v : VType) → is_below u v ≡ true → IsBehind pc u → IsBehind pc v
+    one : (u v : VType) → is_below u v ≡ true → IsNewBefore pc u → IsNewBefore pc v
     one u Top b h = tt
     one u Int b h = tt
     one u Null b h = tt

@@ -7,7 +7,7 @@ use Rattle.jvm_types.specs.CodeGrammar.{SpellsInsns}
 use Rattle.jvm_types.specs.CodeTable.{row, type_of, is_init}
 use Rattle.jvm_types.specs.declared.op_row.OpRow.{OpRow}
 use Rattle.jvm_types.specs.Members.{is_static}
-use Rattle.jvm_types.specs.Types.{TypeFrame, if_same_place, meet, meets, receiver_types, entry_frame}
+use Rattle.jvm_types.specs.Types.{TypeFrame, if_same_place, meet, meets, receiver_types, entry_type_frame}
 use Rattle.jvm_types.specs.Verifying.{Node, node_at, first_nodes, node_met, brought, all_brought, handled, covering, frame_at_handler, frame_after, edges, clash, catch_fault, broken_before, broken_after, gone_on, visited_row, visited_insn, visited, Visits}
 use Rattle.jvm_types.specs.declared.code.Insn.{Insn}
 use Rattle.jvm_types.specs.declared.program.Kind.{Kind}
@@ -24,39 +24,39 @@ use Rattle.laws_programs.proofs.LocalRisen.{frames_of}
 use Rattle.laws_programs.proofs.LocalEdges.{uncaught}
 use Rattle.laws_programs.proofs.LocalVisit.{unclashed, cleared, cleared_frames}
 use Rattle.laws_programs.proofs.NewEdges.{stays_behind}
-use Rattle.laws_programs.specs.NewLaws.{IsBehind, AreBehind, NewIsBehind}
+use Rattle.laws_programs.specs.NewLaws.{IsNewBefore, AreBehind, NewIsBehind}
 use Rattle.laws_programs.proofs.VisitsEnd.{unless_broken_ok}
 
 -- ---- the frame at the start has none
 
-kind_behind : (pc : ℕ) (kind : Kind) → IsBehind pc (type_of kind)
+kind_behind : (pc : ℕ) (kind : Kind) → IsNewBefore pc (type_of kind)
 kind_behind pc kinds.Int = tt
 kind_behind pc kinds.Bool = tt
 kind_behind pc (kinds.Ref class) = tt
 
-kinds_behind : (pc : ℕ) (ks : List Kind) → AllByRecursion (IsBehind pc) (map type_of ks)
+kinds_behind : (pc : ℕ) (ks : List Kind) → AllByRecursion (IsNewBefore pc) (map type_of ks)
 kinds_behind pc [] = tt
 kinds_behind pc (kind ∷ ks) = (kind_behind pc kind, kinds_behind pc ks)
 
-tops_behind : (pc n : ℕ) → AllByRecursion (IsBehind pc) (replicate n Top)
+tops_behind : (pc n : ℕ) → AllByRecursion (IsNewBefore pc) (replicate n Top)
 tops_behind pc zero = tt
 tops_behind pc (suc n) = (tt, tops_behind pc n)
 
-receiver_behind : (pc : ℕ) (static init : Bool) (class : ℕ) → AllByRecursion (IsBehind pc) (cond static [] (cond init This (Ref class) ∷ []))
+receiver_behind : (pc : ℕ) (static init : Bool) (class : ℕ) → AllByRecursion (IsNewBefore pc) (cond static [] (cond init This (Ref class) ∷ []))
 receiver_behind pc true init class = tt
 receiver_behind pc false true class = (tt, tt)
 receiver_behind pc false false class = (tt, tt)
 
-entry_behind : (m : MethodInfo) (pc : ℕ) → AreBehind pc (entry_frame m)
+entry_behind : (m : MethodInfo) (pc : ℕ) → AreBehind pc (entry_type_frame m)
 entry_behind m pc = record {
   stack = tt;
-  locals = all_append (IsBehind pc) (receiver_types m ++ map type_of m.args) _
-      (all_append (IsBehind pc) (receiver_types m) (map type_of m.args) (receiver_behind pc (is_static m.flags) (is_init m) m.class) (kinds_behind pc m.args)) (tops_behind pc (m.max_locals - length (receiver_types m ++ map type_of m.args)));
+  locals = all_append (IsNewBefore pc) (receiver_types m ++ map type_of m.args) _
+      (all_append (IsNewBefore pc) (receiver_types m) (map type_of m.args) (receiver_behind pc (is_static m.flags) (is_init m) m.class) (kinds_behind pc m.args)) (tops_behind pc (m.max_locals - length (receiver_types m ++ map type_of m.args)));
 }
 
 -- ---- where two edges meet
 
-meet_behind : (pc : ℕ) (t u : VType) → IsBehind pc t → IsBehind pc (meet t u)
+meet_behind : (pc : ℕ) (t u : VType) → IsNewBefore pc t → IsNewBefore pc (meet t u)
 meet_behind pc Int Int h = tt
 meet_behind pc Null Null h = tt
 meet_behind pc Null (Ref class) h = tt
@@ -65,12 +65,12 @@ meet_behind pc (Ref class) (Ref other) h = tt
 meet_behind pc This This h = tt
 meet_behind pc (New p) (New q) h = by_test (p == q) h
   where
-    by_test : (t : Bool) → p < pc → IsBehind pc (if_same_place t (New p))
+    by_test : (t : Bool) → p < pc → IsNewBefore pc (if_same_place t (New p))
     by_test true h = h
     by_test false h = tt
 meet_behind pc t u h = tt
 
-meets_behind : (pc : ℕ) (ts us : List VType) → AllByRecursion (IsBehind pc) ts → AllByRecursion (IsBehind pc) (meets ts us)
+meets_behind : (pc : ℕ) (ts us : List VType) → AllByRecursion (IsNewBefore pc) ts → AllByRecursion (IsNewBefore pc) (meets ts us)
 meets_behind pc [] us h = tt
 meets_behind pc (t ∷ ts) [] h = tt
 meets_behind pc (t ∷ ts) (u ∷ us) h = (meet_behind pc t u h.0, meets_behind pc ts us h.1)

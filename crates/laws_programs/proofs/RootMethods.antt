@@ -14,7 +14,7 @@ use Rattle.jvm_types.specs.declared.program.Kind.TheVariants.{Int}
 use Rattle.jvm_types.specs.declared.program.MethodInfo.{MethodInfo}
 use Rattle.jvm_types.specs.declared.program.Program.{Program}
 use Rattle.laws_programs.proofs.FieldOrder.{before_at}
-use Rattle.laws_programs.specs.RootLaws.{IsRoot, ClassInitsAreRoots, EntriesAreRoots, RunIsRoot, RunStands, OneMethod}
+use Rattle.laws_programs.specs.RootLaws.{IsRoot, ClassInitsAreRoots, EntriesAreRoots, RunIsRoot, RunIsThere, OneMethod}
 use Rattle.laws_programs.proofs.LocalEdges.{second_false}
 
 -- ---- tests
@@ -94,7 +94,7 @@ found {X = X} test (x ∷ xs) e = by_test (test x) refl e (found test xs)
     by_test true h e more = (0, x, refl, h)
     by_test false h e more = let m = more e in (suc m.0, m.1, m.2, m.3)
 
-pub run_stands_there : RunStands
+pub run_stands_there : RunIsThere
 run_stands_there p is some =
     let at = found (λ (m : MethodInfo). (m.class == file_class 0) && is_run m.name m.descriptor) p.methods (is.run some) in
     let parts = and_parts (at.1.class == file_class 0) (is_run at.1.name at.1.descriptor) at.3 in

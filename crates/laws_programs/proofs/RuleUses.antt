@@ -4,12 +4,12 @@ use Rattle.std.specs.Prelude.{nat_lt, nat_le, slice_get}
 use Rattle.std.proofs.lemmas.Bool.{and_from, not-false, or_parts}
 use Rattle.std.proofs.lemmas.Bool.Decides.{nat_tests}
 use Rattle.std.proofs.lemmas.List.{length-map, length-reverse}
-use Rattle.jvm_types.specs.CodeTable.{type_of, want_of, arguments, returned, row}
+use Rattle.jvm_types.specs.CodeTable.{type_of, want_of, arguments, returned_want, row}
 use Rattle.jvm_types.specs.declared.op_row.Want.{Want}
 use Rattle.jvm_types.specs.declared.op_row.Want.TheVariants.{AnInt}
 use Rattle.jvm_types.specs.declared.op_row.OpRow.{OpRow}
 use Rattle.jvm_types.specs.Types.{TypeFrame, is_below, all_pairs}
-use Rattle.jvm_types.specs.Verifying.{takes_too_many, gives_too_many, lacks_locals, misuses_object, mistypes, misuses, suits, some_taken, some_read, at_local, some_operand, names_no_local, returns_wrongly, falls_off}
+use Rattle.jvm_types.specs.Verifying.{takes_too_many, gives_too_many, lacks_locals, misuses_object, mistypes, misuses, suits, some_taken, some_read, is_fault_at_local, some_operand, names_no_local, returns_wrongly, falls_off}
 use Rattle.jvm_types.specs.declared.code.Insn.{Insn}
 use Rattle.jvm_types.specs.declared.code.Op.{Op}
 use Rattle.jvm_types.specs.declared.code.Op.TheVariants as ops
@@ -92,7 +92,7 @@ read_fine : (fault : Want → VType → Bool) (reads : Option (ℕ × Want)) (ts
     → slice_get ts local ≡ Some t → fault want t ≡ false
 read_fine fault reads ts local want t h e g =
     let there : some_read fault (Some (local, want)) ts ≡ false = subst (λ (o : Option (ℕ × Want)). some_read fault o ts ≡ false) e h in
-    subst (λ (o : Option VType). at_local fault want o ≡ false) g there
+    subst (λ (o : Option VType). is_fault_at_local fault want o ≡ false) g there
 
 below_locals : (m : MethodInfo) (reads : Option (ℕ × Want)) (local : ℕ) (want : Want) → reads ≡ Some (local, want) → names_no_local m reads ≡ false → local < m.max_locals
 below_locals m reads local want e h =
@@ -159,7 +159,7 @@ int_result (Some kinds.Int) e = (kinds.Int, refl, refl)
 int_result (Some kinds.Bool) e = (kinds.Bool, refl, refl)
 int_result (Some (kinds.Ref class)) e = absurd (cc)
 
-object_result : (o : Option Kind) → returns_wrongly ops.Areturn o ≡ false → (kind : Kind) × (o ≡ Some kind) × (want_of kind ≡ returned o)
+object_result : (o : Option Kind) → returns_wrongly ops.Areturn o ≡ false → (kind : Kind) × (o ≡ Some kind) × (want_of kind ≡ returned_want o)
 object_result None e = absurd (cc)
 object_result (Some kinds.Int) e = absurd (cc)
 object_result (Some kinds.Bool) e = absurd (cc)
@@ -178,7 +178,7 @@ by_op : (p : Program) (m : MethodInfo) (pc next : ℕ) (target : Target) (f : Ty
     → returns_wrongly op m.result ≡ false → ReturnsWell m op f.stack
 by_op p m pc next target f ops.Return rules e = no_result m.result e
 by_op p m pc next target f ops.Ireturn rules e = top_suits m (record { pc = pc; next = next; op = ops.Ireturn }) (row p m pc target ops.Ireturn) f AnInt rules refl (int_result m.result e)
-by_op p m pc next target f ops.Areturn rules e = top_suits m (record { pc = pc; next = next; op = ops.Areturn }) (row p m pc target ops.Areturn) f (returned m.result) rules refl (object_result m.result e)
+by_op p m pc next target f ops.Areturn rules e = top_suits m (record { pc = pc; next = next; op = ops.Areturn }) (row p m pc target ops.Areturn) f (returned_want m.result) rules refl (object_result m.result e)
 by_op p m pc next target f op rules e = tt
 
 pub returns_suit_all : ReturnsSuit

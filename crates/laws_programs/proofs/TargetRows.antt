@@ -4,7 +4,7 @@ use Rattle.std.specs.Prelude.{IsSomeAnd, slice_get}
 use Rattle.std.proofs.lemmas.Bool.{and_parts, not-false}
 use Rattle.jvm_types.specs.CodeTable.{row}
 use Rattle.jvm_types.specs.declared.op_row.OpRow.{OpRow}
-use Rattle.jvm_types.specs.Members.{is_static, is_init_name, is_class_init_name, is_final, is_other_sort, is_hidden, initializes, first_rule, Site, field_rule, call_rule, fits_call}
+use Rattle.jvm_types.specs.Members.{is_static, is_init_name, is_class_init_name, is_final, is_other_sort, is_hidden, initializes, first_rule, MethodSite, field_rule, call_rule, fits_call}
 use Rattle.jvm_types.specs.declared.call.Call.{Call}
 use Rattle.jvm_types.specs.declared.call.Call.TheVariants.{Virtual, Special, Static}
 use Rattle.jvm_types.specs.ProgramInvariant.{IsTargetOf, site_in}
@@ -30,7 +30,7 @@ of_sort true true e = refl
 of_sort true false e = absurd (cc)
 of_sort false other e = e
 
-module _ (p : Program) (site : Site) where
+module _ (p : Program) (site : MethodSite) where
   field_named : (static writes : Bool) (number : ℕ) (row_of : Option FieldInfo → OpRow) (o : Option FieldInfo) → slice_get p.fields number ≡ o
       → IsSomeAnd o (λ f. field_rule static writes site f.class f.flags ≡ None) → NamesField p number static row_of (row_of o)
   field_named static writes number row_of None e h = absurd h

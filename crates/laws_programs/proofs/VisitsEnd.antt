@@ -8,7 +8,7 @@ use Rattle.std.proofs.lemmas.List.{length-append, length-drop, length-map, lengt
 use Rattle.jvm_types.specs.CodeTable.{value_of, row, stack_after, locals_after}
 use Rattle.jvm_types.specs.declared.op_row.Given.{Given}
 use Rattle.jvm_types.specs.declared.op_row.OpRow.{OpRow}
-use Rattle.jvm_types.specs.Types.{TypeFrame, meet_frames, same_frame, entry_frame}
+use Rattle.jvm_types.specs.Types.{TypeFrame, meet_frames, same_frame, entry_type_frame}
 use Rattle.jvm_types.specs.Verifying.{Node, node_at, first_nodes, node_met, brought, all_brought, clash, frame_at_handler, catch_fault, unless_caught, handled, unless_broken, unless_clash, covering, edges, takes_too_many, gives_too_many, broken_before, broken_after, started, initialised, after_start, frame_after, gone_on, visited_row, visited_insn, visited, waiting_from, next_visit, IsLaidOut}
 use Rattle.jvm_types.specs.declared.code.Insn.{Insn}
 use Rattle.jvm_types.specs.declared.typing.VType.{VType}
@@ -27,7 +27,7 @@ use Rattle.laws_programs.proofs.FrameBounds.{locals_kept}
 -- a stack of at most max_stack, and no more locals than the entry frame has
 pub record IsWithin (m : MethodInfo) (f : TypeFrame) : Type 0 where
   pub stack : length f.stack ≤ m.max_stack
-  pub locals : length f.locals ≤ length (entry_frame m).locals
+  pub locals : length f.locals ≤ length (entry_type_frame m).locals
 
 abbrev pub IsFrameKept : MethodInfo → Option TypeFrame → Type 0
 IsFrameKept m None = Unit {0}
@@ -40,7 +40,7 @@ pub record IsKept (m : MethodInfo) (nodes : List Node) : Type 0 where
 
 -- what is counted of one instruction: a frame twice, so that it may begin to wait where it goes down
 frame_rank : MethodInfo → Option TypeFrame → ℕ
-frame_rank m None = 7 * (m.max_stack + length (entry_frame m).locals) + 2
+frame_rank m None = 7 * (m.max_stack + length (entry_type_frame m).locals) + 2
 frame_rank m (Some f) = types_rank f
 
 flag : Bool → ℕ
@@ -66,7 +66,7 @@ meet_within m g f h = record { stack = omega (arith, h.stack, meets_short g.stac
 
 within_rank : (m : MethodInfo) (f : TypeFrame) → IsWithin m f → frame_rank m (Some f) < frame_rank m None
 unfolding frame_rank
-within_rank m f h = omega (arith, types_small f (m.max_stack + length (entry_frame m).locals) (omega (arith, h.stack, h.locals)))
+within_rank m f h = omega (arith, types_small f (m.max_stack + length (entry_type_frame m).locals) (omega (arith, h.stack, h.locals)))
 
 first_weight : (m : MethodInfo) (f : TypeFrame) (waits : Bool) → IsWithin m f → weight m (Some f) true ≤ weight m None waits
 unfolding weight flag

@@ -12,14 +12,14 @@ use Rattle.jvm_types.specs.declared.program.Row.{Row}
 use Rattle.jvm_types.specs.declared.program.MethodInfo.{MethodInfo}
 use Rattle.jvm_types.specs.declared.program.Program.{Program}
 
-abbrev pub IsBehind : ℕ → VType → Type 0
-IsBehind pc (New at) = at < pc
-IsBehind pc t = Unit {0}
+abbrev pub IsNewBefore : ℕ → VType → Type 0
+IsNewBefore pc (New at) = at < pc
+IsNewBefore pc t = Unit {0}
 
 -- each such value was made before this pc
 pub record AreBehind (pc : ℕ) (f : TypeFrame) : Type 0 where
-  pub stack : AllByRecursion (IsBehind pc) f.stack
-  pub locals : AllByRecursion (IsBehind pc) f.locals
+  pub stack : AllByRecursion (IsNewBefore pc) f.stack
+  pub locals : AllByRecursion (IsNewBefore pc) f.locals
 
 -- in a typing each was made before the instruction at which it is
 abbrev pub NewIsBehind : Type 0

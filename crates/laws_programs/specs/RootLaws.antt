@@ -30,8 +30,8 @@ abbrev pub RunIsRoot : Type 0
 RunIsRoot = (p : Program) (number : ℕ) (m : MethodInfo) → IsProgram p → slice_get p.methods number ≡ Some m → m.class ≡ file_class 0 → is_run m.name m.descriptor ≡ true → IsRoot m (Int ∷ [])
 
 -- and it is there where there are workers
-abbrev pub RunStands : Type 0
-RunStands = (p : Program) → IsProgram p → 0 < p.workers
+abbrev pub RunIsThere : Type 0
+RunIsThere = (p : Program) → IsProgram p → 0 < p.workers
     → (number : ℕ) × (m : MethodInfo) × (slice_get p.methods number ≡ Some m) × (m.class ≡ file_class 0) × (is_run m.name m.descriptor ≡ true)
 
 -- two methods of one class, name and descriptor are one

@@ -7,7 +7,7 @@ use Rattle.jvm_types.specs.CodeTable.{an_int, stack_row, get_static_row, put_sta
 use Rattle.jvm_types.specs.declared.op_row.Want.TheVariants.{AnInt, AnObject, ToStart}
 use Rattle.jvm_types.specs.declared.op_row.Given.TheVariants.{Fresh}
 use Rattle.jvm_types.specs.declared.op_row.OpRow.{OpRow}
-use Rattle.jvm_types.specs.Members.{is_static, Site, fits_call}
+use Rattle.jvm_types.specs.Members.{is_static, MethodSite, fits_call}
 use Rattle.jvm_types.specs.declared.call.Call.{Call}
 use Rattle.jvm_types.specs.declared.call.Call.TheVariants.{Virtual, Special, Static}
 use Rattle.jvm_types.specs.ProgramInvariant.{IsClassOf, IsTargetOf, site_in}
@@ -42,7 +42,7 @@ pub record NamesField (p : Program) (number : ℕ) (static : Bool) (row_of : Opt
   pub its : r ≡ row_of (Some field)
 
 -- there is a method with this number, which such a call may name, and this is its row
-pub record NamesMethod (p : Program) (site : Site) (number : ℕ) (call : Call) (static : Bool) (row_of : Option MethodInfo → OpRow) (r : OpRow) : Type 0 where
+pub record NamesMethod (p : Program) (site : MethodSite) (number : ℕ) (call : Call) (static : Bool) (row_of : Option MethodInfo → OpRow) (r : OpRow) : Type 0 where
   pub method : MethodInfo
   pub there : slice_get p.methods number ≡ Some method
   pub fits : fits_call call site method.class method.name method.flags ≡ true
@@ -50,7 +50,7 @@ pub record NamesMethod (p : Program) (site : Site) (number : ℕ) (call : Call) 
   pub its : r ≡ row_of (Some method)
 
 -- the row of an instruction of a site, at a pc, by what its constant names; no other target goes with an instruction
-abbrev pub HasRow : Program → Site → (pc : ℕ) → Target → Op → OpRow → Type 0
+abbrev pub HasRow : Program → MethodSite → (pc : ℕ) → Target → Op → OpRow → Type 0
 HasRow p site pc (targets.Value n) (Ldc i) r = r ≡ stack_row [] (an_int ∷ [])
 HasRow p site pc (targets.Value n) (LdcW i) r = r ≡ stack_row [] (an_int ∷ [])
 HasRow p site pc (targets.Class class) (New i) r = (r ≡ stack_row [] (Fresh (types.New pc) ∷ [])) × IsClassOf p class × (can_be_made class ≡ true)

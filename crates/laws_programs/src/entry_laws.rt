@@ -1,6 +1,6 @@
 //! Laws of the frame that a method begins with (JVMS 4.10.2.2): each function only states one.
 
-ghost use Rattle.laws_programs.specs.EntryLaws.{ArgumentsFit, EntryFits, EntryHasArguments, EntryHasNoMore, EntryHasReceiver};
+ghost use Rattle.laws_programs.specs.EntryLaws.{ArgumentsFit, EntryFramesFit, EntryHasArguments, EntryHasNoMore, EntryHasReceiver};
 
 /// Receiver and arguments of a typed method fit in its locals.
 pub fn arguments_fit()
@@ -9,7 +9,7 @@ pub fn arguments_fit()
 
 /// The entry frame of a typed method has max_locals locals.
 pub fn entry_fits()
-    ensures { EntryFits }
+    ensures { EntryFramesFit }
 {}
 
 /// `this` is in local 0 of an instance method, uninitialised in an `<init>`.

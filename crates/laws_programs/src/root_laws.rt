@@ -1,7 +1,7 @@
 //! Laws of the methods that a part of a run begins with (JVMS 2.9, 5.5; `init`, `run` and `done` are the machine's own):
 //! each function only states one.
 
-ghost use Rattle.laws_programs.specs.RootLaws.{ClassInitsAreRoots, EntriesAreRoots, OneMethod, RunIsRoot, RunStands};
+ghost use Rattle.laws_programs.specs.RootLaws.{ClassInitsAreRoots, EntriesAreRoots, OneMethod, RunIsRoot, RunIsThere};
 
 /// A `<clinit>` is static, without a monitor, takes nothing and returns nothing.
 pub fn class_inits_are_roots()
@@ -21,7 +21,7 @@ pub fn run_is_root()
 /// Where there are workers the entry class has a `run`.
 #[tactic(auto, using(crate::proofs::RootMethods::run_stands_there))]
 pub fn run_stands()
-    ensures { RunStands }
+    ensures { RunIsThere }
 {}
 
 /// Two methods of one class, name and descriptor are one.

@@ -31,7 +31,7 @@ use Rattle.laws_states.proofs.WordViews.{lock_of_word}
 use Rattle.laws_states.specs.StateLaws.{ProgramsKeepThreads, RunsHaveState, IsInState}
 use Rattle.laws_refinement.proofs.Inside.{Inside, is_inside}
 use Rattle.laws_refinement.specs.Entries.{failed_here, KeepsCount}
-use Rattle.laws_refinement.specs.EntryLaws.{ThreadsKeepCount, FewFail, IsDue, HasBegun, DueBegin, BegunAreDue, AttemptsStay, AttemptsOnlyLook}
+use Rattle.laws_refinement.specs.EntryLaws.{ThreadsKeepCount, FewFail, IsAttemptDue, HasBegunAttempt, DueBegin, BegunAreDue, AttemptsStay, AttemptsOnlyLook}
 use Rattle.laws_refinement.proofs.MarkedEntries.{at_mark, enters_by_mark}
 use Rattle.laws_refinement.proofs.Looks.{only_looks}
 use Rattle.laws_refinement.proofs.OutsideEntries.{Begins, MovesTo, outside_moves}
@@ -67,7 +67,7 @@ free_word word count e = by_kind (word % 4) (word / 4) refl refl e
 
 -- ---- where one is due
 
-module _ (c : MarkedProgram) (cfg : Config) (s : Core) (x : Thread) (failed m count : ℕ) (settings : x.cfg ≡ cfg) (kept : KeepsCount x.attempt x.phase failed) (is_marked : IsMarked c) (due : IsDue c cfg s x failed m count) where
+module _ (c : MarkedProgram) (cfg : Config) (s : Core) (x : Thread) (failed m count : ℕ) (settings : x.cfg ≡ cfg) (kept : KeepsCount x.attempt x.phase failed) (is_marked : IsMarked c) (due : IsAttemptDue c cfg s x failed m count) where
   marked_there : enters_marked c x.frames ≡ true
   marked_there = enters_by_mark c is_marked x.frames due.marked
 
@@ -82,7 +82,7 @@ module _ (c : MarkedProgram) (cfg : Config) (s : Core) (x : Thread) (failed m co
   loads : wanted c x x.phase ≡ Some (Load m)
   loads = wants_load c x m due.tried due.enters due.outside due.not_held
 
-  begun_at : (fs : List Frame) → x.frames ≡ fs → HasBegun c x (begins x fs m count (due.tried + 1)) failed m count
+  begun_at : (fs : List Frame) → x.frames ≡ fs → HasBegunAttempt c x (begins x fs m count (due.tried + 1)) failed m count
   begun_at [] e = let bad : false ≡ true = subst (λ (gs : List Frame). enters_marked c gs ≡ true) e marked_there in absurd (cc)
   begun_at (f ∷ below) e =
       let new : Attempt = record { monitor = m; noted = count; base = length below; number = due.tried + 1; inner = 0; entry = f } in
@@ -120,21 +120,21 @@ module _ (c : MarkedProgram) (cfg : Config) (s : Core) (x : Thread) (failed m co
           ∙ ap (tries x m due.tried) free
           ∙ ap (λ (b : Bool). cond b (begins x x.frames m count (due.tried + 1)) (with_phase x (phases.Acquire m))) below_last
 
-  pub begun : HasBegun c x (moved c x x.phase (found_by s.words (wanted c x x.phase))) failed m count
-  begun = subst (λ (y : Thread). HasBegun c x y failed m count) (sym moves) (begun_at x.frames refl)
+  pub begun : HasBegunAttempt c x (moved c x x.phase (found_by s.words (wanted c x x.phase))) failed m count
+  begun = subst (λ (y : Thread). HasBegunAttempt c x y failed m count) (sym moves) (begun_at x.frames refl)
 
 pub due_begin : RunsHaveState → ProgramsKeepThreads → ThreadsKeepCount → DueBegin
 due_begin runs parts counted c cfg hs t x y m count marked width settings here there due =
     let s : Core = core c cfg hs in
     let state : IsInState c cfg s = runs c cfg hs marked width (parts c cfg marked settings) in
     let kept = (counted c cfg hs t marked width settings).kept x here in
-    subst (λ (z : Thread). HasBegun c x z (failed_here c cfg hs t) m count) (moved_is c s t x y here there)
+    subst (λ (z : Thread). HasBegunAttempt c x z (failed_here c cfg hs t) m count) (moved_is c s t x y here there)
     (begun c cfg s x (failed_here c cfg hs t) m count (state.facts.threads.own t x here).settings kept marked due)
 
 -- ---- where one has begun
 
 module _ (c : MarkedProgram) (cfg : Config) (s : Core) (x y : Thread) (a : Attempt) (failed : ℕ) (settings : x.cfg ≡ cfg) (kept : KeepsCount x.attempt x.phase failed) (outside : x.attempt ≡ None) where
-  was_due : Begins c x y (found_by s.words (wanted c x x.phase)) a → IsDue c cfg s x failed a.monitor a.noted
+  was_due : Begins c x y (found_by s.words (wanted c x x.phase)) a → IsAttemptDue c cfg s x failed a.monitor a.noted
   was_due b =
       let elides_few = both_are_true (x.cfg.elide && nat_lt b.tried 2) (enters_marked c x.frames) b.may in
       let elides = both_are_true x.cfg.elide (nat_lt b.tried 2) elides_few.0 in

@@ -8,7 +8,7 @@ use Rattle.std.proofs.lemmas.Option.{slice_get_within}
 use Rattle.lists.proofs.ListLaws.{same_some}
 use Rattle.jvm_types.specs.declared.fixed_words.TheConstants.{NEXT_FREE_WORD}
 use Rattle.checked_program.specs.MarkedProgram.{MarkedProgram, IsMarked}
-use Rattle.machine_types.specs.Attempts.{Stays, Leads, OwesNothing, Owes, Attempts}
+use Rattle.machine_types.specs.Attempts.{Stays, IsLedToPresent, OwesNothing, Owes, Attempts}
 use Rattle.machine_types.specs.Construction.{AreFrozen, Construction}
 use Rattle.machine_types.specs.Core.{Core, Happening, Of, NextPart, start, event, event_of, may_begin, next, all_happened, core, outcome}
 use Rattle.machine_types.specs.Counting.{run_at, take_at, count_along, CountsFit, AreCounted}
@@ -82,7 +82,7 @@ owed_none c objects w s t was x o d e k = subst (λ (a : Option Attempt). Owes c
 
 owes_over : (c : MarkedProgram) (objects : List Object) (w : World) (s r : Core) (t : ℕ) (was : Phase) (x : Thread) (o : Option Attempt) (d : Past) → r.words ≡ s.words → Owes c objects w s t was x o d → Owes c objects w r t was x o d
 owes_over c objects w s r t was x None d e k = k
-owes_over c objects w s r t was x (Some a) d e k = subst (λ (words : List ℕ). Leads c (Stays c objects w (slice_index words NEXT_FREE_WORD) t a.monitor) words was x a d) (sym e) k
+owes_over c objects w s r t was x (Some a) d e k = subst (λ (words : List ℕ). IsLedToPresent c (Stays c objects w (slice_index words NEXT_FREE_WORD) t a.monitor) words was x a d) (sym e) k
 
 module _ (given : GivenIsKept) (memory : InstructionsChangeMemory) (laws : AreEventLaws) (elided : AreElidedLaws) (c : MarkedProgram) (cfg : Config) (frozen : ℕ → Bool) (frozen_are : AreFrozen c frozen) (marked : IsMarked c) (width : HaveWidth cfg) (settings : AreSettings cfg) where
   -- ---- an event of a thread

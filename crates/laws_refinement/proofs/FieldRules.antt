@@ -3,7 +3,7 @@ use Rattle.std.proofs.Common.{◌≡◌, ℕ, Bool, true, false, not, ◌&&◌, 
 use Rattle.std.specs.Prelude.{◌==◌, slice_get, IsSomeAnd, if◌then◌else◌}
 use Rattle.std.proofs.lemmas.Bool.{and_parts}
 use Rattle.std.proofs.lemmas.Bool.Decides.{Decides-eqb}
-use Rattle.jvm_types.specs.Members.{Site, is_final, is_private, is_hidden, is_other_sort, first_rule, field_rule, initializes, is_init_name, is_class_init_name}
+use Rattle.jvm_types.specs.Members.{MethodSite, is_final, is_private, is_hidden, is_other_sort, first_rule, field_rule, initializes, is_init_name, is_class_init_name}
 use Rattle.jvm_types.specs.ProgramInvariant.{IsTargetOf, site_in}
 use Rattle.jvm_types.specs.declared.code.Op.{Op}
 use Rattle.jvm_types.specs.declared.code.Op.TheVariants as ops
@@ -21,10 +21,10 @@ use Rattle.laws_sections.proofs.FieldWrites.{in_init}
 
 -- ---- the rule of an instruction that writes a field
 
-abbrev pub MayWrite : Program → Site → (static : Bool) → (number : ℕ) → Type 0
+abbrev pub MayWrite : Program → MethodSite → (static : Bool) → (number : ℕ) → Type 0
 MayWrite p site static number = IsSomeAnd (slice_get p.fields number) (λ f. field_rule static true site f.class f.flags ≡ None)
 
-field_written : (p : Program) (site : Site) (op : Op) (number next : ℕ) (v : Variable) (word : ℕ) (l s : List ℕ) → IsTargetOf p site op (targets.Field number) → effect p next (targets.Field number) op l s ≡ Writes v word
+field_written : (p : Program) (site : MethodSite) (op : Op) (number next : ℕ) (v : Variable) (word : ℕ) (l s : List ℕ) → IsTargetOf p site op (targets.Field number) → effect p next (targets.Field number) op l s ≡ Writes v word
     → (static : Bool) × MayWrite p site static number
 field_written p site (ops.Ldc i) number next v word l s h e = absurd h
 field_written p site (ops.LdcW i) number next v word l s h e = absurd h

@@ -39,7 +39,7 @@ use Rattle.machine_types.specs.declared.effect.Effect.{Effect}
 use Rattle.machine_types.specs.declared.effect.Effect.TheVariants.{Reads, Writes}
 use Rattle.machine_types.specs.declared.phase.Phase.{Phase}
 use Rattle.machine_types.specs.declared.phase.Phase.TheVariants as phases
-use Rattle.laws_threads.specs.Allowed.{IsFieldAt, TakenHold, Allowed}
+use Rattle.laws_threads.specs.Allowed.{IsNamedField, TakenHold, Allowed}
 use Rattle.laws_threads.proofs.Landing.{stand_top}
 use Rattle.laws_threads.proofs.Onwards.{same_op}
 use Rattle.laws_threads.proofs.TopStand.{top_here}
@@ -77,7 +77,7 @@ module _ (differ : SitesDiffer) (c : MarkedProgram) (objects : List Object) (s :
 
   -- ---- the place of a variable is that of one field
 
-  module _ (target : Target) (v : Variable) (f : FieldInfo) (at : IsFieldAt c.program (HasClass objects) target v f) where
+  module _ (target : Target) (v : Variable) (f : FieldInfo) (at : IsNamedField c.program (HasClass objects) target v f) where
     same_number : variable_word v ≡ value_word o.reference field.index → at.number ≡ fi
     same_number word = by_flag (is_static f.flags) refl (ap variable_word (sym at.variable) ∙ word)
       where

@@ -138,17 +138,17 @@ module _ (differ : SitesDiffer) (c : MarkedProgram) (cfg : Config) (objects : Li
     abbrev behind : Thread
     behind = goes_on (elided x) goes.0
 
-    alike : OwnFits c.program (has_wait_bit (references_of q.objects) s.words t) behind (plain.goes_on (at_end x a (was t) n plain_there.0.ended) goes.0)
+    alike : OwnFits c.program (has_wait_bit (references_of q.objects) s.words t) behind (plain.plain_goes_on (at_end x a (was t) n plain_there.0.ended) goes.0)
     alike = going_alike c.program (has_wait_bit (references_of q.objects) s.words t) awake (elided x) (at_end x a (was t) n plain_there.0.ended) goes.0 (under_way n)
 
-    fits_behind : (b : Option Attempt) → b ≡ None → ThreadFits c.program (has_wait_bit (references_of q.objects) s.words t) behind b (plain.goes_on (at_end x a (was t) n plain_there.0.ended) goes.0)
-    fits_behind b e = subst (λ (o : Option Attempt). ThreadFits c.program (has_wait_bit (references_of q.objects) s.words t) behind o (plain.goes_on (at_end x a (was t) n plain_there.0.ended) goes.0)) (sym e) alike.outside
+    fits_behind : (b : Option Attempt) → b ≡ None → ThreadFits c.program (has_wait_bit (references_of q.objects) s.words t) behind b (plain.plain_goes_on (at_end x a (was t) n plain_there.0.ended) goes.0)
+    fits_behind b e = subst (λ (o : Option Attempt). ThreadFits c.program (has_wait_bit (references_of q.objects) s.words t) behind o (plain.plain_goes_on (at_end x a (was t) n plain_there.0.ended) goes.0)) (sym e) alike.outside
 
     not_left : (phase : Phase) → phase ≡ phases.Leave a.monitor d.after_it → IsOldPhase phase
     not_left phase e = subst IsOldPhase (sym e) tt
 
     stands_then : StandsBeside c.program objects (record { words = s.words; threads = slice_set s.threads t behind }) after_all
-    stands_then = moved_beside c.program objects s q t s.words x behind (holdings_behind q.holdings a.monitor t a.inner) (plain.goes_on (at_end x a (was t) n plain_there.0.ended) goes.0) q.prints beside there (record {
+    stands_then = moved_beside c.program objects s q t s.words x behind (holdings_behind q.holdings a.monitor t a.inner) (plain.plain_goes_on (at_end x a (was t) n plain_there.0.ended) goes.0) q.prints beside there (record {
       fits = fits_behind behind.attempt (goes_attempt (elided x) goes.0);
       ended = alike.ended;
       places = λ i v e. refl;

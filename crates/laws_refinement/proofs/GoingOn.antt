@@ -68,7 +68,7 @@ module _ (c : MarkedProgram) (x : Thread) (a : Attempt) (now : Phase) where
   -- z, which is x in all that the plain machine knows of it, goes on, and x alike
   pub record GoesAlike (z : Thread) (o : Onward) : Type 0 where
     pub only : only_on a.monitor o ≡ Some o
-    pub thread : (status : Status) (ended : List End) → plain.goes_on (plain_as x status ended) o ≡ plain_as (goes_on z o) (status_inside now) ended
+    pub thread : (status : Status) (ended : List End) → plain.plain_goes_on (plain_as x status ended) o ≡ plain_as (goes_on z o) (status_inside now) ended
     pub frames : put_back a (goes_on z o).frames ≡ put_back a x.frames
     pub roots : (goes_on z o).roots ≡ x.roots
 

@@ -14,7 +14,7 @@ use Rattle.machine_types.specs.declared.access.Access.TheVariants.{Load}
 use Rattle.machine_types.specs.Elision.{is_checked, is_same, elided, fails, if_same, looks, may_try}
 use Rattle.machine_types.specs.Events.{wanted, moved}
 use Rattle.machine_types.specs.FoundWords.{WordFits, content_at, effect_content, run_content}
-use Rattle.machine_types.specs.Frames.{Top, top_of, frames_of, row_at, frame_on, effect_at, monitor_of, returned, went, went_on}
+use Rattle.machine_types.specs.Frames.{Top, top_of, frames_of, top_row, frame_on, effect_at, monitor_of, returned, went, went_on}
 use Rattle.machine_types.specs.Going.{with_phase, runs, root_over, goes_on, goes_on_if, goes_after}
 use Rattle.machine_types.specs.HeldMonitors.{held_at}
 use Rattle.machine_types.specs.Instructions.{begun, did, effect_wants, instructed, ran, run_wants}
@@ -110,7 +110,7 @@ module _ (c : MarkedProgram) (marked : IsMarked c) (x : Thread) (a : Attempt) (t
     whole = all_ahead c.program a.base (frames_of at)
 
     on_next : (made : ℕ) → 1 + all_ahead c.program a.base (went_on c.program at made) ≤ whole
-    on_next made = top_goes_on c.program a.base at.frame at.below at k (frame_on (row_at c.program at) at.insn.next made at.frame) based refl (next_is_later c at.frame at.below at marked k)
+    on_next made = top_goes_on c.program a.base at.frame at.below at k (frame_on (top_row c.program at) at.insn.next made at.frame) based refl (next_is_later c at.frame at.below at marked k)
 
     left_behind : 1 + all_ahead c.program a.base at.below ≤ whole
     left_behind = top_is_left c.program a.base at.frame at.below at k based
@@ -133,7 +133,7 @@ module _ (c : MarkedProgram) (marked : IsMarked c) (x : Thread) (a : Attempt) (t
     does : (e : Effect) (got : ℕ) → is_checked at.frame.pc e ≡ false → MayDo c a.monitor at e → IsAllowed c.program at e → GoesOnBy c.program at e got → Lessens whole 1 (did c.program (begun x) at e got)
     does (Goes to made) got free may allowed some =
         let later : at.frame.pc < to = grind (arith, nat_tests, free) in
-        on (Running (went c.program at to made)) (top_goes_on c.program a.base at.frame at.below at k (frame_on (row_at c.program at) to made at.frame) based refl later)
+        on (Running (went c.program at to made)) (top_goes_on c.program a.base at.frame at.below at k (frame_on (top_row c.program at) to made at.frame) based refl later)
     does (Throws z) got free may allowed some = on (threw z at) (omega (arith, left_behind))
     does (Reads v) got free may allowed some = on (Running (went_on c.program at got)) (on_next got)
     does (Writes v word) got free may allowed some = absurd may

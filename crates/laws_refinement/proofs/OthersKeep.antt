@@ -3,7 +3,7 @@ use Rattle.std.proofs.Common.{◌≡◌, ◌≢◌, ℕ, Bool, List, Option, Som
 use Rattle.std.specs.Prelude.{slice_get, slice_index, if◌then◌else◌}
 use Rattle.std.proofs.lemmas.Bool.{ne_eqb}
 use Rattle.checked_program.specs.MarkedProgram.{MarkedProgram}
-use Rattle.machine_types.specs.Attempts.{IsAsNoted, Leads, Owes, Stays}
+use Rattle.machine_types.specs.Attempts.{IsAsNoted, IsLedToPresent, Owes, Stays}
 use Rattle.machine_types.specs.Core.{Core, event}
 use Rattle.machine_types.specs.Replay.{replayed, at_entry, at_present}
 use Rattle.machine_types.specs.Threads.{Attempt}
@@ -24,8 +24,8 @@ same_phase c was s t u other = ap (λ (b : Bool). if b then counted_of (was t) (
 pub others_keep_attempts : InsideMayDo → NoElementInside → SitesDiffer → SitesLieInside → EventsReachSites → OthersKeepAttempts
 others_keep_attempts may_do no_element differ inside reach c cfg objects was frozen w later s t u x y d turns other there owes = by_attempt y.attempt refl owes
   where
-    leads : (a : Attempt) → y.attempt ≡ Some a → Leads c (Stays c objects w (next_free s) u a.monitor) s.words (was u) y a d
-        → Leads c (Stays c (objects_after c.program s t objects) later (next_free (event c s t)) u a.monitor) (event c s t).words (counted_after c was s t u) y a d
+    leads : (a : Attempt) → y.attempt ≡ Some a → IsLedToPresent c (Stays c objects w (next_free s) u a.monitor) s.words (was u) y a d
+        → IsLedToPresent c (Stays c (objects_after c.program s t objects) later (next_free (event c s t)) u a.monitor) (event c s t).words (counted_after c was s t u) y a d
     leads a e before noted memory agrees ended =
         let noted_then : IsAsNoted s.words a =
         noted_before c cfg objects was s t x turns.facts turns.thread u y there a e differ inside reach turns.marked (subst (λ (words : List ℕ). IsAsNoted words a) (event_words c cfg objects was frozen w later s t x turns) noted) in

@@ -6,7 +6,7 @@ use Rattle.lists.proofs.ListLaws.{same_some}
 use Rattle.jvm_types.specs.CodeTable.{is_init}
 use Rattle.jvm_types.specs.declared.program.MethodInfo.{MethodInfo}
 use Rattle.checked_program.specs.MarkedProgram.{MarkedProgram}
-use Rattle.machine_types.specs.Construction.{builds, ReceiverIs, FramesKeep, PhaseKeepsFrames, ThreadKeeps, Turn, Runs, turn_by, made_world}
+use Rattle.machine_types.specs.Construction.{builds, ReceiverIs, FramesKeep, PhaseKeepsFrames, ThreadKeeps, BuilderTurn, Runs, turn_by, made_world}
 use Rattle.machine_types.specs.Frames.{pushed}
 use Rattle.machine_types.specs.Guards.{MakesObject}
 use Rattle.machine_types.specs.Structure.{operands_in}
@@ -50,7 +50,7 @@ module _ (c : MarkedProgram) (frozen : ℕ → Bool) (next t r class : ℕ) (is_
   both true false e f = f
   both false b e f = e
 
-  top_builds : (w : World) (turn : Turn) (fs : List Frame) → FramesKeep c frozen w next t turn fs → MakesObject c r fs → TopIsOf c.program class fs → IsOwn w t r
+  top_builds : (w : World) (turn : BuilderTurn) (fs : List Frame) → FramesKeep c frozen w next t turn fs → MakesObject c r fs → TopIsOf c.program class fs → IsOwn w t r
   top_builds w turn [] k makes top = absurd makes
   top_builds w turn (f ∷ fs) k (m, there, init, receiver) (n, known, of_class) =
       let method = k.0.stands.method in

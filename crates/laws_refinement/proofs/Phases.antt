@@ -18,7 +18,7 @@ use Rattle.machine_types.specs.Events.{wanted, moved}
 use Rattle.machine_types.specs.Frames.{Top, top_of, handler_at, returned}
 use Rattle.machine_types.specs.Going.{goes_on, goes_on_if, goes_after, runs}
 use Rattle.machine_types.specs.HeldMonitors.{held_at}
-use Rattle.machine_types.specs.History.{Fate, GoesOn, Finishes, fate, fate_by, leave_fate, acts_of, enter_acts, leave_acts, if_so}
+use Rattle.machine_types.specs.History.{Fate, GoesOn, Finishes, fate, fate_by, leave_fate, acts_of, enter_acts, leave_acts, act_if}
 use Rattle.machine_types.specs.Monitors.{Claim, Tries, HasNot, claim, claim_by, enter_wants, enter_moves, finish_wants, leave_wants, leave_moves, finishes}
 use Rattle.machine_types.specs.Onward.{Onward, Running, handed, back, unwound, dispatched, after}
 use Rattle.machine_types.specs.PlainMemory.{Object}
@@ -285,7 +285,7 @@ module _ (fit : HeapWordsFit) (allowed : EffectsAreAllowed) (c : MarkedProgram) 
 
     abbrev InnerBy : ℕ → Type 0
     InnerBy i = IsStructured c now (finishes c.program x e a i (found_by s.words (finish_wants m i)))
-        → By (phases.Leave m e) (cond (nat_lt 0 i) GoesOn (fate_by (is_same a (found_by s.words (finish_wants m i))) Finishes)) (finishes c.program x e a i (found_by s.words (finish_wants m i))) (if_so (nat_lt 0 i) acts.Exit)
+        → By (phases.Leave m e) (cond (nat_lt 0 i) GoesOn (fate_by (is_same a (found_by s.words (finish_wants m i))) Finishes)) (finishes c.program x e a i (found_by s.words (finish_wants m i))) (act_if (nat_lt 0 i) acts.Exit)
 
     last_exit : (b : Bool) → By (phases.Leave m e) (fate_by b Finishes) (cond b (goes_after c.program (elided x) e) (fails x a)) []
     last_exit true = goes_attempt (elided x) (after c.program x.frames e)
@@ -294,7 +294,7 @@ module _ (fit : HeapWordsFit) (allowed : EffectsAreAllowed) (c : MarkedProgram) 
     by_inner : (i : ℕ) → a.inner ≡ i → InnerBy i
     by_inner zero f k = last_exit (is_same a (found_by s.words (finish_wants m zero)))
     by_inner (suc n) f k =
-        subst (λ (b : Bool). By (phases.Leave m e) (cond b GoesOn (fate_by (is_same a (found_by s.words (finish_wants m (suc n)))) Finishes)) (goes_after c.program (record x { attempt = Some (record a { inner = n }) }) e) (if_so b acts.Exit)) (sym (is_more n))
+        subst (λ (b : Bool). By (phases.Leave m e) (cond b GoesOn (fate_by (is_same a (found_by s.words (finish_wants m (suc n)))) Finishes)) (goes_after c.program (record x { attempt = Some (record a { inner = n }) }) e) (act_if b acts.Exit)) (sym (is_more n))
         (leave_grows n f k)
 
     finish_leaves : (i : ℕ) → LeavesWords s.words (finish_wants m i)

@@ -10,7 +10,7 @@ use Rattle.jvm_types.specs.declared.program.Program.{Program}
 use Rattle.checked_program.specs.MarkedProgram.{MarkedProgram}
 use Rattle.checked_program.specs.Marks.{Calls, callee}
 use Rattle.checked_program.specs.Reach.{HasCall, HasCalls, IsReach, size_of}
-use Rattle.checked_program.specs.SectionLaws.{ApartLaw, AreApart, AreParts, HasNone, Part}
+use Rattle.checked_program.specs.SectionLaws.{ApartLaw, HaveOwnMethods, AreParts, HasNone, Part}
 use Rattle.checked_program.specs.Sections.{Section}
 use Rattle.checked_program.specs.TaggedCode.{Tagged}
 use Rattle.checked_program.specs.declared.section.Mode.{Mode}
@@ -25,7 +25,7 @@ use Rattle.laws_refinement.proofs.InstructionsAhead.{ahead, ahead_in, all_ahead,
 -- ---- a sum over some of a list
 
 -- of parts of different methods
-sum_within : (f : ℕ → ℕ) (parts : List Part) (ns : List ℕ) → AreApart parts → ((u : ℕ) → (k : ℕ) × (part : Part) × (slice_get parts k ≡ Some part) × (part.method ≡ u) → Contains ns u) → sum_by (λ (q : Part). f q.method) parts ≤ sum_by f ns
+sum_within : (f : ℕ → ℕ) (parts : List Part) (ns : List ℕ) → HaveOwnMethods parts → ((u : ℕ) → (k : ℕ) × (part : Part) × (slice_get parts k ≡ Some part) × (part.method ≡ u) → Contains ns u) → sum_by (λ (q : Part). f q.method) parts ≤ sum_by f ns
 sum_within f [] ns apart there = omega arith
 sum_within f (q ∷ parts) ns apart there =
     let m : IsWithout f q.method ns = without f q.method ns (there q.method (0, q, refl, refl)) in
@@ -102,7 +102,7 @@ frames_few c (f ∷ fs) (q ∷ parts) zip =
 module _ (apart : ApartLaw) (c : MarkedProgram) (n : ℕ) (a : Attempt) (reach : IsReach c.program a.entry.method n) where
   in_section : (phase : Phase) (fs : List Frame) (held : List Held) → AttemptStands c phase fs held a → RunsSection c a (frames_inside a fs) → sum_by (ahead c.program) (frames_inside a fs) ≤ n
   in_section phase fs held k run =
-      let distinct : AreApart run.0 = apart c.program (tags_of c) k.uses (section_of a) a.monitor run.0 run.1 k.marked run.3 in
+      let distinct : HaveOwnMethods run.0 = apart c.program (tags_of c) k.uses (section_of a) a.monitor run.0 run.1 k.marked run.3 in
       let within : sum_by (λ (q : Part). size_at c.program q.method) run.0 ≤ sum_by (size_at c.program) reach.methods =
       sum_within (size_at c.program) run.0 reach.methods distinct
       (λ u among. let calls = each_reached c.program (tags_of c) (section_of a) a.monitor run.0 run.1 run.3 among.0 among.1 among.2 in reach.all u calls.0 (subst (λ (v : ℕ). HasCalls c.program a.entry.method calls.0 v) among.3 calls.1)) in

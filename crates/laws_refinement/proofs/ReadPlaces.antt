@@ -4,7 +4,7 @@ use Rattle.std.proofs.Common.{◌≡◌, ◌≢◌, ◌⊎◌, inl, inr, ℕ, �
 use Rattle.std.specs.Prelude.{slice_get, slice_index}
 use Rattle.lists.proofs.ListLaws.{same_some}
 use Rattle.jvm_types.specs.CodeTable.{get_row}
-use Rattle.jvm_types.specs.Members.{Site, is_static}
+use Rattle.jvm_types.specs.Members.{MethodSite, is_static}
 use Rattle.jvm_types.specs.Types.{is_below}
 use Rattle.jvm_types.specs.declared.code.Op.{Op}
 use Rattle.jvm_types.specs.declared.code.Op.TheVariants as ops
@@ -41,7 +41,7 @@ pub record GetsField (p : Program) (tags : Tagged) (m number : ℕ) (op : Op) (r
   pub row : r ≡ get_row (Some field)
   pub stays : MayStay p tags number (slice_index stack 0) m
 
-pub gets_field : (p : Program) (tags : Tagged) (site : Site) (pc m number : ℕ) (op : Op) (r : OpRow) (stack : List ℕ) → HasRow p site pc (targets.Field number) op r → ReadsOnly p tags m op (targets.Field number) stack → GetsField p tags m number op r stack
+pub gets_field : (p : Program) (tags : Tagged) (site : MethodSite) (pc m number : ℕ) (op : Op) (r : OpRow) (stack : List ℕ) → HasRow p site pc (targets.Field number) op r → ReadsOnly p tags m op (targets.Field number) stack → GetsField p tags m number op r stack
 gets_field p tags site pc m number (ops.Getfield i) r stack k h = record { field = k.field; is = k.there; instance = k.sort; constant = i; gets = refl; row = k.its; stays = h }
 gets_field p tags site pc m number (ops.Getstatic i) r stack k h = absurd h
 gets_field p tags site pc m number (ops.Putstatic i) r stack k h = absurd h

@@ -24,7 +24,7 @@ use Rattle.laws_threads.specs.InsideEffects.{InsideMayDo}
 use Rattle.laws_threads.specs.InsideMoves.{NoElementInside}
 use Rattle.laws_states.proofs.GrowingRuns.{one_more}
 use Rattle.laws_refinement.proofs.Inside.{is_inside}
-use Rattle.laws_refinement.specs.Entries.{failed_of, failed_with, failed_from, failed_here, KeepsCount, IsCounted}
+use Rattle.laws_refinement.specs.Entries.{failed_of, failed_with, failed_from, failed_here, KeepsCount, HasFailedCount}
 use Rattle.laws_refinement.specs.EntryLaws.{ThreadsKeepCount}
 use Rattle.laws_refinement.proofs.Counts.{Counts, event_counted}
 use Rattle.machine_types.proofs.Lists.{got_when_set, got_other}
@@ -33,7 +33,7 @@ use Rattle.machine_types.proofs.Lists.{got_when_set, got_other}
 
 module _ (may_do : InsideMayDo) (no_element : NoElementInside) (c : MarkedProgram) (marked : IsMarked c) (was : ℕ → Phase) (s : Core) (structure : Structure c was s.threads) (t failed : ℕ) where
   -- of the thread itself
-  own : (o : Option Thread) → slice_get s.threads t ≡ o → IsCounted s t failed → IsCounted (event_of c s t o) t (failed_of c s o failed)
+  own : (o : Option Thread) → slice_get s.threads t ≡ o → HasFailedCount s t failed → HasFailedCount (event_of c s t o) t (failed_of c s o failed)
   own None e k = k
   own (Some x) e k = record { few = now.few; kept = λ y f. subst (λ (z : Thread). KeepsCount z.attempt z.phase later) (same_some (sym (got_when_set s.threads t x (moved c x x.phase got) e) ∙ f)) now.kept }
     where
@@ -47,15 +47,15 @@ module _ (may_do : InsideMayDo) (no_element : NoElementInside) (c : MarkedProgra
       now = event_counted c x got failed (λ a tries. is_inside may_do no_element c marked x a tries (was t) (structure t x e)) (record { few = k.few; kept = k.kept x e })
 
   -- of another one
-  other : (u : ℕ) → t ≢ u → (o : Option Thread) → slice_get s.threads u ≡ o → IsCounted s t failed → IsCounted (event_of c s u o) t failed
+  other : (u : ℕ) → t ≢ u → (o : Option Thread) → slice_get s.threads u ≡ o → HasFailedCount s t failed → HasFailedCount (event_of c s u o) t failed
   other u apart None e k = k
   other u apart (Some x) e k = record { few = k.few; kept = λ y f. k.kept y (sym (got_other s.threads u t (moved c x x.phase (found_by s.words (wanted c x x.phase))) apart) ∙ f) }
 
-  event_keeps : (u : ℕ) → IsCounted s t failed → IsCounted (event c s u) t (if u == t then failed_of c s (slice_get s.threads t) failed else failed)
+  event_keeps : (u : ℕ) → HasFailedCount s t failed → HasFailedCount (event c s u) t (if u == t then failed_of c s (slice_get s.threads t) failed else failed)
   event_keeps u k = by_number (u == t) refl
     where
-      by_number : (b : Bool) → (u == t) ≡ b → IsCounted (event c s u) t (if b then failed_of c s (slice_get s.threads t) failed else failed)
-      by_number true e = subst (λ (n : ℕ). IsCounted (event c s n) t (failed_of c s (slice_get s.threads t) failed)) (sym ((Decides-eqb u t).0 e)) (own (slice_get s.threads t) refl k)
+      by_number : (b : Bool) → (u == t) ≡ b → HasFailedCount (event c s u) t (if b then failed_of c s (slice_get s.threads t) failed else failed)
+      by_number true e = subst (λ (n : ℕ). HasFailedCount (event c s n) t (failed_of c s (slice_get s.threads t) failed)) (sym ((Decides-eqb u t).0 e)) (own (slice_get s.threads t) refl k)
       by_number false e = other u (λ k. eqb-false u t e (sym k)) (slice_get s.threads u) refl k
 
 -- ---- the begin of a part
@@ -87,7 +87,7 @@ module _ (p : Program) (failed : ℕ) where
 
 -- ---- every run
 
-start_keeps : (c : MarkedProgram) (cfg : Config) (t : ℕ) → IsCounted (start c cfg) t 0
+start_keeps : (c : MarkedProgram) (cfg : Config) (t : ℕ) → HasFailedCount (start c cfg) t 0
 start_keeps c cfg t = record { few = omega arith; kept = λ x e. subst (λ (z : Thread). KeepsCount z.attempt z.phase 0) (is_start_thread c cfg t x e) (by_number t) }
   where
     by_number : (n : ℕ) → KeepsCount (start_thread c cfg n).attempt (start_thread c cfg n).phase 0
@@ -95,19 +95,19 @@ start_keeps c cfg t = record { few = omega arith; kept = λ x e. subst (λ (z : 
     by_number (suc n) = tt
 
 module _ (may_do : InsideMayDo) (no_element : NoElementInside) (runs : RunsHaveState) (c : MarkedProgram) (cfg : Config) (marked : IsMarked c) (width : HaveWidth cfg) (parts : PartsKeepThreads c cfg) (t : ℕ) where
-  one : (s : Core) (failed : ℕ) (h : Happening) → IsInState c cfg s → IsCounted s t failed → IsCounted (happened c s h) t (failed_with c s t failed h)
+  one : (s : Core) (failed : ℕ) (h : Happening) → IsInState c cfg s → HasFailedCount s t failed → HasFailedCount (happened c s h) t (failed_with c s t failed h)
   one s failed (Of u) k m = event_keeps may_do no_element c marked k.was s k.facts.structure t failed u m
   one s failed NextPart k m = record { few = m.few; kept = next_keeps c.program failed s.threads t m.kept }
 
   -- behind a front of the run
-  each : (front hs : List Happening) (failed : ℕ) → IsCounted (core c cfg front) t failed → IsCounted (all_happened c (core c cfg front) hs) t (failed_from c (core c cfg front) t failed hs)
+  each : (front hs : List Happening) (failed : ℕ) → HasFailedCount (core c cfg front) t failed → HasFailedCount (all_happened c (core c cfg front) hs) t (failed_from c (core c cfg front) t failed hs)
   each front [] failed m = m
   each front (h ∷ hs) failed m =
       let more : ℕ = failed_with c (core c cfg front) t failed h in
-      let now : IsCounted (happened c (core c cfg front) h) t more = one (core c cfg front) failed h (runs c cfg front marked width parts) m in
-      subst (λ (s : Core). IsCounted (all_happened c s hs) t (failed_from c s t more hs)) (one_more c cfg front h) (each (front ++ h ∷ []) hs more (subst (λ (s : Core). IsCounted s t more) (sym (one_more c cfg front h)) now))
+      let now : HasFailedCount (happened c (core c cfg front) h) t more = one (core c cfg front) failed h (runs c cfg front marked width parts) m in
+      subst (λ (s : Core). HasFailedCount (all_happened c s hs) t (failed_from c s t more hs)) (one_more c cfg front h) (each (front ++ h ∷ []) hs more (subst (λ (s : Core). HasFailedCount s t more) (sym (one_more c cfg front h)) now))
 
-  counted : (hs : List Happening) → IsCounted (core c cfg hs) t (failed_here c cfg hs t)
+  counted : (hs : List Happening) → HasFailedCount (core c cfg hs) t (failed_here c cfg hs t)
   unfolding core failed_here
   counted hs = each [] hs 0 (start_keeps c cfg t)
 

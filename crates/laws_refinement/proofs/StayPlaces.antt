@@ -33,7 +33,7 @@ use Rattle.machine_types.specs.Attempts as attempts
 use Rattle.machine_types.specs.Construction.{Construction, FramesKeep, PhaseKeepsFrames, ReceiverIs, Runs, SlotOf, SlotsAre, IsFresh, ThreadKeeps, builds, makes_frozen}
 use Rattle.machine_types.specs.Core.{Core}
 use Rattle.machine_types.specs.Effects.{gets, effect, variable_of}
-use Rattle.machine_types.specs.Frames.{Top, top_of, effect_at, row_at}
+use Rattle.machine_types.specs.Frames.{Top, top_of, effect_at, top_row}
 use Rattle.machine_types.specs.PlainMemory.{Object}
 use Rattle.machine_types.specs.Standing.{Whole, tags_of}
 use Rattle.machine_types.specs.Structure.{Stands, AttemptStands, frames_inside}
@@ -57,7 +57,7 @@ use Rattle.laws_refinement.proofs.ReadPlaces.{MayStay, GetsField, gets_field, Is
 -- ---- what the marks say of the instruction at which the top frame stands
 
 pub record TopReads (c : MarkedProgram) (m : ℕ) (at : Top) : Type 0 where
-  pub row : HasRow c.program (site_in at.method) at.insn.pc at.target at.insn.op (row_at c.program at)
+  pub row : HasRow c.program (site_in at.method) at.insn.pc at.target at.insn.op (top_row c.program at)
   pub only : ReadsOnly c.program (tags_of c) m at.insn.op at.target at.frame.stack
 
 pub top_reads : (c : MarkedProgram) (fs : List Frame) (held : List Held) (a : Attempt) (at : Top) → IsMarked c → AttemptStands c phases.Run fs held a → Stands c phases.Run fs held (Some a) → top_of c.program fs ≡ Some at → TopReads c a.monitor at
@@ -81,7 +81,7 @@ pub record TopSlots (c : MarkedProgram) (frozen : ℕ → Bool) (now : World) (n
   pub tags : TagShape
   pub receiver : ReceiverIs now next t height (builds frozen at.method) at.frame.receiver
   pub stack : SlotsAre (SlotOf frozen now next t height Runs at.method at.frame.receiver) types.stack tags.stack at.frame.stack
-  pub suit : mistypes at.method (row_at c.program at) types ≡ false
+  pub suit : mistypes at.method (top_row c.program at) types ≡ false
 
 pub top_slots : (c : MarkedProgram) (frozen : ℕ → Bool) (now : World) (next t : ℕ) (fs : List Frame) (at : Top) → IsMarked c → FramesKeep c frozen now next t Runs fs → top_of c.program fs ≡ Some at → TopSlots c frozen now next t at
 top_slots c frozen now next t [] at marked k e = absurd (cc)
@@ -174,18 +174,18 @@ module _ (c : MarkedProgram) (marked : IsMarked c) (frozen : ℕ → Bool) (w : 
   known v (inr k) = own_in_all keeps.now w t x.attempt next v keeps.now_is k.0 (inl k.1)
 
   -- the object on top of the stack, where a field of it is read
-  top_known : (field : FieldInfo) (v : ℕ) (rest : List ℕ) → row_at c.program at ≡ get_row (Some field) → at.frame.stack ≡ v ∷ rest → 0 < v → IsOwnOrFinished w next t v
+  top_known : (field : FieldInfo) (v : ℕ) (rest : List ℕ) → top_row c.program at ≡ get_row (Some field) → at.frame.stack ≡ v ∷ rest → 0 < v → IsOwnOrFinished w next t v
   top_known field v rest row top some =
       let first = first_slot (SlotOf frozen keeps.now next t slots.height Runs at.method at.frame.receiver) slots.types.stack slots.tags.stack v rest
       (subst (λ (vs : List ℕ). SlotsAre (SlotOf frozen keeps.now next t slots.height Runs at.method at.frame.receiver) slots.types.stack slots.tags.stack vs) top slots.stack) in
-      let below = top_suits at.method (row_at c.program at) field slots.types first.type first.more row first.first slots.suit in
+      let below = top_suits at.method (top_row c.program at) field slots.types first.type first.more row first.first slots.suit in
       known v (slot (IsFinished keeps.now next) (IsFresh keeps.now t slots.height Runs) (makes_frozen frozen at.method) at.frame.receiver v some (builds frozen at.method) first.type first.tag (of_object first.type field.class below) first.is)
 
   -- the variable that is read
-  module _ (v : Variable) (f : FieldInfo) (marks : TopReads c a.monitor at) (e : effect_at c.program at ≡ Reads v) (named : allowed.IsFieldAt c.program (HasClass objects) at.target v f) where
-    abbrev names : GetsField c.program (tags_of c) a.monitor named.number at.insn.op (row_at c.program at) at.frame.stack
-    names = gets_field c.program (tags_of c) (site_in at.method) at.insn.pc a.monitor named.number at.insn.op (row_at c.program at) at.frame.stack
-        (subst (λ (target : Target). HasRow c.program (site_in at.method) at.insn.pc target at.insn.op (row_at c.program at)) named.named marks.row)
+  module _ (v : Variable) (f : FieldInfo) (marks : TopReads c a.monitor at) (e : effect_at c.program at ≡ Reads v) (named : allowed.IsNamedField c.program (HasClass objects) at.target v f) where
+    abbrev names : GetsField c.program (tags_of c) a.monitor named.number at.insn.op (top_row c.program at) at.frame.stack
+    names = gets_field c.program (tags_of c) (site_in at.method) at.insn.pc a.monitor named.number at.insn.op (top_row c.program at) at.frame.stack
+        (subst (λ (target : Target). HasRow c.program (site_in at.method) at.insn.pc target at.insn.op (top_row c.program at)) named.named marks.row)
         (subst (λ (target : Target). ReadsOnly c.program (tags_of c) a.monitor at.insn.op target at.frame.stack) named.named marks.only)
 
     abbrev read : ReadObject c.program names.field at.frame.stack v

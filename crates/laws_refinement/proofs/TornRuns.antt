@@ -28,7 +28,7 @@ use Rattle.laws_threads.specs.InsideMoves.{NoElementInside}
 use Rattle.laws_states.specs.RunFacts.{HaveWidth}
 use Rattle.laws_states.specs.RunSafety.{IsSafe, RunsAreSafe}
 use Rattle.laws_refinement.proofs.Inside.{Inside, is_inside}
-use Rattle.laws_refinement.specs.TornRuns.{attempt_of, begun_in, begun_of, begun_by, begun_inside, if_open, IsTorn, NotedNeverReturns, TornRunsAreShort}
+use Rattle.laws_refinement.specs.TornRuns.{attempt_in, begun_in, begun_of, begun_by, begun_inside, if_open, IsTorn, NotedNeverReturns, TornRunsAreShort}
 use Rattle.laws_refinement.proofs.InstructionsAhead.{all_ahead}
 use Rattle.laws_refinement.proofs.LateEvents.{Falls, goes_on_with, late, left_in}
 use Rattle.laws_refinement.proofs.ReachedAhead.{reached_ahead}
@@ -37,7 +37,7 @@ use Rattle.machine_types.proofs.Lists.{got_when_set, got_other}
 
 -- ---- an attempt that is over begins nothing
 
-none_begun : (c : MarkedProgram) (s : Core) (t : ℕ) (hs : List Happening) → attempt_of (slice_get s.threads t) ≡ None → begun_inside c s t hs ≡ 0
+none_begun : (c : MarkedProgram) (s : Core) (t : ℕ) (hs : List Happening) → attempt_in (slice_get s.threads t) ≡ None → begun_inside c s t hs ≡ 0
 none_begun c s t [] e = refl
 none_begun c s t (h ∷ hs) e = ap (λ (o : Option Attempt). if_open o (begun_by s t h + begun_inside c (happened c s h) t hs)) e
 
@@ -167,12 +167,12 @@ module _ (may_do : InsideMayDo) (no_element : NoElementInside) (safe : RunsAreSa
         r = happened c s h
 
         opened : begun_inside c s t (h ∷ more) ≡ begun_by s t h + begun_inside c r t more
-        opened = ap (λ (o : Option Thread). if_open (attempt_of o) (begun_by s t h + begun_inside c r t more)) there ∙ ap (λ (o : Option Attempt). if_open o (begun_by s t h + begun_inside c r t more)) tries
+        opened = ap (λ (o : Option Thread). if_open (attempt_in o) (begun_by s t h + begun_inside c r t more)) there ∙ ap (λ (o : Option Attempt). if_open o (begun_by s t h + begun_inside c r t more)) tries
 
         by_attempt : (y : Thread) → slice_get r.threads t ≡ Some y → Falls c.program a (left_of a x) (begun_by s t h) y → (o : Option Attempt) → y.attempt ≡ o
             → ((b : Attempt) → y.attempt ≡ Some b → IsTorn (core c cfg (front ++ h ∷ [])).words b → begun_inside c (core c cfg (front ++ h ∷ [])) t more ≤ left_of b y) → begun_inside c s t (h ∷ more) ≤ left_of a x
         by_attempt y e k None over on =
-            let none : begun_inside c r t more ≡ 0 = none_begun c r t more (ap attempt_of e ∙ over) in
+            let none : begun_inside c r t more ≡ 0 = none_begun c r t more (ap attempt_in e ∙ over) in
             let few = k.few in
             rw opened (omega (arith, none, few))
         by_attempt y e k (Some b) is on =

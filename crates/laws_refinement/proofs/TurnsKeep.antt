@@ -8,7 +8,7 @@ use Rattle.jvm_types.specs.declared.program.Program.{Program}
 use Rattle.checked_program.specs.MarkedProgram.{MarkedProgram}
 use Rattle.machine_types.specs.Core.{Core, Of, NextPart, event, is_live_thread, lives, may_begin, may_begin_by, next, next_threads, part_begins}
 use Rattle.machine_types.specs.Faithful.{IsOver}
-use Rattle.machine_types.specs.Schedules.{Stage, First, Ordered, Rounds, Last, turn_of, turn_at, part_turn, ordered, rounds, round_turn, is_live_worker, live_from}
+use Rattle.machine_types.specs.Schedules.{Stage, First, Ordered, Rounds, Last, turn_of, turn_at, part_turn, ordered, round_turn_from, round_turn, is_live_worker, live_from}
 use Rattle.machine_types.specs.Threads.{Thread}
 use Rattle.laws_threads.specs.GivenThread.{GivenIsKept}
 use Rattle.laws_refinement.proofs.EventsKeep.{none_wakes, keeps_part}
@@ -127,7 +127,7 @@ module _ (given : GivenIsKept) (c : MarkedProgram) (s : Core) where
       by_live true live = event_alone given (λ n. n ≡ 0) c s 0 h
       by_live false dead = by_begin (may_begin s.threads) dead refl
 
-  round_fits : (from : ℕ) → IsWaiting s → TurnFits c s (rounds s from)
+  round_fits : (from : ℕ) → IsWaiting s → TurnFits c s (round_turn_from s from)
   round_fits from h = by_worker (option_or (live_from s from) (live_from s 1)) refl
     where
       by_begin : (b : Bool) → NoWorkerLives s → may_begin s.threads ≡ b → TurnFits c s (if b then turn_of NextPart Last else None)

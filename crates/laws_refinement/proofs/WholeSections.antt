@@ -10,7 +10,7 @@ use Rattle.machine_types.specs.History.{Past, steps_of}
 use Rattle.machine_types.specs.Onward.{Onward, after}
 use Rattle.machine_types.specs.PlainState.{Plain, PlainThread, Holding, value_at, holding_at, with_holding, without_holding, let_go, with_thread}
 use Rattle.machine_types.specs.PlainState as plain
-use Rattle.machine_types.specs.PlainSteps.{entered, plain_run, plain_step, step_at, step_of}
+use Rattle.machine_types.specs.PlainSteps.{plain_entered, plain_run, plain_step, step_at, step_of}
 use Rattle.machine_types.specs.Replay.{Alone, replayed, at_entry, at_present, status_inside}
 use Rattle.machine_types.specs.Threads.{Attempt, Thread}
 use Rattle.machine_types.specs.declared.phase.After.{After}
@@ -36,7 +36,7 @@ section_acts d = acts.Enter ∷ d.due ++ acts.Exit ∷ []
 
 -- it goes on as o says
 abbrev pub behind_section : Plain → (t : ℕ) → Thread → Attempt → Phase → Past → (ended : List End) → Onward → Plain
-behind_section q t x a was d ended o = record q { holdings = holdings_behind q.holdings a.monitor t a.inner; threads = slice_set q.threads t (plain.goes_on (at_end x a was d ended) o) }
+behind_section q t x a was d ended o = record q { holdings = holdings_behind q.holdings a.monitor t a.inner; threads = slice_set q.threads t (plain.plain_goes_on (at_end x a was d ended) o) }
 
 pub record IsWhole (p : Program) (q : Plain) (t : ℕ) (x : Thread) (a : Attempt) (was : Phase) (d : Past) (ended : List End) (o : Onward) : Type 0 where
   pub run : plain_run p q (steps_of t (section_acts d)) ≡ Some (behind_section q t x a was d ended o)
@@ -68,7 +68,7 @@ module _ (p : Program) (q : Plain) (t : ℕ) (x : Thread) (a : Attempt) (z : Pla
       let same : now ≡ first.thread = λ i. record { frames = fits.frames i; status = plain.Run; roots = fits.roots i; ended = z.ended } in
       ap (step_of p q t acts.Enter) here
       ∙ ap (step_at p q t z acts.Enter) fits.status
-      ∙ ap (entered q t a.monitor z) free
+      ∙ ap (plain_entered q t a.monitor z) free
       ∙ ap (λ (w : PlainThread). Some (stands_as q t a.monitor (record { thread = w; depth = 1; begun = 0 }))) same
 
   -- ---- what is due
@@ -88,7 +88,7 @@ module _ (p : Program) (q : Plain) (t : ℕ) (x : Thread) (a : Attempt) (z : Pla
     abbrev last : Plain
     last = stands_as inside t a.monitor present
 
-    exits_it : plain_run p last (steps_of t (acts.Exit ∷ [])) ≡ Some (with_thread (let_go last a.monitor) t (plain.goes_on (at_end x a was d z.ended) o))
+    exits_it : plain_run p last (steps_of t (acts.Exit ∷ [])) ≡ Some (with_thread (let_go last a.monitor) t (plain.plain_goes_on (at_end x a was d z.ended) o))
     exits_it = exits p last t (at_end x a was d z.ended) at_last.thread a.monitor 1 after_it o (ap status_inside leaves) (record {
       holding = hold a.monitor t (suc a.inner);
       is = at_last.holding;
@@ -96,9 +96,9 @@ module _ (p : Program) (q : Plain) (t : ℕ) (x : Thread) (a : Attempt) (z : Pla
       depth_is = ap suc outermost;
     }) goes
 
-    threads_are : slice_set (slice_set (slice_set q.threads t first.thread) t (at_end x a was d z.ended)) t (plain.goes_on (at_end x a was d z.ended) o) ≡ slice_set q.threads t (plain.goes_on (at_end x a was d z.ended) o)
-    threads_are = set-set (slice_set q.threads t first.thread) t (at_end x a was d z.ended) (plain.goes_on (at_end x a was d z.ended) o)
-        ∙ set-set q.threads t first.thread (plain.goes_on (at_end x a was d z.ended) o)
+    threads_are : slice_set (slice_set (slice_set q.threads t first.thread) t (at_end x a was d z.ended)) t (plain.plain_goes_on (at_end x a was d z.ended) o) ≡ slice_set q.threads t (plain.plain_goes_on (at_end x a was d z.ended) o)
+    threads_are = set-set (slice_set q.threads t first.thread) t (at_end x a was d z.ended) (plain.plain_goes_on (at_end x a was d z.ended) o)
+        ∙ set-set q.threads t first.thread (plain.plain_goes_on (at_end x a was d z.ended) o)
 
     pub whole : IsWhole p q t x a was d z.ended o
     whole =

@@ -55,7 +55,7 @@ KeepsCount None (phases.Enter m tried) failed = tried ≡ failed
 KeepsCount None phase failed = Unit {0}
 
 -- thread t keeps that so many have failed, and these are no more than may
-pub record IsCounted (s : Core) (t failed : ℕ) : Type 0 where
+pub record HasFailedCount (s : Core) (t failed : ℕ) : Type 0 where
   pub few : failed ≤ 2
   pub kept : (x : Thread) → slice_get s.threads t ≡ Some x → KeepsCount x.attempt x.phase failed
 

@@ -23,13 +23,13 @@ use Rattle.machine_types.specs.declared.config.Config.{Config}
 use Rattle.machine_types.specs.declared.lock.LockWord.TheVariants as locks
 use Rattle.machine_types.specs.declared.phase.Phase.TheVariants as phases
 use Rattle.laws_states.specs.RunFacts.{HaveWidth}
-use Rattle.laws_refinement.specs.Entries.{failed_here, IsCounted, OnlyLooks}
+use Rattle.laws_refinement.specs.Entries.{failed_here, HasFailedCount, OnlyLooks}
 
 -- ---- how many fail: the 2 is written out here and in `Entries`, so that a statement says by itself what the limit `MOST_ATTEMPTS` keeps
 
 -- what a thread keeps is what its events tell
 abbrev pub ThreadsKeepCount : Type 0
-ThreadsKeepCount = (c : MarkedProgram) (cfg : Config) (hs : List Happening) (t : ℕ) → IsMarked c → HaveWidth cfg → AreSettings cfg → IsCounted (core c cfg hs) t (failed_here c cfg hs t)
+ThreadsKeepCount = (c : MarkedProgram) (cfg : Config) (hs : List Happening) (t : ℕ) → IsMarked c → HaveWidth cfg → AreSettings cfg → HasFailedCount (core c cfg hs) t (failed_here c cfg hs t)
 
 abbrev pub FewFail : Type 0
 FewFail = (c : MarkedProgram) (cfg : Config) (hs : List Happening) (t : ℕ) → IsMarked c → HaveWidth cfg → AreSettings cfg → failed_here c cfg hs t ≤ 2
@@ -54,7 +54,7 @@ pub record IsAtMarked (c : MarkedProgram) (frames : List Frame) : Type 0 where
 
 -- Thread x is at the entry of a marked section, with attempts turned on; it neither holds the monitor nor is in an attempt, and
 -- fewer than two have failed at this entry; and the monitor is free, with a count below the last one.
-pub record IsDue (c : MarkedProgram) (cfg : Config) (s : Core) (x : Thread) (failed m count : ℕ) : Type 0 where
+pub record IsAttemptDue (c : MarkedProgram) (cfg : Config) (s : Core) (x : Thread) (failed m count : ℕ) : Type 0 where
   pub tried : ℕ
   pub enters : x.phase ≡ phases.Enter m tried
   pub marked : IsAtMarked c x.frames
@@ -68,7 +68,7 @@ pub record IsDue (c : MarkedProgram) (cfg : Config) (s : Core) (x : Thread) (fai
 -- Thread x, which is y behind its event, has begun an attempt on m by a load of its lock word: it notes the count and the frame
 -- that enters, runs on within the limit of instructions, and has its frames, the monitors that it holds and its count of turns as
 -- they were.
-pub record HasBegun (c : MarkedProgram) (x y : Thread) (failed m count : ℕ) : Type 0 where
+pub record HasBegunAttempt (c : MarkedProgram) (x y : Thread) (failed m count : ℕ) : Type 0 where
   pub loads : wanted c x x.phase ≡ Some (Load m)
   pub attempt : Attempt
   pub is : y.attempt ≡ Some attempt
@@ -88,14 +88,14 @@ pub record HasBegun (c : MarkedProgram) (x y : Thread) (failed m count : ℕ) : 
 abbrev pub DueBegin : Type 0
 DueBegin = (c : MarkedProgram) (cfg : Config) (hs : List Happening) (t : ℕ) (x y : Thread) (m count : ℕ) → IsMarked c → HaveWidth cfg → AreSettings cfg
     → slice_get (core c cfg hs).threads t ≡ Some x → slice_get (event c (core c cfg hs) t).threads t ≡ Some y
-    → IsDue c cfg (core c cfg hs) x (failed_here c cfg hs t) m count → HasBegun c x y (failed_here c cfg hs t) m count
+    → IsAttemptDue c cfg (core c cfg hs) x (failed_here c cfg hs t) m count → HasBegunAttempt c x y (failed_here c cfg hs t) m count
 
 -- and nowhere else, and by nothing but a load of the lock word
 abbrev pub BegunAreDue : Type 0
 BegunAreDue = (c : MarkedProgram) (cfg : Config) (hs : List Happening) (t : ℕ) (x y : Thread) (a : Attempt) → IsMarked c → HaveWidth cfg → AreSettings cfg
     → slice_get (core c cfg hs).threads t ≡ Some x → slice_get (event c (core c cfg hs) t).threads t ≡ Some y
     → x.attempt ≡ None → y.attempt ≡ Some a
-    → IsDue c cfg (core c cfg hs) x (failed_here c cfg hs t) a.monitor a.noted × (wanted c x x.phase ≡ Some (Load a.monitor))
+    → IsAttemptDue c cfg (core c cfg hs) x (failed_here c cfg hs t) a.monitor a.noted × (wanted c x x.phase ≡ Some (Load a.monitor))
 
 -- an attempt that is open stays the same one, but for how often its monitor was entered inside, until it ends
 abbrev pub AttemptsStay : Type 0

@@ -12,7 +12,7 @@ use Rattle.laws_states.specs.PartsLaws.{StartHasNoAttempts, EventsMakeNoAttempts
 use Rattle.laws_states.specs.StateLaws.{ProgramsKeepThreads, StartHasState, EventsKeepState, NextKeepsState}
 use Rattle.laws_objects.specs.ConstructionLaws.{StartHasConstruction, EventsKeepConstruction, NextKeepsConstruction}
 use Rattle.laws_objects.specs.GuardLaws.{EventsKeepGuards}
-use Rattle.laws_simulation.specs.StepsBeside.{FrameSteps, MemorySteps, WaitingSteps, OnwardSteps, LockSteps, WaitPhaseSteps, NextStandsBeside, StartStandsBeside}
+use Rattle.laws_simulation.specs.StepsBeside.{FrameSteps, MemorySteps, WaitingSteps, OnwardSteps, LockSteps, WaitPhaseSteps, NextStandsBeside, StartStandsBesidePlain}
 use Rattle.laws_refinement.specs.ElidedSteps.{OthersKeepAttempts, OwnKeepsAttempt, AttemptsAreSilent, AttemptsStandBeside, SectionsFinish, AttemptsAreCounted, FinishesAreCounted, AttemptsPrintNothing}
 
 -- ---- the laws of events that it follows from
@@ -25,7 +25,7 @@ pub record AreEventLaws : Type 0 where
   pub locks : LockSteps
   pub wait_phases : WaitPhaseSteps
   pub next_beside : NextStandsBeside
-  pub start_beside : StartStandsBeside
+  pub start_beside : StartStandsBesidePlain
   pub start_state : StartHasState
   pub events_state : EventsKeepState
   pub next_state : NextKeepsState

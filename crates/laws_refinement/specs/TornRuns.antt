@@ -15,9 +15,9 @@ use Rattle.laws_states.specs.RunFacts.{HaveWidth}
 
 -- ---- what an attempt begins
 
-abbrev pub attempt_of : Option Thread → Option Attempt
-attempt_of None = None
-attempt_of (Some x) = x.attempt
+abbrev pub attempt_in : Option Thread → Option Attempt
+attempt_in None = None
+attempt_in (Some x) = x.attempt
 
 -- the instructions that the next event of a thread begins
 abbrev pub begun_in : Phase → ℕ
@@ -39,7 +39,7 @@ if_open (Some a) n = n
 -- how many instructions thread t begins along a list of events in the attempt that it is in before them, until that ends
 abbrev pub begun_inside : MarkedProgram → Core → (t : ℕ) → List Happening → ℕ
 begun_inside c s t [] = 0
-begun_inside c s t (h ∷ hs) = if_open (attempt_of (slice_get s.threads t)) (begun_by s t h + begun_inside c (happened c s h) t hs)
+begun_inside c s t (h ∷ hs) = if_open (attempt_in (slice_get s.threads t)) (begun_by s t h + begun_inside c (happened c s h) t hs)
 
 -- ---- the laws
 

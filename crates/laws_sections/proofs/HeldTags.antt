@@ -17,7 +17,7 @@ use Rattle.jvm_types.specs.declared.program.MethodInfo.{MethodInfo}
 use Rattle.jvm_types.specs.declared.program.Program.{Program}
 use Rattle.jvm_types.specs.declared.refusal.SRule.{SRule}
 use Rattle.jvm_types.proofs.EachAfter.{all_weaker}
-use Rattle.checked_program.specs.Visits.{Act, Break, Bring, Node, first_nodes}
+use Rattle.checked_program.specs.Visits.{Act, Break, Bring, PlanNode, plan_nodes}
 use Rattle.checked_program.specs.LockTags.{TagShape, IsShapeBelow, entry_tags}
 use Rattle.checked_program.specs.Tagging.{tags_after, tags_by_op, tags_at_handler, catchers, acts_at, tag_meeting, tag_plan, HasTagging}
 use Rattle.checked_program.specs.TaggedCode.{Goes, onward, caught, row_of}
@@ -72,10 +72,10 @@ own_along p m mode depth insn other target f h enters (caught o e) own = own
 -- ---- under a tagging
 
 module _ (p : Program) (m : MethodInfo) where
-  abbrev pub TagLands : List (Node TagShape) → TagShape → ℕ → Type 0
+  abbrev pub TagLands : List (PlanNode TagShape) → TagShape → ℕ → Type 0
   TagLands nodes f to = LandsOn tag_meeting IsShapeBelow tag_order m.code nodes f to
 
-  abbrev pub IsTagFine : List (Node TagShape) → Act TagShape SRule → Type 0
+  abbrev pub IsTagFine : List (PlanNode TagShape) → Act TagShape SRule → Type 0
   IsTagFine nodes act = IsActFine tag_meeting IsShapeBelow tag_order m.code nodes act
 
   module _ (frames : List (Option TagShape)) (tagging : HasTagging p m frames) where
@@ -125,7 +125,7 @@ module _ (p : Program) (m : MethodInfo) where
     pub framed_first : (j : ℕ) (insn : Insn) (g : TagShape) → slice_get m.code j ≡ Some insn → slice_get frames j ≡ Some (Some g) → IsFirstOf m.code insn.pc j
     framed_first j insn g c e =
         let all : AreLive (tag_plan p m) IsShapeBelow tag_order (λ j g. IsFirst j) ends.last =
-        all_lead (tag_plan p m) IsShapeBelow tag_order (λ j g. IsFirst j) (λ i g f a b. a) ends.visits (first_nodes (tag_plan p m)) ends.last ends.made (first_live (tag_plan p m) IsShapeBelow tag_order (λ j g. IsFirst j) start_first) (λ i f q h. acts_first ((tag_plan p m).acts i f)) in
+        all_lead (tag_plan p m) IsShapeBelow tag_order (λ j g. IsFirst j) (λ i g f a b. a) ends.visits (plan_nodes (tag_plan p m)) ends.last ends.made (first_live (tag_plan p m) IsShapeBelow tag_order (λ j g. IsFirst j) start_first) (λ i f q h. acts_first ((tag_plan p m).acts i f)) in
         let b = ends.framed j g e in
         all j b.0 g b.1 b.2 insn c
 
@@ -202,6 +202,6 @@ module _ (p : Program) (m : MethodInfo) where
       pub all_own : (j : ℕ) (g : TagShape) → slice_get frames j ≡ Some (Some g) → AreOwn mode 0 g.held
       all_own j g e =
           let all : AreLive (tag_plan p m) IsShapeBelow tag_order (λ j g. IsOwnAt j) ends.last =
-          all_lead (tag_plan p m) IsShapeBelow tag_order (λ j g. IsOwnAt j) (λ i g f a b. a) ends.visits (first_nodes (tag_plan p m)) ends.last ends.made (first_live (tag_plan p m) IsShapeBelow tag_order (λ j g. IsOwnAt j) start_own) acts_own in
+          all_lead (tag_plan p m) IsShapeBelow tag_order (λ j g. IsOwnAt j) (λ i g f a b. a) ends.visits (plan_nodes (tag_plan p m)) ends.last ends.made (first_live (tag_plan p m) IsShapeBelow tag_order (λ j g. IsOwnAt j) start_own) acts_own in
           let b = ends.framed j g e in
           all j b.0 g b.1 b.2 g e

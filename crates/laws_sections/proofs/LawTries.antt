@@ -7,13 +7,13 @@ use Rattle.jvm_types.specs.declared.program.MethodInfo.{MethodInfo}
 use Rattle.jvm_types.specs.declared.program.Program.{Program}
 use Rattle.jvm_types.specs.declared.refusal.SRule.{SRule}
 use Rattle.checked_program.specs.LockTags.{TagShape}
-use Rattle.checked_program.specs.Visits.{Node, next_visit, visited, first_nodes, Visits}
+use Rattle.checked_program.specs.Visits.{PlanNode, next_waiting, plan_visited, plan_nodes, PlanVisits}
 use Rattle.checked_program.specs.Tagging.{tag_plan, HasTagging}
 use Rattle.checked_program.specs.TaggedCode.{Tagged}
 use Rattle.checked_program.specs.FrozenPlaces.{AreUses, IsFrozenField, IsGuardedField}
 use Rattle.checked_program.specs.Sections.{Section}
 use Rattle.checked_program.specs.Marks.{HasMark}
-use Rattle.checked_program.specs.SectionLaws.{Part, AreParts, AreTagged, HasThis, AreApart}
+use Rattle.checked_program.specs.SectionLaws.{Part, AreParts, AreTagged, HasThis, HaveOwnMethods}
 use Rattle.checked_program.specs.declared.tag.Tag.TheVariants.{Untagged, This}
 use Rattle.checked_program.specs.declared.section.FieldUse.{FieldUse}
 use Rattle.checked_program.specs.declared.section.FieldUse.TheVariants.{Frozen, Guarded, Open}
@@ -30,26 +30,26 @@ abbrev is_accepted : Answer → Bool
 is_accepted (Accepted frames) = true
 is_accepted answer = false
 
-accepted : (n : ℕ) (p : Program) (m : MethodInfo) (nodes : List (Node TagShape)) → is_accepted (run n p m nodes) ≡ true
-    → (visits : List ℕ) × (last : List (Node TagShape)) × (Visits (tag_plan p m) nodes visits last) × (frames_in (run n p m nodes) ≡ map (λ node. node.frame) last)
+accepted : (n : ℕ) (p : Program) (m : MethodInfo) (nodes : List (PlanNode TagShape)) → is_accepted (run n p m nodes) ≡ true
+    → (visits : List ℕ) × (last : List (PlanNode TagShape)) × (PlanVisits (tag_plan p m) nodes visits last) × (frames_in (run n p m nodes) ≡ map (λ node. node.frame) last)
 accepted zero p m nodes e = absurd (let bad : false ≡ true = e in cc)
-accepted (suc n) p m nodes e = by_next (next_visit nodes) refl e (λ mid. accepted n p m mid)
+accepted (suc n) p m nodes e = by_next (next_waiting nodes) refl e (λ mid. accepted n p m mid)
   where
-    Ends : List (Node TagShape) → Answer → Type 0
-    Ends nodes answer = (visits : List ℕ) × (last : List (Node TagShape)) × (Visits (tag_plan p m) nodes visits last) × (frames_in answer ≡ map (λ node. node.frame) last)
+    Ends : List (PlanNode TagShape) → Answer → Type 0
+    Ends nodes answer = (visits : List ℕ) × (last : List (PlanNode TagShape)) × (PlanVisits (tag_plan p m) nodes visits last) × (frames_in answer ≡ map (λ node. node.frame) last)
 
-    by_visit : (i : ℕ) → next_visit nodes ≡ Some i → (x : Result (List (Node TagShape)) (SRule × ℕ)) → visited (tag_plan p m) i nodes ≡ x → is_accepted (after_visit x (λ mid. run n p m mid)) ≡ true
-        → ((mid : List (Node TagShape)) → is_accepted (run n p m mid) ≡ true → Ends mid (run n p m mid)) → Ends nodes (after_visit x (λ mid. run n p m mid))
+    by_visit : (i : ℕ) → next_waiting nodes ≡ Some i → (x : Result (List (PlanNode TagShape)) (SRule × ℕ)) → plan_visited (tag_plan p m) i nodes ≡ x → is_accepted (after_visit x (λ mid. run n p m mid)) ≡ true
+        → ((mid : List (PlanNode TagShape)) → is_accepted (run n p m mid) ≡ true → Ends mid (run n p m mid)) → Ends nodes (after_visit x (λ mid. run n p m mid))
     by_visit i next (Err fault) v e more = absurd (let bad : false ≡ true = e in cc)
     by_visit i next (Ok mid) v e more = let rest = more mid e in (i ∷ rest.0, rest.1, (next, mid, v, rest.2), rest.3)
 
-    by_next : (o : Option ℕ) → next_visit nodes ≡ o → is_accepted (at_visit o nodes (λ i. visited (tag_plan p m) i nodes) (λ mid. run n p m mid)) ≡ true
-        → ((mid : List (Node TagShape)) → is_accepted (run n p m mid) ≡ true → Ends mid (run n p m mid)) → Ends nodes (at_visit o nodes (λ i. visited (tag_plan p m) i nodes) (λ mid. run n p m mid))
+    by_next : (o : Option ℕ) → next_waiting nodes ≡ o → is_accepted (at_visit o nodes (λ i. plan_visited (tag_plan p m) i nodes) (λ mid. run n p m mid)) ≡ true
+        → ((mid : List (PlanNode TagShape)) → is_accepted (run n p m mid) ≡ true → Ends mid (run n p m mid)) → Ends nodes (at_visit o nodes (λ i. plan_visited (tag_plan p m) i nodes) (λ mid. run n p m mid))
     by_next None next e more = ([], nodes, (next, refl), refl)
-    by_next (Some i) next e more = by_visit i next (visited (tag_plan p m) i nodes) refl e more
+    by_next (Some i) next e more = by_visit i next (plan_visited (tag_plan p m) i nodes) refl e more
 
 has_tagging : (p : Program) (m : MethodInfo) → is_accepted (tagged p m) ≡ true → HasTagging p m (frames_in (tagged p m))
-has_tagging p m e = let ends = accepted 60 p m (first_nodes (tag_plan p m)) e in record { visits = ends.0; last = ends.1; made = ends.2; are = ends.3 }
+has_tagging p m e = let ends = accepted 60 p m (plan_nodes (tag_plan p m)) e in record { visits = ends.0; last = ends.1; made = ends.2; are = ends.3 }
 
 all_tagged : (p : Program) (ms : List MethodInfo) → AllByRecursion (λ m. is_accepted (tagged p m) ≡ true) ms → (mi : ℕ) (m : MethodInfo) → slice_get ms mi ≡ Some m
     → (frames : List (Option TagShape)) × (slice_get (map (λ m. frames_in (tagged p m)) ms) mi ≡ Some frames) × HasTagging p m frames
@@ -98,5 +98,5 @@ module _ (u : AreUses many tags uses) (mark : HasMark many tags uses section 0) 
   leaves : (OnThis ≡ OnThis) × (This ≡ This)
   leaves = exit_law many tags uses section 7 (part 2 10) (part 12 1 ∷ []) OnThis _ _ _ _ u many_is_tagged mark (called_at 10) (record { in_program = refl; in_code = refl; names = refl; frames = _; of_method = refl; frame = refl }) refl
 
-  apart : AreApart (part 2 10 ∷ part 12 1 ∷ [])
+  apart : HaveOwnMethods (part 2 10 ∷ part 12 1 ∷ [])
   apart = apart_law many tags uses section 7 (part 2 10 ∷ part 12 1 ∷ []) OnThis mark (called_at 10)

@@ -13,7 +13,7 @@ use Rattle.checked_program.specs.LockTags.{TagShape, is_this}
 use Rattle.checked_program.specs.TaggedCode.{Tagged, IsAt}
 use Rattle.checked_program.specs.FrozenPlaces.{AreUses, IsUse, IsFrozenField, IsGuardedField}
 use Rattle.checked_program.specs.Sections.{Section, IsOwn}
-use Rattle.checked_program.specs.Marks.{Callee, callee, Calls, CallsThrough, IsCalledBy, HasMark, fault, call_fault, enter_fault, read_fault, args_of, is_locking, is_own_object, BreaksAt, OwnBreaks, itself, called}
+use Rattle.checked_program.specs.Marks.{Callee, callee, Calls, CallsThrough, IsCalledBy, HasMark, section_fault, call_fault, enter_fault, use_fault, args_of, is_locking, is_own_object, BreaksAt, OwnBreaks, itself, called}
 use Rattle.checked_program.specs.SectionLaws.{Part, IsSectionPart, AreParts, HasThis, ReadsOnly, ReadLaw}
 use Rattle.checked_program.specs.declared.tag.Tag.{Tag}
 use Rattle.checked_program.specs.declared.tag.Tag.TheVariants.{Untagged, This}
@@ -52,13 +52,13 @@ module _ (p : Program) (tags : Tagged) (uses : List FieldUse) (a : AreUses p tag
   is_called k true false e z g = absurd (omega (arith, z))
   is_called k false t e z g = absurd (let bad : false ≡ true = g in cc)
 
-  read : (fi : ℕ) (x : FieldUse) (t : Bool) → slice_index_or uses fi Open ≡ x → is_own_object mode (slice_index_or ts 0 Untagged) ≡ t → read_fault x t ≡ 0 → IsFrozenField p tags fi ⊎ (IsGuardedField p tags fi × (slice_index vs 0 ≡ o))
+  read : (fi : ℕ) (x : FieldUse) (t : Bool) → slice_index_or uses fi Open ≡ x → is_own_object mode (slice_index_or ts 0 Untagged) ≡ t → use_fault x t ≡ 0 → IsFrozenField p tags fi ⊎ (IsGuardedField p tags fi × (slice_index vs 0 ≡ o))
   read fi Frozen t e w z = inl (use_at p tags uses fi a Frozen e (λ q. cc))
   read fi Guarded true e w z = inr (use_at p tags uses fi a Guarded e (λ q. cc), own_place 0 w)
   read fi Guarded false e w z = absurd (omega (arith, z))
   read fi Open t e w z = absurd (omega (arith, z))
 
-  reads_only : (op : Op) (target : Target) → fault p uses mode op target ts ≡ 0 → ReadsOnly p tags o op target vs
+  reads_only : (op : Op) (target : Target) → section_fault p uses mode op target ts ≡ 0 → ReadsOnly p tags o op target vs
   reads_only (ops.Putfield i) target z = omega (arith, z)
   reads_only (ops.Putstatic i) target z = omega (arith, z)
   reads_only ops.Iastore target z = omega (arith, z)
@@ -105,30 +105,30 @@ on_receiver p tags s o a (b ∷ parts) mode h e = h.3 e
 
 -- a marked section breaks no rule
 pub own_no_fault : (p : Program) (tags : Tagged) (uses : List FieldUse) (s : Section) (i : ℕ) (m : MethodInfo) (insn : Insn) (target : Target) (f : TagShape)
-    → HasMark p tags uses s 0 → IsOwn p tags s.method s.spot i → IsAt p tags s.method i m insn target f → fault p uses OnThis insn.op target f.stack ≡ 0
+    → HasMark p tags uses s 0 → IsOwn p tags s.method s.spot i → IsAt p tags s.method i m insn target f → section_fault p uses OnThis insn.op target f.stack ≡ 0
 own_no_fault p tags uses s i m insn target f k own at = ⊎_elim (λ q. q)
-    (λ (q : fault p uses OnThis insn.op target f.stack ≢ 0).
-    let n : ℕ = fault p uses OnThis insn.op target f.stack in
+    (λ (q : section_fault p uses OnThis insn.op target f.stack ≢ 0).
+    let n : ℕ = section_fault p uses OnThis insn.op target f.stack in
     let breaks : BreaksAt p tags uses (callee s.method OnThis) i n = record { m = m; insn = insn; target = target; f = f; at = at; fault_is = refl; some = omega (arith, q) } in
     let breaks : OwnBreaks p tags uses s n = record { i = i; own = own; breaks = breaks } in
     absurd (k n (itself breaks)))
-    (cases_eq (fault p uses OnThis insn.op target f.stack) 0)
+    (cases_eq (section_fault p uses OnThis insn.op target f.stack) 0)
 
 -- nor does a method that it calls
 pub called_no_fault : (p : Program) (tags : Tagged) (uses : List FieldUse) (s : Section) (o i : ℕ) (a b : Part) (parts : List Part) (mode : Mode) (m : MethodInfo) (insn : Insn) (target : Target) (f : TagShape)
-    → HasMark p tags uses s 0 → AreParts p tags s o (a ∷ b ∷ parts) mode → IsAt p tags a.method i m insn target f → fault p uses mode insn.op target f.stack ≡ 0
+    → HasMark p tags uses s 0 → AreParts p tags s o (a ∷ b ∷ parts) mode → IsAt p tags a.method i m insn target f → section_fault p uses mode insn.op target f.stack ≡ 0
 called_no_fault p tags uses s o i a b parts mode m insn target f k h at = ⊎_elim (λ q. q)
-    (λ (q : fault p uses mode insn.op target f.stack ≢ 0).
-    let n : ℕ = fault p uses mode insn.op target f.stack in
+    (λ (q : section_fault p uses mode insn.op target f.stack ≢ 0).
+    let n : ℕ = section_fault p uses mode insn.op target f.stack in
     let breaks : BreaksAt p tags uses (callee a.method mode) i n = record { m = m; insn = insn; target = target; f = f; at = at; fault_is = refl; some = omega (arith, q) } in
     absurd (k 6 (called refl (record { called = callee a.method mode; is_called = part_called p tags s o a b parts mode h; i = i; n = n; breaks = breaks }))))
-    (cases_eq (fault p uses mode insn.op target f.stack) 0)
+    (cases_eq (section_fault p uses mode insn.op target f.stack) 0)
 
 no_fault : (p : Program) (tags : Tagged) (uses : List FieldUse) (s : Section) (o : ℕ) (a : Part) (parts : List Part) (mode : Mode) (m : MethodInfo) (insn : Insn) (target : Target) (f : TagShape)
-    → HasMark p tags uses s 0 → AreParts p tags s o (a ∷ parts) mode → IsAt p tags a.method a.at m insn target f → fault p uses mode insn.op target f.stack ≡ 0
+    → HasMark p tags uses s 0 → AreParts p tags s o (a ∷ parts) mode → IsAt p tags a.method a.at m insn target f → section_fault p uses mode insn.op target f.stack ≡ 0
 no_fault p tags uses s o a [] mode m insn target f k h at =
     let last : IsSectionPart p tags s o a mode = h in
-    subst (λ was. fault p uses was insn.op target f.stack ≡ 0) (sym last.mode_is) (own_no_fault p tags uses s a.at m insn target f k last.own (subst (λ mi. IsAt p tags mi a.at m insn target f) last.method at))
+    subst (λ was. section_fault p uses was insn.op target f.stack ≡ 0) (sym last.mode_is) (own_no_fault p tags uses s a.at m insn target f k last.own (subst (λ mi. IsAt p tags mi a.at m insn target f) last.method at))
 no_fault p tags uses s o a (b ∷ parts) mode m insn target f k h at = called_no_fault p tags uses s o a.at a b parts mode m insn target f k h at
 
 pub read_law : ReadLaw

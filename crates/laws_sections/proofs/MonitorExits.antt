@@ -8,10 +8,10 @@ use Rattle.jvm_types.specs.declared.program.Target.{Target}
 use Rattle.jvm_types.specs.declared.program.MethodInfo.{MethodInfo}
 use Rattle.jvm_types.specs.declared.program.Program.{Program}
 use Rattle.checked_program.specs.LockTags.{TagShape, same_tag}
-use Rattle.checked_program.specs.TaggedCode.{Tagged, IsAt, IsEdge, Goes}
+use Rattle.checked_program.specs.TaggedCode.{Tagged, IsAt, IsReachedEdge, Goes}
 use Rattle.checked_program.specs.Tagging.{is_innermost, exits_other, HasTagging}
 use Rattle.checked_program.specs.Sections.{Section, IsDeep, StaysDeep, BeginsAt, IsInBlock, IsOwn}
-use Rattle.checked_program.specs.Marks.{fault, enter_fault, is_own_object, HasMark, IsOnThis, elsewhere}
+use Rattle.checked_program.specs.Marks.{section_fault, enter_fault, is_own_object, HasMark, IsOnThis, elsewhere}
 use Rattle.checked_program.specs.SectionLaws.{IsSectionPart, AreTagged, ExitLaw}
 use Rattle.checked_program.specs.declared.tag.Tag.{Tag}
 use Rattle.checked_program.specs.declared.tag.Tag.TheVariants.{Untagged, This, At}
@@ -32,8 +32,8 @@ enters_own : (t : Bool) → enter_fault t ≡ 0 → t ≡ true
 enters_own true e = refl
 enters_own false e = absurd (omega (arith, e))
 
-fault_own : (p : Program) (uses : List FieldUse) (mode : Mode) (insn : Insn) (target : Target) (ts : List Tag) → insn.op ≡ ops.Monitorenter → fault p uses mode insn.op target ts ≡ 0 → is_own_object mode (slice_index_or ts 0 Untagged) ≡ true
-fault_own p uses mode insn target ts e none = enters_own (is_own_object mode (slice_index_or ts 0 Untagged)) (subst (λ op. fault p uses mode op target ts ≡ 0) e none)
+fault_own : (p : Program) (uses : List FieldUse) (mode : Mode) (insn : Insn) (target : Target) (ts : List Tag) → insn.op ≡ ops.Monitorenter → section_fault p uses mode insn.op target ts ≡ 0 → is_own_object mode (slice_index_or ts 0 Untagged) ≡ true
+fault_own p uses mode insn target ts e none = enters_own (is_own_object mode (slice_index_or ts 0 Untagged)) (subst (λ op. section_fault p uses mode op target ts ≡ 0) e none)
 
 -- the tag that is left is the innermost held one
 innermost : (mode : Mode) (t : Tag) (held : List Tag) → not (is_innermost t held) ≡ false → (0 < length held → is_own_object mode (slice_index_or held 0 Untagged) ≡ true) → (mode ≡ OnThis) × (t ≡ This)
@@ -98,7 +98,7 @@ module _ (p : Program) (tags : Tagged) (tagged : AreTagged p tags) where
     abbrev OwnFrom : ℕ → ℕ → Type 0
     OwnFrom depth i = (m : MethodInfo) (insn : Insn) (target : Target) (f : TagShape) → IsAt p tags s.method i m insn target f → AreOwn OnThis depth f.held
 
-    own_edge : (depth i j : ℕ) → OwnFrom depth i → IsEdge p tags s.method i j
+    own_edge : (depth i j : ℕ) → OwnFrom depth i → IsReachedEdge p tags s.method i j
         → ((m : MethodInfo) (insn : Insn) (target : Target) (f : TagShape) → IsAt p tags s.method i m insn target f → insn.op ≡ ops.Monitorenter → is_own_object OnThis (slice_index_or f.stack 0 Untagged) ≡ true) → OwnFrom depth j
     own_edge depth i j own e enters m insn target g at =
         let before : AreOwn OnThis depth e.f.held = own e.m e.insn e.target e.f e.from in
@@ -116,7 +116,7 @@ module _ (p : Program) (tags : Tagged) (tagged : AreTagged p tags) where
     first_deep depth i [] j stays = stays.1
     first_deep depth i (k ∷ over) j stays = stays.0
 
-    module _ (enter first : ℕ) (f : TagShape) (begins : BeginsAt p tags s.method pc enter f) (edge : IsEdge p tags s.method enter first) where
+    module _ (enter first : ℕ) (f : TagShape) (begins : BeginsAt p tags s.method pc enter f) (edge : IsReachedEdge p tags s.method enter first) where
       along : (i : ℕ) (before : List ℕ) → StaysDeep p tags s.method (length f.held) first before i → (over : List ℕ) (j : ℕ) → StaysDeep p tags s.method (length f.held) i over j → OwnFrom (length f.held) i → OwnFrom (length f.held) j
       along i before reached [] j stays own = subst (OwnFrom (length f.held)) stays.0 own
       along i before reached (k ∷ over) j stays own =

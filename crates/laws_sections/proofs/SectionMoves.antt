@@ -11,7 +11,7 @@ use Rattle.jvm_types.specs.declared.program.MethodInfo.{MethodInfo}
 use Rattle.jvm_types.specs.declared.program.Program.{Program}
 use Rattle.checked_program.specs.LockTags.{TagShape}
 use Rattle.checked_program.specs.Tagging.{tags_by_op}
-use Rattle.checked_program.specs.TaggedCode.{Tagged, IsAt, Goes, onward, caught, IsEdge, row_of}
+use Rattle.checked_program.specs.TaggedCode.{Tagged, IsAt, Goes, onward, caught, IsReachedEdge, row_of}
 use Rattle.checked_program.specs.Sections.{IsDeep, StaysDeep, IsInBlock, IsOwn}
 use Rattle.checked_program.specs.SectionLaws.{IsSectionPart, IsExit, OwnLaw, MoveLaw}
 use Rattle.checked_program.specs.declared.tag.Tag.{Tag}
@@ -54,8 +54,8 @@ pub last_deep : (p : Program) (tags : Tagged) (mi d i : ℕ) (over : List ℕ) (
 last_deep p tags mi d i [] j s = subst (λ x. IsDeep p tags mi d x) s.0 s.1
 last_deep p tags mi d i (k ∷ over) j s = last_deep p tags mi d k over j s.2
 
-pub deep_more : (p : Program) (tags : Tagged) (mi d i : ℕ) (over : List ℕ) (j l : ℕ) → StaysDeep p tags mi d i over j → IsEdge p tags mi j l → IsDeep p tags mi d l → (more : List ℕ) × StaysDeep p tags mi d i more l
-deep_more p tags mi d i [] j l s e h = (l ∷ [], (s.1, subst (λ x. IsEdge p tags mi x l) (sym s.0) e, (refl, h)))
+pub deep_more : (p : Program) (tags : Tagged) (mi d i : ℕ) (over : List ℕ) (j l : ℕ) → StaysDeep p tags mi d i over j → IsReachedEdge p tags mi j l → IsDeep p tags mi d l → (more : List ℕ) × StaysDeep p tags mi d i more l
+deep_more p tags mi d i [] j l s e h = (l ∷ [], (s.1, subst (λ x. IsReachedEdge p tags mi x l) (sym s.0) e, (refl, h)))
 deep_more p tags mi d i (k ∷ over) j l s e h = let r = deep_more p tags mi d k over j l s.2 e h in (k ∷ r.0, (s.0, s.1, r.1))
 
 -- how deep the frame of an own instruction of a block is
@@ -65,7 +65,7 @@ own_deep p tags mi pc i m insn target f b a =
     subst (λ z. length b.f.held < length z.held) (one_frame p tags mi i last.m m last.insn insn last.target target last.f f last.at a) last.deep
 
 -- an edge that stays deep leads to an own instruction
-pub own_more : (p : Program) (tags : Tagged) (mi pc i j : ℕ) (b : IsInBlock p tags mi pc i) → IsEdge p tags mi i j → IsDeep p tags mi (length b.f.held) j → IsInBlock p tags mi pc j
+pub own_more : (p : Program) (tags : Tagged) (mi pc i j : ℕ) (b : IsInBlock p tags mi pc i) → IsReachedEdge p tags mi i j → IsDeep p tags mi (length b.f.held) j → IsInBlock p tags mi pc j
 own_more p tags mi pc i j b e deep =
     let more = deep_more p tags mi (length b.f.held) b.first b.over i j b.stays e deep in
     record { enter = b.enter; f = b.f; begins = b.begins; first = b.first; edge = b.edge; over = more.0; stays = more.1 }

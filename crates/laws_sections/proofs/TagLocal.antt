@@ -6,7 +6,7 @@ use Rattle.std.proofs.lemmas.Bool.{or_left, or_right, eq-eqb}
 use Rattle.jvm_types.specs.CodeGrammar.{is_start}
 use Rattle.jvm_types.specs.CodeTable.{row, can_throw}
 use Rattle.jvm_types.specs.declared.op_row.OpRow.{OpRow}
-use Rattle.jvm_types.specs.Types.{TypeFrame, entry_frame}
+use Rattle.jvm_types.specs.Types.{TypeFrame, entry_type_frame}
 use Rattle.jvm_types.specs.Verifying.{edges, covering, frame_after, frame_at_handler, HasTyping, IsLaidOut}
 use Rattle.jvm_types.specs.Verifying as types
 use Rattle.jvm_types.specs.declared.code.Insn.{Insn}
@@ -20,16 +20,16 @@ use Rattle.laws_programs.proofs.CodeOrder.{one_number}
 use Rattle.laws_programs.proofs.EdgeTargets.{lands}
 use Rattle.laws_programs.proofs.LocalGoing.{begins, local_law}
 use Rattle.checked_program.specs.LockTags.{TagShape, entry_tags, IsShapeBelow}
-use Rattle.checked_program.specs.Tagging.{tags_after, catches_all, until_all, catchers, tags_at_handler, tag_acts, acts_at, tag_plan, HasTagging, IsSound}
+use Rattle.checked_program.specs.Tagging.{tags_after, catches_all, until_all, catchers, tags_at_handler, tag_acts, acts_at, tag_plan, HasTagging, IsTagSound}
 use Rattle.checked_program.specs.TagLaws.{TagLocalLaw}
-use Rattle.checked_program.specs.Visits.{Act, Fits}
+use Rattle.checked_program.specs.Visits.{Act, EdgeFits}
 use Rattle.laws_sections.proofs.TagActs.{to_handler, acts_kept, all_acts}
 use Rattle.laws_sections.proofs.TagOrder.{tag_order}
 use Rattle.laws_sections.proofs.VisitsLocal.{Lands, ActLands, IsClosed, IsActSound, IsLocal, local}
 
 -- ---- what is sound by acts is sound by rules
 
-acts_sound : (m : MethodInfo) (insn : Insn) (r : OpRow) (frames : List (Option TagShape)) (f : TagShape) → AllByRecursion (IsActSound IsShapeBelow m.code frames) (tag_acts m insn r f) → IsSound m insn r frames f
+acts_sound : (m : MethodInfo) (insn : Insn) (r : OpRow) (frames : List (Option TagShape)) (f : TagShape) → AllByRecursion (IsActSound IsShapeBelow m.code frames) (tag_acts m insn r f) → IsTagSound m insn r frames f
 acts_sound m insn r frames f h =
     let P : Act TagShape SRule → Type 0 = IsActSound IsShapeBelow m.code frames in
     let kept = acts_kept P m insn r f (λ rule pc none. none) h in
@@ -38,7 +38,7 @@ acts_sound m insn r frames f h =
       exits = kept.exits;
       leaves = kept.leaves;
       edges_fit = kept.onward;
-      handlers_fit = all_weaker (λ handler. P (to_handler f handler)) (λ handler. Fits IsShapeBelow m.code frames (tags_at_handler f) handler.handler) (λ handler k. k.0) (catchers m insn) kept.caught;
+      handlers_fit = all_weaker (λ handler. P (to_handler f handler)) (λ handler. EdgeFits IsShapeBelow m.code frames (tags_at_handler f) handler.handler) (λ handler k. k.0) (catchers m insn) kept.caught;
     }
 
 -- ---- where its edges lead
@@ -61,7 +61,7 @@ module _ (p : Program) (m : MethodInfo) (frames : List (Option TypeFrame)) (laid
   abbrev IsTyped : ℕ → TagShape → Type 0
   IsTyped i f = (g : TypeFrame) × (slice_get frames i ≡ Some (Some g))
 
-  typed_lands : (g : TypeFrame) (f : TagShape) (to : ℕ) → types.Fits m.code frames g to → Lands IsTyped m.code f to
+  typed_lands : (g : TypeFrame) (f : TagShape) (to : ℕ) → types.FrameFits m.code frames g to → Lands IsTyped m.code f to
   typed_lands g f to h =
       let l = lands m frames g to h in
       record {
@@ -69,7 +69,7 @@ module _ (p : Program) (m : MethodInfo) (frames : List (Option TypeFrame)) (laid
         live = λ j insn e k. (l.frame, ap (slice_get frames) (one_number m j l.number insn l.insn laid e l.there (k ∙ sym l.starts)) ∙ l.has);
       }
 
-  rows_land : (g : TypeFrame) (f : TagShape) (rows : List Row) → AllByRecursion (λ handler. types.Fits m.code frames (frame_at_handler handler g) handler.handler) rows
+  rows_land : (g : TypeFrame) (f : TagShape) (rows : List Row) → AllByRecursion (λ handler. types.FrameFits m.code frames (frame_at_handler handler g) handler.handler) rows
       → AllByRecursion (λ handler. Lands IsTyped m.code (tags_at_handler f) handler.handler) (until_all rows)
   rows_land g f [] h = tt
   rows_land g f (handler ∷ rows) h = by_test (catches_all handler) (typed_lands (frame_at_handler handler g) (tags_at_handler f) handler.handler h.0) (rows_land g f rows h.1)
@@ -79,7 +79,7 @@ module _ (p : Program) (m : MethodInfo) (frames : List (Option TypeFrame)) (laid
       by_test true one more = (one, tt)
       by_test false one more = (one, more)
 
-  catchers_land : (insn : Insn) (g : TypeFrame) (f : TagShape) → AllByRecursion (λ handler. types.Fits m.code frames (frame_at_handler handler g) handler.handler) (covering m insn.pc)
+  catchers_land : (insn : Insn) (g : TypeFrame) (f : TagShape) → AllByRecursion (λ handler. types.FrameFits m.code frames (frame_at_handler handler g) handler.handler) (covering m insn.pc)
       → AllByRecursion (λ handler. Lands IsTyped m.code (tags_at_handler f) handler.handler) (catchers m insn)
   catchers_land insn g f h = by_test (can_throw insn.op)
     where
@@ -89,7 +89,7 @@ module _ (p : Program) (m : MethodInfo) (frames : List (Option TypeFrame)) (laid
 
   insn_lands : (insn : Insn) (r : OpRow) (g : TypeFrame) (f : TagShape) → types.IsSound m insn r frames g → AllByRecursion (ActLands IsTyped m.code) (tag_acts m insn r f)
   insn_lands insn r g f s = acts_land IsTyped m insn r f
-      (all_weaker (types.Fits m.code frames (frame_after m r g)) (Lands IsTyped m.code (tags_after insn r f)) (typed_lands (frame_after m r g) (tags_after insn r f)) (edges insn) s.edges_fit)
+      (all_weaker (types.FrameFits m.code frames (frame_after m r g)) (Lands IsTyped m.code (tags_after insn r f)) (typed_lands (frame_after m r g) (tags_after insn r f)) (edges insn) s.edges_fit)
       (catchers_land insn g f s.handlers_fit)
 
   plan_lands : (i : ℕ) (f : TagShape) → IsTyped i f → AllByRecursion (ActLands IsTyped m.code) ((tag_plan p m).acts i f)
@@ -102,7 +102,7 @@ module _ (p : Program) (m : MethodInfo) (frames : List (Option TypeFrame)) (laid
 
   first_typed : IsTyped 0 (entry_tags m)
   first_typed =
-      let l = lands m frames (entry_frame m) 0 typing.entry in
+      let l = lands m frames (entry_type_frame m) 0 typing.entry in
       let b = begins m laid in
       (l.frame, ap (slice_get frames) (one_number m 0 l.number b.0 l.insn laid (ap (λ (code : List Insn). slice_get code 0) b.2) l.there (b.3 ∙ sym l.starts)) ∙ l.has)
 

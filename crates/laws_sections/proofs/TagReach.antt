@@ -15,7 +15,7 @@ use Rattle.laws_programs.proofs.CodeOrder.{one_number}
 use Rattle.laws_programs.proofs.LocalGoing.{begins, local_law}
 use Rattle.checked_program.specs.LockTags.{TagShape, entry_tags, IsShapeBelow}
 use Rattle.checked_program.specs.Tagging.{tags_after, tags_at_handler, catchers, acts_at, tag_plan, HasTagging, IsTagAssignment}
-use Rattle.checked_program.specs.Visits.{Fits}
+use Rattle.checked_program.specs.Visits.{EdgeFits}
 use Rattle.laws_sections.specs.ReachLaws.{TaggedIsTyped}
 use Rattle.laws_sections.proofs.TagOrder.{tag_order}
 use Rattle.laws_sections.proofs.TagLocal.{acts_land, start_at, tag_local}
@@ -34,7 +34,7 @@ module _ (p : Program) (m : MethodInfo) (frames : List (Option TagShape)) (laid 
   abbrev HasIt : ℕ → TagShape → Type 0
   HasIt i f = (g : TagShape) × (slice_get frames i ≡ Some (Some g)) × P g
 
-  fit_lands : (f h : TagShape) (to : ℕ) → P f → Fits IsShapeBelow m.code frames f to → Lands HasIt m.code h to
+  fit_lands : (f h : TagShape) (to : ℕ) → P f → EdgeFits IsShapeBelow m.code frames f to → Lands HasIt m.code h to
   fit_lands f h to k fits =
       let l = landing IsShapeBelow m.code frames f to fits in
       record {
@@ -48,8 +48,8 @@ module _ (p : Program) (m : MethodInfo) (frames : List (Option TagShape)) (laid 
       let r : OpRow = row p m insn.pc target insn.op in
       let sound = law.sound i insn target g c t e in
       acts_land HasIt m insn r f
-      (all_weaker (Fits IsShapeBelow m.code frames (tags_after insn r g)) (Lands HasIt m.code (tags_after insn r f)) (λ to h. fit_lands (tags_after insn r g) (tags_after insn r f) to (onward i insn target g c t e k) h) (edges insn) sound.edges_fit)
-      (all_weaker (λ handler. Fits IsShapeBelow m.code frames (tags_at_handler g) handler.handler) (λ handler. Lands HasIt m.code (tags_at_handler f) handler.handler)
+      (all_weaker (EdgeFits IsShapeBelow m.code frames (tags_after insn r g)) (Lands HasIt m.code (tags_after insn r f)) (λ to h. fit_lands (tags_after insn r g) (tags_after insn r f) to (onward i insn target g c t e k) h) (edges insn) sound.edges_fit)
+      (all_weaker (λ handler. EdgeFits IsShapeBelow m.code frames (tags_at_handler g) handler.handler) (λ handler. Lands HasIt m.code (tags_at_handler f) handler.handler)
       (λ handler h. fit_lands (tags_at_handler g) (tags_at_handler f) handler.handler (caught g k) h) (catchers m insn) sound.handlers_fit)
 
   plan_lands : (i : ℕ) (f : TagShape) → HasIt i f → AllByRecursion (ActLands HasIt m.code) ((tag_plan p m).acts i f)

@@ -8,7 +8,7 @@ use Rattle.std.proofs.lemmas.Bool.Decides.{nat_tests}
 use Rattle.jvm_types.specs.Numbers.{has_number}
 use Rattle.jvm_types.specs.declared.code.Insn.{Insn}
 use Rattle.jvm_types.proofs.EachAfter.{all_weaker}
-use Rattle.checked_program.specs.Visits.{Meeting, Act, Break, Bring, Node, joined, brought, all_brought, clashes_with, clash, unless_clash, acted}
+use Rattle.checked_program.specs.Visits.{Meeting, Act, Break, Bring, PlanNode, joined, edge_brought, edges_brought, clashes_with, meeting_clash, unless_meeting_clash, acted}
 
 -- the first instruction of a pc, by its number
 abbrev pub IsFirstOf : List Insn → ℕ → ℕ → Type 0
@@ -51,21 +51,21 @@ module _ {A : Type 0} (d : Meeting A) (Below : A → A → Type 0) (order : Orde
 
   -- ---- nodes only rise, and one that has changed waits
 
-  pub record IsRisen (a b : Node A) : Type 0 where
+  pub record IsRisen (a b : PlanNode A) : Type 0 where
     pub frame : IsBelow a.frame b.frame
     pub kept : b.waits ≡ false → (a.waits ≡ false) × (a.frame ≡ b.frame)
 
-  abbrev pub AreRisen : List (Node A) → List (Node A) → Type 0
+  abbrev pub AreRisen : List (PlanNode A) → List (PlanNode A) → Type 0
   AreRisen xs ys = AllZip IsRisen xs ys
 
-  node_self : (a : Node A) → IsRisen a a
+  node_self : (a : PlanNode A) → IsRisen a a
   node_self a = record { frame = frame_self a.frame; kept = λ e. (e, refl) }
 
-  pub risen_self : (xs : List (Node A)) → AreRisen xs xs
+  pub risen_self : (xs : List (PlanNode A)) → AreRisen xs xs
   risen_self [] = tt
   risen_self (a ∷ xs) = (node_self a, risen_self xs)
 
-  risen_trans : (xs ys zs : List (Node A)) → AreRisen xs ys → AreRisen ys zs → AreRisen xs zs
+  risen_trans : (xs ys zs : List (PlanNode A)) → AreRisen xs ys → AreRisen ys zs → AreRisen xs zs
   risen_trans [] [] zs h k = k
   risen_trans [] (b ∷ ys) zs h k = absurd h
   risen_trans (a ∷ xs) [] zs h k = absurd h
@@ -73,33 +73,33 @@ module _ {A : Type 0} (d : Meeting A) (Below : A → A → Type 0) (order : Orde
   risen_trans (a ∷ xs) (b ∷ ys) (c ∷ zs) h k =
       (record { frame = frame_trans a.frame b.frame c.frame h.0.frame k.0.frame; kept = λ e. ((h.0.kept (k.0.kept e).0).0, (h.0.kept (k.0.kept e).0).1 ∙ (k.0.kept e).1) }, risen_trans xs ys zs h.1 k.1)
 
-  pub risen_length : (xs ys : List (Node A)) → AreRisen xs ys → length xs ≡ length ys
+  pub risen_length : (xs ys : List (PlanNode A)) → AreRisen xs ys → length xs ≡ length ys
   risen_length [] [] h = refl
   risen_length [] (b ∷ ys) h = absurd h
   risen_length (a ∷ xs) [] h = absurd h
   risen_length (a ∷ xs) (b ∷ ys) h = ap suc (risen_length xs ys h.1)
 
   -- the node that one was, and the node that one becomes
-  pub risen_from : (xs ys : List (Node A)) (i : ℕ) (b : Node A) → AreRisen xs ys → slice_get ys i ≡ Some b → (a : Node A) × (slice_get xs i ≡ Some a) × IsRisen a b
+  pub risen_from : (xs ys : List (PlanNode A)) (i : ℕ) (b : PlanNode A) → AreRisen xs ys → slice_get ys i ≡ Some b → (a : PlanNode A) × (slice_get xs i ≡ Some a) × IsRisen a b
   risen_from [] [] i b h e = absurd (cc)
   risen_from [] (y ∷ ys) i b h e = absurd h
   risen_from (x ∷ xs) [] i b h e = absurd h
-  risen_from (x ∷ xs) (y ∷ ys) zero b h e = (x, refl, subst (λ (z : Node A). IsRisen x z) (cc) h.0)
+  risen_from (x ∷ xs) (y ∷ ys) zero b h e = (x, refl, subst (λ (z : PlanNode A). IsRisen x z) (cc) h.0)
   risen_from (x ∷ xs) (y ∷ ys) (suc i) b h e = risen_from xs ys i b h.1 e
 
-  pub risen_to : (xs ys : List (Node A)) (i : ℕ) (a : Node A) → AreRisen xs ys → slice_get xs i ≡ Some a → (b : Node A) × (slice_get ys i ≡ Some b) × IsBelow a.frame b.frame
+  pub risen_to : (xs ys : List (PlanNode A)) (i : ℕ) (a : PlanNode A) → AreRisen xs ys → slice_get xs i ≡ Some a → (b : PlanNode A) × (slice_get ys i ≡ Some b) × IsBelow a.frame b.frame
   risen_to [] ys i a h e = absurd (cc)
   risen_to (x ∷ xs) [] i a h e = absurd h
-  risen_to (x ∷ xs) (y ∷ ys) zero a h e = let same : x ≡ a = cc in (y, refl, subst (λ (z : Node A). IsBelow z.frame y.frame) same h.0.frame)
+  risen_to (x ∷ xs) (y ∷ ys) zero a h e = let same : x ≡ a = cc in (y, refl, subst (λ (z : PlanNode A). IsBelow z.frame y.frame) same h.0.frame)
   risen_to (x ∷ xs) (y ∷ ys) (suc i) a h e = risen_to xs ys i a h.1 e
 
   -- ---- one edge
 
   -- a frame that is brought to a pc is below the one at its first instruction
-  abbrev pub LandsOn : List Insn → List (Node A) → A → ℕ → Type 0
-  LandsOn code nodes f to = (j : ℕ) (b : Node A) → IsFirstOf code to j → slice_get nodes j ≡ Some b → IsBelow (Some f) b.frame
+  abbrev pub LandsOn : List Insn → List (PlanNode A) → A → ℕ → Type 0
+  LandsOn code nodes f to = (j : ℕ) (b : PlanNode A) → IsFirstOf code to j → slice_get nodes j ≡ Some b → IsBelow (Some f) b.frame
 
-  lands_risen : (code : List Insn) (xs ys : List (Node A)) (f : A) (to : ℕ) → AreRisen xs ys → LandsOn code xs f to → LandsOn code ys f to
+  lands_risen : (code : List Insn) (xs ys : List (PlanNode A)) (f : A) (to : ℕ) → AreRisen xs ys → LandsOn code xs f to → LandsOn code ys f to
   lands_risen code xs ys f to h l j b first e =
       let a = risen_from xs ys j b h e in
       frame_trans (Some f) a.0.frame b.frame (l j a.0 first a.1) a.2.frame
@@ -123,16 +123,16 @@ module _ {A : Type 0} (d : Meeting A) (Below : A → A → Type 0) (order : Orde
   none_here true x more e = absurd (cc)
   none_here false x more e = (refl, e)
 
-  pub record Brings (code : List Insn) (tos : List ℕ) (f : A) (to : ℕ) (nodes mid : List (Node A)) : Type 0 where
+  pub record Brings (code : List Insn) (tos : List ℕ) (f : A) (to : ℕ) (nodes mid : List (PlanNode A)) : Type 0 where
     pub risen : AreRisen nodes mid
     pub lands : LandsOn code mid f to
-    pub rest : clash d code tos f mid ≡ None
+    pub rest : meeting_clash d code tos f mid ≡ None
 
-  one_edge : (code : List Insn) (tos : List ℕ) (f : A) (to : ℕ) (nodes : List (Node A)) → clash d code (to ∷ tos) f nodes ≡ None → Brings code tos f to nodes (brought d code to f nodes)
+  one_edge : (code : List Insn) (tos : List ℕ) (f : A) (to : ℕ) (nodes : List (PlanNode A)) → meeting_clash d code (to ∷ tos) f nodes ≡ None → Brings code tos f to nodes (edge_brought d code to f nodes)
   one_edge [] tos f to nodes c = record { risen = risen_self nodes; lands = λ j b first e. absurd first; rest = refl }
   one_edge (insn ∷ code) tos f to [] c = record { risen = tt; lands = λ j b first e. absurd (cc); rest = refl }
   one_edge (insn ∷ code) tos f to (node ∷ nodes) c =
-      let parts = none_here ((to == insn.pc || has_number tos insn.pc) && clashes_with d node.frame f) insn.pc (clash d code (to ∷ tos) f nodes) c in
+      let parts = none_here ((to == insn.pc || has_number tos insn.pc) && clashes_with d node.frame f) insn.pc (meeting_clash d code (to ∷ tos) f nodes) c in
       by_test (insn.pc == to) refl parts.0 parts.1 (one_edge code tos f to nodes parts.1)
     where
       same_test : (t : Bool) → (insn.pc == to) ≡ t → (to == insn.pc) ≡ t
@@ -149,12 +149,12 @@ module _ {A : Type 0} (d : Meeting A) (Below : A → A → Type 0) (order : Orde
       fewer t true false e = refl
       fewer t false v e = refl
 
-      fewer_clash : (code : List Insn) (nodes : List (Node A)) → clash d code (to ∷ tos) f nodes ≡ None → clash d code tos f nodes ≡ None
+      fewer_clash : (code : List Insn) (nodes : List (PlanNode A)) → meeting_clash d code (to ∷ tos) f nodes ≡ None → meeting_clash d code tos f nodes ≡ None
       fewer_clash [] nodes c = refl
       fewer_clash (x ∷ code) [] c = refl
       fewer_clash (x ∷ code) (n ∷ nodes) c =
-          let parts = none_here ((to == x.pc || has_number tos x.pc) && clashes_with d n.frame f) x.pc (clash d code (to ∷ tos) f nodes) c in
-          ap (λ t. cond t (Some x.pc) (clash d code tos f nodes)) (fewer (to == x.pc) (has_number tos x.pc) (clashes_with d n.frame f) parts.0) ∙ fewer_clash code nodes parts.1
+          let parts = none_here ((to == x.pc || has_number tos x.pc) && clashes_with d n.frame f) x.pc (meeting_clash d code (to ∷ tos) f nodes) c in
+          ap (λ t. cond t (Some x.pc) (meeting_clash d code tos f nodes)) (fewer (to == x.pc) (has_number tos x.pc) (clashes_with d n.frame f) parts.0) ∙ fewer_clash code nodes parts.1
 
       both_false : (t u : Bool) → u ≡ false → (t && u) ≡ false
       both_false true u e = e
@@ -164,8 +164,8 @@ module _ {A : Type 0} (d : Meeting A) (Below : A → A → Type 0) (order : Orde
       here true u v e h = h
       here false u v e h = absurd (cc)
 
-      by_test : (t : Bool) → (insn.pc == to) ≡ t → ((to == insn.pc || has_number tos insn.pc) && clashes_with d node.frame f) ≡ false → clash d code (to ∷ tos) f nodes ≡ None → Brings code tos f to nodes (brought d code to f nodes)
-          → Brings (insn ∷ code) tos f to (node ∷ nodes) (cond t (joined d node.waits node.frame f ∷ nodes) (node ∷ brought d code to f nodes))
+      by_test : (t : Bool) → (insn.pc == to) ≡ t → ((to == insn.pc || has_number tos insn.pc) && clashes_with d node.frame f) ≡ false → meeting_clash d code (to ∷ tos) f nodes ≡ None → Brings code tos f to nodes (edge_brought d code to f nodes)
+          → Brings (insn ∷ code) tos f to (node ∷ nodes) (cond t (joined d node.waits node.frame f ∷ nodes) (node ∷ edge_brought d code to f nodes))
       by_test true t c k more =
           let free : clashes_with d node.frame f ≡ false = here (to == insn.pc) (has_number tos insn.pc) (clashes_with d node.frame f) (same_test true t) c in
           let one = joined_rises node.waits node.frame f free in
@@ -173,70 +173,70 @@ module _ {A : Type 0} (d : Meeting A) (Below : A → A → Type 0) (order : Orde
           record {
             risen = (one.0, risen_self nodes);
             lands = λ j b first e. at j b first e;
-            rest = ap (λ t. cond t (Some insn.pc) (clash d code tos f nodes)) test ∙ fewer_clash code nodes k;
+            rest = ap (λ t. cond t (Some insn.pc) (meeting_clash d code tos f nodes)) test ∙ fewer_clash code nodes k;
           }
         where
-          at : (j : ℕ) (b : Node A) → IsFirstOf (insn ∷ code) to j → slice_get (joined d node.waits node.frame f ∷ nodes) j ≡ Some b → IsBelow (Some f) b.frame
+          at : (j : ℕ) (b : PlanNode A) → IsFirstOf (insn ∷ code) to j → slice_get (joined d node.waits node.frame f ∷ nodes) j ≡ Some b → IsBelow (Some f) b.frame
           at zero b first e =
               let free : clashes_with d node.frame f ≡ false = here (to == insn.pc) (has_number tos insn.pc) (clashes_with d node.frame f) (same_test true t) c in
-              subst (λ (n : Node A). IsBelow (Some f) n.frame) (some_same e) (joined_rises node.waits node.frame f free).1
+              subst (λ (n : PlanNode A). IsBelow (Some f) n.frame) (some_same e) (joined_rises node.waits node.frame f free).1
           at (suc j) b first e = absurd (let bad : true ≡ false = sym t ∙ first.0 in cc)
       by_test false t c k more = record {
         risen = (node_self node, more.risen);
         lands = λ j b first e. at j b first e;
-        rest = ap (λ t. cond t (Some insn.pc) (clash d code tos f (brought d code to f nodes))) (fewer (to == insn.pc) (has_number tos insn.pc) (clashes_with d node.frame f) c) ∙ more.rest;
+        rest = ap (λ t. cond t (Some insn.pc) (meeting_clash d code tos f (edge_brought d code to f nodes))) (fewer (to == insn.pc) (has_number tos insn.pc) (clashes_with d node.frame f) c) ∙ more.rest;
       }
         where
-          at : (j : ℕ) (b : Node A) → IsFirstOf (insn ∷ code) to j → slice_get (node ∷ brought d code to f nodes) j ≡ Some b → IsBelow (Some f) b.frame
+          at : (j : ℕ) (b : PlanNode A) → IsFirstOf (insn ∷ code) to j → slice_get (node ∷ edge_brought d code to f nodes) j ≡ Some b → IsBelow (Some f) b.frame
           at zero b first e = absurd (let bad : true ≡ false = sym first ∙ t in cc)
           at (suc j) b first e = more.lands j b first.1 e
 
   -- ---- all edges, and all that an instruction does
 
-  pub record BringsAll (code : List Insn) (tos : List ℕ) (f : A) (nodes mid : List (Node A)) : Type 0 where
+  pub record BringsAll (code : List Insn) (tos : List ℕ) (f : A) (nodes mid : List (PlanNode A)) : Type 0 where
     pub risen : AreRisen nodes mid
     pub lands : AllByRecursion (LandsOn code mid f) tos
 
-  all_land : (code : List Insn) (xs ys : List (Node A)) (f : A) (tos : List ℕ) → AreRisen xs ys → AllByRecursion (LandsOn code xs f) tos → AllByRecursion (LandsOn code ys f) tos
+  all_land : (code : List Insn) (xs ys : List (PlanNode A)) (f : A) (tos : List ℕ) → AreRisen xs ys → AllByRecursion (LandsOn code xs f) tos → AllByRecursion (LandsOn code ys f) tos
   all_land code xs ys f tos h l = all_weaker (LandsOn code xs f) (LandsOn code ys f) (λ to k. lands_risen code xs ys f to h k) tos l
 
-  all_edges : (code : List Insn) (tos : List ℕ) (f : A) (nodes : List (Node A)) → clash d code tos f nodes ≡ None → BringsAll code tos f nodes (all_brought d code tos f nodes)
+  all_edges : (code : List Insn) (tos : List ℕ) (f : A) (nodes : List (PlanNode A)) → meeting_clash d code tos f nodes ≡ None → BringsAll code tos f nodes (edges_brought d code tos f nodes)
   all_edges code [] f nodes c = record { risen = risen_self nodes; lands = tt }
   all_edges code (to ∷ tos) f nodes c =
-      let next : List (Node A) = brought d code to f nodes in
+      let next : List (PlanNode A) = edge_brought d code to f nodes in
       let one : Brings code tos f to nodes next = one_edge code tos f to nodes c in
-      let more : BringsAll code tos f next (all_brought d code tos f next) = all_edges code tos f next one.rest in
-      record { risen = risen_trans nodes next (all_brought d code tos f next) one.risen more.risen; lands = (lands_risen code next (all_brought d code tos f next) f to more.risen one.lands, more.lands) }
+      let more : BringsAll code tos f next (edges_brought d code tos f next) = all_edges code tos f next one.rest in
+      record { risen = risen_trans nodes next (edges_brought d code tos f next) one.risen more.risen; lands = (lands_risen code next (edges_brought d code tos f next) f to more.risen one.lands, more.lands) }
 
   -- no rule is broken, and each frame that is brought fits
-  abbrev pub IsActFine : {R : Type 0} → List Insn → List (Node A) → Act A R → Type 0
+  abbrev pub IsActFine : {R : Type 0} → List Insn → List (PlanNode A) → Act A R → Type 0
   IsActFine code nodes (Break rule pc) = ⊥
   IsActFine code nodes (Bring rule tos f) = AllByRecursion (LandsOn code nodes f) tos
 
-  abbrev pub Sound : {R : Type 0} → List Insn → List (Node A) → List (Act A R) → Type 0
+  abbrev pub Sound : {R : Type 0} → List Insn → List (PlanNode A) → List (Act A R) → Type 0
   Sound code nodes acts = AllByRecursion (IsActFine code nodes) acts
 
-  act_risen : {R : Type 0} (code : List Insn) (xs ys : List (Node A)) → AreRisen xs ys → (act : Act A R) → IsActFine code xs act → IsActFine code ys act
+  act_risen : {R : Type 0} (code : List Insn) (xs ys : List (PlanNode A)) → AreRisen xs ys → (act : Act A R) → IsActFine code xs act → IsActFine code ys act
   act_risen code xs ys h (Break rule pc) s = s
   act_risen code xs ys h (Bring rule tos f) s = all_land code xs ys f tos h s
 
-  pub sound_risen : {R : Type 0} (code : List Insn) (xs ys : List (Node A)) (acts : List (Act A R)) → AreRisen xs ys → Sound code xs acts → Sound code ys acts
+  pub sound_risen : {R : Type 0} (code : List Insn) (xs ys : List (PlanNode A)) (acts : List (Act A R)) → AreRisen xs ys → Sound code xs acts → Sound code ys acts
   sound_risen code xs ys acts h s = all_weaker (IsActFine code xs) (IsActFine code ys) (act_risen code xs ys h) acts s
 
-  unclashed : {R : Type 0} (rule : R) (o : Option ℕ) (more : Result (List (Node A)) (R × ℕ)) (mid : List (Node A)) → unless_clash rule o more ≡ Ok mid → (o ≡ None) × (more ≡ Ok mid)
+  unclashed : {R : Type 0} (rule : R) (o : Option ℕ) (more : Result (List (PlanNode A)) (R × ℕ)) (mid : List (PlanNode A)) → unless_meeting_clash rule o more ≡ Ok mid → (o ≡ None) × (more ≡ Ok mid)
   unclashed rule (Some pc) more mid e = absurd (cc)
   unclashed rule None more mid e = (refl, e)
 
-  pub record Does {R : Type 0} (code : List Insn) (acts : List (Act A R)) (nodes mid : List (Node A)) : Type 0 where
+  pub record Does {R : Type 0} (code : List Insn) (acts : List (Act A R)) (nodes mid : List (PlanNode A)) : Type 0 where
     pub risen : AreRisen nodes mid
     pub sound : Sound code mid acts
 
-  pub does : {R : Type 0} (code : List Insn) (acts : List (Act A R)) (nodes mid : List (Node A)) → acted d code acts nodes ≡ Ok mid → Does code acts nodes mid
-  does code [] nodes mid e = let same : nodes ≡ mid = cc in record { risen = subst (λ (ns : List (Node A)). AreRisen nodes ns) same (risen_self nodes); sound = tt }
+  pub does : {R : Type 0} (code : List Insn) (acts : List (Act A R)) (nodes mid : List (PlanNode A)) → acted d code acts nodes ≡ Ok mid → Does code acts nodes mid
+  does code [] nodes mid e = let same : nodes ≡ mid = cc in record { risen = subst (λ (ns : List (PlanNode A)). AreRisen nodes ns) same (risen_self nodes); sound = tt }
   does code (Break rule pc ∷ acts) nodes mid e = absurd (cc)
   does code (Bring rule tos f ∷ acts) nodes mid e =
-      let next : List (Node A) = all_brought d code tos f nodes in
-      let parts = unclashed rule (clash d code tos f nodes) (acted d code acts next) mid e in
+      let next : List (PlanNode A) = edges_brought d code tos f nodes in
+      let parts = unclashed rule (meeting_clash d code tos f nodes) (acted d code acts next) mid e in
       let one : BringsAll code tos f nodes next = all_edges code tos f nodes parts.0 in
       let more : Does code acts next mid = does code acts next mid parts.1 in
       record { risen = risen_trans nodes next mid one.risen more.risen; sound = (all_land code next mid f tos more.risen one.lands, more.sound) }

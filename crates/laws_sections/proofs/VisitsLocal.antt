@@ -9,7 +9,7 @@ use Rattle.std.proofs.lemmas.List.{length-map}
 use Rattle.jvm_types.specs.CodeGrammar.{is_start}
 use Rattle.jvm_types.specs.declared.code.Insn.{Insn}
 use Rattle.jvm_types.proofs.EachAfter.{all_weaker}
-use Rattle.checked_program.specs.Visits.{Act, Break, Bring, Node, Plan, first_nodes, HasFrames, frame_at, Fits}
+use Rattle.checked_program.specs.Visits.{Act, Break, Bring, PlanNode, Plan, plan_nodes, HasFrames, frame_at_pc, EdgeFits}
 use Rattle.laws_sections.proofs.VisitedNodes.{IsFirstOf, Orders, IsBelow, LandsOn, Sound}
 use Rattle.laws_sections.proofs.VisitPaths.{AreLive, ActLeads, IsSettled, settled, visits_length, first_length, all_lead, first_live, starts_below}
 
@@ -34,11 +34,11 @@ pub record IsClosed {A R : Type 0} (p : Plan A R) (L : ℕ → A → Type 0) : T
 
 abbrev pub IsActSound : {A R : Type 0} → (A → A → Type 0) → List Insn → List (Option A) → Act A R → Type 0
 IsActSound below code frames (Break rule pc) = ⊥
-IsActSound below code frames (Bring rule tos f) = AllByRecursion (Fits below code frames f) tos
+IsActSound below code frames (Bring rule tos f) = AllByRecursion (EdgeFits below code frames f) tos
 
 pub record IsLocal {A R : Type 0} (p : Plan A R) (Below : A → A → Type 0) (L : ℕ → A → Type 0) (frames : List (Option A)) : Type 0 where
   pub long : length frames ≡ length p.code
-  pub entry : Fits Below p.code frames p.first 0
+  pub entry : EdgeFits Below p.code frames p.first 0
   pub live : (i : ℕ) (f : A) → slice_get frames i ≡ Some (Some f) → L i f
   pub sound : (i : ℕ) (f : A) → slice_get frames i ≡ Some (Some f) → AllByRecursion (IsActSound Below p.code frames) (p.acts i f)
 
@@ -56,7 +56,7 @@ pub record Landing {A : Type 0} (Below : A → A → Type 0) (code : List Insn) 
   pub has : slice_get frames number ≡ Some (Some frame)
   pub fits : Below f frame
 
-pub landing : {A : Type 0} (Below : A → A → Type 0) (code : List Insn) (frames : List (Option A)) (f : A) (to : ℕ) → Fits Below code frames f to → Landing Below code frames f to
+pub landing : {A : Type 0} (Below : A → A → Type 0) (code : List Insn) (frames : List (Option A)) (f : A) (to : ℕ) → EdgeFits Below code frames f to → Landing Below code frames f to
 landing Below [] frames f to h = absurd h
 landing Below (insn ∷ code) [] f to h = absurd h
 landing {A = A} Below (insn ∷ code) (frame ∷ frames) f to h = by_test (insn.pc == to) refl (landing Below code frames f to) h
@@ -65,13 +65,13 @@ landing {A = A} Below (insn ∷ code) (frame ∷ frames) f to h = by_test (insn.
     here None e same h = absurd h
     here (Some g) e same h = record { number = 0; insn = insn; frame = g; there = refl; starts = same; has = ap Some e; fits = h }
 
-    by_test : (t : Bool) → (insn.pc == to) ≡ t → (Fits Below code frames f to → Landing Below code frames f to) → IsSomeAnd (cond t frame (frame_at code frames to)) (λ g. Below f g) → Landing Below (insn ∷ code) (frame ∷ frames) f to
+    by_test : (t : Bool) → (insn.pc == to) ≡ t → (EdgeFits Below code frames f to → Landing Below code frames f to) → IsSomeAnd (cond t frame (frame_at_pc code frames to)) (λ g. Below f g) → Landing Below (insn ∷ code) (frame ∷ frames) f to
     by_test true e more h = here frame refl (grind (arith, nat_tests, e)) h
     by_test false e more h = let l = more h in record { number = suc l.number; insn = l.insn; frame = l.frame; there = l.there; starts = l.starts; has = l.has; fits = l.fits }
 
 -- ---- what lands on first instructions fits by pcs
 
-abbrev pub frames_of : {A : Type 0} → List (Node A) → List (Option A)
+abbrev pub frames_of : {A : Type 0} → List (PlanNode A) → List (Option A)
 frames_of nodes = map (λ node. node.frame) nodes
 
 first_insn : (code : List Insn) (to j : ℕ) → IsFirstOf code to j → (insn : Insn) × (slice_get code j ≡ Some insn) × (insn.pc ≡ to)
@@ -80,13 +80,13 @@ first_insn (insn ∷ code) to zero first = (insn, refl, grind (arith, nat_tests,
 first_insn (insn ∷ code) to (suc j) first = first_insn code to j first.1
 
 module _ {A R : Type 0} (p : Plan A R) (Below : A → A → Type 0) (o : Orders p.meeting Below) where
-  lands_fit : (code : List Insn) (nodes : List (Node A)) (f : A) (to : ℕ) → is_start code to ≡ true → length nodes ≡ length code → LandsOn p.meeting Below o code nodes f to → Fits Below code (frames_of nodes) f to
+  lands_fit : (code : List Insn) (nodes : List (PlanNode A)) (f : A) (to : ℕ) → is_start code to ≡ true → length nodes ≡ length code → LandsOn p.meeting Below o code nodes f to → EdgeFits Below code (frames_of nodes) f to
   lands_fit [] nodes f to s l h = absurd (cc)
   lands_fit (insn ∷ code) [] f to s l h = absurd (omega (arith, l))
   lands_fit (insn ∷ code) (node ∷ nodes) f to s l h = by_test (insn.pc == to) refl s (λ t s. lands_fit code nodes f to s (omega (arith, l)) (λ j b first e. h (suc j) b (t, first) e))
     where
-      by_test : (t : Bool) → (insn.pc == to) ≡ t → (t || is_start code to) ≡ true → ((insn.pc == to) ≡ false → is_start code to ≡ true → Fits Below code (frames_of nodes) f to)
-          → IsSomeAnd (cond t node.frame (frame_at code (frames_of nodes) to)) (λ g. Below f g)
+      by_test : (t : Bool) → (insn.pc == to) ≡ t → (t || is_start code to) ≡ true → ((insn.pc == to) ≡ false → is_start code to ≡ true → EdgeFits Below code (frames_of nodes) f to)
+          → IsSomeAnd (cond t node.frame (frame_at_pc code (frames_of nodes) to)) (λ g. Below f g)
       by_test true t s more = h zero node t refl
       by_test false t s more = more t s
 
@@ -98,31 +98,31 @@ module _ {A R : Type 0} (p : Plan A R) (Below : A → A → Type 0) (o : Orders 
     act_leads (Break rule pc) h = tt
     act_leads (Bring rule tos f) h = all_weaker (Lands L p.code f) (λ to. (j : ℕ) → IsFirstOf p.code to j → L j f) (edge_leads f) tos h
 
-    edges_fit : (nodes : List (Node A)) (f : A) (tos : List ℕ) → length nodes ≡ length p.code → AllByRecursion (Lands L p.code f) tos → AllByRecursion (LandsOn p.meeting Below o p.code nodes f) tos → AllByRecursion (Fits Below p.code (frames_of nodes) f) tos
+    edges_fit : (nodes : List (PlanNode A)) (f : A) (tos : List ℕ) → length nodes ≡ length p.code → AllByRecursion (Lands L p.code f) tos → AllByRecursion (LandsOn p.meeting Below o p.code nodes f) tos → AllByRecursion (EdgeFits Below p.code (frames_of nodes) f) tos
     edges_fit nodes f [] l h k = tt
     edges_fit nodes f (to ∷ tos) l h k = (lands_fit p.code nodes f to h.0.starts l k.0, edges_fit nodes f tos l h.1 k.1)
 
-    acts_fit : (nodes : List (Node A)) (acts : List (Act A R)) → length nodes ≡ length p.code → AllByRecursion (ActLands L p.code) acts → Sound p.meeting Below o p.code nodes acts → AllByRecursion (IsActSound Below p.code (frames_of nodes)) acts
+    acts_fit : (nodes : List (PlanNode A)) (acts : List (Act A R)) → length nodes ≡ length p.code → AllByRecursion (ActLands L p.code) acts → Sound p.meeting Below o p.code nodes acts → AllByRecursion (IsActSound Below p.code (frames_of nodes)) acts
     acts_fit nodes [] l h s = tt
     acts_fit nodes (Break rule pc ∷ acts) l h s = absurd s.0
     acts_fit nodes (Bring rule tos f ∷ acts) l h s = (edges_fit nodes f tos l h.0 s.0, acts_fit nodes acts l h.1 s.1)
 
-    entry_fits : (code : List Insn) (nodes : List (Node A)) → Begins code → length nodes ≡ length code → ((b : Node A) → slice_get nodes 0 ≡ Some b → IsBelow p.meeting Below o (Some p.first) b.frame) → Fits Below code (frames_of nodes) p.first 0
-    entry_fits code nodes b l h = subst (λ (c : List Insn). Fits Below c (frames_of nodes) p.first 0) (sym b.2) (at nodes (l ∙ ap length b.2) h)
+    entry_fits : (code : List Insn) (nodes : List (PlanNode A)) → Begins code → length nodes ≡ length code → ((b : PlanNode A) → slice_get nodes 0 ≡ Some b → IsBelow p.meeting Below o (Some p.first) b.frame) → EdgeFits Below code (frames_of nodes) p.first 0
+    entry_fits code nodes b l h = subst (λ (c : List Insn). EdgeFits Below c (frames_of nodes) p.first 0) (sym b.2) (at nodes (l ∙ ap length b.2) h)
       where
-        by_test : (node : Node A) (nodes : List (Node A)) (t : Bool) → t ≡ true → IsBelow p.meeting Below o (Some p.first) node.frame → IsSomeAnd (cond t node.frame (frame_at b.1 (frames_of nodes) 0)) (λ g. Below p.first g)
+        by_test : (node : PlanNode A) (nodes : List (PlanNode A)) (t : Bool) → t ≡ true → IsBelow p.meeting Below o (Some p.first) node.frame → IsSomeAnd (cond t node.frame (frame_at_pc b.1 (frames_of nodes) 0)) (λ g. Below p.first g)
         by_test node nodes true t h = h
         by_test node nodes false t h = absurd (cc)
 
-        at : (nodes : List (Node A)) → length nodes ≡ suc (length b.1) → ((n : Node A) → slice_get nodes 0 ≡ Some n → IsBelow p.meeting Below o (Some p.first) n.frame) → Fits Below (b.0 ∷ b.1) (frames_of nodes) p.first 0
+        at : (nodes : List (PlanNode A)) → length nodes ≡ suc (length b.1) → ((n : PlanNode A) → slice_get nodes 0 ≡ Some n → IsBelow p.meeting Below o (Some p.first) n.frame) → EdgeFits Below (b.0 ∷ b.1) (frames_of nodes) p.first 0
         at [] l h = absurd (omega (arith, l))
         at (node ∷ nodes) l h = by_test node nodes (b.0.pc == 0) (eq-eqb b.0.pc 0 b.3) (h node refl)
 
     pub local : Begins p.code → (frames : List (Option A)) → HasFrames p frames → IsLocal p Below L frames
     local b frames h =
         let s : IsSettled p Below o frames = settled p Below o frames h in
-        let long : length s.last ≡ length p.code = visits_length p Below o s.visits (first_nodes p) s.last s.made ∙ first_length p Below o p.code in
-        let all : AreLive p Below o L s.last = all_lead p Below o L closed.meets s.visits (first_nodes p) s.last s.made (first_live p Below o L closed.first) (λ i f q x. all_weaker (ActLands L p.code) (ActLeads p Below o L) act_leads (p.acts i f) (closed.lands i f q)) in
+        let long : length s.last ≡ length p.code = visits_length p Below o s.visits (plan_nodes p) s.last s.made ∙ first_length p Below o p.code in
+        let all : AreLive p Below o L s.last = all_lead p Below o L closed.meets s.visits (plan_nodes p) s.last s.made (first_live p Below o L closed.first) (λ i f q x. all_weaker (ActLands L p.code) (ActLeads p Below o L) act_leads (p.acts i f) (closed.lands i f q)) in
         let live : (i : ℕ) (f : A) → slice_get frames i ≡ Some (Some f) → L i f = λ i f e. let n = s.framed i f e in all i n.0 f n.1 n.2 in
         subst (λ (fs : List (Option A)). IsLocal p Below L fs) (sym s.frames_are) (record {
           long = length-map s.last _ ∙ long;

@@ -8,7 +8,7 @@ use Rattle.jvm_types.specs.declared.program.Program.{Program}
 use Rattle.jvm_types.specs.declared.limits.TheConstants.{FLAG_FROM}
 use Rattle.machine_types.specs.Counting.{extra_of}
 use Rattle.machine_types.specs.Elision.{begins, tries}
-use Rattle.machine_types.specs.Events.{started}
+use Rattle.machine_types.specs.Events.{thread_started}
 use Rattle.machine_types.specs.Frames.{Top}
 use Rattle.machine_types.specs.Going.{runs, failed_turn, goes_on, goes_on_if}
 use Rattle.machine_types.specs.HeldMonitors.{without_held}
@@ -89,7 +89,7 @@ pub goes_if : (s : Thread) (o : Option Onward) → IsCalm s.phase → Calm s (go
 goes_if s None k = record { instructions = refl; sections = refl; prints = refl; phase = k }
 goes_if s (Some o) k = goes s o
 
-pub root_begun : (p : Program) (s : Thread) (roots : List ℕ) → IsCalm s.phase → Calm s (started p s roots)
+pub root_begun : (p : Program) (s : Thread) (roots : List ℕ) → IsCalm s.phase → Calm s (thread_started p s roots)
 root_begun p s [] k = record { instructions = refl; sections = refl; prints = refl; phase = k }
 root_begun p s (number ∷ roots) k = let h = goes_if (record s { roots = roots }) _ k in record { instructions = h.instructions; sections = h.sections; prints = h.prints; phase = h.phase }
 

@@ -16,7 +16,7 @@ use Rattle.machine_types.specs.Events.{moved, element_made}
 use Rattle.machine_types.specs.Frames.{Top, top_of, effect_at, went_on, pushed}
 use Rattle.machine_types.specs.Going.{with_phase, goes_on_if, goes_after}
 use Rattle.machine_types.specs.HeldMonitors.{held_at, depth_at, with_held, deeper, shallower}
-use Rattle.machine_types.specs.History.{acts_of, steps_of, if_so, notified_by, release_acts}
+use Rattle.machine_types.specs.History.{acts_of, steps_of, act_if, notified_by, release_acts}
 use Rattle.machine_types.specs.History as history
 use Rattle.machine_types.specs.Instructions.{has_print_left, begun, printed, did, ran}
 use Rattle.machine_types.specs.Ints.{low, int_of}
@@ -25,8 +25,8 @@ use Rattle.machine_types.specs.Monitors.{takes, retakes, enter_moves, leave_move
 use Rattle.machine_types.specs.Onward.{Running, dispatched, threw, done}
 use Rattle.machine_types.specs.PlainState.{Plain, PlainThread, Status, Holding, holding_at}
 use Rattle.machine_types.specs.PlainState as plain
-use Rattle.machine_types.specs.PlainSteps.{plain_run, plain_step, entered, step_at, step_of}
-use Rattle.machine_types.specs.PlainInstructions.{instructed}
+use Rattle.machine_types.specs.PlainSteps.{plain_run, plain_step, plain_entered, step_at, step_of}
+use Rattle.machine_types.specs.PlainInstructions.{plain_instructed}
 use Rattle.machine_types.specs.Threads.{Frame, Thread}
 use Rattle.machine_types.specs.Words.{header_length}
 use Rattle.jvm_types.specs.declared.fixed_words.TheConstants.{MONITOR_RECORDS}
@@ -60,7 +60,7 @@ quiet_takes : (t : ℕ) (acts : List Act) → AreQuiet acts → NeverCount (take
 quiet_takes t [] k = tt
 quiet_takes t (act ∷ acts) k = (λ q. not_taken t q act k.0.1, quiet_takes t acts k.1)
 
-quiet_if : (b : Bool) (act : Act) → is_do act ≡ false → is_enter act ≡ false → AreQuiet (if_so b act)
+quiet_if : (b : Bool) (act : Act) → is_do act ≡ false → is_enter act ≡ false → AreQuiet (act_if b act)
 quiet_if true act d e = ((d, e), tt)
 quiet_if false act d e = tt
 
@@ -126,7 +126,7 @@ begun_calmly s x runs takes h r k =
     record { prints = h.prints; instructions = omega (arith, i, e, r); sections = omega (arith, n, k) }
 
 -- a monitor that a thread takes is free, and one that it enters again is not
-free_by : (p : Program) (q r : Plain) (t m : ℕ) (x : PlainThread) (o : Option Holding) → depth_for t o ≡ None → entered q t m x o ≡ Some r → is_free o ≡ true
+free_by : (p : Program) (q r : Plain) (t m : ℕ) (x : PlainThread) (o : Option Holding) → depth_for t o ≡ None → plain_entered q t m x o ≡ Some r → is_free o ≡ true
 free_by p q r t m x None d e = refl
 free_by p q r t m x (Some h) d e = by_test (h.holder == t) _ d e
   where
@@ -173,7 +173,7 @@ module _ (c : MarkedProgram) (bit : ℕ → Bool) (t : ℕ) (s : Thread) (q afte
   one_more : (y z : Thread) (more : List Act) → x.status ≡ plain.Run → AreQuiet more → Calm (begun y) z → Tallied 0 y z (runs_of (acts.Do ∷ more)) (takes_of (acts.Do ∷ more)) None
   one_more y z more status k h = let d = did_one more status k in begun_calmly y z (runs_of (acts.Do ∷ more)) (takes_of (acts.Do ∷ more)) h d.0 d.1
 
-  notes : (y z : Thread) (held : Option Held) (act : Act) → x.status ≡ plain.Run → is_do act ≡ false → is_enter act ≡ false → Calm (begun y) z → Tallied 0 y z (runs_of (history.notified held act)) (takes_of (history.notified held act)) None
+  notes : (y z : Thread) (held : Option Held) (act : Act) → x.status ≡ plain.Run → is_do act ≡ false → is_enter act ≡ false → Calm (begun y) z → Tallied 0 y z (runs_of (history.notify_acts held act)) (takes_of (history.notify_acts held act)) None
   notes y z None act status d e h = one_more y z [] status tt h
   notes y z (Some held) act status d e h = by_kept held.kept
     where
@@ -189,7 +189,7 @@ module _ (c : MarkedProgram) (bit : ℕ → Bool) (t : ℕ) (s : Thread) (q afte
 
   -- a print beyond the limit never comes
   prints : (n : ℕ) (z : Thread) → x.status ≡ plain.Run → (b : Bool) → Calm (printed (begun (at_phase phases.Run)) got n) z
-      → Tallied 0 (at_phase phases.Run) (if b then z else with_phase (begun (at_phase phases.Run)) (phases.Ending ends.Prints)) (runs_of (if_so b acts.Do)) (takes_of (if_so b acts.Do))
+      → Tallied 0 (at_phase phases.Run) (if b then z else with_phase (begun (at_phase phases.Run)) (phases.Ending ends.Prints)) (runs_of (act_if b acts.Do)) (takes_of (act_if b acts.Do))
       (if b then Some (record { ticket = got; value = int_of n }) else None)
   prints n z status true h =
       let d = did_one [] status tt in
@@ -227,7 +227,7 @@ module _ (c : MarkedProgram) (bit : ℕ → Bool) (t : ℕ) (s : Thread) (q afte
 
   -- ---- all phases
 
-  element : (word : ℕ) (stored : Option ℕ) (o : Option Top) (r : Plain) → x.status ≡ plain.Run → instructed c.program q t x o ≡ Some r
+  element : (word : ℕ) (stored : Option ℕ) (o : Option Top) (r : Plain) → x.status ≡ plain.Run → plain_instructed c.program q t x o ≡ Some r
       → Tallied 1 (at_phase (phases.Element word stored)) (goes_on_if (at_phase (phases.Element word stored)) (option_map (λ at. Running (went_on c.program at (element_made stored got))) o)) (runs_of (acts.Do ∷ [])) (takes_of (acts.Do ∷ [])) None
   element word stored None r status e = absurd (cc)
   element word stored (Some at) r status e = let d = did_one [] status tt in
@@ -253,8 +253,8 @@ module _ (c : MarkedProgram) (bit : ℕ → Bool) (t : ℕ) (s : Thread) (q afte
   entry m number false None e status = let now : Thread = at_phase (phases.Enter m number) in quietly now _ [] (acquired now m (lock_of got)) tt
 
   took : (phase : Phase) (m : ℕ) (kept : Kept) (z : Thread) (b : Bool) → Calm (at_phase phase) z → held_at s.held m ≡ None → x.status ≡ plain.Enter m
-      → plain_run c.program q (steps_of t (if_so b acts.Enter)) ≡ Some after
-      → Tallied 0 (at_phase phase) (if b then takes (at_phase phase) m kept else z) (runs_of (if_so b acts.Enter)) (takes_of (if_so b acts.Enter)) None
+      → plain_run c.program q (steps_of t (act_if b acts.Enter)) ≡ Some after
+      → Tallied 0 (at_phase phase) (if b then takes (at_phase phase) m kept else z) (runs_of (act_if b acts.Enter)) (takes_of (act_if b acts.Enter)) None
   took phase m kept z false h none status run = quietly (at_phase phase) z [] h tt
   took phase m kept z true h none status run =
       let now : Thread = at_phase phase in
@@ -298,7 +298,7 @@ module _ (c : MarkedProgram) (bit : ℕ → Bool) (t : ℕ) (s : Thread) (q afte
   tallied_at phases.Run status frames a n run = by_top (top_of c.program s.frames) status a
   tallied_at (phases.Element word stored) status frames a n run =
       let step = first_by c.program q after t x acts.Do plain.Run [] there status run in
-      element word stored (top_of c.program s.frames) step.0 status (ap (λ (fs : List Frame). instructed c.program q t x (top_of c.program fs)) (sym frames) ∙ step.1)
+      element word stored (top_of c.program s.frames) step.0 status (ap (λ (fs : List Frame). plain_instructed c.program q t x (top_of c.program fs)) (sym frames) ∙ step.1)
   tallied_at (phases.Made b word) status frames a n run = let now : Thread = at_phase (phases.Made b word) in quietly now _ [] (goes now (Running (pushed b s.frames))) tt
   tallied_at (phases.Throw r class) status frames a n run = let now : Thread = at_phase (phases.Throw r class) in
       calmly 0 now _ (runs_of (acts.Do ∷ [])) (takes_of (acts.Do ∷ [])) (goes_if now (dispatched c.program r class s.frames) tt)
@@ -321,12 +321,12 @@ module _ (c : MarkedProgram) (bit : ℕ → Bool) (t : ℕ) (s : Thread) (q afte
   tallied_at (phases.WaitLook m r depth) status frames a n run = let now : Thread = at_phase (phases.WaitLook m r depth) in
       quietly now _ [] (calm_if now (has_flag (bit_of s.number) got) _ _ (failed now (phases.WaitLook m r depth) tt) (record { instructions = refl; sections = refl; prints = refl; phase = tt })) tt
   tallied_at (phases.Retake m r depth) status frames a n run = let now : Thread = at_phase (phases.Retake m r depth) in
-      quietly now _ (if_so (got == 0) acts.Retake) (calm_if now (got == 0) _ _ retaken (failed now (phases.Retake m r depth) tt)) (quiet_if (got == 0) acts.Retake refl refl)
+      quietly now _ (act_if (got == 0) acts.Retake) (calm_if now (got == 0) _ _ retaken (failed now (phases.Retake m r depth) tt)) (quiet_if (got == 0) acts.Retake refl refl)
     where
       retaken : Calm (at_phase (phases.Retake m r depth)) (retakes (at_phase (phases.Retake m r depth)) m r depth)
       retaken = let g = calm.ran (record (at_phase (phases.Retake m r depth)) { held = with_held (record { monitor = m; kept = keeps.Fat r; depth = depth }) s.held }) in record { instructions = refl; sections = refl; prints = refl; phase = g.phase }
   tallied_at (phases.NotifyLook m r) status frames a n run = let now : Thread = at_phase (phases.NotifyLook m r) in
-      quietly now _ (if_so (got == 0) (acts.Notify None)) (calm_if now (got == 0) _ _ (calm.ran now) (record { instructions = refl; sections = refl; prints = refl; phase = tt })) (quiet_if (got == 0) (acts.Notify None) refl refl)
+      quietly now _ (act_if (got == 0) (acts.Notify None)) (calm_if now (got == 0) _ _ (calm.ran now) (record { instructions = refl; sections = refl; prints = refl; phase = tt })) (quiet_if (got == 0) (acts.Notify None) refl refl)
   tallied_at (phases.NotifyOne m r u) status frames a n run = let now : Thread = at_phase (phases.NotifyOne m r u) in quietly now _ (acts.Notify (Some u) ∷ []) (calm.ran now) ((refl, refl), tt)
   tallied_at (phases.NotifyAll m r) status frames a n run = let now : Thread = at_phase (phases.NotifyAll m r) in quietly now _ (acts.NotifyAll ∷ []) (calm.ran now) ((refl, refl), tt)
   tallied_at (phases.Ending e) status frames a n run = let same = same_extra e in record { prints = refl; instructions = omega (arith, same); sections = omega arith }

@@ -26,7 +26,7 @@ use Rattle.machine_types.specs.History.{acts_of}
 use Rattle.machine_types.specs.Ints.{low}
 use Rattle.machine_types.specs.Onward.{Running, threw}
 use Rattle.machine_types.specs.Owners.{references_of}
-use Rattle.machine_types.specs.PlainInstructions.{did, indexed_in, instructed, instructed_by}
+use Rattle.machine_types.specs.PlainInstructions.{plain_did, indexed_in, plain_instructed, instructed_by}
 use Rattle.machine_types.specs.PlainMemory.{Object}
 use Rattle.machine_types.specs.PlainState.{Plain, PlainThread, value_at, written, with_thread}
 use Rattle.machine_types.specs.PlainState as plain
@@ -195,7 +195,7 @@ module _ (c : MarkedProgram) (cfg : Config) (objects : List Object) (was : ℕ �
     makes_none : (a header : ℕ) → x.phase ≡ phases.Made a header → ⊥
     makes_none a header h = let both : phases.Element word stored ≡ phases.Made a header = sym phase_is ∙ h in cc
 
-    goes : (made : ℕ) → GoesOn c.program (has_wait_bit (references_of q.objects) s.words t) x (goes_on x (Running (went_on c.program k.at made))) (plain.goes_on y (Running (went_on c.program k.at made)))
+    goes : (made : ℕ) → GoesOn c.program (has_wait_bit (references_of q.objects) s.words t) x (goes_on x (Running (went_on c.program k.at made))) (plain.plain_goes_on y (Running (went_on c.program k.at made)))
     goes made = going c.program (has_wait_bit (references_of q.objects) s.words t) x x y (Running (went_on c.program k.at made)) refl scene.outside refl
         (awake c cfg objects was s t x q scene (λ r h. subst (λ (z : Phase). MayWait z r) was_so h)) (runs_on c cfg objects was s t x q scene (subst IsBusy (sym phase_is) tt))
 
@@ -208,11 +208,11 @@ module _ (c : MarkedProgram) (cfg : Config) (objects : List Object) (was : ℕ �
     run_is : plain_run c.program q (steps_of t (acts.Do ∷ [])) ≡ Some (indexed_in c.program q t y k.at place stored (slice_index s.words place))
     run_is = one_step c.program q (indexed_in c.program q t y k.at place stored (slice_index s.words place)) t y acts.Do (twin c cfg objects was s t x q scene).here
         (ap (step_at c.program q t y acts.Do) same_status
-        ∙ (ap (λ (fs : List Frame). instructed c.program q t y (top_of c.program fs)) same_frames
-        ∙ (ap (instructed c.program q t y) k.found
+        ∙ (ap (λ (fs : List Frame). plain_instructed c.program q t y (top_of c.program fs)) same_frames
+        ∙ (ap (plain_instructed c.program q t y) k.found
         ∙ (ap (instructed_by c.program q t y k.at) k.effect_is
-        ∙ (ap (option_and_then (λ (n : ℕ). did c.program q t y k.at (Indexes k.array k.index stored) n)) header_stands
-        ∙ (ap (λ (b : Bool). if b then option_map (indexed_in c.program q t y k.at place stored) (value_at q place) else Some (with_thread q t (plain.goes_on y (threw ArrayIndexOutOfBoundsException k.at)))) has_it
+        ∙ (ap (option_and_then (λ (n : ℕ). plain_did c.program q t y k.at (Indexes k.array k.index stored) n)) header_stands
+        ∙ (ap (λ (b : Bool). if b then option_map (indexed_in c.program q t y k.at place stored) (value_at q place) else Some (with_thread q t (plain.plain_goes_on y (threw ArrayIndexOutOfBoundsException k.at)))) has_it
         ∙ ap (option_map (indexed_in c.program q t y k.at place stored)) stands))))))
 
     moves : (got : ℕ) → moved c x x.phase got ≡ goes_on x (Running (went_on c.program k.at (element_made stored got)))
@@ -234,7 +234,7 @@ module _ (c : MarkedProgram) (cfg : Config) (objects : List Object) (was : ℕ �
     read_now = goes_on x (Running (went_on c.program read.at value))
 
     abbrev read_shown : PlainThread
-    read_shown = plain.goes_on (y word None phase_is) (Running (went_on c.program read.at value))
+    read_shown = plain.plain_goes_on (y word None phase_is) (Running (went_on c.program read.at value))
 
     pub read_steps : StepsBeside c objects s t x q
     read_steps = steps_of_event c cfg objects was s t x q scene objects (Some (Load word)) (acts.Do ∷ []) read_now
@@ -244,7 +244,7 @@ module _ (c : MarkedProgram) (cfg : Config) (objects : List Object) (was : ℕ �
         (moves word None phase_is value)
         (record {
           after = with_thread q t read_shown;
-          run = run_is word None phase_is ∙ ap (λ (n : ℕ). Some (with_thread q t (plain.goes_on (y word None phase_is) (Running (went_on c.program read.at n))))) word_value;
+          run = run_is word None phase_is ∙ ap (λ (n : ℕ). Some (with_thread q t (plain.plain_goes_on (y word None phase_is) (Running (went_on c.program read.at n))))) word_value;
           beside = comes_beside c cfg objects was s t x q scene objects (slice_set s.words word value) q read_now (y word None phase_is) read_shown (twin c cfg objects was s t x q scene).here (lives word None phase_is) (goes word None phase_is value)
               (stays c cfg objects was s t x q scene (slice_set s.words word value) read_now (looked s.words word) (makes_none word None phase_is) (none_on x (Running (went_on c.program read.at value))));
         })
@@ -262,7 +262,7 @@ module _ (c : MarkedProgram) (cfg : Config) (objects : List Object) (was : ℕ �
     store_now = goes_on x (Running (went_on c.program store.at 0))
 
     abbrev store_shown : PlainThread
-    store_shown = plain.goes_on (y word (Some v) phase_is) (Running (went_on c.program store.at 0))
+    store_shown = plain.plain_goes_on (y word (Some v) phase_is) (Running (went_on c.program store.at 0))
 
     store_memory : Memory c.program objects s (slice_set s.words word v) q (written q word v) t store_now
     store_memory = subst (λ (n : ℕ). Memory c.program objects s (slice_set s.words n v) q (written q n v) t store_now) (sym store.word_is)

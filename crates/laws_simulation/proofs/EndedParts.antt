@@ -148,10 +148,10 @@ done_as : (roots : List ℕ) (y : PlainThread) (ws : List PlainThread) → done_
 done_as [] y ws = refl
 done_as (number ∷ roots) y ws = refl
 
-done_is : (p : Program) (q : Plain) → steps.done_end p q ≡ done_by (done_roots p) q.threads
+done_is : (p : Program) (q : Plain) → steps.plain_done_end p q ≡ done_by (done_roots p) q.threads
 done_is p q = by_roots (done_roots p) refl
   where
-    by_roots : (roots : List ℕ) → done_roots p ≡ roots → steps.done_end p q ≡ done_by roots q.threads
+    by_roots : (roots : List ℕ) → done_roots p ≡ roots → steps.plain_done_end p q ≡ done_by roots q.threads
     by_roots [] e = rw e refl
     by_roots (number ∷ roots) e = rw e refl
 
@@ -210,7 +210,7 @@ ends_are_those c cfg objects was s q marked facts beside keep_none over = record
         subst (λ (z : ThreadReport). EndFits z.end (first_end q t)) (same_some f)
         (subst (λ (o : Option End). EndFits (reported_end x.phase x.first) o) (sym at) (first_ended c.program x.part x.phase x.first (dead t x e) (first_fits t x e)))
 
-    done : EndFits (done_end s.threads) (steps.done_end c.program q)
+    done : EndFits (done_end s.threads) (steps.plain_done_end c.program q)
     done =
         let count = facts.threads.count in
         subst (λ (o : Option End). EndFits (done_end s.threads) o) (sym (done_is c.program q))

@@ -13,7 +13,7 @@ use Rattle.machine_types.specs.Core.{Core}
 use Rattle.machine_types.specs.Elision.{begins, tries}
 use Rattle.machine_types.specs.Going.{failed_turn, with_phase, runs}
 use Rattle.machine_types.specs.HeldMonitors.{held_at, with_held, deeper}
-use Rattle.machine_types.specs.History.{if_so, enter_acts}
+use Rattle.machine_types.specs.History.{act_if, enter_acts}
 use Rattle.machine_types.specs.LockWords.{word_of_lock, lock_of}
 use Rattle.machine_types.specs.Monitors.{claim_by, enter_wants, enter_moves, acquires, takes}
 use Rattle.machine_types.specs.Owners.{NotHeld, HeldFat, hold_by_word, lock_at, owner_at, references_of}
@@ -156,13 +156,13 @@ module _ (lies : StartLiesApart) (differ : SitesDiffer) (inside : SitesLieInside
   entered m n false None None e none status = acquires_it (slice_set s.words m (slice_index s.words m)) m (lock_of (slice_index s.words m)) (loaded m) status
 
   pub took : (m seen : ℕ) → HasObject objects m → k.z.status ≡ plain.Enter m
-      → Makes c cfg objects was s t x q k (if_so (slice_index s.words m == word_of_lock (locks.Free seen)) acts.Enter)
+      → Makes c cfg objects was s t x q k (act_if (slice_index s.words m == word_of_lock (locks.Free seen)) acts.Enter)
       (slice_set s.words m (cond (slice_index s.words m == word_of_lock (locks.Free seen)) (word_of_lock (locks.Held x.number)) (slice_index s.words m)))
       (cond (slice_index s.words m == word_of_lock (locks.Free seen)) (takes x m (keeps.Flat seen)) (failed_turn x (phases.Acquire m)))
   took m seen object status = by_test (slice_index s.words m == word_of_lock (locks.Free seen)) refl
     where
       by_test : (b : Bool) → (slice_index s.words m == word_of_lock (locks.Free seen)) ≡ b
-          → Makes c cfg objects was s t x q k (if_so b acts.Enter) (slice_set s.words m (cond b (word_of_lock (locks.Held x.number)) (slice_index s.words m))) (cond b (takes x m (keeps.Flat seen)) (failed_turn x (phases.Acquire m)))
+          → Makes c cfg objects was s t x q k (act_if b acts.Enter) (slice_set s.words m (cond b (word_of_lock (locks.Held x.number)) (slice_index s.words m))) (cond b (takes x m (keeps.Flat seen)) (failed_turn x (phases.Acquire m)))
       by_test true e =
           let free : lock_at (references_of objects) s.words m ≡ locks.Free seen = lock_is m (locks.Free seen) object e in
           takes_it (slice_set s.words m (word_of_lock (locks.Held x.number))) m (keeps.Flat seen)
@@ -189,12 +189,12 @@ module _ (lies : StartLiesApart) (differ : SitesDiffer) (inside : SitesLieInside
   low_record r l = grind (arith, nat_tests, l)
 
   pub took_fat : (m r : ℕ) → lock_at (references_of objects) s.words m ≡ locks.Fat r → k.z.status ≡ plain.Enter m
-      → Makes c cfg objects was s t x q k (if_so (slice_index s.words (owner_word r) == 0) acts.Enter) (slice_set s.words (owner_word r) (cond (slice_index s.words (owner_word r) == 0) (x.number + 1) (slice_index s.words (owner_word r))))
+      → Makes c cfg objects was s t x q k (act_if (slice_index s.words (owner_word r) == 0) acts.Enter) (slice_set s.words (owner_word r) (cond (slice_index s.words (owner_word r) == 0) (x.number + 1) (slice_index s.words (owner_word r))))
       (cond (slice_index s.words (owner_word r) == 0) (takes x m (keeps.Fat r)) (failed_turn x (phases.TakeFat m r)))
   took_fat m r fat status = by_test (slice_index s.words (owner_word r) == 0) refl
     where
       by_test : (b : Bool) → (slice_index s.words (owner_word r) == 0) ≡ b
-          → Makes c cfg objects was s t x q k (if_so b acts.Enter) (slice_set s.words (owner_word r) (cond b (x.number + 1) (slice_index s.words (owner_word r)))) (cond b (takes x m (keeps.Fat r)) (failed_turn x (phases.TakeFat m r)))
+          → Makes c cfg objects was s t x q k (act_if b acts.Enter) (slice_set s.words (owner_word r) (cond b (x.number + 1) (slice_index s.words (owner_word r)))) (cond b (takes x m (keeps.Fat r)) (failed_turn x (phases.TakeFat m r)))
       by_test true e =
           let none : owner_at s.words r ≡ 0 = ap (λ (b : Bool). cond b (slice_index s.words (owner_word r)) 0) (low_record r (low m r fat)) ∙ (Decides-eqb (slice_index s.words (owner_word r)) 0).0 e in
           takes_it (slice_set s.words (owner_word r) (x.number + 1)) m (keeps.Fat r) (owner_stays lies differ inside c objects s k.marked k.facts.heap low q k.beside r (x.number + 1) (low m r fat)) status (nobody_fat m r fat none)

@@ -35,7 +35,7 @@ use Rattle.machine_types.specs.declared.plain.Act.TheVariants as acts
 use Rattle.laws_states.specs.HeapFacts.{objects_by}
 use Rattle.laws_states.proofs.WordViews.{set_self}
 use Rattle.laws_simulation.specs.StandsBeside.{StandsBeside, ends_shown}
-use Rattle.laws_simulation.specs.StepsBeside.{Begins, StepsBeside}
+use Rattle.laws_simulation.specs.StepsBeside.{IsAtEffect, StepsBeside}
 use Rattle.laws_simulation.proofs.Assembled.{moved_beside, one_step, steps_beside}
 use Rattle.laws_simulation.proofs.GoingOnAlike.{IsUnderWay, IsAwake, going_alike}
 use Rattle.laws_simulation.proofs.OwnThread.{IsBusy, Own}
@@ -62,7 +62,7 @@ in_run c objects s t x q at here e f k =
     (subst (λ (o : Option Top). Does c.program objects s t q (run_wants c.program x o) (ran c.program x o) (run_acts c x o)) (sym f) k)
 
 -- of one kind of effects
-pub in_effect : (c : MarkedProgram) (objects : List Object) (s : Core) (t : ℕ) (x : Thread) (q : Plain) (Kind : Effect → Type 0) → slice_get s.threads t ≡ Some x → (b : Begins Kind c x)
+pub in_effect : (c : MarkedProgram) (objects : List Object) (s : Core) (t : ℕ) (x : Thread) (q : Plain) (Kind : Effect → Type 0) → slice_get s.threads t ≡ Some x → (b : IsAtEffect Kind c x)
     → ((e : Effect) → effect_at c.program b.at ≡ e → Kind e → Does c.program objects s t q (effect_wants x b.at.frame.pc e) (instructed c.program (begun x) b.at e) (instruction_acts x e)) → StepsBeside c objects s t x q
 in_effect c objects s t x q Kind here b k = in_run c objects s t x q b.at here b.runs b.found (k (effect_at c.program b.at) refl b.kind)
 
@@ -156,23 +156,23 @@ module _ (p : Program) (objects : List Object) (s : Core) (q : Plain) (t : ℕ) 
 
   -- one that goes on
   pub goes_beside : (words : List ℕ) (prints : List Printed) (z : Thread) (o : Onward) → WordsFit s q words prints → GoesFrom x z
-      → StandsBeside p objects (record { words = words; threads = slice_set s.threads t (goes_on z o) }) (record q { threads = slice_set q.threads t (plain.goes_on own.plain o); prints = prints })
+      → StandsBeside p objects (record { words = words; threads = slice_set s.threads t (goes_on z o) }) (record q { threads = slice_set q.threads t (plain.plain_goes_on own.plain o); prints = prints })
   goes_beside words prints z o w from =
       let on = went_on z o in
       let way : IsUnderWay p z.part z.roots own.plain = subst (λ (part : ℕ). IsUnderWay p part z.roots own.plain) (sym from.part) (subst (λ (roots : List ℕ). IsUnderWay p x.part roots own.plain) (sym from.roots) runs) in
       let fits = going_alike p (has_wait_bit (references_of q.objects) words t) (still_awake words prints w) z own.plain o way in
-      becomes words prints (goes_on z o) (plain.goes_on own.plain o) w (on.part ∙ from.part) (on.held ∙ from.held) on.makes
-      (subst (λ (a : Option Attempt). ThreadFits p (has_wait_bit (references_of q.objects) words t) (goes_on z o) a (plain.goes_on own.plain o)) (sym (on.attempt ∙ from.attempt)) fits.outside)
+      becomes words prints (goes_on z o) (plain.plain_goes_on own.plain o) w (on.part ∙ from.part) (on.held ∙ from.held) on.makes
+      (subst (λ (a : Option Attempt). ThreadFits p (has_wait_bit (references_of q.objects) words t) (goes_on z o) a (plain.plain_goes_on own.plain o)) (sym (on.attempt ∙ from.attempt)) fits.outside)
       fits.ended
 
   -- by an access that leaves the words, and one act
   pub does_one : (access : Option Access) (made : ℕ → Thread) (acts : ℕ → List Act) (act : Act) (got : ℕ) (z : Thread) (o : Onward) → LeavesWords s.words access → found_by s.words access ≡ got → made got ≡ goes_on z o → acts got ≡ act ∷ []
-      → GoesFrom x z → step_at p q t own.plain act own.plain.status ≡ Some (plain.with_thread q t (plain.goes_on own.plain o)) → Does p objects s t q access made acts
+      → GoesFrom x z → step_at p q t own.plain act own.plain.status ≡ Some (plain.with_thread q t (plain.plain_goes_on own.plain o)) → Does p objects s t q access made acts
   does_one access made acts act got z o leaves found is one from step = record {
-    after = plain.with_thread q t (plain.goes_on own.plain o);
-    run = ap (λ (n : ℕ). plain_run p q (steps_of t (acts n))) found ∙ ap (λ (some : List Act). plain_run p q (steps_of t some)) one ∙ one_step p q (plain.with_thread q t (plain.goes_on own.plain o)) t own.plain act own.here step;
-    beside = subst (λ (words : List ℕ). StandsBeside p objects (record { words = words; threads = slice_set s.threads t (made (found_by s.words access)) }) (plain.with_thread q t (plain.goes_on own.plain o))) (sym leaves)
-        (subst (λ (y : Thread). StandsBeside p objects (record { words = s.words; threads = slice_set s.threads t y }) (plain.with_thread q t (plain.goes_on own.plain o))) (sym (ap made found ∙ is))
+    after = plain.with_thread q t (plain.plain_goes_on own.plain o);
+    run = ap (λ (n : ℕ). plain_run p q (steps_of t (acts n))) found ∙ ap (λ (some : List Act). plain_run p q (steps_of t some)) one ∙ one_step p q (plain.with_thread q t (plain.plain_goes_on own.plain o)) t own.plain act own.here step;
+    beside = subst (λ (words : List ℕ). StandsBeside p objects (record { words = words; threads = slice_set s.threads t (made (found_by s.words access)) }) (plain.with_thread q t (plain.plain_goes_on own.plain o))) (sym leaves)
+        (subst (λ (y : Thread). StandsBeside p objects (record { words = s.words; threads = slice_set s.threads t y }) (plain.with_thread q t (plain.plain_goes_on own.plain o))) (sym (ap made found ∙ is))
         (goes_beside s.words q.prints z o (same_words p objects s q beside) from));
   }
 
@@ -180,11 +180,11 @@ module _ (p : Program) (objects : List Object) (s : Core) (q : Plain) (t : ℕ) 
 
 -- that runs in the same frames
 pub instruction_step : (p : Program) (q after : Plain) (t : ℕ) (y : PlainThread) (frames : List Frame) (at : Top) (e : Effect) (got : ℕ) → y.status ≡ plain.Run → y.frames ≡ frames → top_of p frames ≡ Some at → effect_at p at ≡ e
-    → plain_instructions.got_by (value_at q) (read_by e) ≡ Some got → plain_instructions.did p q t y at e got ≡ Some after → step_at p q t y acts.Do y.status ≡ Some after
+    → plain_instructions.got_by (value_at q) (read_by e) ≡ Some got → plain_instructions.plain_did p q t y at e got ≡ Some after → step_at p q t y acts.Do y.status ≡ Some after
 instruction_step p q after t y frames at e got s f g h found k =
     ap (λ (status : Status). step_at p q t y acts.Do status) s
-    ∙ ap (λ (fs : List Frame). plain_instructions.instructed p q t y (top_of p fs)) f
-    ∙ ap (λ (o : Option Top). plain_instructions.instructed p q t y o) g
+    ∙ ap (λ (fs : List Frame). plain_instructions.plain_instructed p q t y (top_of p fs)) f
+    ∙ ap (λ (o : Option Top). plain_instructions.plain_instructed p q t y o) g
     ∙ ap (λ (d : Effect). plain_instructions.instructed_by p q t y at d) h
-    ∙ ap (λ (o : Option ℕ). option_and_then (λ n. plain_instructions.did p q t y at e n) o) found
+    ∙ ap (λ (o : Option ℕ). option_and_then (λ n. plain_instructions.plain_did p q t y at e n) o) found
     ∙ k

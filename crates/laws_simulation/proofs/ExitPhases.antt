@@ -10,7 +10,7 @@ use Rattle.machine_types.specs.Agreement.{IsWaiter, depth_for, has_wait_bit, tow
 use Rattle.machine_types.specs.Core.{Core}
 use Rattle.machine_types.specs.Going.{with_phase, goes_on, goes_on_if, goes_after}
 use Rattle.machine_types.specs.HeldMonitors.{held_at, depth_at, with_held, without_held, shallower}
-use Rattle.machine_types.specs.History.{if_so, steps_of, leave_acts, release_acts}
+use Rattle.machine_types.specs.History.{act_if, steps_of, leave_acts, release_acts}
 use Rattle.machine_types.specs.LockWords.{word_of_lock, next_count}
 use Rattle.machine_types.specs.Monitors.{claim_by, leave_wants, leave_moves, release, released, freed, lets_go, grows_not, fattens}
 use Rattle.machine_types.specs.Onward.{Onward, after}
@@ -83,16 +83,16 @@ module _ (lies : StartLiesApart) (differ : SitesDiffer) (inside : SitesLieInside
   behind a shown m show leaves holds = let g = goes_behind (HasClass objects) c k.marked m shown a x.frames show leaves holds in (g.onward, g.is)
 
   goes_out : (words : List ℕ) (a : After) (less : List Held) (later : List Holding) (o : Onward) → WordsStay objects s q words → after c.program x.frames a ≡ Some o
-      → plain_run c.program q (steps_of t (acts.Exit ∷ [])) ≡ Some (record q { holdings = later; threads = slice_set q.threads t (plain.goes_on k.z o) })
+      → plain_run c.program q (steps_of t (acts.Exit ∷ [])) ≡ Some (record q { holdings = later; threads = slice_set q.threads t (plain.plain_goes_on k.z o) })
       → ((y : Thread) → y.held ≡ less → HoldAlike later (slice_set s.threads t y))
       → Makes c cfg objects was s t x q k (acts.Exit ∷ []) words (goes_after c.program (record x { held = less }) a)
   goes_out words a less later o stay is run holds = subst (λ (w : Option Onward). Makes c cfg objects was s t x q k (acts.Exit ∷ []) words (goes_on_if (record x { held = less }) w)) (sym is)
-      (steps_as c cfg objects was s t x q k acts.Exit words (goes_on (record x { held = less }) o) later (plain.goes_on k.z o) run stay (holds (goes_on (record x { held = less }) o) (goes_held (record x { held = less }) o))
+      (steps_as c cfg objects was s t x q k acts.Exit words (goes_on (record x { held = less }) o) later (plain.plain_goes_on k.z o) run stay (holds (goes_on (record x { held = less }) o) (goes_held (record x { held = less }) o))
       (goes_attempt (record x { held = less }) o) (goes_part (record x { held = less }) o) (goes_old (record x { held = less }) o)
       (going_alike c.program (has_wait_bit (references_of q.objects) s.words t) k.awake (record x { held = less }) k.z o k.under_way))
 
   exits_it : (m : ℕ) (h : Held) (a : After) (o : Onward) → held_at x.held m ≡ Some h → k.z.status ≡ plain.Leave m a → after c.program x.frames a ≡ Some o
-      → plain_run c.program q (steps_of t (acts.Exit ∷ [])) ≡ Some (with_thread (left q t m h.depth) t (plain.goes_on k.z o))
+      → plain_run c.program q (steps_of t (acts.Exit ∷ [])) ≡ Some (with_thread (left q t m h.depth) t (plain.plain_goes_on k.z o))
   exits_it m h a o e status is = exits c.program q t k.z k.here m h.depth a o status (holds_then q.holdings s.threads k.beside.agrees.monitors t m x h k.there e) (ap (λ (fs : List Frame). after c.program fs a) k.frames ∙ is)
 
   -- one entry of several
@@ -103,14 +103,14 @@ module _ (lies : StartLiesApart) (differ : SitesDiffer) (inside : SitesLieInside
       let two : h.depth ≡ suc (suc (h.depth - 2)) = omega (arith, some) in
       let one : suc (h.depth - 2) ≡ h.depth - 1 = omega (arith, some) in
       goes_out s.words a (with_held (shallower h) x.held) (with_holding (record { monitor = m; holder = t; depth = h.depth - 1 }) q.holdings) o (words_stay objects s q) is
-      (exits_it m h a o e status is ∙ ap (λ (n : ℕ). Some (with_thread (left q t m n) t (plain.goes_on k.z o))) two ∙ ap (λ (n : ℕ). Some (with_thread (held_by q m t n) t (plain.goes_on k.z o))) one)
+      (exits_it m h a o e status is ∙ ap (λ (n : ℕ). Some (with_thread (left q t m n) t (plain.plain_goes_on k.z o))) two ∙ ap (λ (n : ℕ). Some (with_thread (held_by q m t n) t (plain.plain_goes_on k.z o))) one)
       (λ y f. alike_put q.holdings s.threads k.beside.agrees.monitors t x y k.there m (shallower h) (held_monitor m x.held h e) f (others_not m h e))
 
   -- the last one
   pub leaves_last : (words : List ℕ) (m : ℕ) (h : Held) (a : After) (o : Onward) → WordsStay objects s q words → held_at x.held m ≡ Some h → h.depth ≡ 1 → k.z.status ≡ plain.Leave m a → after c.program x.frames a ≡ Some o
       → Makes c cfg objects was s t x q k (acts.Exit ∷ []) words (lets_go c.program x m a)
   leaves_last words m h a o stay e one status is = goes_out words a (without_held m x.held) (without_holding m q.holdings) o stay is
-      (exits_it m h a o e status is ∙ ap (λ (n : ℕ). Some (with_thread (left q t m n) t (plain.goes_on k.z o))) one)
+      (exits_it m h a o e status is ∙ ap (λ (n : ℕ). Some (with_thread (left q t m n) t (plain.plain_goes_on k.z o))) one)
       (λ y f. alike_dropped q.holdings s.threads k.beside.agrees.monitors t x y k.there m f once (others_not m h e))
 
   -- ---- the lock is released
@@ -125,7 +125,7 @@ module _ (lies : StartLiesApart) (differ : SitesDiffer) (inside : SitesLieInside
       (owner_stays lies differ inside c objects s k.marked k.facts.heap (low lies differ inside c cfg objects was s t x q k) q k.beside r 0 (low lies differ inside c cfg objects was s t x q k m r (fat_when_fat m h r e f))) e one status is
   released_it m h a o (keeps.Flat count) f e one status is = by_word (slice_index s.words m == word_of_lock (locks.Held x.number))
     where
-      by_word : (b : Bool) → Makes c cfg objects was s t x q k (if_so b acts.Exit) (slice_set s.words m (cond b (freed x count) (slice_index s.words m)))
+      by_word : (b : Bool) → Makes c cfg objects was s t x q k (act_if b acts.Exit) (slice_set s.words m (cond b (freed x count) (slice_index s.words m)))
           (cond b (lets_go c.program x m a) (with_phase x (phases.Grow m (towards.Leave a))))
       by_word true = leaves_last (slice_set s.words m (freed x count)) m h a o (freed_stays m (next_count count x.cfg.range) h count e f) e one status is
       by_word false = to_phase c cfg objects was s t x q k (slice_set s.words m (slice_index s.words m)) (phases.Grow m (towards.Leave a)) (loaded lies differ inside c cfg objects was s t x q k m) tt status

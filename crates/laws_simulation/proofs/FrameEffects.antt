@@ -17,7 +17,7 @@ use Rattle.machine_types.specs.Events.{wanted}
 use Rattle.machine_types.specs.FoundWords.{WordFits, effect_content, run_content, content_at}
 use Rattle.machine_types.specs.Frames.{Top, frames_of, top_of, effect_at, went, went_on, monitor_of, returned}
 use Rattle.machine_types.specs.Going.{goes_on, goes_on_if}
-use Rattle.machine_types.specs.History.{if_so, instruction_acts}
+use Rattle.machine_types.specs.History.{act_if, instruction_acts}
 use Rattle.machine_types.specs.Instructions.{has_print_left, effect_wants, run_wants, begun, printed, did, instructed}
 use Rattle.machine_types.specs.Ints.{int_of}
 use Rattle.machine_types.specs.Lawful.{within}
@@ -103,13 +103,13 @@ module _ (differ : SitesDiffer) (inside : SitesLieInside) (fit : HeapWordsFit) (
 
   does_effect : (e : Effect) (o : Onward) (access : Option Access) → effect_at c.program at ≡ e → effect_wants x at.frame.pc e ≡ access → LeavesWords s.words access → plain_instructions.got_by (value_at q) (read_by e) ≡ Some (found_by s.words access)
       → did c.program (begun x) at e (found_by s.words access) ≡ goes_on (begun x) o
-      → plain_instructions.did c.program q t plain_thread.plain at e (found_by s.words access) ≡ Some (plain.with_thread q t (plain.goes_on plain_thread.plain o))
+      → plain_instructions.plain_did c.program q t plain_thread.plain at e (found_by s.words access) ≡ Some (plain.with_thread q t (plain.plain_goes_on plain_thread.plain o))
       → instruction_acts x e (found_by s.words access) ≡ acts.Do ∷ [] → DoesBy e
   does_effect e o access f w leaves value made step one =
       subst (λ (a : Option Access). Does c.program objects s t q a (instructed c.program (begun x) at e) (instruction_acts x e)) (sym w)
       (does_one c.program objects s q t x beside here plain_thread way awake busy no_made access (instructed c.program (begun x) at e) (instruction_acts x e) acts.Do (found_by s.words access) (begun x) o leaves refl
       (not_checked c.program (begun x) at e (found_by s.words access) outside ∙ made) one from
-      (instruction_step c.program q (plain.with_thread q t (plain.goes_on plain_thread.plain o)) t plain_thread.plain x.frames at e (found_by s.words access) is_running same_frames at_top f value step))
+      (instruction_step c.program q (plain.with_thread q t (plain.plain_goes_on plain_thread.plain o)) t plain_thread.plain x.frames at e (found_by s.words access) is_running same_frames at_top f value step))
 
   -- outside attempts nothing is looked at
   no_look : looks x.attempt ≡ None
@@ -161,29 +161,29 @@ module _ (differ : SitesDiffer) (inside : SitesLieInside) (fit : HeapWordsFit) (
   is_holding : (m : ℕ) → IsHeld x.held m → is_holder t (holding_at q.holdings m) ≡ true
   is_holding m k = is_holder_then q.holdings s.threads beside.agrees.monitors t m x k.entry here k.is
 
-  if_holding : (m : ℕ) (more : PlainThread) → IsHeld x.held m → plain_instructions.if_held q t m plain_thread.plain at more ≡ more
-  if_holding m more k = ap (λ (b : Bool). if b then more else plain.goes_on plain_thread.plain (threw IllegalMonitorStateException at)) (is_holding m k)
+  if_holding : (m : ℕ) (more : PlainThread) → IsHeld x.held m → plain_instructions.if_plain_held q t m plain_thread.plain at more ≡ more
+  if_holding m more k = ap (λ (b : Bool). if b then more else plain.plain_goes_on plain_thread.plain (threw IllegalMonitorStateException at)) (is_holding m k)
 
-  returning : effect_at c.program at ≡ Returns → plain_instructions.if_left q t plain_thread.plain at (returns c.program at) ≡ plain.goes_on plain_thread.plain (returns c.program at)
+  returning : effect_at c.program at ≡ Returns → plain_instructions.if_left q t plain_thread.plain at (returns c.program at) ≡ plain.plain_goes_on plain_thread.plain (returns c.program at)
   returning f = by_flag (is_synchronized at.method.flags) refl (done_shows c marked x.frames stands.shown at at_top stands.show Returns f 0)
     where
       holds : AfterHolds c (HasClass objects) afters.Return (frames_of at)
       holds = subst (FramesHold c (HasClass objects)) (tops_stand_law c x.frames _ stands.shown at marked stands.show at_top).1.frames frames_hold
 
-      by_frames : (fs : List Frame) → plain_instructions.if_left q t plain_thread.plain at (back fs) ≡ plain.goes_on plain_thread.plain (back fs)
+      by_frames : (fs : List Frame) → plain_instructions.if_left q t plain_thread.plain at (back fs) ≡ plain.plain_goes_on plain_thread.plain (back fs)
       by_frames [] = refl
       by_frames (g ∷ fs) = refl
 
       by_flag : (b : Bool) → is_synchronized at.method.flags ≡ b → OnwardShows c (if b then Leaving (monitor_of at.method at.frame) afters.Return (frames_of at) else back (returned c.program at)) stands.shown
           → plain_instructions.if_left q t plain_thread.plain at (if b then Leaving (monitor_of at.method at.frame) afters.Return (frames_of at) else back (returned c.program at))
-          ≡ plain.goes_on plain_thread.plain (if b then Leaving (monitor_of at.method at.frame) afters.Return (frames_of at) else back (returned c.program at))
+          ≡ plain.plain_goes_on plain_thread.plain (if b then Leaving (monitor_of at.method at.frame) afters.Return (frames_of at) else back (returned c.program at))
       by_flag true e shows = if_holding (monitor_of at.method at.frame) _ (leaves_held (HasClass objects) c (monitor_of at.method at.frame) (frames_of at) stands.shown x.held marked (depth (monitor_of at.method at.frame)) afters.Return shows holds)
       by_flag false e shows = by_frames (returned c.program at)
 
-  exiting : (m : ℕ) → effect_at c.program at ≡ Leaves m → plain_instructions.leaves c.program q t plain_thread.plain at m ≡ plain.goes_on plain_thread.plain (Leaving m afters.Next (went_on c.program at 0))
+  exiting : (m : ℕ) → effect_at c.program at ≡ Leaves m → plain_instructions.plain_leaves c.program q t plain_thread.plain at m ≡ plain.plain_goes_on plain_thread.plain (Leaving m afters.Next (went_on c.program at 0))
   exiting m f =
       let k : IsHeld x.held m = exits_held (HasClass objects) c m (went_on c.program at 0) stands.shown x.held marked (depth m) (done_shows c marked x.frames stands.shown at at_top stands.show (Leaves m) f 0) in
-      ap (λ (b : Bool). if b then plain.goes_on plain_thread.plain (threw NullPointerException at) else plain_instructions.if_left q t plain_thread.plain at (Leaving m afters.Next (went_on c.program at 0))) (held_not_null c objects s t x m facts.heap here k)
+      ap (λ (b : Bool). if b then plain.plain_goes_on plain_thread.plain (threw NullPointerException at) else plain_instructions.if_left q t plain_thread.plain at (Leaving m afters.Next (went_on c.program at 0))) (held_not_null c objects s t x m facts.heap here k)
       ∙ if_holding m _ k
 
   -- ---- prints
@@ -205,14 +205,14 @@ module _ (differ : SitesDiffer) (inside : SitesLieInside) (fit : HeapWordsFit) (
 
   one_print : (n : ℕ) → effect_at c.program at ≡ Prints n → Does c.program objects s t q (Some (Add NEXT_TICKET_WORD 1)) (λ got. goes_on (printed (begun x) got n) (Running (went_on c.program at 0))) (λ got. acts.Do ∷ [])
   one_print n f = record {
-    after = plain.with_thread (record q { prints = q.prints ++ print n ∷ [] }) t (plain.goes_on plain_thread.plain (Running (went_on c.program at 0)));
+    after = plain.with_thread (record q { prints = q.prints ++ print n ∷ [] }) t (plain.plain_goes_on plain_thread.plain (Running (went_on c.program at 0)));
     run = one_step c.program q _ t plain_thread.plain acts.Do plain_thread.here (instruction_step c.program q _ t plain_thread.plain x.frames at (Prints n) 0 is_running same_frames at_top f refl refl);
     beside = goes_beside c.program objects s q t x beside here plain_thread way awake busy no_made (words_after s.words (Some (Add NEXT_TICKET_WORD 1))) (q.prints ++ print n ∷ []) (printed (begun x) (slice_index s.words NEXT_TICKET_WORD) n) (Running (went_on c.program at 0))
         (print_fits c objects s q beside (slice_index s.words NEXT_TICKET_WORD + 1) inside marked facts.heap (print n) refl) (record { part = refl; roots = refl; held = refl; attempt = outside });
   }
 
   prints_by : (n : ℕ) → effect_at c.program at ≡ Prints n → (b : Bool) → has_print_left x ≡ b
-      → Does c.program objects s t q (if b then Some (Add NEXT_TICKET_WORD 1) else None) (λ got. if b then goes_on (printed (begun x) got n) (Running (went_on c.program at 0)) else record (begun x) { phase = phases.Ending ends.Prints }) (λ got. if_so b acts.Do)
+      → Does c.program objects s t q (if b then Some (Add NEXT_TICKET_WORD 1) else None) (λ got. if b then goes_on (printed (begun x) got n) (Running (went_on c.program at 0)) else record (begun x) { phase = phases.Ending ends.Prints }) (λ got. act_if b acts.Do)
   prints_by n f true e = one_print n f
   prints_by n f false e = no_print n
 
@@ -235,13 +235,13 @@ module _ (differ : SitesDiffer) (inside : SitesLieInside) (fit : HeapWordsFit) (
       does_effect (Raises a) (Throwing a class.0 (frames_of at)) (Some (Load (header_word a))) f refl (load_leaves s.words (header_word a))
       (header_value c marked objects s facts.heap differ q beside _ a may.1)
       (ap (λ (o : Option Thrown). goes_on_if (begun x) (option_map (λ class. Throwing a class (frames_of at)) o)) class.1)
-      (ap (λ (o : Option Thrown). option_map (λ o. plain.with_thread q t (plain.goes_on plain_thread.plain o)) (option_map (λ class. Throwing a class (frames_of at)) o)) class.1) refl
+      (ap (λ (o : Option Thrown). option_map (λ o. plain.with_thread q t (plain.plain_goes_on plain_thread.plain o)) (option_map (λ class. Throwing a class (frames_of at)) o)) class.1) refl
   does (Prints n) f k = subst (λ (made : ℕ → Thread). Does c.program objects s t q (effect_wants x at.frame.pc (Prints n)) made (instruction_acts x (Prints n))) (λ i got. sym (not_checked c.program (begun x) at (Prints n) got outside) i) (prints_by n f (has_print_left x) refl)
   does (Calls number) f k =
       let call = allowed_at (Calls number) f in
       does_effect (Calls number) (called c.program at number call.called) None f no_look refl refl
       (ap (λ (o : Option MethodInfo). goes_on_if (begun x) (option_map (called c.program at number) o)) call.there)
-      (ap (λ (o : Option MethodInfo). option_map (λ o. plain.with_thread q t (plain.goes_on plain_thread.plain o)) (option_map (called c.program at number) o)) call.there) refl
+      (ap (λ (o : Option MethodInfo). option_map (λ o. plain.with_thread q t (plain.plain_goes_on plain_thread.plain o)) (option_map (called c.program at number) o)) call.there) refl
   does Returns f k = does_effect Returns (returns c.program at) None f refl refl refl refl (ap (λ (y : PlainThread). Some (plain.with_thread q t y)) (returning f)) refl
   does (Enters m) f k = does_effect (Enters m) (Entering m (went_on c.program at 0)) None f refl refl refl refl refl refl
   does (Leaves m) f k = does_effect (Leaves m) (Leaving m afters.Next (went_on c.program at 0)) None f refl refl refl refl (ap (λ (y : PlainThread). Some (plain.with_thread q t y)) (exiting m f)) refl

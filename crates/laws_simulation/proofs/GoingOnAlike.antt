@@ -69,10 +69,10 @@ module _ (p : Program) (bit : ℕ → Bool) (awake : IsAwake bit) where
   steps_phase b = cond b phases.Run (phases.Ending ends.Steps)
 
   -- to the next instruction, unless the limit of instructions is made
-  pub runs_alike : (s : Thread) (y : PlainThread) → IsUnderWay p s.part s.roots y → OwnFits p bit (goes_on s (Running s.frames)) (plain.goes_on y (Running s.frames))
+  pub runs_alike : (s : Thread) (y : PlainThread) → IsUnderWay p s.part s.roots y → OwnFits p bit (goes_on s (Running s.frames)) (plain.plain_goes_on y (Running s.frames))
   runs_alike s y k = by_test (nat_lt s.counts.instructions s.cfg.steps)
     where
-      by_test : (b : Bool) → OwnFits p bit (record s { phase = steps_phase b }) (plain.goes_on y (Running s.frames))
+      by_test : (b : Bool) → OwnFits p bit (record s { phase = steps_phase b }) (plain.plain_goes_on y (Running s.frames))
       by_test true = record { outside = record { frames = refl; status = refl; roots = k.roots }; ended = k.ended ∙ sym (none_ends p s.part s.roots phases.Run k.runs refl) }
       by_test false = record {
         outside = record { frames = refl; status = awake_fits bit plain.Run (plain.Run ≡ plain.Run) awake refl; roots = k.roots };
@@ -80,7 +80,7 @@ module _ (p : Program) (bit : ℕ → Bool) (awake : IsAwake bit) where
       }
 
   next_root : (s : Thread) (y : PlainThread) (part : ℕ) (roots : List ℕ) → s.part ≡ part → s.roots ≡ roots → y.roots ≡ roots → y.ended ≡ ends_before part → PartRuns p part roots
-      → OwnFits p bit (record s { frames = []; phase = root_over roots }) (plain.root_over y roots)
+      → OwnFits p bit (record s { frames = []; phase = root_over roots }) (plain.plain_root_over y roots)
   next_root s y part [] e f g h k = record {
     outside = record { frames = refl; status = refl; roots = g ∙ sym f };
     ended = ap (λ (es : List End). es ++ ends.Returned ∷ []) h ∙ sym (ap (λ (n : ℕ). ends_shown p n (phases.Ending ends.Returned)) e ∙ one_ends p part [] (phases.Ending ends.Returned) ends.Returned k refl);
@@ -96,12 +96,12 @@ module _ (p : Program) (bit : ℕ → Bool) (awake : IsAwake bit) where
   next_root s y (suc zero) (number ∷ roots) e f g h k = absurd k
   next_root s y (suc (suc part)) (number ∷ roots) e f g h k = absurd (let none = k.0 in cc)
 
-  pub going_alike : (s : Thread) (y : PlainThread) (o : Onward) → IsUnderWay p s.part s.roots y → OwnFits p bit (goes_on s o) (plain.goes_on y o)
+  pub going_alike : (s : Thread) (y : PlainThread) (o : Onward) → IsUnderWay p s.part s.roots y → OwnFits p bit (goes_on s o) (plain.plain_goes_on y o)
   going_alike s y (Running frames) k = runs_alike (record s { frames = frames }) y k
   going_alike s y (Throwing x class frames) k = record { outside = record { frames = refl; status = refl; roots = k.roots }; ended = k.ended ∙ sym (none_ends p s.part s.roots (phases.Throw x class) k.runs refl) }
   going_alike s y (Entering m frames) k = record { outside = record { frames = refl; status = refl; roots = k.roots }; ended = k.ended ∙ sym (none_ends p s.part s.roots (phases.Enter m 0) k.runs refl) }
   going_alike s y (Leaving m a frames) k = record { outside = record { frames = refl; status = refl; roots = k.roots }; ended = k.ended ∙ sym (none_ends p s.part s.roots (phases.Leave m a) k.runs refl) }
-  going_alike s y RootReturned k = subst (λ (roots : List ℕ). OwnFits p bit (record s { frames = []; phase = root_over s.roots }) (plain.root_over y roots)) (sym k.roots) (next_root s y s.part s.roots refl refl k.roots k.ended k.runs)
+  going_alike s y RootReturned k = subst (λ (roots : List ℕ). OwnFits p bit (record s { frames = []; phase = root_over s.roots }) (plain.plain_root_over y roots)) (sym k.roots) (next_root s y s.part s.roots refl refl k.roots k.ended k.runs)
   going_alike s y (Uncaught class) k = record {
     outside = record { frames = refl; status = refl; roots = k.roots };
     ended = ap (λ (es : List End). es ++ ends.Uncaught class ∷ []) k.ended ∙ sym (one_ends p s.part s.roots (phases.Ending (ends.Uncaught class)) (ends.Uncaught class) k.runs refl);

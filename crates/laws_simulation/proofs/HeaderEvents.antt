@@ -41,7 +41,7 @@ module _ (c : MarkedProgram) (cfg : Config) (objects : List Object) (was : ℕ �
   now = goes_on x (Running (pushed a x.frames))
 
   abbrev shown : PlainThread
-  shown = plain.goes_on y (Running (pushed a x.frames))
+  shown = plain.plain_goes_on y (Running (pushed a x.frames))
 
   abbrev words : List ℕ
   words = slice_set s.words (header_word a) word

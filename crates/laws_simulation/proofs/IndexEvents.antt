@@ -11,7 +11,7 @@ use Rattle.machine_types.specs.Instructions.{begun}
 use Rattle.machine_types.specs.Ints.{low}
 use Rattle.machine_types.specs.Onward.{threw}
 use Rattle.machine_types.specs.Owners.{references_of}
-use Rattle.machine_types.specs.PlainInstructions.{did, indexed_in}
+use Rattle.machine_types.specs.PlainInstructions.{plain_did, indexed_in}
 use Rattle.machine_types.specs.PlainMemory.{Object}
 use Rattle.machine_types.specs.PlainState.{Plain, PlainThread, value_at, written, with_thread}
 use Rattle.machine_types.specs.PlainState as plain
@@ -89,7 +89,7 @@ module _ (c : MarkedProgram) (cfg : Config) (objects : List Object) (was : ℕ �
     now = goes_on (begun x) (threw ArrayIndexOutOfBoundsException at)
 
     abbrev shown : PlainThread
-    shown = plain.goes_on y (threw ArrayIndexOutOfBoundsException at)
+    shown = plain.plain_goes_on y (threw ArrayIndexOutOfBoundsException at)
 
     thrown_goes : GoesOn c.program bit x now shown
     thrown_goes = going c.program bit x (begun x) y (threw ArrayIndexOutOfBoundsException at) refl scene.outside refl (wakes c cfg objects was s t x q scene runs at found (Indexes array index stored) effect)
@@ -109,7 +109,7 @@ module _ (c : MarkedProgram) (cfg : Config) (objects : List Object) (was : ℕ �
     index_by false e = record {
       after = with_thread q t shown;
       run = does c cfg objects was s t x q scene runs at found (Indexes array index stored) effect (with_thread q t shown)
-          (ap (option_and_then (λ (n : ℕ). did c.program q t y at (Indexes array index stored) n)) header
+          (ap (option_and_then (λ (n : ℕ). plain_did c.program q t y at (Indexes array index stored) n)) header
           ∙ ap (λ (b : Bool). if b then option_map (indexed_in c.program q t y at (value_word array (low index)) stored) (value_at q (value_word array (low index))) else Some (with_thread q t shown)) e);
       beside = comes_beside c cfg objects was s t x q scene objects (slice_set s.words (header_word array) got) q now y shown (twin c cfg objects was s t x q scene).here (lives c cfg objects was s t x q scene runs at found (Indexes array index stored) effect) thrown_goes thrown_memory;
     }

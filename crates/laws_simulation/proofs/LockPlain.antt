@@ -4,9 +4,9 @@ use Rattle.std.specs.Prelude.{◌==◌, option_map, option_and_then, slice_get}
 use Rattle.jvm_types.specs.declared.program.Program.{Program}
 use Rattle.machine_types.specs.History.{steps_of}
 use Rattle.machine_types.specs.Onward.{Onward, after}
-use Rattle.machine_types.specs.PlainState.{Plain, PlainThread, Holding, Status, holding_at, held_by, with_thread, with_status, goes_on}
+use Rattle.machine_types.specs.PlainState.{Plain, PlainThread, Holding, Status, holding_at, held_by, with_thread, with_status, plain_goes_on}
 use Rattle.machine_types.specs.PlainState as plain
-use Rattle.machine_types.specs.PlainSteps.{entered, left, exited, step_at, step_of, plain_run}
+use Rattle.machine_types.specs.PlainSteps.{plain_entered, left, exited, step_at, step_of, plain_run}
 use Rattle.machine_types.specs.declared.phase.After.{After}
 use Rattle.machine_types.specs.declared.plain.Act.{Act}
 use Rattle.machine_types.specs.declared.plain.Act.TheVariants as acts
@@ -27,17 +27,17 @@ module _ (p : Program) (q : Plain) (t : ℕ) (z : PlainThread) (here : slice_get
 
   -- nobody holds the monitor
   pub enters_first : (m : ℕ) → z.status ≡ plain.Enter m → holding_at q.holdings m ≡ None → plain_run p q (steps_of t (acts.Enter ∷ [])) ≡ Some (with_thread (held_by q m t 1) t (with_status z plain.Run))
-  enters_first m e none = one_step acts.Enter (plain.Enter m) e ∙ ap (λ (o : Option Holding). entered q t m z o) none
+  enters_first m e none = one_step acts.Enter (plain.Enter m) e ∙ ap (λ (o : Option Holding). plain_entered q t m z o) none
 
   pub enters_again : (m depth : ℕ) → z.status ≡ plain.Enter m → IsHolding (holding_at q.holdings m) t m depth → plain_run p q (steps_of t (acts.Enter ∷ [])) ≡ Some (with_thread (held_by q m t (depth + 1)) t (with_status z plain.Run))
-  enters_again m depth e h = one_step acts.Enter (plain.Enter m) e ∙ ap (λ (o : Option Holding). entered q t m z o) h.is
+  enters_again m depth e h = one_step acts.Enter (plain.Enter m) e ∙ ap (λ (o : Option Holding). plain_entered q t m z o) h.is
       ∙ ap (λ (b : Bool). cond b (Some (with_thread (held_by q m t (h.holding.depth + 1)) t (with_status z plain.Run))) None) (is_own h.holding h.holder)
       ∙ ap (λ (d : ℕ). Some (with_thread (held_by q m t (d + 1)) t (with_status z plain.Run))) h.depth_is
 
   -- by the depth at which it holds the monitor
   pub exits : (m depth : ℕ) (a : After) (o : Onward) → z.status ≡ plain.Leave m a → IsHolding (holding_at q.holdings m) t m depth → after p z.frames a ≡ Some o
-      → plain_run p q (steps_of t (acts.Exit ∷ [])) ≡ Some (with_thread (left q t m depth) t (goes_on z o))
+      → plain_run p q (steps_of t (acts.Exit ∷ [])) ≡ Some (with_thread (left q t m depth) t (plain_goes_on z o))
   exits m depth a o e h onward = one_step acts.Exit (plain.Leave m a) e ∙ ap (λ (g : Option Holding). exited p q t m a z g) h.is
-      ∙ ap (λ (b : Bool). cond b (option_map (λ (w : Onward). with_thread (left q t m h.holding.depth) t (goes_on z w)) (after p z.frames a)) None) (is_own h.holding h.holder)
-      ∙ ap (option_map (λ (w : Onward). with_thread (left q t m h.holding.depth) t (goes_on z w))) onward
-      ∙ ap (λ (d : ℕ). Some (with_thread (left q t m d) t (goes_on z o))) h.depth_is
+      ∙ ap (λ (b : Bool). cond b (option_map (λ (w : Onward). with_thread (left q t m h.holding.depth) t (plain_goes_on z w)) (after p z.frames a)) None) (is_own h.holding h.holder)
+      ∙ ap (option_map (λ (w : Onward). with_thread (left q t m h.holding.depth) t (plain_goes_on z w))) onward
+      ∙ ap (λ (d : ℕ). Some (with_thread (left q t m d) t (plain_goes_on z o))) h.depth_is

@@ -59,7 +59,7 @@ module _ (c : MarkedProgram) (cfg : Config) (objects : List Object) (was : â„• â
     makes_it = record (begun x) { frames = making c.program at; phase = phases.Made q.next word }
 
     abbrev made_shown : PlainThread
-    made_shown = plain.goes_on y (Running (pushed q.next (making c.program at)))
+    made_shown = plain.plain_goes_on y (Running (pushed q.next (making c.program at)))
 
     made_goes : GoesOn c.program bit x makes_it made_shown
     made_goes =
@@ -86,7 +86,7 @@ module _ (c : MarkedProgram) (cfg : Config) (objects : List Object) (was : â„• â
     now = goes_on (begun x) (threw OutOfMemoryError at)
 
     abbrev shown : PlainThread
-    shown = plain.goes_on y (threw OutOfMemoryError at)
+    shown = plain.plain_goes_on y (threw OutOfMemoryError at)
 
     thrown_goes : GoesOn c.program bit x now shown
     thrown_goes = going c.program bit x (begun x) y (threw OutOfMemoryError at) refl scene.outside refl (wakes c cfg objects was s t x q scene runs at found (Makes word size) effect) (runs_on c cfg objects was s t x q scene (busy c cfg objects was s t x q scene runs at found (Makes word size) effect))

@@ -9,7 +9,7 @@ use Rattle.jvm_types.specs.declared.outcome.End.{End}
 use Rattle.jvm_types.specs.declared.outcome.End.TheVariants as ends
 use Rattle.jvm_types.specs.declared.program.MethodInfo.{MethodInfo}
 use Rattle.jvm_types.specs.declared.program.Program.{Program}
-use Rattle.laws_programs.specs.RootLaws.{RunStands}
+use Rattle.laws_programs.specs.RootLaws.{RunIsThere}
 use Rattle.checked_program.specs.MarkedProgram.{MarkedProgram, IsMarked}
 use Rattle.machine_types.specs.Agreement.{OutsideFits, ThreadFits, StatusFits, frames_shown, roots_shown, start_status}
 use Rattle.machine_types.specs.Core.{Core, part_phase, may_begin, may_begin_by, ended_by, how_ended, with_roots, workers_begin, done_begins, part_begins, next_threads, next}
@@ -46,7 +46,7 @@ some_number test n (x ∷ ms) i m e t none = by_test i e (test x) refl none (λ 
     by_test zero e false h none more = let clash : true ≡ false = sym (same e) ∙ h in cc
     by_test (suc j) e false h none more = more j e none
 
-no_run_roots : RunStands → (c : MarkedProgram) → IsMarked c → 0 < c.program.workers → run_roots c.program ≡ [] → ⊥
+no_run_roots : RunIsThere → (c : MarkedProgram) → IsMarked c → 0 < c.program.workers → run_roots c.program ≡ [] → ⊥
 no_run_roots stands c marked some none =
     let k = stands c.program marked.checked.program some in
     let m : MethodInfo = k.1 in
@@ -149,7 +149,7 @@ all_idle [] u z all e = absurd (cc)
 all_idle (w ∷ workers) zero z all e = ap (λ (v : Thread). v.phase) (sym (same_some e)) ∙ all.0
 all_idle (w ∷ workers) (suc u) z all e = all_idle workers u z all.1 e
 
-module _ (stands : RunStands) (c : MarkedProgram) (cfg : Config) (objects : List Object) (was : ℕ → Phase) (s : Core) (q : Plain) (marked : IsMarked c) (facts : StateFacts c cfg objects was s) (beside : StandsBeside c.program objects s q)
+module _ (stands : RunIsThere) (c : MarkedProgram) (cfg : Config) (objects : List Object) (was : ℕ → Phase) (s : Core) (q : Plain) (marked : IsMarked c) (facts : StateFacts c cfg objects was s) (beside : StandsBeside c.program objects s q)
     (x : Thread) (workers : List Thread) (threads : s.threads ≡ x ∷ workers) where
   first : slice_get s.threads 0 ≡ Some x
   first = ap (λ (xs : List Thread). slice_get xs 0) threads
@@ -210,7 +210,7 @@ module _ (stands : RunStands) (c : MarkedProgram) (cfg : Config) (objects : List
       by_test true h = by_part x.part refl h
       by_test false h = same_all beside
 
-pub next_beside : RunStands → NextStandsBeside
+pub next_beside : RunIsThere → NextStandsBeside
 next_beside stands c cfg objects was s q marked facts beside = by_threads s.threads refl
   where
     by_threads : (xs : List Thread) → s.threads ≡ xs → StandsBeside c.program objects (next c s) q

@@ -11,7 +11,7 @@ use Rattle.checked_program.specs.MarkedProgram.{MarkedProgram, IsMarked}
 use Rattle.machine_types.specs.Agreement.{has_wait_bit, ThreadFits}
 use Rattle.machine_types.specs.Core.{Core}
 use Rattle.machine_types.specs.Going.{with_phase, runs}
-use Rattle.machine_types.specs.History.{if_so}
+use Rattle.machine_types.specs.History.{act_if}
 use Rattle.machine_types.specs.Monitors.{bit_of, lowest_of}
 use Rattle.machine_types.specs.Owners.{references_of}
 use Rattle.machine_types.specs.PlainMemory.{Object}
@@ -55,7 +55,7 @@ module _ {c : MarkedProgram} {cfg : Config} {objects : List Object} {was : ℕ �
   -- ---- it looks for one that waits
 
   none_found : (m r : ℕ) (k : Moment c cfg objects was s t x q (phases.NotifyLook m r) y) → (slice_index s.words (bits_word r) == 0) ≡ true → StepsBeside c objects s t x q
-  none_found m r k e = stepped k s.words (runs x) (acts.Notify None ∷ []) behind refl (ap (λ (b : Bool). if_so b (acts.Notify None)) e) (set_self s.words (bits_word r))
+  none_found m r k e = stepped k s.words (runs x) (acts.Notify None ∷ []) behind refl (ap (λ (b : Bool). act_if b (acts.Notify None)) e) (set_self s.words (bits_word r))
       (ap (λ (b : Bool). cond b (runs x) (with_phase x (phases.NotifyOne m r (lowest_of (slice_index s.words (bits_word r)))))) e)
       (first_step c.program q behind t y (acts.Notify None) [] (plain.Notify m) k.twin (own_status k) step)
       (alone_beside k s.words (runs x) q.holdings (running y) (same_words s.words) (λ a word f. cc) (λ a word. run_made (goes_by x) a word) refl (λ g. cc)
@@ -89,7 +89,7 @@ module _ {c : MarkedProgram} {cfg : Config} {objects : List Object} {was : ℕ �
 
       by_test : (b : Bool) → (slice_index s.words (bits_word r) == 0) ≡ b → StepsBeside c objects s t x q
       by_test true e = none_found m r k e
-      by_test false e = stepped k s.words (with_phase x one) [] q refl (ap (λ (b : Bool). if_so b (acts.Notify None)) e) (set_self s.words (bits_word r)) (ap (λ (b : Bool). cond b (runs x) (with_phase x one)) e) refl
+      by_test false e = stepped k s.words (with_phase x one) [] q refl (ap (λ (b : Bool). act_if b (acts.Notify None)) e) (set_self s.words (bits_word r)) (ap (λ (b : Bool). cond b (runs x) (with_phase x one)) e) refl
           (quiet_beside k s.words (with_phase x one) (same_words s.words) (λ a word f. cc) (λ a word f. cc) refl (λ g. cc) refl k.free
           (record { frames = own_frames k; status = own_status k; roots = own_roots k })
           (own_ends k ∙ ends_alike c.program x.part (phases.NotifyLook m r) one refl) (λ u n d. refl))

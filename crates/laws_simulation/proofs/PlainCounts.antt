@@ -5,7 +5,7 @@ use Rattle.std.specs.List.{AllByRecursion}
 use Rattle.std.proofs.lemmas.Bool.Decides.{nat_tests}
 use Rattle.std.proofs.lemmas.Bool.{and_right}
 use Rattle.jvm_types.specs.declared.program.Program.{Program}
-use Rattle.machine_types.specs.Counting.{is_run, is_free, is_take, one_if, step_count, run_at, take_at, count_from, count_along}
+use Rattle.machine_types.specs.Counting.{is_instruction, is_free, is_take, one_if, step_count, run_at, take_at, count_from, count_along}
 use Rattle.machine_types.specs.History.{steps_of}
 use Rattle.machine_types.specs.PlainState.{Plain, PlainThread, Status, holding_at}
 use Rattle.machine_types.specs.PlainState as plain
@@ -68,7 +68,7 @@ others_are_not_counted p t u acts q d = record {
   where
     never_run : (acts : List Act) → NeverCount (run_at u) t acts
     never_run [] = tt
-    never_run (act ∷ acts) = (λ q. other_count is_run t u act (slice_get q.threads t) d, never_run acts)
+    never_run (act ∷ acts) = (λ q. other_count is_instruction t u act (slice_get q.threads t) d, never_run acts)
 
     never_take : (acts : List Act) → NeverCount (take_at u) t acts
     never_take [] = tt
@@ -88,7 +88,7 @@ abbrev pub is_enter : Act → Bool
 is_enter acts.Enter = true
 is_enter act = false
 
-never_runs : (act : Act) (status : Status) → is_do act ≡ false → is_run act status ≡ false
+never_runs : (act : Act) (status : Status) → is_do act ≡ false → is_instruction act status ≡ false
 never_runs acts.Do status e = absurd (cc)
 never_runs act status e = refl
 
@@ -97,7 +97,7 @@ never_takes q acts.Enter status e = absurd (cc)
 never_takes q act status e = refl
 
 pub not_run : (t : ℕ) (q : Plain) (act : Act) → is_do act ≡ false → run_at t q (record { thread = t; act = act }) ≡ 0
-not_run t q act e = no_count is_run t t act (slice_get q.threads t) (λ status. never_runs act status e)
+not_run t q act e = no_count is_instruction t t act (slice_get q.threads t) (λ status. never_runs act status e)
 
 pub not_taken : (t : ℕ) (q : Plain) (act : Act) → is_enter act ≡ false → take_at t q (record { thread = t; act = act }) ≡ 0
 not_taken t q act e = no_count (is_take q.holdings) t t act (slice_get q.threads t) (λ status. never_takes q act status e)
@@ -111,11 +111,11 @@ itself t b = ap (λ (s : Bool). one_if (s && b)) (same t)
     same t = grind (arith, nat_tests)
 
 pub did_run : (t : ℕ) (q : Plain) (x : PlainThread) → slice_get q.threads t ≡ Some x → x.status ≡ plain.Run → run_at t q (record { thread = t; act = acts.Do }) ≡ 1
-did_run t q x e s = ap (step_count is_run t (record { thread = t; act = acts.Do })) e ∙ itself t (is_run acts.Do x.status) ∙ ap (λ (status : Status). one_if (is_run acts.Do status)) s
+did_run t q x e s = ap (step_count is_instruction t (record { thread = t; act = acts.Do })) e ∙ itself t (is_instruction acts.Do x.status) ∙ ap (λ (status : Status). one_if (is_instruction acts.Do status)) s
 
 -- what an exception does to a frame is no instruction
 pub did_throw : (t : ℕ) (q : Plain) (x : PlainThread) (r : ℕ) (class : _) → slice_get q.threads t ≡ Some x → x.status ≡ plain.Throw r class → run_at t q (record { thread = t; act = acts.Do }) ≡ 0
-did_throw t q x r class e s = ap (step_count is_run t (record { thread = t; act = acts.Do })) e ∙ itself t (is_run acts.Do x.status) ∙ ap (λ (status : Status). one_if (is_run acts.Do status)) s
+did_throw t q x r class e s = ap (step_count is_instruction t (record { thread = t; act = acts.Do })) e ∙ itself t (is_instruction acts.Do x.status) ∙ ap (λ (status : Status). one_if (is_instruction acts.Do status)) s
 
 pub did_enter : (t m : ℕ) (q : Plain) (x : PlainThread) → slice_get q.threads t ≡ Some x → x.status ≡ plain.Enter m → take_at t q (record { thread = t; act = acts.Enter }) ≡ one_if (is_free (holding_at q.holdings m))
 did_enter t m q x e s = ap (step_count (is_take q.holdings) t (record { thread = t; act = acts.Enter })) e ∙ itself t (is_take q.holdings acts.Enter x.status) ∙ ap (λ (status : Status). one_if (is_take q.holdings acts.Enter status)) s

@@ -14,16 +14,16 @@ use Rattle.machine_types.specs.Agreement.{StatusFits, frames_shown}
 use Rattle.machine_types.specs.Effects.{effect, unless_null, read_by}
 use Rattle.machine_types.specs.Frames.{Top, top_of, effect_at}
 use Rattle.machine_types.specs.HeldMonitors.{held_at}
-use Rattle.machine_types.specs.History.{acts_of, steps_of, if_so, notified_by, release_acts}
+use Rattle.machine_types.specs.History.{acts_of, steps_of, act_if, notified_by, release_acts}
 use Rattle.machine_types.specs.History as history
 use Rattle.machine_types.specs.Instructions.{has_print_left}
 use Rattle.machine_types.specs.Ints.{low, int_of}
 use Rattle.machine_types.specs.LockWords.{word_of_lock}
 use Rattle.machine_types.specs.Monitors.{claim_by}
 use Rattle.machine_types.specs.Onward.{done}
-use Rattle.machine_types.specs.PlainInstructions.{did, indexed_in, instructed, got_by}
+use Rattle.machine_types.specs.PlainInstructions.{plain_did, indexed_in, plain_instructed, got_by}
 use Rattle.machine_types.specs.PlainLaws.{InstructionsChangeMemory}
-use Rattle.machine_types.specs.PlainState.{Plain, PlainThread, Printed, Status, value_at, with_thread, goes_on}
+use Rattle.machine_types.specs.PlainState.{Plain, PlainThread, Printed, Status, value_at, with_thread, plain_goes_on}
 use Rattle.machine_types.specs.PlainState as plain
 use Rattle.machine_types.specs.PlainSteps.{plain_run, step_of}
 use Rattle.machine_types.specs.Structure.{TopIs, is_element_op}
@@ -78,7 +78,7 @@ kept_made : (q y z r : Plain) (b : Bool) → cond b y z ≡ r → y.prints ≡ q
 kept_made q y z r true e k l = sym (ap (λ (w : Plain). w.prints) e) ∙ k
 kept_made q y z r false e k l = sym (ap (λ (w : Plain). w.prints) e) ∙ l
 
-did_print : (p : Program) (q r : Plain) (t : ℕ) (x : PlainThread) (at : Top) (e : Effect) (got : ℕ) → did p q t x at e got ≡ Some r → r.prints ≡ with_printed t q.prints (value_of e)
+did_print : (p : Program) (q r : Plain) (t : ℕ) (x : PlainThread) (at : Top) (e : Effect) (got : ℕ) → plain_did p q t x at e got ≡ Some r → r.prints ≡ with_printed t q.prints (value_of e)
 did_print p q r t x at (Writes v word) got s = kept_written q r _ t _ (value_at q (variable_word v)) s refl
 did_print p q r t x at (Indexes array index stored) got s = kept_indexed q r (nat_lt (low index) (header_length got)) _ _ s (λ k. kept_element p q r t x at (value_word array (low index)) stored _ k) refl
 did_print p q r t x at (Makes word size) got s = kept_made q _ _ r (nat_le (q.next + size) p.heap) (same_some s) refl refl
@@ -88,13 +88,13 @@ did_print p q r t x at (Leaves m) got s = kept_put q r q t _ (same_some s) refl
 did_print p q r t x at (Waits m) got s = kept_put q r q t _ (same_some s) refl
 did_print p q r t x at (Notifies m) got s = kept_put q r q t _ (same_some s) refl
 did_print p q r t x at (NotifiesAll m) got s = kept_put q r q t _ (same_some s) refl
-did_print p q r t x at e got s = kept_mapped q r q t (goes_on x) (done p at e got) s refl
+did_print p q r t x at e got s = kept_mapped q r q t (plain_goes_on x) (done p at e got) s refl
 
-got_print : (p : Program) (q r : Plain) (t : ℕ) (x : PlainThread) (at : Top) (e : Effect) (o : Option ℕ) → option_and_then (λ got. did p q t x at e got) o ≡ Some r → r.prints ≡ with_printed t q.prints (value_of e)
+got_print : (p : Program) (q r : Plain) (t : ℕ) (x : PlainThread) (at : Top) (e : Effect) (o : Option ℕ) → option_and_then (λ got. plain_did p q t x at e got) o ≡ Some r → r.prints ≡ with_printed t q.prints (value_of e)
 got_print p q r t x at e None s = absurd (cc)
 got_print p q r t x at e (Some got) s = did_print p q r t x at e got s
 
-pub instruction_prints : (p : Program) (q r : Plain) (t : ℕ) (x : PlainThread) (at : Top) → instructed p q t x (Some at) ≡ Some r → r.prints ≡ with_printed t q.prints (value_of (effect_at p at))
+pub instruction_prints : (p : Program) (q r : Plain) (t : ℕ) (x : PlainThread) (at : Top) → plain_instructed p q t x (Some at) ≡ Some r → r.prints ≡ with_printed t q.prints (value_of (effect_at p at))
 instruction_prints p q r t x at s = got_print p q r t x at (effect_at p at) (got_by (value_at q) (read_by (effect_at p at))) s
 
 -- ---- acts that are no instructions
@@ -115,7 +115,7 @@ others_print memory p t (act ∷ more) q r run k =
     let f = first_step p q r (record { thread = t; act = act }) (steps_of t more) run in
     others_print memory p t more f.to r f.rest k.1 ∙ other_prints memory p q f.to t act (slice_get q.threads t) refl f.first k.0
 
-other_if : (b : Bool) (act : Act) → is_do act ≡ false → AreOthers (if_so b act)
+other_if : (b : Bool) (act : Act) → is_do act ≡ false → AreOthers (act_if b act)
 other_if true act d = (d, tt)
 other_if false act d = tt
 
@@ -164,7 +164,7 @@ module _ (memory : InstructionsChangeMemory) (c : MarkedProgram) (bit : ℕ → 
       → after.prints ≡ with_printed t q.prints (value_of (effect_at c.program at))
   instruction at more status top run k =
       let step = first_by c.program q after t x acts.Do plain.Run more there status run in
-      others_print memory c.program t more step.0 after step.2 k ∙ instruction_prints c.program q step.0 t x at (ap (instructed c.program q t x) (sym top) ∙ step.1)
+      others_print memory c.program t more step.0 after step.2 k ∙ instruction_prints c.program q step.0 t x at (ap (plain_instructed c.program q t x) (sym top) ∙ step.1)
 
   by_effect : (at : Top) (e : Effect) → effect_at c.program at ≡ e → x.status ≡ plain.Run → top_of c.program x.frames ≡ Some at → plain_run c.program q (steps_of t (history.instruction_acts (at_phase phases.Run) e got)) ≡ Some after
       → after.prints ≡ with_printed t q.prints (option_map (λ (p : Print). p.value) (effect_print (at_phase phases.Run) e got))
@@ -175,12 +175,12 @@ module _ (memory : InstructionsChangeMemory) (c : MarkedProgram) (bit : ℕ → 
       by_test false r = instruction at [] status top r tt ∙ ap (λ (e : Effect). with_printed t q.prints (value_of e)) is
   by_effect at (Prints n) is status top run = by_test (has_print_left s) run
     where
-      by_test : (b : Bool) → plain_run c.program q (steps_of t (if_so b acts.Do)) ≡ Some after → after.prints ≡ with_printed t q.prints (option_map (λ (p : Print). p.value) (cond b (Some (record { ticket = got; value = int_of n })) None))
+      by_test : (b : Bool) → plain_run c.program q (steps_of t (act_if b acts.Do)) ≡ Some after → after.prints ≡ with_printed t q.prints (option_map (λ (p : Print). p.value) (cond b (Some (record { ticket = got; value = int_of n })) None))
       by_test true r = instruction at [] status top r tt ∙ ap (λ (e : Effect). with_printed t q.prints (value_of e)) is
       by_test false r = others [] r tt
   by_effect at (Notifies m) is status top run = by_held (held_at s.held m) run
     where
-      by_held : (o : Option Held) → plain_run c.program q (steps_of t (history.notified o (acts.Notify None))) ≡ Some after → after.prints ≡ q.prints
+      by_held : (o : Option Held) → plain_run c.program q (steps_of t (history.notify_acts o (acts.Notify None))) ≡ Some after → after.prints ≡ q.prints
       by_held None r = instruction at [] status top r tt ∙ ap (λ (e : Effect). with_printed t q.prints (value_of e)) is
       by_held (Some h) r = by_kept h.kept r
         where
@@ -189,7 +189,7 @@ module _ (memory : InstructionsChangeMemory) (c : MarkedProgram) (bit : ℕ → 
           by_kept (keeps.Fat i) r = instruction at [] status top r tt ∙ ap (λ (e : Effect). with_printed t q.prints (value_of e)) is
   by_effect at (NotifiesAll m) is status top run = by_held (held_at s.held m) run
     where
-      by_held : (o : Option Held) → plain_run c.program q (steps_of t (history.notified o acts.NotifyAll)) ≡ Some after → after.prints ≡ q.prints
+      by_held : (o : Option Held) → plain_run c.program q (steps_of t (history.notify_acts o acts.NotifyAll)) ≡ Some after → after.prints ≡ q.prints
       by_held None r = instruction at [] status top r tt ∙ ap (λ (e : Effect). with_printed t q.prints (value_of e)) is
       by_held (Some h) r = by_kept h.kept r
         where
@@ -207,7 +207,7 @@ module _ (memory : InstructionsChangeMemory) (c : MarkedProgram) (bit : ℕ → 
   element : (o : Option Top) → top_of c.program x.frames ≡ o → ((at : Top) → o ≡ Some at → value_of (effect_at c.program at) ≡ None) → x.status ≡ plain.Run → plain_run c.program q (steps_of t (acts.Do ∷ [])) ≡ Some after → after.prints ≡ q.prints
   element None top shows status run =
       let step = first_by c.program q after t x acts.Do plain.Run [] there status run in
-      let none : instructed c.program q t x None ≡ Some step.0 = ap (instructed c.program q t x) (sym top) ∙ step.1 in
+      let none : plain_instructed c.program q t x None ≡ Some step.0 = ap (plain_instructed c.program q t x) (sym top) ∙ step.1 in
       absurd (cc)
   element (Some at) top shows status run = instruction at [] status top run tt ∙ ap (with_printed t q.prints) (shows at refl)
 

@@ -113,7 +113,7 @@ module _ (c : MarkedProgram) (cfg : Config) (objects : List Object) (was : ℕ �
     pub does : (after : Plain) → instructed_by c.program q t twin.plain at e ≡ Some after → plain_run c.program q (steps_of t (acts.Do ∷ [])) ≡ Some after
     does after k = one_step c.program q after t twin.plain acts.Do twin.here
         (ap (step_at c.program q t twin.plain acts.Do) (status_fits phases.Run runs)
-        ∙ (ap (λ (fs : List Frame). steps.instructed c.program q t twin.plain (top_of c.program fs)) (frames_are phases.Run runs)
-        ∙ (ap (steps.instructed c.program q t twin.plain) found
+        ∙ (ap (λ (fs : List Frame). steps.plain_instructed c.program q t twin.plain (top_of c.program fs)) (frames_are phases.Run runs)
+        ∙ (ap (steps.plain_instructed c.program q t twin.plain) found
         ∙ (ap (instructed_by c.program q t twin.plain at) effect
         ∙ k))))

@@ -104,7 +104,7 @@ none_on z RootReturned = no_root z.roots
 none_on z (Uncaught class) = λ a word e. cc
 
 pub going : (p : Program) (bit : ℕ → Bool) (x z : Thread) (v : PlainThread) (o : Onward) → z.held ≡ x.held → z.attempt ≡ None → z.part ≡ x.part → IsAwake bit → IsUnderWay p z.part z.roots v
-    → GoesOn p bit x (goes_on z o) (plain.goes_on v o)
+    → GoesOn p bit x (goes_on z o) (plain.plain_goes_on v o)
 going p bit x z v o held outside part wakes under = record {
   held = held_on z o ∙ held;
   outside = attempt_on z o ∙ outside;

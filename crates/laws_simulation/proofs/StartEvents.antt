@@ -9,7 +9,7 @@ use Rattle.jvm_types.specs.declared.program.Program.{Program}
 use Rattle.checked_program.specs.MarkedProgram.{MarkedProgram}
 use Rattle.machine_types.specs.Agreement.{has_wait_bit, roots_shown, start_status}
 use Rattle.machine_types.specs.Core.{Core, event, event_of}
-use Rattle.machine_types.specs.Events.{started, wanted, moved}
+use Rattle.machine_types.specs.Events.{thread_started, wanted, moved}
 use Rattle.machine_types.specs.Frames.{entry_frame, has_room}
 use Rattle.machine_types.specs.Going.{goes_on, goes_on_if}
 use Rattle.machine_types.specs.Accesses.{found_by}
@@ -24,7 +24,7 @@ use Rattle.machine_types.specs.Parts.{done_roots}
 use Rattle.machine_types.specs.PlainMemory.{Object}
 use Rattle.machine_types.specs.PlainState.{Plain, PlainThread, with_thread}
 use Rattle.machine_types.specs.PlainState as plain
-use Rattle.machine_types.specs.PlainSteps.{init_has_returned, is_over, is_due, begins, begun, may_do_done}
+use Rattle.machine_types.specs.PlainSteps.{init_has_returned, is_over, is_due, plain_begins, plain_begun, may_do_done}
 use Rattle.machine_types.specs.Threads.{Frame, Thread}
 use Rattle.machine_types.specs.Waiting.{MayWait}
 use Rattle.machine_types.specs.declared.config.Config.{Config}
@@ -102,12 +102,12 @@ module _ (c : MarkedProgram) (cfg : Config) (objects : List Object) (was : ℕ �
     moves : moved c x x.phase 0 ≡ goes_on begins_as onward
     moves =
         ap (λ (z : Phase). moved c x z 0) starts
-        ∙ (ap (started c.program x) roots
+        ∙ (ap (thread_started c.program x) roots
         ∙ (ap (λ (o : Option MethodInfo). goes_on_if begins_as (option_map (rooted c.program x.number number) o)) method
         ∙ ap (λ (n : ℕ). goes_on begins_as (rooted c.program n number m)) number_is))
 
-    root_begins : begun c.program t y (number ∷ rest) ≡ Some (plain.goes_on plain_as onward)
-    root_begins = ap (option_map (λ (m : MethodInfo). plain.goes_on plain_as (rooted c.program t number m))) method
+    root_begins : plain_begun c.program t y (number ∷ rest) ≡ Some (plain.plain_goes_on plain_as onward)
+    root_begins = ap (option_map (λ (m : MethodInfo). plain.plain_goes_on plain_as (rooted c.program t number m))) method
 
     -- ---- of `done` no root is left
 
@@ -132,7 +132,7 @@ module _ (c : MarkedProgram) (cfg : Config) (objects : List Object) (was : ℕ �
       due : is_due q.threads t y.ended ≡ true
       ended : y.ended ≡ ends_before part
       runs : PartRuns c.program part rest
-      begins_is : begins c.program t y y.status ≡ Some (plain.goes_on plain_as onward)
+      begins_is : plain_begins c.program t y y.status ≡ Some (plain.plain_goes_on plain_as onward)
 
     by_number : (n : ℕ) → t ≡ n → is_due q.threads t y.ended ≡ is_due q.threads n y.ended
     by_number n e = ap (λ (k : ℕ). is_due q.threads k y.ended) e
@@ -167,8 +167,8 @@ module _ (c : MarkedProgram) (cfg : Config) (objects : List Object) (was : ℕ �
           ended = none;
           runs = tt;
           begins_is =
-              ap (begins c.program t y) (status ∙ ap start_status e)
-              ∙ (ap (begun c.program t y) (roots_are ∙ (ap (λ (n : ℕ). roots_shown c.program n phases.Start x.roots) e ∙ roots)) ∙ root_begins);
+              ap (plain_begins c.program t y) (status ∙ ap start_status e)
+              ∙ (ap (plain_begun c.program t y) (roots_are ∙ (ap (λ (n : ℕ). roots_shown c.program n phases.Start x.roots) e ∙ roots)) ∙ root_begins);
         }
     due_in (suc zero) e =
         let rests = rests_between s.threads x scene.facts.threads.parts (first_here (no_part 0 e)) e in
@@ -185,9 +185,9 @@ module _ (c : MarkedProgram) (cfg : Config) (objects : List Object) (was : ℕ �
           ended = once;
           runs = (none_left first two, λ none. (let clash : number ∷ rest ≡ [] = sym roots ∙ (all ∙ none) in cc));
           begins_is =
-              ap (begins c.program t y) (status ∙ ap start_status e)
-              ∙ (ap (λ (b : Bool). if b then begun c.program t y (done_roots c.program) else None) (ap (λ (k : ℕ). may_do_done k y.ended) first ∙ ap (may_do_done 0) once)
-              ∙ (ap (begun c.program t y) (sym all ∙ roots) ∙ root_begins));
+              ap (plain_begins c.program t y) (status ∙ ap start_status e)
+              ∙ (ap (λ (b : Bool). if b then plain_begun c.program t y (done_roots c.program) else None) (ap (λ (k : ℕ). may_do_done k y.ended) first ∙ ap (may_do_done 0) once)
+              ∙ (ap (plain_begun c.program t y) (sym all ∙ roots) ∙ root_begins));
         }
 
     due_now : Due x.part
@@ -199,7 +199,7 @@ module _ (c : MarkedProgram) (cfg : Config) (objects : List Object) (was : ℕ �
     now = goes_on begins_as onward
 
     abbrev shown : PlainThread
-    shown = plain.goes_on plain_as onward
+    shown = plain.plain_goes_on plain_as onward
 
     goes : GoesOn c.program (has_wait_bit (references_of q.objects) s.words t) x now shown
     goes = going c.program (has_wait_bit (references_of q.objects) s.words t) x begins_as plain_as onward refl scene.outside refl
@@ -214,7 +214,7 @@ module _ (c : MarkedProgram) (cfg : Config) (objects : List Object) (was : ℕ �
         (record {
           after = with_thread q t shown;
           run = one_step c.program q (with_thread q t shown) t y acts.Begin (twin c cfg objects was s t x q scene).here
-              (ap (λ (b : Bool). if b then option_map (with_thread q t) (begins c.program t y y.status) else None) due_now.due ∙ ap (option_map (with_thread q t)) due_now.begins_is);
+              (ap (λ (b : Bool). if b then option_map (with_thread q t) (plain_begins c.program t y y.status) else None) due_now.due ∙ ap (option_map (with_thread q t)) due_now.begins_is);
           beside = comes_beside c cfg objects was s t x q scene objects s.words q now y shown (twin c cfg objects was s t x q scene).here lives goes
               (stays c cfg objects was s t x q scene s.words now refl (λ a word h. let both : phases.Start ≡ phases.Made a word = sym starts ∙ h in cc) (none_on begins_as onward));
         })

@@ -13,14 +13,14 @@ use Rattle.machine_types.specs.declared.config.Config.{Config}
 use Rattle.machine_types.specs.declared.phase.Phase.TheVariants as phases
 use Rattle.machine_types.proofs.AtStart.{thread_in, is_start_thread}
 use Rattle.laws_simulation.specs.StandsBeside.{own_end, ends_shown}
-use Rattle.laws_simulation.specs.StepsBeside.{StartStandsBeside}
+use Rattle.laws_simulation.specs.StepsBeside.{StartStandsBesidePlain}
 use Rattle.machine_types.proofs.PlainAtStart.{plain_thread}
 
 first_ends : (roots : List ℕ) → (first_thread roots).ended ≡ own_end (part_phase roots)
 first_ends [] = refl
 first_ends (number ∷ roots) = refl
 
-ends : (c : MarkedProgram) (cfg : Config) (t : ℕ) → (plain.start_thread c.program t).ended ≡ ends_shown c.program (start_thread c cfg t).part (start_thread c cfg t).phase
+ends : (c : MarkedProgram) (cfg : Config) (t : ℕ) → (plain.plain_start_thread c.program t).ended ≡ ends_shown c.program (start_thread c cfg t).part (start_thread c cfg t).phase
 ends c cfg zero = first_ends (init_roots c.program)
 ends c cfg (suc t) = refl
 
@@ -32,7 +32,7 @@ none_made : (c : MarkedProgram) (cfg : Config) (t a word : ℕ) → (start_threa
 none_made c cfg zero a word e = no_object (init_roots c.program) a word e
 none_made c cfg (suc t) a word e = cc
 
-pub start_beside : StartAgrees → StartLiesApart → StartStandsBeside
+pub start_beside : StartAgrees → StartLiesApart → StartStandsBesidePlain
 start_beside agrees lies c cfg marked = record {
   agrees = agrees c cfg marked.checked.program;
   known = λ o k. (o, k, refl, refl, refl);
@@ -40,5 +40,5 @@ start_beside agrees lies c cfg marked = record {
   new_objects = λ t x a word e m. absurd (none_made c cfg t a word (subst (λ (z : Thread). z.phase ≡ phases.Made a word) (sym (is_start_thread c cfg t x e)) m));
   apart = lies c.program marked.checked.program;
   done = λ x e two none. absurd (let k : 2 ≤ (start_thread c cfg 0).part = subst (λ (z : Thread). 2 ≤ z.part) (sym (is_start_thread c cfg 0 x e)) two in omega (arith, k));
-  ends = λ t x y e f. subst (λ (z : PlainThread). z.ended ≡ ends_shown c.program x.part x.phase) (plain_thread c.program t y f) (subst (λ (z : Thread). (plain.start_thread c.program t).ended ≡ ends_shown c.program z.part z.phase) (is_start_thread c cfg t x e) (ends c cfg t));
+  ends = λ t x y e f. subst (λ (z : PlainThread). z.ended ≡ ends_shown c.program x.part x.phase) (plain_thread c.program t y f) (subst (λ (z : Thread). (plain.plain_start_thread c.program t).ended ≡ ends_shown c.program z.part z.phase) (is_start_thread c cfg t x e) (ends c cfg t));
 }

@@ -68,7 +68,7 @@ module _ (c : MarkedProgram) (cfg : Config) (objects : List Object) (was : ℕ �
   now = goes_on x onward
 
   abbrev shown : PlainThread
-  shown = plain.goes_on y onward
+  shown = plain.plain_goes_on y onward
 
   lives : x.phase ≡ phases.Ended ends.Returned → ⊥
   lives h = let both : phases.Throw e class ≡ phases.Ended ends.Returned = sym throws ∙ h in cc
@@ -95,8 +95,8 @@ module _ (c : MarkedProgram) (cfg : Config) (objects : List Object) (was : ℕ �
         after = with_thread q t shown;
         run = one_step c.program q (with_thread q t shown) t y acts.Do (twin c cfg objects was s t x q scene).here
             (ap (step_at c.program q t y acts.Do) same_status
-            ∙ (ap (λ (fs : List Frame). option_map (λ o. with_thread q t (plain.goes_on y o)) (dispatched c.program e class fs)) same_frames
-            ∙ ap (option_map (λ o. with_thread q t (plain.goes_on y o))) dispatches));
+            ∙ (ap (λ (fs : List Frame). option_map (λ o. with_thread q t (plain.plain_goes_on y o)) (dispatched c.program e class fs)) same_frames
+            ∙ ap (option_map (λ o. with_thread q t (plain.plain_goes_on y o))) dispatches));
         beside = comes_beside c cfg objects was s t x q scene objects s.words q now y shown (twin c cfg objects was s t x q scene).here lives goes
             (stays c cfg objects was s t x q scene s.words now refl (λ a word h. let both : phases.Throw e class ≡ phases.Made a word = sym throws ∙ h in cc) (none_on x onward));
       })

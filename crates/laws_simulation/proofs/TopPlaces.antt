@@ -22,7 +22,7 @@ use Rattle.machine_types.specs.Typed.{FramesHold, HasClass}
 use Rattle.machine_types.specs.Words.{header_word, variable_word}
 use Rattle.machine_types.specs.declared.effect.Variable.{Variable}
 use Rattle.machine_types.specs.declared.effect.Variable.TheVariants.{Instance, Static}
-use Rattle.laws_threads.specs.Allowed.{IsOf, IsFieldAt, Allowed}
+use Rattle.laws_threads.specs.Allowed.{IsOf, IsNamedField, Allowed}
 use Rattle.laws_threads.proofs.Landing.{stand_top}
 use Rattle.laws_threads.proofs.TopStand.{top_here}
 use Rattle.laws_threads.proofs.TopEffects.{allowed_here}
@@ -60,7 +60,7 @@ module _ (c : MarkedProgram) (marked : IsMarked c) (objects : List Object) (s : 
   is_program : IsProgram c.program
   is_program = marked.checked.program
 
-  pub variable_place : (target : Target) (v : Variable) (f : FieldInfo) → IsFieldAt c.program (HasClass objects) target v f → VariablePlace c.program objects s v
+  pub variable_place : (target : Target) (v : Variable) (f : FieldInfo) → IsNamedField c.program (HasClass objects) target v f → VariablePlace c.program objects s v
   variable_place target v f at = subst (λ w. VariablePlace c.program objects s w) (sym at.variable) (by_flag (is_static f.flags) refl)
     where
       by_flag : (b : Bool) → is_static f.flags ≡ b → VariablePlace c.program objects s (if b then Static f.index else Instance at.reference f.index)
@@ -79,7 +79,7 @@ module _ (c : MarkedProgram) (marked : IsMarked c) (objects : List Object) (s : 
   -- ---- what the plain machine has there
 
   module _ (differ : SitesDiffer) (q : Plain) (beside : StandsBeside c.program objects s q) where
-    pub variable_value : (target : Target) (v : Variable) (f : FieldInfo) → IsFieldAt c.program (HasClass objects) target v f → value_at q (variable_word v) ≡ Some (slice_index s.words (variable_word v))
+    pub variable_value : (target : Target) (v : Variable) (f : FieldInfo) → IsNamedField c.program (HasClass objects) target v f → value_at q (variable_word v) ≡ Some (slice_index s.words (variable_word v))
     variable_value target v f at =
         let k = variable_place target v f at in
         subst (λ (w : ℕ). value_at q w ≡ Some (slice_index s.words w)) (sym k.word) (value_found differ c objects s q marked facts beside k.site k.place k.there)

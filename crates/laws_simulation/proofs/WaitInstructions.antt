@@ -14,11 +14,11 @@ use Rattle.machine_types.specs.Events.{wanted}
 use Rattle.machine_types.specs.Frames.{Top, top_of, effect_at, went_on}
 use Rattle.machine_types.specs.Going.{with_phase, runs, goes_on}
 use Rattle.machine_types.specs.HeldMonitors.{held_at}
-use Rattle.machine_types.specs.History.{run_acts, instruction_acts, notified_by, notified, steps_of}
+use Rattle.machine_types.specs.History.{run_acts, instruction_acts, notified_by, notify_acts, steps_of}
 use Rattle.machine_types.specs.Instructions.{begun, effect_wants, run_wants, ran, instructed, if_held, waits, notifies}
 use Rattle.machine_types.specs.Onward.{threw}
 use Rattle.machine_types.specs.Owners.{lock_at, references_of, owner_at, hold_by_word, hold_by_list, hold_by_kept, HeldFlat}
-use Rattle.machine_types.specs.PlainInstructions.{leaving, instructed_by}
+use Rattle.machine_types.specs.PlainInstructions.{plain_leaving, instructed_by}
 use Rattle.machine_types.specs.PlainInstructions as plainly
 use Rattle.machine_types.specs.PlainMemory.{Object}
 use Rattle.machine_types.specs.PlainState.{Status, Plain, PlainThread, with_thread}
@@ -69,7 +69,7 @@ module _ {c : MarkedProgram} {cfg : Config} {objects : List Object} {was : ℕ �
   plain_top = ap (top_of c.program) (own_frames k) ∙ found
 
   does : (e : Effect) → effect_at c.program at ≡ e → (behind : Plain) → instructed_by c.program q t y at e ≡ Some behind → step_at c.program q t y acts.Do plain.Run ≡ Some behind
-  does e is behind run = ap (plainly.instructed c.program q t y) plain_top ∙ ap (instructed_by c.program q t y at) is ∙ run
+  does e is behind run = ap (plainly.plain_instructed c.program q t y) plain_top ∙ ap (instructed_by c.program q t y at) is ∙ run
 
   one_act : (e : Effect) → effect_at c.program at ≡ e → (y2 : PlainThread) → instructed_by c.program q t y at e ≡ Some (with_thread q t y2) → plain_run c.program q (steps_of t (acts.Do ∷ [])) ≡ Some (with_thread q t y2)
   one_act e is y2 run = first_step c.program q (with_thread q t y2) t y acts.Do [] plain.Run k.twin (own_status k) (does e is (with_thread q t y2) run)
@@ -84,15 +84,15 @@ module _ {c : MarkedProgram} {cfg : Config} {objects : List Object} {was : ℕ �
   Thrower = goes_on (begun x) (threw IllegalMonitorStateException at)
 
   abbrev PlainThrower : PlainThread
-  PlainThrower = plain.goes_on y (threw IllegalMonitorStateException at)
+  PlainThrower = plain.plain_goes_on y (threw IllegalMonitorStateException at)
 
   thrown : StandsBeside c.program objects (record { words = s.words; threads = slice_set s.threads t Thrower }) (with_thread q t PlainThrower)
   thrown = beside_with Thrower PlainThrower (λ a word f. cc) refl refl k.free (record { frames = refl; status = refl; roots = own_roots k }) (own_ends k ∙ ends_alike c.program x.part phases.Run Thrower.phase refl)
 
-  not_holding : (m : ℕ) (more : PlainThread) → held_at x.held m ≡ None → plainly.if_held q t m y at more ≡ PlainThrower
+  not_holding : (m : ℕ) (more : PlainThread) → held_at x.held m ≡ None → plainly.if_plain_held q t m y at more ≡ PlainThrower
   not_holding m more e = ap (λ (b : Bool). cond b more PlainThrower) (no_holder_then q.holdings s.threads (holdings_alike k) t m x k.got e)
 
-  holding : (m : ℕ) (h : Held) (more : PlainThread) → held_at x.held m ≡ Some h → plainly.if_held q t m y at more ≡ more
+  holding : (m : ℕ) (h : Held) (more : PlainThread) → held_at x.held m ≡ Some h → plainly.if_plain_held q t m y at more ≡ more
   holding m h more e = ap (λ (b : Bool). cond b more PlainThrower) (is_holder_then q.holdings s.threads (holdings_alike k) t m x h k.got e)
 
   -- ---- one that holds it goes on, with the instruction done
@@ -101,7 +101,7 @@ module _ {c : MarkedProgram} {cfg : Config} {objects : List Object} {was : ℕ �
   Done = record (begun x) { frames = went_on c.program at 0 }
 
   abbrev Leaves : Status → PlainThread
-  Leaves status = leaving c.program y at status
+  Leaves status = plain_leaving c.program y at status
 
   -- in a phase that has the same status
   done_with : (phase : Phase) (turns : ℕ) (status : Status) → ((a word : ℕ) → phase ≢ phases.Made a word) → own_end phase ≡ [] → went_on c.program at 0 ≡ frames_shown phase (went_on c.program at 0)
@@ -176,8 +176,8 @@ module _ {c : MarkedProgram} {cfg : Config} {objects : List Object} {was : ℕ �
       moves : (h : Held) (kept : Kept) → held_at x.held m ≡ Some h → h.kept ≡ kept → if_held (begun x) at (held_at x.held m) (notifies Done (phases.NotifyLook m)) ≡ notifies Done (phases.NotifyLook m) kept
       moves h kept e f = ap (λ (o : Option Held). if_held (begun x) at o (notifies Done (phases.NotifyLook m))) e ∙ ap (notifies Done (phases.NotifyLook m)) f
 
-      told : (h : Held) (kept : Kept) → held_at x.held m ≡ Some h → h.kept ≡ kept → notified (held_at x.held m) (acts.Notify None) ≡ notified_by kept (acts.Notify None)
-      told h kept e f = ap (λ (o : Option Held). notified o (acts.Notify None)) e ∙ ap (λ (g : Kept). notified_by g (acts.Notify None)) f
+      told : (h : Held) (kept : Kept) → held_at x.held m ≡ Some h → h.kept ≡ kept → notify_acts (held_at x.held m) (acts.Notify None) ≡ notified_by kept (acts.Notify None)
+      told h kept e f = ap (λ (o : Option Held). notify_acts o (acts.Notify None)) e ∙ ap (λ (g : Kept). notified_by g (acts.Notify None)) f
 
       by_kept : (h : Held) (kept : Kept) → held_at x.held m ≡ Some h → h.kept ≡ kept → StepsBeside c objects s t x q
       by_kept h (keeps.Flat count) e f = by_effect (Notifies m) is refl (acts.Do ∷ acts.Notify None ∷ []) (runs Done) (with_thread q t (Leaves plain.Run)) (told h (keeps.Flat count) e f) (moves h (keeps.Flat count) e f)
@@ -190,7 +190,7 @@ module _ {c : MarkedProgram} {cfg : Config} {objects : List Object} {was : ℕ �
 
       by_held : (o : Option Held) → held_at x.held m ≡ o → StepsBeside c objects s t x q
       by_held None e = by_effect (Notifies m) is refl (acts.Do ∷ []) Thrower (with_thread q t PlainThrower)
-          (ap (λ (o : Option Held). notified o (acts.Notify None)) e)
+          (ap (λ (o : Option Held). notify_acts o (acts.Notify None)) e)
           (ap (λ (o : Option Held). if_held (begun x) at o (notifies Done (phases.NotifyLook m))) e)
           (one_act (Notifies m) is PlainThrower (ap (λ (w : PlainThread). Some (with_thread q t w)) (not_holding m (Leaves (plain.Notify m)) e))) thrown
       by_held (Some h) e = by_kept h h.kept e refl
@@ -204,8 +204,8 @@ module _ {c : MarkedProgram} {cfg : Config} {objects : List Object} {was : ℕ �
       moves : (h : Held) (kept : Kept) → held_at x.held m ≡ Some h → h.kept ≡ kept → if_held (begun x) at (held_at x.held m) (notifies Done (phases.NotifyAll m)) ≡ notifies Done (phases.NotifyAll m) kept
       moves h kept e f = ap (λ (o : Option Held). if_held (begun x) at o (notifies Done (phases.NotifyAll m))) e ∙ ap (notifies Done (phases.NotifyAll m)) f
 
-      told : (h : Held) (kept : Kept) → held_at x.held m ≡ Some h → h.kept ≡ kept → notified (held_at x.held m) acts.NotifyAll ≡ notified_by kept acts.NotifyAll
-      told h kept e f = ap (λ (o : Option Held). notified o acts.NotifyAll) e ∙ ap (λ (g : Kept). notified_by g acts.NotifyAll) f
+      told : (h : Held) (kept : Kept) → held_at x.held m ≡ Some h → h.kept ≡ kept → notify_acts (held_at x.held m) acts.NotifyAll ≡ notified_by kept acts.NotifyAll
+      told h kept e f = ap (λ (o : Option Held). notify_acts o acts.NotifyAll) e ∙ ap (λ (g : Kept). notified_by g acts.NotifyAll) f
 
       by_kept : (h : Held) (kept : Kept) → held_at x.held m ≡ Some h → h.kept ≡ kept → StepsBeside c objects s t x q
       by_kept h (keeps.Flat count) e f = by_effect (NotifiesAll m) is refl (acts.Do ∷ acts.NotifyAll ∷ []) (runs Done) (with_thread q t (Leaves plain.Run)) (told h (keeps.Flat count) e f) (moves h (keeps.Flat count) e f)
@@ -218,7 +218,7 @@ module _ {c : MarkedProgram} {cfg : Config} {objects : List Object} {was : ℕ �
 
       by_held : (o : Option Held) → held_at x.held m ≡ o → StepsBeside c objects s t x q
       by_held None e = by_effect (NotifiesAll m) is refl (acts.Do ∷ []) Thrower (with_thread q t PlainThrower)
-          (ap (λ (o : Option Held). notified o acts.NotifyAll) e)
+          (ap (λ (o : Option Held). notify_acts o acts.NotifyAll) e)
           (ap (λ (o : Option Held). if_held (begun x) at o (notifies Done (phases.NotifyAll m))) e)
           (one_act (NotifiesAll m) is PlainThrower (ap (λ (w : PlainThread). Some (with_thread q t w)) (not_holding m (Leaves (plain.NotifyAll m)) e))) thrown
       by_held (Some h) e = by_kept h h.kept e refl

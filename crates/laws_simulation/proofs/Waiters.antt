@@ -11,7 +11,7 @@ use Rattle.machine_types.specs.Agreement.{has_wait_bit, waiting_status, depth_fo
 use Rattle.machine_types.specs.Core.{Core}
 use Rattle.machine_types.specs.Going.{with_phase, failed_turn}
 use Rattle.machine_types.specs.HeldMonitors.{held_at, with_held, without_held}
-use Rattle.machine_types.specs.History.{if_so}
+use Rattle.machine_types.specs.History.{act_if}
 use Rattle.machine_types.specs.Monitors.{bit_of, goes_to_wait, retakes}
 use Rattle.machine_types.specs.Owners.{lock_at, owner_at, references_of, hold_by_list, hold_by_word, NotHeld, HeldFat}
 use Rattle.machine_types.specs.PlainMemory.{Object}
@@ -184,7 +184,7 @@ module _ {c : MarkedProgram} {cfg : Config} {objects : List Object} {was : ℕ �
       off n = own_off k s.words (same_words s.words) (λ i e. e) (phases.Retake m r depth) (own_as k) (λ i e. e) n
 
   retook : (m r depth : ℕ) (k : Moment c cfg objects was s t x q (phases.Retake m r depth) y) → (slice_index s.words (owner_word r) == 0) ≡ true → StepsBeside c objects s t x q
-  retook m r depth k e = stepped k later (retakes x m r depth) (acts.Retake ∷ []) behind refl (ap (λ (b : Bool). if_so b acts.Retake) e)
+  retook m r depth k e = stepped k later (retakes x m r depth) (acts.Retake ∷ []) behind refl (ap (λ (b : Bool). act_if b acts.Retake) e)
       (ap (λ (b : Bool). slice_set s.words (owner_word r) (if b then x.number + 1 else slice_index s.words (owner_word r))) e)
       (ap (λ (b : Bool). cond b (retakes x m r depth) (failed_turn x (phases.Retake m r depth))) e)
       (first_step c.program q behind t y acts.Retake [] (plain.Woken m depth) k.twin (own_status k) step)
@@ -250,7 +250,7 @@ module _ {c : MarkedProgram} {cfg : Config} {objects : List Object} {was : ℕ �
     where
       by_test : (b : Bool) → (slice_index s.words (owner_word r) == 0) ≡ b → StepsBeside c objects s t x q
       by_test true e = retook m r depth k e
-      by_test false e = stepped k s.words (failed_turn x (phases.Retake m r depth)) [] q refl (ap (λ (b : Bool). if_so b acts.Retake) e)
+      by_test false e = stepped k s.words (failed_turn x (phases.Retake m r depth)) [] q refl (ap (λ (b : Bool). act_if b acts.Retake) e)
           (ap (λ (b : Bool). slice_set s.words (owner_word r) (if b then x.number + 1 else slice_index s.words (owner_word r))) e ∙ set_self s.words (owner_word r))
           (ap (λ (b : Bool). cond b (retakes x m r depth) (failed_turn x (phases.Retake m r depth))) e) refl
           (not_retaken m r depth k (nat_lt (x.turns + 1) x.cfg.turns))

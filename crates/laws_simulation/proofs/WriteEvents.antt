@@ -86,7 +86,7 @@ module _ (c : MarkedProgram) (cfg : Config) (objects : List Object) (was : ℕ �
     now = goes_on (begun x) (Running (went_on c.program at 0))
 
     abbrev shown : PlainThread
-    shown = plain.goes_on y (Running (went_on c.program at 0))
+    shown = plain.plain_goes_on y (Running (went_on c.program at 0))
 
     memory : Memory c.program objects s (slice_set s.words (variable_word v) word) q (written q (variable_word v) word) t now
     memory = subst (λ (n : ℕ). Memory c.program objects s (slice_set s.words n word) q (written q n word) t now) (sym reach.word)

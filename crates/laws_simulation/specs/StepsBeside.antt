@@ -57,7 +57,7 @@ IsOfWaiting (NotifiesAll m) = Unit {0}
 IsOfWaiting e = ⊥
 
 -- it begins an instruction of a kind
-pub record Begins (Kind : Effect → Type 0) (c : MarkedProgram) (x : Thread) : Type 0 where
+pub record IsAtEffect (Kind : Effect → Type 0) (c : MarkedProgram) (x : Thread) : Type 0 where
   pub runs : x.phase ≡ phases.Run
   pub at : Top
   pub found : top_of c.program x.frames ≡ Some at
@@ -102,13 +102,13 @@ WaitsPhase phase = ⊥
 -- ---- the laws
 
 abbrev pub FrameSteps : Type 0
-FrameSteps = StepsWhere (Begins IsOfFrames)
+FrameSteps = StepsWhere (IsAtEffect IsOfFrames)
 
 abbrev pub MemorySteps : Type 0
-MemorySteps = StepsWhere (Begins IsOfMemory)
+MemorySteps = StepsWhere (IsAtEffect IsOfMemory)
 
 abbrev pub WaitingSteps : Type 0
-WaitingSteps = StepsWhere (Begins IsOfWaiting)
+WaitingSteps = StepsWhere (IsAtEffect IsOfWaiting)
 
 abbrev pub OnwardSteps : Type 0
 OnwardSteps = StepsWhere (λ c x. GoesOnPhase x.phase)
@@ -123,5 +123,5 @@ WaitPhaseSteps = StepsWhere (λ c x. WaitsPhase x.phase)
 abbrev pub NextStandsBeside : Type 0
 NextStandsBeside = (c : MarkedProgram) (cfg : Config) (objects : List Object) (was : ℕ → Phase) (s : Core) (q : Plain) → IsMarked c → StateFacts c cfg objects was s → StandsBeside c.program objects s q → StandsBeside c.program objects (next c s) q
 
-abbrev pub StartStandsBeside : Type 0
-StartStandsBeside = (c : MarkedProgram) (cfg : Config) → IsMarked c → StandsBeside c.program (start_objects c.program) (start c cfg) (plain_start c.program)
+abbrev pub StartStandsBesidePlain : Type 0
+StartStandsBesidePlain = (c : MarkedProgram) (cfg : Config) → IsMarked c → StandsBeside c.program (start_objects c.program) (start c cfg) (plain_start c.program)

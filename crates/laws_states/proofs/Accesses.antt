@@ -40,7 +40,7 @@ use Rattle.machine_types.specs.declared.effect.Effect.{Effect}
 use Rattle.machine_types.specs.declared.effect.Effect.TheVariants.{Goes, Throws, Reads, Writes, Indexes, Measures, Raises, Makes, Prints, Calls, Returns, Enters, Leaves, Waits, Notifies, NotifiesAll, Stuck}
 use Rattle.machine_types.specs.declared.effect.Variable.{Variable}
 use Rattle.machine_types.specs.declared.effect.Variable.TheVariants.{Instance, Static}
-use Rattle.laws_threads.specs.Allowed.{IsOf, IsFieldAt, StoredHolds, Allowed}
+use Rattle.laws_threads.specs.Allowed.{IsOf, IsNamedField, StoredHolds, Allowed}
 use Rattle.laws_threads.proofs.Landing.{stand_top}
 use Rattle.laws_threads.proofs.TopStand.{top_here}
 use Rattle.laws_threads.proofs.TopEffects.{allowed_here}
@@ -160,7 +160,7 @@ module _ (c : MarkedProgram) (marked : IsMarked c) (objects : List Object) (s : 
     stored : (n : ℕ) → KindHolds (HasClass objects) f.kind n → SiteHolds c.program objects (slice_index s.words NEXT_FREE_WORD) site n
     holds : KindHolds (HasClass objects) f.kind (slice_index s.words (site_word site))
 
-  variable_site : (target : Target) (v : Variable) (f : FieldInfo) → IsFieldAt c.program (HasClass objects) target v f → VariableSite v f
+  variable_site : (target : Target) (v : Variable) (f : FieldInfo) → IsNamedField c.program (HasClass objects) target v f → VariableSite v f
   variable_site target v f at = subst (λ w. VariableSite w f) (sym at.variable) (by_flag (is_static f.flags) refl)
     where
       by_flag : (b : Bool) → is_static f.flags ≡ b → VariableSite (if b then Static f.index else Instance at.reference f.index) f
@@ -194,18 +194,18 @@ module _ (c : MarkedProgram) (marked : IsMarked c) (objects : List Object) (s : 
             holds = subst (λ a. KindHolds (HasClass objects) f.kind (slice_index s.words (value_word a f.index))) holder.2.2 (facts.typed.places.fields object at.number f there at.there e of_class);
           }
 
-  pub read_holds : (target : Target) (v : Variable) (f : FieldInfo) → IsFieldAt c.program (HasClass objects) target v f → KindHolds (HasClass objects) f.kind (slice_index s.words (variable_word v))
+  pub read_holds : (target : Target) (v : Variable) (f : FieldInfo) → IsNamedField c.program (HasClass objects) target v f → KindHolds (HasClass objects) f.kind (slice_index s.words (variable_word v))
   read_holds target v f at = let k = variable_site target v f at in subst (λ w. KindHolds (HasClass objects) f.kind (slice_index s.words w)) (sym k.word) k.holds
 
-  pub content_is : (target : Target) (v : Variable) (f : FieldInfo) → IsFieldAt c.program (HasClass objects) target v f → variable_content c.program target ≡ kind_content f.kind
+  pub content_is : (target : Target) (v : Variable) (f : FieldInfo) → IsNamedField c.program (HasClass objects) target v f → variable_content c.program target ≡ kind_content f.kind
   content_is target v f at = ap (variable_content c.program) at.named ∙ ap field_content at.there
 
-  reads_fit : (target : Target) (v : Variable) (f : FieldInfo) → IsFieldAt c.program (HasClass objects) target v f → FitsAt c.program objects s (variable_content c.program target) (Load (variable_word v))
+  reads_fit : (target : Target) (v : Variable) (f : FieldInfo) → IsNamedField c.program (HasClass objects) target v f → FitsAt c.program objects s (variable_content c.program target) (Load (variable_word v))
   reads_fit target v f at =
       let k = variable_site target v f at in
       subst (λ content. FitsAt c.program objects s content (Load (variable_word v))) (sym (content_is target v f at)) (loads k.site (kind_content f.kind) (variable_word v) k.there k.old k.suits k.word)
 
-  writes_fit : (target : Target) (v : Variable) (f : FieldInfo) (n : ℕ) → IsFieldAt c.program (HasClass objects) target v f → KindHolds (HasClass objects) f.kind n
+  writes_fit : (target : Target) (v : Variable) (f : FieldInfo) (n : ℕ) → IsNamedField c.program (HasClass objects) target v f → KindHolds (HasClass objects) f.kind n
       → FitsAt c.program objects s (variable_content c.program target) (Store (variable_word v) n)
   writes_fit target v f n at h =
       let k = variable_site target v f at in

@@ -27,7 +27,7 @@ use Rattle.machine_types.specs.declared.config.Config.{Config}
 use Rattle.machine_types.specs.declared.phase.Phase.{Phase}
 use Rattle.machine_types.specs.declared.phase.Phase.TheVariants as phases
 use Rattle.laws_threads.specs.StructureLaws.{counted_by}
-use Rattle.laws_threads.specs.StateLaws.{counted_of, counted_at}
+use Rattle.laws_threads.specs.StateLaws.{counted_of, counted_phase_at}
 use Rattle.laws_threads.specs.GivenThread.{Given, GivenIsKept}
 use Rattle.laws_threads.proofs.ThreadMove.{of_mover}
 use Rattle.laws_states.specs.HeapFacts.{HeapFacts, objects_by, objects_of}
@@ -213,16 +213,16 @@ module _ (differ : SitesDiffer) (inside : SitesLieInside) (reach : EventsReachSi
     by_phase (phases.Ending reason) e k = over reason (with_phase x (phases.Ended reason)) refl refl refl refl refl
     by_phase (phases.Ended reason) e k = over reason x e refl refl refl refl
 
-    thread_kept : Owners (references_of (objects_of c.program (Some x) objects)) (counted_at was t (event_of c s t (Some x)).threads) (event_of c s t (Some x))
+    thread_kept : Owners (references_of (objects_of c.program (Some x) objects)) (counted_phase_at was t (event_of c s t (Some x)).threads) (event_of c s t (Some x))
     thread_kept = by_owes (by_phase x.phase refl structured.is_as)
       where
-        by_owes : Done x.phase → Owners (references_of (objects_of c.program (Some x) objects)) (counted_at was t (event_of c s t (Some x)).threads) (event_of c s t (Some x))
+        by_owes : Done x.phase → Owners (references_of (objects_of c.program (Some x) objects)) (counted_phase_at was t (event_of c s t (Some x)).threads) (event_of c s t (Some x))
         by_owes h = owned_on c (references_of objects) (references_of (objects_by c.program x.phase objects)) was s owners structure t (words_after s.words (wanted c x x.phase)) x
             (moved c x x.phase (found_by s.words (wanted c x x.phase))) there settings (same_cfg x.phase (found_by s.words (wanted c x x.phase))) h.0 h.1
 
   -- ---- no thread
 
-  unmoved : slice_get s.threads t ≡ None → Owners (references_of objects) (counted_at was t s.threads) s
+  unmoved : slice_get s.threads t ≡ None → Owners (references_of objects) (counted_phase_at was t s.threads) s
   unmoved e = record {
     count = owners.count;
     locks_are = owners.locks_are;
@@ -232,14 +232,14 @@ module _ (differ : SitesDiffer) (inside : SitesLieInside) (reach : EventsReachSi
     few = owners.few;
   }
     where
-      each : (u : ℕ) (y : Thread) → slice_get s.threads u ≡ Some y → Owns (locks_in (references_of objects) s.words) owners.count u (counted_at was t s.threads u) y
+      each : (u : ℕ) (y : Thread) → slice_get s.threads u ≡ Some y → Owns (locks_in (references_of objects) s.words) owners.count u (counted_phase_at was t s.threads u) y
       each u y f = by_number (u == t) refl
         where
           by_number : (b : Bool) → (u == t) ≡ b → Owns (locks_in (references_of objects) s.words) owners.count u (cond b (counted_of (was t) (slice_get s.threads t)) (was u)) y
           by_number true g = let bad : Some y ≡ None = sym f ∙ ap (slice_get s.threads) ((Decides-eqb u t).0 g) ∙ e in absurd (cc)
           by_number false g = owners.each u y f
 
-  event_kept : (o : Option Thread) → slice_get s.threads t ≡ o → Owners (references_of (objects_of c.program o objects)) (counted_at was t (event_of c s t o).threads) (event_of c s t o)
+  event_kept : (o : Option Thread) → slice_get s.threads t ≡ o → Owners (references_of (objects_of c.program o objects)) (counted_phase_at was t (event_of c s t o).threads) (event_of c s t o)
   event_kept None e = unmoved e
   event_kept (Some x) e = thread_kept x e
 

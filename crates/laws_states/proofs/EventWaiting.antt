@@ -26,7 +26,7 @@ use Rattle.machine_types.specs.declared.lock.Held.{Held}
 use Rattle.machine_types.specs.declared.phase.Phase.{Phase}
 use Rattle.machine_types.specs.declared.phase.Phase.TheVariants as phases
 use Rattle.laws_threads.specs.StructureLaws.{counted_by}
-use Rattle.laws_threads.specs.StateLaws.{counted_of, counted_at}
+use Rattle.laws_threads.specs.StateLaws.{counted_of, counted_phase_at}
 use Rattle.laws_states.specs.HeapFacts.{HeapFacts}
 use Rattle.laws_states.specs.SiteLaws.{EventsReachSites, SitesDiffer, SitesLieInside}
 use Rattle.laws_states.specs.Sites.{BitsOf}
@@ -234,25 +234,25 @@ module _ (differ : SitesDiffer) (inside : SitesLieInside) (reach : EventsReachSi
     by_phase (phases.Ended reason) e k = still (phases.Ended reason) _ e tt (subst (λ (p : Phase). Waits s.words t (counted_by (was t) p)) (sym e) (counted_waits s.words t (was t) (phases.Ended reason) k waits))
     by_phase phase e k = calmly phase e k tt tt tt (λ r h. h)
 
-    thread_kept : Waiting (counted_at was t (event_of c s t (Some x)).threads) (event_of c s t (Some x))
+    thread_kept : Waiting (counted_phase_at was t (event_of c s t (Some x)).threads) (event_of c s t (Some x))
     thread_kept = by_owes (by_phase x.phase refl structured.is_as)
       where
-        by_owes : Done x.phase → Waiting (counted_at was t (event_of c s t (Some x)).threads) (event_of c s t (Some x))
+        by_owes : Done x.phase → Waiting (counted_phase_at was t (event_of c s t (Some x)).threads) (event_of c s t (Some x))
         by_owes h = waited_on c (references_of objects) was s owners structure waiting t x (moved c x x.phase (found_by s.words (wanted c x x.phase))) there (words_after s.words (wanted c x x.phase)) h.0 h.1
 
   -- ---- no thread
 
-  unmoved : slice_get s.threads t ≡ None → Waiting (counted_at was t s.threads) s
+  unmoved : slice_get s.threads t ≡ None → Waiting (counted_phase_at was t s.threads) s
   unmoved e = record { each = each; others = waiting.others }
     where
-      each : (u : ℕ) (y : Thread) → slice_get s.threads u ≡ Some y → Waits s.words u (counted_at was t s.threads u)
+      each : (u : ℕ) (y : Thread) → slice_get s.threads u ≡ Some y → Waits s.words u (counted_phase_at was t s.threads u)
       each u y f = by_number (u == t) refl
         where
           by_number : (b : Bool) → (u == t) ≡ b → Waits s.words u (cond b (counted_of (was t) (slice_get s.threads t)) (was u))
           by_number true g = let bad : Some y ≡ None = sym f ∙ ap (slice_get s.threads) ((Decides-eqb u t).0 g) ∙ e in absurd (cc)
           by_number false g = waiting.each u y f
 
-  event_kept : (o : Option Thread) → slice_get s.threads t ≡ o → Waiting (counted_at was t (event_of c s t o).threads) (event_of c s t o)
+  event_kept : (o : Option Thread) → slice_get s.threads t ≡ o → Waiting (counted_phase_at was t (event_of c s t o).threads) (event_of c s t o)
   event_kept None e = unmoved e
   event_kept (Some x) e = thread_kept x e
 

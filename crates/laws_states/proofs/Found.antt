@@ -37,7 +37,7 @@ use Rattle.machine_types.specs.declared.lock.Kept.{Kept}
 use Rattle.machine_types.specs.declared.lock.Kept.TheVariants as keeps
 use Rattle.machine_types.specs.declared.phase.Phase.{Phase}
 use Rattle.machine_types.specs.declared.phase.Phase.TheVariants as phases
-use Rattle.laws_threads.specs.Allowed.{IsOf, IsFieldAt, Allowed}
+use Rattle.laws_threads.specs.Allowed.{IsOf, IsNamedField, Allowed}
 use Rattle.laws_threads.proofs.Landing.{stand_top}
 use Rattle.laws_threads.proofs.TopStand.{top_here}
 use Rattle.laws_threads.proofs.TopEffects.{allowed_here}
@@ -65,7 +65,7 @@ module _ (c : MarkedProgram) (marked : IsMarked c) (objects : List Object) (s : 
   kind_fits (kinds.Ref class) v (inl e) = omega (arith, e, is_program.heap_from)
   kind_fits (kinds.Ref class) v (inr k) = inside k.0 v k.1
 
-  variable_fits : (target : Target) (v : Variable) (f : FieldInfo) → IsFieldAt c.program (HasClass objects) target v f → WordFits c.program (variable_content c.program target) (slice_index s.words (variable_word v))
+  variable_fits : (target : Target) (v : Variable) (f : FieldInfo) → IsNamedField c.program (HasClass objects) target v f → WordFits c.program (variable_content c.program target) (slice_index s.words (variable_word v))
   variable_fits target v f at =
       subst (λ content. WordFits c.program content (slice_index s.words (variable_word v))) (sym (content_is c marked objects s facts target v f at))
       (kind_fits f.kind (slice_index s.words (variable_word v)) (read_holds c marked objects s facts target v f at))

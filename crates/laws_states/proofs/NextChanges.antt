@@ -12,7 +12,7 @@ use Rattle.jvm_types.specs.declared.program.Program.{Program}
 use Rattle.jvm_types.specs.declared.program.Row.{Row}
 use Rattle.checked_program.specs.MarkedProgram.{MarkedProgram}
 use Rattle.machine_types.specs.Elision.{fails, elided}
-use Rattle.machine_types.specs.Events.{started, element_made, moved}
+use Rattle.machine_types.specs.Events.{thread_started, element_made, moved}
 use Rattle.machine_types.specs.Frames.{Top, at_pc, top_at, top_in, top_of, frames_of, went_on, has_room, entry_frame, monitor_of, returned, handler_at, caught, pushed}
 use Rattle.machine_types.specs.Going.{runs, failed_turn, root_over, goes_on, goes_on_if, goes_after, with_phase}
 use Rattle.machine_types.specs.HeldMonitors.{with_held, without_held, deeper, shallower}
@@ -98,7 +98,7 @@ after_behind p s (afters.Unwind x class) k = unwound_behind s x class (drop 1 s.
 -- ---- the next root
 
 module _ (c : MarkedProgram) (x : Thread) where
-  starts : (roots : List ℕ) → x.phase ≡ phases.Start → HasRoot c.program roots → started c.program x roots ≢ x
+  starts : (roots : List ℕ) → x.phase ≡ phases.Start → HasRoot c.program roots → thread_started c.program x roots ≢ x
   starts [] e has = absurd has
   starts (number ∷ roots) e has = by_method (slice_get c.program.methods number) has
     where

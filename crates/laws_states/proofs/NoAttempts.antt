@@ -4,7 +4,7 @@ use Rattle.std.specs.Prelude.{option_map, slice_get}
 use Rattle.checked_program.specs.MarkedProgram.{MarkedProgram}
 use Rattle.machine_types.specs.Accesses.{found_by}
 use Rattle.machine_types.specs.Core.{Core, event_of}
-use Rattle.machine_types.specs.Events.{wanted, started, moved}
+use Rattle.machine_types.specs.Events.{wanted, thread_started, moved}
 use Rattle.machine_types.specs.Onward.{rooted}
 use Rattle.machine_types.specs.Threads.{Thread}
 use Rattle.machine_types.specs.declared.config.Config.{Config}
@@ -18,7 +18,7 @@ use Rattle.laws_states.proofs.PartsEvents.{at_each, fits_of}
 use Rattle.laws_states.proofs.RootMoves.{RootFits, IsNoStart, moved_stays}
 
 module _ (c : MarkedProgram) (x : Thread) (got : ℕ) (none : x.attempt ≡ None) (never : x.cfg.elide ≡ false) (fits : RootFits x.phase x.roots) where
-  starts_none : (roots : List ℕ) → (started c.program x roots).attempt ≡ None
+  starts_none : (roots : List ℕ) → (thread_started c.program x roots).attempt ≡ None
   starts_none [] = none
   starts_none (number ∷ rest) = goes_attempt (record x { roots = rest }) (option_map (rooted c.program x.number number) (slice_get c.program.methods number)) ∙ none
 

@@ -14,7 +14,7 @@ use Rattle.machine_types.specs.declared.config.Config.{Config}
 use Rattle.machine_types.specs.declared.phase.Phase.{Phase}
 use Rattle.machine_types.specs.declared.phase.Phase.TheVariants as phases
 use Rattle.laws_threads.specs.StructureLaws.{counted_by}
-use Rattle.laws_threads.specs.StateLaws.{counted_of, counted_at}
+use Rattle.laws_threads.specs.StateLaws.{counted_of, counted_phase_at}
 use Rattle.laws_states.proofs.Sums.{sum_set}
 use Rattle.laws_states.proofs.CountedPhases.{was_draws, phase_draws, counted_draws}
 use Rattle.laws_threads.proofs.StateSteps.{set_there}
@@ -67,7 +67,7 @@ module _ (c : MarkedProgram) (references later : List ℕ) (was : ℕ → Phase)
       let sz = structure u z e in
       owners.apart t u x z there e (λ q. eqb-false u t g (sym q)) r (was_draws x.phase (was t) r st.is_as a) (was_draws z.phase (was u) r sz.is_as b)
 
-  each_owns : (u : ℕ) (z : Thread) → slice_get (slice_set s.threads t y) u ≡ Some z → Owns (locks_in later after) more u (counted_at was t (slice_set s.threads t y) u) z
+  each_owns : (u : ℕ) (z : Thread) → slice_get (slice_set s.threads t y) u ≡ Some z → Owns (locks_in later after) more u (counted_phase_at was t (slice_set s.threads t y) u) z
   each_owns u z e = by_number (u == t) refl
     where
       by_number : (b : Bool) → (u == t) ≡ b → Owns (locks_in later after) more u (cond b (counted_of (was t) (slice_get (slice_set s.threads t y) t)) (was u)) z
@@ -93,7 +93,7 @@ module _ (c : MarkedProgram) (references later : List ℕ) (was : ℕ → Phase)
           let below = drawn_below (locks_in references s.words) u r (was u) owns.knows drawn in
           absurd (omega (arith, below, d))
 
-  pub owned_on : Owners later (counted_at was t (slice_set s.threads t y)) (record { words = after; threads = slice_set s.threads t y })
+  pub owned_on : Owners later (counted_phase_at was t (slice_set s.threads t y)) (record { words = after; threads = slice_set s.threads t y })
   owned_on = record {
     count = more;
     locks_are = owes.words;

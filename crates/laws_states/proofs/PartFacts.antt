@@ -20,7 +20,7 @@ use Rattle.laws_states.specs.HeapLaws.{StartHasHeap, NextKeepsHeap}
 use Rattle.laws_states.specs.Counters.{drawn_for_flat, instructions_of, flat_of, taken_of}
 use Rattle.laws_states.specs.KeptWords.{StartLocksFit, StartRecordsFit, StartCountersFit, NextKeepsCounters}
 use Rattle.laws_states.specs.RunFacts.{AreThreads}
-use Rattle.laws_states.specs.RunLaws.{StartHasFacts, NextKeepsFacts}
+use Rattle.laws_states.specs.RunLaws.{StartHasRunFacts, NextKeepsFacts}
 use Rattle.laws_states.proofs.StartWords.{locks_at_start, records_at_start, small_at_start, free_at_start, ticket_at_start, record_at_start}
 
 -- ---- the start
@@ -46,7 +46,7 @@ start_locks_fit c cfg = locks_at_start c.program cfg.range
 pub start_records_fit : StartRecordsFit
 start_records_fit c cfg = records_at_start c.program
 
-pub start_has_facts : StartHasHeap → StartLocksFit → StartRecordsFit → StartCountersFit → StartHasFacts
+pub start_has_facts : StartHasHeap → StartLocksFit → StartRecordsFit → StartCountersFit → StartHasRunFacts
 start_has_facts heap locks records counters c cfg marked = record {
   objects = start_objects c.program;
   heap = heap c cfg marked;

@@ -9,7 +9,7 @@ use Rattle.checked_program.specs.MarkedProgram.{MarkedProgram, IsMarked}
 use Rattle.machine_types.specs.Accesses.{found_by}
 use Rattle.machine_types.specs.Bounds.{FramesFit, IsRooted}
 use Rattle.machine_types.specs.Core.{Core, event_of}
-use Rattle.machine_types.specs.Events.{wanted, started, moved}
+use Rattle.machine_types.specs.Events.{wanted, thread_started, moved}
 use Rattle.machine_types.specs.Going.{goes_on_if}
 use Rattle.machine_types.specs.Onward.{rooted}
 use Rattle.machine_types.specs.Parts.{done_roots}
@@ -98,8 +98,8 @@ module _ (one : OneMethod) (c : MarkedProgram) (marked : IsMarked c) (x : Thread
         let k = moved_stays c x got ⊥ (λ q. absurd q) (λ q. absurd q) phase n e old in
         (k.fits, λ h. let none = k.keeps.same ∙ done_before phase n e h in done_at c.program (moved c x phase got).phase (moved c x phase got).roots (not_started (moved c x phase got).phase (moved c x phase got).roots k.fits none) none)
 
-    starts : x.phase ≡ phases.Start → (roots : List ℕ) → x.roots ≡ roots → IsRooted c.program (started c.program x roots)
-        → RootFits (started c.program x roots).phase (started c.program x roots).roots × (DoneRoots c.program x.phase x.roots → DoneRoots c.program (started c.program x roots).phase (started c.program x roots).roots)
+    starts : x.phase ≡ phases.Start → (roots : List ℕ) → x.roots ≡ roots → IsRooted c.program (thread_started c.program x roots)
+        → RootFits (thread_started c.program x roots).phase (thread_started c.program x roots).roots × (DoneRoots c.program x.phase x.roots → DoneRoots c.program (thread_started c.program x roots).phase (thread_started c.program x roots).roots)
     starts e [] f now = absurd (subst (FramesFit phases.Start x.frames) f (subst (λ (p : Phase). FramesFit p x.frames x.roots) e fits.frames))
     starts e (number ∷ rest) f now =
         let k = begun number rest e (slice_get c.program.methods number) now.frames in (
@@ -107,7 +107,7 @@ module _ (one : OneMethod) (c : MarkedProgram) (marked : IsMarked c) (x : Thread
           λ h.
               let all : done_roots c.program ≡ number ∷ rest = sym (subst (λ (p : Phase). DoneRoots c.program p x.roots) e h) ∙ f in
               let last = k.last (one_done one c.program number rest marked.checked.program all) in
-              done_at c.program (started c.program x (number ∷ rest)).phase (started c.program x (number ∷ rest)).roots last.0 last.1,
+              done_at c.program (thread_started c.program x (number ∷ rest)).phase (thread_started c.program x (number ∷ rest)).roots last.0 last.1,
         )
 
     comes : (phase : Phase) → x.phase ≡ phase → IsRooted c.program (moved c x phase got) → Comes phase

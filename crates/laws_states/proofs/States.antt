@@ -12,7 +12,7 @@ use Rattle.laws_states.specs.HeapFacts.{objects_after}
 use Rattle.laws_states.specs.HeapLaws.{StartHasHeap, EventsKeepHeap, NextKeepsHeap}
 use Rattle.laws_states.specs.KeptWords.{StartLocksFit, EventsKeepLocks, StartRecordsFit, EventsKeepRecords, StartCountersFit, EventsKeepCounters, NextKeepsCounters}
 use Rattle.laws_states.specs.RunFacts.{HaveWidth, RunFacts}
-use Rattle.laws_states.specs.RunLaws.{StartHasFacts, EventsKeepFacts, EventsKeepThreads, PartsKeepThreads}
+use Rattle.laws_states.specs.RunLaws.{StartHasRunFacts, EventsKeepFacts, EventsKeepThreads, PartsKeepThreads}
 use Rattle.laws_states.specs.OwnersLaws.{EventsKeepOwners, NextKeepsOwners}
 use Rattle.laws_states.specs.WaitingLaws.{EventsKeepWaiting, NextKeepsWaiting}
 use Rattle.laws_states.specs.PartsLaws.{StartStandsInParts, EventsKeepParts, NextKeepsParts, HaveNoAttempts, StartHasNoAttempts, EventsMakeNoAttempts, NextMakesNoAttempts, NoAttempts}
@@ -23,7 +23,7 @@ states_have_facts c cfg objects was s f = record { objects = objects; heap = f.h
 
 -- ---- the start
 
-pub start_has_state : StartHasFacts → StartStandsInParts → StartHasHeap → StartLocksFit → StartRecordsFit → StartCountersFit → StartIsStructured → StartOwns → StartWaits → StartHasState
+pub start_has_state : StartHasRunFacts → StartStandsInParts → StartHasHeap → StartLocksFit → StartRecordsFit → StartCountersFit → StartIsStructured → StartOwns → StartWaits → StartHasState
 start_has_state facts parts heap locks records counters structure owners waiting c cfg marked keep = record {
   threads = keep.begin;
   parts = parts c cfg;

@@ -25,7 +25,7 @@ use Rattle.machine_types.specs.ReadyObjects.{out_object}
 use Rattle.machine_types.specs.Structure.{TopIs, is_element_op}
 use Rattle.machine_types.specs.Threads.{Frame}
 use Rattle.machine_types.specs.Typed.{Classes, KindHolds, FramesHold, IsElementOn, ElementStands}
-use Rattle.laws_threads.specs.Allowed.{IsFieldAt, TakenHold, MadeAs, Allowed}
+use Rattle.laws_threads.specs.Allowed.{IsNamedField, TakenHold, MadeAs, Allowed}
 use Rattle.laws_threads.proofs.Landing.{stand_top}
 use Rattle.laws_threads.proofs.Onwards.{same_op}
 use Rattle.laws_threads.proofs.TopStand.{top_here}
@@ -48,7 +48,7 @@ kind_is_place (kinds.Ref class) = tt
 kind_is_place kinds.Int = tt
 kind_is_place kinds.Bool = tt
 
-field_is_place : (p : Program) (is : Classes) (target : Target) (v : _) (f : FieldInfo) → IsFieldAt p is target v f → IsPlace (variable_content p target)
+field_is_place : (p : Program) (is : Classes) (target : Target) (v : _) (f : FieldInfo) → IsNamedField p is target v f → IsPlace (variable_content p target)
 field_is_place p is target v f at = subst (λ (t : Target). IsPlace (variable_content p t)) (sym at.named) (subst (λ (o : Option FieldInfo). IsPlace (field_content o)) (sym at.there) (kind_is_place f.kind))
 
 module _ (c : MarkedProgram) (marked : IsMarked c) where

@@ -15,7 +15,7 @@ use Rattle.machine_types.specs.declared.lock.Held.{Held}
 use Rattle.machine_types.specs.declared.phase.Phase.{Phase}
 use Rattle.machine_types.specs.declared.phase.Phase.TheVariants as phases
 use Rattle.laws_threads.specs.StructureLaws.{counted_by}
-use Rattle.laws_threads.specs.StateLaws.{counted_of, counted_at}
+use Rattle.laws_threads.specs.StateLaws.{counted_of, counted_phase_at}
 use Rattle.laws_states.proofs.Lists.{same_or_not}
 use Rattle.laws_states.proofs.LockViews.{fatly}
 use Rattle.laws_states.proofs.OwnersStep.{set_other}
@@ -94,7 +94,7 @@ module _ (c : MarkedProgram) (references : List ℕ) (was : ℕ → Phase) (s : 
       stays : (r k : ℕ) → OwnsRecord (locks_in references s.words) u r → is_bit_set s.words r k ≡ true → is_bit_set after r k ≡ true
       stays r k o set = changes.stays r k o.low (λ q. d (omega (arith, q, o.owner))) set
 
-  each_waits : (u : ℕ) (z : Thread) → slice_get (slice_set s.threads t y) u ≡ Some z → Waits after u (counted_at was t (slice_set s.threads t y) u)
+  each_waits : (u : ℕ) (z : Thread) → slice_get (slice_set s.threads t y) u ≡ Some z → Waits after u (counted_phase_at was t (slice_set s.threads t y) u)
   each_waits u z e = by_number (u == t) refl
     where
       by_number : (b : Bool) → (u == t) ≡ b → Waits after u (cond b (counted_of (was t) (slice_get (slice_set s.threads t y) t)) (was u))
@@ -113,5 +113,5 @@ module _ (c : MarkedProgram) (references : List ℕ) (was : ℕ → Phase) (s : 
       by_number (inl same) = some_stays s.threads t u y (subst (λ (n : ℕ). IsSome (slice_get s.threads n)) (sym same) (subst (λ (o : Option Thread). IsSome o) (sym there) refl))
       by_number (inr d) = some_stays s.threads t u y (waiting.others r u low (changes.less r u low d set))
 
-  pub waited_on : Waiting (counted_at was t (slice_set s.threads t y)) (record { words = after; threads = slice_set s.threads t y })
+  pub waited_on : Waiting (counted_phase_at was t (slice_set s.threads t y)) (record { words = after; threads = slice_set s.threads t y })
   waited_on = record { each = each_waits; others = others_there }

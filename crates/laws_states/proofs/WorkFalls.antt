@@ -12,7 +12,7 @@ use Rattle.jvm_types.specs.declared.program.Row.{Row}
 use Rattle.checked_program.specs.MarkedProgram.{MarkedProgram}
 use Rattle.machine_types.specs.Bounds.{StepsFit, TurnsFit}
 use Rattle.machine_types.specs.Elision.{fails, elided}
-use Rattle.machine_types.specs.Events.{started, element_made, moved}
+use Rattle.machine_types.specs.Events.{thread_started, element_made, moved}
 use Rattle.machine_types.specs.Frames.{Top, top_of, frames_of, went_on, has_room, entry_frame, monitor_of, returned, handler_at, caught, pushed}
 use Rattle.machine_types.specs.Going.{with_phase, runs, failed_turn, root_over, goes_on, goes_on_if, goes_after}
 use Rattle.machine_types.specs.HeldMonitors.{held_at, with_held, without_held, deeper, shallower}
@@ -34,7 +34,7 @@ use Rattle.laws_threads.proofs.HeldLists.{held_monitor, held_there}
 use Rattle.laws_threads.proofs.ThreadMove.{Lacks, GoesBy, Checks, LeadsTo, TurnsTo, Move, begun_attempt, becomes, by_move, looks_in, takes_in}
 use Rattle.laws_threads.proofs.ThreadMove as moves
 use Rattle.laws_states.specs.RunSafety.{HasAfter, HasRoot, HasInstruction, HasEvent}
-use Rattle.laws_states.specs.WorkLeft.{leaving, leaving_held, chain, trying, inside, chains_left, work_in, work_left, EventsLessenWork}
+use Rattle.laws_states.specs.WorkLeft.{leaving_work, leaving_held, chain, trying, inside, chains_left, work_in, work_left, EventsLessenWork}
 use Rattle.laws_states.proofs.InstructionsFollow.{Follows, returned_fewer, runs_follow}
 use Rattle.laws_states.proofs.NextEvents.{has_event}
 use Rattle.machine_types.proofs.PlainPartLaws.{frames_are}
@@ -83,7 +83,7 @@ place_small held (phases.Leave m a) = by_held (held_at held m)
     by_held None = omega arith
     by_held (Some h) = by_kept h.kept
       where
-        by_kept : (k : Kept) → leaving k < 12
+        by_kept : (k : Kept) → leaving_work k < 12
         by_kept (keeps.Flat count) = omega arith
         by_kept (keeps.Fat r) = omega arith
 place_small held phase = omega arith
@@ -106,7 +106,7 @@ leaving_far : (o : Option Held) → 2 < leaving_held o
 leaving_far None = omega arith
 leaving_far (Some h) = by_kept h.kept
   where
-    by_kept : (k : Kept) → 2 < leaving k
+    by_kept : (k : Kept) → 2 < leaving_work k
     by_kept (keeps.Flat count) = omega arith
     by_kept (keeps.Fat r) = omega arith
 
@@ -114,7 +114,7 @@ leaving_near : (o : Option Held) → leaving_held o < 11
 leaving_near None = omega arith
 leaving_near (Some h) = by_kept h.kept
   where
-    by_kept : (k : Kept) → leaving k < 11
+    by_kept : (k : Kept) → leaving_work k < 11
     by_kept (keeps.Flat count) = omega arith
     by_kept (keeps.Fat r) = omega arith
 
@@ -201,7 +201,7 @@ module _ (x : Thread) (phase : Phase) where
 
 -- ---- the next root
 
-starts : (p : Program) (x : Thread) (roots : List ℕ) → x.roots ≡ roots → HasRoot p roots → Lessens x phases.Start (started p x roots)
+starts : (p : Program) (x : Thread) (roots : List ℕ) → x.roots ≡ roots → HasRoot p roots → Lessens x phases.Start (thread_started p x roots)
 starts p x [] e has = absurd has
 starts p x (number ∷ roots) e has = by_method (slice_get p.methods number) has
   where
@@ -313,7 +313,7 @@ module _ (c : MarkedProgram) (x : Thread) (got : ℕ) where
   leads_less phase _ (moves.to_take m count k e) i = to_phase x phase (phases.Take m count) (looks_in (λ (w : Phase). place (phases.Take m count) < place w) m phase k (λ tried. omega arith) (omega arith))
   leads_less phase _ (moves.to_take_fat m r k e) i = to_phase x phase (phases.TakeFat m r) (looks_in (λ (w : Phase). place (phases.TakeFat m r) < place w) m phase k (λ tried. omega arith) (omega arith))
   leads_less _ _ (moves.to_grow m count a h e t kept) i =
-      let far : leaving_held (held_at x.held m) ≡ leaving (keeps.Flat count) = ap leaving_held e ∙ ap leaving kept in
+      let far : leaving_held (held_at x.held m) ≡ leaving_work (keeps.Flat count) = ap leaving_held e ∙ ap leaving_work kept in
       to_phase x (phases.Leave m a) (phases.Grow m (towards.Leave a)) (omega (arith, far))
   leads_less _ _ (moves.to_element at array index stored e f t) i = absurd i
   leads_less _ _ (moves.to_no_print at e t) i = absurd i

@@ -114,10 +114,10 @@ abbrev pub held_lists : List Thread → List (List Held)
 held_lists threads = map (λ (x : Thread). x.held) threads
 
 -- as they were: all words, and of each thread its attempt and what it holds
-pub record IsLeft (s after : Core) : Type 0 where
+pub record IsLeftAsWas (s after : Core) : Type 0 where
   pub words : after.words ≡ s.words
   pub attempts_left : attempts after.threads ≡ attempts s.threads
   pub held_left : held_lists after.threads ≡ held_lists s.threads
 
 abbrev pub PartsLeaveWords : Type 0
-PartsLeaveWords = (c : MarkedProgram) (s : Core) → IsLeft s (next c s)
+PartsLeaveWords = (c : MarkedProgram) (s : Core) → IsLeftAsWas s (next c s)

@@ -7,8 +7,8 @@ use Rattle.machine_types.specs.Threads.{Thread}
 use Rattle.machine_types.specs.declared.config.Config.{Config}
 use Rattle.laws_states.specs.RunFacts.{HaveWidth, AreThreads, RunFacts, AccessFits}
 
-abbrev pub StartHasFacts : Type 0
-StartHasFacts = (c : MarkedProgram) (cfg : Config) → IsMarked c → RunFacts c cfg (start c cfg)
+abbrev pub StartHasRunFacts : Type 0
+StartHasRunFacts = (c : MarkedProgram) (cfg : Config) → IsMarked c → RunFacts c cfg (start c cfg)
 
 abbrev pub EventsKeepFacts : Type 0
 EventsKeepFacts = (c : MarkedProgram) (cfg : Config) (s : Core) (t : ℕ) → IsMarked c → HaveWidth cfg → AreThreads c cfg s → RunFacts c cfg s → RunFacts c cfg (event c s t)
@@ -30,9 +30,9 @@ pub record PartsKeepThreads (c : MarkedProgram) (cfg : Config) : Type 0 where
   pub begin : AreThreads c cfg (start c cfg)
   pub go_on : (s : Core) → AreThreads c cfg s → AreThreads c cfg (next c s)
 
-pub record IsReached (c : MarkedProgram) (cfg : Config) (s : Core) : Type 0 where
+pub record HasRunFacts (c : MarkedProgram) (cfg : Config) (s : Core) : Type 0 where
   pub threads : AreThreads c cfg s
   pub facts : RunFacts c cfg s
 
 abbrev pub RunsReach : Type 0
-RunsReach = (c : MarkedProgram) (cfg : Config) (hs : List Happening) → IsMarked c → HaveWidth cfg → PartsKeepThreads c cfg → IsReached c cfg (core c cfg hs)
+RunsReach = (c : MarkedProgram) (cfg : Config) (hs : List Happening) → IsMarked c → HaveWidth cfg → PartsKeepThreads c cfg → HasRunFacts c cfg (core c cfg hs)

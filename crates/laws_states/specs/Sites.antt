@@ -42,8 +42,8 @@ site_word (StaticAt word) = word
 abbrev pub HasObject : List Object → (reference : ℕ) → Type 0
 HasObject objects reference = (o : Object) × Contains objects o × (o.reference ≡ reference)
 
-abbrev pub HasValue : List Object → (reference index : ℕ) → Type 0
-HasValue objects reference index = (o : Object) × Contains objects o × (o.reference ≡ reference) × (index < length o.values)
+abbrev pub HasValueAt : List Object → (reference index : ℕ) → Type 0
+HasValueAt objects reference index = (o : Object) × Contains objects o × (o.reference ≡ reference) × (index < length o.values)
 
 -- a thread has made it, and is about to store its header
 abbrev pub HasNew : Core → (reference : ℕ) → Type 0
@@ -59,7 +59,7 @@ IsThere p objects s (OwnerOf r) = r < MONITOR_RECORDS
 IsThere p objects s (BitsOf r) = r < MONITOR_RECORDS
 IsThere p objects s (LockOf reference) = HasObject objects reference
 IsThere p objects s (HeaderOf reference) = HasObject objects reference
-IsThere p objects s (ValueOf reference index) = HasValue objects reference index
+IsThere p objects s (ValueOf reference index) = HasValueAt objects reference index
 IsThere p objects s (NewHeaderOf reference) = HasNew s reference
 IsThere p objects s (StaticAt word) = HasStatic p word
 

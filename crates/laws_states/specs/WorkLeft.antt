@@ -19,13 +19,13 @@ use Rattle.laws_states.specs.RunFacts.{AreThreads}
 -- ---- the place in a chain
 
 -- a flat lock may have to be made fat first
-abbrev pub leaving : Kept → ℕ
-leaving (keeps.Flat count) = 10
-leaving (keeps.Fat r) = 3
+abbrev pub leaving_work : Kept → ℕ
+leaving_work (keeps.Flat count) = 10
+leaving_work (keeps.Fat r) = 3
 
 abbrev pub leaving_held : Option Held → ℕ
 leaving_held None = 3
-leaving_held (Some h) = leaving h.kept
+leaving_held (Some h) = leaving_work h.kept
 
 -- each phase leads to lower ones, to an instruction, or to another turn, frame or root
 abbrev pub chain : List Held → Phase → ℕ

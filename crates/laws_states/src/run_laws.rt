@@ -1,6 +1,6 @@
 //! What holds of every reached state, so that each word that an event finds is what it is read as.
 
-ghost use Rattle.laws_states.specs.RunLaws.{EventsKeepFacts, EventsKeepThreads, NextKeepsFacts, ReachedFits, RunsReach, StartHasFacts};
+ghost use Rattle.laws_states.specs.RunLaws.{EventsKeepFacts, EventsKeepThreads, NextKeepsFacts, ReachedFits, RunsReach, StartHasRunFacts};
 
 use crate::kept_laws::{
     counters_are_kept, locks_are_kept, next_keeps_counters, records_are_kept, start_counters_fit,
@@ -15,7 +15,7 @@ use laws_threads::{events_fit_parts, given_is_kept, lawful_is_kept, next_keeps_s
 
 /// All that holds of the words in every reached state holds at the start.
 pub fn run_facts_start()
-    ensures { StartHasFacts }
+    ensures { StartHasRunFacts }
 {
     start_has_heap();
     start_locks_fit();

@@ -4,7 +4,7 @@ use Rattle.std.specs.Prelude.{nat_lt, ◌==◌, int_lt, pos, unsigned_abs, ◌-�
 use Rattle.std.specs.Option.{unwrap_or}
 use Rattle.std.proofs.lemmas.Bool.Decides.{nat_tests}
 use Rattle.jvm_types.specs.CodeTable.{row, can_throw, type_of, want_of, arguments, constant_row, get_static_row, put_static_row, get_row, put_row, virtual_row, special_row, static_row}
-use Rattle.jvm_types.specs.Members.{is_static, Site, field_rule, call_rule}
+use Rattle.jvm_types.specs.Members.{is_static, MethodSite, field_rule, call_rule}
 use Rattle.jvm_types.specs.ProgramInvariant.{IsClassOf, IsTargetOf, site_in}
 use Rattle.jvm_types.specs.Verifying.{new_class}
 use Rattle.jvm_types.specs.declared.call.Call.TheVariants.{Virtual, Special, Static as FixedCall}
@@ -35,7 +35,7 @@ use Rattle.machine_types.specs.Ints.{low, word_of, int_of, narrowed, added, divi
 use Rattle.machine_types.specs.ReadyObjects.{out_object}
 use Rattle.machine_types.specs.Typed.{Classes, IsNullOr, KindHolds, Holds, IsElementOn}
 use Rattle.machine_types.specs.Words.{header, array_size, value_word}
-use Rattle.laws_threads.specs.Allowed.{IsOf, IsFieldAt, WantHolds, TakenHold, HasLocal, OneOf, Allowed}
+use Rattle.laws_threads.specs.Allowed.{IsOf, IsNamedField, WantHolds, TakenHold, HasLocal, OneOf, Allowed}
 use Rattle.laws_sections.proofs.HiddenThis.{long_arguments}
 
 low_lt : (n : ℕ) → low n < 2 ^ 32
@@ -120,7 +120,7 @@ module _ (p : Program) (m : MethodInfo) (is : Classes) (stack : List ℕ) where
   rule_holds true rule rest e = absurd (cc)
   rule_holds false rule rest e = refl
 
-  is_static_of : (static writes : Bool) (site : Site) (class flags : ℕ) → field_rule static writes site class flags ≡ None → is_static flags ≡ static
+  is_static_of : (static writes : Bool) (site : MethodSite) (class flags : ℕ) → field_rule static writes site class flags ≡ None → is_static flags ≡ static
   is_static_of true writes site class flags e = turned (is_static flags) (rule_holds (not (is_static flags)) L2 _ e)
     where
       turned : (b : Bool) → not b ≡ false → b ≡ true
@@ -138,13 +138,13 @@ module _ (p : Program) (m : MethodInfo) (is : Classes) (stack : List ℕ) where
   kind_kept kinds.Bool v h = omega arith
   kind_kept (kinds.Ref class) v h = h
 
-  static_variable : (f : FieldInfo) (number : ℕ) → slice_get p.fields number ≡ Some f → is_static f.flags ≡ true → IsFieldAt p is (targets.Field number) (variable_of f 0) f
+  static_variable : (f : FieldInfo) (number : ℕ) → slice_get p.fields number ≡ Some f → is_static f.flags ≡ true → IsNamedField p is (targets.Field number) (variable_of f 0) f
   static_variable f number e s = record { number = number; named = refl; there = e; reference = 0; variable = refl; holder = λ h. absurd (let bad : true ≡ false = sym s ∙ h in cc) }
 
-  field_variable : (f : FieldInfo) (number a : ℕ) → slice_get p.fields number ≡ Some f → IsOf is f.class a → IsFieldAt p is (targets.Field number) (variable_of f a) f
+  field_variable : (f : FieldInfo) (number a : ℕ) → slice_get p.fields number ≡ Some f → IsOf is f.class a → IsNamedField p is (targets.Field number) (variable_of f a) f
   field_variable f number a e o = record { number = number; named = refl; there = e; reference = a; variable = refl; holder = λ h. o }
 
-  module _ (pc next : ℕ) (i number : ℕ) (site : Site) where
+  module _ (pc next : ℕ) (i number : ℕ) (site : MethodSite) where
     allowed_get_static : (o : Option FieldInfo) → slice_get p.fields number ≡ o → IsSomeAnd o (λ f. field_rule true false site f.class f.flags ≡ None)
         → Allows (record { pc = pc; next = next; op = ops.Getstatic i }) (targets.Field number) (get_static_row o) (gets_static o)
     allowed_get_static None e k = absurd k
@@ -203,7 +203,7 @@ module _ (p : Program) (m : MethodInfo) (is : Classes) (stack : List ℕ) where
       by_test false f = (called, refl, e)
       by_test true f = absurd (cc)
 
-  module _ (pc next : ℕ) (i number : ℕ) (site : Site) where
+  module _ (pc next : ℕ) (i number : ℕ) (site : MethodSite) where
     calls_virtual : (o : Option MethodInfo) (s : List ℕ) → slice_get p.methods number ≡ o → IsSomeAnd o (λ c. call_rule Virtual site c.class c.name c.flags ≡ None)
         → TakenHold m is (virtual_row o).takes s → Allows (record { pc = pc; next = next; op = ops.Invokevirtual i }) (targets.Method number) (virtual_row o) (calls_instance o number s)
     calls_virtual None s e k h = absurd k

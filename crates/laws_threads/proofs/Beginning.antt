@@ -12,7 +12,7 @@ use Rattle.checked_program.specs.MarkedProgram.{MarkedProgram, IsMarked}
 use Rattle.checked_program.specs.Marks.{HasMark, IsOnThis, elsewhere}
 use Rattle.checked_program.specs.Sections.{BeginsAt, IsOwn, IsInBlock}
 use Rattle.checked_program.specs.SectionLaws.{IsSectionPart}
-use Rattle.checked_program.specs.TaggedCode.{IsAt, IsReached}
+use Rattle.checked_program.specs.TaggedCode.{IsAt, IsInstructionReached}
 use Rattle.checked_program.specs.declared.section.FieldUse.{FieldUse}
 use Rattle.checked_program.specs.declared.section.Mode.TheVariants.{OnThis}
 use Rattle.checked_program.specs.declared.section.Spot.TheVariants.{Block}
@@ -154,7 +154,7 @@ begins marked_mark c m tried noted number f below held marked stands not_held en
     part : IsOwn c.program (tags_of c) f.method (section_of a).spot k.number → f.receiver ≡ m → IsSectionPart c.program (tags_of c) (section_of a) m (part_of f k.number) OnThis
     part own receiver = record { method = refl; receiver = receiver; own = own; mode_is = refl }
 
-    reached : IsReached c.program (tags_of c) f.method k.number
+    reached : IsInstructionReached c.program (tags_of c) f.method k.number
     reached = record { m = k.method; insn = k.insn; target = k.target; f = k.tags; at = k.at }
 
     receiver_of : (held : List Tag) → k.tags.held ≡ This ∷ held → f.receiver ≡ m

@@ -4,7 +4,7 @@ use Rattle.std.specs.Prelude.{slice_get, slice_index, if◌then◌else◌}
 use Rattle.std.proofs.lemmas.List.{length-append, length-map, length-reverse, reverse-append}
 use Rattle.lists.proofs.ListLaws.{same_some}
 use Rattle.jvm_types.specs.CodeTable.{arguments, want_of, virtual_row, special_row, static_row}
-use Rattle.jvm_types.specs.Members.{Site, is_static, is_synchronized}
+use Rattle.jvm_types.specs.Members.{MethodSite, is_static, is_synchronized}
 use Rattle.jvm_types.specs.ProgramInvariant.{IsProgram}
 use Rattle.jvm_types.specs.declared.call.Call.TheVariants.{Virtual, Special, Static}
 use Rattle.jvm_types.specs.declared.code.Op.{Op}
@@ -70,7 +70,7 @@ module _ (p : Program) (number : ℕ) (called : MethodInfo) (there : slice_get p
       let value : slice_get s (length called.args) ≡ Some receiver = subst (λ (m : MethodInfo). slice_get s (length m.args) ≡ Some receiver) same v in
       received (length r.takes) receiver long instance value ∙ sym (ap (λ o. slice_index s (args_of o)) there ∙ index_is s (length called.args) receiver value)
 
-  pub is_receiver : (site : Site) (pc : ℕ) (target : Target) (op : Op) (r : OpRow) → HasRow p site pc target op r → called_method op target ≡ Some number → HasReceiver p op number s → IsReceiver p op number s (receiver_by r)
+  pub is_receiver : (site : MethodSite) (pc : ℕ) (target : Target) (op : Op) (r : OpRow) → HasRow p site pc target op r → called_method op target ≡ Some number → HasReceiver p op number s → IsReceiver p op number s (receiver_by r)
   is_receiver site pc (targets.Method u) (ops.Invokevirtual i) r k call at =
       let k : NamesMethod p site number Virtual false virtual_row r = subst (λ x. NamesMethod p site x Virtual false virtual_row r) (same_some call) k in
       let same : k.method ≡ called = same_some (sym k.there ∙ there) in
@@ -93,7 +93,7 @@ module _ (p : Program) (number : ℕ) (called : MethodInfo) (there : slice_get p
   never false b e f g = cc
 
   -- a synchronized method is called on the section's object
-  pub called_on : (tags : Tagged) (o : ℕ) (site : Site) (pc : ℕ) (op : Op) (target : Target) (r : OpRow) → IsProgram p → HasRow p site pc target op r → called_method op target ≡ Some number → HasReceiver p op number s → ReadsOnly p tags o op target s
+  pub called_on : (tags : Tagged) (o : ℕ) (site : MethodSite) (pc : ℕ) (op : Op) (target : Target) (r : OpRow) → IsProgram p → HasRow p site pc target op r → called_method op target ≡ Some number → HasReceiver p op number s → ReadsOnly p tags o op target s
       → is_synchronized called.flags ≡ true → receiver_by r ≡ o
   called_on tags o site pc (ops.Invokevirtual i) (targets.Method u) r program k call at h synchronized =
       let k' : NamesMethod p site number Virtual false virtual_row r = subst (λ x. NamesMethod p site x Virtual false virtual_row r) (same_some call) k in

@@ -71,7 +71,7 @@ module _ (m : MethodInfo) (is : Classes) where
         (zip_fill (called.max_locals - length ts)))
 
     -- the values of the frame of a static method
-    pub static_values : (number : ℕ) (vs : List ℕ) → is_static called.flags ≡ true → AllZip (Holds called is) (map type_of called.args) vs → ValuesHold called is (types.entry_frame called) (entry_frame number called vs)
+    pub static_values : (number : ℕ) (vs : List ℕ) → is_static called.flags ≡ true → AllZip (Holds called is) (map type_of called.args) vs → ValuesHold called is (types.entry_type_frame called) (entry_frame number called vs)
     static_values number vs s zip = record {
       stack = tt;
       locals = by_flag (is_static called.flags) s;
@@ -85,7 +85,7 @@ module _ (m : MethodInfo) (is : Classes) where
 
     -- those of the frame of an instance method
     instance_values : (number v : ℕ) (args : List ℕ) → is_static called.flags ≡ false → is called.class v → AllZip (Holds called is) (map type_of called.args) args
-        → ValuesHold called is (types.entry_frame called) (entry_frame number called (v ∷ args))
+        → ValuesHold called is (types.entry_type_frame called) (entry_frame number called (v ∷ args))
     instance_values number v args s k zip = record {
       stack = tt;
       locals = by_flag (is_static called.flags) (is_init called) s;
@@ -115,14 +115,14 @@ module _ (m : MethodInfo) (is : Classes) where
       receiver_is false v (inr k) some = subst (λ (d : ℕ). is d v) (files_alone k.0 called.class file k.2) k.1
 
       on_receiver : (number : ℕ) (vs : List ℕ) (b : Bool) (v : ℕ) (rest : List ℕ) → is_static called.flags ≡ false → vs ≡ v ∷ rest → 0 < v → AllZip (WantHolds m is) (receiver_want b called.class ∷ map want_of called.args) vs
-          → ValuesHold called is (types.entry_frame called) (entry_frame number called vs)
+          → ValuesHold called is (types.entry_type_frame called) (entry_frame number called vs)
       on_receiver number [] b v rest s e some h = absurd h
       on_receiver number (w ∷ ws) b v rest s e some h =
           let first : w ≡ v = cc in
           instance_values number w ws s (receiver_is b w h.0 (subst (λ (n : ℕ). 0 < n) (sym first) some)) (kind_args called.args ws h.1)
 
       pub call_values : (number : ℕ) (r : OpRow) (s : List ℕ) → CallRow called r → TakenHold m is r.takes s → (is_static called.flags ≡ false → HasReceiver called s)
-          → ValuesHold called is (types.entry_frame called) (entry_frame number called (reverse (take (length r.takes) s)))
+          → ValuesHold called is (types.entry_type_frame called) (entry_frame number called (reverse (take (length r.takes) s)))
       call_values number r s call taken has = by_kind call.by
         where
           ordered : (wants : List Want) → call.takes ≡ wants → AllZip (WantHolds m is) (reverse wants) (reverse (take (length r.takes) s))
@@ -131,7 +131,7 @@ module _ (m : MethodInfo) (is : Classes) where
               subst (λ (ws : List Want). AllZip (WantHolds m is) (reverse ws) (reverse (take (length r.takes) s))) takes (in_order r.takes s taken)
 
           by_kind : ((is_static called.flags ≡ false) × (call.takes ≡ arguments called ++ receiver_want (is_init called) called.class ∷ [])) ⊎ ((is_static called.flags ≡ true) × (call.takes ≡ arguments called))
-              → ValuesHold called is (types.entry_frame called) (entry_frame number called (reverse (take (length r.takes) s)))
+              → ValuesHold called is (types.entry_type_frame called) (entry_frame number called (reverse (take (length r.takes) s)))
           by_kind (inl k) =
               let v = has k.0 in
               let want = receiver_want (is_init called) called.class in
@@ -147,11 +147,11 @@ module _ (m : MethodInfo) (is : Classes) where
 
 module _ (c : MarkedProgram) (marked : IsMarked c) (is : Classes) where
   -- a frame with the values of a method's start stands at its start
-  pub enters : (number : ℕ) (called : MethodInfo) (vs : List ℕ) → slice_get c.program.methods number ≡ Some called → ValuesHold called is (types.entry_frame called) (entry_frame number called vs)
+  pub enters : (number : ℕ) (called : MethodInfo) (vs : List ℕ) → slice_get c.program.methods number ≡ Some called → ValuesHold called is (types.entry_type_frame called) (entry_frame number called vs)
       → FrameHolds c is 0 (entry_frame number called vs)
   enters number called vs e values =
       let s = checked_sound (checked_part c) number called marked.checked e in
       let tag = zip_has (IsTaggingOf c.program) c.program.methods c.tags number called marked.tags e in
       let typings = map_at (λ (t : Typing). t.frames) c.typings number s.0 s.1 in
       let tags = map_at (λ (t : Tags). t.frames) c.tags number tag.0 tag.1 in
-      land c marked is (entry_frame number called vs) called s.0.frames tag.0.frames (types.entry_frame called) (entry_tags called) e typings tags s.2.sound.entry (tags_at c marked number called tag.0.frames e tags).entry values
+      land c marked is (entry_frame number called vs) called s.0.frames tag.0.frames (types.entry_type_frame called) (entry_tags called) e typings tags s.2.sound.entry (tags_at c marked number called tag.0.frames e tags).entry values

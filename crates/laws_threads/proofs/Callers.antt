@@ -8,7 +8,7 @@ use Rattle.lists.proofs.ListLaws.{same_some}
 use Rattle.jvm_types.specs.ClassTree.{is_subclass}
 use Rattle.jvm_types.specs.CodeTable.{result_of}
 use Rattle.jvm_types.specs.ProgramInvariant.{site_in}
-use Rattle.jvm_types.specs.Verifying.{edges, covers, catch_fault, frame_at_handler, Fits}
+use Rattle.jvm_types.specs.Verifying.{edges, covers, catch_fault, frame_at_handler, FrameFits}
 use Rattle.jvm_types.specs.declared.code.Insn.{Insn}
 use Rattle.jvm_types.specs.declared.code.Op.{Op}
 use Rattle.jvm_types.specs.declared.code.Op.TheVariants as ops
@@ -140,7 +140,7 @@ module _ (c : MarkedProgram) (marked : IsMarked c) where
   handler_fits f fs k class r e =
       let rules = rules_at c marked f k in
       let e : handler_of k.insn.pc class k.method.rows ≡ Some r = subst (λ (pc : ℕ). handler_of pc class k.method.rows ≡ Some r) (sym k.pc_is) e in
-      let fits = (handler_in (λ h. Fits k.method.code k.frames (frame_at_handler h k.types) h.handler) k.insn.pc class k.method.rows r rules.sound.handlers_fit e).0 in
+      let fits = (handler_in (λ h. FrameFits k.method.code k.frames (frame_at_handler h k.types) h.handler) k.insn.pc class k.method.rows r rules.sound.handlers_fit e).0 in
       let l = lands k.method k.frames (frame_at_handler r k.types) r.handler fits in
       let room = (handler_in (λ h. catch_fault k.method k.insn.pc h ≡ None) k.insn.pc class k.method.rows r rules.sound.rows_hold e).0 in
       record { begins = record { number = l.number; insn = l.insn; there = l.there; starts = l.starts }; room = room_there k.method.max_stack _ _ room }

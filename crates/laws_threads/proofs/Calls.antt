@@ -5,7 +5,7 @@ use Rattle.std.proofs.lemmas.Bool.Decides.{nat_tests}
 use Rattle.std.proofs.lemmas.List.{length-map, length-reverse, length-append, reverse-append}
 use Rattle.lists.proofs.ListLaws.{same_some}
 use Rattle.jvm_types.specs.CodeTable.{arguments, want_of, is_init, result_of, stack_row, virtual_row, special_row, static_row}
-use Rattle.jvm_types.specs.Members.{Site, is_static, is_init_name, is_class_init_name}
+use Rattle.jvm_types.specs.Members.{MethodSite, is_static, is_init_name, is_class_init_name}
 use Rattle.jvm_types.specs.declared.code.Op.{Op}
 use Rattle.jvm_types.specs.declared.code.Op.TheVariants as ops
 use Rattle.jvm_types.specs.declared.op_row.OpRow.{OpRow}
@@ -44,7 +44,7 @@ special_call called s = by_init (is_init called) refl
 static_call : (called : MethodInfo) → is_static called.flags ≡ true → CallRow called (static_row (Some called))
 static_call called s = record { takes = arguments called; is = refl; by = inr (s, refl) }
 
-pub call_row : (p : Program) (site : Site) (pc number : ℕ) (op : Op) (r : OpRow) (called : MethodInfo) → slice_get p.methods number ≡ Some called → HasRow p site pc (targets.Method number) op r → CallRow called r
+pub call_row : (p : Program) (site : MethodSite) (pc number : ℕ) (op : Op) (r : OpRow) (called : MethodInfo) → slice_get p.methods number ≡ Some called → HasRow p site pc (targets.Method number) op r → CallRow called r
 call_row p site pc number (ops.Invokevirtual i) r called e h =
     let same : h.method ≡ called = same_some (sym h.there ∙ e) in
     subst (λ (x : OpRow). CallRow called x) (sym h.its)
@@ -83,7 +83,7 @@ on_receiver (Some v) number n e = by_test (v == 0) refl e
     by_test true t e = absurd (cc)
     by_test false t e = (v, refl, grind (arith, nat_tests, t))
 
-pub call_receiver : (p : Program) (site : Site) (pc next number n : ℕ) (op : Op) (r : OpRow) (called : MethodInfo) (l s : List ℕ) → slice_get p.methods number ≡ Some called → HasRow p site pc (targets.Method number) op r
+pub call_receiver : (p : Program) (site : MethodSite) (pc next number n : ℕ) (op : Op) (r : OpRow) (called : MethodInfo) (l s : List ℕ) → slice_get p.methods number ≡ Some called → HasRow p site pc (targets.Method number) op r
     → effect p next (targets.Method number) op l s ≡ Calls n → is_static called.flags ≡ false → HasReceiver called s
 call_receiver p site pc next number n (ops.Invokevirtual i) r called l s e h f k = on_receiver (slice_get s (length called.args)) number n (sym (ap (λ o. calls_instance o number s) e) ∙ f)
 call_receiver p site pc next number n (ops.Invokespecial i) r called l s e h f k = on_receiver (slice_get s (length called.args)) number n (sym (ap (λ o. calls_instance o number s) e) ∙ f)

@@ -1,7 +1,7 @@
 -- What an instruction does keeps the types of its thread's frames, whatever its effect.
 use Rattle.std.proofs.Common.{◌≡◌, ℕ, ◌<◌, inl, Bool, true, false, ◌&&◌, List, ◌∷◌, length, Option, Some, None, refl, sym, subst, ◌∙◌, arith}
 use Rattle.std.specs.Prelude.{slice_get, drop, option_map, if◌then◌else◌}
-use Rattle.jvm_types.specs.Members.{is_static, is_synchronized, Site}
+use Rattle.jvm_types.specs.Members.{is_static, is_synchronized, MethodSite}
 use Rattle.jvm_types.specs.ProgramInvariant.{site_in}
 use Rattle.jvm_types.specs.Verifying.{edges}
 use Rattle.jvm_types.specs.declared.code.Op.{Op}
@@ -27,7 +27,7 @@ use Rattle.machine_types.specs.ReadyObjects.{class_of, thrown_of}
 use Rattle.machine_types.specs.Threads.{Frame}
 use Rattle.machine_types.specs.Typed.{Classes, FrameHolds, HoldBelow, FramesHold, IsObject}
 use Rattle.machine_types.specs.Words.{header_class, header_length}
-use Rattle.laws_threads.specs.Allowed.{OneOf, Gives, IsByMachine, Allowed}
+use Rattle.laws_threads.specs.Allowed.{OneOf, HasRowTypes, IsByMachine, Allowed}
 use Rattle.laws_threads.proofs.Values.{ValuesHold}
 use Rattle.laws_threads.proofs.Landing.{rules_at}
 use Rattle.laws_threads.proofs.Calls.{call_row, call_receiver}
@@ -38,14 +38,14 @@ use Rattle.laws_threads.proofs.TopEffects.{taken_here}
 use Rattle.laws_threads.proofs.Onwards.{keeps_all, keeps_top, keeps_push, HasObjects, FoundHolds, Onwards, IfOnwards, goes_out}
 
 -- a method that is named where it is called
-call_named : (p : Program) (site : Site) (pc number : ℕ) (op : Op) (r : OpRow) → HasRow p site pc (targets.Method number) op r → called_method op (targets.Method number) ≡ Some number
+call_named : (p : Program) (site : MethodSite) (pc number : ℕ) (op : Op) (r : OpRow) → HasRow p site pc (targets.Method number) op r → called_method op (targets.Method number) ≡ Some number
 call_named p site pc number (ops.Invokevirtual i) r h = refl
 call_named p site pc number (ops.Invokespecial i) r h = refl
 call_named p site pc number (ops.Invokestatic i) r h = refl
 call_named p site pc number op r h = absurd (assumption)
 
 module _ (c : MarkedProgram) (marked : IsMarked c) (is : Classes) (has : HasObjects c.program is) (f : Frame) (fs : List Frame) (h : FrameHolds c is 0 f) (b : HoldBelow c is f.method fs) where
-  pub runs_on : (to made : ℕ) → OneOf (edges h.stands.insn) to → Gives h.stands.method is (row_of c.program h.stands.method h.stands.insn h.stands.target) made
+  pub runs_on : (to made : ℕ) → OneOf (edges h.stands.insn) to → HasRowTypes h.stands.method is (row_of c.program h.stands.method h.stands.insn h.stands.target) made
       → Onwards c is (f ∷ fs) (Running (went c.program (top_here c f fs h.stands) to made))
   runs_on to made edge gives = record {
     holds = (goes c marked is f h to made edge gives, b);
@@ -60,7 +60,7 @@ module _ (c : MarkedProgram) (marked : IsMarked c) (is : Classes) (has : HasObje
 
   module _ (number : ℕ) (m : MethodInfo) (t : h.stands.target ≡ targets.Method number) (e : slice_get c.program.methods number ≡ Some m)
       (calls : effect c.program h.stands.insn.next h.stands.target h.stands.insn.op f.locals f.stack ≡ Calls number) where
-    entry_values : ValuesHold m is (types.entry_frame m) (entry_frame number m (arguments_of c.program (top_here c f fs h.stands)))
+    entry_values : ValuesHold m is (types.entry_type_frame m) (entry_frame number m (arguments_of c.program (top_here c f fs h.stands)))
     entry_values =
         let k = h.stands in
         let r : OpRow = row_of c.program k.method k.insn k.target in
@@ -120,7 +120,7 @@ module _ (c : MarkedProgram) (marked : IsMarked c) (is : Classes) (has : HasObje
   raises_it x got None e k = tt
   raises_it x got (Some class) e k = record { holds = (k class e, (inl h, b)); keeps = keeps_all (f ∷ fs); inside = λ all. all }
 
-  enters_it : (m made : ℕ) → IsObject is m → OneOf (edges h.stands.insn) h.stands.insn.next → Gives h.stands.method is (row_of c.program h.stands.method h.stands.insn h.stands.target) made
+  enters_it : (m made : ℕ) → IsObject is m → OneOf (edges h.stands.insn) h.stands.insn.next → HasRowTypes h.stands.method is (row_of c.program h.stands.method h.stands.insn h.stands.target) made
       → Onwards c is (f ∷ fs) (Entering m (went_on c.program (top_here c f fs h.stands) made))
   enters_it m made object edge gives = record {
     holds = (object, (goes c marked is f h h.stands.insn.next made edge gives, b));

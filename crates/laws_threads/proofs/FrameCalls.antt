@@ -3,7 +3,7 @@ use Rattle.std.proofs.Common.{◌≡◌, ℕ, zero, suc, ◌-◌, ◌≤◌, Boo
 use Rattle.std.specs.Prelude.{slice_get}
 use Rattle.std.proofs.lemmas.List.{length-append, length-replicate}
 use Rattle.jvm_types.specs.CodeTable.{arguments}
-use Rattle.jvm_types.specs.Members.{Site, is_static, is_synchronized}
+use Rattle.jvm_types.specs.Members.{MethodSite, is_static, is_synchronized}
 use Rattle.jvm_types.specs.ProgramInvariant.{site_in}
 use Rattle.jvm_types.specs.declared.code.Op.{Op}
 use Rattle.jvm_types.specs.declared.code.Op.TheVariants as ops
@@ -53,7 +53,7 @@ entry_values choice false n (a ∷ args) some =
 
 -- ---- the arguments of a call
 
-takes_some : (p : Program) (site : Site) (pc : ℕ) (op : Op) (target : Target) (r : OpRow) (number : ℕ) (called : MethodInfo) → called_method op target ≡ Some number → slice_get p.methods number ≡ Some called → is_static called.flags ≡ false
+takes_some : (p : Program) (site : MethodSite) (pc : ℕ) (op : Op) (target : Target) (r : OpRow) (number : ℕ) (called : MethodInfo) → called_method op target ≡ Some number → slice_get p.methods number ≡ Some called → is_static called.flags ≡ false
     → HasRow p site pc target op r → (n : ℕ) × (length r.takes ≡ suc n)
 takes_some p site pc (ops.Invokevirtual i) (targets.Method u) r number called e d s h =
     (length (arguments h.method), ap (λ (x : OpRow). length x.takes) h.its ∙ length-append (arguments h.method) _ ∙ (omega arith))

@@ -15,7 +15,7 @@ use Rattle.checked_program.specs.LockTags.{TagShape, without, IsShapeBelow}
 use Rattle.checked_program.specs.MarkedProgram.{MarkedProgram, IsMarked}
 use Rattle.checked_program.specs.TaggedCode.{row_of}
 use Rattle.checked_program.specs.Tagging.{moved_tags, tags_by_op, tags_after}
-use Rattle.checked_program.specs.Visits.{Fits}
+use Rattle.checked_program.specs.Visits.{EdgeFits}
 use Rattle.checked_program.specs.declared.tag.Tag.{Tag}
 use Rattle.checked_program.specs.declared.tag.Tag.TheVariants.{Untagged, This, At}
 use Rattle.machine_types.specs.Frames.{frame_on}
@@ -56,11 +56,11 @@ module _ (c : MarkedProgram) (is : IsMarked c) where
   abbrev pub the_row : (f : Frame) → Standing c f → OpRow
   the_row f k = row_of c.program k.method k.insn k.target
 
-  pub edge_fits : (f : Frame) (k : Standing c f) (to : ℕ) → has_number (edges k.insn) to ≡ true → Fits IsShapeBelow k.method.code k.at.frames (tags_after k.insn (the_row f k) k.tags) to
-  edge_fits f k to edge = picked (Fits IsShapeBelow k.method.code k.at.frames (tags_after k.insn (the_row f k) k.tags)) to (edges k.insn) (sound_at c is f k).edges_fit edge
+  pub edge_fits : (f : Frame) (k : Standing c f) (to : ℕ) → has_number (edges k.insn) to ≡ true → EdgeFits IsShapeBelow k.method.code k.at.frames (tags_after k.insn (the_row f k) k.tags) to
+  edge_fits f k to edge = picked (EdgeFits IsShapeBelow k.method.code k.at.frames (tags_after k.insn (the_row f k) k.tags)) to (edges k.insn) (sound_at c is f k).edges_fit edge
 
   -- the frame shows what it did, with another choice of values
-  again : (f : Frame) (own : List ℕ) (top : Shows c Whole f own) (brought : TagShape) (choice : ℕ → ℕ) (to : ℕ) (locals stack : List ℕ) → Fits IsShapeBelow top.stands.method.code top.stands.at.frames brought to
+  again : (f : Frame) (own : List ℕ) (top : Shows c Whole f own) (brought : TagShape) (choice : ℕ → ℕ) (to : ℕ) (locals stack : List ℕ) → EdgeFits IsShapeBelow top.stands.method.code top.stands.at.frames brought to
       → HaveValues choice f.receiver brought.locals locals → HaveValues choice f.receiver brought.stack stack → map (tag_value choice f.receiver) brought.held ≡ map (tag_value top.choice f.receiver) top.stands.tags.held
       → Shows c Whole (record f { pc = to; locals = locals; stack = stack }) own
   again f own top brought choice to locals stack fits hl hs same =
@@ -68,7 +68,7 @@ module _ (c : MarkedProgram) (is : IsMarked c) where
       (whole_landed c is (record f { pc = to; locals = locals; stack = stack }) top.stands.method top.stands.at.frames brought choice (landed c is f top.stands brought to locals stack fits) hl hs)
 
   -- by its row alone
-  by_row : (f : Frame) (own : List ℕ) (top : Shows c Whole f own) (to made : ℕ) → Fits IsShapeBelow top.stands.method.code top.stands.at.frames (moved_tags (the_row f top.stands) top.stands.tags) to
+  by_row : (f : Frame) (own : List ℕ) (top : Shows c Whole f own) (to made : ℕ) → EdgeFits IsShapeBelow top.stands.method.code top.stands.at.frames (moved_tags (the_row f top.stands) top.stands.tags) to
       → Shows c Whole (frame_on (the_row f top.stands) to made f) own
   by_row f own top to made fits =
       let r : OpRow = the_row f top.stands in
@@ -80,7 +80,7 @@ module _ (c : MarkedProgram) (is : IsMarked c) where
   -- a `dup` of an untagged value: its tag has that value from then on
   pub doubled : (f : Frame) (own : List ℕ) (top : Shows c Whole f own) (to made : ℕ) → top.stands.insn.op ≡ ops.Dup → has_number (edges top.stands.insn) to ≡ true → Shows c Whole (frame_on (the_row f top.stands) to made f) own
   doubled f own top to made dup edge =
-      by_tags top.stands.tags.stack refl (subst (λ (op : Op). Fits IsShapeBelow top.stands.method.code top.stands.at.frames (tags_by_op top.stands.insn.pc (the_row f top.stands) op top.stands.tags.stack top.stands.tags) to) dup (edge_fits f top.stands to edge)) top.stack
+      by_tags top.stands.tags.stack refl (subst (λ (op : Op). EdgeFits IsShapeBelow top.stands.method.code top.stands.at.frames (tags_by_op top.stands.insn.pc (the_row f top.stands) op top.stands.tags.stack top.stands.tags) to) dup (edge_fits f top.stands to edge)) top.stack
     where
       row_is : dup_row ≡ the_row f top.stands
       row_is = sym (ap (λ (op : Op). row c.program top.stands.method top.stands.insn.pc top.stands.target op) dup)
@@ -90,7 +90,7 @@ module _ (c : MarkedProgram) (is : IsMarked c) where
       on_stack v vs ts h = (chosen_there top.choice f.receiver top.stands.insn.pc v, (chosen_there top.choice f.receiver top.stands.insn.pc v, rechosen top.choice f.receiver top.stands.insn.pc v ts vs h))
 
       tagged : (v : ℕ) (vs : List ℕ) (ts : List Tag) → f.stack ≡ v ∷ vs → HaveValues top.choice f.receiver ts vs
-          → Fits IsShapeBelow top.stands.method.code top.stands.at.frames (record { stack = At top.stands.insn.pc ∷ At top.stands.insn.pc ∷ without top.stands.insn.pc ts; locals = without top.stands.insn.pc top.stands.tags.locals; held = top.stands.tags.held }) to
+          → EdgeFits IsShapeBelow top.stands.method.code top.stands.at.frames (record { stack = At top.stands.insn.pc ∷ At top.stands.insn.pc ∷ without top.stands.insn.pc ts; locals = without top.stands.insn.pc top.stands.tags.locals; held = top.stands.tags.held }) to
           → Shows c Whole (frame_on (the_row f top.stands) to made f) own
       tagged v vs ts e h fits =
           subst (λ (x : OpRow). Shows c Whole (frame_on x to made f) own) row_is
@@ -101,16 +101,16 @@ module _ (c : MarkedProgram) (is : IsMarked c) where
           (free_at c.program top.stands.method top.stands.at.frames top.stands.frames (of_standing c is f top.stands) top.stands.number top.stands.insn top.stands.tags top.stands.at.in_code top.stands.at.frame)))
 
       by_stack : (vs : List ℕ) (ts : List Tag) → f.stack ≡ vs → HaveValues top.choice f.receiver (Untagged ∷ ts) vs
-          → Fits IsShapeBelow top.stands.method.code top.stands.at.frames (record { stack = At top.stands.insn.pc ∷ At top.stands.insn.pc ∷ without top.stands.insn.pc ts; locals = without top.stands.insn.pc top.stands.tags.locals; held = top.stands.tags.held }) to
+          → EdgeFits IsShapeBelow top.stands.method.code top.stands.at.frames (record { stack = At top.stands.insn.pc ∷ At top.stands.insn.pc ∷ without top.stands.insn.pc ts; locals = without top.stands.insn.pc top.stands.tags.locals; held = top.stands.tags.held }) to
           → Shows c Whole (frame_on (the_row f top.stands) to made f) own
       by_stack [] ts e h fits = absurd h
       by_stack (v ∷ vs) ts e h fits = tagged v vs ts e h.1 fits
 
-      by_tags : (ts : List Tag) → top.stands.tags.stack ≡ ts → Fits IsShapeBelow top.stands.method.code top.stands.at.frames (tags_by_op top.stands.insn.pc (the_row f top.stands) ops.Dup top.stands.tags.stack top.stands.tags) to
+      by_tags : (ts : List Tag) → top.stands.tags.stack ≡ ts → EdgeFits IsShapeBelow top.stands.method.code top.stands.at.frames (tags_by_op top.stands.insn.pc (the_row f top.stands) ops.Dup top.stands.tags.stack top.stands.tags) to
           → HaveValues top.choice f.receiver top.stands.tags.stack f.stack → Shows c Whole (frame_on (the_row f top.stands) to made f) own
-      by_tags ts e fits h = cases ts (subst (λ (us : List Tag). Fits IsShapeBelow top.stands.method.code top.stands.at.frames (tags_by_op top.stands.insn.pc (the_row f top.stands) ops.Dup us top.stands.tags) to) e fits) (subst (λ (us : List Tag). HaveValues top.choice f.receiver us f.stack) e h)
+      by_tags ts e fits h = cases ts (subst (λ (us : List Tag). EdgeFits IsShapeBelow top.stands.method.code top.stands.at.frames (tags_by_op top.stands.insn.pc (the_row f top.stands) ops.Dup us top.stands.tags) to) e fits) (subst (λ (us : List Tag). HaveValues top.choice f.receiver us f.stack) e h)
         where
-          cases : (ts : List Tag) → Fits IsShapeBelow top.stands.method.code top.stands.at.frames (tags_by_op top.stands.insn.pc (the_row f top.stands) ops.Dup ts top.stands.tags) to → HaveValues top.choice f.receiver ts f.stack
+          cases : (ts : List Tag) → EdgeFits IsShapeBelow top.stands.method.code top.stands.at.frames (tags_by_op top.stands.insn.pc (the_row f top.stands) ops.Dup ts top.stands.tags) to → HaveValues top.choice f.receiver ts f.stack
               → Shows c Whole (frame_on (the_row f top.stands) to made f) own
           cases [] fits h = by_row f own top to made fits
           cases (Untagged ∷ ts) fits h = by_stack f.stack ts refl h fits
@@ -124,7 +124,7 @@ module _ (c : MarkedProgram) (is : IsMarked c) where
       by_test true e = doubled f own top to made (dup_is top.stands.insn.op e) edge
       by_test false e =
           by_row f own top to made
-          (subst (λ (g : TagShape). Fits IsShapeBelow top.stands.method.code top.stands.at.frames g to) (plain_after top.stands.insn.pc (the_row f top.stands) top.stands.insn.op top.stands.tags.stack top.stands.tags free e) (edge_fits f top.stands to edge))
+          (subst (λ (g : TagShape). EdgeFits IsShapeBelow top.stands.method.code top.stands.at.frames g to) (plain_after top.stands.insn.pc (the_row f top.stands) top.stands.insn.op top.stands.tags.stack top.stands.tags free e) (edge_fits f top.stands to edge))
 
   -- ---- a new object
 
@@ -133,8 +133,8 @@ module _ (c : MarkedProgram) (is : IsMarked c) where
   making_frame f own top a =
       let k = top.stands in
       let r : OpRow = the_row f k in
-      let fits : Fits IsShapeBelow k.method.code k.at.frames (moved_tags r k.tags) k.insn.next =
-      subst (λ (g : TagShape). Fits IsShapeBelow k.method.code k.at.frames g k.insn.next) (plain_after k.insn.pc r k.insn.op k.tags.stack k.tags a.move.0 a.no_dup) (edge_fits f k k.insn.next a.move.1) in
+      let fits : EdgeFits IsShapeBelow k.method.code k.at.frames (moved_tags r k.tags) k.insn.next =
+      subst (λ (g : TagShape). EdgeFits IsShapeBelow k.method.code k.at.frames g k.insn.next) (plain_after k.insn.pc r k.insn.op k.tags.stack k.tags a.move.0 a.no_dup) (edge_fits f k k.insn.next a.move.1) in
       let tagged : (moved_tags r k.tags).stack ≡ Untagged ∷ drop (length r.takes) k.tags.stack =
       ap (λ (gs : List Given). map (value_of Untagged (λ t. Untagged) k.tags.stack k.tags.locals) gs ++ drop (length r.takes) k.tags.stack) a.gives in
       let rest : HaveValues top.choice f.receiver (drop (length r.takes) k.tags.stack) (drop (length r.takes) f.stack) = dropped top.choice f.receiver (length r.takes) k.tags.stack f.stack top.stack in

@@ -13,8 +13,8 @@ use Rattle.laws_programs.proofs.LeastFrames.{AreDistinct, distinct}
 use Rattle.checked_program.specs.LockTags.{TagShape, IsShapeBelow}
 use Rattle.checked_program.specs.MarkedProgram.{MarkedProgram, IsMarked}
 use Rattle.checked_program.specs.TaggedCode.{row_of}
-use Rattle.checked_program.specs.Tagging.{IsSound}
-use Rattle.checked_program.specs.Visits.{frame_at, Fits}
+use Rattle.checked_program.specs.Tagging.{IsTagSound}
+use Rattle.checked_program.specs.Visits.{frame_at_pc, EdgeFits}
 use Rattle.laws_sections.proofs.TagReach.{tagged_typed}
 use Rattle.machine_types.specs.Frames.{Top, at_pc, top_at, top_in, top_of}
 use Rattle.machine_types.specs.Standing.{Standing, tags_of}
@@ -40,7 +40,7 @@ module _ (c : MarkedProgram) (is : IsMarked c) where
   pub of_standing : (f : Frame) (k : Standing c f) → IsMethod c.program k.method k.at.frames k.frames
   of_standing f k = method_with c is f.method k.method k.at.frames k.frames k.at.in_program k.at.of_method k.types_of_method
 
-  pub sound_at : (f : Frame) (k : Standing c f) → IsSound k.method k.insn (row_of c.program k.method k.insn k.target) k.at.frames k.tags
+  pub sound_at : (f : Frame) (k : Standing c f) → IsTagSound k.method k.insn (row_of c.program k.method k.insn k.target) k.at.frames k.tags
   sound_at f k = (of_standing f k).sound.sound k.number k.insn k.target k.tags k.at.in_code k.at.names k.at.frame
 
   same_number : (m n : MethodInfo) (i j : ℕ) (a b : Insn) → IsLaidOut m → m ≡ n → slice_get m.code i ≡ Some a → slice_get n.code j ≡ Some b → a.pc ≡ b.pc → i ≡ j
@@ -89,10 +89,10 @@ module _ (c : MarkedProgram) (is : IsMarked c) where
     pub below : IsShapeBelow brought stands.tags
 
   pub lands : (f : Frame) (m : MethodInfo) (tags : List (Option TagShape)) (brought : TagShape) → slice_get c.program.methods f.method ≡ Some m → slice_get (tags_of c) f.method ≡ Some tags
-      → Fits IsShapeBelow m.code tags brought f.pc → Lands f m tags brought
-  lands f m tags brought e t h = by_frame (frame_at m.code tags f.pc) refl h
+      → EdgeFits IsShapeBelow m.code tags brought f.pc → Lands f m tags brought
+  lands f m tags brought e t h = by_frame (frame_at_pc m.code tags f.pc) refl h
     where
-      by_frame : (o : Option TagShape) → frame_at m.code tags f.pc ≡ o → IsSomeAnd o (λ g. IsShapeBelow brought g) → Lands f m tags brought
+      by_frame : (o : Option TagShape) → frame_at_pc m.code tags f.pc ≡ o → IsSomeAnd o (λ g. IsShapeBelow brought g) → Lands f m tags brought
       by_frame None q h = absurd h
       by_frame (Some g) q h =
           let a : MethodAt c is f.method m = method_at c is f.method m e in

@@ -28,7 +28,7 @@ use Rattle.checked_program.specs.LockTags.{TagShape, IsShapeBelow}
 use Rattle.checked_program.specs.MarkedProgram.{MarkedProgram, IsMarked}
 use Rattle.checked_program.specs.Marks.{called_method}
 use Rattle.checked_program.specs.Tagging.{moved_tags, leaves_held, may_leave}
-use Rattle.checked_program.specs.Visits.{Fits}
+use Rattle.checked_program.specs.Visits.{EdgeFits}
 use Rattle.checked_program.specs.declared.tag.Tag.{Tag}
 use Rattle.checked_program.specs.declared.tag.Tag.TheVariants.{Untagged}
 use Rattle.machine_types.specs.Frames.{Top, effect_at, given, given_back, returned, monitor_of}
@@ -175,8 +175,8 @@ module _ (c : MarkedProgram) (is : IsMarked c) where
       let r : OpRow = row_at c g k in
       let call = call_at callee g own w in
       let gives : r.gives ≡ result_of called = call.gives called there in
-      let fits : Fits IsShapeBelow k.method.code k.at.frames (moved_tags r k.tags) k.insn.next =
-      subst (λ (t : TagShape). Fits IsShapeBelow k.method.code k.at.frames t k.insn.next) (plain_after k.insn.pc r k.insn.op k.tags.stack k.tags call.lock call.no_dup) (edge_fits c is g k k.insn.next call.edge) in
+      let fits : EdgeFits IsShapeBelow k.method.code k.at.frames (moved_tags r k.tags) k.insn.next =
+      subst (λ (t : TagShape). EdgeFits IsShapeBelow k.method.code k.at.frames t k.insn.next) (plain_after k.insn.pc r k.insn.op k.tags.stack k.tags call.lock call.no_dup) (edge_fits c is g k k.insn.next call.edge) in
       let locals : HaveValues w.shows.choice g.receiver (moved_tags r k.tags).locals g.locals =
       subst (λ (o : Option (ℕ × Given)). HaveValues w.shows.choice g.receiver (locals_after Untagged (λ t. Untagged) o k.tags.stack k.tags.locals) g.locals) (sym call.writes) w.shows.locals in
       let stack : HaveValues w.shows.choice g.receiver (drop (length r.takes) k.tags.stack) g.stack = subst (λ (n : ℕ). HaveValues w.shows.choice g.receiver (drop n k.tags.stack) g.stack) w.taken w.shows.stack in

@@ -13,7 +13,7 @@ use Rattle.jvm_types.specs.declared.program.Target.{Target}
 use Rattle.checked_program.specs.LockTags.{IsShapeBelow}
 use Rattle.checked_program.specs.MarkedProgram.{MarkedProgram, IsMarked}
 use Rattle.checked_program.specs.Tagging.{catches_all, until_all, tags_at_handler}
-use Rattle.checked_program.specs.Visits.{Fits}
+use Rattle.checked_program.specs.Visits.{EdgeFits}
 use Rattle.machine_types.specs.Frames.{Top, effect_at, frames_of, handler_of, handler_at, caught}
 use Rattle.machine_types.specs.Shown.{Shows, ShowsAtCall, ShowBelow, Show}
 use Rattle.machine_types.specs.Standing.{Standing, Whole, Thrown}
@@ -97,10 +97,10 @@ module _ (c : MarkedProgram) (is : IsMarked c) where
   caught_frame : (f : Frame) (own : List ℕ) (top : Shows c Thrown f own) → can_throw top.stands.insn.op ≡ true → (class x : ℕ) (r : Row) → handler_of f.pc class top.stands.method.rows ≡ Some r → Shows c Whole (record f { pc = r.handler; stack = x ∷ [] }) own
   caught_frame f own top t class x r e =
       let k = top.stands in
-      let all : AllByRecursion (λ (handler : Row). Fits IsShapeBelow k.method.code k.at.frames (tags_at_handler k.tags) handler.handler) (until_all (covering k.method k.insn.pc)) =
-      subst (λ (b : Bool). AllByRecursion (λ (handler : Row). Fits IsShapeBelow k.method.code k.at.frames (tags_at_handler k.tags) handler.handler) (cond b (until_all (covering k.method k.insn.pc)) [])) t (sound_at c is f k).handlers_fit in
-      let fits : Fits IsShapeBelow k.method.code k.at.frames (tags_at_handler k.tags) r.handler =
-      among (λ (handler : Row). Fits IsShapeBelow k.method.code k.at.frames (tags_at_handler k.tags) handler.handler) k.insn.pc class k.method.rows r (ap (λ (n : ℕ). handler_of n class k.method.rows) k.pc_is ∙ e) all in
+      let all : AllByRecursion (λ (handler : Row). EdgeFits IsShapeBelow k.method.code k.at.frames (tags_at_handler k.tags) handler.handler) (until_all (covering k.method k.insn.pc)) =
+      subst (λ (b : Bool). AllByRecursion (λ (handler : Row). EdgeFits IsShapeBelow k.method.code k.at.frames (tags_at_handler k.tags) handler.handler) (cond b (until_all (covering k.method k.insn.pc)) [])) t (sound_at c is f k).handlers_fit in
+      let fits : EdgeFits IsShapeBelow k.method.code k.at.frames (tags_at_handler k.tags) r.handler =
+      among (λ (handler : Row). EdgeFits IsShapeBelow k.method.code k.at.frames (tags_at_handler k.tags) handler.handler) k.insn.pc class k.method.rows r (ap (λ (n : ℕ). handler_of n class k.method.rows) k.pc_is ∙ e) all in
       subst (λ (xs : List ℕ). Shows c Whole (record f { pc = r.handler; stack = x ∷ [] }) xs) (sym top.shown_are)
       (whole_landed c is (record f { pc = r.handler; stack = x ∷ [] }) k.method k.at.frames (tags_at_handler k.tags) top.choice (landed c is f k (tags_at_handler k.tags) r.handler f.locals (x ∷ []) fits) top.locals (tt, tt))
 

@@ -8,7 +8,7 @@ use Rattle.machine_types.specs.Going.{root_over, goes_on}
 use Rattle.machine_types.specs.Onward.{Onward, Running, Throwing, Entering, Leaving, RootReturned, Uncaught}
 use Rattle.machine_types.specs.Shown.{Show}
 use Rattle.machine_types.specs.Standing.{Operands, Whole, Thrown}
-use Rattle.machine_types.specs.Structure.{HasFrame, TopIs, TopEnters, AfterShows, AreHeldOnce, AttemptStandsIn, count_in, held_depth, tried_depth, left_by, operands_after}
+use Rattle.machine_types.specs.Structure.{HasFrame, TopIs, TopEnters, AfterShows, AreHeldOnce, AttemptStandsIn, count_in, held_depth, tried_depth, entries_left, operands_after}
 use Rattle.machine_types.specs.Threads.{Frame, Attempt, Thread}
 use Rattle.machine_types.specs.declared.lock.Held.{Held}
 use Rattle.machine_types.specs.declared.phase.After.{After}
@@ -25,7 +25,7 @@ use Rattle.laws_threads.proofs.Turns.{running}
 pub record LeavingShows (c : MarkedProgram) (m : ℕ) (a : After) (fs : List Frame) (shown : List ℕ) : Type 0 where
   pub leaves : AfterShows c m a fs
   pub now : List ℕ
-  pub counts : (n : ℕ) → count_in n now + left_by a m n ≡ count_in n shown
+  pub counts : (n : ℕ) → count_in n now + entries_left a m n ≡ count_in n shown
   pub show : Show c (operands_after a) fs now
 
 abbrev pub OnwardShows : MarkedProgram → Onward → (shown : List ℕ) → Type 0

@@ -6,7 +6,7 @@ use Rattle.checked_program.specs.LockTags.{TagShape}
 use Rattle.checked_program.specs.MarkedProgram.{MarkedProgram, IsMarked}
 use Rattle.checked_program.specs.SectionLaws.{HasThis}
 use Rattle.machine_types.specs.Elision.{put_back}
-use Rattle.machine_types.specs.Frames.{Top, effect_at, row_at}
+use Rattle.machine_types.specs.Frames.{Top, effect_at, top_row}
 use Rattle.machine_types.specs.Shown.{Shows, Show}
 use Rattle.machine_types.specs.Standing.{Standing, Operands, Whole, tags_of}
 use Rattle.machine_types.specs.Structure.{IsPhaseInside, Stands, AttemptStands, Finishes, RunsSection, frames_inside}
@@ -67,7 +67,7 @@ module _ (c : MarkedProgram) (marked : IsMarked c) where
     pub top_does : Does c a.monitor r.stands.insn.op r.stands.target f.stack (effect_at c.program top)
     top_does =
         let s = r.stands in
-        does c a.monitor s.method s.insn.pc s.insn.next (row_at c.program top) s.target s.insn.op f.locals f.stack (row_stands c marked f.method s.number s.method s.insn s.target s.tags s.at)
+        does c a.monitor s.method s.insn.pc s.insn.next (top_row c.program top) s.target s.insn.op f.locals f.stack (row_stands c marked f.method s.number s.method s.insn s.target s.tags s.at)
         (reads c marked a k.uses k.are_uses k.marked f (frames_inside a below) r f.stack this)
 
     pub locking : is_synchronized r.stands.method.flags ≡ true → f.receiver ≡ a.monitor
@@ -76,7 +76,7 @@ module _ (c : MarkedProgram) (marked : IsMarked c) where
     pub calls_on : (number : ℕ) → Does c a.monitor r.stands.insn.op r.stands.target f.stack (Calls number) → MayDo c a.monitor top (Calls number)
     calls_on number d called there synchronized =
         let s = r.stands in
-        called_on c.program number called there f.stack (tags_of c) a.monitor (site_in s.method) s.insn.pc s.insn.op s.target (row_at c.program top) marked.checked.program (row_stands c marked f.method s.number s.method s.insn s.target s.tags s.at) d.0 d.1
+        called_on c.program number called there f.stack (tags_of c) a.monitor (site_in s.method) s.insn.pc s.insn.op s.target (top_row c.program top) marked.checked.program (row_stands c marked f.method s.number s.method s.insn s.target s.tags s.at) d.0 d.1
         (reads c marked a k.uses k.are_uses k.marked f (frames_inside a below) r f.stack this) synchronized
 
     pub leaves_on : (n : ℕ) → Does c a.monitor r.stands.insn.op r.stands.target f.stack (Leaves n) → n ≡ a.monitor

@@ -12,7 +12,7 @@ use Rattle.jvm_types.specs.declared.program.MethodInfo.{MethodInfo}
 use Rattle.jvm_types.specs.declared.program.Program.{Program}
 use Rattle.jvm_types.specs.declared.program.Target.{Target}
 use Rattle.checked_program.specs.MarkedProgram.{MarkedProgram, IsMarked}
-use Rattle.machine_types.specs.Events.{started, element_made, moved}
+use Rattle.machine_types.specs.Events.{thread_started, element_made, moved}
 use Rattle.machine_types.specs.Frames.{Top, top_of, effect_at, went_on, pushed, handler_at, making}
 use Rattle.machine_types.specs.Going.{runs, goes_after}
 use Rattle.machine_types.specs.HeldMonitors.{held_at, with_held, without_held, deeper, shallower}
@@ -33,7 +33,7 @@ use Rattle.machine_types.specs.Lawful.{NewFits}
 use Rattle.machine_types.specs.ReadyObjects.{class_of}
 use Rattle.machine_types.specs.Monitors.{grown}
 use Rattle.machine_types.specs.Instructions.{printed}
-use Rattle.laws_threads.specs.Allowed.{OneOf, Gives}
+use Rattle.laws_threads.specs.Allowed.{OneOf, HasRowTypes}
 use Rattle.laws_threads.proofs.Lifts.{frames_up}
 use Rattle.laws_threads.proofs.Landing.{stand_top}
 use Rattle.laws_threads.proofs.Onwards.{Keeps, keeps_all, keeps_top, HasObjects, FoundHolds, AreInside, Onwards, IfOnwards, same_op, dispatches, goes_after_it}
@@ -63,13 +63,13 @@ PhaseFinds c is phase fs got = Unit {0}
 
 -- a root that begins
 abbrev pub StartTyped : MarkedProgram → Classes → Thread → Phase → Type 0
-StartTyped c is s phases.Start = IsBasedIn (started c.program s s.roots).frames (started c.program s s.roots).attempt → TypedBy c is (started c.program s s.roots)
+StartTyped c is s phases.Start = IsBasedIn (thread_started c.program s s.roots).frames (thread_started c.program s s.roots).attempt → TypedBy c is (thread_started c.program s s.roots)
 StartTyped c is s phase = Unit {0}
 
 -- ---- an element
 
 element_row : (p : Program) (m : MethodInfo) (is : Classes) (pc next : ℕ) (target : Target) (op : Op) (stored : Option ℕ) (got : ℕ) → is_element_op stored op ≡ true → got < 2 ^ 32
-    → OneOf (edges (record { pc = pc; next = next; op = op })) next × Gives m is (row p m pc target op) (element_made stored got)
+    → OneOf (edges (record { pc = pc; next = next; op = op })) next × HasRowTypes m is (row p m pc target op) (element_made stored got)
 element_row p m is pc next target ops.Iaload None got e h = (inl refl, ((h, tt), tt))
 element_row p m is pc next target ops.Iastore (Some v) got e h = (inl refl, (tt, tt))
 element_row p m is pc next target op None got e h = absurd (let bad : false ≡ true = e in cc)
@@ -267,7 +267,7 @@ module _ (c : MarkedProgram) (marked : IsMarked c) (is : Classes) (has : HasObje
         record { values = record { phase = k.0; attempt = t.rests.attempt }; new = k.1; receivers = t.rests.inside; entry = t.rests.entry }
     move_typed _ (moves.gives_up_to_wait m r h l) t start new = record { values = record { phase = t.holds; attempt = t.rests.attempt }; new = tt; receivers = t.rests.inside; entry = t.rests.entry }
     move_typed was (moves.retakes_lock m r depth e) t start new = runs_held s got was t (with_held (record { monitor = m; kept = keeps.Fat r; depth = depth }) s.held) s.counts t.holds
-    move_typed _ (moves.starts number roots e) t start new = subst (λ rs. IsBasedIn (started c.program s rs).frames (started c.program s rs).attempt → TypedBy c is (started c.program s rs)) e start new
+    move_typed _ (moves.starts number roots e) t start new = subst (λ rs. IsBasedIn (thread_started c.program s rs).frames (thread_started c.program s rs).attempt → TypedBy c is (thread_started c.program s rs)) e start new
 
   -- an instruction is counted before it does anything
   start_counted : (p : Program) (phase : Phase) (s : Thread) → StartTyped c is s phase → StartTyped c is (mover p phase s) phase

@@ -14,7 +14,7 @@ use Rattle.jvm_types.specs.declared.program.MethodInfo.{MethodInfo}
 use Rattle.jvm_types.specs.declared.program.Program.{Program}
 use Rattle.jvm_types.specs.declared.program.Row.{Row}
 use Rattle.machine_types.specs.Bounds.{part_roots, FramesFit, IsRooted}
-use Rattle.machine_types.specs.Events.{started}
+use Rattle.machine_types.specs.Events.{thread_started}
 use Rattle.machine_types.specs.Frames.{Top, top_of, frames_of, pushed, went_on, has_room, waiting, entry_frame, arguments_of, monitor_of, returned, handler_at}
 use Rattle.machine_types.specs.Going.{with_phase, runs, failed_turn, goes_on, goes_on_if, goes_after, root_over}
 use Rattle.machine_types.specs.HeldMonitors.{with_held, without_held, shallower}
@@ -195,7 +195,7 @@ there [] k h = absurd (omega arith)
 there (m ∷ ms) zero h = (m, refl)
 there (m ∷ ms) (suc k) h = there ms k (omega arith)
 
-begun_root : (p : Program) (s : Thread) (roots : List ℕ) → AreRoots p s.number s.part roots → FramesFit phases.Start s.frames roots → IsRooted p (started p s roots)
+begun_root : (p : Program) (s : Thread) (roots : List ℕ) → AreRoots p s.number s.part roots → FramesFit phases.Start s.frames roots → IsRooted p (thread_started p s roots)
 begun_root p s [] r f = absurd f
 begun_root p s (root ∷ roots) r f =
     let found = there p.methods root (roots_within p s.number s.part root r.0) in
@@ -301,7 +301,7 @@ module _ (c : MarkedProgram) (s : Thread) (got : ℕ) (h : IsRooted c.program s)
       grown_framed towards.Wait = framed (phases.WaitBit m r) s.frames s.roots tt (frame_in (phases.FatIn m r toward) s.frames s.roots tt f)
   moved_framed _ (moves.gives_up_to_wait m r e l) f = record { roots = h.roots; frames = framed (phases.WaitLook m r e.depth) s.frames s.roots tt (frame_in (phases.WaitOut m r) s.frames s.roots tt f) }
   moved_framed _ (moves.retakes_lock m r depth e) f = record { roots = h.roots; frames = runs_framed (phases.Retake m r depth) tt f }
-  moved_framed _ (moves.starts number roots e) f = subst (IsRooted c.program) (ap (started c.program s) e) (begun_root c.program s s.roots h.roots f)
+  moved_framed _ (moves.starts number roots e) f = subst (IsRooted c.program) (ap (thread_started c.program s) e) (begun_root c.program s s.roots h.roots f)
 
 pub roots_kept : RootsAreKept
 roots_kept c s got h = by_move (IsRooted c.program) c s s.phase got (λ k. moved_framed c _ got (counted h) s.phase k (of_mover (λ y. FramesFit s.phase y.frames y.roots) c.program s.phase s h.frames h.frames))

@@ -28,7 +28,7 @@ use Rattle.machine_types.specs.Onward.{Onward, Running, threw, done}
 use Rattle.machine_types.specs.Threads.{Frame}
 use Rattle.machine_types.specs.Typed.{Classes, Holds, FrameHolds, HoldBelow, FramesHold, ElementStands, with_object}
 use Rattle.machine_types.specs.Words.{header, header_class, value_word}
-use Rattle.laws_threads.specs.Allowed.{OneOf, Gives, GivenHolds, WriteHolds, MadeAs, Allowed, IsByMachine}
+use Rattle.laws_threads.specs.Allowed.{OneOf, HasRowTypes, GivenHolds, WriteHolds, MadeAs, Allowed, IsByMachine}
 use Rattle.laws_threads.proofs.Lifts.{frame_up, below_up}
 use Rattle.laws_threads.proofs.TypedMoves.{goes}
 use Rattle.laws_threads.proofs.TopStand.{top_here}
@@ -85,7 +85,7 @@ module _ (c : MarkedProgram) (marked : IsMarked c) (is : Classes) (has : HasObje
   refuses_at class fs at h found k = let own = refused class at k in at_top (λ fs at. Onwards c is fs (threw class at)) (λ f fs h b. throws_it c marked is has f fs h b class own) fs at h found
 
   -- with nothing made
-  goes_at : (e : Effect) → ((f : Frame) (h : FrameHolds c is 0 f) → AllowedIn f h e → OneOf (edges h.stands.insn) h.stands.insn.next × Gives h.stands.method is (row_of c.program h.stands.method h.stands.insn h.stands.target) 0)
+  goes_at : (e : Effect) → ((f : Frame) (h : FrameHolds c is 0 f) → AllowedIn f h e → OneOf (edges h.stands.insn) h.stands.insn.next × HasRowTypes h.stands.method is (row_of c.program h.stands.method h.stands.insn h.stands.target) 0)
       → (fs : List Frame) (at : Top) → FramesHold c is fs → top_of c.program fs ≡ Some at → effect_at c.program at ≡ e → Onwards c is fs (Running (went_on c.program at 0))
   goes_at e on = at_top (λ fs at. effect_at c.program at ≡ e → Onwards c is fs (Running (went_on c.program at 0)))
       (λ f fs h b same. let k = on f h (allowed_in f fs h e same) in runs_on c marked is has f fs h b h.stands.insn.next 0 k.0 k.1)
@@ -115,7 +115,7 @@ module _ (c : MarkedProgram) (marked : IsMarked c) (is : Classes) (has : HasObje
       let more : Classes = with_object is (header_class word) a in
       let up : (class v : ℕ) → is class v → more class v = λ class v k. inl k in
       let holds = made_holds c.program h.stands.method is type word size a marked.checked.program made_as in
-      let given : Gives h.stands.method more r a =
+      let given : HasRowTypes h.stands.method more r a =
       (subst (λ (gs : List Given). AllByRecursion (GivenHolds h.stands.method more a) gs) (sym gives) (holds, tt), subst (λ o. WriteHolds h.stands.method more a o) (sym writes) tt) in
       let on = goes c marked more f (frame_up is more up c 0 f h) h.stands.insn.next a edge given in
       let stacked = subst (λ (gs : List Given). FrameHolds c more 0 (record f { pc = h.stands.insn.next; stack = map (value_of 0 (λ type. a) f.stack f.locals) gs ++ drop (length r.takes) f.stack; locals = locals_after 0 (λ type. a) r.writes f.stack f.locals })) gives on in

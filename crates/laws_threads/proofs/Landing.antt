@@ -10,7 +10,7 @@ use Rattle.jvm_types.specs.declared.typing.Typing.{Typing}
 use Rattle.laws_programs.proofs.CodeOrder.{methods_laid_out, one_number, have_targets}
 use Rattle.laws_programs.proofs.EdgeTargets.{lands}
 use Rattle.laws_programs.proofs.LeastFrames.{distinct}
-use Rattle.checked_program.specs.CheckedLaws.{AreFramesOf, IsPlace, Holds}
+use Rattle.checked_program.specs.CheckedLaws.{AreFramesOf, IsPlace, HoldsAtInstruction}
 use Rattle.checked_program.specs.LockTags.{TagShape, IsShapeBelow}
 use Rattle.checked_program.specs.MarkedProgram.{MarkedProgram, IsMarked, checked_part}
 use Rattle.checked_program.specs.TaggedCode.{row_of}
@@ -67,17 +67,17 @@ module _ (c : MarkedProgram) (marked : IsMarked c) where
       let t = types_at f.method k.method k.frames k.at.in_program k.types_of_method in
       record { method = f.method; typing = t.0; in_program = k.at.in_program; its_typing = t.1; its_frames = t.2; in_code = k.at.in_code; its_target = k.at.names; has = k.types_are }
 
-  pub rules_at : (f : Frame) (k : Standing c f) → Holds c.program k.method k.frames k.insn k.target k.types
+  pub rules_at : (f : Frame) (k : Standing c f) → HoldsAtInstruction c.program k.method k.frames k.insn k.target k.types
   rules_at f k = places_hold_all (checked_part c) k.method k.frames k.number k.insn k.target k.types marked.checked (place_of f k)
 
-  pub tag_rules_at : (f : Frame) (k : Standing c f) → tagging.IsSound k.method k.insn (row_of c.program k.method k.insn k.target) k.at.frames k.tags
+  pub tag_rules_at : (f : Frame) (k : Standing c f) → tagging.IsTagSound k.method k.insn (row_of c.program k.method k.insn k.target) k.at.frames k.tags
   tag_rules_at f k = (tags_at f.method k.method k.at.frames k.at.in_program k.at.of_method).sound k.number k.insn k.target k.tags k.at.in_code k.at.names k.at.frame
 
   -- ---- where a frame lands
 
   module _ (is : Classes) where
     pub land : (g : Frame) (m : MethodInfo) (frames : List (Option TypeFrame)) (tags : List (Option TagShape)) (after : TypeFrame) (h : TagShape) → slice_get c.program.methods g.method ≡ Some m
-        → slice_get (map (λ t. t.frames) c.typings) g.method ≡ Some frames → slice_get (tags_of c) g.method ≡ Some tags → types.Fits m.code frames after g.pc → visits.Fits IsShapeBelow m.code tags h g.pc
+        → slice_get (map (λ t. t.frames) c.typings) g.method ≡ Some frames → slice_get (tags_of c) g.method ≡ Some tags → types.FrameFits m.code frames after g.pc → visits.EdgeFits IsShapeBelow m.code tags h g.pc
         → ValuesHold m is after g → FrameHolds c is 0 g
     land g m frames tags after h e t u fits below values =
         let l = lands m frames after g.pc fits in

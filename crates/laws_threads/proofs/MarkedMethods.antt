@@ -15,7 +15,7 @@ use Rattle.lists.proofs.ListLaws.{same_some}
 use Rattle.checked_program.specs.LockTags.{TagShape, same_tag}
 use Rattle.checked_program.specs.MarkedProgram.{MarkedProgram, IsMarked, AreTaggings, checked_part}
 use Rattle.checked_program.specs.Tagging.{HasTagging, IsTaggingOf, IsTagAssignment}
-use Rattle.checked_program.specs.Visits.{frame_at}
+use Rattle.checked_program.specs.Visits.{frame_at_pc}
 use Rattle.checked_program.specs.declared.tag.Tag.{Tag}
 use Rattle.checked_program.specs.declared.tag.Tag.TheVariants.{Untagged, This, At}
 use Rattle.checked_program.specs.declared.tag.Tags.{Tags}
@@ -74,14 +74,14 @@ module _ (c : MarkedProgram) (is : IsMarked c) where
 -- ---- instructions by their pcs
 
 -- the instruction of a frame at a pc
-pub found_at : {A : Type 0} (code : List Insn) (frames : List (Option A)) (pc : ℕ) (f : A) → frame_at code frames pc ≡ Some f
+pub found_at : {A : Type 0} (code : List Insn) (frames : List (Option A)) (pc : ℕ) (f : A) → frame_at_pc code frames pc ≡ Some f
     → (i : ℕ) × (insn : Insn) × (slice_get code i ≡ Some insn) × (insn.pc ≡ pc) × (slice_get frames i ≡ Some (Some f))
 found_at [] frames pc f e = absurd (cc)
 found_at (insn ∷ code) [] pc f e = absurd (cc)
 found_at {A} (insn ∷ code) (frame ∷ frames) pc f e = by_test (insn.pc == pc) refl e (found_at code frames pc f)
   where
-    by_test : (t : Bool) → (insn.pc == pc) ≡ t → cond t frame (frame_at code frames pc) ≡ Some f
-        → (frame_at code frames pc ≡ Some f → (i : ℕ) × (x : Insn) × (slice_get code i ≡ Some x) × (x.pc ≡ pc) × (slice_get frames i ≡ Some (Some f)))
+    by_test : (t : Bool) → (insn.pc == pc) ≡ t → cond t frame (frame_at_pc code frames pc) ≡ Some f
+        → (frame_at_pc code frames pc ≡ Some f → (i : ℕ) × (x : Insn) × (slice_get code i ≡ Some x) × (x.pc ≡ pc) × (slice_get frames i ≡ Some (Some f)))
         → (i : ℕ) × (x : Insn) × (slice_get (insn ∷ code) i ≡ Some x) × (x.pc ≡ pc) × (slice_get (frame ∷ frames) i ≡ Some (Some f))
     by_test true h e more = (0, insn, refl, grind (arith, nat_tests, h), ap (λ (o : Option A). Some o) e)
     by_test false h e more = let l = more e in (suc l.0, l.1, l.2, l.3, l.4)
@@ -100,9 +100,9 @@ module _ (p : Program) (m : MethodInfo) (tags : List (Option TagShape)) (frames 
   is_made : (t : Tag) → IsMade m.code tags t
   is_made Untagged = tt
   is_made This = tt
-  is_made (At pc) = by_frame (frame_at m.code tags pc) refl
+  is_made (At pc) = by_frame (frame_at_pc m.code tags pc) refl
     where
-      by_frame : (o : Option TagShape) → frame_at m.code tags pc ≡ o → AllByRecursion (λ t. same_tag (At pc) t ≡ false) (held_tags o)
+      by_frame : (o : Option TagShape) → frame_at_pc m.code tags pc ≡ o → AllByRecursion (λ t. same_tag (At pc) t ≡ false) (held_tags o)
       by_frame None e = tt
       by_frame (Some f) e = let l = found_at m.code tags pc f e in subst (λ (n : ℕ). AllByRecursion (λ t. same_tag (At n) t ≡ false) f.held) l.3 (free_at l.0 l.1 f l.2 l.4)
 

@@ -14,7 +14,7 @@ use Rattle.lists.proofs.TestLaws.{is_true}
 use Rattle.checked_program.specs.LockTags.{TagShape, same_tag, IsShapeBelow}
 use Rattle.checked_program.specs.MarkedProgram.{MarkedProgram, IsMarked}
 use Rattle.checked_program.specs.Tagging.{moved_tags, tags_by_op, enters_untagged, exits_other}
-use Rattle.checked_program.specs.Visits.{Fits}
+use Rattle.checked_program.specs.Visits.{EdgeFits}
 use Rattle.checked_program.specs.declared.tag.Tag.{Tag}
 use Rattle.checked_program.specs.declared.tag.Tag.TheVariants.{Untagged, This, At}
 use Rattle.laws_sections.proofs.TagOrder.{one_tag}
@@ -51,14 +51,14 @@ module _ (c : MarkedProgram) (is : IsMarked c) (f : Frame) (own : List ℕ) (top
   abbrev next_frame : Frame
   next_frame = frame_on r k.insn.next 0 f
 
-  edge : (op : Op) → k.insn.op ≡ op → edges (record { pc = k.insn.pc; next = k.insn.next; op = op }) ≡ k.insn.next ∷ [] → Fits IsShapeBelow k.method.code k.at.frames (tags_by_op k.insn.pc r op k.tags.stack k.tags) k.insn.next
+  edge : (op : Op) → k.insn.op ≡ op → edges (record { pc = k.insn.pc; next = k.insn.next; op = op }) ≡ k.insn.next ∷ [] → EdgeFits IsShapeBelow k.method.code k.at.frames (tags_by_op k.insn.pc r op k.tags.stack k.tags) k.insn.next
   edge op e h =
-      subst (λ (x : Op). Fits IsShapeBelow k.method.code k.at.frames (tags_by_op k.insn.pc r x k.tags.stack k.tags) k.insn.next) e
+      subst (λ (x : Op). EdgeFits IsShapeBelow k.method.code k.at.frames (tags_by_op k.insn.pc r x k.tags.stack k.tags) k.insn.next) e
       (edge_fits c is f k k.insn.next
       (subst (λ (x : Op). has_number (edges (record { pc = k.insn.pc; next = k.insn.next; op = x })) k.insn.next ≡ true) (sym e)
       (subst (λ (tos : List ℕ). has_number tos k.insn.next ≡ true) (sym h) (next_edge k.insn.next))))
 
-  lands_with : (held : List Tag) → Fits IsShapeBelow k.method.code k.at.frames (behind held) k.insn.next → Lands c is next_frame k.method k.at.frames (behind held)
+  lands_with : (held : List Tag) → EdgeFits IsShapeBelow k.method.code k.at.frames (behind held) k.insn.next → Lands c is next_frame k.method k.at.frames (behind held)
   lands_with held fits = landed c is f k (behind held) k.insn.next (locals_after 0 (λ type. 0) r.writes f.stack f.locals) (stack_after 0 (λ type. 0) r f.stack f.locals) fits
 
   shows_with : (held : List Tag) → Lands c is next_frame k.method k.at.frames (behind held) → Shows c Whole next_frame (map (tag_value top.choice f.receiver) held ++ own_entry k.method f)
@@ -79,8 +79,8 @@ module _ (c : MarkedProgram) (is : IsMarked c) (f : Frame) (own : List ℕ) (top
     where
       finished : (t : Tag) (ts : List Tag) → k.tags.stack ≡ t ∷ ts → m ≡ tag_value top.choice f.receiver t → Entered m
       finished t ts q v =
-          let fits : Fits IsShapeBelow k.method.code k.at.frames (behind (t ∷ k.tags.held)) k.insn.next =
-          subst (λ (us : List Tag). Fits IsShapeBelow k.method.code k.at.frames (tags_by_op k.insn.pc r ops.Monitorenter us k.tags) k.insn.next) q (edge ops.Monitorenter e refl) in
+          let fits : EdgeFits IsShapeBelow k.method.code k.at.frames (behind (t ∷ k.tags.held)) k.insn.next =
+          subst (λ (us : List Tag). EdgeFits IsShapeBelow k.method.code k.at.frames (tags_by_op k.insn.pc r ops.Monitorenter us k.tags) k.insn.next) q (edge ops.Monitorenter e refl) in
           let l : Lands c is next_frame k.method k.at.frames (behind (t ∷ k.tags.held)) = lands_with (t ∷ k.tags.held) fits in
           let same : tag_value top.choice f.receiver t ∷ (map (tag_value top.choice f.receiver) k.tags.held ++ own_entry k.method f) ≡ m ∷ own = let s = top.shown_are in cc in
           record {
@@ -110,8 +110,8 @@ module _ (c : MarkedProgram) (is : IsMarked c) (f : Frame) (own : List ℕ) (top
     where
       finished : (t : Tag) (ts hs : List Tag) → k.tags.stack ≡ t ∷ ts → k.tags.held ≡ t ∷ hs → m ≡ tag_value top.choice f.receiver t → (less : List ℕ) × (own ≡ m ∷ less) × Shows c Whole next_frame less
       finished t ts hs q h v =
-          let fits : Fits IsShapeBelow k.method.code k.at.frames (behind (drop 1 k.tags.held)) k.insn.next = edge ops.Monitorexit e refl in
-          let fits : Fits IsShapeBelow k.method.code k.at.frames (behind hs) k.insn.next = subst (λ (us : List Tag). Fits IsShapeBelow k.method.code k.at.frames (behind (drop 1 us)) k.insn.next) h fits in
+          let fits : EdgeFits IsShapeBelow k.method.code k.at.frames (behind (drop 1 k.tags.held)) k.insn.next = edge ops.Monitorexit e refl in
+          let fits : EdgeFits IsShapeBelow k.method.code k.at.frames (behind hs) k.insn.next = subst (λ (us : List Tag). EdgeFits IsShapeBelow k.method.code k.at.frames (behind (drop 1 us)) k.insn.next) h fits in
           let less : List ℕ = map (tag_value top.choice f.receiver) hs ++ own_entry k.method f in
           let same : own ≡ m ∷ less = top.shown_are ∙ ap (λ (us : List Tag). map (tag_value top.choice f.receiver) us ++ own_entry k.method f) h ∙ ap (λ (n : ℕ). n ∷ less) (sym v) in
           (less, same, shows_with hs (lands_with hs fits))

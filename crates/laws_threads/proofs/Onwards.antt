@@ -28,7 +28,7 @@ use Rattle.machine_types.specs.Typed.{Classes, KindHolds, FrameHolds, WaitHolds,
 use Rattle.machine_types.specs.declared.phase.After.{After}
 use Rattle.machine_types.specs.declared.phase.After.TheVariants.{Next, Return, Unwind}
 use Rattle.machine_types.specs.Words.{header_class, header_length}
-use Rattle.laws_threads.specs.Allowed.{IsFieldAt, IsByMachine}
+use Rattle.laws_threads.specs.Allowed.{IsNamedField, IsByMachine}
 use Rattle.laws_threads.proofs.Landing.{stand_top, rules_at}
 use Rattle.laws_threads.proofs.TypedMoves.{given_holds, resumes, catches}
 use Rattle.laws_threads.proofs.TopStand.{top_here}
@@ -71,7 +71,7 @@ pub record HasObjects (p : Program) (is : Classes) : Type 0 where
 
 -- the word that an instruction finds is one of what it reads
 abbrev pub FoundHolds : Program → Classes → Target → Effect → (got : ℕ) → Type 0
-FoundHolds p is target (Reads v) got = (f : FieldInfo) → IsFieldAt p is target v f → KindHolds is f.kind got
+FoundHolds p is target (Reads v) got = (f : FieldInfo) → IsNamedField p is target v f → KindHolds is f.kind got
 FoundHolds p is target (Measures a) got = header_length got < 2 ^ 32
 FoundHolds p is target (Raises x) got = (class : Thrown) → thrown_of (header_class got) ≡ Some class → is (class_of class) x
 FoundHolds p is target e got = Unit {0}

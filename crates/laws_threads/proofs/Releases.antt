@@ -15,7 +15,7 @@ use Rattle.machine_types.specs.Monitors.{lets_go}
 use Rattle.machine_types.specs.Onward.{Onward, Running, after, back, unwound}
 use Rattle.machine_types.specs.Shown.{Show}
 use Rattle.machine_types.specs.Standing.{Whole, Thrown}
-use Rattle.machine_types.specs.Structure.{AfterShows, AreHeldOnce, IsFlat, Stands, AttemptStandsIn, count_in, held_depth, tried_depth, once_at, left_by, operands_after}
+use Rattle.machine_types.specs.Structure.{AfterShows, AreHeldOnce, IsFlat, Stands, AttemptStandsIn, count_in, held_depth, tried_depth, once_at, entries_left, operands_after}
 use Rattle.machine_types.specs.Threads.{Frame, Attempt, Thread}
 use Rattle.machine_types.specs.Typed.{Classes, Holds, AfterHolds, FrameHolds, FramesHold}
 use Rattle.machine_types.specs.declared.lock.Held.{Held}
@@ -54,7 +54,7 @@ pub record GoesBehind (c : MarkedProgram) (m : ℕ) (a : After) (fs : List Frame
   pub onward : Onward
   pub is : after c.program fs a ≡ Some onward
   pub rest : List ℕ
-  pub counts : (n : ℕ) → count_in n rest + once_at m n ≡ count_in n shown + left_by a m n
+  pub counts : (n : ℕ) → count_in n rest + once_at m n ≡ count_in n shown + entries_left a m n
   pub shows : OnwardShows c onward rest
 
 module _ (is : Classes) (c : MarkedProgram) (marked : IsMarked c) (m : ℕ) (shown : List ℕ) where
@@ -99,7 +99,7 @@ module _ (is : Classes) (c : MarkedProgram) (marked : IsMarked c) (was : Phase) 
     pub leaves : AfterShows c m a s.frames
     pub holds : AfterHolds c is a s.frames
     pub once : AreHeldOnce s.held
-    pub depths : (n : ℕ) → count_in n shown + left_by a m n ≡ held_depth n s.held + tried_depth n s.attempt + once_at m n
+    pub depths : (n : ℕ) → count_in n shown + entries_left a m n ≡ held_depth n s.held + tried_depth n s.attempt + once_at m n
 
   pub left : (shown : List ℕ) → Leaves shown → ((onward : Onward) (rest : List ℕ) → after c.program s.frames a ≡ Some onward → OnwardShows c onward rest → AttemptGoesOn c onward s.held s.attempt) → StaysStructured c was (goes_after c.program s a)
   left shown k inside =

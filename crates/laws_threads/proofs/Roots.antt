@@ -20,7 +20,7 @@ use Rattle.laws_programs.specs.RootLaws.{IsRoot}
 use Rattle.laws_programs.proofs.RootMethods.{class_inits, entries, run_root}
 use Rattle.checked_program.specs.MarkedProgram.{MarkedProgram, IsMarked}
 use Rattle.machine_types.specs.Bounds.{part_roots}
-use Rattle.machine_types.specs.Events.{started}
+use Rattle.machine_types.specs.Events.{thread_started}
 use Rattle.machine_types.specs.Frames.{has_room, entry_frame, first_or_null}
 use Rattle.machine_types.specs.Onward.{Running, Uncaught, root_arguments, rooted}
 use Rattle.machine_types.specs.Parts.{numbers_of, is_entry_named, entries_named, init_roots, run_roots, done_roots}
@@ -166,7 +166,7 @@ module _ (c : MarkedProgram) (marked : IsMarked c) (is : Classes) where
       by_room false = record { holds = tt; keeps = keeps_none []; inside = λ all. tt }
 
   pub starts_typed : (s : Thread) (roots : List ℕ) → s.frames ≡ [] → s.number < 2 ^ 32 → AllByRecursion (λ number. IsTrue (has_number (part_roots c.program s.number s.part) number)) roots → TypedBy c is s → Rests c is s
-      → IsBasedIn s.frames s.attempt → IsBasedIn (started c.program s roots).frames (started c.program s roots).attempt → TypedBy c is (started c.program s roots)
+      → IsBasedIn s.frames s.attempt → IsBasedIn (thread_started c.program s roots).frames (thread_started c.program s roots).attempt → TypedBy c is (thread_started c.program s roots)
   starts_typed s [] none small all stays rests old new = stays
   starts_typed s (number ∷ roots) none small all stays rests old new =
       goes_if_typed c is (record s { roots = roots }) (option_map (rooted c.program s.number number) (slice_get c.program.methods number))

@@ -18,8 +18,8 @@ use Rattle.laws_programs.proofs.CodeOrder.{ascend, one_number, short, follows}
 use Rattle.checked_program.specs.LockTags.{TagShape, IsShapeBelow, entry_tags}
 use Rattle.checked_program.specs.MarkedProgram.{MarkedProgram, IsMarked}
 use Rattle.checked_program.specs.TaggedCode.{IsAt, onward, row_of}
-use Rattle.checked_program.specs.Tagging.{enters_untagged, tags_after, tags_by_op, IsSound}
-use Rattle.checked_program.specs.Visits.{frame_at}
+use Rattle.checked_program.specs.Tagging.{enters_untagged, tags_after, tags_by_op, IsTagSound}
+use Rattle.checked_program.specs.Visits.{frame_at_pc}
 use Rattle.checked_program.specs.declared.tag.Tag.{Tag}
 use Rattle.laws_sections.proofs.MonitorExits.{held_law}
 use Rattle.laws_threads.proofs.FramePlaces.{of_standing}
@@ -85,9 +85,9 @@ module _ (c : MarkedProgram) (marked : IsMarked c) where
 
   -- at the start of a method
   pub none_held : (f : Frame) (k : Standing c f) → f.pc ≡ 0 → k.tags.held ≡ []
-  none_held f k first = by_frame (frame_at k.method.code k.at.frames 0) refl (of_standing c marked f k).sound.entry
+  none_held f k first = by_frame (frame_at_pc k.method.code k.at.frames 0) refl (of_standing c marked f k).sound.entry
     where
-      by_frame : (o : Option TagShape) → frame_at k.method.code k.at.frames 0 ≡ o → IsSomeAnd o (λ g. IsShapeBelow (entry_tags k.method) g) → k.tags.held ≡ []
+      by_frame : (o : Option TagShape) → frame_at_pc k.method.code k.at.frames 0 ≡ o → IsSomeAnd o (λ g. IsShapeBelow (entry_tags k.method) g) → k.tags.held ≡ []
       by_frame None q h = absurd h
       by_frame (Some g) q h =
           let l = found_at k.method.code k.at.frames 0 g q in
@@ -121,7 +121,7 @@ module _ (c : MarkedProgram) (marked : IsMarked c) where
 
   pub took : (f : Frame) (k : Standing c f) (e : Entered c f k) (target : Target) (g : TagShape) → IsAt c.program (tags_of c) f.method e.at k.method e.insn target g → Took f k g e.insn target
   took f k e target g at =
-      let standing : IsSound k.method e.insn (row_of c.program k.method e.insn target) k.at.frames g = (of_standing c marked f k).sound.sound e.at e.insn target g e.there at.names (subst (λ fs. slice_get fs e.at ≡ Some (Some g)) (same_some (sym at.of_method ∙ k.at.of_method)) at.frame) in
+      let standing : IsTagSound k.method e.insn (row_of c.program k.method e.insn target) k.at.frames g = (of_standing c marked f k).sound.sound e.at e.insn target g e.there at.names (subst (λ fs. slice_get fs e.at ≡ Some (Some g)) (same_some (sym at.of_method ∙ k.at.of_method)) at.frame) in
       let t = taken e.insn.pc (row_of c.program k.method e.insn target) e.insn.op g e.enters standing.enters in
       let edge : has_number (edges e.insn) k.insn.pc ≡ true = goes_next e.insn.op e.insn.next k.insn.pc e.enters (e.next ∙ sym k.pc_is) in
       let brings = held_law c.program (tags_of c) f.method e.at k.number k.method e.insn k.insn target k.target g k.tags (tags_after e.insn (row_of c.program k.method e.insn target) g) (are_tagged c marked) at k.at (onward k.insn edge) in

@@ -18,7 +18,7 @@ use Rattle.laws_programs.proofs.TargetRows.{targets_rows}
 use Rattle.checked_program.specs.FrozenPlaces.{AreUses}
 use Rattle.checked_program.specs.LockTags.{TagShape}
 use Rattle.checked_program.specs.MarkedProgram.{MarkedProgram, IsMarked}
-use Rattle.checked_program.specs.Marks.{HasMark, Calls, callee, called_method, is_locking, is_own_object, receiver_tag, mode_if, fault, call_fault, enter_fault}
+use Rattle.checked_program.specs.Marks.{HasMark, Calls, callee, called_method, is_locking, is_own_object, receiver_tag, mode_if, section_fault, call_fault, enter_fault}
 use Rattle.checked_program.specs.SectionLaws.{Part, AreParts, IsSectionPart, IsExit, HasThis, ReadsOnly}
 use Rattle.checked_program.specs.TaggedCode.{IsAt, Goes, row_of}
 use Rattle.checked_program.specs.declared.section.FieldUse.{FieldUse}
@@ -148,13 +148,13 @@ module _ (c : MarkedProgram) (marked : IsMarked c) (a : Attempt) where
   -- ---- marks
 
   module _ (uses : List FieldUse) (are_uses : AreUses c.program (tags_of c) uses) (mark : HasMark c.program (tags_of c) uses (section_of a) 0) where
-    no_fault : (f : Frame) (rest : List Frame) (r : Runs c a f rest) (m : MethodInfo) (insn : Insn) (target : Target) (u : TagShape) → IsAt c.program (tags_of c) f.method r.stands.number m insn target u → fault c.program uses r.mode insn.op target u.stack ≡ 0
+    no_fault : (f : Frame) (rest : List Frame) (r : Runs c a f rest) (m : MethodInfo) (insn : Insn) (target : Target) (u : TagShape) → IsAt c.program (tags_of c) f.method r.stands.number m insn target u → section_fault c.program uses r.mode insn.op target u.stack ≡ 0
     no_fault f rest r m insn target u at = by_parts r.parts r.are
       where
-        by_parts : (parts : List Part) → AreParts c.program (tags_of c) (section_of a) a.monitor (part_of f r.stands.number ∷ parts) r.mode → fault c.program uses r.mode insn.op target u.stack ≡ 0
+        by_parts : (parts : List Part) → AreParts c.program (tags_of c) (section_of a) a.monitor (part_of f r.stands.number ∷ parts) r.mode → section_fault c.program uses r.mode insn.op target u.stack ≡ 0
         by_parts [] are =
             let last : IsSectionPart c.program (tags_of c) (section_of a) a.monitor (part_of f r.stands.number) r.mode = are in
-            subst (λ was. fault c.program uses was insn.op target u.stack ≡ 0) (sym last.mode_is)
+            subst (λ was. section_fault c.program uses was insn.op target u.stack ≡ 0) (sym last.mode_is)
             (own_no_fault c.program (tags_of c) uses (section_of a) r.stands.number m insn target u mark last.own (subst (λ mi. IsAt c.program (tags_of c) mi r.stands.number m insn target u) last.method at))
         by_parts (b ∷ parts) are = called_no_fault c.program (tags_of c) uses (section_of a) a.monitor r.stands.number (part_of f r.stands.number) b parts r.mode m insn target u mark are at
 
@@ -186,7 +186,7 @@ module _ (c : MarkedProgram) (marked : IsMarked c) (a : Attempt) where
     called_own false b e z = absurd (cc)
 
     own_call : (u : ℕ) (called : MethodInfo) (mi : MethodInfo) (pc : ℕ) (op : Op) (target : Target) (row : OpRow) (mode : Mode) (ts : List Tag) → slice_get c.program.methods u ≡ Some called → is_synchronized called.flags ≡ true
-        → called_method op target ≡ Some u → HasRow c.program (site_in mi) pc target op row → fault c.program uses mode op target ts ≡ 0 → is_own_object mode (receiver_tag c.program op target ts) ≡ true
+        → called_method op target ≡ Some u → HasRow c.program (site_in mi) pc target op row → section_fault c.program uses mode op target ts ≡ 0 → is_own_object mode (receiver_tag c.program op target ts) ≡ true
     own_call u called mi pc (ops.Invokevirtual i) (targets.Method v) row mode ts there synchronized call k z =
         called_own (is_locking (slice_get c.program.methods v)) _ (ap (λ x. is_locking (slice_get c.program.methods x)) (same_some call) ∙ is_locked c marked u called there synchronized) z
     own_call u called mi pc (ops.Invokespecial i) (targets.Method v) row mode ts there synchronized call k z =

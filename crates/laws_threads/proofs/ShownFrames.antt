@@ -2,14 +2,14 @@
 use Rattle.std.proofs.Common.{◌≡◌, ℕ, List, [], ◌∷◌, ◌++◌, map, Option, Some, sym, ap, ◌∙◌, subst}
 use Rattle.jvm_types.specs.declared.program.MethodInfo.{MethodInfo}
 use Rattle.lists.proofs.ListLaws.{same_some}
-use Rattle.checked_program.specs.CheckedLaws.{Holds}
+use Rattle.checked_program.specs.CheckedLaws.{HoldsAtInstruction}
 use Rattle.checked_program.specs.LockTags.{TagShape, AreTagsBelow, IsShapeBelow}
 use Rattle.checked_program.specs.MarkedProgram.{MarkedProgram, IsMarked, checked_part}
 use Rattle.checked_program.specs.Visits as visits
 use Rattle.checked_program.specs.declared.tag.Tag.{Tag}
 use Rattle.checked_program.proofs.CheckedPlaces.{checked_sound, places_hold_all}
 use Rattle.machine_types.specs.Frames.{Top, top_of, effect_at}
-use Rattle.machine_types.specs.Shown.{tag_value, HaveValues, StackShows, entries_of, Shows, ShowBelow, Show, own_entry}
+use Rattle.machine_types.specs.Shown.{tag_value, HaveValues, StackShows, shown_entries, Shows, ShowBelow, Show, own_entry}
 use Rattle.machine_types.specs.Standing.{Standing, Operands, Whole}
 use Rattle.machine_types.specs.Threads.{Frame}
 use Rattle.laws_threads.proofs.EffectsOfInsns.{Fits, effect_fits}
@@ -22,7 +22,7 @@ module _ (c : MarkedProgram) (is : IsMarked c) where
   -- ---- where an edge leads
 
   pub shows_landed : (operands : Operands) (f : Frame) (m : MethodInfo) (tags : List (Option TagShape)) (brought : TagShape) (choice : ℕ → ℕ) → Lands c is f m tags brought → HaveValues choice f.receiver brought.locals f.locals
-      → ((ts : List Tag) → AreTagsBelow brought.stack ts → StackShows operands choice f.receiver ts f.stack) → Shows c operands f (entries_of choice m brought f)
+      → ((ts : List Tag) → AreTagsBelow brought.stack ts → StackShows operands choice f.receiver ts f.stack) → Shows c operands f (shown_entries choice m brought f)
   shows_landed operands f m tags brought choice l locals stack = record {
     stands = l.stands;
     made = are_made c.program l.stands.method l.stands.at.frames l.stands.frames (of_standing c is f l.stands) l.stands.tags;
@@ -33,12 +33,12 @@ module _ (c : MarkedProgram) (is : IsMarked c) where
   }
 
   -- the frame f goes on at a pc
-  pub landed : (f : Frame) (k : Standing c f) (brought : TagShape) (to : ℕ) (locals stack : List ℕ) → visits.Fits IsShapeBelow k.method.code k.at.frames brought to
+  pub landed : (f : Frame) (k : Standing c f) (brought : TagShape) (to : ℕ) (locals stack : List ℕ) → visits.EdgeFits IsShapeBelow k.method.code k.at.frames brought to
       → Lands c is (record f { pc = to; locals = locals; stack = stack }) k.method k.at.frames brought
   landed f k brought to locals stack fits = lands c is (record f { pc = to; locals = locals; stack = stack }) k.method k.at.frames brought k.at.in_program k.at.of_method fits
 
   pub whole_landed : (f : Frame) (m : MethodInfo) (tags : List (Option TagShape)) (brought : TagShape) (choice : ℕ → ℕ) → Lands c is f m tags brought → HaveValues choice f.receiver brought.locals f.locals
-      → HaveValues choice f.receiver brought.stack f.stack → Shows c Whole f (entries_of choice m brought f)
+      → HaveValues choice f.receiver brought.stack f.stack → Shows c Whole f (shown_entries choice m brought f)
   whole_landed f m tags brought choice l locals stack = shows_landed Whole f m tags brought choice l locals (λ ts below. weaker choice f.receiver brought.stack ts f.stack below stack)
 
   -- ---- the top frame
@@ -53,7 +53,7 @@ module _ (c : MarkedProgram) (is : IsMarked c) where
 
   -- ---- the checks at an instruction
 
-  pub holds_at : (f : Frame) (k : Standing c f) → Holds c.program k.method k.frames k.insn k.target k.types
+  pub holds_at : (f : Frame) (k : Standing c f) → HoldsAtInstruction c.program k.method k.frames k.insn k.target k.types
   holds_at f k =
       let s = checked_sound (checked_part c) f.method k.method is.checked k.at.in_program in
       let frames : k.frames ≡ s.0.frames = same_some (sym k.types_of_method ∙ map_at (λ t. t.frames) c.typings f.method s.0 s.1) in

@@ -13,7 +13,7 @@ use Rattle.machine_types.specs.Threads.{Thread}
 use Rattle.machine_types.specs.Typed.{HasClass, ThreadHolds}
 use Rattle.machine_types.specs.declared.phase.Phase.{Phase}
 use Rattle.laws_threads.specs.StructureLaws.{StaysStructured}
-use Rattle.laws_threads.specs.StateLaws.{counted_of, counted_at, EventsKeepStructure}
+use Rattle.laws_threads.specs.StateLaws.{counted_of, counted_phase_at, EventsKeepStructure}
 use Rattle.laws_threads.specs.InsideMoves.{BeginsAttempt, EntersInside}
 use Rattle.laws_threads.proofs.ThreadSteps.{structure_kept}
 
@@ -34,7 +34,7 @@ set_other (a ∷ xs) (suc i) (suc j) x d = set_other xs i j x (grind (arith, nat
 -- ---- an event
 
 module _ (begin : BeginsAttempt) (entered_again : EntersInside) (c : MarkedProgram) (objects : List Object) (was : ℕ → Phase) (s : Core) (t : ℕ) (marked : IsMarked c) (structure : Structure c was s.threads) where
-  moved_thread : (x : Thread) (got : ℕ) → slice_get s.threads t ≡ Some x → ThreadHolds c (HasClass objects) x × IsRooted c.program x → Structure c (counted_at was t (slice_set s.threads t (moved c x x.phase got))) (slice_set s.threads t (moved c x x.phase got))
+  moved_thread : (x : Thread) (got : ℕ) → slice_get s.threads t ≡ Some x → ThreadHolds c (HasClass objects) x × IsRooted c.program x → Structure c (counted_phase_at was t (slice_set s.threads t (moved c x x.phase got))) (slice_set s.threads t (moved c x x.phase got))
   moved_thread x got e k u y f = by_number (u == t) refl
     where
       now : Thread
@@ -51,17 +51,17 @@ module _ (begin : BeginsAttempt) (entered_again : EntersInside) (c : MarkedProgr
           subst (λ (o : Option Thread). IsStructured c (counted_of (was t) o) y) (sym at) (subst (λ (z : Thread). StaysStructured c (was t) z) one stays)
       by_number false g = structure u y (sym (set_other s.threads t u now g) ∙ f)
 
-  unmoved : slice_get s.threads t ≡ None → Structure c (counted_at was t s.threads) s.threads
+  unmoved : slice_get s.threads t ≡ None → Structure c (counted_phase_at was t s.threads) s.threads
   unmoved e u y f = by_number (u == t) refl
     where
       by_number : (b : Bool) → (u == t) ≡ b → IsStructured c (cond b (counted_of (was t) (slice_get s.threads t)) (was u)) y
       by_number true g = let same : u ≡ t = grind (arith, nat_tests, g) in let bad : Some y ≡ None = sym f ∙ ap (slice_get s.threads) same ∙ e in absurd (cc)
       by_number false g = structure u y f
 
-  event_keeps : ((x : Thread) → slice_get s.threads t ≡ Some x → ThreadHolds c (HasClass objects) x × IsRooted c.program x) → Structure c (counted_at was t (event c s t).threads) (event c s t).threads
+  event_keeps : ((x : Thread) → slice_get s.threads t ≡ Some x → ThreadHolds c (HasClass objects) x × IsRooted c.program x) → Structure c (counted_phase_at was t (event c s t).threads) (event c s t).threads
   event_keeps k = by_thread (slice_get s.threads t) refl
     where
-      by_thread : (o : Option Thread) → slice_get s.threads t ≡ o → Structure c (counted_at was t (event_of c s t o).threads) (event_of c s t o).threads
+      by_thread : (o : Option Thread) → slice_get s.threads t ≡ o → Structure c (counted_phase_at was t (event_of c s t o).threads) (event_of c s t o).threads
       by_thread None e = unmoved e
       by_thread (Some x) e = moved_thread x (found_by s.words (wanted c x x.phase)) e (k x e)
 

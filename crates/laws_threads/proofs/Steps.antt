@@ -19,7 +19,7 @@ use Rattle.checked_program.specs.MarkedProgram.{MarkedProgram, IsMarked}
 use Rattle.checked_program.specs.SectionLaws.{HasThis, ReadsOnly}
 use Rattle.checked_program.specs.Tagging.{tags_after}
 use Rattle.checked_program.specs.TaggedCode.{onward, row_of}
-use Rattle.machine_types.specs.Frames.{Top, effect_at, row_at, frame_on, went, went_on, waiting, taken_from, frames_of, has_room, entry_frame, arguments_of, monitor_of, given_back, returned}
+use Rattle.machine_types.specs.Frames.{Top, effect_at, top_row, frame_on, went, went_on, waiting, taken_from, frames_of, has_room, entry_frame, arguments_of, monitor_of, given_back, returned}
 use Rattle.machine_types.specs.Onward.{Onward, Running, Throwing, Entering, Leaving, threw, entered, called, back, returns, done}
 use Rattle.machine_types.specs.ReadyObjects.{ready, thrown_of}
 use Rattle.machine_types.specs.Standing.{Standing, Whole, tags_of}
@@ -74,7 +74,7 @@ module _ (c : MarkedProgram) (marked : IsMarked c) (f : Frame) (below : List Fra
 
   goes : (to made : ℕ) → has_number (edges r.stands.insn) to ≡ true → (r.stands.insn.op ≡ ops.Monitorexit → ⊥) → OnwardStands c (Running (went c.program top to made)) → AttemptStands c phases.Run (went c.program top to made) held a
   goes to made edge never l =
-      along c marked phases.Run f held a below phases.Run k r (frame_on (row_at c.program top) to made f) l (tags_after r.stands.insn (row_of c.program r.stands.method r.stands.insn r.stands.target) r.stands.tags) refl refl
+      along c marked phases.Run f held a below phases.Run k r (frame_on (top_row c.program top) to made f) l (tags_after r.stands.insn (row_of c.program r.stands.method r.stands.insn r.stands.target) r.stands.tags) refl refl
       (onward l.insn (subst (λ pc. has_number (edges r.stands.insn) pc ≡ true) (sym l.pc_is) edge)) tt never
 
   goes_on : (e : Effect) (made : ℕ) → Is e → (GoesElsewhere e → ⊥) → (OnlyLeaves e → ⊥) → OnwardStands c (Running (went_on c.program top made)) → AttemptStands c phases.Run (went_on c.program top made) held a
@@ -84,11 +84,11 @@ module _ (c : MarkedProgram) (marked : IsMarked c) (f : Frame) (below : List Fra
 
   enters : (n : ℕ) → Is (Enters n) → n ≡ a.monitor → OnwardStands c (Entering n (went_on c.program top 0)) → AttemptStands c (phases.Enter n 0) (went_on c.program top 0) held a
   enters n is on l =
-      along c marked phases.Run f held a below (phases.Enter n 0) k r (frame_on (row_at c.program top) r.stands.insn.next 0 f) l (tags_after r.stands.insn (row_of c.program r.stands.method r.stands.insn r.stands.target) r.stands.tags) refl refl
+      along c marked phases.Run f held a below (phases.Enter n 0) k r (frame_on (top_row c.program top) r.stands.insn.next 0 f) l (tags_after r.stands.insn (row_of c.program r.stands.method r.stands.insn r.stands.target) r.stands.tags) refl refl
       (onward l.insn (subst (λ pc. has_number (edges r.stands.insn) pc ≡ true) (sym l.pc_is) (next_edge r.stands.insn (falls (Enters n) is (λ x. x))))) on (λ x. no_exit (Enters n) is x)
 
   -- at the exit of the block no other entry is left
-  finishes : (n : ℕ) → n ≡ a.monitor → (rest : List Frame) (q : Runs c a f rest) → rest ≡ [] → a.base ≡ length below → IsExitOf c marked a f q.stands → Finishes a (phases.Leave n afters.Next) (frame_on (row_at c.program top) r.stands.insn.next 0 f ∷ [])
+  finishes : (n : ℕ) → n ≡ a.monitor → (rest : List Frame) (q : Runs c a f rest) → rest ≡ [] → a.base ≡ length below → IsExitOf c marked a f q.stands → Finishes a (phases.Leave n afters.Next) (frame_on (top_row c.program top) r.stands.insn.next 0 f ∷ [])
   finishes n on (b ∷ rest) q z base x = absurd (cc)
   finishes n on [] q z base x =
       let part = own_part c a f q in
@@ -96,7 +96,7 @@ module _ (c : MarkedProgram) (marked : IsMarked c) (f : Frame) (below : List Fra
       record {
         leaves = ap (λ i. phases.Leave i afters.Next) on;
         outermost = none_inside c marked a f q entry Whole phases.Run below held s.shown k base s.show (λ p. let d = s.depths p in omega (arith, d)) (as_many_at_exit c marked a f q entry x);
-        frame = frame_on (row_at c.program top) r.stands.insn.next 0 f;
+        frame = frame_on (top_row c.program top) r.stands.insn.next 0 f;
         alone = refl;
         method = part.method;
         receiver = part.receiver;
@@ -104,7 +104,7 @@ module _ (c : MarkedProgram) (marked : IsMarked c) (f : Frame) (below : List Fra
 
   leaves : (n : ℕ) → Is (Leaves n) → DoesIt (Leaves n) → OnwardStands c (Leaving n afters.Next (went_on c.program top 0)) → AttemptStands c (phases.Leave n afters.Next) (went_on c.program top 0) held a
   leaves n is d l =
-      let g = frame_on (row_at c.program top) r.stands.insn.next 0 f in
+      let g = frame_on (top_row c.program top) r.stands.insn.next 0 f in
       let on : n ≡ a.monitor = leaves_on c marked phases.Run f below held a k r this n d in
       let edge : has_number (edges r.stands.insn) l.insn.pc ≡ true = subst (λ pc. has_number (edges r.stands.insn) pc ≡ true) (sym l.pc_is) (next_edge r.stands.insn (falls (Leaves n) is (λ x. x))) in
       let inside : frames_inside a (g ∷ below) ≡ g ∷ frames_inside a below = one_more a g below low in
@@ -137,7 +137,7 @@ module _ (c : MarkedProgram) (marked : IsMarked c) (f : Frame) (below : List Fra
     calls other l inside =
         let m = r.stands.method in
         let insn = r.stands.insn in
-        let receives = is_receiver c.program number callee there f.stack (site_in m) insn.pc r.stands.target insn.op (row_at c.program top) (row_stands c marked f.method r.stands.number m insn r.stands.target r.stands.tags r.stands.at) d.0 d.1 in
+        let receives = is_receiver c.program number callee there f.stack (site_in m) insn.pc r.stands.target insn.op (top_row c.program top) (row_stands c marked f.method r.stands.number m insn r.stands.target r.stands.tags r.stands.at) d.0 d.1 in
         let runs = invoked c marked a f caller g (frames_inside a below) r (stands_too c f caller.stack f.locals r.stands) l f.stack refl refl refl this d.0 receives in
         let over : a.base ≤ length (caller ∷ below) = omega (arith, low) in
         let frames : frames_inside a (g ∷ caller ∷ below) ≡ g ∷ caller ∷ frames_inside a below = one_more a g (caller ∷ below) over ∙ ap (λ fs. g ∷ fs) (one_more a caller below low) in

@@ -16,7 +16,7 @@ use Rattle.checked_program.specs.MarkedProgram.{MarkedProgram}
 use Rattle.machine_types.specs.declared.effect.Effect.{Effect}
 use Rattle.machine_types.specs.declared.effect.Effect.TheVariants.{Goes, Throws, Reads, Writes, Indexes, Measures, Raises, Makes, Prints, Calls, Returns, Enters, Leaves, Waits, Notifies, NotifiesAll, Stuck}
 use Rattle.machine_types.specs.Elision.{enters_marked, may_try, begins, tries, is_checked, is_same, fails, if_same, elided}
-use Rattle.machine_types.specs.Events.{started, element_made, moved}
+use Rattle.machine_types.specs.Events.{thread_started, element_made, moved}
 use Rattle.machine_types.specs.Frames.{Top, top_of, effect_at, went_on, making, pushed}
 use Rattle.machine_types.specs.Going.{with_phase, runs, failed_turn, root_over, goes_on, goes_on_if, goes_after}
 use Rattle.machine_types.specs.HeldMonitors.{held_at, with_held, without_held, deeper, shallower}
@@ -395,7 +395,7 @@ module _ (c : MarkedProgram) (s : Thread) (got : ℕ) where
   thrown_at x class None e = record { move = stays (no_catcher x class e); is = refl }
   thrown_at x class (Some at) e = record { move = goes (handed x class at (handler_at (class_of class) at)) (by_handler x class at e); is = refl }
 
-  started_made : (roots : List ℕ) → s.roots ≡ roots → Made phases.Start (started c.program s roots)
+  started_made : (roots : List ℕ) → s.roots ≡ roots → Made phases.Start (thread_started c.program s roots)
   started_made [] e = record { move = stays (no_root e); is = refl }
   started_made (number ∷ roots) e = record { move = starts number roots e; is = refl }
 

@@ -14,7 +14,7 @@ use Rattle.jvm_types.specs.declared.program.Row.{Row}
 use Rattle.checked_program.specs.MarkedProgram.{MarkedProgram, IsMarked}
 use Rattle.machine_types.specs.Elision.{may_try, enters_marked}
 use Rattle.machine_types.specs.Bounds.{IsRooted, part_roots}
-use Rattle.machine_types.specs.Events.{started, element_made, moved}
+use Rattle.machine_types.specs.Events.{thread_started, element_made, moved}
 use Rattle.machine_types.specs.Frames.{Top, top_of, frames_of, went_on, pushed, has_room, entry_frame, monitor_of, handler_at}
 use Rattle.machine_types.specs.Going.{with_phase, failed_turn, goes_on, goes_on_if}
 use Rattle.machine_types.specs.HeldMonitors.{held_at, without_held}
@@ -124,7 +124,7 @@ module _ (c : MarkedProgram) (marked : IsMarked c) (was : Phase) (s : Thread) wh
       by_room true = (tt, roots_law c s.number number m marked e static)
       by_room false = refl
 
-  start_keeps : StaysStructured c was s → (roots : List ℕ) → AllByRecursion (λ (number : ℕ). IsTrue (has_number (part_roots c.program s.number s.part) number)) roots → Stands c phases.Start s.frames s.held s.attempt → s.attempt ≡ None → StaysStructured c was (started c.program s roots)
+  start_keeps : StaysStructured c was s → (roots : List ℕ) → AllByRecursion (λ (number : ℕ). IsTrue (has_number (part_roots c.program s.number s.part) number)) roots → Stands c phases.Start s.frames s.held s.attempt → s.attempt ≡ None → StaysStructured c was (thread_started c.program s roots)
   start_keeps same [] all k none = same
   start_keeps same (number ∷ roots) all k none = by_method (slice_get c.program.methods number) refl
     where

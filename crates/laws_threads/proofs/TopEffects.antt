@@ -6,10 +6,10 @@ use Rattle.std.proofs.lemmas.Option.{get_or_from_slice_get}
 use Rattle.lists.proofs.ListLaws.{same_some}
 use Rattle.lists.proofs.TestLaws.{first_true, second_true}
 use Rattle.jvm_types.specs.CodeTable.{arguments, is_init}
-use Rattle.jvm_types.specs.Members.{Site, is_static}
+use Rattle.jvm_types.specs.Members.{MethodSite, is_static}
 use Rattle.jvm_types.specs.Numbers.{has_number}
 use Rattle.jvm_types.specs.ProgramInvariant.{IsProgram, IsClassOf, site_in}
-use Rattle.jvm_types.specs.Verifying.{IsLaidOut, edges, frame_after, Fits}
+use Rattle.jvm_types.specs.Verifying.{IsLaidOut, edges, frame_after, FrameFits}
 use Rattle.jvm_types.specs.declared.class_numbers.TheConstants.{OBJECT_CLASS, PRINT_STREAM_CLASS}
 use Rattle.jvm_types.specs.declared.code.Insn.{Insn}
 use Rattle.jvm_types.specs.declared.code.Op.{Op}
@@ -47,7 +47,7 @@ use Rattle.machine_types.specs.Standing.{Standing}
 use Rattle.machine_types.specs.Threads.{Frame}
 use Rattle.machine_types.specs.Typed.{Classes, IsNullOr, FrameHolds}
 use Rattle.machine_types.specs.Words.{variable_word}
-use Rattle.laws_threads.specs.Allowed.{IsOf, IsFieldAt, WantHolds, TakenHold, OneOf, MadeAs, Allowed}
+use Rattle.laws_threads.specs.Allowed.{IsOf, IsNamedField, WantHolds, TakenHold, OneOf, MadeAs, Allowed}
 use Rattle.laws_threads.specs.TopFrames.{GoesTo, IsReference, CallFits, MakesFit, IsAllowed, EffectsAreAllowed}
 use Rattle.laws_threads.proofs.Values.{ValuesHold}
 use Rattle.laws_threads.proofs.Typing.{operands, edge_at}
@@ -59,7 +59,7 @@ use Rattle.laws_sections.proofs.HiddenThis.{long_arguments}
 
 -- ---- the effect is allowed
 
-class_named : (p : Program) (site : Site) (pc class : ℕ) (op : Op) (r : OpRow) → HasRow p site pc (targets.Class class) op r → IsClassOf p class
+class_named : (p : Program) (site : MethodSite) (pc class : ℕ) (op : Op) (r : OpRow) → HasRow p site pc (targets.Class class) op r → IsClassOf p class
 class_named p site pc class (ops.New i) r h = h.1
 class_named p site pc class op r h = absurd (assumption)
 
@@ -101,7 +101,7 @@ module _ (c : MarkedProgram) (marked : IsMarked c) (f : Frame) (fs : List Frame)
   goes_to to edge =
       let rules = rules_at c marked f k in
       let after = frame_after k.method (row_of c.program k.method k.insn k.target) k.types in
-      let fits : Fits k.method.code k.frames after to = edge_at k.method (within c.program) k.method.code k.frames after (edges k.insn) to rules.sound.edges_fit edge in
+      let fits : FrameFits k.method.code k.frames after to = edge_at k.method (within c.program) k.method.code k.frames after (edges k.insn) to rules.sound.edges_fit edge in
       let l = lands k.method k.frames after to fits in
       record { edge = number_in (edges k.insn) to edge; begins = record { number = l.number; insn = l.insn; there = l.there; starts = l.starts } }
 
@@ -111,7 +111,7 @@ module _ (c : MarkedProgram) (marked : IsMarked c) where
   of_heap : (class v : ℕ) → IsOf (within c.program) class v → IsReference c.program v
   of_heap class v o = (o.0, o.2)
 
-  variable_small : (target : Target) (v : Variable) (f : FieldInfo) → IsFieldAt c.program (within c.program) target v f → variable_word v < 2 ^ 32
+  variable_small : (target : Target) (v : Variable) (f : FieldInfo) → IsNamedField c.program (within c.program) target v f → variable_word v < 2 ^ 32
   variable_small target v f at = subst (λ (w : Variable). variable_word w < 2 ^ 32) (sym at.variable) (by_flag (is_static f.flags) refl)
     where
       is : IsProgram c.program

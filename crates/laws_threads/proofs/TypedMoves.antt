@@ -34,7 +34,7 @@ use Rattle.machine_types.specs.Frames.{frame_on, given_back, handler_of}
 use Rattle.machine_types.specs.Standing.{Standing}
 use Rattle.machine_types.specs.Threads.{Frame}
 use Rattle.machine_types.specs.Typed.{Classes, Holds, FrameHolds, WaitHolds}
-use Rattle.laws_threads.specs.Allowed.{OneOf, Gives}
+use Rattle.laws_threads.specs.Allowed.{OneOf, HasRowTypes}
 use Rattle.laws_threads.proofs.Values.{ValuesHold, holds_below, rest_holds}
 use Rattle.laws_threads.proofs.Typing.{start_holds, started_frame, values_after}
 use Rattle.laws_threads.proofs.Landing.{rules_at, tag_rules_at, land}
@@ -115,7 +115,7 @@ handler_found pc class (r ∷ rows) = ap (cond (covers pc r && (catches_all r ||
 module _ (c : MarkedProgram) (marked : IsMarked c) (is : Classes) where
   -- ---- an instruction goes on
 
-  pub goes : (f : Frame) (h : FrameHolds c is 0 f) (to made : ℕ) → OneOf (edges h.stands.insn) to → Gives h.stands.method is (row_of c.program h.stands.method h.stands.insn h.stands.target) made
+  pub goes : (f : Frame) (h : FrameHolds c is 0 f) (to made : ℕ) → OneOf (edges h.stands.insn) to → HasRowTypes h.stands.method is (row_of c.program h.stands.method h.stands.insn h.stands.target) made
       → FrameHolds c is 0 (frame_on (row_of c.program h.stands.method h.stands.insn h.stands.target) to made f)
   goes f h to made edge gives =
       let k = h.stands in
@@ -123,8 +123,8 @@ module _ (c : MarkedProgram) (marked : IsMarked c) (is : Classes) where
       let rules = rules_at c marked f k in
       let tags = tag_rules_at c marked f k in
       land c marked is (frame_on r to made f) k.method k.frames k.at.frames (frame_after k.method r k.types) (tags_after k.insn r k.tags) k.at.in_program k.types_of_method k.at.of_method
-      (all_at (types.Fits k.method.code k.frames (frame_after k.method r k.types)) (edges k.insn) to rules.sound.edges_fit edge)
-      (all_at (visits.Fits IsShapeBelow k.method.code k.at.frames (tags_after k.insn r k.tags)) (edges k.insn) to tags.edges_fit edge)
+      (all_at (types.FrameFits k.method.code k.frames (frame_after k.method r k.types)) (edges k.insn) to rules.sound.edges_fit edge)
+      (all_at (visits.EdgeFits IsShapeBelow k.method.code k.at.frames (tags_after k.insn r k.tags)) (edges k.insn) to tags.edges_fit edge)
       (values_after k.method is r k.types f to made rules.rules.types (record { stack = h.stack; locals = h.locals; receiver = h.receiver }) gives)
 
   -- ---- a call
@@ -157,8 +157,8 @@ module _ (c : MarkedProgram) (marked : IsMarked c) (is : Classes) where
       let values : ValuesHold k.method is (record k.types { stack = drop (length r.takes) k.types.stack }) g =
       record { stack = subst (λ (n : ℕ). AllZip (Holds k.method is) (drop n k.types.stack) g.stack) w.taken w.holds.stack; locals = w.holds.locals; receiver = w.holds.receiver } in
       land c marked is (record g { pc = k.insn.next; stack = given ++ g.stack }) k.method k.frames k.at.frames (frame_after k.method r k.types) (tags_after k.insn r k.tags) k.at.in_program k.types_of_method k.at.of_method
-      (all_at (types.Fits k.method.code k.frames (frame_after k.method r k.types)) (edges k.insn) k.insn.next rules.sound.edges_fit edge)
-      (all_at (visits.Fits IsShapeBelow k.method.code k.at.frames (tags_after k.insn r k.tags)) (edges k.insn) k.insn.next tags.edges_fit edge)
+      (all_at (types.FrameFits k.method.code k.frames (frame_after k.method r k.types)) (edges k.insn) k.insn.next rules.sound.edges_fit edge)
+      (all_at (visits.EdgeFits IsShapeBelow k.method.code k.at.frames (tags_after k.insn r k.tags)) (edges k.insn) k.insn.next tags.edges_fit edge)
       (values_behind k.method is called r k.types g k.insn.next given rules.rules.types call result values)
 
   -- ---- an exception
@@ -178,11 +178,11 @@ module _ (c : MarkedProgram) (marked : IsMarked c) (is : Classes) where
       let rules = rules_at c marked f s in
       let tags = tag_rules_at c marked f s in
       let here : handler_of s.insn.pc class s.method.rows ≡ Some r = subst (λ (pc : ℕ). handler_of pc class s.method.rows ≡ Some r) (sym s.pc_is) e in
-      let found = handler_in (λ h. types.Fits s.method.code s.frames (frame_at_handler h s.types) h.handler) s.insn.pc class s.method.rows r rules.sound.handlers_fit here in
+      let found = handler_in (λ h. types.FrameFits s.method.code s.frames (frame_at_handler h s.types) h.handler) s.insn.pc class s.method.rows r rules.sound.handlers_fit here in
       let among = catchers_among s.method s.insn.pc class r (sym (handler_found s.insn.pc class s.method.rows) ∙ here) in
-      let handlers : AllByRecursion (λ handler. visits.Fits IsShapeBelow s.method.code s.at.frames (tags_at_handler s.tags) handler.handler) (until_all (covering s.method s.insn.pc)) =
-      subst (λ b. AllByRecursion (λ handler. visits.Fits IsShapeBelow s.method.code s.at.frames (tags_at_handler s.tags) handler.handler) (if b then until_all (covering s.method s.insn.pc) else [])) throws tags.handlers_fit in
+      let handlers : AllByRecursion (λ handler. visits.EdgeFits IsShapeBelow s.method.code s.at.frames (tags_at_handler s.tags) handler.handler) (until_all (covering s.method s.insn.pc)) =
+      subst (λ b. AllByRecursion (λ handler. visits.EdgeFits IsShapeBelow s.method.code s.at.frames (tags_at_handler s.tags) handler.handler) (if b then until_all (covering s.method s.insn.pc) else [])) throws tags.handlers_fit in
       land c marked is (record f { pc = r.handler; stack = x ∷ [] }) s.method s.frames s.at.frames (frame_at_handler r s.types) (tags_at_handler s.tags) s.at.in_program s.types_of_method s.at.of_method
       found.0
-      (at_index (λ (handler : Row). visits.Fits IsShapeBelow s.method.code s.at.frames (tags_at_handler s.tags) handler.handler) (until_all (covering s.method s.insn.pc)) among.0 r handlers among.1)
+      (at_index (λ (handler : Row). visits.EdgeFits IsShapeBelow s.method.code s.at.frames (tags_at_handler s.tags) handler.handler) (until_all (covering s.method s.insn.pc)) among.0 r handlers among.1)
       (record { stack = (catches_in s.method is x class r k below found.1, tt); locals = h.locals; receiver = h.receiver })

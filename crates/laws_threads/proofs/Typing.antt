@@ -9,7 +9,7 @@ use Rattle.jvm_types.specs.declared.op_row.OpRow.{OpRow}
 use Rattle.jvm_types.specs.declared.op_row.Want.{Want}
 use Rattle.jvm_types.specs.declared.op_row.Want.TheVariants.{AnyValue, AnInt, AnObject, AnyReference, AHolder, ToStart}
 use Rattle.jvm_types.specs.Types.{TypeFrame, is_uninitialised, same_type}
-use Rattle.jvm_types.specs.Verifying.{suits, some_taken, some_read, new_class, is_class, takes_too_many, mistypes, started, initialised, after_start, frame_after, Fits}
+use Rattle.jvm_types.specs.Verifying.{suits, some_taken, some_read, new_class, is_class_of, takes_too_many, mistypes, started, initialised, after_start, frame_after, FrameFits}
 use Rattle.jvm_types.specs.declared.code.Insn.{Insn}
 use Rattle.jvm_types.specs.declared.typing.VType.{VType}
 use Rattle.jvm_types.specs.declared.typing.VType.TheVariants.{Ref, This, New}
@@ -19,7 +19,7 @@ use Rattle.laws_programs.proofs.MonoTypes.{same_object}
 use Rattle.machine_types.specs.Frames.{frame_on}
 use Rattle.machine_types.specs.Threads.{Frame}
 use Rattle.machine_types.specs.Typed.{Classes, IsMadeAt, Holds}
-use Rattle.laws_threads.specs.Allowed.{TakenHold, Gives, OneOf}
+use Rattle.laws_threads.specs.Allowed.{TakenHold, HasRowTypes, OneOf}
 use Rattle.laws_threads.proofs.Values.{ValuesHold, taken_hold, moved_stack, moved_locals}
 
 module _ (m : MethodInfo) (is : Classes) where
@@ -29,11 +29,11 @@ module _ (m : MethodInfo) (is : Classes) where
   StartHolds None = Unit {0}
   StartHolds (Some object) = (is_uninitialised object.0 ≡ true) × ((v : ℕ) → Holds m is object.0 v → is object.1 v)
 
-  same_class : (c : Option ℕ) (d class : ℕ) → c ≡ Some d → is_class c class ≡ true → class ≡ d
+  same_class : (c : Option ℕ) (d class : ℕ) → c ≡ Some d → is_class_of c class ≡ true → class ≡ d
   same_class None d class e h = absurd (cc)
   same_class (Some c) d class e h = let same : c ≡ d = cc in grind (arith, nat_tests, same, h)
 
-  new_start : (class pc : ℕ) → is_class (new_class m.code m.targets pc) class ≡ true → (v : ℕ) → IsMadeAt m is pc v → is class v
+  new_start : (class pc : ℕ) → is_class_of (new_class m.code m.targets pc) class ≡ true → (v : ℕ) → IsMadeAt m is pc v → is class v
   new_start class pc h v k = subst (λ (c : ℕ). is c v) (sym (same_class (new_class m.code m.targets pc) k.0 class k.1 h)) k.2
 
   abbrev pub Suit : List Want → List VType → Type 0
@@ -47,8 +47,8 @@ module _ (m : MethodInfo) (is : Classes) where
   start_holds (ToStart class ∷ wants) (This ∷ ts) h = (refl, λ v k. k)
   start_holds (ToStart class ∷ wants) (New pc ∷ ts) h = (
     refl,
-    new_start class pc (is_true (is_class (new_class m.code m.targets pc) class)
-        (or_parts (not (is_class (new_class m.code m.targets pc) class)) (some_taken (λ want t. not (suits m want t)) wants ts) h).0),
+    new_start class pc (is_true (is_class_of (new_class m.code m.targets pc) class)
+        (or_parts (not (is_class_of (new_class m.code m.targets pc) class)) (some_taken (λ want t. not (suits m want t)) wants ts) h).0),
   )
   start_holds (AnyValue ∷ wants) (t ∷ ts) h = start_holds wants ts (later AnyValue t wants ts h)
   start_holds (AnInt ∷ wants) (t ∷ ts) h = start_holds wants ts (later AnInt t wants ts h)
@@ -92,13 +92,13 @@ module _ (m : MethodInfo) (is : Classes) where
   operands r g f tall types k = taken_hold m is r.takes g.stack f.stack tall
       (or_parts (some_taken (λ want t. not (suits m want t)) r.takes g.stack) (some_read (λ want t. not (suits m want t)) r.reads g.locals) types).0 k.stack
 
-  pub values_after : (r : OpRow) (g : TypeFrame) (f : Frame) (to made : ℕ) → mistypes m r g ≡ false → ValuesHold m is g f → Gives m is r made
+  pub values_after : (r : OpRow) (g : TypeFrame) (f : Frame) (to made : ℕ) → mistypes m r g ≡ false → ValuesHold m is g f → HasRowTypes m is r made
       → ValuesHold m is (frame_after m r g) (frame_on r to made f)
   values_after r g f to made types k h = started_frame (started m.class r.takes g.stack) _ (frame_on r to made f)
       (start_holds r.takes g.stack (or_parts (some_taken (λ want t. not (suits m want t)) r.takes g.stack) (some_read (λ want t. not (suits m want t)) r.reads g.locals) types).0)
       (record { stack = moved_stack m is r g.stack g.locals f.stack f.locals made k.stack k.locals h; locals = moved_locals m is r g.stack g.locals f.stack f.locals made k.stack k.locals h; receiver = k.receiver })
 
-  pub edge_at : (code : List Insn) (frames : List (Option TypeFrame)) (g : TypeFrame) (tos : List ℕ) (to : ℕ) → AllByRecursion (Fits code frames g) tos → OneOf tos to → Fits code frames g to
-  edge_at code frames g (x ∷ xs) to all (inl e) = subst (Fits code frames g) (sym e) all.0
+  pub edge_at : (code : List Insn) (frames : List (Option TypeFrame)) (g : TypeFrame) (tos : List ℕ) (to : ℕ) → AllByRecursion (FrameFits code frames g) tos → OneOf tos to → FrameFits code frames g to
+  edge_at code frames g (x ∷ xs) to all (inl e) = subst (FrameFits code frames g) (sym e) all.0
   edge_at code frames g (x ∷ xs) to all (inr h) = edge_at code frames g xs to all.1 h
   edge_at code frames g [] to all h = absurd h

@@ -9,7 +9,7 @@ use Rattle.jvm_types.specs.ClassTree.{is_subclass}
 use Rattle.jvm_types.specs.CodeTable.{value_of, stack_after, locals_after}
 use Rattle.jvm_types.specs.Members.{is_static}
 use Rattle.jvm_types.specs.Types.{TypeFrame, is_below, all_pairs, frame_below}
-use Rattle.jvm_types.specs.Verifying.{suits, some_taken, new_class, is_class}
+use Rattle.jvm_types.specs.Verifying.{suits, some_taken, new_class, is_class_of}
 use Rattle.jvm_types.specs.declared.class_numbers.TheConstants.{OBJECT_CLASS}
 use Rattle.jvm_types.specs.declared.op_row.OpRow.{OpRow}
 use Rattle.jvm_types.specs.declared.op_row.Want.{Want}
@@ -23,7 +23,7 @@ use Rattle.jvm_types.proofs.TypeOrder.{subclass_self, subclass_trans}
 use Rattle.jvm_types.proofs.FrameOrder.{stack_below, locals_below}
 use Rattle.machine_types.specs.Threads.{Frame}
 use Rattle.machine_types.specs.Typed.{Classes, IsNullOr, Holds}
-use Rattle.laws_threads.specs.Allowed.{WantHolds, TakenHold, GivenHolds, WriteHolds, Gives}
+use Rattle.laws_threads.specs.Allowed.{WantHolds, TakenHold, GivenHolds, WriteHolds, HasRowTypes}
 
 -- the values of a frame have the types of a typing
 pub record ValuesHold (m : MethodInfo) (is : Classes) (g : TypeFrame) (f : Frame) : Type 0 where
@@ -86,7 +86,7 @@ module _ (m : MethodInfo) (is : Classes) where
       start_this false e h = inr (grind (arith, nat_tests, h))
   want_holds (ToStart class) (New pc) v h k = inl (subst (λ (c : ℕ). is c v) (sym (same_class (new_class m.code m.targets pc) k.1 h)) k.2)
     where
-      same_class : (c : Option ℕ) → c ≡ Some k.0 → is_class c class ≡ true → class ≡ k.0
+      same_class : (c : Option ℕ) → c ≡ Some k.0 → is_class_of c class ≡ true → class ≡ k.0
       same_class None e h = absurd (cc)
       same_class (Some c) e h = let same : c ≡ k.0 = cc in grind (arith, nat_tests, same, h)
   want_holds want t v h k = absurd (cc)
@@ -137,10 +137,10 @@ module _ (m : MethodInfo) (is : Classes) where
   locals_hold None ts ls s l made f g h = g
   locals_hold (Some write) ts ls s l made f g h = set_holds ls l write.0 _ _ g (value_holds ts ls s l made write.1 f g h)
 
-  pub moved_stack : (r : OpRow) (ts ls : List VType) (s l : List ℕ) (made : ℕ) → AllZip (Holds m is) ts s → AllZip (Holds m is) ls l → Gives m is r made
+  pub moved_stack : (r : OpRow) (ts ls : List VType) (s l : List ℕ) (made : ℕ) → AllZip (Holds m is) ts s → AllZip (Holds m is) ls l → HasRowTypes m is r made
       → AllZip (Holds m is) (stack_after Top (λ t. t) r ts ls) (stack_after 0 (λ t. made) r s l)
   moved_stack r ts ls s l made f g h = stack_holds r.gives ts ls s l made (drop (length r.takes) ts) (drop (length r.takes) s) f g h.0 (rest_holds (length r.takes) ts s f)
 
-  pub moved_locals : (r : OpRow) (ts ls : List VType) (s l : List ℕ) (made : ℕ) → AllZip (Holds m is) ts s → AllZip (Holds m is) ls l → Gives m is r made
+  pub moved_locals : (r : OpRow) (ts ls : List VType) (s l : List ℕ) (made : ℕ) → AllZip (Holds m is) ts s → AllZip (Holds m is) ls l → HasRowTypes m is r made
       → AllZip (Holds m is) (locals_after Top (λ t. t) r.writes ts ls) (locals_after 0 (λ t. made) r.writes s l)
   moved_locals r ts ls s l made f g h = locals_hold r.writes ts ls s l made f g h.1

@@ -65,8 +65,8 @@ WriteHolds m is made None = Unit {0}
 WriteHolds m is made (Some write) = GivenHolds m is made write.1
 
 -- a value of its own is of the type that the row says
-abbrev pub Gives : MethodInfo → Classes → OpRow → (made : ℕ) → Type 0
-Gives m is r made = AllByRecursion (GivenHolds m is made) r.gives × WriteHolds m is made r.writes
+abbrev pub HasRowTypes : MethodInfo → Classes → OpRow → (made : ℕ) → Type 0
+HasRowTypes m is r made = AllByRecursion (GivenHolds m is made) r.gives × WriteHolds m is made r.writes
 
 -- ---- what an effect may be
 
@@ -75,11 +75,11 @@ OneOf [] x = ⊥
 OneOf (y ∷ ys) x = (x ≡ y) ⊎ OneOf ys x
 
 -- it goes on behind the instruction
-abbrev pub GoesOn : Insn → Type 0
-GoesOn insn = OneOf (edges insn) insn.next
+abbrev pub HasEdgeToNext : Insn → Type 0
+HasEdgeToNext insn = OneOf (edges insn) insn.next
 
 -- the field that the target names; an instance one is of an object of its class
-pub record IsFieldAt (p : Program) (is : Classes) (target : Target) (v : Variable) (f : FieldInfo) : Type 0 where
+pub record IsNamedField (p : Program) (is : Classes) (target : Target) (v : Variable) (f : FieldInfo) : Type 0 where
   pub number : ℕ
   pub named : target ≡ Field number
   pub there : slice_get p.fields number ≡ Some f
@@ -108,20 +108,20 @@ IsByMachine x = Unit {0}
 
 -- of the instruction of a method, with its target, its row and the stack that it stands on
 abbrev pub Allowed : Program → MethodInfo → Classes → Insn → Target → OpRow → (stack : List ℕ) → Effect → Type 0
-Allowed p m is insn target r s (Goes to made) = OneOf (edges insn) to × Gives m is r made
+Allowed p m is insn target r s (Goes to made) = OneOf (edges insn) to × HasRowTypes m is r made
 Allowed p m is insn target r s (Throws x) = (can_throw insn.op ≡ true) × IsByMachine x
-Allowed p m is insn target r s (Reads v) = GoesOn insn × (f : FieldInfo) × IsFieldAt p is target v f × ((got : ℕ) → KindHolds is f.kind got → Gives m is r got)
-Allowed p m is insn target r s (Writes v word) = GoesOn insn × (f : FieldInfo) × IsFieldAt p is target v f × KindHolds is f.kind word × Gives m is r 0
-Allowed p m is insn target r s (Indexes a i stored) = GoesOn insn × IsOf is INT_ARRAY_CLASS a × IsElementOn (value_word a (low i)) stored s × StoredHolds stored × ((got : ℕ) → got < 2 ^ 32 → Gives m is r got)
-Allowed p m is insn target r s (Measures a) = GoesOn insn × IsOf is INT_ARRAY_CLASS a × ((got : ℕ) → got < 2 ^ 32 → Gives m is r got)
+Allowed p m is insn target r s (Reads v) = HasEdgeToNext insn × (f : FieldInfo) × IsNamedField p is target v f × ((got : ℕ) → KindHolds is f.kind got → HasRowTypes m is r got)
+Allowed p m is insn target r s (Writes v word) = HasEdgeToNext insn × (f : FieldInfo) × IsNamedField p is target v f × KindHolds is f.kind word × HasRowTypes m is r 0
+Allowed p m is insn target r s (Indexes a i stored) = HasEdgeToNext insn × IsOf is INT_ARRAY_CLASS a × IsElementOn (value_word a (low i)) stored s × StoredHolds stored × ((got : ℕ) → got < 2 ^ 32 → HasRowTypes m is r got)
+Allowed p m is insn target r s (Measures a) = HasEdgeToNext insn × IsOf is INT_ARRAY_CLASS a × ((got : ℕ) → got < 2 ^ 32 → HasRowTypes m is r got)
 Allowed p m is insn target r s (Raises x) = (can_throw insn.op ≡ true) × IsOf is THROWABLE_CLASS x
-Allowed p m is insn target r s (Makes word size) = GoesOn insn × (type : VType) × (r.gives ≡ Fresh type ∷ []) × (r.writes ≡ None) × MadeAs p m type word size
-Allowed p m is insn target r s (Prints n) = GoesOn insn × (n < 2 ^ 32) × Gives m is r 0
+Allowed p m is insn target r s (Makes word size) = HasEdgeToNext insn × (type : VType) × (r.gives ≡ Fresh type ∷ []) × (r.writes ≡ None) × MadeAs p m type word size
+Allowed p m is insn target r s (Prints n) = HasEdgeToNext insn × (n < 2 ^ 32) × HasRowTypes m is r 0
 Allowed p m is insn target r s (Calls number) = (called : MethodInfo) × (target ≡ Method number) × (slice_get p.methods number ≡ Some called)
 Allowed p m is insn target r s Returns = is_return insn.op ≡ true
-Allowed p m is insn target r s (Enters a) = GoesOn insn × (IsOf is OBJECT_CLASS a) × Gives m is r 0
-Allowed p m is insn target r s (Leaves a) = GoesOn insn × (IsNullOr is OBJECT_CLASS a) × Gives m is r 0
-Allowed p m is insn target r s (Waits a) = GoesOn insn × (IsOf is OBJECT_CLASS a) × Gives m is r 0
-Allowed p m is insn target r s (Notifies a) = GoesOn insn × (IsOf is OBJECT_CLASS a) × Gives m is r 0
-Allowed p m is insn target r s (NotifiesAll a) = GoesOn insn × (IsOf is OBJECT_CLASS a) × Gives m is r 0
+Allowed p m is insn target r s (Enters a) = HasEdgeToNext insn × (IsOf is OBJECT_CLASS a) × HasRowTypes m is r 0
+Allowed p m is insn target r s (Leaves a) = HasEdgeToNext insn × (IsNullOr is OBJECT_CLASS a) × HasRowTypes m is r 0
+Allowed p m is insn target r s (Waits a) = HasEdgeToNext insn × (IsOf is OBJECT_CLASS a) × HasRowTypes m is r 0
+Allowed p m is insn target r s (Notifies a) = HasEdgeToNext insn × (IsOf is OBJECT_CLASS a) × HasRowTypes m is r 0
+Allowed p m is insn target r s (NotifiesAll a) = HasEdgeToNext insn × (IsOf is OBJECT_CLASS a) × HasRowTypes m is r 0
 Allowed p m is insn target r s Stuck = ⊥

@@ -17,11 +17,11 @@ counted_of was None = was
 counted_of was (Some x) = counted_by was x.phase
 
 -- the phases that count where thread t has moved
-abbrev pub counted_at : (was : ℕ → Phase) → (t : ℕ) → List Thread → (u : ℕ) → Phase
-counted_at was t threads u = if u == t then counted_of (was t) (slice_get threads t) else was u
+abbrev pub counted_phase_at : (was : ℕ → Phase) → (t : ℕ) → List Thread → (u : ℕ) → Phase
+counted_phase_at was t threads u = if u == t then counted_of (was t) (slice_get threads t) else was u
 
 abbrev pub counted_after : MarkedProgram → (was : ℕ → Phase) → Core → (t : ℕ) → (u : ℕ) → Phase
-counted_after c was s t = counted_at was t (event c s t).threads
+counted_after c was s t = counted_phase_at was t (event c s t).threads
 
 abbrev pub EventsKeepStructure : Type 0
 EventsKeepStructure = (c : MarkedProgram) (objects : List Object) (was : ℕ → Phase) (s : Core) (t : ℕ) → IsMarked c → Structure c was s.threads

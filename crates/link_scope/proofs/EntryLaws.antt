@@ -6,7 +6,7 @@ use Rattle.std.proofs.lemmas.Bool.{cases_eq, eq-eqb, ne_eqb}
 use Rattle.std.proofs.lemmas.List.{length-append, length-take-le}
 use Rattle.jvm_types.specs.ClassGrammar.{IsClass}
 use Rattle.jvm_types.specs.ClassNames.{text_at, file_class}
-use Rattle.jvm_types.specs.Members.{Entry, member_in, Declared, class_of, name_of, descriptor_of, declared_from, declared_by, entries_from}
+use Rattle.jvm_types.specs.Members.{Entry, member_in, Declared, class_of_declared, name_of, descriptor_of, declared_from, declared_by, entries_from}
 use Rattle.jvm_types.specs.LinkFaults.{is_repeated}
 use Rattle.jvm_types.proofs.EachAfter.{all_append, all_weaker}
 use Rattle.jvm_types.specs.declared.class_file.Constant.{Constant}
@@ -14,7 +14,7 @@ use Rattle.jvm_types.specs.declared.class_file.Member.{Member as ClassMember}
 use Rattle.jvm_types.specs.declared.class_file.ClassFile.{ClassFile}
 use Rattle.jvm_types.specs.declared.program.Target.{Target}
 use Rattle.link_scope.specs.Scoping.{repeats}
-use Rattle.link_scope.specs.MemberTables.{members_of, target_of, built_in, entries_of, class_entries, member_entry, AreBelow, in_flags, in_flag_rows, repeats_of, AreRepeats}
+use Rattle.link_scope.specs.MemberTables.{members_of, target_of_sort, built_in, entries_of, class_entries, member_entry, AreBelow, in_flags, in_flag_rows, repeats_of, AreRepeats}
 use Rattle.link_scope.specs.declared.members.Sort.{Sort}
 use Rattle.link_scope.specs.declared.members.Sort.TheVariants.{Fields, Methods}
 use Rattle.link_scope.proofs.ListLaws.{got_at, got_other, take_next}
@@ -76,7 +76,7 @@ flags_next pool members j m flags b l e long is so_far i =
 -- ---- the members of all files
 
 one : (ℕ → Target) → ℕ → Declared → Entry
-one target n d = record { class = class_of d; name = name_of d; descriptor = descriptor_of d; flags = d.member.flags; target = target n }
+one target n d = record { class = class_of_declared d; name = name_of d; descriptor = descriptor_of d; flags = d.member.flags; target = target n }
 
 entries_append : (target : ℕ → Target) (n : ℕ) (xs ys : List Declared) → entries_from target n (xs ++ ys) ≡ entries_from target n xs ++ entries_from target (n + length xs) ys
 unfolding one
@@ -107,16 +107,16 @@ module _ (members : ClassFile → List ClassMember) where
 
   -- ---- which classes they are of
 
-  same_file : (file class : ℕ) (pool : List Constant) (place : ℕ) (ms : List ClassMember) → file_class file < class → AllByRecursion (λ d. class_of d < class) (declared_from file pool place ms)
+  same_file : (file class : ℕ) (pool : List Constant) (place : ℕ) (ms : List ClassMember) → file_class file < class → AllByRecursion (λ d. class_of_declared d < class) (declared_from file pool place ms)
   same_file file class pool place [] l = tt
   same_file file class pool place (m ∷ ms) l = (l, same_file file class pool (place + 1) ms l)
 
-  all_below : (k class : ℕ) (fs : List ClassFile) → file_class (k + length fs) ≤ class → AllByRecursion (λ d. class_of d < class) (declared_by members k fs)
+  all_below : (k class : ℕ) (fs : List ClassFile) → file_class (k + length fs) ≤ class → AllByRecursion (λ d. class_of_declared d < class) (declared_by members k fs)
   all_below k class [] l = tt
-  all_below k class (f ∷ fs) l = all_append (λ (d : Declared). class_of d < class) (declared_from k f.constants 0 (members f)) (declared_by members (k + 1) fs)
+  all_below k class (f ∷ fs) l = all_append (λ (d : Declared). class_of_declared d < class) (declared_from k f.constants 0 (members f)) (declared_by members (k + 1) fs)
       (same_file k class f.constants 0 (members f) (omega arith)) (all_below (k + 1) class fs (omega arith))
 
-entries_below : (target : ℕ → Target) (class n : ℕ) (ds : List Declared) → AllByRecursion (λ d. class_of d < class) ds → AreBelow class (entries_from target n ds)
+entries_below : (target : ℕ → Target) (class n : ℕ) (ds : List Declared) → AllByRecursion (λ d. class_of_declared d < class) ds → AreBelow class (entries_from target n ds)
 entries_below target class n [] h = tt
 entries_below target class n (d ∷ ds) h = (h.0, entries_below target class (n + 1) ds h.1)
 
@@ -128,9 +128,9 @@ module _ (sort : Sort) (files : List ClassFile) (k : ℕ) where
   pub of_below : k ≤ length files → AreBelow (file_class k) (entries_of sort (take k files))
   of_below l =
       let n : file_class (0 + length (take k files)) ≤ file_class k = omega (arith, length-take-le k files) in
-      all_append (λ (e : Entry). e.class < file_class k) (built_in sort) (entries_from (target_of sort) 0 (declared_by (members_of sort) 0 (take k files)))
+      all_append (λ (e : Entry). e.class < file_class k) (built_in sort) (entries_from (target_of_sort sort) 0 (declared_by (members_of sort) 0 (take k files)))
       (all_weaker (λ (e : Entry). e.class < 17) (λ (e : Entry). e.class < file_class k) (λ e h. omega (arith, h)) (built_in sort) (built_in_below sort))
-      (entries_below (target_of sort) (file_class k) 0 (declared_by (members_of sort) 0 (take k files)) (all_below (members_of sort) 0 (file_class k) (take k files) n))
+      (entries_below (target_of_sort sort) (file_class k) 0 (declared_by (members_of sort) 0 (take k files)) (all_below (members_of sort) 0 (file_class k) (take k files) n))
 
   -- the entries of the files so far and of the next one
   pub of_next : (c : ClassFile) → k < length files → c ≡ get_or files k c
@@ -141,9 +141,9 @@ module _ (sort : Sort) (files : List ClassFile) (k : ℕ) where
       let own : List Declared = declared_from k c.constants 0 (members_of sort c) in
       let all : declared_by (members_of sort) 0 (take (k + 1) files) ≡ front ++ own
       = ap (declared_by (members_of sort) 0) (take_next files k c l e) ∙ declared_push (members_of sort) 0 (take k files) c ∙ ap (λ (n : ℕ). front ++ declared_from n c.constants 0 (members_of sort c)) count in
-      ap (λ (ds : List Declared). built_in sort ++ entries_from (target_of sort) 0 ds) all
-      ∙ ap (λ (es : List Entry). built_in sort ++ es) (entries_append (target_of sort) 0 front own ∙ ap (λ (n : ℕ). entries_from (target_of sort) 0 front ++ entries_from (target_of sort) n own) (let z : 0 + length front ≡ length front = omega arith in z))
-      ∙ sym (append_assoc (built_in sort) (entries_from (target_of sort) 0 front) (entries_from (target_of sort) (length front) own))
+      ap (λ (ds : List Declared). built_in sort ++ entries_from (target_of_sort sort) 0 ds) all
+      ∙ ap (λ (es : List Entry). built_in sort ++ es) (entries_append (target_of_sort sort) 0 front own ∙ ap (λ (n : ℕ). entries_from (target_of_sort sort) 0 front ++ entries_from (target_of_sort sort) n own) (let z : 0 + length front ≡ length front = omega arith in z))
+      ∙ sym (append_assoc (built_in sort) (entries_from (target_of_sort sort) 0 front) (entries_from (target_of_sort sort) (length front) own))
 
 -- ---- rows of answers for all files
 

@@ -2,7 +2,7 @@
 use Rattle.std.proofs.Common.{◌≡◌, ℕ, ◌+◌, ◌<◌, List, [], ◌∷◌, ◌++◌, length, take, get_or, Some, sym, ◌∙◌, ⊎_elim, arith}
 use Rattle.std.proofs.lemmas.Bool.{cases_eq}
 use Rattle.std.proofs.lemmas.List.{length-take-le}
-use Rattle.jvm_types.specs.ClassNames.{text_of}
+use Rattle.jvm_types.specs.ClassNames.{entry_text}
 use Rattle.jvm_types.specs.declared.class_file.Constant.{Constant}
 use Rattle.jvm_types.specs.declared.class_file.ClassFile.{ClassFile}
 use Rattle.link_scope.specs.TextNumbers.{IsNumbered, Keeps}
@@ -13,13 +13,13 @@ long_to : {X Y : Type 0} (xs : List X) (ys : List Y) (i : ℕ) → i < length xs
 long_to xs ys i l e = omega (arith, length-take-le i xs)
 
 module _ (old new : List (List ℕ × ℕ)) (keeps : Keeps old new) where
-  row_more : (pool : List Constant) (row : List ℕ) (entry : Constant) (n : ℕ) → length row ≡ length pool → IsRow old pool row → IsNumbered new (text_of (Some entry)) n → IsRow new (pool ++ entry ∷ []) (row ++ n ∷ [])
+  row_more : (pool : List Constant) (row : List ℕ) (entry : Constant) (n : ℕ) → length row ≡ length pool → IsRow old pool row → IsNumbered new (entry_text (Some entry)) n → IsRow new (pool ++ entry ∷ []) (row ++ n ∷ [])
   row_more pool row entry n long is_row is i = ⊎_elim
       (λ e. rw (got_at pool entry i e, got_at row n i (e ∙ sym long)) is)
       (λ ne. rw (got_other pool entry i ne, got_other row n i (λ e. ne (e ∙ long))) (keeps _ _ (is_row i)))
       (cases_eq i (length pool))
 
-  pub row_next : (pool : List Constant) (i : ℕ) (row : List ℕ) (entry : Constant) (n : ℕ) → i < length pool → entry ≡ get_or pool i entry → length row ≡ i → IsRow old (take i pool) row → IsNumbered new (text_of (Some entry)) n → IsRow new (take (i + 1) pool) (row ++ n ∷ [])
+  pub row_next : (pool : List Constant) (i : ℕ) (row : List ℕ) (entry : Constant) (n : ℕ) → i < length pool → entry ≡ get_or pool i entry → length row ≡ i → IsRow old (take i pool) row → IsNumbered new (entry_text (Some entry)) n → IsRow new (take (i + 1) pool) (row ++ n ∷ [])
   row_next pool i row entry n l e long is_row is = rw (take_next pool i entry l e) (row_more (take i pool) row entry n (long_to pool row i l long) is_row is)
 
   rows_more : (files : List ClassFile) (rows : List (List ℕ)) (file : ClassFile) (row : List ℕ) → length rows ≡ length files → AreRows old files rows → IsRow new file.constants row → AreRows new (files ++ file ∷ []) (rows ++ row ∷ [])

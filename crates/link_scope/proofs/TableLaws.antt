@@ -12,7 +12,7 @@ use Rattle.link_scope.specs.Scoping.{IsFound}
 use Rattle.link_scope.specs.TextNumbers.{number_of, IsNumbered, AreApart}
 use Rattle.link_scope.specs.Keys.{is_key, found_at}
 use Rattle.link_scope.specs.BuiltIn.{first_methods}
-use Rattle.link_scope.specs.MemberTables.{Shows, Adds, found_in}
+use Rattle.link_scope.specs.MemberTables.{HasEntries, Adds, found_in}
 use Rattle.link_scope.specs.declared.table.Key.{Key}
 use Rattle.link_scope.specs.declared.scope.Found.{Found}
 use Rattle.link_scope.proofs.ListLaws.{some_same}
@@ -85,10 +85,10 @@ module _ (numbers : List (List ℕ × ℕ)) where
       rw (find-append (is_named class name descriptor) entries (e ∷ []), other) (subst (λ (o : Option Entry). IsFound name (found_at table (record { class = class; name = m; descriptor = k })) o) (or_none (member_in entries class name descriptor)) (shows class name descriptor m k is_m is_k))
 
   pub adds_none : (table : List (Key × Found)) → Adds numbers table table []
-  adds_none table entries shows = subst (λ (es : List Entry). Shows numbers es table) (sym (append-nil entries)) shows
+  adds_none table entries shows = subst (λ (es : List Entry). HasEntries numbers es table) (sym (append-nil entries)) shows
 
   pub adds_both : (one two three : List (Key × Found)) (xs ys : List Entry) → Adds numbers one two xs → Adds numbers two three ys → Adds numbers one three (xs ++ ys)
-  adds_both one two three xs ys a b entries shows = subst (λ (es : List Entry). Shows numbers es three) (append_assoc entries xs ys) (b (entries ++ xs) (a entries shows))
+  adds_both one two three xs ys a b entries shows = subst (λ (es : List Entry). HasEntries numbers es three) (append_assoc entries xs ys) (b (entries ++ xs) (a entries shows))
 
   pub adds_next : (one two three : List (Key × Found)) (xs : List Entry) (e f : Entry) → Adds numbers one two xs → Adds numbers two three (e ∷ []) → e ≡ f → Adds numbers one three (xs ++ f ∷ [])
   adds_next one two three xs e f a b same = subst (λ (x : Entry). Adds numbers one three (xs ++ x ∷ [])) same (adds_both one two three xs (e ∷ []) a b)
@@ -108,7 +108,7 @@ unless name true a x h = tt
 unless name false a x h = h
 
 -- what a table answers for a key is what look-up finds
-pub looked_up : (numbers : List (List ℕ × ℕ)) (entries : List Entry) (table : List (Key × Found)) (class : ℕ) (name descriptor : List ℕ) (n d : ℕ) (b : Bool) → Shows numbers entries table → IsNumbered numbers name n → IsNumbered numbers descriptor d
+pub looked_up : (numbers : List (List ℕ × ℕ)) (entries : List Entry) (table : List (Key × Found)) (class : ℕ) (name descriptor : List ℕ) (n d : ℕ) (b : Bool) → HasEntries numbers entries table → IsNumbered numbers name n → IsNumbered numbers descriptor d
     → b ≡ is_init_name name → IsFound name (found_in table (record { class = class; name = n; descriptor = d }) b) (look_up entries class name descriptor)
 looked_up numbers entries table class name descriptor n d b shows is_n is_d is =
     rw is (found_or name _ _ _ _ (shows class name descriptor n d is_n is_d) (unless name (is_init_name name) _ _ (shows 1 name descriptor n d is_n is_d)))

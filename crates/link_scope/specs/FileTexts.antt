@@ -23,13 +23,13 @@ abbrev pub AreRows : List (List ℕ × ℕ) → List ClassFile → List (List �
 AreRows numbers files rows = (file i : ℕ) → IsNumbered numbers (file_text files file i) (in_rows rows file i)
 
 -- some files, with the number of each text of their pools
-pub record Read : Type 0 where
+pub record NumberedFiles : Type 0 where
   pub files : List ClassFile
   pub numbers : List (List ℕ × ℕ)
 
 -- The texts were read among the classes of the files, each file has its row, no two texts have one number, and the number
 -- of `<init>` is known.
-pub record AreRead (files : List ClassFile) (classes : List (List ℕ)) (numbers : List (List ℕ × ℕ)) (table : List (List ℕ)) (init_number : Option ℕ) : Type 0 where
+pub record AreTextsRead (files : List ClassFile) (classes : List (List ℕ)) (numbers : List (List ℕ × ℕ)) (table : List (List ℕ)) (init_number : Option ℕ) : Type 0 where
   pub names : classes ≡ class_names files
   pub rows : AreRows numbers files table
   pub apart : AreApart numbers

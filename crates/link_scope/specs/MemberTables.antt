@@ -25,9 +25,9 @@ abbrev pub members_of : Sort → ClassFile → List ClassMember
 members_of Fields c = c.fields
 members_of Methods c = c.methods
 
-abbrev pub target_of : Sort → ℕ → Target
-target_of Fields number = targets.Field number
-target_of Methods number = targets.Method number
+abbrev pub target_of_sort : Sort → ℕ → Target
+target_of_sort Fields number = targets.Field number
+target_of_sort Methods number = targets.Method number
 
 abbrev pub built_in : Sort → List Entry
 built_in Fields = built_in_fields
@@ -35,7 +35,7 @@ built_in Methods = built_in_methods
 
 -- the members of some files, behind the built-in ones
 abbrev pub entries_of : Sort → List ClassFile → List Entry
-entries_of sort files = built_in sort ++ entries_from (target_of sort) 0 (declared_by (members_of sort) 0 files)
+entries_of sort files = built_in sort ++ entries_from (target_of_sort sort) 0 (declared_by (members_of sort) 0 files)
 
 -- whether the member of this number of a file has the name and the descriptor of one before it in its class
 abbrev pub repeats_of : Sort → Option ClassFile → ℕ → Bool
@@ -45,13 +45,13 @@ repeats_of sort (Some c) number = repeats c.constants (members_of sort c) number
 -- ---- tables
 
 -- the table has at the numbers of a name and of a descriptor the member that they name among the entries
-abbrev pub Shows : List (List ℕ × ℕ) → List Entry → List (Key × Found) → Type 0
-Shows numbers entries table = (class : ℕ) (name descriptor : List ℕ) (n d : ℕ) → IsNumbered numbers name n → IsNumbered numbers descriptor d
+abbrev pub HasEntries : List (List ℕ × ℕ) → List Entry → List (Key × Found) → Type 0
+HasEntries numbers entries table = (class : ℕ) (name descriptor : List ℕ) (n d : ℕ) → IsNumbered numbers name n → IsNumbered numbers descriptor d
     → IsFound name (found_at table (record { class = class; name = n; descriptor = d })) (member_in entries class name descriptor)
 
 -- the table has these entries behind those that it had before
 abbrev pub Adds : List (List ℕ × ℕ) → List (Key × Found) → List (Key × Found) → List Entry → Type 0
-Adds numbers old new added = (entries : List Entry) → Shows numbers entries old → Shows numbers (entries ++ added) new
+Adds numbers old new added = (entries : List Entry) → HasEntries numbers entries old → HasEntries numbers (entries ++ added) new
 
 -- ---- rows of answers
 
@@ -74,7 +74,7 @@ member_entry pool file m target = record { class = file_class file; name = text_
 
 -- the members of the class of a file, numbered from one on
 abbrev pub class_entries : Sort → ℕ → ClassFile → ℕ → List Entry
-class_entries sort file c first = entries_from (target_of sort) first (declared_from file c.constants 0 (members_of sort c))
+class_entries sort file c first = entries_from (target_of_sort sort) first (declared_from file c.constants 0 (members_of sort c))
 
 -- every entry is of a class with a lower number
 abbrev pub AreBelow : ℕ → List Entry → Type 0
@@ -84,7 +84,7 @@ AreBelow class entries = AllByRecursion (λ e. e.class < class) entries
 
 -- the table has the members of the files and the built-in ones, and each class its row of answers
 pub record AreMembers (sort : Sort) (files : List ClassFile) (numbers : List (List ℕ × ℕ)) (members : Members) : Type 0 where
-  pub shown : Shows numbers (entries_of sort files) members.table
+  pub shown : HasEntries numbers (entries_of sort files) members.table
   pub repeated : (file number : ℕ) → in_flag_rows members.repeated file number ≡ repeats_of sort (slice_get files file) number
 
 -- the member with a key, or else that of Object with its name and descriptor, which no `<init>` is looked for in

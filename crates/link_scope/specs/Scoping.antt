@@ -16,12 +16,12 @@ abbrev pub pool_of : Option ClassFile → List Constant
 pool_of None = []
 pool_of (Some c) = c.constants
 
-abbrev pub pool_at : List ClassFile → ℕ → List Constant
-pool_at files file = pool_of (slice_get files file)
+abbrev pub pool_of_file : List ClassFile → ℕ → List Constant
+pool_of_file files file = pool_of (slice_get files file)
 
 -- the text of an index of the pool of a file
 abbrev pub file_text : List ClassFile → ℕ → ℕ → List ℕ
-file_text files file i = text_at (pool_at files file) i
+file_text files file i = text_at (pool_of_file files file) i
 
 -- what was found is the member of this name
 abbrev pub IsFound : List ℕ → Option Found → Option Entry → Type 0

@@ -31,13 +31,13 @@ pub struct FileTexts<'a> {
 }
 
 impl<'a> Model for FileTexts<'a> {
-    ghost use Rattle.link_scope.specs.FileTexts.{Read, AreRead};
+    ghost use Rattle.link_scope.specs.FileTexts.{NumberedFiles, AreTextsRead};
 
-    ghost Value = { Read };
+    ghost Value = { NumberedFiles };
 
     ghost view = { λ t. record { files = t.files.now; numbers = t.texts.numbers } };
 
-    ghost invariant = { λ t. AreRead t.files.now t.texts.names t.texts.numbers t.rows t.init };
+    ghost invariant = { λ t. AreTextsRead t.files.now t.texts.names t.texts.numbers t.rows t.init };
 }
 
 /// Gives numbers to the texts of a pool, and answers the number at each index.

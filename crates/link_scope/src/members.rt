@@ -3,8 +3,8 @@
 ghost use Rattle.std.specs.Prelude.{◌≡◌, ◌+◌, ◌<◌, ◌^◌, List, [], ◌∷◌, length, is_some, slice_get, Some, IfOk, OnOk};
 ghost use Rattle.jvm_types.specs.ClassNames.{file_class as class_of_file};
 ghost use Rattle.jvm_types.specs.Members.{Entry, member_in};
-ghost use Rattle.link_scope.specs.Scoping.{file_text, pool_at, AreFiles};
-ghost use Rattle.link_scope.specs.MemberTables.{members_of, target_of, built_in, Shows, Adds, AreRepeats, member_entry, class_entries, AreBelow, AreMembers, found_in, in_flag_rows};
+ghost use Rattle.link_scope.specs.Scoping.{file_text, pool_of_file, AreFiles};
+ghost use Rattle.link_scope.specs.MemberTables.{members_of, target_of_sort, built_in, HasEntries, Adds, AreRepeats, member_entry, class_entries, AreBelow, AreMembers, found_in, in_flag_rows};
 
 use crate::built_in;
 use crate::file_texts::FileTexts;
@@ -43,7 +43,7 @@ impl Sort {
 
     /// What the member with a number is to an instruction.
     fn target(self, number: u32) -> Target
-        ensures { result ≡ target_of self number }
+        ensures { result ≡ target_of_sort self number }
     {
         match self {
             Sort::Fields => Target::Field(number),
@@ -72,8 +72,8 @@ fn add_member(
     target: Target,
 ) -> Result<bool, AllocError>
     requires { file < MOST_FILES }
-    ensures added { OnOk result (Adds texts.now.numbers table.old table.new (member_entry (pool_at texts.now.files file) file member.now target ∷ [])) }
-    ensures had { IfOk result (λ had. (entries : List Entry) → Shows texts.now.numbers entries table.old
+    ensures added { OnOk result (Adds texts.now.numbers table.old table.new (member_entry (pool_of_file texts.now.files file) file member.now target ∷ [])) }
+    ensures had { IfOk result (λ had. (entries : List Entry) → HasEntries texts.now.numbers entries table.old
         → had ≡ is_some (member_in entries (class_of_file file) (file_text texts.now.files file member.now.name) (file_text texts.now.files file member.now.descriptor))) }
 {
     let at = usize::from(file);
@@ -107,7 +107,7 @@ fn add_members(
     requires few { file < MOST_FILES }
     requires fits { first + length (members_of sort class.now) < 2 ^ 32 }
     ensures added { OnOk result (Adds texts.now.numbers table.old table.new (class_entries sort file class.now first)) }
-    ensures repeats { IfOk result (λ flags. (entries : List Entry) → Shows texts.now.numbers entries table.old → AreBelow (class_of_file file) entries
+    ensures repeats { IfOk result (λ flags. (entries : List Entry) → HasEntries texts.now.numbers entries table.old → AreBelow (class_of_file file) entries
         → AreRepeats class.now.constants (members_of sort class.now) flags) }
 {
     let mut flags = Rows::new(alloc);

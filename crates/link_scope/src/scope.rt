@@ -3,7 +3,7 @@
 ghost use Rattle.std.specs.Prelude.{◌≡◌, List, Some, slice_get, IfOk};
 ghost use Rattle.jvm_types.specs.Members.{Entry, look_up};
 ghost use Rattle.jvm_types.specs.Linked.{scope_of};
-ghost use Rattle.link_scope.specs.MemberTables.{Shows};
+ghost use Rattle.link_scope.specs.MemberTables.{HasEntries};
 ghost use Rattle.link_scope.specs.Scoping.{file_text, IsFound, AreFiles};
 
 use crate::file_scope::FileScope;
@@ -53,7 +53,7 @@ fn look_up(
     name: u16,
     descriptor: u16,
 ) -> Option<Found>
-    ensures { (entries : List Entry) → Shows texts.now.numbers entries members.now.table → IsFound (file_text texts.now.files file name) result
+    ensures { (entries : List Entry) → HasEntries texts.now.numbers entries members.now.table → IsFound (file_text texts.now.files file name) result
         (look_up entries class (file_text texts.now.files file name) (file_text texts.now.files file descriptor)) }
 {
     let key = Key {

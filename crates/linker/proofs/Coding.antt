@@ -8,7 +8,7 @@ use Rattle.jvm_types.specs.ClassGrammar.{IsHandler, IsMethod, IsMethodAttr}
 use Rattle.jvm_types.specs.Members.{Declared, declared_from, declared_by}
 use Rattle.jvm_types.specs.Targets.{Scope, target_of}
 use Rattle.jvm_types.specs.Linked.{code_of, site_of, resolved_target, linked_method, linked_methods}
-use Rattle.jvm_types.specs.LinkFaults.{LinkFault, at_place, in_method, insn_fault, uses_fault}
+use Rattle.jvm_types.specs.LinkFaults.{LinkFault, rule_at_place, in_method, insn_fault, uses_fault}
 use Rattle.jvm_types.specs.declared.class_file.Constant.{Constant}
 use Rattle.jvm_types.specs.declared.class_file.MemberAttr.{MemberAttr}
 use Rattle.jvm_types.specs.declared.class_file.MemberAttr.TheVariants as member_attrs
@@ -50,12 +50,12 @@ number_at f i is l = omega (arith, is.class.methods.count)
 
 pub target_given : (s : Scope) (d : Declared) (insn : Insn) (t : Target) → Ok t ≡ target_of s (site_of d) d.pool insn.op → (insn_fault s d insn ≡ None) × (t ≡ resolved_target s (site_of d) d.pool insn)
 target_given s d insn t e = (
-  ap (λ (r : Result Target LRule). at_place (in_method d.file d.place insn.pc) (result_err r)) (sym e),
+  ap (λ (r : Result Target LRule). rule_at_place (in_method d.file d.place insn.pc) (result_err r)) (sym e),
   ap (λ (r : Result Target LRule). result_unwrap_or r targets.Nothing) e,
 )
 
 pub target_refused : (s : Scope) (d : Declared) (insn : Insn) (rule : LRule) → Err rule ≡ target_of s (site_of d) d.pool insn.op → insn_fault s d insn ≡ Some (rule, in_method d.file d.place insn.pc)
-target_refused s d insn rule e = ap (λ (r : Result Target LRule). at_place (in_method d.file d.place insn.pc) (result_err r)) (sym e)
+target_refused s d insn rule e = ap (λ (r : Result Target LRule). rule_at_place (in_method d.file d.place insn.pc) (result_err r)) (sym e)
 
 -- ---- what is linked, and what refuses
 

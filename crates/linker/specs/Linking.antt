@@ -20,9 +20,9 @@ IsLinkErrorOf fault Memory = Unit {0}
 IsLinkErrorOf fault (Refused rule place) = fault ≡ Some (rule, place)
 
 -- what is made where nothing refuses it; or what refuses it
-abbrev pub Gives : {A : Type 0} → Option LinkFault → A → Result A LinkFault → Type 0
-Gives fault made (Ok x) = (fault ≡ None) × (x ≡ made)
-Gives fault made (Err e) = fault ≡ Some e
+abbrev pub IsMadeOrRefused : {A : Type 0} → Option LinkFault → A → Result A LinkFault → Type 0
+IsMadeOrRefused fault made (Ok x) = (fault ≡ None) × (x ≡ made)
+IsMadeOrRefused fault made (Err e) = fault ≡ Some e
 
 -- the same, but where memory ran out
 abbrev pub Links : {A : Type 0} → Option LinkFault → A → Result A LinkError → Type 0

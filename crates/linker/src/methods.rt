@@ -10,7 +10,7 @@ ghost use Rattle.jvm_types.specs.Members.{declared_from, declared_methods};
 ghost use Rattle.jvm_types.specs.Linked.{scope_of, code_of, site_of, resolved_target, resolved_row, resolved_signature, linked_method, linked_methods, coded_methods};
 ghost use Rattle.jvm_types.specs.LinkFaults.{first_fault, insn_fault, row_fault, uses_fault, use_pass};
 ghost use Rattle.descriptors.specs.Signatures.{meaning};
-ghost use Rattle.linker.specs.Linking.{IsLinkErrorOf, Gives, Links, AreLinked, use_faults, method_of, copied_bytes};
+ghost use Rattle.linker.specs.Linking.{IsLinkErrorOf, IsMadeOrRefused, Links, AreLinked, use_faults, method_of, copied_bytes};
 
 use crate::budget::{Budget, MOST_COPIED};
 use crate::error::LinkError;
@@ -41,7 +41,7 @@ fn resolve_target(
     method: &Member,
     insn: &Insn,
 ) -> Result<Target, Fault>
-    ensures { Gives (insn_fault (scope_of file.now.files) (method_of file.now number method.now) insn.now)
+    ensures { IsMadeOrRefused (insn_fault (scope_of file.now.files) (method_of file.now number method.now) insn.now)
         (resolved_target (scope_of file.now.files) (site_of (method_of file.now number method.now)) file.now.class.constants insn.now) result }
 {
     let site = Site {
@@ -80,7 +80,7 @@ fn resolve_row(
     handler: &Handler,
 ) -> Result<Row, Fault>
     requires { IsIndex kinds.CatchType file.now.class.constants handler.now.catch_type }
-    ensures { Gives (row_fault (scope_of file.now.files) (method_of file.now number method.now) handler.now)
+    ensures { IsMadeOrRefused (row_fault (scope_of file.now.files) (method_of file.now number method.now) handler.now)
         (resolved_row (scope_of file.now.files) file.now.class.constants handler.now) result }
 {
     let start = u32::from(handler.start);

@@ -20,23 +20,23 @@ use Rattle.checked_program.specs.declared.section.SectionMark.{SectionMark}
 -- ---- code
 
 -- an instruction with what its constant names
-pub record Line : Type 0 where
+pub record InstructionLine : Type 0 where
   pub insn : Insn
   pub target : Target
 
-abbrev pub line_to : (pc next : ℕ) → Op → Target → Line
+abbrev pub line_to : (pc next : ℕ) → Op → Target → InstructionLine
 line_to pc next op target = record { insn = record { pc = pc; next = next; op = op }; target = target }
 
-abbrev pub line : (pc next : ℕ) → Op → Line
-line pc next op = line_to pc next op targets.Nothing
+abbrev pub plain_line : (pc next : ℕ) → Op → InstructionLine
+plain_line pc next op = line_to pc next op targets.Nothing
 
-abbrev pub row : (start last handler class : ℕ) → Row
-row start last handler class = record { start = start; «end» = last; handler = handler; catch_class = class }
+abbrev pub handler_row : (start last handler class : ℕ) → Row
+handler_row start last handler class = record { start = start; «end» = last; handler = handler; catch_class = class }
 
 -- ---- programs of one class, which has the number 17, with 4,096 heap words
 
-abbrev pub method : (flags : ℕ) → (name descriptor : List ℕ) → List Kind → Option Kind → (max_stack max_locals : ℕ) → List Line → List Row → MethodInfo
-method flags name descriptor args result max_stack max_locals lines rows = record {
+abbrev pub play_method : (flags : ℕ) → (name descriptor : List ℕ) → List Kind → Option Kind → (max_stack max_locals : ℕ) → List InstructionLine → List Row → MethodInfo
+play_method flags name descriptor args result max_stack max_locals lines rows = record {
   class = 17;
   flags = flags;
   name = name;
@@ -72,8 +72,8 @@ loaded name workers fields methods marks = record {
 abbrev pub usual : Config
 usual = record { steps = 10000000; turns = 4294967295; prints = 65536; elide = true; range = 4294967295 }
 
-abbrev pub times : (n t : ℕ) → List ℕ
-times n t = replicate n t
+abbrev pub thread_turns : (n t : ℕ) → List ℕ
+thread_turns n t = replicate n t
 
 -- ---- what a run comes to
 
@@ -84,8 +84,8 @@ report e prints instructions elided failed locked inflated = record {
   counts = record { instructions = instructions; elided = elided; failed = failed; locked = locked; inflated = inflated };
 }
 
-abbrev pub printed : (ticket : ℕ) → (value : ℤ) → Print
-printed ticket value = record { ticket = ticket; value = value }
+abbrev pub print_of : (ticket : ℕ) → (value : ℤ) → Print
+print_of ticket value = record { ticket = ticket; value = value }
 
-abbrev pub shown : (thread : ℕ) → (value : ℤ) → Printed
-shown thread value = record { thread = thread; value = value }
+abbrev pub printed_by : (thread : ℕ) → (value : ℤ) → Printed
+printed_by thread value = record { thread = thread; value = value }

@@ -10,10 +10,10 @@ use Rattle.machine_types.specs.Effects.{Effect, Writes, Indexes, Makes, Prints, 
 use Rattle.machine_types.specs.Frames.{Top, top_of, effect_at, went_on}
 use Rattle.machine_types.specs.History.{steps_of}
 use Rattle.machine_types.specs.Onward.{Onward, Entering, Leaving, Next, after, returns, dispatched, done}
-use Rattle.machine_types.specs.PlainInstructions.{did, if_held, if_left, instructed, got_by}
-use Rattle.machine_types.specs.PlainState.{Plain, PlainThread, Holding, Status, value_at, holding_at, with_holding, held_by, is_holder, with_thread, with_status, goes_on}
+use Rattle.machine_types.specs.PlainInstructions.{plain_did, if_plain_held, if_left, plain_instructed, got_by}
+use Rattle.machine_types.specs.PlainState.{Plain, PlainThread, Holding, Status, value_at, holding_at, with_holding, held_by, is_holder, with_thread, with_status, plain_goes_on}
 use Rattle.machine_types.specs.PlainState as plain
-use Rattle.machine_types.specs.PlainSteps.{entered, left, exited, step_at, step_of, plain_run}
+use Rattle.machine_types.specs.PlainSteps.{plain_entered, left, exited, step_at, step_of, plain_run}
 use Rattle.machine_types.specs.Replay.{Alone, only_on, reads_only, goes, instructs, enters, leaves, replay_act, replayed}
 use Rattle.machine_types.specs.declared.phase.After.{After}
 use Rattle.machine_types.specs.declared.plain.Act.{Act}
@@ -88,17 +88,17 @@ same_onward m (Leaving n a frames) w e = by_test (n == m) e
 same_onward m o w e = same_some e
 
 -- with the instructions that it has begun
-onward_as : (q : Plain) (t m : ℕ) (x z : Alone) (begun : ℕ) (o : Onward) → Stands q t m x → goes (record x { begun = begun }) (Some o) ≡ Some z → with_thread q t (goes_on x.thread o) ≡ stands_as q t m z
-onward_as q t m x z begun o f e = moves q t m x (goes_on x.thread o) begun f ∙ ap (stands_as q t m) (same_some e)
+onward_as : (q : Plain) (t m : ℕ) (x z : Alone) (begun : ℕ) (o : Onward) → Stands q t m x → goes (record x { begun = begun }) (Some o) ≡ Some z → with_thread q t (plain_goes_on x.thread o) ≡ stands_as q t m z
+onward_as q t m x z begun o f e = moves q t m x (plain_goes_on x.thread o) begun f ∙ ap (stands_as q t m) (same_some e)
 
 mapped_as : (q : Plain) (t m : ℕ) (x z : Alone) (begun : ℕ) (o : Option Onward) → Stands q t m x → goes (record x { begun = begun }) (option_and_then (only_on m) o) ≡ Some z
-    → option_map (λ o. with_thread q t (goes_on x.thread o)) o ≡ Some (stands_as q t m z)
+    → option_map (λ o. with_thread q t (plain_goes_on x.thread o)) o ≡ Some (stands_as q t m z)
 mapped_as q t m x z begun None f e = cc
 mapped_as q t m x z begun (Some o) f e = by_onward (only_on m o) refl e
   where
-    by_onward : (w : Option Onward) → only_on m o ≡ w → goes (record x { begun = begun }) w ≡ Some z → Some (with_thread q t (goes_on x.thread o)) ≡ Some (stands_as q t m z)
+    by_onward : (w : Option Onward) → only_on m o ≡ w → goes (record x { begun = begun }) w ≡ Some z → Some (with_thread q t (plain_goes_on x.thread o)) ≡ Some (stands_as q t m z)
     by_onward None k g = cc
-    by_onward (Some w) k g = ap (λ (v : Onward). Some (with_thread q t (goes_on x.thread v))) (same_onward m o w k) ∙ ap Some (onward_as q t m x z begun w f g)
+    by_onward (Some w) k g = ap (λ (v : Onward). Some (with_thread q t (plain_goes_on x.thread v))) (same_onward m o w k) ∙ ap Some (onward_as q t m x z begun w f g)
 
 -- the thread holds the monitor
 holds : (q : Plain) (t m : ℕ) (x : Alone) → Stands q t m x → is_holder t (holding_at q.holdings m) ≡ true
@@ -106,7 +106,7 @@ holds q t m x f = ap (is_holder t) f.holding ∙ is_same t
 
 -- what the plain machine does that it does not do without the monitor
 if_held_as : (q : Plain) (t m n : ℕ) (x z : Alone) (at : Top) (begun : ℕ) (o : Onward) (b : Bool) → (n == m) ≡ b → Stands q t m x → goes (record x { begun = begun }) (cond b (Some o) None) ≡ Some z
-    → with_thread q t (if_held q t n x.thread at (goes_on x.thread o)) ≡ stands_as q t m z
+    → with_thread q t (if_plain_held q t n x.thread at (plain_goes_on x.thread o)) ≡ stands_as q t m z
 if_held_as q t m n x z at begun o true k f e =
     let holder : is_holder t (holding_at q.holdings n) ≡ true = ap (λ (i : ℕ). is_holder t (holding_at q.holdings i)) (eqb-true n m k) ∙ holds q t m x f in
     rw holder (onward_as q t m x z begun o f e)
@@ -117,7 +117,7 @@ if_left_as : (q : Plain) (t m : ℕ) (x z : Alone) (at : Top) (begun : ℕ) (o :
 if_left_as q t m x z at begun (Leaving n a frames) f e = if_held_as q t m n x z at begun (Leaving n a frames) (n == m) refl f e
 if_left_as q t m x z at begun (Entering n frames) f e = by_test (n == m) e
   where
-    by_test : (b : Bool) → goes (record x { begun = begun }) (cond b (Some (Entering n frames)) None) ≡ Some z → with_thread q t (goes_on x.thread (Entering n frames)) ≡ stands_as q t m z
+    by_test : (b : Bool) → goes (record x { begun = begun }) (cond b (Some (Entering n frames)) None) ≡ Some z → with_thread q t (plain_goes_on x.thread (Entering n frames)) ≡ stands_as q t m z
     by_test true g = onward_as q t m x z begun (Entering n frames) f g
     by_test false g = cc
 if_left_as q t m x z at begun o f e = onward_as q t m x z begun o f e
@@ -125,10 +125,10 @@ if_left_as q t m x z at begun o f e = onward_as q t m x z begun o f e
 -- ---- one instruction
 
 leaves_as : (p : Program) (q : Plain) (t m n : ℕ) (x z : Alone) (at : Top) (begun : ℕ) (b : Bool) → (n == m) ≡ b → Stands q t m x → m ≢ 0
-    → goes (record x { begun = begun }) (cond b (Some (Leaving n Next (went_on p at 0))) None) ≡ Some z → did p q t x.thread at (Leaves n) 0 ≡ Some (stands_as q t m z)
+    → goes (record x { begun = begun }) (cond b (Some (Leaving n Next (went_on p at 0))) None) ≡ Some z → plain_did p q t x.thread at (Leaves n) 0 ≡ Some (stands_as q t m z)
 leaves_as p q t m n x z at begun true k f some e =
     let other : (n == 0) ≡ false = is_other n m (eqb-true n m k) some in
-    let left : with_thread q t (if_held q t n x.thread at (goes_on x.thread (Leaving n Next (went_on p at 0)))) ≡ stands_as q t m z = if_held_as q t m n x z at begun (Leaving n Next (went_on p at 0)) true k f e in
+    let left : with_thread q t (if_plain_held q t n x.thread at (plain_goes_on x.thread (Leaving n Next (went_on p at 0)))) ≡ stands_as q t m z = if_held_as q t m n x z at begun (Leaving n Next (went_on p at 0)) true k f e in
     rw other (ap Some left)
   where
     is_other : (n m : ℕ) → n ≡ m → m ≢ 0 → (n == 0) ≡ false
@@ -136,7 +136,7 @@ leaves_as p q t m n x z at begun true k f some e =
 leaves_as p q t m n x z at begun false k f some e = cc
 
 did_as : (p : Program) (q : Plain) (t m : ℕ) (x z : Alone) (at : Top) (begun : ℕ) (e : Effect) (got : ℕ) → Stands q t m x → m ≢ 0
-    → goes (record x { begun = begun }) (option_and_then (only_on m) (reads_only p at e got)) ≡ Some z → did p q t x.thread at e got ≡ Some (stands_as q t m z)
+    → goes (record x { begun = begun }) (option_and_then (only_on m) (reads_only p at e got)) ≡ Some z → plain_did p q t x.thread at e got ≡ Some (stands_as q t m z)
 did_as p q t m x z at begun (Writes v word) got f some s = cc
 did_as p q t m x z at begun (Indexes array index stored) got f some s = cc
 did_as p q t m x z at begun (Makes word size) got f some s = cc
@@ -150,28 +150,28 @@ did_as p q t m x z at begun e got f some s = mapped_as q t m x z begun (done p a
 
 got_as : (p : Program) (q : Plain) (t m : ℕ) (x z : Alone) (at : Top) (begun : ℕ) (e : Effect) (o : Option ℕ) → Stands q t m x → m ≢ 0
     → goes (record x { begun = begun }) (option_and_then (λ got. option_and_then (only_on m) (reads_only p at e got)) o) ≡ Some z
-    → option_and_then (λ got. did p q t x.thread at e got) o ≡ Some (stands_as q t m z)
+    → option_and_then (λ got. plain_did p q t x.thread at e got) o ≡ Some (stands_as q t m z)
 got_as p q t m x z at begun e None f some s = cc
 got_as p q t m x z at begun e (Some got) f some s = did_as p q t m x z at begun e got f some s
 
-instructed_as : (p : Program) (q : Plain) (t m : ℕ) (x z : Alone) (o : Option Top) → Stands q t m x → m ≢ 0 → instructs p m (value_at q) x o ≡ Some z → instructed p q t x.thread o ≡ Some (stands_as q t m z)
+instructed_as : (p : Program) (q : Plain) (t m : ℕ) (x z : Alone) (o : Option Top) → Stands q t m x → m ≢ 0 → instructs p m (value_at q) x o ≡ Some z → plain_instructed p q t x.thread o ≡ Some (stands_as q t m z)
 instructed_as p q t m x z None f some e = cc
 instructed_as p q t m x z (Some at) f some e = got_as p q t m x z at (x.begun + 1) (effect_at p at) (got_by (value_at q) (read_by (effect_at p at))) f some e
 
 -- ---- one act
 
-entered_as : (q : Plain) (t m n : ℕ) (x z : Alone) (b : Bool) → (n == m) ≡ b → Stands q t m x → cond b (Some (enters x)) None ≡ Some z → entered q t n x.thread (holding_at q.holdings n) ≡ Some (stands_as q t m z)
+entered_as : (q : Plain) (t m n : ℕ) (x z : Alone) (b : Bool) → (n == m) ≡ b → Stands q t m x → cond b (Some (enters x)) None ≡ Some z → plain_entered q t n x.thread (holding_at q.holdings n) ≡ Some (stands_as q t m z)
 entered_as q t m n x z true k f e =
-    ap (λ (i : ℕ). entered q t i x.thread (holding_at q.holdings i)) (eqb-true n m k)
-    ∙ ap (entered q t m x.thread) f.holding
+    ap (λ (i : ℕ). plain_entered q t i x.thread (holding_at q.holdings i)) (eqb-true n m k)
+    ∙ ap (plain_entered q t m x.thread) f.holding
     ∙ ap (λ (b : Bool). cond b (Some (with_thread (held_by q m t (x.depth + 1)) t (with_status x.thread plain.Run))) None) (is_same t)
     ∙ ap (λ (y : Alone). Some (stands_as q t m y)) (same_some e)
 entered_as q t m n x z false k f e = cc
 
-left_as : (p : Program) (q : Plain) (t m : ℕ) (x z : Alone) (a : After) (depth : ℕ) → leaves p x a depth ≡ Some z → option_map (λ o. with_thread (left q t m depth) t (goes_on x.thread o)) (after p x.thread.frames a) ≡ Some (stands_as q t m z)
+left_as : (p : Program) (q : Plain) (t m : ℕ) (x z : Alone) (a : After) (depth : ℕ) → leaves p x a depth ≡ Some z → option_map (λ o. with_thread (left q t m depth) t (plain_goes_on x.thread o)) (after p x.thread.frames a) ≡ Some (stands_as q t m z)
 left_as p q t m x z a (suc (suc depth)) e = by_onward (after p x.thread.frames a) e
   where
-    by_onward : (o : Option Onward) → goes (record x { depth = suc depth }) o ≡ Some z → option_map (λ o. with_thread (held_by q m t (suc depth)) t (goes_on x.thread o)) o ≡ Some (stands_as q t m z)
+    by_onward : (o : Option Onward) → goes (record x { depth = suc depth }) o ≡ Some z → option_map (λ o. with_thread (held_by q m t (suc depth)) t (plain_goes_on x.thread o)) o ≡ Some (stands_as q t m z)
     by_onward None f = cc
     by_onward (Some o) f = ap (λ (y : Alone). Some (stands_as q t m y)) (same_some f)
 left_as p q t m x z a (suc zero) e = cc
@@ -182,7 +182,7 @@ exited_as : (p : Program) (q : Plain) (t m n : ℕ) (a : After) (x z : Alone) (b
 exited_as p q t m n a x z true k f e =
     ap (λ (i : ℕ). exited p q t i a x.thread (holding_at q.holdings i)) (eqb-true n m k)
     ∙ ap (exited p q t m a x.thread) f.holding
-    ∙ ap (λ (b : Bool). cond b (option_map (λ o. with_thread (left q t m x.depth) t (goes_on x.thread o)) (after p x.thread.frames a)) None) (is_same t)
+    ∙ ap (λ (b : Bool). cond b (option_map (λ o. with_thread (left q t m x.depth) t (plain_goes_on x.thread o)) (after p x.thread.frames a)) None) (is_same t)
     ∙ left_as p q t m x z a x.depth e
 exited_as p q t m n a x z false k f e = cc
 

@@ -25,7 +25,7 @@ use Rattle.machine_types.specs.Owners.{lock_at, NotHeld, hold_by_word, hold_by_l
 use Rattle.machine_types.specs.PlainMemory.{Object, object_end, value_in, object_value, static_value, has_value, header_of, first_value}
 use Rattle.machine_types.specs.PlainState.{Plain, PlainThread, Holding, value_at, holding_at}
 use Rattle.machine_types.specs.PlainState as plain
-use Rattle.machine_types.specs.PlainSteps.{plain_run, plain_step, step_of, step_at, entered}
+use Rattle.machine_types.specs.PlainSteps.{plain_run, plain_step, step_of, step_at, plain_entered}
 use Rattle.machine_types.specs.Replay.{Alone, replayed, at_entry, at_present}
 use Rattle.machine_types.specs.Threads.{Attempt, Thread, Config}
 use Rattle.machine_types.specs.Typed.{AttemptHolds, HasClass}
@@ -207,7 +207,7 @@ module _ (c : MarkedProgram) (cfg : Config) (told : Told) (q : Plain) (k : Facts
       let same : now ≡ then = λ i. record { frames = fits.frames i; status = plain.Run; roots = fits.roots i; ended = y.ended } in
       ap (step_of c.program q t acts.Enter) e
       ∙ ap (step_at c.program q t y acts.Enter) fits.status
-      ∙ ap (entered q t a.monitor y) (monitor_is_free a.monitor a.noted noted)
+      ∙ ap (plain_entered q t a.monitor y) (monitor_is_free a.monitor a.noted noted)
       ∙ ap (λ (z : PlainThread). Some (stands_as q t a.monitor (record { thread = z; depth = 1; begun = 0 }))) same
 
   reaches : (t : ℕ) (x : Thread) (a : Attempt) (y : PlainThread) → slice_get told.core.threads t ≡ Some x → x.attempt ≡ Some a → IsAsNoted told.core.words a → slice_get q.threads t ≡ Some y → AttemptFits x a y

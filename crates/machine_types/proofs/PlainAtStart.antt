@@ -91,12 +91,12 @@ fits_first : (c : MarkedProgram) (cfg : Config) (bit : ℕ → Bool) (roots : Li
 fits_first c cfg bit [] = record { frames = refl; status = refl; roots = refl }
 fits_first c cfg bit (number ∷ roots) = record { frames = refl; status = refl; roots = refl }
 
-fits : (c : MarkedProgram) (cfg : Config) (bit : ℕ → Bool) (t : ℕ) → ThreadFits c.program bit (start_thread c cfg t) (start_thread c cfg t).attempt (plain.start_thread c.program t)
+fits : (c : MarkedProgram) (cfg : Config) (bit : ℕ → Bool) (t : ℕ) → ThreadFits c.program bit (start_thread c cfg t) (start_thread c cfg t).attempt (plain.plain_start_thread c.program t)
 fits c cfg bit zero = fits_first c cfg bit (init_roots c.program)
 fits c cfg bit (suc t) = record { frames = refl; status = refl; roots = refl }
 
-pub plain_thread : (p : Program) (t : ℕ) (y : PlainThread) → slice_get (plain_start p).threads t ≡ Some y → plain.start_thread p t ≡ y
-plain_thread p t y e = let k : 0 + t ≡ t = omega arith in subst (λ (i : ℕ). plain.start_thread p i ≡ y) k (thread_in (plain.start_thread p) 0 (p.workers + 1) t y e)
+pub plain_thread : (p : Program) (t : ℕ) (y : PlainThread) → slice_get (plain_start p).threads t ≡ Some y → plain.plain_start_thread p t ≡ y
+plain_thread p t y e = let k : 0 + t ≡ t = omega arith in subst (λ (i : ℕ). plain.plain_start_thread p i ≡ y) k (thread_in (plain.plain_start_thread p) 0 (p.workers + 1) t y e)
 
 none_held : (c : MarkedProgram) (cfg : Config) (t m : ℕ) (o : Option Thread) → slice_get (start c cfg).threads t ≡ o → None ≡ depth_of o m
 none_held c cfg t m None e = refl
@@ -112,10 +112,10 @@ agrees c cfg is = record {
   next = refl;
   prints = refl;
   monitors = λ t m. none_held c cfg t m (slice_get (start c cfg).threads t) refl;
-  many = length-map (range_with_len 0 (c.program.workers + 1)) (plain.start_thread c.program) ∙ sym (length-map (range_with_len 0 (c.program.workers + 1)) (start_thread c cfg));
+  many = length-map (range_with_len 0 (c.program.workers + 1)) (plain.plain_start_thread c.program) ∙ sym (length-map (range_with_len 0 (c.program.workers + 1)) (start_thread c cfg));
   threads = λ t x y e h.
       let bit : ℕ → Bool = has_wait_bit (references_of (start_objects c.program)) (start_words c.program) t in
-      subst (λ (z : PlainThread). ThreadFits c.program bit x x.attempt z) (plain_thread c.program t y h) (subst (λ (z : Thread). ThreadFits c.program bit z z.attempt (plain.start_thread c.program t)) (is_start_thread c cfg t x e) (fits c cfg bit t));
+      subst (λ (z : PlainThread). ThreadFits c.program bit x x.attempt z) (plain_thread c.program t y h) (subst (λ (z : Thread). ThreadFits c.program bit z z.attempt (plain.plain_start_thread c.program t)) (is_start_thread c cfg t x e) (fits c cfg bit t));
 }
 
 plain_objects : (p : Program) → ArePlainObjects (start_objects p) (plain_start p)

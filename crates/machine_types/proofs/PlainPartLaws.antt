@@ -20,11 +20,11 @@ use Rattle.machine_types.specs.Frames.{Top, top_of, top_at, top_in, at_pc, frame
 use Rattle.machine_types.specs.Ints.{low}
 use Rattle.machine_types.specs.Onward.{Onward, Running, Leaving, Uncaught, after, root_arguments, rooted, unwound, handed, dispatched, done}
 use Rattle.machine_types.specs.Parts.{done_roots}
-use Rattle.machine_types.specs.PlainInstructions.{did, indexed_in, instructed, got_by}
-use Rattle.machine_types.specs.PlainLaws.{Steps, LastExitFrees, ExitGoesOn, AllAreWoken, NoOtherIsWoken, TakesRoot, BeginTakesRoot, BeginsDone, DoneBegins, InitHasReturned, WorkersBeginBehindInit, HasFinished, DoneBeginsLast, IsOwnStep, DoIsOwn, KeepsMemory, InstructionsChangeMemory, ExceptionGoes, ExceptionsGo}
-use Rattle.machine_types.specs.PlainState.{Plain, PlainThread, Holding, Status, value_at, written, holding_at, without_holding, with_thread, with_status, held_by, let_go, goes_on, over}
+use Rattle.machine_types.specs.PlainInstructions.{plain_did, indexed_in, plain_instructed, got_by}
+use Rattle.machine_types.specs.PlainLaws.{Steps, LastExitFrees, ExitGoesOn, AllAreWoken, NoOtherIsWoken, TakesRoot, BeginTakesRoot, BeginsDone, DoneBegins, InitHasReturned, WorkersBeginBehindInit, IsFinishedStatus, DoneBeginsLast, IsOwnStep, DoIsOwn, KeepsMemory, InstructionsChangeMemory, ExceptionGoes, ExceptionsGo}
+use Rattle.machine_types.specs.PlainState.{Plain, PlainThread, Holding, Status, value_at, written, holding_at, without_holding, with_thread, with_status, held_by, let_go, plain_goes_on, over}
 use Rattle.machine_types.specs.PlainState as plain
-use Rattle.machine_types.specs.PlainSteps.{first_is_return, init_has_returned, is_over, is_due, begun, may_do_done, begins, entered, left, exited, waited, waits_on, woken, wakes, wakes_one, notified, all_notified, retaken, step_at}
+use Rattle.machine_types.specs.PlainSteps.{first_is_return, init_has_returned, is_over, is_due, plain_begun, may_do_done, plain_begins, plain_entered, left, exited, waited, waits_on, woken, wakes, wakes_one, notified, all_notified, retaken, step_at}
 use Rattle.machine_types.specs.ReadyObjects.{class_of}
 use Rattle.machine_types.specs.Threads.{Frame}
 use Rattle.machine_types.specs.Words.{header_length, value_word, variable_word}
@@ -38,13 +38,13 @@ use Rattle.machine_types.proofs.PlainStepLaws.{by_status, is_same, depth_is, non
 -- ---- the last exit
 
 frees_by : (p : Program) (q r : Plain) (t u m : ℕ) (a : After) (x : PlainThread) (h : Holding) (b : Bool) → (h.holder == t) ≡ b → h.depth ≡ 1
-    → cond b (option_map (λ o. with_thread (left q t m h.depth) t (goes_on x o)) (after p x.frames a)) None ≡ Some r → depth_for u (holding_at r.holdings m) ≡ None
-frees_by p q r t u m a x h true e d s = by_onward (after p x.frames a) (subst (λ (n : ℕ). option_map (λ o. with_thread (left q t m n) t (goes_on x o)) (after p x.frames a) ≡ Some r) d s)
+    → cond b (option_map (λ o. with_thread (left q t m h.depth) t (plain_goes_on x o)) (after p x.frames a)) None ≡ Some r → depth_for u (holding_at r.holdings m) ≡ None
+frees_by p q r t u m a x h true e d s = by_onward (after p x.frames a) (subst (λ (n : ℕ). option_map (λ o. with_thread (left q t m n) t (plain_goes_on x o)) (after p x.frames a) ≡ Some r) d s)
   where
-    by_onward : (o : Option Onward) → option_map (λ o. with_thread (let_go q m) t (goes_on x o)) o ≡ Some r → depth_for u (holding_at r.holdings m) ≡ None
+    by_onward : (o : Option Onward) → option_map (λ o. with_thread (let_go q m) t (plain_goes_on x o)) o ≡ Some r → depth_for u (holding_at r.holdings m) ≡ None
     by_onward None f = cc
     by_onward (Some o) f =
-        let is : with_thread (let_go q m) t (goes_on x o) ≡ r = same_some f in
+        let is : with_thread (let_go q m) t (plain_goes_on x o) ≡ r = same_some f in
         subst (λ (z : Plain). depth_for u (holding_at z.holdings m) ≡ None) is (ap (depth_for u) (none_left m q.holdings))
 frees_by p q r t u m a x h false e d s = cc
 
@@ -63,18 +63,18 @@ threads_left q t m (suc zero) = refl
 threads_left q t m zero = refl
 
 abbrev GoesOn : Program → Plain → ℕ → After → PlainThread → Type 0
-GoesOn p r t a x = (o : Onward) × (after p x.frames a ≡ Some o) × (slice_get r.threads t ≡ Some (goes_on x o))
+GoesOn p r t a x = (o : Onward) × (after p x.frames a ≡ Some o) × (slice_get r.threads t ≡ Some (plain_goes_on x o))
 
 goes_by : (p : Program) (q r : Plain) (t m : ℕ) (a : After) (x : PlainThread) (h : Holding) (b : Bool) → slice_get q.threads t ≡ Some x
-    → cond b (option_map (λ o. with_thread (left q t m h.depth) t (goes_on x o)) (after p x.frames a)) None ≡ Some r → GoesOn p r t a x
+    → cond b (option_map (λ o. with_thread (left q t m h.depth) t (plain_goes_on x o)) (after p x.frames a)) None ≡ Some r → GoesOn p r t a x
 goes_by p q r t m a x h true g s = by_onward (after p x.frames a) refl s
   where
-    by_onward : (o : Option Onward) → after p x.frames a ≡ o → option_map (λ o. with_thread (left q t m h.depth) t (goes_on x o)) o ≡ Some r → GoesOn p r t a x
+    by_onward : (o : Option Onward) → after p x.frames a ≡ o → option_map (λ o. with_thread (left q t m h.depth) t (plain_goes_on x o)) o ≡ Some r → GoesOn p r t a x
     by_onward None e f = cc
     by_onward (Some o) e f =
-        let is : with_thread (left q t m h.depth) t (goes_on x o) ≡ r = same_some f in
+        let is : with_thread (left q t m h.depth) t (plain_goes_on x o) ≡ r = same_some f in
         let here : slice_get (left q t m h.depth).threads t ≡ Some x = ap (λ (ts : List PlainThread). slice_get ts t) (threads_left q t m h.depth) ∙ g in
-        (o, e, subst (λ (z : Plain). slice_get z.threads t ≡ Some (goes_on x o)) is (got_when_set (left q t m h.depth).threads t x (goes_on x o) here))
+        (o, e, subst (λ (z : Plain). slice_get z.threads t ≡ Some (plain_goes_on x o)) is (got_when_set (left q t m h.depth).threads t x (plain_goes_on x o) here))
 goes_by p q r t m a x h false g s = cc
 
 exit_by : (p : Program) (q r : Plain) (t m : ℕ) (a : After) (x : PlainThread) (h : Option Holding) → slice_get q.threads t ≡ Some x → exited p q t m a x h ≡ Some r → GoesOn p r t a x
@@ -128,7 +128,7 @@ no_other_is_woken p q r t u m x y h s n g none =
 
 -- what a begin leaves in its thread
 begun_by : (p : Program) (q r : Plain) (t : ℕ) (x : PlainThread) (number : ℕ) (rest : List ℕ) (o : Option MethodInfo) → slice_get p.methods number ≡ o → slice_get q.threads t ≡ Some x
-    → option_map (with_thread q t) (option_map (λ m. goes_on (record x { roots = rest }) (rooted p t number m)) o) ≡ Some r → TakesRoot p r t x (number ∷ rest)
+    → option_map (with_thread q t) (option_map (λ m. plain_goes_on (record x { roots = rest }) (rooted p t number m)) o) ≡ Some r → TakesRoot p r t x (number ∷ rest)
 begun_by p q r t x number rest None e g s = cc
 begun_by p q r t x number rest (Some m) e g s = record {
   number = number;
@@ -141,15 +141,15 @@ begun_by p q r t x number rest (Some m) e g s = record {
 }
   where
     now : PlainThread
-    now = goes_on (record x { roots = rest }) (rooted p t number m)
+    now = plain_goes_on (record x { roots = rest }) (rooted p t number m)
 
     is : slice_get r.threads t ≡ Some now
     is = subst (λ (z : Plain). slice_get z.threads t ≡ Some now) (same_some s) (got_when_set q.threads t x now g)
 
     at : Bool → Option PlainThread
-    at b = Some (goes_on (record x { roots = rest }) (cond b (Running (entry_frame number m (root_arguments t m) ∷ [])) (Uncaught thrown.StackOverflowError)))
+    at b = Some (plain_goes_on (record x { roots = rest }) (cond b (Running (entry_frame number m (root_arguments t m) ∷ [])) (Uncaught thrown.StackOverflowError)))
 
-taken_by : (p : Program) (q r : Plain) (t : ℕ) (x : PlainThread) (b : Bool) (roots : List ℕ) → slice_get q.threads t ≡ Some x → cond b (option_map (with_thread q t) (begun p t x roots)) None ≡ Some r → TakesRoot p r t x roots
+taken_by : (p : Program) (q r : Plain) (t : ℕ) (x : PlainThread) (b : Bool) (roots : List ℕ) → slice_get q.threads t ≡ Some x → cond b (option_map (with_thread q t) (plain_begun p t x roots)) None ≡ Some r → TakesRoot p r t x roots
 taken_by p q r t x true (number ∷ rest) g s = begun_by p q r t x number rest (slice_get p.methods number) refl g s
 taken_by p q r t x true [] g s = cc
 taken_by p q r t x false roots g s = cc
@@ -158,7 +158,7 @@ pub begin_takes_root : BeginTakesRoot
 begin_takes_root p q r t x h s = taken_by p q r t x (is_due q.threads t x.ended) x.roots h.thread (by_status p q r t x acts.Begin plain.Ready h s)
 
 done_by : (p : Program) (q r : Plain) (t : ℕ) (x : PlainThread) (end : List End) (b : Bool) → x.ended ≡ end → slice_get q.threads t ≡ Some x
-    → cond b (option_map (with_thread q t) (cond (may_do_done t end) (begun p t x (done_roots p)) None)) None ≡ Some r → BeginsDone p r t x
+    → cond b (option_map (with_thread q t) (cond (may_do_done t end) (plain_begun p t x (done_roots p)) None)) None ≡ Some r → BeginsDone p r t x
 done_by p q r zero x (ends.Returned ∷ []) b e g s = record { first = refl; returned = e; takes = taken_by p q r zero x b (done_roots p) g s }
 done_by p q r t x end true e g s = cc
 done_by p q r t x end false e g s = cc
@@ -172,7 +172,7 @@ due_by true o r e = refl
 due_by false o r e = cc
 
 is_due_at : (p : Program) (q r : Plain) (t : ℕ) (x : PlainThread) → Steps p q r t x acts.Begin → is_due q.threads t x.ended ≡ true
-is_due_at p q r t x h = due_by (is_due q.threads t x.ended) (option_map (with_thread q t) (begins p t x x.status)) r (by_status p q r t x acts.Begin x.status h refl)
+is_due_at p q r t x h = due_by (is_due q.threads t x.ended) (option_map (with_thread q t) (plain_begins p t x x.status)) r (by_status p q r t x acts.Begin x.status h refl)
 
 first_returned : (es : List End) → first_is_return es ≡ true → slice_get es 0 ≡ Some ends.Returned
 first_returned (ends.Returned ∷ es) h = refl
@@ -186,13 +186,13 @@ init_by q (x ∷ ts) e h = record { first = x; is = ap (λ (us : List PlainThrea
 pub workers_begin_behind_init : WorkersBeginBehindInit
 workers_begin_behind_init p q r t x h = init_by q q.threads refl (is_due_at p q r (suc t) x h)
 
-over_by : (status : Status) → is_over status ≡ true → HasFinished status
+over_by : (status : Status) → is_over status ≡ true → IsFinishedStatus status
 over_by (plain.Ended ends.Returned) e = inl refl
 over_by (plain.Ended (ends.Uncaught class)) e = inr (class, refl)
 over_by (plain.Ended e) h = cc
 over_by status e = cc
 
-workers_over : (ts : List PlainThread) (u : ℕ) (y : PlainThread) → list_all (λ w. is_over w.status) (drop 1 ts) ≡ true → slice_get ts (suc u) ≡ Some y → HasFinished y.status
+workers_over : (ts : List PlainThread) (u : ℕ) (y : PlainThread) → list_all (λ w. is_over w.status) (drop 1 ts) ≡ true → slice_get ts (suc u) ≡ Some y → IsFinishedStatus y.status
 workers_over [] u y all e = cc
 workers_over (x ∷ ts) u y all e = over_by y.status (every (λ w. is_over w.status) ts all u y e)
 
@@ -210,9 +210,9 @@ own_put q r z t y e ts hs = record {
   holdings = subst (λ (w : Plain). w.holdings ≡ q.holdings) e hs;
 }
 
-own_mapped : (q r : Plain) (t : ℕ) (x : PlainThread) (o : Option Onward) → option_map (λ o. with_thread q t (goes_on x o)) o ≡ Some r → IsOwnStep q r t
+own_mapped : (q r : Plain) (t : ℕ) (x : PlainThread) (o : Option Onward) → option_map (λ o. with_thread q t (plain_goes_on x o)) o ≡ Some r → IsOwnStep q r t
 own_mapped q r t x None e = cc
-own_mapped q r t x (Some o) e = own_put q r q t (goes_on x o) (same_some e) refl refl
+own_mapped q r t x (Some o) e = own_put q r q t (plain_goes_on x o) (same_some e) refl refl
 
 own_written : (q r : Plain) (t place word : ℕ) (y : PlainThread) (o : Option ℕ) → option_map (λ (was : ℕ). with_thread (written q place word) t y) o ≡ Some r → IsOwnStep q r t
 own_written q r t place word y None e = cc
@@ -232,7 +232,7 @@ own_made : (q r y z : Plain) (t : ℕ) (v w : PlainThread) (b : Bool) → cond b
 own_made q r y z t v w true e a b c d = own_put q r y t v e a b
 own_made q r y z t v w false e a b c d = own_put q r z t w e c d
 
-own_did : (p : Program) (q r : Plain) (t : ℕ) (x : PlainThread) (at : Top) (e : Effect) (got : ℕ) → did p q t x at e got ≡ Some r → IsOwnStep q r t
+own_did : (p : Program) (q r : Plain) (t : ℕ) (x : PlainThread) (at : Top) (e : Effect) (got : ℕ) → plain_did p q t x at e got ≡ Some r → IsOwnStep q r t
 own_did p q r t x at (Writes v word) got s = own_written q r t (variable_word v) word _ (value_at q (variable_word v)) s
 own_did p q r t x at (Indexes array index stored) got s = own_indexed p q r t x at (value_word array (low index)) stored (nat_lt (low index) (header_length got)) _ s
 own_did p q r t x at (Makes word size) got s = own_made q r _ _ t _ _ (nat_le (q.next + size) p.heap) (same_some s) refl refl refl refl
@@ -244,11 +244,11 @@ own_did p q r t x at (Notifies m) got s = own_put q r q t _ (same_some s) refl r
 own_did p q r t x at (NotifiesAll m) got s = own_put q r q t _ (same_some s) refl refl
 own_did p q r t x at e got s = own_mapped q r t x (done p at e got) s
 
-own_got : (p : Program) (q r : Plain) (t : ℕ) (x : PlainThread) (at : Top) (e : Effect) (o : Option ℕ) → option_and_then (λ got. did p q t x at e got) o ≡ Some r → IsOwnStep q r t
+own_got : (p : Program) (q r : Plain) (t : ℕ) (x : PlainThread) (at : Top) (e : Effect) (o : Option ℕ) → option_and_then (λ got. plain_did p q t x at e got) o ≡ Some r → IsOwnStep q r t
 own_got p q r t x at e None s = cc
 own_got p q r t x at e (Some got) s = own_did p q r t x at e got s
 
-own_top : (p : Program) (q r : Plain) (t : ℕ) (x : PlainThread) (o : Option Top) → instructed p q t x o ≡ Some r → IsOwnStep q r t
+own_top : (p : Program) (q r : Plain) (t : ℕ) (x : PlainThread) (o : Option Top) → plain_instructed p q t x o ≡ Some r → IsOwnStep q r t
 own_top p q r t x None s = cc
 own_top p q r t x (Some at) s = own_got p q r t x at (effect_at p at) (got_by (value_at q) (read_by (effect_at p at))) s
 
@@ -280,7 +280,7 @@ kept_begin : (q r : Plain) (t : ℕ) (b : Bool) (o : Option PlainThread) → con
 kept_begin q r t true o e = kept_mapped q r q t (λ y. y) o e (as_it_is q)
 kept_begin q r t false o e = cc
 
-kept_enter : (q r : Plain) (t m : ℕ) (x : PlainThread) (o : Option Holding) → entered q t m x o ≡ Some r → KeepsMemory q r
+kept_enter : (q r : Plain) (t m : ℕ) (x : PlainThread) (o : Option Holding) → plain_entered q t m x o ≡ Some r → KeepsMemory q r
 kept_enter q r t m x None e = kept_put q r (held_by q m t 1) t _ (same_some e) (record { objects = refl; statics = refl; next = refl; prints = refl })
 kept_enter q r t m x (Some h) e = kept_if q r (held_by q m t (h.depth + 1)) t _ (h.holder == t) e (record { objects = refl; statics = refl; next = refl; prints = refl })
 
@@ -293,8 +293,8 @@ kept_exit : (p : Program) (q r : Plain) (t m : ℕ) (a : After) (x : PlainThread
 kept_exit p q r t m a x None e = cc
 kept_exit p q r t m a x (Some h) e = by_test (h.holder == t) e
   where
-    by_test : (b : Bool) → cond b (option_map (λ o. with_thread (left q t m h.depth) t (goes_on x o)) (after p x.frames a)) None ≡ Some r → KeepsMemory q r
-    by_test true f = kept_mapped q r (left q t m h.depth) t (goes_on x) (after p x.frames a) f (left_keeps q t m h.depth)
+    by_test : (b : Bool) → cond b (option_map (λ o. with_thread (left q t m h.depth) t (plain_goes_on x o)) (after p x.frames a)) None ≡ Some r → KeepsMemory q r
+    by_test true f = kept_mapped q r (left q t m h.depth) t (plain_goes_on x) (after p x.frames a) f (left_keeps q t m h.depth)
     by_test false f = cc
 
 kept_wait : (q r : Plain) (t m : ℕ) (x : PlainThread) (o : Option Holding) → waited q t m x o ≡ Some r → KeepsMemory q r
@@ -322,9 +322,9 @@ kept_retake q r t m depth x None e = kept_put q r (held_by q m t depth) t _ (sam
 kept_retake q r t m depth x (Some h) e = cc
 
 kept_by : (p : Program) (q r : Plain) (t : ℕ) (x : PlainThread) (act : Act) (status : Status) → step_at p q t x act status ≡ Some r → ((act ≡ acts.Do) × (status ≡ plain.Run) → ⊥) → KeepsMemory q r
-kept_by p q r t x acts.Begin status s n = kept_begin q r t (is_due q.threads t x.ended) (begins p t x status) s
+kept_by p q r t x acts.Begin status s n = kept_begin q r t (is_due q.threads t x.ended) (plain_begins p t x status) s
 kept_by p q r t x acts.Do plain.Run s n = absurd (n (refl, refl))
-kept_by p q r t x acts.Do (plain.Throw e class) s n = kept_mapped q r q t (goes_on x) (dispatched p e class x.frames) s (as_it_is q)
+kept_by p q r t x acts.Do (plain.Throw e class) s n = kept_mapped q r q t (plain_goes_on x) (dispatched p e class x.frames) s (as_it_is q)
 kept_by p q r t x acts.Enter (plain.Enter m) s n = kept_enter q r t m x (holding_at q.holdings m) s
 kept_by p q r t x acts.Exit (plain.Leave m a) s n = kept_exit p q r t m a x (holding_at q.holdings m) s
 kept_by p q r t x acts.Wait (plain.Wait m) s n = kept_wait q r t m x (holding_at q.holdings m) s
@@ -351,22 +351,22 @@ frames_are p [] at e = cc
 frames_are p (f ∷ below) at e = of_method f below (slice_get p.methods f.method) at e
 
 dispatched_is : (p : Program) (q r : Plain) (t e : ℕ) (class : Thrown) (x : PlainThread) (at : Top) → slice_get q.threads t ≡ Some x → top_of p x.frames ≡ Some at
-    → option_map (λ o. with_thread q t (goes_on x o)) (dispatched p e class x.frames) ≡ Some r → slice_get r.threads t ≡ Some (goes_on x (handed e class at (handler_at (class_of class) at)))
+    → option_map (λ o. with_thread q t (plain_goes_on x o)) (dispatched p e class x.frames) ≡ Some r → slice_get r.threads t ≡ Some (plain_goes_on x (handed e class at (handler_at (class_of class) at)))
 dispatched_is p q r t e class x at g top s =
-    let now : PlainThread = goes_on x (handed e class at (handler_at (class_of class) at)) in
-    let is : Some (with_thread q t now) ≡ Some r = sym (ap (λ (o : Option Top). option_map (λ o. with_thread q t (goes_on x o)) (option_map (λ a. handed e class a (handler_at (class_of class) a)) o)) top) ∙ s in
+    let now : PlainThread = plain_goes_on x (handed e class at (handler_at (class_of class) at)) in
+    let is : Some (with_thread q t now) ≡ Some r = sym (ap (λ (o : Option Top). option_map (λ o. with_thread q t (plain_goes_on x o)) (option_map (λ a. handed e class a (handler_at (class_of class) a)) o)) top) ∙ s in
     subst (λ (w : Plain). slice_get w.threads t ≡ Some now) (same_some is) (got_when_set q.threads t x now g)
 
-goes : (r : Plain) (t e : ℕ) (class : Thrown) (x : PlainThread) (at : Top) (handler : Option Row) → frames_of at ≡ x.frames → slice_get r.threads t ≡ Some (goes_on x (handed e class at handler)) → ExceptionGoes r t e class x at handler
+goes : (r : Plain) (t e : ℕ) (class : Thrown) (x : PlainThread) (at : Top) (handler : Option Row) → frames_of at ≡ x.frames → slice_get r.threads t ≡ Some (plain_goes_on x (handed e class at handler)) → ExceptionGoes r t e class x at handler
 goes r t e class x at handler frames is = record {
-  handled = λ row k. is ∙ ap (λ (h : Option Row). Some (goes_on x (handed e class at h))) k;
-  leaves = λ k l. is ∙ ap (λ (h : Option Row). Some (goes_on x (handed e class at h))) k ∙ ap none l ∙ ap (λ (fs : List Frame). Some (record x { frames = fs; status = plain.Leave (monitor_of at.method at.frame) (afters.Unwind e class) })) frames;
-  pops = λ k l f fs b. is ∙ ap (λ (h : Option Row). Some (goes_on x (handed e class at h))) k ∙ ap none l ∙ ap (λ (gs : List Frame). Some (goes_on x (unwound e class gs))) b;
-  uncaught = λ k l b. is ∙ ap (λ (h : Option Row). Some (goes_on x (handed e class at h))) k ∙ ap none l ∙ ap (λ (gs : List Frame). Some (goes_on x (unwound e class gs))) b;
+  handled = λ row k. is ∙ ap (λ (h : Option Row). Some (plain_goes_on x (handed e class at h))) k;
+  leaves = λ k l. is ∙ ap (λ (h : Option Row). Some (plain_goes_on x (handed e class at h))) k ∙ ap none l ∙ ap (λ (fs : List Frame). Some (record x { frames = fs; status = plain.Leave (monitor_of at.method at.frame) (afters.Unwind e class) })) frames;
+  pops = λ k l f fs b. is ∙ ap (λ (h : Option Row). Some (plain_goes_on x (handed e class at h))) k ∙ ap none l ∙ ap (λ (gs : List Frame). Some (plain_goes_on x (unwound e class gs))) b;
+  uncaught = λ k l b. is ∙ ap (λ (h : Option Row). Some (plain_goes_on x (handed e class at h))) k ∙ ap none l ∙ ap (λ (gs : List Frame). Some (plain_goes_on x (unwound e class gs))) b;
 }
   where
     none : Bool → Option PlainThread
-    none b = Some (goes_on x (cond b (Leaving (monitor_of at.method at.frame) (afters.Unwind e class) (frames_of at)) (unwound e class at.below)))
+    none b = Some (plain_goes_on x (cond b (Leaving (monitor_of at.method at.frame) (afters.Unwind e class) (frames_of at)) (unwound e class at.below)))
 
 pub exceptions_go : ExceptionsGo
 exceptions_go p q r t e class x at h s top =

@@ -9,16 +9,16 @@ use Rattle.jvm_types.specs.declared.program.Program.{Program}
 use Rattle.machine_types.specs.Agreement.{depth_for}
 use Rattle.machine_types.specs.Onward.{Onward, After, after}
 use Rattle.machine_types.specs.PlainLaws.{Steps, is_for, NoOtherStep, EntersAlone, RetakesAlone, one_deeper, EntersDeeper, ExitsShallower, WaitGivesUp, RetakeGivesBack, NobodyWaits, NotifyWakes}
-use Rattle.machine_types.specs.PlainState.{Plain, PlainThread, Holding, Status, holding_at, with_holding, without_holding, held_by, let_go, with_thread, with_status, goes_on}
+use Rattle.machine_types.specs.PlainState.{Plain, PlainThread, Holding, Status, holding_at, with_holding, without_holding, held_by, let_go, with_thread, with_status, plain_goes_on}
 use Rattle.machine_types.specs.PlainState as plain
-use Rattle.machine_types.specs.PlainSteps.{is_due, begins, entered, left, exited, waited, waits_on, woken, wakes_one, retaken, step_at, step_of}
+use Rattle.machine_types.specs.PlainSteps.{is_due, plain_begins, plain_entered, left, exited, waited, waits_on, woken, wakes_one, retaken, step_at, step_of}
 use Rattle.machine_types.specs.declared.plain.Act.{Act}
 use Rattle.machine_types.specs.declared.plain.Act.TheVariants as acts
 use Rattle.machine_types.proofs.Lists.{got_when_set, got_other}
 
 -- ---- an act is a step in no status but those that it is for
 
-no_root : (p : Program) (t : ℕ) (x : PlainThread) (status : Status) → is_for acts.Begin status ≡ false → begins p t x status ≡ None
+no_root : (p : Program) (t : ℕ) (x : PlainThread) (status : Status) → is_for acts.Begin status ≡ false → plain_begins p t x status ≡ None
 no_root p t x plain.Ready d = cc
 no_root p t x (plain.Ended ends.Returned) d = cc
 no_root p t x status d = refl
@@ -28,7 +28,7 @@ either true o e = e
 either false o e = refl
 
 no_step : (p : Program) (q : Plain) (t : ℕ) (x : PlainThread) (act : Act) (status : Status) → is_for act status ≡ false → step_at p q t x act status ≡ None
-no_step p q t x acts.Begin status d = either (is_due q.threads t x.ended) (option_map (with_thread q t) (begins p t x status)) (ap (option_map (with_thread q t)) (no_root p t x status d))
+no_step p q t x acts.Begin status d = either (is_due q.threads t x.ended) (option_map (with_thread q t) (plain_begins p t x status)) (ap (option_map (with_thread q t)) (no_root p t x status d))
 no_step p q t x acts.Do plain.Run d = cc
 no_step p q t x acts.Do (plain.Throw r class) d = cc
 no_step p q t x acts.Enter (plain.Enter m) d = cc
@@ -76,7 +76,7 @@ alone_by : (q r : Plain) (t u : ℕ) (h : Holding) (b : Bool) → (h.holder == t
 alone_by q r t u h true e s n = none_for t u h e n
 alone_by q r t u h false e s n = cc
 
-enters_by : (q r : Plain) (t u m : ℕ) (x : PlainThread) (h : Option Holding) → entered q t m x h ≡ Some r → u ≢ t → depth_for u h ≡ None
+enters_by : (q r : Plain) (t u m : ℕ) (x : PlainThread) (h : Option Holding) → plain_entered q t m x h ≡ Some r → u ≢ t → depth_for u h ≡ None
 enters_by q r t u m x None e n = refl
 enters_by q r t u m x (Some h) e n = alone_by r _ t u h (h.holder == t) refl e n
 
@@ -90,7 +90,7 @@ deeper_by q r t m x h true e s =
     rw (own_for t h e) (subst (λ (z : Plain). depth_for t (holding_at z.holdings m) ≡ Some (h.depth + 1)) is (held_in q t m (h.depth + 1)))
 deeper_by q r t m x h false e s = cc
 
-deepens_by : (q r : Plain) (t m : ℕ) (x : PlainThread) (h : Option Holding) → entered q t m x h ≡ Some r → depth_for t (holding_at r.holdings m) ≡ Some (one_deeper (depth_for t h))
+deepens_by : (q r : Plain) (t m : ℕ) (x : PlainThread) (h : Option Holding) → plain_entered q t m x h ≡ Some r → depth_for t (holding_at r.holdings m) ≡ Some (one_deeper (depth_for t h))
 deepens_by q r t m x None e =
     let is : with_thread (held_by q m t 1) t (with_status x plain.Run) ≡ r = cc in
     subst (λ (z : Plain). depth_for t (holding_at z.holdings m) ≡ Some 1) is (held_in q t m 1)
@@ -102,13 +102,13 @@ enters_deeper p q r t m x h s = deepens_by q r t m x (holding_at q.holdings m) (
 -- ---- Exit
 
 shallower_by : (p : Program) (q r : Plain) (t m depth : ℕ) (a : After) (x : PlainThread) (h : Holding) (b : Bool) → (h.holder == t) ≡ b → h.depth ≡ suc (suc depth)
-    → (if b then option_map (λ o. with_thread (left q t m h.depth) t (goes_on x o)) (after p x.frames a) else None) ≡ Some r → depth_for t (holding_at r.holdings m) ≡ Some (suc depth)
-shallower_by p q r t m depth a x h true e d s = by_onward (after p x.frames a) (subst (λ (n : ℕ). option_map (λ o. with_thread (left q t m n) t (goes_on x o)) (after p x.frames a) ≡ Some r) d s)
+    → (if b then option_map (λ o. with_thread (left q t m h.depth) t (plain_goes_on x o)) (after p x.frames a) else None) ≡ Some r → depth_for t (holding_at r.holdings m) ≡ Some (suc depth)
+shallower_by p q r t m depth a x h true e d s = by_onward (after p x.frames a) (subst (λ (n : ℕ). option_map (λ o. with_thread (left q t m n) t (plain_goes_on x o)) (after p x.frames a) ≡ Some r) d s)
   where
-    by_onward : (o : Option Onward) → option_map (λ o. with_thread (left q t m (suc (suc depth))) t (goes_on x o)) o ≡ Some r → depth_for t (holding_at r.holdings m) ≡ Some (suc depth)
+    by_onward : (o : Option Onward) → option_map (λ o. with_thread (left q t m (suc (suc depth))) t (plain_goes_on x o)) o ≡ Some r → depth_for t (holding_at r.holdings m) ≡ Some (suc depth)
     by_onward None f = cc
     by_onward (Some o) f =
-        let is : with_thread (held_by q m t (suc depth)) t (goes_on x o) ≡ r = cc in
+        let is : with_thread (held_by q m t (suc depth)) t (plain_goes_on x o) ≡ r = cc in
         subst (λ (z : Plain). depth_for t (holding_at z.holdings m) ≡ Some (suc depth)) is (held_in q t m (suc depth))
 shallower_by p q r t m depth a x h false e d s = cc
 

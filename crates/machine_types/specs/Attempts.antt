@@ -40,8 +40,8 @@ abbrev pub IsAsNoted : (words : List ℕ) → Attempt → Type 0
 IsAsNoted words a = slice_index words a.monitor ≡ word_of_lock (locks.Free a.noted)
 
 -- over every memory that has, on the places that stay, what the words have
-abbrev pub Leads : MarkedProgram → (Keeps : (x : ℕ) → Type 0) → (words : List ℕ) → (was : Phase) → Thread → Attempt → Past → Type 0
-Leads c Keeps words was s a d = IsAsNoted words a → (memory : ℕ → Option ℕ) → ((x : ℕ) → Keeps x → memory x ≡ Some (slice_index words x)) → (ended : List End)
+abbrev pub IsLedToPresent : MarkedProgram → (Keeps : (x : ℕ) → Type 0) → (words : List ℕ) → (was : Phase) → Thread → Attempt → Past → Type 0
+IsLedToPresent c Keeps words was s a d = IsAsNoted words a → (memory : ℕ → Option ℕ) → ((x : ℕ) → Keeps x → memory x ≡ Some (slice_index words x)) → (ended : List End)
     → replayed c.program a.monitor memory d.due (at_entry s a ended) ≡ Some (at_present s a was d.pending ended)
 
 -- outside an attempt nothing is due
@@ -51,7 +51,7 @@ pub record OwesNothing (d : Past) : Type 0 where
 
 abbrev pub Owes : MarkedProgram → List Object → World → Core → (t : ℕ) → (was : Phase) → Thread → Option Attempt → Past → Type 0
 Owes c objects w s t was x None d = OwesNothing d
-Owes c objects w s t was x (Some a) d = Leads c (Stays c objects w (slice_index s.words NEXT_FREE_WORD) t a.monitor) s.words was x a d
+Owes c objects w s t was x (Some a) d = IsLedToPresent c (Stays c objects w (slice_index s.words NEXT_FREE_WORD) t a.monitor) s.words was x a d
 
 pub record Attempts (c : MarkedProgram) (objects : List Object) (w : World) (was : ℕ → Phase) (told : Told) : Type 0 where
   pub each : (t : ℕ) (x : Thread) → slice_get told.core.threads t ≡ Some x → Owes c objects w told.core t (was t) x x.attempt (past_at told t)

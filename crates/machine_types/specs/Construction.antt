@@ -83,17 +83,17 @@ SlotsAre Is types tags vs = ⊥
 -- ---- what a fresh slot of a frame has: an object that the frame made; or, where it waits for the `<init>` of one, the receiver
 -- that it called that on; where an exception is thrown nothing is said, since no instruction takes it
 
-pub data Turn : Type 0 where
-  Runs : Turn
+pub data BuilderTurn : Type 0 where
+  Runs : BuilderTurn
   -- for a method with a receiver, on what the typing says starts by it
-  WaitsFor : (receiver : ℕ) (begun : Option (VType × ℕ)) → Turn
-  Throws : Turn
+  WaitsFor : (receiver : ℕ) (begun : Option (VType × ℕ)) → BuilderTurn
+  Throws : BuilderTurn
 
 abbrev pub FreshAtCall : World → (t height receiver : ℕ) → Option (VType × ℕ) → (pc v : ℕ) → Type 0
 FreshAtCall w t height receiver (Some (types.New at, class)) pc v = if_so (pc == at) (v ≡ receiver) (w v ≡ Some (builder t height (Made pc)))
 FreshAtCall w t height receiver begun pc v = w v ≡ Some (builder t height (Made pc))
 
-abbrev pub IsFresh : World → (t height : ℕ) → Turn → (pc v : ℕ) → Type 0
+abbrev pub IsFresh : World → (t height : ℕ) → BuilderTurn → (pc v : ℕ) → Type 0
 IsFresh w t height Runs pc v = w v ≡ Some (builder t height (Made pc))
 IsFresh w t height (WaitsFor receiver begun) pc v = FreshAtCall w t height receiver begun pc v
 IsFresh w t height Throws pc v = Unit {0}
@@ -105,15 +105,15 @@ abbrev pub ReceiverIs : World → (next t height : ℕ) → (own : Bool) → (re
 ReceiverIs w next t height true receiver = w receiver ≡ Some (builder t height Begun)
 ReceiverIs w next t height false receiver = IsFinished w next receiver
 
-abbrev pub SlotOf : (frozen : ℕ → Bool) → World → (next t height : ℕ) → Turn → MethodInfo → (receiver : ℕ) → VType → Tag → (v : ℕ) → Type 0
+abbrev pub SlotOf : (frozen : ℕ → Bool) → World → (next t height : ℕ) → BuilderTurn → MethodInfo → (receiver : ℕ) → VType → Tag → (v : ℕ) → Type 0
 SlotOf frozen w next t height turn m receiver = SlotIs (IsFinished w next) (IsFresh w t height turn) (builds frozen m) (makes_frozen frozen m) receiver
 
-abbrev pub StackIs : (VType → Tag → (v : ℕ) → Type 0) → Turn → (count : ℕ) → List VType → List Tag → List ℕ → Type 0
+abbrev pub StackIs : (VType → Tag → (v : ℕ) → Type 0) → BuilderTurn → (count : ℕ) → List VType → List Tag → List ℕ → Type 0
 StackIs Is Runs count types tags vs = SlotsAre Is types tags vs
 StackIs Is (WaitsFor receiver begun) count types tags vs = SlotsAre Is (drop count types) (drop count tags) vs
 StackIs Is Throws count types tags vs = Unit {0}
 
-pub record FrameKeeps (c : MarkedProgram) (frozen : ℕ → Bool) (w : World) (next t height : ℕ) (turn : Turn) (f : Frame) : Type 0 where
+pub record FrameKeeps (c : MarkedProgram) (frozen : ℕ → Bool) (w : World) (next t height : ℕ) (turn : BuilderTurn) (f : Frame) : Type 0 where
   pub stands : Standing c f
   pub receiver : ReceiverIs w next t height (builds frozen stands.method) f.receiver
   pub stack : StackIs (SlotOf frozen w next t height turn stands.method f.receiver) turn (length (row_at c f stands).takes) stands.types.stack stands.tags.stack f.stack
@@ -130,13 +130,13 @@ abbrev pub KeepBelow : MarkedProgram → (frozen : ℕ → Bool) → World → (
 KeepBelow c frozen w next t g [] = Unit {0}
 KeepBelow c frozen w next t g (f ∷ fs) = WaitKeeps c frozen w next t (length fs) g.method g.receiver f × KeepBelow c frozen w next t f fs
 
-abbrev pub FramesKeep : MarkedProgram → (frozen : ℕ → Bool) → World → (next t : ℕ) → Turn → List Frame → Type 0
+abbrev pub FramesKeep : MarkedProgram → (frozen : ℕ → Bool) → World → (next t : ℕ) → BuilderTurn → List Frame → Type 0
 FramesKeep c frozen w next t turn [] = Unit {0}
 FramesKeep c frozen w next t turn (f ∷ fs) = FrameKeeps c frozen w next t (length fs) turn f × KeepBelow c frozen w next t f fs
 
 -- ---- threads
 
-abbrev pub turn_by : Operands → Turn
+abbrev pub turn_by : Operands → BuilderTurn
 turn_by Thrown = Throws
 turn_by operands = Runs
 

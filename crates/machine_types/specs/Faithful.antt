@@ -10,7 +10,7 @@ use Rattle.machine_types.specs.Core.{Core, Happening, Of, core, event, lives, ma
 use Rattle.machine_types.specs.Counting.{AreCounted}
 use Rattle.machine_types.specs.History.{shadow}
 use Rattle.machine_types.specs.PlainState.{Plain, Printed, plain_start}
-use Rattle.machine_types.specs.PlainSteps.{plain_run, first_end, done_end}
+use Rattle.machine_types.specs.PlainSteps.{plain_run, first_end, plain_done_end}
 use Rattle.checked_program.specs.MarkedProgram.{MarkedProgram}
 use Rattle.machine_types.specs.Threads.{Attempt, Thread, Config}
 
@@ -24,7 +24,7 @@ EndFits limit e = e ≡ None
 
 pub record EndsFit (p : Program) (o : Outcome) (q : Plain) : Type 0 where
   pub threads : (t : ℕ) (r : ThreadReport) → slice_get o.threads t ≡ Some r → EndFits r.end (first_end q t)
-  pub done : EndFits o.done (done_end p q)
+  pub done : EndFits o.done (plain_done_end p q)
 
 -- the ticket of a print, in the report of its thread, is its place among all prints
 pub record PrintsFit (o : Outcome) (q : Plain) : Type 0 where

@@ -25,25 +25,25 @@ use Rattle.machine_types.specs.declared.plain.PlainStep.{PlainStep}
 
 -- ---- the acts of one event, as if the thread held what it has an attempt on
 
-abbrev pub if_so : Bool → Act → List Act
-if_so true act = act ∷ []
-if_so false act = []
+abbrev pub act_if : Bool → Act → List Act
+act_if true act = act ∷ []
+act_if false act = []
 
 -- on a flat lock the notification is done with its instruction
 abbrev pub notified_by : Kept → Act → List Act
 notified_by (keeps.Flat c) act = Do ∷ act ∷ []
 notified_by (keeps.Fat r) act = Do ∷ []
 
-abbrev pub notified : Option Held → Act → List Act
-notified None act = Do ∷ []
-notified (Some h) act = notified_by h.kept act
+abbrev pub notify_acts : Option Held → Act → List Act
+notify_acts None act = Do ∷ []
+notify_acts (Some h) act = notified_by h.kept act
 
 -- an element that is there is read or stored in a second event
 abbrev pub instruction_acts : Thread → Effect → (got : ℕ) → List Act
 instruction_acts s (Indexes array index stored) got = if nat_lt (low index) (header_length got) then [] else Do ∷ []
-instruction_acts s (Prints n) got = if_so (has_print_left s) Do
-instruction_acts s (Notifies m) got = notified (held_at s.held m) (Notify None)
-instruction_acts s (NotifiesAll m) got = notified (held_at s.held m) NotifyAll
+instruction_acts s (Prints n) got = act_if (has_print_left s) Do
+instruction_acts s (Notifies m) got = notify_acts (held_at s.held m) (Notify None)
+instruction_acts s (NotifiesAll m) got = notify_acts (held_at s.held m) NotifyAll
 instruction_acts s Stuck got = []
 instruction_acts s e got = Do ∷ []
 
@@ -56,12 +56,12 @@ enter_acts HasNot = []
 enter_acts claim = Enter ∷ []
 
 abbrev pub release_acts : Thread → Kept → (got : ℕ) → List Act
-release_acts s (keeps.Flat c) got = if_so (got == word_of_lock (locks.Held s.number)) Exit
+release_acts s (keeps.Flat c) got = act_if (got == word_of_lock (locks.Held s.number)) Exit
 release_acts s (keeps.Fat r) got = Exit ∷ []
 
 abbrev pub leave_acts : Thread → Claim → (got : ℕ) → List Act
 leave_acts s (Has h) got = if nat_lt 1 h.depth then Exit ∷ [] else release_acts s h.kept got
-leave_acts s (Tries a) got = if_so (nat_lt 0 a.inner) Exit
+leave_acts s (Tries a) got = act_if (nat_lt 0 a.inner) Exit
 leave_acts s HasNot got = []
 
 abbrev pub acts_of : MarkedProgram → Thread → Phase → (got : ℕ) → List Act
@@ -70,13 +70,13 @@ acts_of c s phases.Run got = run_acts c s (top_of c.program s.frames) got
 acts_of c s (phases.Element word stored) got = Do ∷ []
 acts_of c s (phases.Throw x class) got = Do ∷ []
 acts_of c s (phases.Enter m tried) got = enter_acts (claim s m)
-acts_of c s (phases.Take m count) got = if_so (got == word_of_lock (locks.Free count)) Enter
-acts_of c s (phases.TakeFat m r) got = if_so (got == 0) Enter
+acts_of c s (phases.Take m count) got = act_if (got == word_of_lock (locks.Free count)) Enter
+acts_of c s (phases.TakeFat m r) got = act_if (got == 0) Enter
 acts_of c s (phases.Leave m a) got = leave_acts s (claim s m) got
 acts_of c s (phases.FlatOut m a) got = Exit ∷ []
 acts_of c s (phases.WaitOut m r) got = Wait ∷ []
-acts_of c s (phases.Retake m r depth) got = if_so (got == 0) Retake
-acts_of c s (phases.NotifyLook m r) got = if_so (got == 0) (Notify None)
+acts_of c s (phases.Retake m r depth) got = act_if (got == 0) Retake
+acts_of c s (phases.NotifyLook m r) got = act_if (got == 0) (Notify None)
 acts_of c s (phases.NotifyOne m r u) got = Notify (Some u) ∷ []
 acts_of c s (phases.NotifyAll m r) got = NotifyAll ∷ []
 acts_of c s phase got = []
@@ -158,12 +158,12 @@ abbrev pub past_at : Told → (t : ℕ) → Past
 past_at w t = slice_index_or w.pasts t no_past
 
 -- the word that a thread's event finds
-abbrev pub found_at : MarkedProgram → Told → Thread → ℕ
-found_at c w s = found_by w.core.words (wanted c s s.phase)
+abbrev pub found_by_event : MarkedProgram → Told → Thread → ℕ
+found_by_event c w s = found_by w.core.words (wanted c s s.phase)
 
 abbrev pub pasts_after : MarkedProgram → Told → (t : ℕ) → Option Thread → List Past
 pasts_after c w t None = w.pasts
-pasts_after c w t (Some s) = slice_set w.pasts t (past_after c s s.attempt (found_at c w s) (past_at w t))
+pasts_after c w t (Some s) = slice_set w.pasts t (past_after c s s.attempt (found_by_event c w s) (past_at w t))
 
 abbrev pub pasts_of : MarkedProgram → Told → Happening → List Past
 pasts_of c w (Of t) = pasts_after c w t (slice_get w.core.threads t)
@@ -181,7 +181,7 @@ steps_of t acts = map (λ act. record { thread = t; act = act }) acts
 
 abbrev pub shown_of : MarkedProgram → Told → (t : ℕ) → Option Thread → List PlainStep
 shown_of c w t None = []
-shown_of c w t (Some s) = steps_of t (shown_at c s s.attempt (found_at c w s) (past_at w t))
+shown_of c w t (Some s) = steps_of t (shown_at c s s.attempt (found_by_event c w s) (past_at w t))
 
 -- the plain steps of one event
 abbrev pub shown : MarkedProgram → Told → Happening → List PlainStep

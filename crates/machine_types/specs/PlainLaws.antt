@@ -13,7 +13,7 @@ use Rattle.machine_types.specs.Onward.{Onward, after, root_arguments}
 use Rattle.machine_types.specs.declared.phase.After.TheVariants as afters
 use Rattle.machine_types.specs.Parts.{done_roots}
 use Rattle.machine_types.specs.ReadyObjects.{class_of}
-use Rattle.machine_types.specs.PlainState.{Plain, PlainThread, Status, holding_at, goes_on, over}
+use Rattle.machine_types.specs.PlainState.{Plain, PlainThread, Status, holding_at, plain_goes_on, over}
 use Rattle.machine_types.specs.PlainState as plain
 use Rattle.machine_types.specs.PlainSteps.{plain_step}
 use Rattle.machine_types.specs.Threads.{Frame}
@@ -85,7 +85,7 @@ LastExitFrees = (p : Program) (q r : Plain) (t m : ℕ) (a : After) (x : PlainTh
 -- and the thread goes on as it was to do behind the exit
 abbrev pub ExitGoesOn : Type 0
 ExitGoesOn = (p : Program) (q r : Plain) (t m : ℕ) (a : After) (x : PlainThread) → Steps p q r t x acts.Exit → x.status ≡ plain.Leave m a
-    → (o : Onward) × (after p x.frames a ≡ Some o) × (slice_get r.threads t ≡ Some (goes_on x o))
+    → (o : Onward) × (after p x.frames a ≡ Some o) × (slice_get r.threads t ≡ Some (plain_goes_on x o))
 
 -- the depth that a wait gives up is the one that is taken back, and no thread holds the monitor afterwards
 abbrev pub WaitGivesUp : Type 0
@@ -151,12 +151,12 @@ abbrev pub WorkersBeginBehindInit : Type 0
 WorkersBeginBehindInit = (p : Program) (q r : Plain) (t : ℕ) (x : PlainThread) → Steps p q r (suc t) x acts.Begin → InitHasReturned q
 
 -- it returned, or an exception ended it
-abbrev pub HasFinished : Status → Type 0
-HasFinished status = (status ≡ plain.Ended ends.Returned) ⊎ ((class : Thrown) × (status ≡ plain.Ended (ends.Uncaught class)))
+abbrev pub IsFinishedStatus : Status → Type 0
+IsFinishedStatus status = (status ≡ plain.Ended ends.Returned) ⊎ ((class : Thrown) × (status ≡ plain.Ended (ends.Uncaught class)))
 
 abbrev pub DoneBeginsLast : Type 0
 DoneBeginsLast = (p : Program) (q r : Plain) (t u : ℕ) (x y : PlainThread) → Steps p q r t x acts.Begin → x.status ≡ plain.Ended ends.Returned
-    → slice_get q.threads (suc u) ≡ Some y → HasFinished y.status
+    → slice_get q.threads (suc u) ≡ Some y → IsFinishedStatus y.status
 
 -- ---- Do
 

@@ -67,9 +67,9 @@ abbrev pub first_thread : (roots : List ℕ) → PlainThread
 first_thread [] = record { frames = []; status = Ended ends.Returned; roots = []; ended = ends.Returned ∷ [] }
 first_thread (number ∷ roots) = ready_thread (number ∷ roots)
 
-abbrev pub start_thread : Program → (t : ℕ) → PlainThread
-start_thread p zero = first_thread (init_roots p)
-start_thread p t = ready_thread (run_roots p)
+abbrev pub plain_start_thread : Program → (t : ℕ) → PlainThread
+plain_start_thread p zero = first_thread (init_roots p)
+plain_start_thread p t = ready_thread (run_roots p)
 
 abbrev pub plain_start : Program → Plain
 plain_start p = record {
@@ -77,7 +77,7 @@ plain_start p = record {
   statics = start_statics p;
   next = words_of p;
   holdings = [];
-  threads = map (start_thread p) (range_with_len 0 (p.workers + 1));
+  threads = map (plain_start_thread p) (range_with_len 0 (p.workers + 1));
   prints = [];
 }
 
@@ -125,14 +125,14 @@ with_status x status = record x { status = status }
 abbrev pub over : PlainThread → End → PlainThread
 over x e = record x { frames = []; status = Ended e; ended = x.ended ++ e ∷ [] }
 
-abbrev pub root_over : PlainThread → (roots : List ℕ) → PlainThread
-root_over x [] = over x ends.Returned
-root_over x (number ∷ roots) = record x { frames = []; status = Ready }
+abbrev pub plain_root_over : PlainThread → (roots : List ℕ) → PlainThread
+plain_root_over x [] = over x ends.Returned
+plain_root_over x (number ∷ roots) = record x { frames = []; status = Ready }
 
-abbrev pub goes_on : PlainThread → Onward → PlainThread
-goes_on x (onward.Running frames) = record x { frames = frames; status = Run }
-goes_on x (onward.Throwing r class frames) = record x { frames = frames; status = Throw r class }
-goes_on x (onward.Entering m frames) = record x { frames = frames; status = Enter m }
-goes_on x (onward.Leaving m a frames) = record x { frames = frames; status = Leave m a }
-goes_on x onward.RootReturned = root_over x x.roots
-goes_on x (onward.Uncaught class) = over x (ends.Uncaught class)
+abbrev pub plain_goes_on : PlainThread → Onward → PlainThread
+plain_goes_on x (onward.Running frames) = record x { frames = frames; status = Run }
+plain_goes_on x (onward.Throwing r class frames) = record x { frames = frames; status = Throw r class }
+plain_goes_on x (onward.Entering m frames) = record x { frames = frames; status = Enter m }
+plain_goes_on x (onward.Leaving m a frames) = record x { frames = frames; status = Leave m a }
+plain_goes_on x onward.RootReturned = plain_root_over x x.roots
+plain_goes_on x (onward.Uncaught class) = over x (ends.Uncaught class)

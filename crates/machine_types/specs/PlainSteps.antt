@@ -7,8 +7,8 @@ use Rattle.jvm_types.specs.declared.outcome.End.TheVariants as ends
 use Rattle.jvm_types.specs.declared.program.Program.{Program}
 use Rattle.machine_types.specs.Frames.{top_of}
 use Rattle.machine_types.specs.Onward.{After, after, rooted, dispatched}
-use Rattle.machine_types.specs.PlainInstructions.{instructed}
-use Rattle.machine_types.specs.PlainState.{Plain, PlainThread, Status, Holding, Ready, Run, Throw, Enter, Leave, Wait, Notify, NotifyAll, Waiting, Woken, Ended, holding_at, held_by, let_go, with_thread, with_status, goes_on}
+use Rattle.machine_types.specs.PlainInstructions.{plain_instructed}
+use Rattle.machine_types.specs.PlainState.{Plain, PlainThread, Status, Holding, Ready, Run, Throw, Enter, Leave, Wait, Notify, NotifyAll, Waiting, Woken, Ended, holding_at, held_by, let_go, with_thread, with_status, plain_goes_on}
 use Rattle.machine_types.specs.Parts.{done_roots, has_returned, has_finished}
 use Rattle.machine_types.specs.declared.plain.Act.{Act}
 use Rattle.machine_types.specs.declared.plain.Act.TheVariants as acts
@@ -38,25 +38,25 @@ is_due threads zero [] = true
 is_due threads zero ended = is_done_due threads
 is_due threads t ended = init_has_returned threads
 
-abbrev pub begun : Program → (t : ℕ) → PlainThread → (roots : List ℕ) → Option PlainThread
-begun p t x [] = None
-begun p t x (number ∷ roots) = option_map (λ m. goes_on (record x { roots = roots }) (rooted p t number m)) (slice_get p.methods number)
+abbrev pub plain_begun : Program → (t : ℕ) → PlainThread → (roots : List ℕ) → Option PlainThread
+plain_begun p t x [] = None
+plain_begun p t x (number ∷ roots) = option_map (λ m. plain_goes_on (record x { roots = roots }) (rooted p t number m)) (slice_get p.methods number)
 
 -- thread 0, when of its parts only `init` has ended
 abbrev pub may_do_done : (t : ℕ) → (ended : List End) → Bool
 may_do_done zero (ends.Returned ∷ []) = true
 may_do_done t ended = false
 
-abbrev pub begins : Program → (t : ℕ) → PlainThread → Status → Option PlainThread
-begins p t x Ready = begun p t x x.roots
-begins p t x (Ended ends.Returned) = if may_do_done t x.ended then begun p t x (done_roots p) else None
-begins p t x status = None
+abbrev pub plain_begins : Program → (t : ℕ) → PlainThread → Status → Option PlainThread
+plain_begins p t x Ready = plain_begun p t x x.roots
+plain_begins p t x (Ended ends.Returned) = if may_do_done t x.ended then plain_begun p t x (done_roots p) else None
+plain_begins p t x status = None
 
 -- ---- Enter and Exit
 
-abbrev pub entered : Plain → (t m : ℕ) → PlainThread → Option Holding → Option Plain
-entered q t m x None = Some (with_thread (held_by q m t 1) t (with_status x Run))
-entered q t m x (Some h) = if h.holder == t then Some (with_thread (held_by q m t (h.depth + 1)) t (with_status x Run)) else None
+abbrev pub plain_entered : Plain → (t m : ℕ) → PlainThread → Option Holding → Option Plain
+plain_entered q t m x None = Some (with_thread (held_by q m t 1) t (with_status x Run))
+plain_entered q t m x (Some h) = if h.holder == t then Some (with_thread (held_by q m t (h.depth + 1)) t (with_status x Run)) else None
 
 -- m is free when its one entry is left
 abbrev pub left : Plain → (t m depth : ℕ) → Plain
@@ -65,7 +65,7 @@ left q t m depth = let_go q m
 
 abbrev pub exited : Program → Plain → (t m : ℕ) → After → PlainThread → Option Holding → Option Plain
 exited p q t m a x None = None
-exited p q t m a x (Some h) = if h.holder == t then option_map (λ o. with_thread (left q t m h.depth) t (goes_on x o)) (after p x.frames a) else None
+exited p q t m a x (Some h) = if h.holder == t then option_map (λ o. with_thread (left q t m h.depth) t (plain_goes_on x o)) (after p x.frames a) else None
 
 -- ---- Wait, Notify, NotifyAll and Retake
 
@@ -104,10 +104,10 @@ retaken q t m depth x (Some h) = None
 -- ---- the step by the act and the thread's status; every other pair is no step
 
 abbrev pub step_at : Program → Plain → (t : ℕ) → PlainThread → Act → Status → Option Plain
-step_at p q t x acts.Begin status = if is_due q.threads t x.ended then option_map (with_thread q t) (begins p t x status) else None
-step_at p q t x acts.Do Run = instructed p q t x (top_of p x.frames)
-step_at p q t x acts.Do (Throw r class) = option_map (λ o. with_thread q t (goes_on x o)) (dispatched p r class x.frames)
-step_at p q t x acts.Enter (Enter m) = entered q t m x (holding_at q.holdings m)
+step_at p q t x acts.Begin status = if is_due q.threads t x.ended then option_map (with_thread q t) (plain_begins p t x status) else None
+step_at p q t x acts.Do Run = plain_instructed p q t x (top_of p x.frames)
+step_at p q t x acts.Do (Throw r class) = option_map (λ o. with_thread q t (plain_goes_on x o)) (dispatched p r class x.frames)
+step_at p q t x acts.Enter (Enter m) = plain_entered q t m x (holding_at q.holdings m)
 step_at p q t x acts.Exit (Leave m a) = exited p q t m a x (holding_at q.holdings m)
 step_at p q t x acts.Wait (Wait m) = waited q t m x (holding_at q.holdings m)
 step_at p q t x (acts.Notify one) (Notify m) = notified q t m x one
@@ -139,8 +139,8 @@ abbrev pub first_end : Plain → (t : ℕ) → Option End
 first_end q t = end_at 0 (slice_get q.threads t)
 
 -- where there is no such method, it has returned as soon as it is due
-abbrev pub done_end : Program → Plain → Option End
-done_end p q = by_roots (done_roots p)
+abbrev pub plain_done_end : Program → Plain → Option End
+plain_done_end p q = by_roots (done_roots p)
   where
     by_roots : List ℕ → Option End
     by_roots [] = if is_done_due q.threads then Some ends.Returned else None

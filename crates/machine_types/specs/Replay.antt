@@ -11,7 +11,7 @@ use Rattle.machine_types.specs.Frames.{Top, top_of, effect_at}
 use Rattle.machine_types.specs.Onward.{Onward, Entering, Leaving, after, dispatched, done}
 use Rattle.machine_types.specs.declared.phase.After.{After}
 use Rattle.machine_types.specs.PlainInstructions.{got_by}
-use Rattle.machine_types.specs.PlainState.{PlainThread, Status, Run, Throw, Enter, Leave, with_status, goes_on}
+use Rattle.machine_types.specs.PlainState.{PlainThread, Status, Run, Throw, Enter, Leave, with_status, plain_goes_on}
 use Rattle.machine_types.specs.Threads.{Attempt, Thread}
 use Rattle.machine_types.specs.declared.phase.Phase.{Phase}
 use Rattle.machine_types.specs.declared.phase.Phase.TheVariants as phases
@@ -37,7 +37,7 @@ reads_only p at (Prints n) got = None
 reads_only p at e got = done p at e got
 
 abbrev pub goes : Alone → Option Onward → Option Alone
-goes x onward = option_map (λ o. record x { thread = goes_on x.thread o }) onward
+goes x onward = option_map (λ o. record x { thread = plain_goes_on x.thread o }) onward
 
 abbrev pub instructs : Program → (m : ℕ) → (memory : ℕ → Option ℕ) → Alone → Option Top → Option Alone
 instructs p m memory x None = None

@@ -4,7 +4,7 @@ use Rattle.std.specs.List.{AllByRecursion}
 use Rattle.jvm_types.specs.Members.{is_synchronized}
 use Rattle.jvm_types.specs.declared.code.Insn.{Insn}
 use Rattle.jvm_types.specs.declared.program.MethodInfo.{MethodInfo}
-use Rattle.checked_program.specs.Visits.{frame_at}
+use Rattle.checked_program.specs.Visits.{frame_at_pc}
 use Rattle.checked_program.specs.LockTags.{TagShape, same_tag}
 use Rattle.checked_program.specs.MarkedProgram.{MarkedProgram}
 use Rattle.checked_program.specs.declared.tag.Tag.{Tag}
@@ -46,7 +46,7 @@ held_tags None = []
 held_tags (Some t) = t.held
 
 abbrev pub IsMade : List Insn → List (Option TagShape) → Tag → Type 0
-IsMade code frames (At pc) = AllByRecursion (λ t. same_tag (At pc) t ≡ false) (held_tags (frame_at code frames pc))
+IsMade code frames (At pc) = AllByRecursion (λ t. same_tag (At pc) t ≡ false) (held_tags (frame_at_pc code frames pc))
 IsMade code frames t = Unit {0}
 
 pub record AreMade (code : List Insn) (frames : List (Option TagShape)) (tags : TagShape) : Type 0 where
@@ -61,8 +61,8 @@ abbrev pub own_entry : MethodInfo → Frame → List ℕ
 own_entry m f = if is_synchronized m.flags then monitor_of m f ∷ [] else []
 
 -- an entry for each held tag, innermost first, and then the method's own
-abbrev pub entries_of : (choice : ℕ → ℕ) → MethodInfo → TagShape → Frame → List ℕ
-entries_of choice m tags f = map (tag_value choice f.receiver) tags.held ++ own_entry m f
+abbrev pub shown_entries : (choice : ℕ → ℕ) → MethodInfo → TagShape → Frame → List ℕ
+shown_entries choice m tags f = map (tag_value choice f.receiver) tags.held ++ own_entry m f
 
 -- a frame shows these entries, with some choice of a value for each tag
 pub record Shows (c : MarkedProgram) (operands : Operands) (f : Frame) (shown : List ℕ) : Type 0 where
@@ -71,7 +71,7 @@ pub record Shows (c : MarkedProgram) (operands : Operands) (f : Frame) (shown : 
   pub choice : ℕ → ℕ
   pub locals : HaveValues choice f.receiver stands.tags.locals f.locals
   pub stack : StackShows operands choice f.receiver stands.tags.stack f.stack
-  pub shown_are : shown ≡ entries_of choice stands.method stands.tags f
+  pub shown_are : shown ≡ shown_entries choice stands.method stands.tags f
 
 -- ---- all frames of a thread
 

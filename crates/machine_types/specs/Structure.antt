@@ -61,18 +61,18 @@ lacked (phases.Retake n r depth) m = if n == m then depth else 0
 lacked phase m = 0
 
 -- entries that the thread still has and the frames no longer show: that of a `monitorexit`
-abbrev pub left_by : After → (n m : ℕ) → ℕ
-left_by afters.Next n m = once_at n m
-left_by a n m = 0
+abbrev pub entries_left : After → (n m : ℕ) → ℕ
+entries_left afters.Next n m = once_at n m
+entries_left a n m = 0
 
 abbrev pub left_toward : Toward → (n m : ℕ) → ℕ
-left_toward (towards.Leave a) n m = left_by a n m
+left_toward (towards.Leave a) n m = entries_left a n m
 left_toward towards.Wait n m = 0
 
 abbrev pub left_over : Phase → (m : ℕ) → ℕ
-left_over (phases.Leave n a) m = left_by a n m
+left_over (phases.Leave n a) m = entries_left a n m
 left_over (phases.Grow n toward) m = left_toward toward n m
-left_over (phases.FlatOut n a) m = left_by a n m
+left_over (phases.FlatOut n a) m = entries_left a n m
 left_over (phases.Own n r toward) m = left_toward toward n m
 left_over (phases.FatIn n r toward) m = left_toward toward n m
 left_over phase m = 0

@@ -16,7 +16,7 @@ use Rattle.checked_program.specs.declared.section.FieldUse.{FieldUse}
 use Rattle.guard_analysis.specs.CallGraph.{node_of, mode_at}
 use Rattle.mark_reasons.specs.OwnFlags.{AreOwn}
 use Rattle.mark_reasons.specs.Reasons.{own_callee, mark_by, IsWay, BeginsOwn, LeadsToFault}
-use Rattle.mark_reasons.specs.Searches.{callee_at, calls_of, fault_of, node_call, node_fault, node_size, node_visits, own_call, own_site, site_at, visits, AreCalledBefore, IsBack, from_section, from_entry, IsCalled, IsFirstFault, IsSound, Searching, left_of}
+use Rattle.mark_reasons.specs.Searches.{callee_at, calls_of, node_fault_of, node_call, node_fault, node_size, node_visits, own_call, own_site, site_at, visits, AreCalledBefore, IsBack, from_section, from_entry, IsCalled, IsFirstNodeFault, IsSearchSound, Searching, left_of}
 use Rattle.mark_reasons.specs.declared.search.Entry.{Entry}
 use Rattle.mark_reasons.specs.declared.search.Search.{Search}
 use Rattle.mark_reasons.specs.declared.reason.Site.{Site}
@@ -46,7 +46,7 @@ pub record Backed (p : Program) (tags : Tagged) (s : Section) (way : List Site) 
   pub own : BeginsOwn p tags s way
   pub called : (rule : ℕ) → mark_by way rule ≡ 6
 
-module _ (p : Program) (tags : Tagged) (s : Section) (n : ℕ) (w : Search) (h : IsSound p tags s n w) where
+module _ (p : Program) (tags : Tagged) (s : Section) (n : ℕ) (w : Search) (h : IsSearchSound p tags s n w) where
   some_way : (front : List Site) (x : Site) (rule : ℕ) → mark_by (front ++ x ∷ []) rule ≡ 6
   some_way [] x rule = refl
   some_way (y ∷ ys) x rule = refl
@@ -84,25 +84,25 @@ module _ (p : Program) (tags : Tagged) (s : Section) (n : ℕ) (w : Search) (h :
 -- ---- the search by its code
 
 module _ (p : Program) (uses : List FieldUse) (tags : List Tags) (is : IsProgram p) where
-  fault_first : (om : Option MethodInfo) (ot : Option Tags) (mode : Mode) (i : ℕ) → IsFirstFault p uses om ot mode (Some i) → 0 < node_fault p uses om ot mode i
+  fault_first : (om : Option MethodInfo) (ot : Option Tags) (mode : Mode) (i : ℕ) → IsFirstNodeFault p uses om ot mode (Some i) → 0 < node_fault p uses om ot mode i
   fault_first (Some m) (Some t) mode i h = let test : nat_lt 0 (node_fault p uses (Some m) (Some t) mode i) ≡ true = h.1 in grind (arith, nat_tests)
   fault_first (Some m) None mode i h = absurd (cc)
   fault_first None ot mode i h = absurd (cc)
 
-  fault_none : (om : Option MethodInfo) (ot : Option Tags) (mode : Mode) → IsFirstFault p uses om ot mode None → (i : ℕ) → i < node_size om ot → nat_lt 0 (node_fault p uses om ot mode i) ≡ false
+  fault_none : (om : Option MethodInfo) (ot : Option Tags) (mode : Mode) → IsFirstNodeFault p uses om ot mode None → (i : ℕ) → i < node_size om ot → nat_lt 0 (node_fault p uses om ot mode i) ≡ false
   fault_none (Some m) (Some t) mode h i l = h i l
   fault_none (Some m) None mode h i l = absurd (omega (arith, l))
   fault_none None ot mode h i l = absurd (omega (arith, l))
 
-  pub node_is_fault : (a i : ℕ) → IsFirstFault p uses (slice_get p.methods (a / 2)) (slice_get tags (a / 2)) (mode_at a) (Some i) → BreaksAt p (tagged_by tags) uses (callee_at a) i (fault_of p uses tags a i)
+  pub node_is_fault : (a i : ℕ) → IsFirstNodeFault p uses (slice_get p.methods (a / 2)) (slice_get tags (a / 2)) (mode_at a) (Some i) → BreaksAt p (tagged_by tags) uses (callee_at a) i (node_fault_of p uses tags a i)
   node_is_fault a i h = fault_breaks p uses tags is a i (fault_first (slice_get p.methods (a / 2)) (slice_get tags (a / 2)) (mode_at a) i h)
 
-  node_is_sane : (a : ℕ) → IsFirstFault p uses (slice_get p.methods (a / 2)) (slice_get tags (a / 2)) (mode_at a) None → (i r : ℕ) → BreaksAt p (tagged_by tags) uses (callee_at a) i r → ⊥
+  node_is_sane : (a : ℕ) → IsFirstNodeFault p uses (slice_get p.methods (a / 2)) (slice_get tags (a / 2)) (mode_at a) None → (i r : ℕ) → BreaksAt p (tagged_by tags) uses (callee_at a) i r → ⊥
   node_is_sane a h i r b =
       let there = fault_there p uses tags is a i r b in
-      let none : nat_lt 0 (fault_of p uses tags a i) ≡ false = fault_none (slice_get p.methods (a / 2)) (slice_get tags (a / 2)) (mode_at a) h i there.0 in
+      let none : nat_lt 0 (node_fault_of p uses tags a i) ≡ false = fault_none (slice_get p.methods (a / 2)) (slice_get tags (a / 2)) (mode_at a) h i there.0 in
       let some : 0 < r = b.some in
-      let same : fault_of p uses tags a i ≡ r = there.1 in
+      let same : node_fault_of p uses tags a i ≡ r = there.1 in
       grind (arith, nat_tests)
 
   visits_are : (om : Option MethodInfo) (ot : Option Tags) (mode : Mode) (w : Search) (caller : ℕ) → node_visits p om ot mode w caller ≡ visits (node_call p om ot mode) w caller (node_size om ot)
@@ -119,7 +119,7 @@ module _ (p : Program) (uses : List FieldUse) (tags : List Tags) (is : IsProgram
       next_is = made ∙ ap (λ c. node_visits p (slice_get p.methods (e.node / 2)) (slice_get tags (e.node / 2)) (mode_at e.node) w c) (let one : k + 1 ≡ suc k = omega arith in one)
           ∙ visits_are (slice_get p.methods (e.node / 2)) (slice_get tags (e.node / 2)) (mode_at e.node) w (suc k)
 
-      pub search_goes_on : IsFirstFault p uses (slice_get p.methods (e.node / 2)) (slice_get tags (e.node / 2)) (mode_at e.node) None → Searches_on (k + 1) v
+      pub search_goes_on : IsFirstNodeFault p uses (slice_get p.methods (e.node / 2)) (slice_get tags (e.node / 2)) (mode_at e.node) None → Searches_on (k + 1) v
       search_goes_on none = subst (λ x. Searches_on (k + 1) x) (sym next_is)
           (goes_on p (tagged_by tags) uses s (2 * length p.methods) k w e (calls_of p tags e.node) (node_size (slice_get p.methods (e.node / 2)) (slice_get tags (e.node / 2))) h here
           (λ i j q. calls_found p uses tags is e.node i j q) (λ i b q. calls_there p uses tags is e.node i b q) (node_is_sane e.node none))

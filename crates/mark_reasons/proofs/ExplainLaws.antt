@@ -24,7 +24,7 @@ use Rattle.laws_sections.proofs.OneMarks.{one_use}
 use Rattle.guard_analysis.proofs.CalleesFound.{breaks_one}
 use Rattle.guard_analysis.proofs.Grading.{fault_known}
 use Rattle.mark_reasons.specs.OwnFlags.{AreOwn}
-use Rattle.mark_reasons.specs.Reasons.{own_callee, section_of, LeadsToFault, AreMarked, FirstReasons, IsExplained}
+use Rattle.mark_reasons.specs.Reasons.{own_callee, marked_section, LeadsToFault, AreMarked, FirstReasons, IsExplained}
 use Rattle.mark_reasons.specs.Searches.{node_fault, own_breaks, own_site, IsFirst}
 use Rattle.mark_reasons.specs.declared.reason.Reason.{Reason}
 use Rattle.mark_reasons.proofs.Nodes.{inside_breaks}
@@ -54,17 +54,17 @@ module _ (p : Program) (uses : List FieldUse) (tags : List Tags) (is : IsProgram
 -- ---- all marks
 
 module _ (p : Program) (tags : Tagged) (uses : List FieldUse) where
-  one_marked : (s : Section) (mark : SectionMark) → IsMarkOf p tags uses s mark → HasMark p tags uses (section_of mark) mark.mark
+  one_marked : (s : Section) (mark : SectionMark) → IsMarkOf p tags uses s mark → HasMark p tags uses (marked_section mark) mark.mark
   one_marked s mark h = subst (λ (x : Section). HasMark p tags uses x mark.mark) (same s mark h) h.mark_is
     where
-      same : (s : Section) (mark : SectionMark) → IsMarkOf p tags uses s mark → s ≡ section_of mark
+      same : (s : Section) (mark : SectionMark) → IsMarkOf p tags uses s mark → s ≡ marked_section mark
       same s mark h = λ i. record { method = sym h.method i; spot = sym h.spot i }
 
   all_marked : (ss : List Section) (marks : List SectionMark) → AllZip (IsMarkOf p tags uses) ss marks → AreMarked p tags uses marks
   all_marked [] [] h i mark e = absurd (let bad : None ≡ Some mark = e in cc)
   all_marked [] (n ∷ marks) h i mark e = absurd h
   all_marked (s ∷ ss) [] h i mark e = absurd h
-  all_marked (s ∷ ss) (n ∷ marks) h zero mark e = subst (λ (x : SectionMark). HasMark p tags uses (section_of x) x.mark) (same_Some n mark e) (one_marked s n h.0)
+  all_marked (s ∷ ss) (n ∷ marks) h zero mark e = subst (λ (x : SectionMark). HasMark p tags uses (marked_section x) x.mark) (same_Some n mark e) (one_marked s n h.0)
   all_marked (s ∷ ss) (n ∷ marks) h (suc i) mark e = all_marked ss marks h.1 i mark e
 
   pub marks_are : (marks : List SectionMark) → AreUses p tags uses → AreMarks p tags marks → AreMarked p tags uses marks

@@ -14,7 +14,7 @@ use Rattle.guard_analysis.specs.CallGraph.{node_of, mode_at, call_at}
 use Rattle.guard_analysis.proofs.CallEdges.{half_of, mode_back, node_low, with_tags}
 use Rattle.guard_analysis.proofs.CalleesFound.{breaks_one}
 use Rattle.guard_analysis.proofs.Grading.{fault_known, call_known, call_found}
-use Rattle.mark_reasons.specs.Searches.{callee_at, node_call, node_fault, node_size, calls_of, fault_of}
+use Rattle.mark_reasons.specs.Searches.{callee_at, node_call, node_fault, node_size, calls_of, node_fault_of}
 
 pub callee_back : (a : Callee) → callee_at (node_of a) ≡ a
 callee_back a = λ i. record { method = half_of a.method a.mode i; mode = mode_back a.method a.mode i }
@@ -59,10 +59,10 @@ module _ (p : Program) (uses : List FieldUse) (tags : List Tags) (is : IsProgram
   node_breaks a i (Some m) None e f h = absurd (omega (arith, h))
   node_breaks a i None ot e f h = absurd (omega (arith, h))
 
-  pub fault_breaks : (a i : ℕ) → 0 < fault_of p uses tags a i → BreaksAt p (tagged_by tags) uses (callee_at a) i (fault_of p uses tags a i)
+  pub fault_breaks : (a i : ℕ) → 0 < node_fault_of p uses tags a i → BreaksAt p (tagged_by tags) uses (callee_at a) i (node_fault_of p uses tags a i)
   fault_breaks a i h = node_breaks a i (slice_get p.methods (a / 2)) (slice_get tags (a / 2)) refl refl h
 
-  pub fault_there : (a i r : ℕ) → BreaksAt p (tagged_by tags) uses (callee_at a) i r → (i < node_size (slice_get p.methods (a / 2)) (slice_get tags (a / 2))) × (fault_of p uses tags a i ≡ r)
+  pub fault_there : (a i r : ℕ) → BreaksAt p (tagged_by tags) uses (callee_at a) i r → (i < node_size (slice_get p.methods (a / 2)) (slice_get tags (a / 2))) × (node_fault_of p uses tags a i ≡ r)
   fault_there a i r b =
       let has = with_tags p tags is (a / 2) b.at.frames b.at.of_method in
       (rw (b.at.in_program, has.1) (slice_get_within b.m.code i b.insn b.at.in_code), rw (b.at.in_program, has.1) (fault_known p uses tags is (a / 2) b.m has.0 b.at.in_program has.1 (mode_at a) i r b))

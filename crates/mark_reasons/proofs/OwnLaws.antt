@@ -16,12 +16,12 @@ use Rattle.code_table.specs.PcTables.{number_at}
 use Rattle.code_table.proofs.NumbersExact.{exact}
 use Rattle.laws_programs.proofs.CodeOrder.{methods_laid_out}
 use Rattle.checked_program.specs.LockTags.{TagShape}
-use Rattle.checked_program.specs.TaggedCode.{tagged_by, IsReached, IsAt}
+use Rattle.checked_program.specs.TaggedCode.{tagged_by, IsInstructionReached, IsAt}
 use Rattle.checked_program.specs.Marks.{IsOnThis}
 use Rattle.checked_program.specs.declared.tag.Tags.{Tags}
 use Rattle.checked_program.specs.declared.section.Spot.TheVariants.{Method, Block}
-use Rattle.guard_analysis.specs.BlockWalks.{deep_at, is_deep, Stays, IsInside, Has, IsExplored}
-use Rattle.guard_analysis.specs.SectionGrades.{depth_at}
+use Rattle.guard_analysis.specs.BlockWalks.{deep_at, is_deep, IsPathInBlock, IsInside, Has, IsExplored}
+use Rattle.guard_analysis.specs.SectionGrades.{entry_depth_at}
 use Rattle.guard_analysis.specs.declared.block_walk.Walk.{Walk}
 use Rattle.guard_analysis.proofs.CallEdges.{with_tags}
 use Rattle.guard_analysis.proofs.BlockMarks.{entry_parts, stands, inside_own, own_inside, off_this}
@@ -105,7 +105,7 @@ flagged_all own len (suc k) i t l e low = ⊎_elim
 -- ---- a block
 
 module _ (m : MethodInfo) (frames : List (Option TagShape)) (depth stamp enter : ℕ) where
-  last_deep : (i : ℕ) (ks : List ℕ) (j : ℕ) → Stays m frames depth i ks j → is_deep m frames depth j ≡ true
+  last_deep : (i : ℕ) (ks : List ℕ) (j : ℕ) → IsPathInBlock m frames depth i ks j → is_deep m frames depth j ≡ true
   last_deep i [] j s = subst (λ k. is_deep m frames depth k ≡ true) s.0 s.1
   last_deep i (k ∷ ks) j s = last_deep k ks j s.2
 
@@ -145,7 +145,7 @@ module _ (p : Program) (tags : List Tags) (is : IsProgram p) (mi : ℕ) (m : Met
         all = λ i r. whole i r;
       })
     where
-      whole : (i : ℕ) → IsReached p (tagged_by tags) mi i → slice_index_or (reached_before m t.frames (length m.code)) i false ≡ true
+      whole : (i : ℕ) → IsInstructionReached p (tagged_by tags) mi i → slice_index_or (reached_before m t.frames (length m.code)) i false ≡ true
       whole i r =
           let code : slice_get m.code i ≡ Some r.insn = code_is i r.m r.insn r.target r.f r.at in
           reached_is m t.frames (length m.code) i (slice_get_within m.code i r.insn code)
@@ -165,7 +165,7 @@ module _ (p : Program) (tags : List Tags) (is : IsProgram p) (mi : ℕ) (m : Met
     not_enter : (insn : Insn) → slice_get m.code enter ≡ Some insn → (insn.op ≡ ops.Monitorenter → ⊥) → IsOnThis p (tagged_by tags) mi (Block pc) → ⊥
     not_enter insn e other on = other (ap (λ (x : Insn). x.op) (same_Some insn on.2.insn (sym e ∙ on_insn on)) ∙ on.2.enters)
 
-    entered : (insn : Insn) → slice_get m.code enter ≡ Some insn → insn.pc ≡ pc → insn.op ≡ ops.Monitorenter → (o : Option ℕ) (found : Option (List Bool)) → depth_at m t.frames enter ≡ o → IsDepthAnswer m t.frames enter o found → OwnOrElsewhere p (tagged_by tags) mi (Block pc) found
+    entered : (insn : Insn) → slice_get m.code enter ≡ Some insn → insn.pc ≡ pc → insn.op ≡ ops.Monitorenter → (o : Option ℕ) (found : Option (List Bool)) → entry_depth_at m t.frames enter ≡ o → IsDepthAnswer m t.frames enter o found → OwnOrElsewhere p (tagged_by tags) mi (Block pc) found
     entered insn e pc_is op None found d h = subst (OwnOrElsewhere p (tagged_by tags) mi (Block pc)) (sym h) (subst (λ x. IsOnThis p (tagged_by tags) mi (Block x) → ⊥) pc_is (off_this p tags is mi m t at_m at_t enter insn e op d))
     entered insn e pc_is op (Some depth) None d h = absurd h
     entered insn e pc_is op (Some depth) (Some flags) d h = subst (λ x. AreOwn p (tagged_by tags) mi (Block x) flags) pc_is
@@ -178,7 +178,7 @@ module _ (p : Program) (tags : List Tags) (is : IsProgram p) (mi : ℕ) (m : Met
         })
 
     by_op : (insn : Insn) (op : Op) (found : Option (List Bool)) → slice_get m.code enter ≡ Some insn → insn.pc ≡ pc → insn.op ≡ op → IsOpAnswer m t.frames enter op found → OwnOrElsewhere p (tagged_by tags) mi (Block pc) found
-    by_op insn ops.Monitorenter found e pc_is q h = entered insn e pc_is q (depth_at m t.frames enter) found refl h
+    by_op insn ops.Monitorenter found e pc_is q h = entered insn e pc_is q (entry_depth_at m t.frames enter) found refl h
     by_op insn op found e pc_is q h = subst (OwnOrElsewhere p (tagged_by tags) mi (Block pc)) (sym h) (not_enter insn e (λ (k : insn.op ≡ ops.Monitorenter). let bad : op ≡ ops.Monitorenter = sym q ∙ k in cc))
 
     pub block_answer : (o : Option Insn) (found : Option (List Bool)) → slice_get m.code enter ≡ o → IsBlockAnswer m t.frames enter o found → OwnOrElsewhere p (tagged_by tags) mi (Block pc) found

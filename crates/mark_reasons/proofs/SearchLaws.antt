@@ -13,7 +13,7 @@ use Rattle.checked_program.specs.Marks.{Callee, callee, Calls, CallsThrough, Bre
 use Rattle.checked_program.specs.declared.section.Mode.TheVariants.{OnThis}
 use Rattle.checked_program.specs.declared.section.FieldUse.{FieldUse}
 use Rattle.guard_analysis.specs.CallGraph.{node_of}
-use Rattle.mark_reasons.specs.Searches.{callee_at, visited, visits, HasNode, IsCalled, IsSound, Searching, unseen, left_of}
+use Rattle.mark_reasons.specs.Searches.{callee_at, search_visited, visits, HasNode, IsCalled, IsSearchSound, Searching, unseen, left_of}
 use Rattle.mark_reasons.specs.declared.search.Entry.{Entry}
 use Rattle.mark_reasons.specs.declared.search.Search.{Search}
 use Rattle.mark_reasons.proofs.Nodes.{callee_back}
@@ -104,7 +104,7 @@ module _ (w : Search) (j caller at : ℕ) (inside : j < length w.seen) (unlike :
   }
 
   module _ (p : Program) (tags : Tagged) (s : Section) (n : ℕ) where
-    put_sound : IsSound p tags s n w → IsCalled p tags s w.queue (length w.queue) caller at j → IsSound p tags s n put
+    put_sound : IsSearchSound p tags s n w → IsCalled p tags s w.queue (length w.queue) caller at j → IsSearchSound p tags s n put
     put_sound h c = record {
       long = length-set w.seen j true ∙ h.long;
       marked = λ i e. ⊎_elim (λ (q : i ≡ j). (length w.queue, entry, got_last w.queue entry, sym q)) (λ (q : i ≢ j). has_grown w put i put_grows (h.marked i (sym (other i q) ∙ e))) (cases_eq i j);
@@ -122,10 +122,10 @@ module _ (w : Search) (j caller at : ℕ) (inside : j < length w.seen) (unlike :
 module _ (p : Program) (tags : Tagged) (s : Section) (n : ℕ) where
   pub record After (w : Search) (o : Option ℕ) (v : Search) : Type 0 where
     pub grows : Grows w v
-    pub sound : IsSound p tags s n v
+    pub sound : IsSearchSound p tags s n v
     pub found : (j : ℕ) → o ≡ Some j → HasNode v.queue j
 
-  visited_after : (w : Search) (o : Option ℕ) (caller at : ℕ) → IsSound p tags s n w → ((j : ℕ) → o ≡ Some j → (j < n) × IsCalled p tags s w.queue (length w.queue) caller at j) → After w o (visited w o caller at)
+  visited_after : (w : Search) (o : Option ℕ) (caller at : ℕ) → IsSearchSound p tags s n w → ((j : ℕ) → o ≡ Some j → (j < n) × IsCalled p tags s w.queue (length w.queue) caller at j) → After w o (search_visited w o caller at)
   visited_after w None caller at h c = record { grows = grows_none w; sound = h; found = λ j e. absurd (cc) }
   visited_after w (Some j) caller at h c = by_test (nat_lt j (length w.seen)) (slice_index_or w.seen j false) refl refl
     where
@@ -145,32 +145,32 @@ module _ (p : Program) (tags : Tagged) (s : Section) (n : ℕ) where
 
   pub record AfterAll (calls : ℕ → Option ℕ) (count : ℕ) (w v : Search) : Type 0 where
     pub grows : Grows w v
-    pub sound : IsSound p tags s n v
+    pub sound : IsSearchSound p tags s n v
     pub found : (i j : ℕ) → i < count → calls i ≡ Some j → HasNode v.queue j
 
-  pub visits_after : (calls : ℕ → Option ℕ) (w : Search) (caller count : ℕ) → IsSound p tags s n w → ((i j : ℕ) → calls i ≡ Some j → (j < n) × IsCalled p tags s w.queue (length w.queue) caller i j) → AfterAll calls count w (visits calls w caller count)
+  pub visits_after : (calls : ℕ → Option ℕ) (w : Search) (caller count : ℕ) → IsSearchSound p tags s n w → ((i j : ℕ) → calls i ≡ Some j → (j < n) × IsCalled p tags s w.queue (length w.queue) caller i j) → AfterAll calls count w (visits calls w caller count)
   visits_after calls w caller zero h c = record { grows = grows_none w; sound = h; found = λ i j l. absurd (omega (arith, l)) }
   visits_after calls w caller (suc k) h c =
       let before = visits_after calls w caller k h c in
       let v : Search = visits calls w caller k in
       let one = visited_after v (calls k) caller k before.sound (λ j e. ((c k j e).0, called_grown p tags s w v (length w.queue) (length v.queue) caller k j before.grows before.grows.more (c k j e).1)) in
       record {
-        grows = grows_twice w v (visited v (calls k) caller k) before.grows one.grows;
+        grows = grows_twice w v (search_visited v (calls k) caller k) before.grows one.grows;
         sound = one.sound;
-        found = λ i j l e. ⊎_elim (λ (q : i ≡ k). one.found j (subst (λ x. calls x ≡ Some j) q e)) (λ (q : i ≢ k). has_grown v (visited v (calls k) caller k) j one.grows (before.found i j (omega (arith, l, q)) e)) (cases_eq i k);
+        found = λ i j l e. ⊎_elim (λ (q : i ≡ k). one.found j (subst (λ x. calls x ≡ Some j) q e)) (λ (q : i ≢ k). has_grown v (search_visited v (calls k) caller k) j one.grows (before.found i j (omega (arith, l, q)) e)) (cases_eq i k);
       }
 
 -- ---- the search
 
 module _ (p : Program) (tags : Tagged) (uses : List FieldUse) (s : Section) (n : ℕ) where
-  pub nothing_yet : (w : Search) → length w.seen ≡ n → ((j : ℕ) → slice_index_or w.seen j false ≡ false) → w.queue ≡ [] → IsSound p tags s n w
+  pub nothing_yet : (w : Search) → length w.seen ≡ n → ((j : ℕ) → slice_index_or w.seen j false ≡ false) → w.queue ≡ [] → IsSearchSound p tags s n w
   nothing_yet w long none empty = record {
     long = long;
     marked = λ j e. absurd (let bad : true ≡ false = sym e ∙ none j in cc);
     called = λ t e g. absurd (let bad : None ≡ Some e = ap (λ q. slice_get q t) (sym empty) ∙ g in cc);
   }
 
-  pub begins : (calls : ℕ → Option ℕ) (count : ℕ) (w : Search) → IsSound p tags s n w
+  pub begins : (calls : ℕ → Option ℕ) (count : ℕ) (w : Search) → IsSearchSound p tags s n w
       → ((i j : ℕ) → calls i ≡ Some j → (j < n) × IsCalled p tags s w.queue (length w.queue) 0 i j)
       → ((i : ℕ) (b : Callee) → IsOwn p tags s.method s.spot i → Calls p tags (callee s.method OnThis) i b → (i < count) × (calls i ≡ Some (node_of b)))
       → Searching p tags uses s n 0 (visits calls w 0 count)

@@ -12,7 +12,7 @@ use Rattle.checked_program.specs.declared.section.Spot.{Spot}
 use Rattle.jvm_types.specs.declared.code.Op.{Op}
 use Rattle.jvm_types.specs.declared.code.Op.TheVariants as ops
 use Rattle.guard_analysis.specs.BlockWalks.{IsInside}
-use Rattle.guard_analysis.specs.SectionGrades.{depth_at}
+use Rattle.guard_analysis.specs.SectionGrades.{entry_depth_at}
 
 pub record AreOwn (p : Program) (tags : Tagged) (mi : ℕ) (spot : Spot) (flags : List Bool) : Type 0 where
   pub only : (i : ℕ) → slice_index_or flags i false ≡ true → IsOwn p tags mi spot i
@@ -59,7 +59,7 @@ IsDepthAnswer m frames enter (Some depth) None = ⊥
 IsDepthAnswer m frames enter (Some depth) (Some flags) = IsFlagged m frames depth enter flags
 
 abbrev pub IsOpAnswer : MethodInfo → List (Option TagShape) → (enter : ℕ) → Op → Option (List Bool) → Type 0
-IsOpAnswer m frames enter ops.Monitorenter found = IsDepthAnswer m frames enter (depth_at m frames enter) found
+IsOpAnswer m frames enter ops.Monitorenter found = IsDepthAnswer m frames enter (entry_depth_at m frames enter) found
 IsOpAnswer m frames enter op found = found ≡ None
 
 abbrev pub IsBlockAnswer : MethodInfo → List (Option TagShape) → (enter : ℕ) → Option Insn → Option (List Bool) → Type 0

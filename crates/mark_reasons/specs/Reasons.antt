@@ -14,8 +14,8 @@ use Rattle.mark_reasons.specs.declared.reason.Reason.{Reason}
 use Rattle.mark_reasons.specs.declared.reason.Reason.TheVariants.{Elsewhere, Breaks, Recurs}
 
 -- the section of a mark, and its method as the section calls it
-abbrev pub section_of : SectionMark → Section
-section_of mark = record { method = mark.method; spot = mark.spot }
+abbrev pub marked_section : SectionMark → Section
+marked_section mark = record { method = mark.method; spot = mark.spot }
 
 abbrev pub own_callee : Section → Callee
 own_callee s = callee s.method OnThis
@@ -71,7 +71,7 @@ HasReason p tags uses s (suc n) None = ⊥
 HasReason p tags uses s (suc n) (Some reason) = IsReason p tags uses s (suc n) reason
 
 abbrev pub IsExplained : Program → Tagged → List FieldUse → SectionMark → Option Reason → Type 0
-IsExplained p tags uses mark reason = HasReason p tags uses (section_of mark) mark.mark reason
+IsExplained p tags uses mark reason = HasReason p tags uses (marked_section mark) mark.mark reason
 
 -- of each mark its reason
 pub record AreReasons (p : Program) (tags : Tagged) (marks : List SectionMark) (reasons : List (Option Reason)) : Type 0 where
@@ -81,7 +81,7 @@ pub record AreReasons (p : Program) (tags : Tagged) (marks : List SectionMark) (
 
 -- the sections of some marks have them
 abbrev pub AreMarked : Program → Tagged → List FieldUse → List SectionMark → Type 0
-AreMarked p tags uses marks = (i : ℕ) (mark : SectionMark) → slice_get marks i ≡ Some mark → HasMark p tags uses (section_of mark) mark.mark
+AreMarked p tags uses marks = (i : ℕ) (mark : SectionMark) → slice_get marks i ≡ Some mark → HasMark p tags uses (marked_section mark) mark.mark
 
 -- the first of some marks have these reasons
 pub record FirstReasons (p : Program) (tags : Tagged) (uses : List FieldUse) (marks : List SectionMark) (count : ℕ) (reasons : List (Option Reason)) : Type 0 where

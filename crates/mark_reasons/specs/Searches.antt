@@ -33,14 +33,14 @@ callee_at a = callee (a / 2) (mode_at a)
 -- ---- the search
 
 -- a called node is added where it was not seen
-abbrev pub visited : Search → Option ℕ → (caller at : ℕ) → Search
-visited w None caller at = w
-visited w (Some j) caller at = if nat_lt j (length w.seen) && not (slice_index_or w.seen j false) then record { seen = slice_set w.seen j true; queue = w.queue ++ record { node = j; caller = caller; at = at } ∷ [] } else w
+abbrev pub search_visited : Search → Option ℕ → (caller at : ℕ) → Search
+search_visited w None caller at = w
+search_visited w (Some j) caller at = if nat_lt j (length w.seen) && not (slice_index_or w.seen j false) then record { seen = slice_set w.seen j true; queue = w.queue ++ record { node = j; caller = caller; at = at } ∷ [] } else w
 
 -- with what each of the first numbers calls
 abbrev pub visits : (ℕ → Option ℕ) → Search → (caller : ℕ) → ℕ → Search
 visits calls w caller zero = w
-visits calls w caller (suc i) = visited (visits calls w caller i) (calls i) caller i
+visits calls w caller (suc i) = search_visited (visits calls w caller i) (calls i) caller i
 
 -- ---- what the search goes by
 
@@ -63,9 +63,9 @@ node_visits p (Some m) (Some t) mode w caller = visits (node_call p (Some m) (So
 node_visits p m t mode w caller = w
 
 -- the first instruction that breaks a rule
-abbrev pub IsFirstFault : Program → List FieldUse → Option MethodInfo → Option Tags → Mode → Option ℕ → Type 0
-IsFirstFault p uses (Some m) (Some t) mode found = IsFirst (λ i. nat_lt 0 (node_fault p uses (Some m) (Some t) mode i)) (length m.code) found
-IsFirstFault p uses m t mode found = found ≡ None
+abbrev pub IsFirstNodeFault : Program → List FieldUse → Option MethodInfo → Option Tags → Mode → Option ℕ → Type 0
+IsFirstNodeFault p uses (Some m) (Some t) mode found = IsFirst (λ i. nat_lt 0 (node_fault p uses (Some m) (Some t) mode i)) (length m.code) found
+IsFirstNodeFault p uses m t mode found = found ≡ None
 
 -- of an own instruction
 abbrev pub own_call : Program → MethodInfo → List (Option TagShape) → List Bool → ℕ → Option ℕ
@@ -74,8 +74,8 @@ own_call p m frames own i = if slice_index_or own i false then call_at p OnThis 
 abbrev pub calls_of : Program → List Tags → ℕ → ℕ → Option ℕ
 calls_of p tags a i = node_call p (slice_get p.methods (a / 2)) (slice_get tags (a / 2)) (mode_at a) i
 
-abbrev pub fault_of : Program → List FieldUse → List Tags → ℕ → ℕ → ℕ
-fault_of p uses tags a i = node_fault p uses (slice_get p.methods (a / 2)) (slice_get tags (a / 2)) (mode_at a) i
+abbrev pub node_fault_of : Program → List FieldUse → List Tags → ℕ → ℕ → ℕ
+node_fault_of p uses tags a i = node_fault p uses (slice_get p.methods (a / 2)) (slice_get tags (a / 2)) (mode_at a) i
 
 -- ---- its course
 
@@ -87,14 +87,14 @@ abbrev pub IsCalled : Program → Tagged → Section → List Entry → (count c
 IsCalled p tags s queue count zero at node = IsOwn p tags s.method s.spot at × Calls p tags (callee s.method OnThis) at (callee_at node)
 IsCalled p tags s queue count (suc c) at node = (c < count) × (b : Entry) × (slice_get queue c ≡ Some b) × Calls p tags (callee_at b.node) at (callee_at node)
 
-pub record IsSound (p : Program) (tags : Tagged) (s : Section) (n : ℕ) (w : Search) : Type 0 where
+pub record IsSearchSound (p : Program) (tags : Tagged) (s : Section) (n : ℕ) (w : Search) : Type 0 where
   pub long : length w.seen ≡ n
   pub marked : (j : ℕ) → slice_index_or w.seen j false ≡ true → HasNode w.queue j
   pub called : (t : ℕ) (e : Entry) → slice_get w.queue t ≡ Some e → IsCalled p tags s w.queue t e.caller e.at e.node
 
 -- the first k entries are done: none breaks a rule, and what they call is found
 pub record Searching (p : Program) (tags : Tagged) (uses : List FieldUse) (s : Section) (n k : ℕ) (w : Search) : Type 0 where
-  pub sound : IsSound p tags s n w
+  pub sound : IsSearchSound p tags s n w
   pub begun : (i : ℕ) (b : Callee) → IsOwn p tags s.method s.spot i → Calls p tags (callee s.method OnThis) i b → HasNode w.queue (node_of b)
   pub closed : (t i : ℕ) (e : Entry) (b : Callee) → t < k → slice_get w.queue t ≡ Some e → Calls p tags (callee_at e.node) i b → HasNode w.queue (node_of b)
   pub sane : (t i r : ℕ) (e : Entry) → t < k → slice_get w.queue t ≡ Some e → BreaksAt p tags uses (callee_at e.node) i r → ⊥

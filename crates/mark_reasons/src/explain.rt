@@ -10,7 +10,7 @@ ghost use Rattle.checked_program.specs.Marks.{CalleeBreaks, CalleeRecurs, HasMar
 ghost use Rattle.graph_closure.specs.Walks.{AreRecurring};
 ghost use Rattle.guard_analysis.specs.CallGraph.{call_graph};
 ghost use Rattle.mark_reasons.specs.OwnFlags.{AreOwn};
-ghost use Rattle.mark_reasons.specs.Reasons.{section_of, AreMarked, AreReasons, IsExplained, IsReason};
+ghost use Rattle.mark_reasons.specs.Reasons.{marked_section, AreMarked, AreReasons, IsExplained, IsReason};
 ghost use Rattle.mark_reasons.specs.Searches.{own_breaks, own_call, turns, IsFirst};
 
 use crate::own::own_flags;
@@ -95,8 +95,8 @@ fn own_reason(
     requires there { slice_get p.now.methods mark.method ≡ Some m.now }
     requires tagged { slice_get tags.now mark.method ≡ Some t.now }
     requires own { AreOwn p.now (tagged_by tags.now) mark.method mark.spot own.now }
-    requires breaks { OwnBreaks p.now (tagged_by tags.now) uses.now (section_of mark) mark.mark }
-    ensures { IfOk result (IsReason p.now (tagged_by tags.now) uses.now (section_of mark) mark.mark) }
+    requires breaks { OwnBreaks p.now (tagged_by tags.now) uses.now (marked_section mark) mark.mark }
+    ensures { IfOk result (IsReason p.now (tagged_by tags.now) uses.now (marked_section mark) mark.mark) }
 {
     let Some(at) = first_own(p, uses, m, t, own, mark.mark) else {
         unreachable!()
@@ -129,8 +129,8 @@ fn called_reason(
     requires there { slice_get p.now.methods mark.method ≡ Some m.now }
     requires tagged { slice_get tags.now mark.method ≡ Some t.now }
     requires own { AreOwn p.now (tagged_by tags.now) mark.method mark.spot own.now }
-    requires breaks { CalleeBreaks p.now (tagged_by tags.now) uses.now (section_of mark) }
-    ensures { IfOk result (IsReason p.now (tagged_by tags.now) uses.now (section_of mark) 6) }
+    requires breaks { CalleeBreaks p.now (tagged_by tags.now) uses.now (marked_section mark) }
+    ensures { IfOk result (IsReason p.now (tagged_by tags.now) uses.now (marked_section mark) 6) }
 {
     let Some(fault) = find_fault(alloc, p, uses, tags, mark, m, t, own)? else {
         unreachable!()
@@ -160,8 +160,8 @@ fn recurring_reason(
     requires there { slice_get p.now.methods mark.method ≡ Some m.now }
     requires tagged { slice_get tags.now mark.method ≡ Some t.now }
     requires own { AreOwn p.now (tagged_by tags.now) mark.method mark.spot own.now }
-    requires returns { CalleeRecurs p.now (tagged_by tags.now) (section_of mark) }
-    ensures { IfOk result (IsReason p.now (tagged_by tags.now) uses.now (section_of mark) 7) }
+    requires returns { CalleeRecurs p.now (tagged_by tags.now) (marked_section mark) }
+    ensures { IfOk result (IsReason p.now (tagged_by tags.now) uses.now (marked_section mark) 7) }
 {
     let Some(at) = first_own_turn(p, recurs, m, t, own) else {
         unreachable!()
@@ -194,8 +194,8 @@ fn rule_reason(
     requires tagged { slice_get tags.now mark.method ≡ Some t.now }
     requires some { 0 < mark.mark }
     requires low { mark.mark < 8 }
-    requires marked { HasMark p.now (tagged_by tags.now) uses.now (section_of mark) mark.mark }
-    ensures { IfOk result (IsReason p.now (tagged_by tags.now) uses.now (section_of mark) mark.mark) }
+    requires marked { HasMark p.now (tagged_by tags.now) uses.now (marked_section mark) mark.mark }
+    ensures { IfOk result (IsReason p.now (tagged_by tags.now) uses.now (marked_section mark) mark.mark) }
 {
     let Some(own) = own_flags(alloc, p, tags, mark.method, m, t, mark.spot)? else {
         unreachable!()
@@ -222,7 +222,7 @@ fn reason_of(
     requires few { length p.now.methods ≤ most }
     requires tagged { AreTaggings p.now p.now.methods tags.now }
     requires recurs { AreRecurring (call_graph p.now tags.now).from (call_graph p.now tags.now).to (2 * length p.now.methods) recurs.now }
-    requires marked { HasMark p.now (tagged_by tags.now) uses.now (section_of mark) mark.mark }
+    requires marked { HasMark p.now (tagged_by tags.now) uses.now (marked_section mark) mark.mark }
     ensures { IfOk result (IsExplained p.now (tagged_by tags.now) uses.now mark) }
 {
     if mark.mark == 0 {

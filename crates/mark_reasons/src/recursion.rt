@@ -8,7 +8,7 @@ ghost use Rattle.checked_program.specs.Marks.{Calls};
 ghost use Rattle.checked_program.specs.Sections.{IsOwn};
 ghost use Rattle.graph_closure.specs.Walks.{AreRecurring};
 ghost use Rattle.guard_analysis.specs.CallGraph.{call_graph, mode_at};
-ghost use Rattle.mark_reasons.specs.Reasons.{own_callee, section_of, ComesBack};
+ghost use Rattle.mark_reasons.specs.Reasons.{own_callee, marked_section, ComesBack};
 ghost use Rattle.mark_reasons.specs.Searches.{callee_at, calls_of, node_call, turns, IsFirst, IsFirstTurn};
 
 use crate::reason::Site;
@@ -111,10 +111,10 @@ pub fn come_back(
     requires few { length p.now.methods ≤ most }
     requires recurs { AreRecurring (call_graph p.now tags.now).from (call_graph p.now tags.now).to (2 * length p.now.methods) recurs.now }
     requires own { IsOwn p.now (tagged_by tags.now) mark.method mark.spot at }
-    requires calls { Calls p.now (tagged_by tags.now) (own_callee (section_of mark)) at (callee_at first) }
+    requires calls { Calls p.now (tagged_by tags.now) (own_callee (marked_section mark)) at (callee_at first) }
     requires inside { first < 2 * length p.now.methods }
     requires flagged { slice_index_or recurs.now first false ≡ true }
-    ensures { IfOk result (λ round. ComesBack p.now (tagged_by tags.now) (section_of mark) round.way round.again) }
+    ensures { IfOk result (λ round. ComesBack p.now (tagged_by tags.now) (marked_section mark) round.way round.again) }
 {
     let mut places = no_places(alloc, 2 * p.methods.len())?;
     let mut way = Rows::new(alloc);

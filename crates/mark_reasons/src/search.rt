@@ -6,8 +6,8 @@ ghost use Rattle.jvm_types.specs.ProgramInvariant.{IsProgram};
 ghost use Rattle.checked_program.specs.TaggedCode.{tagged_by};
 ghost use Rattle.guard_analysis.specs.CallGraph.{mode_at};
 ghost use Rattle.mark_reasons.specs.OwnFlags.{AreOwn};
-ghost use Rattle.mark_reasons.specs.Reasons.{section_of};
-ghost use Rattle.mark_reasons.specs.Searches.{node_call, node_fault as rule_at, node_visits, own_call, site_at, visited, visits, AreCalledBefore, IsBack, IsFaultFound, IsFirst, IsFirstFault};
+ghost use Rattle.mark_reasons.specs.Reasons.{marked_section};
+ghost use Rattle.mark_reasons.specs.Searches.{node_call, node_fault as rule_at, node_visits, own_call, site_at, search_visited, visits, AreCalledBefore, IsBack, IsFaultFound, IsFirst, IsFirstNodeFault};
 
 use crate::reason::Site;
 use checked_program::{FieldUse, Mode, SectionMark, Tags};
@@ -40,7 +40,7 @@ fn visit(
     caller: usize,
     at: usize,
 ) -> Result<(), AllocError>
-    ensures { OnOk result (search.new ≡ visited search.old called caller at) }
+    ensures { OnOk result (search.new ≡ search_visited search.old called caller at) }
 {
     match called {
         Some(node) => add(search, node, caller, at),
@@ -49,7 +49,7 @@ fn visit(
 }
 
 fn add(search: &mut Search, node: u32, caller: usize, at: usize) -> Result<(), AllocError>
-    ensures { OnOk result (search.new ≡ visited search.old (Some node) caller at) }
+    ensures { OnOk result (search.new ≡ search_visited search.old (Some node) caller at) }
 {
     let place = node as usize;
     if place < search.seen.len() && !flag_at(search.seen.as_slice(), place) {
@@ -147,7 +147,7 @@ fn first_fault(
 
 /// The same of the method of a node.
 fn node_fault(p: &Program, uses: &Rows<FieldUse>, tags: &Rows<Tags>, node: u32) -> Option<usize>
-    ensures { IsFirstFault p.now uses.now (slice_get p.now.methods (node / 2)) (slice_get tags.now (node / 2)) (mode_at node) result }
+    ensures { IsFirstNodeFault p.now uses.now (slice_get p.now.methods (node / 2)) (slice_get tags.now (node / 2)) (mode_at node) result }
 {
     let place = node as usize / 2;
     match p.methods.get(place) {
@@ -258,7 +258,7 @@ pub fn find_fault(
     requires there { slice_get p.now.methods mark.method ≡ Some m.now }
     requires tagged { slice_get tags.now mark.method ≡ Some t.now }
     requires own { AreOwn p.now (tagged_by tags.now) mark.method mark.spot own.now }
-    ensures { IfOk result (IsFaultFound p.now (tagged_by tags.now) uses.now (section_of mark)) }
+    ensures { IfOk result (IsFaultFound p.now (tagged_by tags.now) uses.now (marked_section mark)) }
 {
     let mut w = nothing_yet(alloc, 2 * p.methods.len())?;
     visit_own(&mut w, p, m, t, own)?;

@@ -5,7 +5,7 @@ use Rattle.std.specs.List.{list_all}
 use Rattle.std.proofs.lemmas.Bool.Decides.{nat_tests}
 use Rattle.std.proofs.lemmas.Slice.Eq.{bytes_eq-Decides}
 use Rattle.std.proofs.lemmas.Bool.{eqb-true, ltb-true, and_parts}
-use Rattle.mnemonics.specs.Mnemonics.{Names, named, mnemonic, opcode_among, opcode_of, all_names, constants, loads, stores, stack_moves, arithmetic, control, references}
+use Rattle.mnemonics.specs.Mnemonics.{MnemonicList, mnemonic_in, mnemonic, opcode_among, opcode_of, all_names, constant_names, load_names, store_names, stack_move_names, arithmetic_names, control_names, reference_names}
 
 abbrev pub is_opcode : Option ℕ → ℕ → Bool
 is_opcode None b = false
@@ -34,35 +34,35 @@ some_is : {A : Type 0} {x y : A} → Some x ≡ Some y → x ≡ y
 some_is e = cc
 
 -- the rows of each group
-constants_are : list_all is_row constants ≡ true
+constants_are : list_all is_row constant_names ≡ true
 unfolding mnemonic
 constants_are = refl
 
-loads_are : list_all is_row loads ≡ true
+loads_are : list_all is_row load_names ≡ true
 unfolding mnemonic
 loads_are = refl
 
-stores_are : list_all is_row stores ≡ true
+stores_are : list_all is_row store_names ≡ true
 unfolding mnemonic
 stores_are = refl
 
-stack_moves_are : list_all is_row stack_moves ≡ true
+stack_moves_are : list_all is_row stack_move_names ≡ true
 unfolding mnemonic
 stack_moves_are = refl
 
-arithmetic_are : list_all is_row arithmetic ≡ true
+arithmetic_are : list_all is_row arithmetic_names ≡ true
 unfolding mnemonic
 arithmetic_are = refl
 
-control_are : list_all is_row control ≡ true
+control_are : list_all is_row control_names ≡ true
 unfolding mnemonic
 control_are = refl
 
-references_are : list_all is_row references ≡ true
+references_are : list_all is_row reference_names ≡ true
 unfolding mnemonic
 references_are = refl
 
-among : (rs : Names) (b : ℕ) (name : List ℕ) → list_all is_row rs ≡ true → named rs b ≡ Some name → (opcode_among all_names name ≡ Some b) × (b < 256)
+among : (rs : MnemonicList) (b : ℕ) (name : List ℕ) → list_all is_row rs ≡ true → mnemonic_in rs b ≡ Some name → (opcode_among all_names name ≡ Some b) × (b < 256)
 among [] b name ok e = absurd (cc)
 among (r ∷ rs) b name ok e = by_test (λ h. among rs b name (and_parts (is_row r) (list_all is_row rs) ok).1 h) (b == r.0) refl e
   where
@@ -75,19 +75,19 @@ among (r ∷ rs) b name ok e = by_test (λ h. among rs b name (and_parts (is_row
     rest : (is_name (mnemonic r.0) r.1 ≡ true) × (nat_lt r.0 256 ≡ true)
     rest = and_parts (is_name (mnemonic r.0) r.1) (nat_lt r.0 256) parts.1
 
-    by_test : (named rs b ≡ Some name → (opcode_among all_names name ≡ Some b) × (b < 256)) → (t : Bool) → (b == r.0) ≡ t → (if t then Some r.1 else named rs b) ≡ Some name → (opcode_among all_names name ≡ Some b) × (b < 256)
+    by_test : (mnemonic_in rs b ≡ Some name → (opcode_among all_names name ≡ Some b) × (b < 256)) → (t : Bool) → (b == r.0) ≡ t → (if t then Some r.1 else mnemonic_in rs b) ≡ Some name → (opcode_among all_names name ≡ Some b) × (b < 256)
     by_test more true t h = subst (λ (x : List ℕ). (opcode_among all_names x ≡ Some b) × (b < 256)) (some_is h) (subst (λ (x : ℕ). (opcode_among all_names r.1 ≡ Some x) × (x < 256)) (sym (eqb-true b r.0 t)) (opcode_is _ _ parts.0, ltb-true _ _ rest.1))
     by_test more false t h = more h
 
-group : (t : Bool) (rs : Names) (b : ℕ) (name : List ℕ) (y : Option (List ℕ)) → list_all is_row rs ≡ true → (y ≡ Some name → (opcode_among all_names name ≡ Some b) × (b < 256)) → (if t then named rs b else y) ≡ Some name → (opcode_among all_names name ≡ Some b) × (b < 256)
+group : (t : Bool) (rs : MnemonicList) (b : ℕ) (name : List ℕ) (y : Option (List ℕ)) → list_all is_row rs ≡ true → (y ≡ Some name → (opcode_among all_names name ≡ Some b) × (b < 256)) → (if t then mnemonic_in rs b else y) ≡ Some name → (opcode_among all_names name ≡ Some b) × (b < 256)
 group true rs b name y ok more e = among rs b name ok e
 group false rs b name y ok more e = more e
 
 found : (b : ℕ) (name : List ℕ) → mnemonic b ≡ Some name → (opcode_among all_names name ≡ Some b) × (b < 256)
 unfolding mnemonic
 found b name e =
-    group (nat_lt b 0x15) constants b name _ constants_are (group (nat_lt b 0x36) loads b name _ loads_are (group (nat_lt b 0x57) stores b name _ stores_are
-    (group (nat_lt b 0x60) stack_moves b name _ stack_moves_are (group (nat_lt b 0x99) arithmetic b name _ arithmetic_are (group (nat_lt b 0xb2) control b name _ control_are (among references b name references_are)))))) e
+    group (nat_lt b 0x15) constant_names b name _ constants_are (group (nat_lt b 0x36) load_names b name _ loads_are (group (nat_lt b 0x57) store_names b name _ stores_are
+    (group (nat_lt b 0x60) stack_move_names b name _ stack_moves_are (group (nat_lt b 0x99) arithmetic_names b name _ arithmetic_are (group (nat_lt b 0xb2) control_names b name _ control_are (among reference_names b name references_are)))))) e
 
 -- the opcode of a mnemonic is a byte
 pub opcode_fits : (b : ℕ) (name : List ℕ) → mnemonic b ≡ Some name → b < 256
@@ -101,7 +101,7 @@ all_are : list_all is_row all_names ≡ true
 unfolding mnemonic
 all_are = refl
 
-named_by : (rs : Names) (b : ℕ) (name : List ℕ) → list_all is_row rs ≡ true → opcode_among rs name ≡ Some b → mnemonic b ≡ Some name
+named_by : (rs : MnemonicList) (b : ℕ) (name : List ℕ) → list_all is_row rs ≡ true → opcode_among rs name ≡ Some b → mnemonic b ≡ Some name
 named_by [] b name ok e = absurd (cc)
 named_by (r ∷ rs) b name ok e = by_test (λ h. named_by rs b name (and_parts (is_row r) (list_all is_row rs) ok).1 h) (bytes_eq r.1 name) refl e
   where

@@ -3,12 +3,12 @@
 use Rattle.std.specs.Prelude.{ℕ, ◌==◌, nat_lt, if◌then◌else◌, List, [], ◌∷◌, ◌++◌, codes, bytes_eq, Option, Some, None}
 
 -- an opcode and its mnemonic
-abbrev pub Names : Type 0
-Names = List (ℕ × List ℕ)
+abbrev pub MnemonicList : Type 0
+MnemonicList = List (ℕ × List ℕ)
 
 -- 0x00 to 0x13: a constant is pushed
-abbrev pub constants : Names
-constants =
+abbrev pub constant_names : MnemonicList
+constant_names =
     (0x00, codes "nop")
     ∷ (0x01, codes "aconst_null")
     ∷ (0x02, codes "iconst_m1")
@@ -24,8 +24,8 @@ constants =
     ∷ (0x13, codes "ldc_w") ∷ []
 
 -- 0x15 to 0x2e: a local or an element is pushed
-abbrev pub loads : Names
-loads =
+abbrev pub load_names : MnemonicList
+load_names =
     (0x15, codes "iload")
     ∷ (0x19, codes "aload")
     ∷ (0x1a, codes "iload_0")
@@ -39,8 +39,8 @@ loads =
     ∷ (0x2e, codes "iaload") ∷ []
 
 -- 0x36 to 0x4f: a local or an element is written
-abbrev pub stores : Names
-stores =
+abbrev pub store_names : MnemonicList
+store_names =
     (0x36, codes "istore")
     ∷ (0x3a, codes "astore")
     ∷ (0x3b, codes "istore_0")
@@ -54,8 +54,8 @@ stores =
     ∷ (0x4f, codes "iastore") ∷ []
 
 -- 0x57 to 0x5f: the stack alone
-abbrev pub stack_moves : Names
-stack_moves =
+abbrev pub stack_move_names : MnemonicList
+stack_move_names =
     (0x57, codes "pop")
     ∷ (0x58, codes "pop2")
     ∷ (0x59, codes "dup")
@@ -65,8 +65,8 @@ stack_moves =
     ∷ (0x5f, codes "swap") ∷ []
 
 -- 0x60 to 0x93: arithmetic on ints, and conversions of an int
-abbrev pub arithmetic : Names
-arithmetic =
+abbrev pub arithmetic_names : MnemonicList
+arithmetic_names =
     (0x60, codes "iadd")
     ∷ (0x64, codes "isub")
     ∷ (0x68, codes "imul")
@@ -85,8 +85,8 @@ arithmetic =
     ∷ (0x93, codes "i2s") ∷ []
 
 -- 0x99 to 0xb1: branches, switches and returns
-abbrev pub control : Names
-control =
+abbrev pub control_names : MnemonicList
+control_names =
     (0x99, codes "ifeq")
     ∷ (0x9a, codes "ifne")
     ∷ (0x9b, codes "iflt")
@@ -109,8 +109,8 @@ control =
     ∷ (0xb1, codes "return") ∷ []
 
 -- 0xb2 to 0xc8: fields, methods, objects and monitors, and the extended branches
-abbrev pub references : Names
-references =
+abbrev pub reference_names : MnemonicList
+reference_names =
     (0xb2, codes "getstatic")
     ∷ (0xb3, codes "putstatic")
     ∷ (0xb4, codes "getfield")
@@ -129,26 +129,26 @@ references =
     ∷ (0xc8, codes "goto_w") ∷ []
 
 -- the mnemonic of an opcode among these
-abbrev pub named : Names → ℕ → Option (List ℕ)
-named [] b = None
-named (r ∷ rs) b = if b == r.0 then Some r.1 else named rs b
+abbrev pub mnemonic_in : MnemonicList → ℕ → Option (List ℕ)
+mnemonic_in [] b = None
+mnemonic_in (r ∷ rs) b = if b == r.0 then Some r.1 else mnemonic_in rs b
 
 -- None: the opcode is none of this machine
 unfoldable pub mnemonic : ℕ → Option (List ℕ)
 mnemonic b =
-    if nat_lt b 0x15 then named constants b else
-    if nat_lt b 0x36 then named loads b else
-    if nat_lt b 0x57 then named stores b else
-    if nat_lt b 0x60 then named stack_moves b else
-    if nat_lt b 0x99 then named arithmetic b else
-    if nat_lt b 0xb2 then named control b else
-    named references b
+    if nat_lt b 0x15 then mnemonic_in constant_names b else
+    if nat_lt b 0x36 then mnemonic_in load_names b else
+    if nat_lt b 0x57 then mnemonic_in store_names b else
+    if nat_lt b 0x60 then mnemonic_in stack_move_names b else
+    if nat_lt b 0x99 then mnemonic_in arithmetic_names b else
+    if nat_lt b 0xb2 then mnemonic_in control_names b else
+    mnemonic_in reference_names b
 
-abbrev pub all_names : Names
-all_names = constants ++ (loads ++ (stores ++ (stack_moves ++ (arithmetic ++ (control ++ references)))))
+abbrev pub all_names : MnemonicList
+all_names = constant_names ++ (load_names ++ (store_names ++ (stack_move_names ++ (arithmetic_names ++ (control_names ++ reference_names)))))
 
 -- the opcode of a mnemonic among these
-abbrev pub opcode_among : Names → List ℕ → Option ℕ
+abbrev pub opcode_among : MnemonicList → List ℕ → Option ℕ
 opcode_among [] name = None
 opcode_among (r ∷ rs) name = if bytes_eq r.1 name then Some r.0 else opcode_among rs name
 

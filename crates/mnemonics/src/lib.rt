@@ -3,11 +3,11 @@
 
 ghost use Rattle.std.specs.Prelude.{◌≡◌, bytes_eq};
 ghost use Rattle.std.specs.Option.{option_copied};
-ghost use Rattle.mnemonics.specs.Mnemonics.{named, mnemonic, opcode_of, constants, loads, stores, stack_moves, arithmetic, control, references};
+ghost use Rattle.mnemonics.specs.Mnemonics.{mnemonic_in, mnemonic, opcode_of, constant_names, load_names, store_names, stack_move_names, arithmetic_names, control_names, reference_names};
 
 /// 0x00 to 0x13: a constant is pushed.
 fn constants(opcode: u8) -> Option<&'static str>
-    ensures { option_copied result ≡ named constants opcode }
+    ensures { option_copied result ≡ mnemonic_in constant_names opcode }
 {
     match opcode {
         0x00 => Some("nop"),
@@ -29,7 +29,7 @@ fn constants(opcode: u8) -> Option<&'static str>
 
 /// 0x15 to 0x2e: a local or an element is pushed.
 fn loads(opcode: u8) -> Option<&'static str>
-    ensures { option_copied result ≡ named loads opcode }
+    ensures { option_copied result ≡ mnemonic_in load_names opcode }
 {
     match opcode {
         0x15 => Some("iload"),
@@ -49,7 +49,7 @@ fn loads(opcode: u8) -> Option<&'static str>
 
 /// 0x36 to 0x4f: a local or an element is written.
 fn stores(opcode: u8) -> Option<&'static str>
-    ensures { option_copied result ≡ named stores opcode }
+    ensures { option_copied result ≡ mnemonic_in store_names opcode }
 {
     match opcode {
         0x36 => Some("istore"),
@@ -69,7 +69,7 @@ fn stores(opcode: u8) -> Option<&'static str>
 
 /// 0x57 to 0x5f: the stack alone.
 fn stack_moves(opcode: u8) -> Option<&'static str>
-    ensures { option_copied result ≡ named stack_moves opcode }
+    ensures { option_copied result ≡ mnemonic_in stack_move_names opcode }
 {
     match opcode {
         0x57 => Some("pop"),
@@ -85,7 +85,7 @@ fn stack_moves(opcode: u8) -> Option<&'static str>
 
 /// 0x60 to 0x93: arithmetic on ints, and conversions of an int.
 fn arithmetic(opcode: u8) -> Option<&'static str>
-    ensures { option_copied result ≡ named arithmetic opcode }
+    ensures { option_copied result ≡ mnemonic_in arithmetic_names opcode }
 {
     match opcode {
         0x60 => Some("iadd"),
@@ -110,7 +110,7 @@ fn arithmetic(opcode: u8) -> Option<&'static str>
 
 /// 0x99 to 0xb1: branches, switches and returns.
 fn control(opcode: u8) -> Option<&'static str>
-    ensures { option_copied result ≡ named control opcode }
+    ensures { option_copied result ≡ mnemonic_in control_names opcode }
 {
     match opcode {
         0x99 => Some("ifeq"),
@@ -139,7 +139,7 @@ fn control(opcode: u8) -> Option<&'static str>
 
 /// 0xb2 to 0xc8: fields, methods, objects and monitors, and the extended branches.
 fn references(opcode: u8) -> Option<&'static str>
-    ensures { option_copied result ≡ named references opcode }
+    ensures { option_copied result ≡ mnemonic_in reference_names opcode }
 {
     match opcode {
         0xb2 => Some("getstatic"),

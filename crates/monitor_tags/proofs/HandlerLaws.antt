@@ -11,7 +11,7 @@ use Rattle.jvm_types.specs.declared.program.Row.{Row}
 use Rattle.jvm_types.specs.declared.refusal.SRule.{SRule}
 use Rattle.checked_program.specs.LockTags.{TagShape}
 use Rattle.checked_program.specs.Tagging.{tag_meeting, catches_all, until_all, catchers}
-use Rattle.monitor_tags.specs.Visiting.{Nodes, does, goes, to_handlers}
+use Rattle.monitor_tags.specs.Visiting.{Nodes, does, goes_along, to_handlers}
 use Rattle.code_visits.proofs.ActLaws.{then_acted}
 
 -- ---- whether there are some
@@ -40,11 +40,11 @@ until_more : (rows rest : List Row) (row : Row) → rows ≡ row ∷ rest → ca
 until_more rows rest row e c = ap until_all e ∙ ap (λ (t : Bool). if t then row ∷ [] else row ∷ until_all rest) c
 
 pub last_done : (m : MethodInfo) (f : TagShape) (rows rest : List Row) (row : Row) (nodes mid : Nodes) (whole : Result Nodes (SRule × ℕ)) → rows ≡ row ∷ rest → catches_all row ≡ true
-    → does m (to_handlers f (until_all rows)) nodes ≡ whole → does m (goes (row.handler ∷ []) f ∷ []) nodes ≡ Ok mid → whole ≡ Ok mid
+    → does m (to_handlers f (until_all rows)) nodes ≡ whole → does m (goes_along (row.handler ∷ []) f ∷ []) nodes ≡ Ok mid → whole ≡ Ok mid
 last_done m f rows rest row nodes mid whole e c inv l = sym inv ∙ ap (λ rows. does m (to_handlers f rows) nodes) (until_last rows rest row e c) ∙ l
 
 pub one_done : (m : MethodInfo) (f : TagShape) (rows rest : List Row) (row : Row) (nodes mid : Nodes) (whole : Result Nodes (SRule × ℕ)) → rows ≡ row ∷ rest → catches_all row ≡ false
-    → does m (to_handlers f (until_all rows)) nodes ≡ whole → does m (goes (row.handler ∷ []) f ∷ []) nodes ≡ Ok mid → does m (to_handlers f (until_all rest)) mid ≡ whole
+    → does m (to_handlers f (until_all rows)) nodes ≡ whole → does m (goes_along (row.handler ∷ []) f ∷ []) nodes ≡ Ok mid → does m (to_handlers f (until_all rest)) mid ≡ whole
 one_done m f rows rest row nodes mid whole e c inv l =
-    sym (then_acted tag_meeting m.code (goes (row.handler ∷ []) f ∷ []) (to_handlers f (until_all rest)) nodes mid l)
+    sym (then_acted tag_meeting m.code (goes_along (row.handler ∷ []) f ∷ []) (to_handlers f (until_all rest)) nodes mid l)
     ∙ ap (λ rows. does m (to_handlers f rows) nodes) (sym (until_more rows rest row e c)) ∙ inv

@@ -13,7 +13,7 @@ use Rattle.code_visits.specs.declared.stop.Stop.{Stop}
 use Rattle.code_visits.specs.declared.stop.Stop.TheVariants as stops
 use Rattle.monitor_tags.specs.declared.error.TagError.{TagError}
 use Rattle.monitor_tags.specs.declared.error.TagError.TheVariants.{Memory, Refused}
-use Rattle.monitor_tags.specs.Visiting.{error_of, IsRefusal}
+use Rattle.monitor_tags.specs.Visiting.{error_of, IsTagRefusal}
 
 one_of : (p : Program) (m : MethodInfo) (found t : Tags) → IsTaggingOf p m found → IsTaggingOf p m t → found ≡ t
 one_of p m found t a b = λ i. record { frames = one_tagging_all p m found.frames t.frames a b i }
@@ -21,14 +21,14 @@ one_of p m found t a b = λ i. record { frames = one_tagging_all p m found.frame
 pub only_by : (p : Program) (m : MethodInfo) (result : Result Tags TagError) → IfOk result (IsTaggingOf p m) → (t : Tags) → IsTaggingOf p m t → IfOk result (λ found. found ≡ t)
 only_by p m result ok t is = IfOk-weaker result (IsTaggingOf p m) (λ found. found ≡ t) (λ found h. one_of p m found t h is) ok
 
-not_refused : (p : Program) (m : MethodInfo) (t : Tags) (e : TagError) → IsTaggingOf p m t → IsRefusal p m e → e ≡ Memory
+not_refused : (p : Program) (m : MethodInfo) (t : Tags) (e : TagError) → IsTaggingOf p m t → IsTagRefusal p m e → e ≡ Memory
 not_refused p m t Memory is h = refl
 not_refused p m t (Refused rule pc) is h = absurd (no_refusal p m t.frames rule pc is h)
 
-pub tagged_by : (p : Program) (m : MethodInfo) (result : Result Tags TagError) → IfErr result (IsRefusal p m) → (t : Tags) → IsTaggingOf p m t → IfErr result (λ e. e ≡ Memory)
-tagged_by p m result refused t is = IfErr-weaker result (IsRefusal p m) (λ e. e ≡ Memory) (λ e h. not_refused p m t e is h) refused
+pub tagged_by : (p : Program) (m : MethodInfo) (result : Result Tags TagError) → IfErr result (IsTagRefusal p m) → (t : Tags) → IsTaggingOf p m t → IfErr result (λ e. e ≡ Memory)
+tagged_by p m result refused t is = IfErr-weaker result (IsTagRefusal p m) (λ e. e ≡ Memory) (λ e h. not_refused p m t e is h) refused
 
 -- why its visits stopped is why it is refused
-pub refused_so : (p : Program) (m : MethodInfo) (stop : Stop SRule) → IsStopped (tag_plan p m) stop → IsRefusal p m (error_of stop)
+pub refused_so : (p : Program) (m : MethodInfo) (stop : Stop SRule) → IsStopped (tag_plan p m) stop → IsTagRefusal p m (error_of stop)
 refused_so p m stops.Memory h = tt
 refused_so p m (stops.Refused rule pc) h = h

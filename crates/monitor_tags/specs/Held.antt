@@ -2,6 +2,6 @@
 use Rattle.std.specs.Prelude.{List, [], ◌∷◌}
 use Rattle.checked_program.specs.declared.tag.Tag.{Tag}
 
-abbrev pub entered : List Tag → List Tag → List Tag
-entered [] held = held
-entered (t ∷ ts) held = t ∷ held
+abbrev pub entered_tags : List Tag → List Tag → List Tag
+entered_tags [] held = held
+entered_tags (t ∷ ts) held = t ∷ held

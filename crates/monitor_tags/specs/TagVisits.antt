@@ -8,7 +8,7 @@ use Rattle.checked_program.specs.Tagging.{tag_meeting, tag_plan}
 use Rattle.laws_sections.proofs.TagOrder.{own_tags}
 use Rattle.laws_sections.proofs.TagRanks.{tag_ranks}
 use Rattle.laws_sections.proofs.VisitsEnd.{IsKept, work, first_kept, visit_keeps, visit_works}
-use Rattle.code_visits.specs.Level.{IsLawful}
+use Rattle.code_visits.specs.Level.{IsLawfulMeeting}
 use Rattle.code_visits.specs.Analyses.{Ends}
 
 own_frame : (f : TagShape) → tag_meeting.same f f ≡ true
@@ -16,7 +16,7 @@ own_frame f =
     ap (λ (b : Bool). b && (same_tags f.locals f.locals && same_tags f.held f.held)) (own_tags f.stack)
     ∙ ap (λ (b : Bool). b && same_tags f.held f.held) (own_tags f.locals) ∙ own_tags f.held
 
-pub tags_meet : IsLawful tag_meeting (λ f. 0)
+pub tags_meet : IsLawfulMeeting tag_meeting (λ f. 0)
 tags_meet = record {
   same = own_frame;
   apart = λ f. ap not (own_tags f.held);

@@ -10,7 +10,7 @@ use Rattle.jvm_types.specs.declared.refusal.SRule.{SRule}
 use Rattle.jvm_types.specs.declared.refusal.SRule.TheVariants.{S1, S2, S3}
 use Rattle.checked_program.specs.LockTags.{TagShape}
 use Rattle.checked_program.specs.Tagging.{tag_meeting, tags_after, tags_at_handler, until_all, catchers, enters_untagged, exits_other, leaves_held, IsTagRefused}
-use Rattle.checked_program.specs.Visits.{Node, Act, Bring, acted}
+use Rattle.checked_program.specs.Visits.{PlanNode, Act, Bring, acted}
 use Rattle.code_visits.specs.Level.{AreLevel}
 use Rattle.code_visits.specs.declared.stop.Stop.{Stop}
 use Rattle.code_visits.specs.declared.stop.Stop.TheVariants as stops
@@ -19,7 +19,7 @@ use Rattle.monitor_tags.specs.declared.error.TagError.TheVariants.{Memory, Refus
 use Rattle.monitor_tags.specs.declared.visit.Going.{Going}
 
 abbrev pub Nodes : Type 0
-Nodes = List (Node TagShape)
+Nodes = List (PlanNode TagShape)
 
 -- one node for each instruction
 abbrev pub AreLong : MethodInfo → Nodes → Type 0
@@ -35,35 +35,35 @@ abbrev pub does : MethodInfo → List (Act TagShape SRule) → Nodes → Done
 does m acts nodes = acted tag_meeting m.code acts nodes
 
 -- a frame goes along edges
-abbrev pub goes : List ℕ → TagShape → Act TagShape SRule
-goes tos f = Bring S3 tos f
+abbrev pub goes_along : List ℕ → TagShape → Act TagShape SRule
+goes_along tos f = Bring S3 tos f
 
 -- a frame goes to the handlers of some rows
 abbrev pub to_handlers : TagShape → List Row → List (Act TagShape SRule)
-to_handlers f rows = map (λ (handler : Row). goes (handler.handler ∷ []) f) rows
+to_handlers f rows = map (λ (handler : Row). goes_along (handler.handler ∷ []) f) rows
 
 -- what is kept of a frame for the handlers that an exception of an instruction may go to, where there are some
-abbrev pub Keeps : MethodInfo → Insn → TagShape → Option TagShape → Type 0
-Keeps m insn f None = catchers m insn ≡ []
-Keeps m insn f (Some g) = (g ≡ tags_at_handler f) × (catchers m insn ≡ until_all (covering m insn.pc))
+abbrev pub KeptTagShape : MethodInfo → Insn → TagShape → Option TagShape → Type 0
+KeptTagShape m insn f None = catchers m insn ≡ []
+KeptTagShape m insn f (Some g) = (g ≡ tags_at_handler f) × (catchers m insn ≡ until_all (covering m insn.pc))
 
 -- a frame breaks neither of the first rules at an instruction, and this is what the instruction does with it
 pub record IsGoing (m : MethodInfo) (insn : Insn) (r : OpRow) (f : TagShape) (g : Going) : Type 0 where
   pub enters : enters_untagged insn.op f.stack ≡ false
   pub exits : exits_other insn.op f.stack f.held ≡ false
   pub after : g.after ≡ tags_after insn r f
-  pub keeps : Keeps m insn f g.at_handler
+  pub keeps : KeptTagShape m insn f g.at_handler
   pub leaves : g.leaves ≡ leaves_held m insn f.held
 
 -- the first of these rules that a frame breaks at an instruction
-abbrev pub first_rule : Bool → Bool → Option SRule
-first_rule enters exits = if enters then Some S1 else if exits then Some S2 else None
+abbrev pub first_tag_rule : Bool → Bool → Option SRule
+first_tag_rule enters exits = if enters then Some S1 else if exits then Some S2 else None
 
 -- this; or the rule that is broken there; or memory ran out
-abbrev pub Prepares : MethodInfo → Insn → OpRow → TagShape → Result Going (Stop SRule) → Type 0
-Prepares m insn r f (Ok g) = IsGoing m insn r f g
-Prepares m insn r f (Err stops.Memory) = Unit {0}
-Prepares m insn r f (Err (stops.Refused rule pc)) = (first_rule (enters_untagged insn.op f.stack) (exits_other insn.op f.stack f.held) ≡ Some rule) × (pc ≡ insn.pc)
+abbrev pub TagsPrepared : MethodInfo → Insn → OpRow → TagShape → Result Going (Stop SRule) → Type 0
+TagsPrepared m insn r f (Ok g) = IsGoing m insn r f g
+TagsPrepared m insn r f (Err stops.Memory) = Unit {0}
+TagsPrepared m insn r f (Err (stops.Refused rule pc)) = (first_tag_rule (enters_untagged insn.op f.stack) (exits_other insn.op f.stack f.held) ≡ Some rule) × (pc ≡ insn.pc)
 
 -- ---- the answer
 
@@ -73,6 +73,6 @@ error_of stops.Memory = Memory
 error_of (stops.Refused rule pc) = Refused rule pc
 
 -- memory ran out, or the method is refused so
-abbrev pub IsRefusal : Program → MethodInfo → TagError → Type 0
-IsRefusal p m Memory = Unit {0}
-IsRefusal p m (Refused rule pc) = IsTagRefused p m rule pc
+abbrev pub IsTagRefusal : Program → MethodInfo → TagError → Type 0
+IsTagRefusal p m Memory = Unit {0}
+IsTagRefusal p m (Refused rule pc) = IsTagRefused p m rule pc

@@ -5,7 +5,7 @@ ghost use Rattle.jvm_types.specs.CodeTable.{value_of, stack_after, locals_after}
 ghost use Rattle.checked_program.specs.LockTags.{entry_tags, without};
 ghost use Rattle.checked_program.specs.Tagging.{moved_tags, tags_after, tags_at_handler};
 ghost use Rattle.checked_program.specs.declared.tag.Tag.TheVariants.{Untagged, At};
-ghost use Rattle.monitor_tags.specs.Held.{entered};
+ghost use Rattle.monitor_tags.specs.Held.{entered_tags};
 
 use crate::tag_stacks::untag;
 use checked_program::{Tag, TagFrame, TagLocals, same_tag};
@@ -112,7 +112,7 @@ fn tagged_dup(alloc: Global, pc: u32, f: &TagFrame) -> Result<TagFrame, AllocErr
 
 /// What is held behind a `monitorenter`.
 fn held_within(alloc: Global, f: &TagFrame) -> Result<Stack<Tag>, AllocError>
-    ensures { IfOk result (λ held. held ≡ entered f.now.stack f.now.held) }
+    ensures { IfOk result (λ held. held ≡ entered_tags f.now.stack f.now.held) }
 {
     let mut held = f.held().without_for(alloc, 0, 1)?;
     if let Some(t) = f.stack().get(0) {

@@ -7,7 +7,7 @@ ghost use Rattle.jvm_types.specs.Verifying.{covers, covering};
 ghost use Rattle.checked_program.specs.LockTags.{TagShape};
 ghost use Rattle.checked_program.specs.Tagging.{until_all, catchers, tags_at_handler};
 ghost use Rattle.code_visits.specs.Analyses.{Leaves};
-ghost use Rattle.monitor_tags.specs.Visiting.{AreLong, Keeps, does, to_handlers};
+ghost use Rattle.monitor_tags.specs.Visiting.{AreLong, KeptTagShape, does, to_handlers};
 
 use crate::after::frame_at_handler;
 use crate::analysis::Tagging;
@@ -33,7 +33,7 @@ pub fn keep_for_handlers(
     insn: &Insn,
     f: &TagFrame,
 ) -> Result<Option<TagFrame>, AllocError>
-    ensures { IfOk result (Keeps m.now insn.now f.now) }
+    ensures { IfOk result (KeptTagShape m.now insn.now f.now) }
 {
     if has_catchers(m, insn) {
         Ok(Some(frame_at_handler(alloc, f)?))
@@ -74,7 +74,7 @@ pub fn handle_kept(
     kept: &Option<TagFrame>,
 ) -> Result<(), Stop<SRule>>
     requires level { AreLong m.now nodes.old }
-    ensures left { (f : TagShape) → Keeps m.now insn.now f kept.now → Leaves (does m.now (to_handlers (tags_at_handler f) (catchers m.now insn.now)) nodes.old) nodes.new result }
+    ensures left { (f : TagShape) → KeptTagShape m.now insn.now f kept.now → Leaves (does m.now (to_handlers (tags_at_handler f) (catchers m.now insn.now)) nodes.old) nodes.new result }
     ensures level { OnOk result (AreLong m.now nodes.new) }
 {
     match kept {

@@ -5,7 +5,7 @@ ghost use Rattle.jvm_types.specs.ProgramInvariant.{IsProgram};
 ghost use Rattle.jvm_types.specs.Verifying.{IsLaidOut, IsTypingOf};
 ghost use Rattle.checked_program.specs.Tagging.{IsTaggingOf};
 ghost use Rattle.checked_program.specs.declared.tag.Tags.{Tags as MethodTags};
-ghost use Rattle.monitor_tags.specs.Visiting.{IsRefusal};
+ghost use Rattle.monitor_tags.specs.Visiting.{IsTagRefusal};
 ghost use Rattle.monitor_tags.specs.declared.error.TagError.TheVariants.{Memory};
 
 use crate::analysis::Tagging;
@@ -24,7 +24,7 @@ pub(crate) fn tag_method(
 ) -> Result<Tags, TagError>
     requires { IsLaidOut m.now }
     ensures ok { IfOk result (IsTaggingOf p.now m.now) }
-    ensures refused { IfErr result (IsRefusal p.now m.now) }
+    ensures refused { IfErr result (IsTagRefusal p.now m.now) }
     ensures spent { budget.new ≤ budget.old }
 {
     match visit_all::<Tagging>(alloc, p, m, budget) {
@@ -47,7 +47,7 @@ pub fn tag_within(
     ensures ok { IsSomeAnd (slice_get p.now.methods method) (λ m. IfOk result (λ t. IsTaggingOf p.now m t)) }
     ensures only { IsSomeAnd (slice_get p.now.methods method) (λ m. (t : MethodTags) → IsTaggingOf p.now m t → IfOk result (λ found. found ≡ t)) }
     ensures tagged { IsSomeAnd (slice_get p.now.methods method) (λ m. (t : MethodTags) → IsTaggingOf p.now m t → IfErr result (λ e. e ≡ Memory)) }
-    ensures refused { IsSomeAnd (slice_get p.now.methods method) (λ m. IfErr result (λ e. IsRefusal p.now m e)) }
+    ensures refused { IsSomeAnd (slice_get p.now.methods method) (λ m. IfErr result (λ e. IsTagRefusal p.now m e)) }
     ensures spent { budget.new ≤ budget.old }
 {
     match p.methods.get(method as usize) {
@@ -64,7 +64,7 @@ pub fn tag(alloc: Global, p: &Program, method: u32, _types: &Typing) -> Result<T
     ensures ok { IsSomeAnd (slice_get p.now.methods method) (λ m. IfOk result (λ t. IsTaggingOf p.now m t)) }
     ensures only { IsSomeAnd (slice_get p.now.methods method) (λ m. (t : MethodTags) → IsTaggingOf p.now m t → IfOk result (λ found. found ≡ t)) }
     ensures tagged { IsSomeAnd (slice_get p.now.methods method) (λ m. (t : MethodTags) → IsTaggingOf p.now m t → IfErr result (λ e. e ≡ Memory)) }
-    ensures refused { IsSomeAnd (slice_get p.now.methods method) (λ m. IfErr result (λ e. IsRefusal p.now m e)) }
+    ensures refused { IsSomeAnd (slice_get p.now.methods method) (λ m. IfErr result (λ e. IsTagRefusal p.now m e)) }
 {
     let mut budget = Budget::of(MOST_KEPT);
     tag_within(alloc, p, method, &mut budget)

@@ -5,9 +5,9 @@ ghost use Rattle.jvm_types.specs.declared.op_row.OpRow.{OpRow};
 ghost use Rattle.checked_program.specs.LockTags.{TagShape};
 ghost use Rattle.checked_program.specs.Tagging.{tag_acts, tag_plan};
 ghost use Rattle.checked_program.specs.Visits.{acts_on};
-ghost use Rattle.code_visits.specs.Waiting.{node_at};
+ghost use Rattle.code_visits.specs.Waiting.{plan_node_at};
 ghost use Rattle.code_visits.specs.Analyses.{Leaves};
-ghost use Rattle.monitor_tags.specs.Visiting.{AreLong, IsGoing, Prepares, does};
+ghost use Rattle.monitor_tags.specs.Visiting.{AreLong, IsGoing, TagsPrepared, does};
 
 use crate::after::frame_after;
 use crate::analysis::Tagging;
@@ -37,7 +37,7 @@ fn prepare(
     row: &OpRow,
     f: &TagFrame,
 ) -> Result<Going, Stop<SRule>>
-    ensures { Prepares m.now insn.now row.now f.now result }
+    ensures { TagsPrepared m.now insn.now row.now f.now result }
 {
     if enters_untagged(&insn.op, f.stack()) {
         return Err(Stop::Refused(SRule::S1, insn.pc));
@@ -82,7 +82,7 @@ pub fn visit(
     i: usize,
 ) -> Result<(), Stop<SRule>>
     requires level { AreLong m.now nodes.old }
-    ensures left { Leaves (does m.now (acts_on (tag_plan p.now m.now) i (node_at nodes.old i).frame) nodes.old) nodes.new result }
+    ensures left { Leaves (does m.now (acts_on (tag_plan p.now m.now) i (plan_node_at nodes.old i).frame) nodes.old) nodes.new result }
     ensures level { OnOk result (AreLong m.now nodes.new) }
 {
     let method = m.method();

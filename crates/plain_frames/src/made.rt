@@ -1,7 +1,7 @@
 //! The frame behind an instruction.
 
 ghost use Rattle.std.specs.Prelude.{◌≡◌, ◌∷◌, drop, length, reverse, take, IfOk};
-ghost use Rattle.machine_types.specs.Frames.{arguments_of, making, pushed, row_at, taken_from, went, went_on};
+ghost use Rattle.machine_types.specs.Frames.{arguments_of, making, pushed, top_row, taken_from, went, went_on};
 
 use crate::at::At;
 use crate::frame::Frame;
@@ -12,7 +12,7 @@ use jvm_types::{OpRow, Rows};
 use std::alloc::{AllocError, Global};
 
 fn row_at(alloc: Global, p: &Checked, at: &At) -> Result<OpRow, AllocError>
-    ensures { IfOk result (λ r. r ≡ row_at p.now.program at.now) }
+    ensures { IfOk result (λ r. r ≡ top_row p.now.program at.now) }
 {
     let insn = at.insn();
     row(
@@ -43,7 +43,7 @@ pub fn went_on(alloc: Global, p: &Checked, at: &At, made: u64) -> Result<Frame, 
 
 /// How many values the instruction takes.
 fn takes(alloc: Global, p: &Checked, at: &At) -> Result<usize, AllocError>
-    ensures { IfOk result (λ n. n ≡ length (row_at p.now.program at.now).takes) }
+    ensures { IfOk result (λ n. n ≡ length (top_row p.now.program at.now).takes) }
 {
     let row = row_at(alloc, p, at)?;
     Ok(row.takes.len())

@@ -9,7 +9,7 @@ use Rattle.std.proofs.lemmas.Option.{slice_get_past, slice_get_read}
 use Rattle.std.proofs.lemmas.Iterator.Adapters.{position_from-zero}
 use Rattle.machine_types.specs.Words.{header_word}
 use Rattle.machine_types.specs.PlainMemory.{Object, has_value, object_end, object_value, value_in}
-use Rattle.plain_memory.specs.Order.{IsOnlyOne, LieApart}
+use Rattle.plain_memory.specs.Order.{IsOnlyOne, ObjectsLieApart}
 
 -- ---- an object that ends before a place, and one that begins behind it
 
@@ -91,18 +91,18 @@ position_at_none os x i only l = position_at_number os x i only ∙ ap (option_a
 
 -- ---- the end of each is no lower than that of those before it
 
-rises : (os : List Object) (i j : ℕ) (d : Object) → LieApart os → i ≤ j → j < length os → ((eqb i j ≡ true) × (i ≡ j)) ⊎ ((eqb i j ≡ false) × (i ≢ j)) → object_end (get_or os i d) ≤ object_end (get_or os j d)
+rises : (os : List Object) (i j : ℕ) (d : Object) → ObjectsLieApart os → i ≤ j → j < length os → ((eqb i j ≡ true) × (i ≡ j)) ⊎ ((eqb i j ≡ false) × (i ≢ j)) → object_end (get_or os i d) ≤ object_end (get_or os j d)
 rises os i j d apart l m (inl same) = rw same.1 (omega arith)
 rises os i j d apart l m (inr other) =
     let above = apart i j d (omega (arith, l, other.1)) m in
     omega (arith, above)
 
-pub ends_rise : (os : List Object) → LieApart os → IsNonDecreasingBy (λ o. object_end o) os
+pub ends_rise : (os : List Object) → ObjectsLieApart os → IsNonDecreasingBy (λ o. object_end o) os
 ends_rise os apart i j d l m = rises os i j d apart l m (eqb_tells i j)
 
 -- ---- the number of objects that end at or before a place
 
-pub only_one : (os : List Object) (x i : ℕ) → LieApart os → IsPartitionPoint (λ o. leb (object_end o) x ≡ true) (λ o. leb (object_end o) x ≡ false) os i → IsOnlyOne os x i
+pub only_one : (os : List Object) (x i : ℕ) → ObjectsLieApart os → IsPartitionPoint (λ o. leb (object_end o) x ≡ true) (λ o. leb (object_end o) x ≡ false) os i → IsOnlyOne os x i
 only_one os x i apart point = record {
   before = λ k d l m. leb-true _ _ (point.0 k d (omega arith) l);
   behind = λ k d l m. (

@@ -2,7 +2,7 @@
 
 ghost use Rattle.std.specs.Prelude.{◌≡◌, true, position};
 ghost use Rattle.machine_types.specs.PlainMemory.{has_value, object_value, object_write};
-ghost use Rattle.plain_memory.specs.Order.{AreInOrder, IsOnlyOne, LieApart};
+ghost use Rattle.plain_memory.specs.Order.{AreInOrder, IsOnlyOne, ObjectsLieApart};
 
 use crate::object::Object;
 
@@ -23,7 +23,7 @@ pub fn are_in_order(objects: &[Object], next: u64) -> bool
 
 /// The number of the only object that may have a place.
 fn number_of(objects: &[Object], place: u128) -> usize
-    requires { LieApart objects.now }
+    requires { ObjectsLieApart objects.now }
     ensures { IsOnlyOne objects.now place result }
 {
     objects.partition_point(|o| o.end() <= place)
@@ -31,7 +31,7 @@ fn number_of(objects: &[Object], place: u128) -> usize
 
 /// What stands at a place, where the objects lie apart.
 fn value_apart(objects: &[Object], place: u128) -> Option<u64>
-    requires { LieApart objects.now }
+    requires { ObjectsLieApart objects.now }
     ensures { result ≡ object_value objects.now place }
 {
     match objects.get(number_of(objects, place)) {
@@ -55,7 +55,7 @@ fn value_in_turn(objects: &[Object], place: u128) -> Option<u64>
 
 /// What stands at a place, by the first object that has it.
 pub fn object_value(objects: &[Object], apart: bool, place: u128) -> Option<u64>
-    requires { apart ≡ true → LieApart objects.now }
+    requires { apart ≡ true → ObjectsLieApart objects.now }
     ensures { result ≡ object_value objects.now place }
 {
     if apart {
@@ -67,7 +67,7 @@ pub fn object_value(objects: &[Object], apart: bool, place: u128) -> Option<u64>
 
 /// The number of the object that has a value at a place, where the objects lie apart.
 fn number_apart(objects: &[Object], place: u128) -> Option<usize>
-    requires { LieApart objects.now }
+    requires { ObjectsLieApart objects.now }
     ensures { result ≡ position (λ o. has_value o place) objects.now }
 {
     let number = number_of(objects, place);
@@ -85,7 +85,7 @@ fn number_apart(objects: &[Object], place: u128) -> Option<usize>
 
 /// The number of the first object that has a value at a place.
 fn object_at(objects: &[Object], apart: bool, place: u128) -> Option<usize>
-    requires { apart ≡ true → LieApart objects.now }
+    requires { apart ≡ true → ObjectsLieApart objects.now }
     ensures { result ≡ position (λ o. has_value o place) objects.now }
 {
     if apart {
@@ -98,7 +98,7 @@ fn object_at(objects: &[Object], apart: bool, place: u128) -> Option<usize>
 /// Puts a value at a place of the first object that has it.
 #[tactic(auto, using(crate::proofs::FirstOnes::object_found, crate::proofs::FirstOnes::object_has))]
 pub fn write_object(objects: &mut Vec<Object>, apart: bool, place: u128, value: u64)
-    requires { apart ≡ true → LieApart objects.old.items }
+    requires { apart ≡ true → ObjectsLieApart objects.old.items }
     ensures { objects.new.items ≡ object_write objects.old.items place value }
 {
     match object_at(objects.as_slice(), apart, place) {

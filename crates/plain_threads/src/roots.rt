@@ -2,7 +2,7 @@
 
 ghost use Rattle.std.specs.Prelude.{◌≡◌, ◌≤◌, ◌<◌, ◌++◌, length, [], ◌∷◌, if◌then◌else◌, OnOk, IfOk};
 ghost use Rattle.machine_types.specs.Parts.{done_roots, init_roots, numbers_of, is_entry_named, run_roots};
-ghost use Rattle.plain_threads.specs.Roots.{is_root};
+ghost use Rattle.plain_threads.specs.Roots.{is_plain_root};
 
 use checked_program::Checked;
 use jvm_types::class_numbers::FIRST_FILE_CLASS;
@@ -28,7 +28,7 @@ fn is_entry(m: &MethodInfo, name: &[u8], descriptor: &[u8]) -> bool
 
 /// Whether a method is such a root.
 fn is_root(root: Root, m: &MethodInfo) -> bool
-    ensures { result ≡ is_root root m.now }
+    ensures { result ≡ is_plain_root root m.now }
 {
     match root {
         Root::ClassInit => m.name.as_slice() == b"<clinit>".as_slice(),
@@ -54,7 +54,7 @@ fn add_roots(
     root: Root,
 ) -> Result<(), AllocError>
     requires { length methods.now < 4294967296 }
-    ensures { OnOk result (numbers.new ≡ numbers_of (is_root root) 0 methods.now ++ numbers.old) }
+    ensures { OnOk result (numbers.new ≡ numbers_of (is_plain_root root) 0 methods.now ++ numbers.old) }
 {
     for i in (0..methods.len()).rev() {
         match methods.get(i) {

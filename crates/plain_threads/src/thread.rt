@@ -1,10 +1,10 @@
 //! One thread.
 
 ghost use Rattle.std.specs.Prelude.{◌≡◌, [], ◌∷◌, ◌++◌, drop, slice_set, slice_get, IfOk, OnOk, OnErr};
-ghost use Rattle.machine_types.specs.PlainState.{Run, Throw, first_thread, goes_on, over, ready_thread, root_over, start_thread};
+ghost use Rattle.machine_types.specs.PlainState.{Run, Throw, first_thread, plain_goes_on, over, ready_thread, plain_root_over, plain_start_thread};
 ghost use Rattle.machine_types.specs.PlainSteps.{waits_on, wakes};
 ghost use Rattle.plain_frames.specs.Changes.{changed, onward_of, root_begun};
-ghost use Rattle.plain_threads.specs.Statuses.{status_of};
+ghost use Rattle.plain_threads.specs.Statuses.{plain_status_of};
 
 use crate::roots::{init_roots, run_roots};
 use crate::status::Status;
@@ -25,11 +25,11 @@ pub struct Thread {
 
 impl Model for Thread {
     ghost use Rattle.machine_types.specs.PlainState.{PlainThread};
-    ghost use Rattle.plain_threads.specs.Statuses.{status_of};
+    ghost use Rattle.plain_threads.specs.Statuses.{plain_status_of};
 
     ghost Value = { PlainThread };
 
-    ghost view = { λ x. record { frames = x.frames; status = status_of x.status; roots = x.roots; ended = x.ended } };
+    ghost view = { λ x. record { frames = x.frames; status = plain_status_of x.status; roots = x.roots; ended = x.ended } };
 }
 
 impl Thread {
@@ -61,7 +61,7 @@ impl Thread {
 
     /// Thread 0 at the start.
     fn first(alloc: Global, p: &Checked) -> Result<Thread, AllocError>
-        ensures { IfOk result (λ x. x ≡ start_thread p.now.program 0) }
+        ensures { IfOk result (λ x. x ≡ plain_start_thread p.now.program 0) }
     {
         let roots = init_roots(alloc, p)?;
         if roots.len() == 0 {
@@ -73,7 +73,7 @@ impl Thread {
 
     /// A thread at the start.
     pub fn start(alloc: Global, p: &Checked, t: u8) -> Result<Thread, AllocError>
-        ensures { IfOk result (λ x. x ≡ start_thread p.now.program t) }
+        ensures { IfOk result (λ x. x ≡ plain_start_thread p.now.program t) }
     {
         if t == 0 {
             Thread::first(alloc, p)
@@ -83,7 +83,7 @@ impl Thread {
     }
 
     pub fn status(&self) -> Status
-        ensures { status_of result ≡ self.now.status }
+        ensures { plain_status_of result ≡ self.now.status }
     {
         self.status
     }
@@ -109,14 +109,14 @@ impl Thread {
     }
 
     pub fn set_status(&mut self, status: Status)
-        ensures { self.new ≡ record self.old { status = status_of status } }
+        ensures { self.new ≡ record self.old { status = plain_status_of status } }
     {
         self.status = status;
     }
 
     /// Another frame takes the place of the top one, and the thread is about something else.
     pub fn goes_to(&mut self, f: Frame, status: Status)
-        ensures { self.new ≡ record self.old { frames = slice_set self.old.frames 0 f; status = status_of status } }
+        ensures { self.new ≡ record self.old { frames = slice_set self.old.frames 0 f; status = plain_status_of status } }
     {
         if self.frames.len() > 0 {
             self.frames.set(0, f);
@@ -174,7 +174,7 @@ impl Thread {
 
     /// Its root has returned.
     fn root_over(&mut self, alloc: Global) -> Result<(), AllocError>
-        ensures ok { OnOk result (self.new ≡ root_over self.old self.old.roots) }
+        ensures ok { OnOk result (self.new ≡ plain_root_over self.old self.old.roots) }
         ensures err { OnErr result (self.new ≡ self.old) }
     {
         if self.roots.len() == 0 {
@@ -188,7 +188,7 @@ impl Thread {
 
     /// Changes the frames and the status.
     fn turn(&mut self, change: Change, status: Status) -> Result<(), AllocError>
-        ensures ok { OnOk result (self.new ≡ record self.old { frames = changed change self.old.frames; status = status_of status }) }
+        ensures ok { OnOk result (self.new ≡ record self.old { frames = changed change self.old.frames; status = plain_status_of status }) }
         ensures err { OnErr result (self.new ≡ self.old) }
     {
         self.change(change)?;
@@ -198,7 +198,7 @@ impl Thread {
 
     /// The thread goes on.
     pub fn go_on(&mut self, alloc: Global, onward: Onward) -> Result<(), AllocError>
-        ensures ok { OnOk result (self.new ≡ goes_on self.old (onward_of self.old.frames onward)) }
+        ensures ok { OnOk result (self.new ≡ plain_goes_on self.old (onward_of self.old.frames onward)) }
         ensures err { OnErr result (self.new ≡ self.old) }
     {
         match onward {
@@ -218,7 +218,7 @@ impl Thread {
         entry: Option<Frame>,
         roots: Stack<u32>,
     ) -> Result<(), AllocError>
-        ensures ok { OnOk result (self.new ≡ goes_on (record self.old { roots = roots }) (root_begun entry)) }
+        ensures ok { OnOk result (self.new ≡ plain_goes_on (record self.old { roots = roots }) (root_begun entry)) }
         ensures err { OnErr result (self.new ≡ self.old) }
     {
         match entry {

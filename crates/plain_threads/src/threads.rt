@@ -3,10 +3,10 @@
 ghost use Rattle.std.specs.Prelude.{◌≡◌, ◌<◌, ◌+◌, drop, length, map, slice_get, slice_set, Some, IfOk, OnOk, OnErr, OnSome};
 ghost use Rattle.std.specs.List.{list_any, list_all, range_with_len};
 ghost use Rattle.std.specs.Option.{option_copied};
-ghost use Rattle.machine_types.specs.PlainState.{PlainThread, goes_on, start_thread, with_status};
+ghost use Rattle.machine_types.specs.PlainState.{PlainThread, plain_goes_on, plain_start_thread, with_status};
 ghost use Rattle.machine_types.specs.PlainSteps.{first_is_return, init_has_returned, is_done_due, is_due, is_over, waits_on, wakes};
 ghost use Rattle.plain_frames.specs.Changes.{onward_of, root_begun};
-ghost use Rattle.plain_threads.specs.Statuses.{status_of};
+ghost use Rattle.plain_threads.specs.Statuses.{plain_status_of};
 
 use crate::status::Status;
 use crate::thread::Thread;
@@ -79,7 +79,7 @@ fn is_done_due(threads: &[Thread]) -> bool
 impl Threads {
     /// The threads at the start.
     pub fn start(alloc: Global, p: &Checked) -> Result<Threads, AllocError>
-        ensures { IfOk result (λ s. s ≡ map (start_thread p.now.program) (range_with_len 0 (p.now.program.workers + 1))) }
+        ensures { IfOk result (λ s. s ≡ map (plain_start_thread p.now.program) (range_with_len 0 (p.now.program.workers + 1))) }
     {
         let count = p.workers() as usize + 1;
         let mut threads = Vec::with_capacity(alloc, count)?;
@@ -134,7 +134,7 @@ impl Threads {
 
     pub fn set_status(&mut self, t: u8, status: Status)
         requires { t < length self.old }
-        ensures { (x : PlainThread) → slice_get self.old t ≡ Some x → self.new ≡ slice_set self.old t (with_status x (status_of status)) }
+        ensures { (x : PlainThread) → slice_get self.old t ≡ Some x → self.new ≡ slice_set self.old t (with_status x (plain_status_of status)) }
     {
         self.threads[t as usize].set_status(status);
     }
@@ -142,7 +142,7 @@ impl Threads {
     /// Another frame takes the place of the top one of a thread, and the thread is about something else.
     pub fn goes_to(&mut self, t: u8, f: Frame, status: Status)
         requires { t < length self.old }
-        ensures { (x : PlainThread) → slice_get self.old t ≡ Some x → self.new ≡ slice_set self.old t (record x { frames = slice_set x.frames 0 f; status = status_of status }) }
+        ensures { (x : PlainThread) → slice_get self.old t ≡ Some x → self.new ≡ slice_set self.old t (record x { frames = slice_set x.frames 0 f; status = plain_status_of status }) }
     {
         self.threads[t as usize].goes_to(f, status);
     }
@@ -150,7 +150,7 @@ impl Threads {
     /// A thread goes on.
     pub fn go_on(&mut self, alloc: Global, t: u8, onward: Onward) -> Result<(), AllocError>
         requires { t < length self.old }
-        ensures ok { OnOk result ((x : PlainThread) → slice_get self.old t ≡ Some x → self.new ≡ slice_set self.old t (goes_on x (onward_of x.frames onward))) }
+        ensures ok { OnOk result ((x : PlainThread) → slice_get self.old t ≡ Some x → self.new ≡ slice_set self.old t (plain_goes_on x (onward_of x.frames onward))) }
         ensures err { OnErr result (self.new ≡ self.old) }
     {
         self.threads[t as usize].go_on(alloc, onward)
@@ -165,7 +165,7 @@ impl Threads {
         roots: Stack<u32>,
     ) -> Result<(), AllocError>
         requires { t < length self.old }
-        ensures ok { OnOk result ((x : PlainThread) → slice_get self.old t ≡ Some x → self.new ≡ slice_set self.old t (goes_on (record x { roots = roots }) (root_begun entry))) }
+        ensures ok { OnOk result ((x : PlainThread) → slice_get self.old t ≡ Some x → self.new ≡ slice_set self.old t (plain_goes_on (record x { roots = roots }) (root_begun entry))) }
         ensures err { OnErr result (self.new ≡ self.old) }
     {
         self.threads[t as usize].begin(alloc, entry, roots)

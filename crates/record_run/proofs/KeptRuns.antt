@@ -9,15 +9,15 @@ use Rattle.checked_program.specs.MarkedProgram.{MarkedProgram}
 use Rattle.machine_types.specs.Core.{Core, event, lives, outcome, start}
 use Rattle.machine_types.specs.Schedules.{First, Ordered, is_live_worker}
 use Rattle.machine_types.specs.declared.config.Config.{Config}
-use Rattle.replay_runner.specs.Replays.{GoesToEnd, IsAt}
+use Rattle.replay_runner.specs.Replays.{GoesToEnd, HasLedTo}
 use Rattle.replay_runner.specs.Running.{Running, events}
 use Rattle.replay_runner.proofs.ManyEvents.{goes_in_init}
 use Rattle.replay_runner.proofs.Turns.{at_start, ordered_turn, replayed, workers_turn}
 use Rattle.record_run.specs.Recordings.{AreLiveWorkers, IsRecorded, after_order}
-use Rattle.record_run.specs.Kept.{HaveBegun, IsFull, IsKeptOf, IsOfProgram, IsRecordOf, Kept, Named}
+use Rattle.record_run.specs.Kept.{HaveBegun, IsFull, IsKeptOf, IsRecordOfProgram, IsRecordOf, Kept, NamedRecord}
 
-pub same_program : (run : Option Named) (c : MarkedProgram) (k : Kept) → IsOfProgram run c → IsKeptOf run k → c ≡ k.machine.program
-same_program run c k of kept = ap (λ (n : Named). n.program) (same_some (sym of.2 ∙ kept.named))
+pub same_program : (run : Option NamedRecord) (c : MarkedProgram) (k : Kept) → IsRecordOfProgram run c → IsKeptOf run k → c ≡ k.machine.program
+same_program run c k of kept = ap (λ (n : NamedRecord). n.program) (same_some (sym of.2 ∙ kept.named))
 
 -- ---- an event more
 
@@ -32,7 +32,7 @@ live_behind c s (u ∷ order) t l e = (l.0, live_behind c (event c s u) order t 
 abbrev pub with_event : Kept → (t : ℕ) → Kept
 with_event k t = record { machine = record k.machine { core = event k.machine.program k.machine.core t }; order = k.order ++ t ∷ []; most = k.most }
 
-pub keeps_event : (run : Option Named) (k : Kept) (t : ℕ) → IsKeptOf run k → is_live_worker k.machine.core t ≡ true → length k.order < k.most → IsKeptOf run (with_event k t)
+pub keeps_event : (run : Option NamedRecord) (k : Kept) (t : ℕ) → IsKeptOf run k → is_live_worker k.machine.core t ≡ true → length k.order < k.most → IsKeptOf run (with_event k t)
 keeps_event run k t h live room = record {
   named = h.named;
   few = (let one : length (k.order ++ t ∷ []) ≡ length k.order + 1 = length-append k.order (t ∷ []) in omega (arith, one, room));
@@ -42,11 +42,11 @@ keeps_event run k t h live room = record {
   led = ap (λ (s : Core). event k.machine.program s t) h.led ∙ sym (event_behind k.machine.program h.at k.order t);
 }
 
-pub begins : (run : Option Named) (m : Running) (order : List ℕ) (most : ℕ) → run ≡ Some (record { program = m.program; cfg = m.cfg; most = most }) → HaveBegun m.program m.cfg m.core → order ≡ [] → IsKeptOf run (record { machine = m; order = order; most = most })
+pub begins : (run : Option NamedRecord) (m : Running) (order : List ℕ) (most : ℕ) → run ≡ Some (record { program = m.program; cfg = m.cfg; most = most }) → HaveBegun m.program m.cfg m.core → order ≡ [] → IsKeptOf run (record { machine = m; order = order; most = most })
 begins run m order most named begun none = subst (λ (ts : List ℕ). IsKeptOf run (record { machine = m; order = ts; most = most })) (sym none) (record { named = named; few = omega arith; at = m.core; begin = begun; live = tt; led = refl })
 
 -- what a machine and an order came to
-pub kept_on : (run : Option Named) (k : Kept) (m : Running) (order : List ℕ) (t : ℕ) → m ≡ record k.machine { core = event k.machine.program k.machine.core t } → order ≡ k.order ++ t ∷ [] → IsKeptOf run k → is_live_worker k.machine.core t ≡ true → length k.order < k.most → IsKeptOf run (record { machine = m; order = order; most = k.most })
+pub kept_on : (run : Option NamedRecord) (k : Kept) (m : Running) (order : List ℕ) (t : ℕ) → m ≡ record k.machine { core = event k.machine.program k.machine.core t } → order ≡ k.order ++ t ∷ [] → IsKeptOf run k → is_live_worker k.machine.core t ≡ true → length k.order < k.most → IsKeptOf run (record { machine = m; order = order; most = k.most })
 kept_on run k m order t e is h live room = subst (IsKeptOf run) (λ i. record { machine = sym e i; order = sym is i; most = k.most }) (keeps_event run k t h live room)
 
 -- ---- whose turn comes next
@@ -66,19 +66,19 @@ next_is k (Some t) room h = (room, worker_lives k.machine.core t h.0 h.1, h.2)
 -- ---- a replay by the order
 
 -- it comes to the begin of the workers
-begin_at : (c : MarkedProgram) (cfg : Config) (s : Core) (order : List ℕ) → HaveBegun c cfg s → IsAt c cfg order (Ordered order) s
+begin_at : (c : MarkedProgram) (cfg : Config) (s : Core) (order : List ℕ) → HaveBegun c cfg s → HasLedTo c cfg order (Ordered order) s
 begin_at c cfg s order b =
     let m : Running = record { program = c; cfg = cfg; core = start c cfg } in
-    let over : IsAt c cfg order (First order) (events c (start c cfg) 0 b.begin.count) = (goes_in_init m order b.begin.count).leads cfg order (at_start c cfg order) in
-    subst (λ (z : Core). IsAt c cfg order (Ordered order) z) (sym b.begin.begun) (workers_turn c (events c (start c cfg) 0 b.begin.count) order b.begin.init_over b.returned cfg order over)
+    let over : HasLedTo c cfg order (First order) (events c (start c cfg) 0 b.begin.count) = (goes_in_init m order b.begin.count).leads cfg order (at_start c cfg order) in
+    subst (λ (z : Core). HasLedTo c cfg order (Ordered order) z) (sym b.begin.begun) (workers_turn c (events c (start c cfg) 0 b.begin.count) order b.begin.init_over b.returned cfg order over)
 
 -- and makes the events of the order
-order_made : (c : MarkedProgram) (cfg : Config) (whole : List ℕ) (s : Core) (order : List ℕ) → IsAt c cfg whole (Ordered order) s → AreLiveWorkers c s order → IsAt c cfg whole (Ordered []) (after_order c s order)
+order_made : (c : MarkedProgram) (cfg : Config) (whole : List ℕ) (s : Core) (order : List ℕ) → HasLedTo c cfg whole (Ordered order) s → AreLiveWorkers c s order → HasLedTo c cfg whole (Ordered []) (after_order c s order)
 order_made c cfg whole s [] at live = at
 order_made c cfg whole s (t ∷ order) at live = order_made c cfg whole (event c s t) order (ordered_turn c s t order live.0 cfg whole at) live.1
 
-pub finishes : (run : Option Named) (k : Kept) (n : Running) (o : Outcome) → IsKeptOf run k → IsFull k → GoesToEnd k.machine (Ordered []) n → o ≡ outcome n.core → IsRecordOf run (record { outcome = o; order = k.order })
-finishes run k n o h full goes is = subst (λ (z : Option Named). IsRecordOf z (record { outcome = o; order = k.order })) (sym h.named) made
+pub finishes : (run : Option NamedRecord) (k : Kept) (n : Running) (o : Outcome) → IsKeptOf run k → IsFull k → GoesToEnd k.machine (Ordered []) n → o ≡ outcome n.core → IsRecordOf run (record { outcome = o; order = k.order })
+finishes run k n o h full goes is = subst (λ (z : Option NamedRecord). IsRecordOf z (record { outcome = o; order = k.order })) (sym h.named) made
   where
     c : MarkedProgram
     c = k.machine.program
@@ -86,8 +86,8 @@ finishes run k n o h full goes is = subst (λ (z : Option Named). IsRecordOf z (
     cfg : Config
     cfg = k.machine.cfg
 
-    there : IsAt c cfg k.order (Ordered []) k.machine.core
-    there = subst (λ (z : Core). IsAt c cfg k.order (Ordered []) z) (sym h.led) (order_made c cfg k.order h.at k.order (begin_at c cfg h.at k.order h.begin) h.live)
+    there : HasLedTo c cfg k.order (Ordered []) k.machine.core
+    there = subst (λ (z : Core). HasLedTo c cfg k.order (Ordered []) z) (sym h.led) (order_made c cfg k.order h.at k.order (begin_at c cfg h.at k.order h.begin) h.live)
 
     whole : IsFull k → length k.order < k.most → (t : ℕ) → is_live_worker (after_order c h.at k.order) t ≡ false
     whole (inl many) fewer t = absurd (omega (arith, many, fewer))

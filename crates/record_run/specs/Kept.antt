@@ -16,14 +16,14 @@ pub record Kept : Type 0 where
   pub most : ℕ
 
 -- which run it is
-pub record Named : Type 0 where
+pub record NamedRecord : Type 0 where
   pub program : MarkedProgram
   pub cfg : Config
   pub most : ℕ
 
 -- the run is one of this program
-abbrev pub IsOfProgram : Option Named → MarkedProgram → Type 0
-IsOfProgram run c = (cfg : Config) × (most : ℕ) × (run ≡ Some (record { program = c; cfg = cfg; most = most }))
+abbrev pub IsRecordOfProgram : Option NamedRecord → MarkedProgram → Type 0
+IsRecordOfProgram run c = (cfg : Config) × (most : ℕ) × (run ≡ Some (record { program = c; cfg = cfg; most = most }))
 
 -- the workers begin, behind an `init` that returned
 pub record HaveBegun (c : MarkedProgram) (cfg : Config) (s : Core) : Type 0 where
@@ -31,7 +31,7 @@ pub record HaveBegun (c : MarkedProgram) (cfg : Config) (s : Core) : Type 0 wher
   pub returned : may_begin (events c (start c cfg) 0 begin.count).threads ≡ true
 
 -- the order led the machine of the run to its state, from the begin of the workers on
-pub record IsKeptOf (run : Option Named) (k : Kept) : Type 0 where
+pub record IsKeptOf (run : Option NamedRecord) (k : Kept) : Type 0 where
   pub named : run ≡ Some (record { program = k.machine.program; cfg = k.machine.cfg; most = k.most })
   pub few : length k.order ≤ k.most
   pub at : Core
@@ -44,6 +44,6 @@ abbrev pub IsFull : Kept → Type 0
 IsFull k = (k.most ≤ length k.order) ⊎ ((t : ℕ) → is_live_worker k.machine.core t ≡ false)
 
 -- what the run comes to
-abbrev pub IsRecordOf : (run : Option Named) → Recorded → Type 0
+abbrev pub IsRecordOf : (run : Option NamedRecord) → Recorded → Type 0
 IsRecordOf None r = ⊥
 IsRecordOf (Some n) r = IsRecorded n.program n.cfg n.most r.order r.outcome

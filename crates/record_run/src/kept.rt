@@ -5,7 +5,7 @@ ghost use Rattle.jvm_types.specs.declared.limits.TheConstants.{MOST_WORKERS};
 ghost use Rattle.laws_states.specs.WorkLeft.{all_work};
 ghost use Rattle.machine_types.specs.Core.{event};
 ghost use Rattle.machine_types.specs.Schedules.{is_live_worker};
-ghost use Rattle.record_run.specs.Kept.{HaveBegun, IsFull, IsOfProgram, IsRecordOf, Kept};
+ghost use Rattle.record_run.specs.Kept.{HaveBegun, IsFull, IsRecordOfProgram, IsRecordOf, Kept};
 
 use crate::recording::Recorded;
 use checked_program::Checked;
@@ -16,9 +16,9 @@ use std::marker::{Brand, Model, PhantomData};
 /// Which run it is: its program, its settings, and how many events it keeps. Each call at `Brand` picks it.
 pub(crate) trait Naming {
     ghost use Rattle.std.specs.Prelude.{Option};
-    ghost use Rattle.record_run.specs.Kept.{Named};
+    ghost use Rattle.record_run.specs.Kept.{NamedRecord};
 
-    ghost run: { Option Named };
+    ghost run: { Option NamedRecord };
 }
 
 impl Naming for Brand {
@@ -81,7 +81,7 @@ impl<J: Naming> Recording<J> {
 
     /// One event of a live worker, and its number behind the order.
     fn record(&mut self, p: &Checked, t: u8)
-        requires program { IsOfProgram J.run p.now }
+        requires program { IsRecordOfProgram J.run p.now }
         requires live { is_live_worker self.old.machine.core t ≡ true }
         requires room { length self.old.order < self.old.most }
         ensures order { self.new.order ≡ self.old.order ++ t ∷ [] }
@@ -106,7 +106,7 @@ impl<J: Naming> Recording<J> {
 
     /// Gives each live worker an event in its turn, in the order of their numbers, and records it, while there is room.
     pub(crate) fn record_rounds(&mut self, p: &Checked)
-        requires { IsOfProgram J.run p.now }
+        requires { IsRecordOfProgram J.run p.now }
         ensures { IsFull self.new }
     {
         let mut from = 1;
@@ -118,7 +118,7 @@ impl<J: Naming> Recording<J> {
 
     /// Runs what is left of the run, which goes as a replay does behind its order, and answers what the run came to.
     pub(crate) fn finish(self, p: &Checked) -> Recorded
-        requires program { IsOfProgram J.run p.now }
+        requires program { IsRecordOfProgram J.run p.now }
         requires full { IsFull self }
         ensures { IsRecordOf J.run result }
     {
@@ -132,9 +132,9 @@ impl<J: Naming> Recording<J> {
 }
 
 impl<J: Naming> Shared for Recording<J> {
-    ghost use Rattle.record_run.specs.Kept.{IsOfProgram};
+    ghost use Rattle.record_run.specs.Kept.{IsRecordOfProgram};
 
-    ghost takes = { IsOfProgram J.run };
+    ghost takes = { IsRecordOfProgram J.run };
 
     fn make_event(&mut self, p: &Checked, t: u8) -> Option<u32> {
         if self.is_full() || !self.is_live_worker(t) {

@@ -16,10 +16,10 @@ use Rattle.refusal_places.specs.declared.spots.Spot.{Spot}
 use Rattle.refusal_places.specs.declared.spots.Spot.TheVariants.{Offset}
 
 -- the bytes of the file spell the class; None: they spell none, or the file was too long to be read
-abbrev pub IsClassOf : Option (List ℕ) → Option ClassFile → Type 0
-IsClassOf None found = found ≡ None
-IsClassOf (Some bytes) (Some class) = Spells bytes class
-IsClassOf (Some bytes) None = (class : ClassFile) → ¬ Spells bytes class
+abbrev pub IsClassSpelled : Option (List ℕ) → Option ClassFile → Type 0
+IsClassSpelled None found = found ≡ None
+IsClassSpelled (Some bytes) (Some class) = Spells bytes class
+IsClassSpelled (Some bytes) None = (class : ClassFile) → ¬ Spells bytes class
 
 -- of a file that spells no class there is the offset alone
 abbrev pub offset_facts : Spot → List Fact
@@ -37,5 +37,5 @@ refusal_facts rule place name found = Said keys.File name ∷ found_facts found 
 -- the text tells this of the refusal, in the class that the content of the file spells
 pub record Explains (form : Form) (rule : Rule) (place : Place) (name : List ℕ) (content : Option (List ℕ)) (text : List ℕ) : Type 0 where
   pub found : Option ClassFile
-  pub is : IsClassOf content found
+  pub is : IsClassSpelled content found
   pub told : text ≡ told_text form rule place (refusal_facts rule place name found)

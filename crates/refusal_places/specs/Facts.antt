@@ -67,9 +67,9 @@ place_members place = counted_member (codes "file_number") place.file ++ method_
 abbrev pub head_text : Rule → List ℕ
 head_text rule = codes "{" ++ text_member (codes "what") (codes "refusal") ++ codes "," ++ text_member (codes "rule") (rule_text rule)
 
-abbrev pub object_text : Rule → Place → List Fact → List ℕ
-object_text rule place facts = head_text rule ++ place_members place ++ flat_map fact_member facts ++ line (codes "}")
+abbrev pub refusal_object : Rule → Place → List Fact → List ℕ
+refusal_object rule place facts = head_text rule ++ place_members place ++ flat_map fact_member facts ++ line (codes "}")
 
 abbrev pub told_text : Form → Rule → Place → List Fact → List ℕ
 told_text forms.Lines rule place facts = lines_text rule place facts
-told_text forms.Json rule place facts = object_text rule place facts
+told_text forms.Json rule place facts = refusal_object rule place facts

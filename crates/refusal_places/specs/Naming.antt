@@ -71,14 +71,14 @@ abbrev pub words_or_opcode : ℕ → Option (List ℕ) → List ℕ
 words_or_opcode opcode (Some name) = name
 words_or_opcode opcode None = codes "opcode " ++ decimal opcode
 
-abbrev pub entry_at : List Constant → Option ℕ → Option Constant
-entry_at pool None = None
-entry_at pool (Some i) = slice_get pool i
+abbrev pub pool_entry_at : List Constant → Option ℕ → Option Constant
+pool_entry_at pool None = None
+pool_entry_at pool (Some i) = slice_get pool i
 
 -- the instruction at the front of the bytes of a code
 unfoldable pub instruction_facts : List Constant → List ℕ → List Fact
 instruction_facts pool [] = []
-instruction_facts pool (opcode ∷ rest) = Said keys.Instruction (words_or_opcode opcode (mnemonic opcode)) ∷ constant_facts pool (entry_at pool (index_in opcode rest))
+instruction_facts pool (opcode ∷ rest) = Said keys.Instruction (words_or_opcode opcode (mnemonic opcode)) ∷ constant_facts pool (pool_entry_at pool (index_in opcode rest))
 
 -- ---- methods and their code
 

@@ -5,12 +5,12 @@ use Rattle.jvm_types.specs.declared.class_file.Attr.{Attr}
 use Rattle.jvm_types.specs.declared.class_file.Constant.{Constant}
 use Rattle.refusal_places.specs.declared.source_lines.LineStart.{LineStart}
 
-abbrev pub number_of : (high low : ℕ) → ℕ
-number_of high low = high * 256 + low
+abbrev pub number_of_bytes : (high low : ℕ) → ℕ
+number_of_bytes high low = high * 256 + low
 
 -- a pc and a line, each of two bytes
 abbrev pub start_of : (a b c d : ℕ) → LineStart
-start_of a b c d = record { pc = number_of a b; line = number_of c d }
+start_of a b c d = record { pc = number_of_bytes a b; line = number_of_bytes c d }
 
 -- where lines begin, of the bytes behind the count of a LineNumberTable: each a pc and a line
 abbrev pub starts_in : List ℕ → List LineStart
@@ -31,18 +31,18 @@ later pc None start = if nat_le start.pc pc then Some start else None
 later pc (Some found) start = if nat_le start.pc pc && nat_le found.pc start.pc then Some start else Some found
 
 -- the last of those that begin latest, and not behind the pc
-abbrev pub latest : ℕ → Option LineStart → List LineStart → Option LineStart
-latest pc found [] = found
-latest pc found (start ∷ starts) = latest pc (later pc found start) starts
+abbrev pub latest_start : ℕ → Option LineStart → List LineStart → Option LineStart
+latest_start pc found [] = found
+latest_start pc found (start ∷ starts) = latest_start pc (later pc found start) starts
 
 -- and the one among all attributes of the code
 abbrev pub latest_among : List Constant → ℕ → Option LineStart → List Attr → Option LineStart
 latest_among pool pc found [] = found
-latest_among pool pc found (attr ∷ attrs) = latest_among pool pc (latest pc found (starts_of pool attr)) attrs
+latest_among pool pc found (attr ∷ attrs) = latest_among pool pc (latest_start pc found (starts_of pool attr)) attrs
 
 -- the first two bytes of a body as an index
 abbrev pub first_index : List ℕ → Option ℕ
-first_index (high ∷ low ∷ rest) = Some (number_of high low)
+first_index (high ∷ low ∷ rest) = Some (number_of_bytes high low)
 first_index body = None
 
 abbrev pub name_at : List Constant → Option ℕ → Option (List ℕ)

@@ -3,7 +3,7 @@
 ghost use Rattle.std.specs.Prelude.{◌≡◌, ◌++◌, IfErr, IfOk, OnOk};
 ghost use Rattle.std.specs.Option.{option_copied};
 ghost use Rattle.jvm_types.specs.ClassGrammar.{Spells};
-ghost use Rattle.refusal_places.specs.Explained.{Explains, IsClassOf, found_facts, offset_facts, refusal_facts};
+ghost use Rattle.refusal_places.specs.Explained.{Explains, IsClassSpelled, found_facts, offset_facts, refusal_facts};
 
 use crate::facts::{Fact, Form, Key};
 use crate::naming::{count, say, tell_class};
@@ -16,7 +16,7 @@ use std::alloc::{AllocError, Global};
 
 // The class that the bytes spell; None: they spell none.
 fn class_in(alloc: Global, bytes: &Bytes) -> Result<Option<ClassFile>, AllocError>
-    ensures { IfOk result (IsClassOf (Some bytes.now)) }
+    ensures { IfOk result (IsClassSpelled (Some bytes.now)) }
 {
     match read_class(alloc, bytes) {
         Ok(class) => Ok(Some(class)),
@@ -26,7 +26,7 @@ fn class_in(alloc: Global, bytes: &Bytes) -> Result<Option<ClassFile>, AllocErro
 }
 
 fn class_of(alloc: Global, content: Option<&Bytes>) -> Result<Option<ClassFile>, AllocError>
-    ensures { IfOk result (IsClassOf (option_copied content.entry)) }
+    ensures { IfOk result (IsClassSpelled (option_copied content.entry)) }
 {
     match content {
         Some(bytes) => class_in(alloc, bytes),

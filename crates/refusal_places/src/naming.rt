@@ -6,7 +6,7 @@ ghost use Rattle.std.specs.List.{flat_map};
 ghost use Rattle.std.specs.Option.{option_copied};
 ghost use Rattle.jvm_types.specs.ClassNames.{text_at as the_text_at};
 ghost use Rattle.jvm_types.specs.Linked.{code_of as the_code_of};
-ghost use Rattle.refusal_places.specs.Naming.{at_field, at_instruction, at_method, at_row, at_use, begun_fact, begun_facts, catch_facts, class_facts, constant_facts, constant_words as the_constant_words, entry_at as the_entry_at, field_fact, first_byte as the_first_byte, has_index as has_the_index, index_in as the_index_in, instruction_facts, line_facts, member_words, method_fact, pair_words, pc_facts, row_facts, source_facts, spot_facts, words_or_opcode};
+ghost use Rattle.refusal_places.specs.Naming.{at_field, at_instruction, at_method, at_row, at_use, begun_fact, begun_facts, catch_facts, class_facts, constant_facts, constant_words as the_constant_words, pool_entry_at as the_entry_at, field_fact, first_byte as the_first_byte, has_index as has_the_index, index_in as the_index_in, instruction_facts, line_facts, member_words, method_fact, pair_words, pc_facts, row_facts, source_facts, spot_facts, words_or_opcode};
 ghost use Rattle.refusal_places.specs.declared.facts.Fact.TheVariants.{Said, Counted as CountedFact};
 
 use crate::facts::{Fact, Key};

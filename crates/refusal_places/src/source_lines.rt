@@ -2,7 +2,7 @@
 
 ghost use Rattle.std.specs.Prelude.{◌≡◌, drop, None, option_map};
 ghost use Rattle.std.specs.Option.{option_copied};
-ghost use Rattle.refusal_places.specs.SourceLines.{first_index as the_first_index, is_named as has_name, later as the_later, latest, latest_among, name_at as the_name_at, source_name as the_source_name, start_of, starts_in, starts_of};
+ghost use Rattle.refusal_places.specs.SourceLines.{first_index as the_first_index, is_named as has_name, later as the_later, latest_start, latest_among, name_at as the_name_at, source_name as the_source_name, start_of, starts_in, starts_of};
 
 use constant_pools::pool_texts::text_at;
 use jvm_types::{Attr, Constant, Rows};
@@ -42,7 +42,7 @@ fn start_at(a: u8, b: u8, c: u8, d: u8) -> LineStart
 }
 
 fn latest_in(pc: u32, before: Option<LineStart>, starts: &[u8]) -> Option<LineStart>
-    ensures { result ≡ latest pc before (starts_in starts.now) }
+    ensures { result ≡ latest_start pc before (starts_in starts.now) }
 {
     let mut found = before;
     let mut rest = starts;
@@ -69,7 +69,7 @@ fn latest_of(
     before: Option<LineStart>,
     attr: &Attr,
 ) -> Option<LineStart>
-    ensures { result ≡ latest pc before (starts_of pool.now attr.now) }
+    ensures { result ≡ latest_start pc before (starts_of pool.now attr.now) }
 {
     if is_named(pool, b"LineNumberTable", attr) {
         latest_in(pc, before, behind_count(attr.body.as_slice()))

@@ -3,7 +3,7 @@
 ghost use Rattle.std.specs.Prelude.{◌≡◌, ◌++◌, codes, IfOk, OnOk};
 ghost use Rattle.std.specs.List.{flat_map};
 ghost use Rattle.json_lines.specs.Json.{text_member};
-ghost use Rattle.refusal_places.specs.Facts.{counted_member, fact_line, fact_member, head_text, lines_text, method_member, object_text, place_members, told_text};
+ghost use Rattle.refusal_places.specs.Facts.{counted_member, fact_line, fact_member, head_text, lines_text, method_member, refusal_object, place_members, told_text};
 
 use crate::facts::{Fact, Form};
 use json_lines::{write_json_number, write_number_member, write_text_member};
@@ -130,7 +130,7 @@ fn lines(alloc: Global, rule: Rule, place: Place, facts: &[Fact]) -> Result<Byte
 }
 
 fn object(alloc: Global, rule: Rule, place: Place, facts: &[Fact]) -> Result<Bytes, AllocError>
-    ensures { IfOk result (λ text. text ≡ object_text rule place facts.now) }
+    ensures { IfOk result (λ text. text ≡ refusal_object rule place facts.now) }
 {
     let mut out = Vec::new(alloc);
     write_head(&mut out, alloc, rule)?;

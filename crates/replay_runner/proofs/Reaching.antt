@@ -10,24 +10,24 @@ use Rattle.replay_runner.specs.Running.{Running, run_on}
 use Rattle.machine_types.specs.declared.config.Config.{Config}
 use Rattle.run_parts.specs.Ended.{IsEndOfRun}
 use Rattle.laws_states.specs.GrowingRuns.{OneMoreHappens}
-use Rattle.replay_runner.specs.Locked.{IsEndOf, IsMachineOf, IsOfProgram, IsReached, Named}
+use Rattle.replay_runner.specs.Locked.{IsEndOf, IsMachineOf, IsOfProgram, IsMachineReached, Named}
 
 pub same_program : (run : Option Named) (c : MarkedProgram) (m : Running) → IsOfProgram run c → IsMachineOf run m → c ≡ m.program
 same_program run c m of k = ap (λ (n : Named). n.program) (same_some (sym of.1 ∙ k.named))
 
 -- ---- what happens
 
-start_reached : (m : Running) → m.core ≡ start m.program m.cfg → IsReached m
+start_reached : (m : Running) → m.core ≡ start m.program m.cfg → IsMachineReached m
 unfolding core
 start_reached m e = ([], e)
 
-event_reached : OneMoreHappens → (m : Running) (t : ℕ) → IsReached m → IsReached (record m { core = event m.program m.core t })
+event_reached : OneMoreHappens → (m : Running) (t : ℕ) → IsMachineReached m → IsMachineReached (record m { core = event m.program m.core t })
 event_reached more m t h = (h.0 ++ Of t ∷ [], ap (λ (s : Core). event m.program s t) h.1 ∙ sym (more m.program m.cfg h.0 (Of t)))
 
-next_reached : OneMoreHappens → (m : Running) → IsReached m → IsReached (record m { core = next m.program m.core })
+next_reached : OneMoreHappens → (m : Running) → IsMachineReached m → IsMachineReached (record m { core = next m.program m.core })
 next_reached more m h = (h.0 ++ NextPart ∷ [], ap (λ (s : Core). next m.program s) h.1 ∙ sym (more m.program m.cfg h.0 NextPart))
 
-events_reached : OneMoreHappens → (m : Running) (t n : ℕ) → IsReached m → IsReached (run_on m t n)
+events_reached : OneMoreHappens → (m : Running) (t n : ℕ) → IsMachineReached m → IsMachineReached (run_on m t n)
 events_reached more m t zero h = h
 events_reached more m t (suc n) h = event_reached more (run_on m t n) t (events_reached more m t n h)
 

@@ -10,7 +10,7 @@ use Rattle.machine_types.specs.declared.phase.Phase.{Phase}
 use Rattle.machine_types.specs.declared.phase.Phase.TheVariants as phases
 use Rattle.laws_states.specs.RunLaws.{EventsKeepFacts, EventsKeepThreads, ReachedFits}
 use Rattle.laws_states.specs.WorkLeft.{EventsLessenWork, work_left}
-use Rattle.step_core.specs.Alone.{Alone, IsFine, alone, stepped_by}
+use Rattle.step_core.specs.Alone.{ThreadWithWords, IsFine, alone, stepped_by}
 use Rattle.replay_runner.specs.Running.{Running, IsThreadOf, events, run_on}
 use Rattle.replay_runner.proofs.ManyEvents.{is_lawful, reached, stays_thread}
 
@@ -40,7 +40,7 @@ pub ahead : (m : Running) (p : MarkedProgram) (t k : ℕ) (s y : Thread) (words 
     → IsThreadOf m p t s words → EventsKeepThreads → EventsKeepFacts
     → stepped_by p k (alone s words) ≡ alone y after → IsThreadOf (run_on m t k) p t y after
 ahead m p t k s y words after h threads facts is =
-    subst (λ (a : Alone). IsThreadOf (run_on m t k) p t a.thread a.words) is
+    subst (λ (a : ThreadWithWords). IsThreadOf (run_on m t k) p t a.thread a.words) is
     (stays_by m p t s words h threads facts k)
 
 events_again : (c : MarkedProgram) (s : Core) (t n k : ℕ)
@@ -65,12 +65,12 @@ stays_dead c x (phases.Ended how) got e = refl
 stays_dead c x phase got e = cc
 
 -- the first event of a live thread leaves less, and those behind it no more
-falls_by : EventsLessenWork → (p : MarkedProgram) → IsMarked p → (k : ℕ) (a : Alone) → ((n : ℕ) → IsFine p (stepped_by p n a)) → is_live a.thread.phase ≡ true
+falls_by : EventsLessenWork → (p : MarkedProgram) → IsMarked p → (k : ℕ) (a : ThreadWithWords) → ((n : ℕ) → IsFine p (stepped_by p n a)) → is_live a.thread.phase ≡ true
     → work_left (stepped_by p (suc k) a).thread < work_left a.thread
 falls_by lessen p marked zero a fine live = lessen p a.thread (found_by a.words (wanted p a.thread a.thread.phase)) marked (fine 0).lawful live
 falls_by lessen p marked (suc k) a fine live = by_live (is_live b.thread.phase) refl (falls_by lessen p marked k a fine live)
   where
-    b : Alone
+    b : ThreadWithWords
     b = stepped_by p (suc k) a
 
     got : ℕ

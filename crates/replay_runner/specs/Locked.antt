@@ -17,13 +17,13 @@ abbrev pub IsOfProgram : Option Named → MarkedProgram → Type 0
 IsOfProgram run c = (cfg : Config) × (run ≡ Some (record { program = c; cfg = cfg }))
 
 -- some list of happenings leads from the start to its state
-abbrev pub IsReached : Running → Type 0
-IsReached m = (hs : List Happening) × (m.core ≡ core m.program m.cfg hs)
+abbrev pub IsMachineReached : Running → Type 0
+IsMachineReached m = (hs : List Happening) × (m.core ≡ core m.program m.cfg hs)
 
 -- the machine of the run, in a state that the run reaches
 pub record IsMachineOf (run : Option Named) (m : Running) : Type 0 where
   pub named : run ≡ Some (record { program = m.program; cfg = m.cfg })
-  pub reached : IsReached m
+  pub reached : IsMachineReached m
 
 -- what the run comes to
 abbrev pub IsEndOf : (run : Option Named) → Outcome → Type 0

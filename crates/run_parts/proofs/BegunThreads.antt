@@ -5,7 +5,7 @@ use Rattle.jvm_types.specs.declared.program.Program.{Program}
 use Rattle.machine_types.specs.Core.{how_ended, may_begin, next_threads, part_begins, with_roots}
 use Rattle.machine_types.specs.Parts.{done_roots, run_roots}
 use Rattle.machine_types.specs.Threads.{Thread}
-use Rattle.run_parts.specs.Parts.{AreNumbered, SharesAreNext, begun, own_begun}
+use Rattle.run_parts.specs.Parts.{AreNumbered, SharesAreNext, shares_begun, own_begun}
 
 worker_begins : (p : Program) (w : Thread) (n : ℕ) → w.number ≡ suc n → w.program.program ≡ p → own_begun w ≡ with_roots (run_roots p) w
 worker_begins p w n e h = rw (e, h) refl
@@ -24,7 +24,7 @@ first_begins x e h = rw (e, h) refl
 done_begins_own : (p : Program) (x : Thread) (n : ℕ) → x.number ≡ 0 → x.part ≡ suc n → x.program.program ≡ p → own_begun x ≡ with_roots (done_roots p) (record x { part = 2 })
 done_begins_own p x n e h k = rw (e, h, k) refl
 
-by_part : (p : Program) (x : Thread) (workers : List Thread) (n : ℕ) → AreNumbered p (x ∷ workers) → x.part ≡ n → begun n x workers ≡ part_begins p n x workers
+by_part : (p : Program) (x : Thread) (workers : List Thread) (n : ℕ) → AreNumbered p (x ∷ workers) → x.part ≡ n → shares_begun n x workers ≡ part_begins p n x workers
 by_part p x workers zero each part =
     ap (λ y. y ∷ map own_begun workers) (first_begins x (each 0 x refl).0 part)
     ∙ ap (λ ys. record x { part = 1; first = how_ended x.phase } ∷ ys) (workers_begin_each p workers 0 (λ i w e. let k = each (suc i) w e in (k.0 ∙ omega arith, k.1)))

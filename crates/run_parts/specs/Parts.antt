@@ -16,13 +16,13 @@ abbrev pub own_begun : Thread → Thread
 own_begun x = part_begun x.program.program x
 
 -- where the workers begin every thread has a share, where `done` does thread 0 alone
-abbrev pub begun : (part : ℕ) → Thread → (workers : List Thread) → List Thread
-begun zero x workers = map own_begun (x ∷ workers)
-begun (suc part) x workers = own_begun x ∷ workers
+abbrev pub shares_begun : (part : ℕ) → Thread → (workers : List Thread) → List Thread
+shares_begun zero x workers = map own_begun (x ∷ workers)
+shares_begun (suc part) x workers = own_begun x ∷ workers
 
 -- the threads of a program, by their numbers
 abbrev pub AreNumbered : Program → List Thread → Type 0
 AreNumbered p threads = (t : ℕ) (x : Thread) → slice_get threads t ≡ Some x → (x.number ≡ t) × (x.program.program ≡ p)
 
 abbrev pub SharesAreNext : Type 0
-SharesAreNext = (p : Program) (x : Thread) (workers : List Thread) → AreNumbered p (x ∷ workers) → may_begin (x ∷ workers) ≡ true → begun x.part x workers ≡ next_threads p (x ∷ workers)
+SharesAreNext = (p : Program) (x : Thread) (workers : List Thread) → AreNumbered p (x ∷ workers) → may_begin (x ∷ workers) ≡ true → shares_begun x.part x workers ≡ next_threads p (x ∷ workers)

@@ -34,23 +34,23 @@ print_lines threads = flat_map print_line (by_ticket (flat_map (λ t. t.prints) 
 
 -- ---- the ends
 
-abbrev pub class_name : Thrown → List ℕ
-class_name Throwable = codes "java/lang/Throwable"
-class_name Exception = codes "java/lang/Exception"
-class_name Error = codes "java/lang/Error"
-class_name RuntimeException = codes "java/lang/RuntimeException"
-class_name InterruptedException = codes "java/lang/InterruptedException"
-class_name ArithmeticException = codes "java/lang/ArithmeticException"
-class_name NullPointerException = codes "java/lang/NullPointerException"
-class_name ArrayIndexOutOfBoundsException = codes "java/lang/ArrayIndexOutOfBoundsException"
-class_name NegativeArraySizeException = codes "java/lang/NegativeArraySizeException"
-class_name IllegalMonitorStateException = codes "java/lang/IllegalMonitorStateException"
-class_name OutOfMemoryError = codes "java/lang/OutOfMemoryError"
-class_name StackOverflowError = codes "java/lang/StackOverflowError"
+abbrev pub thrown_name : Thrown → List ℕ
+thrown_name Throwable = codes "java/lang/Throwable"
+thrown_name Exception = codes "java/lang/Exception"
+thrown_name Error = codes "java/lang/Error"
+thrown_name RuntimeException = codes "java/lang/RuntimeException"
+thrown_name InterruptedException = codes "java/lang/InterruptedException"
+thrown_name ArithmeticException = codes "java/lang/ArithmeticException"
+thrown_name NullPointerException = codes "java/lang/NullPointerException"
+thrown_name ArrayIndexOutOfBoundsException = codes "java/lang/ArrayIndexOutOfBoundsException"
+thrown_name NegativeArraySizeException = codes "java/lang/NegativeArraySizeException"
+thrown_name IllegalMonitorStateException = codes "java/lang/IllegalMonitorStateException"
+thrown_name OutOfMemoryError = codes "java/lang/OutOfMemoryError"
+thrown_name StackOverflowError = codes "java/lang/StackOverflowError"
 
 abbrev pub end_text : End → List ℕ
 end_text Returned = codes "returned"
-end_text (Uncaught x) = codes "uncaught " ++ class_name x
+end_text (Uncaught x) = codes "uncaught " ++ thrown_name x
 end_text Steps = codes "steps"
 end_text Turns = codes "turns"
 end_text Records = codes "records"

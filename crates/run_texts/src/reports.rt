@@ -2,7 +2,7 @@
 
 ghost use Rattle.std.specs.Prelude.{◌≡◌, ◌<◌, ◌+◌, ◌++◌, IfOk, OnOk, length, string_bytes};
 ghost use Rattle.std.specs.List.{flat_map};
-ghost use Rattle.run_texts.specs.Report.{report_text, by_ticket, print_lines, class_name, thread_ends, end_lines, counts_line, counts_lines};
+ghost use Rattle.run_texts.specs.Report.{report_text, by_ticket, print_lines, thrown_name, thread_ends, end_lines, counts_line, counts_lines};
 
 use jvm_types::{Bytes, Counts, End, Outcome, Print, ThreadReport, Thrown};
 use std::alloc::{AllocError, Global};
@@ -137,7 +137,7 @@ impl fmt::Display for EndText {
 
 /// The name of a built-in throwable.
 pub fn name_of(thrown: Thrown) -> &'static str
-    ensures { result.now ≡ class_name thrown }
+    ensures { result.now ≡ thrown_name thrown }
 {
     match thrown {
         Thrown::Throwable => "java/lang/Throwable",

@@ -5,7 +5,7 @@ use Rattle.std.specs.Option.{option_map}
 use Rattle.checked_program.specs.MarkedProgram.{MarkedProgram}
 use Rattle.machine_types.specs.Core.{Happening}
 use Rattle.machine_types.specs.History.{Told, all_told, told}
-use Rattle.run_trace.specs.EventLines.{ends_from, event_end, lines_from, next_number, seen_in, told_line}
+use Rattle.run_trace.specs.EventLines.{ends_from, event_end, lines_from, next_line_number, seen_of_event, told_line}
 use Rattle.run_trace.specs.declared.events.Part.{Part}
 use Rattle.run_trace.specs.Traces.{number_after}
 
@@ -16,22 +16,22 @@ told_on c w (g ∷ gs) h = told_on c (told c w g) gs h
 
 -- its lines, and the number behind them
 pub lines_on : (c : MarkedProgram) (names : List (List ℕ)) (part : Part) (n : ℕ) (w : Told) (hs : List Happening) (h : Happening)
-    → lines_from c names part n w (hs ++ h ∷ []) ≡ lines_from c names part n w hs ++ told_line c names part (number_after n hs) (all_told c w hs).core (seen_in c (all_told c w hs) h) h
-lines_on c names part n w [] h = append-nil (told_line c names part n w.core (seen_in c w h) h)
+    → lines_from c names part n w (hs ++ h ∷ []) ≡ lines_from c names part n w hs ++ told_line c names part (number_after n hs) (all_told c w hs).core (seen_of_event c (all_told c w hs) h) h
+lines_on c names part n w [] h = append-nil (told_line c names part n w.core (seen_of_event c w h) h)
 lines_on c names part n w (g ∷ gs) h =
-    ap (λ (text : List ℕ). told_line c names part n w.core (seen_in c w g) g ++ text) (lines_on c names part (next_number n) (told c w g) gs h)
-    ∙ sym (append_assoc (told_line c names part n w.core (seen_in c w g) g) (lines_from c names part (next_number n) (told c w g) gs) (told_line c names part (number_after (next_number n) gs) (all_told c (told c w g) gs).core (seen_in c (all_told c (told c w g) gs) h) h))
+    ap (λ (text : List ℕ). told_line c names part n w.core (seen_of_event c w g) g ++ text) (lines_on c names part (next_line_number n) (told c w g) gs h)
+    ∙ sym (append_assoc (told_line c names part n w.core (seen_of_event c w g) g) (lines_from c names part (next_line_number n) (told c w g) gs) (told_line c names part (number_after (next_line_number n) gs) (all_told c (told c w g) gs).core (seen_of_event c (all_told c (told c w g) gs) h) h))
 
 pub ends_on : (c : MarkedProgram) (n : ℕ) (w : Told) (hs : List Happening) (h : Happening)
-    → ends_from c n w (hs ++ h ∷ []) ≡ ends_from c n w hs ++ event_end c (number_after n hs) (all_told c w hs).core (seen_in c (all_told c w hs) h) h
-ends_on c n w [] h = append-nil (event_end c n w.core (seen_in c w h) h)
+    → ends_from c n w (hs ++ h ∷ []) ≡ ends_from c n w hs ++ event_end c (number_after n hs) (all_told c w hs).core (seen_of_event c (all_told c w hs) h) h
+ends_on c n w [] h = append-nil (event_end c n w.core (seen_of_event c w h) h)
 ends_on c n w (g ∷ gs) h =
-    ap (λ (text : List ℕ). event_end c n w.core (seen_in c w g) g ++ text) (ends_on c (next_number n) (told c w g) gs h)
-    ∙ sym (append_assoc (event_end c n w.core (seen_in c w g) g) (ends_from c (next_number n) (told c w g) gs) (event_end c (number_after (next_number n) gs) (all_told c (told c w g) gs).core (seen_in c (all_told c (told c w g) gs) h) h))
+    ap (λ (text : List ℕ). event_end c n w.core (seen_of_event c w g) g ++ text) (ends_on c (next_line_number n) (told c w g) gs h)
+    ∙ sym (append_assoc (event_end c n w.core (seen_of_event c w g) g) (ends_from c (next_line_number n) (told c w g) gs) (event_end c (number_after (next_line_number n) gs) (all_told c (told c w g) gs).core (seen_of_event c (all_told c (told c w g) gs) h) h))
 
-pub number_on : (n : ℕ) (hs : List Happening) (h : Happening) → number_after n (hs ++ h ∷ []) ≡ next_number (number_after n hs)
+pub number_on : (n : ℕ) (hs : List Happening) (h : Happening) → number_after n (hs ++ h ∷ []) ≡ next_line_number (number_after n hs)
 number_on n [] h = refl
-number_on n (g ∷ gs) h = number_on (next_number n) gs h
+number_on n (g ∷ gs) h = number_on (next_line_number n) gs h
 
 -- what a sink tells behind two texts
 pub told_both : (first mid now : Option (List ℕ)) (a b : List ℕ) → mid ≡ option_map (λ t. t ++ a) first → now ≡ option_map (λ t. t ++ b) mid → now ≡ option_map (λ t. t ++ (a ++ b)) first

@@ -6,22 +6,22 @@ use Rattle.std.specs.Prelude.{replicate, slice_get, slice_set}
 use Rattle.std.specs.Option.{option_map}
 use Rattle.checked_program.specs.MarkedProgram.{MarkedProgram}
 use Rattle.machine_types.specs.Core.{Happening, Of, NextPart}
-use Rattle.machine_types.specs.History.{Fate, GoesOn, Fails, Finishes, Past, Told, acts_of, fate, found_at, no_past, past_after, past_at, past_by, pasts_after, shown_by, told}
+use Rattle.machine_types.specs.History.{Fate, GoesOn, Fails, Finishes, Past, Told, acts_of, fate, found_by_event, no_past, past_after, past_at, past_by, pasts_after, shown_by, told}
 use Rattle.machine_types.specs.Threads.{Attempt, Thread}
 use Rattle.machine_types.specs.declared.phase.Phase.{Phase}
 use Rattle.machine_types.specs.declared.plain.Act.{Act}
 use Rattle.event_texts.specs.declared.shares.Share.{Share}
 use Rattle.event_texts.specs.declared.shares.Share.TheVariants.{Owes}
-use Rattle.event_texts.specs.Shares.{counted, inside_share, owed, owed_behind, share_at, share_by, share_in}
-use Rattle.run_trace.specs.EventLines.{seen_in, seen_with}
+use Rattle.event_texts.specs.Shares.{bounded_count, inside_share, owed, owed_behind, share_at, share_by, share_in}
+use Rattle.run_trace.specs.EventLines.{seen_of_event, seen_with}
 use Rattle.run_trace.specs.Owing.{owed_after, owed_at, seen_by}
 
 -- ---- one event
 
-more_owed : (due acts : List Act) → counted (length (due ++ acts)) ≡ counted (counted (length due) + length acts)
-more_owed due acts = ap counted (length-append due acts) ∙ counted_sum (length due) (length acts)
+more_owed : (due acts : List Act) → bounded_count (length (due ++ acts)) ≡ bounded_count (bounded_count (length due) + length acts)
+more_owed due acts = ap bounded_count (length-append due acts) ∙ counted_sum (length due) (length acts)
   where
-    counted_sum : (m n : ℕ) → counted (m + n) ≡ counted (counted m + n)
+    counted_sum : (m n : ℕ) → bounded_count (m + n) ≡ bounded_count (bounded_count m + n)
     counted_sum m n = grind arith
 
 share_of_fate : (d : Past) (phase : Phase) (acts : List Act) (f : Fate) → inside_share (shown_by f d) (owed d) (owed (past_by d phase acts f)) ≡ share_in acts f (owed d)
@@ -53,20 +53,20 @@ module _ (c : MarkedProgram) (w : Told) where
   owed_past : (t : ℕ) → owed_at (map owed w.pasts) t ≡ owed (past_at w t)
   owed_past t = get_or-map owed w.pasts t no_past
 
-  pub same_seen : (h : Happening) → seen_in c w h ≡ seen_by c w.core (map owed w.pasts) h
+  pub same_seen : (h : Happening) → seen_of_event c w h ≡ seen_by c w.core (map owed w.pasts) h
   same_seen NextPart = refl
   same_seen (Of t) = by_thread (slice_get w.core.threads t)
     where
-      by_thread : (o : Option Thread) → option_map (λ x. seen_with c w.core.words x (share_at c x x.attempt (found_at c w x) (past_at w t))) o ≡ option_map (λ x. seen_with c w.core.words x (share_by c x x.attempt (found_at c w x) (owed_at (map owed w.pasts) t))) o
+      by_thread : (o : Option Thread) → option_map (λ x. seen_with c w.core.words x (share_at c x x.attempt (found_by_event c w x) (past_at w t))) o ≡ option_map (λ x. seen_with c w.core.words x (share_by c x x.attempt (found_by_event c w x) (owed_at (map owed w.pasts) t))) o
       by_thread None = refl
-      by_thread (Some x) = ap (λ (share : Share). Some (seen_with c w.core.words x share)) (same_share c x (found_at c w x) (past_at w t) x.attempt ∙ ap (share_by c x x.attempt (found_at c w x)) (sym (owed_past t)))
+      by_thread (Some x) = ap (λ (share : Share). Some (seen_with c w.core.words x share)) (same_share c x (found_by_event c w x) (past_at w t) x.attempt ∙ ap (share_by c x x.attempt (found_by_event c w x)) (sym (owed_past t)))
 
   pub owed_on : (h : Happening) → map owed (told c w h).pasts ≡ owed_after (map owed w.pasts) h (seen_by c w.core (map owed w.pasts) h)
   owed_on NextPart = refl
   owed_on (Of t) = by_thread (slice_get w.core.threads t)
     where
-      by_thread : (o : Option Thread) → map owed (pasts_after c w t o) ≡ owed_after (map owed w.pasts) (Of t) (option_map (λ x. seen_with c w.core.words x (share_by c x x.attempt (found_at c w x) (owed_at (map owed w.pasts) t))) o)
+      by_thread : (o : Option Thread) → map owed (pasts_after c w t o) ≡ owed_after (map owed w.pasts) (Of t) (option_map (λ x. seen_with c w.core.words x (share_by c x x.attempt (found_by_event c w x) (owed_at (map owed w.pasts) t))) o)
       by_thread None = refl
       by_thread (Some x) =
-          map-set owed w.pasts t (past_after c x x.attempt (found_at c w x) (past_at w t))
-          ∙ ap (slice_set (map owed w.pasts) t) (same_owed c x (found_at c w x) (past_at w t) x.attempt ∙ ap (λ (n : ℕ). owed_behind (share_by c x x.attempt (found_at c w x) n) n) (sym (owed_past t)))
+          map-set owed w.pasts t (past_after c x x.attempt (found_by_event c w x) (past_at w t))
+          ∙ ap (slice_set (map owed w.pasts) t) (same_owed c x (found_by_event c w x) (past_at w t) x.attempt ∙ ap (λ (n : ℕ). owed_behind (share_by c x x.attempt (found_by_event c w x) n) n) (sym (owed_past t)))

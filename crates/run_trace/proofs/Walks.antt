@@ -9,15 +9,15 @@ use Rattle.machine_types.specs.History as history
 use Rattle.machine_types.specs.History.{Told, all_told, told_start}
 use Rattle.machine_types.specs.Schedules.{Stage, First, Turn, turn_at}
 use Rattle.machine_types.specs.declared.config.Config.{Config}
-use Rattle.replay_runner.specs.Replays.{Leads}
+use Rattle.replay_runner.specs.Replays.{IsLedByTurns}
 use Rattle.replay_runner.specs.Running.{Running}
 use Rattle.replay_runner.proofs.Turns.{led_on, schedule_of}
 use Rattle.run_texts.specs.Report.{report_text}
 use Rattle.event_texts.specs.Shares as shares
-use Rattle.run_trace.specs.EventLines.{ends_from, event_end, lines_from, next_number, seen_in, told_line}
+use Rattle.run_trace.specs.EventLines.{ends_from, event_end, lines_from, next_line_number, seen_of_event, told_line}
 use Rattle.run_trace.specs.Owing.{owed_after, seen_by}
 use Rattle.run_trace.specs.declared.events.Part.{Part}
-use Rattle.run_trace.specs.Traces.{Happened, IsStarted, IsWholeTrace, Walked, WalksOn, number_after}
+use Rattle.run_trace.specs.Traces.{Happened, IsStarted, IsWholeTrace, TraceWalked, WalksOn, number_after}
 use Rattle.run_trace.specs.declared.traces.Tracing.{Tracing}
 use Rattle.run_trace.proofs.LongerRuns.{ends_on, lines_on, number_on, told_both, told_on}
 use Rattle.run_trace.proofs.Owings.{nothing_owed, owed_on, same_seen}
@@ -29,22 +29,22 @@ turn_to h stage = Some (record { happening = h; stage = stage })
 
 module _ (c : MarkedProgram) (cfg : Config) (order : List ℕ) (names : List (List ℕ)) (part : Part) (first : Option (List ℕ)) where
   turned : (m n : Tracing) (h : Happening) (stage : Stage) (told now : Option (List ℕ)) (before after : ℕ) → Happened c names part h m n told now before after
-      → Walked c cfg order names part first m (turn_to h stage) told → Walked c cfg order names part first n (turn_at stage n.machine.core) now
+      → TraceWalked c cfg order names part first m (turn_to h stage) told → TraceWalked c cfg order names part first n (turn_at stage n.machine.core) now
   turned m n h stage told now before after did w =
       let hs = w.happenings in
       let u : Told = all_told c (told_start c cfg) hs in
       let core_is : happened c m.machine.core h ≡ n.machine.core = ap (λ (d : MarkedProgram). happened d m.machine.core h) (sym w.program) ∙ sym (ap (λ (r : Running). r.core) did.machine) in
-      let seen_is : seen_by c m.machine.core m.owed h ≡ seen_in c u h = (λ i. seen_by c (sym w.core i) (w.owed i) h) ∙ sym (same_seen c u h) in
-      let own : told_line c names part m.number m.machine.core (seen_by c m.machine.core m.owed h) h ≡ told_line c names part (number_after 1 hs) u.core (seen_in c u h) h = λ i. told_line c names part (w.number i) (sym w.core i) (seen_is i) h in
+      let seen_is : seen_by c m.machine.core m.owed h ≡ seen_of_event c u h = (λ i. seen_by c (sym w.core i) (w.owed i) h) ∙ sym (same_seen c u h) in
+      let own : told_line c names part m.number m.machine.core (seen_by c m.machine.core m.owed h) h ≡ told_line c names part (number_after 1 hs) u.core (seen_of_event c u h) h = λ i. told_line c names part (w.number i) (sym w.core i) (seen_is i) h in
       let owes : n.owed ≡ map shares.owed (history.told c u h).pasts = did.owed ∙ (λ i. owed_after (w.owed i) h (seen_by c (sym w.core i) (w.owed i) h)) ∙ sym (owed_on c u h) in
       record {
         program = ap (λ (r : Running). r.program) did.machine ∙ w.program;
         settings = ap (λ (r : Running). r.cfg) did.machine ∙ w.settings;
         happenings = hs ++ h ∷ [];
         stage = stage;
-        leads = subst (λ (s : Core). Leads c (First order) (start c cfg) (hs ++ h ∷ []) stage s) core_is (led_on c (First order) (start c cfg) hs w.stage m.machine.core h stage w.leads w.turn);
+        leads = subst (λ (s : Core). IsLedByTurns c (First order) (start c cfg) (hs ++ h ∷ []) stage s) core_is (led_on c (First order) (start c cfg) hs w.stage m.machine.core h stage w.leads w.turn);
         turn = refl;
-        number = did.number ∙ ap next_number w.number ∙ sym (number_on 1 hs h);
+        number = did.number ∙ ap next_line_number w.number ∙ sym (number_on 1 hs h);
         core = ap (λ (v : Told). v.core) (told_on c (told_start c cfg) hs h) ∙ ap (λ (s : Core). happened c s h) w.core ∙ core_is;
         owed = owes ∙ sym (ap (λ (v : Told). map shares.owed v.pasts) (told_on c (told_start c cfg) hs h));
         ends = did.ends ∙ (λ i. w.ends i ++ event_end c (w.number i) (sym w.core i) (seen_is i) h) ∙ sym (ends_on c 1 (told_start c cfg) hs h);
@@ -65,7 +65,7 @@ module _ (c : MarkedProgram) (order : List ℕ) (names : List (List ℕ)) (part 
       → WalksOn c order names part m turn told before r next now after
   walks_by m n r turn at next h stage told mid now before between after on is did e = record {
     program = ap (λ (x : Running). x.program) did.machine ∙ on.program;
-    walked = λ cfg first w. subst (λ (o : Option Turn). Walked c cfg order names part first r o now) (sym e) (turned c cfg order names part first n r h stage mid now between after did (subst (λ (o : Option Turn). Walked c cfg order names part first n o mid) is (on.walked cfg first w)));
+    walked = λ cfg first w. subst (λ (o : Option Turn). TraceWalked c cfg order names part first r o now) (sym e) (turned c cfg order names part first n r h stage mid now between after did (subst (λ (o : Option Turn). TraceWalked c cfg order names part first n o mid) is (on.walked cfg first w)));
     calm = did.calm ∙ on.calm;
   }
 
@@ -77,7 +77,7 @@ module _ (c : MarkedProgram) (order : List ℕ) (names : List (List ℕ)) (part 
 -- ---- the whole run
 
 pub walked_at_start : (c : MarkedProgram) (cfg : Config) (order : List ℕ) (names : List (List ℕ)) (part : Part) (told : Option (List ℕ)) (m : Tracing) → IsStarted c cfg m
-    → Walked c cfg order names part told m (turn_at (First order) m.machine.core) told
+    → TraceWalked c cfg order names part told m (turn_at (First order) m.machine.core) told
 walked_at_start c cfg order names part told m begun = record {
   program = ap (λ (r : Running). r.program) begun.machine;
   settings = ap (λ (r : Running). r.cfg) begun.machine;

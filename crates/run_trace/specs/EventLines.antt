@@ -6,13 +6,13 @@ use Rattle.checked_program.specs.MarkedProgram.{MarkedProgram}
 use Rattle.machine_types.specs.Accesses.{found_by}
 use Rattle.machine_types.specs.Core.{Core, Happening, Of, NextPart, core, event, outcome}
 use Rattle.machine_types.specs.Events.{wanted}
-use Rattle.machine_types.specs.History.{Told, found_at, past_at, told, told_start}
+use Rattle.machine_types.specs.History.{Told, found_by_event, past_at, told, told_start}
 use Rattle.machine_types.specs.Threads.{Thread}
 use Rattle.machine_types.specs.declared.config.Config.{Config}
-use Rattle.event_texts.specs.EndLines.{end_line}
-use Rattle.event_texts.specs.Lines.{line_text}
+use Rattle.event_texts.specs.EndLines.{event_end_line}
+use Rattle.event_texts.specs.Lines.{event_line_text}
 use Rattle.event_texts.specs.Shares.{share_at}
-use Rattle.event_texts.specs.Sights.{after_of, before_of}
+use Rattle.event_texts.specs.Sights.{after_event, before_of}
 use Rattle.event_texts.specs.declared.shares.Share.{Share}
 use Rattle.event_texts.specs.declared.sights.Before.{Before}
 use Rattle.run_texts.specs.Report.{line, report_text}
@@ -29,18 +29,18 @@ abbrev pub seen_with : MarkedProgram → (words : List ℕ) → Thread → Share
 seen_with c words x share = record { before = seen_before c words x; share = share }
 
 -- with what the shadow of the run has for its event
-abbrev pub seen_in : MarkedProgram → Told → Happening → Option Seen
-seen_in c w (Of t) = option_map (λ x. seen_with c w.core.words x (share_at c x x.attempt (found_at c w x) (past_at w t))) (slice_get w.core.threads t)
-seen_in c w NextPart = None
+abbrev pub seen_of_event : MarkedProgram → Told → Happening → Option Seen
+seen_of_event c w (Of t) = option_map (λ x. seen_with c w.core.words x (share_at c x x.attempt (found_by_event c w x) (past_at w t))) (slice_get w.core.threads t)
+seen_of_event c w NextPart = None
 
 -- the line of an event by the thread before it, and by the thread and the words behind it
 abbrev pub line_between : MarkedProgram → (names : List (List ℕ)) → (number : ℕ) → (words : List ℕ) → Option Seen → Option Thread → List ℕ
-line_between c names number words (Some seen) (Some y) = line_text c.program names number seen.before seen.share (after_of y (found_by words seen.before.access))
+line_between c names number words (Some seen) (Some y) = event_line_text c.program names number seen.before seen.share (after_event y (found_by words seen.before.access))
 line_between c names number words seen y = []
 
 -- the line of the end that it leads to, where that is no return
 abbrev pub end_between : MarkedProgram → (number : ℕ) → Option Seen → Option Thread → List ℕ
-end_between c number (Some seen) (Some y) = end_line c.program number seen.before y.phase
+end_between c number (Some seen) (Some y) = event_end_line c.program number seen.before y.phase
 end_between c number seen y = []
 
 -- ---- the begin of a part: the workers behind `init`, `done` behind the workers
@@ -61,19 +61,19 @@ event_line c names number s seen (Of t) = line_between c names number (event c s
 event_line c names number s seen NextPart = part_line number (option_map (λ x. x.part) (slice_get s.threads 0))
 
 -- of a part of the lines alone
-abbrev pub shown : Part → (number : ℕ) → List ℕ → List ℕ
-shown part number text = if nat_le part.from number && nat_lt (number - part.from) part.count then text else []
+abbrev pub line_shown : Part → (number : ℕ) → List ℕ → List ℕ
+line_shown part number text = if nat_le part.from number && nat_lt (number - part.from) part.count then text else []
 
 abbrev pub told_line : MarkedProgram → (names : List (List ℕ)) → Part → (number : ℕ) → Core → Option Seen → Happening → List ℕ
-told_line c names part number s seen h = shown part number (event_line c names number s seen h)
+told_line c names part number s seen h = line_shown part number (event_line c names number s seen h)
 
-abbrev pub next_number : ℕ → ℕ
-next_number n = min (n + 1) (2 ^ 64 - 1)
+abbrev pub next_line_number : ℕ → ℕ
+next_line_number n = min (n + 1) (2 ^ 64 - 1)
 
 -- each event from the state before it, with the pasts of the threads there
 abbrev pub lines_from : MarkedProgram → (names : List (List ℕ)) → Part → (number : ℕ) → Told → List Happening → List ℕ
 lines_from c names part number w [] = []
-lines_from c names part number w (h ∷ hs) = told_line c names part number w.core (seen_in c w h) h ++ lines_from c names part (next_number number) (told c w h) hs
+lines_from c names part number w (h ∷ hs) = told_line c names part number w.core (seen_of_event c w h) h ++ lines_from c names part (next_line_number number) (told c w h) hs
 
 -- where parts of threads came to an end that is no return
 abbrev pub event_end : MarkedProgram → (number : ℕ) → Core → Option Seen → Happening → List ℕ
@@ -82,7 +82,7 @@ event_end c number s seen NextPart = []
 
 abbrev pub ends_from : MarkedProgram → (number : ℕ) → Told → List Happening → List ℕ
 ends_from c number w [] = []
-ends_from c number w (h ∷ hs) = event_end c number w.core (seen_in c w h) h ++ ends_from c (next_number number) (told c w h) hs
+ends_from c number w (h ∷ hs) = event_end c number w.core (seen_of_event c w h) h ++ ends_from c (next_line_number number) (told c w h) hs
 
 -- the lines of all events, or of a part of them, those of the ends that are no returns, and then the report of the run
 abbrev pub trace_text : MarkedProgram → Config → (names : List (List ℕ)) → Part → List Happening → List ℕ

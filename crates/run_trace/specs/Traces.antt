@@ -10,8 +10,8 @@ use Rattle.machine_types.specs.History.{all_told, told_start}
 use Rattle.machine_types.specs.Schedules.{IsScheduleOf, Stage, First, Turn, turn_at}
 use Rattle.machine_types.specs.declared.config.Config.{Config}
 use Rattle.event_texts.specs.Shares as shares
-use Rattle.replay_runner.specs.Replays.{Leads}
-use Rattle.run_trace.specs.EventLines.{ends_from, event_end, lines_from, next_number, told_line, trace_text}
+use Rattle.replay_runner.specs.Replays.{IsLedByTurns}
+use Rattle.run_trace.specs.EventLines.{ends_from, event_end, lines_from, next_line_number, told_line, trace_text}
 use Rattle.run_trace.specs.Owing.{owed_after, seen_by}
 use Rattle.run_trace.specs.declared.events.Part.{Part}
 use Rattle.run_trace.specs.Turns.{turn_of_next}
@@ -25,17 +25,17 @@ use Rattle.run_trace.specs.declared.traces.Tracing.{Tracing}
 -- it happened to the run, and its line was added to what the sink tells
 pub record Happened (c : MarkedProgram) (names : List (List ℕ)) (part : Part) (h : Happening) (m n : Tracing) (told now : Option (List ℕ)) (before after : ℕ) : Type 0 where
   pub machine : n.machine ≡ record m.machine { core = happened m.machine.program m.machine.core h }
-  pub number : n.number ≡ next_number m.number
+  pub number : n.number ≡ next_line_number m.number
   pub owed : n.owed ≡ owed_after m.owed h (seen_by c m.machine.core m.owed h)
   pub ends : n.ends.items ≡ m.ends.items ++ event_end c m.number m.machine.core (seen_by c m.machine.core m.owed h) h
   pub text : now ≡ option_map (λ t. t ++ told_line c names part m.number m.machine.core (seen_by c m.machine.core m.owed h) h) told
   pub calm : after ≡ before
 
 -- there was no memory, and the sink had not failed; or it failed
-abbrev pub Tells : MarkedProgram → (names : List (List ℕ)) → Part → Happening → (m n : Tracing) → (told now : Option (List ℕ)) → (before after : ℕ) → {A : Type 0} → Result A TraceError → Type 0
-Tells c names part h m n told now before after (Ok done) = Happened c names part h m n told now before after
-Tells c names part h m n told now before after (Err Memory) = after ≡ before
-Tells c names part h m n told now before after (Err Failed) = CountsFault before after
+abbrev pub IsHappeningTold : MarkedProgram → (names : List (List ℕ)) → Part → Happening → (m n : Tracing) → (told now : Option (List ℕ)) → (before after : ℕ) → {A : Type 0} → Result A TraceError → Type 0
+IsHappeningTold c names part h m n told now before after (Ok done) = Happened c names part h m n told now before after
+IsHappeningTold c names part h m n told now before after (Err Memory) = after ≡ before
+IsHappeningTold c names part h m n told now before after (Err Failed) = CountsFault before after
 
 -- ---- the run at its start
 
@@ -50,15 +50,15 @@ pub record IsStarted (c : MarkedProgram) (cfg : Config) (m : Tracing) : Type 0 w
 -- the number behind the lines of some events
 abbrev pub number_after : (number : ℕ) → List Happening → ℕ
 number_after number [] = number
-number_after number (h ∷ hs) = number_after (next_number number) hs
+number_after number (h ∷ hs) = number_after (next_line_number number) hs
 
 -- the order has led the run to here, where this turn comes next and each thread owes so many steps; and a sink that told some bytes has the lines of its events
-pub record Walked (c : MarkedProgram) (cfg : Config) (order : List ℕ) (names : List (List ℕ)) (part : Part) (told : Option (List ℕ)) (n : Tracing) (next : Option Turn) (now : Option (List ℕ)) : Type 0 where
+pub record TraceWalked (c : MarkedProgram) (cfg : Config) (order : List ℕ) (names : List (List ℕ)) (part : Part) (told : Option (List ℕ)) (n : Tracing) (next : Option Turn) (now : Option (List ℕ)) : Type 0 where
   pub program : n.machine.program ≡ c
   pub settings : n.machine.cfg ≡ cfg
   pub happenings : List Happening
   pub stage : Stage
-  pub leads : Leads c (First order) (start c cfg) happenings stage n.machine.core
+  pub leads : IsLedByTurns c (First order) (start c cfg) happenings stage n.machine.core
   pub turn : turn_at stage n.machine.core ≡ next
   pub number : n.number ≡ number_after 1 happenings
   pub core : (all_told c (told_start c cfg) happenings).core ≡ n.machine.core
@@ -69,7 +69,7 @@ pub record Walked (c : MarkedProgram) (cfg : Config) (order : List ℕ) (names :
 -- whatever was walked to the one is walked to the other; the sink has not failed
 pub record WalksOn (c : MarkedProgram) (order : List ℕ) (names : List (List ℕ)) (part : Part) (m : Tracing) (next : Option Turn) (told : Option (List ℕ)) (before : ℕ) (n : Tracing) (behind : Option Turn) (now : Option (List ℕ)) (after : ℕ) : Type 0 where
   pub program : n.machine.program ≡ m.machine.program
-  pub walked : (cfg : Config) (first : Option (List ℕ)) → Walked c cfg order names part first m next told → Walked c cfg order names part first n behind now
+  pub walked : (cfg : Config) (first : Option (List ℕ)) → TraceWalked c cfg order names part first m next told → TraceWalked c cfg order names part first n behind now
   pub calm : after ≡ before
 
 -- on from a turn, to another

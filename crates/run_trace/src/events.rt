@@ -5,7 +5,7 @@ ghost use Rattle.std.specs.Option.{option_map};
 ghost use Rattle.machine_types.specs.Core.{Of, event, lives, next};
 ghost use Rattle.laws_states.specs.WorkLeft.{all_work};
 ghost use Rattle.machine_types.specs.Accesses.{found_by};
-ghost use Rattle.run_trace.specs.EventLines.{end_between, event_end, event_line, line_between, part_line, shown};
+ghost use Rattle.run_trace.specs.EventLines.{end_between, event_end, event_line, line_between, part_line, line_shown};
 ghost use Rattle.run_trace.specs.Owing.{owed_after, owed_at, seen_by};
 
 use checked_program::Checked;
@@ -36,7 +36,7 @@ impl Part {
 
 /// The line of that number, where the part has it; else nothing.
 pub fn told_of<'a>(part: Part, number: u64, text: &'a [u8]) -> &'a [u8]
-    ensures { result.now ≡ shown part number text.now }
+    ensures { result.now ≡ line_shown part number text.now }
 {
     if part.from <= number && number - part.from < part.count {
         text

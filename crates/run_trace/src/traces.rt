@@ -6,8 +6,8 @@ ghost use Rattle.machine_types.specs.Schedules.{First, turn_at};
 ghost use Rattle.machine_types.specs.Settings.{AreSettings};
 ghost use Rattle.laws_states.specs.WorkLeft.{all_work};
 ghost use Rattle.run_texts.specs.Report.{report_text};
-ghost use Rattle.run_trace.specs.EventLines.{next_number};
-ghost use Rattle.run_trace.specs.Traces.{IsPut, IsStarted, IsTraced, IsWalk, IsWalkToEnd, Tells};
+ghost use Rattle.run_trace.specs.EventLines.{next_line_number};
+ghost use Rattle.run_trace.specs.Traces.{IsPut, IsStarted, IsTraced, IsWalk, IsWalkToEnd, IsHappeningTold};
 ghost use Rattle.run_trace.specs.declared.traces.TraceError.TheVariants.{Memory};
 ghost use Rattle.run_trace.specs.Turns.{IsNoEvent, next_ahead, parts_ahead, stage_of};
 
@@ -74,7 +74,7 @@ fn start(alloc: Global, p: &Checked, cfg: &Config) -> Result<Tracing, TraceError
 
 /// The number of the line behind one; it stands still at its end.
 fn next_number(number: u64) -> u64
-    ensures { result ≡ next_number number }
+    ensures { result ≡ next_line_number number }
 {
     number.saturating_add(1)
 }
@@ -101,7 +101,7 @@ fn tell_event<K: Sink>(
 ) -> Result<(), TraceError>
     requires program { p.now ≡ trace.old.machine.program }
     requires live { lives trace.old.machine.core t ≡ true }
-    ensures told { Tells p.now names.now part (Of t) trace.old trace.new (K.text sink.old) (K.text sink.new) (K.faults sink.old) (K.faults sink.new) result }
+    ensures told { IsHappeningTold p.now names.now part (Of t) trace.old trace.new (K.text sink.old) (K.text sink.new) (K.faults sink.old) (K.faults sink.new) result }
     ensures less { all_work trace.new.machine.core < all_work trace.old.machine.core }
 {
     let mut text = Vec::new(alloc);
@@ -134,7 +134,7 @@ fn tell_part<K: Sink>(
     sink: &mut K,
 ) -> Result<(), TraceError>
     requires program { p.now ≡ trace.old.machine.program }
-    ensures told { Tells p.now names.now part NextPart trace.old trace.new (K.text sink.old) (K.text sink.new) (K.faults sink.old) (K.faults sink.new) result }
+    ensures told { IsHappeningTold p.now names.now part NextPart trace.old trace.new (K.text sink.old) (K.text sink.new) (K.faults sink.old) (K.faults sink.new) result }
 {
     let _ = names;
     let mut text = Vec::new(alloc);

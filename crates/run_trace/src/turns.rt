@@ -2,7 +2,7 @@
 
 ghost use Rattle.std.specs.Prelude.{◌≡◌, ◌≤◌, ◌+◌, List, ℕ, drop, if◌then◌else◌};
 ghost use Rattle.machine_types.specs.Core.{Of, lives};
-ghost use Rattle.machine_types.specs.Schedules.{is_live_worker, ordered, part_turn, rounds, turn_at, turn_of};
+ghost use Rattle.machine_types.specs.Schedules.{is_live_worker, ordered, part_turn, round_turn_from, turn_at, turn_of};
 ghost use Rattle.run_trace.specs.Turns.{IsMayBe, next_ahead, parts_ahead, stage_of, turn_of_next};
 
 use replay_runner::{Machine, next_worker};
@@ -46,7 +46,7 @@ fn next_part(machine: &Machine, progress: Progress) -> Next
 
 /// The next event of the workers round by round, or the begin of `done`.
 fn next_in_rounds(machine: &Machine, from: u8) -> Next
-    ensures turn { (order : List ℕ) → turn_of_next order result ≡ rounds machine.now.core from }
+    ensures turn { (order : List ℕ) → turn_of_next order result ≡ round_turn_from machine.now.core from }
     ensures may { IsMayBe machine.now.core result }
     ensures ahead { next_ahead result ≤ 1 }
 {

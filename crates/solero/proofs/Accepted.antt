@@ -3,7 +3,7 @@ use Rattle.std.proofs.Common.{◌≡◌, ℕ, Bool, List, Option, Some, None, Ok
 use Rattle.jvm_types.specs.declared.refusal.Rule.{Rule}
 use Rattle.jvm_types.specs.declared.refusal.Place.{Place}
 use Rattle.command_words.specs.Command.{Asked}
-use Rattle.solero.specs.Answer.{AreAccepted, IsAcceptedIn, IsDue, IsRefusal, status_of}
+use Rattle.solero.specs.Answer.{AreAccepted, IsAcceptedIn, IsDue, IsRefusalInMode, status_of}
 use Rattle.host_io.specs.Reading.{contents_of, first_long}
 use Rattle.solero.specs.Delivery.{Delivers}
 use Rattle.solero.proofs.Modes.{taken_not_refused}
@@ -12,7 +12,7 @@ use Rattle.host_io.specs.declared.shelf.NamedFile.{NamedFile}
 use Rattle.solero.specs.declared.answer.Due.{Due}
 use Rattle.solero.specs.declared.answer.Due.TheVariants.{Report, Output, Usage, Refusal, CannotRead, OutOfMemory}
 
-pub no_refusal : (asked : Asked) (contents : List (List ℕ)) (rule : Rule) (place : Place) → first_long 0 contents ≡ None → IsAcceptedIn asked.mode asked contents → IsRefusal (first_long 0 contents) asked contents rule place → ⊥
+pub no_refusal : (asked : Asked) (contents : List (List ℕ)) (rule : Rule) (place : Place) → first_long 0 contents ≡ None → IsAcceptedIn asked.mode asked contents → IsRefusalInMode (first_long 0 contents) asked contents rule place → ⊥
 no_refusal asked contents rule place short accepted refused = taken_not_refused asked.mode asked contents rule place accepted (rw short at refused)
 
 no_refusal_due : (asked : Asked) (files : List NamedFile) (unreadable : Option (List ℕ → Bool)) (before after : ℕ) (due : Due) → IsDue (Some asked) (Some files) unreadable before after due → AreAccepted files asked → status_of due ≡ 3 → ⊥

@@ -12,7 +12,7 @@ use Rattle.command_words.specs.Command.{Asked}
 use Rattle.solero.specs.Answer.{IsDue, IsMadeBy, IsMadeIn, IsRefusedIn, Refuses}
 use Rattle.host_io.specs.Reading.{IsUnread, first_long}
 use Rattle.jvm_types.specs.declared.limits.TheConstants.{MOST_FILE_BYTES}
-use Rattle.solero.specs.Parts.{IsLine, IsRun, IsUnreadDue}
+use Rattle.solero.specs.Parts.{IsRefusalLine, IsContentsDue, IsUnreadDue}
 use Rattle.host_io.specs.declared.shelf.NamedFile.{NamedFile}
 use Rattle.host_io.specs.declared.shelf.ShelfError.{ShelfError}
 use Rattle.host_io.specs.declared.shelf.ShelfError.TheVariants.{Memory, Failed, TooLong}
@@ -38,7 +38,7 @@ made_no_refusal modes.Load asked contents text made = made
 made_no_refusal modes.Cell asked contents text made = made
 
 -- what the mode makes of files, none of which is too long, is due to them
-pub made_run : (asked : Asked) (contents : List (List ℕ)) (due : Due) → IsMadeIn asked.mode asked contents due → IsRun asked contents due
+pub made_run : (asked : Asked) (contents : List (List ℕ)) (due : Due) → IsMadeIn asked.mode asked contents due → IsContentsDue asked contents due
 made_run asked contents (Refusal text) made = absurd (made_no_refusal asked.mode asked contents text made)
 made_run asked contents OutOfMemory made = tt
 made_run asked contents (Report finish text) made = made
@@ -47,7 +47,7 @@ made_run asked contents Usage made = made
 made_run asked contents (CannotRead text) made = made
 
 -- the line of what refuses files, none of which is too long, is due to them
-pub refused_run : (asked : Asked) (contents : List (List ℕ)) (rule : Rule) (place : Place) (due : Due) → first_long 0 contents ≡ None → IsRefusedIn asked.mode asked contents rule place → IsLine (refusal_text rule place) due → IsRun asked contents due
+pub refused_run : (asked : Asked) (contents : List (List ℕ)) (rule : Rule) (place : Place) (due : Due) → first_long 0 contents ≡ None → IsRefusedIn asked.mode asked contents rule place → IsRefusalLine (refusal_text rule place) due → IsContentsDue asked contents due
 refused_run asked contents rule place (Refusal text) short refused line = record { rule = rule; place = place; refused = rw short refused; is_line = line }
 refused_run asked contents rule place OutOfMemory short refused line = tt
 refused_run asked contents rule place due short refused line = absurd line

@@ -55,13 +55,13 @@ status_of (Refusal text) = 3
 status_of (CannotRead text) = 4
 status_of OutOfMemory = 6
 
-abbrev pub text_of : Due → List ℕ
-text_of (Report finish text) = text
-text_of (Output text) = text
-text_of Usage = line (codes "usage: solero [options] FILE...")
-text_of (Refusal text) = text
-text_of (CannotRead text) = text
-text_of OutOfMemory = line (codes "out of memory")
+abbrev pub due_text : Due → List ℕ
+due_text (Report finish text) = text
+due_text (Output text) = text
+due_text Usage = line (codes "usage: solero [options] FILE...")
+due_text (Refusal text) = text
+due_text (CannotRead text) = text
+due_text OutOfMemory = line (codes "out of memory")
 
 -- ---- what is made of a program
 
@@ -215,15 +215,15 @@ IsRefusedIn modes.Cell asked contents rule place = ⊥
 
 -- A rule and a place refuse the files. A file that is too long is refused when it is read from the shelf, before any is read as a
 -- class.
-abbrev pub IsRefusal : Option ℕ → Asked → List (List ℕ) → Rule → Place → Type 0
-IsRefusal (Some file) asked contents rule place = (rule ≡ rules.C C10) × (place ≡ in_file file MOST_FILE_BYTES)
-IsRefusal None asked contents rule place = IsRefusedIn asked.mode asked contents rule place
+abbrev pub IsRefusalInMode : Option ℕ → Asked → List (List ℕ) → Rule → Place → Type 0
+IsRefusalInMode (Some file) asked contents rule place = (rule ≡ rules.C C10) × (place ≡ in_file file MOST_FILE_BYTES)
+IsRefusalInMode None asked contents rule place = IsRefusedIn asked.mode asked contents rule place
 
 -- the text is the line of a rule and a place that refuse the files
 pub record Refuses (asked : Asked) (contents : List (List ℕ)) (text : List ℕ) : Type 0 where
   pub rule : Rule
   pub place : Place
-  pub refused : IsRefusal (first_long 0 contents) asked contents rule place
+  pub refused : IsRefusalInMode (first_long 0 contents) asked contents rule place
   pub is_line : text ≡ refusal_text rule place
 
 -- ---- what is due to the words and the shelf

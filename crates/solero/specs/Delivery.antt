@@ -1,7 +1,7 @@
 -- How a text reaches a sink.
 use Rattle.std.specs.Prelude.{◌≡◌, ℕ, List, Option, Result, Ok, Err}
 use Rattle.host_io.specs.Writing.{IsWritten}
-use Rattle.solero.specs.Answer.{text_of, status_of}
+use Rattle.solero.specs.Answer.{due_text, status_of}
 use Rattle.host_io.specs.declared.sink.SinkFailed.{SinkFailed}
 use Rattle.solero.specs.declared.answer.Due.{Due}
 
@@ -12,4 +12,4 @@ answered due (Err e) = 5
 
 -- the text due is written, and this is answered
 abbrev pub Delivers : Option (List ℕ) → Option (List ℕ) → ℕ → ℕ → Due → ℕ → Type 0
-Delivers told now before after due status = (written : Result (Unit {0}) SinkFailed) × IsWritten told now before after (text_of due) written × (status ≡ answered due written)
+Delivers told now before after due status = (written : Result (Unit {0}) SinkFailed) × IsWritten told now before after (due_text due) written × (status ≡ answered due written)

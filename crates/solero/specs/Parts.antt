@@ -17,23 +17,23 @@ use Rattle.solero.specs.declared.answer.Due.{Due}
 use Rattle.solero.specs.declared.answer.Due.TheVariants.{Refusal, CannotRead, OutOfMemory}
 
 -- the line of a refusal, or want of memory
-abbrev pub IsLine : List ℕ → Due → Type 0
-IsLine refusal (Refusal text) = text ≡ refusal
-IsLine refusal OutOfMemory = Unit {0}
-IsLine refusal due = ⊥
+abbrev pub IsRefusalLine : List ℕ → Due → Type 0
+IsRefusalLine refusal (Refusal text) = text ≡ refusal
+IsRefusalLine refusal OutOfMemory = Unit {0}
+IsRefusalLine refusal due = ⊥
 
 -- what is due where the file of this number is not read
 abbrev pub IsUnreadDue : ℕ → ShelfError → Due → Type 0
-IsUnreadDue file TooLong due = IsLine (refusal_text (rules.C C10) (in_file file MOST_FILE_BYTES)) due
+IsUnreadDue file TooLong due = IsRefusalLine (refusal_text (rules.C C10) (in_file file MOST_FILE_BYTES)) due
 IsUnreadDue file Failed (CannotRead text) = text ≡ unread_line file
 IsUnreadDue file error OutOfMemory = Unit {0}
 IsUnreadDue file error due = ⊥
 
 -- what is due to the contents of the files, none of which is too long
-abbrev pub IsRun : Asked → List (List ℕ) → Due → Type 0
-IsRun asked contents (Refusal text) = Refuses asked contents text
-IsRun asked contents OutOfMemory = Unit {0}
-IsRun asked contents due = IsMadeIn asked.mode asked contents due
+abbrev pub IsContentsDue : Asked → List (List ℕ) → Due → Type 0
+IsContentsDue asked contents (Refusal text) = Refuses asked contents text
+IsContentsDue asked contents OutOfMemory = Unit {0}
+IsContentsDue asked contents due = IsMadeIn asked.mode asked contents due
 
 -- nothing is made of the files: memory ran out, or a rule refuses them in the mode
 abbrev pub IsNotMadeIn : Mode → Asked → List (List ℕ) → FileError → Type 0

@@ -2,7 +2,7 @@
 -- them, and others by the line of their refusal, written whole; or by the line of want of memory.
 use Rattle.std.specs.Prelude.{◌≡◌, ℕ, ◌-◌, ◌<◌, ◌^◌, List, ◌++◌, Option, Some}
 use Rattle.std.specs.Option.{option_map}
-use Rattle.solero.specs.Answer.{IsMadeOf, RefusesFiles, status_of, text_of}
+use Rattle.solero.specs.Answer.{IsMadeOf, RefusesFiles, status_of, due_text}
 use Rattle.command_words.specs.Command.{Asked}
 use Rattle.host_io.specs.declared.shelf.NamedFile.{NamedFile}
 use Rattle.solero.specs.declared.answer.Due.{Due}
@@ -27,5 +27,5 @@ IsOwedRefusal asked files due = ⊥
 pub record AnswersWhole (Owed : Due → Type 0) (told now : Option (List ℕ)) (status : ℕ) : Type 0 where
   pub due : Due
   pub owed : Owed due
-  pub written : now ≡ option_map (λ t. t ++ text_of due) told
+  pub written : now ≡ option_map (λ t. t ++ due_text due) told
   pub answered : status ≡ status_of due

@@ -1,7 +1,7 @@
 ghost use Rattle.std.specs.Prelude.{◌≡◌};
 ghost use Rattle.run_texts.specs.Refusal.{refusal_text};
-ghost use Rattle.solero.specs.Answer.{status_of, text_of};
-ghost use Rattle.solero.specs.Parts.{IsLine, IsUnreadDue};
+ghost use Rattle.solero.specs.Answer.{status_of, due_text};
+ghost use Rattle.solero.specs.Parts.{IsRefusalLine, IsUnreadDue};
 ghost use Rattle.host_io.specs.declared.shelf.ShelfError.TheVariants.{Failed, TooLong};
 
 use crate::finish::Finish;
@@ -49,7 +49,7 @@ impl Due {
 
     /// The text, which ends with a newline, or the bytes of a class file.
     pub fn text(&self) -> &[u8]
-        ensures { result.now ≡ text_of self.now }
+        ensures { result.now ≡ due_text self.now }
     {
         match self {
             Due::Report(_, text) | Due::Output(text) | Due::Refusal(text) | Due::CannotRead(text) =>
@@ -62,7 +62,7 @@ impl Due {
 
 /// The line of a refusal is due, or want of memory.
 pub fn refused(alloc: Global, rule: Rule, place: Place) -> Due
-    ensures { IsLine (refusal_text rule place) result }
+    ensures { IsRefusalLine (refusal_text rule place) result }
 {
     match refusal(alloc, rule, place) {
         Ok(line) => Due::Refusal(line),

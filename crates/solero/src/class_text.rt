@@ -1,7 +1,7 @@
 //! A class file as text, and a text as a class file.
 ghost use Rattle.std.specs.Prelude.{◌≡◌, ◌≤◌, ◌∷◌, [], IfErr, IfOk, None, length};
 ghost use Rattle.class_runner.specs.Loading.{read_fault};
-ghost use Rattle.class_runner.specs.Stages.{IsUnread};
+ghost use Rattle.class_runner.specs.Stages.{IsClassUnread};
 ghost use Rattle.class_runner.specs.declared.loading.FileError.TheVariants.{Memory};
 ghost use Rattle.jvm_types.specs.ClassGrammar.{IsClass, Spells};
 ghost use Rattle.host_io.specs.Reading.{first_long};
@@ -19,7 +19,7 @@ use std::alloc::Global;
 pub fn listed(alloc: Global, files: &Rows<Bytes>) -> Result<Bytes, FileError>
     requires { length files.now ≡ 1 }
     ensures ok { IfOk result (λ text. IsListed files.now text) }
-    ensures refused { IfErr result (λ e. IsUnread (read_fault 0 files.now) e) }
+    ensures refused { IfErr result (λ e. IsClassUnread (read_fault 0 files.now) e) }
 {
     let classes = read_files(alloc, files.as_slice())?;
     let class = &classes.as_slice()[0];

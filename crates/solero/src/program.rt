@@ -1,12 +1,12 @@
 ghost use Rattle.std.specs.Prelude.{◌≡◌, ◌<◌, ◌≤◌, ◌≢◌, ◌⊎◌, List, Some, None, IfErr, IfOk, length, true};
 ghost use Rattle.host_io.specs.Faults.{CountsFault};
-ghost use Rattle.command_words.specs.Command.{Asked, command, takes};
+ghost use Rattle.command_words.specs.Command.{Asked, command, takes_files};
 ghost use Rattle.command_words.specs.Words.{texts};
 ghost use Rattle.host_io.specs.Reading.{first_long};
 ghost use Rattle.command_words.specs.Requests.{asked_by};
 ghost use Rattle.solero.specs.Answer.{AreAccepted, IsDue, IsMadeIn};
 ghost use Rattle.solero.specs.Delivery.{Delivers};
-ghost use Rattle.solero.specs.Parts.{IsNotMadeIn, IsRun, IsUnreadDue};
+ghost use Rattle.solero.specs.Parts.{IsNotMadeIn, IsContentsDue, IsUnreadDue};
 ghost use Rattle.solero.specs.Whole.{AnswersWhole, IsCalm, IsOwed, IsOwedRefusal};
 ghost use Rattle.host_io.specs.declared.shelf.NamedFile.{NamedFile as File};
 ghost use Rattle.solero.specs.declared.answer.Due.{Due as TheDue};
@@ -139,9 +139,9 @@ fn run_files<R: Threads + Wait + Sync, G: Gate + Sync>(
     contents: &Rows<Bytes>,
     gate: &G,
 ) -> Due
-    requires taken { takes request.now.mode (length contents.now) ≡ true }
+    requires taken { takes_files request.now.mode (length contents.now) ≡ true }
     requires short { first_long 0 contents.now ≡ None }
-    ensures { IsRun (asked_by request.now) contents.now result }
+    ensures { IsContentsDue (asked_by request.now) contents.now result }
 {
     match made_in_mode(rt, alloc, request, contents, gate) {
         Ok(due) => due,
@@ -158,7 +158,7 @@ fn made_in_mode<R: Threads + Wait + Sync, G: Gate + Sync>(
     contents: &Rows<Bytes>,
     gate: &G,
 ) -> Result<Due, FileError>
-    requires taken { takes request.now.mode (length contents.now) ≡ true }
+    requires taken { takes_files request.now.mode (length contents.now) ≡ true }
     requires short { first_long 0 contents.now ≡ None }
     ensures made { IfOk result (λ due. IsMadeIn request.now.mode (asked_by request.now) contents.now due) }
     ensures refused { IfErr result (λ e. IsNotMadeIn request.now.mode (asked_by request.now) contents.now e) }
@@ -187,7 +187,7 @@ fn made_of_program<R: Threads + Wait + Sync, G: Gate + Sync>(
     contents: &Rows<Bytes>,
     gate: &G,
 ) -> Result<Due, FileError>
-    requires { takes (Program task) (length contents.now) ≡ true }
+    requires { takes_files (Program task) (length contents.now) ≡ true }
     ensures made { IfOk result (λ due. IsMadeIn (Program task) (asked_by request.now) contents.now due) }
     ensures refused { IfErr result (λ e. IsNotMadeIn (Program task) (asked_by request.now) contents.now e) }
 {

@@ -6,8 +6,8 @@ use mathlib.Core.Option.{some}
 use lib.ListN.{get_elem?}
 use Rattle.solero_cell.specs.declared.views.Record.{Record}
 use Rattle.solero_cell.specs.declared.views.View.{View}
-use Rattle.solero_cell.specs.Calls.{IsAlone, IsAtEnd, IsShown, IsWhole}
-use Rattle.solero_cell.specs.CellRules.{Fits, HaveDepth, Shows, in_parts}
+use Rattle.solero_cell.specs.Calls.{IsOnlySeat, IsAtEnd, IsShown, IsWhole}
+use Rattle.solero_cell.specs.CellRules.{ViewFits, HaveDepth, HasOneHistory, in_parts}
 use Rattle.solero_cell.specs.CellViews.{spent}
 use Rattle.solero_cell.specs.Histories.{History}
 use Rattle.solero_cell.proofs.Shares.{pos_times}
@@ -22,14 +22,14 @@ parts_of depth v = in_parts depth v.share
 whole_at : (n d depth : ℕ) → n ≡ 2 ^ d → d ≤ depth → n * 2 ^ (depth - d) ≡ 2 ^ depth
 whole_at n d depth e le = ap (λ k. k * 2 ^ (depth - d)) e ∙ sym (pow-add 2 d (depth - d)) ∙ ap (λ k. 2 ^ k) (omega arith)
 
-nobody : (depth : ℕ) (o : Record) (h : History) (words : List ℕ) (u : View) → parts_of depth u ≡ 0 → Fits o h words u → u ≡ spent
+nobody : (depth : ℕ) (o : Record) (h : History) (words : List ℕ) (u : View) → parts_of depth u ≡ 0 → ViewFits o h words u → u ≡ spent
 nobody depth o h words u none (inl e) = e
 nobody depth o h words u none (inr k) =
     let some_parts = pos_times u.share.parts (2 ^ (depth - u.share.depth)) k.0 (pow_pos (depth - u.share.depth)) in
     absurd (omega (arith, none, some_parts))
 
-alone : (o : Record) (words : List ℕ) (views : List View) (number : ℕ) (v : View) → Shows o words views
-    → get_elem? views number ≡ some v → IsWhole v.share → IsAlone number views
+alone : (o : Record) (words : List ℕ) (views : List View) (number : ℕ) (v : View) → HasOneHistory o words views
+    → get_elem? views number ≡ some v → IsWhole v.share → IsOnlySeat number views
 alone o words views number v s here whole i u apart at =
     let depth : ℕ = sum_by depth_of views in
     let have : HaveDepth depth views = λ j w g. at_most depth_of views j w g in

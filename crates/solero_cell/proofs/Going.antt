@@ -7,12 +7,12 @@ use Rattle.atomic_table.specs.Seated.{TableId}
 use Rattle.solero_cell.specs.declared.views.Record.{Record}
 use Rattle.solero_cell.specs.declared.views.Storing.{Storing}
 use Rattle.solero_cell.specs.declared.views.View.{View}
-use Rattle.solero_cell.specs.Histories.{AllStand, AreOfOne, IsLast, IsSeen, Stands}
+use Rattle.solero_cell.specs.Histories.{AllStand, AreOfOne, IsLast, IsRecordSeen, RecordStands}
 use Rattle.solero_cell.specs.CellViews.{IsStill, record_of, has_failed, has_loaded, forgot, has_read, has_stored, one_stored, taken_in}
 use Rattle.solero_cell.specs.Attempts.{IsBehindGot, IsBehindChanged}
 use Rattle.solero_cell.specs.Stages.{IsSeatAt, IsLoading, IsStoring}
 use Rattle.solero_cell.proofs.Standing.{all_left, all_right}
-use Rattle.solero_cell.specs.Steps.{HasCompared, HasRead, note_of, storing_of, ended}
+use Rattle.solero_cell.specs.Steps.{HasCompared, HasRead, note_of, storing_of, attempt_ended}
 
 -- ---- the seat stays at its table
 
@@ -69,12 +69,12 @@ store_on i x xs v w w' e g e' =
 
 -- ---- what is seen stays so for a view with the same records
 
-pub seen_as : (v w : View) (r : Record) → v.opening ≡ w.opening → v.writes ≡ w.writes → v.latest ≡ w.latest → IsSeen v r → IsSeen w r
+pub seen_as : (v w : View) (r : Record) → v.opening ≡ w.opening → v.writes ≡ w.writes → v.latest ≡ w.latest → IsRecordSeen v r → IsRecordSeen w r
 seen_as v w r opening writes latest s = record {
   history = s.history;
   own = record {
     writes = subst (λ l. AllStand w.opening s.history l) writes (subst (λ o. AllStand o s.history v.writes) opening s.own.writes);
-    latest = subst (λ l. Stands w.opening s.history l) latest (subst (λ o. Stands o s.history v.latest) opening s.own.latest);
+    latest = subst (λ l. RecordStands w.opening s.history l) latest (subst (λ o. RecordStands o s.history v.latest) opening s.own.latest);
   };
   last = subst (λ o. IsLast o s.history r) opening s.last;
 }
@@ -98,20 +98,20 @@ pub behind_got : (v u now : View) (c : ℕ) (xs : List ℕ) → u ≡ record v {
 behind_got v u now c xs e n still h =
     let k : HasRead (record v { loaded = xs }) now = subst (λ (x : View). HasRead x now) e h in
     let count = note_is v c n in
-    let seen : IsSeen (record v { loaded = xs }) (record_of c xs) = subst (λ (m : ℕ). IsSeen (record v { loaded = xs }) (record_of m xs)) count k.seen in
+    let seen : IsRecordSeen (record v { loaded = xs }) (record_of c xs) = subst (λ (m : ℕ). IsRecordSeen (record v { loaded = xs }) (record_of m xs)) count k.seen in
     record {
       view = k.view ∙ ap (λ (m : ℕ). has_read (record_of m xs) (forgot v)) count ∙ ap (has_read (record_of c xs)) (forgot_still v still.loaded);
       seen = seen_as (record v { loaded = xs }) v (record_of c xs) refl refl refl seen;
     }
 
-ended_by : (b : Bool) (found : ℕ) (v : View) → forgot v ≡ v → ended b found v ≡ (if b then has_failed found v else v)
+ended_by : (b : Bool) (found : ℕ) (v : View) → forgot v ≡ v → attempt_ended b found v ≡ (if b then has_failed found v else v)
 ended_by true found v e = ap (has_failed found) e
 ended_by false found v e = e
 
 pub behind_changed : (b : Bool) (v u now : View) (c word found : ℕ) (xs : List ℕ) → u ≡ record v { loaded = xs } → IsStill v
-    → now ≡ ended b found u → word ≡ 4 * c → word ≢ found → IsBehindChanged b v c word found now
+    → now ≡ attempt_ended b found u → word ≡ 4 * c → word ≢ found → IsBehindChanged b v c word found now
 behind_changed b v u now c word found xs e still h w d = record {
-  view = h ∙ ap (ended b found) e ∙ ended_by b found v (forgot_still v still.loaded);
+  view = h ∙ ap (attempt_ended b found) e ∙ ended_by b found v (forgot_still v still.loaded);
   word_is = w;
   differ = d;
 }

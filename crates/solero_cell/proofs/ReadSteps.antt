@@ -11,10 +11,10 @@ use Rattle.machine_types.specs.LockWords.{lock_of, is_lock_word}
 use Rattle.machine_types.specs.declared.lock.LockWord.{LockWord}
 use Rattle.solero_cell.specs.declared.views.Record.{Record}
 use Rattle.solero_cell.specs.declared.views.View.{View}
-use Rattle.solero_cell.specs.Histories.{last_count, Stands, IsLast, OwnStand}
+use Rattle.solero_cell.specs.Histories.{last_count, RecordStands, IsLast, OwnStand}
 use Rattle.solero_cell.specs.CellViews.{record_of, noted, has_failed, has_loaded, forgot, has_read, has_compared, IsStill}
-use Rattle.solero_cell.specs.CellRules.{values_of, Knows, IsAtRest, IsHeld, Shows}
-use Rattle.solero_cell.specs.Steps.{note_of, joining_of, NotedBy, TellsNote, ended, TellsFinish, HasCompared}
+use Rattle.solero_cell.specs.CellRules.{cell_values, ViewKnowledge, IsAtRest, IsHeldByWrite, HasOneHistory}
+use Rattle.solero_cell.specs.Steps.{note_of, joining_of, NotedBy, TellsNote, attempt_ended, TellsFinish, HasCompared}
 use Rattle.solero_cell.specs.Stages.{IsLoading, IsJoining}
 use Rattle.solero_cell.proofs.Standing.{at_most_last, last_stands, newest_stands}
 use Rattle.solero_cell.proofs.Words.{free_word, free_is_lock, next_taken, value_index, values_long, all_taken}
@@ -22,18 +22,18 @@ use Rattle.solero_cell.proofs.Knowing.{calm, knows_of, none_loaded, if_some}
 use Rattle.solero_cell.proofs.Made.{looked}
 
 abbrev pub rule : {S : Type 0} → Record → State S View → Type 0
-rule o s = Shows o s.words s.views
+rule o s = HasOneHistory o s.words s.views
 
 -- what a step that leaves the words leads to: the rule holds with another view, and it tells this
 abbrev pub Looks : (o : Record) (ws : List ℕ) (views : List View) (id : ℕ) → (View → Type 0) → Type 0
-Looks o ws views id told = (w : View) × Shows o ws (slice_set views id w) × told w
+Looks o ws views id told = (w : View) × HasOneHistory o ws (slice_set views id w) × told w
 
 pub load_allows : {S : Type 0} (o : Record) (slots id i : ℕ) (me : Me S View) (told : ℕ → View → Type 0)
-    → ((ws : List ℕ) (views : List View) → Shows o ws views → get_elem? views id ≡ some me.0 → Looks o ws views id (told (slice_index ws i)))
+    → ((ws : List ℕ) (views : List View) → HasOneHistory o ws views → get_elem? views id ≡ some me.0 → Looks o ws views id (told (slice_index ws i)))
     → Allows (rule o) slots id me i (λ n. n) (λ n w. told n w.0 × (w.1 ≡ me.1))
 load_allows o slots id i me told f s run long at small =
     let r = f s.words s.views run at in
-    (r.0, keeps, tt, subst (λ ws. Shows o ws (slice_set s.views id r.0)) (sym (set-get_or s.words i 0)) r.1, (r.2, refl))
+    (r.0, keeps, tt, subst (λ ws. HasOneHistory o ws (slice_set s.views id r.0)) (sym (set-get_or s.words i 0)) r.1, (r.2, refl))
 
 pub some_note : (p : Option ℕ) → IsSome p → p ≡ Some (unwrap_or p 0)
 some_note None n = let bad : false ≡ true = n in absurd (cc)
@@ -43,8 +43,8 @@ some_record : (p : Option Record) → IsSome p → p ≡ Some (unwrap_or p (reco
 some_record None n = let bad : false ≡ true = n in absurd (cc)
 some_record (Some r) n = refl
 
-module _ (o : Record) (id : ℕ) (v : View) (parts : 0 < v.share.parts) (ws : List ℕ) (views : List View) (s : Shows o ws views) (at : get_elem? views id ≡ some v) where
-  pub its : Knows o s.history ws v
+module _ (o : Record) (id : ℕ) (v : View) (parts : 0 < v.share.parts) (ws : List ℕ) (views : List View) (s : HasOneHistory o ws views) (at : get_elem? views id ≡ some v) where
+  pub its : ViewKnowledge o s.history ws v
   its = knows_of o s.history ws v parts (s.each id v at)
 
   -- ---- a note load
@@ -64,7 +64,7 @@ module _ (o : Record) (id : ℕ) (v : View) (parts : 0 < v.share.parts) (ws : Li
             },
           )
 
-      held : IsHeld ws views → Looks o ws views id (TellsNote v (slice_index ws 0))
+      held : IsHeldByWrite ws views → Looks o ws views id (TellsNote v (slice_index ws 0))
       held r = (
         has_failed (slice_index ws 0) v,
         looked o ws views id v (has_failed (slice_index ws 0) v) s at refl parts refl refl (calm o s.history ws (has_failed (slice_index ws 0) v) its.opening_is (record { writes = its.own.writes; latest = its.own.latest }) its.note its.loaded still.storing still.joining),
@@ -85,15 +85,15 @@ module _ (o : Record) (id : ℕ) (v : View) (parts : 0 < v.share.parts) (ws : Li
       )
     where
       more : (c : ℕ) → v.note ≡ Some c → slice_index ws 0 ≡ 4 * c
-          → v.loaded ++ slice_index ws (suc i) ∷ [] ≡ take (length (v.loaded ++ slice_index ws (suc i) ∷ [])) (values_of ws)
+          → v.loaded ++ slice_index ws (suc i) ∷ [] ≡ take (length (v.loaded ++ slice_index ws (suc i) ∷ [])) (cell_values ws)
       more c n w =
           let one : length (v.loaded ++ slice_index ws (suc i) ∷ []) ≡ suc i = omega (arith, length-append v.loaded (slice_index ws (suc i) ∷ []), is.loaded) in
-          let so_far : v.loaded ≡ take i (values_of ws) = its.loaded c n w ∙ ap (λ k. take k (values_of ws)) is.loaded in
+          let so_far : v.loaded ≡ take i (cell_values ws) = its.loaded c n w ∙ ap (λ k. take k (cell_values ws)) is.loaded in
           let long = values_long ws (length o.values) s.long in
           ap (λ l. l ++ slice_index ws (suc i) ∷ []) so_far
-          ∙ ap (λ x. take i (values_of ws) ++ x ∷ []) (sym (value_index ws i))
-          ∙ sym (next_taken (values_of ws) i (omega (arith, long, lt)))
-          ∙ ap (λ k. take k (values_of ws)) (sym one)
+          ∙ ap (λ x. take i (cell_values ws) ++ x ∷ []) (sym (value_index ws i))
+          ∙ sym (next_taken (cell_values ws) i (omega (arith, long, lt)))
+          ∙ ap (λ k. take k (cell_values ws)) (sym one)
 
   pub load_step_at : (i j : ℕ) → j ≡ suc i → IsLoading i v → i < length o.values → Looks o ws views id (λ w. w ≡ has_loaded (slice_index ws j) v)
   load_step_at i j e is lt = subst (λ k. Looks o ws views id (λ w. w ≡ has_loaded (slice_index ws k) v)) (sym e) (load_step i is lt)
@@ -112,7 +112,7 @@ module _ (o : Record) (id : ℕ) (v : View) (parts : 0 < v.share.parts) (ws : Li
       same_at : slice_index ws 0 ≡ 4 * note_of v → IsAtRest o s.history ws views → Looks o ws views id (TellsFinish is_last v (slice_index ws 0))
       same_at e r =
           let c : note_of v ≡ last_count o s.history = omega (arith, e, r.word) in
-          let all : v.loaded ≡ values_of ws = all_taken v.loaded (values_of ws) (its.loaded (note_of v) note e) (is.loaded ∙ sym (values_long ws (length o.values) s.long)) in
+          let all : v.loaded ≡ cell_values ws = all_taken v.loaded (cell_values ws) (its.loaded (note_of v) note e) (is.loaded ∙ sym (values_long ws (length o.values) s.long)) in
           let last : IsLast o s.history got = record { count = c; values = r.values.values ∙ ap Some (sym all) } in
           let w : View = has_read got (forgot v) in (
             w,
@@ -133,19 +133,19 @@ module _ (o : Record) (id : ℕ) (v : View) (parts : 0 < v.share.parts) (ws : Li
       same : slice_index ws 0 ≡ 4 * note_of v → Looks o ws views id (TellsFinish is_last v (slice_index ws 0))
       same e = ⊎_elim (same_at e) (λ r. absurd (omega (arith, e, r.word))) s.lock
 
-      ended_step : (b : Bool) → Shows o ws (slice_set views id (ended b (slice_index ws 0) v))
-      ended_step true = looked o ws views id v (ended true (slice_index ws 0) v) s at refl parts refl refl (calm o s.history ws (ended true (slice_index ws 0) v) its.opening_is (record { writes = its.own.writes; latest = its.own.latest }) its.note (none_loaded ws v.note [] refl) is.storing is.joining)
-      ended_step false = looked o ws views id v (ended false (slice_index ws 0) v) s at refl parts refl refl (calm o s.history ws (ended false (slice_index ws 0) v) its.opening_is (record { writes = its.own.writes; latest = its.own.latest }) its.note (none_loaded ws v.note [] refl) is.storing is.joining)
+      ended_step : (b : Bool) → HasOneHistory o ws (slice_set views id (attempt_ended b (slice_index ws 0) v))
+      ended_step true = looked o ws views id v (attempt_ended true (slice_index ws 0) v) s at refl parts refl refl (calm o s.history ws (attempt_ended true (slice_index ws 0) v) its.opening_is (record { writes = its.own.writes; latest = its.own.latest }) its.note (none_loaded ws v.note [] refl) is.storing is.joining)
+      ended_step false = looked o ws views id v (attempt_ended false (slice_index ws 0) v) s at refl parts refl refl (calm o s.history ws (attempt_ended false (slice_index ws 0) v) its.opening_is (record { writes = its.own.writes; latest = its.own.latest }) its.note (none_loaded ws v.note [] refl) is.storing is.joining)
 
       other : slice_index ws 0 ≢ 4 * note_of v → Looks o ws views id (TellsFinish is_last v (slice_index ws 0))
-      other n = (ended is_last (slice_index ws 0) v, ended_step is_last, record { same = λ e. absurd (n e); other = λ m. refl })
+      other n = (attempt_ended is_last (slice_index ws 0) v, ended_step is_last, record { same = λ e. absurd (n e); other = λ m. refl })
 
   -- ---- the second load of a join
 
   pub compare_step : IsJoining v → Looks o ws views id (HasCompared v)
   compare_step is =
       let r : Record = joining_of v in
-      let there : Stands o s.history r = if_some (Stands o s.history) v.joining r (some_record v.joining is.joining) its.joining in
+      let there : RecordStands o s.history r = if_some (RecordStands o s.history) v.joining r (some_record v.joining is.joining) its.joining in
       let w : View = has_compared r v in (
         w,
         looked o ws views id v w s at refl parts refl refl (calm o s.history ws w its.opening_is (record { writes = its.own.writes; latest = newest_stands o s.history v.latest r its.own.latest there }) its.note (none_loaded ws v.note v.loaded is.loaded) is.storing refl),
@@ -153,6 +153,6 @@ module _ (o : Record) (id : ℕ) (v : View) (parts : 0 < v.share.parts) (ws : Li
           view = refl;
           history = s.history;
           own = subst (λ (q : Record). OwnStand q s.history v) (sym its.opening_is) its.own;
-          other = subst (λ (q : Record). Stands q s.history r) (sym its.opening_is) there;
+          other = subst (λ (q : Record). RecordStands q s.history r) (sym its.opening_is) there;
         },
       )

@@ -4,7 +4,7 @@ use Rattle.std.specs.Prelude.{slice_get, IfSome, if◌then◌else◌, nat_lt}
 use Rattle.std.proofs.lemmas.Option.{slice_get_within}
 use Rattle.solero_cell.specs.declared.views.Record.{Record}
 use Rattle.solero_cell.specs.declared.views.View.{View}
-use Rattle.solero_cell.specs.Histories.{History, last_count, Stands, AllStand, IsLast, OwnStand}
+use Rattle.solero_cell.specs.Histories.{History, last_count, RecordStands, AllStand, IsLast, OwnStand}
 use Rattle.solero_cell.specs.CellViews.{newest, record_of}
 
 got_longer : {A : Type 0} (xs ys : List A) (i : ℕ) (x : A) → slice_get xs i ≡ Some x → slice_get (xs ++ ys) i ≡ Some x
@@ -16,18 +16,18 @@ got_end : {A : Type 0} (xs : List A) (x : A) → slice_get (xs ++ x ∷ []) (len
 got_end [] x = refl
 got_end (z ∷ zs) x = got_end zs x
 
-pub at_most_last : (o : Record) (h : History) (r : Record) → Stands o h r → r.count ≤ last_count o h
+pub at_most_last : (o : Record) (h : History) (r : Record) → RecordStands o h r → r.count ≤ last_count o h
 at_most_last o h r s = let lt : s.place < suc (length h) = slice_get_within (o.values ∷ h) s.place r.values s.values in let c = s.count in omega arith
 
-pub last_stands : (o : Record) (h : History) (r : Record) → IsLast o h r → Stands o h r
+pub last_stands : (o : Record) (h : History) (r : Record) → IsLast o h r → RecordStands o h r
 last_stands o h r l = record { place = length h; count = l.count; values = l.values }
 
-pub opening_stands : (o : Record) → Stands o [] o
+pub opening_stands : (o : Record) → RecordStands o [] o
 opening_stands o = record { place = 0; count = omega arith; values = refl }
 
 -- ---- one write more
 
-pub stands_on : (o : Record) (h : History) (xs : List ℕ) (r : Record) → Stands o h r → Stands o (h ++ xs ∷ []) r
+pub stands_on : (o : Record) (h : History) (xs : List ℕ) (r : Record) → RecordStands o h r → RecordStands o (h ++ xs ∷ []) r
 stands_on o h xs r s = record { place = s.place; count = s.count; values = got_longer (o.values ∷ h) (xs ∷ []) s.place r.values s.values }
 
 pub all_on : (o : Record) (h : History) (xs : List ℕ) (rs : List Record) → AllStand o h rs → AllStand o (h ++ xs ∷ []) rs
@@ -37,7 +37,7 @@ all_on o h xs (r ∷ rs) s = (stands_on o h xs r s.0, all_on o h xs rs s.1)
 pub own_on : (o : Record) (h : History) (xs : List ℕ) (v : View) → OwnStand o h v → OwnStand o (h ++ xs ∷ []) v
 own_on o h xs v s = record { writes = all_on o h xs v.writes s.writes; latest = stands_on o h xs v.latest s.latest }
 
-pub joining_on : (o : Record) (h : History) (xs : List ℕ) (p : Option Record) → IfSome p (Stands o h) → IfSome p (Stands o (h ++ xs ∷ []))
+pub joining_on : (o : Record) (h : History) (xs : List ℕ) (p : Option Record) → IfSome p (RecordStands o h) → IfSome p (RecordStands o (h ++ xs ∷ []))
 joining_on o h xs None s = tt
 joining_on o h xs (Some r) s = stands_on o h xs r s
 
@@ -64,9 +64,9 @@ pub all_right : (o : Record) (h : History) (rs qs : List Record) → AllStand o 
 all_right o h [] qs s = s
 all_right o h (r ∷ rs) qs s = all_right o h rs qs s.1
 
-newest_by : (o : Record) (h : History) (r q : Record) (b : Bool) → Stands o h r → Stands o h q → Stands o h (if b then q else r)
+newest_by : (o : Record) (h : History) (r q : Record) (b : Bool) → RecordStands o h r → RecordStands o h q → RecordStands o h (if b then q else r)
 newest_by o h r q true s t = t
 newest_by o h r q false s t = s
 
-pub newest_stands : (o : Record) (h : History) (r q : Record) → Stands o h r → Stands o h q → Stands o h (newest r q)
+pub newest_stands : (o : Record) (h : History) (r q : Record) → RecordStands o h r → RecordStands o h q → RecordStands o h (newest r q)
 newest_stands o h r q s t = newest_by o h r q (nat_lt r.count q.count) s t

@@ -5,7 +5,7 @@ use Rattle.std.proofs.lemmas.List.{get_or-set_same, get_or-set_other, drop-set-l
 use Rattle.std.proofs.Math.Seq.{take-suc-set, take-length}
 use Rattle.machine_types.specs.LockWords.{lock_by, lock_of, is_lock_by, is_lock_word}
 use Rattle.machine_types.specs.declared.lock.LockWord.TheVariants.{Free}
-use Rattle.solero_cell.specs.CellRules.{values_of}
+use Rattle.solero_cell.specs.CellRules.{cell_values}
 
 -- ---- lock words
 
@@ -27,11 +27,11 @@ next_taken [] n lt = absurd (omega arith)
 next_taken (y ∷ ys) zero lt = refl
 next_taken (y ∷ ys) (suc n) lt = ap (λ l. y ∷ l) (next_taken ys n (omega arith))
 
-pub value_index : (ws : List ℕ) (n : ℕ) → slice_index (values_of ws) n ≡ slice_index ws (suc n)
+pub value_index : (ws : List ℕ) (n : ℕ) → slice_index (cell_values ws) n ≡ slice_index ws (suc n)
 value_index [] n = refl
 value_index (w ∷ ws) n = refl
 
-pub values_long : (ws : List ℕ) (n : ℕ) → length ws ≡ suc n → length (values_of ws) ≡ n
+pub values_long : (ws : List ℕ) (n : ℕ) → length ws ≡ suc n → length (cell_values ws) ≡ n
 values_long [] n e = absurd (omega arith)
 values_long (w ∷ ws) n e = omega arith
 
@@ -43,7 +43,7 @@ all_taken xs ys e l = e ∙ ap (λ n. take n ys) l ∙ take-length ys
 pub lock_set : (ws : List ℕ) (x : ℕ) → 0 < length ws → slice_index (slice_set ws 0 x) 0 ≡ x
 lock_set ws x lt = get_or-set_same ws 0 x 0 lt
 
-pub values_kept : (ws : List ℕ) (x : ℕ) → values_of (slice_set ws 0 x) ≡ values_of ws
+pub values_kept : (ws : List ℕ) (x : ℕ) → cell_values (slice_set ws 0 x) ≡ cell_values ws
 values_kept ws x = drop-set-lt 1 ws 0 x (omega arith)
 
 -- ---- a value changes
@@ -51,10 +51,10 @@ values_kept ws x = drop-set-lt 1 ws 0 x (omega arith)
 pub lock_kept : (ws : List ℕ) (n x : ℕ) → slice_index (slice_set ws (suc n) x) 0 ≡ slice_index ws 0
 lock_kept ws n x = get_or-set_other ws (suc n) 0 x 0 (λ e. absurd (omega arith))
 
-values_set : (ws : List ℕ) (n x : ℕ) → values_of (slice_set ws (suc n) x) ≡ slice_set (values_of ws) n x
+values_set : (ws : List ℕ) (n x : ℕ) → cell_values (slice_set ws (suc n) x) ≡ slice_set (cell_values ws) n x
 values_set [] n x = refl
 values_set (w ∷ ws) n x = refl
 
-pub value_set : (ws : List ℕ) (n x : ℕ) → n < length (values_of ws)
-    → take (suc n) (values_of (slice_set ws (suc n) x)) ≡ take n (values_of ws) ++ x ∷ []
-value_set ws n x lt = ap (take (suc n)) (values_set ws n x) ∙ take-suc-set (values_of ws) n x lt
+pub value_set : (ws : List ℕ) (n x : ℕ) → n < length (cell_values ws)
+    → take (suc n) (cell_values (slice_set ws (suc n) x)) ≡ take n (cell_values ws) ++ x ∷ []
+value_set ws n x lt = ap (take (suc n)) (values_set ws n x) ∙ take-suc-set (cell_values ws) n x lt

@@ -15,7 +15,7 @@ use Rattle.solero_cell.specs.declared.views.Storing.{Storing}
 use Rattle.solero_cell.specs.declared.views.View.{View}
 use Rattle.solero_cell.specs.Histories.{History, last_count, IsLast, OwnStand}
 use Rattle.solero_cell.specs.CellViews.{record_of, has_failed, has_taken, one_stored, has_stored, has_written, has_released}
-use Rattle.solero_cell.specs.CellRules.{values_of, IsUnderWay, Knows, one_if, stores, is_between, IsAtRest, IsHeld, Shows}
+use Rattle.solero_cell.specs.CellRules.{cell_values, IsUnderWay, ViewKnowledge, one_if, storing_count, is_in_span, IsAtRest, IsHeldByWrite, HasOneHistory}
 use Rattle.solero_cell.specs.Steps.{note_of, storing_of, TellsTake, HasWritten}
 use Rattle.solero_cell.specs.Stages.{IsNoted, IsStoring}
 use Rattle.solero_cell.proofs.Sums.{sum_set, at_most, others_none}
@@ -27,10 +27,10 @@ use Rattle.solero_cell.proofs.ReadSteps.{rule, some_note, its}
 
 -- what a step that writes a word leads to
 abbrev pub Leads : (o : Record) (ws : List ℕ) (views : List View) (id i x : ℕ) → (View → Type 0) → Type 0
-Leads o ws views id i x told = (w : View) × Shows o (slice_set ws i x) (slice_set views id w) × told w
+Leads o ws views id i x told = (w : View) × HasOneHistory o (slice_set ws i x) (slice_set views id w) × told w
 
 pub write_allows : {S : Type 0} (o : Record) (slots id i : ℕ) (f : ℕ → ℕ) (me : Me S View) (told : ℕ → View → Type 0)
-    → ((ws : List ℕ) (views : List View) → Shows o ws views → get_elem? views id ≡ some me.0 → Leads o ws views id i (f (slice_index ws i)) (told (slice_index ws i)))
+    → ((ws : List ℕ) (views : List View) → HasOneHistory o ws views → get_elem? views id ≡ some me.0 → Leads o ws views id i (f (slice_index ws i)) (told (slice_index ws i)))
     → Allows (rule o) slots id me i f (λ n w. told n w.0 × (w.1 ≡ me.1))
 write_allows o slots id i f me told g s run long at small =
     let r = g s.words s.views run at in (r.0, keeps, tt, r.1, (r.2, refl))
@@ -40,11 +40,11 @@ some_storing None n = let bad : false ≡ true = n in absurd (cc)
 some_storing (Some c) n = refl
 
 -- the counts above the first, up to one more
-one_more : (n first last : ℕ) → first ≤ last → one_if (is_between n first (last + 1)) ≡ one_if (is_between n first last) + one_if (last + 1 == n)
+one_more : (n first last : ℕ) → first ≤ last → one_if (is_in_span n first (last + 1)) ≡ one_if (is_in_span n first last) + one_if (last + 1 == n)
 one_more n first last le = grind (arith, nat_tests)
 
-module _ (o : Record) (id : ℕ) (v : View) (parts : 0 < v.share.parts) (ws : List ℕ) (views : List View) (s : Shows o ws views) (at : get_elem? views id ≡ some v) where
-  abbrev mine : Knows o s.history ws v
+module _ (o : Record) (id : ℕ) (v : View) (parts : 0 < v.share.parts) (ws : List ℕ) (views : List View) (s : HasOneHistory o ws views) (at : get_elem? views id ≡ some v) where
+  abbrev mine : ViewKnowledge o s.history ws v
   mine = its o id v parts ws views s at
 
   -- ---- a take exchange
@@ -61,11 +61,11 @@ module _ (o : Record) (id : ℕ) (v : View) (parts : 0 < v.share.parts) (ws : Li
         let lock : slice_index ws' 0 ≡ 6 = lock_set ws 6 (omega (arith, s.long)) in
         let same = values_kept ws 6 in
         let not_free : (c : ℕ) → slice_index ws' 0 ≢ 4 * c = λ c e. absurd (omega (arith, e, lock)) in
-        let sum = sum_set stores views id v w at in
-        let none : stores v ≡ 0 = is_not_storing v is.still.storing in
-        let one : stores w ≡ 1 = refl in
-        let now : sum_by stores (slice_set views id w) ≡ 1 = omega (arith, sum, none, one, r.nobody) in
-        let k : Knows o s.history ws' w = record {
+        let sum = sum_set storing_count views id v w at in
+        let none : storing_count v ≡ 0 = is_not_storing v is.still.storing in
+        let one : storing_count w ≡ 1 = refl in
+        let now : sum_by storing_count (slice_set views id w) ≡ 1 = omega (arith, sum, none, one, r.nobody) in
+        let k : ViewKnowledge o s.history ws' w = record {
           opening_is = mine.opening_is;
           own = record { writes = mine.own.writes; latest = mine.own.latest };
           note = mine.note;
@@ -88,7 +88,7 @@ module _ (o : Record) (id : ℕ) (v : View) (parts : 0 < v.share.parts) (ws : Li
         let k = calm o s.history ws w mine.opening_is (record { writes = mine.own.writes; latest = mine.own.latest }) mine.note mine.loaded is.still.storing is.still.joining in
         let kept : slice_set ws 0 (slice_index ws 0) ≡ ws = set-get_or ws 0 0 in (
           w,
-          subst (λ l. Shows o l (slice_set views id w)) (sym kept) (looked o ws views id v w s at refl parts refl refl k),
+          subst (λ l. HasOneHistory o l (slice_set views id w)) (sym kept) (looked o ws views id v w s at refl parts refl refl k),
           record { same = λ e. absurd (n (e ∙ sym is.word_is)); other = λ m. refl },
         )
 
@@ -107,15 +107,15 @@ module _ (o : Record) (id : ℕ) (v : View) (parts : 0 < v.share.parts) (ws : Li
     under_way : IsUnderWay o s.history ws v.note now
     under_way = if_some (IsUnderWay o s.history ws v.note) v.storing now storing mine.storing
 
-    held_by : IsAtRest o s.history ws views ⊎ IsHeld ws views → IsHeld ws views
-    held_by (inl r) = let most = at_most stores views id v at in let one = is_storing v now storing in absurd (omega (arith, most, one, r.nobody))
+    held_by : IsAtRest o s.history ws views ⊎ IsHeldByWrite ws views → IsHeldByWrite ws views
+    held_by (inl r) = let most = at_most storing_count views id v at in let one = is_storing v now storing in absurd (omega (arith, most, one, r.nobody))
     held_by (inr h) = h
 
-    held : IsHeld ws views
+    held : IsHeldByWrite ws views
     held = held_by s.lock
 
     no_other : (j : ℕ) (u : View) → j ≢ id → get_elem? views j ≡ some u → u.storing ≡ None
-    no_other j u n g = not_storing u (others_none stores views id j v u at (let one = is_storing v now storing in omega (arith, one, held.one)) n g)
+    no_other j u n g = not_storing u (others_none storing_count views id j v u at (let one = is_storing v now storing in omega (arith, one, held.one)) n g)
 
     -- ---- a value store
 
@@ -140,16 +140,16 @@ module _ (o : Record) (id : ℕ) (v : View) (parts : 0 < v.share.parts) (ws : Li
         let next = one_stored_as x now.left first now.stored in
         let short = shorter x now.left first in
         let long = values_long ws (length o.values) s.long in
-        let sum = sum_set stores views id v w at in
+        let sum = sum_set storing_count views id v w at in
         let one = is_storing v now storing in
-        let one' : stores w ≡ 1 = refl in
-        let after : sum_by stores (slice_set views id w) ≡ 1 = omega (arith, sum, one, one', held.one) in
+        let one' : storing_count w ≡ 1 = refl in
+        let after : sum_by storing_count (slice_set views id w) ≡ 1 = omega (arith, sum, one, one', held.one) in
         let n : length (now.stored ++ x ∷ []) ≡ suc i = omega (arith, length-append now.stored (x ∷ []), is.stored) in
-        let so_far : now.stored ≡ take i (values_of ws) = under_way.stored ∙ ap (λ k. take k (values_of ws)) is.stored in
-        let at_now : now.stored ++ x ∷ [] ≡ take (length (now.stored ++ x ∷ [])) (values_of ws') =
-        ap (λ l. l ++ x ∷ []) so_far ∙ sym (value_set ws i x (omega (arith, long, under_way.long, is.stored, short))) ∙ ap (λ k. take k (values_of ws')) (sym n) in
+        let so_far : now.stored ≡ take i (cell_values ws) = under_way.stored ∙ ap (λ k. take k (cell_values ws)) is.stored in
+        let at_now : now.stored ++ x ∷ [] ≡ take (length (now.stored ++ x ∷ [])) (cell_values ws') =
+        ap (λ l. l ++ x ∷ []) so_far ∙ sym (value_set ws i x (omega (arith, long, under_way.long, is.stored, short))) ∙ ap (λ k. take k (cell_values ws')) (sym n) in
         let going : IsUnderWay o s.history ws' v.note (pair (now.stored ++ x ∷ []) (drop 1 now.left)) = record { note_is = under_way.note_is; stored = at_now; long = omega (arith, n, short, under_way.long, is.stored) } in
-        let k : Knows o s.history ws' w = record {
+        let k : ViewKnowledge o s.history ws' w = record {
           opening_is = mine.opening_is;
           own = record { writes = mine.own.writes; latest = mine.own.latest };
           note = mine.note;
@@ -177,14 +177,14 @@ module _ (o : Record) (id : ℕ) (v : View) (parts : 0 < v.share.parts) (ws : Li
         let w : View = has_written r (has_released v) in
         let ws' : List ℕ = slice_set ws 0 (4 * (note_of v + 1)) in
         let lock : slice_index ws' 0 ≡ 4 * (note_of v + 1) = lock_set ws (4 * (note_of v + 1)) (omega (arith, s.long)) in
-        let values : now.stored ≡ values_of ws' =
-        all_taken now.stored (values_of ws) under_way.stored (omega (arith, is.stored, all, values_long ws (length o.values) s.long)) ∙ sym (values_kept ws (4 * (note_of v + 1))) in
+        let values : now.stored ≡ cell_values ws' =
+        all_taken now.stored (cell_values ws) under_way.stored (omega (arith, is.stored, all, values_long ws (length o.values) s.long)) ∙ sym (values_kept ws (4 * (note_of v + 1))) in
         let last : IsLast o h' r = new_last o s.history now.stored (note_of v) c in
         let own = own_on o s.history now.stored v mine.own in
-        let sum = sum_set stores views id v w at in
+        let sum = sum_set storing_count views id v w at in
         let one = is_storing v now storing in
-        let none : stores w ≡ 0 = refl in
-        let nobody : sum_by stores (slice_set views id w) ≡ 0 = omega (arith, sum, one, none, held.one) in
+        let none : storing_count w ≡ 0 = refl in
+        let nobody : sum_by storing_count (slice_set views id w) ≡ 0 = omega (arith, sum, one, none, held.one) in
         let rest : IsAtRest o h' ws' (slice_set views id w) = record {
           word = lock ∙ ap (λ n. 4 * n) last.count;
           values = record { count = refl; values = last.values ∙ ap Some values };
@@ -201,7 +201,7 @@ module _ (o : Record) (id : ℕ) (v : View) (parts : 0 < v.share.parts) (ws : Li
               (λ n. let push = sum_by_push (λ (q : Record). one_if (q.count == n)) v.writes r in
               let between = one_more n o.count (last_count o s.history) (omega arith) in
               let here : one_if (note_of v + 1 == n) ≡ one_if (last_count o s.history + 1 == n) = ap (λ m. one_if (m + 1 == n)) c in
-              let there : one_if (is_between n o.count (last_count o h')) ≡ one_if (is_between n o.count (last_count o s.history + 1)) = ap (λ m. one_if (is_between n o.count m)) more in
+              let there : one_if (is_in_span n o.count (last_count o h')) ≡ one_if (is_in_span n o.count (last_count o s.history + 1)) = ap (λ m. one_if (is_in_span n o.count m)) more in
               omega (arith, push, between, here, there))
               (let push = length-append v.writes (r ∷ []) in omega (arith, push, long)),
           record {

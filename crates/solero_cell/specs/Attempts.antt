@@ -5,14 +5,14 @@ use Rattle.machine_types.specs.declared.lock.LockWord.TheVariants.{Free}
 use Rattle.solero_cell.specs.declared.answers.CellRead.{CellRead}
 use Rattle.solero_cell.specs.declared.answers.CellRead.TheVariants.{Got, NotFree, Changed}
 use Rattle.solero_cell.specs.declared.views.View.{View}
-use Rattle.solero_cell.specs.Histories.{IsSeen}
-use Rattle.solero_cell.specs.CellViews.{is_free, record_of, noted, has_failed, has_read}
+use Rattle.solero_cell.specs.Histories.{IsRecordSeen}
+use Rattle.solero_cell.specs.CellViews.{is_free_lock, record_of, noted, has_failed, has_read}
 use Rattle.solero_cell.specs.Calls.{IsGot, IsNotFree, IsChanged}
 
 pub record HasGot (was : View) (c : ℕ) (values : List ℕ) (now : View) : Type 0 where
   pub view : now ≡ has_read (record_of c values) (noted c was)
   pub later : was.latest.count ≤ c
-  pub seen : IsSeen was (record_of c values)
+  pub seen : IsRecordSeen was (record_of c values)
 
 pub record HasChanged (is_last : Bool) (was : View) (word found : ℕ) (now : View) : Type 0 where
   pub count : ℕ
@@ -22,7 +22,7 @@ pub record HasChanged (is_last : Bool) (was : View) (word found : ℕ) (now : Vi
 
 abbrev pub IsAttempt : (is_last : Bool) → (was : View) → (values : List ℕ) → CellRead → (now : View) → Type 0
 IsAttempt is_last was values (Got c) now = HasGot was c values now
-IsAttempt is_last was values (NotFree word) now = (now ≡ has_failed word was) × (is_free (lock_of word) ≡ false)
+IsAttempt is_last was values (NotFree word) now = (now ≡ has_failed word was) × (is_free_lock (lock_of word) ≡ false)
 IsAttempt is_last was values (Changed word found) now = HasChanged is_last was word found now
 
 abbrev pub IsTried : (was : View) → (values : List ℕ) → CellRead → (now : View) → Type 0
@@ -33,14 +33,14 @@ IsTried was values (Changed word found) now = IsChanged was word found now
 -- what follows the note of an attempt
 pub record IsBehindGot (was : View) (c : ℕ) (values : List ℕ) (now : View) : Type 0 where
   pub view : now ≡ has_read (record_of c values) was
-  pub seen : IsSeen was (record_of c values)
+  pub seen : IsRecordSeen was (record_of c values)
 
 pub record IsBehindChanged (is_last : Bool) (was : View) (c : ℕ) (word found : ℕ) (now : View) : Type 0 where
   pub view : now ≡ (if is_last then has_failed found was else was)
   pub word_is : word ≡ word_of_lock (Free c)
   pub differ : word ≢ found
 
-abbrev pub IsBehind : (is_last : Bool) → (was : View) → (c : ℕ) → (values : List ℕ) → CellRead → (now : View) → Type 0
-IsBehind is_last was c values (Got count) now = (count ≡ c) × IsBehindGot was c values now
-IsBehind is_last was c values (NotFree word) now = ⊥
-IsBehind is_last was c values (Changed word found) now = IsBehindChanged is_last was c word found now
+abbrev pub IsBehindRead : (is_last : Bool) → (was : View) → (c : ℕ) → (values : List ℕ) → CellRead → (now : View) → Type 0
+IsBehindRead is_last was c values (Got count) now = (count ≡ c) × IsBehindGot was c values now
+IsBehindRead is_last was c values (NotFree word) now = ⊥
+IsBehindRead is_last was c values (Changed word found) now = IsBehindChanged is_last was c word found now

@@ -12,9 +12,9 @@ use Rattle.solero_cell.specs.declared.answers.CellWrite.TheVariants as wrote
 use Rattle.solero_cell.specs.declared.views.Record.{Record}
 use Rattle.solero_cell.specs.declared.views.Share.{Share}
 use Rattle.solero_cell.specs.declared.views.View.{View}
-use Rattle.solero_cell.specs.Histories.{IsSeen}
-use Rattle.solero_cell.specs.CellRules.{Shows}
-use Rattle.solero_cell.specs.CellViews.{is_free, record_of, noted, has_failed, has_read, has_written, spent, IsStill}
+use Rattle.solero_cell.specs.Histories.{IsRecordSeen}
+use Rattle.solero_cell.specs.CellRules.{HasOneHistory}
+use Rattle.solero_cell.specs.CellViews.{is_free_lock, record_of, noted, has_failed, has_read, has_written, spent, IsStill}
 
 -- a seat at a cell: of which table, and what it knows
 pub record Seated : Type 0 where
@@ -22,8 +22,8 @@ pub record Seated : Type 0 where
   pub view : View
 
 -- the table is that of the seat
-abbrev pub IsTableOf : TableId → (opening : Record) → Seated → Type 0
-IsTableOf table opening s = (table ≡ s.table_id) × (opening ≡ s.view.opening)
+abbrev pub IsTableOfSeat : TableId → (opening : Record) → Seated → Type 0
+IsTableOfSeat table opening s = (table ≡ s.table_id) × (opening ≡ s.view.opening)
 
 -- what holds of every seat between two calls
 pub record IsSeat (s : Seated) : Type 0 where
@@ -36,21 +36,21 @@ pub record IsSeat (s : Seated) : Type 0 where
 -- ---- a read
 
 -- the attempt begins at the view, or behind one that ended without an answer
-abbrev pub Begins : (was now : View) → Type 0
-Begins was now = (now ≡ was) ⊎ ((c : ℕ) × (now ≡ noted c was))
+abbrev pub IsTryBegun : (was now : View) → Type 0
+IsTryBegun was now = (now ≡ was) ⊎ ((c : ℕ) × (now ≡ noted c was))
 
 pub record IsGot (was : View) (c : ℕ) (values : List ℕ) (now : View) : Type 0 where
   pub begun : View
-  pub begins : Begins was begun
+  pub begins : IsTryBegun was begun
   pub view : now ≡ has_read (record_of c values) (noted c begun)
   pub later : was.latest.count ≤ c
-  pub seen : IsSeen was (record_of c values)
+  pub seen : IsRecordSeen was (record_of c values)
 
 pub record IsNotFree (was : View) (word : ℕ) (now : View) : Type 0 where
   pub begun : View
-  pub begins : Begins was begun
+  pub begins : IsTryBegun was begun
   pub view : now ≡ has_failed word begun
-  pub held : is_free (lock_of word) ≡ false
+  pub held : is_free_lock (lock_of word) ≡ false
 
 pub record IsChanged (was : View) (word found : ℕ) (now : View) : Type 0 where
   pub first : ℕ
@@ -60,10 +60,10 @@ pub record IsChanged (was : View) (word found : ℕ) (now : View) : Type 0 where
   pub differ : word ≢ found
 
 -- `out` has the values after Got, and is unchanged after every other answer
-abbrev pub IsRead : (was : View) (out : List ℕ) → CellRead → (now : View) (filled : List ℕ) → Type 0
-IsRead was out (Got c) now filled = IsGot was c filled now
-IsRead was out (NotFree word) now filled = IsNotFree was word now × (filled ≡ out)
-IsRead was out (Changed word found) now filled = IsChanged was word found now × (filled ≡ out)
+abbrev pub IsCellRead : (was : View) (out : List ℕ) → CellRead → (now : View) (filled : List ℕ) → Type 0
+IsCellRead was out (Got c) now filled = IsGot was c filled now
+IsCellRead was out (NotFree word) now filled = IsNotFree was word now × (filled ≡ out)
+IsCellRead was out (Changed word found) now filled = IsChanged was word found now × (filled ≡ out)
 
 -- ---- a write
 
@@ -72,7 +72,7 @@ pub record IsWrote (was : View) (values : List ℕ) (c : ℕ) (now : View) : Typ
   pub count : c ≡ before + 1
   pub view : now ≡ has_written (record_of c values) (noted before was)
   pub later : was.latest.count < c
-  pub seen : IsSeen was (record_of c values)
+  pub seen : IsRecordSeen was (record_of c values)
   pub fits : c < 2 ^ 62
 
 pub record IsLost (was : View) (expected found : ℕ) (now : View) : Type 0 where
@@ -82,18 +82,18 @@ pub record IsLost (was : View) (expected found : ℕ) (now : View) : Type 0 wher
   pub differ : expected ≢ found
   pub fits : count + 1 < 2 ^ 62
 
-abbrev pub IsWritten : (was : View) (values : List ℕ) → CellWrite → (now : View) → Type 0
-IsWritten was values (wrote.Wrote c) now = IsWrote was values c now
-IsWritten was values (wrote.NotFree word) now = (now ≡ has_failed word was) × (is_free (lock_of word) ≡ false)
-IsWritten was values (wrote.Lost expected found) now = IsLost was expected found now
-IsWritten was values wrote.Full now = now ≡ noted (2 ^ 62 - 1) was
+abbrev pub IsCellWritten : (was : View) (values : List ℕ) → CellWrite → (now : View) → Type 0
+IsCellWritten was values (wrote.Wrote c) now = IsWrote was values c now
+IsCellWritten was values (wrote.NotFree word) now = (now ≡ has_failed word was) × (is_free_lock (lock_of word) ≡ false)
+IsCellWritten was values (wrote.Lost expected found) now = IsLost was expected found now
+IsCellWritten was values wrote.Full now = now ≡ noted (2 ^ 62 - 1) was
 
 -- the same seat later
 abbrev pub StaysAtTable : Seated → Seated → Type 0
 StaysAtTable s t = (t.table_id ≡ s.table_id) × (t.view.opening ≡ s.view.opening)
 
 abbrev pub AreSeatsOf : TableId → (opening : Record) → List Seated → Type 0
-AreSeatsOf table opening seats = (i : ℕ) (d : Seated) → i < length seats → IsTableOf table opening (slice_index_or seats i d)
+AreSeatsOf table opening seats = (i : ℕ) (d : Seated) → i < length seats → IsTableOfSeat table opening (slice_index_or seats i d)
 
 -- ---- the end of a cell
 
@@ -104,17 +104,17 @@ IsWhole s = s.parts ≡ 2 ^ s.depth
 -- some state between two steps has this view at this number
 abbrev pub IsShown : (opening : Record) (number : ℕ) (v : View) → Type 0
 IsShown opening number v =
-    (words : List ℕ) × (views : List View) × Shows opening words views × (get_elem? views number ≡ some v)
+    (words : List ℕ) × (views : List View) × HasOneHistory opening words views × (get_elem? views number ≡ some v)
 
 -- the seat with this number has taken in all others
-abbrev pub IsAlone : (number : ℕ) → List View → Type 0
-IsAlone number views = (i : ℕ) (v : View) → i ≢ number → get_elem? views i ≡ some v → v ≡ spent
+abbrev pub IsOnlySeat : (number : ℕ) → List View → Type 0
+IsOnlySeat number views = (i : ℕ) (v : View) → i ≢ number → get_elem? views i ≡ some v → v ≡ spent
 
 -- the last words of the cell, and what its seats knew then, this one among them
 pub record IsAtEnd (v : View) : Type 0 where
   pub words : List ℕ
   pub views : List View
   pub number : ℕ
-  pub shows : Shows v.opening words views
+  pub shows : HasOneHistory v.opening words views
   pub here : get_elem? views number ≡ some v
-  pub whole : IsWhole v.share → IsAlone number views
+  pub whole : IsWhole v.share → IsOnlySeat number views

@@ -9,33 +9,33 @@ use Rattle.solero_cell.specs.declared.views.Record.{Record}
 use Rattle.solero_cell.specs.declared.views.Share.{Share}
 use Rattle.solero_cell.specs.declared.views.Storing.{Storing}
 use Rattle.solero_cell.specs.declared.views.View.{View}
-use Rattle.solero_cell.specs.Histories.{History, last_count, Stands, IsLast, OwnStand}
+use Rattle.solero_cell.specs.Histories.{History, last_count, RecordStands, IsLast, OwnStand}
 use Rattle.solero_cell.specs.CellViews.{record_of, spent}
 
 -- the words of the values
-abbrev pub values_of : (words : List ℕ) → List ℕ
-values_of words = drop 1 words
+abbrev pub cell_values : (words : List ℕ) → List ℕ
+cell_values words = drop 1 words
 
 -- ---- what holds of each view
 
 -- a write under way has noted the cell's count, and its values stand in the words as far as it has stored them
 pub record IsUnderWay (opening : Record) (h : History) (words : List ℕ) (note : Option ℕ) (s : Storing) : Type 0 where
   pub note_is : note ≡ Some (last_count opening h)
-  pub stored : s.stored ≡ take (length s.stored) (values_of words)
+  pub stored : s.stored ≡ take (length s.stored) (cell_values words)
   pub long : length s.stored + length s.left ≡ length opening.values
 
-pub record Knows (opening : Record) (h : History) (words : List ℕ) (v : View) : Type 0 where
+pub record ViewKnowledge (opening : Record) (h : History) (words : List ℕ) (v : View) : Type 0 where
   pub opening_is : v.opening ≡ opening
   pub own : OwnStand opening h v
   pub note : IfSome v.note (λ c. c ≤ last_count opening h)
   -- while the word is that of the note, the values that were loaded are those of the words
-  pub loaded : (c : ℕ) → v.note ≡ Some c → slice_index words 0 ≡ word_of_lock (Free c) → v.loaded ≡ take (length v.loaded) (values_of words)
+  pub loaded : (c : ℕ) → v.note ≡ Some c → slice_index words 0 ≡ word_of_lock (Free c) → v.loaded ≡ take (length v.loaded) (cell_values words)
   pub storing : IfSome v.storing (IsUnderWay opening h words v.note)
-  pub joining : IfSome v.joining (Stands opening h)
+  pub joining : IfSome v.joining (RecordStands opening h)
 
 -- a view without a share is spent
-abbrev pub Fits : (opening : Record) → History → (words : List ℕ) → View → Type 0
-Fits opening h words v = (v ≡ spent) ⊎ ((0 < v.share.parts) × Knows opening h words v)
+abbrev pub ViewFits : (opening : Record) → History → (words : List ℕ) → View → Type 0
+ViewFits opening h words v = (v ≡ spent) ⊎ ((0 < v.share.parts) × ViewKnowledge opening h words v)
 
 -- ---- what holds of all views
 
@@ -47,15 +47,15 @@ abbrev pub times : (count : ℕ) → View → ℕ
 times n v = sum_by (λ r. one_if (r.count == n)) v.writes
 
 -- how many writes are under way
-abbrev pub stores : View → ℕ
-stores v = one_if (is_some v.storing)
+abbrev pub storing_count : View → ℕ
+storing_count v = one_if (is_some v.storing)
 
-abbrev pub written : View → ℕ
-written v = length v.writes
+abbrev pub written_count : View → ℕ
+written_count v = length v.writes
 
 -- above the first, and up to the last
-abbrev pub is_between : (n first last : ℕ) → Bool
-is_between n first last = nat_lt first n && nat_le n last
+abbrev pub is_in_span : (n first last : ℕ) → Bool
+is_in_span n first last = nat_lt first n && nat_le n last
 
 -- a share in parts of 2^depth, where it has no smaller ones
 abbrev pub in_parts : (depth : ℕ) → Share → ℕ
@@ -71,22 +71,22 @@ AreWhole views = (depth : ℕ) → HaveDepth depth views → sum_by (λ v. in_pa
 -- the word is free with the cell's count, and the words are the values of that count
 pub record IsAtRest (opening : Record) (h : History) (words : List ℕ) (views : List View) : Type 0 where
   pub word : slice_index words 0 ≡ word_of_lock (Free (last_count opening h))
-  pub values : IsLast opening h (record_of (last_count opening h) (values_of words))
-  pub nobody : sum_by stores views ≡ 0
+  pub values : IsLast opening h (record_of (last_count opening h) (cell_values words))
+  pub nobody : sum_by storing_count views ≡ 0
 
 -- the word is held, and one view is in the middle of a write
-pub record IsHeld (words : List ℕ) (views : List View) : Type 0 where
+pub record IsHeldByWrite (words : List ℕ) (views : List View) : Type 0 where
   pub word : slice_index words 0 ≡ word_of_lock (Held 0)
-  pub one : sum_by stores views ≡ 1
+  pub one : sum_by storing_count views ≡ 1
 
 -- ---- the rule
 
-pub record Shows (opening : Record) (words : List ℕ) (views : List View) : Type 0 where
+pub record HasOneHistory (opening : Record) (words : List ℕ) (views : List View) : Type 0 where
   pub history : History
   pub long : length words ≡ suc (length opening.values)
-  pub lock : IsAtRest opening history words views ⊎ IsHeld words views
-  pub each : (i : ℕ) (v : View) → get_elem? views i ≡ some v → Fits opening history words v
+  pub lock : IsAtRest opening history words views ⊎ IsHeldByWrite words views
+  pub each : (i : ℕ) (v : View) → get_elem? views i ≡ some v → ViewFits opening history words v
   -- the counts of all writes are those above the opening one, up to the cell's, each once
-  pub once : (n : ℕ) → sum_by (times n) views ≡ one_if (is_between n opening.count (last_count opening history))
-  pub count : sum_by written views ≡ length history
+  pub once : (n : ℕ) → sum_by (times n) views ≡ one_if (is_in_span n opening.count (last_count opening history))
+  pub count : sum_by written_count views ≡ length history
   pub whole : AreWhole views

@@ -7,9 +7,9 @@ use Rattle.solero_cell.specs.declared.views.Share.{Share}
 use Rattle.solero_cell.specs.declared.views.Storing.{Storing}
 use Rattle.solero_cell.specs.declared.views.View.{View}
 
-abbrev pub is_free : LockWord → Bool
-is_free (Free c) = true
-is_free lock = false
+abbrev pub is_free_lock : LockWord → Bool
+is_free_lock (Free c) = true
+is_free_lock lock = false
 
 abbrev pub record_of : (count : ℕ) (values : List ℕ) → Record
 record_of c xs = record { count = c; values = xs }
@@ -120,5 +120,5 @@ taken_in v w = record v {
 abbrev pub has_compared : Record → View → View
 has_compared r v = record v { latest = newest v.latest r; joining = None }
 
-abbrev pub joined : View → View → View
-joined v w = has_compared w.latest (taken_in v w)
+abbrev pub joined_views : View → View → View
+joined_views v w = has_compared w.latest (taken_in v w)

@@ -5,11 +5,11 @@ use Rattle.machine_types.specs.declared.lock.LockWord.TheVariants.{Free}
 use Rattle.solero_cell.specs.declared.answers.CellWrite.{CellWrite}
 use Rattle.solero_cell.specs.declared.answers.CellWrite.TheVariants.{Wrote, NotFree, Lost, Full}
 use Rattle.solero_cell.specs.declared.views.View.{View}
-use Rattle.solero_cell.specs.Histories.{IsSeen}
+use Rattle.solero_cell.specs.Histories.{IsRecordSeen}
 use Rattle.solero_cell.specs.CellViews.{record_of, has_failed, has_written, has_released}
 
 -- the write of these values has the lock, and has stored nothing
-pub record IsTaken (count : ℕ) (values : List ℕ) (v : View) : Type 0 where
+pub record IsLockTaken (count : ℕ) (values : List ℕ) (v : View) : Type 0 where
   pub noted : v.note ≡ Some count
   pub storing : v.storing ≡ Some (record { stored = []; left = values })
   pub loaded : v.loaded ≡ []
@@ -19,7 +19,7 @@ pub record IsTaken (count : ℕ) (values : List ℕ) (v : View) : Type 0 where
 pub record IsFilled (was : View) (count : ℕ) (values : List ℕ) (now : View) : Type 0 where
   pub view : now ≡ has_written (record_of (count + 1) values) (has_released was)
   pub later : was.latest.count < count + 1
-  pub seen : IsSeen was (record_of (count + 1) values)
+  pub seen : IsRecordSeen was (record_of (count + 1) values)
 
 pub record IsLostBehind (was : View) (count expected found : ℕ) (now : View) : Type 0 where
   pub view : now ≡ has_failed found was

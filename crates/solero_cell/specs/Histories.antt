@@ -12,14 +12,14 @@ abbrev pub last_count : (opening : Record) → History → ℕ
 last_count opening h = opening.count + length h
 
 -- the record is the opening one, or the write of its count
-pub record Stands (opening : Record) (h : History) (r : Record) : Type 0 where
+pub record RecordStands (opening : Record) (h : History) (r : Record) : Type 0 where
   pub place : ℕ
   pub count : r.count ≡ opening.count + place
   pub values : slice_get (opening.values ∷ h) place ≡ Some r.values
 
 abbrev pub AllStand : (opening : Record) → History → List Record → Type 0
 AllStand opening h [] = Unit {0}
-AllStand opening h (r ∷ rs) = Stands opening h r × AllStand opening h rs
+AllStand opening h (r ∷ rs) = RecordStands opening h r × AllStand opening h rs
 
 pub record IsLast (opening : Record) (h : History) (r : Record) : Type 0 where
   pub count : r.count ≡ last_count opening h
@@ -28,10 +28,10 @@ pub record IsLast (opening : Record) (h : History) (r : Record) : Type 0 where
 -- the writes and the latest record of a seat
 pub record OwnStand (opening : Record) (h : History) (v : View) : Type 0 where
   pub writes : AllStand opening h v.writes
-  pub latest : Stands opening h v.latest
+  pub latest : RecordStands opening h v.latest
 
 -- some history of its cell has the seat's records, and ends with this one
-pub record IsSeen (v : View) (r : Record) : Type 0 where
+pub record IsRecordSeen (v : View) (r : Record) : Type 0 where
   pub history : History
   pub own : OwnStand v.opening history v
   pub last : IsLast v.opening history r

@@ -6,7 +6,7 @@ use Rattle.machine_types.specs.declared.lock.LockWord.TheVariants.{Free}
 use Rattle.solero_cell.specs.declared.views.Record.{Record}
 use Rattle.solero_cell.specs.declared.views.Storing.{Storing}
 use Rattle.solero_cell.specs.declared.views.View.{View}
-use Rattle.solero_cell.specs.Histories.{History, IsSeen, OwnStand, Stands}
+use Rattle.solero_cell.specs.Histories.{History, IsRecordSeen, OwnStand, RecordStands}
 use Rattle.solero_cell.specs.CellViews.{record_of, noted, has_failed, forgot, has_read, has_taken, has_written, has_released, has_compared}
 
 abbrev pub note_of : View → ℕ
@@ -34,16 +34,16 @@ pub record TellsNote (was : View) (word : ℕ) (now : View) : Type 0 where
 
 -- ---- a finish load: another word than the noted one ends the attempt, and fails the try where this attempt is its last
 
-abbrev pub ended : (is_last : Bool) → (word : ℕ) → View → View
-ended is_last word v = if is_last then has_failed word (forgot v) else forgot v
+abbrev pub attempt_ended : (is_last : Bool) → (word : ℕ) → View → View
+attempt_ended is_last word v = if is_last then has_failed word (forgot v) else forgot v
 
 pub record HasRead (was now : View) : Type 0 where
   pub view : now ≡ has_read (record_of (note_of was) was.loaded) (forgot was)
-  pub seen : IsSeen was (record_of (note_of was) was.loaded)
+  pub seen : IsRecordSeen was (record_of (note_of was) was.loaded)
 
 pub record TellsFinish (is_last : Bool) (was : View) (word : ℕ) (now : View) : Type 0 where
   pub same : word ≡ noted_word was → HasRead was now
-  pub other : word ≢ noted_word was → now ≡ ended is_last word was
+  pub other : word ≢ noted_word was → now ≡ attempt_ended is_last word was
 
 -- ---- a take exchange: another word than the noted one fails the try
 
@@ -55,7 +55,7 @@ pub record TellsTake (values : List ℕ) (was : View) (word : ℕ) (now : View) 
 
 pub record HasWritten (was now : View) : Type 0 where
   pub view : now ≡ has_written (record_of (note_of was + 1) (storing_of was).stored) (has_released was)
-  pub seen : IsSeen was (record_of (note_of was + 1) (storing_of was).stored)
+  pub seen : IsRecordSeen was (record_of (note_of was + 1) (storing_of was).stored)
   pub above : was.latest.count < note_of was + 1
 
 -- ---- the second load of a join: both latest records are of one history
@@ -64,4 +64,4 @@ pub record HasCompared (was now : View) : Type 0 where
   pub view : now ≡ has_compared (joining_of was) was
   pub history : History
   pub own : OwnStand was.opening history was
-  pub other : Stands was.opening history (joining_of was)
+  pub other : RecordStands was.opening history (joining_of was)

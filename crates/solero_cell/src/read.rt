@@ -1,7 +1,7 @@
 //! The attempts of a read.
 
 ghost use Rattle.std.specs.Prelude.{◌≡◌, ◌<◌, ◌^◌, length, Some};
-ghost use Rattle.solero_cell.specs.Attempts.{IsAttempt, IsBehind, IsTried};
+ghost use Rattle.solero_cell.specs.Attempts.{IsAttempt, IsBehindRead, IsTried};
 ghost use Rattle.solero_cell.specs.CellViews.{IsStill};
 ghost use Rattle.solero_cell.specs.Stages.{IsLoading, IsSeatAt};
 
@@ -45,7 +45,7 @@ fn attempt_behind<A: Attempt>(
     requires long { length values.old ≡ length table.now.shared.key.values }
     ensures seat { (seat.new.table_id ≡ seat.old.table_id) × (seat.new.me.1 ≡ seat.old.me.1) }
     ensures long { length values.new ≡ length values.old }
-    ensures behind { IsBehind A.is_last seat.old.me.0 count values.new result seat.new.me.0 }
+    ensures behind { IsBehindRead A.is_last seat.old.me.0 count values.new result seat.new.me.0 }
 {
     load_values(table, seat, values);
     let noted = word(LockWord::Free(count));

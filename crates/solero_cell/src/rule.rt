@@ -12,10 +12,10 @@ use std::marker::{Brand, PhantomData};
 pub struct CellRule;
 
 impl TableRule<(), View, Record> for CellRule {
-    ghost use Rattle.solero_cell.specs.CellRules.{Shows};
+    ghost use Rattle.solero_cell.specs.CellRules.{HasOneHistory};
     ghost use Rattle.solero_cell.specs.CellViews.{first_view};
 
-    ghost holds = { λ opening s. Shows opening s.words s.views };
+    ghost holds = { λ opening s. HasOneHistory opening s.words s.views };
 
     ghost first = { first_view };
 }

@@ -1,8 +1,8 @@
 //! A seat at a cell: it reads and writes.
 
 ghost use Rattle.std.specs.Prelude.{◌≡◌, ◌<◌, ◌≤◌, ◌*◌, ◌^◌, [], ◌∷◌, length, IfOk};
-ghost use Rattle.solero_cell.specs.Calls.{IsAtEnd, IsRead, IsShown, IsTableOf, IsWritten};
-ghost use Rattle.solero_cell.specs.CellViews.{first_view, halved, joined, newcomer, record_of};
+ghost use Rattle.solero_cell.specs.Calls.{IsAtEnd, IsCellRead, IsShown, IsTableOfSeat, IsCellWritten};
+ghost use Rattle.solero_cell.specs.CellViews.{first_view, halved, joined_views, newcomer, record_of};
 ghost use Rattle.solero_cell.specs.Histories.{AreOfOne};
 
 use crate::answers::{CellRead, CellWrite};
@@ -64,7 +64,7 @@ pub fn cell(
 ) -> Result<(CellTable, CellSeat), AllocError>
     requires values { (0 < length values.now) × (length values.now ≤ 64) }
     requires count { count < 2 ^ 62 }
-    ensures table { IfOk result (λ t. IsTableOf t.0.shared.table_id t.0.shared.key t.1) }
+    ensures table { IfOk result (λ t. IsTableOfSeat t.0.shared.table_id t.0.shared.key t.1) }
     ensures first { IfOk result (λ t. t.1.view ≡ first_view (record_of count values.now)) }
 {
     let mut words = Rows::from_slice(alloc, &[word(LockWord::Free(count))])?;
@@ -99,10 +99,10 @@ impl CellSeat {
     /// other answers `out` is as it was: a write was under way, or in each of two attempts one came
     /// between.
     pub fn read(&mut self, table: &CellTable, out: &mut [u64]) -> CellRead
-        requires table { IsTableOf table.now.shared.table_id table.now.shared.key self.old }
+        requires table { IsTableOfSeat table.now.shared.table_id table.now.shared.key self.old }
         requires out { length out.old ≡ length self.old.view.opening.values }
         ensures table { (self.new.table_id ≡ self.old.table_id) × (self.new.view.opening ≡ self.old.view.opening) }
-        ensures read { IsRead self.old.view out.old result self.new.view out.new }
+        ensures read { IsCellRead self.old.view out.old result self.new.view out.new }
     {
         let _count = self.latest;
         if out.len() <= FEW_VALUES {
@@ -115,11 +115,11 @@ impl CellSeat {
     /// A read that loads into `room`, and fills `out` from there.
     #[inline(always)]
     fn read_by(&mut self, table: &CellTable, out: &mut [u64], room: &mut [u64]) -> CellRead
-        requires table { IsTableOf table.now.shared.table_id table.now.shared.key self.old }
+        requires table { IsTableOfSeat table.now.shared.table_id table.now.shared.key self.old }
         requires out { length out.old ≡ length self.old.view.opening.values }
         requires room { length out.old ≤ length room.old }
         ensures table { (self.new.table_id ≡ self.old.table_id) × (self.new.view.opening ≡ self.old.view.opening) }
-        ensures read { IsRead self.old.view out.old result self.new.view out.new }
+        ensures read { IsCellRead self.old.view out.old result self.new.view out.new }
     {
         let values = &mut room[..out.len()];
         let answer = read::read(table, &mut self.seat, values);
@@ -135,10 +135,10 @@ impl CellSeat {
     /// `Wrote` says that count. After the other answers nothing was written: another write was
     /// under way or came first, or the cell has its last count.
     pub fn write(&mut self, table: &CellTable, values: &[u64]) -> CellWrite
-        requires table { IsTableOf table.now.shared.table_id table.now.shared.key self.old }
+        requires table { IsTableOfSeat table.now.shared.table_id table.now.shared.key self.old }
         requires values { length values.now ≡ length self.old.view.opening.values }
         ensures table { (self.new.table_id ≡ self.old.table_id) × (self.new.view.opening ≡ self.old.view.opening) }
-        ensures written { IsWritten self.old.view values.now result self.new.view }
+        ensures written { IsCellWritten self.old.view values.now result self.new.view }
     {
         let answer = write::write(table, &mut self.seat, values);
         if let CellWrite::Wrote(count) = answer {
@@ -150,7 +150,7 @@ impl CellSeat {
     /// A seat of the same cell for another thread. It has this seat's latest record and no writes,
     /// and half of its share.
     pub fn split(&mut self, table: &CellTable) -> CellSeat
-        requires table { IsTableOf table.now.shared.table_id table.now.shared.key self.old }
+        requires table { IsTableOfSeat table.now.shared.table_id table.now.shared.key self.old }
         ensures kept { (self.new.table_id ≡ self.old.table_id) × (self.new.view ≡ halved self.old.view) }
         ensures made { (result.table_id ≡ self.old.table_id) × (result.view ≡ newcomer self.old.view) }
     {
@@ -165,9 +165,9 @@ impl CellSeat {
     /// latest records. The records of both are of one history: two of the same count have the same
     /// values.
     pub fn join(&mut self, table: &CellTable, other: CellSeat)
-        requires table { IsTableOf table.now.shared.table_id table.now.shared.key self.old }
-        requires other { IsTableOf table.now.shared.table_id table.now.shared.key other }
-        ensures joined { (self.new.table_id ≡ self.old.table_id) × (self.new.view ≡ joined self.old.view other.view) }
+        requires table { IsTableOfSeat table.now.shared.table_id table.now.shared.key self.old }
+        requires other { IsTableOfSeat table.now.shared.table_id table.now.shared.key other }
+        ensures joined { (self.new.table_id ≡ self.old.table_id) × (self.new.view ≡ joined_views self.old.view other.view) }
         ensures one { AreOfOne self.old.view other.view }
     {
         let CellSeat { seat, latest } = other;
@@ -182,7 +182,7 @@ impl CellSeat {
     /// rule of the cell. A seat with the share 1 has taken in all others, so the writes and the
     /// numbers of all seats are its own.
     pub fn close(self, table: CellTable)
-        requires table { IsTableOf table.shared.table_id table.shared.key self }
+        requires table { IsTableOfSeat table.shared.table_id table.shared.key self }
         ensures { IsAtEnd self.view }
     {
         end_table(table, self.seat);

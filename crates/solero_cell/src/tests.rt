@@ -1,7 +1,7 @@
 //! Cells that are read and written.
 
 ghost use Rattle.std.specs.Prelude.{◌≡◌, ◌<◌, ◌≤◌, length};
-ghost use Rattle.solero_cell.specs.Calls.{AreSeatsOf, IsTableOf, StaysAtTable};
+ghost use Rattle.solero_cell.specs.Calls.{AreSeatsOf, IsTableOfSeat, StaysAtTable};
 
 use crate::{CellRead, CellSeat, CellTable, CellWrite, cell};
 use lists::Rows;
@@ -45,7 +45,7 @@ fn the_last_count_stays(rt: HostRuntime) -> Result<(), Fail> {
 
 /// A write of two equal words, and a read; each may fail.
 fn write_and_read(rt: &impl Abort, seat: &mut CellSeat, table: &CellTable, value: u64)
-    requires table { IsTableOf table.now.shared.table_id table.now.shared.key seat.old }
+    requires table { IsTableOfSeat table.now.shared.table_id table.now.shared.key seat.old }
     requires two { length seat.old.view.opening.values ≡ 2 }
     ensures { StaysAtTable seat.old seat.new }
 {
@@ -58,7 +58,7 @@ fn write_and_read(rt: &impl Abort, seat: &mut CellSeat, table: &CellTable, value
 
 /// A hundred of each.
 fn work(rt: &impl Abort, seat: &mut CellSeat, table: &CellTable, number: usize)
-    requires table { IsTableOf table.now.shared.table_id table.now.shared.key seat.old }
+    requires table { IsTableOfSeat table.now.shared.table_id table.now.shared.key seat.old }
     requires two { length seat.old.view.opening.values ≡ 2 }
     requires small { number < 2 }
     ensures { StaysAtTable seat.old seat.new }
@@ -80,7 +80,7 @@ fn work_apart<R: Abort + Threads + Sync>(rt: &R, seats: &mut [CellSeat], table: 
         seats,
         2,
         &|i: usize, seat: &mut CellSeat|
-            requires { (i < 2) × IsTableOf table.now.shared.table_id table.now.shared.key seat.now × (length seat.now.view.opening.values ≡ 2) }
+            requires { (i < 2) × IsTableOfSeat table.now.shared.table_id table.now.shared.key seat.now × (length seat.now.view.opening.values ≡ 2) }
             ensures { StaysAtTable seat.entry.now seat.exit.now }
         { work(rt, seat, table, i) },
     );
@@ -88,7 +88,7 @@ fn work_apart<R: Abort + Threads + Sync>(rt: &R, seats: &mut [CellSeat], table: 
 
 /// Two seats, each on a thread of its own, which are joined then.
 fn work_in_two<R: Abort + Threads + Sync>(rt: &R, seat: &mut CellSeat, table: &CellTable)
-    requires table { IsTableOf table.now.shared.table_id table.now.shared.key seat.old }
+    requires table { IsTableOfSeat table.now.shared.table_id table.now.shared.key seat.old }
     requires two { length table.now.shared.key.values ≡ 2 }
     ensures { StaysAtTable seat.old seat.new }
 {

@@ -1,8 +1,8 @@
 //! The steps of a write.
 
 ghost use Rattle.std.specs.Prelude.{◌≡◌, ◌+◌, ◌<◌, ◌^◌, [], length, Some};
-ghost use Rattle.solero_cell.specs.Calls.{IsWritten};
-ghost use Rattle.solero_cell.specs.Filling.{IsFilled, IsTaken, IsWrittenBehind};
+ghost use Rattle.solero_cell.specs.Calls.{IsCellWritten};
+ghost use Rattle.solero_cell.specs.Filling.{IsFilled, IsLockTaken, IsWrittenBehind};
 ghost use Rattle.solero_cell.specs.CellViews.{IsStill};
 ghost use Rattle.solero_cell.specs.Stages.{IsSeatAt, IsStoring};
 
@@ -37,7 +37,7 @@ fn store_values(table: &CellTable, seat: &mut Seat<(), View>, values: &[u64])
 #[inline(always)]
 fn fill(table: &CellTable, seat: &mut Seat<(), View>, values: &[u64], count: u64)
     requires seat { IsSeatAt table.now.shared.table_id table.now.shared.key seat.old.table_id seat.old.me.0 }
-    requires taken { IsTaken count values.now seat.old.me.0 }
+    requires taken { IsLockTaken count values.now seat.old.me.0 }
     requires long { length values.now ≡ length table.now.shared.key.values }
     requires small { count + 1 < 2 ^ 62 }
     ensures seat { (seat.new.table_id ≡ seat.old.table_id) × (seat.new.me.1 ≡ seat.old.me.1) }
@@ -82,7 +82,7 @@ pub(crate) fn write(table: &CellTable, seat: &mut Seat<(), View>, values: &[u64]
     requires still { IsStill seat.old.me.0 }
     requires long { length values.now ≡ length table.now.shared.key.values }
     ensures seat { (seat.new.table_id ≡ seat.old.table_id) × (seat.new.me.1 ≡ seat.old.me.1) }
-    ensures written { IsWritten seat.old.me.0 values.now result seat.new.me.0 }
+    ensures written { IsCellWritten seat.old.me.0 values.now result seat.new.me.0 }
 {
     let found = steps::note(table, seat);
     match lock_word::read(found) {

@@ -6,16 +6,16 @@ use Rattle.class_runner.proofs.LoadedOnce.{never_refused}
 use Rattle.class_runner.specs.Loading.{IsAccepted}
 use Rattle.host_io.specs.Reading.{contents_of, first_long}
 use Rattle.host_io.specs.declared.shelf.NamedFile.{NamedFile}
-use Rattle.solero_explain.specs.Answer.{AreAccepted, IsDue, IsRefusal, status_of}
-use Rattle.solero_explain.specs.Command.{Asked}
-use Rattle.solero_explain.specs.Delivery.{Delivers}
+use Rattle.solero_explain.specs.Answer.{AreUnrefused, IsExplainDue, IsRefusalByRule, explain_status}
+use Rattle.solero_explain.specs.Command.{Question}
+use Rattle.solero_explain.specs.Delivery.{IsDelivered}
 use Rattle.solero_explain.specs.declared.answer.Due.{Due}
 use Rattle.solero_explain.specs.declared.answer.Due.TheVariants.{Told, Usage, Refused, CannotRead, OutOfMemory}
 
-no_refusal : (asked : Asked) (contents : List (List ℕ)) (rule : Rule) (place : Place) → first_long 0 contents ≡ None → IsAccepted contents asked.heap asked.threads → IsRefusal (first_long 0 contents) asked contents rule place → ⊥
+no_refusal : (asked : Question) (contents : List (List ℕ)) (rule : Rule) (place : Place) → first_long 0 contents ≡ None → IsAccepted contents asked.heap asked.threads → IsRefusalByRule (first_long 0 contents) asked contents rule place → ⊥
 no_refusal asked contents rule place short accepted refused = never_refused contents asked.heap asked.threads rule place accepted (rw short at refused)
 
-no_refusal_due : (asked : Asked) (files : List NamedFile) (unreadable : Option (List ℕ → Bool)) (before after : ℕ) (due : Due) → IsDue (Some asked) (Some files) unreadable before after due → AreAccepted files asked → status_of due ≡ 3 → ⊥
+no_refusal_due : (asked : Question) (files : List NamedFile) (unreadable : Option (List ℕ → Bool)) (before after : ℕ) (due : Due) → IsExplainDue (Some asked) (Some files) unreadable before after due → AreUnrefused files asked → explain_status due ≡ 3 → ⊥
 no_refusal_due asked files unreadable before after (Told text) owed accepted three = omega (arith, three)
 no_refusal_due asked files unreadable before after Usage owed accepted three = omega (arith, three)
 no_refusal_due asked files unreadable before after (CannotRead text) owed accepted three = omega (arith, three)
@@ -25,7 +25,7 @@ no_refusal_due asked files unreadable before after (Refused text) owed accepted 
     no_refusal asked (contents_of files asked.files) r.rule r.place accepted.0 accepted.1 (rw owed.1.are at r.refused)
 
 -- what is answered to files that are accepted is no refusal
-pub never_three : (asked : Asked) (files : List NamedFile) (unreadable : Option (List ℕ → Bool)) (before after : ℕ) (due : Due) (told now : Option (List ℕ)) (from to status : ℕ) → IsDue (Some asked) (Some files) unreadable before after due → Delivers told now from to due status
-    → AreAccepted files asked → status ≡ 3 → ⊥
+pub never_three : (asked : Question) (files : List NamedFile) (unreadable : Option (List ℕ → Bool)) (before after : ℕ) (due : Due) (told now : Option (List ℕ)) (from to status : ℕ) → IsExplainDue (Some asked) (Some files) unreadable before after due → IsDelivered told now from to due status
+    → AreUnrefused files asked → status ≡ 3 → ⊥
 never_three asked files unreadable before after due told now from to status owed (Ok done, written, is) accepted three = no_refusal_due asked files unreadable before after due owed accepted (sym is ∙ three)
 never_three asked files unreadable before after due told now from to status owed (Err e, written, is) accepted three = omega (arith, is, three)

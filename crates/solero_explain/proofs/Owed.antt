@@ -14,21 +14,21 @@ use Rattle.host_io.specs.declared.shelf.NamedFile.{NamedFile}
 use Rattle.host_io.specs.declared.shelf.ShelfError.{ShelfError}
 use Rattle.host_io.specs.declared.shelf.ShelfError.TheVariants.{Memory, Failed, TooLong}
 use Rattle.refusal_places.specs.Explained.{Explains}
-use Rattle.solero_explain.specs.Answer.{ExplainsRefusal, IsDue, name_at}
-use Rattle.solero_explain.specs.Command.{Asked}
-use Rattle.solero_explain.specs.Parts.{IsDueToFiles, IsExplained, IsUnreadDue}
+use Rattle.solero_explain.specs.Answer.{ExplainsRefusal, IsExplainDue, file_name_at}
+use Rattle.solero_explain.specs.Command.{Question}
+use Rattle.solero_explain.specs.Parts.{IsDueToFiles, IsRefusalExplained, IsUnreadExplained}
 use Rattle.solero_explain.specs.declared.answer.Due.{Due}
 use Rattle.solero_explain.specs.declared.answer.Due.TheVariants.{Refused, CannotRead, OutOfMemory}
 
 -- what refuses files, none of which is too long, is due to them when it is explained
-pub refused_files : (asked : Asked) (contents : List (List ℕ)) (rule : Rule) (place : Place) (due : Due) → first_long 0 contents ≡ None → IsRefusedBy contents asked.heap asked.threads rule place → IsExplained asked rule place (slice_get contents place.file) due → IsDueToFiles asked contents due
+pub refused_files : (asked : Question) (contents : List (List ℕ)) (rule : Rule) (place : Place) (due : Due) → first_long 0 contents ≡ None → IsRefusedBy contents asked.heap asked.threads rule place → IsRefusalExplained asked rule place (slice_get contents place.file) due → IsDueToFiles asked contents due
 refused_files asked contents rule place (Refused text) short refused explained = record { rule = rule; place = place; refused = rw short refused; explained = rw short explained }
 refused_files asked contents rule place OutOfMemory short refused explained = tt
 refused_files asked contents rule place due short refused explained = absurd explained
 
 -- a file that is too long refuses contents of which it is the first
-long_refused : (asked : Asked) (contents : List (List ℕ)) (file : ℕ) (text : List ℕ) → first_long 0 contents ≡ Some file
-    → Explains asked.form (rules.C C10) (in_file file MOST_FILE_BYTES) (name_at asked.files file) None text → ExplainsRefusal asked contents text
+long_refused : (asked : Question) (contents : List (List ℕ)) (file : ℕ) (text : List ℕ) → first_long 0 contents ≡ Some file
+    → Explains asked.form (rules.C C10) (in_file file MOST_FILE_BYTES) (file_name_at asked.files file) None text → ExplainsRefusal asked contents text
 long_refused asked contents file text long explained = record {
   rule = rules.C C10;
   place = in_file file MOST_FILE_BYTES;
@@ -41,7 +41,7 @@ at_least before after (inl rose) = omega arith
 at_least before after (inr full) = omega arith
 
 -- what is due where a file was not read is due to the names
-pub unread_due : (files : Option (List NamedFile)) (unreadable : Option (List ℕ → Bool)) (asked : Asked) (before after file : ℕ) (error : ShelfError) (due : Due) → IsUnread files unreadable asked.files before after file error → IsUnreadDue asked file error due → IsDue (Some asked) files unreadable before after due
+pub unread_due : (files : Option (List NamedFile)) (unreadable : Option (List ℕ → Bool)) (asked : Question) (before after file : ℕ) (error : ShelfError) (due : Due) → IsUnread files unreadable asked.files before after file error → IsUnreadExplained asked file error due → IsExplainDue (Some asked) files unreadable before after due
 unread_due files unreadable asked before after file TooLong (Refused text) unread explained = (unread.0, record { contents = unread.1.contents; are = unread.1.are; many = unread.1.many; explains = long_refused asked unread.1.contents file text unread.1.first explained })
 unread_due files unreadable asked before after file Failed (CannotRead text) unread line = (unread.0, record { file = file; unread = unread.1; is_line = line })
 unread_due files unreadable asked before after file TooLong OutOfMemory unread line = omega arith

@@ -5,9 +5,9 @@ use Rattle.class_runner.proofs.LoadedOnce.{accepted}
 use Rattle.host_io.proofs.SoFar.{none_long}
 use Rattle.host_io.specs.Faults.{CountsFault}
 use Rattle.host_io.specs.declared.shelf.NamedFile.{NamedFile}
-use Rattle.solero_explain.specs.Answer.{AreAccepted, IsDue, TellsFiles, status_of}
-use Rattle.solero_explain.specs.Command.{Asked}
-use Rattle.solero_explain.specs.Delivery.{Delivers}
+use Rattle.solero_explain.specs.Answer.{AreUnrefused, IsExplainDue, TellsFiles, explain_status}
+use Rattle.solero_explain.specs.Command.{Question}
+use Rattle.solero_explain.specs.Delivery.{IsDelivered}
 use Rattle.solero_explain.specs.declared.answer.Due.{Due}
 use Rattle.solero_explain.specs.declared.answer.Due.TheVariants.{Told, Usage, Refused, CannotRead, OutOfMemory}
 
@@ -16,13 +16,13 @@ no_fault before after same below (inl rose) = omega (arith, same, rose)
 no_fault before after same below (inr full) = omega (arith, below, full.1)
 
 -- what is told of files is told of accepted ones
-told_accepted : (asked : Asked) (files : List NamedFile) (text : List ℕ) → TellsFiles (Some files) asked text → AreAccepted files asked
+told_accepted : (asked : Question) (files : List NamedFile) (text : List ℕ) → TellsFiles (Some files) asked text → AreUnrefused files asked
 told_accepted asked files text t =
     let short = none_long 0 t.contents t.short in
     let taken = accepted t.contents asked.heap asked.threads t.tells.checked t.tells.loaded in
     (rw t.are at short, rw t.are at taken)
 
-three_or_six : (asked : Asked) (files : List NamedFile) (unreadable : Option (List ℕ → Bool)) (before after : ℕ) (due : Due) (status : ℕ) → IsDue (Some asked) (Some files) unreadable before after due → ¬ AreAccepted files asked → after ≡ before → before < 2 ^ 64 - 1 → status ≡ status_of due
+three_or_six : (asked : Question) (files : List NamedFile) (unreadable : Option (List ℕ → Bool)) (before after : ℕ) (due : Due) (status : ℕ) → IsExplainDue (Some asked) (Some files) unreadable before after due → ¬ AreUnrefused files asked → after ≡ before → before < 2 ^ 64 - 1 → status ≡ explain_status due
     → (status ≡ 3) ⊎ ((status ≡ 5) ⊎ (status ≡ 6))
 three_or_six asked files unreadable before after (Told text) status due not_so same below is = absurd (not_so (told_accepted asked files text due.1))
 three_or_six asked files unreadable before after Usage status due not_so same below is = absurd due
@@ -30,7 +30,7 @@ three_or_six asked files unreadable before after (Refused text) status due not_s
 three_or_six asked files unreadable before after (CannotRead text) status due not_so same below is = absurd (no_fault before after same below due.0)
 three_or_six asked files unreadable before after OutOfMemory status due not_so same below is = inr (inr is)
 
-pub refused_status : (asked : Asked) (files : List NamedFile) (unreadable : Option (List ℕ → Bool)) (before after : ℕ) (due : Due) (told now : Option (List ℕ)) (from to status : ℕ) → IsDue (Some asked) (Some files) unreadable before after due → Delivers told now from to due status
-    → ¬ AreAccepted files asked → after ≡ before → before < 2 ^ 64 - 1 → (status ≡ 3) ⊎ ((status ≡ 5) ⊎ (status ≡ 6))
+pub refused_status : (asked : Question) (files : List NamedFile) (unreadable : Option (List ℕ → Bool)) (before after : ℕ) (due : Due) (told now : Option (List ℕ)) (from to status : ℕ) → IsExplainDue (Some asked) (Some files) unreadable before after due → IsDelivered told now from to due status
+    → ¬ AreUnrefused files asked → after ≡ before → before < 2 ^ 64 - 1 → (status ≡ 3) ⊎ ((status ≡ 5) ⊎ (status ≡ 6))
 refused_status asked files unreadable before after due told now from to status is (Ok done, written, answered) not_so same below = three_or_six asked files unreadable before after due status is not_so same below answered
 refused_status asked files unreadable before after due told now from to status is (Err e, written, answered) not_so same below = inr (inl answered)

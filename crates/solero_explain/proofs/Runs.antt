@@ -12,10 +12,10 @@ use Rattle.run_trace.specs.Traces.{IsTraced}
 use Rattle.run_trace.specs.declared.events.Part.{Part}
 use Rattle.run_trace.specs.declared.traces.TraceError.{TraceError}
 use Rattle.run_trace.specs.declared.traces.TraceError.TheVariants.{Memory, Failed}
-use Rattle.solero_explain.specs.Answer.{AreAccepted, RunsFiles}
-use Rattle.solero_explain.specs.Command.{Asked}
+use Rattle.solero_explain.specs.Answer.{AreUnrefused, RunsFiles}
+use Rattle.solero_explain.specs.Command.{Question}
 use Rattle.solero_explain.specs.Parts.{IsRunTold, IsWork}
-use Rattle.solero_explain.specs.Requests.{asked_by}
+use Rattle.solero_explain.specs.Requests.{question_by}
 use Rattle.solero_explain.specs.Tracing.{IsAnswered, is_limit, is_uncaught, some_end, status_of_run, status_of_trace}
 use Rattle.solero_explain.specs.declared.program.Work.TheVariants as works
 use Rattle.solero_explain.specs.declared.request.Request.{Request}
@@ -61,8 +61,8 @@ trace_four (Err Memory) e = omega (arith, e)
 
 -- ---- the clauses, where a run is told
 
-pub run_answered : (asked : Option Asked) (files : Option (List NamedFile)) (unreadable : Option (List ℕ → Bool)) (before after : ℕ) (r : Request) (c : MarkedProgram) (names : List (List ℕ)) (told now : Option (List ℕ)) (from to status : ℕ)
-    → IsWork asked files unreadable before after (works.Run r c names) → IsRunTold c (asked_by r) names told now from to status → IsAnswered asked files unreadable before after told now from to status
+pub run_answered : (asked : Option Question) (files : Option (List NamedFile)) (unreadable : Option (List ℕ → Bool)) (before after : ℕ) (r : Request) (c : MarkedProgram) (names : List (List ℕ)) (told now : Option (List ℕ)) (from to status : ℕ)
+    → IsWork asked files unreadable before after (works.Run r c names) → IsRunTold c (question_by r) names told now from to status → IsAnswered asked files unreadable before after told now from to status
 run_answered None files unreadable before after r c names told now from to status work run = absurd work
 run_answered (Some asked) files unreadable before after r c names told now from to status work run =
     inr (work.1, record { checked = c; names = names; runs = work.2; came = run.0; traced = rw work.0 run.1; answered = run.2 })
@@ -79,16 +79,16 @@ run_not_three came status is three = trace_three came (sym is ∙ three)
 pub run_not_four : (came : Result Outcome TraceError) (status : ℕ) → status ≡ status_of_trace came → status ≢ 4
 run_not_four came status is four = trace_four came (sym is ∙ four)
 
-pub run_is_read : (asked : Option Asked) (files : Option (List NamedFile)) (unreadable : Option (List ℕ → Bool)) (before after : ℕ) (r : Request) (c : MarkedProgram) (names : List (List ℕ)) → IsWork asked files unreadable before after (works.Run r c names) → asked ≡ None → ⊥
+pub run_is_read : (asked : Option Question) (files : Option (List NamedFile)) (unreadable : Option (List ℕ → Bool)) (before after : ℕ) (r : Request) (c : MarkedProgram) (names : List (List ℕ)) → IsWork asked files unreadable before after (works.Run r c names) → asked ≡ None → ⊥
 run_is_read None files unreadable before after r c names work none = work
 run_is_read (Some asked) files unreadable before after r c names work none = cc
 
-pub run_is_calm : (asked : Option Asked) (files : Option (List NamedFile)) (unreadable : Option (List ℕ → Bool)) (before after : ℕ) (r : Request) (c : MarkedProgram) (names : List (List ℕ)) → IsWork asked files unreadable before after (works.Run r c names) → before < after → ⊥
+pub run_is_calm : (asked : Option Question) (files : Option (List NamedFile)) (unreadable : Option (List ℕ → Bool)) (before after : ℕ) (r : Request) (c : MarkedProgram) (names : List (List ℕ)) → IsWork asked files unreadable before after (works.Run r c names) → before < after → ⊥
 run_is_calm None files unreadable before after r c names work rose = work
 run_is_calm (Some asked) files unreadable before after r c names work rose = omega (arith, work.1, rose)
 
 -- a run is that of accepted files
-pub run_accepted : (asked : Asked) (files : List NamedFile) (c : MarkedProgram) (names : List (List ℕ)) → RunsFiles (Some files) asked c names → AreAccepted files asked
+pub run_accepted : (asked : Question) (files : List NamedFile) (c : MarkedProgram) (names : List (List ℕ)) → RunsFiles (Some files) asked c names → AreUnrefused files asked
 run_accepted asked files c names t =
     let short = none_long 0 t.contents t.short in
     let taken = accepted t.contents asked.heap asked.threads c t.run.loaded in

@@ -1,7 +1,7 @@
 -- What the program owes to its words and files: a text, and a status with it.
 use Rattle.std.specs.Prelude.{◌≡◌, ℕ, ◌≤◌, Bool, List, [], ◌++◌, length, codes, slice_get, Option, Some, None, IfSome}
 use Rattle.std.specs.List.{AllByRecursion, AllZip}
-use Rattle.field_names.specs.FieldNames.{names_of}
+use Rattle.field_names.specs.FieldNames.{all_field_names}
 use Rattle.jvm_types.specs.ClassGrammar.{Spells}
 use Rattle.jvm_types.specs.declared.class_file.ClassFile.{ClassFile}
 use Rattle.std.specs.Option.{unwrap_or}
@@ -24,25 +24,25 @@ use Rattle.refusal_places.specs.declared.facts.Form.{Form}
 use Rattle.refusal_places.specs.declared.facts.Form.TheVariants.{Lines, Json}
 use Rattle.run_texts.specs.Report.{line}
 use Rattle.run_texts.specs.Unread.{unread_line}
-use Rattle.solero_explain.specs.Command.{Asked}
+use Rattle.solero_explain.specs.Command.{Question}
 use Rattle.solero_explain.specs.declared.answer.Due.{Due}
 use Rattle.solero_explain.specs.declared.answer.Due.TheVariants.{Told, Usage, Refused, CannotRead, OutOfMemory}
 use Rattle.solero_explain.specs.declared.request.What.{What}
 use Rattle.solero_explain.specs.declared.request.What.TheVariants as whats
 
-abbrev pub status_of : Due → ℕ
-status_of (Told text) = 0
-status_of Usage = 2
-status_of (Refused text) = 3
-status_of (CannotRead text) = 4
-status_of OutOfMemory = 6
+abbrev pub explain_status : Due → ℕ
+explain_status (Told text) = 0
+explain_status Usage = 2
+explain_status (Refused text) = 3
+explain_status (CannotRead text) = 4
+explain_status OutOfMemory = 6
 
-abbrev pub text_of : Due → List ℕ
-text_of (Told text) = text
-text_of Usage = line (codes "usage: solero_explain --what WHAT [options] FILE...")
-text_of (Refused text) = text
-text_of (CannotRead text) = text
-text_of OutOfMemory = line (codes "out of memory")
+abbrev pub explain_text : Due → List ℕ
+explain_text (Told text) = text
+explain_text Usage = line (codes "usage: solero_explain --what WHAT [options] FILE...")
+explain_text (Refused text) = text
+explain_text (CannotRead text) = text
+explain_text OutOfMemory = line (codes "out of memory")
 
 -- ---- files that are accepted
 
@@ -63,7 +63,7 @@ IsTold whats.Marks form checked text = AreMarksTold form checked text
 IsTold whats.Run form checked text = ⊥
 
 -- told of the program that the files are loaded to
-pub record TellsProgram (asked : Asked) (contents : List (List ℕ)) (text : List ℕ) : Type 0 where
+pub record TellsProgram (asked : Question) (contents : List (List ℕ)) (text : List ℕ) : Type 0 where
   pub checked : MarkedProgram
   pub loaded : IsLoaded contents asked.heap asked.threads checked
   pub told : IsTold asked.what asked.form checked text
@@ -72,30 +72,30 @@ pub record TellsProgram (asked : Asked) (contents : List (List ℕ)) (text : Lis
 
 -- A rule and a place refuse the files, as in `solero`. A file that is too long is refused when it is read from the shelf, before any is
 -- read as a class.
-abbrev pub IsRefusal : Option ℕ → Asked → List (List ℕ) → Rule → Place → Type 0
-IsRefusal (Some file) asked contents rule place = (rule ≡ rules.C C10) × (place ≡ in_file file MOST_FILE_BYTES)
-IsRefusal None asked contents rule place = IsRefusedBy contents asked.heap asked.threads rule place
+abbrev pub IsRefusalByRule : Option ℕ → Question → List (List ℕ) → Rule → Place → Type 0
+IsRefusalByRule (Some file) asked contents rule place = (rule ≡ rules.C C10) × (place ≡ in_file file MOST_FILE_BYTES)
+IsRefusalByRule None asked contents rule place = IsRefusedBy contents asked.heap asked.threads rule place
 
 -- the name of the file of that number
-abbrev pub name_at : List (List ℕ) → ℕ → List ℕ
-name_at names file = unwrap_or (slice_get names file) []
+abbrev pub file_name_at : List (List ℕ) → ℕ → List ℕ
+file_name_at names file = unwrap_or (slice_get names file) []
 
 -- the content of the file of that number, where no file is too long
-abbrev pub content_at : Option ℕ → List (List ℕ) → ℕ → Option (List ℕ)
-content_at (Some long) contents file = None
-content_at None contents file = slice_get contents file
+abbrev pub file_content_at : Option ℕ → List (List ℕ) → ℕ → Option (List ℕ)
+file_content_at (Some long) contents file = None
+file_content_at None contents file = slice_get contents file
 
 -- the text explains the rule and the place that refuse the files
-pub record ExplainsRefusal (asked : Asked) (contents : List (List ℕ)) (text : List ℕ) : Type 0 where
+pub record ExplainsRefusal (asked : Question) (contents : List (List ℕ)) (text : List ℕ) : Type 0 where
   pub rule : Rule
   pub place : Place
-  pub refused : IsRefusal (first_long 0 contents) asked contents rule place
-  pub explained : Explains asked.form rule place (name_at asked.files place.file) (content_at (first_long 0 contents) contents place.file) text
+  pub refused : IsRefusalByRule (first_long 0 contents) asked contents rule place
+  pub explained : Explains asked.form rule place (file_name_at asked.files place.file) (file_content_at (first_long 0 contents) contents place.file) text
 
 -- ---- what is due to the words and the shelf
 
 -- told of the files that are asked for; where the shelf does not tell its files, of some of which there are as many
-pub record TellsFiles (files : Option (List NamedFile)) (asked : Asked) (text : List ℕ) : Type 0 where
+pub record TellsFiles (files : Option (List NamedFile)) (asked : Question) (text : List ℕ) : Type 0 where
   pub contents : List (List ℕ)
   pub are : IfSome files (λ fs. contents ≡ contents_of fs asked.files)
   pub many : length contents ≡ length asked.files
@@ -103,7 +103,7 @@ pub record TellsFiles (files : Option (List NamedFile)) (asked : Asked) (text : 
   pub tells : TellsProgram asked contents text
 
 -- a refusal of the files that are asked for, likewise
-pub record RefusesFiles (files : Option (List NamedFile)) (asked : Asked) (text : List ℕ) : Type 0 where
+pub record ExplainsFiles (files : Option (List NamedFile)) (asked : Question) (text : List ℕ) : Type 0 where
   pub contents : List (List ℕ)
   pub are : IfSome files (λ fs. contents ≡ contents_of fs asked.files)
   pub many : length contents ≡ length asked.files
@@ -117,22 +117,22 @@ pub record SaysUnread (files : Option (List NamedFile)) (unreadable : Option (Li
 
 -- What is due to the words, of which None are not read, and to the files. The shelf tells its files, and which it can't read, or
 -- None of these. Its count of faults goes from before to after. Want of memory may come to any words.
-abbrev pub IsDue : Option Asked → Option (List NamedFile) → Option (List ℕ → Bool) → ℕ → ℕ → Due → Type 0
-IsDue asked files unreadable before after OutOfMemory = before ≤ after
-IsDue None files unreadable before after due = (due ≡ Usage) × (after ≡ before)
-IsDue (Some asked) files unreadable before after Usage = ⊥
-IsDue (Some asked) files unreadable before after (CannotRead text) = CountsFault before after × SaysUnread files unreadable asked.files text
-IsDue (Some asked) files unreadable before after (Refused text) = (after ≡ before) × RefusesFiles files asked text
-IsDue (Some asked) files unreadable before after (Told text) = (after ≡ before) × TellsFiles files asked text
+abbrev pub IsExplainDue : Option Question → Option (List NamedFile) → Option (List ℕ → Bool) → ℕ → ℕ → Due → Type 0
+IsExplainDue asked files unreadable before after OutOfMemory = before ≤ after
+IsExplainDue None files unreadable before after due = (due ≡ Usage) × (after ≡ before)
+IsExplainDue (Some asked) files unreadable before after Usage = ⊥
+IsExplainDue (Some asked) files unreadable before after (CannotRead text) = CountsFault before after × SaysUnread files unreadable asked.files text
+IsExplainDue (Some asked) files unreadable before after (Refused text) = (after ≡ before) × ExplainsFiles files asked text
+IsExplainDue (Some asked) files unreadable before after (Told text) = (after ≡ before) × TellsFiles files asked text
 
 -- the program that the files are loaded to, whose run is to be told, with the names of its fields
-pub record IsRunOf (asked : Asked) (contents : List (List ℕ)) (checked : MarkedProgram) (names : List (List ℕ)) : Type 0 where
+pub record IsRunOf (asked : Question) (contents : List (List ℕ)) (checked : MarkedProgram) (names : List (List ℕ)) : Type 0 where
   pub what : asked.what ≡ whats.Run
   pub loaded : IsLoaded contents asked.heap asked.threads checked
-  pub named : (classes : List ClassFile) → AllZip Spells contents classes → names ≡ names_of classes
+  pub named : (classes : List ClassFile) → AllZip Spells contents classes → names ≡ all_field_names classes
 
 -- of the files that are asked for; where the shelf does not tell its files, of some of which there are as many
-pub record RunsFiles (files : Option (List NamedFile)) (asked : Asked) (checked : MarkedProgram) (names : List (List ℕ)) : Type 0 where
+pub record RunsFiles (files : Option (List NamedFile)) (asked : Question) (checked : MarkedProgram) (names : List (List ℕ)) : Type 0 where
   pub contents : List (List ℕ)
   pub are : IfSome files (λ fs. contents ≡ contents_of fs asked.files)
   pub many : length contents ≡ length asked.files
@@ -140,5 +140,5 @@ pub record RunsFiles (files : Option (List NamedFile)) (asked : Asked) (checked 
   pub run : IsRunOf asked contents checked names
 
 -- no file that is asked for is too long, and all rules let them pass
-abbrev pub AreAccepted : List NamedFile → Asked → Type 0
-AreAccepted files asked = (first_long 0 (contents_of files asked.files) ≡ None) × IsAccepted (contents_of files asked.files) asked.heap asked.threads
+abbrev pub AreUnrefused : List NamedFile → Question → Type 0
+AreUnrefused files asked = (first_long 0 (contents_of files asked.files) ≡ None) × IsAccepted (contents_of files asked.files) asked.heap asked.threads

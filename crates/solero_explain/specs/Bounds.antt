@@ -9,7 +9,7 @@ use Rattle.machine_types.specs.Settings.{AreSettings}
 use Rattle.machine_types.specs.declared.config.Config.{Config}
 
 -- a form in which that is told; 1 to 64 files; numbers of workers and of heap words, and settings, that are inside the limits of the machine
-pub record AreInBounds (what : What) (form : Form) (files threads heap : ℕ) (cfg : Config) : Type 0 where
+pub record AreInExplainBounds (what : What) (form : Form) (files threads heap : ℕ) (cfg : Config) : Type 0 where
   pub told : is_told_in what form ≡ true
   pub few : are_few files ≡ true
   pub few_threads : threads ≤ MOST_WORKERS

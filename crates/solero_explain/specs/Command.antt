@@ -8,7 +8,7 @@ use Rattle.run_trace.specs.declared.events.Part.{Part}
 use Rattle.machine_types.specs.declared.config.Config.{Config}
 use Rattle.command_words.specs.RunValues.{are_few, heap_of, order_of, settings_of, threads_of}
 use Rattle.command_words.specs.Values.{◌>>=◌, number_or}
-use Rattle.command_words.specs.Words.{command_of, found, gives_any, names_of}
+use Rattle.command_words.specs.Words.{command_of, found_in_words, gives_any, names_of}
 use Rattle.refusal_places.specs.declared.facts.Form.{Form}
 use Rattle.refusal_places.specs.declared.facts.Form.TheVariants.{Lines, Json}
 use Rattle.solero_explain.specs.declared.request.What.{What}
@@ -20,8 +20,8 @@ use Rattle.solero_explain.specs.declared.request.What.TheVariants.{Refusal, Mark
 abbrev pub with_flag : App → Text → App
 with_flag a name = with_rule a (record (new_rule name) { long = Some name; action = Some SetTrue })
 
-abbrev pub the_command : App
-the_command = with_flag (command_of (codes "solero_explain")
+abbrev pub explain_app : App
+explain_app = with_flag (command_of (codes "solero_explain")
     (codes "what" ∷ codes "threads" ∷ codes "order" ∷ codes "steps" ∷ codes "turns" ∷ codes "heap" ∷ codes "prints" ∷ codes "elide" ∷ codes "range" ∷ codes "from" ∷ codes "events" ∷ []))
     (codes "json")
 
@@ -38,18 +38,18 @@ is_told_in Run Json = false
 is_told_in what form = true
 
 -- an order, and a part of the lines, are read with a run alone
-abbrev pub not_read : What → List Text
-not_read Run = []
-not_read what = codes "order" ∷ codes "from" ∷ codes "events" ∷ []
+abbrev pub not_read_with : What → List Text
+not_read_with Run = []
+not_read_with what = codes "order" ∷ codes "from" ∷ codes "events" ∷ []
 
 -- the lines of a run from a number on, so many at most
-abbrev pub part_of : (from events : ℕ) → Part
-part_of from events = record { from = from; count = events }
+abbrev pub part_asked : (from events : ℕ) → Part
+part_asked from events = record { from = from; count = events }
 
 -- clap says of a flag whether it is given
-abbrev pub form_of : Option Text → Form
-form_of None = Lines
-form_of (Some text) = if bytes_eq text (codes "true") then Json else Lines
+abbrev pub form_asked : Option Text → Form
+form_asked None = Lines
+form_asked (Some text) = if bytes_eq text (codes "true") then Json else Lines
 
 abbrev pub files_of : List Text → Option (List Text)
 files_of names = if are_few (length names) then Some names else None
@@ -57,7 +57,7 @@ files_of names = if are_few (length names) then Some names else None
 -- ---- the whole
 
 -- what the words ask for
-pub record Asked : Type 0 where
+pub record Question : Type 0 where
   pub what : What
   pub form : Form
   pub files : List Text
@@ -67,8 +67,8 @@ pub record Asked : Type 0 where
   pub order : List ℕ
   pub part : Part
 
-unfoldable pub asked : List Row → Option Asked
-asked rows = do
+unfoldable pub question : List Row → Option Question
+question rows = do
   what ← what_of (first_of (codes "what") rows)
   files ← files_of (names_of rows)
   threads ← threads_of rows
@@ -77,8 +77,8 @@ asked rows = do
   order ← order_of rows
   from ← number_or 1 1 MOST_LIMIT (first_of (codes "from") rows)
   events ← number_or MOST_LIMIT 1 MOST_LIMIT (first_of (codes "events") rows)
-  if not (is_told_in what (form_of (first_of (codes "json") rows))) || gives_any rows (not_read what) then None else Some (record { what = what; form = form_of (first_of (codes "json") rows); files = files; threads = threads; heap = heap; cfg = cfg; order = order; part = part_of from events })
+  if not (is_told_in what (form_asked (first_of (codes "json") rows))) || gives_any rows (not_read_with what) then None else Some (record { what = what; form = form_asked (first_of (codes "json") rows); files = files; threads = threads; heap = heap; cfg = cfg; order = order; part = part_asked from events })
 
 -- what the words ask for; None where they are not read
-unfoldable pub command : List Text → Option Asked
-command words = found the_command words >>= asked
+unfoldable pub explain_command : List Text → Option Question
+explain_command words = found_in_words explain_app words >>= question

@@ -5,7 +5,7 @@ use Rattle.host_io.specs.declared.shelf.NamedFile.{NamedFile}
 use Rattle.jvm_types.specs.declared.outcome.Outcome.{Outcome}
 use Rattle.run_trace.specs.Traces.{IsTraced}
 use Rattle.run_trace.specs.declared.traces.TraceError.{TraceError}
-use Rattle.solero_explain.specs.Requests.{asked_by}
+use Rattle.solero_explain.specs.Requests.{question_by}
 use Rattle.solero_explain.specs.Tracing.{status_of_trace}
 use Rattle.solero_explain.specs.declared.program.Found.{Found}
 use Rattle.solero_explain.specs.declared.program.Found.TheVariants as founds
@@ -21,26 +21,26 @@ use Rattle.jvm_types.specs.declared.refusal.Rule.{Rule}
 use Rattle.jvm_types.specs.declared.refusal.Rule.TheVariants as rules
 use Rattle.refusal_places.specs.Explained.{Explains}
 use Rattle.run_texts.specs.Unread.{unread_line}
-use Rattle.solero_explain.specs.Answer.{ExplainsRefusal, IsDue, IsRunOf, RunsFiles, TellsProgram, name_at}
-use Rattle.solero_explain.specs.Command.{Asked}
+use Rattle.solero_explain.specs.Answer.{ExplainsRefusal, IsExplainDue, IsRunOf, RunsFiles, TellsProgram, file_name_at}
+use Rattle.solero_explain.specs.Command.{Question}
 use Rattle.solero_explain.specs.declared.answer.Due.{Due}
 use Rattle.solero_explain.specs.declared.answer.Due.TheVariants.{Told, Refused, CannotRead, OutOfMemory}
 
 -- a refusal that is explained, with the content of the file that it names, or want of memory
-abbrev pub IsExplained : Asked → Rule → Place → (content : Option (List ℕ)) → Due → Type 0
-IsExplained asked rule place content (Refused text) = Explains asked.form rule place (name_at asked.files place.file) content text
-IsExplained asked rule place content OutOfMemory = Unit {0}
-IsExplained asked rule place content due = ⊥
+abbrev pub IsRefusalExplained : Question → Rule → Place → (content : Option (List ℕ)) → Due → Type 0
+IsRefusalExplained asked rule place content (Refused text) = Explains asked.form rule place (file_name_at asked.files place.file) content text
+IsRefusalExplained asked rule place content OutOfMemory = Unit {0}
+IsRefusalExplained asked rule place content due = ⊥
 
 -- what is due where the file of this number is not read
-abbrev pub IsUnreadDue : Asked → ℕ → ShelfError → Due → Type 0
-IsUnreadDue asked file TooLong due = IsExplained asked (rules.C C10) (in_file file MOST_FILE_BYTES) None due
-IsUnreadDue asked file Failed (CannotRead text) = text ≡ unread_line file
-IsUnreadDue asked file error OutOfMemory = Unit {0}
-IsUnreadDue asked file error due = ⊥
+abbrev pub IsUnreadExplained : Question → ℕ → ShelfError → Due → Type 0
+IsUnreadExplained asked file TooLong due = IsRefusalExplained asked (rules.C C10) (in_file file MOST_FILE_BYTES) None due
+IsUnreadExplained asked file Failed (CannotRead text) = text ≡ unread_line file
+IsUnreadExplained asked file error OutOfMemory = Unit {0}
+IsUnreadExplained asked file error due = ⊥
 
 -- what is due to the contents of the files, none of which is too long
-abbrev pub IsDueToFiles : Asked → List (List ℕ) → Due → Type 0
+abbrev pub IsDueToFiles : Question → List (List ℕ) → Due → Type 0
 IsDueToFiles asked contents (Told text) = TellsProgram asked contents text
 IsDueToFiles asked contents (Refused text) = ExplainsRefusal asked contents text
 IsDueToFiles asked contents OutOfMemory = Unit {0}
@@ -52,21 +52,21 @@ IsDueOf (Ok text) due = due ≡ Told text
 IsDueOf (Err e) due = due ≡ OutOfMemory
 
 -- what is found in the contents of the files, none of which is too long
-abbrev pub IsFoundIn : Asked → List (List ℕ) → Found → Type 0
+abbrev pub IsFoundIn : Question → List (List ℕ) → Found → Type 0
 IsFoundIn asked contents (founds.Due due) = IsDueToFiles asked contents due
 IsFoundIn asked contents (founds.Program checked names) = IsRunOf asked contents checked names
 
 -- what is found in the files that are asked for
-abbrev pub IsFound : Option (List NamedFile) → Option (List ℕ → Bool) → Asked → (before after : ℕ) → Found → Type 0
-IsFound files unreadable asked before after (founds.Due due) = IsDue (Some asked) files unreadable before after due
-IsFound files unreadable asked before after (founds.Program checked names) = (after ≡ before) × RunsFiles files asked checked names
+abbrev pub IsFoundInFiles : Option (List NamedFile) → Option (List ℕ → Bool) → Question → (before after : ℕ) → Found → Type 0
+IsFoundInFiles files unreadable asked before after (founds.Due due) = IsExplainDue (Some asked) files unreadable before after due
+IsFoundInFiles files unreadable asked before after (founds.Program checked names) = (after ≡ before) × RunsFiles files asked checked names
 
 -- what is to be done for the words
-abbrev pub IsWork : Option Asked → Option (List NamedFile) → Option (List ℕ → Bool) → (before after : ℕ) → Work → Type 0
-IsWork asked files unreadable before after (works.Due due) = IsDue asked files unreadable before after due
+abbrev pub IsWork : Option Question → Option (List NamedFile) → Option (List ℕ → Bool) → (before after : ℕ) → Work → Type 0
+IsWork asked files unreadable before after (works.Due due) = IsExplainDue asked files unreadable before after due
 IsWork None files unreadable before after (works.Run request checked names) = ⊥
-IsWork (Some asked) files unreadable before after (works.Run request checked names) = (asked ≡ asked_by request) × (after ≡ before) × RunsFiles files asked checked names
+IsWork (Some asked) files unreadable before after (works.Run request checked names) = (asked ≡ question_by request) × (after ≡ before) × RunsFiles files asked checked names
 
 -- a run is told as far as it is, and this is answered
-abbrev pub IsRunTold : MarkedProgram → Asked → (names : List (List ℕ)) → (told now : Option (List ℕ)) → (before after status : ℕ) → Type 0
+abbrev pub IsRunTold : MarkedProgram → Question → (names : List (List ℕ)) → (told now : Option (List ℕ)) → (before after status : ℕ) → Type 0
 IsRunTold checked asked names told now before after status = (came : Result Outcome TraceError) × IsTraced checked asked.cfg asked.order names asked.part told now before after came × (status ≡ status_of_trace came)

@@ -9,9 +9,9 @@ use Rattle.jvm_types.specs.declared.outcome.Outcome.{Outcome}
 use Rattle.run_trace.specs.Traces.{IsTraced}
 use Rattle.run_trace.specs.declared.traces.TraceError.{TraceError}
 use Rattle.run_trace.specs.declared.traces.TraceError.TheVariants.{Memory, Failed}
-use Rattle.solero_explain.specs.Answer.{IsDue, RunsFiles}
-use Rattle.solero_explain.specs.Command.{Asked}
-use Rattle.solero_explain.specs.Delivery.{Delivers}
+use Rattle.solero_explain.specs.Answer.{IsExplainDue, RunsFiles}
+use Rattle.solero_explain.specs.Command.{Question}
+use Rattle.solero_explain.specs.Delivery.{IsDelivered}
 use Rattle.solero_explain.specs.declared.answer.Due.{Due}
 
 -- ---- the status of a run, as `solero` has it: a limit goes before an exception
@@ -42,7 +42,7 @@ status_of_trace (Err Failed) = 5
 status_of_trace (Err Memory) = 6
 
 -- the run of the program is told, as far as it is, and this is answered
-pub record Traces (files : Option (List NamedFile)) (asked : Asked) (told now : Option (List ℕ)) (before after status : ℕ) : Type 0 where
+pub record Traces (files : Option (List NamedFile)) (asked : Question) (told now : Option (List ℕ)) (before after status : ℕ) : Type 0 where
   pub checked : MarkedProgram
   pub names : List (List ℕ)
   pub runs : RunsFiles files asked checked names
@@ -51,12 +51,12 @@ pub record Traces (files : Option (List NamedFile)) (asked : Asked) (told now : 
   pub answered : status ≡ status_of_trace came
 
 -- the words ask for the run, and the shelf's count of faults goes from before to after
-abbrev pub IsTraceAnswer : Option Asked → Option (List NamedFile) → (before after : ℕ) → (told now : Option (List ℕ)) → (from to status : ℕ) → Type 0
+abbrev pub IsTraceAnswer : Option Question → Option (List NamedFile) → (before after : ℕ) → (told now : Option (List ℕ)) → (from to status : ℕ) → Type 0
 IsTraceAnswer None files before after told now from to status = ⊥
 IsTraceAnswer (Some asked) files before after told now from to status = (after ≡ before) × Traces files asked told now from to status
 
 -- what is due is delivered, or the run is told
-abbrev pub IsAnswered : Option Asked → Option (List NamedFile) → Option (List ℕ → Bool) → (before after : ℕ) → (told now : Option (List ℕ)) → (from to status : ℕ) → Type 0
+abbrev pub IsAnswered : Option Question → Option (List NamedFile) → Option (List ℕ → Bool) → (before after : ℕ) → (told now : Option (List ℕ)) → (from to status : ℕ) → Type 0
 IsAnswered asked files unreadable before after told now from to status =
-    ((due : Due) × IsDue asked files unreadable before after due × Delivers told now from to due status)
+    ((due : Due) × IsExplainDue asked files unreadable before after due × IsDelivered told now from to due status)
     ⊎ IsTraceAnswer asked files before after told now from to status

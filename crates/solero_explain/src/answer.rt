@@ -1,5 +1,5 @@
 ghost use Rattle.std.specs.Prelude.{◌≡◌};
-ghost use Rattle.solero_explain.specs.Answer.{status_of, text_of};
+ghost use Rattle.solero_explain.specs.Answer.{explain_status, explain_text};
 
 use jvm_types::Bytes;
 
@@ -25,7 +25,7 @@ pub enum Due {
 impl Due {
     /// The status that goes with the text, where the text is written whole.
     pub fn status(&self) -> u8
-        ensures { result ≡ status_of self.now }
+        ensures { result ≡ explain_status self.now }
     {
         match self {
             Due::Told(_) => 0,
@@ -38,7 +38,7 @@ impl Due {
 
     /// The text, which ends with a newline.
     pub fn text(&self) -> &[u8]
-        ensures { result.now ≡ text_of self.now }
+        ensures { result.now ≡ explain_text self.now }
     {
         match self {
             Due::Told(text) | Due::Refused(text) | Due::CannotRead(text) => text.as_slice(),

@@ -3,9 +3,9 @@ ghost use Rattle.std.specs.Prelude.{◌≡◌, IfOk, IfSome, [], length, map, op
 ghost use Rattle.std.specs.Option.{option_copied, unwrap_or};
 ghost use Rattle.clap.specs.Words.{app_of, found_of, rows_of};
 ghost use Rattle.command_words.specs.RunValues.{are_few as are_few_files};
-ghost use Rattle.command_words.specs.Words.{found, gives_any as gives_any_of, texts};
-ghost use Rattle.solero_explain.specs.Command.{asked, command as command_of, files_of, form_of as the_form, is_told_in as is_in, not_read, the_command, what_of as the_what, with_flag as flag_in};
-ghost use Rattle.solero_explain.specs.Requests.{asked_by};
+ghost use Rattle.command_words.specs.Words.{found_in_words, gives_any as gives_any_of, texts};
+ghost use Rattle.solero_explain.specs.Command.{question, explain_command as command_of, files_of, form_asked as the_form, is_told_in as is_in, not_read_with, explain_app, what_of as the_what, with_flag as flag_in};
+ghost use Rattle.solero_explain.specs.Requests.{question_by};
 
 use crate::request::{Request, What};
 use clap::{Arg, ArgAction, ArgMatches, Command};
@@ -47,7 +47,7 @@ fn with_flag<'a>(
 }
 
 fn explain_command<'a>(alloc: Global) -> Result<Command<'a>, AllocError>
-    ensures { IfOk result (λ c. app_of c ≡ the_command) }
+    ensures { IfOk result (λ c. app_of c ≡ explain_app) }
 {
     let command = simple_command(alloc, "solero_explain", &OPTIONS)?;
     with_flag(alloc, command, "json")
@@ -66,7 +66,7 @@ fn what_of(given: Option<&str>) -> Option<What>
 
 // Whether an option is given that is not read with this.
 fn gives_unread(matches: &ArgMatches<'_>, what: What) -> bool
-    ensures { result ≡ gives_any_of (rows_of (found_of matches.now)) (not_read what) }
+    ensures { result ≡ gives_any_of (rows_of (found_of matches.now)) (not_read_with what) }
 {
     match what {
         What::Run => gives_any(matches, &[]),
@@ -106,9 +106,9 @@ fn files(alloc: Global, given: Option<&[&str]>) -> Result<Option<Vec<String>>, A
 }
 
 // What is asked for, where each value follows its rule.
-#[tactic(auto, unfolding(crate::specs::Command::asked))]
+#[tactic(auto, unfolding(crate::specs::Command::question))]
 fn request(alloc: Global, matches: &ArgMatches<'_>) -> Result<Option<Request>, AllocError>
-    ensures { IfOk result (λ r. option_map asked_by r ≡ asked (rows_of (found_of matches.now))) }
+    ensures { IfOk result (λ r. option_map question_by r ≡ question (rows_of (found_of matches.now))) }
 {
     let Some(what) = what_of(value(matches, "what")) else {
         return Ok(None);
@@ -155,16 +155,16 @@ fn request(alloc: Global, matches: &ArgMatches<'_>) -> Result<Option<Request>, A
 
 // What is found in the words, where they have no fault.
 fn matches_in<'a>(alloc: Global, words: &'a [String]) -> Result<Option<ArgMatches<'a>>, AllocError>
-    ensures { IfOk result (λ m. option_map (λ x. rows_of (found_of x)) m ≡ found the_command (texts words.entry.now)) }
+    ensures { IfOk result (λ m. option_map (λ x. rows_of (found_of x)) m ≡ found_in_words explain_app (texts words.entry.now)) }
 {
     let command = explain_command(alloc)?;
     found_in(command, words)
 }
 
 /// What the words ask for, of which the first is the program's name. `None`: the words are not read.
-#[tactic(auto, unfolding(crate::specs::Command::command))]
+#[tactic(auto, unfolding(crate::specs::Command::explain_command))]
 pub fn read_words(alloc: Global, words: &[String]) -> Result<Option<Request>, AllocError>
-    ensures { IfOk result (λ r. option_map asked_by r ≡ command_of (texts words.now)) }
+    ensures { IfOk result (λ r. option_map question_by r ≡ command_of (texts words.now)) }
 {
     match matches_in(alloc, words)? {
         Some(matches) => request(alloc, &matches),

@@ -1,5 +1,5 @@
 ghost use Rattle.std.specs.Prelude.{◌≡◌};
-ghost use Rattle.solero_explain.specs.Delivery.{Delivers};
+ghost use Rattle.solero_explain.specs.Delivery.{IsDelivered};
 
 use crate::answer::Due;
 use host_io::sink::{Sink, SinkFailed};
@@ -10,7 +10,7 @@ const SINK_FAILED: u8 = 5;
 
 /// Writes the text that is due, and answers its status, or 5 where the sink fails.
 pub fn deliver<K: Sink>(sink: &mut K, due: &Due) -> u8
-    ensures { Delivers (K.text sink.old) (K.text sink.new)
+    ensures { IsDelivered (K.text sink.old) (K.text sink.new)
         (K.faults sink.old) (K.faults sink.new) due.now result }
 {
     match write_whole(sink, due.text()) {

@@ -6,13 +6,13 @@ ghost use Rattle.host_io.specs.Faults.{CountsFault};
 ghost use Rattle.host_io.specs.Reading.{first_long};
 ghost use Rattle.host_io.specs.declared.shelf.NamedFile.{NamedFile as File};
 ghost use Rattle.refusal_places.specs.declared.facts.Form.TheVariants.{Json};
-ghost use Rattle.solero_explain.specs.Answer.{AreAccepted, AreMarksTold, IsDue, IsTold, accepted_text as the_accepted_text, name_at as the_name_at};
-ghost use Rattle.solero_explain.specs.Command.{Asked, command};
-ghost use Rattle.solero_explain.specs.Delivery.{Delivers};
+ghost use Rattle.solero_explain.specs.Answer.{AreUnrefused, AreMarksTold, IsExplainDue, IsTold, accepted_text as the_accepted_text, file_name_at as the_name_at};
+ghost use Rattle.solero_explain.specs.Command.{Question, explain_command};
+ghost use Rattle.solero_explain.specs.Delivery.{IsDelivered};
 ghost use Rattle.class_runner.specs.Loading.{IsLoaded};
-ghost use Rattle.solero_explain.specs.Parts.{IsDueOf, IsExplained, IsFound, IsFoundIn, IsRunTold, IsUnreadDue, IsWork};
+ghost use Rattle.solero_explain.specs.Parts.{IsDueOf, IsRefusalExplained, IsFoundInFiles, IsFoundIn, IsRunTold, IsUnreadExplained, IsWork};
 ghost use Rattle.solero_explain.specs.Tracing.{IsAnswered};
-ghost use Rattle.solero_explain.specs.Requests.{asked_by};
+ghost use Rattle.solero_explain.specs.Requests.{question_by};
 ghost use Rattle.solero_explain.specs.declared.answer.Due.{Due as TheDue};
 
 use crate::answer::Due;
@@ -56,21 +56,21 @@ pub fn top_explain<S: Shelf, K: Sink>(
     sink: &mut K,
 ) -> u8
     // What the words and the files are owed is written, and answered by its status.
-    ensures answer { IsAnswered (command (texts words.now.items)) (S.files shelf.old) (S.unreadable shelf.old) (S.faults shelf.old) (S.faults shelf.new)
+    ensures answer { IsAnswered (explain_command (texts words.now.items)) (S.files shelf.old) (S.unreadable shelf.old) (S.faults shelf.old) (S.faults shelf.new)
         (K.text sink.old) (K.text sink.new) (K.faults sink.old) (K.faults sink.new) result }
     ensures files { S.files shelf.new ≡ S.files shelf.old }
     ensures unreadable { S.unreadable shelf.new ≡ S.unreadable shelf.old }
 
     // Each status comes for its cause, and a fault of the sink goes before all.
     ensures status { result ≤ 7 }
-    ensures words_read { result ≡ 2 → command (texts words.now.items) ≡ None }
-    ensures words_not_read { command (texts words.now.items) ≡ None → (result ≡ 2) ⊎ ((result ≡ 5) ⊎ (result ≡ 6)) }
+    ensures words_read { result ≡ 2 → explain_command (texts words.now.items) ≡ None }
+    ensures words_not_read { explain_command (texts words.now.items) ≡ None → (result ≡ 2) ⊎ ((result ≡ 5) ⊎ (result ≡ 6)) }
     // Files that all rules let pass are not refused, whatever is to be told of them.
-    ensures accepted { (asked : Asked) (files : List File) → command (texts words.now.items) ≡ Some asked
-        → S.files shelf.old ≡ Some files → AreAccepted files asked → result ≢ 3 }
+    ensures accepted { (asked : Question) (files : List File) → explain_command (texts words.now.items) ≡ Some asked
+        → S.files shelf.old ≡ Some files → AreUnrefused files asked → result ≢ 3 }
     // And all others are, where the shelf does not fail.
-    ensures not_accepted { (asked : Asked) (files : List File) → command (texts words.now.items) ≡ Some asked
-        → S.files shelf.old ≡ Some files → ¬ AreAccepted files asked
+    ensures not_accepted { (asked : Question) (files : List File) → explain_command (texts words.now.items) ≡ Some asked
+        → S.files shelf.old ≡ Some files → ¬ AreUnrefused files asked
         → S.faults shelf.new ≡ S.faults shelf.old → S.faults shelf.old < 2 ^ 64 - 1 → (result ≡ 3) ⊎ ((result ≡ 5) ⊎ (result ≡ 6)) }
     ensures shelf_failed { result ≡ 4 → CountsFault (S.faults shelf.old) (S.faults shelf.new) }
     ensures shelf_fault { S.faults shelf.old < S.faults shelf.new → (4 ≤ result) × (result ≤ 6) }
@@ -100,7 +100,7 @@ fn traced<K: Sink>(
     names: &Rows<Bytes>,
     sink: &mut K,
 ) -> u8
-    ensures { IsRunTold checked.now (asked_by request.now) names.now (K.text sink.old) (K.text sink.new) (K.faults sink.old) (K.faults sink.new) result }
+    ensures { IsRunTold checked.now (question_by request.now) names.now (K.text sink.old) (K.text sink.new) (K.faults sink.old) (K.faults sink.new) result }
 {
     match explain_run(
         alloc,
@@ -119,7 +119,7 @@ fn traced<K: Sink>(
 
 // What is to be done for the words.
 fn work_for<S: Shelf>(alloc: Global, words: &Vec<String>, shelf: &mut S) -> Work
-    ensures work { IsWork (command (texts words.now.items)) (S.files shelf.old) (S.unreadable shelf.old)
+    ensures work { IsWork (explain_command (texts words.now.items)) (S.files shelf.old) (S.unreadable shelf.old)
         (S.faults shelf.old) (S.faults shelf.new) result }
     ensures files { S.files shelf.new ≡ S.files shelf.old }
     ensures unreadable { S.unreadable shelf.new ≡ S.unreadable shelf.old }
@@ -133,7 +133,7 @@ fn work_for<S: Shelf>(alloc: Global, words: &Vec<String>, shelf: &mut S) -> Work
 
 // What is to be done for a request.
 fn work_on<S: Shelf>(alloc: Global, request: Request, shelf: &mut S) -> Work
-    ensures work { IsWork (Some (asked_by request)) (S.files shelf.old) (S.unreadable shelf.old)
+    ensures work { IsWork (Some (question_by request)) (S.files shelf.old) (S.unreadable shelf.old)
         (S.faults shelf.old) (S.faults shelf.new) result }
     ensures files { S.files shelf.new ≡ S.files shelf.old }
     ensures unreadable { S.unreadable shelf.new ≡ S.unreadable shelf.old }
@@ -146,7 +146,7 @@ fn work_on<S: Shelf>(alloc: Global, request: Request, shelf: &mut S) -> Work
 
 // What is found in the files that are asked for.
 fn find<S: Shelf>(alloc: Global, request: &Request, shelf: &mut S) -> Found
-    ensures found { IsFound (S.files shelf.old) (S.unreadable shelf.old) (asked_by request.now)
+    ensures found { IsFoundInFiles (S.files shelf.old) (S.unreadable shelf.old) (question_by request.now)
         (S.faults shelf.old) (S.faults shelf.new) result }
     ensures files { S.files shelf.new ≡ S.files shelf.old }
     ensures unreadable { S.unreadable shelf.new ≡ S.unreadable shelf.old }
@@ -159,7 +159,7 @@ fn find<S: Shelf>(alloc: Global, request: &Request, shelf: &mut S) -> Found
 
 // What is due where a file was not read.
 fn not_read(alloc: Global, request: &Request, unread: Unread) -> Due
-    ensures { IsUnreadDue (asked_by request.now) unread.file unread.error result }
+    ensures { IsUnreadExplained (question_by request.now) unread.file unread.error result }
 {
     match unread.error {
         ShelfError::TooLong => explained(
@@ -176,7 +176,7 @@ fn not_read(alloc: Global, request: &Request, unread: Unread) -> Due
 
 // The file of that number can't be read.
 fn cannot_read(alloc: Global, file: u16) -> Due
-    ensures { (asked : Asked) → IsUnreadDue asked file ShelfError.Failed result }
+    ensures { (asked : Question) → IsUnreadExplained asked file ShelfError.Failed result }
 {
     match unread_file(alloc, file) {
         Ok(line) => Due::CannotRead(line),
@@ -202,7 +202,7 @@ fn explained(
     place: Place,
     content: Option<&Bytes>,
 ) -> Due
-    ensures { IsExplained (asked_by request.now) rule place (option_copied content.entry) result }
+    ensures { IsRefusalExplained (question_by request.now) rule place (option_copied content.entry) result }
 {
     let name = name_at(request.files.as_slice(), place.file);
     match explained_refusal(alloc, request.form, rule, place, name, content) {
@@ -215,7 +215,7 @@ fn explained(
 fn found_in(alloc: Global, request: &Request, contents: &Rows<Bytes>) -> Found
     requires few { are_few (length contents.now) ≡ true }
     requires short { first_long 0 contents.now ≡ None }
-    ensures { IsFoundIn (asked_by request.now) contents.now result }
+    ensures { IsFoundIn (question_by request.now) contents.now result }
 {
     match load_program(alloc, contents, request.heap, request.threads) {
         Ok(checked) => found_of(alloc, request, contents, checked),
@@ -230,7 +230,7 @@ fn found_in(alloc: Global, request: &Request, contents: &Rows<Bytes>) -> Found
 // What is found where the files are loaded to a program.
 fn found_of(alloc: Global, request: &Request, contents: &Rows<Bytes>, checked: Checked) -> Found
     requires { IsLoaded contents.now request.now.heap request.now.threads checked }
-    ensures { IsFoundIn (asked_by request.now) contents.now result }
+    ensures { IsFoundIn (question_by request.now) contents.now result }
 {
     match request.what {
         What::Run => match field_names(alloc, contents) {

@@ -1,5 +1,5 @@
 ghost use Rattle.std.specs.Prelude.{length};
-ghost use Rattle.solero_explain.specs.Bounds.{AreInBounds};
+ghost use Rattle.solero_explain.specs.Bounds.{AreInExplainBounds};
 
 use jvm_types::Bytes;
 use machine_types::Config;
@@ -36,5 +36,5 @@ pub struct Request {
     pub order: Bytes,
     /// The lines of the run that are told.
     pub part: Part,
-    ghost bounds: { AreInBounds what form (length files.items) threads heap cfg },
+    ghost bounds: { AreInExplainBounds what form (length files.items) threads heap cfg },
 }

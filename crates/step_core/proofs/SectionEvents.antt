@@ -20,9 +20,9 @@ use Rattle.machine_types.specs.declared.phase.Phase.TheVariants.{Take}
 use Rattle.frames.specs.FrameLists.{Frames, below, top}
 use Rattle.frames.specs.KeptAttempts.{with_inner}
 use Rattle.laws_threads.specs.HeldLaws.{HeldHasRoom}
-use Rattle.step_core.specs.Alone.{Alone, IsFine, alone, stepped}
+use Rattle.step_core.specs.Alone.{ThreadWithWords, IsFine, alone, stepped}
 use Rattle.step_core.specs.Running.{running_at}
-use Rattle.step_core.specs.Sections.{IsExit, entering}
+use Rattle.step_core.specs.Sections.{IsExitMade, entering}
 use Rattle.step_core.proofs.WordsKept.{load_keeps}
 
 lock_of_free : (n : ℕ) → lock_of (word_of_lock (Free n)) ≡ Free n
@@ -97,26 +97,26 @@ takes_lock c s f count m noted words word =
 
 pub exits_once : (c : MarkedProgram) (m : ℕ) (s : Thread) (words : List ℕ) (h : Entry)
     → held_at s.held m ≡ Some h → 1 < h.depth
-    → IsExit c m s (record s { held = with_held (shallower h) s.held }) words words
+    → IsExitMade c m s (record s { held = with_held (shallower h) s.held }) words words
 exits_once c m s words h held deep = λ f count a. rw (held, lt-ltb 1 h.depth deep) refl
 
 pub exits_last : (c : MarkedProgram) (m : ℕ) (s : Thread) (words : List ℕ) (h : Entry) (noted : ℕ)
     → held_at s.held m ≡ Some h → h.depth ≤ 1 → h.kept ≡ keeps.Flat noted
     → slice_index words m ≡ word_of_lock (Held s.number)
-    → IsExit c m s (record s { held = without_held m s.held }) words (slice_set words m (freed s noted))
+    → IsExitMade c m s (record s { held = without_held m s.held }) words (slice_set words m (freed s noted))
 exits_last c m s words h noted held last kept is = λ f count a.
     rw (held, le-ltb 1 h.depth last, kept, is, eq-eqb (word_of_lock (Held s.number)) (word_of_lock (Held s.number)) refl) refl
 
 pub ends_attempt : (c : MarkedProgram) (m : ℕ) (s : Thread) (words : List ℕ) (t : Attempt)
     → s.attempt ≡ Some t → held_at s.held m ≡ None → t.monitor ≡ m → t.inner ≡ 0
     → is_same t (slice_index words m) ≡ true
-    → IsExit c m s (elided s) words words
+    → IsExitMade c m s (elided s) words words
 ends_attempt c m s words t some held own last same = λ f count a.
     rw (held, some, eq-eqb t.monitor m own, last, same, load_keeps words m) refl
 
 pub leaves_inside : (c : MarkedProgram) (m : ℕ) (s : Thread) (words : List ℕ) (t : Attempt) (n : ℕ)
     → s.attempt ≡ Some t → held_at s.held m ≡ None → t.monitor ≡ m → t.inner ≡ suc n
-    → IsExit c m s (record s { attempt = Some (record t { inner = n }) }) words words
+    → IsExitMade c m s (record s { attempt = Some (record t { inner = n }) }) words words
 leaves_inside c m s words t n some held own deep = λ f count a.
     rw (held, some, eq-eqb t.monitor m own, deep) refl
 
@@ -185,7 +185,7 @@ lawful_taking : (c : MarkedProgram) (s : Thread) (f : Frames) (count m noted : �
     → slice_index words m ≡ word_of_lock (Free noted)
     → IsFine c (stepped c (alone (entering s f count m) words)) → IsLawful c (taking s f count m noted)
 lawful_taking c s f count m noted words held none locks word fine =
-    (subst (λ (b : Alone). IsFine c b) (looks_to_take c s f count m noted words held none locks word) fine).lawful
+    (subst (λ (b : ThreadWithWords). IsFine c b) (looks_to_take c s f count m noted words held none locks word) fine).lawful
 
 pub place_to_take : (c : MarkedProgram) (s first : Thread) (f : Frames) (count m noted : ℕ) (words : List ℕ)
     → HeldHasRoom → s.program ≡ c → length f.frames ≤ MOST_FRAMES → first ≡ record s { turns = 0 }
@@ -218,41 +218,41 @@ word_there c s f count m words held none fine = rw (held, none) at fine.inside
 pub once_made : (c : MarkedProgram) (m : ℕ) (s now : Thread) (words : List ℕ) (h : Entry)
     → held_at s.held m ≡ Some h → 1 < h.depth
     → now ≡ record s { held = with_held (record h { depth = h.depth - 1 }) s.held }
-    → IsExit c m s now words words
+    → IsExitMade c m s now words words
 once_made c m s now words h held deep made =
-    subst (λ (t : Thread). IsExit c m s t words words) (sym made) (exits_once c m s words h held deep)
+    subst (λ (t : Thread). IsExitMade c m s t words words) (sym made) (exits_once c m s words h held deep)
 
 pub last_made : (c : MarkedProgram) (m noted : ℕ) (s now : Thread) (words left : List ℕ) (h : Entry)
     → held_at s.held m ≡ Some h → h.depth ≤ 1 → h.kept ≡ keeps.Flat noted
     → slice_index words m ≡ word_of_lock (Held s.number)
     → now ≡ record s { held = without_held m s.held } → left ≡ slice_set words m (freed s noted)
-    → IsExit c m s now words left
+    → IsExitMade c m s now words left
 last_made c m noted s now words left h held last kept is made set =
-    subst (λ (t : Thread). IsExit c m s t words left) (sym made)
-    (subst (λ (ws : List ℕ). IsExit c m s (record s { held = without_held m s.held }) words ws) (sym set)
+    subst (λ (t : Thread). IsExitMade c m s t words left) (sym made)
+    (subst (λ (ws : List ℕ). IsExitMade c m s (record s { held = without_held m s.held }) words ws) (sym set)
     (exits_last c m s words h noted held last kept is))
 
 pub end_made : (c : MarkedProgram) (m : ℕ) (s now : Thread) (words : List ℕ) (o : Option Attempt)
     → s.attempt ≡ o → IsSome o → IfSome o (λ a. a.monitor ≡ m) → IfSome o (λ a. a.inner ≡ 0)
     → IfSome o (λ a. is_same a (slice_index words a.monitor) ≡ true) → held_at s.held m ≡ None → now ≡ elided s
-    → IsExit c m s now words words
+    → IsExitMade c m s now words words
 end_made c m s now words None is some own last passes held made = absurd (cc)
 end_made c m s now words (Some t) is some own last passes held made =
     let same : is_same t (slice_index words m) ≡ true =
     subst (λ (n : ℕ). is_same t (slice_index words n) ≡ true) own passes in
-    subst (λ (u : Thread). IsExit c m s u words words) (sym made)
+    subst (λ (u : Thread). IsExitMade c m s u words words) (sym made)
     (ends_attempt c m s words t is held own last same)
 
 pub inside_left : (c : MarkedProgram) (m inner : ℕ) (s now : Thread) (words : List ℕ) (o : Option Attempt)
     → s.attempt ≡ o → IsSome o → IfSome o (λ a. a.monitor ≡ m) → IfSome o (λ a. a.inner ≡ inner) → 0 < inner
     → held_at s.held m ≡ None → now ≡ record s { attempt = with_inner (inner - 1) s.attempt }
-    → IsExit c m s now words words
+    → IsExitMade c m s now words words
 inside_left c m inner s now words None is some own deep more held made = absurd (cc)
 inside_left c m inner s now words (Some t) is some own deep more held made =
     let next : t.inner ≡ suc (inner - 1) = omega (arith, deep, more) in
     let made_so : now ≡ record s { attempt = Some (record t { inner = inner - 1 }) } =
     made ∙ ap (λ (o : Option Attempt). record s { attempt = with_inner (inner - 1) o }) is in
-    subst (λ (u : Thread). IsExit c m s u words words) (sym made_so)
+    subst (λ (u : Thread). IsExitMade c m s u words words) (sym made_so)
     (leaves_inside c m s words t (inner - 1) is held own next)
 
 pub no_attempt : (o : Option Attempt) → option_map head_of o ≡ None → o ≡ None

@@ -17,12 +17,12 @@ pub record CanEnter (s : Thread) (m got : ℕ) : Type 0 where
   pub inner : IfSome s.attempt (λ a. a.inner < 18446744073709551615)
 
 -- its attempt may be checked, and fail
-pub record CanFail (s : Thread) : Type 0 where
+pub record CanFailCheck (s : Thread) : Type 0 where
   pub noted : IfSome s.attempt (λ a. a.noted < 2 ^ 62)
   pub based : IfSome s.attempt (IsBased s.frames)
   pub count : IfSome s.attempt (λ a. s.counts.failed < MOST_LIMIT)
 
 pub record CanLeave (c : MarkedProgram) (s : Thread) (a : After) : Type 0 where
   pub onward : CanGoOn c s a
-  pub fails : CanFail s
+  pub fails : CanFailCheck s
   pub count : IfSome s.attempt (λ a. s.counts.elided < MOST_LIMIT)

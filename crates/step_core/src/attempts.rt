@@ -5,7 +5,7 @@ ghost use Rattle.machine_types.specs.Elision.{if_same, looks};
 ghost use Rattle.machine_types.specs.Going.{runs};
 ghost use Rattle.machine_types.specs.Monitors.{finishes};
 ghost use Rattle.instr_steps.specs.Effecting.{passes};
-ghost use Rattle.step_core.specs.Claims.{CanFail, CanLeave};
+ghost use Rattle.step_core.specs.Claims.{CanFailCheck, CanLeave};
 
 use checked_program::Checked;
 use elided_section::{Checkup, check, fail, finish};
@@ -27,7 +27,7 @@ pub fn looks(s: &ThreadState) -> Option<Access>
 /// Whether a check lets the thread go on. Where it does not, the attempt has failed.
 #[inline(always)]
 pub fn passes(s: &mut ThreadState, found: u64) -> bool
-    requires { CanFail s.old }
+    requires { CanFailCheck s.old }
     ensures passes { result ≡ passes s.old.attempt found }
     ensures state { s.new ≡ if_same s.old s.old.attempt found s.old }
 {

@@ -8,7 +8,7 @@ ghost use Rattle.machine_types.specs.FoundWords.{Fits};
 ghost use Rattle.machine_types.specs.Lawful.{IsLawful};
 ghost use Rattle.machine_types.specs.declared.phase.Phase.TheVariants.{Run};
 ghost use Rattle.instr_steps.specs.Phases.{IsThrow};
-ghost use Rattle.step_core.specs.Claims.{CanFail};
+ghost use Rattle.step_core.specs.Claims.{CanFailCheck};
 
 use crate::attempts::passes;
 use crate::entering::enter;
@@ -28,7 +28,7 @@ fn throw(s: &mut ThreadState, p: &Checked, found: u64)
     requires throws { IsThrow s.old.phase }
     requires program { p.now ≡ s.old.program }
     requires lawful { IsLawful p.now s.old }
-    requires can { CanFail s.old }
+    requires can { CanFailCheck s.old }
     ensures { s.new ≡ moved p.now s.old s.old.phase found }
 {
     if passes(s, found) {

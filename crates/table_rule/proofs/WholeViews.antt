@@ -13,7 +13,7 @@ use Rattle.machine_types.specs.Core.{Core, Happening, NextPart, core, next_threa
 use Rattle.machine_types.specs.Threads.{Thread}
 use Rattle.machine_types.specs.declared.config.Config.{Config}
 use Rattle.laws_states.proofs.GrowingRuns.{next_long, one_more, runs_keep_sizes}
-use Rattle.table_rule.specs.Views.{View, held_in, AreShown, ShowsRun, AllFollow, EachFollows, Holds, HoldsAll}
+use Rattle.table_rule.specs.Views.{View, held_in, AreShown, ShowsRun, AllFollow, EachFollows, HasThreads, HoldsAll}
 use Rattle.table_rule.proofs.Entries.{got_there, got_within, held_beyond, held_here, held_else, view_within}
 use Rattle.table_rule.proofs.Shown.{locals_show}
 
@@ -22,7 +22,7 @@ use Rattle.table_rule.proofs.Shown.{locals_show}
 module _ (threads new : List Thread) (views : List View) (id : ℕ) (v w : View)
     (shown : AreShown threads views) (at : get_elem? views id ≡ some v)
     (all : (t : ℕ) (x : Thread) → slice_get threads t ≡ Some x → held_in v t ≡ Some x)
-    (holds : Holds w new)
+    (holds : HasThreads w new)
     (there_too : (t : ℕ) (y : Thread) → slice_get new t ≡ Some y → (x : Thread) × (slice_get threads t ≡ Some x)) where
   abbrev whole : List View
   whole = slice_set views id w
@@ -117,7 +117,7 @@ module _ (c : MarkedProgram) (cfg : Config) (words : List ℕ) (views : List Vie
   unfolding whole_run
   whole_words = now_run.words_are
 
-  pub whole_holds : Holds u (core c cfg whole_run).threads
+  pub whole_holds : HasThreads u (core c cfg whole_run).threads
   unfolding whole_run
   whole_holds t = sym (latest_is c cfg words views id v u run at follow t)
       ∙ by_entry (held_in (latest c cfg words views id v u run at follow) t) refl
@@ -137,7 +137,7 @@ module _ (c : MarkedProgram) (cfg : Config) (words : List ℕ) (views : List Vie
               let bad : false ≡ true = subst IsSome (sym (latest_is c cfg words views id v u run at follow t) ∙ e) some in absurd (cc)
 
   -- the begin of a part
-  pub part_shows : (w : View) → Holds w (next_threads c.program (core c cfg whole_run).threads)
+  pub part_shows : (w : View) → HasThreads w (next_threads c.program (core c cfg whole_run).threads)
       → ShowsRun c cfg words (slice_set views id w)
   unfolding whole_run
   part_shows w h = record {

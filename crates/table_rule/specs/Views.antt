@@ -56,8 +56,8 @@ abbrev pub AllFollow : MarkedProgram → (was now : View) → Type 0
 AllFollow c was now = (t : ℕ) → EachFollows c (held_in was t) (held_in now t)
 
 -- the view has just these threads, by their numbers
-abbrev pub Holds : View → List Thread → Type 0
-Holds v threads = (t : ℕ) → held_in v t ≡ slice_get threads t
+abbrev pub HasThreads : View → List Thread → Type 0
+HasThreads v threads = (t : ℕ) → held_in v t ≡ slice_get threads t
 
 -- all threads of the program are there
 abbrev pub HoldsAll : MarkedProgram → View → Type 0

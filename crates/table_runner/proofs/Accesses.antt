@@ -19,7 +19,7 @@ use Rattle.laws_states.specs.GrowingRuns.{behind}
 use Rattle.laws_states.proofs.GrowingRuns.{runs_keep_sizes}
 use Rattle.table_rule.specs.Views.{View, ShowsRun, StandsIn}
 use Rattle.table_rule.proofs.Shown.{events_show, locals_show}
-use Rattle.table_runner.specs.Accessing.{NextEvent, made, IsMade, Tells, CanMake, Asks, IsOf}
+use Rattle.table_runner.specs.Accessing.{NextEvent, made_by_event, IsEventMade, Tells, CanMake, Asks, IsNextEventOf}
 
 -- ---- the calls on the table
 
@@ -68,7 +68,7 @@ runs c cfg s = ShowsRun c cfg s.words s.views
 module _ {S : Type 0} (safe : RunsAreSafe) where
   module _ (e : NextEvent) (a : Access) (i : ℕ) (f got : ℕ → ℕ) (acts : Acts a i f got) (slots words id : ℕ) (me : Me S View) (can : CanMake e me.0 a words) where
     step : (s : State S View) → ShowsRun e.program e.cfg s.words s.views → get_elem? s.views id ≡ some me.0
-        → (w : View) × ShowsRun e.program e.cfg (slice_set s.words i (f (slice_index s.words i))) (slice_set s.views id w) × IsMade e me.0 (got (slice_index s.words i)) w
+        → (w : View) × ShowsRun e.program e.cfg (slice_set s.words i (f (slice_index s.words i))) (slice_set s.views id w) × IsEventMade e me.0 (got (slice_index s.words i)) w
     step s run at =
         let y : Thread = e.state in
         let local = locals_show e.program e.cfg s.words s.views id e.number me.0 can.stands.was y run at can.stands.held can.stands.behind.0 in
@@ -78,11 +78,11 @@ module _ {S : Type 0} (safe : RunsAreSafe) where
         subst (λ ws. left_by a (slice_index ws (accessed a)) < 2 ^ 64) (sym there.words_are) (subst (λ o. IfSome o (λ b. left_by b (slice_index (core e.program e.cfg there.happenings).words (accessed b)) < 2 ^ 64)) can.wants access.sum) in
         let finds : found_by s.words (wanted e.program y y.phase) ≡ got (slice_index s.words i) = ap (found_by s.words) can.wants
         ∙ acts.finds s.words in
-        let behind_is : behind e.program s.words y ≡ made e (got (slice_index s.words i)) = ap (made e) finds in
+        let behind_is : behind e.program s.words y ≡ made_by_event e (got (slice_index s.words i)) = ap (made_by_event e) finds in
         let after : words_after s.words (wanted e.program y y.phase) ≡ slice_set s.words i (f (slice_index s.words i)) = ap (words_after s.words) can.wants
         ∙ acts.leaves s.words sum in
         let event = events_show e.program e.cfg s.words s.views id e.number me.0 can.stands.was y run at can.stands.held can.stands.behind.0 in (
-          slice_set me.0 e.number (Some (made e (got (slice_index s.words i)))),
+          slice_set me.0 e.number (Some (made_by_event e (got (slice_index s.words i)))),
           subst (λ z. ShowsRun e.program e.cfg (slice_set s.words i (f (slice_index s.words i))) (slice_set s.views id (slice_set me.0 e.number (Some z)))) behind_is
               (subst (λ ws. ShowsRun e.program e.cfg ws (slice_set s.views id (slice_set me.0 e.number (Some (behind e.program s.words y))))) after event.0),
           record {
@@ -96,7 +96,7 @@ module _ {S : Type 0} (safe : RunsAreSafe) where
         )
 
     allows_its :
-        Allows (runs e.program e.cfg) slots id me i f (λ n w. IsMade e me.0 (got n) w.0 × (w.1 ≡ me.1))
+        Allows (runs e.program e.cfg) slots id me i f (λ n w. IsEventMade e me.0 (got n) w.0 × (w.1 ≡ me.1))
     allows_its s run long at small = let made_it = step s run at in (made_it.0, keeps, tt, made_it.1, (made_it.2, refl))
 
     inside : accessed a < words
@@ -108,18 +108,18 @@ module _ {S : Type 0} (safe : RunsAreSafe) where
 
   pub allows : (o : Option NextEvent)
       (c : MarkedProgram) (cfg : Config) (a : Access) (i : ℕ) (f got : ℕ → ℕ) (slots words id : ℕ) (me : Me S View)
-      → Acts a i f got → IsOf o c cfg → Asks o me.0 a words
+      → Acts a i f got → IsNextEventOf o c cfg → Asks o me.0 a words
       → (accessed a < words) × Allows (runs c cfg) slots id me i f (λ n w. Tells o me.0 (got n) w.0 × (w.1 ≡ me.1))
   allows None c cfg a i f got slots words id me acts is asks = absurd is
   allows (Some e) c cfg a i f got slots words id me acts is asks = (
     inside e a i f got acts slots words id me asks,
-    subst (λ (d : Config). Allows (runs c d) slots id me i f (λ n w. IsMade e me.0 (got n) w.0 × (w.1 ≡ me.1))) is.1
-        (subst (λ (p : MarkedProgram). Allows (runs p e.cfg) slots id me i f (λ n w. IsMade e me.0 (got n) w.0 × (w.1 ≡ me.1))) is.0 (allows_its e a i f got acts slots words id me asks)),
+    subst (λ (d : Config). Allows (runs c d) slots id me i f (λ n w. IsEventMade e me.0 (got n) w.0 × (w.1 ≡ me.1))) is.1
+        (subst (λ (p : MarkedProgram). Allows (runs p e.cfg) slots id me i f (λ n w. IsEventMade e me.0 (got n) w.0 × (w.1 ≡ me.1))) is.0 (allows_its e a i f got acts slots words id me asks)),
   )
 
   -- the same where the access is known by its kind
   pub allows_as : (o : Option NextEvent)
       (c : MarkedProgram) (cfg : Config) (b a : Access) (i : ℕ) (f got : ℕ → ℕ) (slots words id : ℕ) (me : Me S View)
-      → b ≡ a → Acts a i f got → IsOf o c cfg → Asks o me.0 b words
+      → b ≡ a → Acts a i f got → IsNextEventOf o c cfg → Asks o me.0 b words
       → (accessed a < words) × Allows (runs c cfg) slots id me i f (λ n w. Tells o me.0 (got n) w.0 × (w.1 ≡ me.1))
   allows_as o c cfg b a i f got slots words id me is acts of_run asks = allows o c cfg a i f got slots words id me acts of_run (subst (λ k. Asks o me.0 k words) is asks)

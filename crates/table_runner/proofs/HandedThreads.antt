@@ -23,9 +23,9 @@ use Rattle.local_events.specs.Locals.{Follows}
 use Rattle.table_rule.specs.Views.{View, held_in}
 use Rattle.table_rule.proofs.Entries.{held_here, held_else, set_held}
 use Rattle.local_events.proofs.LocalLaws.{follows_on, follows_itself}
-use Rattle.table_runner.specs.Accessing.{NextEvent, made, Happens, IsMade, CanRun, Stands}
-use Rattle.table_runner.specs.Going.{Goes, GoesAt, StandsAt}
-use Rattle.table_runner.specs.Handed.{Handed, AreHands, EachStands, event_at, viewed, IsEventOf, HasRoom, RoomIsThere}
+use Rattle.table_runner.specs.Accessing.{NextEvent, made_by_event, Happens, IsEventMade, CanRun, IsBehindView}
+use Rattle.table_runner.specs.Going.{HasGoneByEvent, GoesAt, IsBehindViewAt}
+use Rattle.table_runner.specs.Handed.{Handed, AreHands, EachStands, event_at, viewed, IsEventOf, HasReportRoom, RoomIsThere}
 
 -- ---- a thread of a run
 
@@ -43,8 +43,8 @@ pub fits : RunsAreSafe → (e : NextEvent) (words got : ℕ) → CanRun e.progra
 fits safe e words got run h = subst (Fits e.program e.state) (sym h.finds) (safe e.program e.cfg h.happenings e.number e.state run.marked run.width run.settings h.at).access.found
 
 -- behind its event it is one of the run
-pub stays_of_run : (e : NextEvent) (got : ℕ) → Happens e got → IsOfRun e.program e.cfg e.number (made e got)
-stays_of_run e got h = subst (λ n. IsOfRun e.program e.cfg e.number (made e n)) (sym h.finds) (threads_stay e.program e.cfg h.happenings e.number e.state h.at)
+pub stays_of_run : (e : NextEvent) (got : ℕ) → Happens e got → IsOfRun e.program e.cfg e.number (made_by_event e got)
+stays_of_run e got h = subst (λ n. IsOfRun e.program e.cfg e.number (made_by_event e n)) (sym h.finds) (threads_stay e.program e.cfg h.happenings e.number e.state h.at)
 
 -- an event without an access happens where the thread stands
 pub happens_here : (e : NextEvent) → IsOfRun e.program e.cfg e.number e.state
@@ -55,25 +55,25 @@ happens_here e of_run none = record { happenings = of_run.0; at = of_run.1; find
 
 -- an event without an access
 pub goes_alone : (e : NextEvent) (v : View) (after : Thread) → IsOfRun e.program e.cfg e.number e.state
-    → wanted e.program e.state e.state.phase ≡ None → after ≡ made e 0 → Goes e v after v
+    → wanted e.program e.state e.state.phase ≡ None → after ≡ made_by_event e 0 → HasGoneByEvent e v after v
 goes_alone e v after of_run none moves = record {
   got = 0;
   happens = happens_here e of_run none;
   state = moves;
-  view = ap (λ o. viewed o v e.number (made e 0)) (sym none);
+  view = ap (λ o. viewed o v e.number (made_by_event e 0)) (sym none);
 }
 
 -- one with an access, whose thread was as it is when the access is made
 pub goes_by : (e : NextEvent) (v w : View) (x after : Thread) (a : Access) (got : ℕ)
-    → wanted e.program e.state e.state.phase ≡ Some a → x ≡ e.state → IsMade (record e { state = x }) v got w
-    → after ≡ made (record e { state = x }) got → Goes e v after w
+    → wanted e.program e.state e.state.phase ≡ Some a → x ≡ e.state → IsEventMade (record e { state = x }) v got w
+    → after ≡ made_by_event (record e { state = x }) got → HasGoneByEvent e v after w
 goes_by e v w x after a got wants same is moves =
-    let its : IsMade e v got w = subst (λ (y : Thread). IsMade (record e { state = y }) v got w) same is in
+    let its : IsEventMade e v got w = subst (λ (y : Thread). IsEventMade (record e { state = y }) v got w) same is in
     record {
       got = got;
       happens = its.happens;
-      state = moves ∙ ap (λ (y : Thread). made (record e { state = y }) got) same;
-      view = its.view ∙ ap (λ o. viewed o v e.number (made e got)) (sym wants);
+      state = moves ∙ ap (λ (y : Thread). made_by_event (record e { state = y }) got) same;
+      view = its.view ∙ ap (λ o. viewed o v e.number (made_by_event e got)) (sym wants);
     }
 
 -- ---- hands
@@ -81,25 +81,25 @@ goes_by e v w x after a got wants same is moves =
 -- what stands is there in the view, too
 pub stands_of : (c : MarkedProgram) (cfg : Config) (t : ℕ) (v : View) (o : Option Thread) (y : Thread)
     → held_in v t ≡ o → EachStands c cfg t o (Some y)
-    → Stands (record { program = c; cfg = cfg; number = t; state = y }) v
+    → IsBehindView (record { program = c; cfg = cfg; number = t; state = y }) v
 stands_of c cfg t v None y e k = absurd k
 stands_of c cfg t v (Some x) y e k = record { was = x; held = e; behind = k }
 
 pub stands_at : (h : Handed) (t : ℕ) (o : Option Thread) → AreHands h → held_in h.threads t ≡ o
-    → StandsAt h.program h.cfg t o h.view
+    → IsBehindViewAt h.program h.cfg t o h.view
 stands_at h t None k e = tt
 stands_at h t (Some y) k e = stands_of h.program h.cfg t h.view (held_in h.view t) y refl (subst (EachStands h.program h.cfg t (held_in h.view t)) e (k.each t))
 
 -- its entry in the view, when the thread has made an event
 pub stands_after : (e : NextEvent) (v : View) (o : Option Access) (got : ℕ)
-    → wanted e.program e.state e.state.phase ≡ o → Stands e v → Happens e got
-    → EachStands e.program e.cfg e.number (held_in (viewed o v e.number (made e got)) e.number) (Some (made e got))
+    → wanted e.program e.state e.state.phase ≡ o → IsBehindView e v → Happens e got
+    → EachStands e.program e.cfg e.number (held_in (viewed o v e.number (made_by_event e got)) e.number) (Some (made_by_event e got))
 stands_after e v None got none stands h =
     let zero_got : got ≡ 0 = h.finds ∙ ap (found_by (core e.program e.cfg h.happenings).words) none in
-    let onward : Follows e.program stands.was (made e got) = subst (λ n. Follows e.program stands.was (made e n)) (sym zero_got) (follows_on e.program stands.was e.state stands.behind.0 none) in
-    subst (λ p. EachStands e.program e.cfg e.number p (Some (made e got))) (sym stands.held) (onward, stays_of_run e got h)
+    let onward : Follows e.program stands.was (made_by_event e got) = subst (λ n. Follows e.program stands.was (made_by_event e n)) (sym zero_got) (follows_on e.program stands.was e.state stands.behind.0 none) in
+    subst (λ p. EachStands e.program e.cfg e.number p (Some (made_by_event e got))) (sym stands.held) (onward, stays_of_run e got h)
 stands_after e v (Some a) got some stands h =
-    subst (λ p. EachStands e.program e.cfg e.number p (Some (made e got))) (sym (held_here v e.number stands.was (made e got) stands.held)) (follows_itself e.program (made e got), stays_of_run e got h)
+    subst (λ p. EachStands e.program e.cfg e.number p (Some (made_by_event e got))) (sym (held_here v e.number stands.was (made_by_event e got) stands.held)) (follows_itself e.program (made_by_event e got), stays_of_run e got h)
 
 pub viewed_else : (o : Option Access) (v : View) (t u : ℕ) (y : Thread) → u ≢ t
     → held_in (viewed o v t y) u ≡ held_in v u
@@ -107,22 +107,22 @@ viewed_else None v t u y n = refl
 viewed_else (Some a) v t u y n = held_else v t u (Some y) n
 
 module _ (h : Handed) (t : ℕ) (k : AreHands h) where
-  each_after : (x y : Thread) (w : View) → held_in h.threads t ≡ Some x → Goes (event_at h t x) h.view y w
+  each_after : (x y : Thread) (w : View) → held_in h.threads t ≡ Some x → HasGoneByEvent (event_at h t x) h.view y w
       → (u : ℕ) → EachStands h.program h.cfg u (held_in w u) (held_in (slice_set h.threads t (Some y)) u)
   each_after x y w is g u = dite (ℕ_discrete u t) here else
     where
       here : u ≡ t → EachStands h.program h.cfg u (held_in w u) (held_in (slice_set h.threads t (Some y)) u)
       here same =
           let one = stands_after (event_at h t x) h.view (wanted h.program x x.phase) g.got refl (stands_at h t (Some x) k is) g.happens in
-          let now : held_in (slice_set h.threads t (Some y)) t ≡ Some (made (event_at h t x) g.got) = held_here h.threads t x y is
+          let now : held_in (slice_set h.threads t (Some y)) t ≡ Some (made_by_event (event_at h t x) g.got) = held_here h.threads t x y is
           ∙ ap Some g.state in
           subst (λ m. EachStands h.program h.cfg m (held_in w m) (held_in (slice_set h.threads t (Some y)) m)) (sym same)
-          (subst (λ (z : View). EachStands h.program h.cfg t (held_in z t) (held_in (slice_set h.threads t (Some y)) t)) (sym g.view) (subst (EachStands h.program h.cfg t (held_in (viewed (wanted h.program x x.phase) h.view t (made (event_at h t x) g.got)) t)) (sym now) one))
+          (subst (λ (z : View). EachStands h.program h.cfg t (held_in z t) (held_in (slice_set h.threads t (Some y)) t)) (sym g.view) (subst (EachStands h.program h.cfg t (held_in (viewed (wanted h.program x x.phase) h.view t (made_by_event (event_at h t x) g.got)) t)) (sym now) one))
 
       else : u ≢ t → EachStands h.program h.cfg u (held_in w u) (held_in (slice_set h.threads t (Some y)) u)
       else n =
           let old : held_in w u ≡ held_in h.view u = ap (λ (z : View). held_in z u) g.view
-          ∙ viewed_else (wanted h.program x x.phase) h.view t u (made (event_at h t x) g.got) n in
+          ∙ viewed_else (wanted h.program x x.phase) h.view t u (made_by_event (event_at h t x) g.got) n in
           subst (λ p. EachStands h.program h.cfg u p (held_in (slice_set h.threads t (Some y)) u)) (sym old) (subst (EachStands h.program h.cfg u (held_in h.view u)) (sym (held_else h.threads t u (Some y) n)) (k.each u))
 
   -- all that holds of hands holds behind the event
@@ -184,7 +184,7 @@ set_some (z ∷ zs) (suc t) (suc u) o e = set_some zs t u o e
 pub room_kept : (v : View)
     (t : ℕ) (b : Bool) (c : MarkedProgram) (cfg : Config) (was now : Option Thread) (old new : View) (room : Option (Stock ThreadReport))
     → held_in v t ≡ was → (b ≡ false → (now ≡ was) × (new ≡ old))
-    → (b ≡ true → GoesAt c cfg t was old now new) → HasRoom v room → HasRoom (slice_set v t now) room
+    → (b ≡ true → GoesAt c cfg t was old now new) → HasReportRoom v room → HasReportRoom (slice_set v t now) room
 room_kept v t true c cfg was now old new room is f g k = room_as (held_in v 0) (held_in (slice_set v t now) 0) room (set_some v t 0 now (ap is_some is ∙ goes_some c cfg t was now old new (g refl))) k
 room_kept v t false c cfg was now old new room is f g k = room_as (held_in v 0) (held_in (slice_set v t now) 0) room (set_some v t 0 now (ap is_some (is ∙ sym (f refl).0))) k
 

@@ -11,8 +11,8 @@ use Rattle.machine_types.specs.Threads.{Thread}
 use Rattle.machine_types.specs.declared.config.Config.{Config}
 use Rattle.table_rule.specs.Views.{View, held_in}
 use Rattle.table_rule.proofs.Entries.{held_else}
-use Rattle.table_runner.specs.Handed.{Handed, AreHands, EachStands, HasRoom, RoomIsThere}
-use Rattle.table_runner.specs.Sharing.{alone, merged, thread_alone, without, without_thread}
+use Rattle.table_runner.specs.Handed.{Handed, AreHands, EachStands, HasReportRoom, RoomIsThere}
+use Rattle.table_runner.specs.Sharing.{only_thread, merged, thread_alone, view_without, without_thread}
 use Rattle.table_runner.proofs.SharedViews.{alone_else, alone_here, merged_at, without_here}
 
 same_each : (c : MarkedProgram) (cfg : Config) (t : ℕ) (o p q r : Option Thread) → o ≡ q → p ≡ r
@@ -24,8 +24,8 @@ are_without h t k = record {
   run = k.run;
   vacant = k.vacant;
   each = λ u. dite (ℕ_discrete u t)
-      (λ e. same_each h.program h.cfg u (held_in (without t h.view) u) (held_in (without t h.threads) u) None None (ap (held_in (without t h.view)) e ∙ without_here h.view t) (ap (held_in (without t h.threads)) e ∙ without_here h.threads t) tt)
-      (λ n. same_each h.program h.cfg u (held_in (without t h.view) u) (held_in (without t h.threads) u) (held_in h.view u) (held_in h.threads u) (held_else h.view t u None n) (held_else h.threads t u None n) (k.each u));
+      (λ e. same_each h.program h.cfg u (held_in (view_without t h.view) u) (held_in (view_without t h.threads) u) None None (ap (held_in (view_without t h.view)) e ∙ without_here h.view t) (ap (held_in (view_without t h.threads)) e ∙ without_here h.threads t) tt)
+      (λ n. same_each h.program h.cfg u (held_in (view_without t h.view) u) (held_in (view_without t h.threads) u) (held_in h.view u) (held_in h.threads u) (held_else h.view t u None n) (held_else h.threads t u None n) (k.each u));
 }
 
 pub are_alone : (h : Handed) (t : ℕ) → t < 9 → AreHands h → AreHands (thread_alone h t)
@@ -33,8 +33,8 @@ are_alone h t lt k = record {
   run = k.run;
   vacant = k.vacant;
   each = λ u. dite (ℕ_discrete u t)
-      (λ e. same_each h.program h.cfg u (held_in (alone t h.view) u) (held_in (alone t h.threads) u) (held_in h.view u) (held_in h.threads u) (ap (held_in (alone t h.view)) e ∙ alone_here h.view t lt ∙ ap (held_in h.view) (sym e)) (ap (held_in (alone t h.threads)) e ∙ alone_here h.threads t lt ∙ ap (held_in h.threads) (sym e)) (k.each u))
-      (λ n. same_each h.program h.cfg u (held_in (alone t h.view) u) (held_in (alone t h.threads) u) None None (alone_else h.view t u n) (alone_else h.threads t u n) tt);
+      (λ e. same_each h.program h.cfg u (held_in (only_thread t h.view) u) (held_in (only_thread t h.threads) u) (held_in h.view u) (held_in h.threads u) (ap (held_in (only_thread t h.view)) e ∙ alone_here h.view t lt ∙ ap (held_in h.view) (sym e)) (ap (held_in (only_thread t h.threads)) e ∙ alone_here h.threads t lt ∙ ap (held_in h.threads) (sym e)) (k.each u))
+      (λ n. same_each h.program h.cfg u (held_in (only_thread t h.view) u) (held_in (only_thread t h.threads) u) None None (alone_else h.view t u n) (alone_else h.threads t u n) tt);
 }
 
 room_of : (o p : Option Thread) (a b : Option (Stock ThreadReport)) → o ≡ p → a ≡ b → RoomIsThere p b
@@ -42,16 +42,16 @@ room_of : (o p : Option Thread) (a b : Option (Stock ThreadReport)) → o ≡ p 
 room_of o p a b e f k = subst (λ z. RoomIsThere z a) (sym e) (subst (RoomIsThere p) (sym f) k)
 
 pub room_without : (v : View) (t : ℕ) (was now : Option (Stock ThreadReport)) → (t ≡ 0 → now ≡ None)
-    → (t ≢ 0 → now ≡ was) → HasRoom v was → HasRoom (without t v) now
+    → (t ≢ 0 → now ≡ was) → HasReportRoom v was → HasReportRoom (view_without t v) now
 room_without v t was now g f k = dite (ℕ_discrete t 0)
-    (λ e. room_of (held_in (without t v) 0) None now None (ap (held_in (without t v)) (sym e) ∙ without_here v t) (g e) refl)
-    (λ n. room_of (held_in (without t v) 0) (held_in v 0) now was (held_else v t 0 None (λ e. n (sym e))) (f n) k)
+    (λ e. room_of (held_in (view_without t v) 0) None now None (ap (held_in (view_without t v)) (sym e) ∙ without_here v t) (g e) refl)
+    (λ n. room_of (held_in (view_without t v) 0) (held_in v 0) now was (held_else v t 0 None (λ e. n (sym e))) (f n) k)
 
 pub room_alone : (v : View) (t : ℕ) (was now : Option (Stock ThreadReport)) → t < 9 → (t ≡ 0 → now ≡ was)
-    → (t ≢ 0 → now ≡ None) → HasRoom v was → HasRoom (alone t v) now
+    → (t ≢ 0 → now ≡ None) → HasReportRoom v was → HasReportRoom (only_thread t v) now
 room_alone v t was now lt f g k = dite (ℕ_discrete t 0)
-    (λ e. room_of (held_in (alone t v) 0) (held_in v 0) now was (ap (held_in (alone t v)) (sym e) ∙ alone_here v t lt ∙ ap (held_in v) e) (f e) k)
-    (λ n. room_of (held_in (alone t v) 0) None now None (alone_else v t 0 (λ e. n (sym e))) (g n) refl)
+    (λ e. room_of (held_in (only_thread t v) 0) (held_in v 0) now was (ap (held_in (only_thread t v)) (sym e) ∙ alone_here v t lt ∙ ap (held_in v) e) (f e) k)
+    (λ n. room_of (held_in (only_thread t v) 0) None now None (alone_else v t 0 (λ e. n (sym e))) (g n) refl)
 
 -- ---- joined
 
@@ -80,7 +80,7 @@ room_first (Some x) p (Some r) b new k m f g = subst (RoomIsThere (Some x)) (sym
 room_first None None a b new k m f g = g k ∙ m
 room_first None (Some y) a b new k m f g = subst (RoomIsThere (Some y)) (sym (g k)) m
 
-pub room_joined : (v w threads : View) (a b new : Option (Stock ThreadReport)) → HasRoom v a → HasRoom w b
+pub room_joined : (v w threads : View) (a b new : Option (Stock ThreadReport)) → HasReportRoom v a → HasReportRoom w b
     → ((t : ℕ) → held_in threads t ≡ option_or (held_in v t) (held_in w t)) → (IsSome a → new ≡ a)
-    → (a ≡ None → new ≡ b) → HasRoom threads new
+    → (a ≡ None → new ≡ b) → HasReportRoom threads new
 room_joined v w threads a b new k m at f g = room_of (held_in threads 0) (option_or (held_in v 0) (held_in w 0)) new new (at 0) refl (room_first (held_in v 0) (held_in w 0) a b new k m f g)

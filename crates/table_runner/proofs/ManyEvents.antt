@@ -19,45 +19,45 @@ use Rattle.machine_types.specs.declared.phase.Phase.{Phase}
 use Rattle.machine_types.specs.declared.phase.Phase.TheVariants as phases
 use Rattle.table_rule.specs.Views.{View, held_in}
 use Rattle.table_rule.proofs.Entries.{held_here, held_else, set_held}
-use Rattle.table_runner.specs.Accessing.{CanRun, NextEvent, made, Stands}
-use Rattle.table_runner.specs.Going.{Goes, GoesOn, GoesOnAt}
-use Rattle.table_runner.specs.Handed.{Handed, AreHands, EachStands, HasRoom, viewed}
+use Rattle.table_runner.specs.Accessing.{CanRun, NextEvent, made_by_event, IsBehindView}
+use Rattle.table_runner.specs.Going.{HasGoneByEvent, IsLaterThread, GoesOnAt}
+use Rattle.table_runner.specs.Handed.{Handed, AreHands, EachStands, HasReportRoom, viewed}
 use Rattle.table_runner.specs.Running.{IsRunOn}
 use Rattle.table_runner.proofs.HandedThreads.{goes_alone, is_lawful, room_as, stands_after, stands_of, viewed_else}
 
 -- ---- one thread
 
-pub none_yet : (e : NextEvent) (v : View) → Stands e v → GoesOn e v e.state v
+pub none_yet : (e : NextEvent) (v : View) → IsBehindView e v → IsLaterThread e v e.state v
 none_yet e v stands = record { stands = stands; given = refl; others = λ u n. refl }
 
-pub one_more : GivenIsKept → (e : NextEvent) (v w z : View) (x y : Thread) → GoesOn e v x w
-    → Goes (record e { state = x }) w y z → GoesOn e v y z
+pub one_more : GivenIsKept → (e : NextEvent) (v w z : View) (x y : Thread) → IsLaterThread e v x w
+    → HasGoneByEvent (record e { state = x }) w y z → IsLaterThread e v y z
 one_more given e v w z x y on g =
     let f : NextEvent = record e { state = x } in
-    let each : EachStands e.program e.cfg e.number (held_in (viewed (wanted e.program x x.phase) w e.number (made f g.got)) e.number) (Some (made f g.got)) = stands_after f w (wanted e.program x x.phase) g.got refl on.stands g.happens in
-    let here : Stands (record e { state = made f g.got }) (viewed (wanted e.program x x.phase) w e.number (made f g.got)) = stands_of e.program e.cfg e.number (viewed (wanted e.program x x.phase) w e.number (made f g.got)) (held_in (viewed (wanted e.program x x.phase) w e.number (made f g.got)) e.number) (made f g.got) refl each in
+    let each : EachStands e.program e.cfg e.number (held_in (viewed (wanted e.program x x.phase) w e.number (made_by_event f g.got)) e.number) (Some (made_by_event f g.got)) = stands_after f w (wanted e.program x x.phase) g.got refl on.stands g.happens in
+    let here : IsBehindView (record e { state = made_by_event f g.got }) (viewed (wanted e.program x x.phase) w e.number (made_by_event f g.got)) = stands_of e.program e.cfg e.number (viewed (wanted e.program x x.phase) w e.number (made_by_event f g.got)) (held_in (viewed (wanted e.program x x.phase) w e.number (made_by_event f g.got)) e.number) (made_by_event f g.got) refl each in
     record {
-      stands = subst (λ (s : Thread). Stands (record e { state = s }) z) (sym g.state) (subst (Stands (record e { state = made f g.got })) (sym g.view) here);
+      stands = subst (λ (s : Thread). IsBehindView (record e { state = s }) z) (sym g.state) (subst (IsBehindView (record e { state = made_by_event f g.got })) (sym g.view) here);
       given = ap given_of g.state ∙ given e.program x x.phase g.got ∙ on.given;
       others = λ u n. ap (λ (r : View). held_in r u) g.view
-          ∙ viewed_else (wanted e.program x x.phase) w e.number u (made f g.got) n ∙ on.others u n;
+          ∙ viewed_else (wanted e.program x x.phase) w e.number u (made_by_event f g.got) n ∙ on.others u n;
     }
 
-pub one_event : GivenIsKept → (e : NextEvent) (v z : View) (y : Thread) → Stands e v → Goes e v y z → GoesOn e v y z
+pub one_event : GivenIsKept → (e : NextEvent) (v z : View) (y : Thread) → IsBehindView e v → HasGoneByEvent e v y z → IsLaterThread e v y z
 one_event given e v z y stands g = one_more given e v v z e.state y (none_yet e v stands) g
 
 -- those of which none wants an access
-pub local_more : GivenIsKept → (k : ℕ) (e : NextEvent) (v w : View) (x y : Thread) → GoesOn e v x w
-    → AfterLocals e.program x k y → GoesOn e v y w
-local_more given zero e v w x y on is = subst (λ (s : Thread). GoesOn e v s w) (sym is) on
+pub local_more : GivenIsKept → (k : ℕ) (e : NextEvent) (v w : View) (x y : Thread) → IsLaterThread e v x w
+    → AfterLocals e.program x k y → IsLaterThread e v y w
+local_more given zero e v w x y on is = subst (λ (s : Thread). IsLaterThread e v s w) (sym is) on
 local_more given (suc k) e v w x y on is =
     let f : NextEvent = record e { state = x } in
-    local_more given k e v w (made f 0) y
-    (one_more given e v w w x (made f 0) on (goes_alone f w (made f 0) on.stands.behind.1 is.0 refl)) is.1
+    local_more given k e v w (made_by_event f 0) y
+    (one_more given e v w w x (made_by_event f 0) on (goes_alone f w (made_by_event f 0) on.stands.behind.1 is.0 refl)) is.1
 
 -- and then others
-pub then_more : (e : NextEvent) (v w z : View) (x y : Thread) → GoesOn e v x w
-    → GoesOn (record e { state = x }) w y z → GoesOn e v y z
+pub then_more : (e : NextEvent) (v w z : View) (x y : Thread) → IsLaterThread e v x w
+    → IsLaterThread (record e { state = x }) w y z → IsLaterThread e v y z
 then_more e v w z x y on more = record {
   stands = more.stands;
   given = more.given ∙ on.given;
@@ -85,26 +85,26 @@ one_less lessen safe c cfg words t x run of_run = by_live (is_live x.phase) refl
 -- no more than there was
 pub no_more_left : EventsLessenWork → RunsAreSafe → GivenIsKept
     → (k : ℕ) (e : NextEvent) (words : ℕ) (v w : View) (x y : Thread) → CanRun e.program e.cfg words
-    → GoesOn e v x w → AfterLocals e.program x k y → work_left y ≤ work_left x
+    → IsLaterThread e v x w → AfterLocals e.program x k y → work_left y ≤ work_left x
 no_more_left lessen safe given zero e words v w x y run on is =
     subst (λ (s : Thread). work_left s ≤ work_left x) (sym is) (omega arith)
 no_more_left lessen safe given (suc k) e words v w x y run on is =
     let f : NextEvent = record e { state = x } in
-    let first : work_left (made f 0) ≤ work_left x = one_less lessen safe e.program e.cfg words e.number x run on.stands.behind.1 in
-    let rest : work_left y ≤ work_left (made f 0) = no_more_left lessen safe given k e words v w (made f 0) y run
-    (one_more given e v w w x (made f 0) on (goes_alone f w (made f 0) on.stands.behind.1 is.0 refl)) is.1 in
+    let first : work_left (made_by_event f 0) ≤ work_left x = one_less lessen safe e.program e.cfg words e.number x run on.stands.behind.1 in
+    let rest : work_left y ≤ work_left (made_by_event f 0) = no_more_left lessen safe given k e words v w (made_by_event f 0) y run
+    (one_more given e v w w x (made_by_event f 0) on (goes_alone f w (made_by_event f 0) on.stands.behind.1 is.0 refl)) is.1 in
     omega arith
 
 -- ---- hands
 
-stands_now : (e : NextEvent) (w : View) → Stands e w
+stands_now : (e : NextEvent) (w : View) → IsBehindView e w
     → EachStands e.program e.cfg e.number (held_in w e.number) (Some e.state)
 stands_now e w k = subst (λ o. EachStands e.program e.cfg e.number o (Some e.state)) (sym k.held) k.behind
 
 module _ (h : Handed) (t : ℕ) (k : AreHands h) where
   -- where thread t is there
   each_later : (x y : Thread) (w : View) → held_in h.threads t ≡ Some x
-      → GoesOn (record { program = h.program; cfg = h.cfg; number = t; state = x }) h.view y w
+      → IsLaterThread (record { program = h.program; cfg = h.cfg; number = t; state = x }) h.view y w
       → (u : ℕ) → EachStands h.program h.cfg u (held_in w u) (held_in (slice_set h.threads t (Some y)) u)
   each_later x y w is g u = dite (ℕ_discrete u t) here else
     where
@@ -150,8 +150,8 @@ numbers_kept v t now e u = dite (ℕ_discrete u t)
 
 pub room_later : (h : Handed)
     (t : ℕ) (was now : Option Thread) (w : View) (room : Option (Stock ThreadReport)) → AreHands h
-    → held_in h.threads t ≡ was → GoesOnAt h.program h.cfg t was h.view now w → HasRoom h.threads room
-    → HasRoom (slice_set h.threads t now) room
+    → held_in h.threads t ≡ was → GoesOnAt h.program h.cfg t was h.view now w → HasReportRoom h.threads room
+    → HasReportRoom (slice_set h.threads t now) room
 room_later h t was now w room k is g m = room_as (held_in h.threads 0) (held_in (slice_set h.threads t now) 0) room (sym (numbers_kept h.threads t now (given_at h t k was now w is g) 0)) m
 
 pub run_on : (h : Handed) (t : ℕ) (was now : Option Thread) (w : View) → AreHands h

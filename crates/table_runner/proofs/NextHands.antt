@@ -11,32 +11,32 @@ use Rattle.machine_types.specs.Threads.{Thread}
 use Rattle.machine_types.specs.declared.config.Config.{Config}
 use Rattle.run_parts.specs.Parts.{AreNumbered, SharesAreNext, own_begun}
 use Rattle.laws_states.specs.StateLaws.{ProgramsKeepThreads, RunsHaveState}
-use Rattle.table_rule.specs.Views.{View, held_in, Holds, HoldsAll}
+use Rattle.table_rule.specs.Views.{View, held_in, HasThreads, HoldsAll}
 use Rattle.local_events.proofs.LocalLaws.{follows_itself}
-use Rattle.table_runner.specs.Handed.{Handed, AreHands, EachStands, HasRoom}
-use Rattle.table_runner.specs.Parts.{Begun, BegunBy}
+use Rattle.table_runner.specs.Handed.{Handed, AreHands, EachStands, HasReportRoom}
+use Rattle.table_runner.specs.Parts.{IsPartBegun, BegunBy}
 use Rattle.table_runner.specs.Running.{AreSame}
-use Rattle.table_runner.specs.Sharing.{CanBegin, HasBegun, IsNext}
+use Rattle.table_runner.specs.Sharing.{CanBegin, HasBegun, IsNextPart}
 use Rattle.table_runner.proofs.HandedThreads.{is_thread, room_as}
 use Rattle.table_runner.proofs.NextThreads.{next_holds}
 use Rattle.table_runner.proofs.WholeHands.{all_follow, each_of_run, holds_its, threads_of}
 
 numbered : ProgramsKeepThreads → RunsHaveState → (h : Handed) → AreHands h → (ts : List Thread)
-    → Holds h.threads ts → AreNumbered h.program.program ts
+    → HasThreads h.threads ts → AreNumbered h.program.program ts
 numbered keep reach h k ts holds t y e =
     let stands : EachStands h.program h.cfg t (held_in h.view t) (Some y) = subst (EachStands h.program h.cfg t (held_in h.view t)) (holds t ∙ e) (k.each t) in
     let its = is_thread keep reach h.program h.cfg h.table_id.words t y k.run (each_of_run h.program h.cfg t (held_in h.view t) y stands) in
     (its.number, ap (λ (c : MarkedProgram). c.program) its.program)
 
 pub next_of : ProgramsKeepThreads → RunsHaveState → SharesAreNext → (h : Handed) (w : View) (b : Bool)
-    → AreHands h → ((ts : List Thread) → Holds h.threads ts → b ≡ may_begin ts) → b ≡ true
-    → Begun (held_in h.threads 0) h.threads w → (ts : List Thread) → Holds h.threads ts
-    → Holds w (next_threads h.program.program ts)
+    → AreHands h → ((ts : List Thread) → HasThreads h.threads ts → b ≡ may_begin ts) → b ≡ true
+    → IsPartBegun (held_in h.threads 0) h.threads w → (ts : List Thread) → HasThreads h.threads ts
+    → HasThreads w (next_threads h.program.program ts)
 next_of keep reach shares h w b k may told begun ts holds = next_holds h.threads w shares h.program.program ts holds (sym (may ts holds) ∙ told) begun (numbered keep reach h k ts holds)
 
 pub can_begin : ProgramsKeepThreads → RunsHaveState → SharesAreNext → (h : Handed) (w : View) (b : Bool)
-    → AreHands h → HoldsAll h.program h.threads → ((ts : List Thread) → Holds h.threads ts → b ≡ may_begin ts)
-    → b ≡ true → Begun (held_in h.threads 0) h.threads w → CanBegin h.program h.cfg h.view w
+    → AreHands h → HoldsAll h.program h.threads → ((ts : List Thread) → HasThreads h.threads ts → b ≡ may_begin ts)
+    → b ≡ true → IsPartBegun (held_in h.threads 0) h.threads w → CanBegin h.program h.cfg h.view w
 can_begin keep reach shares h w b k all may told begun = record {
   threads = h.threads;
   follow = all_follow h k;
@@ -68,7 +68,7 @@ begun_some v w zero b = mapped_some (held_in v 0) ∙ ap is_some (sym (b 0))
 begun_some v w (suc n) b = mapped_some (held_in v 0) ∙ ap is_some (sym b.first)
 
 pub room_next : (v w : View) (o : Option Thread) (room : Option (Stock ThreadReport)) → held_in v 0 ≡ o
-    → IsSome o → Begun o v w → HasRoom v room → HasRoom w room
+    → IsSome o → IsPartBegun o v w → HasReportRoom v room → HasReportRoom w room
 room_next v w None room e some b k = absurd (let bad : false ≡ true = some in cc)
 room_next v w (Some x) room e some b k = room_as (held_in v 0) (held_in w 0) room (begun_some v w x.part b) k
 
@@ -78,26 +78,26 @@ next_still p (x ∷ ts) none = rw none refl
 
 -- where no part may begin
 pub none_next : (h : Handed) (b : Bool) → AreHands h → HoldsAll h.program h.threads
-    → ((ts : List Thread) → Holds h.threads ts → b ≡ may_begin ts) → b ≡ false → IsNext h h b
+    → ((ts : List Thread) → HasThreads h.threads ts → b ≡ may_begin ts) → b ≡ false → IsNextPart h h b
 none_next h b k all may none =
     let ts : List Thread = threads_of h.threads in
-    let held : Holds h.threads ts = holds_its h k all in
+    let held : HasThreads h.threads ts = holds_its h k all in
     record {
       threads = ts;
       held = held;
       may = may ts held;
-      begun = subst (Holds h.threads) (sym (next_still h.program.program ts (sym (may ts held) ∙ none))) held;
+      begun = subst (HasThreads h.threads) (sym (next_still h.program.program ts (sym (may ts held) ∙ none))) held;
       known = λ told. absurd (let no : false ≡ true = sym none ∙ told in cc);
       rest = refl;
     }
 
 pub is_next : (h : Handed) (w view : View) (z : TableId) (b : Bool) → AreHands h
-    → HoldsAll h.program h.threads → ((ts : List Thread) → Holds h.threads ts → b ≡ may_begin ts)
-    → ((ts : List Thread) → Holds h.threads ts → Holds w (next_threads h.program.program ts)) → z ≡ h.table_id → view ≡ w
-    → IsNext h (record h { table_id = z; threads = w; view = view }) b
+    → HoldsAll h.program h.threads → ((ts : List Thread) → HasThreads h.threads ts → b ≡ may_begin ts)
+    → ((ts : List Thread) → HasThreads h.threads ts → HasThreads w (next_threads h.program.program ts)) → z ≡ h.table_id → view ≡ w
+    → IsNextPart h (record h { table_id = z; threads = w; view = view }) b
 is_next h w view z b k all may next same known =
     let ts : List Thread = threads_of h.threads in
-    let held : Holds h.threads ts = holds_its h k all in
+    let held : HasThreads h.threads ts = holds_its h k all in
     record { threads = ts; held = held; may = may ts held; begun = next ts held; known = λ told. known; rest = λ i. record h { table_id = same i; threads = w; view = view } }
 
 begun_at : (v w : View) (n : ℕ) → BegunBy n v w → (u : ℕ) → is_some (held_in w u) ≡ is_some (held_in v u)
@@ -105,12 +105,12 @@ begun_at v w zero b u = ap is_some (b u) ∙ sym (mapped_some (held_in v u))
 begun_at v w (suc n) b zero = ap is_some b.first ∙ sym (mapped_some (held_in v 0))
 begun_at v w (suc n) b (suc u) = ap is_some (b.others u)
 
-same_begun : (v w : View) (o : Option Thread) → IsSome o → Begun o v w → (u : ℕ)
+same_begun : (v w : View) (o : Option Thread) → IsSome o → IsPartBegun o v w → (u : ℕ)
     → is_some (held_in w u) ≡ is_some (held_in v u)
 same_begun v w None some b = absurd (let bad : false ≡ true = some in cc)
 same_begun v w (Some x) some b = begun_at v w x.part b
 
 pub same_next : (h : Handed) (w view : View) (z : TableId) → IsSome (held_in h.threads 0)
-    → Begun (held_in h.threads 0) h.threads w → z ≡ h.table_id
+    → IsPartBegun (held_in h.threads 0) h.threads w → z ≡ h.table_id
     → AreSame h (record h { table_id = z; threads = w; view = view })
 same_next h w view z some b e = record { program = refl; cfg = refl; table = e; numbers = same_begun h.threads w (held_in h.threads 0) some b }

@@ -4,7 +4,7 @@ use Rattle.std.specs.Prelude.{slice_set}
 use Rattle.jvm_types.specs.declared.outcome.ThreadReport.{ThreadReport}
 use Rattle.machine_types.specs.Core.{report_of}
 use Rattle.machine_types.specs.Threads.{Thread}
-use Rattle.table_rule.specs.Views.{View, held_in, Holds}
+use Rattle.table_rule.specs.Views.{View, held_in, HasThreads}
 use Rattle.table_runner.specs.Ending.{reported, reported_first}
 
 drop_set : (v : View) (i : ℕ) (o : Option Thread) → drop (suc i) (slice_set v i o) ≡ drop (suc i) v
@@ -26,13 +26,13 @@ next_report v i o reports all lt e f =
     ∙ ap (λ (p : Option Thread). reports ++ reported_first p (reported (drop (suc i) v))) (sym e)
     ∙ ap (λ (w : View). reports ++ reported w) (sym (drop_at v i lt)) ∙ f
 
-none_reported : (v : View) → Holds v [] → reported v ≡ []
+none_reported : (v : View) → HasThreads v [] → reported v ≡ []
 none_reported [] h = refl
 none_reported (o ∷ v) h = let e : o ≡ None = h 0 in ap (λ p. reported_first p (reported v)) e
     ∙ none_reported v (λ t. h (suc t))
 
 -- the reports of hands that hold just these threads
-pub all_reported : (v : View) (ts : List Thread) → Holds v ts → reported v ≡ map report_of ts
+pub all_reported : (v : View) (ts : List Thread) → HasThreads v ts → reported v ≡ map report_of ts
 all_reported v [] h = none_reported v h
 all_reported [] (x ∷ ts) h = absurd (let bad : None ≡ Some x = h 0 in cc)
 all_reported (o ∷ v) (x ∷ ts) h = let e : o ≡ Some x = h 0 in ap (λ p. reported_first p (reported v)) e

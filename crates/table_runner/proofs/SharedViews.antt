@@ -10,24 +10,24 @@ use Rattle.machine_types.specs.Core.{Core, NextPart, core, next_threads}
 use Rattle.machine_types.specs.Threads.{Thread}
 use Rattle.machine_types.specs.declared.config.Config.{Config}
 use Rattle.laws_states.proofs.GrowingRuns.{one_more}
-use Rattle.table_rule.specs.Views.{View, held_in, Holds, ShowsRun}
+use Rattle.table_rule.specs.Views.{View, held_in, HasThreads, ShowsRun}
 use Rattle.table_rule.proofs.CutViews.{cut_shows}
 use Rattle.table_rule.proofs.Entries.{held_else, held_set, none_held}
 use Rattle.table_rule.proofs.JoinedViews.{joined_shows}
 use Rattle.table_rule.proofs.WholeViews.{part_shows, whole_holds, whole_run}
-use Rattle.table_runner.specs.Sharing.{Beginning, CanBegin, HasBegun, TellsBegin, alone, merged, without}
+use Rattle.table_runner.specs.Sharing.{Beginning, CanBegin, HasBegun, TellsBegin, only_thread, merged, view_without}
 
 -- ---- entries
 
-pub without_here : (v : View) (t : ℕ) → held_in (without t v) t ≡ None
+pub without_here : (v : View) (t : ℕ) → held_in (view_without t v) t ≡ None
 without_here [] t = refl
 without_here (z ∷ zs) zero = refl
 without_here (z ∷ zs) (suc t) = without_here zs t
 
-pub alone_here : (v : View) (t : ℕ) → t < 9 → held_in (alone t v) t ≡ held_in v t
+pub alone_here : (v : View) (t : ℕ) → t < 9 → held_in (only_thread t v) t ≡ held_in v t
 alone_here v t lt = held_set (replicate 9 None) t (held_in v t) lt
 
-pub alone_else : (v : View) (t u : ℕ) → u ≢ t → held_in (alone t v) u ≡ None
+pub alone_else : (v : View) (t u : ℕ) → u ≢ t → held_in (only_thread t v) u ≡ None
 alone_else v t u n = held_else (replicate 9 None) t u (held_in v t) n ∙ none_held 9 u
 
 first_alone : (o : Option Thread) → o ≡ option_or o None
@@ -59,11 +59,11 @@ abbrev runs : {S : Type 0} → MarkedProgram → Config → State S View → Typ
 runs c cfg s = ShowsRun c cfg s.words s.views
 
 module _ {S : Type 0} (c : MarkedProgram) (cfg : Config) where
-  pub splits : (id t : ℕ) (v : View) → t < 9 → Splits {S = S} (runs c cfg) id v (without t v) (alone t v)
+  pub splits : (id t : ℕ) (v : View) → t < 9 → Splits {S = S} (runs c cfg) id v (view_without t v) (only_thread t v)
   splits id t v lt s run at = record {
     happenings = run.happenings;
     words_are = run.words_are;
-    threads_are = cut_shows (core c cfg run.happenings).threads s.views id t v (without t v) (alone t v) run.threads_are at (without_here v t) (λ u n. held_else v t u None n) (alone_here v t lt) (λ u n. alone_else v t u n);
+    threads_are = cut_shows (core c cfg run.happenings).threads s.views id t v (view_without t v) (only_thread t v) run.threads_are at (without_here v t) (λ u n. held_else v t u None n) (alone_here v t lt) (λ u n. alone_else v t u n);
   }
 
   pub joins : (id other : ℕ) (v w : View) → Joins {S = S} (runs c cfg) id v other w (merged v w) []
@@ -85,6 +85,6 @@ module _ {S : Type 0} (c : MarkedProgram) (cfg : Config) where
   begins slots id me w o can is s run long at small =
       let hs = whole_run c cfg s.words s.views id me.0 can.threads run at can.follow can.all in
       let holds = whole_holds c cfg s.words s.views id me.0 can.threads run at can.follow can.all in
-      let holds_next : Holds w (next_threads c.program (core c cfg hs).threads) = can.begin (core c cfg hs).threads holds in
+      let holds_next : HasThreads w (next_threads c.program (core c cfg hs).threads) = can.begin (core c cfg hs).threads holds in
       let begun : HasBegun (record { program = c; cfg = cfg; threads = w }) w = record { view = refl; happenings = hs ++ NextPart ∷ []; holds = λ t. holds_next t ∙ ap (λ (z : Core). slice_get z.threads t) (sym (one_more c cfg hs NextPart)) } in
       (w, keeps, tt, subst (λ ws. ShowsRun c cfg ws (slice_set s.views id w)) (sym (set-get_or s.words 0 0)) (part_shows c cfg s.words s.views id me.0 can.threads run at can.follow can.all w holds_next), (subst (λ p. TellsBegin p w) (sym is) begun, refl))

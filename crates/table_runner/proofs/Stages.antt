@@ -10,11 +10,11 @@ use Rattle.laws_threads.specs.GivenThread.{Given, given_of}
 use Rattle.machine_types.specs.Core.{core, is_live_thread, may_begin, next_threads, part_begins}
 use Rattle.machine_types.specs.Threads.{Thread}
 use Rattle.run_parts.specs.Ended.{IsEndOfRun}
-use Rattle.table_rule.specs.Views.{View, held_in, Holds}
+use Rattle.table_rule.specs.Views.{View, held_in, HasThreads}
 use Rattle.table_runner.specs.Ending.{IsOutcome}
 use Rattle.table_runner.specs.Handed.{Handed}
-use Rattle.table_runner.specs.Running.{AreDeadBelow, HaveEnded, IsAlone, IsRunOn, IsWaiting, NoWorkerLives}
-use Rattle.table_runner.specs.Sharing.{IsNext}
+use Rattle.table_runner.specs.Running.{AreDeadBelow, HaveEnded, IsAlone, IsRunOn, IsWaiting, NoWorkerLivesIn}
+use Rattle.table_runner.specs.Sharing.{IsNextPart}
 
 -- ---- events of one thread
 
@@ -50,14 +50,14 @@ no_thread_lives : (o : Option Thread) → o ≡ None → is_live_thread o ≡ fa
 no_thread_lives o e = ap is_live_thread e
 
 pub no_worker_lives : (n : ℕ) (v : View) → AreDeadBelow (n + 1) v → ((t : ℕ) → n < t → held_in v t ≡ None)
-    → NoWorkerLives v
+    → NoWorkerLivesIn v
 no_worker_lives n v dead none u = by_place (nat_lt n (suc u)) refl
   where
     by_place : (b : Bool) → nat_lt n (suc u) ≡ b → is_live_thread (held_in v (suc u)) ≡ false
     by_place true e = no_thread_lives (held_in v (suc u)) (none (suc u) (grind (arith, nat_tests, e)))
     by_place false e = dead (suc u) (omega arith) (grind (arith, nat_tests, e))
 
-none_live : (v : View) → is_live_thread (held_in v 0) ≡ false → NoWorkerLives v → (t : ℕ)
+none_live : (v : View) → is_live_thread (held_in v 0) ≡ false → NoWorkerLivesIn v → (t : ℕ)
     → is_live_thread (held_in v t) ≡ false
 none_live v first workers zero = first
 none_live v first workers (suc t) = workers t
@@ -71,12 +71,12 @@ same_lists (x ∷ xs) [] e = let bad : Some x ≡ None = e 0 in absurd (cc)
 same_lists (x ∷ xs) (y ∷ ys) e = let two : Some x ≡ Some y = e 0 in let one : x ≡ y = cc in ap (λ z. z ∷ xs) one
     ∙ ap (λ zs. y ∷ zs) (same_lists xs ys (λ t. e (suc t)))
 
-held_once : (v : View) (xs ys : List Thread) → Holds v xs → Holds v ys → xs ≡ ys
+held_once : (v : View) (xs ys : List Thread) → HasThreads v xs → HasThreads v ys → xs ≡ ys
 held_once v xs ys h k = same_lists xs ys (λ t. sym (h t) ∙ k t)
 
 -- where none may begin
-pub over_now : (h after : Handed) → IsNext h after false → after ≡ h
-    → is_live_thread (held_in h.threads 0) ≡ false → NoWorkerLives h.threads → HaveEnded after.threads
+pub over_now : (h after : Handed) → IsNextPart h after false → after ≡ h
+    → is_live_thread (held_in h.threads 0) ≡ false → NoWorkerLivesIn h.threads → HaveEnded after.threads
 over_now h after next e first workers = subst (λ (k : Handed). HaveEnded k.threads) (sym e) (record {
   dead = none_live h.threads first workers;
   last = λ ts holds. ap may_begin (held_once h.threads ts next.threads holds next.held) ∙ sym next.may;
@@ -93,33 +93,33 @@ part_at x n (Some y) e k = let same : y ≡ x = cc in let part : y.part ≡ n = 
     ∙ part
 
 -- the workers' begins: thread 0 waits for them
-pub waits_now : (h after : Handed) → IsNext h after true → IsAlone 0 h.threads
+pub waits_now : (h after : Handed) → IsNextPart h after true → IsAlone 0 h.threads
     → is_live_thread (held_in h.threads 0) ≡ false → IsWaiting after.threads
 waits_now h after next alone dead = by_threads next.threads next.held next.may next.begun
   where
-    by_threads : (ts : List Thread) → Holds h.threads ts → true ≡ may_begin ts
-        → Holds after.threads (next_threads h.program.program ts) → IsWaiting after.threads
+    by_threads : (ts : List Thread) → HasThreads h.threads ts → true ≡ may_begin ts
+        → HasThreads after.threads (next_threads h.program.program ts) → IsWaiting after.threads
     by_threads [] held may begun = absurd (cc)
     by_threads (x ∷ workers) held may begun =
         let part : x.part ≡ 0 = part_at x 0 (held_in h.threads 0) (held 0) alone.part_is in
         let are : next_threads h.program.program (x ∷ workers) ≡ part_begins h.program.program 0 x workers = begun_by h.program.program x workers may
         ∙ ap (λ n. part_begins h.program.program n x workers) part in
-        let now : Holds after.threads (part_begins h.program.program 0 x workers) = subst (Holds after.threads) are begun in
+        let now : HasThreads after.threads (part_begins h.program.program 0 x workers) = subst (HasThreads after.threads) are begun in
         record { part_is = ap (option_map (λ y. y.part)) (now 0); first = ap is_live_thread (now 0) ∙ sym (ap is_live_thread (held 0)) ∙ dead }
 
 -- `done` begins: each worker is over
-pub done_now : (h after : Handed) → IsNext h after true → IsWaiting h.threads → NoWorkerLives h.threads
+pub done_now : (h after : Handed) → IsNextPart h after true → IsWaiting h.threads → NoWorkerLivesIn h.threads
     → IsAlone 2 after.threads
 done_now h after next waiting dead = by_threads next.threads next.held next.may next.begun
   where
-    by_threads : (ts : List Thread) → Holds h.threads ts → true ≡ may_begin ts
-        → Holds after.threads (next_threads h.program.program ts) → IsAlone 2 after.threads
+    by_threads : (ts : List Thread) → HasThreads h.threads ts → true ≡ may_begin ts
+        → HasThreads after.threads (next_threads h.program.program ts) → IsAlone 2 after.threads
     by_threads [] held may begun = absurd (cc)
     by_threads (x ∷ workers) held may begun =
         let part : x.part ≡ 1 = part_at x 1 (held_in h.threads 0) (held 0) waiting.part_is in
         let are : next_threads h.program.program (x ∷ workers) ≡ part_begins h.program.program 1 x workers = begun_by h.program.program x workers may
         ∙ ap (λ n. part_begins h.program.program n x workers) part in
-        let now : Holds after.threads (part_begins h.program.program 1 x workers) = subst (Holds after.threads) are begun in
+        let now : HasThreads after.threads (part_begins h.program.program 1 x workers) = subst (HasThreads after.threads) are begun in
         record { part_is = ap (option_map (λ y. y.part)) (now 0); workers = λ u. ap is_live_thread (now (suc u) ∙ sym (held (suc u))) ∙ dead u }
 
 -- ---- the end
@@ -132,7 +132,7 @@ none_begins_again x workers n e two = let part : x.part ≡ 2 = e ∙ two in rw 
 pub over_then : (v : View) → IsAlone 2 v → is_live_thread (held_in v 0) ≡ false → HaveEnded v
 over_then v alone first = record { dead = none_live v first alone.workers; last = last }
   where
-    last : (ts : List Thread) → Holds v ts → may_begin ts ≡ false
+    last : (ts : List Thread) → HasThreads v ts → may_begin ts ≡ false
     last [] holds = refl
     last (x ∷ workers) holds = none_begins_again x workers 2 (part_at x 2 (held_in v 0) (holds 0) alone.part_is) refl
 

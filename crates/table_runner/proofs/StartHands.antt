@@ -15,9 +15,9 @@ use Rattle.machine_types.specs.declared.config.Config.{Config}
 use Rattle.machine_types.proofs.AtStart.{is_start_thread}
 use Rattle.laws_states.specs.RunFacts.{HaveWidth}
 use Rattle.laws_states.proofs.GrowingRuns.{runs_keep_sizes}
-use Rattle.table_rule.specs.Views.{View, held_in, Holds}
+use Rattle.table_rule.specs.Views.{View, held_in, HasThreads}
 use Rattle.table_rule.proofs.Entries.{got_there, held_else, held_set, none_held, some_held}
-use Rattle.table_runner.specs.Handed.{Handed, AreHands, EachStands, HasRoom, IsTableOf, RoomIsThere}
+use Rattle.table_runner.specs.Handed.{Handed, AreHands, EachStands, HasReportRoom, IsTableOf, RoomIsThere}
 use Rattle.table_runner.specs.Running.{AtStart, IsAlone, RunsHere}
 
 each_stands : (c : MarkedProgram) (cfg : Config) (t : ℕ) (o p : Option Thread)
@@ -31,7 +31,7 @@ each_stands c cfg t (Some x) (Some y) e f = let two : Some x ≡ Some y = e
 
 pub are_held : (h : Handed) → IsMarked h.program → AreSettings h.cfg → HaveWidth h.cfg
     → h.table_id.words ≡ length (start h.program h.cfg).words → h.table_id.slots ≡ 0
-    → h.view ≡ map Some (start h.program h.cfg).threads → Holds h.threads (start h.program h.cfg).threads
+    → h.view ≡ map Some (start h.program h.cfg).threads → HasThreads h.threads (start h.program h.cfg).threads
     → AreHands h
 unfolding core
 are_held h marked settings width long vacant view threads = record {
@@ -46,7 +46,7 @@ first_there c cfg zero e = absurd (omega (arith, e))
 first_there c cfg (suc n) e = (start_thread c cfg 0, refl)
 
 pub room_held : (v : View) (c : MarkedProgram) (cfg : Config) (room : Stock ThreadReport)
-    → Holds v (start c cfg).threads → (room.items ≡ []) × (9 ≤ room.spare) → HasRoom v (Some room)
+    → HasThreads v (start c cfg).threads → (room.items ≡ []) × (9 ≤ room.spare) → HasReportRoom v (Some room)
 room_held v c cfg room h r =
     let first = first_there c cfg (c.program.workers + 1) (omega arith) in
     subst (λ o. RoomIsThere o (Some room)) (sym (h 0 ∙ first.1)) r
@@ -102,7 +102,7 @@ next_placed all left now x v p e = record {
         ∙ held_set v (length now) (Some x) (omega (arith, longer, p.few, p.long))
         ∙ sym (p.front t (omega (arith, same, longer)) ∙ ap (λ (ts : List Thread). slice_get ts t) e ∙ ap (slice_get (now ++ x ∷ [])) same ∙ got_last now x)
 
-pub all_placed : (all left : List Thread) (v : View) → ArePlaced all left v → left ≡ [] → Holds v all
+pub all_placed : (all left : List Thread) (v : View) → ArePlaced all left v → left ≡ [] → HasThreads v all
 all_placed all left v p e t = p.behind t (subst (λ (ts : List Thread). length ts ≤ t) (sym e) (omega arith))
 
 -- ---- how far the run is
@@ -133,7 +133,7 @@ alone_at_start table c cfg h s = record {
   workers = λ u. is_idle c cfg u (held_in h.threads (suc u)) (sym (s.threads (suc u)));
 }
 
-pub at_start : (table : TableId) (c : MarkedProgram) (cfg : Config) (h : Handed) → IsTableOf table c cfg h → Holds h.threads (start c cfg).threads
+pub at_start : (table : TableId) (c : MarkedProgram) (cfg : Config) (h : Handed) → IsTableOf table c cfg h → HasThreads h.threads (start c cfg).threads
     → AtStart table c cfg h
 unfolding core
 at_start table c cfg h of threads = record { of = of; threads = threads }

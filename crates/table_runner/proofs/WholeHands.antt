@@ -11,7 +11,7 @@ use Rattle.machine_types.specs.Threads.{Thread}
 use Rattle.machine_types.specs.declared.config.Config.{Config}
 use Rattle.laws_states.specs.GrowingRuns.{IsOfRun}
 use Rattle.laws_states.proofs.GrowingRuns.{runs_keep_sizes}
-use Rattle.table_rule.specs.Views.{View, held_in, AllFollow, EachFollows, Holds, HoldsAll, ShowsRun}
+use Rattle.table_rule.specs.Views.{View, held_in, AllFollow, EachFollows, HasThreads, HoldsAll, ShowsRun}
 use Rattle.table_rule.proofs.Entries.{got_within}
 use Rattle.table_rule.proofs.WholeViews.{whole_run, whole_holds}
 use Rattle.table_runner.specs.Ending.{IsOutcome, reported}
@@ -47,7 +47,7 @@ none_there (None ∷ v) none = none_there v (λ t. none (suc t))
 none_there (Some x ∷ v) none = let bad : Some x ≡ None = none 0 in absurd (cc)
 
 holds_front : (v : View) (n : ℕ) → ((t : ℕ) → t < n → IsSome (held_in v t))
-    → ((t : ℕ) → n ≤ t → held_in v t ≡ None) → Holds v (threads_of v)
+    → ((t : ℕ) → n ≤ t → held_in v t ≡ None) → HasThreads v (threads_of v)
 unfolding threads_of
 holds_front [] n there none t = refl
 holds_front (None ∷ v) zero there none t = none t (omega arith)
@@ -66,7 +66,7 @@ none_beyond c cfg t o (Some y) k le =
     absurd (omega (arith, lt, le, (runs_keep_sizes c cfg run.0).threads))
 
 pub holds_its : (h : Handed) → AreHands h → HoldsAll h.program h.threads
-    → Holds h.threads (threads_of h.threads)
+    → HasThreads h.threads (threads_of h.threads)
 holds_its h k all = holds_front h.threads (h.program.program.workers + 1) (λ t lt. all t (omega (arith, lt))) (λ t le. none_beyond h.program h.cfg t (held_in h.view t) (held_in h.threads t) (k.each t) le)
 
 -- ---- what the run came to
@@ -83,7 +83,7 @@ pub ends : (h : Handed)
     → threads ≡ reported h.threads → ((x : Thread) → held_in h.threads 0 ≡ Some x → done ≡ done_end (x ∷ [])) → IsOutcome h (record { threads = threads; done = done })
 ends h words views id threads done k all run at is ends_so =
     let hs : List Happening = whole_run h.program h.cfg words views id h.view h.threads run at (all_follow h k) all in
-    let holds : Holds h.threads (core h.program h.cfg hs).threads = whole_holds h.program h.cfg words views id h.view h.threads run at (all_follow h k) all in (
+    let holds : HasThreads h.threads (core h.program h.cfg hs).threads = whole_holds h.program h.cfg words views id h.view h.threads run at (all_follow h k) all in (
       hs,
       holds,
       (λ i. record {

@@ -21,8 +21,8 @@ pub record NextEvent : Type 0 where
   pub state : Thread
 
 -- what it makes of the thread, by the word that its access found
-abbrev pub made : NextEvent → (got : ℕ) → Thread
-made e got = moved e.program e.state e.state.phase got
+abbrev pub made_by_event : NextEvent → (got : ℕ) → Thread
+made_by_event e got = moved e.program e.state e.state.phase got
 
 -- it happens in some state that a run reaches, and finds this word there
 pub record Happens (e : NextEvent) (got : ℕ) : Type 0 where
@@ -31,13 +31,13 @@ pub record Happens (e : NextEvent) (got : ℕ) : Type 0 where
   pub finds : got ≡ found_by (core e.program e.cfg happenings).words (wanted e.program e.state e.state.phase)
 
 -- it has happened, and the view has what it made of the thread
-pub record IsMade (e : NextEvent) (was : View) (got : ℕ) (now : View) : Type 0 where
+pub record IsEventMade (e : NextEvent) (was : View) (got : ℕ) (now : View) : Type 0 where
   pub happens : Happens e got
-  pub view : now ≡ slice_set was e.number (Some (made e got))
+  pub view : now ≡ slice_set was e.number (Some (made_by_event e got))
 
 abbrev pub Tells : Option NextEvent → (was : View) → (got : ℕ) → (now : View) → Type 0
 Tells None was got now = Unit {0}
-Tells (Some e) was got now = IsMade e was got now
+Tells (Some e) was got now = IsEventMade e was got now
 
 -- the program may be run by these settings, and the table has as many words as the run
 pub record CanRun (c : MarkedProgram) (cfg : Config) (words : ℕ) : Type 0 where
@@ -51,20 +51,20 @@ abbrev pub IsBehind : MarkedProgram → Config → (t : ℕ) → (was now : Thre
 IsBehind c cfg t was now = Follows c was now × IsOfRun c cfg t now
 
 -- behind what the view has of it
-pub record Stands (e : NextEvent) (v : View) : Type 0 where
+pub record IsBehindView (e : NextEvent) (v : View) : Type 0 where
   pub was : Thread
   pub held : held_in v e.number ≡ Some was
   pub behind : IsBehind e.program e.cfg e.number was e.state
 
 pub record CanMake (e : NextEvent) (v : View) (a : Access) (words : ℕ) : Type 0 where
   pub run : CanRun e.program e.cfg words
-  pub stands : Stands e v
+  pub stands : IsBehindView e v
   pub wants : wanted e.program e.state e.state.phase ≡ Some a
 
 abbrev pub Asks : Option NextEvent → View → Access → (words : ℕ) → Type 0
 Asks None v a words = ⊥
 Asks (Some e) v a words = CanMake e v a words
 
-abbrev pub IsOf : Option NextEvent → MarkedProgram → Config → Type 0
-IsOf None c cfg = ⊥
-IsOf (Some e) c cfg = (e.program ≡ c) × (e.cfg ≡ cfg)
+abbrev pub IsNextEventOf : Option NextEvent → MarkedProgram → Config → Type 0
+IsNextEventOf None c cfg = ⊥
+IsNextEventOf (Some e) c cfg = (e.program ≡ c) × (e.cfg ≡ cfg)

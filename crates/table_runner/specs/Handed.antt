@@ -9,7 +9,7 @@ use Rattle.machine_types.specs.Threads.{Thread}
 use Rattle.machine_types.specs.declared.access.Access.{Access}
 use Rattle.machine_types.specs.declared.config.Config.{Config}
 use Rattle.table_rule.specs.Views.{View, held_in}
-use Rattle.table_runner.specs.Accessing.{NextEvent, made, Happens, CanRun, IsBehind}
+use Rattle.table_runner.specs.Accessing.{NextEvent, made_by_event, Happens, CanRun, IsBehind}
 
 pub record Handed : Type 0 where
   pub program : MarkedProgram
@@ -43,8 +43,8 @@ RoomIsThere None room = room ≡ None
 RoomIsThere (Some x) None = ⊥
 RoomIsThere (Some x) (Some room) = (room.items ≡ []) × (9 ≤ room.spare)
 
-abbrev pub HasRoom : View → Option (Stock ThreadReport) → Type 0
-HasRoom threads room = RoomIsThere (held_in threads 0) room
+abbrev pub HasReportRoom : View → Option (Stock ThreadReport) → Type 0
+HasReportRoom threads room = RoomIsThere (held_in threads 0) room
 
 -- ---- events
 
@@ -58,8 +58,8 @@ viewed (Some a) v t y = slice_set v t (Some y)
 
 abbrev pub hands_after : Handed → (t : ℕ) → Thread → (got : ℕ) → Handed
 hands_after h t x got = record h {
-  threads = slice_set h.threads t (Some (made (event_at h t x) got));
-  view = viewed (wanted h.program x x.phase) h.view t (made (event_at h t x) got);
+  threads = slice_set h.threads t (Some (made_by_event (event_at h t x) got));
+  view = viewed (wanted h.program x x.phase) h.view t (made_by_event (event_at h t x) got);
 }
 
 -- the next event of thread t has happened in some state that a run reaches, and the hands are as it leaves them

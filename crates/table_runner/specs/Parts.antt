@@ -7,9 +7,9 @@ use Rattle.run_parts.specs.Parts.{own_begun}
 use Rattle.table_rule.specs.Views.{View, held_in}
 
 -- a place without a thread holds nobody up
-abbrev pub finished : Option Thread → Bool
-finished None = true
-finished (Some x) = ended_by has_finished x.phase
+abbrev pub thread_finished : Option Thread → Bool
+thread_finished None = true
+thread_finished (Some x) = ended_by has_finished x.phase
 
 -- each thread has taken its share of it
 abbrev pub AllBegun : (was now : View) → Type 0
@@ -25,6 +25,6 @@ BegunBy zero was now = AllBegun was now
 BegunBy (suc part) was now = FirstBegun was now
 
 -- by the part of thread 0
-abbrev pub Begun : Option Thread → (was now : View) → Type 0
-Begun None was now = Unit {0}
-Begun (Some x) was now = BegunBy x.part was now
+abbrev pub IsPartBegun : Option Thread → (was now : View) → Type 0
+IsPartBegun None was now = Unit {0}
+IsPartBegun (Some x) was now = BegunBy x.part was now

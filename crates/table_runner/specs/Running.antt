@@ -6,14 +6,14 @@ use Rattle.laws_threads.specs.GivenThread.{given_of}
 use Rattle.machine_types.specs.Core.{core, is_live_thread, may_begin}
 use Rattle.machine_types.specs.Threads.{Thread}
 use Rattle.machine_types.specs.declared.config.Config.{Config}
-use Rattle.table_rule.specs.Views.{View, Holds, HoldsAll, held_in}
+use Rattle.table_rule.specs.Views.{View, HasThreads, HoldsAll, held_in}
 use Rattle.table_runner.specs.Handed.{Handed, IsTableOf}
 
 -- the hands of the start of a run
 pub record AtStart (table : TableId) (c : MarkedProgram) (cfg : Config) (h : Handed) : Type 0 where
   pub of : IsTableOf table c cfg h
   -- those of the state that no event has led to
-  pub threads : Holds h.threads (core c cfg []).threads
+  pub threads : HasThreads h.threads (core c cfg []).threads
 
 -- the same hands later: they hold the same threads
 pub record AreSame (h after : Handed) : Type 0 where
@@ -34,13 +34,13 @@ pub record IsRunOn (t : ℕ) (h after : Handed) : Type 0 where
 abbrev pub part_in : View → Option ℕ
 part_in v = option_map (λ x. x.part) (held_in v 0)
 
-abbrev pub NoWorkerLives : View → Type 0
-NoWorkerLives v = (u : ℕ) → is_live_thread (held_in v (suc u)) ≡ false
+abbrev pub NoWorkerLivesIn : View → Type 0
+NoWorkerLivesIn v = (u : ℕ) → is_live_thread (held_in v (suc u)) ≡ false
 
 -- thread 0 is in `init` or in `done`, and no worker is live
 pub record IsAlone (part : ℕ) (v : View) : Type 0 where
   pub part_is : part_in v ≡ Some part
-  pub workers : NoWorkerLives v
+  pub workers : NoWorkerLivesIn v
 
 -- the workers are in their part, and thread 0 waits for them
 pub record IsWaiting (v : View) : Type 0 where
@@ -50,7 +50,7 @@ pub record IsWaiting (v : View) : Type 0 where
 -- no thread is live, and no part may begin
 pub record HaveEnded (v : View) : Type 0 where
   pub dead : (t : ℕ) → is_live_thread (held_in v t) ≡ false
-  pub last : (ts : List Thread) → Holds v ts → may_begin ts ≡ false
+  pub last : (ts : List Thread) → HasThreads v ts → may_begin ts ≡ false
 
 -- ---- the workers' part
 

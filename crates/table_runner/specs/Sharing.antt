@@ -5,23 +5,23 @@ use Rattle.checked_program.specs.MarkedProgram.{MarkedProgram}
 use Rattle.machine_types.specs.Core.{Happening, core, may_begin, next_threads}
 use Rattle.machine_types.specs.Threads.{Thread}
 use Rattle.machine_types.specs.declared.config.Config.{Config}
-use Rattle.table_rule.specs.Views.{View, held_in, AllFollow, Holds, HoldsAll}
+use Rattle.table_rule.specs.Views.{View, held_in, AllFollow, HasThreads, HoldsAll}
 use Rattle.table_runner.specs.Handed.{Handed}
 
 -- ---- split
 
-abbrev pub without : (t : ℕ) → View → View
-without t v = slice_set v t None
+abbrev pub view_without : (t : ℕ) → View → View
+view_without t v = slice_set v t None
 
 -- with thread t, and no other
-abbrev pub alone : (t : ℕ) → View → View
-alone t v = slice_set (replicate 9 None) t (held_in v t)
+abbrev pub only_thread : (t : ℕ) → View → View
+only_thread t v = slice_set (replicate 9 None) t (held_in v t)
 
 abbrev pub without_thread : Handed → (t : ℕ) → Handed
-without_thread h t = record h { threads = without t h.threads; view = without t h.view }
+without_thread h t = record h { threads = view_without t h.threads; view = view_without t h.view }
 
 abbrev pub thread_alone : Handed → (t : ℕ) → Handed
-thread_alone h t = record h { threads = alone t h.threads; view = alone t h.view }
+thread_alone h t = record h { threads = only_thread t h.threads; view = only_thread t h.view }
 
 -- ---- joined
 
@@ -40,11 +40,11 @@ pub record AreJoined (h others after : Handed) : Type 0 where
 
 -- The hands hold just the threads of a state. Whether its next part may begin, and the hands with the threads that this makes of
 -- them.
-pub record IsNext (h after : Handed) (begins : Bool) : Type 0 where
+pub record IsNextPart (h after : Handed) (begins : Bool) : Type 0 where
   pub threads : List Thread
-  pub held : Holds h.threads threads
+  pub held : HasThreads h.threads threads
   pub may : begins ≡ may_begin threads
-  pub begun : Holds after.threads (next_threads h.program.program threads)
+  pub begun : HasThreads after.threads (next_threads h.program.program threads)
   -- and then the seat knows its threads as they are
   pub known : begins ≡ true → after.view ≡ after.threads
   pub rest : after ≡ record h { threads = after.threads; view = after.view }
@@ -54,7 +54,7 @@ pub record CanBegin (c : MarkedProgram) (cfg : Config) (v w : View) : Type 0 whe
   pub threads : View
   pub follow : AllFollow c v threads
   pub all : HoldsAll c threads
-  pub begin : (ts : List Thread) → Holds threads ts → Holds w (next_threads c.program ts)
+  pub begin : (ts : List Thread) → HasThreads threads ts → HasThreads w (next_threads c.program ts)
 
 -- a part that begins: of which run, and with what threads
 pub record Beginning : Type 0 where
@@ -66,7 +66,7 @@ pub record Beginning : Type 0 where
 pub record HasBegun (b : Beginning) (now : View) : Type 0 where
   pub view : now ≡ b.threads
   pub happenings : List Happening
-  pub holds : Holds b.threads (core b.program b.cfg happenings).threads
+  pub holds : HasThreads b.threads (core b.program b.cfg happenings).threads
 
 abbrev pub TellsBegin : Option Beginning → (now : View) → Type 0
 TellsBegin None now = Unit {0}

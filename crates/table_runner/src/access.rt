@@ -1,7 +1,7 @@
 //! The access of an event, as one step on one word of the table.
 
 ghost use Rattle.std.specs.Prelude.{◌≡◌, Some};
-ghost use Rattle.table_runner.specs.Accessing.{Asks, CanMake, IsMade, IsOf, Tells};
+ghost use Rattle.table_runner.specs.Accessing.{Asks, CanMake, IsEventMade, IsNextEventOf, Tells};
 
 use crate::rule::{CoreTable, Makes, Making, Rests, View};
 use atomic_table::Seat;
@@ -23,7 +23,7 @@ fn perform<B: Making>(
 ) -> u64
     requires event { B.event ≡ Some (record { program = _p.now; cfg = table.now.shared.key.cfg; number = _t; state = _s.now }) }
     requires table { seat.old.table_id ≡ table.now.shared.table_id }
-    requires run { IsOf B.event table.now.shared.key.program.told table.now.shared.key.cfg }
+    requires run { IsNextEventOf B.event table.now.shared.key.program.told table.now.shared.key.cfg }
     requires asks { Asks B.event seat.old.me.0 a table.now.shared.table_id.words }
     ensures seat { (seat.new.table_id ≡ seat.old.table_id) × (seat.new.id ≡ seat.old.id) × (seat.new.me.1 ≡ seat.old.me.1) }
     ensures tells { Tells B.event seat.old.me.0 result seat.new.me.0 }
@@ -60,7 +60,7 @@ pub(crate) fn access(
     requires run { table.now.shared.key.program.told ≡ p.now }
     requires asks { CanMake (record { program = p.now; cfg = table.now.shared.key.cfg; number = t; state = s.now }) seat.old.me.0 a table.now.shared.table_id.words }
     ensures seat { (seat.new.table_id ≡ seat.old.table_id) × (seat.new.id ≡ seat.old.id) × (seat.new.me.1 ≡ seat.old.me.1) }
-    ensures made { IsMade (record { program = p.now; cfg = table.now.shared.key.cfg; number = t; state = s.now }) seat.old.me.0 result seat.new.me.0 }
+    ensures made { IsEventMade (record { program = p.now; cfg = table.now.shared.key.cfg; number = t; state = s.now }) seat.old.me.0 result seat.new.me.0 }
 {
     perform::<Brand>(table, seat, a, p, s, t)
 }

@@ -3,8 +3,8 @@
 ghost use Rattle.std.specs.Prelude.{◌≡◌, ◌<◌, true, false};
 ghost use Rattle.machine_types.specs.Core.{is_live, is_live_thread};
 ghost use Rattle.laws_states.specs.WorkLeft.{work_left};
-ghost use Rattle.table_runner.specs.Accessing.{CanRun, Stands};
-ghost use Rattle.table_runner.specs.Going.{Goes, GoesAt, GoesOn, GoesOnAt, StandsAt};
+ghost use Rattle.table_runner.specs.Accessing.{CanRun, IsBehindView};
+ghost use Rattle.table_runner.specs.Going.{HasGoneByEvent, GoesAt, IsLaterThread, GoesOnAt, IsBehindViewAt};
 
 use crate::access::access;
 use crate::rule::{CoreTable, View};
@@ -24,9 +24,9 @@ fn go(s: &mut ThreadState, seat: &mut Seat<(), View>, table: &CoreTable, p: &Che
     requires table { seat.old.table_id ≡ table.now.shared.table_id }
     requires program { table.now.shared.key.program.told ≡ p.now }
     requires run { CanRun p.now table.now.shared.key.cfg table.now.shared.table_id.words }
-    requires stands { Stands (record { program = p.now; cfg = table.now.shared.key.cfg; number = t; state = s.old }) seat.old.me.0 }
+    requires stands { IsBehindView (record { program = p.now; cfg = table.now.shared.key.cfg; number = t; state = s.old }) seat.old.me.0 }
     ensures seat { (seat.new.table_id ≡ seat.old.table_id) × (seat.new.id ≡ seat.old.id) × (seat.new.me.1 ≡ seat.old.me.1) }
-    ensures goes { Goes (record { program = p.now; cfg = table.now.shared.key.cfg; number = t; state = s.old }) seat.old.me.0 s.new seat.new.me.0 }
+    ensures goes { HasGoneByEvent (record { program = p.now; cfg = table.now.shared.key.cfg; number = t; state = s.old }) seat.old.me.0 s.new seat.new.me.0 }
 {
     runs_are_safe();
     parts_keep_threads();
@@ -49,7 +49,7 @@ pub(crate) fn go_at(
     requires table { seat.old.table_id ≡ table.now.shared.table_id }
     requires program { table.now.shared.key.program.told ≡ p.now }
     requires run { CanRun p.now table.now.shared.key.cfg table.now.shared.table_id.words }
-    requires stands { StandsAt p.now table.now.shared.key.cfg t place.old seat.old.me.0 }
+    requires stands { IsBehindViewAt p.now table.now.shared.key.cfg t place.old seat.old.me.0 }
     ensures live { result ≡ is_live_thread place.old }
     ensures seat { (seat.new.table_id ≡ seat.old.table_id) × (seat.new.id ≡ seat.old.id) × (seat.new.me.1 ≡ seat.old.me.1) }
     ensures still { result ≡ false → (place.new ≡ place.old) × (seat.new.me.0 ≡ seat.old.me.0) }
@@ -90,9 +90,9 @@ fn go_far(s: &mut ThreadState, seat: &mut Seat<(), View>, table: &CoreTable, p: 
     requires table { seat.old.table_id ≡ table.now.shared.table_id }
     requires program { table.now.shared.key.program.told ≡ p.now }
     requires run { CanRun p.now table.now.shared.key.cfg table.now.shared.table_id.words }
-    requires stands { Stands (record { program = p.now; cfg = table.now.shared.key.cfg; number = t; state = s.old }) seat.old.me.0 }
+    requires stands { IsBehindView (record { program = p.now; cfg = table.now.shared.key.cfg; number = t; state = s.old }) seat.old.me.0 }
     ensures seat { (seat.new.table_id ≡ seat.old.table_id) × (seat.new.id ≡ seat.old.id) × (seat.new.me.1 ≡ seat.old.me.1) }
-    ensures goes { GoesOn (record { program = p.now; cfg = table.now.shared.key.cfg; number = t; state = s.old }) seat.old.me.0 s.new seat.new.me.0 }
+    ensures goes { IsLaterThread (record { program = p.now; cfg = table.now.shared.key.cfg; number = t; state = s.old }) seat.old.me.0 s.new seat.new.me.0 }
     ensures less { work_left s.new < work_left s.old }
 {
     given_is_kept();
@@ -111,10 +111,10 @@ fn go_on(s: &mut ThreadState, seat: &mut Seat<(), View>, table: &CoreTable, p: &
     requires table { seat.old.table_id ≡ table.now.shared.table_id }
     requires program { table.now.shared.key.program.told ≡ p.now }
     requires run { CanRun p.now table.now.shared.key.cfg table.now.shared.table_id.words }
-    requires stands { Stands (record { program = p.now; cfg = table.now.shared.key.cfg; number = t; state = s.old }) seat.old.me.0 }
+    requires stands { IsBehindView (record { program = p.now; cfg = table.now.shared.key.cfg; number = t; state = s.old }) seat.old.me.0 }
     ensures over { is_live s.new.phase ≡ false }
     ensures seat { (seat.new.table_id ≡ seat.old.table_id) × (seat.new.id ≡ seat.old.id) × (seat.new.me.1 ≡ seat.old.me.1) }
-    ensures goes { GoesOn (record { program = p.now; cfg = table.now.shared.key.cfg; number = t; state = s.old }) seat.old.me.0 s.new seat.new.me.0 }
+    ensures goes { IsLaterThread (record { program = p.now; cfg = table.now.shared.key.cfg; number = t; state = s.old }) seat.old.me.0 s.new seat.new.me.0 }
 {
     while s.is_live() {
         go_far(s, seat, table, p, t);
@@ -132,7 +132,7 @@ pub(crate) fn go_on_at(
     requires table { seat.old.table_id ≡ table.now.shared.table_id }
     requires program { table.now.shared.key.program.told ≡ p.now }
     requires run { CanRun p.now table.now.shared.key.cfg table.now.shared.table_id.words }
-    requires stands { StandsAt p.now table.now.shared.key.cfg t place.old seat.old.me.0 }
+    requires stands { IsBehindViewAt p.now table.now.shared.key.cfg t place.old seat.old.me.0 }
     ensures over { is_live_thread place.new ≡ false }
     ensures seat { (seat.new.table_id ≡ seat.old.table_id) × (seat.new.id ≡ seat.old.id) × (seat.new.me.1 ≡ seat.old.me.1) }
     ensures goes { GoesOnAt p.now table.now.shared.key.cfg t place.old seat.old.me.0 place.new seat.new.me.0 }

@@ -5,11 +5,11 @@ ghost use Rattle.std.specs.Option.{option_or};
 ghost use Rattle.machine_types.specs.Core.{is_live_thread, start};
 ghost use Rattle.machine_types.specs.Settings.{AreSettings};
 ghost use Rattle.laws_states.specs.RunFacts.{HaveWidth};
-ghost use Rattle.table_rule.specs.Views.{Holds, HoldsAll, held_in};
+ghost use Rattle.table_rule.specs.Views.{HasThreads, HoldsAll, held_in};
 ghost use Rattle.table_runner.specs.Ending.{IsOutcome};
 ghost use Rattle.table_runner.specs.Handed.{IsEventOf, IsTableOf};
 ghost use Rattle.table_runner.specs.Running.{AreSame, IsRunOn};
-ghost use Rattle.table_runner.specs.Sharing.{AreJoined, IsNext, thread_alone, without, without_thread};
+ghost use Rattle.table_runner.specs.Sharing.{AreJoined, IsNextPart, thread_alone, view_without, without_thread};
 
 use crate::closing::{done_end, end_table, reports_of};
 use crate::events::{go_at, go_on_at};
@@ -42,13 +42,13 @@ pub struct Hands {
 
 impl Model for Hands {
     ghost use Rattle.std.specs.Prelude.{◌≡◌, [], length};
-    ghost use Rattle.table_runner.specs.Handed.{AreHands, Handed, HasRoom};
+    ghost use Rattle.table_runner.specs.Handed.{AreHands, Handed, HasReportRoom};
 
     ghost Value = { Handed };
 
     ghost view = { λ h. record { program = h.program.told; cfg = h.cfg; table_id = h.seat.table_id; threads = h.threads; view = h.seat.me.0 } };
 
-    ghost invariant = { λ h. AreHands (record { program = h.program.told; cfg = h.cfg; table_id = h.seat.table_id; threads = h.threads; view = h.seat.me.0 }) × (h.seat.me.1 ≡ []) × HasRoom h.threads h.reports };
+    ghost invariant = { λ h. AreHands (record { program = h.program.told; cfg = h.cfg; table_id = h.seat.table_id; threads = h.threads; view = h.seat.me.0 }) × (h.seat.me.1 ≡ []) × HasReportRoom h.threads h.reports };
 }
 
 impl Hands {
@@ -63,7 +63,7 @@ impl Hands {
         requires settings { AreSettings cfg.now × HaveWidth cfg.now }
         requires words { (seat.table_id.words ≡ length (start p.now cfg.now).words) × (seat.table_id.slots ≡ 0) }
         requires seat { seat.me ≡ (map Some (start p.now cfg.now).threads, []) }
-        requires threads { Holds threads (start p.now cfg.now).threads }
+        requires threads { HasThreads threads (start p.now cfg.now).threads }
         requires room { (reports.items ≡ []) × (9 ≤ reports.spare) }
         ensures { result ≡ record { program = p.now; cfg = cfg.now; table_id = seat.table_id; threads = threads; view = seat.me.0 } }
     {
@@ -163,7 +163,7 @@ impl Hands {
         requires table { IsTableOf table.now.shared.table_id table.now.shared.key.program.told table.now.shared.key.cfg self.old }
         requires program { p.now ≡ self.old.program }
         requires all { HoldsAll self.old.program self.old.threads }
-        ensures next { IsNext self.old self.new result }
+        ensures next { IsNextPart self.old self.new result }
         ensures still { result ≡ false → self.new ≡ self.old }
         ensures same { AreSame self.old self.new }
     {
@@ -236,7 +236,7 @@ fn take(threads: &mut [Option<ThreadState>; MOST_THREADS], t: u8) -> Option<Thre
     requires { IsSome (held_in threads.old t) }
     ensures small { t < 9 }
     ensures taken { result ≡ held_in threads.old t }
-    ensures left { threads.new ≡ without t threads.old }
+    ensures left { threads.new ≡ view_without t threads.old }
 {
     threads[t as usize].take()
 }

@@ -3,7 +3,7 @@
 ghost use Rattle.std.specs.Prelude.{◌≡◌, ◌≤◌, [], length, map, replicate, None, Some, IfOk};
 ghost use Rattle.machine_types.specs.Core.{start};
 ghost use Rattle.machine_types.specs.Settings.{AreSettings};
-ghost use Rattle.table_rule.specs.Views.{Holds};
+ghost use Rattle.table_rule.specs.Views.{HasThreads};
 ghost use Rattle.table_runner.specs.Running.{AtStart};
 
 use crate::hands::Hands;
@@ -27,7 +27,7 @@ fn no_threads() -> [Option<ThreadState>; MOST_THREADS]
 /// The threads, each at its number.
 fn placed(mut threads: Vec<ThreadState>) -> [Option<ThreadState>; MOST_THREADS]
     requires { length threads.items ≤ 9 }
-    ensures { Holds result threads.items }
+    ensures { HasThreads result threads.items }
 {
     let mut places = no_threads();
     while let Some(thread) = threads.pop() {

@@ -5,14 +5,14 @@ ghost use Rattle.std.specs.List.{list_all};
 ghost use Rattle.machine_types.specs.Core.{may_begin};
 ghost use Rattle.machine_types.specs.Threads.{Thread};
 ghost use Rattle.run_parts.specs.Parts.{own_begun};
-ghost use Rattle.table_rule.specs.Views.{Holds, held_in};
-ghost use Rattle.table_runner.specs.Parts.{AllBegun, Begun, finished};
+ghost use Rattle.table_rule.specs.Views.{HasThreads, held_in};
+ghost use Rattle.table_runner.specs.Parts.{AllBegun, IsPartBegun, thread_finished};
 
 use crate::rule::MOST_THREADS;
 use frames::ThreadState;
 
 fn is_finished(place: &Option<ThreadState>) -> bool
-    ensures { result ≡ finished place.now }
+    ensures { result ≡ thread_finished place.now }
 {
     match place {
         Some(thread) => run_parts::has_finished(thread),
@@ -21,13 +21,13 @@ fn is_finished(place: &Option<ThreadState>) -> bool
 }
 
 fn are_finished(places: &[Option<ThreadState>]) -> bool
-    ensures { result ≡ list_all finished places.now }
+    ensures { result ≡ list_all thread_finished places.now }
 {
     places.iter().all(|place| is_finished(place))
 }
 
 fn may_begin_by(first: &Option<ThreadState>, workers: &[Option<ThreadState>]) -> bool
-    ensures some { (x : Thread) (ts : List Thread) → first.now ≡ Some x → Holds workers.now ts → result ≡ may_begin (x ∷ ts) }
+    ensures some { (x : Thread) (ts : List Thread) → first.now ≡ Some x → HasThreads workers.now ts → result ≡ may_begin (x ∷ ts) }
     ensures none { first.now ≡ None → result ≡ false }
 {
     match first {
@@ -38,7 +38,7 @@ fn may_begin_by(first: &Option<ThreadState>, workers: &[Option<ThreadState>]) ->
 
 /// Whether the next part may begin, where these are all threads.
 pub(crate) fn may_begin(threads: &[Option<ThreadState>]) -> bool
-    ensures { (ts : List Thread) → Holds threads.now ts → result ≡ may_begin ts }
+    ensures { (ts : List Thread) → HasThreads threads.now ts → result ≡ may_begin ts }
 {
     match threads {
         [first, workers @ ..] => may_begin_by(first, workers),
@@ -75,7 +75,7 @@ fn part_of(place: &Option<ThreadState>) -> u8
 /// Each thread takes its share of the begin of a part: all of them where the workers begin, thread 0 alone where `done` does.
 pub(crate) fn begin_parts(threads: &mut [Option<ThreadState>; MOST_THREADS])
     requires { IsSome (held_in threads.old 0) }
-    ensures { Begun (held_in threads.old 0) threads.old threads.new }
+    ensures { IsPartBegun (held_in threads.old 0) threads.old threads.new }
 {
     if part_of(&threads[0]) == 0 {
         begin_all(threads);

@@ -92,11 +92,11 @@ pub(crate) struct Cuts<B> {
 }
 
 impl<B: Numbering> Split<View> for Cuts<B> {
-    ghost use Rattle.table_runner.specs.Sharing.{alone, without};
+    ghost use Rattle.table_runner.specs.Sharing.{only_thread, view_without};
 
-    ghost left = { without B.number };
+    ghost left = { view_without B.number };
 
-    ghost right = { alone B.number };
+    ghost right = { only_thread B.number };
 }
 
 /// Two views become one.

@@ -6,7 +6,7 @@ ghost use Rattle.machine_types.specs.Settings.{AreSettings};
 ghost use Rattle.run_parts.specs.Ended.{IsEndOfRun};
 ghost use Rattle.table_rule.specs.Views.{held_in};
 ghost use Rattle.table_runner.specs.Ending.{IsOutcome};
-ghost use Rattle.table_runner.specs.Running.{AreDeadBelow, AtStart, HaveEnded, IsAlone, IsRunOn, IsWaiting, NoWorkerLives, RunsHere};
+ghost use Rattle.table_runner.specs.Running.{AreDeadBelow, AtStart, HaveEnded, IsAlone, IsRunOn, IsWaiting, NoWorkerLivesIn, RunsHere};
 
 use crate::hands::Hands;
 use crate::opening::table;
@@ -51,7 +51,7 @@ fn end_workers(table: &CoreTable, hands: &mut Hands, p: &Checked)
     requires here { RunsHere table.now.shared.table_id table.now.shared.key.program.told table.now.shared.key.cfg hands.old }
     requires waiting { IsWaiting hands.old.threads }
     ensures here { RunsHere table.now.shared.table_id table.now.shared.key.program.told table.now.shared.key.cfg hands.new }
-    ensures over { IsWaiting hands.new.threads × NoWorkerLives hands.new.threads }
+    ensures over { IsWaiting hands.new.threads × NoWorkerLivesIn hands.new.threads }
 {
     run_left(hands, table, p);
     hands.hold_no_more();
@@ -61,7 +61,7 @@ fn end_workers(table: &CoreTable, hands: &mut Hands, p: &Checked)
 fn run_done(table: &CoreTable, hands: &mut Hands, p: &Checked)
     requires program { p.now ≡ table.now.shared.key.program.told }
     requires here { RunsHere table.now.shared.table_id table.now.shared.key.program.told table.now.shared.key.cfg hands.old }
-    requires waiting { IsWaiting hands.old.threads × NoWorkerLives hands.old.threads }
+    requires waiting { IsWaiting hands.old.threads × NoWorkerLivesIn hands.old.threads }
     ensures here { RunsHere table.now.shared.table_id table.now.shared.key.program.told table.now.shared.key.cfg hands.new }
     ensures ended { HaveEnded hands.new.threads }
 {

@@ -2,7 +2,7 @@
 
 ghost use Rattle.std.specs.Prelude.{◌≡◌, ◌<◌, [], IsSome, Some};
 ghost use Rattle.table_rule.specs.Views.{held_in};
-ghost use Rattle.table_runner.specs.Sharing.{CanBegin, HasBegun, alone, merged, without};
+ghost use Rattle.table_runner.specs.Sharing.{CanBegin, HasBegun, only_thread, merged, view_without};
 
 use crate::rule::{Begins, CoreTable, Cuts, Joins, MOST_THREADS, Numbering, Starting, View};
 use atomic_table::Seat;
@@ -15,8 +15,8 @@ fn cut_by<B: Numbering>(table: &CoreTable, seat: &mut Seat<(), View>, _t: u8) ->
     requires table { seat.old.table_id ≡ table.now.shared.table_id }
     requires words { 0 < table.now.shared.table_id.words }
     requires small { _t < 9 }
-    ensures seat { (seat.new.table_id ≡ seat.old.table_id) × (seat.new.id ≡ seat.old.id) × (seat.new.me.0 ≡ without _t seat.old.me.0) × (seat.new.me.1 ≡ seat.old.me.1) }
-    ensures other { (result.table_id ≡ seat.old.table_id) × (result.me.0 ≡ alone _t seat.old.me.0) × (result.me.1 ≡ []) }
+    ensures seat { (seat.new.table_id ≡ seat.old.table_id) × (seat.new.id ≡ seat.old.id) × (seat.new.me.0 ≡ view_without _t seat.old.me.0) × (seat.new.me.1 ≡ seat.old.me.1) }
+    ensures other { (result.table_id ≡ seat.old.table_id) × (result.me.0 ≡ only_thread _t seat.old.me.0) × (result.me.1 ≡ []) }
 {
     table.shared.split_seat::<Cuts<B>>(seat)
 }
@@ -26,8 +26,8 @@ pub(crate) fn cut(table: &CoreTable, seat: &mut Seat<(), View>, t: u8) -> Seat<(
     requires table { seat.old.table_id ≡ table.now.shared.table_id }
     requires words { 0 < table.now.shared.table_id.words }
     requires small { t < 9 }
-    ensures seat { (seat.new.table_id ≡ seat.old.table_id) × (seat.new.id ≡ seat.old.id) × (seat.new.me.0 ≡ without t seat.old.me.0) × (seat.new.me.1 ≡ seat.old.me.1) }
-    ensures other { (result.table_id ≡ seat.old.table_id) × (result.me.0 ≡ alone t seat.old.me.0) × (result.me.1 ≡ []) }
+    ensures seat { (seat.new.table_id ≡ seat.old.table_id) × (seat.new.id ≡ seat.old.id) × (seat.new.me.0 ≡ view_without t seat.old.me.0) × (seat.new.me.1 ≡ seat.old.me.1) }
+    ensures other { (result.table_id ≡ seat.old.table_id) × (result.me.0 ≡ only_thread t seat.old.me.0) × (result.me.1 ≡ []) }
 {
     cut_by::<Brand>(table, seat, t)
 }

@@ -8,7 +8,7 @@ ghost use Rattle.machine_types.specs.HeldMonitors.{held_at};
 ghost use Rattle.machine_types.specs.Threads.{head_of};
 ghost use Rattle.machine_types.specs.declared.lock.Kept.TheVariants.{Flat};
 ghost use Rattle.step_core.specs.Passing.{Passes};
-ghost use Rattle.step_core.specs.Sections.{IsExit};
+ghost use Rattle.step_core.specs.Sections.{IsExitMade};
 
 use checked_program::Checked;
 use fat_monitor::{freed, put_depth};
@@ -23,7 +23,7 @@ fn leave_once(s: &mut ThreadState, p: &Checked, monitor: u32, held: Held, words:
     requires held { held_at s.old.held monitor ≡ Some held }
     requires depth { 1 < held.depth }
     requires passes { Passes s.old words.now }
-    ensures on { IsExit p.now monitor s.old s.new words.now words.now }
+    ensures on { IsExitMade p.now monitor s.old s.new words.now words.now }
     ensures passes { Passes s.new words.now }
     ensures of { s.new.program ≡ s.old.program }
     ensures settings { s.new.cfg ≡ s.old.cfg }
@@ -46,7 +46,7 @@ fn free(
     requires kept { held.kept ≡ Flat noted }
     requires alone { s.old.attempt ≡ None }
     requires number { s.old.number ≤ MOST_WORKERS }
-    ensures on { result ≡ true → IsExit p.now monitor s.old s.new words.old words.new }
+    ensures on { result ≡ true → IsExitMade p.now monitor s.old s.new words.old words.new }
     ensures passes { Passes s.new words.new }
     ensures of { s.new.program ≡ s.old.program }
     ensures settings { s.new.cfg ≡ s.old.cfg }
@@ -71,7 +71,7 @@ fn finish(s: &mut ThreadState, p: &Checked, monitor: u32, words: &Rows<u64>)
     requires last { IfSome s.old.attempt (λ a. a.inner ≡ 0) }
     requires passes { Passes s.old words.now }
     requires count { s.old.counts.elided < MOST_LIMIT }
-    ensures on { IsExit p.now monitor s.old s.new words.now words.now }
+    ensures on { IsExitMade p.now monitor s.old s.new words.now words.now }
     ensures passes { Passes s.new words.now }
     ensures of { s.new.program ≡ s.old.program }
     ensures settings { s.new.cfg ≡ s.old.cfg }
@@ -89,7 +89,7 @@ fn leave_inside(s: &mut ThreadState, p: &Checked, monitor: u32, inner: u64, word
     requires inner { IfSome s.old.attempt (λ a. a.inner ≡ inner) }
     requires deep { 0 < inner }
     requires passes { Passes s.old words.now }
-    ensures on { IsExit p.now monitor s.old s.new words.now words.now }
+    ensures on { IsExitMade p.now monitor s.old s.new words.now words.now }
     ensures passes { Passes s.new words.now }
     ensures of { s.new.program ≡ s.old.program }
     ensures settings { s.new.cfg ≡ s.old.cfg }
@@ -110,7 +110,7 @@ fn leave_section(
     requires is { Some a ≡ option_map head_of s.old.attempt }
     requires passes { Passes s.old words.now }
     requires count { IfSome s.old.attempt (λ a. s.old.counts.elided < MOST_LIMIT) }
-    ensures on { result ≡ true → IsExit p.now monitor s.old s.new words.now words.now }
+    ensures on { result ≡ true → IsExitMade p.now monitor s.old s.new words.now words.now }
     ensures passes { Passes s.new words.now }
     ensures of { s.new.program ≡ s.old.program }
     ensures settings { s.new.cfg ≡ s.old.cfg }
@@ -139,7 +139,7 @@ fn leave_held(
     requires held { held_at s.old.held monitor ≡ Some held }
     requires number { s.old.number ≤ MOST_WORKERS }
     requires passes { Passes s.old words.old }
-    ensures on { result ≡ true → IsExit p.now monitor s.old s.new words.old words.new }
+    ensures on { result ≡ true → IsExitMade p.now monitor s.old s.new words.old words.new }
     ensures passes { Passes s.new words.new }
     ensures of { s.new.program ≡ s.old.program }
     ensures settings { s.new.cfg ≡ s.old.cfg }
@@ -161,7 +161,7 @@ pub fn leave(s: &mut ThreadState, p: &Checked, monitor: u32, words: &mut Rows<u6
     requires number { s.old.number ≤ MOST_WORKERS }
     requires passes { Passes s.old words.old }
     requires count { IfSome s.old.attempt (λ a. s.old.counts.elided < MOST_LIMIT) }
-    ensures on { result ≡ true → IsExit p.now monitor s.old s.new words.old words.new }
+    ensures on { result ≡ true → IsExitMade p.now monitor s.old s.new words.old words.new }
     ensures passes { Passes s.new words.new }
     ensures of { s.new.program ≡ s.old.program }
     ensures settings { s.new.cfg ≡ s.old.cfg }

@@ -1,7 +1,7 @@
 use Rattle.std.proofs.Common.{◌≡◌, ℕ, List, None, sym, subst, ◌∙◌, rules}
 use Rattle.std.specs.List.{position}
 use Rattle.std.specs.Prelude.{◌==◌}
-use Rattle.asm_text.specs.Drafted.{IsNext, IsLine}
+use Rattle.asm_text.specs.Drafted.{IsNextPlace, IsLine}
 use Rattle.asm_text.proofs.CutLaws.{cut_some, cut_none, whole_cut}
 use Rattle.asm_text.proofs.TextLaws.{next_drafted, none_drafted, unformed_line, unformed_end}
 use Rattle.asm_text.proofs.assembling.read_draft.Goals as goal
@@ -17,7 +17,7 @@ returns-in-None c =
     let e = c.front-whole.ensures ∙ whole_cut c.loop-end.rest.now c.in-Some.end (sym c.in-Some.ensures) in
     let n = rw c.in-None.is at c.in_ok-next.ensures in
     unformed_line c.args.text.now c.loop-end.place c.loop-end.draft c.read_next.new.draft c.loop-end.number c.loop-end.rest.now _ _ c.loop-end.invariant (cut_some c.loop-end.rest.now c.in-Some.end (sym c.in-Some.ensures))
-    (subst (λ (w : List ℕ). IsNext c.loop-end.place w c.loop-end.draft c.read_next.new.draft None) e n)
+    (subst (λ (w : List ℕ). IsNextPlace c.loop-end.place w c.loop-end.draft c.read_next.new.draft None) e n)
 
 pub loop-end-preserved : goal.loop-end-preserved
 loop-end-preserved c =

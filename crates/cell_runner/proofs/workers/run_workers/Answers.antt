@@ -1,5 +1,5 @@
 use Rattle.std.proofs.Common.{◌≡◌, ◌+◌, ◌-◌, ◌≤◌, ◌∷◌, [], ◌++◌, length, length-append, ap, subst, ◌∙◌, arith}
-use Rattle.cell_runner.specs.HandsOfCell.{HasGathered, IsLeft}
+use Rattle.cell_runner.specs.HandsOfCell.{HasGathered, IsShareLeft}
 use Rattle.cell_runner.proofs.Gathering.{front_worked, last_worked, one_more, one_more_left}
 use Rattle.cell_runner.proofs.workers.run_workers.Goals as goal
 
@@ -15,7 +15,7 @@ loop-hand-preserved g c =
     let few : length rest + 1 ≤ c.args.workers = omega (arith, long, c.loop-hand.invariant.3) in
     let worked = last_worked table key c.args.rounds c.args.turns before rest hand is c.loop-hand.invariant.2 in (
       one_more table key c.args.rounds c.args.turns c.args.workers (length rest) c.loop-hand.all hand c.join-all.result few c.join-all.ensures (subst (λ n. HasGathered table key (c.args.workers - n) c.args.rounds c.args.turns c.loop-hand.all) long c.loop-hand.invariant.0) worked,
-      one_more_left (length rest) c.loop-hand.all hand c.join-all.result c.join-all.ensures (subst (λ n. IsLeft n c.loop-hand.all) long c.loop-hand.invariant.1) worked.share,
+      one_more_left (length rest) c.loop-hand.all hand c.join-all.result c.join-all.ensures (subst (λ n. IsShareLeft n c.loop-hand.all) long c.loop-hand.invariant.1) worked.share,
       front_worked table key c.args.rounds c.args.turns before rest hand is c.loop-hand.invariant.2,
       omega (arith, few),
     )

@@ -1,21 +1,21 @@
 use Rattle.std.proofs.Common.{◌≡◌, ℕ, List, Option, Some, refl, sym, subst, ap, ◌∙◌}
 use Rattle.std.specs.Prelude.{slice_get, slice_set}
 use Rattle.std.proofs.lemmas.Result.{on_ok_weaker}
-use Rattle.checked_program.specs.Visits.{Meeting, Node}
+use Rattle.checked_program.specs.Visits.{Meeting, PlanNode}
 use Rattle.code_visits.specs.declared.nodes.StoredNode.{StoredNode}
-use Rattle.code_visits.specs.Waiting.{node_at, node_is, waiting_numbers, met}
-use Rattle.code_visits.specs.Level.{Fits}
+use Rattle.code_visits.specs.Waiting.{plan_node_at, node_is, waiting_numbers, met}
+use Rattle.code_visits.specs.Level.{IsAsWide}
 use Rattle.code_visits.proofs.WaitingLaws.{node_at_get, numbers_same, at_stored, set_stored}
 use Rattle.code_visits.proofs.nodes.meet_at.Goals as goal
 
-met_node : {A : Type 0} (d : Meeting A) (nodes : List (Node A)) (i : ℕ) (x : StoredNode A) (frame : Option A) (f : A) → slice_get nodes i ≡ Some (node_is x) → frame ≡ Some (met d x.frame f)
-    → slice_set nodes i (record { frame = frame; waits = x.waits }) ≡ slice_set nodes i (record { frame = Some (met d (node_at nodes i).frame f); waits = (node_at nodes i).waits })
+met_node : {A : Type 0} (d : Meeting A) (nodes : List (PlanNode A)) (i : ℕ) (x : StoredNode A) (frame : Option A) (f : A) → slice_get nodes i ≡ Some (node_is x) → frame ≡ Some (met d x.frame f)
+    → slice_set nodes i (record { frame = frame; waits = x.waits }) ≡ slice_set nodes i (record { frame = Some (met d (plan_node_at nodes i).frame f); waits = (plan_node_at nodes i).waits })
 met_node d nodes i x frame f at e = rw (node_at_get nodes i (node_is x) at, e) refl
 
 pub bring_frame-requires : goal.bring_frame-requires
 bring_frame-requires g c =
     let at : slice_get c.args.nodes.now c.args.i ≡ Some (node_is c.index_mut.result.now) = at_stored c.nodes.inside.nodes.items c.args.nodes.now c.args.i c.index_mut.result.now c.nodes.view_is c.requires.inside c.index_mut.ensures.value in
-    subst (λ node. Fits g.D.Frames.meeting g.D.Frames.width node.frame c.args.f.now) (node_at_get c.args.nodes.now c.args.i (node_is c.index_mut.result.now) at) c.requires.fits
+    subst (λ node. IsAsWide g.D.Frames.meeting g.D.Frames.width node.frame c.args.f.now) (node_at_get c.args.nodes.now c.args.i (node_is c.index_mut.result.now) at) c.requires.fits
 
 pub invariant_of-nodes : goal.invariant_of-nodes
 invariant_of-nodes g c =

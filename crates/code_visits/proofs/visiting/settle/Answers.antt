@@ -1,21 +1,21 @@
 use Rattle.std.proofs.Common.{◌≡◌, ℕ, false, List, Some, Ok, Err, sym, ◌∙◌}
 use Rattle.std.specs.Prelude.{slice_set}
 use Rattle.std.proofs.lemmas.Result.{err_from_is_err_and}
-use Rattle.checked_program.specs.Visits.{Node, Plan, acted, acts_on, next_visit, visited}
+use Rattle.checked_program.specs.Visits.{PlanNode, Plan, acted, acts_on, next_waiting, plan_visited}
 use Rattle.laws_sections.proofs.VisitAnswers.{Continues, continues_start, continues_more, settled, broken}
-use Rattle.code_visits.specs.Waiting.{node_at}
+use Rattle.code_visits.specs.Waiting.{plan_node_at}
 use Rattle.code_visits.specs.Analyses.{plan_of, Leaves, IsBreak}
 use Rattle.code_visits.specs.declared.stop.Stop.{Stop}
 use Rattle.code_visits.specs.declared.stop.Stop.TheVariants.{Memory, Refused}
 use Rattle.code_visits.proofs.ActLaws.{taken_visit}
 use Rattle.code_visits.proofs.visiting.settle.Goals as goal
 
-done : {A R : Type 0} (p : Plan A R) (now taken mid : List (Node A)) (i : ℕ) → taken ≡ slice_set now i (record (node_at now i) { waits = false })
-    → acted p.meeting p.code (acts_on p i (node_at taken i).frame) taken ≡ Ok mid → visited p i now ≡ Ok mid
+done : {A R : Type 0} (p : Plan A R) (now taken mid : List (PlanNode A)) (i : ℕ) → taken ≡ slice_set now i (record (plan_node_at now i) { waits = false })
+    → acted p.meeting p.code (acts_on p i (plan_node_at taken i).frame) taken ≡ Ok mid → plan_visited p i now ≡ Ok mid
 done p now taken mid i t v = sym (taken_visit p now taken i t) ∙ v
 
-break_of : {A R : Type 0} (p : Plan A R) (start now taken mid : List (Node A)) (i : ℕ) (e : Stop R) → next_visit now ≡ Some i → taken ≡ slice_set now i (record (node_at now i) { waits = false })
-    → Continues p start now → Leaves {B = Unit {0}} (acted p.meeting p.code (acts_on p i (node_at taken i).frame) taken) mid (Err e) → IsBreak p start e
+break_of : {A R : Type 0} (p : Plan A R) (start now taken mid : List (PlanNode A)) (i : ℕ) (e : Stop R) → next_waiting now ≡ Some i → taken ≡ slice_set now i (record (plan_node_at now i) { waits = false })
+    → Continues p start now → Leaves {B = Unit {0}} (acted p.meeting p.code (acts_on p i (plan_node_at taken i).frame) taken) mid (Err e) → IsBreak p start e
 break_of p start now taken mid i Memory n t c h = tt
 break_of p start now taken mid i (Refused rule pc) n t c h = broken p start now i (rule, pc) n (sym (taken_visit p now taken i t) ∙ h) c
 

@@ -1,9 +1,9 @@
 use Rattle.checked_program.specs.TaggedCode.{tagged_by}
-use Rattle.guard_analysis.specs.SectionGrades.{IsFresh, MarksUpTo}
+use Rattle.guard_analysis.specs.SectionGrades.{IsFreshWalk, MarksUpTo}
 use Rattle.guard_analysis.proofs.marking.mark_blocks.Given as goal
 
 abbrev pub invariant-loop-i : goal.invariant-loop-i
 invariant-loop-i l = record {
-  fresh : IsFresh l.m l.i l.walk;
+  fresh : IsFreshWalk l.m l.i l.walk;
   marks : MarksUpTo l.p (tagged_by l.tags) l.uses l.method l.m.code l.i l.fn.marks l.marks;
 }

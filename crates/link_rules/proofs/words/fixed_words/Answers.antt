@@ -2,7 +2,7 @@ use Rattle.std.proofs.Common.{◌≡◌, ◌+◌, ◌<◌, ◌≤◌, ◌^◌, d
 use Rattle.std.specs.List.{sum_by}
 use Rattle.std.proofs.lemmas.List.Sums.{sum_by-drop_more}
 use Rattle.std.proofs.lemmas.Option.{slice_get_read}
-use Rattle.jvm_types.specs.Layout.{static_count, class_words}
+use Rattle.jvm_types.specs.Layout.{static_count, class_word_count}
 use Rattle.jvm_types.specs.declared.class_file.ClassFile.{ClassFile}
 use Rattle.link_rules.proofs.words.fixed_words.Goals as goal
 use Rattle.link_scope.proofs.Files.{class_at}
@@ -15,9 +15,9 @@ loop-class-preserved c =
     let counted : length class.fields < 2 ^ 16 = (class_at files file class c.requires.classes (slice_get_read files (length files) file class refl c.loop-class-test.true c.class-item.is)).fields.count in
     let count : c.static_count.result ≡ static_count class.fields = rw (← c.as_slice.ensures) c.static_count.ensures.count in
     let few : c.static_count.result ≤ length class.fields = rw (← c.as_slice.ensures) c.static_count.ensures.few in
-    let rest : sum_by class_words (drop file files) ≡ 2 + static_count class.fields + sum_by class_words (drop (file + 1) files) =
-    sum_by-drop_more class_words files file class c.loop-class-test.true
-    ∙ ap (λ (x : ClassFile). class_words x + sum_by class_words (drop (file + 1) files)) (sym c.class-item.is) in
+    let rest : sum_by class_word_count (drop file files) ≡ 2 + static_count class.fields + sum_by class_word_count (drop (file + 1) files) =
+    sum_by-drop_more class_word_count files file class c.loop-class-test.true
+    ∙ ap (λ (x : ClassFile). class_word_count x + sum_by class_word_count (drop (file + 1) files)) (sym c.class-item.is) in
     record {
       rest = omega (arith, c.loop-class.invariant.rest, rest, count);
       few = omega (arith, c.loop-class.invariant.few, counted, few);

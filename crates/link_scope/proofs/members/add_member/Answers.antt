@@ -1,13 +1,13 @@
 use Rattle.std.proofs.Common.{◌∙◌, refl}
 use Rattle.jvm_types.specs.ClassNames.{file_class}
-use Rattle.link_scope.specs.Scoping.{file_text, pool_at}
+use Rattle.link_scope.specs.Scoping.{file_text, pool_of_file}
 use Rattle.link_scope.specs.MemberTables.{member_entry}
 use Rattle.link_scope.proofs.TableLaws.{adds_one, found_is_some}
 use Rattle.link_scope.proofs.members.add_member.Goals as goal
 
 pub returns-clause-added : goal.returns-clause-added
 returns-clause-added c =
-    adds_one c.args.texts.now.numbers c.number.ensures.apart (member_entry (pool_at c.args.texts.now.files c.args.file) c.args.file c.args.member.now c.args.target) _ c.number.result c.number-2.result
+    adds_one c.args.texts.now.numbers c.number.ensures.apart (member_entry (pool_of_file c.args.texts.now.files c.args.file) c.args.file c.args.member.now c.args.target) _ c.number.result c.number-2.result
     (rw c.from-at.ensures at c.number.ensures.number) (rw c.from-at.ensures at c.number-2.ensures.number) (record { class = refl; flags = refl; target = refl }) c.args.table.now c.add.new.self c.in_ok-had.ensures.added
 
 pub returns-clause-had : goal.returns-clause-had

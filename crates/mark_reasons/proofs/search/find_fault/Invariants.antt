@@ -1,11 +1,11 @@
 use Rattle.std.proofs.Common.{◌*◌, length}
 use Rattle.checked_program.specs.TaggedCode.{tagged_by}
-use Rattle.mark_reasons.specs.Reasons.{section_of}
+use Rattle.mark_reasons.specs.Reasons.{marked_section}
 use Rattle.mark_reasons.specs.Searches.{Searching, left_of}
 use Rattle.mark_reasons.proofs.search.find_fault.Given as goal
 
 abbrev pub invariant-loop-k : goal.invariant-loop-k
-invariant-loop-k l = Searching l.p (tagged_by l.tags) l.uses (section_of l.mark) (2 * length l.p.methods) l.k l.w
+invariant-loop-k l = Searching l.p (tagged_by l.tags) l.uses (marked_section l.mark) (2 * length l.p.methods) l.k l.w
 
 abbrev pub decreases-loop-k : goal.decreases-loop-k
 decreases-loop-k l = left_of l.w l.k

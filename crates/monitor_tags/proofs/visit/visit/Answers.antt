@@ -3,7 +3,7 @@ use Rattle.std.specs.Prelude.{slice_get}
 use Rattle.std.proofs.lemmas.Result.{err_from_is_err_and}
 use Rattle.jvm_types.specs.CodeTable.{row}
 use Rattle.jvm_types.specs.declared.program.MethodInfo.{MethodInfo}
-use Rattle.monitor_tags.specs.Visiting.{Prepares}
+use Rattle.monitor_tags.specs.Visiting.{TagsPrepared}
 use Rattle.monitor_tags.proofs.VisitLaws.{unprepared, leaves_at}
 use Rattle.monitor_tags.proofs.visit.visit.Goals as goal
 
@@ -14,4 +14,4 @@ returns-in_err-going-clause-left c =
     (sym (c.in-Some-Some.ensures.value ∙ ap (λ (m : MethodInfo). slice_get m.code c.args.i) c.method-method.ensures.is)) (sym (c.in-Some-Some.ensures'.value ∙ ap (λ (m : MethodInfo). slice_get m.targets c.args.i) c.method-method.ensures.is)) (sym c.in-Some.ensures)
     (c.in_ok-row.ensures ∙ ap (λ (m : MethodInfo). row c.args.p.now m c.in-Some-Some.insn.now.pc c.in-Some-Some.target.now c.in-Some-Some.insn.now.op) c.method-method.ensures.is)
     (unprepared c.args.m.now c.in-Some-Some.insn.now c.in_ok-row.row c.in-Some.frame.now c.in_err-going.field-0.0 c.args.nodes.now c.args.nodes.now
-    (subst (λ (m : MethodInfo). Prepares m c.in-Some-Some.insn.now c.in_ok-row.row c.in-Some.frame.now (Err c.in_err-going.field-0.0)) c.method-method.ensures.is c.in_err-going.ensures)))
+    (subst (λ (m : MethodInfo). TagsPrepared m c.in-Some-Some.insn.now c.in_ok-row.row c.in-Some.frame.now (Err c.in_err-going.field-0.0)) c.method-method.ensures.is c.in_err-going.ensures)))

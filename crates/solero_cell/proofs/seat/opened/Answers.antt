@@ -1,9 +1,9 @@
 use Rattle.std.proofs.Common.{◌∷◌, [], sym, subst}
-use Rattle.solero_cell.specs.CellRules.{Shows}
+use Rattle.solero_cell.specs.CellRules.{HasOneHistory}
 use Rattle.solero_cell.specs.CellViews.{first_view}
 use Rattle.solero_cell.proofs.SeatSteps.{opening_shows}
 use Rattle.solero_cell.proofs.seat.opened.Goals as goal
 
 pub of_words-requires : goal.of_words-requires
 of_words-requires c =
-    subst (λ ws. Shows c.args.opening.now ws (first_view c.args.opening.now ∷ [])) (sym c.requires) (opening_shows c.args.opening.now)
+    subst (λ ws. HasOneHistory c.args.opening.now ws (first_view c.args.opening.now ∷ [])) (sym c.requires) (opening_shows c.args.opening.now)

@@ -1,5 +1,5 @@
-use Rattle.solero_explain.specs.Requests.{asked_by}
+use Rattle.solero_explain.specs.Requests.{question_by}
 use Rattle.solero_explain.proofs.program.not_read.Goals as goal
 
 pub returns-in-Failed : goal.returns-in-Failed
-returns-in-Failed c = rw c.in-Failed.is (c.cannot_read.ensures (asked_by c.args.request.now))
+returns-in-Failed c = rw c.in-Failed.is (c.cannot_read.ensures (question_by c.args.request.now))

@@ -5,7 +5,7 @@ use Rattle.machine_types.specs.Core.{start, start_thread}
 use Rattle.machine_types.specs.StartWords.{start_words}
 use Rattle.machine_types.specs.Threads.{Thread}
 use Rattle.machine_types.specs.declared.config.Config.{Config}
-use Rattle.table_rule.specs.Views.{Holds}
+use Rattle.table_rule.specs.Views.{HasThreads}
 use Rattle.table_runner.specs.Handed.{Handed}
 use Rattle.table_runner.proofs.StartHands.{at_start}
 use Rattle.table_runner.proofs.opening.table.Goals as goal
@@ -25,9 +25,9 @@ returns-clause-start c =
     let h : Handed = c.held.result in
     let run = c.in_ok-table.ensures.run in
     let placed = c.placed-threads.result in
-    let threads : Holds placed (start c.args.p.now c.args.cfg.now).threads = subst (λ (ts : List Thread). Holds placed ts) c.in_ok-start_threads.ensures c.placed-threads.ensures in
-    let of_program : Holds placed (start shared.key.program.told c.args.cfg.now).threads = subst (λ (q : MarkedProgram). Holds placed (start q c.args.cfg.now).threads) (sym run.0) threads in
-    let of_run : Holds placed (start shared.key.program.told shared.key.cfg).threads = subst (λ (d : Config). Holds placed (start shared.key.program.told d).threads) (sym run.1) of_program in
+    let threads : HasThreads placed (start c.args.p.now c.args.cfg.now).threads = subst (λ (ts : List Thread). HasThreads placed ts) c.in_ok-start_threads.ensures c.placed-threads.ensures in
+    let of_program : HasThreads placed (start shared.key.program.told c.args.cfg.now).threads = subst (λ (q : MarkedProgram). HasThreads placed (start q c.args.cfg.now).threads) (sym run.0) threads in
+    let of_run : HasThreads placed (start shared.key.program.told shared.key.cfg).threads = subst (λ (d : Config). HasThreads placed (start shared.key.program.told d).threads) (sym run.1) of_program in
     at_start shared.table_id shared.key.program.told shared.key.cfg h
     (sym c.in_ok-table.ensures.seat.0 ∙ ap (λ (k : Handed). k.table_id) (sym c.held.ensures), run.0 ∙ ap (λ (k : Handed). k.program) (sym c.held.ensures), run.1 ∙ ap (λ (k : Handed). k.cfg) (sym c.held.ensures))
-    (subst (λ (k : Handed). Holds k.threads (start shared.key.program.told shared.key.cfg).threads) (sym c.held.ensures) of_run)
+    (subst (λ (k : Handed). HasThreads k.threads (start shared.key.program.told shared.key.cfg).threads) (sym c.held.ensures) of_run)

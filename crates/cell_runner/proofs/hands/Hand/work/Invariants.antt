@@ -1,8 +1,8 @@
 use Rattle.std.proofs.Common.{◌≡◌}
-use Rattle.cell_runner.specs.HandsOfCell.{IsCounted, IsGoing, IsSame}
+use Rattle.cell_runner.specs.HandsOfCell.{IsCountedHand, HasNotEnded, IsSameSeat}
 use Rattle.cell_runner.proofs.hands.Hand.work.Given as goal
 
 abbrev pub invariant-loop : goal.invariant-loop
 invariant-loop l =
-    IsSame l.fn.self.seat l.self.seat × IsCounted l.self × IsGoing l.self × (l.self.report.writes ≡ l.counter)
+    IsSameSeat l.fn.self.seat l.self.seat × IsCountedHand l.self × HasNotEnded l.self × (l.self.report.writes ≡ l.counter)
     × (l.self.report.reads ≡ l.counter)

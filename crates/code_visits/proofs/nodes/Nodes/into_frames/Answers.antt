@@ -1,10 +1,10 @@
 use Rattle.std.proofs.Common.{◌≡◌, List, [], ◌∷◌, map, refl, ap, ◌∙◌}
-use Rattle.checked_program.specs.Visits.{Node}
+use Rattle.checked_program.specs.Visits.{PlanNode}
 use Rattle.code_visits.specs.declared.nodes.StoredNode.{StoredNode}
 use Rattle.code_visits.specs.Waiting.{node_is}
 use Rattle.code_visits.proofs.nodes.Nodes.into_frames.Goals as goal
 
-frames_stored : {A : Type 0} (items : List (StoredNode A)) (nodes : List (Node A)) → map node_is items ≡ nodes → map (λ node. node.frame) items ≡ map (λ node. node.frame) nodes
+frames_stored : {A : Type 0} (items : List (StoredNode A)) (nodes : List (PlanNode A)) → map node_is items ≡ nodes → map (λ node. node.frame) items ≡ map (λ node. node.frame) nodes
 frames_stored {A = A} items nodes e = both items ∙ ap (λ l. map (λ node. node.frame) l) e
   where
     both : (items : List (StoredNode A)) → map (λ node. node.frame) items ≡ map (λ node. node.frame) (map node_is items)

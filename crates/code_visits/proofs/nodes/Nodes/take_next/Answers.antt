@@ -1,21 +1,21 @@
 use Rattle.std.proofs.Common.{◌≡◌, ℕ, false, List, ◌∷◌, length, map, Some, refl, sym, ap, ◌∙◌, arith}
 use Rattle.std.specs.Prelude.{slice_get, slice_set}
 use Rattle.std.proofs.lemmas.List.{length-map}
-use Rattle.checked_program.specs.Visits.{Node}
+use Rattle.checked_program.specs.Visits.{PlanNode}
 use Rattle.code_visits.specs.declared.nodes.StoredNode.{StoredNode}
-use Rattle.code_visits.specs.Waiting.{node_at, node_is, waiting_numbers}
+use Rattle.code_visits.specs.Waiting.{plan_node_at, node_is, waiting_numbers}
 use Rattle.code_visits.proofs.WaitingLaws.{none_left, none_waits, NextWaits, next_waits, node_at_get, at_stored, set_stored}
 use Rattle.code_visits.proofs.nodes.Nodes.take_next.Goals as goal
 
 -- what the numbers that wait say of the next visit
-next : {A : Type 0} (items : List (StoredNode A)) (nodes : List (Node A)) (keys rest : List ℕ) (i : ℕ) → map node_is items ≡ nodes → keys ≡ waiting_numbers 0 (map node_is items) → keys ≡ i ∷ rest → NextWaits nodes i rest
+next : {A : Type 0} (items : List (StoredNode A)) (nodes : List (PlanNode A)) (keys rest : List ℕ) (i : ℕ) → map node_is items ≡ nodes → keys ≡ waiting_numbers 0 (map node_is items) → keys ≡ i ∷ rest → NextWaits nodes i rest
 next items nodes keys rest i v w e = next_waits nodes i rest (ap (λ l. waiting_numbers 0 l) (sym v) ∙ sym w ∙ e)
 
-same_count : {A : Type 0} (items : List (StoredNode A)) (nodes : List (Node A)) → map node_is items ≡ nodes → length items ≡ length nodes
+same_count : {A : Type 0} (items : List (StoredNode A)) (nodes : List (PlanNode A)) → map node_is items ≡ nodes → length items ≡ length nodes
 same_count items nodes v = sym (length-map items node_is) ∙ ap length v
 
-taken_node : {A : Type 0} (nodes : List (Node A)) (i : ℕ) (x : StoredNode A) → slice_get nodes i ≡ Some (node_is x)
-    → slice_set nodes i (record { frame = x.frame; waits = false }) ≡ slice_set nodes i (record { frame = (node_at nodes i).frame; waits = false })
+taken_node : {A : Type 0} (nodes : List (PlanNode A)) (i : ℕ) (x : StoredNode A) → slice_get nodes i ≡ Some (node_is x)
+    → slice_set nodes i (record { frame = x.frame; waits = false }) ≡ slice_set nodes i (record { frame = (plan_node_at nodes i).frame; waits = false })
 taken_node nodes i x at = rw (node_at_get nodes i (node_is x) at) refl
 
 pub returns-in_err-i-clause-next : goal.returns-in_err-i-clause-next

@@ -2,14 +2,14 @@ use Rattle.std.proofs.Common.{◌≡◌, ℕ, true, List, Some, refl, sym, ap, �
 use Rattle.std.specs.Prelude.{slice_get, slice_set}
 use Rattle.std.specs.Ordering.{nat_cmp}
 use Rattle.std.specs.BTreeSet.{insert_key}
-use Rattle.checked_program.specs.Visits.{Node}
+use Rattle.checked_program.specs.Visits.{PlanNode}
 use Rattle.code_visits.specs.declared.nodes.StoredNode.{StoredNode}
-use Rattle.code_visits.specs.Waiting.{node_at, node_is, waiting_numbers}
+use Rattle.code_visits.specs.Waiting.{plan_node_at, node_is, waiting_numbers}
 use Rattle.code_visits.proofs.WaitingLaws.{node_at_get, numbers_more, at_stored, set_stored}
 use Rattle.code_visits.proofs.nodes.Nodes.wait.Goals as goal
 
-waiting_node : {A : Type 0} (nodes : List (Node A)) (i : ℕ) (x : StoredNode A) → slice_get nodes i ≡ Some (node_is x)
-    → slice_set nodes i (record { frame = x.frame; waits = true }) ≡ slice_set nodes i (record { frame = (node_at nodes i).frame; waits = true })
+waiting_node : {A : Type 0} (nodes : List (PlanNode A)) (i : ℕ) (x : StoredNode A) → slice_get nodes i ≡ Some (node_is x)
+    → slice_set nodes i (record { frame = x.frame; waits = true }) ≡ slice_set nodes i (record { frame = (plan_node_at nodes i).frame; waits = true })
 waiting_node nodes i x at = rw (node_at_get nodes i (node_is x) at) refl
 
 pub invariant_of-self-2 : goal.invariant_of-self-2

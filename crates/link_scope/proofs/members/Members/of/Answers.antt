@@ -3,7 +3,7 @@ use Rattle.std.proofs.lemmas.Option.{slice_get_read}
 use Rattle.jvm_types.specs.ClassGrammar.{IsClass}
 use Rattle.jvm_types.specs.Members.{Entry, declared_by}
 use Rattle.jvm_types.specs.declared.class_file.ClassFile.{ClassFile}
-use Rattle.link_scope.specs.MemberTables.{members_of, built_in, entries_of, Shows, in_flag_rows}
+use Rattle.link_scope.specs.MemberTables.{members_of, built_in, entries_of, HasEntries, in_flag_rows}
 use Rattle.link_scope.specs.declared.table.Key.{Key}
 use Rattle.link_scope.specs.declared.scope.Found.{Found}
 use Rattle.link_scope.proofs.ListLaws.{length_push, all_at}
@@ -16,8 +16,8 @@ loop-file-init c = record {
   number = refl;
   few = omega arith;
   long = ap (λ (rows : List (List Bool)). length rows) c.new-repeated.ensures;
-  shown = subst (λ (es : List Entry). Shows c.args.texts.now.numbers es c.add_built_in.new.table) (sym (append-nil (built_in c.args.sort)))
-      (c.in_ok-add_built_in.ensures [] (subst (λ (t : List (Key × Found)). Shows c.args.texts.now.numbers [] t) (sym c.new-table.ensures) (λ class name descriptor n d h k. tt)));
+  shown = subst (λ (es : List Entry). HasEntries c.args.texts.now.numbers es c.add_built_in.new.table) (sym (append-nil (built_in c.args.sort)))
+      (c.in_ok-add_built_in.ensures [] (subst (λ (t : List (Key × Found)). HasEntries c.args.texts.now.numbers [] t) (sym c.new-table.ensures) (λ class name descriptor n d h k. tt)));
   repeated = λ k i. ap (λ (rows : List (List Bool)). in_flag_rows rows k i) c.new-repeated.ensures ∙ sym (repeats_none c.args.sort i);
 }
 
@@ -41,7 +41,7 @@ loop-file-preserved c =
           = length_next (members_of c.args.sort) files c.loop-file.file class l is in omega (arith, next, count);
       few = omega (arith, few, count);
       long = rw c.in_ok-push.ensures.ok (length_push _ _ _ c.loop-file.invariant.long);
-      shown = subst (λ (es : List Entry). Shows c.args.texts.now.numbers es c.add_members.new.table) (sym (of_next c.args.sort files c.loop-file.file class l is))
+      shown = subst (λ (es : List Entry). HasEntries c.args.texts.now.numbers es c.add_members.new.table) (sym (of_next c.args.sort files c.loop-file.file class l is))
           (rw (← c.loop-file.invariant.number) (c.in_ok-flags.ensures.added (entries_of c.args.sort (take c.loop-file.file files)) c.loop-file.invariant.shown));
       repeated = rw c.in_ok-push.ensures.ok (flag_rows_next c.args.sort files c.loop-file.file class c.loop-file.repeated c.in_ok-flags.flags l is c.loop-file.invariant.long c.loop-file.invariant.repeated
           (c.in_ok-flags.ensures.repeats (entries_of c.args.sort (take c.loop-file.file files)) c.loop-file.invariant.shown (of_below c.args.sort files c.loop-file.file (omega (arith, l)))));

@@ -1,6 +1,6 @@
 use Rattle.std.proofs.Common.{◌≤◌, ◌+◌, ap, arith}
 use Rattle.machine_types.specs.declared.config.Config.{Config}
-use Rattle.step_core.specs.Alone.{Alone, alone}
+use Rattle.step_core.specs.Alone.{ThreadWithWords, alone}
 use Rattle.step_core.specs.Running.{running_at}
 use Rattle.step_core.specs.Sections.{entering}
 use Rattle.step_core.proofs.EventsMore.{fine_after}
@@ -18,8 +18,8 @@ overflow_add-count c =
 pub enter_at-requires-clause-fine : goal.enter_at-requires-clause-fine
 enter_at-requires-clause-fine c =
     let p = c.args.p.now in
-    let a : Alone = alone (running_at c.args.s.now c.args.f.now c.args.count) c.args.words.now in
-    let b : Alone = alone (entering c.instruct.new.s c.instruct.new.f (c.args.count + 1) c.in-Enters.monitor) c.instruct.new.words in
+    let a : ThreadWithWords = alone (running_at c.args.s.now c.args.f.now c.args.count) c.args.words.now in
+    let b : ThreadWithWords = alone (entering c.instruct.new.s c.instruct.new.f (c.args.count + 1) c.in-Enters.monitor) c.instruct.new.words in
     fine_after p a b c.requires.fine c.in-Enters.ensures.turn
 
 pub returns-in-Enters-clause-turn : goal.returns-in-Enters-clause-turn

@@ -6,7 +6,7 @@ use Rattle.machine_types.specs.declared.config.Config.{Config}
 use Rattle.table_rule.specs.Views.{held_in, HoldsAll}
 use Rattle.table_runner.specs.Handed.{Handed, AreHands}
 use Rattle.table_runner.specs.Running.{AreSame}
-use Rattle.table_runner.specs.Sharing.{CanBegin, HasBegun, IsNext}
+use Rattle.table_runner.specs.Sharing.{CanBegin, HasBegun, IsNextPart}
 use Rattle.table_runner.proofs.NextHands.{are_next, can_begin, is_next, next_of, none_next, room_next, same_next}
 use Rattle.table_runner.proofs.hands.Hands.next.Goals as goal
 
@@ -38,15 +38,15 @@ returns-clause-next c =
     let all : HoldsAll h.program h.threads = subst (λ (k : Handed). HoldsAll k.program k.threads) (sym c.self.view_is) c.requires.all in
     let next = next_of c.parts_keep_threads.ensures c.runs_have_state.ensures c.shares_are_next.ensures h c.begin_parts.new.threads c.may_begin.result c.self.invariant.0 c.may_begin.ensures c.if-not-may_begin.false c.begin_parts.ensures in
     let after : Handed = record h { table_id = c.begin.new.seat.table_id; threads = c.begin_parts.new.threads; view = c.begin.new.seat.me.0 } in
-    let is : IsNext h after c.may_begin.result = is_next h c.begin_parts.new.threads c.begin.new.seat.me.0 c.begin.new.seat.table_id c.may_begin.result c.self.invariant.0 all c.may_begin.ensures next c.begin.ensures.seat.0 c.begin.ensures.begins.view in
-    subst (λ (k : Handed). IsNext k after true) c.self.view_is (subst (IsNext h after) c.if-not-may_begin.false is)
+    let is : IsNextPart h after c.may_begin.result = is_next h c.begin_parts.new.threads c.begin.new.seat.me.0 c.begin.new.seat.table_id c.may_begin.result c.self.invariant.0 all c.may_begin.ensures next c.begin.ensures.seat.0 c.begin.ensures.begins.view in
+    subst (λ (k : Handed). IsNextPart k after true) c.self.view_is (subst (IsNextPart h after) c.if-not-may_begin.false is)
 
 pub returns-then-not-may_begin-clause-next : goal.returns-then-not-may_begin-clause-next
 returns-then-not-may_begin-clause-next c =
     let h : Handed = record { program = c.self.inside.program.told; cfg = c.self.inside.cfg; table_id = c.self.inside.seat.table_id; threads = c.self.inside.threads; view = c.self.inside.seat.me.0 } in
     let all : HoldsAll h.program h.threads = subst (λ (k : Handed). HoldsAll k.program k.threads) (sym c.self.view_is) c.requires.all in
-    let is : IsNext h h c.may_begin.result = none_next h c.may_begin.result c.self.invariant.0 all c.may_begin.ensures c.if-not-may_begin.true in
-    subst (λ (k : Handed). IsNext k k false) c.self.view_is (subst (IsNext h h) c.if-not-may_begin.true is)
+    let is : IsNextPart h h c.may_begin.result = none_next h c.may_begin.result c.self.invariant.0 all c.may_begin.ensures c.if-not-may_begin.true in
+    subst (λ (k : Handed). IsNextPart k k false) c.self.view_is (subst (IsNextPart h h) c.if-not-may_begin.true is)
 
 pub returns-clause-same : goal.returns-clause-same
 returns-clause-same c =

@@ -3,8 +3,8 @@ use Rattle.atomic_table.specs.Seated.{TableId}
 use Rattle.checked_program.specs.MarkedProgram.{MarkedProgram}
 use Rattle.std.specs.Prelude.{replicate, None, slice_set}
 use Rattle.table_rule.specs.Views.{View}
-use Rattle.table_runner.specs.Handed.{Handed, AreHands, HasRoom}
-use Rattle.table_runner.specs.Sharing.{alone, without}
+use Rattle.table_runner.specs.Handed.{Handed, AreHands, HasReportRoom}
+use Rattle.table_runner.specs.Sharing.{only_thread, view_without}
 use Rattle.table_runner.proofs.HandsApart.{are_alone, are_without, room_alone, room_without}
 use Rattle.table_runner.proofs.hands.Hands.split.Goals as goal
 
@@ -12,21 +12,21 @@ pub invariant_of-self : goal.invariant_of-self
 invariant_of-self c =
     let h : Handed = record { program = c.self.inside.program.told; cfg = c.self.inside.cfg; table_id = c.self.inside.seat.table_id; threads = c.self.inside.threads; view = c.self.inside.seat.me.0 } in (
       subst (λ (w : View). AreHands (record h { table_id = c.cut-seat.new.seat.table_id; threads = c.take-thread.new.threads; view = w })) (sym c.cut-seat.ensures.seat.2)
-          (subst (λ (ts : View). AreHands (record h { table_id = c.cut-seat.new.seat.table_id; threads = ts; view = without c.args.t h.view })) (sym c.take-thread.ensures.left)
-          (subst (λ (z : TableId). AreHands (record h { table_id = z; threads = without c.args.t h.threads; view = without c.args.t h.view })) (sym c.cut-seat.ensures.seat.0) (are_without h c.args.t c.self.invariant.0))),
+          (subst (λ (ts : View). AreHands (record h { table_id = c.cut-seat.new.seat.table_id; threads = ts; view = view_without c.args.t h.view })) (sym c.take-thread.ensures.left)
+          (subst (λ (z : TableId). AreHands (record h { table_id = z; threads = view_without c.args.t h.threads; view = view_without c.args.t h.view })) (sym c.cut-seat.ensures.seat.0) (are_without h c.args.t c.self.invariant.0))),
       c.cut-seat.ensures.seat.3 ∙ c.self.invariant.1,
-      subst (λ (ts : View). HasRoom ts c.take_room-reports.new.reports) (sym c.take-thread.ensures.left) (room_without h.threads c.args.t c.self.inside.reports c.take_room-reports.new.reports (λ e. (c.take_room-reports.ensures.goes e).1) (λ n. (c.take_room-reports.ensures.stays n).1) c.self.invariant.2),
+      subst (λ (ts : View). HasReportRoom ts c.take_room-reports.new.reports) (sym c.take-thread.ensures.left) (room_without h.threads c.args.t c.self.inside.reports c.take_room-reports.new.reports (λ e. (c.take_room-reports.ensures.goes e).1) (λ n. (c.take_room-reports.ensures.stays n).1) c.self.invariant.2),
     )
 
 pub invariant_of-result : goal.invariant_of-result
 invariant_of-result c =
     let h : Handed = record { program = c.self.inside.program.told; cfg = c.self.inside.cfg; table_id = c.self.inside.seat.table_id; threads = c.self.inside.threads; view = c.self.inside.seat.me.0 } in
     let program : h.program ≡ c.again.result.told = sym c.again.ensures in
-    let its : c.alone-threads.result ≡ alone c.args.t h.threads = c.alone-threads.ensures ∙ ap (λ o. slice_set (replicate 9 None) c.args.t o) c.take-thread.ensures.taken in (
+    let its : c.alone-threads.result ≡ only_thread c.args.t h.threads = c.alone-threads.ensures ∙ ap (λ o. slice_set (replicate 9 None) c.args.t o) c.take-thread.ensures.taken in (
       subst (λ (q : MarkedProgram). AreHands (record h { program = q; table_id = c.cut-seat.result.table_id; threads = c.alone-threads.result; view = c.cut-seat.result.me.0 })) program
           (subst (λ (w : View). AreHands (record h { table_id = c.cut-seat.result.table_id; threads = c.alone-threads.result; view = w })) (sym c.cut-seat.ensures.other.1)
-          (subst (λ (ts : View). AreHands (record h { table_id = c.cut-seat.result.table_id; threads = ts; view = alone c.args.t h.view })) (sym its)
-          (subst (λ (z : TableId). AreHands (record h { table_id = z; threads = alone c.args.t h.threads; view = alone c.args.t h.view })) (sym c.cut-seat.ensures.other.0) (are_alone h c.args.t c.take-thread.ensures.small c.self.invariant.0)))),
+          (subst (λ (ts : View). AreHands (record h { table_id = c.cut-seat.result.table_id; threads = ts; view = only_thread c.args.t h.view })) (sym its)
+          (subst (λ (z : TableId). AreHands (record h { table_id = z; threads = only_thread c.args.t h.threads; view = only_thread c.args.t h.view })) (sym c.cut-seat.ensures.other.0) (are_alone h c.args.t c.take-thread.ensures.small c.self.invariant.0)))),
       c.cut-seat.ensures.other.2,
-      subst (λ (ts : View). HasRoom ts c.take_room-reports.result) (sym its) (room_alone h.threads c.args.t c.self.inside.reports c.take_room-reports.result c.take-thread.ensures.small (λ e. (c.take_room-reports.ensures.goes e).0) (λ n. (c.take_room-reports.ensures.stays n).0) c.self.invariant.2),
+      subst (λ (ts : View). HasReportRoom ts c.take_room-reports.result) (sym its) (room_alone h.threads c.args.t c.self.inside.reports c.take_room-reports.result c.take-thread.ensures.small (λ e. (c.take_room-reports.ensures.goes e).0) (λ n. (c.take_room-reports.ensures.stays n).0) c.self.invariant.2),
     )
