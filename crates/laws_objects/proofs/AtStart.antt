@@ -1,5 +1,5 @@
 -- At the start of a run every object is finished, and what places hold is one of them or null.
-use Rattle.std.proofs.Common.{◌≡◌, ℕ, inl, inr, Some, None, refl, arith}
+use Rattle.std.proofs.Common.{ℕ, inl, inr, refl, arith}
 use Rattle.std.specs.Prelude.{slice_index}
 use Rattle.jvm_types.specs.declared.fixed_words.TheConstants.{NEXT_FREE_WORD}
 use Rattle.jvm_types.specs.declared.program.Kind.{Kind}

@@ -35,11 +35,11 @@ use Rattle.laws_threads.proofs.Landing.{stand_top}
 use Rattle.laws_threads.proofs.TopStand.{top_here}
 use Rattle.laws_states.specs.StateFacts.{StateFacts}
 use Rattle.laws_objects.specs.ConstructionLaws.{BuildsOn, EventsKeepConstruction}
-use Rattle.laws_objects.proofs.InstructionMoves.{none_outside}
+use Rattle.laws_objects.proofs.InstructionMoves.{none_outside, KnownTop}
 use Rattle.laws_objects.proofs.LostObjects.{SeenByAll, LostIn}
 use Rattle.laws_objects.proofs.MonitorMoves.{fits}
 use Rattle.laws_objects.proofs.Onwards.{built_here}
-use Rattle.laws_objects.proofs.PhaseMoves.{by_phase, allowed, run_moves}
+use Rattle.laws_objects.proofs.PhaseMoves.{moves_keep, allowed, run_known}
 use Rattle.laws_objects.proofs.Places.{leave_plain, same_words, plain, element, effect_places, made_places}
 use Rattle.laws_objects.proofs.ThreadMoves.{Moved, now_world}
 use Rattle.laws_objects.proofs.Views.{other_keeps, other_lost}
@@ -115,13 +115,15 @@ module _ (lies : StartLiesApart) (structure : StructureIsKept) (c : MarkedProgra
     stays = structure c (was t) x got marked stood lawful.typed lawful.rooted
 
     usual : Moved c frozen w keeps.now next more t (counted_by (was t) now.phase) now
-    usual = by_phase c marked frozen con.frozen_are w next more t (was t) x keeps con.world grows stood lawful.rooted got run x.phase refl stood.is_as stays
+    usual = moves_keep c marked frozen con.frozen_are w next more t (was t) x keeps con.world grows stood lawful.rooted got (HasClass objects) known stays
       where
-        run : x.phase ≡ phases.Run → was t ≡ phases.Run → StaysStructured c (was t) (moved c x phases.Run got) → Moved c frozen w keeps.now next more t (counted_by (was t) (moved c x phases.Run got).phase) (moved c x phases.Run got)
-        run here e stands =
+        -- by the word that an instruction finds
+        known : x.phase ≡ phases.Run → was t ≡ phases.Run → (at : Top) → top_of c.program x.frames ≡ Some at → KnownTop c marked frozen con.frozen_are (HasClass objects) w next more t (was t) x keeps con.world grows stood got
+        known here e at found =
             let got_is : got ≡ found_by s.words (wanted c x phases.Run) = ap (λ (p : Phase). found_by s.words (wanted c x p)) here in
-            subst (λ (g : ℕ). StaysStructured c (was t) (moved c x phases.Run g) → Moved c frozen w keeps.now next more t (counted_by (was t) (moved c x phases.Run g).phase) (moved c x phases.Run g)) (sym got_is)
-            (run_moves c marked frozen con.frozen_are objects s facts.heap w more t (was t) x keeps con.world grows stood con.places here e (holds phases.Run here) (ap (λ (p : Phase). slice_index (words_after s.words (wanted c x p)) NEXT_FREE_WORD) here)) stands
+            subst (KnownTop c marked frozen con.frozen_are (HasClass objects) w next more t (was t) x keeps con.world grows stood) (sym got_is)
+            (run_known c marked frozen con.frozen_are objects s facts.heap w more t (was t) x keeps con.world grows stood con.places here e (holds phases.Run here) at found
+            (ap (λ (p : Phase). slice_index (words_after s.words (wanted c x p)) NEXT_FREE_WORD) here))
 
     reaches : (phase : Phase) → x.phase ≡ phase → ReachesIf c.program objects s (content_at c x phase) (wanted c x phase)
     reaches phase e = subst (λ (p : Phase). ReachesIf c.program objects s (content_at c x p) (wanted c x p)) e (events_reach c objects s t x marked facts.heap there lawful)

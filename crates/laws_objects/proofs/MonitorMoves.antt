@@ -1,13 +1,11 @@
--- The events of a thread in every phase but Run and Start keep what construction says of it.
-use Rattle.std.proofs.Common.{◌≡◌, ℕ, suc, zero, ◌+◌, ◌-◌, ◌≤◌, inl, Bool, true, false, List, [], ◌∷◌, ◌++◌, length, Option, Some, None, refl, sym, ap, ◌∙◌, subst, arith}
+-- The moves of a thread, but those of an instruction and of a root, keep what construction says of it.
+use Rattle.std.proofs.Common.{◌≡◌, ℕ, ◌+◌, ◌-◌, ◌≤◌, inl, Bool, true, false, List, [], ◌∷◌, ◌++◌, length, Option, Some, None, refl, sym, ap, ◌∙◌, subst, arith}
 use Rattle.std.specs.Prelude.{◌==◌, nat_lt, option_map, if◌then◌else◌}
 use Rattle.std.proofs.lemmas.Bool.{eqb-true, eqb-false}
 use Rattle.jvm_types.specs.CodeTable.{row, branches_to, falls_through}
 use Rattle.jvm_types.specs.ProgramInvariant.{words_of}
 use Rattle.jvm_types.specs.declared.code.Op.{Op}
 use Rattle.jvm_types.specs.declared.code.Op.TheVariants as ops
-use Rattle.jvm_types.specs.declared.fixed_words.TheConstants.{MONITOR_RECORDS}
-use Rattle.jvm_types.specs.declared.limits.TheConstants.{FLAG_FROM}
 use Rattle.jvm_types.specs.declared.outcome.End.{End}
 use Rattle.jvm_types.specs.declared.outcome.End.TheVariants as ends
 use Rattle.jvm_types.specs.declared.outcome.Thrown as outcomes
@@ -16,21 +14,18 @@ use Rattle.jvm_types.specs.declared.program.Program.{Program}
 use Rattle.jvm_types.specs.declared.program.Target.{Target}
 use Rattle.checked_program.specs.MarkedProgram.{MarkedProgram, IsMarked}
 use Rattle.machine_types.specs.Construction.{AreFrozen, Runs, FramesKeep, MadeKeeps, ThreadKeeps, made_world}
-use Rattle.machine_types.specs.Elision.{is_same, if_same, fails, begins, tries, elided}
-use Rattle.machine_types.specs.Frames.{went_on, top_of, pushed}
+use Rattle.machine_types.specs.Elision.{fails, elided}
+use Rattle.machine_types.specs.Frames.{went_on, top_of, pushed, Top, handler_at}
 use Rattle.machine_types.specs.Going.{with_phase, runs, failed_turn, goes_on, goes_on_if, goes_after}
 use Rattle.machine_types.specs.HeldMonitors.{held_at, with_held, without_held, deeper, shallower}
-use Rattle.machine_types.specs.LockWords.{word_of_lock, lock_of}
-use Rattle.machine_types.specs.Monitors.{Tries, HasNot, claim_by, claim, acquires, enter_moves, takes, lets_go, released, finishes, leave_moves, grows_not, fattens, goes_to_wait, retakes, lowest_of}
-use Rattle.machine_types.specs.Onward.{Onward, Running, dispatched, after}
-use Rattle.machine_types.specs.Structure.{IsStructured, Stands, AttemptStands, AttemptStandsIn, IsPhaseInside, IsLimitAt, TopIs, AfterShows, is_element_op}
+use Rattle.machine_types.specs.Monitors.{HasNot, claim, takes, lets_go, fattens, goes_to_wait, retakes, lowest_of}
+use Rattle.machine_types.specs.Onward.{Onward, Running, after, handed}
+use Rattle.machine_types.specs.Structure.{IsStructured, Stands, AttemptStandsIn, IsPhaseInside, IsLimitAt, TopIs, AfterShows, is_element_op, IsAs}
 use Rattle.machine_types.specs.Threads.{Frame, Attempt, Thread}
 use Rattle.machine_types.specs.Worlds.{Header, Made, Builder, builder, World, IsFinished, IsOwnOrFinished, IsWorld, IsViewOf, with_builder, finished}
 use Rattle.machine_types.specs.declared.lock.Held.{Held}
 use Rattle.machine_types.specs.declared.lock.Kept.{Kept}
 use Rattle.machine_types.specs.declared.lock.Kept.TheVariants as keeps
-use Rattle.machine_types.specs.declared.lock.LockWord.{LockWord}
-use Rattle.machine_types.specs.declared.lock.LockWord.TheVariants as locks
 use Rattle.machine_types.specs.declared.phase.After.{After}
 use Rattle.machine_types.specs.declared.phase.Phase.{Phase}
 use Rattle.machine_types.specs.declared.phase.Phase.TheVariants as phases
@@ -46,8 +41,13 @@ use Rattle.laws_objects.proofs.BuiltEffects.{RowOld}
 use Rattle.laws_objects.proofs.CountedPhases.{PhaseFits, counted_fits}
 use Rattle.laws_objects.proofs.Moves.{Steps}
 use Rattle.laws_objects.proofs.Onwards.{OnwardKeeps, IfKeeps, runs_on, dispatches, goes_after_it, same_op}
-use Rattle.laws_objects.proofs.ThreadMoves.{Moved, AreKnown, AttemptFrom, EntryKept, from_same, entry_same, now_world, held_known, moved_on, failed, begun, onward_moves, moved_more, known_at, known_with, known_without}
+use Rattle.laws_objects.proofs.ThreadMoves.{Moved, AreKnown, AttemptFrom, EntryKept, from_same, entry_same, now_world, held_known, moved_on, failed, begun, onward_moves, moved_more, known_at, known_with, known_without, none_tried}
 use Rattle.laws_objects.proofs.WorldChanges.{none_some, goes_same, goes_given, goes_finished, world_given, world_finished, lost_given, lost_finished, lost_same, not_lost}
+use Rattle.machine_types.specs.ReadyObjects.{class_of}
+use Rattle.machine_types.specs.Ints.{low}
+use Rattle.machine_types.specs.Words.{value_word}
+use Rattle.laws_threads.proofs.ThreadMove.{Looks, LeadsTo, TurnsTo, Takes, GivesUp, begun_attempt, counting, takes_in, gives_up_in}
+use Rattle.laws_threads.proofs.ThreadMove as moves
 
 -- ---- an element
 
@@ -119,8 +119,8 @@ module _ (c : MarkedProgram) (marked : IsMarked c) (frozen : ℕ → Bool) (are 
   pub fits : (phase : Phase) → was ≡ phase → Fits phase
   fits phase e = subst (PhaseFits c frozen k.now next t x.frames) e (k.frames, k.phase)
 
-  at : (phase : Phase) → was ≡ phase → Stands c phase x.frames x.held x.attempt
-  at phase e = subst (λ (p : Phase). Stands c p x.frames x.held x.attempt) e stood.stands
+  at_phase : (phase : Phase) → was ≡ phase → Stands c phase x.frames x.held x.attempt
+  at_phase phase e = subst (λ (p : Phase). Stands c p x.frames x.held x.attempt) e stood.stands
 
   within : (phase : Phase) → was ≡ phase → AttemptStandsIn c phase x.frames x.held x.attempt
   within phase e = subst (λ (p : Phase). AttemptStandsIn c p x.frames x.held x.attempt) e stood.attempt
@@ -147,15 +147,8 @@ module _ (c : MarkedProgram) (marked : IsMarked c) (frozen : ℕ → Bool) (are 
       (moved_on c frozen w next t was x k is_world now y hs from (subst (λ (fs : List Frame). EntryKept x.attempt y.attempt x.frames fs) (sym frames) (entry_same x.attempt y.attempt x.frames))
       (record { later = k.now; goes = goes_same k.now next next t (omega arith); world = λ z. z; lost = lost_same k.now; fits = subst (λ (fs : List Frame). PhaseFits c frozen k.now next t fs now) (sym frames) fit }))
 
-  -- its phase alone
-  changed : (now : Phase) → Fits now → Moved c frozen w k.now next more t now (with_phase x now)
-  changed now fit = to now (with_phase x now) refl (from_same x.attempt) held fit
-
   pub still : (s : Thread) → s.phase ≡ x.phase → s.frames ≡ x.frames → AttemptFrom x.attempt s.attempt → AreKnown w next t s.held → Goal s
   still s phase frames from hs = subst (λ (p : Phase). Moved c frozen w k.now next more t (counted_by was p) s) (sym phase) (to (counted_by was x.phase) s frames from hs (counted_fits c frozen k.now next t x.frames was x.phase stood.is_as (k.frames, k.phase)))
-
-  pub unmoved : Goal x
-  unmoved = still x refl refl (from_same x.attempt) held
 
   runs_as : (s : Thread) → s.frames ≡ x.frames → AttemptFrom x.attempt s.attempt → AreKnown w next t s.held → Fits phases.Run → Goal (runs s)
   runs_as s frames from hs fit = by_left (nat_lt s.counts.instructions s.cfg.steps)
@@ -163,13 +156,6 @@ module _ (c : MarkedProgram) (marked : IsMarked c) (frozen : ℕ → Bool) (are 
       by_left : (left : Bool) → Goal (with_phase s (if left then phases.Run else phases.Ending ends.Steps))
       by_left true = to phases.Run (with_phase s phases.Run) frames from hs fit
       by_left false = to phases.Run (with_phase s (phases.Ending ends.Steps)) frames from hs fit
-
-  turns_as : (phase : Phase) → Fits (counted_by was phase) → Fits (turned_from was) → Goal (failed_turn x phase)
-  turns_as phase fit turned = by_left (nat_lt (x.turns + 1) x.cfg.turns)
-    where
-      by_left : (left : Bool) → Goal (record x { turns = x.turns + 1; phase = if left then phase else phases.Ending ends.Turns })
-      by_left true = to (counted_by was phase) (record x { turns = x.turns + 1; phase = phase }) refl (from_same x.attempt) held fit
-      by_left false = to (turned_from was) (record x { turns = x.turns + 1; phase = phases.Ending ends.Turns }) refl (from_same x.attempt) held turned
 
   -- the phase in that turns are counted
   turned : (phase : Phase) → was ≡ phase → Fits (turned_from phase) → Fits (turned_from was)
@@ -185,244 +171,170 @@ module _ (c : MarkedProgram) (marked : IsMarked c) (frozen : ℕ → Bool) (are 
   pub never : (o : Option Onward) → x.attempt ≡ None → (a : Attempt) (onward : Onward) → x.attempt ≡ Some a → o ≡ Some onward → KeepsEntry a x.frames onward
   never o none a onward some e = absurd (none_some x.attempt a none some)
 
-  -- ---- what is thrown, an element and a new object
+  -- ---- all moves but those of an instruction and of a root, whatever it has counted
 
-  pub throws_as : (v : ℕ) (class : outcomes.Thrown) (got : ℕ) → was ≡ phases.Throw v class → StaysStructured c was (if_same x x.attempt got (goes_on_if x (dispatched c.program v class x.frames))) → Goal (if_same x x.attempt got (goes_on_if x (dispatched c.program v class x.frames)))
-  throws_as v class got e stands = by_attempt x.attempt refl stands
-    where
-      fit : Fits (phases.Throw v class)
-      fit = fits (phases.Throw v class) e
+  module _ (n got : ℕ) where
+    abbrev s : Thread
+    s = counting n x
 
-      moves : StaysStructured c was (goes_on_if x (dispatched c.program v class x.frames)) → Goal (goes_on_if x (dispatched c.program v class x.frames))
-      moves stands = goes_if x (dispatched c.program v class x.frames) refl refl (from_same x.attempt) held stands (λ a onward some f. throws_kept c.program x.frames a v class onward f)
-          (dispatches c marked frozen are k.now next t now_is v class x.frames fit.1 fit.0 (at (phases.Throw v class) e).phase_shows)
+    pub stays_as : Goal s
+    stays_as = still s refl refl (from_same x.attempt) held
 
-      by_attempt : (o : Option Attempt) → x.attempt ≡ o → StaysStructured c was (if_same x o got (goes_on_if x (dispatched c.program v class x.frames))) → Goal (if_same x o got (goes_on_if x (dispatched c.program v class x.frames)))
-      by_attempt None q stands = moves stands
-      by_attempt (Some a) q stands = by_word (is_same a got) stands
-        where
-          by_word : (y : Bool) → StaysStructured c was (if y then goes_on_if x (dispatched c.program v class x.frames) else fails x a) → Goal (if y then goes_on_if x (dispatched c.program v class x.frames) else fails x a)
-          by_word true stands = moves stands
-          by_word false stands = also (fails x a) (failed c frozen w next t was x k is_world a (fails x a) q refl refl refl)
+    pub fails_as : (a : Attempt) → x.attempt ≡ Some a → Goal (fails s a)
+    fails_as a e = also (fails s a) (failed c frozen w next t was x k is_world a (fails s a) e refl refl refl)
 
-  pub element_as : (word : ℕ) (stored : Option ℕ) (value : ℕ) → was ≡ phases.Element word stored → x.attempt ≡ None → StaysStructured c was (goes_on_if x (option_map (λ at. Running (went_on c.program at value)) (top_of c.program x.frames)))
-      → Goal (goes_on_if x (option_map (λ at. Running (went_on c.program at value)) (top_of c.program x.frames)))
-  element_as word stored value e none stands =
-      let o = option_map (λ at. Running (went_on c.program at value)) (top_of c.program x.frames) in
-      goes_if x o refl refl (from_same x.attempt) held stands (never o none)
-      (element_if c marked frozen are k.now next t now_is stored value x.frames (fits (phases.Element word stored) e).0 (at (phases.Element word stored) e).phase_shows)
+    -- its phase alone
+    changed : (now : Phase) → Fits now → Moved c frozen w k.now next more t now (with_phase s now)
+    changed now fit = to now (with_phase s now) refl (from_same x.attempt) held fit
 
-  pub made_as : (a word : ℕ) → was ≡ phases.Made a word → StaysStructured c was (goes_on x (Running (pushed a x.frames))) → Goal (goes_on x (Running (pushed a x.frames)))
-  made_as a word e stands =
-      goes_if x (Some (Running (pushed a x.frames))) refl refl (from_same x.attempt) held stands (never (Some (Running (pushed a x.frames))) (none_in (phases.Made a word) (λ m q. q) e))
-      (made_if c marked frozen are k.now next t now_is a x.frames (fits (phases.Made a word) e).0)
-
-  -- ---- entry
-
-  acquires_as : (m : ℕ) (lock : LockWord) → Fits (phases.Acquire m) → Fits (turned_from was) → Goal (acquires x m lock)
-  acquires_as m (locks.Free n) fit turn = changed (phases.Take m n) fit
-  acquires_as m (locks.Held u) fit turn = by_count (nat_lt (x.turns + 1) FLAG_FROM)
-    where
-      by_count : (b : Bool) → Goal (failed_turn x (if b then phases.Acquire m else phases.Flag m u))
-      by_count true = turns_as (phases.Acquire m) fit turn
-      by_count false = turns_as (phases.Flag m u) fit turn
-  acquires_as m (locks.Flagged u) fit turn = turns_as (phases.Acquire m) fit turn
-  acquires_as m (locks.Fat r) fit turn = changed (phases.TakeFat m r) fit
-
-  pub takes_as : (m : ℕ) (kept : Kept) → Fits (phases.Acquire m) → Goal (takes x m kept)
-  takes_as m kept fit =
-      let h : Held = record { monitor = m; kept = kept; depth = 1 } in
-      runs_as (record x { held = with_held h x.held; counts = record x.counts { locked = x.counts.locked + 1 } }) refl (from_same x.attempt) (known_with w next t h x.held (back m fit.1) held) (fit.0, tt)
-
-  tries_as : (m tried : ℕ) (lock : LockWord) → was ≡ phases.Enter m tried → x.attempt ≡ None → Goal (tries x m tried lock)
-  tries_as m tried (locks.Free n) e none = by_range (nat_lt n x.cfg.range)
-    where
-      by_frames : (fs : List Frame) → x.frames ≡ fs → Goal (begins x fs m n (tried + 1))
-      by_frames [] there = unmoved
-      by_frames (f ∷ below) there = by_left (nat_lt x.counts.instructions x.cfg.steps)
-        where
-          a : Attempt
-          a = record { monitor = m; noted = n; base = length below; number = tried + 1; inner = 0; entry = f }
-
-          begin : (y : Thread) → y.frames ≡ x.frames → y.held ≡ x.held → y.attempt ≡ Some a → Moved c frozen w k.now next more t phases.Run y
-          begin y frames hs attempt = moved_more c frozen w k.now next more t phases.Run y is_world grows (begun c frozen w next t was x k is_world m tried a f below y e none there frames hs attempt refl refl refl)
-
-          by_left : (left : Bool) → Goal (record x { attempt = Some a; phase = if left then phases.Run else phases.Ending ends.Steps })
-          by_left true = begin (record x { attempt = Some a; phase = phases.Run }) refl refl refl
-          by_left false = begin (record x { attempt = Some a; phase = phases.Ending ends.Steps }) refl refl refl
-
-      by_range : (b : Bool) → Goal (if b then begins x x.frames m n (tried + 1) else with_phase x (phases.Acquire m))
-      by_range true = by_frames x.frames refl
-      by_range false = changed (phases.Acquire m) (fits (phases.Enter m tried) e)
-  tries_as m tried (locks.Held u) e none = changed (phases.Acquire m) (fits (phases.Enter m tried) e)
-  tries_as m tried (locks.Flagged u) e none = changed (phases.Acquire m) (fits (phases.Enter m tried) e)
-  tries_as m tried (locks.Fat r) e none = changed (phases.Acquire m) (fits (phases.Enter m tried) e)
-
-  pub acquire_as : (m got : ℕ) → was ≡ phases.Acquire m → Goal (acquires x m (lock_of got))
-  acquire_as m got e = acquires_as m (lock_of got) (fits (phases.Acquire m) e) (turned (phases.Acquire m) e (fits (phases.Acquire m) e))
-
-  pub enters_as : (m tried : ℕ) (may : Bool) (got : ℕ) → was ≡ phases.Enter m tried → Goal (enter_moves x m tried may (claim x m) got)
-  enters_as m tried may got e = by_held (held_at x.held m) refl x.attempt refl
-    where
-      fit : Fits (phases.Enter m tried)
-      fit = fits (phases.Enter m tried) e
-
-      has_not : x.attempt ≡ None → (may : Bool) → Goal (enter_moves x m tried may HasNot got)
-      has_not none true = tries_as m tried (lock_of got) e none
-      has_not none false = acquires_as m (lock_of got) fit (turned (phases.Enter m tried) e fit)
-
-      by_monitor : (a : Attempt) → x.attempt ≡ Some a → (y : Bool) → (a.monitor == m) ≡ y → Goal (enter_moves x m tried may (if y then Tries a else HasNot) got)
-      by_monitor a q true s = runs_as (record x { attempt = Some (record a { inner = a.inner + 1 }) }) refl (subst (λ (o : Option Attempt). AttemptFrom o (Some (record a { inner = a.inner + 1 }))) (sym q) (refl, refl, refl)) held (fit.0, tt)
-      by_monitor a q false s =
-          let inside : AttemptStands c (phases.Enter m tried) x.frames x.held a = subst (AttemptStandsIn c (phases.Enter m tried) x.frames x.held) q (within (phases.Enter m tried) e) in
-          absurd (eqb-false a.monitor m s (sym inside.inside))
-
-      by_held : (o : Option Held) → held_at x.held m ≡ o → (p : Option Attempt) → x.attempt ≡ p → Goal (enter_moves x m tried may (claim_by m o p) got)
-      by_held (Some h) f p q = runs_as (record x { held = with_held (deeper h) x.held }) refl (from_same x.attempt) (known_with w next t (deeper h) x.held (known_at w next t m x.held h held f) held) (fit.0, tt)
-      by_held None f None q = has_not q may
-      by_held None f (Some a) q = by_monitor a q (a.monitor == m) refl
-
-  pub take_as : (m n got : ℕ) → was ≡ phases.Take m n → Goal (if got == word_of_lock (locks.Free n) then takes x m (keeps.Flat n) else failed_turn x (phases.Acquire m))
-  take_as m n got e = by_word (got == word_of_lock (locks.Free n))
-    where
-      fit : Fits (phases.Acquire m)
-      fit = fits (phases.Take m n) e
-
-      by_word : (b : Bool) → Goal (if b then takes x m (keeps.Flat n) else failed_turn x (phases.Acquire m))
-      by_word true = takes_as m (keeps.Flat n) fit
-      by_word false = turns_as (phases.Acquire m) fit (turned (phases.Take m n) e fit)
-
-  pub flag_as : (m u : ℕ) → was ≡ phases.Flag m u → Goal (with_phase x (phases.Acquire m))
-  flag_as m u e = changed (phases.Acquire m) (fits (phases.Flag m u) e)
-
-  pub take_fat_as : (m r got : ℕ) → was ≡ phases.TakeFat m r → Goal (if got == 0 then takes x m (keeps.Fat r) else failed_turn x (phases.TakeFat m r))
-  take_fat_as m r got e = by_word (got == 0)
-    where
-      fit : Fits (phases.TakeFat m r)
-      fit = fits (phases.TakeFat m r) e
-
-      by_word : (b : Bool) → Goal (if b then takes x m (keeps.Fat r) else failed_turn x (phases.TakeFat m r))
-      by_word true = takes_as m (keeps.Fat r) fit
-      by_word false = turns_as (phases.TakeFat m r) fit (turned (phases.TakeFat m r) e fit)
-
-  -- ---- exit
-
-  module _ (m : ℕ) (a : After) (fit : Fits (phases.Leave m a)) (shows : AfterShows c m a x.frames) where
-    behind : (s : Thread) → s.phase ≡ x.phase → s.frames ≡ x.frames → AttemptFrom x.attempt s.attempt → AreKnown w next t s.held → StaysStructured c was (goes_on_if s (after c.program x.frames a)) → Goal (goes_on_if s (after c.program x.frames a))
-    behind s phase frames from hs stands =
-        goes_if s (after c.program x.frames a) phase frames from hs stands (λ b onward some f. leaves_kept c.program x.frames b a onward f)
-        (goes_after_it c marked frozen are k.now next t now_is m a x.frames fit.1.1 fit.0 shows)
-
-    lets_as : StaysStructured c was (lets_go c.program x m a) → Goal (lets_go c.program x m a)
-    lets_as stands = behind (record x { held = without_held m x.held }) refl refl (from_same x.attempt) (known_without w next t m x.held held) stands
-
-    released_as : (kept : Kept) (got : ℕ) → StaysStructured c was (released c.program x m a kept got) → Goal (released c.program x m a kept got)
-    released_as (keeps.Fat r) got stands = lets_as stands
-    released_as (keeps.Flat n) got stands = by_word (got == word_of_lock (locks.Held x.number)) stands
+    turns_as : (phase : Phase) → Fits (counted_by was phase) → Fits (turned_from was) → Goal (failed_turn s phase)
+    turns_as phase fit turned = by_left (nat_lt (x.turns + 1) x.cfg.turns)
       where
-        by_word : (y : Bool) → StaysStructured c was (if y then lets_go c.program x m a else with_phase x (phases.Grow m (towards.Leave a))) → Goal (if y then lets_go c.program x m a else with_phase x (phases.Grow m (towards.Leave a)))
-        by_word true stands = lets_as stands
-        by_word false stands = changed (phases.Grow m (towards.Leave a)) fit
+        by_left : (left : Bool) → Goal (record s { turns = x.turns + 1; phase = if left then phase else phases.Ending ends.Turns })
+        by_left true = to (counted_by was phase) (record s { turns = x.turns + 1; phase = phase }) refl (from_same x.attempt) held fit
+        by_left false = to (turned_from was) (record s { turns = x.turns + 1; phase = phases.Ending ends.Turns }) refl (from_same x.attempt) held turned
 
-    finishes_as : (b : Attempt) → x.attempt ≡ Some b → (inner got : ℕ) → StaysStructured c was (finishes c.program x a b inner got) → Goal (finishes c.program x a b inner got)
-    finishes_as b q zero got stands = by_word (is_same b got) stands
+    -- ---- what is thrown, an element and a new object
+
+    -- where it is in no attempt
+    goes_outside : (o : Onward) → x.attempt ≡ None → StaysStructured c was (goes_on s o) → IfKeeps c frozen k.now next t (Some o) → Goal (goes_on s o)
+    goes_outside o none stands keeps = goes_if s (Some o) refl refl (from_same x.attempt) held stands (never (Some o) none) keeps
+
+    pub throws_as : (v : ℕ) (class : outcomes.Thrown) (at : Top) → top_of c.program x.frames ≡ Some at → was ≡ phases.Throw v class → StaysStructured c was (goes_on s (handed v class at (handler_at (class_of class) at))) → Goal (goes_on s (handed v class at (handler_at (class_of class) at)))
+    throws_as v class at top e stands =
+        goes_if s (Some (handed v class at (handler_at (class_of class) at))) refl refl (from_same x.attempt) held stands
+        (λ a onward some f. throws_kept c.program x.frames a v class onward (ap (option_map (λ at. handed v class at (handler_at (class_of class) at))) top ∙ f))
+        (subst (λ o. IfKeeps c frozen k.now next t (option_map (λ at. handed v class at (handler_at (class_of class) at)) o)) top
+        (dispatches c marked frozen are k.now next t now_is v class x.frames (fits (phases.Throw v class) e).1 (fits (phases.Throw v class) e).0 (at_phase (phases.Throw v class) e).phase_shows))
+
+    pub element_as : (word : ℕ) (stored : Option ℕ) (value : ℕ) (at : Top) → top_of c.program x.frames ≡ Some at → was ≡ phases.Element word stored → x.attempt ≡ None → StaysStructured c was (goes_on s (Running (went_on c.program at value))) → Goal (goes_on s (Running (went_on c.program at value)))
+    element_as word stored value at top e none stands =
+        goes_outside (Running (went_on c.program at value)) none stands
+        (subst (λ o. IfKeeps c frozen k.now next t (option_map (λ at. Running (went_on c.program at value)) o)) top
+        (element_if c marked frozen are k.now next t now_is stored value x.frames (fits (phases.Element word stored) e).0 (at_phase (phases.Element word stored) e).phase_shows))
+
+    pub made_as : (a word : ℕ) → was ≡ phases.Made a word → StaysStructured c was (goes_on s (Running (pushed a x.frames))) → Goal (goes_on s (Running (pushed a x.frames)))
+    made_as a word e stands = goes_outside (Running (pushed a x.frames)) (none_in (phases.Made a word) (λ m q. q) e) stands (made_if c marked frozen are k.now next t now_is a x.frames (fits (phases.Made a word) e).0)
+
+    pub notified_as : (phase : Phase) → was ≡ phase → (Fits phase → Fits phases.Run) → Goal (runs s)
+    notified_as phase e fit = runs_as s refl (from_same x.attempt) held (fit (fits phase e))
+
+    -- ---- to another phase
+
+    looks_fit : (m : ℕ) (phase : Phase) → Looks s m phase → IsAs phase was → Fits (phases.Acquire m) × Fits (turned_from was)
+    looks_fit m _ (moves.entering tried free) e = let fit = fits (phases.Enter m tried) e in (fit, turned (phases.Enter m tried) e fit)
+    looks_fit m _ moves.acquiring e = let fit = fits (phases.Acquire m) e in (fit, turned (phases.Acquire m) e fit)
+
+    ending_as : (e : End) → IsLimitAt e (phases.Ending e) was → Goal (with_phase s (phases.Ended e))
+    ending_as ends.Steps l = to was (with_phase s (phases.Ended ends.Steps)) refl (from_same x.attempt) held (k.frames, k.phase)
+    ending_as ends.Prints l = to was (with_phase s (phases.Ended ends.Prints)) refl (from_same x.attempt) held (k.frames, k.phase)
+    ending_as ends.Turns l = to was (with_phase s (phases.Ended ends.Turns)) refl (from_same x.attempt) held (k.frames, k.phase)
+    ending_as ends.Records l = to was (with_phase s (phases.Ended ends.Records)) refl (from_same x.attempt) held (k.frames, k.phase)
+    ending_as e l = changed (phases.Ended e) (fits (phases.Ending e) l)
+
+    pub leads_as : (phase now : Phase) → LeadsTo c.program s got phase now → IsAs phase was → Goal (with_phase s now)
+    leads_as _ _ (moves.to_acquire m tried free) e = changed (phases.Acquire m) (fits (phases.Enter m tried) e)
+    leads_as phase _ (moves.to_take m count look f) e = changed (phases.Take m count) (looks_fit m phase look e).0
+    leads_as phase _ (moves.to_take_fat m r look f) e = changed (phases.TakeFat m r) (looks_fit m phase look e).0
+    leads_as _ _ (moves.from_flag m u) e = changed (phases.Acquire m) (fits (phases.Flag m u) e)
+    leads_as _ _ (moves.to_grow m count a h f last l) e = changed (phases.Grow m (towards.Leave a)) (fits (phases.Leave m a) e)
+    leads_as _ _ (moves.to_own m toward f) e = changed (phases.Own m got toward) (fits (phases.Grow m toward) e)
+    leads_as _ _ (moves.to_flat_out m a f) e = changed (phases.FlatOut m a) (fits (phases.Grow m (towards.Leave a)) e)
+    leads_as _ _ (moves.to_no_record m f) e = to was (with_phase s (phases.Ending ends.Records)) refl (from_same x.attempt) held (k.frames, k.phase)
+    leads_as _ _ (moves.to_fat_in m r toward) e = changed (phases.FatIn m r toward) (fits (phases.Own m r toward) e)
+    leads_as _ _ (moves.to_wait_out m r) e = changed (phases.WaitOut m r) (fits (phases.WaitBit m r) e)
+    leads_as _ _ (moves.to_retake m r depth f) e = changed (phases.Retake m r depth) (fits (phases.WaitLook m r depth) e)
+    leads_as _ _ (moves.to_notify_one m r f) e = changed (phases.NotifyOne m r (lowest_of got)) (fits (phases.NotifyLook m r) e)
+    leads_as _ _ (moves.to_end reason) e = ending_as reason e
+    leads_as _ _ (moves.to_element at array index stored top f l) e = changed (phases.Element (value_word array (low index)) stored) ((fits phases.Run e).0, tt)
+    leads_as _ _ (moves.to_no_print at top f) e = to phases.Run (with_phase s (phases.Ending ends.Prints)) refl (from_same x.attempt) held (fits phases.Run e)
+
+    pub turned_as : (phase now : Phase) → TurnsTo s got phase now → IsAs phase was → Goal (failed_turn s now)
+    turned_as phase _ (moves.looks_again m look) e = let fit = looks_fit m phase look e in turns_as (phases.Acquire m) fit.0 fit.1
+    turned_as phase _ (moves.flags m u look f) e = let fit = looks_fit m phase look e in turns_as (phases.Flag m u) fit.0 fit.1
+    turned_as _ _ (moves.takes_not m count f) e = let fit : Fits (phases.Acquire m) = fits (phases.Take m count) e in turns_as (phases.Acquire m) fit (turned (phases.Take m count) e fit)
+    turned_as _ _ (moves.takes_not_fat m r f) e = let fit = fits (phases.TakeFat m r) e in turns_as (phases.TakeFat m r) fit (turned (phases.TakeFat m r) e fit)
+    turned_as _ _ (moves.waits_on m r depth f) e = let fit = fits (phases.WaitLook m r depth) e in turns_as (phases.WaitLook m r depth) fit (turned (phases.WaitLook m r depth) e fit)
+    turned_as _ _ (moves.retakes_not m r depth f) e = let fit = fits (phases.Retake m r depth) e in turns_as (phases.Retake m r depth) fit (turned (phases.Retake m r depth) e fit)
+
+    -- ---- entry
+
+    -- its attempt, with so many entries inside
+    deeper_from : (a : Attempt) (inner : ℕ) → x.attempt ≡ Some a → AttemptFrom x.attempt (Some (record a { inner = inner }))
+    deeper_from a inner e = subst (λ (o : Option Attempt). AttemptFrom o (Some (record a { inner = inner }))) (sym e) (refl, refl, refl)
+
+    pub again_as : (m tried : ℕ) (h : Held) → held_at x.held m ≡ Some h → was ≡ phases.Enter m tried → Goal (runs (record s { held = with_held (deeper h) s.held }))
+    again_as m tried h l e = runs_as (record s { held = with_held (deeper h) s.held }) refl (from_same x.attempt) (known_with w next t (deeper h) x.held (known_at w next t m x.held h held l) held) ((fits (phases.Enter m tried) e).0, tt)
+
+    pub inside_as : (m tried : ℕ) (a : Attempt) → x.attempt ≡ Some a → was ≡ phases.Enter m tried → Goal (runs (record s { attempt = Some (record a { inner = a.inner + 1 }) }))
+    inside_as m tried a q e = runs_as (record s { attempt = Some (record a { inner = a.inner + 1 }) }) refl (deeper_from a (a.inner + 1) q) held ((fits (phases.Enter m tried) e).0, tt)
+
+    pub begins_as : (m tried noted : ℕ) (f : Frame) (below : List Frame) → x.frames ≡ f ∷ below → claim x m ≡ HasNot → was ≡ phases.Enter m tried → Goal (runs (record s { attempt = Some (begun_attempt m noted tried f below) }))
+    begins_as m tried noted f below there free e = by_left (nat_lt n x.cfg.steps)
       where
-        by_word : (y : Bool) → StaysStructured c was (if y then goes_after c.program (elided x) a else fails x b) → Goal (if y then goes_after c.program (elided x) a else fails x b)
-        by_word true stands = behind (elided x) refl refl (subst (λ (o : Option Attempt). AttemptFrom o None) (sym q) tt) held stands
-        by_word false stands = also (fails x b) (failed c frozen w next t was x k is_world b (fails x b) q refl refl refl)
-    finishes_as b q (suc inner) got stands =
-        behind (record x { attempt = Some (record b { inner = inner }) }) refl refl (subst (λ (o : Option Attempt). AttemptFrom o (Some (record b { inner = inner }))) (sym q) (refl, refl, refl)) held stands
+        a : Attempt
+        a = begun_attempt m noted tried f below
 
-    leaving_as : (got : ℕ) → StaysStructured c was (leave_moves c.program x m a (claim x m) got) → Goal (leave_moves c.program x m a (claim x m) got)
-    leaving_as got stands = by_held (held_at x.held m) refl x.attempt refl stands
+        none : x.attempt ≡ None
+        none = none_tried c m tried x.frames x.held (held_at x.held m) x.attempt free (within (phases.Enter m tried) e)
+
+        begin : (y : Thread) → y.frames ≡ x.frames → y.held ≡ x.held → y.attempt ≡ Some a → Moved c frozen w k.now next more t phases.Run y
+        begin y frames hs attempt = moved_more c frozen w k.now next more t phases.Run y is_world grows (begun c frozen w next t was x k is_world m tried a f below y e none there frames hs attempt refl refl refl)
+
+        by_left : (left : Bool) → Goal (record s { attempt = Some a; phase = if left then phases.Run else phases.Ending ends.Steps })
+        by_left true = begin (record s { attempt = Some a; phase = phases.Run }) refl refl refl
+        by_left false = begin (record s { attempt = Some a; phase = phases.Ending ends.Steps }) refl refl refl
+
+    pub takes_as : (m : ℕ) (kept : Kept) (phase : Phase) → Takes got m phase kept → IsAs phase was → Goal (takes s m kept)
+    takes_as m kept phase took e =
+        let h : Held = record { monitor = m; kept = kept; depth = 1 } in
+        let fit : Fits (phases.Acquire m) = takes_in (λ (phase : Phase). IsAs phase was → Fits (phases.Acquire m)) got m phase kept took (λ count e. fits (phases.Take m count) e) (λ r e. fits (phases.TakeFat m r) e) e in
+        runs_as (record s { held = with_held h s.held; counts = record s.counts { locked = s.counts.locked + 1 } }) refl (from_same x.attempt) (known_with w next t h x.held (back m fit.1) held) (fit.0, tt)
+
+    -- ---- exit
+
+    module _ (m : ℕ) (a : After) (fit : Fits (phases.Leave m a)) (shows : AfterShows c m a x.frames) where
+      behind : (y : Thread) → y.phase ≡ x.phase → y.frames ≡ x.frames → AttemptFrom x.attempt y.attempt → AreKnown w next t y.held → StaysStructured c was (goes_on_if y (after c.program x.frames a)) → Goal (goes_on_if y (after c.program x.frames a))
+      behind y phase frames from hs stands =
+          goes_if y (after c.program x.frames a) phase frames from hs stands (λ b onward some f. leaves_kept c.program x.frames b a onward f)
+          (goes_after_it c marked frozen are k.now next t now_is m a x.frames fit.1.1 fit.0 shows)
+
+    pub gives_up_as : (m : ℕ) (a : After) (phase : Phase) → GivesUp s m a phase → IsAs phase was → StaysStructured c was (lets_go c.program s m a) → Goal (lets_go c.program s m a)
+    gives_up_as m a phase up e stands =
+        let left : Fits (phases.Leave m a) × AfterShows c m a x.frames = gives_up_in (λ (phase : Phase). IsAs phase was → Fits (phases.Leave m a) × AfterShows c m a x.frames) s m a phase up
+            (λ e. (fits (phases.Leave m a) e, (at_phase (phases.Leave m a) e).phase_shows)) (λ e. (fits (phases.FlatOut m a) e, (at_phase (phases.FlatOut m a) e).phase_shows.toward_shows)) e in
+        behind m a left.0 left.1 (record s { held = without_held m s.held }) refl refl (from_same x.attempt) (known_without w next t m x.held held) stands
+
+    module _ (m : ℕ) (a : After) (e : was ≡ phases.Leave m a) where
+      left : (y : Thread) → y.phase ≡ x.phase → y.frames ≡ x.frames → AttemptFrom x.attempt y.attempt → AreKnown w next t y.held → StaysStructured c was (goes_on_if y (after c.program x.frames a)) → Goal (goes_on_if y (after c.program x.frames a))
+      left y = behind m a (fits (phases.Leave m a) e) (at_phase (phases.Leave m a) e).phase_shows y
+
+      pub outer_as : (h : Held) → held_at x.held m ≡ Some h → StaysStructured c was (goes_after c.program (record s { held = with_held (shallower h) s.held }) a) → Goal (goes_after c.program (record s { held = with_held (shallower h) s.held }) a)
+      outer_as h f stands = left (record s { held = with_held (shallower h) s.held }) refl refl (from_same x.attempt) (known_with w next t (shallower h) x.held (known_at w next t m x.held h held f) held) stands
+
+      pub inner_as : (b : Attempt) (inner : ℕ) → x.attempt ≡ Some b → StaysStructured c was (goes_after c.program (record s { attempt = Some (record b { inner = inner }) }) a) → Goal (goes_after c.program (record s { attempt = Some (record b { inner = inner }) }) a)
+      inner_as b inner q stands = left (record s { attempt = Some (record b { inner = inner }) }) refl refl (deeper_from b inner q) held stands
+
+      pub elided_as : (b : Attempt) → x.attempt ≡ Some b → StaysStructured c was (goes_after c.program (elided s) a) → Goal (goes_after c.program (elided s) a)
+      elided_as b q stands = left (elided s) refl refl (subst (λ (o : Option Attempt). AttemptFrom o None) (sym q) tt) held stands
+
+    -- ---- inflation and waiting
+
+    pub fattens_as : (m r : ℕ) (toward : Toward) (h : Held) → held_at x.held m ≡ Some h → was ≡ phases.FatIn m r toward → Goal (fattens s m r toward (Some h))
+    fattens_as m r toward h f e = by_toward toward (fits (phases.FatIn m r toward) e)
       where
-        by_depth : (h : Held) → held_at x.held m ≡ Some h → (y : Bool) → StaysStructured c was (if y then goes_after c.program (record x { held = with_held (shallower h) x.held }) a else released c.program x m a h.kept got)
-            → Goal (if y then goes_after c.program (record x { held = with_held (shallower h) x.held }) a else released c.program x m a h.kept got)
-        by_depth h f true stands = behind (record x { held = with_held (shallower h) x.held }) refl refl (from_same x.attempt) (known_with w next t (shallower h) x.held (known_at w next t m x.held h held f) held) stands
-        by_depth h f false stands = released_as h.kept got stands
+        own : IsOwnOrFinished w next t h.monitor
+        own = known_at w next t m x.held h held f
 
-        by_monitor : (b : Attempt) → x.attempt ≡ Some b → (y : Bool) → StaysStructured c was (leave_moves c.program x m a (if y then Tries b else HasNot) got) → Goal (leave_moves c.program x m a (if y then Tries b else HasNot) got)
-        by_monitor b q true stands = finishes_as b q b.inner got stands
-        by_monitor b q false stands = unmoved
+        by_toward : (toward : Toward) → Fits (phases.FatIn m r toward) → Goal (fattens s m r toward (Some h))
+        by_toward (towards.Leave a) fit = to (phases.Leave m a) (fattens s m r (towards.Leave a) (Some h)) refl (from_same x.attempt) (known_with w next t (record h { kept = keeps.Fat r }) x.held own held) fit
+        by_toward towards.Wait fit = to (phases.WaitBit m r) (fattens s m r towards.Wait (Some h)) refl (from_same x.attempt) (known_with w next t (record h { kept = keeps.Fat r }) x.held own held) (fit.0, fit.1.0)
 
-        by_held : (o : Option Held) → held_at x.held m ≡ o → (p : Option Attempt) → x.attempt ≡ p → StaysStructured c was (leave_moves c.program x m a (claim_by m o p) got) → Goal (leave_moves c.program x m a (claim_by m o p) got)
-        by_held (Some h) f p q stands = by_depth h f (nat_lt 1 h.depth) stands
-        by_held None f None q stands = unmoved
-        by_held None f (Some b) q stands = by_monitor b q (b.monitor == m) stands
+    pub waits_as : (m r : ℕ) (h : Held) → was ≡ phases.WaitOut m r → Goal (goes_to_wait s m r (Some h))
+    waits_as m r h e = to (phases.WaitLook m r h.depth) (goes_to_wait s m r (Some h)) refl (from_same x.attempt) (known_without w next t m x.held held) (fits (phases.WaitOut m r) e)
 
-  pub leave_as : (m : ℕ) (a : After) (got : ℕ) → was ≡ phases.Leave m a → StaysStructured c was (leave_moves c.program x m a (claim x m) got) → Goal (leave_moves c.program x m a (claim x m) got)
-  leave_as m a got e stands = leaving_as m a (fits (phases.Leave m a) e) (at (phases.Leave m a) e).phase_shows got stands
-
-  pub flat_out_as : (m : ℕ) (a : After) → was ≡ phases.FlatOut m a → StaysStructured c was (lets_go c.program x m a) → Goal (lets_go c.program x m a)
-  flat_out_as m a e stands = lets_as m a (fits (phases.FlatOut m a) e) (at (phases.FlatOut m a) e).phase_shows.toward_shows stands
-
-  -- ---- inflation
-
-  pub grow_as : (m : ℕ) (toward : Toward) (got : ℕ) → was ≡ phases.Grow m toward → Goal (if nat_lt got MONITOR_RECORDS then with_phase x (phases.Own m got toward) else grows_not x m toward)
-  grow_as m toward got e = by_records (nat_lt got MONITOR_RECORDS)
-    where
-      not_grown : (toward : Toward) → Fits (phases.Grow m toward) → was ≡ phases.Grow m toward → Goal (grows_not x m toward)
-      not_grown (towards.Leave a) fit e = changed (phases.FlatOut m a) fit
-      not_grown towards.Wait fit e = to was (with_phase x (phases.Ending ends.Records)) refl (from_same x.attempt) held (k.frames, k.phase)
-
-      by_records : (b : Bool) → Goal (if b then with_phase x (phases.Own m got toward) else grows_not x m toward)
-      by_records true = changed (phases.Own m got toward) (fits (phases.Grow m toward) e)
-      by_records false = not_grown toward (fits (phases.Grow m toward) e) e
-
-  pub own_as : (m r : ℕ) (toward : Toward) → was ≡ phases.Own m r toward → Goal (with_phase x (phases.FatIn m r toward))
-  own_as m r toward e = changed (phases.FatIn m r toward) (fits (phases.Own m r toward) e)
-
-  pub fat_in_as : (m r : ℕ) (toward : Toward) → was ≡ phases.FatIn m r toward → Goal (fattens x m r toward (held_at x.held m))
-  fat_in_as m r toward e = by_held (held_at x.held m) refl
-    where
-      by_toward : (h : Held) → IsOwnOrFinished w next t h.monitor → (toward : Toward) → Fits (phases.FatIn m r toward) → Goal (fattens x m r toward (Some h))
-      by_toward h own (towards.Leave a) fit = to (phases.Leave m a) (record x { held = with_held (record h { kept = keeps.Fat r }) x.held; counts = record x.counts { inflated = x.counts.inflated + 1 }; phase = phases.Leave m a })
-          refl (from_same x.attempt) (known_with w next t (record h { kept = keeps.Fat r }) x.held own held) fit
-      by_toward h own towards.Wait fit = to (phases.WaitBit m r) (record x { held = with_held (record h { kept = keeps.Fat r }) x.held; counts = record x.counts { inflated = x.counts.inflated + 1 }; phase = phases.WaitBit m r })
-          refl (from_same x.attempt) (known_with w next t (record h { kept = keeps.Fat r }) x.held own held) (fit.0, fit.1.0)
-
-      by_held : (o : Option Held) → held_at x.held m ≡ o → Goal (fattens x m r toward o)
-      by_held None f = unmoved
-      by_held (Some h) f = by_toward h (known_at w next t m x.held h held f) toward (fits (phases.FatIn m r toward) e)
-
-  -- ---- waiting
-
-  pub wait_bit_as : (m r : ℕ) → was ≡ phases.WaitBit m r → Goal (with_phase x (phases.WaitOut m r))
-  wait_bit_as m r e = changed (phases.WaitOut m r) (fits (phases.WaitBit m r) e)
-
-  pub wait_out_as : (m r : ℕ) → was ≡ phases.WaitOut m r → Goal (goes_to_wait x m r (held_at x.held m))
-  wait_out_as m r e = by_held (held_at x.held m)
-    where
-      by_held : (o : Option Held) → Goal (goes_to_wait x m r o)
-      by_held None = unmoved
-      by_held (Some h) = to (phases.WaitLook m r h.depth) (record x { held = without_held m x.held; phase = phases.WaitLook m r h.depth }) refl (from_same x.attempt) (known_without w next t m x.held held) (fits (phases.WaitOut m r) e)
-
-  pub wait_look_as : (m r depth : ℕ) (b : Bool) → was ≡ phases.WaitLook m r depth → Goal (if b then failed_turn x (phases.WaitLook m r depth) else with_phase x (phases.Retake m r depth))
-  wait_look_as m r depth true e = let fit = fits (phases.WaitLook m r depth) e in turns_as (phases.WaitLook m r depth) fit (turned (phases.WaitLook m r depth) e fit)
-  wait_look_as m r depth false e = changed (phases.Retake m r depth) (fits (phases.WaitLook m r depth) e)
-
-  pub retake_as : (m r depth : ℕ) (b : Bool) → was ≡ phases.Retake m r depth → Goal (if b then retakes x m r depth else failed_turn x (phases.Retake m r depth))
-  retake_as m r depth true e =
-      let fit = fits (phases.Retake m r depth) e in
-      let h : Held = record { monitor = m; kept = keeps.Fat r; depth = depth } in
-      runs_as (record x { held = with_held h x.held }) refl (from_same x.attempt) (known_with w next t h x.held (back m fit.1) held) (fit.0, tt)
-  retake_as m r depth false e = let fit = fits (phases.Retake m r depth) e in turns_as (phases.Retake m r depth) fit (turned (phases.Retake m r depth) e fit)
-
-  pub notify_look_as : (m r got : ℕ) (b : Bool) → was ≡ phases.NotifyLook m r → Goal (if b then runs x else with_phase x (phases.NotifyOne m r (lowest_of got)))
-  notify_look_as m r got true e = runs_as x refl (from_same x.attempt) held ((fits (phases.NotifyLook m r) e).0, tt)
-  notify_look_as m r got false e = changed (phases.NotifyOne m r (lowest_of got)) (fits (phases.NotifyLook m r) e)
-
-  pub notify_one_as : (m r u : ℕ) → was ≡ phases.NotifyOne m r u → Goal (runs x)
-  notify_one_as m r u e = runs_as x refl (from_same x.attempt) held ((fits (phases.NotifyOne m r u) e).0, tt)
-
-  pub notify_all_as : (m r : ℕ) → was ≡ phases.NotifyAll m r → Goal (runs x)
-  notify_all_as m r e = runs_as x refl (from_same x.attempt) held ((fits (phases.NotifyAll m r) e).0, tt)
-
-  -- ---- the end of a part
-
-  pub ending_as : (e : End) → IsLimitAt e (phases.Ending e) was → Goal (with_phase x (phases.Ended e))
-  ending_as ends.Steps l = to was (with_phase x (phases.Ended ends.Steps)) refl (from_same x.attempt) held (k.frames, k.phase)
-  ending_as ends.Prints l = to was (with_phase x (phases.Ended ends.Prints)) refl (from_same x.attempt) held (k.frames, k.phase)
-  ending_as ends.Turns l = to was (with_phase x (phases.Ended ends.Turns)) refl (from_same x.attempt) held (k.frames, k.phase)
-  ending_as ends.Records l = to was (with_phase x (phases.Ended ends.Records)) refl (from_same x.attempt) held (k.frames, k.phase)
-  ending_as e l = changed (phases.Ended e) (fits (phases.Ending e) l)
+    pub retakes_as : (m r depth : ℕ) → was ≡ phases.Retake m r depth → Goal (retakes s m r depth)
+    retakes_as m r depth e =
+        let fit = fits (phases.Retake m r depth) e in
+        let h : Held = record { monitor = m; kept = keeps.Fat r; depth = depth } in
+        runs_as (record s { held = with_held h s.held }) refl (from_same x.attempt) (known_with w next t h x.held (back m fit.1) held) (fit.0, tt)

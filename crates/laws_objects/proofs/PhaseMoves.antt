@@ -1,9 +1,9 @@
 -- Each event of a thread keeps what construction says of it.
 use Rattle.std.proofs.Common.{◌≡◌, ℕ, ◌+◌, ◌≤◌, Bool, true, false, List, [], ◌∷◌, length, Option, Some, None, refl, sym, ap, ◌∙◌, subst, arith}
-use Rattle.std.specs.Prelude.{◌==◌, drop, slice_index, if◌then◌else◌}
-use Rattle.std.specs.List.{AllZip}
+use Rattle.std.specs.Prelude.{drop, slice_index, if◌then◌else◌, IsTrue}
+use Rattle.std.specs.List.{AllZip, AllByRecursion}
 use Rattle.jvm_types.specs.Members.{is_static}
-use Rattle.jvm_types.specs.Numbers.{has_flag}
+use Rattle.jvm_types.specs.Numbers.{has_number}
 use Rattle.jvm_types.specs.ProgramInvariant.{words_of}
 use Rattle.jvm_types.specs.Types.{TypeFrame}
 use Rattle.jvm_types.specs.declared.fixed_words.TheConstants.{NEXT_FREE_WORD}
@@ -15,14 +15,12 @@ use Rattle.jvm_types.specs.declared.program.Target.{Target}
 use Rattle.laws_programs.proofs.ClassTreeLaws.{files_alone}
 use Rattle.checked_program.specs.MarkedProgram.{MarkedProgram, IsMarked}
 use Rattle.machine_types.specs.Accesses.{found_by, words_after}
-use Rattle.machine_types.specs.Bounds.{IsRooted}
+use Rattle.machine_types.specs.Bounds.{IsRooted, part_roots}
 use Rattle.machine_types.specs.Construction.{AreFrozen, Runs, FrameKeeps, KeepBelow, FramesKeep, ThreadKeeps, KindKeeps, PlacesKeep}
 use Rattle.machine_types.specs.Core.{Core}
-use Rattle.machine_types.specs.Elision.{may_try}
 use Rattle.machine_types.specs.Events.{element_made, moved}
-use Rattle.machine_types.specs.Frames.{Top, top_of, effect_at}
-use Rattle.machine_types.specs.Instructions.{effect_wants, run_wants, ran}
-use Rattle.machine_types.specs.Monitors.{bit_of}
+use Rattle.machine_types.specs.Frames.{Top, top_of, effect_at, went_on, making}
+use Rattle.machine_types.specs.Instructions.{effect_wants, run_wants, printed}
 use Rattle.machine_types.specs.PlainMemory.{Object}
 use Rattle.machine_types.specs.Standing.{Standing, row_at}
 use Rattle.machine_types.specs.Structure.{IsStructured, IsAs, Stands, AttemptStandsIn}
@@ -31,7 +29,7 @@ use Rattle.machine_types.specs.Typed.{Classes, Holds, FrameHolds, FramesHold, Ha
 use Rattle.machine_types.specs.Words.{value_word, variable_word}
 use Rattle.machine_types.specs.Worlds.{World, IsFinished, IsWorld}
 use Rattle.machine_types.specs.declared.effect.Effect.{Effect}
-use Rattle.machine_types.specs.declared.effect.Effect.TheVariants.{Reads, Makes}
+use Rattle.machine_types.specs.declared.effect.Effect.TheVariants.{Reads, Makes, Prints, Waits}
 use Rattle.machine_types.specs.declared.effect.Variable.{Variable}
 use Rattle.machine_types.specs.declared.effect.Variable.TheVariants.{Instance, Static}
 use Rattle.machine_types.specs.declared.phase.Phase.{Phase}
@@ -47,14 +45,19 @@ use Rattle.laws_threads.proofs.Landing.{stand_top}
 use Rattle.laws_threads.proofs.TopEffects.{allowed_here}
 use Rattle.laws_threads.proofs.TopStand.{top_here}
 use Rattle.laws_objects.proofs.BuiltEffects.{KindOld}
-use Rattle.laws_objects.proofs.InstructionMoves.{Gets, instruction_moves}
-use Rattle.laws_objects.proofs.MonitorMoves.{fits, unmoved, throws_as, element_as, made_as, acquire_as, enters_as, take_as, flag_as, take_fat_as, leave_as, flat_out_as, grow_as, own_as, fat_in_as, wait_bit_as, wait_out_as, wait_look_as, retake_as, notify_look_as, notify_one_as, notify_all_as, ending_as}
+use Rattle.laws_objects.proofs.InstructionMoves.{Gets, KnownTop, known_top, by_top, does_as, refuses_as, nobody_as, prints_as, makes_as, waits_as, asks_as}
+use Rattle.laws_objects.proofs.MonitorMoves.{fits, stays_as, fails_as, throws_as, element_as, made_as, notified_as, leads_as, turned_as, again_as, inside_as, begins_as, takes_as, gives_up_as, outer_as, inner_as, elided_as, fattens_as, waits_as as waits_in, retakes_as}
 use Rattle.laws_objects.proofs.Onwards.{FoundOld}
 use Rattle.laws_objects.proofs.RootMoves.{starts_as}
 use Rattle.laws_objects.proofs.ThreadMoves.{Moved, now_world}
 use Rattle.laws_objects.proofs.WorldChanges.{none_some}
+use Rattle.machine_types.specs.Going.{goes_on}
+use Rattle.machine_types.specs.HeldMonitors.{held_at}
+use Rattle.machine_types.specs.Onward.{Onward, Running, threw, done}
+use Rattle.laws_threads.proofs.ThreadMove.{GoesBy, Refuses, IsNotify, Move, becomes, counting, any_move, tried_attempt}
+use Rattle.laws_threads.proofs.ThreadMove as moves
 
--- ---- every phase but Run
+-- ---- all moves
 
 module _ (c : MarkedProgram) (marked : IsMarked c) (frozen : ℕ → Bool) (are : AreFrozen c frozen) (w : World) (next more t : ℕ) (was : Phase) (x : Thread) (k : ThreadKeeps c frozen w next t was x) (is_world : IsWorld w (words_of c.program) next) (grows : next ≤ more) (stood : IsStructured c was x)
     (rooted : IsRooted c.program x) (got : ℕ) where
@@ -70,34 +73,60 @@ module _ (c : MarkedProgram) (marked : IsMarked c) (frozen : ℕ → Bool) (are 
           (subst (λ (o : Option Attempt). AttemptStandsIn c (phases.Element word stored) x.frames x.held o) q (subst (λ (p : Phase). AttemptStandsIn c p x.frames x.held x.attempt) e stood.attempt))
           (subst (λ (o : Option Attempt). Stands c (phases.Element word stored) x.frames x.held o) q (subst (λ (p : Phase). Stands c p x.frames x.held x.attempt) e stood.stands)))
 
-  pub by_phase : (x.phase ≡ phases.Run → was ≡ phases.Run → StaysStructured c was (moved c x phases.Run got) → Keeps (moved c x phases.Run got)) → (phase : Phase) → x.phase ≡ phase → IsAs phase was → StaysStructured c was (moved c x phase got) → Keeps (moved c x phase got)
-  by_phase run phases.Start here e stands = starts_as c marked frozen are w next more t was x k is_world grows stood x.roots rooted.roots e stands
-  by_phase run phases.Run here e stands = run here e stands
-  by_phase run (phases.Element word stored) here e stands = element_as c marked frozen are w next more t was x k is_world grows stood word stored (element_made stored got) e (no_element word stored e) stands
-  by_phase run (phases.Made a word) here e stands = made_as c marked frozen are w next more t was x k is_world grows stood a word e stands
-  by_phase run (phases.Throw v class) here e stands = throws_as c marked frozen are w next more t was x k is_world grows stood v class got e stands
-  by_phase run (phases.Enter m tried) here e stands = enters_as c marked frozen are w next more t was x k is_world grows stood m tried (may_try c x tried) got e
-  by_phase run (phases.Acquire m) here e stands = acquire_as c marked frozen are w next more t was x k is_world grows stood m got e
-  by_phase run (phases.Take m count) here e stands = take_as c marked frozen are w next more t was x k is_world grows stood m count got e
-  by_phase run (phases.Flag m u) here e stands = flag_as c marked frozen are w next more t was x k is_world grows stood m u e
-  by_phase run (phases.TakeFat m r) here e stands = take_fat_as c marked frozen are w next more t was x k is_world grows stood m r got e
-  by_phase run (phases.Leave m a) here e stands = leave_as c marked frozen are w next more t was x k is_world grows stood m a got e stands
-  by_phase run (phases.Grow m toward) here e stands = grow_as c marked frozen are w next more t was x k is_world grows stood m toward got e
-  by_phase run (phases.FlatOut m a) here e stands = flat_out_as c marked frozen are w next more t was x k is_world grows stood m a e stands
-  by_phase run (phases.Own m r toward) here e stands = own_as c marked frozen are w next more t was x k is_world grows stood m r toward e
-  by_phase run (phases.FatIn m r toward) here e stands = fat_in_as c marked frozen are w next more t was x k is_world grows stood m r toward e
-  by_phase run (phases.WaitBit m r) here e stands = wait_bit_as c marked frozen are w next more t was x k is_world grows stood m r e
-  by_phase run (phases.WaitOut m r) here e stands = wait_out_as c marked frozen are w next more t was x k is_world grows stood m r e
-  by_phase run (phases.WaitLook m r depth) here e stands = wait_look_as c marked frozen are w next more t was x k is_world grows stood m r depth (has_flag (bit_of x.number) got) e
-  by_phase run (phases.Retake m r depth) here e stands = retake_as c marked frozen are w next more t was x k is_world grows stood m r depth (got == 0) e
-  by_phase run (phases.NotifyLook m r) here e stands = notify_look_as c marked frozen are w next more t was x k is_world grows stood m r got (got == 0) e
-  by_phase run (phases.NotifyOne m r u) here e stands = notify_one_as c marked frozen are w next more t was x k is_world grows stood m r u e
-  by_phase run (phases.NotifyAll m r) here e stands = notify_all_as c marked frozen are w next more t was x k is_world grows stood m r e
-  by_phase run (phases.Ending reason) here e stands = ending_as c marked frozen are w next more t was x k is_world grows stood reason e
-  by_phase run (phases.Ended reason) here e stands = unmoved c marked frozen are w next more t was x k is_world grows stood
-  by_phase run phases.Idle here e stands = unmoved c marked frozen are w next more t was x k is_world grows stood
+  module _ (is : Classes) (n : ℕ) (known : x.phase ≡ phases.Run → was ≡ phases.Run → (at : Top) → top_of c.program x.frames ≡ Some at → KnownTop c marked frozen are is w next more t was x k is_world grows stood got) where
+    abbrev s : Thread
+    s = counting n x
 
--- ---- Run
+    -- at an instruction
+    at_top : (P : Top → Type 0) → x.phase ≡ phases.Run → was ≡ phases.Run → ((a : KnownTop c marked frozen are is w next more t was x k is_world grows stood got) → P (known_top c marked frozen are is w next more t was x k is_world grows stood got a)) → (at : Top) → top_of c.program x.frames ≡ Some at → P at
+    at_top P here e h at found = by_top c marked frozen are is w next more t was x k is_world grows stood P got h (known here e at found) at found
+
+    goes_keep : (phase : Phase) (o : Onward) → GoesBy c.program s got phase o → x.phase ≡ phase → IsAs phase was → StaysStructured c was (goes_on s o) → Keeps (goes_on s o)
+    goes_keep _ o (moves.by_effect at f _ found same silent d) here e stands =
+        at_top (λ at. effect_at c.program at ≡ f → done c.program at f got ≡ Some o → StaysStructured c was (goes_on s o) → Keeps (goes_on s o)) here e (λ a. does_as c marked frozen are is w next more t was x k is_world grows stood e n got a f o) at found same d stands
+    goes_keep _ _ (moves.by_machine at class found why) here e stands =
+        at_top (λ at. Refuses c.program at class → StaysStructured c was (goes_on s (threw class at)) → Keeps (goes_on s (threw class at))) here e (λ a. refuses_as c marked frozen are is w next more t was x k is_world grows stood e n got a class) at found why stands
+    goes_keep _ _ (moves.by_nobody at m count h found y there l) here e stands =
+        at_top (λ at. IsNotify c.program at m → StaysStructured c was (goes_on s (Running (went_on c.program at 0))) → Keeps (goes_on s (Running (went_on c.program at 0)))) here e (λ a. nobody_as c marked frozen are is w next more t was x k is_world grows stood e n got a m) at found y stands
+    goes_keep _ _ (moves.by_element word stored at found) here e stands = element_as c marked frozen are w next more t was x k is_world grows stood n got word stored (element_made stored got) at found e (no_element word stored e) stands
+    goes_keep _ _ (moves.by_object a word) here e stands = made_as c marked frozen are w next more t was x k is_world grows stood n got a word e stands
+    goes_keep _ _ (moves.by_handler v class at found) here e stands = throws_as c marked frozen are w next more t was x k is_world grows stood n got v class at found e stands
+    goes_keep _ _ (moves.by_none m r f) here e stands = notified_as c marked frozen are w next more t was x k is_world grows stood n got (phases.NotifyLook m r) e (λ fit. (fit.0, tt))
+    goes_keep _ _ (moves.by_one m r u) here e stands = notified_as c marked frozen are w next more t was x k is_world grows stood n got (phases.NotifyOne m r u) e (λ fit. (fit.0, tt))
+    goes_keep _ _ (moves.by_all m r) here e stands = notified_as c marked frozen are w next more t was x k is_world grows stood n got (phases.NotifyAll m r) e (λ fit. (fit.0, tt))
+
+    move_keeps : (phase : Phase) (m : Move c s got phase) → x.phase ≡ phase → IsAs phase was → StaysStructured c was (becomes c s got phase m) → Keeps (becomes c s got phase m)
+    move_keeps phase (moves.stays l) here e stands = stays_as c marked frozen are w next more t was x k is_world grows stood n got
+    move_keeps phase (moves.goes o l) here e stands = goes_keep phase o l here e stands
+    move_keeps phase (moves.fails_in a f d l) here e stands = fails_as c marked frozen are w next more t was x k is_world grows stood n got a f
+    move_keeps phase (moves.leads now l) here e stands = leads_as c marked frozen are w next more t was x k is_world grows stood n got phase now l e
+    move_keeps phase (moves.turns now l) here e stands = turned_as c marked frozen are w next more t was x k is_world grows stood n got phase now l e
+    move_keeps _ (moves.makes at word size found f l) here e stands =
+        at_top (λ at. effect_at c.program at ≡ Makes word size → Keeps (record s { frames = making c.program at; phase = phases.Made got word })) here e (λ a. makes_as c marked frozen are is w next more t was x k is_world grows stood e n got a word size) at found f
+    move_keeps _ (moves.prints at v found f l) here e stands =
+        at_top (λ at. effect_at c.program at ≡ Prints v → StaysStructured c was (goes_on (printed s got v) (Running (went_on c.program at 0))) → Keeps (goes_on (printed s got v) (Running (went_on c.program at 0)))) here e (λ a. prints_as c marked frozen are is w next more t was x k is_world grows stood e n got a v) at found f stands
+    move_keeps _ (moves.asks_to_wait at m h now found f l q) here e stands =
+        at_top (λ at. effect_at c.program at ≡ Waits m → Keeps (record s { frames = went_on c.program at 0; phase = now; turns = 0 })) here e (λ a same. waits_as c marked frozen are is w next more t was x k is_world grows stood e n got a m h.kept now same q) at found f
+    move_keeps _ (moves.asks at m h now found y l q) here e stands =
+        at_top (λ at. IsNotify c.program at m → Keeps (record s { frames = went_on c.program at 0; phase = now })) here e (λ a y. asks_as c marked frozen are is w next more t was x k is_world grows stood e n got a m h.kept now y q) at found y
+    move_keeps _ (moves.enters_again m tried h f) here e stands = again_as c marked frozen are w next more t was x k is_world grows stood n got m tried h f e
+    move_keeps _ (moves.enters_inside m tried a f) here e stands = inside_as c marked frozen are w next more t was x k is_world grows stood n got m tried a (tried_attempt m (held_at x.held m) x.attempt a f) e
+    move_keeps _ (moves.begins_to_try m tried noted f below there may l fits free) here e stands = begins_as c marked frozen are w next more t was x k is_world grows stood n got m tried noted f below there free e
+    move_keeps phase (moves.takes_lock m kept l) here e stands = takes_as c marked frozen are w next more t was x k is_world grows stood n got m kept phase l e
+    move_keeps phase (moves.gives_up m a l) here e stands = gives_up_as c marked frozen are w next more t was x k is_world grows stood n got m a phase l e stands
+    move_keeps _ (moves.leaves_outer m a h f l) here e stands = outer_as c marked frozen are w next more t was x k is_world grows stood n got m a e h f stands
+    move_keeps _ (moves.leaves_inside m a b inner f l) here e stands = inner_as c marked frozen are w next more t was x k is_world grows stood n got m a e b inner (tried_attempt m (held_at x.held m) x.attempt b f) stands
+    move_keeps _ (moves.finishes_try m a b f l y) here e stands = elided_as c marked frozen are w next more t was x k is_world grows stood n got m a e b (tried_attempt m (held_at x.held m) x.attempt b f) stands
+    move_keeps _ (moves.fattens_lock m r toward h f) here e stands = fattens_as c marked frozen are w next more t was x k is_world grows stood n got m r toward h f e
+    move_keeps _ (moves.gives_up_to_wait m r h f) here e stands = waits_in c marked frozen are w next more t was x k is_world grows stood n got m r h e
+    move_keeps _ (moves.retakes_lock m r depth f) here e stands = retakes_as c marked frozen are w next more t was x k is_world grows stood n got m r depth e
+    move_keeps _ (moves.starts number roots f) here e stands = starts_as c marked frozen are w next more t was x k is_world grows stood n roots number (subst (AllByRecursion (λ (number : ℕ). IsTrue (has_number (part_roots c.program x.number x.part) number))) f rooted.roots) e stands
+
+  -- where the frame at the top is known if an instruction begins
+  pub moves_keep : (is : Classes) → (x.phase ≡ phases.Run → was ≡ phases.Run → (at : Top) → top_of c.program x.frames ≡ Some at → KnownTop c marked frozen are is w next more t was x k is_world grows stood got) → StaysStructured c was (moved c x x.phase got) → Keeps (moved c x x.phase got)
+  moves_keep is known = any_move (λ (y : Thread). StaysStructured c was y → Keeps y) c x x.phase got (λ n m. move_keeps is n known x.phase m refl stood.is_as)
+
+-- ---- the frame at the top
 
 -- as the frame stands in another proof of its place
 pub restands : (c : MarkedProgram) → IsMarked c → (is : Classes) (f : Frame) (h : FrameHolds c is 0 f) (k : Standing c f) → (l : FrameHolds c is 0 f) × (l.stands ≡ k)
@@ -152,24 +181,19 @@ module _ (c : MarkedProgram) (marked : IsMarked c) (frozen : ℕ → Bool) (are 
       found (Reads v) = λ g named. field_found kf.stands.target v g named
       found e = tt
 
-      gets : (e : Effect) → more ≡ slice_index (words_after s.words (effect_wants x f.pc e)) NEXT_FREE_WORD
-          → Gets c marked frozen are (HasClass objects) w (slice_index s.words NEXT_FREE_WORD) more t was x k is_world grows stood is_run here f fs there kf b e (found_by s.words (effect_wants x f.pc e))
-      gets (Makes word size) is = (refl, is ∙ set_here s.words NEXT_FREE_WORD (slice_index s.words NEXT_FREE_WORD + size) (omega (arith, facts.unused.many, marked.checked.program.heap_from)))
-      gets e is = tt
+      known_here : more ≡ slice_index (words_after s.words (run_wants c.program x (Some at))) NEXT_FREE_WORD → KnownTop c marked frozen are (HasClass objects) w next more t was x k is_world grows stood (found_by s.words (run_wants c.program x (Some at)))
+      known_here is = record { frame = f; below = fs; there = there; keeps = kf; waits = b; allowed = allowed; found = found (effect_at c.program at); gets = gets (effect_at c.program at) is }
+        where
+          gets : (e : Effect) → more ≡ slice_index (words_after s.words (effect_wants x f.pc e)) NEXT_FREE_WORD → Gets next more e (found_by s.words (effect_wants x f.pc e))
+          gets (Makes word size) is = (refl, is ∙ set_here s.words NEXT_FREE_WORD (slice_index s.words NEXT_FREE_WORD + size) (omega (arith, facts.unused.many, marked.checked.program.heap_from)))
+          gets e is = tt
 
-      top_moves : more ≡ slice_index (words_after s.words (run_wants c.program x (Some at))) NEXT_FREE_WORD → StaysStructured c was (ran c.program x (Some at) (found_by s.words (run_wants c.program x (Some at))))
-          → Moved c frozen w k.now (slice_index s.words NEXT_FREE_WORD) more t (counted_by was (ran c.program x (Some at) (found_by s.words (run_wants c.program x (Some at)))).phase) (ran c.program x (Some at) (found_by s.words (run_wants c.program x (Some at))))
-      top_moves is stands =
-          instruction_moves c marked frozen are (HasClass objects) w (slice_index s.words NEXT_FREE_WORD) more t was x k is_world grows stood is_run here f fs there kf b (found_by s.words (run_wants c.program x (Some at)))
-          allowed (found (effect_at c.program at)) (gets (effect_at c.program at) is) stands
+    abbrev KnownAt : Option Top → Type 0
+    KnownAt o = more ≡ slice_index (words_after s.words (run_wants c.program x o)) NEXT_FREE_WORD → KnownTop c marked frozen are (HasClass objects) w next more t was x k is_world grows stood (found_by s.words (run_wants c.program x o))
 
-    abbrev RunKeeps : Option Top → Type 0
-    RunKeeps o = more ≡ slice_index (words_after s.words (run_wants c.program x o)) NEXT_FREE_WORD → StaysStructured c was (ran c.program x o (found_by s.words (run_wants c.program x o)))
-        → Moved c frozen w k.now (slice_index s.words NEXT_FREE_WORD) more t (counted_by was (ran c.program x o (found_by s.words (run_wants c.program x o))).phase) (ran c.program x o (found_by s.words (run_wants c.program x o)))
+    by_frames : (fs : List Frame) → x.frames ≡ fs → FramesKeep c frozen k.now next t Runs fs → FramesHold c (HasClass objects) fs → (at : Top) → top_of c.program fs ≡ Some at → KnownAt (top_of c.program fs)
+    by_frames [] there kept h at found = absurd (cc)
+    by_frames (f ∷ fs) there kept h at found = subst KnownAt (sym (stand_top c marked f fs kept.0.stands)) (known_here f fs there kept.0 kept.1 h.0)
 
-    by_frames : (fs : List Frame) → x.frames ≡ fs → FramesKeep c frozen k.now (slice_index s.words NEXT_FREE_WORD) t Runs fs → FramesHold c (HasClass objects) fs → RunKeeps (top_of c.program fs)
-    by_frames [] there kept h is stands = unmoved c marked frozen are w (slice_index s.words NEXT_FREE_WORD) more t was x k is_world grows stood
-    by_frames (f ∷ fs) there kept h is stands = subst RunKeeps (sym (stand_top c marked f fs kept.0.stands)) (top_moves f fs there kept.0 kept.1 h.0) is stands
-
-    pub run_moves : FramesHold c (HasClass objects) x.frames → RunKeeps (top_of c.program x.frames)
-    run_moves h = by_frames x.frames refl (fits c marked frozen are w (slice_index s.words NEXT_FREE_WORD) more t was x k is_world grows stood phases.Run is_run).0 h
+    pub run_known : FramesHold c (HasClass objects) x.frames → (at : Top) → top_of c.program x.frames ≡ Some at → KnownAt (top_of c.program x.frames)
+    run_known h at found = by_frames x.frames refl (fits c marked frozen are w next more t was x k is_world grows stood phases.Run is_run).0 h at found

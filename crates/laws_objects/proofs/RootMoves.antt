@@ -29,10 +29,11 @@ use Rattle.machine_types.specs.declared.phase.Phase.{Phase}
 use Rattle.machine_types.specs.declared.phase.Phase.TheVariants as phases
 use Rattle.laws_threads.specs.StructureLaws.{StaysStructured}
 use Rattle.laws_programs.specs.EntryLaws.{receiver_count}
-use Rattle.laws_threads.proofs.Roots.{Numbered, IsSomeRoot, part_root, numbered}
+use Rattle.laws_threads.proofs.ThreadMove.{counting}
+use Rattle.laws_threads.proofs.Roots.{IsSomeRoot, part_root, numbered}
 use Rattle.laws_objects.proofs.Calling.{not_built}
 use Rattle.laws_objects.proofs.EnteredFrames.{ArgsOld, static_enters}
-use Rattle.laws_objects.proofs.MonitorMoves.{Goal, none_in, held, unmoved, goes_if, never}
+use Rattle.laws_objects.proofs.MonitorMoves.{Goal, none_in, held, goes_if, never}
 use Rattle.laws_objects.proofs.Moves.{stays}
 use Rattle.laws_objects.proofs.Onwards.{OnwardKeeps, IfKeeps, null}
 use Rattle.laws_objects.proofs.ThreadMoves.{from_same, now_world}
@@ -105,11 +106,10 @@ module _ (c : MarkedProgram) (marked : IsMarked c) (frozen : ℕ → Bool) (are 
 -- ---- a part begins with them
 
 module _ (c : MarkedProgram) (marked : IsMarked c) (frozen : ℕ → Bool) (are : AreFrozen c frozen) (w : World) (next more t : ℕ) (was : Phase) (x : Thread) (k : ThreadKeeps c frozen w next t was x) (is_world : IsWorld w (words_of c.program) next) (grows : next ≤ more) (stood : IsStructured c was x) where
-  pub starts_as : (roots : List ℕ) → AllByRecursion (λ (number : ℕ). IsTrue (has_number (part_roots c.program x.number x.part) number)) roots → was ≡ phases.Start → StaysStructured c was (thread_started c.program x roots)
-      → Goal c marked frozen are w next more t was x k is_world grows stood (thread_started c.program x roots)
-  starts_as [] all e stands = unmoved c marked frozen are w next more t was x k is_world grows stood
-  starts_as (number ∷ roots) all e stands =
+  pub starts_as : (n : ℕ) (roots : List ℕ) (number : ℕ) → AllByRecursion (λ (number : ℕ). IsTrue (has_number (part_roots c.program x.number x.part) number)) (number ∷ roots) → was ≡ phases.Start → StaysStructured c was (thread_started c.program (counting n x) (number ∷ roots))
+      → Goal c marked frozen are w next more t was x k is_world grows stood (thread_started c.program (counting n x) (number ∷ roots))
+  starts_as n roots number all e stands =
       let o = option_map (rooted c.program x.number number) (slice_get c.program.methods number) in
-      goes_if c marked frozen are w next more t was x k is_world grows stood (record x { roots = roots }) o refl refl (from_same x.attempt) (held c marked frozen are w next more t was x k is_world grows stood) stands
+      goes_if c marked frozen are w next more t was x k is_world grows stood (record x { roots = roots; counts = record x.counts { instructions = n } }) o refl refl (from_same x.attempt) (held c marked frozen are w next more t was x k is_world grows stood) stands
       (never c marked frozen are w next more t was x k is_world grows stood o (none_in c marked frozen are w next more t was x k is_world grows stood phases.Start (λ m q. q) e))
       (root_if c marked frozen are k.now next t (now_world c frozen w next t was x k is_world) x.number x.part number all.0)
