@@ -7,7 +7,7 @@ use Rattle.checked_program.specs.FrozenPlaces.{IsFrozenClass}
 use Rattle.checked_program.specs.MarkedProgram.{MarkedProgram, IsMarked}
 use Rattle.machine_types.specs.Accesses.{found_by, words_after}
 use Rattle.machine_types.specs.Construction.{AreFrozen, Construction, ThreadKeeps}
-use Rattle.machine_types.specs.Core.{Core, Happening, Of, NextPart, start, event, event_of, next, happened, all_happened, core}
+use Rattle.machine_types.specs.Core.{Core, Happening, Of, NextPart, start, event, event_of, next, all_happened, core}
 use Rattle.machine_types.specs.Events.{wanted, moved}
 use Rattle.machine_types.specs.MarkLaws.{HasFrozenTest}
 use Rattle.machine_types.specs.PlainMemory.{Object, start_objects}
@@ -35,6 +35,7 @@ use Rattle.laws_objects.proofs.LostObjects.{LostIn}
 use Rattle.laws_objects.proofs.PartBegins.{next_builds}
 use Rattle.laws_objects.proofs.Unused.{lost_strange, uses_not, places_have_not}
 use Rattle.laws_objects.proofs.WorldChanges.{lost}
+use Rattle.laws_states.proofs.GrowingRuns.{all_append}
 
 -- ---- a test that tells a frozen class
 
@@ -179,10 +180,6 @@ module _ (laws : AreBuiltLaws) (c : MarkedProgram) (cfg : Config) (frozen : ℕ 
         })
 
 -- ---- one run behind another
-
-pub all_append : (c : MarkedProgram) (s : Core) (hs es : List Happening) → all_happened c s (hs ++ es) ≡ all_happened c (all_happened c s hs) es
-all_append c s [] es = refl
-all_append c s (h ∷ hs) es = all_append c (happened c s h) hs es
 
 objects_append : (c : MarkedProgram) (s : Core) (objects : List Object) (hs es : List Happening) → all_objects c s objects (hs ++ es) ≡ all_objects c (all_happened c s hs) (all_objects c s objects hs) es
 objects_append c s objects [] es = refl

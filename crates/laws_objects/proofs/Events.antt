@@ -32,7 +32,7 @@ use Rattle.laws_states.proofs.NewHeader.{behind_new}
 use Rattle.laws_states.proofs.Phases.{IsOldPhase, old_fits, events_reach}
 use Rattle.laws_states.proofs.WordSteps.{words_go_on}
 use Rattle.laws_threads.proofs.Landing.{stand_top}
-use Rattle.laws_threads.proofs.TopStand.{top_here}
+use Rattle.laws_threads.proofs.Standings.{top_here}
 use Rattle.laws_states.specs.StateFacts.{StateFacts}
 use Rattle.laws_objects.specs.ConstructionLaws.{BuildsOn, EventsKeepConstruction}
 use Rattle.laws_objects.proofs.InstructionMoves.{none_outside, KnownTop}

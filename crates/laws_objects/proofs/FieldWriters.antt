@@ -45,7 +45,7 @@ use Rattle.machine_types.specs.declared.phase.Phase.TheVariants as phases
 use Rattle.laws_threads.specs.Allowed.{IsNamedField, TakenHold, Allowed}
 use Rattle.laws_threads.proofs.Landing.{stand_top}
 use Rattle.laws_threads.proofs.Onwards.{same_op}
-use Rattle.laws_threads.proofs.TopStand.{top_here}
+use Rattle.laws_threads.proofs.Standings.{top_here}
 use Rattle.laws_threads.proofs.TopEffects.{taken_here, allowed_here}
 use Rattle.laws_states.specs.HeapFacts.{HeapFacts}
 use Rattle.laws_states.specs.SiteLaws.{EventsReachSites, SitesDiffer, SitesLieInside}

@@ -34,10 +34,11 @@ use Rattle.laws_threads.specs.EntryFrames.{frames_in, KeepsEntry}
 use Rattle.laws_threads.proofs.AttemptMoves.{put_back_top}
 use Rattle.laws_threads.proofs.Inside.{base_below}
 use Rattle.laws_threads.proofs.EntryKept.{steps_kept, throws_kept, leaves_kept}
-use Rattle.laws_threads.proofs.ThreadMove.{GoesBy, Move, becomes, begun_attempt, counting, any_move, gives_up_in, tried_attempt}
+use Rattle.laws_threads.proofs.ThreadMove.{GoesBy, Move, becomes, begun_attempt, counting, any_move, gives_up_in, tried_attempt, goes_attempt}
 use Rattle.laws_threads.proofs.ThreadMove as moves
-use Rattle.laws_objects.proofs.ThreadMoves.{AreKnown, AttemptFrom, from_same, none_tried, known_at, known_with, known_without, goes_frames, goes_attempt}
+use Rattle.laws_objects.proofs.ThreadMoves.{AreKnown, AttemptFrom, from_same, known_at, known_with, known_without, goes_frames}
 use Rattle.machine_types.proofs.PlainPartLaws.{frames_are}
+use Rattle.laws_threads.proofs.MonitorEntries.{none_tried}
 
 -- ---- the frame that has so many below it
 

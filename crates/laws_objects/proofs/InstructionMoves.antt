@@ -26,7 +26,7 @@ use Rattle.laws_threads.specs.StructureLaws.{StaysStructured, counted_by}
 use Rattle.laws_threads.specs.Allowed.{Allowed, OneOf, IsByMachine}
 use Rattle.laws_threads.proofs.Landing.{stand_top}
 use Rattle.laws_threads.proofs.TopEffects.{made_size}
-use Rattle.laws_threads.proofs.TopStand.{top_here}
+use Rattle.laws_threads.proofs.Standings.{top_here}
 use Rattle.laws_objects.proofs.BuiltEffects.{Built, RowOld}
 use Rattle.laws_objects.proofs.CountedPhases.{PhaseFits}
 use Rattle.laws_objects.proofs.Moves.{Steps, stays}
@@ -150,14 +150,14 @@ module _ (c : MarkedProgram) (marked : IsMarked c) (frozen : ℕ → Bool) (are 
         (does_it c marked frozen are k.now next t now_is a.frame a.below a.keeps a.waits is e got (allowed_as e same) (built_as e same) (subst (λ (e : Effect). FoundOld c marked frozen are k.now next t now_is is a.keeps.stands.target e got) same a.found)))
 
     -- the machine throws only outside attempts
-    refused : (class : Thrown) → Refuses c.program at class → IsByMachine class × (x.attempt ≡ None)
-    refused _ (moves.past_end array index stored same) = (tt, none_as (Indexes array index stored) same tt)
+    refused : (class : Thrown) → Refuses c.program got at class → IsByMachine class × (x.attempt ≡ None)
+    refused _ (moves.past_end array index stored same t) = (tt, none_as (Indexes array index stored) same tt)
     refused _ (moves.no_memory word size same) = (tt, none_as (Makes word size) same tt)
     refused _ (moves.waits_unheld m same) = (tt, none_as (Waits m) same tt)
     refused _ (moves.notifies_unheld m (moves.of_one same)) = (tt, none_as (Notifies m) same tt)
     refused _ (moves.notifies_unheld m (moves.of_all same)) = (tt, none_as (NotifiesAll m) same tt)
 
-    pub refuses_as : (class : Thrown) → Refuses c.program at class → StaysStructured c was (goes_on s (threw class at)) → Goal (goes_on s (threw class at))
+    pub refuses_as : (class : Thrown) → Refuses c.program got at class → StaysStructured c was (goes_on s (threw class at)) → Goal (goes_on s (threw class at))
     refuses_as class why stands =
         let own = refused class why in
         onward s (threw class at) refl refl stands (outside_keeps (threw class at) own.1)

@@ -23,8 +23,9 @@ use Rattle.laws_objects.proofs.FrameChanges.{IsUnwound}
 use Rattle.laws_objects.proofs.KeptFrames.{KeepsUnder, frames_kept}
 use Rattle.laws_objects.proofs.Onwards.{OnwardKeeps}
 use Rattle.laws_objects.proofs.ThrowingFrames.{frames_unwound}
-use Rattle.laws_objects.proofs.ThreadMoves.{MovedTo, AreKnown, goes_held, held_known, in_none, moved_more_to}
+use Rattle.laws_objects.proofs.ThreadMoves.{MovedTo, AreKnown, held_known, in_none, moved_more_to}
 use Rattle.laws_objects.proofs.WorldChanges.{none_some, lost, KeepsLost}
+use Rattle.laws_threads.proofs.ThreadMove.{goes_held}
 
 -- ---- the world in which it is lost
 

@@ -41,13 +41,14 @@ use Rattle.laws_objects.proofs.BuiltEffects.{RowOld}
 use Rattle.laws_objects.proofs.CountedPhases.{PhaseFits, counted_fits}
 use Rattle.laws_objects.proofs.Moves.{Steps}
 use Rattle.laws_objects.proofs.Onwards.{OnwardKeeps, IfKeeps, runs_on, dispatches, goes_after_it, same_op}
-use Rattle.laws_objects.proofs.ThreadMoves.{Moved, AreKnown, AttemptFrom, EntryKept, from_same, entry_same, now_world, held_known, moved_on, failed, begun, onward_moves, moved_more, known_at, known_with, known_without, none_tried}
+use Rattle.laws_objects.proofs.ThreadMoves.{Moved, AreKnown, AttemptFrom, EntryKept, from_same, entry_same, now_world, held_known, moved_on, failed, begun, onward_moves, moved_more, known_at, known_with, known_without}
 use Rattle.laws_objects.proofs.WorldChanges.{none_some, goes_same, goes_given, goes_finished, world_given, world_finished, lost_given, lost_finished, lost_same, not_lost}
 use Rattle.machine_types.specs.ReadyObjects.{class_of}
 use Rattle.machine_types.specs.Ints.{low}
 use Rattle.machine_types.specs.Words.{value_word}
 use Rattle.laws_threads.proofs.ThreadMove.{Looks, LeadsTo, TurnsTo, Takes, GivesUp, begun_attempt, counting, takes_in, gives_up_in}
 use Rattle.laws_threads.proofs.ThreadMove as moves
+use Rattle.laws_threads.proofs.MonitorEntries.{none_tried}
 
 -- ---- an element
 
@@ -247,7 +248,7 @@ module _ (c : MarkedProgram) (marked : IsMarked c) (frozen : ℕ → Bool) (are 
     leads_as _ _ (moves.to_notify_one m r f) e = changed (phases.NotifyOne m r (lowest_of got)) (fits (phases.NotifyLook m r) e)
     leads_as _ _ (moves.to_end reason) e = ending_as reason e
     leads_as _ _ (moves.to_element at array index stored top f l) e = changed (phases.Element (value_word array (low index)) stored) ((fits phases.Run e).0, tt)
-    leads_as _ _ (moves.to_no_print at top f) e = to phases.Run (with_phase s (phases.Ending ends.Prints)) refl (from_same x.attempt) held (fits phases.Run e)
+    leads_as _ _ (moves.to_no_print at v top l f) e = to phases.Run (with_phase s (phases.Ending ends.Prints)) refl (from_same x.attempt) held (fits phases.Run e)
 
     pub turned_as : (phase now : Phase) → TurnsTo s got phase now → IsAs phase was → Goal (failed_turn s now)
     turned_as phase _ (moves.looks_again m look) e = let fit = looks_fit m phase look e in turns_as (phases.Acquire m) fit.0 fit.1
@@ -302,7 +303,7 @@ module _ (c : MarkedProgram) (marked : IsMarked c) (frozen : ℕ → Bool) (are 
     pub gives_up_as : (m : ℕ) (a : After) (phase : Phase) → GivesUp s m a phase → IsAs phase was → StaysStructured c was (lets_go c.program s m a) → Goal (lets_go c.program s m a)
     gives_up_as m a phase up e stands =
         let left : Fits (phases.Leave m a) × AfterShows c m a x.frames = gives_up_in (λ (phase : Phase). IsAs phase was → Fits (phases.Leave m a) × AfterShows c m a x.frames) s m a phase up
-            (λ e. (fits (phases.Leave m a) e, (at_phase (phases.Leave m a) e).phase_shows)) (λ e. (fits (phases.FlatOut m a) e, (at_phase (phases.FlatOut m a) e).phase_shows.toward_shows)) e in
+        (λ e. (fits (phases.Leave m a) e, (at_phase (phases.Leave m a) e).phase_shows)) (λ e. (fits (phases.FlatOut m a) e, (at_phase (phases.FlatOut m a) e).phase_shows.toward_shows)) e in
         behind m a left.0 left.1 (record s { held = without_held m s.held }) refl refl (from_same x.attempt) (known_without w next t m x.held held) stands
 
     module _ (m : ℕ) (a : After) (e : was ≡ phases.Leave m a) where

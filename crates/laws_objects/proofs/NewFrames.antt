@@ -20,7 +20,7 @@ use Rattle.machine_types.specs.Threads.{Frame}
 use Rattle.machine_types.specs.Worlds.{Item, Header, Made, Begun, Builder, builder, World, IsFinished, IsWorld, with_builder}
 use Rattle.laws_threads.specs.Allowed.{OneOf, MadeAs}
 use Rattle.laws_threads.proofs.Landing.{rules_at}
-use Rattle.laws_threads.proofs.TopStand.{top_here}
+use Rattle.laws_threads.proofs.Standings.{top_here}
 use Rattle.laws_objects.proofs.BuiltEffects.{StartsNone}
 use Rattle.laws_objects.proofs.CalledFrames.{below_moved, none_started}
 use Rattle.laws_objects.proofs.KeptFrames.{below_kept}

@@ -42,7 +42,7 @@ use Rattle.machine_types.specs.declared.phase.After.{After}
 use Rattle.machine_types.specs.declared.phase.After.TheVariants.{Next, Return, Unwind}
 use Rattle.laws_threads.specs.Allowed.{OneOf, IsNamedField, IsByMachine, Allowed}
 use Rattle.laws_threads.proofs.Landing.{stand_top, rules_at}
-use Rattle.laws_threads.proofs.TopStand.{top_here}
+use Rattle.laws_threads.proofs.Standings.{top_here}
 use Rattle.laws_objects.proofs.BuiltEffects.{KindOld, TypeOld, GivenOld, RowOld, Built, effect_built, NamesField}
 use Rattle.laws_objects.proofs.CalledFrames.{below_moved}
 use Rattle.laws_objects.proofs.Calling.{CallKeeps, calls_it}

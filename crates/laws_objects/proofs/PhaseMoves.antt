@@ -43,7 +43,7 @@ use Rattle.laws_states.proofs.Lists.{set_here}
 use Rattle.laws_threads.specs.Allowed.{IsNamedField, Allowed}
 use Rattle.laws_threads.proofs.Landing.{stand_top}
 use Rattle.laws_threads.proofs.TopEffects.{allowed_here}
-use Rattle.laws_threads.proofs.TopStand.{top_here}
+use Rattle.laws_threads.proofs.Standings.{top_here}
 use Rattle.laws_objects.proofs.BuiltEffects.{KindOld}
 use Rattle.laws_objects.proofs.InstructionMoves.{Gets, KnownTop, known_top, by_top, does_as, refuses_as, nobody_as, prints_as, makes_as, waits_as, asks_as}
 use Rattle.laws_objects.proofs.MonitorMoves.{fits, stays_as, fails_as, throws_as, element_as, made_as, notified_as, leads_as, turned_as, again_as, inside_as, begins_as, takes_as, gives_up_as, outer_as, inner_as, elided_as, fattens_as, waits_as as waits_in, retakes_as}
@@ -85,7 +85,7 @@ module _ (c : MarkedProgram) (marked : IsMarked c) (frozen : ℕ → Bool) (are 
     goes_keep _ o (moves.by_effect at f _ found same silent d) here e stands =
         at_top (λ at. effect_at c.program at ≡ f → done c.program at f got ≡ Some o → StaysStructured c was (goes_on s o) → Keeps (goes_on s o)) here e (λ a. does_as c marked frozen are is w next more t was x k is_world grows stood e n got a f o) at found same d stands
     goes_keep _ _ (moves.by_machine at class found why) here e stands =
-        at_top (λ at. Refuses c.program at class → StaysStructured c was (goes_on s (threw class at)) → Keeps (goes_on s (threw class at))) here e (λ a. refuses_as c marked frozen are is w next more t was x k is_world grows stood e n got a class) at found why stands
+        at_top (λ at. Refuses c.program got at class → StaysStructured c was (goes_on s (threw class at)) → Keeps (goes_on s (threw class at))) here e (λ a. refuses_as c marked frozen are is w next more t was x k is_world grows stood e n got a class) at found why stands
     goes_keep _ _ (moves.by_nobody at m count h found y there l) here e stands =
         at_top (λ at. IsNotify c.program at m → StaysStructured c was (goes_on s (Running (went_on c.program at 0))) → Keeps (goes_on s (Running (went_on c.program at 0)))) here e (λ a. nobody_as c marked frozen are is w next more t was x k is_world grows stood e n got a m) at found y stands
     goes_keep _ _ (moves.by_element word stored at found) here e stands = element_as c marked frozen are w next more t was x k is_world grows stood n got word stored (element_made stored got) at found e (no_element word stored e) stands

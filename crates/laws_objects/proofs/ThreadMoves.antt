@@ -1,8 +1,8 @@
 -- A thread that has moved keeps what construction says of it, in and outside of an attempt.
 use Rattle.std.proofs.Common.{◌≡◌, ◌≢◌, ℕ, ◌-◌, ◌<◌, ◌≤◌, ◌⊎◌, inl, inr, Bool, true, false, cond, List, [], ◌∷◌, length, drop, Option, Some, None, refl, sym, ap, ◌∙◌, subst, arith}
-use Rattle.std.specs.Prelude.{◌==◌, nat_lt, Contains, if◌then◌else◌}
+use Rattle.std.specs.Prelude.{◌==◌, nat_lt, Contains}
 use Rattle.std.specs.List.{AllByRecursion}
-use Rattle.std.proofs.lemmas.Bool.{eq-eqb, eqb-true, eqb-false}
+use Rattle.std.proofs.lemmas.Bool.{eqb-true, eqb-false}
 use Rattle.jvm_types.specs.ProgramInvariant.{words_of}
 use Rattle.jvm_types.specs.declared.outcome.End.TheVariants as ends
 use Rattle.checked_program.specs.MarkedProgram.{MarkedProgram}
@@ -10,7 +10,6 @@ use Rattle.machine_types.specs.Construction.{Runs, FramesKeep, PhaseKeepsFrames,
 use Rattle.machine_types.specs.Elision.{put_back}
 use Rattle.machine_types.specs.Going.{root_over, runs, goes_on}
 use Rattle.machine_types.specs.HeldMonitors.{held_at, with_held, without_held}
-use Rattle.machine_types.specs.Monitors.{Tries, HasNot, claim_by}
 use Rattle.machine_types.specs.Onward.{Onward, Running, Throwing, Entering, Leaving, RootReturned, Uncaught}
 use Rattle.machine_types.specs.Structure.{IsStructured, AttemptStandsIn}
 use Rattle.machine_types.specs.Threads.{Frame, Attempt, Thread}
@@ -28,6 +27,7 @@ use Rattle.laws_objects.proofs.Onwards.{OnwardKeeps}
 use Rattle.laws_objects.proofs.Views.{IsOwnIn, IsNoneOf, own_or_not, known_on}
 use Rattle.laws_objects.proofs.WorldChanges.{none_some, goes_same, goes_both, world_same, KeepsLost, lost_same}
 use Rattle.laws_programs.proofs.LocalGoing.{at_index}
+use Rattle.laws_threads.proofs.ThreadMove.{goes_held, goes_attempt}
 
 -- ---- what is kept of a thread, in a world that it leaves
 
@@ -127,22 +127,6 @@ goes_frames s (Leaving m a fs) = refl
 goes_frames s RootReturned = refl
 goes_frames s (Uncaught class) = refl
 
-pub goes_attempt : (s : Thread) (o : Onward) → (goes_on s o).attempt ≡ s.attempt
-goes_attempt s (Running fs) = refl
-goes_attempt s (Throwing e class fs) = refl
-goes_attempt s (Entering m fs) = refl
-goes_attempt s (Leaving m a fs) = refl
-goes_attempt s RootReturned = refl
-goes_attempt s (Uncaught class) = refl
-
-pub goes_held : (s : Thread) (o : Onward) → (goes_on s o).held ≡ s.held
-goes_held s (Running fs) = refl
-goes_held s (Throwing e class fs) = refl
-goes_held s (Entering m fs) = refl
-goes_held s (Leaving m a fs) = refl
-goes_held s RootReturned = refl
-goes_held s (Uncaught class) = refl
-
 -- ---- an attempt is based below the frames inside it
 
 abbrev pub BasedIn : Option Attempt → List Frame → Type 0
@@ -152,16 +136,6 @@ BasedIn (Some a) fs = a.base < length fs
 pub based_in : (c : MarkedProgram) (phase : Phase) (fs : List Frame) (held : List Held) (o : Option Attempt) → AttemptStandsIn c phase fs held o → BasedIn o fs
 based_in c phase fs held None a = tt
 based_in c phase fs held (Some b) a = a.based
-
--- the attempt at a phase that enters a monitor is one on it: there is none where the monitor is neither held nor tried
-pub none_tried : (c : MarkedProgram) (m tried : ℕ) (fs : List Frame) (held : List Held) (h : Option Held) (o : Option Attempt) → claim_by m h o ≡ HasNot → AttemptStandsIn c (phases.Enter m tried) fs held o → o ≡ None
-none_tried c m tried fs held (Some h) o e k = absurd (cc)
-none_tried c m tried fs held None None e k = refl
-none_tried c m tried fs held None (Some a) e k = absurd (by_monitor (a.monitor == m) (eq-eqb a.monitor m (sym k.inside)) e)
-  where
-    by_monitor : (b : Bool) → b ≡ true → (if b then Tries a else HasNot) ≡ HasNot → ⊥
-    by_monitor true f e = cc
-    by_monitor false f e = cc
 
 -- ---- worlds
 

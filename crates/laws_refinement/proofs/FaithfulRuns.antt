@@ -33,7 +33,7 @@ use Rattle.laws_threads.specs.GivenThread.{GivenIsKept}
 use Rattle.laws_states.specs.HeapFacts.{objects_after}
 use Rattle.laws_states.specs.RunFacts.{HaveWidth}
 use Rattle.laws_states.specs.StateFacts.{StateFacts}
-use Rattle.laws_states.proofs.OwnersStep.{set_other as got_other}
+use Rattle.laws_threads.proofs.StateSteps.{set_other as got_other}
 use Rattle.laws_objects.specs.ConstructionLaws.{no_builders, BuildsOn}
 use Rattle.laws_simulation.specs.StandsBeside.{StandsBeside}
 use Rattle.laws_simulation.specs.OutcomeLaws.{WorkersKeepNone}

@@ -50,7 +50,7 @@ use Rattle.laws_simulation.proofs.GoingOnAlike.{IsUnderWay, OwnFits, going_alike
 use Rattle.laws_simulation.proofs.HoldingsAlike.{depth_is_held, free_then, put_else, without_else}
 use Rattle.laws_simulation.proofs.OwnBits.{IsAwake, no_own_bit}
 use Rattle.laws_simulation.proofs.WaitBits.{same_wait_bit}
-use Rattle.laws_simulation.proofs.Moving.{goes_attempt, goes_held, goes_old, goes_part}
+use Rattle.laws_simulation.proofs.Moving.{goes_old, goes_part}
 use Rattle.laws_simulation.proofs.Landing.{never_made}
 use Rattle.laws_refinement.specs.ElidedSteps.{FinishesBeside, SectionsFinish, found_of}
 use Rattle.laws_refinement.proofs.DoneSections.{IsDone, is_done, as_noted, event_is}
@@ -58,6 +58,7 @@ use Rattle.laws_refinement.proofs.PartsUnderWay.{part_runs}
 use Rattle.laws_refinement.proofs.FinishedPlaces.{staying_value}
 use Rattle.laws_refinement.proofs.WholeSections.{IsWhole, whole, holdings_behind, at_end, behind_section, section_acts}
 use Rattle.machine_types.proofs.PlainStepLaws.{none_left}
+use Rattle.laws_threads.proofs.ThreadMove.{goes_held, goes_attempt}
 
 -- ---- holdings: the monitor is free before and behind, and the others are as they were
 

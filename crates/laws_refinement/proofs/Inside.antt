@@ -18,7 +18,7 @@ use Rattle.machine_types.specs.declared.phase.Phase.TheVariants as phases
 use Rattle.laws_threads.proofs.FramePlaces.{has_top}
 use Rattle.laws_threads.specs.InsideEffects.{InsideMayDo, MayDo}
 use Rattle.laws_threads.specs.InsideMoves.{NoElementInside}
-use Rattle.laws_states.proofs.LockViews.{same_there}
+use Rattle.machine_types.proofs.PlainStepLaws.{is_same}
 
 -- ---- what is known
 
@@ -50,7 +50,7 @@ tries_it x a n attempt none is =
     ap (λ (k : ℕ). claim x k) is
     ∙ ap (λ (o : Option Held). claim_by a.monitor o x.attempt) none
     ∙ ap (λ (o : Option Attempt). claim_by a.monitor None o) attempt
-    ∙ ap (λ (b : Bool). cond b (Tries a) HasNot) (same_there a.monitor)
+    ∙ ap (λ (b : Bool). cond b (Tries a) HasNot) (is_same a.monitor)
 
 top_there : (c : MarkedProgram) → IsMarked c → (fs : List Frame) (shown : List ℕ) (base : ℕ) → Show c Whole fs shown → base < length fs → (at : Top) × (top_of c.program fs ≡ Some at)
 top_there c marked [] shown base show some = absurd (omega (arith, some))

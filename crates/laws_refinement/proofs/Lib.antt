@@ -50,3 +50,4 @@ pub mod Pasts
 pub mod NextUntried
 pub mod EventMoves
 pub mod FaithfulRuns
+pub mod SomeThread

@@ -13,6 +13,7 @@ use Rattle.machine_types.specs.Threads.{Thread}
 use Rattle.laws_threads.specs.GivenThread.{GivenIsKept}
 use Rattle.laws_refinement.proofs.EventsKeep.{none_wakes, keeps_part}
 use Rattle.laws_refinement.proofs.StageFits.{PartIs, NoWorkerLives, IsAlone, IsWaiting, StageFits, TurnFits}
+use Rattle.std.proofs.lemmas.Option.{slice_get_past}
 
 -- ---- an event
 
@@ -69,11 +70,6 @@ none_passes test from (suc n) i e h = by_test (test from) refl e (λ k rest room
     by_test true g e on = absurd (cc)
     by_test false g e on = behind i h g (λ k room. on k e room)
 
-past_end : (xs : List Thread) (i : ℕ) → length xs ≤ i → slice_get xs i ≡ None
-past_end [] i h = refl
-past_end (x ∷ xs) zero h = absurd (omega (arith, h))
-past_end (x ∷ xs) (suc i) h = past_end xs i (omega (arith, h))
-
 none_live : (s : Core) → live_from s 1 ≡ None → NoWorkerLives s
 none_live s e u = by_room (nat_lt u (length s.threads)) refl
   where
@@ -88,7 +84,7 @@ none_live s e u = by_room (nat_lt u (length s.threads)) refl
         ap (λ (b : Bool). b && lives s (suc u)) (sym one)
         ∙ ap (λ (t : ℕ). nat_le 1 t && lives s t) (sym next)
         ∙ none_passes (λ t. nat_le 1 t && lives s t) 1 (length s.threads) u e (grind (arith, nat_tests, h))
-    by_room false h = ap is_live_thread (past_end s.threads (suc u) (grind (arith, nat_tests, h)))
+    by_room false h = ap is_live_thread (slice_get_past s.threads (suc u) (grind (arith, nat_tests, h)))
 
 second_none : (a b : Option ℕ) → option_or a b ≡ None → b ≡ None
 second_none None b e = e

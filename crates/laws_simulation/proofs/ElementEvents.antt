@@ -46,7 +46,7 @@ use Rattle.machine_types.specs.declared.phase.Phase.TheVariants as phases
 use Rattle.machine_types.specs.declared.plain.Act.TheVariants as acts
 use Rattle.laws_threads.specs.Allowed.{Allowed, IsOf}
 use Rattle.laws_threads.proofs.Landing.{stand_top}
-use Rattle.laws_threads.proofs.TopStand.{top_here}
+use Rattle.laws_threads.proofs.Standings.{top_here}
 use Rattle.laws_threads.proofs.TopEffects.{allowed_here}
 use Rattle.laws_threads.proofs.Onwards.{same_op}
 use Rattle.laws_states.specs.HeapFacts.{objects_by}

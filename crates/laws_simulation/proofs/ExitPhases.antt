@@ -50,8 +50,9 @@ use Rattle.laws_simulation.proofs.OwnBits.{nobody_in}
 use Rattle.laws_simulation.proofs.EntryPhases.{low, loaded}
 use Rattle.laws_simulation.proofs.Landing.{WordsStay, words_stay}
 use Rattle.laws_simulation.proofs.LockPlain.{exits}
-use Rattle.laws_simulation.proofs.Moving.{Moving, Makes, stays_with, steps_as, calm_fits, to_phase, stays_itself, goes_held, goes_part, goes_attempt, goes_old}
+use Rattle.laws_simulation.proofs.Moving.{Moving, Makes, stays_with, steps_as, calm_fits, to_phase, stays_itself, goes_part, goes_old}
 use Rattle.laws_simulation.proofs.WordsAround.{thin_stays, fat_stays, owner_stays, record_stays}
+use Rattle.laws_threads.proofs.ThreadMove.{goes_held, goes_attempt}
 
 module _ (lies : StartLiesApart) (differ : SitesDiffer) (inside : SitesLieInside) (c : MarkedProgram) (cfg : Config) (objects : List Object) (was : ℕ → Phase) (s : Core) (t : ℕ) (x : Thread) (q : Plain) (k : Moving c cfg objects was s t x q) where
   -- ---- what it holds

@@ -12,8 +12,8 @@ use Rattle.machine_types.specs.Threads.{Thread}
 use Rattle.machine_types.specs.declared.lock.Held.{Held}
 use Rattle.laws_threads.proofs.HeldLists.{held_put, held_without}
 use Rattle.laws_states.proofs.Lists.{same_or_not}
-use Rattle.laws_states.proofs.LockViews.{same_there}
 use Rattle.machine_types.proofs.Lists.{got_when_set, got_other}
+use Rattle.machine_types.proofs.PlainStepLaws.{is_same}
 
 -- of each thread and each monitor
 abbrev pub HoldAlike : List Holding → List Thread → Type 0
@@ -65,7 +65,7 @@ holding_without m n (h ∷ hs) = by_test (h.monitor == n) refl (h.monitor == m) 
     by_test false t false u x v more = ap (λ (b : Bool). cond b (Some h) (holding_at (without_holding n hs) m)) u ∙ more ∙ ap (λ (b : Bool). cond b None (holding_at hs m)) v
 
 pub put_here : (h : Holding) (hs : List Holding) → holding_at (with_holding h hs) h.monitor ≡ Some h
-put_here h hs = holding_put h.monitor h hs ∙ ap (λ (b : Bool). cond b (Some h) (holding_at hs h.monitor)) (same_there h.monitor)
+put_here h hs = holding_put h.monitor h hs ∙ ap (λ (b : Bool). cond b (Some h) (holding_at hs h.monitor)) (is_same h.monitor)
 
 pub put_else : (m : ℕ) (h : Holding) (hs : List Holding) → h.monitor ≢ m → holding_at (with_holding h hs) m ≡ holding_at hs m
 put_else m h hs d = holding_put m h hs ∙ ap (λ (b : Bool). cond b (Some h) (holding_at hs m)) (ne_eqb h.monitor m d)
@@ -76,7 +76,7 @@ without_else m n hs d = holding_without m n hs ∙ ap (λ (b : Bool). cond b Non
 -- ---- the holder
 
 pub own_depth : (t : ℕ) (h : Holding) → h.holder ≡ t → depth_for t (Some h) ≡ Some h.depth
-own_depth t h e = ap (λ (b : Bool). cond b (Some h.depth) None) (ap (λ (n : ℕ). n == t) e ∙ same_there t)
+own_depth t h e = ap (λ (b : Bool). cond b (Some h.depth) None) (ap (λ (n : ℕ). n == t) e ∙ is_same t)
 
 pub other_depth : (u : ℕ) (h : Holding) → h.holder ≢ u → depth_for u (Some h) ≡ None
 other_depth u h d = ap (λ (b : Bool). cond b (Some h.depth) None) (ne_eqb h.holder u d)
@@ -102,7 +102,7 @@ nobody_holds None e = refl
 nobody_holds (Some h) e = let own = own_depth h.holder h refl in let none = e h.holder in absurd (let bad : Some h.depth ≡ None = sym own ∙ none in cc)
 
 pub holder_is : (o : Option Holding) (t depth : ℕ) → depth_for t o ≡ Some depth → is_holder t o ≡ true
-holder_is o t depth e = let h = holding_is o t 0 depth e in ap (is_holder t) h.is ∙ ap (λ (n : ℕ). n == t) h.holder ∙ same_there t
+holder_is o t depth e = let h = holding_is o t 0 depth e in ap (is_holder t) h.is ∙ ap (λ (n : ℕ). n == t) h.holder ∙ is_same t
 
 pub no_holder : (o : Option Holding) (t : ℕ) → depth_for t o ≡ None → is_holder t o ≡ false
 no_holder None t e = refl

@@ -3,7 +3,6 @@
 use Rattle.std.proofs.Common.{◌≡◌, ℕ, List, [], ◌∷◌, Option, Some, refl, sym, ap, ◌∙◌, subst}
 use Rattle.std.specs.Prelude.{slice_get, slice_index, slice_set}
 use Rattle.jvm_types.specs.declared.fixed_words.TheConstants.{NEXT_FREE_WORD, NEXT_TICKET_WORD}
-use Rattle.jvm_types.specs.declared.outcome.End.TheVariants as ends
 use Rattle.jvm_types.specs.declared.program.Program.{Program}
 use Rattle.machine_types.specs.Agreement.{has_wait_bit, ThreadFits, depth_of}
 use Rattle.machine_types.specs.Core.{Core}
@@ -20,7 +19,7 @@ use Rattle.machine_types.specs.declared.plain.Act.{Act}
 use Rattle.laws_states.proofs.Phases.{IsOldPhase}
 use Rattle.laws_simulation.specs.StandsBeside.{StandsBeside, IsBeingMade, ends_shown}
 use Rattle.laws_simulation.proofs.Assembled.{moved_beside}
-use Rattle.laws_simulation.proofs.OwnThread.{IsBusy}
+use Rattle.laws_simulation.proofs.OwnThread.{IsBusy, not_ended}
 use Rattle.laws_simulation.proofs.HoldingsAlike.{HoldAlike}
 use Rattle.laws_simulation.proofs.WaitBits.{fits_by, new_lock, same_wait_bit_in}
 use Rattle.machine_types.proofs.Lists.{set_as_it_is, got_when_set, got_other}
@@ -40,9 +39,6 @@ words_stay objects s q = record { places = λ a v e. refl; free = refl; tickets 
 
 pub never_made : (phase : Phase) (a word : ℕ) → IsOldPhase phase → phase ≡ phases.Made a word → ⊥
 never_made phase a word old e = subst IsOldPhase e old
-
-never_rests : (phase : Phase) → IsBusy phase → phase ≡ phases.Ended ends.Returned → ⊥
-never_rests phase busy e = subst IsBusy e busy
 
 -- ---- thread t, which was x and z, becomes y and w
 
@@ -76,7 +72,7 @@ module _ (p : Program) (objects : List Object) (s : Core) (q : Plain) (beside : 
       old = λ a word e. never_made x.phase a word old e;
       new = λ a word e. never_made y.phase a word k.now e;
       part = k.part;
-      rests = λ e. absurd (never_rests x.phase busy e);
+      rests = λ e. absurd (not_ended x.phase busy e);
     })
 
   -- ---- the event, with the acts that it stands for

@@ -11,7 +11,7 @@ use Rattle.machine_types.specs.declared.phase.After.{After}
 use Rattle.machine_types.specs.declared.plain.Act.{Act}
 use Rattle.machine_types.specs.declared.plain.Act.TheVariants as acts
 use Rattle.laws_simulation.proofs.HoldingsAlike.{IsHolding}
-use Rattle.laws_states.proofs.LockViews.{same_there}
+use Rattle.machine_types.proofs.PlainStepLaws.{is_same}
 
 module _ (p : Program) (q : Plain) (t : ℕ) (z : PlainThread) (here : slice_get q.threads t ≡ Some z) where
   -- the step of a thread by its status
@@ -23,7 +23,7 @@ module _ (p : Program) (q : Plain) (t : ℕ) (z : PlainThread) (here : slice_get
       same (Some r) = refl
 
   is_own : (h : Holding) → h.holder ≡ t → (h.holder == t) ≡ true
-  is_own h e = ap (λ (n : ℕ). n == t) e ∙ same_there t
+  is_own h e = ap (λ (n : ℕ). n == t) e ∙ is_same t
 
   -- nobody holds the monitor
   pub enters_first : (m : ℕ) → z.status ≡ plain.Enter m → holding_at q.holdings m ≡ None → plain_run p q (steps_of t (acts.Enter ∷ [])) ≡ Some (with_thread (held_by q m t 1) t (with_status z plain.Run))

@@ -59,14 +59,8 @@ calm_old phase k = tt
 
 -- ---- how a thread that goes on has its monitors, its part and its attempt
 
-pub goes_held : (s : Thread) (o : Onward) → (goes_on s o).held ≡ s.held
-goes_held s o = same_onward (λ (s : Thread). s.held) (λ s frames phase turns. refl) s (Some o)
-
 pub goes_part : (s : Thread) (o : Onward) → (goes_on s o).part ≡ s.part
 goes_part s o = same_onward (λ (s : Thread). s.part) (λ s frames phase turns. refl) s (Some o)
-
-pub goes_attempt : (s : Thread) (o : Onward) → (goes_on s o).attempt ≡ s.attempt
-goes_attempt s o = same_onward (λ (s : Thread). s.attempt) (λ s frames phase turns. refl) s (Some o)
 
 pub runs_old : (b : Bool) → IsOldPhase (cond b phases.Run (phases.Ending ends.Steps))
 runs_old true = tt

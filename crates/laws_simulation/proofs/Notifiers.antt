@@ -28,7 +28,6 @@ use Rattle.machine_types.specs.declared.plain.Act.TheVariants as acts
 use Rattle.laws_states.specs.SiteLaws.{SitesLieInside}
 use Rattle.laws_states.proofs.Lists.{same_or_not}
 use Rattle.laws_states.proofs.WordViews.{set_self}
-use Rattle.laws_states.proofs.LockViews.{same_there}
 use Rattle.laws_simulation.proofs.Assembled.{got_same_length}
 use Rattle.std.proofs.lemmas.List.{length-set}
 use Rattle.laws_simulation.specs.StepsBeside.{StepsBeside}
@@ -40,6 +39,7 @@ use Rattle.laws_simulation.proofs.Moments.{Moment, AreRecordsWritten, IsLater, s
 use Rattle.laws_simulation.proofs.Moved.{HasFat, ends_alike, run_end, run_made, runs_outside, bits_written, counted, waits_now, owning, bit_now, bit_later, bits_kept, own_off, quiet_beside, alone_beside, bits_here, bits_else, bits_less, waits_less}
 use Rattle.laws_simulation.proofs.Sleepers.{IsAsleep, asleep, sleeps, wakes_up}
 use Rattle.machine_types.proofs.Lists.{got_when_set, got_other}
+use Rattle.machine_types.proofs.PlainStepLaws.{is_same}
 
 got_some : {A : Type 0} (o : Option A) → IsSome o → (a : A) × (o ≡ Some a)
 got_some None h = absurd (cc)
@@ -155,7 +155,7 @@ module _ {c : MarkedProgram} {cfg : Config} {objects : List Object} {was : ℕ �
         behind = record q { threads = threads }
 
         waiting : waits_on m w.0.status ≡ true
-        waiting = ap (waits_on m) status.1 ∙ same_there m
+        waiting = ap (waits_on m) status.1 ∙ is_same m
 
         step : notified q t m y (Some u) ≡ Some behind
         step = ap (λ (o : Option PlainThread). option_map (λ (r : Plain). with_thread r t (with_status y plain.Run)) (wakes_one q m u o)) w.1

@@ -17,7 +17,7 @@ use Rattle.machine_types.specs.PlainState.{Plain, Printed}
 use Rattle.machine_types.specs.Threads.{Thread}
 use Rattle.machine_types.specs.declared.config.Config.{Config}
 use Rattle.laws_states.proofs.Sums.{sum_set}
-use Rattle.laws_states.proofs.OwnersStep.{set_other}
+use Rattle.laws_threads.proofs.StateSteps.{set_other}
 use Rattle.laws_simulation.specs.OutcomeLaws.{NextKeepsPrints, StartHasPrints}
 use Rattle.laws_simulation.proofs.CountedEvents.{with_print}
 use Rattle.laws_simulation.proofs.PlainPrints.{with_printed}

@@ -46,7 +46,7 @@ busy_done : (p : Program) (phase : Phase) (roots : List ℕ) → IsBusy phase �
 busy_done p phases.Start roots k d = absurd k
 busy_done p phase roots k d = d
 
-not_ended : (phase : Phase) → IsBusy phase → phase ≡ phases.Ended ends.Returned → ⊥
+pub not_ended : (phase : Phase) → IsBusy phase → phase ≡ phases.Ended ends.Returned → ⊥
 not_ended phase k e = subst IsBusy e k
 
 -- ---- the thread

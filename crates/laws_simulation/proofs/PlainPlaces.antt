@@ -13,7 +13,7 @@ use Rattle.machine_types.specs.PlainMemory.{Object, StaticValue, header_of, firs
 use Rattle.machine_types.specs.PlainState.{Plain, value_at}
 use Rattle.machine_types.specs.Words.{header_word, value_word}
 use Rattle.laws_states.proofs.Lists.{contained_got, same_or_not}
-use Rattle.laws_states.proofs.LockViews.{same_there}
+use Rattle.machine_types.proofs.PlainStepLaws.{is_same}
 
 -- ---- one object
 
@@ -58,7 +58,7 @@ module _ (o : Object) (x : ℕ) where
       by_option (Some v) e = absurd (by_side v e k)
 
 pub header_in : (o : Object) → value_in o (header_word o.reference) ≡ Some (header_of o)
-header_in o = ap (λ (b : Bool). if b then Some (header_of o) else if has_value o (header_word o.reference) then slice_get o.values (header_word o.reference - first_value o) else None) (same_there (header_word o.reference))
+header_in o = ap (λ (b : Bool). if b then Some (header_of o) else if has_value o (header_word o.reference) then slice_get o.values (header_word o.reference - first_value o) else None) (is_same (header_word o.reference))
 
 pub got_some : (xs : List ℕ) (i : ℕ) → i < length xs → (v : ℕ) × (slice_get xs i ≡ Some v)
 got_some [] i lt = absurd (omega (arith, lt))
@@ -137,7 +137,7 @@ first_static : (ss : List StaticValue) (i : ℕ) (s : StaticValue) → slice_get
 first_static [] i s e = absurd (cc)
 first_static (r ∷ ss) zero s e =
     let one : r ≡ s = cc in
-    (r.value, ap (λ (b : Bool). if b then Some r.value else static_value ss s.word) (ap (λ (z : StaticValue). z.word == s.word) one ∙ same_there s.word))
+    (r.value, ap (λ (b : Bool). if b then Some r.value else static_value ss s.word) (ap (λ (z : StaticValue). z.word == s.word) one ∙ is_same s.word))
 first_static (r ∷ ss) (suc i) s e = by_first (r.word == s.word) refl (first_static ss i s e)
   where
     by_first : (b : Bool) → (r.word == s.word) ≡ b → (v : ℕ) × (static_value ss s.word ≡ Some v) → (v : ℕ) × ((if b then Some r.value else static_value ss s.word) ≡ Some v)

@@ -30,7 +30,7 @@ use Rattle.machine_types.specs.declared.phase.Phase.TheVariants as phases
 use Rattle.machine_types.specs.declared.plain.Act.TheVariants as acts
 use Rattle.laws_threads.specs.Allowed.{Allowed}
 use Rattle.laws_threads.proofs.Landing.{stand_top}
-use Rattle.laws_threads.proofs.TopStand.{top_here}
+use Rattle.laws_threads.proofs.Standings.{top_here}
 use Rattle.laws_threads.proofs.TopEffects.{allowed_here}
 use Rattle.laws_states.proofs.Accesses.{out_there}
 use Rattle.laws_simulation.proofs.Assembled.{one_step}

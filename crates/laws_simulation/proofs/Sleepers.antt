@@ -21,7 +21,7 @@ use Rattle.machine_types.specs.declared.phase.Phase.{Phase}
 use Rattle.machine_types.specs.declared.phase.Phase.TheVariants as phases
 use Rattle.laws_simulation.proofs.Moments.{Moment}
 use Rattle.laws_simulation.proofs.Moved.{HasFat, fat_one, owning, bit_now}
-use Rattle.laws_states.proofs.LockViews.{same_there}
+use Rattle.machine_types.proofs.PlainStepLaws.{is_same}
 
 -- ---- a thread that waits on a monitor, or whose turns ran out as it waited
 
@@ -132,4 +132,4 @@ module _ {c : MarkedProgram} {cfg : Config} {objects : List Object} {was : ℕ �
       status = sleeps u z w m r g h fat set a
 
       woken_is : woken m w.status ≡ plain.Woken m status.0
-      woken_is = ap (woken m) status.1 ∙ ap (λ (b : Bool). cond b (plain.Woken m status.0) (plain.Waiting m status.0)) (same_there m)
+      woken_is = ap (woken m) status.1 ∙ ap (λ (b : Bool). cond b (plain.Woken m status.0) (plain.Waiting m status.0)) (is_same m)

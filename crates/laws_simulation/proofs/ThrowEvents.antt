@@ -28,7 +28,7 @@ use Rattle.machine_types.specs.declared.phase.Phase.{Phase}
 use Rattle.machine_types.specs.declared.phase.Phase.TheVariants as phases
 use Rattle.machine_types.specs.declared.plain.Act.TheVariants as acts
 use Rattle.laws_threads.proofs.Landing.{stand_top}
-use Rattle.laws_threads.proofs.TopStand.{top_here}
+use Rattle.laws_threads.proofs.Standings.{top_here}
 use Rattle.laws_states.specs.HeapFacts.{objects_by}
 use Rattle.laws_simulation.specs.StepsBeside.{StepsBeside}
 use Rattle.laws_simulation.proofs.Assembled.{one_step}

@@ -31,7 +31,7 @@ use Rattle.machine_types.specs.declared.phase.Phase.{Phase}
 use Rattle.machine_types.specs.declared.phase.Phase.TheVariants as phases
 use Rattle.machine_types.specs.declared.plain.Act.TheVariants as acts
 use Rattle.laws_states.specs.SiteLaws.{SitesLieInside}
-use Rattle.laws_states.proofs.LockViews.{not_held, same_there}
+use Rattle.laws_states.proofs.LockViews.{not_held}
 use Rattle.laws_states.proofs.WordViews.{set_self}
 use Rattle.laws_simulation.specs.StandsBeside.{StandsBeside}
 use Rattle.laws_simulation.specs.StepsBeside.{StepsBeside}
@@ -39,6 +39,7 @@ use Rattle.laws_simulation.proofs.HoldingsAlike.{IsHolding, alone, held_depth_is
 use Rattle.laws_simulation.proofs.BitWords.{set_other}
 use Rattle.laws_simulation.proofs.Moments.{Moment, AreRecordsWritten, same_words, first_step, own_status, own_frames, own_roots, own_ends, own_number, own_as, holdings_alike, stepped}
 use Rattle.laws_simulation.proofs.Moved.{HasFat, ends_alike, run_end, run_made, runs_outside, bits_written, owner_written, owner_keeps_bits, fat_low, fat_one, counted, knows, waits_now, owning, bit_now, set_in, bits_kept, own_off, quiet_beside, alone_beside, bits_else}
+use Rattle.machine_types.proofs.PlainStepLaws.{is_same}
 
 abbrev Turned : Thread → Bool → Phase → Thread
 Turned x b phase = record x { turns = x.turns + 1; phase = cond b phase (phases.Ending ends.Turns) }
@@ -106,7 +107,7 @@ module _ {c : MarkedProgram} {cfg : Config} {objects : List Object} {was : ℕ �
 
       step : waited q t m y (holding_at q.holdings m) ≡ Some behind
       step = ap (waited q t m y) holds.is
-          ∙ ap (λ (b : Bool). cond b (Some (with_thread (let_go q m) t (with_status y (plain.Waiting m holds.holding.depth)))) None) (ap (λ (n : ℕ). n == t) holds.holder ∙ same_there t)
+          ∙ ap (λ (b : Bool). cond b (Some (with_thread (let_go q m) t (with_status y (plain.Waiting m holds.holding.depth)))) None) (ap (λ (n : ℕ). n == t) holds.holder ∙ is_same t)
           ∙ ap (λ (d : ℕ). Some (with_thread (let_go q m) t (with_status y (plain.Waiting m d)))) holds.depth_is
 
       kept : (u n : ℕ) → has_wait_bit (references_of q.objects) later u n ≡ has_wait_bit (references_of q.objects) s.words u n

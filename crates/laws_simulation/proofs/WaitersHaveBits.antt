@@ -1,7 +1,7 @@
 -- A plain thread that waits on a monitor has its bit set in the record of the monitor's lock; so where the lock is not fat nobody
 -- waits on the monitor.
-use Rattle.std.proofs.Common.{◌≡◌, ◌≢◌, ◌⊎◌, inl, inr, ℕ, zero, suc, Bool, true, false, cond, List, [], ◌∷◌, length, Option, Some, None, refl, sym, ap, ◌∙◌, subst, arith}
-use Rattle.std.specs.Prelude.{slice_get, slice_index, map, ◌<◌, ◌==◌, ◌||◌}
+use Rattle.std.proofs.Common.{◌≡◌, ◌≢◌, ◌⊎◌, inl, inr, ℕ, zero, suc, Bool, true, false, cond, List, [], ◌∷◌, Option, Some, None, refl, sym, ap, ◌∙◌, arith, ⊎_elim}
+use Rattle.std.specs.Prelude.{slice_get, slice_index, map, ◌==◌, ◌||◌}
 use Rattle.std.specs.List.{list_any}
 use Rattle.std.proofs.lemmas.Bool.Decides.{Decides-eqb}
 use Rattle.jvm_types.specs.Numbers.{has_flag}
@@ -26,6 +26,7 @@ use Rattle.machine_types.specs.declared.phase.Phase.TheVariants as phases
 use Rattle.machine_types.specs.declared.phase.Toward.{Toward}
 use Rattle.machine_types.specs.declared.phase.Toward.TheVariants as towards
 use Rattle.machine_types.proofs.Lists.{got_below}
+use Rattle.std.proofs.lemmas.Option.{slice_get_cases}
 
 -- ---- what a bit means
 
@@ -113,14 +114,9 @@ thread_waits p bit x (Some a) y m depth f w = let e : y.status ≡ plain.Enter a
 
 -- ---- all threads
 
-some_below : {X : Type 0} (xs : List X) (i : ℕ) → i < length xs → (x : X) × (slice_get xs i ≡ Some x)
-some_below [] i h = absurd (omega (arith, h))
-some_below (x ∷ xs) zero h = (x, refl)
-some_below (x ∷ xs) (suc i) h = some_below xs i (omega (arith, h))
-
 -- the thread of the running machine that a plain thread stands for
 pub twin : (p : Program) (s : Core) (q : Plain) (u : ℕ) (y : PlainThread) → Agrees p s q → slice_get q.threads u ≡ Some y → (x : Thread) × (slice_get s.threads u ≡ Some x)
-twin p s q u y a e = some_below s.threads u (subst (λ (n : ℕ). u < n) a.many (got_below q.threads u y e))
+twin p s q u y a e = ⊎_elim (λ k. (k.0, k.2)) (λ k. absurd (let far = k.0 in let below = got_below q.threads u y e in let many = a.many in omega (arith, far, below, many))) (slice_get_cases s.threads u).1
 
 pub waiter_has_bit : (p : Program) (s : Core) (q : Plain) (u m depth : ℕ) (y : PlainThread) → Agrees p s q → slice_get q.threads u ≡ Some y → y.status ≡ plain.Waiting m depth
     → has_wait_bit (references_of q.objects) s.words u m ≡ true

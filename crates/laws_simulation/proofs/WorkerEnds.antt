@@ -14,7 +14,7 @@ use Rattle.machine_types.specs.Threads.{Thread}
 use Rattle.machine_types.specs.declared.config.Config.{Config}
 use Rattle.laws_threads.specs.GivenThread.{Given, GivenIsKept}
 use Rattle.laws_simulation.specs.OutcomeLaws.{WorkersKeepNone, EventsKeepNone, NextKeepsNone, StartKeepsNone}
-use Rattle.laws_states.proofs.OwnersStep.{set_other}
+use Rattle.laws_threads.proofs.StateSteps.{set_other}
 use Rattle.machine_types.proofs.Lists.{got_when_set}
 
 -- ---- an event

@@ -222,8 +222,6 @@ module _ (differ : SitesDiffer) (inside : SitesLieInside) (reach : EventsReachSi
   made_fat m r (Some h) at flat is = grows m h at flat.0 r flat.1 is
 
   pub locks_by_phase : (phase : Phase) → x.phase ≡ phase → IsAs phase (was t) → Done phase
-  locks_by_phase phases.Idle e k = unchanged
-  locks_by_phase phases.Start e k = unchanged
   locks_by_phase phases.Run e k = quietly phases.Run e tt
   locks_by_phase (phases.Element word stored) e k = quietly (phases.Element word stored) e tt
   locks_by_phase (phases.Made a word) e k = quietly (phases.Made a word) e tt
@@ -248,5 +246,4 @@ module _ (differ : SitesDiffer) (inside : SitesLieInside) (reach : EventsReachSi
   locks_by_phase (phases.NotifyLook m r) e k = loaded (bits_word r)
   locks_by_phase (phases.NotifyOne m r u) e k = quietly (phases.NotifyOne m r u) e tt
   locks_by_phase (phases.NotifyAll m r) e k = quietly (phases.NotifyAll m r) e tt
-  locks_by_phase (phases.Ending reason) e k = unchanged
-  locks_by_phase (phases.Ended reason) e k = unchanged
+  locks_by_phase phase e k = unchanged

@@ -18,13 +18,13 @@ use Rattle.machine_types.proofs.Lists.{got_when_set}
 
 -- ---- one happening more
 
-last_of : (c : MarkedProgram) (s : Core) (front : List Happening) (h : Happening) → all_happened c s (front ++ h ∷ []) ≡ happened c (all_happened c s front) h
-last_of c s [] h = refl
-last_of c s (g ∷ front) h = last_of c (happened c s g) front h
+pub all_append : (c : MarkedProgram) (s : Core) (hs es : List Happening) → all_happened c s (hs ++ es) ≡ all_happened c (all_happened c s hs) es
+all_append c s [] es = refl
+all_append c s (h ∷ hs) es = all_append c (happened c s h) hs es
 
 pub one_more : OneMoreHappens
 unfolding core
-one_more c cfg front h = last_of c (start c cfg) front h
+one_more c cfg front h = all_append c (start c cfg) front (h ∷ [])
 
 -- what an event of a thread of a state leaves
 pub event_is : (c : MarkedProgram) (s : Core) (t : ℕ) (x : Thread) → slice_get s.threads t ≡ Some x → event c s t ≡ record { words = words_after s.words (wanted c x x.phase); threads = slice_set s.threads t (behind c s.words x) }

@@ -1,17 +1,15 @@
 -- An event, and the begin of a part, keep what the words hold of objects and places.
-use Rattle.std.proofs.Common.{◌≡◌, ◌⊎◌, inl, inr, ℕ, zero, suc, Bool, true, false, List, [], ◌∷◌, map, Option, Some, None, refl, ap, sym, subst, ◌∙◌}
-use Rattle.std.specs.Prelude.{slice_get, slice_index, slice_set, if◌then◌else◌}
-use Rattle.lists.proofs.ListLaws.{same_some}
+use Rattle.std.proofs.Common.{◌≡◌, ◌⊎◌, inl, inr, ℕ, List, [], ◌∷◌, Option, Some, None, refl, ap, sym, subst, ◌∙◌}
+use Rattle.std.specs.Prelude.{slice_get, slice_index, slice_set}
 use Rattle.jvm_types.specs.declared.outcome.End.TheVariants as ends
 use Rattle.jvm_types.specs.declared.program.Program.{Program}
 use Rattle.checked_program.specs.MarkedProgram.{MarkedProgram, IsMarked}
 use Rattle.machine_types.specs.Accesses.{found_by, words_after}
-use Rattle.machine_types.specs.Core.{Core, event_of, part_phase, may_begin, with_roots, part_begins, next_threads, next}
+use Rattle.machine_types.specs.Core.{Core, event_of, next}
 use Rattle.machine_types.specs.Events.{wanted, moved}
 use Rattle.machine_types.specs.FoundWords.{content_at}
 use Rattle.machine_types.specs.Lawful.{IsLawful}
 use Rattle.machine_types.specs.NewObjects.{size_by, IsNewObject}
-use Rattle.machine_types.specs.Parts.{run_roots, done_roots}
 use Rattle.machine_types.specs.PlainMemory.{Object, new_object}
 use Rattle.machine_types.specs.StartLaws.{StartLiesApart}
 use Rattle.machine_types.specs.Structure.{IsAs, PhaseShows, IsStructured, Structure}
@@ -33,6 +31,7 @@ use Rattle.laws_states.proofs.WordSteps.{WordsGoOn, words_go_on}
 use Rattle.laws_states.proofs.Assembled.{Behind, Became, assembled}
 use Rattle.laws_states.proofs.Moves.{has_objects, old_finds, moved_values}
 use Rattle.laws_states.proofs.NewHeader.{behind_new, class_new}
+use Rattle.laws_states.proofs.BegunThreads.{StartsOrEnded, Begins, begun}
 
 -- ---- an event
 
@@ -147,47 +146,6 @@ pub events_keep : StructureIsKept → StartLiesApart → EventsKeepHeap
 events_keep keeps lies c objects s t marked facts lawful = event_kept keeps lies c marked objects s facts t (slice_get s.threads t) refl lawful
 
 -- ---- the begin of a part
-
-abbrev StartsOrEnded : Phase → Type 0
-StartsOrEnded phases.Start = Unit {0}
-StartsOrEnded (phases.Ended ends.Returned) = Unit {0}
-StartsOrEnded phase = ⊥
-
--- a thread is as it was, but for the roots and the phase that its part begins with
-record Begins (x y : Thread) : Type 0 where
-  frames : y.frames ≡ x.frames
-  held : y.held ≡ x.held
-  attempt : y.attempt ≡ x.attempt
-  phase : (y.phase ≡ x.phase) ⊎ StartsOrEnded y.phase
-
-same_thread : (x : Thread) → Begins x x
-same_thread x = record { frames = refl; held = refl; attempt = refl; phase = inl refl }
-
-fresh_phase : (roots : List ℕ) → StartsOrEnded (part_phase roots)
-fresh_phase [] = tt
-fresh_phase (number ∷ roots) = tt
-
-with_part : (x y : Thread) (roots : List ℕ) → y.frames ≡ x.frames → y.held ≡ x.held → y.attempt ≡ x.attempt → Begins x (with_roots roots y)
-with_part x y roots f h a = record { frames = f; held = h; attempt = a; phase = inr (fresh_phase roots) }
-
-mapped : (roots : List ℕ) (xs : List Thread) (u : ℕ) (y : Thread) → slice_get (map (with_roots roots) xs) u ≡ Some y → (x : Thread) × (slice_get xs u ≡ Some x) × Begins x y
-mapped roots [] u y e = absurd (cc)
-mapped roots (x ∷ xs) zero y e = (x, refl, subst (Begins x) (same_some e) (with_part x x roots refl refl refl))
-mapped roots (x ∷ xs) (suc u) y e = mapped roots xs u y e
-
-part_begun : (p : Program) (part : ℕ) (x : Thread) (workers : List Thread) (u : ℕ) (y : Thread) → slice_get (part_begins p part x workers) u ≡ Some y → (z : Thread) × (slice_get (x ∷ workers) u ≡ Some z) × Begins z y
-part_begun p zero x workers zero y e = (x, refl, subst (Begins x) (same_some e) (record { frames = refl; held = refl; attempt = refl; phase = inl refl }))
-part_begun p zero x workers (suc u) y e = mapped (run_roots p) workers u y e
-part_begun p (suc part) x workers zero y e = (x, refl, subst (Begins x) (same_some e) (with_part x (record x { part = 2 }) (done_roots p) refl refl refl))
-part_begun p (suc part) x workers (suc u) y e = (y, e, same_thread y)
-
-begun : (p : Program) (threads : List Thread) (u : ℕ) (y : Thread) → slice_get (next_threads p threads) u ≡ Some y → (z : Thread) × (slice_get threads u ≡ Some z) × Begins z y
-begun p [] u y e = absurd (cc)
-begun p (x ∷ workers) u y e = by_test (may_begin (x ∷ workers)) e
-  where
-    by_test : (b : Bool) → slice_get (if b then part_begins p x.part x workers else x ∷ workers) u ≡ Some y → (z : Thread) × (slice_get (x ∷ workers) u ≡ Some z) × Begins z y
-    by_test true e = part_begun p x.part x workers u y e
-    by_test false e = (y, e, same_thread y)
 
 -- where a part begins there is no frame
 no_frame : (c : MarkedProgram) (was : Phase) (y : Thread) → IsStructured c was y → StartsOrEnded y.phase → (is : Classes) → PhaseHolds c is y.phase y.frames

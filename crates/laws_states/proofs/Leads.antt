@@ -34,7 +34,7 @@ use Rattle.machine_types.specs.declared.phase.Phase.{Phase}
 use Rattle.machine_types.specs.declared.phase.Phase.TheVariants as phases
 use Rattle.laws_threads.specs.Allowed.{IsOf, Allowed}
 use Rattle.laws_threads.proofs.Landing.{stand_top}
-use Rattle.laws_threads.proofs.TopStand.{top_here}
+use Rattle.laws_threads.proofs.Standings.{top_here}
 use Rattle.laws_threads.proofs.TopEffects.{allowed_here}
 use Rattle.laws_threads.proofs.ElementEffects.{element_at}
 use Rattle.laws_threads.proofs.ThreadMove.{Lacks, LeadsTo, Move, becomes, each_move}

@@ -11,7 +11,7 @@ use Rattle.machine_types.specs.Events.{wanted, moved}
 use Rattle.machine_types.specs.Parts.{run_roots, done_roots}
 use Rattle.machine_types.specs.Threads.{Thread}
 use Rattle.laws_states.specs.ChangeLaws.{EventsLeaveOthers, PartsLeaveWords}
-use Rattle.laws_states.proofs.OwnersStep.{set_other}
+use Rattle.laws_threads.proofs.StateSteps.{set_other}
 
 -- ---- an event
 

@@ -12,6 +12,7 @@ pub mod WordSteps
 pub mod Assembled
 pub mod Moves
 pub mod NewHeader
+pub mod BegunThreads
 pub mod Kept
 pub mod Start
 pub mod LeftStands

@@ -1,7 +1,7 @@
 -- What the words say of locks, where one of them has changed; and how a thread has a monitor by them.
-use Rattle.std.proofs.Common.{◌≡◌, ◌≢◌, ◌⊎◌, inl, inr, ℕ, ◌+◌, Bool, true, false, cond, Option, Some, None, refl, sym, ap, ◌∙◌, arith}
+use Rattle.std.proofs.Common.{◌≡◌, ◌≢◌, ◌⊎◌, inl, inr, ℕ, ◌+◌, Bool, true, false, cond, Option, Some, None, refl, sym, ap, ◌∙◌}
 use Rattle.std.specs.Prelude.{◌==◌}
-use Rattle.std.proofs.lemmas.Bool.Decides.{nat_tests, Decides-eqb}
+use Rattle.std.proofs.lemmas.Bool.Decides.{Decides-eqb}
 use Rattle.std.proofs.lemmas.Bool.{ne_eqb}
 use Rattle.machine_types.specs.declared.lock.Held.{Held}
 use Rattle.machine_types.specs.declared.lock.Kept.{Kept}
@@ -9,6 +9,7 @@ use Rattle.machine_types.specs.declared.lock.Kept.TheVariants as keeps
 use Rattle.machine_types.specs.declared.lock.LockWord.{LockWord}
 use Rattle.machine_types.specs.declared.lock.LockWord.TheVariants as locks
 use Rattle.machine_types.specs.Owners.{Locks, Hold, NotHeld, HeldFlat, HeldFat, hold_by_word, hold_by_kept, hold_by_list}
+use Rattle.machine_types.proofs.PlainStepLaws.{is_same}
 
 abbrev pub set_lock : (n : ℕ) → LockWord → Locks → Locks
 set_lock n l v = record v { lock = λ m. cond (n == m) l (v.lock m) }
@@ -25,11 +26,8 @@ recounted n k count m = cond (n == m) k (count m)
 
 -- ---- tests
 
-pub same_there : (n : ℕ) → (n == n) ≡ true
-same_there n = grind (arith, nat_tests)
-
 pub itself : (t : ℕ) (h : Hold) → cond (t == t) h NotHeld ≡ h
-itself t h = ap (λ (b : Bool). cond b h NotHeld) (same_there t)
+itself t h = ap (λ (b : Bool). cond b h NotHeld) (is_same t)
 
 pub another : (t u : ℕ) (h : Hold) → t ≢ u → cond (t == u) h NotHeld ≡ NotHeld
 another t u h d = ap (λ (b : Bool). cond b h NotHeld) (ne_eqb t u d)

@@ -179,7 +179,7 @@ module _ (c : MarkedProgram) (x : Thread) (got : ℕ) where
   leads_differ phase _ (moves.to_take m count k f) i = looks_in (λ (w : Phase). phases.Take m count ≢ w) m phase k (λ tried q. cc) (λ q. cc)
   leads_differ phase _ (moves.to_take_fat m r k f) i = looks_in (λ (w : Phase). phases.TakeFat m r ≢ w) m phase k (λ tried q. cc) (λ q. cc)
   leads_differ _ _ (moves.to_element at array index stored f g t) i = absurd i
-  leads_differ _ _ (moves.to_no_print at f t) i = absurd i
+  leads_differ _ _ (moves.to_no_print at v f l t) i = absurd i
   leads_differ phase now k i = λ q. cc
 
   grown_differs : (m r : ℕ) (toward : Toward) → grown m r toward ≢ phases.FatIn m r toward

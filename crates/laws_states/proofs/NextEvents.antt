@@ -31,7 +31,8 @@ use Rattle.laws_threads.proofs.Callers.{returns_fit}
 use Rattle.laws_threads.proofs.Landing.{stand_top}
 use Rattle.laws_threads.proofs.Onwards.{same_op}
 use Rattle.laws_threads.proofs.TopEffects.{effects_allowed}
-use Rattle.laws_threads.proofs.TopStand.{top_here, thrown_stand, made_stand}
+use Rattle.laws_threads.proofs.Standings.{top_here}
+use Rattle.laws_threads.proofs.TopStand.{thrown_stand, made_stand}
 use Rattle.laws_states.specs.RunSafety.{HasCaller, GoesOnBy, HasInstruction, HasAfter, HasRoot, HasEvent}
 use Rattle.laws_threads.proofs.KeptRoots.{roots_within}
 use Rattle.laws_states.proofs.HeldOrTried.{leaves_claimed}

@@ -11,8 +11,9 @@ use Rattle.machine_types.specs.declared.lock.LockWord.{LockWord}
 use Rattle.machine_types.specs.declared.lock.LockWord.TheVariants as locks
 use Rattle.machine_types.specs.declared.phase.Phase.{Phase}
 use Rattle.machine_types.specs.declared.phase.Phase.TheVariants as phases
-use Rattle.laws_states.proofs.LockViews.{set_owner, same_there}
+use Rattle.laws_states.proofs.LockViews.{set_owner}
 use Rattle.laws_states.proofs.OwnersStep.{Owes, flat_in}
+use Rattle.machine_types.proofs.PlainStepLaws.{is_same}
 
 module _ (v : Locks) (count : ℕ → ℕ) (one owner : ℕ) where
   -- a thread that owns the record neither before nor after has all as before
@@ -38,7 +39,7 @@ module _ (v : Locks) (count : ℕ → ℕ) (one owner : ℕ) where
   knows_same u (phases.FatIn m r toward) f h = (record { unnamed = h.0.unnamed; below = h.0.below }, by_test (one == r) refl)
     where
       by_test : (b : Bool) → (one == r) ≡ b → cond b owner (v.owner r) ≡ u + 1
-      by_test true g = let owned : (v.owner one == u + 1) ≡ true = ap (λ (i : ℕ). i == u + 1) (ap v.owner ((Decides-eqb one r).0 g) ∙ h.1) ∙ same_there (u + 1) in absurd (cc)
+      by_test true g = let owned : (v.owner one == u + 1) ≡ true = ap (λ (i : ℕ). i == u + 1) (ap v.owner ((Decides-eqb one r).0 g) ∙ h.1) ∙ is_same (u + 1) in absurd (cc)
       by_test false g = h.1
   knows_same u (phases.TakeFat m r) f h = h
   knows_same u (phases.WaitLook m r depth) f h = h

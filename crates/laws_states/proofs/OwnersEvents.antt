@@ -19,10 +19,11 @@ use Rattle.machine_types.specs.declared.phase.Phase.{Phase}
 use Rattle.machine_types.specs.declared.phase.Phase.TheVariants as phases
 use Rattle.laws_threads.proofs.HeldLists.{held_monitor, held_put, held_without}
 use Rattle.laws_states.proofs.CountedPhases.{IsPlain, plain_knows, plain_saw, plain_draws_none}
-use Rattle.laws_states.proofs.LockViews.{set_lock, set_owner, set_next, recounted, same_there, itself, another, fatly, thin_if_flat, flat_alone}
+use Rattle.laws_states.proofs.LockViews.{set_lock, set_owner, set_next, recounted, itself, another, fatly, thin_if_flat, flat_alone}
 use Rattle.laws_states.proofs.LockWritten.{lock_written, put_holds, drop_holds, put_keeps, drop_keeps}
 use Rattle.laws_states.proofs.OwnerWritten.{owner_written, words_apart, take_same, own_attempt, attempt_same}
 use Rattle.laws_states.proofs.OwnersStep.{Owes, flat_in}
+use Rattle.machine_types.proofs.PlainStepLaws.{is_same}
 
 -- what became of a thread, that now holds these monitors
 pub record Became (x y : Thread) (held : List Held) (taken : ℕ) : Type 0 where
@@ -249,7 +250,7 @@ module _ (v : Locks) (count : ℕ → ℕ) (t : ℕ) (was : Phase) (x : Thread) 
   own_stored r dr d b knows take draws = record {
     own = record {
       holds = λ m. words_apart v count r (t + 1) t (v.lock m) (dr.unnamed m) ∙ o.holds m ∙ sym (held m);
-      knows = knows (set_owner r (t + 1) v) (record { unnamed = dr.unnamed; below = dr.below }) (ap (λ (b : Bool). cond b (t + 1) (v.owner r)) (same_there r));
+      knows = knows (set_owner r (t + 1) v) (record { unnamed = dr.unnamed; below = dr.below }) (ap (λ (b : Bool). cond b (t + 1) (v.owner r)) (is_same r));
       keeps_count = λ m. subst (λ (hs : List Held). IsKeptIn (held_at hs m) (count m)) (sym b.held_is) (o.keeps_count m);
       take = take (set_owner r (t + 1) v);
       attempt = own_attempt v count r (t + 1) x y b.cfg b.attempt o.attempt;
@@ -295,7 +296,7 @@ module _ (v : Locks) (count : ℕ → ℕ) (t : ℕ) (was : Phase) (x : Thread) 
       by_test : (m : ℕ) (q : Bool) → (n == m) ≡ q → hold_by_word t (v.lock m) (set_owner r (t + 1) v).owner ≡ cond q (HeldFat r) (hold_by_list (held_at x.held m))
       by_test m true e =
           ap (λ (i : ℕ). hold_by_word t (v.lock i) (set_owner r (t + 1) v).owner) (sym ((Decides-eqb n m).0 e)) ∙ ap (λ (l : LockWord). hold_by_word t l (set_owner r (t + 1) v).owner) f
-          ∙ ap (λ (q : Bool). cond (cond q (t + 1) (v.owner r) == t + 1) (HeldFat r) NotHeld) (same_there r) ∙ itself (t + 1) (HeldFat r)
+          ∙ ap (λ (q : Bool). cond (cond q (t + 1) (v.owner r) == t + 1) (HeldFat r) NotHeld) (is_same r) ∙ itself (t + 1) (HeldFat r)
       by_test m false e = words_apart v count r (t + 1) t (v.lock m) (λ g. eqb-false n m e (a.one n m r f g)) ∙ o.holds m
 
       saved : (m : ℕ) → IsKeptIn (held_at (with_held (record { monitor = n; kept = keeps.Fat r; depth = depth }) x.held) m) (count m)
@@ -334,7 +335,7 @@ module _ (v : Locks) (count : ℕ → ℕ) (t : ℕ) (was : Phase) (x : Thread) 
       by_test : (m : ℕ) (q : Bool) → (n == m) ≡ q → hold_by_word t (v.lock m) (set_owner r 0 v).owner ≡ cond q NotHeld (hold_by_list (held_at x.held m))
       by_test m true e =
           ap (λ (i : ℕ). hold_by_word t (v.lock i) (set_owner r 0 v).owner) (sym ((Decides-eqb n m).0 e)) ∙ ap (λ (l : LockWord). hold_by_word t l (set_owner r 0 v).owner) fat.0
-          ∙ ap (λ (q : Bool). cond (cond q 0 (v.owner r) == t + 1) (HeldFat r) NotHeld) (same_there r) ∙ another 0 (t + 1) (HeldFat r) (λ q. absurd (omega (arith, q)))
+          ∙ ap (λ (q : Bool). cond (cond q 0 (v.owner r) == t + 1) (HeldFat r) NotHeld) (is_same r) ∙ another 0 (t + 1) (HeldFat r) (λ q. absurd (omega (arith, q)))
       by_test m false e = words_apart v count r 0 t (v.lock m) (λ q. eqb-false n m e (a.one n m r fat.0 q)) ∙ o.holds m
 
       few : (m : ℕ) (q : Bool) → hold_by_list (held_at y.held m) ≡ cond q NotHeld (hold_by_list (held_at x.held m)) → count m + flat_in m y + x.counts.locked ≤ count m + flat_in m x + y.counts.locked

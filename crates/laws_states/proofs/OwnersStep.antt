@@ -1,8 +1,8 @@
 -- One event of a thread changes one word: what it has to show of the thread, of the others, and of the words.
-use Rattle.std.proofs.Common.{◌≡◌, ◌≢◌, ◌⊎◌, inl, inr, ℕ, zero, suc, ◌+◌, ◌<◌, ◌≤◌, Bool, true, false, cond, List, [], ◌∷◌, Option, Some, refl, sym, ap, ◌∙◌, subst, arith}
+use Rattle.std.proofs.Common.{◌≡◌, ◌≢◌, ◌⊎◌, inl, inr, ℕ, ◌+◌, ◌<◌, ◌≤◌, Bool, true, false, cond, List, [], Option, Some, refl, sym, ap, ◌∙◌, subst, arith}
 use Rattle.std.specs.Prelude.{◌==◌, slice_get, slice_set}
 use Rattle.std.specs.List.{sum_by}
-use Rattle.std.proofs.lemmas.Bool.Decides.{nat_tests, Decides-eqb}
+use Rattle.std.proofs.lemmas.Bool.Decides.{Decides-eqb}
 use Rattle.std.proofs.lemmas.Bool.{eqb-false}
 use Rattle.checked_program.specs.MarkedProgram.{MarkedProgram}
 use Rattle.machine_types.specs.Core.{Core}
@@ -17,16 +17,9 @@ use Rattle.laws_threads.specs.StructureLaws.{counted_by}
 use Rattle.laws_threads.specs.StateLaws.{counted_of, counted_phase_at}
 use Rattle.laws_states.proofs.Sums.{sum_set}
 use Rattle.laws_states.proofs.CountedPhases.{was_draws, phase_draws, counted_draws}
-use Rattle.laws_threads.proofs.StateSteps.{set_there}
+use Rattle.laws_threads.proofs.StateSteps.{set_there, set_other}
 
 -- ---- one thread of a list is changed
-
-pub set_other : {A : Type 0} (xs : List A) (i j : ℕ) (x : A) → (j == i) ≡ false → slice_get (slice_set xs i x) j ≡ slice_get xs j
-set_other [] i j x d = refl
-set_other (a ∷ xs) zero zero x d = absurd (grind (arith, nat_tests, d))
-set_other (a ∷ xs) zero (suc j) x d = refl
-set_other (a ∷ xs) (suc i) zero x d = refl
-set_other (a ∷ xs) (suc i) (suc j) x d = set_other xs i j x (grind (arith, nat_tests, d))
 
 -- ---- what an event owes
 

@@ -93,8 +93,6 @@ module _ (c : MarkedProgram) (marked : IsMarked c) (objects : List Object) (s : 
   enter_fits m HasNot object = at_lock c marked objects s facts m (Load m) object refl
 
   pub phase_fits : (phase : Phase) → IsOldPhase phase → PhaseHolds c (HasClass objects) phase x.frames → PhaseFits phase → Asks c objects phase x.frames x.held → FitsIf c.program objects s (content_at c x phase) (wanted c x phase)
-  phase_fits phases.Idle old h b k = tt
-  phase_fits phases.Start old h b k = tt
   phase_fits phases.Run old h b k = run_fits c marked objects s facts x x.frames h attempt
   phase_fits (phases.Element word stored) old h b k = element_fits c marked objects s facts word stored (element_site c marked objects s facts word stored x.frames h.0 h.1 k.0 k.1)
   phase_fits (phases.Made a word) old h b k = absurd old
@@ -116,8 +114,7 @@ module _ (c : MarkedProgram) (marked : IsMarked c) (objects : List Object) (s : 
   phase_fits (phases.NotifyLook m r) old h b k = at_bits c marked objects s facts r (Load (bits_word r)) b refl
   phase_fits (phases.NotifyOne m r u) old h b k = at_bits c marked objects s facts r (And (bits_word r) (2 ^ 64 - 1 - bit_of u)) b.0 refl
   phase_fits (phases.NotifyAll m r) old h b k = at_bits c marked objects s facts r (Store (bits_word r) 0) b refl
-  phase_fits (phases.Ending e) old h b k = tt
-  phase_fits (phases.Ended e) old h b k = tt
+  phase_fits phase old h b k = tt
 
 -- ---- what the phase asks is so
 

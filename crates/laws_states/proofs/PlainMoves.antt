@@ -80,7 +80,7 @@ NeverPlain phase = GoesPlain phase → ⊥
 
 leads_plain : (p : Program) (s : Thread) (got : ℕ) (was now : Phase) → LeadsTo p s got was now → GoesPlain was → IsPlain now
 leads_plain p s got _ _ (moves.to_element at array index stored e f t) n = tt
-leads_plain p s got _ _ (moves.to_no_print at e t) n = tt
+leads_plain p s got _ _ (moves.to_no_print at v e l t) n = tt
 leads_plain p s got was _ (moves.to_take m count k e) n = absurd (looks_in NeverPlain m was k (λ tried n. n) (λ n. n) n)
 leads_plain p s got was _ (moves.to_take_fat m r k e) n = absurd (looks_in NeverPlain m was k (λ tried n. n) (λ n. n) n)
 leads_plain p s got was now k n = absurd n

@@ -28,7 +28,7 @@ use Rattle.machine_types.specs.Typed.{Classes, KindHolds, FramesHold, IsElementO
 use Rattle.laws_threads.specs.Allowed.{IsNamedField, TakenHold, MadeAs, Allowed}
 use Rattle.laws_threads.proofs.Landing.{stand_top}
 use Rattle.laws_threads.proofs.Onwards.{same_op}
-use Rattle.laws_threads.proofs.TopStand.{top_here}
+use Rattle.laws_threads.proofs.Standings.{top_here}
 use Rattle.laws_threads.proofs.TopEffects.{taken_here, allowed_here}
 use Rattle.laws_states.specs.Counters.{most_size}
 

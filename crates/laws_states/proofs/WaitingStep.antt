@@ -18,8 +18,7 @@ use Rattle.laws_threads.specs.StructureLaws.{counted_by}
 use Rattle.laws_threads.specs.StateLaws.{counted_of, counted_phase_at}
 use Rattle.laws_states.proofs.Lists.{same_or_not}
 use Rattle.laws_states.proofs.LockViews.{fatly}
-use Rattle.laws_states.proofs.OwnersStep.{set_other}
-use Rattle.laws_threads.proofs.StateSteps.{set_there}
+use Rattle.laws_threads.proofs.StateSteps.{set_there, set_other}
 
 -- ---- who owns a record
 

@@ -17,8 +17,9 @@ use Rattle.laws_states.specs.HeapFacts.{HeapFacts}
 use Rattle.laws_states.specs.SiteLaws.{SitesDiffer, SitesLieInside}
 use Rattle.laws_states.specs.Sites.{Site, Counter, OwnerOf, LockOf, site_word, HasObject, IsThere}
 use Rattle.laws_states.proofs.Lists.{contained_got, contains_first, contains_more, set_here, set_there}
-use Rattle.laws_states.proofs.LockViews.{set_lock, set_owner, set_next, same_there}
+use Rattle.laws_states.proofs.LockViews.{set_lock, set_owner, set_next}
 use Rattle.laws_states.proofs.LeftStands.{by_parts}
+use Rattle.machine_types.proofs.PlainStepLaws.{is_same}
 
 -- ---- lock words
 
@@ -32,7 +33,7 @@ lock_of_word (locks.Flagged t) = by_parts (4 * (t + 1) + 3) 3 (t + 1) (omega ari
 
 number_got : (objects : List Object) (i : ℕ) (o : Object) → slice_get objects i ≡ Some o → has_number (references_of objects) o.reference ≡ true
 number_got [] i o e = absurd (cc)
-number_got (x ∷ xs) zero o e = let same : x ≡ o = cc in subst (λ (z : Object). x.reference == z.reference || has_number (references_of xs) z.reference ≡ true) same (ap (λ (b : Bool). b || has_number (references_of xs) x.reference) (same_there x.reference))
+number_got (x ∷ xs) zero o e = let same : x ≡ o = cc in subst (λ (z : Object). x.reference == z.reference || has_number (references_of xs) z.reference ≡ true) same (ap (λ (b : Bool). b || has_number (references_of xs) x.reference) (is_same x.reference))
 number_got (x ∷ xs) (suc i) o e = by_test (x.reference == o.reference) (number_got xs i o e)
   where
     by_test : (b : Bool) → has_number (references_of xs) o.reference ≡ true → b || has_number (references_of xs) o.reference ≡ true

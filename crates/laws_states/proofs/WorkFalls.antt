@@ -316,7 +316,7 @@ module _ (c : MarkedProgram) (x : Thread) (got : ℕ) where
       let far : leaving_held (held_at x.held m) ≡ leaving_work (keeps.Flat count) = ap leaving_held e ∙ ap leaving_work kept in
       to_phase x (phases.Leave m a) (phases.Grow m (towards.Leave a)) (omega (arith, far))
   leads_less _ _ (moves.to_element at array index stored e f t) i = absurd i
-  leads_less _ _ (moves.to_no_print at e t) i = absurd i
+  leads_less _ _ (moves.to_no_print at v e l t) i = absurd i
   leads_less phase now k i = to_phase x phase now (omega arith)
 
   turns_less : (phase now : Phase) → TurnsTo x got phase now → TurnsFit phase x.turns x.cfg.turns → x.turns < x.cfg.turns

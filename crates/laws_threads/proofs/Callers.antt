@@ -36,7 +36,8 @@ use Rattle.laws_threads.specs.TopFrames.{BelowFits, CallerFits, ReturnsFit, Hand
 use Rattle.laws_threads.proofs.Landing.{stand_top, rules_at}
 use Rattle.laws_threads.proofs.Calls.{CallRow, call_row}
 use Rattle.laws_threads.proofs.Lists.{zip_length}
-use Rattle.laws_threads.proofs.TopStand.{top_here, stands_here}
+use Rattle.laws_threads.proofs.Standings.{top_here}
+use Rattle.laws_threads.proofs.TopStand.{stands_here}
 use Rattle.laws_threads.proofs.TopEffects.{goes_to}
 
 -- ---- calls

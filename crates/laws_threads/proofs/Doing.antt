@@ -33,7 +33,7 @@ use Rattle.laws_threads.proofs.Landing.{rules_at}
 use Rattle.laws_threads.proofs.Calls.{call_row, call_receiver}
 use Rattle.laws_threads.proofs.CalledEntries.{call_values, enters}
 use Rattle.laws_threads.proofs.TypedMoves.{goes, waits}
-use Rattle.laws_threads.proofs.TopStand.{top_here}
+use Rattle.laws_threads.proofs.Standings.{top_here}
 use Rattle.laws_threads.proofs.TopEffects.{taken_here}
 use Rattle.laws_threads.proofs.Onwards.{keeps_all, keeps_top, keeps_push, HasObjects, FoundHolds, Onwards, IfOnwards, goes_out}
 

@@ -176,12 +176,12 @@ module _ (c : MarkedProgram) (marked : IsMarked c) (s : Thread) (at : Top) (t : 
   pub does : (e : Effect) (got : ℕ) (onward : Onward) → effect_at c.program at ≡ e → done c.program at e got ≡ Some onward → StaysStructured c was (goes_on s onward)
   does e got onward f d = subst (λ (o : Option Onward). StaysStructured c was (goes_on_if s o)) d (step e f got)
 
-  pub refuses : (x : outcomes.Thrown) → Refuses c.program at x → StaysStructured c was (goes_on s (threw x at))
-  refuses _ (past_end array index stored f) = threw_on ArrayIndexOutOfBoundsException (effects.Indexes array index stored) f refl (none_by (effects.Indexes array index stored) f (λ m n. n))
-  refuses _ (no_memory word size f) = threw_on OutOfMemoryError (effects.Makes word size) f refl (none_by (effects.Makes word size) f (λ m n. n))
-  refuses _ (waits_unheld m f) = threw_on IllegalMonitorStateException (effects.Waits m) f refl (none_by (effects.Waits m) f (λ m n. n))
-  refuses _ (notifies_unheld m (of_one f)) = threw_on IllegalMonitorStateException (effects.Notifies m) f refl (none_by (effects.Notifies m) f (λ m n. n))
-  refuses _ (notifies_unheld m (of_all f)) = threw_on IllegalMonitorStateException (effects.NotifiesAll m) f refl (none_by (effects.NotifiesAll m) f (λ m n. n))
+  pub refuses : (x : outcomes.Thrown) (got : ℕ) → Refuses c.program got at x → StaysStructured c was (goes_on s (threw x at))
+  refuses _ got (past_end array index stored f e) = threw_on ArrayIndexOutOfBoundsException (effects.Indexes array index stored) f refl (none_by (effects.Indexes array index stored) f (λ m n. n))
+  refuses _ got (no_memory word size f) = threw_on OutOfMemoryError (effects.Makes word size) f refl (none_by (effects.Makes word size) f (λ m n. n))
+  refuses _ got (waits_unheld m f) = threw_on IllegalMonitorStateException (effects.Waits m) f refl (none_by (effects.Waits m) f (λ m n. n))
+  refuses _ got (notifies_unheld m (of_one f)) = threw_on IllegalMonitorStateException (effects.Notifies m) f refl (none_by (effects.Notifies m) f (λ m n. n))
+  refuses _ got (notifies_unheld m (of_all f)) = threw_on IllegalMonitorStateException (effects.NotifiesAll m) f refl (none_by (effects.NotifiesAll m) f (λ m n. n))
 
   -- ---- an element
 

@@ -213,7 +213,7 @@ module _ (c : MarkedProgram) (s : Thread) (got : ℕ) where
   leads_bounded _ _ (moves.to_notify_one m r e) b w = to (phases.NotifyLook m r) (phases.NotifyOne m r (lowest_of got)) tt b (b.phase, lowest_few got) (λ few. few) (λ few. few) tt tt (spent (phases.NotifyLook m r) tt b)
   leads_bounded _ _ (moves.to_end e) b w = ended c.program s e b
   leads_bounded _ _ (moves.to_element at array index stored e f t) b w = to phases.Run (phases.Element (value_word array (low index)) stored) tt b tt (λ few. few) (λ few. few) tt tt (spent phases.Run tt b)
-  leads_bounded _ _ (moves.to_no_print at e t) b w = to phases.Run (phases.Ending ends.Prints) tt b tt (λ few. few) (λ few. few) tt tt (less (spent phases.Run tt b))
+  leads_bounded _ _ (moves.to_no_print at v e l t) b w = to phases.Run (phases.Ending ends.Prints) tt b tt (λ few. few) (λ few. few) tt tt (less (spent phases.Run tt b))
 
   -- by a turn that failed
   turn : (phase now : Phase) → IsUnderWay phase → Ready phase → PhaseFits now → (s.turns + 1 < s.cfg.turns → TurnsFit now (s.turns + 1) s.cfg.turns) → (s.counts.instructions ≤ s.cfg.steps → StepsFit now s.counts.instructions s.cfg.steps)

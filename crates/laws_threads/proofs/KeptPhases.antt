@@ -123,7 +123,7 @@ module _ (c : MarkedProgram) (marked : IsMarked c) (is : Classes) (has : HasObje
   module _ (s : Thread) (got : ℕ) where
     goes_holds : (was : Phase) (o : Onward) → GoesBy c.program s got was o → IsTypedIn c is s got was → Onwards c is s.frames o
     goes_holds _ o (moves.by_effect at e _ found same silent d) t = does_at c marked is has e got o s.frames at t.holds found same (t.finds at found) d
-    goes_holds _ _ (moves.by_machine at class found k) t = refuses_at c marked is has class s.frames at t.holds found k
+    goes_holds _ _ (moves.by_machine at class found k) t = refuses_at c marked is has class got s.frames at t.holds found k
     goes_holds _ _ (moves.by_nobody at m count h found y there l) t = notifies_at c marked is has m s.frames at t.holds found y
     goes_holds _ o (moves.by_element word stored at found) t = subst (λ w. IfOnwards c is s.frames (option_map (λ at. Running (went_on c.program at (element_made stored got))) w)) found (element_kept word stored s.frames got t.holds.1 t.shows t.finds)
     goes_holds _ _ (moves.by_object a word) t = made_kept a word s.frames t.finds t.holds
@@ -156,7 +156,7 @@ module _ (c : MarkedProgram) (marked : IsMarked c) (is : Classes) (has : HasObje
     leads_holds _ _ (moves.to_notify_one m r e) h = (h, tt)
     leads_holds _ _ (moves.to_end e) h = (h, tt)
     leads_holds _ _ (moves.to_element at array index stored found same e) h = ((finds_element c marked is has array index stored s.frames at h found same, h), tt)
-    leads_holds _ _ (moves.to_no_print at found e) h = (h, tt)
+    leads_holds _ _ (moves.to_no_print at v found l e) h = (h, tt)
 
     turns_holds : (was now : Phase) → TurnsTo s got was now → PhaseHolds c is was s.frames → Holds now × FramesHold c is s.frames
     turns_holds was _ (moves.looks_again m k) h = let l = looks_holds m was k h in ((l, tt), l.1)

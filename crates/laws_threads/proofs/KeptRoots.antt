@@ -245,7 +245,7 @@ module _ (c : MarkedProgram) (s : Thread) (got : ℕ) (h : IsRooted c.program s)
   leads_framed : (was now : Phase) → LeadsTo c.program s got was now → FramesFit was s.frames s.roots → FramesFit now s.frames s.roots
   leads_framed _ _ (moves.to_end e) f = tt
   leads_framed _ _ (moves.to_no_record m t) f = tt
-  leads_framed _ _ (moves.to_no_print at e t) f = tt
+  leads_framed _ _ (moves.to_no_print at v e l t) f = tt
   leads_framed was _ (moves.to_take m count k e) f = framed (phases.Take m count) s.frames s.roots tt (frame_in was s.frames s.roots (looks_framed m was k) f)
   leads_framed was _ (moves.to_take_fat m r k e) f = framed (phases.TakeFat m r) s.frames s.roots tt (frame_in was s.frames s.roots (looks_framed m was k) f)
   leads_framed was now k f = f

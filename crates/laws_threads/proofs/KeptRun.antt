@@ -31,7 +31,7 @@ use Rattle.machine_types.specs.Words.{header, header_class, value_word}
 use Rattle.laws_threads.specs.Allowed.{OneOf, HasRowTypes, GivenHolds, WriteHolds, MadeAs, Allowed, IsByMachine}
 use Rattle.laws_threads.proofs.Lifts.{frame_up, below_up}
 use Rattle.laws_threads.proofs.TypedMoves.{goes}
-use Rattle.laws_threads.proofs.TopStand.{top_here}
+use Rattle.laws_threads.proofs.Standings.{top_here}
 use Rattle.laws_threads.proofs.TopEffects.{made_size, allowed_here}
 use Rattle.laws_threads.proofs.Onwards.{Keeps, keeps_top, HasObjects, FoundHolds, AreInside, Onwards, IfOnwards}
 use Rattle.laws_threads.proofs.Doing.{runs_on, throws_it, does_it}
@@ -75,14 +75,14 @@ module _ (c : MarkedProgram) (marked : IsMarked c) (is : Classes) (has : HasObje
       at_top (λ fs at. effect_at c.program at ≡ e → FoundHolds c.program is at.target (effect_at c.program at) got → done c.program at e got ≡ Some o → Onwards c is fs o)
       (λ f fs h b same found d. subst (IfOnwards c is (f ∷ fs)) d (does_it c marked is has f fs h b e got same (allowed_in f fs h e same) (subst (λ e. FoundHolds c.program is h.stands.target e got) same found)))
 
-  refused : (class : Thrown) (at : Top) → Refuses c.program at class → IsByMachine class
-  refused _ at (past_end array index stored e) = tt
-  refused _ at (no_memory word size e) = tt
-  refused _ at (waits_unheld m e) = tt
-  refused _ at (notifies_unheld m y) = tt
+  refused : (class : Thrown) (got : ℕ) (at : Top) → Refuses c.program got at class → IsByMachine class
+  refused _ got at (past_end array index stored e t) = tt
+  refused _ got at (no_memory word size e) = tt
+  refused _ got at (waits_unheld m e) = tt
+  refused _ got at (notifies_unheld m y) = tt
 
-  pub refuses_at : (class : Thrown) (fs : List Frame) (at : Top) → FramesHold c is fs → top_of c.program fs ≡ Some at → Refuses c.program at class → Onwards c is fs (threw class at)
-  refuses_at class fs at h found k = let own = refused class at k in at_top (λ fs at. Onwards c is fs (threw class at)) (λ f fs h b. throws_it c marked is has f fs h b class own) fs at h found
+  pub refuses_at : (class : Thrown) (got : ℕ) (fs : List Frame) (at : Top) → FramesHold c is fs → top_of c.program fs ≡ Some at → Refuses c.program got at class → Onwards c is fs (threw class at)
+  refuses_at class got fs at h found k = let own = refused class got at k in at_top (λ fs at. Onwards c is fs (threw class at)) (λ f fs h b. throws_it c marked is has f fs h b class own) fs at h found
 
   -- with nothing made
   goes_at : (e : Effect) → ((f : Frame) (h : FrameHolds c is 0 f) → AllowedIn f h e → OneOf (edges h.stands.insn) h.stands.insn.next × HasRowTypes h.stands.method is (row_of c.program h.stands.method h.stands.insn h.stands.target) 0)

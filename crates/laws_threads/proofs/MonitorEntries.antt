@@ -105,6 +105,16 @@ tried_deeper : (b : Bool) (inner : ℕ) → cond b (inner + 1 + 1) 0 ≡ cond b 
 tried_deeper true inner = omega arith
 tried_deeper false inner = omega arith
 
+-- the attempt at a phase that enters a monitor is one on it: there is none where the monitor is neither held nor tried
+pub none_tried : (c : MarkedProgram) (m tried : ℕ) (fs : List Frame) (held : List Held) (h : Option Held) (o : Option Attempt) → claim_by m h o ≡ HasNot → AttemptStandsIn c (phases.Enter m tried) fs held o → o ≡ None
+none_tried c m tried fs held (Some h) o e k = absurd (cc)
+none_tried c m tried fs held None None e k = refl
+none_tried c m tried fs held None (Some a) e k = absurd (by_monitor (a.monitor == m) (eq-eqb a.monitor m (sym k.inside)) e)
+  where
+    by_monitor : (b : Bool) → b ≡ true → cond b (Tries a) HasNot ≡ HasNot → ⊥
+    by_monitor true f e = cc
+    by_monitor false f e = cc
+
 -- the monitor is held
 module _ (begin : BeginsAttempt) (entered_again : EntersInside) (c : MarkedProgram) (s : Thread) (m tried : ℕ) (k : Stands c (phases.Enter m tried) s.frames s.held s.attempt) (inside : AttemptStandsIn c (phases.Enter m tried) s.frames s.held s.attempt) where
   pub again : (h : Held) → held_at s.held m ≡ Some h → StaysStructured c (phases.Enter m tried) (runs (record s { held = with_held (deeper h) s.held }))
@@ -161,13 +171,3 @@ module _ (begin : BeginsAttempt) (entered_again : EntersInside) (c : MarkedProgr
         once = k.once;
         phase_shows = entered_frame c m s.frames k.phase_shows.enters;
       }
-
-  -- no attempt on it is under way where it is neither held nor tried
-  pub none_tried : (held : Option Held) (o : Option Attempt) → claim_by m held o ≡ HasNot → AttemptStandsIn c (phases.Enter m tried) s.frames s.held o → o ≡ None
-  none_tried (Some h) o e k = absurd (cc)
-  none_tried None None e k = refl
-  none_tried None (Some a) e k = absurd (by_monitor (a.monitor == m) (eq-eqb a.monitor m (sym k.inside)) e)
-    where
-      by_monitor : (b : Bool) → b ≡ true → cond b (Tries a) HasNot ≡ HasNot → ⊥
-      by_monitor true f e = cc
-      by_monitor false f e = cc

@@ -31,7 +31,7 @@ use Rattle.machine_types.specs.Words.{header_class, header_length}
 use Rattle.laws_threads.specs.Allowed.{IsNamedField, IsByMachine}
 use Rattle.laws_threads.proofs.Landing.{stand_top, rules_at}
 use Rattle.laws_threads.proofs.TypedMoves.{given_holds, resumes, catches}
-use Rattle.laws_threads.proofs.TopStand.{top_here}
+use Rattle.laws_threads.proofs.Standings.{top_here}
 use Rattle.laws_threads.proofs.Callers.{row_of_call}
 
 -- ---- what lies below a section

@@ -24,7 +24,7 @@ set_there [] i x y z e f = absurd (cc)
 set_there (a ∷ xs) zero x y z e f = cc
 set_there (a ∷ xs) (suc i) x y z e f = set_there xs i x y z e f
 
-set_other : {A : Type 0} (xs : List A) (i j : ℕ) (x : A) → (j == i) ≡ false → slice_get (slice_set xs i x) j ≡ slice_get xs j
+pub set_other : {A : Type 0} (xs : List A) (i j : ℕ) (x : A) → (j == i) ≡ false → slice_get (slice_set xs i x) j ≡ slice_get xs j
 set_other [] i j x d = refl
 set_other (a ∷ xs) zero zero x d = absurd (grind (arith, nat_tests, d))
 set_other (a ∷ xs) zero (suc j) x d = refl

@@ -63,11 +63,11 @@ pub data IsNotify (p : Program) (at : Top) (m : ℕ) : Type 0 where
   of_all : effect_at p at ≡ NotifiesAll m → IsNotify p at m
 
 -- what the machine throws in place of an effect
-pub data Refuses (p : Program) (at : Top) : Thrown → Type 0 where
-  past_end : (array index : ℕ) (stored : Option ℕ) → effect_at p at ≡ Indexes array index stored → Refuses p at ArrayIndexOutOfBoundsException
-  no_memory : (word size : ℕ) → effect_at p at ≡ Makes word size → Refuses p at OutOfMemoryError
-  waits_unheld : (m : ℕ) → effect_at p at ≡ Waits m → Refuses p at IllegalMonitorStateException
-  notifies_unheld : (m : ℕ) → IsNotify p at m → Refuses p at IllegalMonitorStateException
+pub data Refuses (p : Program) (got : ℕ) (at : Top) : Thrown → Type 0 where
+  past_end : (array index : ℕ) (stored : Option ℕ) → effect_at p at ≡ Indexes array index stored → nat_lt (low index) (header_length got) ≡ false → Refuses p got at ArrayIndexOutOfBoundsException
+  no_memory : (word size : ℕ) → effect_at p at ≡ Makes word size → Refuses p got at OutOfMemoryError
+  waits_unheld : (m : ℕ) → effect_at p at ≡ Waits m → Refuses p got at IllegalMonitorStateException
+  notifies_unheld : (m : ℕ) → IsNotify p at m → Refuses p got at IllegalMonitorStateException
 
 -- what its event takes is not there
 pub data Lacks (c : MarkedProgram) (s : Thread) (got : ℕ) : Phase → Type 0 where
@@ -84,7 +84,7 @@ pub data Lacks (c : MarkedProgram) (s : Thread) (got : ℕ) : Phase → Type 0 w
 
 pub data GoesBy (p : Program) (s : Thread) (got : ℕ) : Phase → Onward → Type 0 where
   by_effect : (at : Top) (e : Effect) (o : Onward) → top_of p s.frames ≡ Some at → effect_at p at ≡ e → IsByDone e → done p at e got ≡ Some o → GoesBy p s got phases.Run o
-  by_machine : (at : Top) (class : Thrown) → top_of p s.frames ≡ Some at → Refuses p at class → GoesBy p s got phases.Run (threw class at)
+  by_machine : (at : Top) (class : Thrown) → top_of p s.frames ≡ Some at → Refuses p got at class → GoesBy p s got phases.Run (threw class at)
   by_nobody : (at : Top) (m count : ℕ) (h : Held) → top_of p s.frames ≡ Some at → IsNotify p at m → held_at s.held m ≡ Some h → h.kept ≡ keeps.Flat count → GoesBy p s got phases.Run (Running (went_on p at 0))
   by_element : (word : ℕ) (stored : Option ℕ) (at : Top) → top_of p s.frames ≡ Some at → GoesBy p s got (phases.Element word stored) (Running (went_on p at (element_made stored got)))
   by_object : (a word : ℕ) → GoesBy p s got (phases.Made a word) (Running (pushed a s.frames))
@@ -116,7 +116,7 @@ pub data LeadsTo (p : Program) (s : Thread) (got : ℕ) : Phase → Phase → Ty
   to_end : (e : End) → LeadsTo p s got (phases.Ending e) (phases.Ended e)
   to_element : (at : Top) (array index : ℕ) (stored : Option ℕ) → top_of p s.frames ≡ Some at → effect_at p at ≡ Indexes array index stored → nat_lt (low index) (header_length got) ≡ true
       → LeadsTo p s got phases.Run (phases.Element (value_word array (low index)) stored)
-  to_no_print : (at : Top) → top_of p s.frames ≡ Some at → has_print_left s ≡ false → LeadsTo p s got phases.Run (phases.Ending ends.Prints)
+  to_no_print : (at : Top) (n : ℕ) → top_of p s.frames ≡ Some at → effect_at p at ≡ Prints n → has_print_left s ≡ false → LeadsTo p s got phases.Run (phases.Ending ends.Prints)
 
 -- by a turn that failed
 pub data TurnsTo (s : Thread) (got : ℕ) : Phase → Phase → Type 0 where
@@ -267,10 +267,10 @@ module _ (c : MarkedProgram) (s : Thread) (got : ℕ) where
     done_made e is silent None d = record { move = stays (no_way at e found is silent d); is = refl }
     done_made e is silent (Some o) d = record { move = goes o (by_effect at e o found is silent d); is = refl }
 
-    thrown_made : (class : Thrown) → Refuses c.program at class → Made phases.Run (goes_on s (threw class at))
+    thrown_made : (class : Thrown) → Refuses c.program got at class → Made phases.Run (goes_on s (threw class at))
     thrown_made class k = record { move = goes (threw class at) (by_machine at class found k); is = refl }
 
-    if_held_made : (m : ℕ) (o : Option Held) → held_at s.held m ≡ o → Refuses c.program at IllegalMonitorStateException → (more : Kept → Thread) → ((h : Held) → held_at s.held m ≡ Some h → Made phases.Run (more h.kept)) → Made phases.Run (if_held s at o more)
+    if_held_made : (m : ℕ) (o : Option Held) → held_at s.held m ≡ o → Refuses c.program got at IllegalMonitorStateException → (more : Kept → Thread) → ((h : Held) → held_at s.held m ≡ Some h → Made phases.Run (more h.kept)) → Made phases.Run (if_held s at o more)
     if_held_made m None e k more f = thrown_made IllegalMonitorStateException k
     if_held_made m (Some h) e k more f = f h e
 
@@ -290,9 +290,9 @@ module _ (c : MarkedProgram) (s : Thread) (got : ℕ) where
 
     did_made : (e : Effect) → effect_at c.program at ≡ e → Made phases.Run (did c.program s at e got)
     did_made (Indexes array index stored) is = by_test (Made phases.Run) (nat_lt (low index) (header_length got)) _ _
-        (λ t. record { move = leads (phases.Element (value_word array (low index)) stored) (to_element at array index stored found is t); is = refl }) (λ t. thrown_made ArrayIndexOutOfBoundsException (past_end array index stored is))
+        (λ t. record { move = leads (phases.Element (value_word array (low index)) stored) (to_element at array index stored found is t); is = refl }) (λ t. thrown_made ArrayIndexOutOfBoundsException (past_end array index stored is t))
     did_made (Makes word size) is = by_test (Made phases.Run) (nat_le (got + size) c.program.heap) _ _ (λ t. record { move = makes at word size found is t; is = refl }) (λ t. thrown_made OutOfMemoryError (no_memory word size is))
-    did_made (Prints n) is = by_test (Made phases.Run) (has_print_left s) _ _ (λ t. record { move = prints at n found is t; is = refl }) (λ t. record { move = leads (phases.Ending ends.Prints) (to_no_print at found t); is = refl })
+    did_made (Prints n) is = by_test (Made phases.Run) (has_print_left s) _ _ (λ t. record { move = prints at n found is t; is = refl }) (λ t. record { move = leads (phases.Ending ends.Prints) (to_no_print at n found is t); is = refl })
     did_made (Waits m) is = if_held_made m (held_at s.held m) refl (waits_unheld m is) (waits (record s { frames = went_on c.program at 0 }) m) (waits_made m is)
     did_made (Notifies m) is = if_held_made m (held_at s.held m) refl (notifies_unheld m (of_one is)) (notifies (record s { frames = went_on c.program at 0 }) (phases.NotifyLook m)) (notifies_made m (phases.NotifyLook m) (of_one is) looks_who)
     did_made (NotifiesAll m) is = if_held_made m (held_at s.held m) refl (notifies_unheld m (of_all is)) (notifies (record s { frames = went_on c.program at 0 }) (phases.NotifyAll m)) (notifies_made m (phases.NotifyAll m) (of_all is) clears_all)
@@ -524,6 +524,12 @@ same_onward f same s (Some (Entering m frames)) = same s frames (phases.Enter m 
 same_onward f same s (Some (Leaving m a frames)) = same s frames (phases.Leave m a) s.turns
 same_onward f same s (Some RootReturned) = same s [] (root_over s.roots) s.turns
 same_onward f same s (Some (Uncaught class)) = same s [] (phases.Ending (ends.Uncaught class)) s.turns
+
+pub goes_held : (s : Thread) (o : Onward) → (goes_on s o).held ≡ s.held
+goes_held s o = same_onward (λ (s : Thread). s.held) (λ s frames phase turns. refl) s (Some o)
+
+pub goes_attempt : (s : Thread) (o : Onward) → (goes_on s o).attempt ≡ s.attempt
+goes_attempt s o = same_onward (λ (s : Thread). s.attempt) (λ s frames phase turns. refl) s (Some o)
 
 -- the phases that it comes to
 abbrev pub IsOnward : Phase → Type 0

@@ -212,7 +212,7 @@ module _ (begin : BeginsAttempt) (entered_again : EntersInside) (is : Classes) (
 
   goes_keeps : (phase : Phase) (o : Onward) → GoesBy c.program s got phase o → s.phase ≡ phase → IsAs phase was → Keeps (goes_on s o)
   goes_keeps _ o (moves.by_effect top x _ t f silent d) here e = instruction.does c marked s top t (at phases.Run e) (within phases.Run e) was (same phases.Run here (sym e)) x got o f d
-  goes_keeps _ _ (moves.by_machine top class t y) here e = instruction.refuses c marked s top t (at phases.Run e) (within phases.Run e) was (same phases.Run here (sym e)) class y
+  goes_keeps _ _ (moves.by_machine top class t y) here e = instruction.refuses c marked s top t (at phases.Run e) (within phases.Run e) was (same phases.Run here (sym e)) class got y
   goes_keeps _ _ (moves.by_nobody top m count h t y there l) here e = instruction.notifies_nobody c marked s top t (at phases.Run e) (within phases.Run e) was (same phases.Run here (sym e)) m y
   goes_keeps _ _ (moves.by_element word stored top t) here e = element_keeps c marked was s word stored (element_made stored got) (at (phases.Element word stored) e) (within (phases.Element word stored) e) top t
   goes_keeps _ _ (moves.by_object a word) here e = made_keeps c marked was s a word (at (phases.Made a word) e) (none_in (phases.Made a word) (λ m k. k) e)
@@ -234,7 +234,7 @@ module _ (begin : BeginsAttempt) (entered_again : EntersInside) (is : Classes) (
     not_held_on = not_held m (held_at s.held m) s.attempt free
 
     none_on : s.attempt ≡ None
-    none_on = none_tried begin entered_again c s m tried (at (phases.Enter m tried) e) (within (phases.Enter m tried) e) (held_at s.held m) s.attempt free (within (phases.Enter m tried) e)
+    none_on = none_tried c m tried s.frames s.held (held_at s.held m) s.attempt free (within (phases.Enter m tried) e)
 
     entered_stands : Stands c (phases.Acquire m) s.frames s.held s.attempt
     entered_stands = to_acquire begin entered_again c s m tried (at (phases.Enter m tried) e) (within (phases.Enter m tried) e) not_held_on none_on
@@ -264,7 +264,7 @@ module _ (begin : BeginsAttempt) (entered_again : EntersInside) (is : Classes) (
   leads_keeps _ _ (moves.to_notify_one m r f) here e h = from (phases.NotifyLook m r) _ e (to_notify_one c s m r (none_in (phases.NotifyLook m r) (λ n k. k) e) (lowest_of got) (at (phases.NotifyLook m r) e))
   leads_keeps _ _ (moves.to_end reason) here e h = ends_keeps c was s reason e structured.stands structured.attempt
   leads_keeps _ _ (moves.to_element top array index stored t f x) here e h = instruction.element_begins c marked s top t (at phases.Run e) (within phases.Run e) was (same phases.Run here (sym e)) array index stored f
-  leads_keeps _ _ (moves.to_no_print top t f) here e h = instruction.prints_no_more c marked s top t (at phases.Run e) (within phases.Run e) was (same phases.Run here (sym e))
+  leads_keeps _ _ (moves.to_no_print top v t l f) here e h = instruction.prints_no_more c marked s top t (at phases.Run e) (within phases.Run e) was (same phases.Run here (sym e))
 
   turns_keeps : (phase now : Phase) → TurnsTo s got phase now → IsAs phase was → Keeps (failed_turn s now)
   turns_keeps phase _ (moves.looks_again m k) e = let l = looks_stands m phase k e in looks_again c s m was l.0 l.1

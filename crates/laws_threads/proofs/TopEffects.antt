@@ -54,7 +54,8 @@ use Rattle.laws_threads.proofs.Typing.{operands, edge_at}
 use Rattle.laws_threads.proofs.Allowed.{MakesAt, below_args, effect_allowed}
 use Rattle.laws_threads.proofs.Landing.{laid_at, rules_at, stand_top}
 use Rattle.laws_threads.proofs.Calls.{CallRow, call_row, takes_arguments, HasReceiver, call_receiver, receiver_first}
-use Rattle.laws_threads.proofs.TopStand.{top_here, row_here}
+use Rattle.laws_threads.proofs.Standings.{top_here}
+use Rattle.laws_threads.proofs.TopStand.{row_here}
 use Rattle.laws_sections.proofs.HiddenThis.{long_arguments}
 
 -- ---- the effect is allowed
