@@ -6,6 +6,7 @@ use Rattle.std.proofs.lemmas.Bool.Decides.{nat_tests}
 use Rattle.std.proofs.lemmas.Slice.Eq.{bytes_eq-Decides}
 use Rattle.std.proofs.lemmas.Bool.{eqb-true, ltb-true, and_parts}
 use Rattle.mnemonics.specs.Mnemonics.{MnemonicList, mnemonic_in, mnemonic, opcode_among, opcode_of, all_names, constant_names, load_names, store_names, stack_move_names, arithmetic_names, control_names, reference_names}
+use Rattle.std.proofs.lemmas.Option.{same_Some}
 
 abbrev pub is_opcode : Option ℕ → ℕ → Bool
 is_opcode None b = false
@@ -29,9 +30,6 @@ opcode_is (Some c) b h = ap Some (same c b h)
 name_is : (o : Option (List ℕ)) (text : List ℕ) → is_name o text ≡ true → o ≡ Some text
 name_is None text h = absurd (cc)
 name_is (Some name) text h = ap Some ((bytes_eq-Decides name text).0 h)
-
-some_is : {A : Type 0} {x y : A} → Some x ≡ Some y → x ≡ y
-some_is e = cc
 
 -- the rows of each group
 constants_are : list_all is_row constant_names ≡ true
@@ -76,7 +74,7 @@ among (r ∷ rs) b name ok e = by_test (λ h. among rs b name (and_parts (is_row
     rest = and_parts (is_name (mnemonic r.0) r.1) (nat_lt r.0 256) parts.1
 
     by_test : (mnemonic_in rs b ≡ Some name → (opcode_among all_names name ≡ Some b) × (b < 256)) → (t : Bool) → (b == r.0) ≡ t → (if t then Some r.1 else mnemonic_in rs b) ≡ Some name → (opcode_among all_names name ≡ Some b) × (b < 256)
-    by_test more true t h = subst (λ (x : List ℕ). (opcode_among all_names x ≡ Some b) × (b < 256)) (some_is h) (subst (λ (x : ℕ). (opcode_among all_names r.1 ≡ Some x) × (x < 256)) (sym (eqb-true b r.0 t)) (opcode_is _ _ parts.0, ltb-true _ _ rest.1))
+    by_test more true t h = subst (λ (x : List ℕ). (opcode_among all_names x ≡ Some b) × (b < 256)) (same_Some _ _ h) (subst (λ (x : ℕ). (opcode_among all_names r.1 ≡ Some x) × (x < 256)) (sym (eqb-true b r.0 t)) (opcode_is _ _ parts.0, ltb-true _ _ rest.1))
     by_test more false t h = more h
 
 group : (t : Bool) (rs : MnemonicList) (b : ℕ) (name : List ℕ) (y : Option (List ℕ)) → list_all is_row rs ≡ true → (y ≡ Some name → (opcode_among all_names name ≡ Some b) × (b < 256)) → (if t then mnemonic_in rs b else y) ≡ Some name → (opcode_among all_names name ≡ Some b) × (b < 256)
@@ -115,7 +113,7 @@ named_by (r ∷ rs) b name ok e = by_test (λ h. named_by rs b name (and_parts (
     rest = and_parts (is_name (mnemonic r.0) r.1) (nat_lt r.0 256) parts.1
 
     by_test : (opcode_among rs name ≡ Some b → mnemonic b ≡ Some name) → (t : Bool) → bytes_eq r.1 name ≡ t → (if t then Some r.0 else opcode_among rs name) ≡ Some b → mnemonic b ≡ Some name
-    by_test more true t h = subst (λ (x : ℕ). mnemonic x ≡ Some name) (some_is h) (name_is _ _ rest.0 ∙ ap Some ((bytes_eq-Decides r.1 name).0 t))
+    by_test more true t h = subst (λ (x : ℕ). mnemonic x ≡ Some name) (same_Some _ _ h) (name_is _ _ rest.0 ∙ ap Some ((bytes_eq-Decides r.1 name).0 t))
     by_test more false t h = more h
 
 -- the mnemonic of the opcode that was found by it
