@@ -12,12 +12,9 @@ use Rattle.jvm_types.specs.declared.op_row.OpRow.{OpRow}
 use Rattle.jvm_types.specs.declared.typing.VType.{VType}
 use Rattle.jvm_types.specs.declared.typing.VType.TheVariants.{Int, Null, Ref, This, New, Top}
 use Rattle.jvm_types.proofs.FilledLaws.{length_filled}
+use Rattle.code_visits.proofs.StayLaws.{or_none}
 
 -- ---- whether some place has a property
-
-or_assoc : (a b c : Bool) → (a || (b || c)) ≡ ((a || b) || c)
-or_assoc true b c = refl
-or_assoc false b c = refl
 
 or_comm : (a b : Bool) → (a || b) ≡ (b || a)
 or_comm true true = refl
@@ -25,25 +22,25 @@ or_comm true false = refl
 or_comm false true = refl
 or_comm false false = refl
 
-or_last : (a : Bool) → (a || false) ≡ a
-or_last true = refl
-or_last false = refl
-
 any_append : (p : VType → Bool) (xs ys : List VType) → list_any p (xs ++ ys) ≡ (list_any p xs || list_any p ys)
 any_append p [] ys = refl
-any_append p (x ∷ xs) ys = rw (any_append p xs ys) (or_assoc (p x) (list_any p xs) (list_any p ys))
+any_append p (x ∷ xs) ys = by_first (p x)
+  where
+    by_first : (b : Bool) → (b || list_any p (xs ++ ys)) ≡ ((b || list_any p xs) || list_any p ys)
+    by_first true = refl
+    by_first false = any_append p xs ys
 
 pub any_reverse : (p : VType → Bool) (xs : List VType) → list_any p (reverse xs) ≡ list_any p xs
 any_reverse p [] = refl
 any_reverse p (x ∷ xs) = ap (λ l. list_any p l) (reverse-append (x ∷ []) xs) ∙ any_append p (reverse xs) (x ∷ []) ∙ ap (λ b. b || (p x || false)) (any_reverse p xs)
-    ∙ ap (λ b. list_any p xs || b) (or_last (p x)) ∙ or_comm (list_any p xs) (p x)
+    ∙ ap (λ b. list_any p xs || b) (or_none (p x)) ∙ or_comm (list_any p xs) (p x)
 
 any_unknown : (p : VType → Bool) → p Top ≡ false → (k : ℕ) → list_any p (replicate k Top) ≡ false
 any_unknown p e zero = refl
 any_unknown p e (suc k) = rw e (any_unknown p e k)
 
 pub any_filled : (p : VType → Bool) → p Top ≡ false → (n : ℕ) (ts : List VType) → list_any p (filled n ts) ≡ list_any p ts
-any_filled p e n ts = any_append p ts (replicate (n - length ts) Top) ∙ ap (λ b. list_any p ts || b) (any_unknown p e (n - length ts)) ∙ or_last (list_any p ts)
+any_filled p e n ts = any_append p ts (replicate (n - length ts) Top) ∙ ap (λ b. list_any p ts || b) (any_unknown p e (n - length ts)) ∙ or_none (list_any p ts)
 
 -- of a stack, by its slice with the top last, and of locals, by the first of them
 pub any_stack : (p : VType → Bool) (slice stack : List VType) → reverse slice ≡ stack → list_any p slice ≡ list_any p stack

@@ -1,25 +1,22 @@
 -- Frames of the same types are one, and a frame meets itself in itself.
-use Rattle.std.proofs.Common.{◌≡◌, ◌≢◌, ℕ, Bool, true, false, not, List, [], ◌∷◌, length, reverse, refl, sym, ap, ◌∙◌, arith}
+use Rattle.std.proofs.Common.{◌≡◌, ◌≢◌, ℕ, Bool, true, false, not, List, [], ◌∷◌, length, reverse, refl, sym, ap, ◌∙◌}
 use mathlib.Core.Bool.{beq}
 use Rattle.std.specs.Prelude.{◌&&◌, ◌==◌}
-use Rattle.std.proofs.lemmas.Bool.Decides.{nat_tests}
-use Rattle.jvm_types.specs.Types.{TypeFrame, filled, same_type, same_ready, same_frame, all_pairs, if_same_place, meet, meets, meet_frames}
+use Rattle.jvm_types.specs.Types.{TypeFrame, filled, same_type, all_pairs, if_same_place, meet, meets, meet_frames}
 use Rattle.jvm_types.specs.declared.typing.VType.{VType}
 use Rattle.jvm_types.specs.declared.typing.VType.TheVariants.{Ref, New}
-use Rattle.laws_programs.proofs.LocalRisen.{same_frames}
+use Rattle.laws_programs.proofs.LocalRisen.{same_lists}
 use Rattle.code_table.proofs.MeetLaws.{meet_same_class}
+use Rattle.std.proofs.lemmas.Bool.{eq-eqb}
 
 -- ---- the same types
-
-one_list : (ts us : List VType) → all_pairs same_type ts us ≡ true → ts ≡ us
-one_list ts us e = ap (λ (f : TypeFrame). f.stack) (same_frames (record { stack = ts; locals = []; ready = true }) (record { stack = us; locals = []; ready = true }) (rw e refl))
 
 pub unlike : (ts us : List VType) → length ts ≢ length us → false ≡ all_pairs same_type ts us
 unlike ts us n = by_test (all_pairs same_type ts us) refl
   where
     by_test : (b : Bool) → all_pairs same_type ts us ≡ b → false ≡ b
     by_test false e = refl
-    by_test true e = absurd (n (ap length (one_list ts us e)))
+    by_test true e = absurd (n (ap length (same_lists ts us e)))
 
 pub one_answer : (a b : Bool) → not (beq a b) ≡ false → a ≡ b
 one_answer true true e = refl
@@ -32,14 +29,11 @@ pub one_frame : (f g : TypeFrame) (stack others locals other_locals : List VType
     → reverse stack ≡ f.stack → reverse others ≡ g.stack → filled (length f.locals) locals ≡ f.locals → filled (length g.locals) other_locals ≡ g.locals
     → all_pairs same_type stack others ≡ true → all_pairs same_type locals other_locals ≡ true → f ≡ g
 one_frame f g stack others locals other_locals long ready es eo el em s l =
-    let stacks : f.stack ≡ g.stack = sym es ∙ ap reverse (one_list stack others s) ∙ eo in
-    let all : f.locals ≡ g.locals = sym el ∙ ap (λ ts. filled (length f.locals) ts) (one_list locals other_locals l) ∙ ap (λ n. filled n other_locals) long ∙ em in
+    let stacks : f.stack ≡ g.stack = sym es ∙ ap reverse (same_lists stack others s) ∙ eo in
+    let all : f.locals ≡ g.locals = sym el ∙ ap (λ ts. filled (length f.locals) ts) (same_lists locals other_locals l) ∙ ap (λ n. filled n other_locals) long ∙ em in
     λ i. record { stack = stacks i; locals = all i; ready = ready i }
 
 -- ---- a frame and itself
-
-same_number : (n : ℕ) → (n == n) ≡ true
-same_number n = grind (arith, nat_tests)
 
 same_place : (p : ℕ) (b : Bool) → b ≡ true → if_same_place b (New p) ≡ New p
 same_place p true e = refl
@@ -47,7 +41,7 @@ same_place p false e = absurd (cc)
 
 meet_self : (t : VType) → meet t t ≡ t
 meet_self (Ref c) = ap Ref (meet_same_class c)
-meet_self (New p) = same_place p (p == p) (same_number p)
+meet_self (New p) = same_place p (p == p) (eq-eqb p p refl)
 meet_self t = refl
 
 meets_self : (ts : List VType) → meets ts ts ≡ ts

@@ -55,12 +55,9 @@ ready_stays true true e = refl
 ready_stays true false e = e
 ready_stays false both e = refl
 
-not_false : (b : Bool) → not b ≡ false → b ≡ true
-not_false true e = refl
-not_false false e = absurd (cc)
-
 by_told : (s l was both same : Bool) → ((not s || not l) || (was && not (was && both))) ≡ not same → s ≡ true → l ≡ true → (was && not both) ≡ false → same ≡ true
-by_told true true was both same told es el er = not_false same (sym told ∙ ready_stays was both er)
+by_told true true was both true told es el er = refl
+by_told true true was both false told es el er = absurd (let bad : true ≡ false = sym told ∙ ready_stays was both er in cc)
 by_told false l was both same told es el er = absurd (cc)
 by_told true false was both same told es el er = absurd (cc)
 

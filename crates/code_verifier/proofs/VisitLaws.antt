@@ -1,13 +1,12 @@
 -- One visit, step by step.
-use Rattle.std.proofs.Common.{◌≡◌, ℕ, false, List, [], ◌∷◌, ◌++◌, length, Option, Some, None, Result, Ok, Err, refl, sym, subst, ap, ◌∙◌}
+use Rattle.std.proofs.Common.{◌≡◌, ℕ, false, List, [], ◌∷◌, length, Option, Some, None, Result, Ok, Err, refl, sym, subst, ap, ◌∙◌}
 use Rattle.std.specs.Prelude.{slice_get}
 use Rattle.std.specs.Option.{IfSome}
-use Rattle.std.proofs.lemmas.List.{length-map, length-set}
-use Rattle.jvm_types.specs.CodeTable.{row, locals_after}
+use Rattle.std.proofs.lemmas.List.{length-map}
+use Rattle.jvm_types.specs.CodeTable.{row}
 use Rattle.jvm_types.specs.Types.{TypeFrame, entry_type_frame}
 use Rattle.jvm_types.specs.Verifying.{started, after_start, frame_after, mistypes, broken_before, broken_after, catch_fault, covering, edges, takes_too_many, gives_too_many, lacks_locals, misuses_object}
 use Rattle.jvm_types.specs.declared.code.Insn.{Insn}
-use Rattle.jvm_types.specs.declared.op_row.Given.{Given}
 use Rattle.jvm_types.specs.declared.op_row.OpRow.{OpRow}
 use Rattle.jvm_types.specs.declared.program.Row.{Row}
 use Rattle.jvm_types.specs.declared.program.Target.{Target}
@@ -16,8 +15,7 @@ use Rattle.jvm_types.specs.declared.program.Program.{Program}
 use Rattle.jvm_types.specs.declared.refusal.VRule.{VRule}
 use Rattle.jvm_types.specs.declared.refusal.VRule.TheVariants.{V1, V2, V3, V4, V7}
 use Rattle.jvm_types.specs.declared.typing.VType.{VType}
-use Rattle.jvm_types.specs.declared.typing.VType.TheVariants.{Top}
-use Rattle.laws_programs.proofs.FrameBounds.{unbroken}
+use Rattle.laws_programs.proofs.FrameBounds.{unbroken, locals_kept}
 use Rattle.checked_program.specs.Visits.{PlanNode, acts_on}
 use Rattle.code_visits.specs.Waiting.{plan_node_at}
 use Rattle.code_visits.specs.Level.{AreLevel}
@@ -42,16 +40,12 @@ none_mistyped m insn r f e =
 
 -- ---- as many locals
 
-written_length : (writes : Option (ℕ × Given)) (stack locals : List VType) → length (locals_after Top (λ t. t) writes stack locals) ≡ length locals
-written_length None stack locals = refl
-written_length (Some write) stack locals = length-set locals write.0 _
-
 started_length : (object : Option (VType × ℕ)) (f : TypeFrame) → length (after_start object f).locals ≡ length f.locals
 started_length None f = refl
 started_length (Some object) f = length-map f.locals _
 
 after_length : (m : MethodInfo) (r : OpRow) (f : TypeFrame) → length (frame_after m r f).locals ≡ length f.locals
-after_length m r f = started_length (started m.class r.takes f.stack) _ ∙ written_length r.writes f.stack f.locals
+after_length m r f = started_length (started m.class r.takes f.stack) _ ∙ locals_kept r.writes f.stack f.locals
 
 pub after_wide : (m : MethodInfo) (insn : Insn) (r : OpRow) (f after : TypeFrame) (kept : Option TypeFrame) → IsPrepared m insn r f after kept → HasLocals m f → HasLocals m after
 after_wide m insn r f after kept p h = ap (λ (s : TypeFrame). length s.locals) p.after_is ∙ after_length m r f ∙ h

@@ -6,3 +6,4 @@ pub mod FirstNodes
 pub mod ActLaws
 pub mod TypeVisits
 pub mod TypesEnd
+pub mod MethodsWithin

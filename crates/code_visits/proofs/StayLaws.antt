@@ -5,7 +5,7 @@ use Rattle.checked_program.specs.Visits.{Meeting, PlanNode, joined}
 use Rattle.code_visits.specs.Waiting.{plan_node_at}
 use Rattle.code_visits.specs.Level.{IsLawfulMeeting}
 
-or_none : (b : Bool) → (b || false) ≡ b
+pub or_none : (b : Bool) → (b || false) ≡ b
 or_none true = refl
 or_none false = refl
 

@@ -1,20 +1,12 @@
-use Rattle.std.proofs.Common.{◌≡◌, ℕ, zero, suc, ◌<◌, List, [], ◌∷◌, length, take, Option, Some, None, sym, subst, arith}
-use Rattle.std.specs.Prelude.{slice_get, IfOk, IfErr, IsSomeAnd}
+use Rattle.std.proofs.Common.{◌≡◌, [], take, Some, None, sym}
+use Rattle.std.specs.Prelude.{slice_get, IfOk, IfErr}
 use Rattle.jvm_types.specs.Verifying.{IsTypingOf}
 use Rattle.jvm_types.specs.declared.typing.Typing.{Typing}
-use Rattle.jvm_types.specs.declared.program.MethodInfo.{MethodInfo}
 use Rattle.code_verifier.specs.declared.error.VerifyError.TheVariants.{Memory}
 use Rattle.laws_programs.proofs.CodeOrder.{laid_out}
 use Rattle.code_verifier.proofs.OneAnswer.{only_by, typed_by}
 use Rattle.code_verifier.proofs.verifying.verify_within.Goals as goal
-
-is_there : (methods : List MethodInfo) (i : ℕ) → i < length methods → None ≡ slice_get methods i → ⊥
-is_there [] i h e = absurd (omega (arith, h))
-is_there (m ∷ ms) zero h e = absurd (cc)
-is_there (m ∷ ms) (suc i) h e = is_there ms i (omega (arith, h)) e
-
-some_and : (o : Option MethodInfo) (m : MethodInfo) (P : MethodInfo → Type 0) → Some m ≡ o → P m → IsSomeAnd o P
-some_and o m P e h = subst (λ (x : Option MethodInfo). IsSomeAnd x P) e h
+use Rattle.code_visits.proofs.MethodsWithin.{is_there, some_and}
 
 pub verify_method-requires : goal.verify_method-requires
 verify_method-requires c = laid_out c.args.p.now (take c.args.method c.args.p.now.methods) c.in-Some.m.now (c.requires.program.methods c.args.method c.in-Some.m.now (sym c.in-Some.ensures.value))

@@ -5,10 +5,7 @@ use Rattle.checked_program.specs.Visits.{Meeting, PlanNode, joined}
 use Rattle.code_visits.specs.Waiting.{plan_node_at, met, changes}
 use Rattle.code_visits.proofs.WaitingLaws.{node_at_get, set_here}
 use Rattle.code_visits.proofs.meeting.bring_to.Goals as goal
-
-or_true : (a b : Bool) → b ≡ true → (a || b) ≡ true
-or_true true b e = refl
-or_true false b e = e
+use Rattle.std.proofs.lemmas.Bool.{or_right}
 
 or_false : (a b : Bool) → b ≡ false → (a || b) ≡ a
 or_false true b e = refl
@@ -17,7 +14,7 @@ or_false false b e = e
 -- what an edge does, by whether it changes the frame
 changed_node : {A : Type 0} (d : Meeting A) (node : PlanNode A) (frame : Option A) (f : A) → changes d frame f ≡ true → joined d node.waits frame f ≡ record { frame = Some (met d frame f); waits = true }
 changed_node d node None f e = refl
-changed_node d node (Some g) f e = ap (λ (w : Bool). record { frame = Some (d.meet g f); waits = w }) (or_true node.waits (not (d.same g (d.meet g f))) e)
+changed_node d node (Some g) f e = ap (λ (w : Bool). record { frame = Some (d.meet g f); waits = w }) (or_right node.waits (not (d.same g (d.meet g f))) e)
 
 same_node : {A : Type 0} (d : Meeting A) (node : PlanNode A) (frame : Option A) (f : A) → changes d frame f ≡ false → joined d node.waits frame f ≡ record { frame = Some (met d frame f); waits = node.waits }
 same_node d node None f e = absurd (cc)
