@@ -24,11 +24,11 @@ or_comm false false = refl
 
 any_append : (p : VType → Bool) (xs ys : List VType) → list_any p (xs ++ ys) ≡ (list_any p xs || list_any p ys)
 any_append p [] ys = refl
-any_append p (x ∷ xs) ys = by_first (p x)
+any_append p (x ∷ xs) ys = by_first (p x) (any_append p xs ys)
   where
-    by_first : (b : Bool) → (b || list_any p (xs ++ ys)) ≡ ((b || list_any p xs) || list_any p ys)
-    by_first true = refl
-    by_first false = any_append p xs ys
+    by_first : (b : Bool) → list_any p (xs ++ ys) ≡ (list_any p xs || list_any p ys) → (b || list_any p (xs ++ ys)) ≡ ((b || list_any p xs) || list_any p ys)
+    by_first true e = refl
+    by_first false e = e
 
 pub any_reverse : (p : VType → Bool) (xs : List VType) → list_any p (reverse xs) ≡ list_any p xs
 any_reverse p [] = refl
