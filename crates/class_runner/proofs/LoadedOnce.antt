@@ -1,7 +1,6 @@
 -- Some files are loaded to one program, and no such files are refused.
-use Rattle.std.proofs.Common.{◌≡◌, ℕ, suc, ◌+◌, inl, inr, List, [], ◌∷◌, length, map, reverse, Option, Some, None, Result, Ok, Err, IfOk, IfErr, refl, sym, subst, ap, ◌∙◌}
+use Rattle.std.proofs.Common.{◌≡◌, ℕ, suc, ◌+◌, inl, inr, List, [], ◌∷◌, length, Option, Some, None, Result, Ok, Err, IfOk, IfErr, refl, sym, subst, ap, ◌∙◌}
 use Rattle.std.specs.List.{AllZip, AllByRecursion, zip}
-use Rattle.std.specs.Option.{option_map}
 use Rattle.std.proofs.lemmas.Slice.Zip.{AllZip-long}
 use Rattle.jvm_types.specs.ClassGrammar.{IsClass, Spells}
 use Rattle.jvm_types.specs.ReadingClass.{fault_of, class_fault}
@@ -23,7 +22,6 @@ use Rattle.jvm_types.specs.declared.code.Insn.{Insn}
 use Rattle.jvm_types.specs.declared.program.MethodInfo.{MethodInfo}
 use Rattle.jvm_types.specs.declared.program.Program.{Program}
 use Rattle.jvm_types.specs.declared.typing.Typing.{Typing}
-use Rattle.jvm_types.specs.declared.refusal.Rule.{Rule}
 use Rattle.jvm_types.specs.declared.refusal.Rule.TheVariants.{C, K, L, V, S, A}
 use Rattle.jvm_types.specs.declared.refusal.VRule.{VRule}
 use Rattle.jvm_types.specs.declared.refusal.SRule.{SRule}
@@ -32,13 +30,14 @@ use Rattle.jvm_types.proofs.ClassLawProofs.{one_class, read_if_spelled}
 use Rattle.jvm_types.proofs.CodeLaws.{faultless}
 use Rattle.jvm_types.proofs.CodeOnce.{once}
 use Rattle.laws_programs.proofs.OneTyping.{one_typing, no_refusal}
-use Rattle.laws_sections.proofs.TagAnswers.{one_tagging_all, no_refusal as no_tag_refusal}
+use Rattle.laws_sections.proofs.TagAnswers.{no_refusal as no_tag_refusal}
 use Rattle.laws_sections.proofs.OneMarks.{one_mark}
-use Rattle.class_runner.specs.Loading.{AreRead, IsLoaded, IsAccepted, IsFirstRefused, IsFirstUntyped, IsFirstUntagged, IsUntyped, IsUntagged, IsRefusedBy, IsNotLoaded, read_fault, decode_fault}
+use Rattle.class_runner.specs.Loading.{AreRead, IsLoaded, IsAccepted, IsFirstRefused, IsFirstUntyped, IsFirstUntagged, IsUntyped, IsUntagged, IsNotLoaded, read_fault, decode_fault}
 use Rattle.class_runner.specs.LoadingLaws.{LoadedAccepted, AcceptedNotRefused}
 use Rattle.class_runner.specs.Stages.{IsLinkedFrom}
 use Rattle.class_runner.specs.declared.loading.FileError.{FileError}
 use Rattle.class_runner.specs.declared.loading.FileError.TheVariants.{Memory, Refused}
+use Rattle.monitor_tags.proofs.OneAnswer.{one_of}
 
 -- ---- each stage answers one thing
 
@@ -62,16 +61,11 @@ same_typing p m t u h k =
     let frames : t.frames ≡ u.frames = one_typing p m t.frames u.frames h k in
     λ i. record { frames = frames i }
 
-same_tags : (p : Program) (m : MethodInfo) (t u : Tags) → IsTaggingOf p m t → IsTaggingOf p m u → t ≡ u
-same_tags p m t u h k =
-    let frames : t.frames ≡ u.frames = one_tagging_all p m t.frames u.frames h k in
-    λ i. record { frames = frames i }
-
 typings_once : (p : Program) (ms : List MethodInfo) (ts us : List Typing) → AreTypings p ms ts → AreTypings p ms us → ts ≡ us
 typings_once p ms ts us h k = each_once (IsTypingOf p) (same_typing p) ms ts us h k
 
 tags_once : (p : Program) (ms : List MethodInfo) (ts us : List Tags) → AreTaggings p ms ts → AreTaggings p ms us → ts ≡ us
-tags_once p ms ts us h k = each_once (IsTaggingOf p) (same_tags p) ms ts us h k
+tags_once p ms ts us h k = each_once (IsTaggingOf p) (one_of p) ms ts us h k
 
 -- ---- the same files are loaded to the same
 

@@ -15,7 +15,7 @@ use Rattle.monitor_tags.specs.declared.error.TagError.{TagError}
 use Rattle.monitor_tags.specs.declared.error.TagError.TheVariants.{Memory, Refused}
 use Rattle.monitor_tags.specs.Visiting.{error_of, IsTagRefusal}
 
-one_of : (p : Program) (m : MethodInfo) (found t : Tags) → IsTaggingOf p m found → IsTaggingOf p m t → found ≡ t
+pub one_of : (p : Program) (m : MethodInfo) (found t : Tags) → IsTaggingOf p m found → IsTaggingOf p m t → found ≡ t
 one_of p m found t a b = λ i. record { frames = one_tagging_all p m found.frames t.frames a b i }
 
 pub only_by : (p : Program) (m : MethodInfo) (result : Result Tags TagError) → IfOk result (IsTaggingOf p m) → (t : Tags) → IsTaggingOf p m t → IfOk result (λ found. found ≡ t)

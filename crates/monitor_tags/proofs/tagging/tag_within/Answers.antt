@@ -1,20 +1,12 @@
-use Rattle.std.proofs.Common.{◌≡◌, ℕ, zero, suc, ◌<◌, List, [], ◌∷◌, length, take, Option, Some, None, sym, subst, arith}
-use Rattle.std.specs.Prelude.{slice_get, IfOk, IfErr, IsSomeAnd}
+use Rattle.std.proofs.Common.{◌≡◌, [], take, Some, None, sym}
+use Rattle.std.specs.Prelude.{slice_get, IfOk, IfErr}
 use Rattle.checked_program.specs.Tagging.{IsTaggingOf}
 use Rattle.checked_program.specs.declared.tag.Tags.{Tags}
-use Rattle.jvm_types.specs.declared.program.MethodInfo.{MethodInfo}
 use Rattle.monitor_tags.specs.declared.error.TagError.TheVariants.{Memory}
 use Rattle.laws_programs.proofs.CodeOrder.{laid_out}
 use Rattle.monitor_tags.proofs.OneAnswer.{only_by, tagged_by}
 use Rattle.monitor_tags.proofs.tagging.tag_within.Goals as goal
-
-is_there : (methods : List MethodInfo) (i : ℕ) → i < length methods → None ≡ slice_get methods i → ⊥
-is_there [] i h e = absurd (omega (arith, h))
-is_there (m ∷ ms) zero h e = absurd (cc)
-is_there (m ∷ ms) (suc i) h e = is_there ms i (omega (arith, h)) e
-
-some_and : (o : Option MethodInfo) (m : MethodInfo) (P : MethodInfo → Type 0) → Some m ≡ o → P m → IsSomeAnd o P
-some_and o m P e h = subst (λ (x : Option MethodInfo). IsSomeAnd x P) e h
+use Rattle.code_visits.proofs.MethodsWithin.{is_there, some_and}
 
 pub tag_method-requires : goal.tag_method-requires
 tag_method-requires c = laid_out c.args.p.now (take c.args.method c.args.p.now.methods) c.in-Some.m.now (c.requires.program.methods c.args.method c.in-Some.m.now (sym c.in-Some.ensures.value))
