@@ -22,6 +22,7 @@ use Rattle.asm_text.specs.declared.places.CodePart.TheVariants as code_parts
 use Rattle.asm_text.specs.declared.places.Place.TheVariants as places
 use Rattle.asm_text.proofs.BuildLaws.{Leads, first_line, both_lead, leads_as, stays, entered, UpTo, up_more, LeadsUpTo, code_up_more, one_behind, constants_lead, interfaces_lead, attrs_lead, rows_lead, code_attrs_lead}
 use Rattle.asm_text.proofs.CodeBuildLaws.{code_items, code_leads}
+use Rattle.jvm_types.proofs.EachAfter.{all_weaker}
 
 -- ---- the lines of a class
 
@@ -125,15 +126,11 @@ method_attr_bytes pool (member_attrs.Code k) h = h.bytes
 method_attr_bytes pool (member_attrs.ConstantValue name constant) h = absurd h
 method_attr_bytes pool (member_attrs.Other a) h = tt
 
-pub each : {A : Type 0} (P Q : A → Type 0) → ((x : A) → P x → Q x) → (xs : List A) → AllByRecursion P xs → AllByRecursion Q xs
-each P Q f [] h = tt
-each P Q f (x ∷ xs) h = (f x h.0, each P Q f xs h.1)
-
 fields_bytes : (pool : List Constant) (ms : List Member) → AllByRecursion (IsField pool) ms → AllByRecursion (λ m. AllByRecursion HasBytes m.attrs) ms
-fields_bytes pool ms h = each (IsField pool) (λ m. AllByRecursion HasBytes m.attrs) (λ m f. each (IsFieldAttr pool) HasBytes (field_attr_bytes pool) m.attrs f.attrs.each) ms h
+fields_bytes pool ms h = all_weaker (IsField pool) (λ m. AllByRecursion HasBytes m.attrs) (λ m f. all_weaker (IsFieldAttr pool) HasBytes (field_attr_bytes pool) m.attrs f.attrs.each) ms h
 
 methods_bytes : (pool : List Constant) (ms : List Member) → AllByRecursion (IsMethod pool) ms → AllByRecursion (λ m. AllByRecursion HasBytes m.attrs) ms
-methods_bytes pool ms h = each (IsMethod pool) (λ m. AllByRecursion HasBytes m.attrs) (λ m f. each (IsMethodAttr pool) HasBytes (method_attr_bytes pool) m.attrs f.member.attrs.each) ms h
+methods_bytes pool ms h = all_weaker (IsMethod pool) (λ m. AllByRecursion HasBytes m.attrs) (λ m f. all_weaker (IsMethodAttr pool) HasBytes (method_attr_bytes pool) m.attrs f.member.attrs.each) ms h
 
 -- the lines of a class make it, and the text may end behind them
 pub record Makes (c : ClassFile) : Type 0 where

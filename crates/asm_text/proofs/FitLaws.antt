@@ -34,8 +34,8 @@ use Rattle.asm_text.specs.declared.items.Item.{Item}
 use Rattle.asm_text.specs.declared.items.Item.TheVariants.{Entry, Interface, Attribute, Row}
 use Rattle.asm_text.proofs.EncodeLaws.{insn_operands, case_numbers, LineLaw, LineHolds, line_holds, high_is, target_fits, near_far}
 use Rattle.asm_text.proofs.CodeBuildLaws.{insn_item, code_items, code_items_by, code_read, at_end}
-use Rattle.asm_text.proofs.ClassBuildLaws.{code_attr_items, member_attr_items, member_items, class_items, each}
-use Rattle.jvm_types.proofs.EachAfter.{all_append}
+use Rattle.asm_text.proofs.ClassBuildLaws.{code_attr_items, member_attr_items, member_items, class_items}
+use Rattle.jvm_types.proofs.EachAfter.{all_append, all_weaker}
 
 -- ---- operands
 
@@ -157,7 +157,7 @@ flat_fits P f g [] h = tt
 flat_fits P f g (x ∷ xs) h = all_append ItemFits (f x) (flat_map f xs) (g x h.0) (flat_fits P f g xs h.1)
 
 text_bytes : (text : List ℕ) → AllByRecursion IsUtf8Byte text → AllByRecursion IsByte text
-text_bytes text h = each IsUtf8Byte IsByte (λ b k. omega (arith, k.1)) text h
+text_bytes text h = all_weaker IsUtf8Byte IsByte (λ b k. omega (arith, k.1)) text h
 
 constant_fits : (x : Constant) → FieldsFit x → ItemFits (Entry x)
 constant_fits constants.Gap h = tt

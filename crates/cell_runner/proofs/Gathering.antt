@@ -17,14 +17,11 @@ use native.Mathlib.Decide.{ℕ_discrete}
 
 -- ---- numbers
 
-over_sum : (a b c : ℕ) → (a + b) * c ≡ a * c + b * c
-over_sum a b c = grind arith
-
 add_le : (a b c w x : ℕ) → a * c ≤ w → b * c ≤ x → (a + b) * c ≤ w + x
-add_le a b c w x p q = rw (over_sum a b c) (omega (arith, p, q))
+add_le a b c w x p q = let sum : (a + b) * c ≡ a * c + b * c = grind arith in rw sum (omega (arith, p, q))
 
 add_most : (a b c w x : ℕ) → w ≤ a * c → x ≤ b * c → w + x ≤ (a + b) * c
-add_most a b c w x p q = rw (over_sum a b c) (omega (arith, p, q))
+add_most a b c w x p q = let sum : (a + b) * c ≡ a * c + b * c = grind arith in rw sum (omega (arith, p, q))
 
 left_le : (k m a b c w x : ℕ) → a ≤ k → b ≤ m → (k - a) * c ≤ w → (m - b) * c ≤ x → (k + m - (a + b)) * c ≤ w + x
 left_le k m a b c w x le le' p q = let e : k + m - (a + b) ≡ (k - a) + (m - b) = omega (arith, le, le') in rw e (add_le (k - a) (m - b) c w x p q)

@@ -18,6 +18,7 @@ use Rattle.code_decode.specs.declared.sweep.Sweep.{Sweep}
 use Rattle.code_decode.specs.declared.sweep.Branching.{Branching}
 use Rattle.code_decode.specs.declared.operands.Found.{Found}
 use Rattle.code_decode.specs.Decoding.{OutlinesRead, extent, IsDecodeStep, with_front, outline, AreMarkedAt, branch_starts, Swept}
+use Rattle.jvm_types.proofs.SampleMethods.{insn}
 
 -- ---- operands lie inside the code
 
@@ -164,20 +165,17 @@ known_is : (pc : ℕ) (o : Option Form) (rest : List ℕ) (found : Found) → Is
 known_is pc None rest found h = absurd h
 known_is pc (Some f) rest found h = h.0
 
-abbrev insn_at : ℕ → ℕ → Op → Insn
-insn_at pc next op = record { pc = pc; next = next; op = op }
-
 insn_is : (pc : ℕ) (o : Option Form) (rest : List ℕ) (found : Found) (more : ℕ → List Insn) → IsDecodeStep pc o rest (Ok found)
-    → with_insn pc o (known_extent pc o rest) rest more ≡ insn_at pc (pc + 1 + found.size) found.op ∷ more found.size
+    → with_insn pc o (known_extent pc o rest) rest more ≡ insn pc (pc + 1 + found.size) found.op ∷ more found.size
 insn_is pc None rest found more h = absurd h
-insn_is pc (Some f) rest found more h = rw h.0 (ap (λ (op : Op). insn_at pc (pc + 1 + found.size) op ∷ more found.size) (sym h.1))
+insn_is pc (Some f) rest found more h = rw h.0 (ap (λ (op : Op). insn pc (pc + 1 + found.size) op ∷ more found.size) (sym h.1))
 
 outlines_step : (pc b : ℕ) (bytes rest : List ℕ) (found : Found) → bytes ≡ b ∷ rest → known_extent pc (form_of b) rest ≡ Ok (extent found)
     → outlines 0 pc bytes ≡ outline_followed (record { pc = pc; targets = found.targets }) (outlines found.size (pc + 1) rest)
 outlines_step pc b bytes rest found e f = rw e (rw f refl)
 
 insns_step : (pc b : ℕ) (bytes rest : List ℕ) (found : Found) → bytes ≡ b ∷ rest → IsDecodeStep pc (form_of b) rest (Ok found)
-    → insns_of 0 pc bytes ≡ insn_at pc (pc + 1 + found.size) found.op ∷ insns_of found.size (pc + 1) rest
+    → insns_of 0 pc bytes ≡ insn pc (pc + 1 + found.size) found.op ∷ insns_of found.size (pc + 1) rest
 insns_step pc b bytes rest found e h = rw e (insn_is pc (form_of b) rest found (λ size. insns_of size (pc + 1) rest) h)
 
 marked_more : (marks : List Bool) (branchings : List Branching) (pc : ℕ) (targets : List ℤ) → length marks ≡ pc → AreMarkedAt marks (branch_starts branchings)
@@ -186,7 +184,7 @@ marked_more marks branchings pc targets e h i =
     mark_true marks i ∙ (ap (λ t. t || length marks == i) (h i) ∙ (ap (λ n. has_number (branch_starts branchings) i || n == i) e
     ∙ sym (ap (λ ns. has_number ns i) (map_more (λ (b : Branching). b.pc) branchings (record { pc = pc; targets = targets })) ∙ has_more (branch_starts branchings) pc i)))
 
-pub visited : (code : List ℕ) (pc b : ℕ) (found : Found) (s t : Sweep) → t.insns.items ≡ s.insns.items ++ insn_at pc (pc + 1 + found.size) found.op ∷ []
+pub visited : (code : List ℕ) (pc b : ℕ) (found : Found) (s t : Sweep) → t.insns.items ≡ s.insns.items ++ insn pc (pc + 1 + found.size) found.op ∷ []
     → t.branchings ≡ s.branchings ++ record { pc = pc; targets = found.targets } ∷ [] → t.starts ≡ s.starts ++ true ∷ []
     → drop pc code ≡ b ∷ drop (pc + 1) code → IsDecodeStep pc (form_of b) (drop (pc + 1) code) (Ok found) → Swept code pc 0 s → Swept code (pc + 1) found.size t
 visited code pc b found s t insns branchings starts at h so_far =
@@ -196,7 +194,7 @@ visited code pc b found s t insns branchings starts at h so_far =
       outlines_read = rw branchings (ap (λ (front : List Outline). with_front front (outlines found.size (pc + 1) (drop (pc + 1) code))) (map_more outline s.branchings (record { pc = pc; targets = found.targets }))
           ∙ (sym (front_more (map outline s.branchings) (record { pc = pc; targets = found.targets }) (outlines found.size (pc + 1) (drop (pc + 1) code)))
           ∙ (sym (ap (λ (x : OutlinesRead). with_front (map outline s.branchings) x) one) ∙ so_far.outlines_read)));
-      insns_read = rw insns (one_more s.insns.items (insn_at pc (pc + 1 + found.size) found.op) (insns_of found.size (pc + 1) (drop (pc + 1) code)) (insns_of 0 0 code)
+      insns_read = rw insns (one_more s.insns.items (insn pc (pc + 1 + found.size) found.op) (insns_of found.size (pc + 1) (drop (pc + 1) code)) (insns_of 0 0 code)
           (sym (ap (λ (x : List Insn). s.insns.items ++ x) (insns_step pc b (drop pc code) (drop (pc + 1) code) found at h)) ∙ so_far.insns_read));
       marked = rw (branchings, starts) (marked_more s.starts s.branchings pc found.targets so_far.length_is so_far.marked);
       length_is = rw starts (length_more s.starts true pc so_far.length_is);
