@@ -19,13 +19,9 @@ use Rattle.run_parts.specs.Ended.{IsEndOfRun}
 use Rattle.replay_runner.specs.Running.{Running, events, run_on}
 use Rattle.green_runner.specs.Turning.{Comes, IsRunFinished, IsLedByOrder, IsSameRun, NoWorkerLives}
 use Rattle.green_runner.specs.Turns.{IsRunInTurns, one_round, rounds}
+use Rattle.laws_states.proofs.GrowingRuns.{all_append}
 
 -- ---- lists of happenings
-
-all_append : (c : MarkedProgram) (s : Core) (hs es : List Happening)
-    → all_happened c s (hs ++ es) ≡ all_happened c (all_happened c s hs) es
-all_append c s [] es = refl
-all_append c s (h ∷ hs) es = all_append c (happened c s h) hs es
 
 -- at a stage at which the same comes next
 schedule_as : (c : MarkedProgram) (stage other : Stage) (s : Core) (hs : List Happening)

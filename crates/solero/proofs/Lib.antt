@@ -6,6 +6,5 @@ pub mod Owed
 pub mod PlacedPrints
 pub mod Reported
 pub mod RunPrints
-pub mod SomeThread
 pub mod Stated
 mod Whole

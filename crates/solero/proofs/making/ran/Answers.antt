@@ -1,4 +1,4 @@
-use Rattle.solero.proofs.SomeThread.{some_thread}
+use Rattle.laws_refinement.proofs.SomeThread.{some_thread}
 use Rattle.solero.proofs.making.ran.Goals as goal
 
 pub reported-requires : goal.reported-requires
