@@ -1,13 +1,13 @@
 -- What is known of a machine and its order whenever their lock is free: of which run they are, and that the order led the machine
 -- to its state.
-use Rattle.std.specs.Prelude.{◌≡◌, ◌≤◌, ℕ, true, false, List, length, Option, None, Some, ◌⊎◌}
+use Rattle.std.specs.Prelude.{◌≡◌, ◌<◌, ◌≤◌, ℕ, true, false, List, [], ◌∷◌, ◌++◌, length, slice_get, Option, None, Some, ◌⊎◌}
 use Rattle.checked_program.specs.MarkedProgram.{MarkedProgram}
-use Rattle.machine_types.specs.Core.{Core, may_begin, start}
+use Rattle.machine_types.specs.Core.{Core, event, may_begin, start}
 use Rattle.machine_types.specs.Schedules.{is_live_worker}
 use Rattle.machine_types.specs.declared.config.Config.{Config}
 use Rattle.record_run.specs.Recordings.{AreLiveWorkers, IsBeginOfWorkers, IsRecorded, after_order}
 use Rattle.record_run.specs.declared.recording.Recorded.{Recorded}
-use Rattle.replay_runner.specs.Running.{Running, events}
+use Rattle.replay_runner.specs.Running.{Running, events, turns_of}
 
 -- a machine, the order of its workers' events, and how many of them are kept at most
 pub record Kept : Type 0 where
@@ -42,6 +42,14 @@ pub record IsKeptOf (run : Option NamedRecord) (k : Kept) : Type 0 where
 -- it has room for no more events, or no worker is live
 abbrev pub IsFull : Kept → Type 0
 IsFull k = (k.most ≤ length k.order) ⊎ ((t : ℕ) → is_live_worker k.machine.core t ≡ false)
+
+-- an event of a live worker while there is room, behind the order, and how many turns that worker has failed then; else none, and
+-- nothing changes
+abbrev pub IsEventKept : (t : ℕ) → (was now : Kept) → Option ℕ → Type 0
+IsEventKept t was now None = ((was.most ≤ length was.order) ⊎ (is_live_worker was.machine.core t ≡ false)) × (now ≡ was)
+IsEventKept t was now (Some turns) = (length was.order < was.most) × (is_live_worker was.machine.core t ≡ true)
+    × (now ≡ record was { machine = record was.machine { core = event was.machine.program was.machine.core t }; order = was.order ++ t ∷ [] })
+    × (turns ≡ turns_of (slice_get now.machine.core.threads t))
 
 -- what the run comes to
 abbrev pub IsRecordOf : (run : Option NamedRecord) → Recorded → Type 0

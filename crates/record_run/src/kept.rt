@@ -105,7 +105,7 @@ impl<J: Naming> Recording<J> {
     }
 
     /// Gives each live worker an event in its turn, in the order of their numbers, and records it, while there is room.
-    pub(crate) fn record_rounds(&mut self, p: &Checked)
+    fn record_rounds(&mut self, p: &Checked)
         requires { IsRecordOfProgram J.run p.now }
         ensures { IsFull self.new }
     {
@@ -132,9 +132,13 @@ impl<J: Naming> Recording<J> {
 }
 
 impl<J: Naming> Shared for Recording<J> {
-    ghost use Rattle.record_run.specs.Kept.{IsRecordOfProgram};
+    ghost use Rattle.record_run.specs.Kept.{IsEventKept, IsFull, IsRecordOfProgram};
 
     ghost takes = { IsRecordOfProgram J.run };
+
+    ghost makes = { IsEventKept };
+
+    ghost over = { IsFull };
 
     fn make_event(&mut self, p: &Checked, t: u8) -> Option<u32> {
         if self.is_full() || !self.is_live_worker(t) {
@@ -142,5 +146,9 @@ impl<J: Naming> Shared for Recording<J> {
         }
         self.record(p, t);
         Some(self.machine.turns(t))
+    }
+
+    fn make_rest(&mut self, p: &Checked) {
+        self.record_rounds(p);
     }
 }

@@ -44,8 +44,7 @@ fn record_named<J: Naming + Send + Sync, R: Threads + Wait + Sync, G: Gate + Syn
 {
     let count = machine.workers();
     let recording = Recording::<J>::of(machine, order, most);
-    let mut recording = run_workers(rt, gate, recording, p, count);
-    recording.record_rounds(p);
+    let recording = run_workers(rt, gate, recording, p, count);
     recording.finish(p)
 }
 

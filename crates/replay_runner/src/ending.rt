@@ -1,11 +1,11 @@
 //! The end of a run, on one thread.
 
-ghost use Rattle.std.specs.Prelude.{◌≡◌, ◌≤◌, ℕ, true, false, MatchOption};
+ghost use Rattle.std.specs.Prelude.{◌≡◌, ◌≤◌, ℕ, true, false, IfSome, MatchOption};
 ghost use Rattle.jvm_types.specs.declared.limits.TheConstants.{MOST_WORKERS};
 ghost use Rattle.machine_types.specs.Core.{lives};
 ghost use Rattle.machine_types.specs.Faithful.{IsOver};
 ghost use Rattle.replay_runner.specs.Locked.{IsOfProgram};
-ghost use Rattle.replay_runner.specs.Running.{parts_left};
+ghost use Rattle.replay_runner.specs.Running.{IsInTurn, parts_left};
 
 use crate::locked::{Locked, Naming};
 use crate::running::Machine;
@@ -15,7 +15,8 @@ use laws_threads::given_is_kept;
 /// The least live thread of a number at or above `from`, or where none is, at or above `least`.
 pub fn next_live(machine: &Machine, least: u8, from: u8) -> Option<u8>
     requires { least ≤ from }
-    ensures { MatchOption result ((t : ℕ) → least ≤ t → lives machine.now.core t ≡ false) (λ t. (lives machine.now.core t ≡ true) × (least ≤ t) × (t ≤ MOST_WORKERS)) }
+    ensures live { MatchOption result ((t : ℕ) → least ≤ t → lives machine.now.core t ≡ false) (λ t. (lives machine.now.core t ≡ true) × (least ≤ t) × (t ≤ MOST_WORKERS)) }
+    ensures turn { IfSome result (IsInTurn machine.now.core least from) }
 {
     for t in from..=machine.workers() {
         if machine.lives(t) {
@@ -32,7 +33,7 @@ pub fn next_live(machine: &Machine, least: u8, from: u8) -> Option<u8>
 
 /// Gives each live thread an event in its turn, in the order of their numbers, until none is live. Each event leaves less for
 /// them to do.
-fn run_live<J: Naming>(locked: &mut Locked<J>, p: &Checked)
+pub(crate) fn run_live<J: Naming>(locked: &mut Locked<J>, p: &Checked)
     requires { IsOfProgram J.run p.now }
     ensures dead { (t : ℕ) → lives locked.new.core t ≡ false }
     ensures parts { parts_left locked.new.core.threads ≡ parts_left locked.old.core.threads }

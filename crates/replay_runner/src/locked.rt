@@ -1,14 +1,14 @@
 //! The machine under the lock.
 
-ghost use Rattle.std.specs.Prelude.{◌≡◌, ◌≤◌, ◌+◌, ◌<◌, ℕ, true, false, length, MatchOption};
+ghost use Rattle.std.specs.Prelude.{◌≡◌, ◌≤◌, ◌+◌, ◌<◌, ℕ, true, false, length, IfSome, MatchOption};
 ghost use Rattle.jvm_types.specs.declared.limits.TheConstants.{MOST_WORKERS};
 ghost use Rattle.machine_types.specs.Core.{event, lives, may_begin, next};
 ghost use Rattle.machine_types.specs.Faithful.{IsOver};
 ghost use Rattle.laws_states.specs.WorkLeft.{all_work};
-ghost use Rattle.replay_runner.specs.Running.{run_on};
+ghost use Rattle.replay_runner.specs.Running.{IsInTurn, run_on};
 ghost use Rattle.replay_runner.specs.Locked.{IsEndOf, IsMachineOf, IsOfProgram};
 
-use crate::ending::next_live;
+use crate::ending::{next_live, run_live};
 use crate::running::Machine;
 use crate::workers::Shared;
 use checked_program::Checked;
@@ -71,7 +71,8 @@ impl<J: Naming> Locked<J> {
 
     /// The least live thread of a number at or above, or of all where none is.
     pub(crate) fn next_live(&self, from: u8) -> Option<u8>
-        ensures { MatchOption result ((t : ℕ) → lives self.now.core t ≡ false) (λ t. (lives self.now.core t ≡ true) × (t ≤ MOST_WORKERS)) }
+        ensures live { MatchOption result ((t : ℕ) → lives self.now.core t ≡ false) (λ t. (lives self.now.core t ≡ true) × (t ≤ MOST_WORKERS)) }
+        ensures turn { IfSome result (IsInTurn self.now.core 0 from) }
     {
         next_live(&self.machine, 0, from)
     }
@@ -81,6 +82,7 @@ impl<J: Naming> Locked<J> {
         requires { IsOfProgram J.run p.now }
         ensures live { result ≡ lives self.old.core t }
         ensures event { self.new ≡ record self.old { core = event self.old.program self.old.core t } }
+        ensures still { result ≡ false → self.new ≡ self.old }
         ensures less { lives self.old.core t ≡ true → all_work self.new.core < all_work self.old.core }
     {
         one_more_happens();
@@ -118,9 +120,15 @@ impl<J: Naming> Locked<J> {
 }
 
 impl<J: Naming> Shared for Locked<J> {
-    ghost use Rattle.replay_runner.specs.Locked.{IsOfProgram};
+    ghost use Rattle.std.specs.Prelude.{◌≡◌, ℕ, false};
+    ghost use Rattle.machine_types.specs.Core.{lives};
+    ghost use Rattle.replay_runner.specs.Locked.{IsEventUnderLock, IsOfProgram};
 
     ghost takes = { IsOfProgram J.run };
+
+    ghost makes = { IsEventUnderLock };
+
+    ghost over = { λ l. (t : ℕ) → lives l.core t ≡ false };
 
     fn make_event(&mut self, p: &Checked, t: u8) -> Option<u32> {
         if self.event(p, t) {
@@ -128,5 +136,9 @@ impl<J: Naming> Shared for Locked<J> {
         } else {
             None
         }
+    }
+
+    fn make_rest(&mut self, p: &Checked) {
+        run_live(self, p);
     }
 }

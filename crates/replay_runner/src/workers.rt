@@ -10,14 +10,27 @@ use std::thread::{Threads, for_each_mut, yield_now};
 
 /// What workers share under one lock: each makes its events in it, one at a time.
 pub trait Shared {
+    ghost use Rattle.std.specs.Prelude.{ℕ, Option};
     ghost use Rattle.checked_program.specs.MarkedProgram.{MarkedProgram};
 
     /// Whose events they are.
     ghost takes: { MarkedProgram → Type 0 };
 
+    /// What an event of a worker makes of it, by how many turns that has failed then; or that the worker makes no more.
+    ghost makes: { (t : ℕ) → (was now : Self) → Option ℕ → Type 0 };
+
+    /// No worker has an event to make.
+    ghost over: { Self → Type 0 };
+
     /// One event of worker `t`, and how many turns it has failed then: `None` where it makes no more.
     fn make_event(&mut self, p: &Checked, t: u8) -> Option<u32>
-        requires { takes p.now };
+        requires { takes p.now }
+        ensures { makes t self.old self.new result };
+
+    /// The events that are left, of all workers.
+    fn make_rest(&mut self, p: &Checked)
+        requires { takes p.now }
+        ensures { over self.new };
 }
 
 /// One event of a worker, under the lock.
@@ -48,8 +61,8 @@ fn work<L: Shared, R: Wait, G: Gate>(rt: &R, gate: &G, shared: &Mutex<L>, p: &Ch
     }
 }
 
-/// Runs so many workers, and takes what they share out of the lock when they have returned. What it tells of that is what its
-/// type does: some of the workers may still have events to make.
+/// Runs so many workers, takes what they share out of the lock when they have returned, and makes the events that they left, so
+/// that no worker has one to make. What else it tells of that is what its type does: not which worker made an event, nor when.
 pub fn run_workers<L: Shared + Send, R: Threads + Wait + Sync, G: Gate + Sync>(
     rt: &R,
     gate: &G,
@@ -59,6 +72,7 @@ pub fn run_workers<L: Shared + Send, R: Threads + Wait + Sync, G: Gate + Sync>(
 ) -> L
     requires program { L.takes p.now }
     requires few { count ≤ MOST_WORKERS }
+    ensures { L.over result }
 {
     let mut numbers = [1, 2, 3, 4, 5, 6, 7, 8];
     let shared = Mutex::new(shared);
@@ -72,5 +86,7 @@ pub fn run_workers<L: Shared + Send, R: Threads + Wait + Sync, G: Gate + Sync>(
             { work(rt, gate, &shared, p, *t) },
         );
     }
-    shared.into_inner()
+    let mut shared = shared.into_inner();
+    shared.make_rest(p);
+    shared
 }
