@@ -1,7 +1,7 @@
 -- The flags of classes, from what the methods let out.
 use Rattle.std.proofs.Common.{◌≡◌, ◌≢◌, ℕ, zero, suc, ◌-◌, ◌<◌, ◌≤◌, Bool, true, false, not, ◌&&◌, List, [], ◌∷◌, length, replicate, Option, Some, None, refl, sym, ap, subst, ◌∙◌, arith, ⊎_elim, inl, inr, ◌⊎◌}
-use Rattle.std.specs.Prelude.{nat_lt, nat_le, if◌then◌else◌, slice_get, slice_set, slice_index_or}
-use Rattle.std.specs.Option.{option_map}
+use Rattle.std.specs.Prelude.{◌==◌, nat_lt, nat_le, if◌then◌else◌, slice_get, slice_set, slice_index_or}
+use Rattle.std.specs.Option.{option_map, is_some}
 use Rattle.std.proofs.lemmas.Bool.{cases_eq, ltb-true, ltb-false, leb-true}
 use Rattle.std.proofs.lemmas.Bool.Decides.{nat_tests}
 use Rattle.std.proofs.lemmas.List.{length-set, length-replicate, get_or-replicate, get_or-set_same, get_or-set_other, get_or_past}
@@ -13,11 +13,11 @@ use Rattle.jvm_types.specs.declared.program.MethodInfo.{MethodInfo}
 use Rattle.jvm_types.specs.declared.program.Program.{Program}
 use Rattle.laws_programs.proofs.CodeOrder.{methods_laid_out}
 use Rattle.checked_program.specs.MarkedProgram.{AreTaggings}
-use Rattle.checked_program.specs.TaggedCode.{tagged_by}
+use Rattle.checked_program.specs.TaggedCode.{Tagged, tagged_by}
 use Rattle.checked_program.specs.FrozenPlaces.{KeepsInside, IsFrozenClass}
 use Rattle.checked_program.specs.declared.tag.Tags.{Tags}
-use Rattle.frozen_classes.specs.FrozenClasses.{TellsFrozen, AreFrozenClasses}
-use Rattle.frozen_classes.specs.KeptThis.{keeps_all, leak_of, class_noted, frozen_upto}
+use Rattle.frozen_classes.specs.FrozenClasses.{TellsFrozen, AreFrozenClasses, LetsOut, KeepsIfInit, TellsOut}
+use Rattle.frozen_classes.specs.KeptThis.{is_method_of, keeps_all, leak_of, class_noted, frozen_upto}
 use Rattle.frozen_classes.proofs.KeptInside.{is_inside, passes_all}
 
 not_le : (a b : ℕ) → nat_le a b ≡ false → b < a
@@ -152,3 +152,51 @@ module _ (p : Program) (tags : List Tags) (is : IsProgram p) (tagged : AreTaggin
   -- where the flags are told by an equation
   pub frozen_shown : (flags : List Bool) (n : ℕ) → n ≡ length p.methods → flags ≡ frozen_upto p tags n → AreFrozenClasses p (tagged_by tags) flags
   frozen_shown flags n e f = subst (λ (l : List Bool). AreFrozenClasses p (tagged_by tags) l) (sym (f ∙ ap (frozen_upto p tags) e)) are_frozen
+
+-- ---- one class
+
+module _ (p : Program) (tags : List Tags) (is : IsProgram p) (tagged : AreTaggings p p.methods tags) (c u : ℕ) where
+  keeps_by : (m : MethodInfo) → slice_get p.methods u ≡ Some m → is_init m ≡ true → leak_of p (slice_get p.methods u) (slice_get tags u) ≡ None → KeepsInside p (tagged_by tags) u m
+  keeps_by m at init e =
+      let has = tags_there p p.methods tags u m tagged at in
+      by_test has.0 has.1 (keeps_all p m has.0.frames) refl
+    where
+      by_test : (t : Tags) → slice_get tags u ≡ Some t → (b : Bool) → keeps_all p m t.frames ≡ b → KeepsInside p (tagged_by tags) u m
+      by_test t there true h = is_inside p (tagged_by tags) u m t.frames at (methods_laid_out p u m is at) (frames_there tags u t there) h
+      by_test t there false h =
+          let leaks : leak_of p (slice_get p.methods u) (slice_get tags u) ≡ Some m.class = rw (at, there, init, h) refl in
+          absurd (let bad : None ≡ Some m.class = sym e ∙ leaks in cc)
+
+  out_by : (class : ℕ) → leak_of p (slice_get p.methods u) (slice_get tags u) ≡ Some class → LetsOut p (tagged_by tags) class u
+  out_by class e =
+      let leak = leak_parts p (slice_get p.methods u) (slice_get tags u) class e in
+      record {
+        m = leak.m;
+        there = leak.is_m;
+        class = leak.class;
+        init = leak.init;
+        lets_out = λ inside.
+            let all : keeps_all p leak.m leak.t.frames ≡ true = passes_all p (tagged_by tags) u leak.m leak.t.frames leak.is_m (methods_laid_out p u leak.m is leak.is_m) (frames_there tags u leak.t leak.is_t) inside in
+            let bad : true ≡ false = sym all ∙ leak.keeps in
+            cc;
+      }
+
+  -- a method of the class is tested
+  pub told_out : (leak : Option ℕ) → is_method_of c (slice_get p.methods u) ≡ true → leak ≡ leak_of p (slice_get p.methods u) (slice_get tags u) → TellsOut p (tagged_by tags) c u (is_some leak)
+  told_out None same e = λ m at class init. keeps_by m at init (sym e)
+  told_out (Some class) same e =
+      let out = out_by class (sym e) in
+      let test : (out.m.class == c) ≡ true = ap (is_method_of c) (sym out.there) ∙ same in
+      let known : out.m.class ≡ c = grind (arith, nat_tests) in
+      subst (λ (x : ℕ). LetsOut p (tagged_by tags) x u) (sym out.class ∙ known) out
+
+  -- and one of another class is none
+  pub told_not : is_method_of c (slice_get p.methods u) ≡ false → KeepsIfInit p (tagged_by tags) c u
+  told_not other m at class init = absurd (
+      let test : (m.class == c) ≡ false = ap (is_method_of c) (sym at) ∙ other in
+      let bad : ⊥ = grind (arith, nat_tests) in
+      bad)
+
+-- none of all methods lets its object out
+pub all_kept : (p : Program) (tags : Tagged) (c n : ℕ) → length p.methods ≤ n → ((u : ℕ) → u < n → KeepsIfInit p tags c u) → IsFrozenClass p tags c
+all_kept p tags c n e h mi m at class init = h mi (let low : mi < length p.methods = slice_get_within p.methods mi m at in omega (arith, low, e)) m at class init

@@ -118,6 +118,11 @@ keeps_all p m frames = begins_well m (reached_frame_at m frames 0) && all_before
 
 -- ---- classes
 
+-- a method is one of a class
+abbrev pub is_method_of : ℕ → Option MethodInfo → Bool
+is_method_of c None = false
+is_method_of c (Some m) = m.class == c
+
 -- the class of an `<init>` that lets its object out
 abbrev pub leak_of : Program → Option MethodInfo → Option Tags → Option ℕ
 leak_of p (Some m) (Some t) = if is_init m && not (keeps_all p m t.frames) then Some m.class else None

@@ -1,12 +1,13 @@
 //! The classes of the files, from what their `<init>` methods let out.
 
-ghost use Rattle.std.specs.Prelude.{◌≡◌, length, slice_get, Some, IfOk};
+ghost use Rattle.std.specs.Prelude.{◌≡◌, ◌≤◌, length, slice_get, Some, IfOk};
 ghost use Rattle.jvm_types.specs.ProgramInvariant.{IsProgram};
 ghost use Rattle.jvm_types.specs.Verifying.{IsLaidOut};
+ghost use Rattle.jvm_types.specs.declared.limits.TheConstants.{MOST_INSTRUCTIONS as most};
 ghost use Rattle.checked_program.specs.MarkedProgram.{AreTaggings};
 ghost use Rattle.checked_program.specs.TaggedCode.{tagged_by};
-ghost use Rattle.frozen_classes.specs.FrozenClasses.{AreFrozenClasses};
-ghost use Rattle.frozen_classes.specs.KeptThis.{frozen_upto, leak_of, class_noted};
+ghost use Rattle.frozen_classes.specs.FrozenClasses.{AreFrozenClasses, IsFirstOut, TellsOut};
+ghost use Rattle.frozen_classes.specs.KeptThis.{frozen_upto, is_method_of, leak_of, class_noted};
 
 use crate::insn_kept::keeps_all;
 use checked_program::Tags;
@@ -95,4 +96,55 @@ pub fn frozen_classes(
 {
     let flags = frozen_upto(alloc, p, tags, p.methods.len())?;
     Ok(flags)
+}
+
+/// Whether the method of a number is one of a class.
+fn is_method_of(p: &Program, class: u16, u: usize) -> bool
+    ensures { result ≡ is_method_of class (slice_get p.now.methods u) }
+{
+    match p.methods.get(u) {
+        Some(m) => m.class == class,
+        None => false,
+    }
+}
+
+/// Whether the method of a number is an `<init>` of a class that lets its object out.
+fn lets_out(
+    alloc: Global,
+    p: &Program,
+    tags: &Rows<Tags>,
+    class: u16,
+    u: usize,
+) -> Result<bool, AllocError>
+    requires program { IsProgram p.now }
+    requires tagged { AreTaggings p.now p.now.methods tags.now }
+    ensures { IfOk result (TellsOut p.now (tagged_by tags.now) class u) }
+{
+    if is_method_of(p, class, u) {
+        let leak = leak_at(alloc, p, tags, u)?;
+        Ok(leak.is_some())
+    } else {
+        Ok(false)
+    }
+}
+
+/// The number of the first `<init>` of a class that lets its object out; `None` where the class is frozen. `tags` has the
+/// lock tags of each method. It fails only where memory is refused.
+pub fn first_out(
+    alloc: Global,
+    p: &Program,
+    tags: &Rows<Tags>,
+    class: u16,
+) -> Result<Option<u32>, AllocError>
+    requires program { IsProgram p.now }
+    requires tagged { AreTaggings p.now p.now.methods tags.now }
+    requires few { length p.now.methods ≤ most }
+    ensures { IfOk result (IsFirstOut p.now (tagged_by tags.now) class) }
+{
+    for u in 0..p.methods.len() {
+        if lets_out(alloc, p, tags, class, u)? {
+            return Ok(Some(u as u32));
+        }
+    }
+    Ok(None)
 }

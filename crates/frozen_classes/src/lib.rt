@@ -7,4 +7,4 @@ mod edges_kept;
 mod insn_kept;
 mod places;
 
-pub use class_flags::frozen_classes;
+pub use class_flags::{first_out, frozen_classes};
