@@ -105,7 +105,7 @@ module _ (m : MethodInfo) (frames : List (Option TagShape)) (flags : List Bool) 
       (λ (q : i ≢ k). noted_keeps (noted_before m frames flags k) (write_at m frames k) fi (before_here k i fi l (omega (arith, h, q)) e)) (cases_eq i k)
 
 -- the three that stand at an instruction that writes so
-record AtWrite (oi : Option Insn) (ot : Option Target) (of : Option (Option TagShape)) (m : MethodInfo) (fi : ℕ) : Type 0 where
+pub record AtWrite (oi : Option Insn) (ot : Option Target) (of : Option (Option TagShape)) (m : MethodInfo) (fi : ℕ) : Type 0 where
   pub insn : Insn
   pub target : Target
   pub f : TagShape
@@ -114,7 +114,7 @@ record AtWrite (oi : Option Insn) (ot : Option Target) (of : Option (Option TagS
   pub is_frame : of ≡ Some (Some f)
   pub writes : unguarded_write m insn.op target f ≡ Some fi
 
-write_parts : (m : MethodInfo) (oi : Option Insn) (ot : Option Target) (of : Option (Option TagShape)) (fi : ℕ) → unguarded_at m oi ot of ≡ Some fi → AtWrite oi ot of m fi
+pub write_parts : (m : MethodInfo) (oi : Option Insn) (ot : Option Target) (of : Option (Option TagShape)) (fi : ℕ) → unguarded_at m oi ot of ≡ Some fi → AtWrite oi ot of m fi
 write_parts m (Some insn) (Some target) (Some (Some f)) fi e = record { insn = insn; target = target; f = f; is_insn = refl; is_target = refl; is_frame = refl; writes = e }
 write_parts m (Some insn) (Some target) (Some None) fi e = absurd (cc)
 write_parts m (Some insn) (Some target) None fi e = absurd (cc)
@@ -134,7 +134,7 @@ guard_whole t b e h = rw (e, h) refl
 abbrev may_write : MethodInfo → TagShape → Bool
 may_write m f = is_init m || (list_any is_this f.held || locks_this m)
 
-guarded_if : (fi : ℕ) (m : MethodInfo) (op : Op) (target : Target) (f : TagShape) → (unguarded_write m op target f ≡ Some fi → ⊥) → PutsGuarded fi m op target f
+pub guarded_if : (fi : ℕ) (m : MethodInfo) (op : Op) (target : Target) (f : TagShape) → (unguarded_write m op target f ≡ Some fi → ⊥) → PutsGuarded fi m op target f
 guarded_if fi m (ops.Putfield i) (targets.Field x) f h = λ (e : x ≡ fi). by_test (writes_guarded m f) refl (λ k. h (k ∙ ap (λ (y : ℕ). Some y) e))
   where
     by_test : (t : Bool) → writes_guarded m f ≡ t → (unless_guarded t x ≡ Some x → ⊥) → WritesGuarded m f
@@ -142,7 +142,7 @@ guarded_if fi m (ops.Putfield i) (targets.Field x) f h = λ (e : x ≡ fi). by_t
     by_test false w k = absurd (k refl)
 guarded_if fi m op target f h = tt
 
-guarded_not : (fi : ℕ) (m : MethodInfo) (op : Op) (target : Target) (f : TagShape) → unguarded_write m op target f ≡ Some fi → PutsGuarded fi m op target f → ⊥
+pub guarded_not : (fi : ℕ) (m : MethodInfo) (op : Op) (target : Target) (f : TagShape) → unguarded_write m op target f ≡ Some fi → PutsGuarded fi m op target f → ⊥
 guarded_not fi m (ops.Putfield i) (targets.Field x) f e g = by_test (writes_guarded m f) refl e
   where
     by_test : (t : Bool) → writes_guarded m f ≡ t → unless_guarded t x ≡ Some fi → ⊥

@@ -13,7 +13,7 @@ use jvm_types::flags::{is_static, is_synchronized};
 use jvm_types::{MethodInfo, Op, Program, Rows, Target};
 
 /// How a field may be read; open where there is no such field.
-fn use_of(uses: &Rows<FieldUse>, field: u32) -> FieldUse
+pub fn use_of(uses: &Rows<FieldUse>, field: u32) -> FieldUse
     ensures { result ≡ slice_index_or uses.now field open_use }
 {
     let i = field as usize;
