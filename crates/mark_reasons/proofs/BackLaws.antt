@@ -15,13 +15,13 @@ use Rattle.checked_program.specs.declared.section.Mode.{Mode}
 use Rattle.checked_program.specs.declared.section.FieldUse.{FieldUse}
 use Rattle.guard_analysis.specs.CallGraph.{node_of, mode_at}
 use Rattle.mark_reasons.specs.OwnFlags.{AreOwn}
-use Rattle.mark_reasons.specs.Reasons.{own_callee, mark_by, IsWay, BeginsOwn, LeadsToFault}
-use Rattle.mark_reasons.specs.Searches.{callee_at, calls_of, node_fault_of, node_call, node_fault, node_size, node_visits, own_call, own_site, site_at, visits, AreCalledBefore, IsBack, from_section, from_entry, IsCalled, IsFirstNodeFault, IsSearchSound, Searching, left_of}
+use Rattle.mark_reasons.specs.Reasons.{callee_of, own_callee, mark_by, IsFirstSectionFault, IsShortest, IsWay, BeginsOwn, LeadsToFault}
+use Rattle.mark_reasons.specs.Searches.{callee_at, calls_of, node_fault_of, node_call, node_fault, node_size, node_visits, own_call, own_site, site_at, visits, AreCalledBefore, IsBack, from_section, from_entry, IsCalled, IsFirstFaultOf, IsSearchSound, Searching, left_of}
 use Rattle.mark_reasons.specs.declared.search.Entry.{Entry}
 use Rattle.mark_reasons.specs.declared.search.Search.{Search}
 use Rattle.mark_reasons.specs.declared.reason.Site.{Site}
 use Rattle.mark_reasons.proofs.Nodes.{called_by, calls_known, inside_calls, calls_found, calls_there, fault_breaks, fault_there}
-use Rattle.mark_reasons.proofs.SearchLaws.{all_same, nothing_yet, begins, goes_on, gets_less}
+use Rattle.mark_reasons.proofs.SearchLaws.{all_same, nothing_yet, none_ordered, begins, goes_on, gets_less}
 use Rattle.mark_reasons.proofs.TurnLaws.{way_more, own_more}
 
 -- ---- one step back
@@ -77,32 +77,50 @@ module _ (p : Program) (tags : Tagged) (s : Section) (n : ℕ) (w : Search) (h :
       by_number zero q c = omega arith
       by_number (suc k) q c = let low : k < t = c.0 in omega (arith, low)
 
-  pub leads_to_fault : (uses : List FieldUse) (t i rule : ℕ) (way : List Site) (e : Entry) → IsBack s.method w.queue t way → slice_get w.queue t ≡ Some e → BreaksAt p tags uses (callee_at e.node) i rule → LeadsToFault p tags uses s way (site_at e.node i) rule × (mark_by way rule ≡ 6)
-  leads_to_fault uses t i rule way e back g b = let r = way_of t way back e g in
-      (record { leads = r.leads; own = own_more p tags s way (site_at e.node i) r.own; breaks = b }, r.called rule)
+  first_called : (uses : List FieldUse) (way : List Site) (site : Site) (rule : ℕ) → ((j r : ℕ) → j < site.at → BreaksAt p tags uses (callee_of site) j r → ⊥) → IsFirstSectionFault p tags uses s way site rule
+  first_called uses [] site rule h = λ j l o b. h j rule l b
+  first_called uses (x ∷ xs) site rule h = h
+
+  pub leads_to_fault : (uses : List FieldUse) (t i rule : ℕ) (way : List Site) (e : Entry) → IsBack s.method w.queue t way → slice_get w.queue t ≡ Some e → BreaksAt p tags uses (callee_at e.node) i rule → ((j r : ℕ) → j < i → BreaksAt p tags uses (callee_at e.node) j r → ⊥) → IsShortest p tags uses s way
+      → LeadsToFault p tags uses s way (site_at e.node i) rule × (mark_by way rule ≡ 6)
+  leads_to_fault uses t i rule way e back g b first shortest = let r = way_of t way back e g in
+      (record { leads = r.leads; own = own_more p tags s way (site_at e.node i) r.own; breaks = b; first = first_called uses way (site_at e.node i) rule first; shortest = shortest }, r.called rule)
 
 -- ---- the search by its code
 
 module _ (p : Program) (uses : List FieldUse) (tags : List Tags) (is : IsProgram p) where
-  fault_first : (om : Option MethodInfo) (ot : Option Tags) (mode : Mode) (i : ℕ) → IsFirstNodeFault p uses om ot mode (Some i) → 0 < node_fault p uses om ot mode i
+  fault_first : (om : Option MethodInfo) (ot : Option Tags) (mode : Mode) (i : ℕ) → IsFirstFaultOf p uses om ot mode (Some i) → 0 < node_fault p uses om ot mode i
   fault_first (Some m) (Some t) mode i h = let test : nat_lt 0 (node_fault p uses (Some m) (Some t) mode i) ≡ true = h.1 in grind (arith, nat_tests)
   fault_first (Some m) None mode i h = absurd (cc)
   fault_first None ot mode i h = absurd (cc)
 
-  fault_none : (om : Option MethodInfo) (ot : Option Tags) (mode : Mode) → IsFirstNodeFault p uses om ot mode None → (i : ℕ) → i < node_size om ot → nat_lt 0 (node_fault p uses om ot mode i) ≡ false
+  fault_none : (om : Option MethodInfo) (ot : Option Tags) (mode : Mode) → IsFirstFaultOf p uses om ot mode None → (i : ℕ) → i < node_size om ot → nat_lt 0 (node_fault p uses om ot mode i) ≡ false
   fault_none (Some m) (Some t) mode h i l = h i l
   fault_none (Some m) None mode h i l = absurd (omega (arith, l))
   fault_none None ot mode h i l = absurd (omega (arith, l))
 
-  pub node_is_fault : (a i : ℕ) → IsFirstNodeFault p uses (slice_get p.methods (a / 2)) (slice_get tags (a / 2)) (mode_at a) (Some i) → BreaksAt p (tagged_by tags) uses (callee_at a) i (node_fault_of p uses tags a i)
+  pub node_is_fault : (a i : ℕ) → IsFirstFaultOf p uses (slice_get p.methods (a / 2)) (slice_get tags (a / 2)) (mode_at a) (Some i) → BreaksAt p (tagged_by tags) uses (callee_at a) i (node_fault_of p uses tags a i)
   node_is_fault a i h = fault_breaks p uses tags is a i (fault_first (slice_get p.methods (a / 2)) (slice_get tags (a / 2)) (mode_at a) i h)
 
-  node_is_sane : (a : ℕ) → IsFirstNodeFault p uses (slice_get p.methods (a / 2)) (slice_get tags (a / 2)) (mode_at a) None → (i r : ℕ) → BreaksAt p (tagged_by tags) uses (callee_at a) i r → ⊥
+  node_is_sane : (a : ℕ) → IsFirstFaultOf p uses (slice_get p.methods (a / 2)) (slice_get tags (a / 2)) (mode_at a) None → (i r : ℕ) → BreaksAt p (tagged_by tags) uses (callee_at a) i r → ⊥
   node_is_sane a h i r b =
       let there = fault_there p uses tags is a i r b in
       let none : nat_lt 0 (node_fault_of p uses tags a i) ≡ false = fault_none (slice_get p.methods (a / 2)) (slice_get tags (a / 2)) (mode_at a) h i there.0 in
       let some : 0 < r = b.some in
       let same : node_fault_of p uses tags a i ≡ r = there.1 in
+      grind (arith, nat_tests)
+
+  fault_before : (om : Option MethodInfo) (ot : Option Tags) (mode : Mode) (i : ℕ) → IsFirstFaultOf p uses om ot mode (Some i) → (j : ℕ) → j < i → nat_lt 0 (node_fault p uses om ot mode j) ≡ false
+  fault_before (Some m) (Some t) mode i h j l = h.2 j l
+  fault_before (Some m) None mode i h j l = absurd (cc)
+  fault_before None ot mode i h j l = absurd (cc)
+
+  -- before the first fault of a node there is none
+  pub none_before : (a i : ℕ) → IsFirstFaultOf p uses (slice_get p.methods (a / 2)) (slice_get tags (a / 2)) (mode_at a) (Some i) → (j r : ℕ) → j < i → BreaksAt p (tagged_by tags) uses (callee_at a) j r → ⊥
+  none_before a i h j r l b =
+      let none : nat_lt 0 (node_fault_of p uses tags a j) ≡ false = fault_before (slice_get p.methods (a / 2)) (slice_get tags (a / 2)) (mode_at a) i h j l in
+      let some : 0 < r = b.some in
+      let same : node_fault_of p uses tags a j ≡ r = (fault_there p uses tags is a j r b).1 in
       grind (arith, nat_tests)
 
   visits_are : (om : Option MethodInfo) (ot : Option Tags) (mode : Mode) (w : Search) (caller : ℕ) → node_visits p om ot mode w caller ≡ visits (node_call p om ot mode) w caller (node_size om ot)
@@ -119,7 +137,7 @@ module _ (p : Program) (uses : List FieldUse) (tags : List Tags) (is : IsProgram
       next_is = made ∙ ap (λ c. node_visits p (slice_get p.methods (e.node / 2)) (slice_get tags (e.node / 2)) (mode_at e.node) w c) (let one : k + 1 ≡ suc k = omega arith in one)
           ∙ visits_are (slice_get p.methods (e.node / 2)) (slice_get tags (e.node / 2)) (mode_at e.node) w (suc k)
 
-      pub search_goes_on : IsFirstNodeFault p uses (slice_get p.methods (e.node / 2)) (slice_get tags (e.node / 2)) (mode_at e.node) None → Searches_on (k + 1) v
+      pub search_goes_on : IsFirstFaultOf p uses (slice_get p.methods (e.node / 2)) (slice_get tags (e.node / 2)) (mode_at e.node) None → Searches_on (k + 1) v
       search_goes_on none = subst (λ x. Searches_on (k + 1) x) (sym next_is)
           (goes_on p (tagged_by tags) uses s (2 * length p.methods) k w e (calls_of p tags e.node) (node_size (slice_get p.methods (e.node / 2)) (slice_get tags (e.node / 2))) h here
           (λ i j q. calls_found p uses tags is e.node i j q) (λ i b q. calls_there p uses tags is e.node i b q) (node_is_sane e.node none))
@@ -143,5 +161,6 @@ module _ (p : Program) (uses : List FieldUse) (tags : List Tags) (is : IsProgram
       search_begins w v e q = subst (λ x. Searches_on 0 x) (sym q)
           (begins p (tagged_by tags) uses s (2 * length p.methods) (own_call p m t.frames own) (length m.code) w
           (nothing_yet p (tagged_by tags) uses s (2 * length p.methods) w (ap (λ (x : Search). length x.seen) e ∙ length-replicate (2 * length p.methods) false) (λ j. ap (λ (x : Search). slice_index_or x.seen j false) e ∙ all_same false (2 * length p.methods) j) (ap (λ (x : Search). x.queue) e))
+          (none_ordered p (tagged_by tags) uses s (2 * length p.methods) w (ap (λ (x : Search). x.queue) e))
           (λ i j k. let r = own_found i j k in (r.1, (are.only i r.0, r.2)))
           (λ i b o c. (inside_calls p uses tags is s.method m t at_m at_t (own_callee s).mode i b c, own_there i b (are.all i o) c)))

@@ -1,7 +1,10 @@
+pub mod CauseLaws
 pub mod Nodes
 pub mod SearchLaws
 pub mod OwnLaws
+pub mod ReachedLaws
 pub mod TurnLaws
+pub mod ShortestLaws
 pub mod BackLaws
 pub mod MarkParts
 pub mod ExplainLaws

@@ -17,8 +17,11 @@ use Rattle.guard_analysis.specs.Faults.{LeadsToItself}
 use Rattle.guard_analysis.proofs.CallEdges.{called_inside}
 use Rattle.guard_analysis.proofs.CalleesFound.{itself_flagged}
 use Rattle.guard_analysis.proofs.Grading.{fault_low}
+use Rattle.mark_reasons.specs.Firsts.{IsFirst}
 use Rattle.mark_reasons.specs.OwnFlags.{AreOwn}
-use Rattle.mark_reasons.specs.Searches.{own_call, turns, IsFirst}
+use Rattle.mark_reasons.specs.Reasons.{HasReason, IsSpotReached}
+use Rattle.mark_reasons.specs.Searches.{own_call, turns}
+use Rattle.mark_reasons.specs.declared.reason.Reason.TheVariants.{Elsewhere, Unreached}
 use Rattle.mark_reasons.proofs.Nodes.{calls_known, inside_calls}
 
 module _ (p : Program) (tags : Tagged) (uses : List FieldUse) (s : Section) where
@@ -54,11 +57,19 @@ module _ (p : Program) (tags : Tagged) (uses : List FieldUse) (s : Section) wher
   is_elsewhere n q (recurring e c) = absurd (omega (arith, q, e))
 
   -- no other
-  pub no_more : (n : ℕ) → 8 < n → Applies p tags uses s n → ⊥
-  no_more n q (elsewhere e off) = omega (arith, q, e)
-  no_more n q (itself o) = omega (arith, q, own_low n o)
-  no_more n q (called e c) = omega (arith, q, e)
-  no_more n q (recurring e c) = omega (arith, q, e)
+  is_eight : (n : ℕ) → 8 ≤ n → Applies p tags uses s n → n ≡ 8
+  is_eight n l (elsewhere e off) = e
+  is_eight n l (itself o) = absurd (omega (arith, l, own_low n o))
+  is_eight n l (called e c) = absurd (omega (arith, l, e))
+  is_eight n l (recurring e c) = absurd (omega (arith, l, e))
+
+  pub reached_reason : (n : ℕ) → 8 ≤ n → HasMark p tags uses s n → IsSpotReached p tags s.method s.spot → HasReason p tags uses s n (Some Elsewhere)
+  reached_reason zero l h reached = absurd (omega (arith, l))
+  reached_reason (suc n) l h reached = let eight = is_eight (suc n) l h.0 in (eight, reached, is_elsewhere (suc n) eight h.0)
+
+  pub unreached_reason : (n : ℕ) → 8 ≤ n → HasMark p tags uses s n → (IsSpotReached p tags s.method s.spot → ⊥) → HasReason p tags uses s n (Some Unreached)
+  unreached_reason zero l h none = absurd (omega (arith, l))
+  unreached_reason (suc n) l h none = (is_eight (suc n) l h.0, none)
 
   pub applies : (n : ℕ) → 0 < n → HasMark p tags uses s n → Applies p tags uses s n
   applies zero l h = absurd (omega (arith, l))

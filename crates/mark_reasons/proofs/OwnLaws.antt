@@ -54,7 +54,7 @@ reached_only m frames n i e = by_test (nat_lt i n) refl
     by_test true t = let low : i < n = grind (arith, nat_tests) in sym (reached_is m frames n i low) ∙ e
     by_test false t = absurd (let high : n ≤ i = grind (arith, nat_tests) in let bad : false ≡ true = sym (past_end (reached_before m frames n) i (omega (arith, high, reached_long m frames n))) ∙ e in cc)
 
-reached_parts : (oi : Option Insn) (ot : Option Target) (of : Option (Option TagShape)) → reached_at oi ot of ≡ true → (insn : Insn) × (target : Target) × (f : TagShape) × (oi ≡ Some insn) × (ot ≡ Some target) × (of ≡ Some (Some f))
+pub reached_parts : (oi : Option Insn) (ot : Option Target) (of : Option (Option TagShape)) → reached_at oi ot of ≡ true → (insn : Insn) × (target : Target) × (f : TagShape) × (oi ≡ Some insn) × (ot ≡ Some target) × (of ≡ Some (Some f))
 reached_parts (Some insn) (Some target) (Some (Some f)) e = (insn, target, f, refl, refl, refl)
 reached_parts (Some insn) (Some target) (Some None) e = absurd (let bad : false ≡ true = e in cc)
 reached_parts (Some insn) (Some target) None e = absurd (let bad : false ≡ true = e in cc)
@@ -124,13 +124,13 @@ module _ (m : MethodInfo) (frames : List (Option TagShape)) (depth stamp enter :
 
 module _ (p : Program) (tags : List Tags) (is : IsProgram p) (mi : ℕ) (m : MethodInfo) (t : Tags) (at_m : slice_get p.methods mi ≡ Some m) (at_t : slice_get tags mi ≡ Some t) where
   -- what stands at an instruction, in the words of the method
-  code_is : (i : ℕ) (n : MethodInfo) (insn : Insn) (target : Target) (f : TagShape) → IsAt p (tagged_by tags) mi i n insn target f → slice_get m.code i ≡ Some insn
+  pub code_is : (i : ℕ) (n : MethodInfo) (insn : Insn) (target : Target) (f : TagShape) → IsAt p (tagged_by tags) mi i n insn target f → slice_get m.code i ≡ Some insn
   code_is i n insn target f a = subst (λ (x : MethodInfo). slice_get x.code i ≡ Some insn) (same_Some n m (sym a.in_program ∙ at_m)) a.in_code
 
-  target_is : (i : ℕ) (n : MethodInfo) (insn : Insn) (target : Target) (f : TagShape) → IsAt p (tagged_by tags) mi i n insn target f → slice_get m.targets i ≡ Some target
+  pub target_is : (i : ℕ) (n : MethodInfo) (insn : Insn) (target : Target) (f : TagShape) → IsAt p (tagged_by tags) mi i n insn target f → slice_get m.targets i ≡ Some target
   target_is i n insn target f a = subst (λ (x : MethodInfo). slice_get x.targets i ≡ Some target) (same_Some n m (sym a.in_program ∙ at_m)) a.names
 
-  frame_is : (i : ℕ) (n : MethodInfo) (insn : Insn) (target : Target) (f : TagShape) → IsAt p (tagged_by tags) mi i n insn target f → slice_get t.frames i ≡ Some (Some f)
+  pub frame_is : (i : ℕ) (n : MethodInfo) (insn : Insn) (target : Target) (f : TagShape) → IsAt p (tagged_by tags) mi i n insn target f → slice_get t.frames i ≡ Some (Some f)
   frame_is i n insn target f a =
       let has = with_tags p tags is mi a.frames a.of_method in
       let same : t ≡ has.0 = same_Some t has.0 (sym at_t ∙ has.1) in

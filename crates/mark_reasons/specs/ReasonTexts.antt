@@ -1,5 +1,5 @@
 -- The reasons of marks as text: the line of each mark, and behind it, each line a bit further right, the calls that lead from
--- the section to what breaks the rule of its mark.
+-- the section to what breaks the rule of its mark, and what keeps the place from being read where that is M5.
 use Rattle.std.specs.Prelude.{ℕ, ◌≡◌, ◌==◌, if◌then◌else◌, List, [], ◌∷◌, ◌++◌, codes, Option, Some, None, slice_get}
 use Rattle.std.specs.List.{flat_map}
 use Rattle.std.specs.Fmt.{decimal}
@@ -13,9 +13,11 @@ use Rattle.run_texts.specs.Report.{line}
 use Rattle.run_texts.specs.MarksText.{mark_line, method_words}
 use Rattle.place_names.specs.PlaceText.{pc_words}
 use Rattle.mark_reasons.specs.Reasons.{AreReasons}
+use Rattle.mark_reasons.specs.declared.cause.Cause.{Cause}
+use Rattle.mark_reasons.specs.declared.cause.Cause.TheVariants as causes
 use Rattle.mark_reasons.specs.declared.reason.Site.{Site}
 use Rattle.mark_reasons.specs.declared.reason.Reason.{Reason}
-use Rattle.mark_reasons.specs.declared.reason.Reason.TheVariants.{Elsewhere, Breaks, Recurs}
+use Rattle.mark_reasons.specs.declared.reason.Reason.TheVariants.{Elsewhere, Unreached, Breaks, Recurs}
 
 -- ---- places
 
@@ -29,8 +31,11 @@ insn_place None = []
 insn_place (Some insn) = pc_words insn.pc (Some insn)
 
 -- `CLASS.NAMEDESCRIPTOR at PC MNEMONIC`
+abbrev pub insn_text : Program → (method at : ℕ) → List ℕ
+insn_text p method at = method_words p.names (slice_get p.methods method) ++ insn_place (numbered (slice_get p.methods method) at)
+
 abbrev pub site_text : Program → Site → List ℕ
-site_text p x = method_words p.names (slice_get p.methods x.method) ++ insn_place (numbered (slice_get p.methods x.method) x.at)
+site_text p x = insn_text p x.method x.at
 
 -- ---- reasons
 
@@ -52,6 +57,19 @@ way_lines p way = flat_map (call_line p) way
 abbrev pub fault_line : Program → Site → (rule : ℕ) → List ℕ
 fault_line p x rule = line (codes "  " ++ site_text p x ++ codes " M" ++ decimal rule ++ codes ": " ++ rule_words rule)
 
+-- what keeps the place of M5 from being read
+abbrev pub cause_words : Program → Cause → List ℕ
+cause_words p causes.Element = codes "it is an element of an array"
+cause_words p causes.Static = codes "it is a static field"
+cause_words p causes.Shared = codes "the field is not private"
+cause_words p causes.Other = codes "it is the field of another object"
+cause_words p (causes.Constructor u) = method_words p.names (slice_get p.methods u) ++ codes " lets its object out"
+cause_words p (causes.Write method at) = insn_text p method at ++ codes " writes the field on another object than this or without its lock"
+
+abbrev pub cause_line : Program → Option Cause → List ℕ
+cause_line p None = []
+cause_line p (Some cause) = line (codes "    " ++ cause_words p cause)
+
 -- the method that the way comes back to
 abbrev pub again_line : Program → Option Site → List ℕ
 again_line p None = []
@@ -59,7 +77,8 @@ again_line p (Some x) = line (codes "  " ++ method_words p.names (slice_get p.me
 
 abbrev pub reason_lines : Program → Reason → List ℕ
 reason_lines p Elsewhere = line (codes "  its monitor is not this")
-reason_lines p (Breaks way site rule) = way_lines p way ++ fault_line p site rule
+reason_lines p Unreached = line (codes "  no path reaches it")
+reason_lines p (Breaks way site rule cause) = way_lines p way ++ fault_line p site rule ++ cause_line p cause
 reason_lines p (Recurs way again) = way_lines p way ++ again_line p (slice_get way again)
 
 abbrev pub some_reason_lines : Program → Option Reason → List ℕ

@@ -1,17 +1,22 @@
 -- Why a section has not the mark M0: the instruction that breaks the rule of its mark, and the calls that lead there.
-use Rattle.std.specs.Prelude.{◌≡◌, ℕ, zero, suc, List, [], ◌∷◌, ◌++◌, Option, Some, None, length, slice_get}
+use Rattle.std.specs.Prelude.{◌≡◌, ◌<◌, ◌≤◌, ℕ, zero, suc, List, [], ◌∷◌, ◌++◌, Option, Some, None, length, slice_get}
 use Rattle.std.specs.List.{AllZip}
 use Rattle.jvm_types.specs.declared.program.Program.{Program}
+use Rattle.checked_program.specs.LockTags.{TagShape}
 use Rattle.checked_program.specs.TaggedCode.{Tagged}
 use Rattle.checked_program.specs.FrozenPlaces.{AreUses}
-use Rattle.checked_program.specs.Sections.{Section, IsOwn}
+use Rattle.checked_program.specs.Sections.{Section, BeginsAt, IsOwn}
 use Rattle.checked_program.specs.Marks.{Callee, callee, Calls, BreaksAt, HasMark, IsOnThis}
 use Rattle.checked_program.specs.declared.section.SectionMark.{SectionMark}
+use Rattle.checked_program.specs.declared.section.Spot.{Spot}
+use Rattle.checked_program.specs.declared.section.Spot.TheVariants.{Method, Block}
 use Rattle.checked_program.specs.declared.section.Mode.TheVariants.{OnThis}
 use Rattle.checked_program.specs.declared.section.FieldUse.{FieldUse}
+use Rattle.mark_reasons.specs.Causes.{IsCause}
+use Rattle.mark_reasons.specs.declared.cause.Cause.{Cause}
 use Rattle.mark_reasons.specs.declared.reason.Site.{Site}
 use Rattle.mark_reasons.specs.declared.reason.Reason.{Reason}
-use Rattle.mark_reasons.specs.declared.reason.Reason.TheVariants.{Elsewhere, Breaks, Recurs}
+use Rattle.mark_reasons.specs.declared.reason.Reason.TheVariants.{Elsewhere, Unreached, Breaks, Recurs}
 
 -- the section of a mark, and its method as the section calls it
 abbrev pub marked_section : SectionMark → Section
@@ -38,16 +43,38 @@ BeginsOwn p tags s (x ∷ xs) = IsOwn p tags s.method s.spot x.at
 
 -- ---- reasons
 
+-- some path leads to the `monitorenter` that begins a block, and so the block may be entered
+abbrev pub IsSpotReached : Program → Tagged → ℕ → Spot → Type 0
+IsSpotReached p tags mi Method = Unit {0}
+IsSpotReached p tags mi (Block pc) = (enter : ℕ) × (f : TagShape) × BeginsAt p tags mi pc enter f
+
 -- M1 to M5 of an own instruction, and M6 of one that calls lead to
 abbrev pub mark_by : List Site → (rule : ℕ) → ℕ
 mark_by [] rule = rule
 mark_by (x ∷ xs) rule = 6
+
+-- It is the first of its method: no own instruction before it breaks the rule; of a method that is called, no instruction
+-- before it breaks any.
+abbrev pub IsFirstSectionFault : Program → Tagged → List FieldUse → Section → List Site → Site → (rule : ℕ) → Type 0
+IsFirstSectionFault p tags uses s [] site rule = (j : ℕ) → j < site.at → IsOwn p tags s.method s.spot j → BreaksAt p tags uses (callee_of site) j rule → ⊥
+IsFirstSectionFault p tags uses s (x ∷ xs) site rule = (j r : ℕ) → j < site.at → BreaksAt p tags uses (callee_of site) j r → ⊥
+
+-- no way of fewer calls leads from the section to a method in which an instruction breaks a rule
+abbrev pub IsShortest : Program → Tagged → List FieldUse → Section → List Site → Type 0
+IsShortest p tags uses s way = (x : Site) (xs : List Site) (site : Site) (rule : ℕ) → IsWay p tags (own_callee s) (x ∷ xs) (callee_of site) → IsOwn p tags s.method s.spot x.at → BreaksAt p tags uses (callee_of site) site.at rule → length way ≤ length (x ∷ xs)
 
 -- the way leads to an instruction that breaks a rule
 pub record LeadsToFault (p : Program) (tags : Tagged) (uses : List FieldUse) (s : Section) (way : List Site) (site : Site) (rule : ℕ) : Type 0 where
   pub leads : IsWay p tags (own_callee s) way (callee_of site)
   pub own : BeginsOwn p tags s (way ++ site ∷ [])
   pub breaks : BreaksAt p tags uses (callee_of site) site.at rule
+  pub first : IsFirstSectionFault p tags uses s way site rule
+  pub shortest : IsShortest p tags uses s way
+
+-- M5 has a cause, and no other rule has one
+abbrev pub HasCause : Program → Tagged → Site → (rule : ℕ) → Option Cause → Type 0
+HasCause p tags site rule None = rule ≡ 5 → ⊥
+HasCause p tags site rule (Some cause) = (rule ≡ 5) × IsCause p tags (callee_of site) site.at cause
 
 -- the way comes back to the method of one of its instructions, which so calls itself
 pub record ComesBack (p : Program) (tags : Tagged) (s : Section) (way : List Site) (again : ℕ) : Type 0 where
@@ -59,8 +86,9 @@ pub record ComesBack (p : Program) (tags : Tagged) (s : Section) (way : List Sit
   pub same : callee_of from ≡ to
 
 abbrev pub IsReason : Program → Tagged → List FieldUse → Section → (mark : ℕ) → Reason → Type 0
-IsReason p tags uses s mark Elsewhere = (mark ≡ 8) × (IsOnThis p tags s.method s.spot → ⊥)
-IsReason p tags uses s mark (Breaks way site rule) = (mark ≡ mark_by way rule) × LeadsToFault p tags uses s way site rule
+IsReason p tags uses s mark Elsewhere = (mark ≡ 8) × IsSpotReached p tags s.method s.spot × (IsOnThis p tags s.method s.spot → ⊥)
+IsReason p tags uses s mark Unreached = (mark ≡ 8) × (IsSpotReached p tags s.method s.spot → ⊥)
+IsReason p tags uses s mark (Breaks way site rule cause) = (mark ≡ mark_by way rule) × LeadsToFault p tags uses s way site rule × HasCause p tags site rule cause
 IsReason p tags uses s mark (Recurs way again) = (mark ≡ 7) × ComesBack p tags s way again
 
 -- M0 has no reason, and each other mark has one

@@ -13,17 +13,12 @@ use Rattle.checked_program.specs.declared.section.Mode.TheVariants.{OnThis}
 use Rattle.checked_program.specs.declared.section.FieldUse.{FieldUse}
 use Rattle.guard_analysis.specs.CallGraph.{node_of, mode_at, call_at}
 use Rattle.guard_analysis.specs.Faults.{fault_at}
+use Rattle.mark_reasons.specs.Firsts.{IsFirst}
 use Rattle.mark_reasons.specs.Reasons.{IsWay, BeginsOwn, LeadsToFault, callee_of, mark_by, own_callee}
 use Rattle.mark_reasons.specs.declared.search.Entry.{Entry}
 use Rattle.mark_reasons.specs.declared.search.Fault.{Fault}
 use Rattle.mark_reasons.specs.declared.search.Search.{Search}
 use Rattle.mark_reasons.specs.declared.reason.Site.{Site}
-
--- ---- the first of some numbers that passes a test
-
-abbrev pub IsFirst : (ℕ → Bool) → ℕ → Option ℕ → Type 0
-IsFirst test n None = (i : ℕ) → i < n → test i ≡ false
-IsFirst test n (Some i) = (i < n) × (test i ≡ true) × ((j : ℕ) → j < i → test j ≡ false)
 
 -- ---- the nodes of the graph of calls
 
@@ -63,9 +58,9 @@ node_visits p (Some m) (Some t) mode w caller = visits (node_call p (Some m) (So
 node_visits p m t mode w caller = w
 
 -- the first instruction that breaks a rule
-abbrev pub IsFirstNodeFault : Program → List FieldUse → Option MethodInfo → Option Tags → Mode → Option ℕ → Type 0
-IsFirstNodeFault p uses (Some m) (Some t) mode found = IsFirst (λ i. nat_lt 0 (node_fault p uses (Some m) (Some t) mode i)) (length m.code) found
-IsFirstNodeFault p uses m t mode found = found ≡ None
+abbrev pub IsFirstFaultOf : Program → List FieldUse → Option MethodInfo → Option Tags → Mode → Option ℕ → Type 0
+IsFirstFaultOf p uses (Some m) (Some t) mode found = IsFirst (λ i. nat_lt 0 (node_fault p uses (Some m) (Some t) mode i)) (length m.code) found
+IsFirstFaultOf p uses m t mode found = found ≡ None
 
 -- of an own instruction
 abbrev pub own_call : Program → MethodInfo → List (Option TagShape) → List Bool → ℕ → Option ℕ
@@ -82,6 +77,15 @@ node_fault_of p uses tags a i = node_fault p uses (slice_get p.methods (a / 2)) 
 abbrev pub HasNode : List Entry → ℕ → Type 0
 HasNode queue j = (t : ℕ) × (e : Entry) × (slice_get queue t ≡ Some e) × (e.node ≡ j)
 
+-- called by an own instruction, or by an entry among the first ones
+abbrev pub HasNodeBy : List Entry → (node count : ℕ) → Type 0
+HasNodeBy queue j count = (t : ℕ) × (e : Entry) × (slice_get queue t ≡ Some e) × (e.node ≡ j) × (e.caller ≤ count)
+
+-- each entry was called by no later one than the entries behind it, and by one among the first
+pub record IsOrdered (queue : List Entry) (count : ℕ) : Type 0 where
+  pub before : (t : ℕ) (e : Entry) → slice_get queue t ≡ Some e → e.caller ≤ count
+  pub order : (t u : ℕ) (e b : Entry) → t ≤ u → slice_get queue t ≡ Some e → slice_get queue u ≡ Some b → e.caller ≤ b.caller
+
 -- a node is called by an own instruction, or by one of the method of an entry among the first
 abbrev pub IsCalled : Program → Tagged → Section → List Entry → (count caller at node : ℕ) → Type 0
 IsCalled p tags s queue count zero at node = IsOwn p tags s.method s.spot at × Calls p tags (callee s.method OnThis) at (callee_at node)
@@ -95,8 +99,9 @@ pub record IsSearchSound (p : Program) (tags : Tagged) (s : Section) (n : ℕ) (
 -- the first k entries are done: none breaks a rule, and what they call is found
 pub record Searching (p : Program) (tags : Tagged) (uses : List FieldUse) (s : Section) (n k : ℕ) (w : Search) : Type 0 where
   pub sound : IsSearchSound p tags s n w
-  pub begun : (i : ℕ) (b : Callee) → IsOwn p tags s.method s.spot i → Calls p tags (callee s.method OnThis) i b → HasNode w.queue (node_of b)
-  pub closed : (t i : ℕ) (e : Entry) (b : Callee) → t < k → slice_get w.queue t ≡ Some e → Calls p tags (callee_at e.node) i b → HasNode w.queue (node_of b)
+  pub ordered : IsOrdered w.queue k
+  pub begun : (i : ℕ) (b : Callee) → IsOwn p tags s.method s.spot i → Calls p tags (callee s.method OnThis) i b → HasNodeBy w.queue (node_of b) 0
+  pub closed : (t i : ℕ) (e : Entry) (b : Callee) → t < k → slice_get w.queue t ≡ Some e → Calls p tags (callee_at e.node) i b → HasNodeBy w.queue (node_of b) (suc t)
   pub sane : (t i r : ℕ) (e : Entry) → t < k → slice_get w.queue t ≡ Some e → BreaksAt p tags uses (callee_at e.node) i r → ⊥
 
 -- ---- the way to an entry

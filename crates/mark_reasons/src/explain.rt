@@ -4,16 +4,20 @@ ghost use Rattle.std.specs.Prelude.{◌≡◌, ◌<◌, ◌≤◌, ◌*◌, Some
 ghost use Rattle.std.specs.List.{AllZip};
 ghost use Rattle.jvm_types.specs.ProgramInvariant.{IsProgram};
 ghost use Rattle.jvm_types.specs.declared.limits.TheConstants.{MOST_INSTRUCTIONS as most};
+ghost use Rattle.checked_program.specs.FrozenPlaces.{AreUses};
 ghost use Rattle.checked_program.specs.MarkedProgram.{AreTaggings};
 ghost use Rattle.checked_program.specs.TaggedCode.{tagged_by};
-ghost use Rattle.checked_program.specs.Marks.{CalleeBreaks, CalleeRecurs, HasMark, OwnBreaks};
+ghost use Rattle.checked_program.specs.Marks.{BreaksAt, CalleeBreaks, CalleeRecurs, HasMark, OwnBreaks};
 ghost use Rattle.graph_closure.specs.Walks.{AreRecurring};
 ghost use Rattle.guard_analysis.specs.CallGraph.{call_graph};
+ghost use Rattle.mark_reasons.specs.Firsts.{IsFirst};
 ghost use Rattle.mark_reasons.specs.OwnFlags.{AreOwn};
-ghost use Rattle.mark_reasons.specs.Reasons.{marked_section, AreMarked, AreReasons, IsExplained, IsReason};
-ghost use Rattle.mark_reasons.specs.Searches.{own_breaks, own_call, turns, IsFirst};
+ghost use Rattle.mark_reasons.specs.Reasons.{callee_of, marked_section, AreMarked, AreReasons, HasCause, IsExplained, IsReason};
+ghost use Rattle.mark_reasons.specs.Searches.{own_breaks, own_call, turns};
 
+use crate::cause::{Cause, cause_of};
 use crate::own::own_flags;
+use crate::reached::is_spot_reached;
 use crate::reason::{Reason, Site};
 use crate::recursion::{come_back, turns};
 use crate::search::{find_fault, own_call};
@@ -80,6 +84,29 @@ fn first_own_turn(
     None
 }
 
+/// What keeps the place from being read that an instruction reads, if it is M5 that the instruction breaks.
+fn cause_if(
+    alloc: Global,
+    p: &Program,
+    uses: &Rows<FieldUse>,
+    tags: &Rows<Tags>,
+    site: Site,
+    rule: u8,
+) -> Result<Option<Cause>, AllocError>
+    requires program { IsProgram p.now }
+    requires few { length p.now.methods ≤ most }
+    requires taggings { AreTaggings p.now p.now.methods tags.now }
+    requires uses { AreUses p.now (tagged_by tags.now) uses.now }
+    requires breaks { BreaksAt p.now (tagged_by tags.now) uses.now (callee_of site) site.at rule }
+    ensures { IfOk result (HasCause p.now (tagged_by tags.now) site rule) }
+{
+    if rule == 5 {
+        Ok(Some(cause_of(alloc, p, uses, tags, site)?))
+    } else {
+        Ok(None)
+    }
+}
+
 /// The reason of one of the marks M1 to M5.
 fn own_reason(
     alloc: Global,
@@ -92,6 +119,9 @@ fn own_reason(
     own: &[bool],
 ) -> Result<Reason, AllocError>
     requires program { IsProgram p.now }
+    requires few { length p.now.methods ≤ most }
+    requires taggings { AreTaggings p.now p.now.methods tags.now }
+    requires uses { AreUses p.now (tagged_by tags.now) uses.now }
     requires there { slice_get p.now.methods mark.method ≡ Some m.now }
     requires tagged { slice_get tags.now mark.method ≡ Some t.now }
     requires own { AreOwn p.now (tagged_by tags.now) mark.method mark.spot own.now }
@@ -106,10 +136,12 @@ fn own_reason(
         mode: Mode::OnThis,
         at,
     };
+    let cause = cause_if(alloc, p, uses, tags, site, mark.mark)?;
     Ok(Reason::Breaks {
         way: Rows::new(alloc),
         site,
         rule: mark.mark,
+        cause,
     })
 }
 
@@ -125,6 +157,8 @@ fn called_reason(
     own: &[bool],
 ) -> Result<Reason, AllocError>
     requires program { IsProgram p.now }
+    requires taggings { AreTaggings p.now p.now.methods tags.now }
+    requires uses { AreUses p.now (tagged_by tags.now) uses.now }
     requires few { length p.now.methods ≤ most }
     requires there { slice_get p.now.methods mark.method ≡ Some m.now }
     requires tagged { slice_get tags.now mark.method ≡ Some t.now }
@@ -135,10 +169,12 @@ fn called_reason(
     let Some(fault) = find_fault(alloc, p, uses, tags, mark, m, t, own)? else {
         unreachable!()
     };
+    let cause = cause_if(alloc, p, uses, tags, fault.site, fault.rule)?;
     Ok(Reason::Breaks {
         way: fault.way,
         site: fault.site,
         rule: fault.rule,
+        cause,
     })
 }
 
@@ -188,6 +224,8 @@ fn rule_reason(
     t: &Tags,
 ) -> Result<Reason, AllocError>
     requires program { IsProgram p.now }
+    requires taggings { AreTaggings p.now p.now.methods tags.now }
+    requires uses { AreUses p.now (tagged_by tags.now) uses.now }
     requires few { length p.now.methods ≤ most }
     requires recurs { AreRecurring (call_graph p.now tags.now).from (call_graph p.now tags.now).to (2 * length p.now.methods) recurs.now }
     requires there { slice_get p.now.methods mark.method ≡ Some m.now }
@@ -220,7 +258,8 @@ fn reason_of(
 ) -> Result<Option<Reason>, AllocError>
     requires program { IsProgram p.now }
     requires few { length p.now.methods ≤ most }
-    requires tagged { AreTaggings p.now p.now.methods tags.now }
+    requires taggings { AreTaggings p.now p.now.methods tags.now }
+    requires uses { AreUses p.now (tagged_by tags.now) uses.now }
     requires recurs { AreRecurring (call_graph p.now tags.now).from (call_graph p.now tags.now).to (2 * length p.now.methods) recurs.now }
     requires marked { HasMark p.now (tagged_by tags.now) uses.now (marked_section mark) mark.mark }
     ensures { IfOk result (IsExplained p.now (tagged_by tags.now) uses.now mark) }
@@ -229,7 +268,10 @@ fn reason_of(
         return Ok(None);
     }
     if mark.mark >= 8 {
-        return Ok(Some(Reason::Elsewhere));
+        if is_spot_reached(p, tags, mark.method, mark.spot) {
+            return Ok(Some(Reason::Elsewhere));
+        }
+        return Ok(Some(Reason::Unreached));
     }
     let Some(m) = p.methods.get(mark.method as usize) else {
         unreachable!()
@@ -251,7 +293,8 @@ fn reasons_of(
 ) -> Result<Rows<Option<Reason>>, AllocError>
     requires program { IsProgram p.now }
     requires few { length p.now.methods ≤ most }
-    requires tagged { AreTaggings p.now p.now.methods tags.now }
+    requires taggings { AreTaggings p.now p.now.methods tags.now }
+    requires uses { AreUses p.now (tagged_by tags.now) uses.now }
     requires recurs { AreRecurring (call_graph p.now tags.now).from (call_graph p.now tags.now).to (2 * length p.now.methods) recurs.now }
     requires marked { AreMarked p.now (tagged_by tags.now) uses.now marks.now }
     ensures { IfOk result (AllZip (IsExplained p.now (tagged_by tags.now) uses.now) marks.now) }

@@ -1,13 +1,16 @@
 //! Why a section runs with its lock: the instruction that breaks the rule of its mark, and the calls that lead there.
 #![tactic(auto)]
 
+pub mod cause;
 pub mod explain;
 pub mod own;
+pub mod reached;
 pub mod reason;
 pub mod recursion;
 pub mod search;
 pub mod texts;
 
+pub use cause::Cause;
 pub use explain::reasons;
 pub use reason::{Reason, Site};
 pub use texts::marks_explained;

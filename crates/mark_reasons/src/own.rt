@@ -13,7 +13,8 @@ use guard_analysis::marking::{depth_at, fresh_walk};
 use jvm_types::{MethodInfo, Op, Program, Rows};
 use std::alloc::{AllocError, Global};
 
-fn is_reached(m: &MethodInfo, t: &Tags, i: usize) -> bool
+/// Whether some path leads to the instruction of a number.
+pub fn is_reached(m: &MethodInfo, t: &Tags, i: usize) -> bool
     ensures { result ≡ is_reached m.now t.now.frames i }
 {
     match m.code.get(i) {

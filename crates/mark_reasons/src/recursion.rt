@@ -8,8 +8,9 @@ ghost use Rattle.checked_program.specs.Marks.{Calls};
 ghost use Rattle.checked_program.specs.Sections.{IsOwn};
 ghost use Rattle.graph_closure.specs.Walks.{AreRecurring};
 ghost use Rattle.guard_analysis.specs.CallGraph.{call_graph, mode_at};
+ghost use Rattle.mark_reasons.specs.Firsts.{IsFirst};
 ghost use Rattle.mark_reasons.specs.Reasons.{own_callee, marked_section, ComesBack};
-ghost use Rattle.mark_reasons.specs.Searches.{callee_at, calls_of, node_call, turns, IsFirst, IsFirstTurn};
+ghost use Rattle.mark_reasons.specs.Searches.{callee_at, calls_of, node_call, turns, IsFirstTurn};
 
 use crate::reason::Site;
 use crate::search::site_at;

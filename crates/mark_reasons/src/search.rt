@@ -5,9 +5,10 @@ ghost use Rattle.jvm_types.specs.declared.limits.TheConstants.{MOST_INSTRUCTIONS
 ghost use Rattle.jvm_types.specs.ProgramInvariant.{IsProgram};
 ghost use Rattle.checked_program.specs.TaggedCode.{tagged_by};
 ghost use Rattle.guard_analysis.specs.CallGraph.{mode_at};
+ghost use Rattle.mark_reasons.specs.Firsts.{IsFirst};
 ghost use Rattle.mark_reasons.specs.OwnFlags.{AreOwn};
 ghost use Rattle.mark_reasons.specs.Reasons.{marked_section};
-ghost use Rattle.mark_reasons.specs.Searches.{node_call, node_fault as rule_at, node_visits, own_call, site_at, search_visited, visits, AreCalledBefore, IsBack, IsFaultFound, IsFirst, IsFirstNodeFault};
+ghost use Rattle.mark_reasons.specs.Searches.{node_call, node_fault as rule_at, node_visits, own_call, site_at, search_visited, visits, AreCalledBefore, IsBack, IsFaultFound, IsFirstFaultOf};
 
 use crate::reason::Site;
 use checked_program::{FieldUse, Mode, SectionMark, Tags};
@@ -147,7 +148,7 @@ fn first_fault(
 
 /// The same of the method of a node.
 fn node_fault(p: &Program, uses: &Rows<FieldUse>, tags: &Rows<Tags>, node: u32) -> Option<usize>
-    ensures { IsFirstNodeFault p.now uses.now (slice_get p.now.methods (node / 2)) (slice_get tags.now (node / 2)) (mode_at node) result }
+    ensures { IsFirstFaultOf p.now uses.now (slice_get p.now.methods (node / 2)) (slice_get tags.now (node / 2)) (mode_at node) result }
 {
     let place = node as usize / 2;
     match p.methods.get(place) {

@@ -2,8 +2,9 @@
 
 ghost use Rattle.std.specs.Prelude.{◌≡◌, ◌++◌, length, slice_get, OnOk, IfOk};
 ghost use Rattle.std.specs.Option.{option_copied};
-ghost use Rattle.mark_reasons.specs.ReasonTexts.{again_line, call_line, explained_text, fault_line, insn_place, numbered, reason_lines, rule_words, section_lines, site_text, some_reason_lines, way_lines, IsMarksExplained};
+ghost use Rattle.mark_reasons.specs.ReasonTexts.{again_line, call_line, cause_line, cause_words, explained_text, fault_line, insn_place, insn_text, numbered, reason_lines, rule_words, section_lines, site_text, some_reason_lines, way_lines, IsMarksExplained};
 
+use crate::cause::Cause;
 use crate::explain::reasons;
 use crate::reason::{Reason, Site};
 use checked_program::{Checked, SectionMark};
@@ -25,12 +26,12 @@ fn rule_words(rule: u8) -> &'static str
     }
 }
 
-/// The instruction of a number in its method.
-fn numbered(p: &Program, site: Site) -> Option<&Insn>
-    ensures { option_copied result ≡ numbered (slice_get p.now.methods site.method) site.at }
+/// The instruction of a number in the method of a number.
+fn numbered(p: &Program, method: u32, at: usize) -> Option<&Insn>
+    ensures { option_copied result ≡ numbered (slice_get p.now.methods method) at }
 {
-    match p.methods.get(site.method as usize) {
-        Some(m) => m.code.get(site.at),
+    match p.methods.get(method as usize) {
+        Some(m) => m.code.get(at),
         None => None,
     }
 }
@@ -44,12 +45,24 @@ fn write_insn(text: &mut Vec<u8>, alloc: Global, insn: Option<&Insn>) -> Result<
     }
 }
 
-/// `CLASS.NAMEDESCRIPTOR at PC MNEMONIC`, behind two spaces.
+/// `CLASS.NAMEDESCRIPTOR at PC MNEMONIC`
+fn write_place(
+    text: &mut Vec<u8>,
+    alloc: Global,
+    p: &Program,
+    method: u32,
+    at: usize,
+) -> Result<(), AllocError>
+    ensures { OnOk result (text.new.items ≡ text.old.items ++ insn_text p.now method at) }
+{
+    write_method(text, p, method)?;
+    write_insn(text, alloc, numbered(p, method, at))
+}
+
 fn write_site(text: &mut Vec<u8>, alloc: Global, p: &Program, site: Site) -> Result<(), AllocError>
     ensures { OnOk result (text.new.items ≡ text.old.items ++ site_text p.now site) }
 {
-    write_method(text, p, site.method)?;
-    write_insn(text, alloc, numbered(p, site))
+    write_place(text, alloc, p, site.method, site.at)
 }
 
 fn write_call(text: &mut Vec<u8>, alloc: Global, p: &Program, site: Site) -> Result<(), AllocError>
@@ -86,6 +99,50 @@ fn write_fault(
     text.extend_from_slice(line.as_bytes())
 }
 
+fn write_cause_words(
+    text: &mut Vec<u8>,
+    alloc: Global,
+    p: &Program,
+    cause: Cause,
+) -> Result<(), AllocError>
+    ensures { OnOk result (text.new.items ≡ text.old.items ++ cause_words p.now cause) }
+{
+    match cause {
+        Cause::Element => text.extend_from_slice(b"it is an element of an array"),
+        Cause::Static => text.extend_from_slice(b"it is a static field"),
+        Cause::Shared => text.extend_from_slice(b"the field is not private"),
+        Cause::Other => text.extend_from_slice(b"it is the field of another object"),
+        Cause::Constructor(init) => {
+            write_method(text, p, init)?;
+            text.extend_from_slice(b" lets its object out")
+        }
+        Cause::Write { method, at } => {
+            write_place(text, alloc, p, method, at)?;
+            text.extend_from_slice(
+                b" writes the field on another object than this or without its lock",
+            )
+        }
+    }
+}
+
+fn write_cause(
+    text: &mut Vec<u8>,
+    alloc: Global,
+    p: &Program,
+    cause: Option<Cause>,
+) -> Result<(), AllocError>
+    ensures { OnOk result (text.new.items ≡ text.old.items ++ cause_line p.now cause) }
+{
+    match cause {
+        Some(there) => {
+            text.extend_from_slice(b"    ")?;
+            write_cause_words(text, alloc, p, there)?;
+            text.extend_from_slice(b"\n")
+        }
+        None => Ok(()),
+    }
+}
+
 fn write_again(text: &mut Vec<u8>, p: &Program, site: Option<&Site>) -> Result<(), AllocError>
     ensures { OnOk result (text.new.items ≡ text.old.items ++ again_line p.now (option_copied site.entry)) }
 {
@@ -109,9 +166,16 @@ fn write_reason(
 {
     match reason {
         Reason::Elsewhere => text.extend_from_slice(b"  its monitor is not this\n"),
-        Reason::Breaks { way, site, rule } => {
+        Reason::Unreached => text.extend_from_slice(b"  no path reaches it\n"),
+        Reason::Breaks {
+            way,
+            site,
+            rule,
+            cause,
+        } => {
             write_way(text, alloc, p, way.as_slice())?;
-            write_fault(text, alloc, p, *site, *rule)
+            write_fault(text, alloc, p, *site, *rule)?;
+            write_cause(text, alloc, p, *cause)
         }
         Reason::Recurs { way, again } => {
             write_way(text, alloc, p, way.as_slice())?;
@@ -171,8 +235,8 @@ fn lines(
 
 /// The marks of a program with their reasons: for each section its line as `run_texts::mark_text` has it, and where the mark
 /// isn't M0 the calls that lead to what breaks its rule, a line `  CLASS.NAMEDESCRIPTOR at PC MNEMONIC calls` for each of
-/// them, and then the instruction with the rule that it breaks, or the method that is called again (M7), or that the monitor
-/// is not `this` (M8).
+/// them, and then the instruction with the rule that it breaks, and for M5 what keeps the place from being read, or the method
+/// that is called again (M7), or that the monitor is not `this`, or that no path reaches the block (M8).
 pub fn marks_explained(alloc: Global, c: &Checked) -> Result<Bytes, AllocError>
     ensures { IfOk result (IsMarksExplained c.now) }
 {

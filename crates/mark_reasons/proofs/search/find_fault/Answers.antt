@@ -1,13 +1,14 @@
-use Rattle.std.proofs.Common.{◌≡◌, ◌∙◌, ◌*◌, ◌≤◌, ◌/◌, ℕ, Option, [], false, length, ap, sym, subst, arith}
+use Rattle.std.proofs.Common.{◌≡◌, ◌∙◌, ◌*◌, ◌≤◌, ◌/◌, ℕ, Option, [], false, length, ap, refl, sym, subst, arith}
 use Rattle.std.specs.Prelude.{replicate, slice_get}
 use Rattle.checked_program.specs.TaggedCode.{tagged_by}
 use Rattle.guard_analysis.specs.CallGraph.{mode_at}
 use Rattle.mark_reasons.specs.Reasons.{marked_section, mark_by, LeadsToFault}
-use Rattle.mark_reasons.specs.Searches.{node_fault_of, site_at, IsFirstNodeFault}
+use Rattle.mark_reasons.specs.Searches.{node_fault_of, site_at, IsFirstFaultOf}
 use Rattle.mark_reasons.specs.declared.reason.Site.{Site}
 use Rattle.mark_reasons.specs.declared.search.Search.{Search}
 use Rattle.mark_reasons.proofs.SearchLaws.{found_none}
-use Rattle.mark_reasons.proofs.BackLaws.{called_before, leads_to_fault, none_left, node_is_fault, search_begins, search_goes_on, search_lessens}
+use Rattle.mark_reasons.proofs.ShortestLaws.{back_calls, no_shorter}
+use Rattle.mark_reasons.proofs.BackLaws.{called_before, leads_to_fault, none_before, none_left, node_is_fault, search_begins, search_goes_on, search_lessens}
 use Rattle.mark_reasons.proofs.search.find_fault.Goals as goal
 
 pub loop-k-init : goal.loop-k-init
@@ -21,7 +22,10 @@ pub returns-in-Some : goal.returns-in-Some
 returns-in-Some c =
     let found = leads_to_fault c.args.p.now (tagged_by c.args.tags.now) (marked_section c.args.mark) (2 * length c.args.p.now.methods) c.loop-k.w c.loop-k.invariant.sound c.args.uses.now c.loop-k.k c.in-Some.at
     (node_fault_of c.args.p.now c.args.uses.now c.args.tags.now c.entry_at-e.result.node c.in-Some.at) c.in_ok-way.way c.entry_at-e.result c.in_ok-way.ensures c.entry_at-e.ensures
-    (node_is_fault c.args.p.now c.args.uses.now c.args.tags.now c.requires.program c.entry_at-e.result.node c.in-Some.at c.in-Some.ensures) in
+    (node_is_fault c.args.p.now c.args.uses.now c.args.tags.now c.requires.program c.entry_at-e.result.node c.in-Some.at c.in-Some.ensures)
+    (none_before c.args.p.now c.args.uses.now c.args.tags.now c.requires.program c.entry_at-e.result.node c.in-Some.at c.in-Some.ensures)
+    (no_shorter c.args.p.now (tagged_by c.args.tags.now) c.args.uses.now (marked_section c.args.mark) (2 * length c.args.p.now.methods) c.loop-k.k c.loop-k.w c.loop-k.invariant (length c.in_ok-way.way)
+    (back_calls c.args.mark.method c.loop-k.w.queue c.loop-k.k c.in_ok-way.way c.in_ok-way.ensures) c.in_ok-way.way refl) in
     subst (λ (site : Site). LeadsToFault c.args.p.now (tagged_by c.args.tags.now) c.args.uses.now (marked_section c.args.mark) c.in_ok-way.way site c.rule_at-rule.result × (mark_by c.in_ok-way.way c.rule_at-rule.result ≡ 6)) (sym c.site_at.ensures)
     (subst (λ (rule : ℕ). LeadsToFault c.args.p.now (tagged_by c.args.tags.now) c.args.uses.now (marked_section c.args.mark) c.in_ok-way.way (site_at c.entry_at-e.result.node c.in-Some.at) rule × (mark_by c.in_ok-way.way rule ≡ 6)) (sym c.rule_at-rule.ensures) found)
 
@@ -30,7 +34,7 @@ loop-k-smaller c = search_lessens c.args.p.now c.args.uses.now c.args.tags.now c
 
 pub loop-k-preserved : goal.loop-k-preserved
 loop-k-preserved c = search_goes_on c.args.p.now c.args.uses.now c.args.tags.now c.requires.program (marked_section c.args.mark) c.loop-k.k c.loop-k.w c.visit_node.new.search c.entry_at-e.result c.loop-k.invariant c.entry_at-e.ensures c.in_ok-visit_node.ensures
-    (subst (λ (o : Option ℕ). IsFirstNodeFault c.args.p.now c.args.uses.now (slice_get c.args.p.now.methods (c.entry_at-e.result.node / 2)) (slice_get c.args.tags.now (c.entry_at-e.result.node / 2)) (mode_at c.entry_at-e.result.node) o)
+    (subst (λ (o : Option ℕ). IsFirstFaultOf c.args.p.now c.args.uses.now (slice_get c.args.p.now.methods (c.entry_at-e.result.node / 2)) (slice_get c.args.tags.now (c.entry_at-e.result.node / 2)) (mode_at c.entry_at-e.result.node) o)
     (none_left c.node_fault.result c.in_default.not-Some) c.node_fault.ensures)
 
 pub returns : goal.returns

@@ -1,0 +1,267 @@
+//! What keeps a section from a place that it reads (M5).
+
+ghost use Rattle.std.specs.Prelude.{◌≡◌, ◌<◌, ◌≤◌, Bool, false, Some, length, slice_get, slice_index_or, IfOk};
+ghost use Rattle.jvm_types.specs.ProgramInvariant.{IsProgram};
+ghost use Rattle.jvm_types.specs.Members.{is_static};
+ghost use Rattle.jvm_types.specs.declared.limits.TheConstants.{MOST_INSTRUCTIONS as most};
+ghost use Rattle.checked_program.specs.FrozenPlaces.{AreUses, IsFrozenClass, IsFrozenField, IsGuardedField};
+ghost use Rattle.checked_program.specs.MarkedProgram.{AreTaggings};
+ghost use Rattle.checked_program.specs.Marks.{use_fault, BreaksAt};
+ghost use Rattle.checked_program.specs.TaggedCode.{tagged_by};
+ghost use Rattle.checked_program.specs.declared.section.FieldUse.TheVariants.{Open as open_use};
+ghost use Rattle.mark_reasons.specs.Causes.{is_number, place_at, place_read, site_place, writes_at, Bars, IsCause, IsFirstWriteOf, IsWriteFound, KeepsField};
+ghost use Rattle.mark_reasons.specs.Reasons.{callee_of};
+ghost use Rattle.mark_reasons.specs.Firsts.{IsFirst};
+
+use crate::reason::Site;
+use checked_program::{FieldUse, Tags};
+use frozen_classes::first_out;
+use guard_analysis::faults::use_of;
+use guard_analysis::field_uses::unguarded_at;
+use jvm_types::flags::{is_private, is_static};
+use jvm_types::{FieldInfo, MethodInfo, Op, Program, Rows, Target};
+use std::alloc::{AllocError, Global};
+
+/// What keeps a section from a place that it reads.
+#[derive(Clone, Copy, Debug, PartialEq, Eq)]
+pub enum Cause {
+    /// It is an element of an array.
+    Element,
+    /// It is a static field.
+    Static,
+    /// The field is neither private nor final.
+    Shared,
+    /// It is a guarded field of another object than the section's.
+    Other,
+    /// The `<init>` of that number, of the field's class, lets its object out.
+    Constructor(u32),
+    /// An instruction of a method writes the field on another object than `this`, or without its lock.
+    Write { method: u32, at: usize },
+}
+
+/// A place that an instruction reads and that others may write.
+#[derive(Clone, Copy, Debug, PartialEq, Eq)]
+pub enum Place {
+    /// An element of an array.
+    Element,
+    /// A static field.
+    Static,
+    /// The field of that number of an object.
+    Field(u32),
+}
+
+fn place_read(op: &Op, target: Target) -> Option<Place>
+    ensures { result ≡ place_read op.now target }
+{
+    match op {
+        Op::Iaload => Some(Place::Element),
+        Op::Getstatic(_) => match target {
+            Target::Field(_) => Some(Place::Static),
+            _ => None,
+        },
+        Op::Getfield(_) => match target {
+            Target::Field(field) => Some(Place::Field(field)),
+            _ => None,
+        },
+        _ => None,
+    }
+}
+
+/// The place that the instruction of a number reads.
+fn place_at(m: &MethodInfo, i: usize) -> Option<Place>
+    ensures { result ≡ place_at (slice_get m.now.code i) (slice_get m.now.targets i) }
+{
+    match m.code.get(i) {
+        Some(insn) => match m.targets.get(i) {
+            Some(target) => place_read(&insn.op, *target),
+            None => None,
+        },
+        None => None,
+    }
+}
+
+fn site_place(p: &Program, site: Site) -> Option<Place>
+    ensures { result ≡ site_place (slice_get p.now.methods site.method) site.at }
+{
+    match p.methods.get(site.method as usize) {
+        Some(m) => place_at(m, site.at),
+        None => None,
+    }
+}
+
+// ---- writes
+
+/// Whether a field is that of a number.
+fn is_number(found: Option<u32>, field: u32) -> bool
+    ensures { result ≡ is_number found field }
+{
+    match found {
+        Some(number) => number == field,
+        None => false,
+    }
+}
+
+/// Whether an instruction writes a field without its guard.
+fn writes_at(m: &MethodInfo, t: &Tags, field: u32, i: usize) -> bool
+    ensures { result ≡ writes_at m.now t.now.frames field i }
+{
+    is_number(unguarded_at(m, t, i), field)
+}
+
+/// The first instruction of a method that writes a field without its guard.
+fn first_write_at(m: &MethodInfo, t: &Tags, field: u32) -> Option<usize>
+    ensures { IsFirst (writes_at m.now t.now.frames field) (length m.now.code) result }
+{
+    for i in 0..m.code.len() {
+        if writes_at(m, t, field, i) {
+            return Some(i);
+        }
+    }
+    None
+}
+
+/// The same of the method of a number.
+fn first_write_in(p: &Program, tags: &Rows<Tags>, method: usize, field: u32) -> Option<usize>
+    ensures { IsFirstWriteOf field (slice_get p.now.methods method) (slice_get tags.now method) result }
+{
+    match p.methods.get(method) {
+        Some(m) => match tags.get(method) {
+            Some(t) => first_write_at(m, t, field),
+            None => None,
+        },
+        None => None,
+    }
+}
+
+/// The first instruction of all methods that writes a field without its guard, with its method.
+fn first_write(p: &Program, tags: &Rows<Tags>, field: u32) -> Option<Cause>
+    requires program { IsProgram p.now }
+    requires few { length p.now.methods ≤ most }
+    ensures { IsWriteFound p.now (tagged_by tags.now) field result }
+{
+    for method in 0..p.methods.len() {
+        if let Some(at) = first_write_in(p, tags, method, field) {
+            return Some(Cause::Write {
+                method: method as u32,
+                at,
+            });
+        }
+    }
+    None
+}
+
+// ---- fields
+
+/// What keeps an instance field of a frozen class from being read that is neither frozen nor guarded.
+fn loose_cause(p: &Program, tags: &Rows<Tags>, field: u32, info: &FieldInfo) -> Cause
+    requires program { IsProgram p.now }
+    requires few { length p.now.methods ≤ most }
+    requires there { slice_get p.now.fields field ≡ Some info.now }
+    requires instance { is_static info.now.flags ≡ false }
+    requires frozen { IsFrozenClass p.now (tagged_by tags.now) info.now.class }
+    requires changes { ¬ IsFrozenField p.now (tagged_by tags.now) field }
+    requires loose { ¬ IsGuardedField p.now (tagged_by tags.now) field }
+    ensures { Bars p.now (tagged_by tags.now) field result }
+{
+    if is_private(info.flags) {
+        match first_write(p, tags, field) {
+            Some(write) => write,
+            None => unreachable!(),
+        }
+    } else {
+        Cause::Shared
+    }
+}
+
+/// What keeps a field from being read that is neither frozen nor guarded.
+fn open_cause(
+    alloc: Global,
+    p: &Program,
+    tags: &Rows<Tags>,
+    field: u32,
+) -> Result<Cause, AllocError>
+    requires program { IsProgram p.now }
+    requires few { length p.now.methods ≤ most }
+    requires tagged { AreTaggings p.now p.now.methods tags.now }
+    requires there { field < length p.now.fields }
+    requires changes { ¬ IsFrozenField p.now (tagged_by tags.now) field }
+    requires loose { ¬ IsGuardedField p.now (tagged_by tags.now) field }
+    ensures { IfOk result (Bars p.now (tagged_by tags.now) field) }
+{
+    let info = &p.fields.as_slice()[field as usize];
+    if is_static(info.flags) {
+        Ok(Cause::Static)
+    } else {
+        match first_out(alloc, p, tags, info.class)? {
+            Some(init) => Ok(Cause::Constructor(init)),
+            None => Ok(loose_cause(p, tags, field, info)),
+        }
+    }
+}
+
+/// What keeps a field of an object from being read where that breaks M5.
+fn field_cause(
+    alloc: Global,
+    p: &Program,
+    uses: &Rows<FieldUse>,
+    tags: &Rows<Tags>,
+    field: u32,
+) -> Result<Cause, AllocError>
+    requires program { IsProgram p.now }
+    requires few { length p.now.methods ≤ most }
+    requires tagged { AreTaggings p.now p.now.methods tags.now }
+    requires uses { AreUses p.now (tagged_by tags.now) uses.now }
+    requires there { field < length p.now.fields }
+    ensures { IfOk result (λ cause. (own : Bool) → use_fault (slice_index_or uses.now field open_use) own ≡ 5 → KeepsField p.now (tagged_by tags.now) field own cause) }
+{
+    match use_of(uses, field) {
+        FieldUse::Open => open_cause(alloc, p, tags, field),
+        FieldUse::Guarded => Ok(Cause::Other),
+        FieldUse::Frozen => Ok(Cause::Other),
+    }
+}
+
+/// What keeps a place from being read, which an instruction reads that breaks M5.
+fn place_cause(
+    alloc: Global,
+    p: &Program,
+    uses: &Rows<FieldUse>,
+    tags: &Rows<Tags>,
+    site: Site,
+    place: Place,
+) -> Result<Cause, AllocError>
+    requires program { IsProgram p.now }
+    requires few { length p.now.methods ≤ most }
+    requires tagged { AreTaggings p.now p.now.methods tags.now }
+    requires uses { AreUses p.now (tagged_by tags.now) uses.now }
+    requires breaks { BreaksAt p.now (tagged_by tags.now) uses.now (callee_of site) site.at 5 }
+    requires read { site_place (slice_get p.now.methods site.method) site.at ≡ Some place }
+    ensures { IfOk result (IsCause p.now (tagged_by tags.now) (callee_of site) site.at) }
+{
+    match place {
+        Place::Element => Ok(Cause::Element),
+        Place::Static => Ok(Cause::Static),
+        Place::Field(field) => field_cause(alloc, p, uses, tags, field),
+    }
+}
+
+/// What keeps the place from being read that an instruction reads which breaks M5.
+pub fn cause_of(
+    alloc: Global,
+    p: &Program,
+    uses: &Rows<FieldUse>,
+    tags: &Rows<Tags>,
+    site: Site,
+) -> Result<Cause, AllocError>
+    requires program { IsProgram p.now }
+    requires few { length p.now.methods ≤ most }
+    requires tagged { AreTaggings p.now p.now.methods tags.now }
+    requires uses { AreUses p.now (tagged_by tags.now) uses.now }
+    requires breaks { BreaksAt p.now (tagged_by tags.now) uses.now (callee_of site) site.at 5 }
+    ensures { IfOk result (IsCause p.now (tagged_by tags.now) (callee_of site) site.at) }
+{
+    match site_place(p, site) {
+        Some(place) => place_cause(alloc, p, uses, tags, site, place),
+        None => unreachable!(),
+    }
+}
