@@ -235,7 +235,7 @@ module _ (p : Program) (tags : Tagged) (uses : List FieldUse) (s : Section) (n :
           let low : t < length w.queue = (let inside : k < length w.queue = slice_get_within w.queue k e here in omega (arith, l, inside)) in
           let was : slice_get w.queue t ≡ Some x = was_there w onward t x after.grows low g in
           ⊎_elim (λ (z : t ≡ k). let same : x ≡ e = same_Some x e (sym was ∙ ap (λ y. slice_get w.queue y) z ∙ here) in let r = all i b (subst (λ (y : Entry). Calls p tags (callee_at y.node) i b) same q) in
-            subst (λ y. HasNodeBy onward.queue (node_of b) (suc y)) (sym z) (after.found i (node_of b) r.0 r.1))
+          subst (λ y. HasNodeBy onward.queue (node_of b) (suc y)) (sym z) (after.found i (node_of b) r.0 r.1))
           (λ (z : t ≢ k). grown_by w onward (node_of b) (suc t) after.grows (h.closed t i x b (omega (arith, l, z)) was q)) (cases_eq t k);
       sane = λ t i r x l g q.
           let low : t < length w.queue = (let inside : k < length w.queue = slice_get_within w.queue k e here in omega (arith, l, inside)) in

@@ -98,13 +98,13 @@ module _ (p : Program) (tags : Tagged) (uses : List FieldUse) (s : Section) (n k
         (λ (l : k ≤ t). inl (far t m (m + 0) l calls (let same : m ≤ m + 0 = omega arith in same))) (less_or t)
     along (x ∷ xs) a b t m e way g q calls = ⊎_elim
         (λ (l : t < k).
-            let r = h.closed t x.at e way.1 l g (subst (λ (y : Callee). Calls p tags y x.at way.1) (sym (ap callee_at q ∙ callee_back a)) way.2) in
-            let c = calls_below (suc r.0) r.0 r.1 (let self : r.0 < suc r.0 = omega arith in self) r.2 in
-            let more : c.0 ≤ suc m = one_more t m calls r.0 c.0 r.1 r.2 r.4 c.1 in
-            let total : c.0 + length xs ≤ m + suc (length xs) = omega (arith, more) in
-            ⊎_elim (λ (z : found ≤ c.0 + length xs). inl (let less : found ≤ m + suc (length xs) = omega (arith, z, total) in less))
-            (λ (z : IsNear b (c.0 + length xs)). inr (record { t = z.t; e = z.e; is = z.is; node = z.node; done = z.done; calls = z.calls; has = z.has; few = (let few : z.calls ≤ c.0 + length xs = z.few in let less : z.calls ≤ m + suc (length xs) = omega (arith, few, total) in less) }))
-            (along xs way.1 b r.0 c.0 r.1 way.3 r.2 r.3 c.1))
+        let r = h.closed t x.at e way.1 l g (subst (λ (y : Callee). Calls p tags y x.at way.1) (sym (ap callee_at q ∙ callee_back a)) way.2) in
+        let c = calls_below (suc r.0) r.0 r.1 (let self : r.0 < suc r.0 = omega arith in self) r.2 in
+        let more : c.0 ≤ suc m = one_more t m calls r.0 c.0 r.1 r.2 r.4 c.1 in
+        let total : c.0 + length xs ≤ m + suc (length xs) = omega (arith, more) in
+        ⊎_elim (λ (z : found ≤ c.0 + length xs). inl (let less : found ≤ m + suc (length xs) = omega (arith, z, total) in less))
+        (λ (z : IsNear b (c.0 + length xs)). inr (record { t = z.t; e = z.e; is = z.is; node = z.node; done = z.done; calls = z.calls; has = z.has; few = (let few : z.calls ≤ c.0 + length xs = z.few in let less : z.calls ≤ m + suc (length xs) = omega (arith, few, total) in less) }))
+        (along xs way.1 b r.0 c.0 r.1 way.3 r.2 r.3 c.1))
         (λ (l : k ≤ t). inl (far t m (m + suc (length xs)) l calls (let more : m ≤ m + suc (length xs) = omega arith in more))) (less_or t)
 
     -- any way to an instruction that breaks a rule has as many calls as the entry at hand
@@ -115,5 +115,5 @@ module _ (p : Program) (tags : Tagged) (uses : List FieldUse) (s : Section) (n k
         let one : c.0 ≡ 1 = only_one r.0 c.0 r.1 r.2 r.4 c.1 in
         ⊎_elim (λ (z : found ≤ c.0 + length xs). let less : length way ≤ suc (length xs) = omega (arith, z, one, long) in less)
         (λ (z : IsNear (callee_of site) (c.0 + length xs)). absurd (h.sane z.t site.at rule z.e z.done z.is
-            (subst (λ (y : Callee). BreaksAt p tags uses y site.at rule) (sym (ap callee_at z.node ∙ callee_back (callee_of site))) breaks)))
+        (subst (λ (y : Callee). BreaksAt p tags uses y site.at rule) (sym (ap callee_at z.node ∙ callee_back (callee_of site))) breaks)))
         (along xs leads.1 (callee_of site) r.0 c.0 r.1 leads.3 r.2 r.3 c.1)
