@@ -2,6 +2,11 @@
 #![tactic(auto)]
 
 pub mod characters;
+pub mod form;
 pub mod members;
 
-pub use members::{write_json_number, write_json_text, write_number_member, write_text_member};
+pub use form::Form;
+pub use members::{
+    write_json_number, write_json_text, write_number_behind, write_number_member, write_text_behind,
+    write_text_member,
+};
