@@ -1,2 +1,3 @@
 pub mod Opcodes
 pub mod PlaceText
+pub mod PlaceJson

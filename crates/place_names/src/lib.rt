@@ -1,8 +1,12 @@
-//! Names of places of a program: methods with their classes, and instructions by their mnemonics.
+//! Names of places of a program: methods with their classes, and instructions by their mnemonics, as text and as JSON.
 #![tactic(auto)]
 
+pub mod json;
 pub mod opcodes;
 pub mod places;
 
+pub use json::{
+    write_instruction_member, write_method_members, write_method_names, write_place_members,
+};
 pub use opcodes::{op_name, opcode};
 pub use places::{write_pc, write_place};

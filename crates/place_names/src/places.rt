@@ -11,7 +11,7 @@ use run_texts::write_method;
 use std::alloc::{AllocError, Global};
 
 /// The instruction at a pc of the method of that number, where one begins there.
-fn insn_at(c: &Checked, method: u32, pc: u32) -> Option<&Insn>
+pub(crate) fn insn_at(c: &Checked, method: u32, pc: u32) -> Option<&Insn>
     ensures { option_copied result ≡ insn_at (slice_get c.now.program.methods method) pc }
 {
     match c.program().methods.get(method as usize) {
