@@ -1,5 +1,6 @@
 -- What is said of a refusal: the names are those of its place in the class that the file spells.
 use Rattle.std.specs.Prelude.{◌≡◌, ℕ, List, [], ◌∷◌, ◌++◌, Option, Some, None}
+use Rattle.json_lines.specs.declared.form.Form.{Form}
 use Rattle.jvm_types.specs.ClassGrammar.{Spells}
 use Rattle.jvm_types.specs.declared.class_file.ClassFile.{ClassFile}
 use Rattle.jvm_types.specs.declared.refusal.Rule.{Rule}
@@ -10,7 +11,6 @@ use Rattle.refusal_places.specs.Sentences.{instead, means}
 use Rattle.refusal_places.specs.Spots.{spot}
 use Rattle.refusal_places.specs.declared.facts.Fact.{Fact}
 use Rattle.refusal_places.specs.declared.facts.Fact.TheVariants.{Said, Counted}
-use Rattle.refusal_places.specs.declared.facts.Form.{Form}
 use Rattle.refusal_places.specs.declared.facts.Key.TheVariants as keys
 use Rattle.refusal_places.specs.declared.spots.Spot.{Spot}
 use Rattle.refusal_places.specs.declared.spots.Spot.TheVariants.{Offset}

@@ -5,15 +5,15 @@ use Rattle.std.specs.Fmt.{decimal}
 use Rattle.jvm_types.specs.declared.refusal.Rule.{Rule}
 use Rattle.jvm_types.specs.declared.refusal.Place.{Place}
 use Rattle.jvm_types.specs.declared.refusal.TheConstants.{NO_METHOD}
-use Rattle.json_lines.specs.Json.{number_member, text_member}
+use Rattle.json_lines.specs.Json.{number_behind, text_behind, text_member}
+use Rattle.json_lines.specs.declared.form.Form.{Form}
+use Rattle.json_lines.specs.declared.form.Form.TheVariants as forms
 use Rattle.run_texts.specs.Report.{line}
 use Rattle.run_texts.specs.Refusal.{refusal_text, rule_text}
 use Rattle.refusal_places.specs.declared.facts.Fact.{Fact}
 use Rattle.refusal_places.specs.declared.facts.Fact.TheVariants.{Said, Counted}
 use Rattle.refusal_places.specs.declared.facts.Key.{Key}
 use Rattle.refusal_places.specs.declared.facts.Key.TheVariants as keys
-use Rattle.refusal_places.specs.declared.facts.Form.{Form}
-use Rattle.refusal_places.specs.declared.facts.Form.TheVariants as forms
 
 -- the word that stands before a fact
 abbrev pub key_text : Key → List ℕ
@@ -47,21 +47,17 @@ lines_text rule place facts = refusal_text rule place ++ flat_map fact_line fact
 
 -- ---- an object of JSON on one line
 
--- a number as a member behind others
-unfoldable pub counted_member : (key : List ℕ) → ℕ → List ℕ
-counted_member key n = codes "," ++ number_member key n
-
 -- a fact as a member behind others
 abbrev pub fact_member : Fact → List ℕ
-fact_member (Said key text) = codes "," ++ text_member (key_text key) text
-fact_member (Counted key n) = counted_member (key_text key) n
+fact_member (Said key text) = text_behind (key_text key) text
+fact_member (Counted key n) = number_behind (key_text key) n
 
 -- the numbers of the place
 unfoldable pub method_member : ℕ → List ℕ
-method_member method = if method == NO_METHOD then [] else counted_member (codes "method_number") method
+method_member method = if method == NO_METHOD then [] else number_behind (codes "method_number") method
 
 abbrev pub place_members : Place → List ℕ
-place_members place = counted_member (codes "file_number") place.file ++ method_member place.method ++ counted_member (codes "at") place.at
+place_members place = number_behind (codes "file_number") place.file ++ method_member place.method ++ number_behind (codes "at") place.at
 
 -- what the object is, and the rule
 abbrev pub head_text : Rule → List ℕ

@@ -5,12 +5,13 @@ ghost use Rattle.std.specs.Option.{option_copied};
 ghost use Rattle.jvm_types.specs.ClassGrammar.{Spells};
 ghost use Rattle.refusal_places.specs.Explained.{Explains, IsClassSpelled, found_facts, offset_facts, refusal_facts};
 
-use crate::facts::{Fact, Form, Key};
+use crate::facts::{Fact, Key};
 use crate::naming::{count, say, tell_class};
 use crate::sentences::{instead, means};
 use crate::spots::{Spot, spot_of};
 use crate::telling::told;
 use class_reader::{ReadError, read_class};
+use json_lines::Form;
 use jvm_types::{Bytes, ClassFile, Place, Rows, Rule};
 use std::alloc::{AllocError, Global};
 

@@ -77,12 +77,3 @@ pub enum Fact {
     Said(Key, Bytes),
     Counted(Key, u32),
 }
-
-/// How facts are written.
-#[derive(Clone, Copy, Debug, PartialEq, Eq)]
-pub enum Form {
-    /// A line for each.
-    Lines,
-    /// One object of JSON, on one line.
-    Json,
-}

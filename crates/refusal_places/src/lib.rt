@@ -10,4 +10,4 @@ pub mod spots;
 pub mod telling;
 
 pub use explaining::explained_refusal;
-pub use facts::{Fact, Form, Key};
+pub use facts::{Fact, Key};

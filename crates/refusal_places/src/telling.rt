@@ -2,11 +2,13 @@
 
 ghost use Rattle.std.specs.Prelude.{◌≡◌, ◌++◌, codes, IfOk, OnOk};
 ghost use Rattle.std.specs.List.{flat_map};
-ghost use Rattle.json_lines.specs.Json.{text_member};
-ghost use Rattle.refusal_places.specs.Facts.{counted_member, fact_line, fact_member, head_text, lines_text, method_member, refusal_object, place_members, told_text};
+ghost use Rattle.json_lines.specs.Json.{number_behind};
+ghost use Rattle.refusal_places.specs.Facts.{fact_line, fact_member, head_text, lines_text, method_member, refusal_object, place_members, told_text};
 
-use crate::facts::{Fact, Form};
-use json_lines::{write_json_number, write_number_member, write_text_member};
+use crate::facts::Fact;
+use json_lines::{
+    Form, write_json_number, write_number_behind, write_text_behind, write_text_member,
+};
 use jvm_types::{Bytes, NO_METHOD, Place, Rows, Rule};
 use run_texts::{refusal, rule_name};
 use std::alloc::{AllocError, Global};
@@ -40,20 +42,10 @@ fn write_lines(out: &mut Vec<u8>, alloc: Global, facts: &[Fact]) -> Result<(), A
     Ok(())
 }
 
-// A number as a member behind others.
-#[tactic(auto, unfolding(crate::specs::Facts::counted_member))]
 fn write_counted(out: &mut Vec<u8>, alloc: Global, key: &str, number: u32) -> Result<(), AllocError>
-    ensures { OnOk result (out.new.items ≡ out.old.items ++ counted_member key.now number) }
+    ensures { OnOk result (out.new.items ≡ out.old.items ++ number_behind key.now number) }
 {
-    out.extend_from_slice(b",")?;
-    write_number_member(out, alloc, key, u64::from(number))
-}
-
-fn write_said(out: &mut Vec<u8>, key: &str, text: &[u8]) -> Result<(), AllocError>
-    ensures { OnOk result (out.new.items ≡ out.old.items ++ (codes "," ++ text_member key.now text.now)) }
-{
-    out.extend_from_slice(b",")?;
-    write_text_member(out, key, text)
+    write_number_behind(out, alloc, key, u64::from(number))
 }
 
 // A fact as a member behind others.
@@ -61,7 +53,7 @@ fn write_member(out: &mut Vec<u8>, alloc: Global, fact: &Fact) -> Result<(), All
     ensures { OnOk result (out.new.items ≡ out.old.items ++ fact_member fact.now) }
 {
     match fact {
-        Fact::Said(key, text) => write_said(out, key.text(), text.as_slice()),
+        Fact::Said(key, text) => write_text_behind(out, key.text(), text.as_slice()),
         Fact::Counted(key, number) => write_counted(out, alloc, key.text(), *number),
     }
 }
@@ -93,7 +85,7 @@ fn write_numbers(
     method: u16,
     at: u32,
 ) -> Result<(), AllocError>
-    ensures { OnOk result (out.new.items ≡ out.old.items ++ (counted_member (codes "file_number") file ++ method_member method ++ counted_member (codes "at") at)) }
+    ensures { OnOk result (out.new.items ≡ out.old.items ++ (number_behind (codes "file_number") file ++ method_member method ++ number_behind (codes "at") at)) }
 {
     write_counted(out, alloc, "file_number", file)?;
     write_method(out, alloc, method)?;
