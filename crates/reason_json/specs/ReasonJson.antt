@@ -3,16 +3,14 @@ use Rattle.std.specs.Prelude.{ℕ, ◌≡◌, List, [], ◌∷◌, ◌++◌, cod
 use Rattle.std.specs.List.{flat_map}
 use Rattle.std.specs.Fmt.{decimal}
 use Rattle.jvm_types.specs.declared.code.Insn.{Insn}
-use Rattle.jvm_types.specs.declared.program.MethodInfo.{MethodInfo}
 use Rattle.jvm_types.specs.declared.program.Program.{Program}
 use Rattle.checked_program.specs.MarkedProgram.{MarkedProgram}
 use Rattle.checked_program.specs.TaggedCode.{tagged_by}
 use Rattle.checked_program.specs.declared.section.SectionMark.{SectionMark}
 use Rattle.checked_program.specs.declared.section.Spot.{Spot}
 use Rattle.checked_program.specs.declared.section.Spot.TheVariants.{Method, Block}
-use Rattle.json_lines.specs.Json.{text_member, number_member}
-use Rattle.run_texts.specs.MarksText.{class_text}
-use Rattle.place_names.specs.Opcodes.{op_name}
+use Rattle.json_lines.specs.Json.{number_behind, text_member}
+use Rattle.place_names.specs.PlaceJson.{instruction_member, method_members}
 use Rattle.mark_reasons.specs.Reasons.{AreReasons}
 use Rattle.mark_reasons.specs.ReasonTexts.{numbered}
 use Rattle.mark_reasons.specs.declared.reason.Site.{Site}
@@ -21,19 +19,10 @@ use Rattle.mark_reasons.specs.declared.reason.Reason.TheVariants.{Elsewhere, Bre
 
 -- ---- places
 
--- `"class":C,"method":NAMEDESCRIPTOR`
-abbrev pub method_members : List (List ℕ) → Option MethodInfo → List ℕ
-method_members names None = []
-method_members names (Some m) = text_member (codes "class") (class_text names m.class) ++ codes "," ++ text_member (codes "method") (m.name ++ m.descriptor)
-
--- `,"pc":N`
-unfoldable pub pc_member : ℕ → List ℕ
-pc_member pc = codes "," ++ number_member (codes "pc") pc
-
 -- `,"pc":N,"instruction":MNEMONIC`
 abbrev pub insn_members : Option Insn → List ℕ
 insn_members None = []
-insn_members (Some insn) = pc_member insn.pc ++ codes "," ++ text_member (codes "instruction") (op_name insn.op)
+insn_members (Some insn) = number_behind (codes "pc") insn.pc ++ instruction_member (Some insn)
 
 abbrev pub site_members : Program → Site → List ℕ
 site_members p x = method_members p.names (slice_get p.methods x.method) ++ insn_members (numbered (slice_get p.methods x.method) x.at)
@@ -80,7 +69,7 @@ spot_member kind = codes "," ++ text_member (codes "spot") kind
 
 abbrev pub spot_members : Spot → List ℕ
 spot_members Method = spot_member (codes "method")
-spot_members (Block pc) = spot_member (codes "block") ++ pc_member pc
+spot_members (Block pc) = spot_member (codes "block") ++ number_behind (codes "pc") pc
 
 unfoldable pub section_method : Program → SectionMark → List ℕ
 section_method p mark = codes "{" ++ text_member (codes "what") (codes "section") ++ codes "," ++ method_members p.names (slice_get p.methods mark.method)

@@ -1,80 +1,15 @@
 //! The objects of JSON: one for each section, with the way to what breaks its rule.
 
-ghost use Rattle.std.specs.Prelude.{◌≡◌, ◌++◌, Some, codes, length, slice_get, OnOk, IfOk};
+ghost use Rattle.std.specs.Prelude.{◌≡◌, ◌++◌, length, OnOk, IfOk};
 ghost use Rattle.std.specs.Option.{option_copied};
-ghost use Rattle.json_lines.specs.Json.{text_member};
-ghost use Rattle.run_texts.specs.MarksText.{class_text};
-ghost use Rattle.reason_json.specs.ReasonJson.{again_object, call_object, insn_members, mark_member, method_members, objects_text, pc_member, reason_members, rule_members, section_head, section_method, section_object, site_members, site_object, some_reason_members, spot_member, spot_members, way_objects, AreMarksInJson};
+ghost use Rattle.reason_json.specs.ReasonJson.{again_object, call_object, insn_members, mark_member, objects_text, reason_members, rule_members, section_head, section_method, section_object, site_members, site_object, some_reason_members, spot_member, spot_members, way_objects, AreMarksInJson};
 
 use checked_program::{Checked, SectionMark, Spot};
-use json_lines::{write_number_member, write_text_member};
-use jvm_types::{Bytes, Insn, MethodInfo, Program};
+use json_lines::{write_number_behind, write_text_member};
+use jvm_types::{Bytes, Insn, Program};
 use mark_reasons::{Reason, Site, reasons};
-use place_names::op_name;
-use run_texts::write_class;
+use place_names::{write_instruction_member, write_method_members, write_method_names};
 use std::alloc::{AllocError, Global};
-
-/// `"class":C`
-fn write_class_member(
-    out: &mut Vec<u8>,
-    alloc: Global,
-    p: &Program,
-    class: u16,
-) -> Result<(), AllocError>
-    ensures { OnOk result (out.new.items ≡ out.old.items ++ text_member (codes "class") (class_text p.now.names class)) }
-{
-    let mut name = Vec::new(alloc);
-    write_class(&mut name, p, class)?;
-    write_text_member(out, "class", name.as_slice())
-}
-
-/// `"method":NAMEDESCRIPTOR`
-fn write_name_member(out: &mut Vec<u8>, alloc: Global, m: &MethodInfo) -> Result<(), AllocError>
-    ensures { OnOk result (out.new.items ≡ out.old.items ++ text_member (codes "method") (m.now.name ++ m.now.descriptor)) }
-{
-    let mut words = Vec::new(alloc);
-    words.extend_from_slice(m.name.as_slice())?;
-    words.extend_from_slice(m.descriptor.as_slice())?;
-    write_text_member(out, "method", words.as_slice())
-}
-
-/// `"class":C,"method":NAMEDESCRIPTOR`
-fn write_names(
-    out: &mut Vec<u8>,
-    alloc: Global,
-    p: &Program,
-    m: &MethodInfo,
-) -> Result<(), AllocError>
-    ensures { OnOk result (out.new.items ≡ out.old.items ++ method_members p.now.names (Some m.now)) }
-{
-    write_class_member(out, alloc, p, m.class)?;
-    out.extend_from_slice(b",")?;
-    write_name_member(out, alloc, m)
-}
-
-/// The same of the method of that number.
-fn write_method(
-    out: &mut Vec<u8>,
-    alloc: Global,
-    p: &Program,
-    method: u32,
-) -> Result<(), AllocError>
-    ensures { OnOk result (out.new.items ≡ out.old.items ++ method_members p.now.names (slice_get p.now.methods method)) }
-{
-    match p.methods.get(method as usize) {
-        Some(m) => write_names(out, alloc, p, m),
-        None => Ok(()),
-    }
-}
-
-/// `,"pc":N`
-#[tactic(auto, unfolding(crate::specs::ReasonJson::pc_member))]
-fn write_pc(out: &mut Vec<u8>, alloc: Global, pc: u32) -> Result<(), AllocError>
-    ensures { OnOk result (out.new.items ≡ out.old.items ++ pc_member pc) }
-{
-    out.extend_from_slice(b",")?;
-    write_number_member(out, alloc, "pc", u64::from(pc))
-}
 
 /// `,"pc":N,"instruction":MNEMONIC`
 fn write_insn(out: &mut Vec<u8>, alloc: Global, insn: Option<&Insn>) -> Result<(), AllocError>
@@ -82,9 +17,8 @@ fn write_insn(out: &mut Vec<u8>, alloc: Global, insn: Option<&Insn>) -> Result<(
 {
     match insn {
         Some(there) => {
-            write_pc(out, alloc, there.pc)?;
-            out.extend_from_slice(b",")?;
-            write_text_member(out, "instruction", op_name(&there.op).as_bytes())
+            write_number_behind(out, alloc, "pc", u64::from(there.pc))?;
+            write_instruction_member(out, insn)
         }
         None => Ok(()),
     }
@@ -95,7 +29,7 @@ fn write_place(out: &mut Vec<u8>, alloc: Global, p: &Program, site: Site) -> Res
 {
     match p.methods.get(site.method as usize) {
         Some(m) => {
-            write_names(out, alloc, p, m)?;
+            write_method_names(out, alloc, p, m)?;
             write_insn(out, alloc, m.code.get(site.at))
         }
         None => Ok(()),
@@ -138,7 +72,7 @@ fn write_again(
     match site {
         Some(x) => {
             out.extend_from_slice(b"{")?;
-            write_method(out, alloc, p, x.method)?;
+            write_method_members(out, alloc, p, x.method)?;
             out.extend_from_slice(b"}")
         }
         None => Ok(()),
@@ -220,7 +154,7 @@ fn write_spot(out: &mut Vec<u8>, alloc: Global, spot: Spot) -> Result<(), AllocE
         Spot::Method => write_kind(out, b"method"),
         Spot::Block(pc) => {
             write_kind(out, b"block")?;
-            write_pc(out, alloc, pc)
+            write_number_behind(out, alloc, "pc", u64::from(pc))
         }
     }
 }
@@ -237,7 +171,7 @@ fn write_begin(
     out.extend_from_slice(b"{")?;
     write_text_member(out, "what", b"section")?;
     out.extend_from_slice(b",")?;
-    write_method(out, alloc, p, mark.method)
+    write_method_members(out, alloc, p, mark.method)
 }
 
 #[tactic(auto, unfolding(crate::specs::ReasonJson::section_head))]
