@@ -1,12 +1,10 @@
 -- Where a part of a thread came to an end that is no return, as a line: the end, the event, where the thread stood, what it did
 -- there where that was no instruction, and who held the monitor for which it had made all its turns.
-use Rattle.std.specs.Prelude.{ℕ, zero, suc, ◌/◌, ◌%◌, List, [], ◌++◌, codes}
+use Rattle.std.specs.Prelude.{ℕ, zero, suc, ◌/◌, ◌%◌, List, ◌++◌, codes}
 use Rattle.std.specs.Fmt.{decimal}
 use Rattle.jvm_types.specs.declared.outcome.End.{End}
 use Rattle.jvm_types.specs.declared.outcome.End.TheVariants as ends
 use Rattle.jvm_types.specs.declared.program.Program.{Program}
-use Rattle.machine_types.specs.declared.phase.Phase.{Phase}
-use Rattle.machine_types.specs.declared.phase.Phase.TheVariants as phases
 use Rattle.run_texts.specs.Report.{end_text, line}
 use Rattle.event_texts.specs.Lines.{event_head_text, event_spot_text}
 use Rattle.event_texts.specs.PhaseTexts.{phase_text}
@@ -39,9 +37,3 @@ holder_text (suc t) = codes ", held by thread " ++ decimal t
 
 abbrev pub stop_line : Program → (number : ℕ) → Before → End → List ℕ
 stop_line p number b end = end_text end ++ codes ": " ++ event_head_text number b ++ event_spot_text p b.spot ++ phase_text b.phase ++ line (holder_text (holder end b))
-
--- of an event, by the phase behind it: nothing where no part came to an end, or where it returned
-abbrev pub event_end_line : Program → (number : ℕ) → Before → Phase → List ℕ
-event_end_line p number b (phases.Ending ends.Returned) = []
-event_end_line p number b (phases.Ending end) = stop_line p number b end
-event_end_line p number b phase = []

@@ -8,3 +8,5 @@ pub mod Acts
 pub mod Shares
 pub mod Lines
 pub mod EndLines
+pub mod EventJson
+pub mod EventForms

@@ -1,15 +1,14 @@
 //! Where a part of a thread came to an end that is no return, as a line.
 
 ghost use Rattle.std.specs.Prelude.{◌≡◌, ◌++◌, ◌%◌, ◌/◌, codes, OnOk};
-ghost use Rattle.event_texts.specs.EndLines.{event_end_line, holder, holder_text, lock_owner, stop_line};
+ghost use Rattle.event_texts.specs.EndLines.{holder, holder_text, lock_owner, stop_line};
 ghost use Rattle.run_texts.specs.Report.{end_text, line};
 
 use crate::lines::{write_head, write_phase, write_spot};
-use crate::sights::{After, Before};
+use crate::sights::Before;
 use crate::words::SharedWord;
 use checked_program::Checked;
 use jvm_types::End;
-use machine_types::Phase;
 use run_texts::EndText;
 use std::alloc::{AllocError, Global};
 use std::fmt;
@@ -25,7 +24,7 @@ fn lock_owner(word: u64) -> u64
 }
 
 /// The same of the thread that held the monitor for which a thread had made all its turns.
-fn holder(end: End, before: &Before) -> u64
+pub(crate) fn holder(end: End, before: &Before) -> u64
     ensures { result ≡ holder end before.now }
 {
     match (end, before.word) {
@@ -76,7 +75,7 @@ fn write_holder(text: &mut Vec<u8>, alloc: Global, holder: u64) -> Result<(), Al
 }
 
 /// Adds the line of an event of a number, by which a part of its thread came to this end.
-fn write_stop(
+pub fn write_stop_line(
     text: &mut Vec<u8>,
     alloc: Global,
     c: &Checked,
@@ -91,22 +90,4 @@ fn write_stop(
     write_spot(text, alloc, c, before.spot)?;
     write_phase(text, alloc, before)?;
     write_holder(text, alloc, holder(end, before))
-}
-
-/// The same of the end that an event led to, where that is no return; else nothing.
-pub fn write_end_line(
-    text: &mut Vec<u8>,
-    alloc: Global,
-    c: &Checked,
-    number: u64,
-    before: &Before,
-    after: &After,
-) -> Result<(), AllocError>
-    ensures { OnOk result (text.new.items ≡ text.old.items ++ event_end_line c.now.program number before.now after.now.phase) }
-{
-    match after.phase {
-        Phase::Ending(End::Returned) => Ok(()),
-        Phase::Ending(end) => write_stop(text, alloc, c, number, before, end),
-        _ => Ok(()),
-    }
 }
