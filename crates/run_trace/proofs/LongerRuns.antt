@@ -3,6 +3,7 @@ use Rattle.std.proofs.Common.{◌≡◌, ℕ, List, [], ◌∷◌, ◌++◌, Opt
 use Rattle.std.proofs.lemmas.List.{append-nil}
 use Rattle.std.specs.Option.{option_map}
 use Rattle.checked_program.specs.MarkedProgram.{MarkedProgram}
+use Rattle.json_lines.specs.declared.form.Form.{Form}
 use Rattle.machine_types.specs.Core.{Happening}
 use Rattle.machine_types.specs.History.{Told, all_told, told}
 use Rattle.run_trace.specs.EventLines.{ends_from, event_end, lines_from, next_line_number, seen_of_event, told_line}
@@ -22,12 +23,12 @@ lines_on c names part n w (g ∷ gs) h =
     ap (λ (text : List ℕ). told_line c names part n w.core (seen_of_event c w g) g ++ text) (lines_on c names part (next_line_number n) (told c w g) gs h)
     ∙ sym (append_assoc (told_line c names part n w.core (seen_of_event c w g) g) (lines_from c names part (next_line_number n) (told c w g) gs) (told_line c names part (number_after (next_line_number n) gs) (all_told c (told c w g) gs).core (seen_of_event c (all_told c (told c w g) gs) h) h))
 
-pub ends_on : (c : MarkedProgram) (n : ℕ) (w : Told) (hs : List Happening) (h : Happening)
-    → ends_from c n w (hs ++ h ∷ []) ≡ ends_from c n w hs ++ event_end c (number_after n hs) (all_told c w hs).core (seen_of_event c (all_told c w hs) h) h
-ends_on c n w [] h = append-nil (event_end c n w.core (seen_of_event c w h) h)
-ends_on c n w (g ∷ gs) h =
-    ap (λ (text : List ℕ). event_end c n w.core (seen_of_event c w g) g ++ text) (ends_on c (next_line_number n) (told c w g) gs h)
-    ∙ sym (append_assoc (event_end c n w.core (seen_of_event c w g) g) (ends_from c (next_line_number n) (told c w g) gs) (event_end c (number_after (next_line_number n) gs) (all_told c (told c w g) gs).core (seen_of_event c (all_told c (told c w g) gs) h) h))
+pub ends_on : (c : MarkedProgram) (form : Form) (n : ℕ) (w : Told) (hs : List Happening) (h : Happening)
+    → ends_from c form n w (hs ++ h ∷ []) ≡ ends_from c form n w hs ++ event_end c form (number_after n hs) (all_told c w hs).core (seen_of_event c (all_told c w hs) h) h
+ends_on c form n w [] h = append-nil (event_end c form n w.core (seen_of_event c w h) h)
+ends_on c form n w (g ∷ gs) h =
+    ap (λ (text : List ℕ). event_end c form n w.core (seen_of_event c w g) g ++ text) (ends_on c form (next_line_number n) (told c w g) gs h)
+    ∙ sym (append_assoc (event_end c form n w.core (seen_of_event c w g) g) (ends_from c form (next_line_number n) (told c w g) gs) (event_end c form (number_after (next_line_number n) gs) (all_told c (told c w g) gs).core (seen_of_event c (all_told c (told c w g) gs) h) h))
 
 pub number_on : (n : ℕ) (hs : List Happening) (h : Happening) → number_after n (hs ++ h ∷ []) ≡ next_line_number (number_after n hs)
 number_on n [] h = refl

@@ -12,8 +12,8 @@ use Rattle.machine_types.specs.declared.config.Config.{Config}
 use Rattle.replay_runner.specs.Replays.{IsLedByTurns}
 use Rattle.replay_runner.specs.Running.{Running}
 use Rattle.replay_runner.proofs.Turns.{led_on, schedule_of}
-use Rattle.run_texts.specs.Report.{report_text}
 use Rattle.event_texts.specs.Shares as shares
+use Rattle.run_trace.specs.ReportJson.{report_in}
 use Rattle.run_trace.specs.EventLines.{ends_from, event_end, lines_from, next_line_number, seen_of_event, told_line}
 use Rattle.run_trace.specs.Owing.{owed_after, seen_by}
 use Rattle.run_trace.specs.declared.events.Part.{Part}
@@ -47,7 +47,7 @@ module _ (c : MarkedProgram) (cfg : Config) (order : List ℕ) (names : List (Li
         number = did.number ∙ ap next_line_number w.number ∙ sym (number_on 1 hs h);
         core = ap (λ (v : Told). v.core) (told_on c (told_start c cfg) hs h) ∙ ap (λ (s : Core). happened c s h) w.core ∙ core_is;
         owed = owes ∙ sym (ap (λ (v : Told). map shares.owed v.pasts) (told_on c (told_start c cfg) hs h));
-        ends = did.ends ∙ (λ i. w.ends i ++ event_end c (w.number i) (sym w.core i) (seen_is i) h) ∙ sym (ends_on c 1 (told_start c cfg) hs h);
+        ends = did.ends ∙ (λ i. w.ends i ++ event_end c part.form (w.number i) (sym w.core i) (seen_is i) h) ∙ sym (ends_on c part.form 1 (told_start c cfg) hs h);
         text = told_both first told now (lines_from c names part 1 (told_start c cfg) hs) (told_line c names part m.number m.machine.core (seen_by c m.machine.core m.owed h) h) w.text did.text
             ∙ ap (λ (text : List ℕ). option_map (λ t. t ++ text) first) (ap (λ (text : List ℕ). lines_from c names part 1 (told_start c cfg) hs ++ text) own ∙ sym (lines_on c names part 1 (told_start c cfg) hs h));
       }
@@ -99,7 +99,7 @@ walked_at_start c cfg order names part told m begun = record {
 -- the lines were told, then the ends, and then the report
 pub whole : (c : MarkedProgram) (cfg : Config) (order : List ℕ) (names : List (List ℕ)) (part : Part) (told mid late now : Option (List ℕ)) (before between beyond after : ℕ) (m n : Tracing) (o : Outcome)
     → IsStarted c cfg m → WalksOn c order names part m (turn_at (First order) m.machine.core) told before n None mid between → late ≡ option_map (λ t. t ++ n.ends.items) mid → beyond ≡ between
-    → o ≡ outcome n.machine.core → now ≡ option_map (λ t. t ++ report_text o) late → after ≡ beyond → IsWholeTrace c cfg order names part told now before after o
+    → o ≡ outcome n.machine.core → now ≡ option_map (λ t. t ++ report_in part.form o) late → after ≡ beyond → IsWholeTrace c cfg order names part told now before after o
 unfolding core
 whole c cfg order names part told mid late now before between beyond after m n o begun on ended still is put calm =
     let w = on.walked cfg told (walked_at_start c cfg order names part told m begun) in
@@ -107,13 +107,13 @@ whole c cfg order names part told mid late now before between beyond after m n o
     let all = schedule_of c (First order) (start c cfg) hs w.stage n.machine.core w.leads w.turn in
     let told_is : o ≡ outcome (core c cfg hs) = is ∙ ap outcome (sym all.1) in
     let lines = lines_from c names part 1 (told_start c cfg) hs in
-    let with_ends : late ≡ option_map (λ t. t ++ (lines ++ ends_from c 1 (told_start c cfg) hs)) told =
+    let with_ends : late ≡ option_map (λ t. t ++ (lines ++ ends_from c part.form 1 (told_start c cfg) hs)) told =
     told_both told mid late lines n.ends.items w.text ended ∙ ap (λ (ends : List ℕ). option_map (λ t. t ++ (lines ++ ends)) told) w.ends in
     record {
       happenings = hs;
       schedule = all.0;
       outcome_is = told_is;
-      text = told_both told late now (lines ++ ends_from c 1 (told_start c cfg) hs) (report_text o) with_ends put
-          ∙ ap (λ (x : Outcome). option_map (λ t. t ++ ((lines ++ ends_from c 1 (told_start c cfg) hs) ++ report_text x)) told) told_is;
+      text = told_both told late now (lines ++ ends_from c part.form 1 (told_start c cfg) hs) (report_in part.form o) with_ends put
+          ∙ ap (λ (x : Outcome). option_map (λ t. t ++ ((lines ++ ends_from c part.form 1 (told_start c cfg) hs) ++ report_in part.form x)) told) told_is;
       calm = calm ∙ still ∙ on.calm;
     }

@@ -1,3 +1,4 @@
+pub mod ReportJson
 pub mod EventLines
 pub mod Owing
 pub mod Turns

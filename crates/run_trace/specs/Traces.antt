@@ -27,7 +27,7 @@ pub record Happened (c : MarkedProgram) (names : List (List ℕ)) (part : Part) 
   pub machine : n.machine ≡ record m.machine { core = happened m.machine.program m.machine.core h }
   pub number : n.number ≡ next_line_number m.number
   pub owed : n.owed ≡ owed_after m.owed h (seen_by c m.machine.core m.owed h)
-  pub ends : n.ends.items ≡ m.ends.items ++ event_end c m.number m.machine.core (seen_by c m.machine.core m.owed h) h
+  pub ends : n.ends.items ≡ m.ends.items ++ event_end c part.form m.number m.machine.core (seen_by c m.machine.core m.owed h) h
   pub text : now ≡ option_map (λ t. t ++ told_line c names part m.number m.machine.core (seen_by c m.machine.core m.owed h) h) told
   pub calm : after ≡ before
 
@@ -63,7 +63,7 @@ pub record TraceWalked (c : MarkedProgram) (cfg : Config) (order : List ℕ) (na
   pub number : n.number ≡ number_after 1 happenings
   pub core : (all_told c (told_start c cfg) happenings).core ≡ n.machine.core
   pub owed : n.owed ≡ map shares.owed (all_told c (told_start c cfg) happenings).pasts
-  pub ends : n.ends.items ≡ ends_from c 1 (told_start c cfg) happenings
+  pub ends : n.ends.items ≡ ends_from c part.form 1 (told_start c cfg) happenings
   pub text : now ≡ option_map (λ t. t ++ lines_from c names part 1 (told_start c cfg) happenings) told
 
 -- whatever was walked to the one is walked to the other; the sink has not failed

@@ -5,13 +5,17 @@ ghost use Rattle.std.specs.Option.{option_map};
 ghost use Rattle.machine_types.specs.Core.{Of, event, lives, next};
 ghost use Rattle.laws_states.specs.WorkLeft.{all_work};
 ghost use Rattle.machine_types.specs.Accesses.{found_by};
-ghost use Rattle.run_trace.specs.EventLines.{end_between, event_end, event_line, line_between, part_line, line_shown};
+ghost use Rattle.std.specs.Fmt.{decimal};
+ghost use Rattle.run_texts.specs.Report.{line};
+ghost use Rattle.run_trace.specs.EventLines.{end_between, event_end, event_line, line_between, line_shown, part_line, part_name, part_object, part_text};
 ghost use Rattle.run_trace.specs.Owing.{owed_after, owed_at, seen_by};
 
 use checked_program::Checked;
 use event_texts::{
-    Before, Share, owed_behind, see_after, see_before, share_of, write_end_line, write_line,
+    Before, Share, owed_behind, see_after, see_before, share_of, write_event, write_event_end,
+    write_what,
 };
+use json_lines::{Form, write_number_behind, write_text_behind};
 use jvm_types::{Bytes, Rows};
 use machine_types::Access;
 use replay_runner::Machine;
@@ -19,11 +23,13 @@ use std::alloc::{AllocError, Global};
 use std::fmt;
 use step_core::want;
 
-/// Which lines of a run are told: those from a number on, so many at most. The first line has the number 1.
+/// Which lines of a run are told: those from a number on, so many at most. The first line has the number 1. And in which form they
+/// are told, with the ends and the report behind them.
 #[derive(Clone, Copy, Debug, PartialEq, Eq)]
 pub struct Part {
     pub from: u64,
     pub count: u64,
+    pub form: Form,
 }
 
 impl Part {
@@ -31,6 +37,7 @@ impl Part {
     pub const ALL: Part = Part {
         from: 1,
         count: u64::MAX,
+        form: Form::Lines,
     };
 }
 
@@ -121,6 +128,7 @@ fn write_between(
     text: &mut Vec<u8>,
     ends: &mut Vec<u8>,
     alloc: Global,
+    form: Form,
     p: &Checked,
     names: &Rows<Bytes>,
     number: u64,
@@ -128,15 +136,16 @@ fn write_between(
     machine: &Machine,
     t: u8,
 ) -> Result<(), AllocError>
-    ensures end { OnOk result (ends.new.items ≡ ends.old.items ++ end_between p.now number seen.now (slice_get machine.now.core.threads t)) }
-    ensures line { OnOk result (text.new.items ≡ text.old.items ++ line_between p.now names.now number machine.now.core.words seen.now (slice_get machine.now.core.threads t)) }
+    ensures end { OnOk result (ends.new.items ≡ ends.old.items ++ end_between p.now form number seen.now (slice_get machine.now.core.threads t)) }
+    ensures line { OnOk result (text.new.items ≡ text.old.items ++ line_between p.now form names.now number machine.now.core.words seen.now (slice_get machine.now.core.threads t)) }
 {
     match (seen, machine.thread(t)) {
         (Some(seen), Some(s)) => {
             let after = see_after(s, found_in(machine, seen.before.access));
-            write_line(
+            write_event(
                 text,
                 alloc,
+                form,
                 p,
                 names,
                 number,
@@ -144,7 +153,7 @@ fn write_between(
                 &seen.share,
                 &after,
             )?;
-            write_end_line(ends, alloc, p, number, &seen.before, &after)
+            write_event_end(ends, alloc, form, p, number, &seen.before, &after)
         }
         _ => Ok(()),
     }
@@ -156,6 +165,7 @@ pub fn make_event(
     text: &mut Vec<u8>,
     ends: &mut Vec<u8>,
     alloc: Global,
+    form: Form,
     machine: &mut Machine,
     owed: &mut Rows<u64>,
     p: &Checked,
@@ -168,13 +178,13 @@ pub fn make_event(
     ensures event { machine.new ≡ record machine.old { core = event machine.old.program machine.old.core t } }
     ensures less { all_work machine.new.core < all_work machine.old.core }
     ensures owed { owed.new ≡ owed_after owed.old (Of t) (seen_by p.now machine.old.core owed.old (Of t)) }
-    ensures end { OnOk result (ends.new.items ≡ ends.old.items ++ event_end p.now number machine.old.core (seen_by p.now machine.old.core owed.old (Of t)) (Of t)) }
-    ensures line { OnOk result (text.new.items ≡ text.old.items ++ event_line p.now names.now number machine.old.core (seen_by p.now machine.old.core owed.old (Of t)) (Of t)) }
+    ensures end { OnOk result (ends.new.items ≡ ends.old.items ++ event_end p.now form number machine.old.core (seen_by p.now machine.old.core owed.old (Of t)) (Of t)) }
+    ensures line { OnOk result (text.new.items ≡ text.old.items ++ event_line p.now form names.now number machine.old.core (seen_by p.now machine.old.core owed.old (Of t)) (Of t)) }
 {
     let seen = look(machine, p, owed, t);
     machine.event(p, t);
     settle(owed, t, &seen);
-    write_between(text, ends, alloc, p, names, number, &seen, machine, t)
+    write_between(text, ends, alloc, form, p, names, number, &seen, machine, t)
 }
 
 /// Displays which part begins, by how many parts began before.
@@ -206,23 +216,59 @@ fn parts_begun(machine: &Machine) -> Option<u8>
     }
 }
 
-/// Adds the line of the begin of a part, behind so many.
-fn write_part(
+/// The name of the part that begins, by how many parts began before.
+fn part_name(part: u8) -> &'static str
+    ensures { result.now ≡ part_name part }
+{
+    if part == 0 { "workers" } else { "done" }
+}
+
+/// Adds the line of the begin of a part.
+fn write_part_line(
     text: &mut Vec<u8>,
     alloc: Global,
     number: u64,
+    part: u8,
+) -> Result<(), AllocError>
+    ensures { OnOk result (text.new.items ≡ text.old.items ++ line (decimal number ++ part_text part)) }
+{
+    let part = PartText(part);
+    let mut words = String::new(alloc);
+    writeln!(words, "{number}{part}")?;
+    text.extend_from_slice(words.as_bytes())
+}
+
+/// Adds the object of the begin of a part, on a line. Its members are `what`, which is `part`; its `number`; and which part
+/// `begins`.
+#[tactic(auto, unfolding(crate::specs::EventLines::part_object))]
+fn write_part_object(
+    text: &mut Vec<u8>,
+    alloc: Global,
+    number: u64,
+    part: u8,
+) -> Result<(), AllocError>
+    ensures { OnOk result (text.new.items ≡ text.old.items ++ part_object number part) }
+{
+    write_what(text, "part")?;
+    write_number_behind(text, alloc, "number", number)?;
+    write_text_behind(text, "begins", part_name(part).as_bytes())?;
+    text.extend_from_slice(b"}\n")
+}
+
+/// Adds the line, or the object, of the begin of a part, behind so many.
+fn write_part(
+    text: &mut Vec<u8>,
+    alloc: Global,
+    form: Form,
+    number: u64,
     begun: Option<u8>,
 ) -> Result<(), AllocError>
-    ensures { OnOk result (text.new.items ≡ text.old.items ++ part_line number begun) }
+    ensures { OnOk result (text.new.items ≡ text.old.items ++ part_line form number begun) }
 {
-    match begun {
-        Some(begun) => {
-            let part = PartText(begun);
-            let mut words = String::new(alloc);
-            writeln!(words, "{number}{part}")?;
-            text.extend_from_slice(words.as_bytes())
-        }
-        None => Ok(()),
+    match (begun, form) {
+        (Some(begun), Form::Lines) => write_part_line(text, alloc, number, begun),
+        (Some(begun), Form::Json) => write_part_object(text, alloc, number, begun),
+        (None, _) => Ok(()),
     }
 }
 
@@ -230,15 +276,16 @@ fn write_part(
 pub fn make_part(
     text: &mut Vec<u8>,
     alloc: Global,
+    form: Form,
     machine: &mut Machine,
     p: &Checked,
     number: u64,
 ) -> Result<(), AllocError>
     requires program { p.now ≡ machine.old.program }
     ensures part { machine.new ≡ record machine.old { core = next machine.old.program machine.old.core } }
-    ensures line { OnOk result (text.new.items ≡ text.old.items ++ part_line number (option_map (λ x. x.part) (slice_get machine.old.core.threads 0))) }
+    ensures line { OnOk result (text.new.items ≡ text.old.items ++ part_line form number (option_map (λ x. x.part) (slice_get machine.old.core.threads 0))) }
 {
-    let written = write_part(text, alloc, number, parts_begun(machine));
+    let written = write_part(text, alloc, form, number, parts_begun(machine));
     machine.next(p);
     written
 }

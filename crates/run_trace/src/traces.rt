@@ -5,21 +5,22 @@ ghost use Rattle.machine_types.specs.Core.{Of, NextPart, lives};
 ghost use Rattle.machine_types.specs.Schedules.{First, turn_at};
 ghost use Rattle.machine_types.specs.Settings.{AreSettings};
 ghost use Rattle.laws_states.specs.WorkLeft.{all_work};
-ghost use Rattle.run_texts.specs.Report.{report_text};
 ghost use Rattle.run_trace.specs.EventLines.{next_line_number};
+ghost use Rattle.run_trace.specs.ReportJson.{report_in};
 ghost use Rattle.run_trace.specs.Traces.{IsPut, IsStarted, IsTraced, IsWalk, IsWalkToEnd, IsHappeningTold};
 ghost use Rattle.run_trace.specs.declared.traces.TraceError.TheVariants.{Memory};
 ghost use Rattle.run_trace.specs.Turns.{IsNoEvent, next_ahead, parts_ahead, stage_of};
 
 use crate::events::{Part, make_event, make_part, told_of};
+use crate::report_json::report_of;
 use crate::turns::{Next, Progress, next_turn};
 use checked_program::Checked;
 use host_io::sink::{Sink, SinkFailed};
 use host_io::writing::write_whole;
+use json_lines::Form;
 use jvm_types::{Bytes, Outcome, Rows};
 use machine_types::Config;
 use replay_runner::Machine;
-use run_texts::report;
 use std::alloc::{AllocError, Global};
 
 /// Why a trace was not written whole.
@@ -110,6 +111,7 @@ fn tell_event<K: Sink>(
         &mut text,
         &mut trace.ends,
         alloc,
+        part.form,
         &mut trace.machine,
         &mut trace.owed,
         p,
@@ -139,7 +141,7 @@ fn tell_part<K: Sink>(
     let _ = names;
     let mut text = Vec::new(alloc);
     let number = trace.number;
-    let made = make_part(&mut text, alloc, &mut trace.machine, p, number);
+    let made = make_part(&mut text, alloc, part.form, &mut trace.machine, p, number);
     trace.number = next_number(number);
     match made {
         Ok(()) => write_text(sink, told_of(part, number, text.as_slice())),
@@ -193,11 +195,16 @@ fn tell_all<K: Sink>(
 }
 
 /// Writes the report of the run.
-fn tell_report<K: Sink>(alloc: Global, outcome: &Outcome, sink: &mut K) -> Result<(), TraceError>
+fn tell_report<K: Sink>(
+    alloc: Global,
+    form: Form,
+    outcome: &Outcome,
+    sink: &mut K,
+) -> Result<(), TraceError>
     requires { 0 < length outcome.now.threads }
-    ensures { IsPut (K.text sink.old) (K.text sink.new) (K.faults sink.old) (K.faults sink.new) (report_text outcome.now) result }
+    ensures { IsPut (K.text sink.old) (K.text sink.new) (K.faults sink.old) (K.faults sink.new) (report_in form outcome.now) result }
 {
-    match report(alloc, outcome) {
+    match report_of(alloc, form, outcome) {
         Ok(text) => write_text(sink, text.as_slice()),
         Err(AllocError) => Err(TraceError::Memory),
     }
@@ -208,7 +215,8 @@ fn tell_report<K: Sink>(alloc: Global, outcome: &Outcome, sink: &mut K) -> Resul
 /// the attempt that it is in; the class, method and pc where the thread stands, with the mnemonic; what it does in words, where
 /// that is no instruction; the word that it accesses, with what it found and left there; where an attempt begins, fails or
 /// finishes, a lock is taken or made fat, and how the thread comes to its end; and the steps of the plain machine that it stands
-/// for. Behind them stands a line for each end that is no return, and the report of the run.
+/// for. Behind them stands a line for each end that is no return, and the report of the run. Each is a line of words, or as JSON
+/// one object on a line, made of the same (`write_event_object` of `event_texts` has its members).
 /// `names` has the names of the fields of the program in their order; a field without a name is told by its number.
 ///
 /// It answers the outcome of the run; `Failed` where the sink fails, and `Memory` where there is no memory. The memory that it
@@ -230,6 +238,6 @@ pub fn explain_run<K: Sink>(
     write_text(sink, trace.ends.as_slice())?;
     let _workers = trace.machine.workers();
     let outcome = trace.machine.outcome();
-    tell_report(alloc, &outcome, sink)?;
+    tell_report(alloc, part.form, &outcome, sink)?;
     Ok(outcome)
 }
