@@ -1,7 +1,7 @@
 #!/usr/bin/env python3
 """Draws a run as SVG: a column for each thread, and in it the thread's events, one below the other.
 
-    ./run --what run [--json] [options] FILE... | examples/locks/picture.py > run.svg
+    ./run --what run --json [options] FILE... | examples/locks/picture.py > run.svg
 
 Instructions that access no word stand together on one line. A section that is tried without its lock has a
 green field where it finishes and a red one where it fails, and one that has its lock a yellow field. A thin
@@ -19,65 +19,45 @@ COLORS = {"fails": "#f6c9c9", "finishes": "#cfeccf", "open": "#e4e4e4", "lock": 
 
 
 class Event:
-    def __init__(self, number, thread, place, notes, word, writes):
-        self.number, self.thread, self.place, self.notes = number, thread, place, notes
-        self.word, self.writes = word, writes
+    """An event by the members of its object."""
+
+    def __init__(self, told):
+        self.told = told
+        self.thread, self.number, self.does = told["thread"], told["number"], told.get("does", "")
+        access = told.get("access", {})
+        self.word, self.writes = access.get("word"), "left" in access
+
+    def place(self):
+        told = self.told
+        return f"{told['class']}.{told['method']} at {told['pc']} {told['instruction']}" if "pc" in told else ""
+
+    def notes(self):
+        told = self.told
+        access = told.get("access", {})
+        left = f" -> {access['left']}" if self.writes else ""
+        return [
+            self.does,
+            f"{self.word} {access['found']}{left}" if access else "",
+            f"attempt {told['attempt_begins']} begins by Free({told['noted']})" if "attempt_begins" in told else "",
+            f"attempt {told['attempt_fails']} fails: not Free({told['noted']})" if "attempt_fails" in told else "",
+            f"attempt {told['attempt_finishes']} finishes" if "attempt_finishes" in told else "",
+            told.get("lock", ""),
+            f"comes to its end: {told['comes_to_its_end']}" if "comes_to_its_end" in told else "",
+        ]
 
     def is_plain(self):
-        return bool(self.place) and not self.notes
+        return bool(self.place()) and not any(self.notes())
 
-    def told(self):
-        return ", ".join(([self.place] if self.place else []) + self.notes)
-
-
-def word_of(note):
-    """The word that a note is of, and whether it is written; None where it tells of no word."""
-    found = re.match(r"(lock word of \S+|\S+@\S+|\S+\.\S+(?=\s)|next ticket|.* count.*?) \S+( -> )?", note)
-    return (found[1], bool(found[2])) if found else (None, False)
-
-
-def from_line(line):
-    found = re.match(r"(\d+) thread (\d+)(?: in attempt \d+)?,? ?(.*)", line)
-    if not found:
-        return None
-    # What the event stands for in a plain run is left out.
-    place, *notes = re.sub(r", (plain: .*|\d+ owed)$", "", found[3]).split(", ")
-    if not re.search(r" at \d+ ", place):
-        place, notes = "", [place, *notes]
-    words = [word_of(note) for note in notes if word_of(note)[0]]
-    word, writes = words[0] if words else (None, False)
-    return Event(int(found[1]), int(found[2]), place, notes, word, writes)
-
-
-def texts(value):
-    """What a member of an object says, whatever kind it has; None says nothing."""
-    if isinstance(value, list):
-        return [text for one in value for text in texts(one)]
-    return [] if value is None else [text for text in str(value).strip(" ,").split(", ") if text]
-
-
-def from_object(line):
-    told = json.loads(line)
-    if told.get("what", "event") != "event" or "number" not in told or "thread" not in told:
-        return None
-    place = ""
-    if "pc" in told:
-        insn = told.get("instruction", told.get("mnemonic", ""))
-        place = f"{told.get('class')}.{told.get('method')} at {told['pc']} {insn}".strip()
-    notes = texts(told.get("does"))
-    word = " ".join(texts(told.get("word"))) or None
-    before, after = texts(told.get("before")), texts(told.get("after"))
-    writes = bool(after) and after != before
-    if word:
-        notes.append(" ".join([word, *before] + (["->", *after] if writes else [])))
-    return Event(told["number"], told["thread"], place, notes + texts(told.get("marks")), word, writes)
+    def text(self):
+        return ", ".join(part for part in [self.place(), *self.notes()] if part)
 
 
 def read(lines):
+    """The events; what else is told of the run is left out."""
     for line in lines:
-        event = from_object(line) if line.startswith("{") else from_line(line)
-        if event:
-            yield event
+        told = json.loads(line)
+        if told["what"] == "event":
+            yield Event(told)
 
 
 class Row:
@@ -92,11 +72,11 @@ class Row:
         first, last = self.events[0].number, self.events[-1].number
         return str(first) if first == last else f"{first}-{last}"
 
-    def told(self):
+    def text(self):
         if len(self.events) == 1:
-            return self.events[0].told()
-        methods = [event.place.split(" at ")[0] for event in self.events]
-        names = [event.place.split()[-1] for event in self.events]
+            return self.events[0].text()
+        methods = [event.place().split(" at ")[0] for event in self.events]
+        names = [event.place().split()[-1] for event in self.events]
         return f"{methods[0]}: {' '.join(names)}"
 
 
@@ -114,15 +94,14 @@ def fields_of(rows):
     """Of each attempt, and of each lock that is held: thread, first and last row, and its colour."""
     fields, attempts, locks = [], {}, {}
     for at, row in enumerate(rows):
-        told = row.told()
-        begun = re.search(r"attempt \d+ begins", told)
-        ended = re.search(r"attempt \d+ (fails|finishes)", told)
+        event = row.events[0]
+        ended = next((end for end in ("fails", "finishes") if f"attempt_{end}" in event.told), None)
         if ended and row.thread in attempts:
-            fields.append((row.thread, attempts.pop(row.thread), at, COLORS[ended[1]]))
-        if begun:
+            fields.append((row.thread, attempts.pop(row.thread), at, COLORS[ended]))
+        if "attempt_begins" in event.told:
             attempts[row.thread] = at
-        took = re.search(r"takes the lock of (\S+?)(,|$)", told)
-        left = re.search(r"leaves (\S+?)(,|$)", told)
+        took = re.fullmatch(r"takes the lock of (\d+)", event.does)
+        left = re.fullmatch(r"leaves (\d+)", event.does)
         if took:
             locks[row.thread, took[1]] = at
         if left and (row.thread, left[1]) in locks:
@@ -148,7 +127,7 @@ def joins_of(rows):
 def picture(events):
     rows = rows_of(events)
     threads = sorted({row.thread for row in rows})
-    widths = [max(len(row.told()) for row in rows if row.thread == one) * LETTER + 24 for one in threads]
+    widths = [max(len(row.text()) for row in rows if row.thread == one) * LETTER + 24 for one in threads]
     lefts = {one: LEFT + sum(widths[:at]) for at, one in enumerate(threads)}
     wide = dict(zip(threads, widths))
     height = (len(rows) + 2) * ROW + 10
@@ -161,7 +140,7 @@ def picture(events):
     for one, other in joins_of(rows):
         ends = sorted((one, other), key=lambda at: lefts[rows[at].thread])
         left, right = (rows[at] for at in ends)
-        begin = lefts[left.thread] + 8 + len(left.told()) * LETTER
+        begin = lefts[left.thread] + 8 + len(left.text()) * LETTER
         out.append(f'<line x1="{begin:.0f}" y1="{top[ends[0]] + ROW / 2}" x2="{lefts[right.thread]:.0f}" '
                    f'y2="{top[ends[1]] + ROW / 2}" stroke="#5577bb" stroke-width="1"/>')
     for thread in threads:
@@ -170,14 +149,14 @@ def picture(events):
         base = top[at] + ROW - 5
         out.append(f'<text x="4" y="{base}" fill="#888888">{row.numbers()}</text>')
         weight = "" if row.events[0].is_plain() else ' font-weight="bold"'
-        out.append(f'<text x="{lefts[row.thread] + 4:.0f}" y="{base}"{weight}>{escape(row.told())}</text>')
+        out.append(f'<text x="{lefts[row.thread] + 4:.0f}" y="{base}"{weight}>{escape(row.text())}</text>')
     return "\n".join(out) + "\n</svg>\n"
 
 
 def main():
     events = list(read(sys.stdin))
     if not events:
-        print("picture.py: no line of a run came", file=sys.stderr)
+        print("picture.py: no event of a run came", file=sys.stderr)
         return 1
     sys.stdout.write(picture(events))
     return 0
