@@ -20,8 +20,8 @@ use Rattle.jvm_types.specs.declared.refusal.Rule.TheVariants as rules
 use Rattle.mark_reasons.specs.ReasonTexts.{IsMarksExplained}
 use Rattle.reason_json.specs.ReasonJson.{AreMarksInJson}
 use Rattle.refusal_places.specs.Explained.{Explains}
-use Rattle.refusal_places.specs.declared.facts.Form.{Form}
-use Rattle.refusal_places.specs.declared.facts.Form.TheVariants.{Lines, Json}
+use Rattle.json_lines.specs.declared.form.Form.{Form}
+use Rattle.json_lines.specs.declared.form.Form.TheVariants.{Lines, Json}
 use Rattle.run_texts.specs.Report.{line}
 use Rattle.run_texts.specs.Unread.{unread_line}
 use Rattle.solero_explain.specs.Command.{Question}

@@ -1,5 +1,5 @@
 -- What the words of `solero_explain` mean: those of a run, which `solero` has too, with what is to be explained, and in which form.
-use Rattle.std.specs.Prelude.{ℕ, Bool, true, false, ◌||◌, not, List, [], ◌∷◌, length, codes, bytes_eq, Option, Some, None, if◌then◌else◌}
+use Rattle.std.specs.Prelude.{ℕ, List, [], ◌∷◌, length, codes, bytes_eq, Option, Some, None, if◌then◌else◌}
 use Rattle.clap.specs.Walk.{Row, Text, first_of}
 use Rattle.clap.specs.Simple.{App, new_rule, with_rule}
 use Rattle.clap.specs.declared.builder.action.ArgAction.TheVariants.{SetTrue}
@@ -9,8 +9,8 @@ use Rattle.machine_types.specs.declared.config.Config.{Config}
 use Rattle.command_words.specs.RunValues.{are_few, heap_of, order_of, settings_of, threads_of}
 use Rattle.command_words.specs.Values.{◌>>=◌, number_or}
 use Rattle.command_words.specs.Words.{command_of, found_in_words, gives_any, names_of}
-use Rattle.refusal_places.specs.declared.facts.Form.{Form}
-use Rattle.refusal_places.specs.declared.facts.Form.TheVariants.{Lines, Json}
+use Rattle.json_lines.specs.declared.form.Form.{Form}
+use Rattle.json_lines.specs.declared.form.Form.TheVariants.{Lines, Json}
 use Rattle.solero_explain.specs.declared.request.What.{What}
 use Rattle.solero_explain.specs.declared.request.What.TheVariants.{Refusal, Marks, Run}
 
@@ -32,19 +32,14 @@ abbrev pub what_of : Option Text → Option What
 what_of None = None
 what_of (Some text) = if bytes_eq text (codes "refusal") then Some Refusal else if bytes_eq text (codes "marks") then Some Marks else if bytes_eq text (codes "run") then Some Run else None
 
--- a run is told in lines alone
-abbrev pub is_told_in : What → Form → Bool
-is_told_in Run Json = false
-is_told_in what form = true
-
 -- an order, and a part of the lines, are read with a run alone
 abbrev pub not_read_with : What → List Text
 not_read_with Run = []
 not_read_with what = codes "order" ∷ codes "from" ∷ codes "events" ∷ []
 
--- the lines of a run from a number on, so many at most
-abbrev pub part_asked : (from events : ℕ) → Part
-part_asked from events = record { from = from; count = events }
+-- the lines of a run from a number on, so many at most, in that form
+abbrev pub part_asked : (from events : ℕ) → Form → Part
+part_asked from events form = record { from = from; count = events; form = form }
 
 -- clap says of a flag whether it is given
 abbrev pub form_asked : Option Text → Form
@@ -77,7 +72,7 @@ question rows = do
   order ← order_of rows
   from ← number_or 1 1 MOST_LIMIT (first_of (codes "from") rows)
   events ← number_or MOST_LIMIT 1 MOST_LIMIT (first_of (codes "events") rows)
-  if not (is_told_in what (form_asked (first_of (codes "json") rows))) || gives_any rows (not_read_with what) then None else Some (record { what = what; form = form_asked (first_of (codes "json") rows); files = files; threads = threads; heap = heap; cfg = cfg; order = order; part = part_asked from events })
+  if gives_any rows (not_read_with what) then None else Some (record { what = what; form = form_asked (first_of (codes "json") rows); files = files; threads = threads; heap = heap; cfg = cfg; order = order; part = part_asked from events (form_asked (first_of (codes "json") rows)) })
 
 -- what the words ask for; None where they are not read
 unfoldable pub explain_command : List Text → Option Question

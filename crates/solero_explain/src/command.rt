@@ -4,7 +4,7 @@ ghost use Rattle.std.specs.Option.{option_copied, unwrap_or};
 ghost use Rattle.clap.specs.Words.{app_of, found_of, rows_of};
 ghost use Rattle.command_words.specs.RunValues.{are_few as are_few_files};
 ghost use Rattle.command_words.specs.Words.{found_in_words, gives_any as gives_any_of, texts};
-ghost use Rattle.solero_explain.specs.Command.{question, explain_command as command_of, files_of, form_asked as the_form, is_told_in as is_in, not_read_with, explain_app, what_of as the_what, with_flag as flag_in};
+ghost use Rattle.solero_explain.specs.Command.{question, explain_command as command_of, files_of, form_asked as the_form, not_read_with, explain_app, what_of as the_what, with_flag as flag_in};
 ghost use Rattle.solero_explain.specs.Requests.{question_by};
 
 use crate::request::{Request, What};
@@ -12,8 +12,8 @@ use clap::{Arg, ArgAction, ArgMatches, Command};
 use command_words::found_words::{found_in, gives_any, names, owned, simple_command, value};
 use command_words::run_values::{are_few, heap, order, settings, threads};
 use command_words::values::{Numbers, number_or};
+use json_lines::Form;
 use jvm_types::limits::MOST_LIMIT;
-use refusal_places::Form;
 use run_trace::Part;
 use std::alloc::{AllocError, Global};
 
@@ -74,16 +74,6 @@ fn gives_unread(matches: &ArgMatches<'_>, what: What) -> bool
     }
 }
 
-// Whether this is told in that form.
-fn is_told_in(what: What, form: Form) -> bool
-    ensures { result ≡ is_in what form }
-{
-    match what {
-        What::Refusal | What::Marks => true,
-        What::Run => form == Form::Lines,
-    }
-}
-
 fn form_of(given: Option<&str>) -> Form
     ensures { result ≡ the_form (option_copied given.entry) }
 {
@@ -135,7 +125,7 @@ fn request(alloc: Global, matches: &ArgMatches<'_>) -> Result<Option<Request>, A
     let Some(events) = number_or(EVENTS, value(matches, "events")) else {
         return Ok(None);
     };
-    if !is_told_in(what, form) || gives_unread(matches, what) {
+    if gives_unread(matches, what) {
         return Ok(None);
     }
     Ok(Some(Request {
@@ -149,6 +139,7 @@ fn request(alloc: Global, matches: &ArgMatches<'_>) -> Result<Option<Request>, A
         part: Part {
             from: u64::from(from),
             count: u64::from(events),
+            form,
         },
     }))
 }

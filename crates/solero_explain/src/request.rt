@@ -1,9 +1,9 @@
 ghost use Rattle.std.specs.Prelude.{length};
 ghost use Rattle.solero_explain.specs.Bounds.{AreInExplainBounds};
 
+use json_lines::Form;
 use jvm_types::Bytes;
 use machine_types::Config;
-use refusal_places::Form;
 use run_trace::Part;
 
 /// What is to be explained.
@@ -13,7 +13,7 @@ pub enum What {
     Refusal,
     /// The marks of the program's sections, and why a section isn't marked M0.
     Marks,
-    /// What happens in a run, event by event; in lines alone.
+    /// What happens in a run, event by event.
     Run,
 }
 
@@ -34,7 +34,7 @@ pub struct Request {
     pub cfg: Config,
     /// The workers that make the next steps, each a number from 1 to 8.
     pub order: Bytes,
-    /// The lines of the run that are told.
+    /// The lines of the run that are told, and their form.
     pub part: Part,
-    ghost bounds: { AreInExplainBounds what form (length files.items) threads heap cfg },
+    ghost bounds: { AreInExplainBounds (length files.items) threads heap cfg },
 }
