@@ -2,4 +2,6 @@
 #![tactic(auto)]
 
 #[cfg(test)]
+mod in_json;
+#[cfg(test)]
 mod traces;

@@ -8,7 +8,7 @@ use host_io::sink::ListSink;
 use jvm_types::limits::LEAST_HEAP;
 use jvm_types::{Bytes, Rows};
 use machine_types::Config;
-use run_trace::{Part, TraceError, explain_run};
+use run_trace::{Form, Part, TraceError, explain_run};
 use std::alloc::{AllocError, Global};
 use std::test::*;
 use test_classes::{SHARED, bytes_of};
@@ -24,7 +24,7 @@ const LOCKS_FIRST: &[u8] = &[
     2, 2, 2, 2, 2, 2, 2, 2, 2, 1, 1, 1, 1, 1, 1, 1, 1, 1, 1, 1, 1, 1, 1, 1,
 ];
 
-const CONFIG: Config = Config {
+pub(crate) const CONFIG: Config = Config {
     steps: 1000,
     turns: 1000,
     prints: 100,
@@ -103,7 +103,7 @@ counts 2 instructions 14 elided 0 failed 0 locked 1 inflated 0
 ";
 
 /// One file.
-fn one(alloc: Global, file: Bytes) -> Result<Rows<Bytes>, AllocError>
+pub(crate) fn one(alloc: Global, file: Bytes) -> Result<Rows<Bytes>, AllocError>
     ensures { IfOk result (λ files. files ≡ file ∷ []) }
 {
     let mut files = Rows::new(alloc);
@@ -122,6 +122,7 @@ fn a_torn_read_is_told(rt: HostRuntime) -> Result<(), FileError> {
     let part = Part {
         from: 23,
         count: 100,
+        form: Form::Lines,
     };
     let came = explain_run(alloc, &p, &CONFIG, &order, &names, part, &mut sink);
     assert!(rt; came.is_ok());
@@ -138,7 +139,11 @@ fn an_end_at_a_limit_is_told(rt: HostRuntime) -> Result<(), FileError> {
     let order = Bytes::from_slice(alloc, LOCKS_FIRST)?;
     let config = Config { turns: 3, ..CONFIG };
     let mut sink = ListSink::new(alloc, None, 7);
-    let part = Part { from: 34, count: 3 };
+    let part = Part {
+        from: 34,
+        count: 3,
+        form: Form::Lines,
+    };
     let came = explain_run(alloc, &p, &config, &order, &names, part, &mut sink);
     assert!(rt; came.is_ok());
     assert_eq!(rt; sink.text().as_slice(), HELD.as_bytes());
