@@ -2,12 +2,19 @@
 
 ghost use Rattle.std.specs.Prelude.{◌≡◌, ◌++◌, length, OnOk, IfOk};
 ghost use Rattle.std.specs.Option.{option_copied};
-ghost use Rattle.reason_json.specs.ReasonJson.{again_object, call_object, insn_members, mark_member, objects_text, reason_members, rule_members, section_head, section_method, section_object, site_members, site_object, some_reason_members, spot_member, spot_members, way_objects, AreMarksInJson};
+ghost use Rattle.reason_json.specs.ReasonJson.{again_object, call_object, cause_kind, cause_member};
+ghost use Rattle.reason_json.specs.ReasonJson.{cause_members, cause_place, constructor_member};
+ghost use Rattle.reason_json.specs.ReasonJson.{insn_members, mark_member, method_object, objects_text};
+ghost use Rattle.reason_json.specs.ReasonJson.{reason_members, rule_members, section_head};
+ghost use Rattle.reason_json.specs.ReasonJson.{section_method, section_object, site_members};
+ghost use Rattle.reason_json.specs.ReasonJson.{site_object, some_reason_members, spot_member};
+ghost use Rattle.reason_json.specs.ReasonJson.{spot_members, way_objects, write_member};
+ghost use Rattle.reason_json.specs.ReasonJson.{AreMarksInJson};
 
 use checked_program::{Checked, SectionMark, Spot};
 use json_lines::{write_number_behind, write_text_member};
 use jvm_types::{Bytes, Insn, Program};
-use mark_reasons::{Reason, Site, reasons};
+use mark_reasons::{Cause, Reason, Site, reasons};
 use place_names::{write_instruction_member, write_method_members, write_method_names};
 use std::alloc::{AllocError, Global};
 
@@ -24,31 +31,58 @@ fn write_insn(out: &mut Vec<u8>, alloc: Global, insn: Option<&Insn>) -> Result<(
     }
 }
 
-fn write_place(out: &mut Vec<u8>, alloc: Global, p: &Program, site: Site) -> Result<(), AllocError>
-    ensures { OnOk result (out.new.items ≡ out.old.items ++ site_members p.now site) }
+fn write_place_members(
+    out: &mut Vec<u8>,
+    alloc: Global,
+    p: &Program,
+    method: u32,
+    at: usize,
+) -> Result<(), AllocError>
+    ensures { OnOk result (out.new.items ≡ out.old.items ++ site_members p.now method at) }
 {
-    match p.methods.get(site.method as usize) {
+    match p.methods.get(method as usize) {
         Some(m) => {
             write_method_names(out, alloc, p, m)?;
-            write_insn(out, alloc, m.code.get(site.at))
+            write_insn(out, alloc, m.code.get(at))
         }
         None => Ok(()),
     }
 }
 
+/// The instruction of a number in the method of a number.
 #[tactic(auto, unfolding(crate::specs::ReasonJson::site_object))]
-fn write_site(out: &mut Vec<u8>, alloc: Global, p: &Program, site: Site) -> Result<(), AllocError>
-    ensures { OnOk result (out.new.items ≡ out.old.items ++ site_object p.now site) }
+fn write_place(
+    out: &mut Vec<u8>,
+    alloc: Global,
+    p: &Program,
+    method: u32,
+    at: usize,
+) -> Result<(), AllocError>
+    ensures { OnOk result (out.new.items ≡ out.old.items ++ site_object p.now method at) }
 {
     out.extend_from_slice(b"{")?;
-    write_place(out, alloc, p, site)?;
+    write_place_members(out, alloc, p, method, at)?;
+    out.extend_from_slice(b"}")
+}
+
+#[tactic(auto, unfolding(crate::specs::ReasonJson::method_object))]
+fn write_method_object(
+    out: &mut Vec<u8>,
+    alloc: Global,
+    p: &Program,
+    method: u32,
+) -> Result<(), AllocError>
+    ensures { OnOk result (out.new.items ≡ out.old.items ++ method_object p.now method) }
+{
+    out.extend_from_slice(b"{")?;
+    write_method_members(out, alloc, p, method)?;
     out.extend_from_slice(b"}")
 }
 
 fn write_call(out: &mut Vec<u8>, alloc: Global, p: &Program, site: Site) -> Result<(), AllocError>
     ensures { OnOk result (out.new.items ≡ out.old.items ++ call_object p.now site) }
 {
-    write_site(out, alloc, p, site)?;
+    write_place(out, alloc, p, site.method, site.at)?;
     out.extend_from_slice(b",")
 }
 
@@ -70,11 +104,7 @@ fn write_again(
     ensures { OnOk result (out.new.items ≡ out.old.items ++ again_object p.now (option_copied site.entry)) }
 {
     match site {
-        Some(x) => {
-            out.extend_from_slice(b"{")?;
-            write_method_members(out, alloc, p, x.method)?;
-            out.extend_from_slice(b"}")
-        }
+        Some(x) => write_method_object(out, alloc, p, x.method),
         None => Ok(()),
     }
 }
@@ -99,6 +129,89 @@ fn write_rule(out: &mut Vec<u8>, alloc: Global, rule: u8) -> Result<(), AllocErr
     out.extend_from_slice(b",\"way\":[")
 }
 
+fn cause_kind(cause: Cause) -> &'static [u8]
+    ensures { result.now ≡ cause_kind cause }
+{
+    match cause {
+        Cause::Element => b"element",
+        Cause::Static => b"static",
+        Cause::Shared => b"shared",
+        Cause::Other => b"other",
+        Cause::Constructor(_) => b"constructor",
+        Cause::Write { .. } => b"write",
+    }
+}
+
+/// `,"cause":KIND`
+#[tactic(auto, unfolding(crate::specs::ReasonJson::cause_member))]
+fn write_kind_of(out: &mut Vec<u8>, cause: Cause) -> Result<(), AllocError>
+    ensures { OnOk result (out.new.items ≡ out.old.items ++ cause_member cause) }
+{
+    out.extend_from_slice(b",")?;
+    write_text_member(out, "cause", cause_kind(cause))
+}
+
+/// `,"constructor":OBJECT`
+#[tactic(auto, unfolding(crate::specs::ReasonJson::constructor_member))]
+fn write_constructor(
+    out: &mut Vec<u8>,
+    alloc: Global,
+    p: &Program,
+    init: u32,
+) -> Result<(), AllocError>
+    ensures { OnOk result (out.new.items ≡ out.old.items ++ constructor_member p.now init) }
+{
+    out.extend_from_slice(b",\"constructor\":")?;
+    write_method_object(out, alloc, p, init)
+}
+
+/// `,"write":OBJECT`
+#[tactic(auto, unfolding(crate::specs::ReasonJson::write_member))]
+fn write_write(
+    out: &mut Vec<u8>,
+    alloc: Global,
+    p: &Program,
+    method: u32,
+    at: usize,
+) -> Result<(), AllocError>
+    ensures { OnOk result (out.new.items ≡ out.old.items ++ write_member p.now method at) }
+{
+    out.extend_from_slice(b",\"write\":")?;
+    write_place(out, alloc, p, method, at)
+}
+
+fn write_cause_place(
+    out: &mut Vec<u8>,
+    alloc: Global,
+    p: &Program,
+    cause: Cause,
+) -> Result<(), AllocError>
+    ensures { OnOk result (out.new.items ≡ out.old.items ++ cause_place p.now cause) }
+{
+    match cause {
+        Cause::Constructor(init) => write_constructor(out, alloc, p, init),
+        Cause::Write { method, at } => write_write(out, alloc, p, method, at),
+        Cause::Element | Cause::Static | Cause::Shared | Cause::Other => Ok(()),
+    }
+}
+
+fn write_cause(
+    out: &mut Vec<u8>,
+    alloc: Global,
+    p: &Program,
+    cause: Option<Cause>,
+) -> Result<(), AllocError>
+    ensures { OnOk result (out.new.items ≡ out.old.items ++ cause_members p.now cause) }
+{
+    match cause {
+        Some(there) => {
+            write_kind_of(out, there)?;
+            write_cause_place(out, alloc, p, there)
+        }
+        None => Ok(()),
+    }
+}
+
 fn write_reason(
     out: &mut Vec<u8>,
     alloc: Global,
@@ -109,11 +222,18 @@ fn write_reason(
 {
     match reason {
         Reason::Elsewhere => out.extend_from_slice(b",\"reason\":\"elsewhere\""),
-        Reason::Breaks { way, site, rule } => {
+        Reason::Unreached => out.extend_from_slice(b",\"reason\":\"unreached\""),
+        Reason::Breaks {
+            way,
+            site,
+            rule,
+            cause,
+        } => {
             write_rule(out, alloc, *rule)?;
             write_way(out, alloc, p, way.as_slice())?;
-            write_site(out, alloc, p, *site)?;
-            out.extend_from_slice(b"]")
+            write_place(out, alloc, p, site.method, site.at)?;
+            out.extend_from_slice(b"]")?;
+            write_cause(out, alloc, p, *cause)
         }
         Reason::Recurs { way, again } => {
             out.extend_from_slice(b",\"reason\":\"recurs\",\"way\":[")?;
@@ -229,8 +349,10 @@ fn lines(
 /// which is `method` for a synchronized method's own section, and `block` with its `pc` for a
 /// block; `mark`; and where that isn't M0 the `reason`: `breaks`, with the `rule`, M1 to M5, and
 /// the `way` to the instruction that breaks it, which is the last of the way, behind the calls that
-/// lead there; `recurs`, with the `way`, whose last is the method that is called again (M7); or
-/// `elsewhere`, where the monitor is not `this` (M8).
+/// lead there, and for M5 the `cause` (`element`, `static`, `shared`, `other`, `constructor`,
+/// `write`) with the `constructor` or the `write`; `recurs`, with the `way`, whose last is the
+/// method that is called again (M7); `elsewhere`, where the monitor is not `this`, or `unreached`,
+/// where no path reaches the block (M8).
 pub fn marks_in_json(alloc: Global, c: &Checked) -> Result<Bytes, AllocError>
     ensures { IfOk result (AreMarksInJson c.now) }
 {

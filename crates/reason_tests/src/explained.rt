@@ -41,12 +41,16 @@ const OWN: &str = "\
     \x20 Marks.notifiesAll()V at 1 invokevirtual M4: it prints, waits or notifies\n\
     Marks.readsStatic()I method M5\n\
     \x20 Marks.readsStatic()I at 0 getstatic M5: it reads what the section's lock does not guard\n\
+    \x20   it is a static field\n\
     Marks.readsElement([I)I method M5\n\
     \x20 Marks.readsElement([I)I at 2 iaload M5: it reads what the section's lock does not guard\n\
+    \x20   it is an element of an array\n\
     Marks.readsLoose()I method M5\n\
     \x20 Marks.readsLoose()I at 1 getfield M5: it reads what the section's lock does not guard\n\
+    \x20   Marks.loosen(I)V at 2 putfield writes the field on another object than this or without its lock\n\
     Marks.readsOther(LMarks;)I method M5\n\
     \x20 Marks.readsOther(LMarks;)I at 1 getfield M5: it reads what the section's lock does not guard\n\
+    \x20   it is the field of another object\n\
     Marks.onKey()I block 6 M8\n\
     \x20 its monitor is not this\n\
     Marks.printsOnKey()I block 6 M8\n\
@@ -67,6 +71,7 @@ const BY_CALLEES: &str = "\
     Calls.offThisReads(LCalls;)I method M6\n\
     \x20 Calls.offThisReads(LCalls;)I at 1 invokespecial calls\n\
     \x20 Calls.total()I at 1 getfield M5: it reads what the section's lock does not guard\n\
+    \x20   it is the field of another object\n\
     Calls.offThisEnters(LCalls;)I method M6\n\
     \x20 Calls.offThisEnters(LCalls;)I at 1 invokevirtual calls\n\
     \x20 Calls.block()I at 3 monitorenter M3: it enters a monitor that is not the section's\n\
@@ -80,6 +85,7 @@ const BY_CALLEES: &str = "\
     Calls.offThisReadsElement([I)I method M6\n\
     \x20 Calls.offThisReadsElement([I)I at 1 invokestatic calls\n\
     \x20 Calls.first([I)I at 2 iaload M5: it reads what the section's lock does not guard\n\
+    \x20   it is an element of an array\n\
     Calls.recurses(I)I method M7\n\
     \x20 Calls.recurses(I)I at 12 invokevirtual calls\n\
     \x20 Calls.recurses(I)I at 12 invokevirtual calls\n\
@@ -96,10 +102,20 @@ const BY_CALLEES: &str = "\
     Calls.storesAndPrints(I)V method M1\n\
     \x20 Calls.storesAndPrints(I)V at 2 putfield M1: it writes a field, a static field or an element\n";
 
-/// The program of a class.
-pub fn loaded(alloc: Global, hex: &str) -> Result<Checked, FileError> {
+/// `Marks.onKey` returns before its block.
+const RETURNS_FIRST: [(usize, u8); 4] = [(1700, 0x03), (1701, 0xac), (1702, 0), (1703, 0)];
+
+/// Its sections' last lines then.
+const UNREACHED: &str = "\
+    Marks.onKey()I block 6 M8\n\
+    \x20 no path reaches it\n\
+    Marks.printsOnKey()I block 6 M8\n\
+    \x20 its monitor is not this\n";
+
+/// The program of a class, some of whose bytes are changed.
+pub fn loaded(alloc: Global, hex: &str, changes: &[(usize, u8)]) -> Result<Checked, FileError> {
     let mut files = Rows::new(alloc);
-    files.push(changed(alloc, hex, &[])?)?;
+    files.push(changed(alloc, hex, changes)?)?;
     load_program(alloc, &files, LEAST_HEAP, 0)
 }
 
@@ -110,7 +126,7 @@ fn check_reasons(
     wanted: &str,
 ) -> Result<(), FileError> {
     let alloc = rt.alloc();
-    let program = loaded(alloc, hex)?;
+    let program = loaded(alloc, hex, &[])?;
     let text = marks_explained(alloc, &program)?;
     assert_eq!(rt; text.as_slice(), wanted.as_bytes());
     Ok(())
@@ -119,6 +135,16 @@ fn check_reasons(
 #[test]
 fn marks_have_reasons(rt: HostRuntime) -> Result<(), Fail> {
     check_reasons(&rt, marks(), OWN)?;
+    Ok(())
+}
+
+#[test]
+fn no_path_reaches_a_block(rt: HostRuntime) -> Result<(), Fail> {
+    let alloc = rt.alloc();
+    let program = loaded(alloc, marks(), &RETURNS_FIRST)?;
+    let text = marks_explained(alloc, &program)?;
+    let front = text.len().saturating_sub(UNREACHED.len());
+    assert_eq!(rt; &text.as_slice()[front..], UNREACHED.as_bytes());
     Ok(())
 }
 

@@ -56,18 +56,20 @@ const OWN: &str = "\
     \"method\":\"notifiesAll()V\",\"pc\":1,\"instruction\":\"invokevirtual\"}]}\n\
     {\"what\":\"section\",\"class\":\"Marks\",\"method\":\"readsStatic()I\",\"spot\":\"method\",\
     \"mark\":\"M5\",\"reason\":\"breaks\",\"rule\":\"M5\",\"way\":[{\"class\":\"Marks\",\
-    \"method\":\"readsStatic()I\",\"pc\":0,\"instruction\":\"getstatic\"}]}\n\
+    \"method\":\"readsStatic()I\",\"pc\":0,\"instruction\":\"getstatic\"}],\"cause\":\"static\"}\n\
     {\"what\":\"section\",\"class\":\"Marks\",\"method\":\"readsElement([I)I\",\
     \"spot\":\"method\",\"mark\":\"M5\",\"reason\":\"breaks\",\"rule\":\"M5\",\
     \"way\":[{\"class\":\"Marks\",\"method\":\"readsElement([I)I\",\"pc\":2,\
-    \"instruction\":\"iaload\"}]}\n\
+    \"instruction\":\"iaload\"}],\"cause\":\"element\"}\n\
     {\"what\":\"section\",\"class\":\"Marks\",\"method\":\"readsLoose()I\",\"spot\":\"method\",\
     \"mark\":\"M5\",\"reason\":\"breaks\",\"rule\":\"M5\",\"way\":[{\"class\":\"Marks\",\
-    \"method\":\"readsLoose()I\",\"pc\":1,\"instruction\":\"getfield\"}]}\n\
+    \"method\":\"readsLoose()I\",\"pc\":1,\"instruction\":\"getfield\"}],\"cause\":\"write\",\
+    \"write\":{\"class\":\"Marks\",\"method\":\"loosen(I)V\",\"pc\":2,\
+    \"instruction\":\"putfield\"}}\n\
     {\"what\":\"section\",\"class\":\"Marks\",\"method\":\"readsOther(LMarks;)I\",\
     \"spot\":\"method\",\"mark\":\"M5\",\"reason\":\"breaks\",\"rule\":\"M5\",\
     \"way\":[{\"class\":\"Marks\",\"method\":\"readsOther(LMarks;)I\",\"pc\":1,\
-    \"instruction\":\"getfield\"}]}\n\
+    \"instruction\":\"getfield\"}],\"cause\":\"other\"}\n\
     {\"what\":\"section\",\"class\":\"Marks\",\"method\":\"onKey()I\",\"spot\":\"block\",\"pc\":6,\
     \"mark\":\"M8\",\"reason\":\"elsewhere\"}\n\
     {\"what\":\"section\",\"class\":\"Marks\",\"method\":\"printsOnKey()I\",\"spot\":\"block\",\
@@ -96,7 +98,7 @@ const BY_CALLEES: &str = "\
     \"spot\":\"method\",\"mark\":\"M6\",\"reason\":\"breaks\",\"rule\":\"M5\",\
     \"way\":[{\"class\":\"Calls\",\"method\":\"offThisReads(LCalls;)I\",\"pc\":1,\
     \"instruction\":\"invokespecial\"},{\"class\":\"Calls\",\"method\":\"total()I\",\"pc\":1,\
-    \"instruction\":\"getfield\"}]}\n\
+    \"instruction\":\"getfield\"}],\"cause\":\"other\"}\n\
     {\"what\":\"section\",\"class\":\"Calls\",\"method\":\"offThisEnters(LCalls;)I\",\
     \"spot\":\"method\",\"mark\":\"M6\",\"reason\":\"breaks\",\"rule\":\"M3\",\
     \"way\":[{\"class\":\"Calls\",\"method\":\"offThisEnters(LCalls;)I\",\"pc\":1,\
@@ -116,7 +118,7 @@ const BY_CALLEES: &str = "\
     \"spot\":\"method\",\"mark\":\"M6\",\"reason\":\"breaks\",\"rule\":\"M5\",\
     \"way\":[{\"class\":\"Calls\",\"method\":\"offThisReadsElement([I)I\",\"pc\":1,\
     \"instruction\":\"invokestatic\"},{\"class\":\"Calls\",\"method\":\"first([I)I\",\"pc\":2,\
-    \"instruction\":\"iaload\"}]}\n\
+    \"instruction\":\"iaload\"}],\"cause\":\"element\"}\n\
     {\"what\":\"section\",\"class\":\"Calls\",\"method\":\"recurses(I)I\",\"spot\":\"method\",\
     \"mark\":\"M7\",\"reason\":\"recurs\",\"way\":[{\"class\":\"Calls\",\
     \"method\":\"recurses(I)I\",\"pc\":12,\"instruction\":\"invokevirtual\"},{\"class\":\"Calls\",\
@@ -144,7 +146,7 @@ fn check_objects(
     hex: &str,
     wanted: &str,
 ) -> Result<(), FileError> {
-    let program = loaded(rt.alloc(), hex)?;
+    let program = loaded(rt.alloc(), hex, &[])?;
     let text = marks_in_json(rt.alloc(), &program)?;
     assert_eq!(rt; text.as_slice(), wanted.as_bytes());
     Ok(())
