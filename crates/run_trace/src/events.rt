@@ -32,15 +32,6 @@ pub struct Part {
     pub form: Form,
 }
 
-impl Part {
-    /// All lines.
-    pub const ALL: Part = Part {
-        from: 1,
-        count: u64::MAX,
-        form: Form::Lines,
-    };
-}
-
 /// The line of that number, where the part has it; else nothing.
 pub fn told_of<'a>(part: Part, number: u64, text: &'a [u8]) -> &'a [u8]
     ensures { result.now ≡ line_shown part number text.now }

@@ -158,7 +158,12 @@ fn a_sink_that_fails_is_answered(rt: HostRuntime) -> Result<(), FileError> {
     let order = Bytes::from_slice(alloc, ORDER)?;
     let mut sink = ListSink::new(alloc, Some(50), 7);
     let names = Rows::new(alloc);
-    let came = explain_run(alloc, &p, &CONFIG, &order, &names, Part::ALL, &mut sink);
+    let part = Part {
+        from: 1,
+        count: u64::MAX,
+        form: Form::Lines,
+    };
+    let came = explain_run(alloc, &p, &CONFIG, &order, &names, part, &mut sink);
     assert!(rt; matches!(came, Err(TraceError::Failed)));
     assert_eq!(rt; sink.text().len(), 50);
     Ok(())
