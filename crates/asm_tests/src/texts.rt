@@ -207,8 +207,8 @@ pub const LINES: [Line; 22] = [
     },
 ];
 
-/// The switches of the class of switches by the numbers of their lines, and the first with a byte of
-/// padding that isn't 0.
+/// The switches of the class of switches by the numbers of their lines, and the first with a byte
+/// of padding that isn't 0.
 pub const SWITCH_LINES: [Line; 7] = [
     Line {
         changes: &[],

@@ -1,6 +1,7 @@
 //! Assembling the class that a text lists.
 
-ghost use Rattle.std.specs.Prelude.{◌≡◌, ◌++◌, ◌∷◌, [], ◌<◌, ◌^◌, ◌-◌, ◌==◌, length, position, take, drop, Decides, IfOk, IfErr};
+ghost use Rattle.std.specs.Prelude.{◌≡◌, ◌++◌, ◌∷◌, [], ◌<◌, ◌^◌, ◌-◌, ◌==◌, length, position};
+ghost use Rattle.std.specs.Prelude.{take, drop, Decides, IfOk, IfErr};
 ghost use Rattle.jvm_types.specs.ClassGrammar.{IsClass};
 ghost use Rattle.jvm_types.specs.declared.class_file.ClassFile.{ClassFile as Listed};
 ghost use Rattle.asm_text.specs.ClassLines.{Lists};

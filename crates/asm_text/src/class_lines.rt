@@ -1,10 +1,14 @@
 //! The lines of a class.
 
-ghost use Rattle.std.specs.Prelude.{◌≡◌, ◌++◌, ◌∷◌, [], ℕ, List, map, codes, drop, IfOk, OnOk, string_bytes};
+ghost use Rattle.std.specs.Prelude.{◌≡◌, ◌++◌, ◌∷◌, [], ℕ, List, map, codes, drop, IfOk, OnOk};
+ghost use Rattle.std.specs.Prelude.{string_bytes};
 ghost use Rattle.std.specs.List.{flat_map};
 ghost use Rattle.jvm_types.specs.ClassGrammar.{IsClass};
 ghost use Rattle.asm_text.specs.Lines.{line_text, text_of};
-ghost use Rattle.asm_text.specs.ClassLines.{attr_line, class_lines, code_attr_lines, code_line, constant_line, end_line, file_line, interface_line, Lists, member_attr_lines, member_line, member_lines, row_line};
+ghost use Rattle.asm_text.specs.ClassLines.{attr_line, class_lines, code_attr_lines, code_line};
+ghost use Rattle.asm_text.specs.ClassLines.{constant_line, end_line, file_line, interface_line};
+ghost use Rattle.asm_text.specs.ClassLines.{Lists, member_attr_lines, member_line, member_lines};
+ghost use Rattle.asm_text.specs.ClassLines.{row_line};
 
 use crate::code_lines::write_code;
 use crate::lines::write_hex;
@@ -13,7 +17,8 @@ use jvm_types::{Attr, Bytes, ClassFile, Code, Constant, Handler, Member, MemberA
 use std::alloc::{AllocError, Global};
 
 pub fn write_attr(text: &mut String, attr: &Attr) -> Result<(), AllocError>
-    ensures { OnOk result (string_bytes text.new ≡ string_bytes text.old ++ line_text (attr_line attr.now)) }
+    ensures { OnOk result
+        (string_bytes text.new ≡ string_bytes text.old ++ line_text (attr_line attr.now)) }
 {
     let name = attr.name;
     write!(text, "attr {name}")?;
@@ -22,7 +27,8 @@ pub fn write_attr(text: &mut String, attr: &Attr) -> Result<(), AllocError>
 }
 
 fn write_attrs(text: &mut String, attrs: &[Attr]) -> Result<(), AllocError>
-    ensures { OnOk result (string_bytes text.new ≡ string_bytes text.old ++ text_of (map attr_line attrs.now)) }
+    ensures { OnOk result
+        (string_bytes text.new ≡ string_bytes text.old ++ text_of (map attr_line attrs.now)) }
 {
     for attr in attrs {
         write_attr(text, attr)?;
@@ -31,7 +37,8 @@ fn write_attrs(text: &mut String, attrs: &[Attr]) -> Result<(), AllocError>
 }
 
 fn write_rows(text: &mut String, rows: &[Handler]) -> Result<(), AllocError>
-    ensures { OnOk result (string_bytes text.new ≡ string_bytes text.old ++ text_of (map row_line rows.now)) }
+    ensures { OnOk result
+        (string_bytes text.new ≡ string_bytes text.old ++ text_of (map row_line rows.now)) }
 {
     for row in rows {
         write_row(text, *row)?;
@@ -40,7 +47,8 @@ fn write_rows(text: &mut String, rows: &[Handler]) -> Result<(), AllocError>
 }
 
 pub fn write_row(text: &mut String, row: Handler) -> Result<(), AllocError>
-    ensures { OnOk result (string_bytes text.new ≡ string_bytes text.old ++ line_text (row_line row)) }
+    ensures { OnOk result
+        (string_bytes text.new ≡ string_bytes text.old ++ line_text (row_line row)) }
 {
     let Handler {
         start,
@@ -52,7 +60,8 @@ pub fn write_row(text: &mut String, row: Handler) -> Result<(), AllocError>
 }
 
 fn write_code_attr(text: &mut String, alloc: Global, code: &Code) -> Result<(), AllocError>
-    ensures { OnOk result (string_bytes text.new ≡ string_bytes text.old ++ text_of (code_attr_lines code.now)) }
+    ensures { OnOk result
+        (string_bytes text.new ≡ string_bytes text.old ++ text_of (code_attr_lines code.now)) }
 {
     let name = code.name;
     let stack = code.max_stack;
@@ -65,7 +74,8 @@ fn write_code_attr(text: &mut String, alloc: Global, code: &Code) -> Result<(), 
 }
 
 fn write_member_attr(text: &mut String, alloc: Global, attr: &MemberAttr) -> Result<(), AllocError>
-    ensures { OnOk result (string_bytes text.new ≡ string_bytes text.old ++ text_of (member_attr_lines attr.now)) }
+    ensures { OnOk result
+        (string_bytes text.new ≡ string_bytes text.old ++ text_of (member_attr_lines attr.now)) }
 {
     match attr {
         MemberAttr::Code(code) => write_code_attr(text, alloc, code),
@@ -79,7 +89,8 @@ fn write_member_attrs(
     alloc: Global,
     attrs: &[MemberAttr],
 ) -> Result<(), AllocError>
-    ensures { OnOk result (string_bytes text.new ≡ string_bytes text.old ++ text_of (flat_map member_attr_lines attrs.now)) }
+    ensures { OnOk result (string_bytes text.new
+        ≡ string_bytes text.old ++ text_of (flat_map member_attr_lines attrs.now)) }
 {
     for attr in attrs {
         write_member_attr(text, alloc, attr)?;
@@ -94,7 +105,8 @@ fn write_member(
     kind: &str,
     member: &Member,
 ) -> Result<(), AllocError>
-    ensures { OnOk result (string_bytes text.new ≡ string_bytes text.old ++ text_of (member_lines kind.now member.now)) }
+    ensures { OnOk result (string_bytes text.new
+        ≡ string_bytes text.old ++ text_of (member_lines kind.now member.now)) }
 {
     let flags = member.flags;
     let name = member.name;
@@ -110,7 +122,8 @@ fn write_members(
     kind: &str,
     members: &[Member],
 ) -> Result<(), AllocError>
-    ensures { OnOk result (string_bytes text.new ≡ string_bytes text.old ++ text_of (flat_map (member_lines kind.now) members.now)) }
+    ensures { OnOk result (string_bytes text.new
+        ≡ string_bytes text.old ++ text_of (flat_map (member_lines kind.now) members.now)) }
 {
     for member in members {
         write_member(text, alloc, kind, member)?;
@@ -119,7 +132,8 @@ fn write_members(
 }
 
 fn write_interfaces(text: &mut String, interfaces: &[u16]) -> Result<(), AllocError>
-    ensures { OnOk result (string_bytes text.new ≡ string_bytes text.old ++ text_of (map interface_line interfaces.now)) }
+    ensures { OnOk result (string_bytes text.new
+        ≡ string_bytes text.old ++ text_of (map interface_line interfaces.now)) }
 {
     for interface in interfaces {
         let class = *interface;
@@ -129,7 +143,8 @@ fn write_interfaces(text: &mut String, interfaces: &[u16]) -> Result<(), AllocEr
 }
 
 fn write_file(text: &mut String, c: &ClassFile) -> Result<(), AllocError>
-    ensures { OnOk result (string_bytes text.new ≡ string_bytes text.old ++ line_text (file_line c.now)) }
+    ensures { OnOk result
+        (string_bytes text.new ≡ string_bytes text.old ++ line_text (file_line c.now)) }
 {
     let minor = c.minor;
     let major = c.major;
@@ -143,7 +158,8 @@ fn write_file(text: &mut String, c: &ClassFile) -> Result<(), AllocError>
 }
 
 fn write_class(text: &mut String, alloc: Global, c: &ClassFile) -> Result<(), AllocError>
-    ensures { OnOk result (string_bytes text.new ≡ string_bytes text.old ++ text_of (class_lines c.now)) }
+    ensures { OnOk result
+        (string_bytes text.new ≡ string_bytes text.old ++ text_of (class_lines c.now)) }
 {
     write_file(text, c)?;
     write_entries(text, c.constants.as_slice())?;
@@ -155,7 +171,8 @@ fn write_class(text: &mut String, alloc: Global, c: &ClassFile) -> Result<(), Al
 
 /// The constants from index 1 on.
 fn write_entries(text: &mut String, constants: &[Constant]) -> Result<(), AllocError>
-    ensures { OnOk result (string_bytes text.new ≡ string_bytes text.old ++ text_of (map constant_line (drop 1 constants.now))) }
+    ensures { OnOk result (string_bytes text.new
+        ≡ string_bytes text.old ++ text_of (map constant_line (drop 1 constants.now))) }
 {
     match constants.split_first() {
         Some((_, entries)) => write_constants(text, entries),
@@ -163,8 +180,9 @@ fn write_entries(text: &mut String, constants: &[Constant]) -> Result<(), AllocE
     }
 }
 
-/// The listing of a class that some bytes spell (JVMS 4): a text of lines, each ended by a newline, with one for each part of
-/// the class, in the order of the class file, and one for each instruction of its methods (JVMS 6.5).
+/// The listing of a class that some bytes spell (JVMS 4): a text of lines, each ended by a newline,
+/// with one for each part of the class, in the order of the class file, and one for each
+/// instruction of its methods (JVMS 6.5).
 pub fn listing(alloc: Global, c: &ClassFile) -> Result<Bytes, AllocError>
     requires { IsClass c.now }
     ensures { IfOk result (λ text. Lists text c.now) }

@@ -1,12 +1,15 @@
 //! The lines of the code of a method (JVMS 6.5).
 
-ghost use Rattle.std.specs.Prelude.{◌≡◌, ◌≤◌, ◌^◌, ◌++◌, List, [], ℕ, map, codes, slice_index_or, OnOk, string_bytes, IfOk};
+ghost use Rattle.std.specs.Prelude.{◌≡◌, ◌≤◌, ◌^◌, ◌++◌, List, [], ℕ, map, codes, slice_index_or};
+ghost use Rattle.std.specs.Prelude.{OnOk, string_bytes, IfOk};
 ghost use Rattle.std.specs.List.{flat_map, list_all};
 ghost use Rattle.jvm_types.specs.CodeGrammar.{IsCode, padding_size};
 ghost use Rattle.jvm_types.specs.declared.code.Op.TheVariants.{Iinc, Tableswitch, Lookupswitch};
 ghost use Rattle.mnemonics.specs.Mnemonics.{mnemonic};
 ghost use Rattle.asm_text.specs.Lines.{Number, line_text, text_of, values_text};
-ghost use Rattle.asm_text.specs.CodeLines.{are_zeros, bytes_line, case_values, code_lines, insn_line, is_padded, name_or_empty, names_local, op_line, operands, values_of};
+ghost use Rattle.asm_text.specs.CodeLines.{are_zeros, bytes_line, case_values, code_lines};
+ghost use Rattle.asm_text.specs.CodeLines.{insn_line, is_padded, name_or_empty, names_local};
+ghost use Rattle.asm_text.specs.CodeLines.{op_line, operands, values_of};
 ghost use Rattle.asm_text.specs.Steps.{AreInsns};
 
 use crate::lines::{write_hex, write_number, write_signed};
@@ -68,7 +71,8 @@ fn are_padded(bytes: &[u8], insns: &[Insn]) -> bool
 }
 
 fn write_targets(text: &mut String, targets: &[u32]) -> Result<(), AllocError>
-    ensures { OnOk result (string_bytes text.new ≡ string_bytes text.old ++ values_text (map Number targets.now)) }
+    ensures { OnOk result
+        (string_bytes text.new ≡ string_bytes text.old ++ values_text (map Number targets.now)) }
 {
     for to in targets {
         write_number(text, *to)?;
@@ -83,7 +87,8 @@ fn write_table(
     low: i32,
     targets: &[u32],
 ) -> Result<(), AllocError>
-    ensures { OnOk result (string_bytes text.new ≡ string_bytes text.old ++ values_text (operands (Tableswitch otherwise low targets.now))) }
+    ensures { OnOk result (string_bytes text.new ≡ string_bytes text.old
+        ++ values_text (operands (Tableswitch otherwise low targets.now))) }
 {
     let high = i64::from(low) + targets.len() as i64 - 1;
     write_number(text, otherwise)?;
@@ -93,14 +98,16 @@ fn write_table(
 }
 
 fn write_case(text: &mut String, case: Case) -> Result<(), AllocError>
-    ensures { OnOk result (string_bytes text.new ≡ string_bytes text.old ++ values_text (case_values case)) }
+    ensures { OnOk result
+        (string_bytes text.new ≡ string_bytes text.old ++ values_text (case_values case)) }
 {
     write_signed(text, i64::from(case.key))?;
     write_number(text, case.target)
 }
 
 fn write_cases(text: &mut String, cases: &[Case]) -> Result<(), AllocError>
-    ensures { OnOk result (string_bytes text.new ≡ string_bytes text.old ++ values_text (flat_map case_values cases.now)) }
+    ensures { OnOk result (string_bytes text.new
+        ≡ string_bytes text.old ++ values_text (flat_map case_values cases.now)) }
 {
     for case in cases {
         write_case(text, *case)?;
@@ -110,7 +117,8 @@ fn write_cases(text: &mut String, cases: &[Case]) -> Result<(), AllocError>
 
 /// The default target of a `lookupswitch`, and the pairs.
 fn write_lookup(text: &mut String, otherwise: u32, cases: &[Case]) -> Result<(), AllocError>
-    ensures { OnOk result (string_bytes text.new ≡ string_bytes text.old ++ values_text (operands (Lookupswitch otherwise cases.now))) }
+    ensures { OnOk result (string_bytes text.new
+        ≡ string_bytes text.old ++ values_text (operands (Lookupswitch otherwise cases.now))) }
 {
     write_number(text, otherwise)?;
     write_cases(text, cases)
@@ -118,7 +126,8 @@ fn write_lookup(text: &mut String, otherwise: u32, cases: &[Case]) -> Result<(),
 
 /// The local of an `iinc`, and what is added to it.
 fn write_step(text: &mut String, local: u16, step: i32) -> Result<(), AllocError>
-    ensures { OnOk result (string_bytes text.new ≡ string_bytes text.old ++ values_text (operands (Iinc local step))) }
+    ensures { OnOk result (string_bytes text.new
+        ≡ string_bytes text.old ++ values_text (operands (Iinc local step))) }
 {
     write_number(text, u32::from(local))?;
     write_signed(text, i64::from(step))
@@ -126,7 +135,8 @@ fn write_step(text: &mut String, local: u16, step: i32) -> Result<(), AllocError
 
 /// The operands of an instruction.
 fn write_operands(text: &mut String, op: &Op) -> Result<(), AllocError>
-    ensures { OnOk result (string_bytes text.new ≡ string_bytes text.old ++ values_text (operands op.now)) }
+    ensures { OnOk result
+        (string_bytes text.new ≡ string_bytes text.old ++ values_text (operands op.now)) }
 {
     match op {
         Op::Bipush(n) | Op::Sipush(n) => write_signed(text, i64::from(*n)),
@@ -181,7 +191,8 @@ pub fn name_of(opcode: u8) -> &'static str
 }
 
 fn write_values(text: &mut String, opcode: u8, op: &Op) -> Result<(), AllocError>
-    ensures { OnOk result (string_bytes text.new ≡ string_bytes text.old ++ values_text (values_of opcode op.now)) }
+    ensures { OnOk result
+        (string_bytes text.new ≡ string_bytes text.old ++ values_text (values_of opcode op.now)) }
 {
     if names_local(opcode) {
         Ok(())
@@ -191,7 +202,8 @@ fn write_values(text: &mut String, opcode: u8, op: &Op) -> Result<(), AllocError
 }
 
 fn write_op(text: &mut String, opcode: u8, op: &Op) -> Result<(), AllocError>
-    ensures { OnOk result (string_bytes text.new ≡ string_bytes text.old ++ line_text (op_line opcode op.now)) }
+    ensures { OnOk result
+        (string_bytes text.new ≡ string_bytes text.old ++ line_text (op_line opcode op.now)) }
 {
     text.push_str(name_of(opcode))?;
     write_values(text, opcode, op)?;
@@ -199,7 +211,8 @@ fn write_op(text: &mut String, opcode: u8, op: &Op) -> Result<(), AllocError>
 }
 
 fn write_insns(text: &mut String, bytes: &[u8], insns: &[Insn]) -> Result<(), AllocError>
-    ensures { OnOk result (string_bytes text.new ≡ string_bytes text.old ++ text_of (map (insn_line bytes.now) insns.now)) }
+    ensures { OnOk result (string_bytes text.new
+        ≡ string_bytes text.old ++ text_of (map (insn_line bytes.now) insns.now)) }
 {
     for insn in insns {
         write_op(text, byte_at(bytes, insn.pc as usize), &insn.op)?;
@@ -208,7 +221,8 @@ fn write_insns(text: &mut String, bytes: &[u8], insns: &[Insn]) -> Result<(), Al
 }
 
 pub fn write_bytes(text: &mut String, bytes: &[u8]) -> Result<(), AllocError>
-    ensures { OnOk result (string_bytes text.new ≡ string_bytes text.old ++ line_text (bytes_line bytes.now)) }
+    ensures { OnOk result
+        (string_bytes text.new ≡ string_bytes text.old ++ line_text (bytes_line bytes.now)) }
 {
     text.push_str("bytes")?;
     write_hex(text, bytes)?;
@@ -243,7 +257,8 @@ fn listed_insns(alloc: Global, code: &Bytes) -> Result<Option<Rows<Insn>>, Alloc
 /// The lines of the code of a method.
 #[tactic(auto, using(crate::proofs::ListedCode::insn_lines))]
 pub fn write_code(text: &mut String, alloc: Global, code: &Bytes) -> Result<(), AllocError>
-    ensures { OnOk result (string_bytes text.new ≡ string_bytes text.old ++ text_of (code_lines code.now)) }
+    ensures { OnOk result
+        (string_bytes text.new ≡ string_bytes text.old ++ text_of (code_lines code.now)) }
 {
     match listed_insns(alloc, code)? {
         Some(insns) => write_insns(text, code.as_slice(), insns.as_slice()),

@@ -1,7 +1,8 @@
 //! The class that lines say, line by line.
 
 ghost use Rattle.std.specs.Prelude.{◌≡◌, IfOk, OnOk};
-ghost use Rattle.asm_text.specs.Drafting.{line_added, attr_added, started_code, draft_ended, member_of, new_draft, no_class, with_member};
+ghost use Rattle.asm_text.specs.Drafting.{line_added, attr_added, started_code, draft_ended};
+ghost use Rattle.asm_text.specs.Drafting.{member_of, new_draft, no_class, with_member};
 
 use crate::encoding::encode;
 use crate::items::{Item, MemberKind};

@@ -4,7 +4,9 @@ ghost use Rattle.std.specs.Prelude.{◌≡◌, ◌++◌, ◌∷◌, true, length
 ghost use Rattle.jvm_types.specs.Numbers.{u4};
 ghost use Rattle.asm_text.specs.Words.{small};
 ghost use Rattle.jvm_types.specs.CodeGrammar.{padding_size};
-ghost use Rattle.asm_text.specs.Encoding.{bounds_bytes, encoded, key_or_way, low1, low2, low4, operand_bytes, pair_ways, shape_bytes, way, ways, zero_bytes};
+ghost use Rattle.asm_text.specs.Encoding.{bounds_bytes, encoded, key_or_way, low1, low2, low4};
+ghost use Rattle.asm_text.specs.Encoding.{operand_bytes, pair_ways, shape_bytes, way, ways};
+ghost use Rattle.asm_text.specs.Encoding.{zero_bytes};
 
 use crate::shapes::{Shape, is_target, shape_at};
 use byteorder::{BigEndian, ByteOrder};
@@ -116,7 +118,8 @@ fn put_all_bounds(code: &mut Bytes, pc: u16, bounds: &[i64]) -> Result<(), Alloc
 
 /// A `tableswitch` by its default target, and behind that low, high and the targets.
 fn put_table(code: &mut Bytes, pc: u16, otherwise: i64, bounds: &[i64]) -> Result<(), AllocError>
-    ensures { OnOk result (code.new ≡ code.old ++ operand_bytes pc Shape.Table (otherwise ∷ bounds.now)) }
+    ensures { OnOk result
+        (code.new ≡ code.old ++ operand_bytes pc Shape.Table (otherwise ∷ bounds.now)) }
 {
     put_padding(code, pc)?;
     put_low4(code, way(pc, otherwise))?;
@@ -124,7 +127,8 @@ fn put_table(code: &mut Bytes, pc: u16, otherwise: i64, bounds: &[i64]) -> Resul
 }
 
 fn put_lookup(code: &mut Bytes, pc: u16, otherwise: i64, pairs: &[i64]) -> Result<(), AllocError>
-    ensures { OnOk result (code.new ≡ code.old ++ operand_bytes pc Shape.Lookup (otherwise ∷ pairs.now)) }
+    ensures { OnOk result
+        (code.new ≡ code.old ++ operand_bytes pc Shape.Lookup (otherwise ∷ pairs.now)) }
 {
     put_padding(code, pc)?;
     put_low4(code, way(pc, otherwise))?;

@@ -28,7 +28,8 @@ fn file_head(line: &[u8]) -> Item
 }
 
 fn member_head(kind: MemberKind, line: &[u8]) -> Item
-    ensures { result ≡ Item.MemberHead kind (u2_word (words line.now) 1) (u2_word (words line.now) 2) (u2_word (words line.now) 3) }
+    ensures { result ≡ Item.MemberHead kind (u2_word (words line.now) 1)
+        (u2_word (words line.now) 2) (u2_word (words line.now) 3) }
 {
     Item::MemberHead(kind, u2_word(line, 1), u2_word(line, 2), u2_word(line, 3))
 }
@@ -128,7 +129,8 @@ fn line_of(alloc: Global, item: &Item) -> Result<String, AllocError>
 
 /// Whether a line with its newline says this, and its operands are in their fields.
 fn is_said(alloc: Global, item: &Item, whole: &[u8]) -> Result<bool, AllocError>
-    ensures { IfOk result (λ is. is ≡ (insn_fits item.now && bytes_eq (line_text (item_line item.now)) whole.now)) }
+    ensures { IfOk result
+        (λ is. is ≡ (insn_fits item.now && bytes_eq (line_text (item_line item.now)) whole.now)) }
 {
     let text = line_of(alloc, item)?;
     Ok(insn_fits(item) && is_same_text(text.as_bytes(), whole))

@@ -28,14 +28,16 @@ fn write_member_head(
     name: u16,
     descriptor: u16,
 ) -> Result<(), AllocError>
-    ensures { OnOk result (string_bytes text.new ≡ string_bytes text.old ++ line_text (item_line (Item.MemberHead kind flags name descriptor))) }
+    ensures { OnOk result (string_bytes text.new ≡ string_bytes text.old
+        ++ line_text (item_line (Item.MemberHead kind flags name descriptor))) }
 {
     let kind = member_name(kind);
     writeln!(text, "{kind} {flags} {name} {descriptor}")
 }
 
 fn write_operands(text: &mut String, operands: &[i64]) -> Result<(), AllocError>
-    ensures { OnOk result (string_bytes text.new ≡ string_bytes text.old ++ values_text (map Signed operands.now)) }
+    ensures { OnOk result
+        (string_bytes text.new ≡ string_bytes text.old ++ values_text (map Signed operands.now)) }
 {
     for operand in operands {
         write_signed(text, *operand)?;
@@ -44,7 +46,8 @@ fn write_operands(text: &mut String, operands: &[i64]) -> Result<(), AllocError>
 }
 
 fn write_instruction(text: &mut String, opcode: u8, operands: &[i64]) -> Result<(), AllocError>
-    ensures { OnOk result (string_bytes text.new ≡ string_bytes text.old ++ line_text (item_line (Item.Instruction opcode operands.now))) }
+    ensures { OnOk result (string_bytes text.new ≡ string_bytes text.old
+        ++ line_text (item_line (Item.Instruction opcode operands.now))) }
 {
     text.push_str(name_of(opcode))?;
     write_operands(text, operands)?;
@@ -53,7 +56,8 @@ fn write_instruction(text: &mut String, opcode: u8, operands: &[i64]) -> Result<
 
 /// The line that says this.
 pub fn write_item(text: &mut String, item: &Item) -> Result<(), AllocError>
-    ensures { OnOk result (string_bytes text.new ≡ string_bytes text.old ++ line_text (item_line item.now)) }
+    ensures { OnOk result
+        (string_bytes text.new ≡ string_bytes text.old ++ line_text (item_line item.now)) }
 {
     match item {
         Item::FileHead(minor, major, flags, class, superclass) => {

@@ -40,7 +40,8 @@ fn write_hex_byte(text: &mut String, byte: u8) -> Result<(), AllocError>
 }
 
 fn write_hex_bytes(text: &mut String, bytes: &[u8]) -> Result<(), AllocError>
-    ensures { OnOk result (string_bytes text.new ≡ string_bytes text.old ++ flat_map hex_byte bytes.now) }
+    ensures { OnOk result
+        (string_bytes text.new ≡ string_bytes text.old ++ flat_map hex_byte bytes.now) }
 {
     for byte in bytes {
         write_hex_byte(text, *byte)?;
@@ -50,7 +51,8 @@ fn write_hex_bytes(text: &mut String, bytes: &[u8]) -> Result<(), AllocError>
 
 /// Bytes as two digits each, or `-` where there are none.
 pub fn write_hex(text: &mut String, bytes: &[u8]) -> Result<(), AllocError>
-    ensures { OnOk result (string_bytes text.new ≡ string_bytes text.old ++ (codes " " ++ hex_text bytes.now)) }
+    ensures { OnOk result
+        (string_bytes text.new ≡ string_bytes text.old ++ (codes " " ++ hex_text bytes.now)) }
 {
     text.push_str(" ")?;
     if bytes.is_empty() {
@@ -61,13 +63,15 @@ pub fn write_hex(text: &mut String, bytes: &[u8]) -> Result<(), AllocError>
 }
 
 pub fn write_number(text: &mut String, n: u32) -> Result<(), AllocError>
-    ensures { OnOk result (string_bytes text.new ≡ string_bytes text.old ++ (codes " " ++ decimal n)) }
+    ensures { OnOk result
+        (string_bytes text.new ≡ string_bytes text.old ++ (codes " " ++ decimal n)) }
 {
     write!(text, " {n}")
 }
 
 pub fn write_signed(text: &mut String, n: i64) -> Result<(), AllocError>
-    ensures { OnOk result (string_bytes text.new ≡ string_bytes text.old ++ (codes " " ++ signed_decimal n)) }
+    ensures { OnOk result
+        (string_bytes text.new ≡ string_bytes text.old ++ (codes " " ++ signed_decimal n)) }
 {
     write!(text, " {n}")
 }

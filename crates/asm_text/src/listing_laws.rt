@@ -1,6 +1,7 @@
 //! Laws of listings: `Lists text c` says that the text is the listing of the class `c`.
 
-ghost use Rattle.asm_text.specs.Assembling.{HasAtMostOneListing, ListingsAreFormed, ListsAtMostOneClass};
+ghost use Rattle.asm_text.specs.Assembling.{HasAtMostOneListing, ListingsAreFormed};
+ghost use Rattle.asm_text.specs.Assembling.{ListsAtMostOneClass};
 
 /// No class has two listings.
 pub fn one_listing()

@@ -1,7 +1,8 @@
 //! The places between the lines of a listing.
 
 ghost use Rattle.std.specs.Prelude.{◌≡◌};
-ghost use Rattle.asm_text.specs.Places.{place_after, class_rank, code_rank, in_class, in_code, is_end, part_of};
+ghost use Rattle.asm_text.specs.Places.{place_after, class_rank, code_rank, in_class, in_code};
+ghost use Rattle.asm_text.specs.Places.{is_end, part_of};
 
 use crate::items::{Item, MemberKind};
 

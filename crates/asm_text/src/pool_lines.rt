@@ -10,7 +10,8 @@ use jvm_types::Constant;
 use std::alloc::AllocError;
 
 fn write_utf8(text: &mut String, bytes: &[u8]) -> Result<(), AllocError>
-    ensures { OnOk result (string_bytes text.new ≡ string_bytes text.old ++ line_text (constant_line (Utf8 bytes.now))) }
+    ensures { OnOk result (string_bytes text.new
+        ≡ string_bytes text.old ++ line_text (constant_line (Utf8 bytes.now))) }
 {
     text.push_str("utf8")?;
     write_hex(text, bytes)?;
@@ -19,7 +20,8 @@ fn write_utf8(text: &mut String, bytes: &[u8]) -> Result<(), AllocError>
 
 /// The line of an entry.
 pub fn write_constant(text: &mut String, constant: &Constant) -> Result<(), AllocError>
-    ensures { OnOk result (string_bytes text.new ≡ string_bytes text.old ++ line_text (constant_line constant.now)) }
+    ensures { OnOk result
+        (string_bytes text.new ≡ string_bytes text.old ++ line_text (constant_line constant.now)) }
 {
     match constant {
         Constant::Gap => text.push_str("gap\n"),
@@ -39,7 +41,8 @@ pub fn write_constant(text: &mut String, constant: &Constant) -> Result<(), Allo
 
 /// The lines of the entries.
 pub fn write_constants(text: &mut String, constants: &[Constant]) -> Result<(), AllocError>
-    ensures { OnOk result (string_bytes text.new ≡ string_bytes text.old ++ text_of (map constant_line constants.now)) }
+    ensures { OnOk result (string_bytes text.new
+        ≡ string_bytes text.old ++ text_of (map constant_line constants.now)) }
 {
     for constant in constants {
         write_constant(text, constant)?;

@@ -2,8 +2,11 @@
 
 ghost use Rattle.std.specs.Prelude.{◌≡◌, ◌&&◌, ◌∷◌};
 ghost use Rattle.std.specs.Option.{option_map};
-ghost use Rattle.jvm_types.specs.CodeTable.{first_row, constants, loads, stores, stack_moves, arithmetic, control, references};
-ghost use Rattle.asm_text.specs.Operands.{shape_of, shape_at, is_between, is_u1, is_u2, is_s1, is_s2, is_s4, is_target, are_pairs, bounds_fit, operands_fit};
+ghost use Rattle.jvm_types.specs.CodeTable.{first_row, constants, loads, stores, stack_moves};
+ghost use Rattle.jvm_types.specs.CodeTable.{arithmetic, control, references};
+ghost use Rattle.asm_text.specs.Operands.{shape_of, shape_at, is_between, is_u1, is_u2, is_s1};
+ghost use Rattle.asm_text.specs.Operands.{is_s2, is_s4, is_target, are_pairs, bounds_fit};
+ghost use Rattle.asm_text.specs.Operands.{operands_fit};
 ghost use Rattle.std.specs.List.{list_all};
 
 /// What operands an instruction has.

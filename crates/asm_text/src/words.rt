@@ -2,7 +2,9 @@
 
 ghost use Rattle.std.specs.Prelude.{◌≡◌, ◌≤◌, map, slice_get, IfOk, drop};
 ghost use Rattle.std.specs.Option.{option_map};
-ghost use Rattle.asm_text.specs.Words.{words, word_at, unsigned, small, signed, hex_digit_of, hex_bytes, u2_word, u4_word, u8_word, s4_word, hex_word, operand_words};
+ghost use Rattle.asm_text.specs.Words.{words, word_at, unsigned, small, signed, hex_digit_of};
+ghost use Rattle.asm_text.specs.Words.{hex_bytes, u2_word, u4_word, u8_word, s4_word, hex_word};
+ghost use Rattle.asm_text.specs.Words.{operand_words};
 
 use jvm_types::{Bytes, Rows};
 use std::alloc::{AllocError, Global};

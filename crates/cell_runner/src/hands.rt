@@ -3,7 +3,9 @@
 ghost use Rattle.std.specs.Prelude.{◌≡◌, ◌+◌, ◌<◌, ◌≤◌, ◌^◌, MatchBool, length, false};
 ghost use Rattle.solero_cell.specs.Calls.{IsTableOfSeat};
 ghost use Rattle.solero_cell.specs.CellViews.{joined_views};
-ghost use Rattle.cell_runner.specs.HandsOfCell.{HasEnded, HasFew, HasJoined, HasStopped, IsCountedHand, HasNotEnded, AreRoundsOver, IsSameSeat, IsTaskTried, reports_added, task_made};
+ghost use Rattle.cell_runner.specs.HandsOfCell.{HasEnded, HasFew, HasJoined, HasStopped};
+ghost use Rattle.cell_runner.specs.HandsOfCell.{IsCountedHand, HasNotEnded, AreRoundsOver};
+ghost use Rattle.cell_runner.specs.HandsOfCell.{IsSameSeat, IsTaskTried, reports_added, task_made};
 
 use crate::report::CellReport;
 use solero_cell::{CellRead, CellSeat, CellTable, CellWrite, MOST_VALUES};
@@ -36,7 +38,8 @@ pub(crate) struct Hand {
 impl Hand {
     /// A seat of a worker that has done nothing yet.
     pub(crate) fn of(seat: CellSeat) -> Hand
-        ensures { result ≡ record { seat = seat; report = record { writes = 0; reads = 0; stopped = 0 }; is_full = false } }
+        ensures { result ≡ record
+            { seat = seat; report = record { writes = 0; reads = 0; stopped = 0 }; is_full = false } }
     {
         let report = CellReport {
             writes: 0,
@@ -52,7 +55,8 @@ impl Hand {
 
     /// One try at a write.
     fn try_write(&mut self, table: &CellTable, values: &[u64]) -> Tried
-        requires table { IsTableOfSeat table.now.shared.table_id table.now.shared.key self.old.seat }
+        requires table { IsTableOfSeat table.now.shared.table_id table.now.shared.key
+            self.old.seat }
         requires values { length values.now ≡ length self.old.seat.view.opening.values }
         requires going { HasNotEnded self.old }
         requires counted { IsCountedHand self.old }
@@ -76,7 +80,8 @@ impl Hand {
 
     /// One try at a read.
     fn try_read(&mut self, table: &CellTable) -> Tried
-        requires table { IsTableOfSeat table.now.shared.table_id table.now.shared.key self.old.seat }
+        requires table { IsTableOfSeat table.now.shared.table_id table.now.shared.key
+            self.old.seat }
         requires values { length self.old.seat.view.opening.values ≡ 64 }
         requires going { HasNotEnded self.old }
         requires counted { IsCountedHand self.old }
@@ -96,8 +101,10 @@ impl Hand {
 
     /// One try at a task.
     fn attempt(&mut self, table: &CellTable, task: Task, values: &[u64]) -> Tried
-        requires table { IsTableOfSeat table.now.shared.table_id table.now.shared.key self.old.seat }
-        requires values { (length values.now ≡ 64) × (length self.old.seat.view.opening.values ≡ 64) }
+        requires table { IsTableOfSeat table.now.shared.table_id table.now.shared.key
+            self.old.seat }
+        requires values { (length values.now ≡ 64)
+            × (length self.old.seat.view.opening.values ≡ 64) }
         requires going { HasNotEnded self.old }
         requires counted { IsCountedHand self.old }
         requires few { (self.old.report.writes ≤ 1000) × (self.old.report.reads ≤ 1000) }
@@ -114,15 +121,19 @@ impl Hand {
     /// Tries at a task until one succeeds: `false` where the worker ends, since `turns` tries in a
     /// row have failed or the cell is full.
     fn succeed(&mut self, table: &CellTable, task: Task, values: &[u64], turns: u32) -> bool
-        requires table { IsTableOfSeat table.now.shared.table_id table.now.shared.key self.old.seat }
-        requires values { (length values.now ≡ 64) × (length self.old.seat.view.opening.values ≡ 64) }
+        requires table { IsTableOfSeat table.now.shared.table_id table.now.shared.key
+            self.old.seat }
+        requires values { (length values.now ≡ 64)
+            × (length self.old.seat.view.opening.values ≡ 64) }
         requires going { HasNotEnded self.old }
         requires counted { IsCountedHand self.old }
         requires few { (self.old.report.writes ≤ 1000) × (self.old.report.reads ≤ 1000) }
         ensures same { IsSameSeat self.old.seat self.new.seat }
         ensures counted { IsCountedHand self.new }
         ensures stopped { HasStopped turns self.new }
-        ensures made { MatchBool result (HasNotEnded self.new × (self.new.report ≡ task_made task self.old.report)) (HasEnded self.old.report.writes self.old.report.reads self.new) }
+        ensures made { MatchBool result
+            (HasNotEnded self.new × (self.new.report ≡ task_made task self.old.report))
+            (HasEnded self.old.report.writes self.old.report.reads self.new) }
     {
         for _ in 0..turns {
             match self.attempt(table, task, values) {
@@ -137,15 +148,19 @@ impl Hand {
 
     /// A write and a read: `false` where the worker ends before both are made.
     fn round(&mut self, table: &CellTable, values: &[u64], turns: u32) -> bool
-        requires table { IsTableOfSeat table.now.shared.table_id table.now.shared.key self.old.seat }
-        requires values { (length values.now ≡ 64) × (length self.old.seat.view.opening.values ≡ 64) }
+        requires table { IsTableOfSeat table.now.shared.table_id table.now.shared.key
+            self.old.seat }
+        requires values { (length values.now ≡ 64)
+            × (length self.old.seat.view.opening.values ≡ 64) }
         requires going { HasNotEnded self.old }
         requires counted { IsCountedHand self.old }
         requires few { (self.old.report.writes < 1000) × (self.old.report.reads ≤ 1000) }
         ensures same { IsSameSeat self.old.seat self.new.seat }
         ensures counted { IsCountedHand self.new }
         ensures stopped { HasStopped turns self.new }
-        ensures made { MatchBool result (HasNotEnded self.new × (self.new.report ≡ task_made Task.Read (task_made Task.Write self.old.report))) (HasEnded (self.old.report.writes + 1) self.old.report.reads self.new) }
+        ensures made { MatchBool result (HasNotEnded self.new
+            × (self.new.report ≡ task_made Task.Read (task_made Task.Write self.old.report)))
+            (HasEnded (self.old.report.writes + 1) self.old.report.reads self.new) }
     {
         if !self.succeed(table, Task::Write, values, turns) {
             return false;
@@ -155,7 +170,8 @@ impl Hand {
 
     /// The rounds of a worker, which writes its number.
     pub(crate) fn work(&mut self, table: &CellTable, number: u8, rounds: u32, turns: u32)
-        requires table { IsTableOfSeat table.now.shared.table_id table.now.shared.key self.old.seat }
+        requires table { IsTableOfSeat table.now.shared.table_id table.now.shared.key
+            self.old.seat }
         requires values { length self.old.seat.view.opening.values ≡ 64 }
         requires going { HasNotEnded self.old }
         requires none { (self.old.report.writes ≡ 0) × (self.old.report.reads ≡ 0) }
@@ -179,7 +195,8 @@ impl Hand {
         requires table { IsTableOfSeat table.now.shared.table_id table.now.shared.key self.seat }
         requires other { IsTableOfSeat table.now.shared.table_id table.now.shared.key other.seat }
         requires few { HasFew self.report × HasFew other.report }
-        ensures seat { (result.seat.table_id ≡ self.seat.table_id) × (result.seat.view ≡ joined_views self.seat.view other.seat.view) }
+        ensures seat { (result.seat.table_id ≡ self.seat.table_id)
+            × (result.seat.view ≡ joined_views self.seat.view other.seat.view) }
         ensures report { result.report ≡ reports_added self.report other.report }
         ensures full { result.is_full ≡ self.is_full }
     {

@@ -23,7 +23,9 @@ fn finish(table: CellTable, all: Hand) -> CellReport
     requires table { IsTableOfSeat table.shared.table_id table.shared.key all.seat }
     requires opening { table.shared.key ≡ all_zero }
     requires whole { IsWhole all.seat.view.share }
-    ensures { (workers rounds turns : ℕ) → workers * rounds ≤ 8000 → HasGathered table.shared.table_id table.shared.key workers rounds turns all → IsCellRun workers rounds turns result }
+    ensures { (workers rounds turns : ℕ) → workers * rounds ≤ 8000
+        → HasGathered table.shared.table_id table.shared.key workers rounds turns all
+        → IsCellRun workers rounds turns result }
 {
     let Hand { seat, report, .. } = all;
     seat.close(table);

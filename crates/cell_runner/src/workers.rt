@@ -2,7 +2,8 @@
 
 ghost use Rattle.std.specs.Prelude.{◌≡◌, ◌+◌, ◌<◌, ◌≤◌, length, IfOk, OnOk};
 ghost use Rattle.solero_cell.specs.Calls.{IsWhole};
-ghost use Rattle.cell_runner.specs.HandsOfCell.{AreReady, HasGathered, HasWorked, HaveWorked, IsFreshSeat, IsReady};
+ghost use Rattle.cell_runner.specs.HandsOfCell.{AreReady, HasGathered, HasWorked, HaveWorked};
+ghost use Rattle.cell_runner.specs.HandsOfCell.{IsFreshSeat, IsReady};
 
 use crate::hands::Hand;
 use jvm_types::Gate;
@@ -15,7 +16,8 @@ fn work<G: Gate>(hand: &mut Hand, gate: &G, table: &CellTable, number: u8, round
     requires ready { IsReady table.now.shared.table_id table.now.shared.key number hand.old }
     requires values { length table.now.shared.key.values ≡ 64 }
     requires few { rounds ≤ 1000 }
-    ensures { HasWorked table.now.shared.table_id table.now.shared.key number rounds turns hand.new }
+    ensures { HasWorked table.now.shared.table_id table.now.shared.key number rounds turns
+        hand.new }
 {
     gate.pass(number);
     hand.work(table, number, rounds, turns);
@@ -34,7 +36,8 @@ fn run_each<R: Threads + Sync, G: Gate + Sync>(
     requires ready { AreReady table.now.shared.table_id table.now.shared.key hands.old }
     requires values { length table.now.shared.key.values ≡ 64 }
     requires rounds { rounds ≤ 1000 }
-    ensures worked { HaveWorked table.now.shared.table_id table.now.shared.key rounds turns hands.new }
+    ensures worked { HaveWorked table.now.shared.table_id table.now.shared.key rounds turns
+        hands.new }
     ensures count { length hands.new ≡ length hands.old }
 {
     let count = hands.len();
@@ -46,8 +49,11 @@ fn run_each<R: Threads + Sync, G: Gate + Sync>(
         hands,
         count,
         &|i: usize, hand: &mut Hand|
-            requires { (i < 8) × IsReady table.now.shared.table_id table.now.shared.key (i + 1) hand.old × (length table.now.shared.key.values ≡ 64) × (rounds ≤ 1000) }
-            ensures { HasWorked table.entry.now.shared.table_id table.entry.now.shared.key (i + 1) rounds turns hand.new }
+            requires { (i < 8)
+                × IsReady table.now.shared.table_id table.now.shared.key (i + 1) hand.old
+                × (length table.now.shared.key.values ≡ 64) × (rounds ≤ 1000) }
+            ensures { HasWorked table.entry.now.shared.table_id table.entry.now.shared.key (i + 1)
+                rounds turns hand.new }
         { work(hand, gate, table, (i + 1) as u8, rounds, turns) },
     );
 }
@@ -60,8 +66,11 @@ fn split_hands(
     workers: u8,
 ) -> Result<Vec<Hand>, AllocError>
     requires fresh { IsFreshSeat table.now.shared.table_id table.now.shared.key 0 seat.old }
-    ensures fresh { OnOk result (IsFreshSeat table.now.shared.table_id table.now.shared.key workers seat.new) }
-    ensures ready { IfOk result (λ hands. AreReady table.now.shared.table_id table.now.shared.key hands.items × (length hands.items ≡ workers)) }
+    ensures fresh { OnOk result
+        (IsFreshSeat table.now.shared.table_id table.now.shared.key workers seat.new) }
+    ensures ready { IfOk result (λ hands.
+        AreReady table.now.shared.table_id table.now.shared.key hands.items
+        × (length hands.items ≡ workers)) }
 {
     let mut hands = Vec::new(alloc);
     for _ in 0..workers {
@@ -85,7 +94,8 @@ pub(crate) fn run_workers<R: Threads + Sync, G: Gate + Sync>(
     requires workers { workers ≤ 8 }
     requires values { length table.now.shared.key.values ≡ 64 }
     requires rounds { rounds ≤ 1000 }
-    ensures gathered { IfOk result (HasGathered table.now.shared.table_id table.now.shared.key workers rounds turns) }
+    ensures gathered { IfOk result
+        (HasGathered table.now.shared.table_id table.now.shared.key workers rounds turns) }
     ensures whole { IfOk result (λ h. IsWhole h.seat.view.share) }
 {
     let mut hands = split_hands(alloc, table, &mut seat, workers)?;

@@ -40,7 +40,8 @@ impl Graph {
     }
 }
 
-/// The number of the method of the program that an instruction with this target calls (JVMS 6.5, the invoke instructions).
+/// The number of the method of the program that an instruction with this target calls (JVMS 6.5,
+/// the invoke instructions).
 pub fn called_method(op: &Op, target: Target) -> Option<u32>
     ensures { result ≡ called_method op.now target }
 {

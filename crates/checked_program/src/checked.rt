@@ -1,5 +1,6 @@
 ghost use Rattle.std.specs.Prelude.{◌≡◌, ◌<◌, length, slice_get, IfOk};
-ghost use Rattle.checked_program.specs.CodeIndex.{number_in, words_of_object, AllAscend, FewInstances};
+ghost use Rattle.checked_program.specs.CodeIndex.{number_in, words_of_object, AllAscend};
+ghost use Rattle.checked_program.specs.CodeIndex.{FewInstances};
 ghost use Rattle.checked_program.specs.MarkedProgram.{IsMarked};
 ghost use Rattle.checked_program.specs.Reach.{IsReach};
 
@@ -11,10 +12,10 @@ use jvm_types::{Program, Rows, Typing};
 use std::alloc::{AllocError, Global};
 use std::marker::Model;
 
-/// A linked program whose methods were verified and tagged, and whose sections were marked: a program
-/// beside the typing and the lock tags of each of its methods, in the order of the methods, and the mark of
-/// each of its sections, in the order of the sections. Once it is indexed, what a run asks for at each instruction is found
-/// in constant time; contracts don't see that.
+/// A linked program whose methods were verified and tagged, and whose sections were marked: a
+/// program beside the typing and the lock tags of each of its methods, in the order of the methods,
+/// and the mark of each of its sections, in the order of the sections. Once it is indexed, what a
+/// run asks for at each instruction is found in constant time; contracts don't see that.
 #[derive(Debug, Drop)]
 pub struct Checked {
     program: Program,
@@ -44,8 +45,10 @@ impl Checked {
         tags: Rows<Tags>,
         marks: Rows<SectionMark>,
     ) -> Self
-        requires { IsMarked (record { program = program; typings = typings; tags = tags; marks = marks }) }
-        ensures { result ≡ record { program = program; typings = typings; tags = tags; marks = marks } }
+        requires { IsMarked
+            (record { program = program; typings = typings; tags = tags; marks = marks }) }
+        ensures { result
+            ≡ record { program = program; typings = typings; tags = tags; marks = marks } }
     {
         Checked {
             program,
@@ -73,8 +76,8 @@ impl Checked {
         Ok(self)
     }
 
-    /// The number of the instruction of a method that begins at a pc, where one does: in constant time once the program is
-    /// indexed, else by a search.
+    /// The number of the instruction of a method that begins at a pc, where one does: in constant
+    /// time once the program is indexed, else by a search.
     #[inline(always)]
     pub fn number_at(&self, method: u32, pc: u32) -> Option<usize>
         ensures { result ≡ number_in (slice_get self.now.program.methods method) pc }
@@ -126,8 +129,8 @@ impl Checked {
         &self.tags
     }
 
-    /// The mark of each synchronized section, in order of methods; within one, a synchronized method's own
-    /// section first, then its blocks by their pc.
+    /// The mark of each synchronized section, in order of methods; within one, a synchronized
+    /// method's own section first, then its blocks by their pc.
     pub fn marks(&self) -> &Rows<SectionMark>
         ensures marks { result.now ≡ self.now.marks }
         ensures marked { IsMarked self.now }
@@ -135,9 +138,10 @@ impl Checked {
         &self.marks
     }
 
-    /// The number of instructions of a method together with those of all other methods that it calls, directly or through calls
-    /// (JVMS 6.5, the invoke instructions); each method counts once, and all of its code. `method` is the number of a method of
-    /// the program. It answers `AllocError` where memory is wanted.
+    /// The number of instructions of a method together with those of all other methods that it
+    /// calls, directly or through calls (JVMS 6.5, the invoke instructions); each method counts
+    /// once, and all of its code. `method` is the number of a method of the program. It answers
+    /// `AllocError` where memory is wanted.
     pub fn reach(&self, alloc: Global, method: u32) -> Result<u32, AllocError>
         requires { method < length self.now.program.methods }
         ensures { IfOk result (IsReach self.now.program method) }

@@ -1,8 +1,10 @@
-//! Tables of a program: the number of the instruction at each pc of a method, and how many words an object takes.
+//! Tables of a program: the number of the instruction at each pc of a method, and how many words an
+//! object takes.
 
 ghost use Rattle.std.specs.Prelude.{◌≡◌, slice_get, IfOk};
 ghost use Rattle.code_table.specs.PcTables.{number_at};
-ghost use Rattle.checked_program.specs.CodeIndex.{number_in, words_of_object, AllAscend, ArePcTables, AreSizes, FewInstances, IsCodeIndex};
+ghost use Rattle.checked_program.specs.CodeIndex.{number_in, words_of_object, AllAscend};
+ghost use Rattle.checked_program.specs.CodeIndex.{ArePcTables, AreSizes, FewInstances, IsCodeIndex};
 
 use code_table::PcTable;
 use jvm_types::class_numbers::FIRST_FILE_CLASS;
@@ -12,7 +14,8 @@ use jvm_types::limits::MOST_FILES;
 use jvm_types::{FieldInfo, Insn, MethodInfo, Program};
 use std::alloc::{AllocError, Global};
 
-/// The tables of a program: of the pcs of its methods in order, and of the words of an object by its class.
+/// The tables of a program: of the pcs of its methods in order, and of the words of an object by
+/// its class.
 #[derive(Debug, Drop)]
 pub struct CodeIndex {
     pub tables: Vec<PcTable>,
@@ -48,7 +51,8 @@ impl CodeIndex {
     pub fn of(alloc: Global, p: &Program) -> Result<CodeIndex, AllocError>
         requires ascend { AllAscend p.now.methods }
         requires few { FewInstances p.now.fields }
-        ensures { IfOk result (λ index. IsCodeIndex p.now.methods p.now.fields index.tables.items index.sizes.items) }
+        ensures { IfOk result
+            (λ index. IsCodeIndex p.now.methods p.now.fields index.tables.items index.sizes.items) }
     {
         let classes = FIRST_FILE_CLASS + p.names.len().min(MOST_FILES) as u16;
         Ok(CodeIndex {

@@ -1,6 +1,8 @@
 //! Laws of checked programs, on which what runs one rests: each function only states one.
 
-ghost use Rattle.checked_program.specs.CheckedLaws.{CalledFit, CallsSuit, CatchersAreAmong, CheckedIsSound, FramesHavePlaces, CheckedPlacesHold, ReachIsOne};
+ghost use Rattle.checked_program.specs.CheckedLaws.{CalledFit, CallsSuit, CatchersAreAmong};
+ghost use Rattle.checked_program.specs.CheckedLaws.{CheckedIsSound, FramesHavePlaces};
+ghost use Rattle.checked_program.specs.CheckedLaws.{CheckedPlacesHold, ReachIsOne};
 
 /// Each method has its typing, under which each instruction is sound.
 pub fn checked_is_sound()
@@ -17,7 +19,8 @@ pub fn frames_have_places()
     ensures { FramesHavePlaces }
 {}
 
-/// At each instruction with a frame the target fits, no rule is broken, each edge fits, and the frame is within its bounds.
+/// At each instruction with a frame the target fits, no rule is broken, each edge fits, and the
+/// frame is within its bounds.
 pub fn places_hold()
     ensures { CheckedPlacesHold }
 {}

@@ -1,12 +1,15 @@
-//! How many instructions a call of a method may begin at the most, where no method is entered twice and no branch goes
-//! back.
+//! How many instructions a call of a method may begin at the most, where no method is entered twice
+//! and no branch goes back.
 
-ghost use Rattle.std.specs.Prelude.{◌≡◌, ◌≤◌, ◌<◌, length, slice_get, slice_index_or, false, IfOk, OnOk};
+ghost use Rattle.std.specs.Prelude.{◌≡◌, ◌≤◌, ◌<◌, length, slice_get, slice_index_or, false, IfOk};
+ghost use Rattle.std.specs.Prelude.{OnOk};
 ghost use Rattle.std.specs.List.{sum_by};
 ghost use Rattle.jvm_types.specs.ProgramInvariant.{IsProgram};
 ghost use Rattle.jvm_types.specs.declared.limits.TheConstants.{MOST_INSTRUCTIONS as most};
 ghost use Rattle.checked_program.specs.Reach.{IsReach};
-ghost use Rattle.checked_program.specs.MethodCalls.{among, called_by, calls_before, calls_from, method_call, method_calls, only_one, size_found, size_if, AreReached};
+ghost use Rattle.checked_program.specs.MethodCalls.{among, called_by, calls_before, calls_from};
+ghost use Rattle.checked_program.specs.MethodCalls.{method_call, method_calls, only_one};
+ghost use Rattle.checked_program.specs.MethodCalls.{size_found, size_if, AreReached};
 
 use crate::call_edges::{Graph, called_method};
 use graph_closure::leading;
@@ -51,7 +54,8 @@ fn add_calls(methods: usize, m: &MethodInfo, a: u32, graph: &mut Graph) -> Resul
 }
 
 fn add_method(p: &Program, a: u32, graph: &mut Graph) -> Result<(), AllocError>
-    ensures { OnOk result (graph.new ≡ calls_from (length p.now.methods) (slice_get p.now.methods a) a graph.old) }
+    ensures { OnOk result
+        (graph.new ≡ calls_from (length p.now.methods) (slice_get p.now.methods a) a graph.old) }
 {
     match p.methods.get(a as usize) {
         Some(m) => add_calls(p.methods.len(), m, a, graph),

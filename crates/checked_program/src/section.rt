@@ -7,8 +7,8 @@ pub enum Spot {
     Block(u32),
 }
 
-/// The mark of one section: 0 where it may run without its lock, else the number of the first rule that
-/// forbids that.
+/// The mark of one section: 0 where it may run without its lock, else the number of the first rule
+/// that forbids that.
 #[derive(Clone, Copy, Debug, PartialEq, Eq)]
 pub struct SectionMark {
     /// The number of the method in its program.
@@ -29,7 +29,8 @@ pub enum Mode {
 pub enum FieldUse {
     /// Of every object: it is final, and not written after its object was made.
     Frozen,
-    /// Of the section's own object: it is written under the object's monitor alone, or while the object is made.
+    /// Of the section's own object: it is written under the object's monitor alone, or while the
+    /// object is made.
     Guarded,
     Open,
 }

@@ -1,5 +1,5 @@
-//! Lock tags: which values are known to be the same one. They check that the locking of a method is structured
-//! (JVMS 2.11.10).
+//! Lock tags: which values are known to be the same one. They check that the locking of a method is
+//! structured (JVMS 2.11.10).
 
 ghost use Rattle.std.specs.Prelude.{◌≡◌, IfOk};
 ghost use Rattle.std.specs.Arc.{arc_value};
@@ -27,8 +27,8 @@ struct TagParts {
     held: Stack<Tag>,
 }
 
-/// The tags before one instruction: of the stack, of the locals, and of the monitors that the method has entered,
-/// the innermost on the top.
+/// The tags before one instruction: of the stack, of the locals, and of the monitors that the
+/// method has entered, the innermost on the top.
 ///
 /// Frames of the same locals and monitors can share these in memory.
 #[derive(Debug, Drop)]
@@ -96,8 +96,8 @@ impl TagFrame {
         &self.parts.locals
     }
 
-    /// The tags of the monitors that the method has entered and not left, the innermost on the top. That of a
-    /// synchronized method is not among them.
+    /// The tags of the monitors that the method has entered and not left, the innermost on the top.
+    /// That of a synchronized method is not among them.
     pub fn held(&self) -> &Stack<Tag>
         ensures { result.now ≡ self.now.held }
     {
@@ -118,8 +118,8 @@ impl TagFrame {
     }
 }
 
-/// The tags of one method, with an entry for each instruction in order; it is `None` where the instruction
-/// is not reached.
+/// The tags of one method, with an entry for each instruction in order; it is `None` where the
+/// instruction is not reached.
 #[derive(Debug, Drop)]
 pub struct Tags {
     pub frames: Rows<Option<TagFrame>>,

@@ -1,6 +1,7 @@
 //! The tags of locals.
 
-ghost use Rattle.std.specs.Prelude.{◌≡◌, ◌<◌, ◌≤◌, not, length, slice_get, slice_set, Some, OnOk, IfOk};
+ghost use Rattle.std.specs.Prelude.{◌≡◌, ◌<◌, ◌≤◌, not, length, slice_get, slice_set, Some, OnOk};
+ghost use Rattle.std.specs.Prelude.{IfOk};
 ghost use Rattle.checked_program.specs.LockTags.{filled_tags, same_tags, meet_tags, without};
 
 use crate::tag::Tag;
@@ -11,8 +12,8 @@ use std::marker::Model;
 
 /// The tags of the locals of a method, which contracts see as the list of them.
 ///
-/// Only the first are kept, up to the last that may have one: `this`, and the locals that instructions write, which
-/// are below 256 (JVMS 6.5: an index has one byte without `wide`).
+/// Only the first are kept, up to the last that may have one: `this`, and the locals that
+/// instructions write, which are below 256 (JVMS 6.5: an index has one byte without `wide`).
 #[derive(Debug, Drop)]
 pub struct TagLocals {
     first: Rows<Tag>,
@@ -59,7 +60,8 @@ fn fill(tags: &mut Rows<Tag>, count: usize) -> Result<(), AllocError>
     Ok(())
 }
 
-/// Each tag becomes what it and that of the local at its place have in common; answers whether that changed one.
+/// Each tag becomes what it and that of the local at its place have in common; answers whether that
+/// changed one.
 fn meet_first(tags: &mut Rows<Tag>, other: &TagLocals) -> bool
     requires { length tags.old ≤ length other.now }
     ensures met { tags.new ≡ meet_tags tags.old other.now }
@@ -85,7 +87,8 @@ fn untag_first(tags: &mut Rows<Tag>, pc: u32)
 }
 
 impl TagLocals {
-    /// So many locals, or as many as are given where these are more. Those that are not given are untagged.
+    /// So many locals, or as many as are given where these are more. Those that are not given are
+    /// untagged.
     pub fn new(first: Rows<Tag>, count: usize) -> Self
         ensures { result ≡ filled_tags count first }
     {
@@ -100,8 +103,8 @@ impl TagLocals {
         self.count.max(self.first.len())
     }
 
-    /// How many of them are kept in memory, to count the bytes that tags take. It has no clause: the value that
-    /// contracts see doesn't tell how many these are.
+    /// How many of them are kept in memory, to count the bytes that tags take. It has no clause:
+    /// the value that contracts see doesn't tell how many these are.
     pub fn kept(&self) -> usize {
         self.first.len()
     }
@@ -144,8 +147,8 @@ impl TagLocals {
         untag_first(&mut self.first, pc);
     }
 
-    /// Each local keeps a tag that the other locals have too, and there are no more than these; answers whether that
-    /// changed them.
+    /// Each local keeps a tag that the other locals have too, and there are no more than these;
+    /// answers whether that changed them.
     pub fn meet(&mut self, other: &TagLocals) -> bool
         ensures met { self.new ≡ meet_tags self.old other.now }
         ensures told { result ≡ not (same_tags self.old self.new) }

@@ -1,9 +1,11 @@
-//! Attributes (JVMS 4.7): Code of a method, ConstantValue of a field, and those that are kept unread.
+//! Attributes (JVMS 4.7): Code of a method, ConstantValue of a field, and those that are kept
+//! unread.
 
 ghost use Rattle.std.specs.Prelude.{◌≡◌, ◌+◌, ◌<◌, ◌^◌, length, IfOk};
 ghost use Rattle.jvm_types.specs.ReadingSteps.{whole};
 ghost use Rattle.jvm_types.specs.ReadingPool.{index_at};
-ghost use Rattle.jvm_types.specs.ReadingClass.{attr_at, table_row_at, code_at, code_attr, value_attr, field_attr_at, method_attr_at};
+ghost use Rattle.jvm_types.specs.ReadingClass.{attr_at, table_row_at, code_at, code_attr};
+ghost use Rattle.jvm_types.specs.ReadingClass.{value_attr, field_attr_at, method_attr_at};
 ghost use Rattle.jvm_types.specs.declared.index_kind.IndexKind.TheVariants.{Value as OfValue};
 ghost use Rattle.class_reader.specs.Giving.{Gives, attr_of, moved_stop, HasPlaceInFile};
 
@@ -17,7 +19,8 @@ use std::alloc::Global;
 /// The name of an attribute, its body, which is cut out by its length, and the bytes after it.
 #[tactic(auto, unfolding(jvm_types::specs::ReadingClass::attr_at))]
 fn cut_attr<'a>(pool: &Rows<Constant>, bytes: &'a [u8]) -> Result<(u16, &'a [u8], &'a [u8]), Stop>
-    ensures gives { Gives (λ x. (attr_of x.0 x.1.now, x.2.now)) result (attr_at pool.now bytes.now) }
+    ensures gives { Gives (λ x. (attr_of x.0 x.1.now, x.2.now)) result
+        (attr_at pool.now bytes.now) }
     ensures room { IfOk result (λ x. length x.1.now + length x.2.now < 2 ^ 63) }
 {
     let (name, rest) = read_index(IndexKind::Utf8, pool, bytes)?;

@@ -1,4 +1,5 @@
-//! Items of a class file: numbers (JVMS 4, "u1, u2, u4") and runs of bytes, from the front of a slice.
+//! Items of a class file: numbers (JVMS 4, "u1, u2, u4") and runs of bytes, from the front of a
+//! slice.
 
 ghost use Rattle.std.specs.Prelude.{◌≡◌, ◌+◌, ℕ, length, IfOk};
 ghost use Rattle.jvm_types.specs.ReadingSteps.{u1_at, u2_at, u4_at, byte_run_at, fault_unless};

@@ -19,7 +19,8 @@ fn read_member<'a, S: Step<Item = MemberAttr>>(
     pool: &Rows<Constant>,
     bytes: &'a [u8],
 ) -> Result<(Member, &'a [u8]), Stop>
-    ensures { Gives (λ x. (x.0, x.1.now)) result (member_at (S.item_at pool.now) pool.now bytes.now) }
+    ensures { Gives (λ x. (x.0, x.1.now)) result
+        (member_at (S.item_at pool.now) pool.now bytes.now) }
 {
     let (flags, rest) = read_u2(bytes)?;
     let (name, rest) = read_index(IndexKind::Utf8, pool, rest)?;

@@ -29,8 +29,8 @@ fn spelled_len(entry: &Constant) -> usize
     }
 }
 
-/// Looks at the two indices of an entry, which stand one and three bytes behind its tag. From the tag on
-/// `left` bytes are left, which are more than that.
+/// Looks at the two indices of an entry, which stand one and three bytes behind its tag. From the
+/// tag on `left` bytes are left, which are more than that.
 #[tactic(auto, unfolding(jvm_types::specs::ReadingPool::both_wanted))]
 fn check_both(
     kinds: (IndexKind, IndexKind),
@@ -38,7 +38,8 @@ fn check_both(
     indices: (u16, u16),
     left: usize,
 ) -> Result<(), Stop>
-    ensures { Gives (λ x. x) result (both_wanted kinds.0 kinds.1 pool.now indices.0 indices.1 left) }
+    ensures { Gives (λ x. x) result
+        (both_wanted kinds.0 kinds.1 pool.now indices.0 indices.1 left) }
 {
     check(
         names(kinds.0, pool, indices.0),
@@ -52,8 +53,8 @@ fn check_both(
     )
 }
 
-/// Looks at the indices of an entry, and that no Long or Double is last. From its tag on `left` bytes
-/// are left, the entry's own among them.
+/// Looks at the indices of an entry, and that no Long or Double is last. From its tag on `left`
+/// bytes are left, the entry's own among them.
 #[tactic(auto, unfolding(jvm_types::specs::ReadingPool::entry_wanted))]
 fn check_entry(
     pool: &Rows<Constant>,

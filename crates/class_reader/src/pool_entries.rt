@@ -2,7 +2,8 @@
 
 ghost use Rattle.std.specs.Prelude.{◌≡◌, ◌+◌, ◌<◌, ◌^◌, true, length, Decides};
 ghost use Rattle.jvm_types.specs.ClassGrammar.{IsUtf8Byte};
-ghost use Rattle.jvm_types.specs.ReadingPool.{text_wanted, utf8_at, tagged_at, constant_at, entries_at};
+ghost use Rattle.jvm_types.specs.ReadingPool.{text_wanted, utf8_at, tagged_at, constant_at};
+ghost use Rattle.jvm_types.specs.ReadingPool.{entries_at};
 ghost use Rattle.class_reader.specs.Giving.{Gives, entry_at};
 
 use crate::items::{Stop, read_long, read_pair, read_run, read_u1, read_u2, read_u4};

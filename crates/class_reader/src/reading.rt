@@ -104,8 +104,8 @@ fn read_bytes(alloc: Global, bytes: &[u8]) -> Result<ClassFile, ReadError>
     }
 }
 
-/// The class that the bytes spell (JVMS 4.1, SE 6), or the first condition that refuses the file, by
-/// its rule and its offset in bytes.
+/// The class that the bytes spell (JVMS 4.1, SE 6), or the first condition that refuses the file,
+/// by its rule and its offset in bytes.
 pub fn read_class(alloc: Global, bytes: &Bytes) -> Result<ClassFile, ReadError>
     // What is answered is spelled by the bytes, each of them.
     ensures ok { IfOk result (λ c. Spells bytes.now c) }

@@ -8,7 +8,8 @@ ghost use Rattle.jvm_types.specs.Members.{Declared, declared_methods};
 ghost use Rattle.jvm_types.specs.Linked.{code_of as the_code};
 ghost use Rattle.jvm_types.specs.Linkable.{IsDecoded};
 ghost use Rattle.class_runner.specs.Loading.{decode_fault};
-ghost use Rattle.class_runner.specs.Stages.{own_methods, method_code_fault, IsUndecoded, AreDecodedSoFar};
+ghost use Rattle.class_runner.specs.Stages.{own_methods, method_code_fault, IsUndecoded};
+ghost use Rattle.class_runner.specs.Stages.{AreDecodedSoFar};
 
 use crate::loading::FileError;
 use code_decode::{CodeError, decode};
@@ -26,8 +27,10 @@ fn decode_method(
 ) -> Result<Rows<Insn>, FileError>
     requires body { HasBody method.now }
     requires rows { length (the_code method.now.attrs).rows ≤ MOST_COUNTED }
-    ensures ok { IfOk result (λ insns. IsCode (the_code method.now.attrs).bytes (the_code method.now.attrs).rows insns) }
-    ensures refused { IfErr result (λ e. IsUndecoded (method_code_fault file number (the_code method.now.attrs)) e) }
+    ensures ok { IfOk result
+        (λ insns. IsCode (the_code method.now.attrs).bytes (the_code method.now.attrs).rows insns) }
+    ensures refused { IfErr result
+        (λ e. IsUndecoded (method_code_fault file number (the_code method.now.attrs)) e) }
 {
     let Some(code) = code_of(method.attrs.as_slice()) else {
         unreachable!()
@@ -50,8 +53,13 @@ fn decode_class(
     code: &mut Rows<Rows<Insn>>,
 ) -> Result<(), FileError>
     requires { IsClass class.now }
-    ensures ok { OnOk result ((left all : List Declared) → AreDecodedSoFar (own_methods file class.now ++ left) all code.old → AreDecodedSoFar left all code.new) }
-    ensures refused { IfErr result (λ e. (left all : List Declared) → AreDecodedSoFar (own_methods file class.now ++ left) all code.old → IsUndecoded (decode_fault all) e) }
+    ensures ok { OnOk result ((left all : List Declared)
+        → AreDecodedSoFar (own_methods file class.now ++ left) all code.old
+        → AreDecodedSoFar left all code.new) }
+    ensures refused { IfErr result (λ e.
+        (left all : List Declared)
+        → AreDecodedSoFar (own_methods file class.now ++ left) all code.old
+        → IsUndecoded (decode_fault all) e) }
 {
     for (number, method) in class.methods.as_slice().iter().enumerate() {
         code.push(decode_method(alloc, file, number as u16, method)?)?;
@@ -59,13 +67,14 @@ fn decode_class(
     Ok(())
 }
 
-/// The instructions of each method, in order of files and methods. The first method whose code has a
-/// fault refuses the files.
+/// The instructions of each method, in order of files and methods. The first method whose code has
+/// a fault refuses the files.
 pub fn decode_files(alloc: Global, classes: &[ClassFile]) -> Result<Rows<Rows<Insn>>, FileError>
     requires few { length classes.now ≤ MOST_FILES }
     requires classes { AllByRecursion IsClass classes.now }
     ensures ok { IfOk result (λ code. AllZip IsDecoded (declared_methods classes.now) code) }
-    ensures refused { IfErr result (λ e. IsUndecoded (decode_fault (declared_methods classes.now)) e) }
+    ensures refused { IfErr result
+        (λ e. IsUndecoded (decode_fault (declared_methods classes.now)) e) }
 {
     let mut code = Rows::new(alloc);
     for (file, class) in classes.iter().enumerate() {

@@ -54,9 +54,10 @@ impl fmt::Display for FileError {
     }
 }
 
-/// The checked program of some files, of which there are 1 to 64, with so many heap words and workers. The first rule that
-/// refuses the files is answered with its place. Each file is read as a class (C), in order; then each method is decoded (K), in
-/// order of files and methods; then the files are linked (L); then each method is verified (V); then each is tagged (S).
+/// The checked program of some files, of which there are 1 to 64, with so many heap words and
+/// workers. The first rule that refuses the files is answered with its place. Each file is read as
+/// a class (C), in order; then each method is decoded (K), in order of files and methods; then the
+/// files are linked (L); then each method is verified (V); then each is tagged (S).
 pub fn load_program(
     alloc: Global,
     files: &Rows<Bytes>,
@@ -70,9 +71,12 @@ pub fn load_program(
     requires workers { workers ≤ MOST_WORKERS }
     // What is answered is the program of the files, with its typings, tags and marks.
     ensures ok { IfOk result (λ c. IsLoaded files.now heap workers c) }
-    // Files that are loaded to a program are answered with no other, and accepted files are not refused.
-    ensures only { (c : MarkedProgram) → IsLoaded files.now heap workers c → IfOk result (λ found. found ≡ c) }
-    ensures accepted { IsAccepted files.now heap workers → IfErr result (λ e. e ≡ FileError.Memory) }
+    // Files that are loaded to a program are answered with no other, and accepted files are not
+    // refused.
+    ensures only { (c : MarkedProgram) → IsLoaded files.now heap workers c
+        → IfOk result (λ found. found ≡ c) }
+    ensures accepted { IsAccepted files.now heap workers
+        → IfErr result (λ e. e ≡ FileError.Memory) }
     ensures refused { IfErr result (λ e. IsNotLoaded files.now heap workers e) }
 {
     load_files(alloc, files.as_slice(), heap, workers)

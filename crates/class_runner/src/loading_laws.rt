@@ -1,6 +1,7 @@
 //! Laws of loading, for all files: each function only states one.
 
-ghost use Rattle.class_runner.specs.LoadingLaws.{AcceptedNotRefused, AcceptedOrRefused, LoadedAccepted, OneLoading, FilesHaveOneRefusal};
+ghost use Rattle.class_runner.specs.LoadingLaws.{AcceptedNotRefused, AcceptedOrRefused};
+ghost use Rattle.class_runner.specs.LoadingLaws.{LoadedAccepted, OneLoading, FilesHaveOneRefusal};
 
 /// Files are loaded to one program.
 pub fn one_loading()

@@ -1,12 +1,14 @@
 //! The methods of a linked program to lock tags.
 
-ghost use Rattle.std.specs.Prelude.{◌≡◌, ◌<◌, ◌≤◌, ◌+◌, ◌++◌, List, length, slice_get, IfOk, IfErr, OnOk};
+ghost use Rattle.std.specs.Prelude.{◌≡◌, ◌<◌, ◌≤◌, ◌+◌, ◌++◌, List, length, slice_get, IfOk, IfErr};
+ghost use Rattle.std.specs.Prelude.{OnOk};
 ghost use Rattle.std.specs.List.{AllByRecursion};
 ghost use Rattle.jvm_types.specs.ClassGrammar.{IsClass};
 ghost use Rattle.jvm_types.specs.Members.{Declared, declared_methods};
 ghost use Rattle.jvm_types.specs.ProgramInvariant.{IsProgram};
 ghost use Rattle.checked_program.specs.MarkedProgram.{AreTaggings};
-ghost use Rattle.class_runner.specs.Stages.{own_methods, IsTaggedAt, IsUntaggedAt, IsNotTagged, AreTaggedSoFar};
+ghost use Rattle.class_runner.specs.Stages.{own_methods, IsTaggedAt, IsUntaggedAt, IsNotTagged};
+ghost use Rattle.class_runner.specs.Stages.{AreTaggedSoFar};
 
 use crate::loading::FileError;
 use checked_program::Tags;
@@ -16,7 +18,8 @@ use jvm_types::{ClassFile, Program, Rows, Rule, in_method};
 use monitor_tags::{TagError, tag_within};
 use std::alloc::Global;
 
-/// The lock tags of a method of the program, which is the one of this number in its class in a file.
+/// The lock tags of a method of the program, which is the one of this number in its class in a
+/// file.
 fn tag_method(
     alloc: Global,
     program: &Program,
@@ -27,8 +30,10 @@ fn tag_method(
 ) -> Result<Tags, FileError>
     requires program { IsProgram program.now }
     requires method { method < length program.now.methods }
-    ensures ok { IfOk result (λ t. IsTaggedAt program.now (slice_get program.now.methods method) t) }
-    ensures refused { IfErr result (λ e. IsUntaggedAt program.now (slice_get program.now.methods method) file number e) }
+    ensures ok { IfOk result
+        (λ t. IsTaggedAt program.now (slice_get program.now.methods method) t) }
+    ensures refused { IfErr result
+        (λ e. IsUntaggedAt program.now (slice_get program.now.methods method) file number e) }
 {
     match tag_within(alloc, program, method, budget) {
         Ok(tags) => Ok(tags),
@@ -40,7 +45,8 @@ fn tag_method(
     }
 }
 
-/// Adds the lock tags of each method of a class, in order. Those of the methods before it are there.
+/// Adds the lock tags of each method of a class, in order. Those of the methods before it are
+/// there.
 fn tag_class(
     alloc: Global,
     program: &Program,
@@ -53,8 +59,13 @@ fn tag_class(
     requires class { IsClass class.now }
     requires all { length tags.old + length class.now.methods ≤ length program.now.methods }
     requires few { length program.now.methods ≤ MOST_METHODS }
-    ensures ok { OnOk result ((left all : List Declared) → AreTaggedSoFar program.now (own_methods file class.now ++ left) all tags.old → AreTaggedSoFar program.now left all tags.new) }
-    ensures refused { IfErr result (λ e. (left all : List Declared) → AreTaggedSoFar program.now (own_methods file class.now ++ left) all tags.old → IsNotTagged program.now all program.now.methods e) }
+    ensures ok { OnOk result ((left all : List Declared)
+        → AreTaggedSoFar program.now (own_methods file class.now ++ left) all tags.old
+        → AreTaggedSoFar program.now left all tags.new) }
+    ensures refused { IfErr result (λ e.
+        (left all : List Declared)
+        → AreTaggedSoFar program.now (own_methods file class.now ++ left) all tags.old
+        → IsNotTagged program.now all program.now.methods e) }
 {
     for number in 0..class.methods.len() {
         let method = tags.len() as u32;
@@ -77,7 +88,8 @@ pub fn tag_files(
     requires program { IsProgram program.now }
     requires methods { length program.now.methods ≡ length (declared_methods classes.now) }
     ensures ok { IfOk result (λ tags. AreTaggings program.now program.now.methods tags) }
-    ensures refused { IfErr result (λ e. IsNotTagged program.now (declared_methods classes.now) program.now.methods e) }
+    ensures refused { IfErr result
+        (λ e. IsNotTagged program.now (declared_methods classes.now) program.now.methods e) }
 {
     let mut budget = Budget::of(MOST_KEPT);
     let mut tags = Rows::new(alloc);

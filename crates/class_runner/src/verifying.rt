@@ -1,12 +1,14 @@
 //! The methods of a linked program to typings.
 
-ghost use Rattle.std.specs.Prelude.{◌≡◌, ◌<◌, ◌≤◌, ◌+◌, ◌++◌, List, length, slice_get, IfOk, IfErr, OnOk};
+ghost use Rattle.std.specs.Prelude.{◌≡◌, ◌<◌, ◌≤◌, ◌+◌, ◌++◌, List, length, slice_get, IfOk, IfErr};
+ghost use Rattle.std.specs.Prelude.{OnOk};
 ghost use Rattle.std.specs.List.{AllByRecursion};
 ghost use Rattle.jvm_types.specs.ClassGrammar.{IsClass};
 ghost use Rattle.jvm_types.specs.Members.{Declared, declared_methods};
 ghost use Rattle.jvm_types.specs.ProgramInvariant.{IsProgram};
 ghost use Rattle.checked_program.specs.CheckedProgram.{AreTypings};
-ghost use Rattle.class_runner.specs.Stages.{own_methods, IsTypedAt, IsUntypedAt, IsUnverified, AreTypedSoFar};
+ghost use Rattle.class_runner.specs.Stages.{own_methods, IsTypedAt, IsUntypedAt, IsUnverified};
+ghost use Rattle.class_runner.specs.Stages.{AreTypedSoFar};
 
 use crate::loading::FileError;
 use code_verifier::{Budget, MOST_KEPT, VerifyError, verify_within};
@@ -26,7 +28,8 @@ fn verify_method(
     requires program { IsProgram program.now }
     requires method { method < length program.now.methods }
     ensures ok { IfOk result (λ t. IsTypedAt program.now (slice_get program.now.methods method) t) }
-    ensures refused { IfErr result (λ e. IsUntypedAt program.now (slice_get program.now.methods method) file number e) }
+    ensures refused { IfErr result
+        (λ e. IsUntypedAt program.now (slice_get program.now.methods method) file number e) }
 {
     match verify_within(alloc, program, method, budget) {
         Ok(typing) => Ok(typing),
@@ -51,8 +54,13 @@ fn verify_class(
     requires class { IsClass class.now }
     requires all { length typings.old + length class.now.methods ≤ length program.now.methods }
     requires few { length program.now.methods ≤ MOST_METHODS }
-    ensures ok { OnOk result ((left all : List Declared) → AreTypedSoFar program.now (own_methods file class.now ++ left) all typings.old → AreTypedSoFar program.now left all typings.new) }
-    ensures refused { IfErr result (λ e. (left all : List Declared) → AreTypedSoFar program.now (own_methods file class.now ++ left) all typings.old → IsUnverified program.now all program.now.methods e) }
+    ensures ok { OnOk result ((left all : List Declared)
+        → AreTypedSoFar program.now (own_methods file class.now ++ left) all typings.old
+        → AreTypedSoFar program.now left all typings.new) }
+    ensures refused { IfErr result (λ e.
+        (left all : List Declared)
+        → AreTypedSoFar program.now (own_methods file class.now ++ left) all typings.old
+        → IsUnverified program.now all program.now.methods e) }
 {
     for number in 0..class.methods.len() {
         let method = typings.len() as u32;
@@ -75,7 +83,8 @@ pub fn verify_files(
     requires program { IsProgram program.now }
     requires methods { length program.now.methods ≡ length (declared_methods classes.now) }
     ensures ok { IfOk result (λ typings. AreTypings program.now program.now.methods typings) }
-    ensures refused { IfErr result (λ e. IsUnverified program.now (declared_methods classes.now) program.now.methods e) }
+    ensures refused { IfErr result
+        (λ e. IsUnverified program.now (declared_methods classes.now) program.now.methods e) }
 {
     let mut budget = Budget::of(MOST_KEPT);
     let mut typings = Rows::new(alloc);

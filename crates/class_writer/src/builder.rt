@@ -1,8 +1,10 @@
 //! Building a class, constant by constant.
 
-ghost use Rattle.std.specs.Prelude.{◌≡◌, ◌≤◌, ◌++◌, ◌↔◌, ◌∷◌, [], length, IsTrue, IfOk, OnOk, OnErr, MatchOption};
+ghost use Rattle.std.specs.Prelude.{◌≡◌, ◌≤◌, ◌++◌, ◌↔◌, ◌∷◌, [], length, IsTrue, IfOk, OnOk};
+ghost use Rattle.std.specs.Prelude.{OnErr, MatchOption};
 ghost use Rattle.jvm_types.specs.declared.class_file.Constant.TheVariants.{Gap};
-ghost use Rattle.class_writer.specs.Building.{empty_class, pool_entries_of, length_with, IsNew, IsFirstIndex, Builds};
+ghost use Rattle.class_writer.specs.Building.{empty_class, pool_entries_of, length_with, IsNew};
+ghost use Rattle.class_writer.specs.Building.{IsFirstIndex, Builds};
 
 use crate::error::BuildError;
 use constant_pools::index_kinds::is_wide;
@@ -17,8 +19,8 @@ pub struct Builder {
     pub parts: ClassFile,
 }
 
-/// A builder of a class of version 50.0 that has nothing but the gap at index 0 of its pool: each list
-/// is empty, and each other number is 0.
+/// A builder of a class of version 50.0 that has nothing but the gap at index 0 of its pool: each
+/// list is empty, and each other number is 0.
 ///
 /// Errors: where memory runs out.
 pub fn new_builder(alloc: Global) -> Result<Builder, AllocError>
@@ -49,7 +51,8 @@ fn is_same(left: &Constant, right: &Constant) -> bool
 
 /// The first index of a constant in the pool.
 fn find(pool: &Rows<Constant>, constant: &Constant) -> Option<usize>
-    ensures { MatchOption result (IsNew pool.now constant.now) (IsFirstIndex pool.now constant.now) }
+    ensures { MatchOption result (IsNew pool.now constant.now)
+        (IsFirstIndex pool.now constant.now) }
 {
     for (i, entry) in pool.as_slice().iter().enumerate() {
         if is_same(entry, constant) {
@@ -82,14 +85,15 @@ fn append(pool: &mut Rows<Constant>, constant: Constant) -> Result<(), AllocErro
 }
 
 impl Builder {
-    /// The first index of an equal constant; where there is none, `c` is appended, with a gap behind a
-    /// `Long` or a `Double`, and its index is answered.
+    /// The first index of an equal constant; where there is none, `c` is appended, with a gap
+    /// behind a `Long` or a `Double`, and its index is answered.
     ///
-    /// The pool is searched as it is at the call, since `parts` may have been changed: a call takes time
-    /// in proportion to the number of entries, of which most are told apart by their kind or length.
+    /// The pool is searched as it is at the call, since `parts` may have been changed: a call takes
+    /// time in proportion to the number of entries, of which most are told apart by their kind or
+    /// length.
     ///
-    /// Errors: `Full` where there is no equal constant and the last index of `c` would be above 65,534;
-    /// `Memory` where memory runs out. Nothing changes then.
+    /// Errors: `Full` where there is no equal constant and the last index of `c` would be above
+    /// 65,534; `Memory` where memory runs out. Nothing changes then.
     pub fn constant(&mut self, c: Constant) -> Result<u16, BuildError>
         requires some { 1 ≤ length self.old.parts.constants }
         requires few { length self.old.parts.constants ≤ MOST_COUNTED }

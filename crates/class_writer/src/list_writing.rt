@@ -28,7 +28,8 @@ pub trait Part {
 }
 
 fn write_items<T: Part>(alloc: Global, items: &Rows<T>, out: &mut Bytes) -> Result<(), WriteError>
-    ensures { Writes (AllByRecursion T.fits items.now) (AllByRecursion T.known items.now) (flat_map T.spelling items.now) out.old out.new result }
+    ensures { Writes (AllByRecursion T.fits items.now) (AllByRecursion T.known items.now)
+        (flat_map T.spelling items.now) out.old out.new result }
 {
     for item in items.as_slice() {
         item.write(alloc, out)?;
@@ -42,7 +43,8 @@ pub fn write_list<T: Part>(
     items: &Rows<T>,
     out: &mut Bytes,
 ) -> Result<(), WriteError>
-    ensures { Writes (IsCounted T.fits items.now) (IsCounted T.known items.now) (counted T.spelling items.now) out.old out.new result }
+    ensures { Writes (IsCounted T.fits items.now) (IsCounted T.known items.now)
+        (counted T.spelling items.now) out.old out.new result }
 {
     write_len_u2(items.len(), out)?;
     write_items(alloc, items, out)

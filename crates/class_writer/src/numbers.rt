@@ -58,7 +58,8 @@ pub fn write_len_u2(len: usize, out: &mut Bytes) -> Result<(), WriteError>
 
 /// Bytes, behind their count in four bytes.
 pub fn write_run(bytes: &Bytes, out: &mut Bytes) -> Result<(), WriteError>
-    ensures { Writes (length bytes.now < 2 ^ 32) (length bytes.now < 2 ^ 32) (u4 (length bytes.now) ++ bytes.now) out.old out.new result }
+    ensures { Writes (length bytes.now < 2 ^ 32) (length bytes.now < 2 ^ 32)
+        (u4 (length bytes.now) ++ bytes.now) out.old out.new result }
 {
     match u32::try_from(bytes.len()) {
         Ok(len) => {

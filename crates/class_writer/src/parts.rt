@@ -5,7 +5,8 @@ ghost use Rattle.jvm_types.specs.Numbers.{u1, u2, u4, u8};
 ghost use Rattle.jvm_types.specs.Spelling.{code_body, member_attr, class_file};
 ghost use Rattle.jvm_types.specs.ClassGrammar.{IsCounted};
 ghost use Rattle.jvm_types.specs.Counts.{TextFits, CodeFits, ClassCountsFit};
-ghost use Rattle.class_writer.specs.Writing.{Writes, IsKnown, CodePartsFit, IsClassWritten, head_bytes};
+ghost use Rattle.class_writer.specs.Writing.{Writes, IsKnown, CodePartsFit, IsClassWritten};
+ghost use Rattle.class_writer.specs.Writing.{head_bytes};
 
 use crate::error::WriteError;
 use crate::list_writing::{Part, write_list};
@@ -88,7 +89,8 @@ fn write_wide(tag: u8, number: u64, out: &mut Bytes) -> Result<(), AllocError>
 
 /// Writes the tag and the bytes of a text.
 fn write_text(text: &Bytes, out: &mut Bytes) -> Result<(), WriteError>
-    ensures { Writes (length text.now < 2 ^ 16) (length text.now < 2 ^ 16) (u1 1 ++ u2 (length text.now) ++ text.now) out.old out.new result }
+    ensures { Writes (length text.now < 2 ^ 16) (length text.now < 2 ^ 16)
+        (u1 1 ++ u2 (length text.now) ++ text.now) out.old out.new result }
 {
     write_u1(1, out)?;
     write_len_u2(text.len(), out)?;
@@ -133,7 +135,8 @@ impl Part for Constant {
 
 /// Writes what stands behind the length of a `Code` attribute.
 fn write_code_body(alloc: Global, code: &Code, out: &mut Bytes) -> Result<(), WriteError>
-    ensures { Writes (CodePartsFit code.now) (CodePartsFit code.now) (code_body code.now) out.old out.new result }
+    ensures { Writes (CodePartsFit code.now) (CodePartsFit code.now) (code_body code.now) out.old
+        out.new result }
 {
     write_u2(code.max_stack, out)?;
     write_u2(code.max_locals, out)?;
@@ -144,7 +147,8 @@ fn write_code_body(alloc: Global, code: &Code, out: &mut Bytes) -> Result<(), Wr
 
 /// Writes a `Code` attribute.
 fn write_code(alloc: Global, code: &Code, out: &mut Bytes) -> Result<(), WriteError>
-    ensures { Writes (CodeFits code.now) (CodeFits code.now) (member_attr (MemberAttr.Code code.now)) out.old out.new result }
+    ensures { Writes (CodeFits code.now) (CodeFits code.now)
+        (member_attr (MemberAttr.Code code.now)) out.old out.new result }
 {
     let mut body = Bytes::new(alloc);
     write_code_body(alloc, code, &mut body)?;
@@ -195,7 +199,8 @@ impl Part for Member {
 
 /// Writes what stands in front of the interfaces of a class.
 fn write_head(alloc: Global, c: &ClassFile, out: &mut Bytes) -> Result<(), WriteError>
-    ensures { Writes (IsCounted TextFits c.now.constants) (IsCounted IsKnown c.now.constants) (head_bytes c.now) out.old out.new result }
+    ensures { Writes (IsCounted TextFits c.now.constants) (IsCounted IsKnown c.now.constants)
+        (head_bytes c.now) out.old out.new result }
 {
     write_u4(MAGIC, out)?;
     write_u2(c.minor, out)?;
@@ -208,7 +213,8 @@ fn write_head(alloc: Global, c: &ClassFile, out: &mut Bytes) -> Result<(), Write
 
 /// Writes all parts of a class.
 pub fn write_parts(alloc: Global, c: &ClassFile, out: &mut Bytes) -> Result<(), WriteError>
-    ensures { Writes (ClassCountsFit c.now) (IsClassWritten c.now) (class_file c.now) out.old out.new result }
+    ensures { Writes (ClassCountsFit c.now) (IsClassWritten c.now) (class_file c.now) out.old
+        out.new result }
 {
     write_head(alloc, c, out)?;
     write_list(alloc, &c.interfaces, out)?;

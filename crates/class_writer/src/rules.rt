@@ -1,10 +1,14 @@
-//! Tests of the rules of a class file (JVMS 4.1, 4.5 to 4.7), where its numbers and lengths fit their fields.
+//! Tests of the rules of a class file (JVMS 4.1, 4.5 to 4.7), where its numbers and lengths fit
+//! their fields.
 
 ghost use Rattle.std.specs.Prelude.{◌≡◌};
 ghost use Rattle.std.specs.List.{list_all};
 ghost use Rattle.jvm_types.specs.ReadingPool.{names};
 ghost use Rattle.jvm_types.specs.declared.index_kind.IndexKind.TheVariants.{Class};
-ghost use Rattle.class_writer.specs.Testing.{is_attr, is_handler, is_pool_code, is_field_attr, is_method_attr, has_names, is_field, is_code_attr, has_body, is_method, has_version, has_classes, has_members, keeps_rules};
+ghost use Rattle.class_writer.specs.Testing.{is_attr, is_handler, is_pool_code, is_field_attr};
+ghost use Rattle.class_writer.specs.Testing.{is_method_attr, has_names, is_field, is_code_attr};
+ghost use Rattle.class_writer.specs.Testing.{has_body, is_method, has_version, has_classes};
+ghost use Rattle.class_writer.specs.Testing.{has_members, keeps_rules};
 
 use crate::pool_rules::is_pool;
 use constant_pools::index_kinds::{is_named, names};

@@ -23,9 +23,9 @@ fn is_class(bytes: &[u8], c: &ClassFile) -> bool
 
 /// The bytes that spell `c` (JVMS 4.1). Reading them gives `c` again, and they are the only ones.
 ///
-/// Errors: `TooLarge` where a count or a length doesn't fit the field that states it; `NoSpelling` where
-/// all fit and no bytes spell `c`, because `c` breaks a rule of the class grammar or its bytes would be
-/// more than 1,048,576; `Memory` where memory runs out.
+/// Errors: `TooLarge` where a count or a length doesn't fit the field that states it; `NoSpelling`
+/// where all fit and no bytes spell `c`, because `c` breaks a rule of the class grammar or its
+/// bytes would be more than 1,048,576; `Memory` where memory runs out.
 pub fn write_class(alloc: Global, c: &ClassFile) -> Result<Bytes, WriteError>
     ensures { Answers c.now result }
 {

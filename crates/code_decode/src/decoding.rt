@@ -5,7 +5,8 @@ ghost use Rattle.std.specs.Result.{result_err};
 ghost use Rattle.jvm_types.specs.CodeFault.{or_else};
 ghost use Rattle.jvm_types.specs.CodeGrammar.{IsCode};
 ghost use Rattle.jvm_types.specs.declared.code.Insn.{Insn as Instruction};
-ghost use Rattle.code_decode.specs.Marking.{IsCodeDecoded, IsFirstCodeFault, IsWantOfMemory, unmarked_branch, unmarked_row};
+ghost use Rattle.code_decode.specs.Marking.{IsCodeDecoded, IsFirstCodeFault, IsWantOfMemory};
+ghost use Rattle.code_decode.specs.Marking.{unmarked_branch, unmarked_row};
 
 use crate::error::{CodeError, Fault};
 use crate::marks::{check_branches, check_handlers};
@@ -17,7 +18,8 @@ use std::alloc::Global;
 /// K3 or K4, where the code or a row breaks it. The code has `size` bytes.
 fn check_places(swept: &Sweep, size: usize, rows: &[Handler]) -> Result<(), Fault>
     requires { length rows.now ≤ MOST_COUNTED }
-    ensures { result_err result ≡ or_else (unmarked_branch swept.now.starts swept.now.branchings) (unmarked_row swept.now.starts size 0 rows.now) }
+    ensures { result_err result ≡ or_else (unmarked_branch swept.now.starts swept.now.branchings)
+        (unmarked_row swept.now.starts size 0 rows.now) }
 {
     let marks = swept.starts.as_slice();
     check_branches(marks, swept.branchings.as_slice())?;
@@ -40,14 +42,17 @@ fn decode_slice(alloc: Global, code: &[u8], rows: &[Handler]) -> Result<Rows<Ins
     Ok(Rows::from_vec(swept.insns))
 }
 
-/// The instructions of the code of a method with these handler rows, of which there are at most 65,535
-/// (JVMS 4.7.3, 4.9, 6.5). The first rule that the code breaks refuses it: K5 goes first, then K1, K2 and
-/// K6 in one pass by pc, then K3 by pc, then K4 by rows. The code takes time in proportion to its length.
+/// The instructions of the code of a method with these handler rows, of which there are at most
+/// 65,535 (JVMS 4.7.3, 4.9, 6.5). The first rule that the code breaks refuses it: K5 goes first,
+/// then K1, K2 and K6 in one pass by pc, then K3 by pc, then K4 by rows. The code takes time in
+/// proportion to its length.
 pub fn decode(alloc: Global, code: &Bytes, rows: &Rows<Handler>) -> Result<Rows<Insn>, CodeError>
     requires { length rows.now ≤ MOST_COUNTED }
     ensures ok { IfOk result (λ insns. IsCode code.now rows.now insns) }
-    ensures only { (insns : List Instruction) → IsCode code.now rows.now insns → IfOk result (λ found. found ≡ insns) }
-    ensures spelled { (insns : List Instruction) → IsCode code.now rows.now insns → IfErr result (λ e. IsWantOfMemory e) }
+    ensures only { (insns : List Instruction) → IsCode code.now rows.now insns
+        → IfOk result (λ found. found ≡ insns) }
+    ensures spelled { (insns : List Instruction) → IsCode code.now rows.now insns
+        → IfErr result (λ e. IsWantOfMemory e) }
     ensures refused { IfErr result (λ e. IsFirstCodeFault code.now rows.now e) }
 {
     decode_slice(alloc, code.as_slice(), rows.as_slice())

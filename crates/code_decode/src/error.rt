@@ -3,7 +3,8 @@
 use jvm_types::KRule;
 use std::alloc::AllocError;
 
-/// The rule that refuses the code, and its place: a pc, the number of a handler row for K4, or 0 for K5.
+/// The rule that refuses the code, and its place: a pc, the number of a handler row for K4, or 0
+/// for K5.
 pub type Fault = (KRule, u32);
 
 /// Why the code of a method was not decoded.
@@ -11,7 +12,8 @@ pub type Fault = (KRule, u32);
 pub enum CodeError {
     /// Memory ran out.
     Memory,
-    /// The rule that refuses the code, and its place: a pc, the number of a handler row for K4, or 0 for K5.
+    /// The rule that refuses the code, and its place: a pc, the number of a handler row for K4, or
+    /// 0 for K5.
     Refused(KRule, u32),
 }
 

@@ -2,7 +2,8 @@
 
 ghost use Rattle.std.specs.Prelude.{◌≡◌, ◌≤◌, length};
 ghost use Rattle.std.specs.Result.{result_err};
-ghost use Rattle.code_decode.specs.Marking.{has_mark, mark_at, all_marked, unmarked_branch, marked_row, unmarked_row};
+ghost use Rattle.code_decode.specs.Marking.{has_mark, mark_at, all_marked, unmarked_branch};
+ghost use Rattle.code_decode.specs.Marking.{marked_row, unmarked_row};
 
 use crate::error::Fault;
 use crate::sweep::Branching;

@@ -1,7 +1,9 @@
 //! The table of opcodes (JVMS 6.5, in the groups of JVMS 7).
 
 ghost use Rattle.std.specs.Prelude.{◌≡◌, ◌≤◌};
-ghost use Rattle.jvm_types.specs.CodeTable.{form_of, first_row, constants, loads, stores, stack_moves, arithmetic, control, references, Branch as NearBranch, LocalAndStep, IntArray};
+ghost use Rattle.jvm_types.specs.CodeTable.{form_of, first_row, constants, loads, stores};
+ghost use Rattle.jvm_types.specs.CodeTable.{stack_moves, arithmetic, control, references};
+ghost use Rattle.jvm_types.specs.CodeTable.{Branch as NearBranch, LocalAndStep, IntArray};
 ghost use Rattle.jvm_types.specs.CodeGrammar.{padding_size};
 ghost use Rattle.code_decode.specs.Decoding.{IsDecodeStep};
 

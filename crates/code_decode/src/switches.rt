@@ -1,6 +1,7 @@
 //! The two switches (JVMS 6.5, "tableswitch", "lookupswitch"), behind their padding.
 
-ghost use Rattle.std.specs.Prelude.{◌≡◌, ◌≤◌, ◌≤ℤ◌, ◌-ℤ◌, ◌+ℤ◌, ◌^◌, ◌+◌, ◌*◌, [], ◌∷◌, ◌++◌, pos, map, drop, nat_abs, int_lt, length, IfOk, OnOk};
+ghost use Rattle.std.specs.Prelude.{◌≡◌, ◌≤◌, ◌≤ℤ◌, ◌-ℤ◌, ◌+ℤ◌, ◌^◌, ◌+◌, ◌*◌, [], ◌∷◌, ◌++◌, pos};
+ghost use Rattle.std.specs.Prelude.{map, drop, nat_abs, int_lt, length, IfOk, OnOk};
 ghost use Rattle.jvm_types.specs.CodeFault.{s4_of, landing, offsets, case_offsets, ascend};
 ghost use Rattle.jvm_types.specs.ReadCode.{cases_of};
 ghost use Rattle.code_decode.specs.Decoding.{IsTable, IsSwitchTable, IsLookup, case_of};

@@ -2,7 +2,8 @@
 
 ghost use Rattle.std.specs.Prelude.{◌≡◌};
 ghost use Rattle.jvm_types.specs.Numbers.{has_number};
-ghost use Rattle.jvm_types.specs.ClassTree.{super_class, ancestors, is_subclass, first_above, common_ancestor};
+ghost use Rattle.jvm_types.specs.ClassTree.{super_class, ancestors, is_subclass, first_above};
+ghost use Rattle.jvm_types.specs.ClassTree.{common_ancestor};
 
 use jvm_types::class_numbers::OBJECT_CLASS;
 
@@ -18,7 +19,8 @@ fn super_class(class: u16) -> u16
     }
 }
 
-/// A class and those above it. No class is more than four steps from `Object`, which is above itself.
+/// A class and those above it. No class is more than four steps from `Object`, which is above
+/// itself.
 fn ancestors(class: u16) -> [u16; 5]
     ensures { result ≡ ancestors class }
 {

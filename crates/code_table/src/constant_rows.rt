@@ -2,7 +2,10 @@
 
 ghost use Rattle.std.specs.Prelude.{◌≡◌, ◌∷◌, [], map, reverse, Some, None, IfOk};
 ghost use Rattle.std.specs.Option.{option_copied};
-ghost use Rattle.jvm_types.specs.CodeTable.{stack_row, type_of, want_of, arguments, result_of, is_init, no_row, get_static_row, get_row, put_row, put_static_row, virtual_row, special_row, static_row, returned_want, constant_row};
+ghost use Rattle.jvm_types.specs.CodeTable.{stack_row, type_of, want_of, arguments, result_of};
+ghost use Rattle.jvm_types.specs.CodeTable.{is_init, no_row, get_static_row, get_row, put_row};
+ghost use Rattle.jvm_types.specs.CodeTable.{put_static_row, virtual_row, special_row, static_row};
+ghost use Rattle.jvm_types.specs.CodeTable.{returned_want, constant_row};
 ghost use Rattle.jvm_types.specs.declared.op_row.Given.TheVariants.{Fresh};
 ghost use Rattle.jvm_types.specs.declared.program.Target.TheVariants as targets;
 

@@ -10,8 +10,8 @@ use jvm_types::{MethodInfo, Target};
 use std::alloc::{AllocError, Global};
 use std::marker::Model;
 
-/// A method whose instructions follow one another, with the number of the instruction at each pc. Contracts see
-/// the method.
+/// A method whose instructions follow one another, with the number of the instruction at each pc.
+/// Contracts see the method.
 #[derive(Debug, Drop)]
 pub struct IndexedMethod<'a> {
     method: &'a MethodInfo,

@@ -1,5 +1,6 @@
-//! The code table in Rust: the row of each instruction, where it goes on, which class is below which, and the
-//! number of the instruction at each pc. Verifying, tagging, marking and running go over it.
+//! The code table in Rust: the row of each instruction, where it goes on, which class is below
+//! which, and the number of the instruction at each pc. Verifying, tagging, marking and running go
+//! over it.
 #![tactic(auto)]
 
 mod class_tree;

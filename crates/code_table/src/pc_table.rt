@@ -8,8 +8,8 @@ use jvm_types::Insn;
 use std::alloc::{AllocError, Global};
 use std::marker::Model;
 
-/// For each pc the number of the instruction that begins there, counted from 0. It is made once, in time in
-/// proportion to the code, and a number is found in constant time.
+/// For each pc the number of the instruction that begins there, counted from 0. It is made once, in
+/// time in proportion to the code, and a number is found in constant time.
 #[derive(Debug, Drop)]
 pub struct PcTable {
     numbers: Vec<Option<u32>>,

@@ -7,8 +7,8 @@ ghost use Rattle.jvm_types.specs.declared.typing.VType.{VType};
 use jvm_types::{Given, OpRow, Rows, Stack, VType};
 use std::alloc::{AllocError, Global};
 
-/// What the places of stacks and locals hold, as types, tags or words, and what an instruction that makes a value
-/// of its own puts there.
+/// What the places of stacks and locals hold, as types, tags or words, and what an instruction that
+/// makes a value of its own puts there.
 pub trait Making {
     type Value: Copy + Drop;
 
@@ -82,7 +82,9 @@ fn push_all<M: Making>(
     stack: &Stack<M::Value>,
     locals: &[M::Value],
 ) -> Result<(), AllocError>
-    ensures { OnOk result (pushed.new ≡ map (λ given. value_of (M.none making.now) (M.made making.now) stack.now locals.now given) gives.now ++ pushed.old) }
+    ensures { OnOk result (pushed.new ≡ map (λ given.
+        value_of (M.none making.now) (M.made making.now) stack.now locals.now given)
+        gives.now ++ pushed.old) }
 {
     for i in (0..gives.len()).rev() {
         pushed.push(value_of(making, stack, locals, gives[i]))?;
@@ -98,22 +100,25 @@ pub fn stack_after<M: Making>(
     stack: &Stack<M::Value>,
     locals: &[M::Value],
 ) -> Result<Stack<M::Value>, AllocError>
-    ensures { IfOk result (λ after. after ≡ stack_after (M.none making.now) (M.made making.now) row.now stack.now locals.now) }
+    ensures { IfOk result (λ after.
+        after ≡ stack_after (M.none making.now) (M.made making.now) row.now stack.now
+        locals.now) }
 {
     let mut after = stack.without_for(alloc, row.takes.len(), row.gives.len())?;
     push_all(making, &mut after, row.gives.as_slice(), stack, locals)?;
     Ok(after)
 }
 
-/// The locals become those after an instruction that writes so and finds this stack. A local that is not there is
-/// not written.
+/// The locals become those after an instruction that writes so and finds this stack. A local that
+/// is not there is not written.
 pub fn write_local<M: Making>(
     making: &M,
     writes: Option<(u16, Given)>,
     stack: &Stack<M::Value>,
     locals: &mut Rows<M::Value>,
 )
-    ensures { locals.new ≡ locals_after (M.none making.now) (M.made making.now) writes stack.now locals.old }
+    ensures { locals.new
+        ≡ locals_after (M.none making.now) (M.made making.now) writes stack.now locals.old }
 {
     if let Some((i, given)) = writes {
         let i = usize::from(i);

@@ -16,7 +16,8 @@ use std::alloc::{AllocError, Global};
 /// The stack after an instruction that has this row, as it is before an `<init>` is called.
 #[tactic(auto, using(crate::proofs::FrameLaws::stack_known))]
 fn stack_after(alloc: Global, row: &OpRow, f: &TypeFrame) -> Result<Stack<VType>, AllocError>
-    ensures { IfOk result (λ stack. stack ≡ stack_after Top (λ t. t) row.now f.now.stack f.now.locals) }
+    ensures { IfOk result
+        (λ stack. stack ≡ stack_after Top (λ t. t) row.now f.now.stack f.now.locals) }
 {
     code_table::stack_after(alloc, &Types, row, f.stack(), f.first_locals())
 }
@@ -40,7 +41,9 @@ fn locals_after(
     writes: Option<(u16, Given)>,
     f: &TypeFrame,
 ) -> Result<Rows<VType>, AllocError>
-    ensures { IfOk result (λ locals. filled (length f.now.locals) locals ≡ locals_after Top (λ t. t) writes f.now.stack f.now.locals) }
+    ensures { IfOk result (λ locals.
+        filled (length f.now.locals) locals
+        ≡ locals_after Top (λ t. t) writes f.now.stack f.now.locals) }
 {
     let Some((i, _)) = writes else {
         return first_locals(alloc, f, 0);
@@ -77,8 +80,8 @@ fn started(own: u16, takes: &[Want], stack: &Stack<VType>) -> Option<(VType, u16
     None
 }
 
-/// An `<init>` is called on the object, which is of the class from then on; answers whether `this` is initialised
-/// then.
+/// An `<init>` is called on the object, which is of the class from then on; answers whether `this`
+/// is initialised then.
 fn start(
     stack: &mut Stack<VType>,
     locals: &mut Rows<VType>,
@@ -87,15 +90,17 @@ fn start(
     ready: bool,
 ) -> bool
     requires { is_uninitialised object ≡ true }
-    ensures { (n : ℕ) → after_start (Some (object, class)) (record { stack = stack.old; locals = filled n locals.old; ready = ready }) ≡ record { stack = stack.new; locals = filled n locals.new; ready = result } }
+    ensures { (n : ℕ) → after_start (Some (object, class))
+        (record { stack = stack.old; locals = filled n locals.old; ready = ready })
+        ≡ record { stack = stack.new; locals = filled n locals.new; ready = result } }
 {
     initialise_stack(stack, object, class);
     initialise(locals, object, class);
     ready | same_type(object, VType::This)
 }
 
-/// Where an `<init>` is called on an object, it is of the class from then on; answers whether `this` is initialised
-/// then.
+/// Where an `<init>` is called on an object, it is of the class from then on; answers whether
+/// `this` is initialised then.
 fn start_object(
     stack: &mut Stack<VType>,
     locals: &mut Rows<VType>,
@@ -103,7 +108,9 @@ fn start_object(
     ready: bool,
 ) -> bool
     requires { IfSome object (λ o. is_uninitialised o.0 ≡ true) }
-    ensures { (n : ℕ) → after_start object (record { stack = stack.old; locals = filled n locals.old; ready = ready }) ≡ record { stack = stack.new; locals = filled n locals.new; ready = result } }
+    ensures { (n : ℕ) → after_start object
+        (record { stack = stack.old; locals = filled n locals.old; ready = ready })
+        ≡ record { stack = stack.new; locals = filled n locals.new; ready = result } }
 {
     match object {
         Some((object, class)) => start(stack, locals, object, class, ready),
@@ -111,8 +118,8 @@ fn start_object(
     }
 }
 
-/// The frame after an instruction of the method that has this row and finds this frame, with values of the types
-/// that are asked for.
+/// The frame after an instruction of the method that has this row and finds this frame, with values
+/// of the types that are asked for.
 pub fn frame_after(
     alloc: Global,
     m: &MethodInfo,

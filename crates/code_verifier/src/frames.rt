@@ -18,7 +18,8 @@ pub fn value(stack: &Stack<VType>, place: usize) -> Option<VType>
 
 #[tactic(auto, using(crate::proofs::FrameLaws::uninitialised_stack, crate::proofs::FrameLaws::uninitialised_locals))]
 pub fn has_uninitialised(f: &TypeFrame) -> bool
-    ensures { result ≡ (list_any is_uninitialised f.now.stack || list_any is_uninitialised f.now.locals) }
+    ensures { result
+        ≡ (list_any is_uninitialised f.now.stack || list_any is_uninitialised f.now.locals) }
 {
     some_uninitialised(f.stack().as_slice()) || some_uninitialised(f.first_locals())
 }
@@ -39,7 +40,8 @@ pub fn copy(alloc: Global, f: &TypeFrame) -> Result<TypeFrame, AllocError>
 
 /// A copy with another stack: no values.
 pub fn without_stack(alloc: Global, f: &TypeFrame) -> Result<TypeFrame, AllocError>
-    ensures { IfOk result (λ g. g ≡ record { stack = []; locals = f.now.locals; ready = f.now.ready }) }
+    ensures { IfOk result
+        (λ g. g ≡ record { stack = []; locals = f.now.locals; ready = f.now.ready }) }
 {
     f.with_stack(Stack::new(alloc))
 }

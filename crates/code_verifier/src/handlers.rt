@@ -6,7 +6,8 @@ ghost use Rattle.jvm_types.specs.Types.{TypeFrame};
 ghost use Rattle.jvm_types.specs.Verifying.{caught_class, catch_fault, covering};
 ghost use Rattle.code_visits.specs.Analyses.{Leaves};
 ghost use Rattle.code_visits.specs.TypePlan.{goes_typed, caught_acts, handled_acts};
-ghost use Rattle.code_verifier.specs.Visiting.{HasLocals, HaveLocals, KeptTypeFrame, type_acts_done, with_object_stack};
+ghost use Rattle.code_verifier.specs.Visiting.{HasLocals, HaveLocals, KeptTypeFrame};
+ghost use Rattle.code_verifier.specs.Visiting.{type_acts_done, with_object_stack};
 
 use crate::analysis::Verification;
 use crate::frames::{with_object, without_stack};
@@ -42,7 +43,8 @@ fn catch_fault(m: &MethodInfo, pc: u32, row: &Row) -> Option<(VRule, u32)>
     }
 }
 
-/// Whether an edge that brings the locals of a frame, with one object of a class, changes nothing; it may be told to.
+/// Whether an edge that brings the locals of a frame, with one object of a class, changes nothing;
+/// it may be told to.
 fn adds_nothing(
     m: &HandledMethod<'_>,
     nodes: &Nodes<TypeFrame>,
@@ -52,7 +54,9 @@ fn adds_nothing(
 ) -> bool
     requires level { HaveLocals m.now nodes.now }
     requires locals { HasLocals m.now f.now }
-    ensures { result ≡ true → type_acts_done m.now (goes_typed (to ∷ []) (with_object_stack class f.now) ∷ []) nodes.now ≡ Ok nodes.now }
+    ensures { result ≡ true → type_acts_done m.now
+        (goes_typed (to ∷ []) (with_object_stack class f.now) ∷ []) nodes.now
+        ≡ Ok nodes.now }
 {
     m.laid_out();
     let Some(i) = m.find(to) else {
@@ -75,7 +79,8 @@ fn catch_row(
 ) -> Result<(), Stop<VRule>>
     requires level { HaveLocals m.now nodes.old }
     requires locals { HasLocals m.now f.now }
-    ensures left { Leaves (type_acts_done m.now (caught_acts m.now pc f.now row.now) nodes.old) nodes.new result }
+    ensures left { Leaves (type_acts_done m.now (caught_acts m.now pc f.now row.now) nodes.old)
+        nodes.new result }
     ensures level { OnOk result (HaveLocals m.now nodes.new) }
 {
     if let Some((rule, at)) = catch_fault(m.method(), pc, row) {
@@ -100,7 +105,9 @@ fn handle(
 ) -> Result<(), Stop<VRule>>
     requires level { HaveLocals m.now nodes.old }
     requires locals { HasLocals m.now f.now }
-    ensures left { Leaves (type_acts_done m.now (handled_acts m.now pc f.now (covering m.now pc)) nodes.old) nodes.new result }
+    ensures left { Leaves
+        (type_acts_done m.now (handled_acts m.now pc f.now (covering m.now pc)) nodes.old) nodes.new
+        result }
     ensures level { OnOk result (HaveLocals m.now nodes.new) }
 {
     let mut k = 0;
@@ -111,7 +118,8 @@ fn handle(
     Ok(())
 }
 
-/// What is kept of a frame for the handlers of the rows that cover a pc, where there are some: all but the stack.
+/// What is kept of a frame for the handlers of the rows that cover a pc, where there are some: all
+/// but the stack.
 pub fn keep_for_handlers(
     alloc: Global,
     m: &HandledMethod<'_>,
@@ -137,7 +145,9 @@ pub fn handle_kept(
 ) -> Result<(), Stop<VRule>>
     requires level { HaveLocals m.now nodes.old }
     requires locals { IfSome kept.now (HasLocals m.now) }
-    ensures left { (f : TypeFrame) → KeptTypeFrame m.now pc f kept.now → Leaves (type_acts_done m.now (handled_acts m.now pc f (covering m.now pc)) nodes.old) nodes.new result }
+    ensures left { (f : TypeFrame) → KeptTypeFrame m.now pc f kept.now → Leaves
+        (type_acts_done m.now (handled_acts m.now pc f (covering m.now pc)) nodes.old) nodes.new
+        result }
     ensures level { OnOk result (HaveLocals m.now nodes.new) }
 {
     match kept {

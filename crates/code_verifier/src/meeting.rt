@@ -19,8 +19,8 @@ pub fn clashes(frame: &TypeFrame, other: &TypeFrame) -> bool
     frame.stack().len() != other.stack().len()
 }
 
-/// Whether a frame is another, and so stays as it is where they meet; it may be told not to be where last locals of which
-/// nothing is known are kept in one of them alone.
+/// Whether a frame is another, and so stays as it is where they meet; it may be told not to be
+/// where last locals of which nothing is known are kept in one of them alone.
 pub fn is_same(frame: &TypeFrame, other: &TypeFrame) -> bool
     requires { type_local_count frame.now ≡ type_local_count other.now }
     ensures { result ≡ true → type_meeting.meet frame.now other.now ≡ frame.now }
@@ -41,10 +41,12 @@ fn loses_this(frame: &TypeFrame, other: &TypeFrame) -> bool
     frame.is_ready() && !other.is_ready()
 }
 
-/// Whether a frame stays as it is where it meets the locals of another, with one object of a class on the stack.
+/// Whether a frame stays as it is where it meets the locals of another, with one object of a class
+/// on the stack.
 pub fn stays(frame: &TypeFrame, other: &TypeFrame, class: u16) -> bool
     requires { type_local_count frame.now ≡ type_local_count other.now }
-    ensures same { result ≡ true → same_frame frame.now (meet_frames frame.now (with_object_stack class other.now)) ≡ true }
+    ensures same { result ≡ true
+        → same_frame frame.now (meet_frames frame.now (with_object_stack class other.now)) ≡ true }
     ensures deep { result ≡ true → length frame.now.stack ≡ 1 }
 {
     if frame.stack().len() != 1 {
@@ -66,7 +68,8 @@ pub fn meet_frames(
     requires apart { type_meeting.clashes frame other.now ≡ false }
     requires wide { type_local_count frame ≡ type_local_count other.now }
     ensures met { IfOk result (λ r. r.0 ≡ type_meeting.meet frame other.now) }
-    ensures told { IfOk result (λ r. r.1 ≡ not (type_meeting.same frame (type_meeting.meet frame other.now))) }
+    ensures told { IfOk result
+        (λ r. r.1 ≡ not (type_meeting.same frame (type_meeting.meet frame other.now))) }
 {
     let local_count = frame.local_count();
     let (mut stack, mut locals, was_ready) = frame.into_parts(alloc)?;

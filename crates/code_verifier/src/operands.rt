@@ -1,4 +1,5 @@
-//! The values that an instruction takes and reads: whether they are misused, and whether their types fit.
+//! The values that an instruction takes and reads: whether they are misused, and whether their
+//! types fit.
 
 ghost use Rattle.std.specs.Prelude.{◌≡◌, not};
 ghost use Rattle.jvm_types.specs.Verifying.{misuses, suits, some_taken, some_read, some_operand};

@@ -2,7 +2,10 @@
 
 ghost use Rattle.std.specs.Prelude.{◌≡◌, ◌==◌};
 ghost use Rattle.std.specs.List.{list_any};
-ghost use Rattle.jvm_types.specs.Verifying.{takes_too_many, gives_too_many, names_no_local, lacks_locals, is_return, misuses_object, mistypes, returns_wrongly, falls_off, broken_before, broken_after};
+ghost use Rattle.jvm_types.specs.Verifying.{takes_too_many, gives_too_many, names_no_local};
+ghost use Rattle.jvm_types.specs.Verifying.{lacks_locals, is_return, misuses_object, mistypes};
+ghost use Rattle.jvm_types.specs.Verifying.{returns_wrongly, falls_off, broken_before};
+ghost use Rattle.jvm_types.specs.Verifying.{broken_after};
 
 use crate::frames::{has_new_local, has_uninitialised};
 use crate::operands::{Fault, some_operand};

@@ -1,8 +1,10 @@
 //! Lists of types, as the locals of a frame or its stack.
 
-ghost use Rattle.std.specs.Prelude.{◌≡◌, ◌<◌, ◌≤◌, not, if◌then◌else◌, length, slice_get, Some, OnOk};
+ghost use Rattle.std.specs.Prelude.{◌≡◌, ◌<◌, ◌≤◌, not, if◌then◌else◌, length, slice_get, Some};
+ghost use Rattle.std.specs.Prelude.{OnOk};
 ghost use Rattle.std.specs.List.{list_any};
-ghost use Rattle.jvm_types.specs.Types.{filled, is_uninitialised, is_new, same_type, all_pairs, meet, meets};
+ghost use Rattle.jvm_types.specs.Types.{filled, is_uninitialised, is_new, same_type, all_pairs};
+ghost use Rattle.jvm_types.specs.Types.{meet, meets};
 ghost use Rattle.jvm_types.specs.Verifying.{initialised};
 ghost use Rattle.jvm_types.specs.declared.typing.VType.TheVariants.{Ref};
 
@@ -143,7 +145,8 @@ pub fn initialise_stack(stack: &mut Stack<VType>, object: VType, class: u16)
     }
 }
 
-/// Each place gets what it and its place in `others` have in common; answers whether that changed one.
+/// Each place gets what it and its place in `others` have in common; answers whether that changed
+/// one.
 pub fn meet_stacks(stack: &mut Stack<VType>, others: &Stack<VType>) -> bool
     requires { length stack.old ≡ length others.now }
     ensures met { stack.new ≡ meets stack.old others.now }
@@ -159,8 +162,8 @@ pub fn meet_stacks(stack: &mut Stack<VType>, others: &Stack<VType>) -> bool
     changed
 }
 
-/// Each of some first locals gets what it and that of another frame have in common; answers whether that changed
-/// one.
+/// Each of some first locals gets what it and that of another frame have in common; answers whether
+/// that changed one.
 pub fn meet_locals(locals: &mut Rows<VType>, other: &TypeFrame) -> bool
     requires { length locals.old ≤ length other.now.locals }
     ensures met { locals.new ≡ meets locals.old other.now.locals }

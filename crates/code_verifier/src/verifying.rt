@@ -31,10 +31,10 @@ pub(crate) fn verify_method(
     }
 }
 
-/// The typing of the method of this number (JVMS 4.10.2): types are inferred, and the instruction that is visited
-/// next is always the waiting one of least pc. Where the method has no typing, the rule and the pc of the first
-/// visit that breaks one. What is kept for the method is taken from the budget; where that is spent, memory is
-/// wanting.
+/// The typing of the method of this number (JVMS 4.10.2): types are inferred, and the instruction
+/// that is visited next is always the waiting one of least pc. Where the method has no typing, the
+/// rule and the pc of the first visit that breaks one. What is kept for the method is taken from
+/// the budget; where that is spent, memory is wanting.
 pub fn verify_within(
     alloc: Global,
     p: &Program,
@@ -43,10 +43,14 @@ pub fn verify_within(
 ) -> Result<Typing, VerifyError>
     requires program { IsProgram p.now }
     requires method { method < length p.now.methods }
-    ensures ok { IsSomeAnd (slice_get p.now.methods method) (λ m. IfOk result (λ t. IsTypingOf p.now m t)) }
-    ensures only { IsSomeAnd (slice_get p.now.methods method) (λ m. (t : MethodTyping) → IsTypingOf p.now m t → IfOk result (λ found. found ≡ t)) }
-    ensures typed { IsSomeAnd (slice_get p.now.methods method) (λ m. (t : MethodTyping) → IsTypingOf p.now m t → IfErr result (λ e. e ≡ Memory)) }
-    ensures refused { IsSomeAnd (slice_get p.now.methods method) (λ m. IfErr result (λ e. IsRefusal p.now m e)) }
+    ensures ok { IsSomeAnd (slice_get p.now.methods method)
+        (λ m. IfOk result (λ t. IsTypingOf p.now m t)) }
+    ensures only { IsSomeAnd (slice_get p.now.methods method)
+        (λ m. (t : MethodTyping) → IsTypingOf p.now m t → IfOk result (λ found. found ≡ t)) }
+    ensures typed { IsSomeAnd (slice_get p.now.methods method)
+        (λ m. (t : MethodTyping) → IsTypingOf p.now m t → IfErr result (λ e. e ≡ Memory)) }
+    ensures refused { IsSomeAnd (slice_get p.now.methods method)
+        (λ m. IfErr result (λ e. IsRefusal p.now m e)) }
     ensures spent { budget.new ≤ budget.old }
 {
     match p.methods.get(method as usize) {
@@ -59,10 +63,14 @@ pub fn verify_within(
 pub fn verify(alloc: Global, p: &Program, method: u32) -> Result<Typing, VerifyError>
     requires program { IsProgram p.now }
     requires method { method < length p.now.methods }
-    ensures ok { IsSomeAnd (slice_get p.now.methods method) (λ m. IfOk result (λ t. IsTypingOf p.now m t)) }
-    ensures only { IsSomeAnd (slice_get p.now.methods method) (λ m. (t : MethodTyping) → IsTypingOf p.now m t → IfOk result (λ found. found ≡ t)) }
-    ensures typed { IsSomeAnd (slice_get p.now.methods method) (λ m. (t : MethodTyping) → IsTypingOf p.now m t → IfErr result (λ e. e ≡ Memory)) }
-    ensures refused { IsSomeAnd (slice_get p.now.methods method) (λ m. IfErr result (λ e. IsRefusal p.now m e)) }
+    ensures ok { IsSomeAnd (slice_get p.now.methods method)
+        (λ m. IfOk result (λ t. IsTypingOf p.now m t)) }
+    ensures only { IsSomeAnd (slice_get p.now.methods method)
+        (λ m. (t : MethodTyping) → IsTypingOf p.now m t → IfOk result (λ found. found ≡ t)) }
+    ensures typed { IsSomeAnd (slice_get p.now.methods method)
+        (λ m. (t : MethodTyping) → IsTypingOf p.now m t → IfErr result (λ e. e ≡ Memory)) }
+    ensures refused { IsSomeAnd (slice_get p.now.methods method)
+        (λ m. IfErr result (λ e. IsRefusal p.now m e)) }
 {
     let mut budget = Budget::of(MOST_KEPT);
     verify_within(alloc, p, method, &mut budget)

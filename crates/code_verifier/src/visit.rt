@@ -7,7 +7,8 @@ ghost use Rattle.checked_program.specs.Visits.{acts_on};
 ghost use Rattle.code_visits.specs.Waiting.{plan_node_at};
 ghost use Rattle.code_visits.specs.Analyses.{Leaves};
 ghost use Rattle.code_visits.specs.TypePlan.{gone_acts, type_plan};
-ghost use Rattle.code_verifier.specs.Visiting.{HasLocals, HaveLocals, KeptTypeFrame, Prepares, type_acts_done};
+ghost use Rattle.code_verifier.specs.Visiting.{HasLocals, HaveLocals, KeptTypeFrame, Prepares};
+ghost use Rattle.code_verifier.specs.Visiting.{type_acts_done};
 
 use crate::after::frame_after;
 use crate::analysis::Verification;
@@ -31,7 +32,8 @@ fn go_on(
     requires level { HaveLocals m.now nodes.old }
     requires locals { IfSome kept.now (HasLocals m.now) }
     requires locals_after { HasLocals m.now after }
-    ensures left { (f : TypeFrame) → KeptTypeFrame m.now insn.now.pc f kept.now → Leaves (type_acts_done m.now (gone_acts m.now insn.now f after) nodes.old) nodes.new result }
+    ensures left { (f : TypeFrame) → KeptTypeFrame m.now insn.now.pc f kept.now → Leaves
+        (type_acts_done m.now (gone_acts m.now insn.now f after) nodes.old) nodes.new result }
     ensures level { OnOk result (HaveLocals m.now nodes.new) }
 {
     let tos = edges(alloc, insn)?;
@@ -42,7 +44,8 @@ fn go_on(
     handle_kept(alloc, m, nodes, insn.pc, kept)
 }
 
-/// The frame after an instruction that has this row and finds this frame, and what is kept for handlers.
+/// The frame after an instruction that has this row and finds this frame, and what is kept for
+/// handlers.
 fn prepare(
     alloc: Global,
     m: &HandledMethod<'_>,
@@ -69,7 +72,9 @@ pub fn visit(
     i: usize,
 ) -> Result<(), Stop<VRule>>
     requires level { HaveLocals m.now nodes.old }
-    ensures left { Leaves (type_acts_done m.now (acts_on (type_plan p.now m.now) i (plan_node_at nodes.old i).frame) nodes.old) nodes.new result }
+    ensures left { Leaves (type_acts_done m.now
+        (acts_on (type_plan p.now m.now) i (plan_node_at nodes.old i).frame) nodes.old)
+        nodes.new result }
     ensures level { OnOk result (HaveLocals m.now nodes.new) }
 {
     let method = m.method();

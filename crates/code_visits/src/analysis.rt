@@ -49,7 +49,9 @@ pub trait Analysis: Frames {
         i: usize,
     ) -> Result<(), Stop<Self::Rule>>
         requires level { AreLevel Self.width (Self.width (first m.now)) m.now.code nodes.old }
-        ensures left { Leaves (acted Self.meeting m.now.code (acts_on (plan_of Self.meeting first acts p.now m.now) i (plan_node_at nodes.old i).frame) nodes.old) nodes.new result }
+        ensures left { Leaves (acted Self.meeting m.now.code (acts_on
+            (plan_of Self.meeting first acts p.now m.now) i
+            (plan_node_at nodes.old i).frame) nodes.old) nodes.new result }
         ensures level { OnOk result (AreLevel Self.width (Self.width (first m.now)) m.now.code nodes.new) };
 
     ghost ends: { (p : Linked) (m : Method) → IsLaidOut m → Ends (plan_of Self.meeting first acts p m) (is_kept p m) (work p m) };

@@ -5,7 +5,8 @@ ghost use Rattle.std.specs.Prelude.{◌≡◌, ◌+◌, ◌<◌, min, OnOk, OnEr
 use std::alloc::AllocError;
 use std::marker::Model;
 
-/// The bytes that one analysis of a program keeps at most: 512 MiB. Where it would keep more, memory is wanting.
+/// The bytes that one analysis of a program keeps at most: 512 MiB. Where it would keep more,
+/// memory is wanting.
 pub const MOST_KEPT: usize = 536870912;
 
 /// How many bytes may still be kept, which contracts see as that number.

@@ -1,7 +1,8 @@
 //! Edges: the frames that an instruction brings to others.
 
 ghost use Rattle.std.specs.Prelude.{◌≡◌, ℕ, List, [], ◌∷◌, None, OnOk};
-ghost use Rattle.checked_program.specs.Visits.{Bring, acted, edge_brought, edges_brought, meeting_clash, clashes_with};
+ghost use Rattle.checked_program.specs.Visits.{Bring, acted, edge_brought, edges_brought};
+ghost use Rattle.checked_program.specs.Visits.{meeting_clash, clashes_with};
 ghost use Rattle.code_visits.specs.Waiting.{plan_node_at};
 ghost use Rattle.code_visits.specs.Level.{AreLevel};
 ghost use Rattle.code_visits.specs.Analyses.{lesser, clash_place, Leaves};
@@ -33,8 +34,8 @@ fn clashes_there<D: Frames>(nodes: &Nodes<D::Frame>, i: usize, f: &D::Frame) -> 
     }
 }
 
-/// The pc that an edge leads to, where the instruction of this number is there and has a frame that may not meet
-/// the one that is brought.
+/// The pc that an edge leads to, where the instruction of this number is there and has a frame that
+/// may not meet the one that is brought.
 fn clash_place<D: Frames>(
     nodes: &Nodes<D::Frame>,
     number: Option<usize>,
@@ -68,7 +69,8 @@ fn clash_at<D: Frames>(
     clash_place::<D>(nodes, m.find(to), to, f)
 }
 
-/// The first of the instructions that edges lead to whose frame may not meet the one that is brought.
+/// The first of the instructions that edges lead to whose frame may not meet the one that is
+/// brought.
 fn clash<D: Frames>(
     m: &HandledMethod<'_>,
     nodes: &Nodes<D::Frame>,
@@ -123,7 +125,8 @@ fn bring_last<D: Frames>(
     }
 }
 
-/// Edges bring a frame to the instructions at these pcs. Where some others bring it too, they still clash with none.
+/// Edges bring a frame to the instructions at these pcs. Where some others bring it too, they still
+/// clash with none.
 fn bring_each<D: Frames>(
     alloc: Global,
     m: &HandledMethod<'_>,
@@ -133,9 +136,12 @@ fn bring_each<D: Frames>(
 ) -> Result<(), AllocError>
     requires level { AreLevel D.width (D.width f.now) m.now.code nodes.old }
     requires apart { meeting_clash D.meeting m.now.code tos.now f.now nodes.old ≡ None }
-    ensures brought { OnOk result (nodes.new ≡ edges_brought D.meeting m.now.code tos.now f.now nodes.old) }
+    ensures brought { OnOk result
+        (nodes.new ≡ edges_brought D.meeting m.now.code tos.now f.now nodes.old) }
     ensures level { OnOk result (AreLevel D.width (D.width f.now) m.now.code nodes.new) }
-    ensures apart { OnOk result ((others : List ℕ) → meeting_clash D.meeting m.now.code others f.now nodes.old ≡ None → meeting_clash D.meeting m.now.code others f.now nodes.new ≡ None) }
+    ensures apart { OnOk result ((others : List ℕ)
+        → meeting_clash D.meeting m.now.code others f.now nodes.old ≡ None
+        → meeting_clash D.meeting m.now.code others f.now nodes.new ≡ None) }
 {
     m.laid_out();
     for to in tos {
@@ -144,7 +150,8 @@ fn bring_each<D: Frames>(
     Ok(())
 }
 
-/// Edges bring a frame to the instructions at these pcs; the frame itself is kept where the last finds none.
+/// Edges bring a frame to the instructions at these pcs; the frame itself is kept where the last
+/// finds none.
 fn bring_all<D: Frames>(
     alloc: Global,
     m: &HandledMethod<'_>,
@@ -154,7 +161,8 @@ fn bring_all<D: Frames>(
 ) -> Result<(), AllocError>
     requires level { AreLevel D.width (D.width f) m.now.code nodes.old }
     requires apart { meeting_clash D.meeting m.now.code tos.now f nodes.old ≡ None }
-    ensures brought { OnOk result (nodes.new ≡ edges_brought D.meeting m.now.code tos.now f nodes.old) }
+    ensures brought { OnOk result
+        (nodes.new ≡ edges_brought D.meeting m.now.code tos.now f nodes.old) }
     ensures level { OnOk result (AreLevel D.width (D.width f) m.now.code nodes.new) }
 {
     m.laid_out();
@@ -175,7 +183,8 @@ pub fn go_along<D: Frames, R: Drop>(
     f: D::Frame,
 ) -> Result<(), Stop<R>>
     requires { AreLevel D.width (D.width f) m.now.code nodes.old }
-    ensures left { Leaves (acted D.meeting m.now.code (Bring rule tos.now f ∷ []) nodes.old) nodes.new result }
+    ensures left { Leaves (acted D.meeting m.now.code (Bring rule tos.now f ∷ []) nodes.old)
+        nodes.new result }
     ensures level { OnOk result (AreLevel D.width (D.width f) m.now.code nodes.new) }
 {
     if let Some(at) = clash::<D>(m, nodes, tos, &f) {
@@ -185,7 +194,8 @@ pub fn go_along<D: Frames, R: Drop>(
     Ok(())
 }
 
-/// A frame, which is kept, goes along an edge, unless it may not meet the one that is there: then the rule is broken.
+/// A frame, which is kept, goes along an edge, unless it may not meet the one that is there: then
+/// the rule is broken.
 pub fn go_to<D: Frames, R: Drop>(
     alloc: Global,
     m: &HandledMethod<'_>,
@@ -195,7 +205,8 @@ pub fn go_to<D: Frames, R: Drop>(
     f: &D::Frame,
 ) -> Result<(), Stop<R>>
     requires { AreLevel D.width (D.width f.now) m.now.code nodes.old }
-    ensures left { Leaves (acted D.meeting m.now.code (Bring rule (to ∷ []) f.now ∷ []) nodes.old) nodes.new result }
+    ensures left { Leaves (acted D.meeting m.now.code (Bring rule (to ∷ []) f.now ∷ []) nodes.old)
+        nodes.new result }
     ensures level { OnOk result (AreLevel D.width (D.width f.now) m.now.code nodes.new) }
 {
     if let Some(at) = clash_at::<D>(m, nodes, to, f) {

@@ -1,6 +1,6 @@
-//! Visits of the instructions of a method, for frames of any kind: what is kept of each instruction, what is brought
-//! along an edge, and the loop until nothing waits. An analysis says what its frames are, how they meet, and what an
-//! instruction does with one.
+//! Visits of the instructions of a method, for frames of any kind: what is kept of each
+//! instruction, what is brought along an edge, and the loop until nothing waits. An analysis says
+//! what its frames are, how they meet, and what an instruction does with one.
 #![tactic(auto)]
 
 mod analysis;

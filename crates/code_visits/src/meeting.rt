@@ -13,7 +13,9 @@ use std::alloc::{AllocError, Global};
 /// Whether the instruction of this number has a frame that meeting another doesn't change.
 fn stays_at<D: Frames>(nodes: &Nodes<D::Frame>, i: usize, f: &D::Frame) -> bool
     requires { IsAsWide D.meeting D.width (plan_node_at nodes.now i).frame f.now }
-    ensures { result ≡ true → slice_set nodes.now i (joined D.meeting (plan_node_at nodes.now i).waits (plan_node_at nodes.now i).frame f.now) ≡ nodes.now }
+    ensures { result ≡ true → slice_set nodes.now i (joined D.meeting
+        (plan_node_at nodes.now i).waits (plan_node_at nodes.now i).frame f.now)
+        ≡ nodes.now }
 {
     match nodes.frame(i) {
         Some(frame) => D::stays(frame, f),
@@ -30,7 +32,8 @@ pub fn bring_to<D: Frames>(
 ) -> Result<(), AllocError>
     requires inside { i < length nodes.old }
     requires fits { IsAsWide D.meeting D.width (plan_node_at nodes.old i).frame f.now }
-    ensures { OnOk result (nodes.new ≡ slice_set nodes.old i (joined D.meeting (plan_node_at nodes.old i).waits (plan_node_at nodes.old i).frame f.now)) }
+    ensures { OnOk result (nodes.new ≡ slice_set nodes.old i (joined D.meeting
+        (plan_node_at nodes.old i).waits (plan_node_at nodes.old i).frame f.now)) }
 {
     if stays_at::<D>(nodes, i, f) {
         return Ok(());
@@ -41,7 +44,8 @@ pub fn bring_to<D: Frames>(
     Ok(())
 }
 
-/// The last edge brings a frame to the instruction of this number; the frame itself is kept where none is there.
+/// The last edge brings a frame to the instruction of this number; the frame itself is kept where
+/// none is there.
 pub fn bring_last_to<D: Frames>(
     alloc: Global,
     nodes: &mut Nodes<D::Frame>,
@@ -50,7 +54,8 @@ pub fn bring_last_to<D: Frames>(
 ) -> Result<(), AllocError>
     requires inside { i < length nodes.old }
     requires fits { IsAsWide D.meeting D.width (plan_node_at nodes.old i).frame f }
-    ensures { OnOk result (nodes.new ≡ slice_set nodes.old i (joined D.meeting (plan_node_at nodes.old i).waits (plan_node_at nodes.old i).frame f)) }
+    ensures { OnOk result (nodes.new ≡ slice_set nodes.old i (joined D.meeting
+        (plan_node_at nodes.old i).waits (plan_node_at nodes.old i).frame f)) }
 {
     if nodes.frame(i).is_none() {
         let bytes = D::bytes_of(&f);

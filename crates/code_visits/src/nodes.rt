@@ -1,6 +1,7 @@
 //! What is known of each instruction in the course of the visits.
 
-ghost use Rattle.std.specs.Prelude.{◌≡◌, ◌<◌, length, map, replicate, slice_set, true, false, Some, IfOk, OnOk};
+ghost use Rattle.std.specs.Prelude.{◌≡◌, ◌<◌, length, map, replicate, slice_set, true, false, Some};
+ghost use Rattle.std.specs.Prelude.{IfOk, OnOk};
 ghost use Rattle.std.specs.Option.{option_copied, IfSome, IfNone};
 ghost use Rattle.checked_program.specs.Visits.{next_waiting, unreached};
 ghost use Rattle.code_visits.specs.Waiting.{plan_node_at, met, changes};
@@ -13,8 +14,8 @@ use std::alloc::{AllocError, Global};
 use std::collections::BTreeSet;
 use std::marker::Model;
 
-/// What is known of an instruction: the frame that its edges met in, and whether that has changed since it was
-/// visited.
+/// What is known of an instruction: the frame that its edges met in, and whether that has changed
+/// since it was visited.
 #[derive(Drop)]
 struct StoredNode<F> {
     frame: Option<F>,
@@ -66,8 +67,8 @@ fn bring_frame<D: Frames>(
     }
 }
 
-/// The frame of the instruction of this number becomes that where it and another meet; answers whether that changes
-/// it.
+/// The frame of the instruction of this number becomes that where it and another meet; answers
+/// whether that changes it.
 pub(crate) fn meet_at<D: Frames>(
     alloc: Global,
     nodes: &mut Nodes<D::Frame>,
@@ -76,15 +77,17 @@ pub(crate) fn meet_at<D: Frames>(
 ) -> Result<bool, AllocError>
     requires inside { i < length nodes.old }
     requires fits { IsAsWide D.meeting D.width (plan_node_at nodes.old i).frame f.now }
-    ensures met { OnOk result (nodes.new ≡ slice_set nodes.old i (record (plan_node_at nodes.old i) { frame = Some (met D.meeting (plan_node_at nodes.old i).frame f.now) })) }
-    ensures changed { IfOk result (λ changed. changed ≡ changes D.meeting (plan_node_at nodes.old i).frame f.now) }
+    ensures met { OnOk result (nodes.new ≡ slice_set nodes.old i (record (plan_node_at nodes.old i)
+        { frame = Some (met D.meeting (plan_node_at nodes.old i).frame f.now) })) }
+    ensures changed { IfOk result
+        (λ changed. changed ≡ changes D.meeting (plan_node_at nodes.old i).frame f.now) }
 {
     bring_frame::<D>(alloc, &mut nodes.budget, &mut nodes.nodes[i].frame, f)
 }
 
 impl<F: Drop> Nodes<F> {
-    /// So many nodes that no edge reaches yet, for each of which so many bytes are reckoned. They keep no more than the
-    /// budget has.
+    /// So many nodes that no edge reaches yet, for each of which so many bytes are reckoned. They
+    /// keep no more than the budget has.
     pub(crate) fn unreached(
         alloc: Global,
         count: usize,
@@ -128,7 +131,9 @@ impl<F: Drop> Nodes<F> {
         ensures next { result ≡ next_waiting self.old }
         ensures inside { IfSome result (λ i. i < length self.old) }
         ensures none { IfNone result (self.new ≡ self.old) }
-        ensures some { IfSome result (λ i. self.new ≡ slice_set self.old i (record (plan_node_at self.old i) { waits = false })) }
+        ensures some { IfSome result (λ i.
+            self.new
+            ≡ slice_set self.old i (record (plan_node_at self.old i) { waits = false })) }
     {
         let i = self.waiting.pop_first()?;
         self.nodes[i].waits = false;
@@ -138,18 +143,20 @@ impl<F: Drop> Nodes<F> {
     /// The instruction of this number waits.
     pub(crate) fn wait(&mut self, i: usize) -> Result<(), AllocError>
         requires { i < length self.old }
-        ensures { OnOk result (self.new ≡ slice_set self.old i (record (plan_node_at self.old i) { waits = true })) }
+        ensures { OnOk result
+            (self.new ≡ slice_set self.old i (record (plan_node_at self.old i) { waits = true })) }
     {
         self.waiting.insert(i)?;
         self.nodes[i].waits = true;
         Ok(())
     }
 
-    /// A frame of so many bytes, which is kept, is brought to the instruction of this number, which no edge reached
-    /// before.
+    /// A frame of so many bytes, which is kept, is brought to the instruction of this number, which
+    /// no edge reached before.
     pub(crate) fn enter(&mut self, i: usize, f: F, bytes: usize) -> Result<(), AllocError>
         requires { i < length self.old }
-        ensures { OnOk result (self.new ≡ slice_set self.old i (record { frame = Some f; waits = true })) }
+        ensures { OnOk result
+            (self.new ≡ slice_set self.old i (record { frame = Some f; waits = true })) }
     {
         self.budget.take(bytes)?;
         self.waiting.insert(i)?;

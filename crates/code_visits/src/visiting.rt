@@ -42,8 +42,10 @@ fn settle<D: Analysis>(
 ) -> Result<(), Stop<D::Rule>>
     requires level { AreLevel D.width (D.width (D.first m.now)) m.now.code nodes.old }
     requires kept { D.is_kept p.now m.now nodes.old }
-    ensures settled { OnOk result (Settle (plan_of D.meeting D.first D.acts p.now m.now) nodes.old nodes.new) }
-    ensures broken { IfErr result (IsBreak (plan_of D.meeting D.first D.acts p.now m.now) nodes.old) }
+    ensures settled { OnOk result
+        (Settle (plan_of D.meeting D.first D.acts p.now m.now) nodes.old nodes.new) }
+    ensures broken { IfErr result
+        (IsBreak (plan_of D.meeting D.first D.acts p.now m.now) nodes.old) }
 {
     m.laid_out();
     while let Some(i) = nodes.take_next() {
@@ -52,9 +54,10 @@ fn settle<D: Analysis>(
     Ok(())
 }
 
-/// The last frames of a method whose instructions follow one another, each with a target: the instruction that is
-/// visited next is always the waiting one of least pc. Or the rule and the pc of the first visit that breaks one. What
-/// is kept is taken from the budget; where that is spent, memory is wanting.
+/// The last frames of a method whose instructions follow one another, each with a target: the
+/// instruction that is visited next is always the waiting one of least pc. Or the rule and the pc
+/// of the first visit that breaks one. What is kept is taken from the budget; where that is spent,
+/// memory is wanting.
 pub fn visit_all<D: Analysis>(
     alloc: Global,
     p: &Program,

@@ -1,8 +1,10 @@
-//! The words of `solero`, read by one simple command of `clap`, and then by the rules for the values.
+//! The words of `solero`, read by one simple command of `clap`, and then by the rules for the
+//! values.
 ghost use Rattle.std.specs.Prelude.{◌≡◌, IfOk, IfSome, [], length, map, option_map, true};
 ghost use Rattle.std.specs.Option.{unwrap_or};
 ghost use Rattle.clap.specs.Words.{found_of, rows_of};
-ghost use Rattle.command_words.specs.Command.{asked, command as command_of, files_for, not_read, takes_files, the_command};
+ghost use Rattle.command_words.specs.Command.{asked, command as command_of, files_for, not_read};
+ghost use Rattle.command_words.specs.Command.{takes_files, the_command};
 ghost use Rattle.command_words.specs.Requests.{asked_by};
 ghost use Rattle.command_words.specs.Words.{found_in_words, gives_any as gives_any_of, texts};
 
@@ -47,8 +49,11 @@ fn files(
     mode: Mode,
     given: Option<&[&str]>,
 ) -> Result<Option<Vec<String>>, AllocError>
-    ensures count { IfOk result (λ files. IfSome files (λ x. takes_files mode (length x.items) ≡ true)) }
-    ensures names { IfOk result (λ files. option_map (λ x. texts x.items) files ≡ files_for mode (unwrap_or (option_map (λ s. map (λ v. v.now) s.now) given.entry) [])) }
+    ensures count { IfOk result
+        (λ files. IfSome files (λ x. takes_files mode (length x.items) ≡ true)) }
+    ensures names { IfOk result (λ files.
+        option_map (λ x. texts x.items) files ≡ files_for mode
+        (unwrap_or (option_map (λ s. map (λ v. v.now) s.now) given.entry) [])) }
 {
     let names = given.unwrap_or(&[]);
     if !mode.takes(names.len()) {
@@ -144,13 +149,16 @@ fn request(alloc: Global, matches: &ArgMatches<'_>) -> Result<Option<Request>, A
 
 // What is found in the words, where they have no fault.
 fn matches_in<'a>(alloc: Global, words: &'a [String]) -> Result<Option<ArgMatches<'a>>, AllocError>
-    ensures { IfOk result (λ m. option_map (λ x. rows_of (found_of x)) m ≡ found_in_words the_command (texts words.entry.now)) }
+    ensures { IfOk result (λ m.
+        option_map (λ x. rows_of (found_of x)) m
+        ≡ found_in_words the_command (texts words.entry.now)) }
 {
     let command = simple_command(alloc, "solero", &OPTIONS)?;
     found_in(command, words)
 }
 
-/// What the words ask for, of which the first is the program's name. `None`: the words are not read.
+/// What the words ask for, of which the first is the program's name. `None`: the words are not
+/// read.
 #[tactic(auto, unfolding(crate::specs::Command::command))]
 pub fn read_words(alloc: Global, words: &[String]) -> Result<Option<Request>, AllocError>
     ensures { IfOk result (λ r. option_map asked_by r ≡ command_of (texts words.now)) }

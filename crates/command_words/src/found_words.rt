@@ -1,8 +1,11 @@
 //! What `clap` finds in the words of a command: options, each with one value, and names.
 ghost use Rattle.std.specs.Prelude.{◌≡◌, IfOk, Some, codes, length, map, option_map, true};
 ghost use Rattle.std.specs.Option.{option_copied};
-ghost use Rattle.clap.specs.Words.{all_of, app_of, first_of, found_of, is_simple, is_simple_and_free, rows_of};
-ghost use Rattle.command_words.specs.Words.{command_of, found_in_words, gives_any as gives_any_of, is_given as is_option_given, texts, with_names as names_in, with_option as option_in};
+ghost use Rattle.clap.specs.Words.{all_of, app_of, first_of, found_of, is_simple};
+ghost use Rattle.clap.specs.Words.{is_simple_and_free, rows_of};
+ghost use Rattle.command_words.specs.Words.{command_of, found_in_words, gives_any as gives_any_of};
+ghost use Rattle.command_words.specs.Words.{is_given as is_option_given, texts};
+ghost use Rattle.command_words.specs.Words.{with_names as names_in, with_option as option_in};
 
 use clap::error::ErrorKind;
 use clap::{Arg, ArgAction, ArgMatches, Command};
@@ -36,7 +39,8 @@ pub fn simple_command<'a>(
     program: &'a str,
     options: &[&'a str],
 ) -> Result<Command<'a>, AllocError>
-    ensures { IfOk result (λ c. app_of c ≡ command_of program.entry.now (map (λ o. o.now) options.now)) }
+    ensures { IfOk result
+        (λ c. app_of c ≡ command_of program.entry.now (map (λ o. o.now) options.now)) }
 {
     let mut command = Command::new(alloc, program);
     for option in options {
@@ -52,7 +56,9 @@ pub fn found_in<'a>(
 ) -> Result<Option<ArgMatches<'a>>, AllocError>
     requires simple { is_simple (app_of command) ≡ true }
     requires free { is_simple_and_free (app_of command) ≡ true }
-    ensures { IfOk result (λ m. option_map (λ x. rows_of (found_of x)) m ≡ found_in_words (app_of command.entry) (texts words.entry.now)) }
+    ensures { IfOk result (λ m.
+        option_map (λ x. rows_of (found_of x)) m
+        ≡ found_in_words (app_of command.entry) (texts words.entry.now)) }
 {
     match command.try_get_matches_from(words) {
         Ok(matches) => Ok(Some(matches)),
@@ -74,7 +80,8 @@ pub fn value<'a>(matches: &ArgMatches<'a>, name: &str) -> Option<&'a str>
 
 /// The names that are given.
 pub fn names<'m, 'a>(matches: &'m ArgMatches<'a>) -> Option<&'m [&'a str]>
-    ensures { option_map (λ s. map (λ v. v.now) s.now) result ≡ all_of (codes "FILE") (rows_of (found_of matches.now)) }
+    ensures { option_map (λ s. map (λ v. v.now) s.now) result
+        ≡ all_of (codes "FILE") (rows_of (found_of matches.now)) }
 {
     matches.get_strs("FILE")
 }

@@ -1,5 +1,6 @@
-//! What the words of a command ask for: the options and names that `clap` finds in them, and then the rules for the values. A
-//! program with options of its own makes its command and reads the values of runs by the same calls.
+//! What the words of a command ask for: the options and names that `clap` finds in them, and then
+//! the rules for the values. A program with options of its own makes its command and reads the
+//! values of runs by the same calls.
 #![tactic(auto)]
 
 pub mod command;

@@ -2,7 +2,8 @@
 
 ghost use Rattle.command_words.specs.Limits.{AreOptionsStated};
 
-/// The constants that the definitions of options name have these numbers, and where only files are named, these values stand.
+/// The constants that the definitions of options name have these numbers, and where only files are
+/// named, these values stand.
 pub fn options_are_stated()
     ensures { AreOptionsStated }
 {}

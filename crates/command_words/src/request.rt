@@ -14,7 +14,8 @@ pub enum Task {
     Replay,
     /// It runs, each worker on a thread of the system, and a report of the run is written.
     Run,
-    /// It runs as in `Run`, under one lock, and the order of the workers' events is written behind the report.
+    /// It runs as in `Run`, under one lock, and the order of the workers' events is written behind
+    /// the report.
     Record,
     /// The marks of its sections are written.
     Mark,
@@ -29,15 +30,16 @@ pub enum Mode {
     List,
     /// The class that the text of one file lists is written as a class file.
     Assemble,
-    /// A class is made from a size and a number, and loaded and run as in `Run`, and a summary is written.
+    /// A class is made from a size and a number, and loaded and run as in `Run`, and a summary is
+    /// written.
     Load,
     /// Workers write and read a cell, and a report of the run is written.
     Cell,
 }
 
 impl Mode {
-    /// Whether so many files may be named: 1 to 64 for a program, one to be listed or assembled, none for a
-    /// load and a cell.
+    /// Whether so many files may be named: 1 to 64 for a program, one to be listed or assembled,
+    /// none for a load and a cell.
     pub fn takes(self, count: usize) -> bool
         ensures { result ≡ takes_files self count }
     {

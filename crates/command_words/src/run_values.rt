@@ -3,7 +3,8 @@ ghost use Rattle.std.specs.Prelude.{◌≡◌, ◌≤◌, IfOk, IfSome};
 ghost use Rattle.clap.specs.Words.{found_of, rows_of};
 ghost use Rattle.jvm_types.specs.declared.limits.TheConstants.{LEAST_HEAP, MOST_HEAP, MOST_WORKERS};
 ghost use Rattle.machine_types.specs.Settings.{AreSettings};
-ghost use Rattle.command_words.specs.RunValues.{are_few as are_few_files, heap_of, order_of, settings_of, threads_of};
+ghost use Rattle.command_words.specs.RunValues.{are_few as are_few_files, heap_of, order_of};
+ghost use Rattle.command_words.specs.RunValues.{settings_of, threads_of};
 
 use crate::found_words::value;
 use crate::values::{
@@ -95,7 +96,8 @@ pub fn settings(matches: &ArgMatches<'_>) -> Option<Config>
     })
 }
 
-/// The workers that make the next steps of a replay, each a number from 1 to 8; none where no order is given.
+/// The workers that make the next steps of a replay, each a number from 1 to 8; none where no order
+/// is given.
 pub fn order(alloc: Global, matches: &ArgMatches<'_>) -> Result<Option<Bytes>, AllocError>
     ensures { IfOk result (λ order. order ≡ order_of (rows_of (found_of matches.now))) }
 {

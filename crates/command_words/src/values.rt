@@ -1,10 +1,17 @@
 //! The values of options, each as the text that stands for it.
-ghost use Rattle.std.specs.Prelude.{◌≡◌, ◌&&◌, ◌-◌, ◌≤◌, nat_le, nat_lt, IfOk, IfSome, length, map, option_map};
+ghost use Rattle.std.specs.Prelude.{◌≡◌, ◌&&◌, ◌-◌, ◌≤◌, nat_le, nat_lt, IfOk, IfSome, length, map};
+ghost use Rattle.std.specs.Prelude.{option_map};
 ghost use Rattle.std.specs.List.{list_all};
 ghost use Rattle.std.specs.Option.{option_copied};
-ghost use Rattle.command_words.specs.Command.{green as the_green, green_or_none as the_green_or_none, memory_or_table as the_memory, mode_or_replay as the_mode};
+ghost use Rattle.command_words.specs.Command.{green as the_green};
+ghost use Rattle.command_words.specs.Command.{green_or_none as the_green_or_none};
+ghost use Rattle.command_words.specs.Command.{memory_or_table as the_memory};
+ghost use Rattle.command_words.specs.Command.{mode_or_replay as the_mode};
 ghost use Rattle.command_words.specs.Bounds.{IsGreen};
-ghost use Rattle.command_words.specs.Values.{is_worker as is_the_worker, number as the_number, number_or as the_number_or, on_or_off as the_switch, order_or_none as the_order, number_within as the_number_within};
+ghost use Rattle.command_words.specs.Values.{is_worker as is_the_worker, number as the_number};
+ghost use Rattle.command_words.specs.Values.{number_or as the_number_or, on_or_off as the_switch};
+ghost use Rattle.command_words.specs.Values.{order_or_none as the_order};
+ghost use Rattle.command_words.specs.Values.{number_within as the_number_within};
 
 use crate::request::{Green, Memory, Mode, Task};
 use jvm_types::Bytes;
@@ -20,7 +27,8 @@ pub const USUAL_STEPS: u32 = 10_000_000;
 /// The most prints of a thread, where the words say nothing of them.
 pub const USUAL_PRINTS: u32 = 65_536;
 
-/// The rounds of each worker of a cell, or the methods of a load, where the words say nothing of them.
+/// The rounds of each worker of a cell, or the methods of a load, where the words say nothing of
+/// them.
 pub const USUAL_SIZE: u32 = 100;
 
 /// The most rounds of each worker of a cell, and methods of a load.
@@ -67,7 +75,8 @@ fn within(numbers: Numbers, number: Option<u32>) -> Option<u32>
 pub fn number_or(numbers: Numbers, given: Option<&str>) -> Option<u32>
     requires { (numbers.least ≤ numbers.unless) × (numbers.unless ≤ numbers.most) }
     ensures within { IfSome result (λ n. (numbers.least ≤ n) × (n ≤ numbers.most)) }
-    ensures value { result ≡ the_number_or numbers.unless numbers.least numbers.most (option_copied given.entry) }
+    ensures value { result
+        ≡ the_number_or numbers.unless numbers.least numbers.most (option_copied given.entry) }
 {
     match given {
         Some(text) => within(numbers, number(text)),
@@ -130,15 +139,16 @@ fn green(workers: &str, turn: Option<&str>) -> Option<Green>
     })
 }
 
-/// The workers that run the threads, with their turn, where workers are given; they are given beside the table alone, and a turn
-/// beside workers alone.
+/// The workers that run the threads, with their turn, where workers are given; they are given
+/// beside the table alone, and a turn beside workers alone.
 pub fn green_or_none(
     memory: Memory,
     workers: Option<&str>,
     turn: Option<&str>,
 ) -> Option<Option<Green>>
     ensures bounds { IfSome result (λ g. IfSome g IsGreen) }
-    ensures value { result ≡ the_green_or_none memory (option_copied workers.entry) (option_copied turn.entry) }
+    ensures value { result
+        ≡ the_green_or_none memory (option_copied workers.entry) (option_copied turn.entry) }
 {
     match (memory, workers) {
         (_, None) => match turn {
@@ -178,7 +188,8 @@ pub fn order_or_none(alloc: Global, given: Option<&str>) -> Result<Option<Bytes>
 
 #[tactic(auto, using(crate::proofs::Orders::in_range))]
 fn is_order(digits: &[u8]) -> bool
-    ensures { result ≡ (nat_lt 0 (length digits.now) && nat_le (length digits.now) LONGEST_ORDER && list_all is_the_worker digits.now) }
+    ensures { result ≡ (nat_lt 0 (length digits.now) && nat_le (length digits.now) LONGEST_ORDER &&
+        list_all is_the_worker digits.now) }
 {
     match digits.len() {
         1..=LONGEST_ORDER => are_workers(digits),

@@ -1,7 +1,9 @@
-//! The texts that the entries of a constant pool name (JVMS 4.4.1, 4.4.7), and the names of classes (JVMS 4.1).
+//! The texts that the entries of a constant pool name (JVMS 4.4.1, 4.4.7), and the names of classes
+//! (JVMS 4.1).
 
 ghost use Rattle.std.specs.Prelude.{◌≡◌, slice_get, IfOk, Some};
-ghost use Rattle.jvm_types.specs.ClassNames.{entry_text, text_at, class_text_at, class_name, class_names};
+ghost use Rattle.jvm_types.specs.ClassNames.{entry_text, text_at, class_text_at, class_name};
+ghost use Rattle.jvm_types.specs.ClassNames.{class_names};
 
 use jvm_types::{Bytes, ClassFile, Constant, Rows};
 use std::alloc::{AllocError, Global};

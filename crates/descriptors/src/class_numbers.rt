@@ -15,8 +15,8 @@ use std::marker::Model;
 /// The class that has no objects, and so no number.
 const SYSTEM_NAME: &[u8] = b"java/lang/System";
 
-/// The number of each class of a program, by its name. Contracts see it as the names of the classes of
-/// the files, in order.
+/// The number of each class of a program, by its name. Contracts see it as the names of the classes
+/// of the files, in order.
 #[derive(Drop)]
 pub struct ClassNumbers<'a> {
     /// The names of the classes of the files.
@@ -37,8 +37,8 @@ impl<'a> Model for ClassNumbers<'a> {
 }
 
 impl<'a> ClassNumbers<'a> {
-    /// The numbers of the built-in classes, and of the classes of files with these names. Of two files with one
-    /// name the first counts.
+    /// The numbers of the built-in classes, and of the classes of files with these names. Of two
+    /// files with one name the first counts.
     pub fn of(alloc: Global, names: Rows<&'a [u8]>) -> Result<Self, AllocError>
         requires { length names ≤ MOST_FILES }
         ensures { IfOk result (λ c. c ≡ names_in names.entry) }

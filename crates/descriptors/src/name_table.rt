@@ -1,6 +1,7 @@
 //! The table behind the numbers of classes.
 
-ghost use Rattle.std.specs.Prelude.{◌≡◌, ℕ, ◌<◌, ◌≤◌, ◌+◌, List, length, Some, OnOk, bytes_eq, if◌then◌else◌};
+ghost use Rattle.std.specs.Prelude.{◌≡◌, ℕ, ◌<◌, ◌≤◌, ◌+◌, List, length, Some, OnOk, bytes_eq};
+ghost use Rattle.std.specs.Prelude.{if◌then◌else◌};
 ghost use Rattle.std.specs.Option.{option_or};
 ghost use Rattle.std.specs.List.{position_from};
 ghost use Rattle.jvm_types.specs.ClassNames.{numbered_names};
@@ -35,13 +36,15 @@ const NUMBERED_NAMES: [&[u8]; 15] = [
 
 /// Gives a name this number, in place of any that it has.
 fn put<'a>(table: &mut NameTable<'a>, name: &'a [u8], number: u16) -> Result<(), AllocError>
-    ensures { OnOk result ((q : List ℕ) → find table.new q ≡ (if bytes_eq q name.now then Some number else find table.old q)) }
+    ensures { OnOk result ((q : List ℕ)
+        → find table.new q ≡ (if bytes_eq q name.now then Some number else find table.old q)) }
 {
     table.insert(name, number)?;
     Ok(())
 }
 
-/// Gives each name of these the number of its place, from `first` on; of equal ones the first counts.
+/// Gives each name of these the number of its place, from `first` on; of equal ones the first
+/// counts.
 fn put_names<'a>(
     table: &mut NameTable<'a>,
     names: &[&'a [u8]],

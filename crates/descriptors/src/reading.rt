@@ -2,7 +2,9 @@
 
 ghost use Rattle.std.specs.Prelude.{◌≡◌, ◌∷◌, IfOk};
 ghost use Rattle.std.specs.Option.{option_map};
-ghost use Rattle.jvm_types.specs.Descriptors.{field_kind as kind_named, method_signature as signature_named, class_kind, result_kind};
+ghost use Rattle.jvm_types.specs.Descriptors.{field_kind as kind_named};
+ghost use Rattle.jvm_types.specs.Descriptors.{method_signature as signature_named, class_kind};
+ghost use Rattle.jvm_types.specs.Descriptors.{result_kind};
 ghost use Rattle.descriptors.specs.Signatures.{meaning, IsFront, IsCut, IsArgs, ends_args};
 
 use crate::class_numbers::ClassNumbers;
@@ -10,7 +12,8 @@ use jvm_types::class_numbers::INT_ARRAY_CLASS;
 use jvm_types::{Kind, Rows};
 use std::alloc::{AllocError, Global};
 
-/// The types of a method's arguments, without its receiver, and that of its result; `None` stands for V.
+/// The types of a method's arguments, without its receiver, and that of its result; `None` stands
+/// for V.
 #[derive(Debug, Drop)]
 pub struct Signature {
     pub args: Rows<Kind>,
@@ -104,8 +107,8 @@ fn read_kind<'a>(classes: &ClassNumbers<'_>, text: &'a [u8]) -> Option<Front<'a>
     }
 }
 
-/// The type that a field descriptor names (JVMS 4.3.2), or `None` where it names none of this machine's. The text
-/// is read once, and a class in it is looked up once.
+/// The type that a field descriptor names (JVMS 4.3.2), or `None` where it names none of this
+/// machine's. The text is read once, and a class in it is looked up once.
 pub fn field_kind(classes: &ClassNumbers<'_>, text: &[u8]) -> Option<Kind>
     ensures { result ≡ kind_named classes.now text.now }
 {
@@ -166,14 +169,15 @@ fn read_args<'a>(
     Ok(Some(Args { kinds, rest }))
 }
 
-/// What a method descriptor says (JVMS 4.3.3), or `None` where it says nothing to this machine. The text is read
-/// once, and each class in it is looked up once.
+/// What a method descriptor says (JVMS 4.3.3), or `None` where it says nothing to this machine. The
+/// text is read once, and each class in it is looked up once.
 pub fn method_signature(
     alloc: Global,
     classes: &ClassNumbers<'_>,
     text: &[u8],
 ) -> Result<Option<Signature>, AllocError>
-    ensures { IfOk result (λ found. option_map meaning found ≡ signature_named classes.now text.now) }
+    ensures { IfOk result
+        (λ found. option_map meaning found ≡ signature_named classes.now text.now) }
 {
     let [b'(', inside @ ..] = text else {
         return Ok(None);

@@ -11,8 +11,8 @@ use crate::checkup::{Checkup, compare};
 use frames::{ThreadState, count_elided, count_failed, runs};
 use machine_types::Phase;
 
-/// Begins attempt `number` of an entry of the monitor, whose free lock word was found with the count `noted`. The top
-/// frame, which enters the section, is kept as it is.
+/// Begins attempt `number` of an entry of the monitor, whose free lock word was found with the
+/// count `noted`. The top frame, which enters the section, is kept as it is.
 pub fn begin(s: &mut ThreadState, monitor: u32, noted: u64, number: u8)
     requires { 0 < length s.old.frames }
     ensures { s.new ≡ begins s.old s.old.frames monitor noted number }
@@ -34,8 +34,8 @@ pub fn check(s: &ThreadState, found: u64) -> Checkup
     }
 }
 
-/// The same at the end of the section: where the word is as it was noted, the section is done and counted, else nothing
-/// changes.
+/// The same at the end of the section: where the word is as it was noted, the section is done and
+/// counted, else nothing changes.
 pub fn finish(s: &mut ThreadState, found: u64) -> Checkup
     requires some { IsSome s.old.attempt }
     requires noted { IfSome s.old.attempt (λ a. a.noted < 2 ^ 62) }
@@ -51,8 +51,9 @@ pub fn finish(s: &mut ThreadState, found: u64) -> Checkup
     checkup
 }
 
-/// Gives the attempt up, where a check found the lock word other than it was noted: the frame that entered the section is as
-/// it was, those above are dropped, the failure is counted, and the section is entered again.
+/// Gives the attempt up, where a check found the lock word other than it was noted: the frame that
+/// entered the section is as it was, those above are dropped, the failure is counted, and the
+/// section is entered again.
 pub fn fail(s: &mut ThreadState, noted: u64, found: u64)
     requires some { IsSome s.old.attempt }
     requires differs { IfSome s.old.attempt (λ a. checkup a.noted found ≡ Differs noted found) }

@@ -14,7 +14,8 @@ pub enum Checkup {
     Differs { noted: u64, found: u64 },
 }
 
-/// Compares the word that was found with that of the free lock whose count was noted, which is below 2^62.
+/// Compares the word that was found with that of the free lock whose count was noted, which is
+/// below 2^62.
 #[inline(always)]
 pub fn compare(noted: u64, found: u64) -> Checkup
     requires { noted < 2 ^ 62 }

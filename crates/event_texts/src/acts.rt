@@ -1,8 +1,10 @@
-//! The acts of the plain machine for which one event stands, as if its thread held what it has an attempt on.
+//! The acts of the plain machine for which one event stands, as if its thread held what it has an
+//! attempt on.
 
 ghost use Rattle.std.specs.Prelude.{◌≡◌, ◌<◌, ◌==◌, ◌^◌, [], ◌∷◌};
 ghost use Rattle.machine_types.specs.Frames.{top_of};
-ghost use Rattle.machine_types.specs.History.{acts_of, enter_acts, act_if, instruction_acts, leave_acts, notify_acts, release_acts, run_acts};
+ghost use Rattle.machine_types.specs.History.{acts_of, enter_acts, act_if, instruction_acts};
+ghost use Rattle.machine_types.specs.History.{leave_acts, notify_acts, release_acts, run_acts};
 ghost use Rattle.machine_types.specs.HeldMonitors.{held_at};
 ghost use Rattle.machine_types.specs.Lawful.{IsLawful};
 ghost use Rattle.machine_types.specs.LockWords.{word_of_lock};

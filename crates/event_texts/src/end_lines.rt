@@ -83,7 +83,8 @@ pub fn write_stop_line(
     before: &Before,
     end: End,
 ) -> Result<(), AllocError>
-    ensures { OnOk result (text.new.items ≡ text.old.items ++ stop_line c.now.program number before.now end) }
+    ensures { OnOk result
+        (text.new.items ≡ text.old.items ++ stop_line c.now.program number before.now end) }
 {
     write_end(text, alloc, end)?;
     write_head(text, alloc, number, before)?;

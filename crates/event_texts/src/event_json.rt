@@ -3,7 +3,14 @@
 ghost use Rattle.std.specs.Prelude.{◌≡◌, ◌++◌, codes, OnOk};
 ghost use Rattle.json_lines.specs.Json.{json_text, text_behind};
 ghost use Rattle.event_texts.specs.Acts.{listed};
-ghost use Rattle.event_texts.specs.EventJson.{access_member, accessed_member, accessed_members, acts_items, attempt_mark_members, attempt_members, does_member, end_mark_member, event_head_members, event_marks_members, event_object, event_spot_members, holder_member, inside_member, lock_mark_member, plain_member, share_members, stop_head, stop_object, value_members, what_member, word_member};
+ghost use Rattle.event_texts.specs.EventJson.{access_member, accessed_member, accessed_members};
+ghost use Rattle.event_texts.specs.EventJson.{acts_items, attempt_mark_members, attempt_members};
+ghost use Rattle.event_texts.specs.EventJson.{does_member, end_mark_member, event_head_members};
+ghost use Rattle.event_texts.specs.EventJson.{event_marks_members, event_object};
+ghost use Rattle.event_texts.specs.EventJson.{event_spot_members, holder_member, inside_member};
+ghost use Rattle.event_texts.specs.EventJson.{lock_mark_member, plain_member, share_members};
+ghost use Rattle.event_texts.specs.EventJson.{stop_head, stop_object, value_members, what_member};
+ghost use Rattle.event_texts.specs.EventJson.{word_member};
 ghost use Rattle.event_texts.specs.PhaseTexts.{phase_text};
 ghost use Rattle.event_texts.specs.Shares.{act_text};
 ghost use Rattle.event_texts.specs.ValueTexts.{shared_value_text};
@@ -87,8 +94,8 @@ fn write_phase(out: &mut Vec<u8>, alloc: Global, phase: Phase) -> Result<(), All
     write_does(out, words.as_bytes())
 }
 
-/// Adds the number of the event, its thread, the attempt that it is in, where it stands, and what it does where it is no
-/// instruction.
+/// Adds the number of the event, its thread, the attempt that it is in, where it stands, and what
+/// it does where it is no instruction.
 fn write_head(
     out: &mut Vec<u8>,
     alloc: Global,
@@ -96,7 +103,8 @@ fn write_head(
     number: u64,
     before: &Before,
 ) -> Result<(), AllocError>
-    ensures { OnOk result (out.new.items ≡ out.old.items ++ event_head_members c.now.program number before.now) }
+    ensures { OnOk result
+        (out.new.items ≡ out.old.items ++ event_head_members c.now.program number before.now) }
 {
     write_number_behind(out, alloc, "number", number)?;
     write_number_behind(out, alloc, "thread", u64::from(before.thread))?;
@@ -114,7 +122,8 @@ fn write_one_value(
     word: SharedWord,
     n: u64,
 ) -> Result<(), AllocError>
-    ensures { OnOk result (out.new.items ≡ out.old.items ++ text_behind key.now (shared_value_text p.now word n)) }
+    ensures { OnOk result
+        (out.new.items ≡ out.old.items ++ text_behind key.now (shared_value_text p.now word n)) }
 {
     let mut text = Vec::new(alloc);
     write_value(&mut text, alloc, p, word, n)?;
@@ -130,7 +139,8 @@ fn write_values(
     after: &After,
     loads: bool,
 ) -> Result<(), AllocError>
-    ensures { OnOk result (out.new.items ≡ out.old.items ++ value_members p.now before.now after.now loads) }
+    ensures { OnOk result
+        (out.new.items ≡ out.old.items ++ value_members p.now before.now after.now loads) }
 {
     write_one_value(out, alloc, p, "found", before.word, before.found)?;
     if loads {
@@ -166,7 +176,8 @@ fn write_accessed_members(
     after: &After,
     loads: bool,
 ) -> Result<(), AllocError>
-    ensures { OnOk result (out.new.items ≡ out.old.items ++ accessed_members p.now names.now before.now after.now loads) }
+    ensures { OnOk result (out.new.items
+        ≡ out.old.items ++ accessed_members p.now names.now before.now after.now loads) }
 {
     write_word_member(out, alloc, p, names, before.word)?;
     write_values(out, alloc, p, before, after, loads)
@@ -182,7 +193,8 @@ fn write_accessed(
     after: &After,
     loads: bool,
 ) -> Result<(), AllocError>
-    ensures { OnOk result (out.new.items ≡ out.old.items ++ accessed_member p.now names.now before.now after.now loads) }
+    ensures { OnOk result (out.new.items
+        ≡ out.old.items ++ accessed_member p.now names.now before.now after.now loads) }
 {
     out.extend_from_slice(b",\"access\":{")?;
     write_accessed_members(out, alloc, p, names, before, after, loads)?;
@@ -198,7 +210,8 @@ fn write_access(
     before: &Before,
     after: &After,
 ) -> Result<(), AllocError>
-    ensures { OnOk result (out.new.items ≡ out.old.items ++ access_member p.now names.now before.now after.now before.now.access) }
+    ensures { OnOk result (out.new.items ≡ out.old.items
+        ++ access_member p.now names.now before.now after.now before.now.access) }
 {
     let loads = match before.access {
         None | Some(Access::Rest) => return Ok(()),
@@ -288,7 +301,8 @@ fn write_marks(
     before: &Before,
     after: &After,
 ) -> Result<(), AllocError>
-    ensures { OnOk result (out.new.items ≡ out.old.items ++ event_marks_members before.now after.now) }
+    ensures { OnOk result
+        (out.new.items ≡ out.old.items ++ event_marks_members before.now after.now) }
 {
     let was = before.counts;
     let now = after.counts;
@@ -359,13 +373,15 @@ fn write_share(out: &mut Vec<u8>, alloc: Global, share: &Share) -> Result<(), Al
     }
 }
 
-/// Adds the object of an event of a number, on a line. Its members are `what`, which is `event`; the `number`; the `thread`, and
-/// where it is in an attempt that as `in_attempt`; `class`, `method`, `pc` and `instruction`, where it stands; `does`, in words,
-/// where it does something else than the instruction; `access`, where it accesses a word: the `word`, what it `found` there, and
-/// where it is no load what it `left`; `attempt_begins`, `attempt_fails` or `attempt_finishes` with what the attempt `noted`,
-/// `lock` and `comes_to_its_end`, where something becomes of an attempt, a lock or the part; and `plain`, the steps of the plain
-/// machine that it stands for, with how many are `owed` in an attempt, or stand `between` the two where it finishes. `names` has
-/// the names of the fields of the program in their order.
+/// Adds the object of an event of a number, on a line. Its members are `what`, which is `event`;
+/// the `number`; the `thread`, and where it is in an attempt that as `in_attempt`; `class`,
+/// `method`, `pc` and `instruction`, where it stands; `does`, in words, where it does something
+/// else than the instruction; `access`, where it accesses a word: the `word`, what it `found`
+/// there, and where it is no load what it `left`; `attempt_begins`, `attempt_fails` or
+/// `attempt_finishes` with what the attempt `noted`, `lock` and `comes_to_its_end`, where something
+/// becomes of an attempt, a lock or the part; and `plain`, the steps of the plain machine that it
+/// stands for, with how many are `owed` in an attempt, or stand `between` the two where it
+/// finishes. `names` has the names of the fields of the program in their order.
 #[tactic(auto, unfolding(crate::specs::EventJson::event_object))]
 pub fn write_event_object(
     out: &mut Vec<u8>,
@@ -377,7 +393,8 @@ pub fn write_event_object(
     share: &Share,
     after: &After,
 ) -> Result<(), AllocError>
-    ensures { OnOk result (out.new.items ≡ out.old.items ++ event_object c.now.program names.now number before.now share.now after.now) }
+    ensures { OnOk result (out.new.items ≡ out.old.items
+        ++ event_object c.now.program names.now number before.now share.now after.now) }
 {
     write_what(out, "event")?;
     write_head(out, alloc, c, number, before)?;
@@ -407,9 +424,10 @@ fn write_stop_head(out: &mut Vec<u8>, alloc: Global, end: End) -> Result<(), All
     write_end_member(out, alloc, "end", end)
 }
 
-/// Adds the object of an event of a number, by which a part of its thread came to this end, on a line. Its members are `what`,
-/// which is `end`; the `end`; those of the event from its number to what it does; and `held_by`, the thread that held the monitor
-/// for which it had made all its turns.
+/// Adds the object of an event of a number, by which a part of its thread came to this end, on a
+/// line. Its members are `what`, which is `end`; the `end`; those of the event from its number to
+/// what it does; and `held_by`, the thread that held the monitor for which it had made all its
+/// turns.
 #[tactic(auto, unfolding(crate::specs::EventJson::stop_object))]
 pub fn write_stop_object(
     out: &mut Vec<u8>,
@@ -419,7 +437,8 @@ pub fn write_stop_object(
     before: &Before,
     end: End,
 ) -> Result<(), AllocError>
-    ensures { OnOk result (out.new.items ≡ out.old.items ++ stop_object c.now.program number before.now end) }
+    ensures { OnOk result
+        (out.new.items ≡ out.old.items ++ stop_object c.now.program number before.now end) }
 {
     write_stop_head(out, alloc, end)?;
     write_head(out, alloc, c, number, before)?;

@@ -29,7 +29,8 @@ fn fate_by(same: bool, fate: Fate) -> Fate
 }
 
 fn run_fate(s: &ThreadState, p: &Checked, attempt: AttemptHead, got: u64) -> Fate
-    ensures { (a : Attempt) → head_of a ≡ attempt → fate_of result ≡ run_fate p.now a (top_of p.now.program s.now.frames) got }
+    ensures { (a : Attempt) → head_of a ≡ attempt
+        → fate_of result ≡ run_fate p.now a (top_of p.now.program s.now.frames) got }
 {
     match next_doing(s, p) {
         Some(d) if is_checked(d.pc, d.effect) => {
@@ -50,7 +51,8 @@ fn leave_fate(s: &ThreadState, m: u32, got: u64) -> Fate
 
 /// Of the event that comes next and finds this.
 pub fn fate_at(s: &ThreadState, p: &Checked, attempt: AttemptHead, got: u64) -> Fate
-    ensures { (a : Attempt) → head_of a ≡ attempt → fate_of result ≡ the_fate p.now s.now a s.now.phase got }
+    ensures { (a : Attempt) → head_of a ≡ attempt
+        → fate_of result ≡ the_fate p.now s.now a s.now.phase got }
 {
     match s.phase() {
         Phase::Run => run_fate(s, p, attempt, got),

@@ -14,7 +14,8 @@ use jvm_types::{Bytes, End, Rows};
 use machine_types::Phase;
 use std::alloc::{AllocError, Global};
 
-/// Adds the line, or the object, of an event of a number. `names` has the names of the fields of the program in their order.
+/// Adds the line, or the object, of an event of a number. `names` has the names of the fields of
+/// the program in their order.
 pub fn write_event(
     text: &mut Vec<u8>,
     alloc: Global,
@@ -26,7 +27,8 @@ pub fn write_event(
     share: &Share,
     after: &After,
 ) -> Result<(), AllocError>
-    ensures { OnOk result (text.new.items ≡ text.old.items ++ event_in form c.now.program names.now number before.now share.now after.now) }
+    ensures { OnOk result (text.new.items ≡ text.old.items
+        ++ event_in form c.now.program names.now number before.now share.now after.now) }
 {
     match form {
         Form::Lines => write_line(text, alloc, c, names, number, before, share, after),
@@ -44,7 +46,8 @@ fn write_stop(
     before: &Before,
     end: End,
 ) -> Result<(), AllocError>
-    ensures { OnOk result (text.new.items ≡ text.old.items ++ stop_in form c.now.program number before.now end) }
+    ensures { OnOk result
+        (text.new.items ≡ text.old.items ++ stop_in form c.now.program number before.now end) }
 {
     match form {
         Form::Lines => write_stop_line(text, alloc, c, number, before, end),
@@ -62,7 +65,8 @@ pub fn write_event_end(
     before: &Before,
     after: &After,
 ) -> Result<(), AllocError>
-    ensures { OnOk result (text.new.items ≡ text.old.items ++ event_end_in form c.now.program number before.now after.now.phase) }
+    ensures { OnOk result (text.new.items
+        ≡ text.old.items ++ event_end_in form c.now.program number before.now after.now.phase) }
 {
     match after.phase {
         Phase::Ending(End::Returned) => Ok(()),

@@ -1,6 +1,6 @@
-//! One event of a run, as a line and as an object of JSON: which thread it is of, where that stands, what it does in words, the
-//! word that it accesses and what it found and left there, what becomes of attempts and locks, and the plain steps that it stands
-//! for.
+//! One event of a run, as a line and as an object of JSON: which thread it is of, where that
+//! stands, what it does in words, the word that it accesses and what it found and left there, what
+//! becomes of attempts and locks, and the plain steps that it stands for.
 #![tactic(auto)]
 
 pub mod acts;

@@ -2,7 +2,8 @@
 
 ghost use Rattle.std.specs.Prelude.{◌≡◌, ◌++◌, OnOk};
 ghost use Rattle.run_texts.specs.Report.{line};
-ghost use Rattle.event_texts.specs.Lines.{access_text, event_head_text, event_line_text, event_spot_text, value_words};
+ghost use Rattle.event_texts.specs.Lines.{access_text, event_head_text, event_line_text};
+ghost use Rattle.event_texts.specs.Lines.{event_spot_text, value_words};
 ghost use Rattle.event_texts.specs.MarkTexts.{event_marks_text};
 ghost use Rattle.event_texts.specs.PhaseTexts.{phase_text};
 ghost use Rattle.event_texts.specs.Shares.{share_text};
@@ -97,7 +98,8 @@ fn write_values(
     after: &After,
     loads: bool,
 ) -> Result<(), AllocError>
-    ensures { OnOk result (text.new.items ≡ text.old.items ++ value_words p.now before.now after.now loads) }
+    ensures { OnOk result
+        (text.new.items ≡ text.old.items ++ value_words p.now before.now after.now loads) }
 {
     text.push(b' ')?;
     write_value(text, alloc, p, before.word, before.found)?;
@@ -117,7 +119,8 @@ fn write_access(
     before: &Before,
     after: &After,
 ) -> Result<(), AllocError>
-    ensures { OnOk result (text.new.items ≡ text.old.items ++ access_text p.now names.now before.now after.now before.now.access) }
+    ensures { OnOk result (text.new.items ≡ text.old.items
+        ++ access_text p.now names.now before.now after.now before.now.access) }
 {
     let loads = match before.access {
         None | Some(Access::Rest) => return Ok(()),
@@ -129,7 +132,8 @@ fn write_access(
     write_values(text, alloc, p, before, after, loads)
 }
 
-/// Adds what becomes of attempts, locks and the part, what the event stands for, and the end of the line.
+/// Adds what becomes of attempts, locks and the part, what the event stands for, and the end of the
+/// line.
 fn write_marks(
     text: &mut Vec<u8>,
     alloc: Global,
@@ -137,7 +141,8 @@ fn write_marks(
     share: &Share,
     after: &After,
 ) -> Result<(), AllocError>
-    ensures { OnOk result (text.new.items ≡ text.old.items ++ line (event_marks_text before.now after.now ++ share_text share.now)) }
+    ensures { OnOk result (text.new.items ≡ text.old.items
+        ++ line (event_marks_text before.now after.now ++ share_text share.now)) }
 {
     let marks = MarksText(*before, *after);
     let mut words = String::new(alloc);
@@ -145,9 +150,10 @@ fn write_marks(
     text.extend_from_slice(words.as_bytes())
 }
 
-/// Adds the line of an event of a number: `N thread T`, ` in attempt K` where it is in one, its place, what it does in words
-/// where it is no instruction, its word with what it found and left there, what becomes of attempts, locks and the part, and what
-/// it stands for in the plain machine. `names` has the names of the fields of the program in their order.
+/// Adds the line of an event of a number: `N thread T`, ` in attempt K` where it is in one, its
+/// place, what it does in words where it is no instruction, its word with what it found and left
+/// there, what becomes of attempts, locks and the part, and what it stands for in the plain
+/// machine. `names` has the names of the fields of the program in their order.
 pub fn write_line(
     text: &mut Vec<u8>,
     alloc: Global,
@@ -158,7 +164,8 @@ pub fn write_line(
     share: &Share,
     after: &After,
 ) -> Result<(), AllocError>
-    ensures { OnOk result (text.new.items ≡ text.old.items ++ event_line_text c.now.program names.now number before.now share.now after.now) }
+    ensures { OnOk result (text.new.items ≡ text.old.items
+        ++ event_line_text c.now.program names.now number before.now share.now after.now) }
 {
     write_head(text, alloc, number, before)?;
     write_spot(text, alloc, c, before.spot)?;

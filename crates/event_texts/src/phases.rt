@@ -4,7 +4,8 @@ use machine_types::Phase;
 use run_texts::{EndText, name_of};
 use std::fmt;
 
-/// Displays what a thread of a phase does, in words behind a comma; nothing where it is an instruction.
+/// Displays what a thread of a phase does, in words behind a comma; nothing where it is an
+/// instruction.
 #[derive(Clone, Copy)]
 pub struct PhaseText(pub Phase);
 

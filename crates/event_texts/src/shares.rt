@@ -15,7 +15,8 @@ use frames::ThreadState;
 pub enum Share {
     /// Outside of attempts: these steps.
     Steps(Acts),
-    /// In an attempt: nothing yet. So many steps are owed behind the event; none where the attempt fails.
+    /// In an attempt: nothing yet. So many steps are owed behind the event; none where the attempt
+    /// fails.
     Owes(u64),
     /// In an attempt that finishes: an entry, so many steps that were owed, and an exit.
     Section(u64),
@@ -31,7 +32,8 @@ fn share_in(acts: &Acts, fate: Fate, was: u64) -> Share
     }
 }
 
-/// What the event of a thread stands for that comes next and finds this, where so many steps are owed of the open attempt.
+/// What the event of a thread stands for that comes next and finds this, where so many steps are
+/// owed of the open attempt.
 pub fn share_of(s: &ThreadState, p: &Checked, got: u64, was: u64) -> Share
     requires program { p.now ≡ s.now.program }
     requires lawful { IsLawful p.now s.now }

@@ -1,7 +1,8 @@
 //! The words that threads share, and what stands in them, as text.
 
 ghost use Rattle.std.specs.Prelude.{◌≡◌, ◌++◌, slice_get, OnOk};
-ghost use Rattle.event_texts.specs.ValueTexts.{field_class, field_name, field_value, object_text, shared_value_text, word_text};
+ghost use Rattle.event_texts.specs.ValueTexts.{field_class, field_name, field_value, object_text};
+ghost use Rattle.event_texts.specs.ValueTexts.{shared_value_text, word_text};
 
 use crate::words::SharedWord;
 use instr_effects::ints::int_of;

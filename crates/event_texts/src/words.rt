@@ -2,7 +2,8 @@
 
 ghost use Rattle.std.specs.Prelude.{◌≡◌};
 ghost use Rattle.machine_types.specs.HeldMonitors.{held_at};
-ghost use Rattle.event_texts.specs.SharedWords.{effect_word, element_of, leave_word, run_word, tried_lock, variable_named, shared_word_of};
+ghost use Rattle.event_texts.specs.SharedWords.{effect_word, element_of, leave_word, run_word};
+ghost use Rattle.event_texts.specs.SharedWords.{tried_lock, variable_named, shared_word_of};
 
 use crate::doing::Doing;
 use frames::ThreadState;
@@ -110,7 +111,8 @@ fn leave_word(monitor: u32, held: Option<Held>) -> SharedWord
     }
 }
 
-/// The word that the next event of a thread accesses, where it accesses one; with what its top frame is about to do.
+/// The word that the next event of a thread accesses, where it accesses one; with what its top
+/// frame is about to do.
 pub fn word_of(s: &ThreadState, doing: Option<Doing>) -> SharedWord
     ensures { result ≡ shared_word_of s.now doing s.now.phase }
 {

@@ -1,4 +1,5 @@
-//! A monitor that a thread holds is entered again, or left once but not for the last time (JVMS 2.11.10).
+//! A monitor that a thread holds is entered again, or left once but not for the last time (JVMS
+//! 2.11.10).
 
 ghost use Rattle.std.specs.Prelude.{◌≡◌, ◌<◌, Some};
 ghost use Rattle.machine_types.specs.Going.{goes_after, runs};
@@ -34,7 +35,8 @@ pub fn exit_once(s: &mut ThreadState, p: &Checked, monitor: u32, held: Held, aft
     requires depth { 1 < held.depth }
     requires program { p.now ≡ s.old.program }
     requires onward { CanGoOn p.now s.old after }
-    ensures { s.new ≡ goes_after p.now.program (record s.old { held = with_held (shallower held) s.old.held }) after }
+    ensures { s.new ≡ goes_after p.now.program
+        (record s.old { held = with_held (shallower held) s.old.held }) after }
 {
     put_depth(s, monitor, held, held.depth - 1);
     go_after(s, p, after);

@@ -55,7 +55,8 @@ fn release(s: &ThreadState, monitor: u32, kept: Kept) -> Access
 pub fn ask_last_exit(s: &ThreadState, monitor: u32) -> Option<Access>
     requires number { s.now.number ≤ MOST_WORKERS }
     requires kept { AllByRecursion (λ h. KeptFits h.kept) s.now.held }
-    ensures { result ≡ (if is_last_exit (claim s.now monitor) then leave_wants s.now monitor (claim s.now monitor) else None) }
+    ensures { result ≡ (if is_last_exit (claim s.now monitor) then leave_wants s.now monitor
+        (claim s.now monitor) else None) }
 {
     match s.held(monitor) {
         Some(h) => {
@@ -105,8 +106,9 @@ fn ask_in(s: &ThreadState, phase: Phase) -> Option<Access>
     }
 }
 
-/// What the thread asks of the words in the phases `Acquire` to `TakeFat` and `Grow` to `NotifyAll`, and in `Leave` where it
-/// holds the monitor by its last entry. The answer is `None` in every other one.
+/// What the thread asks of the words in the phases `Acquire` to `TakeFat` and `Grow` to
+/// `NotifyAll`, and in `Leave` where it holds the monitor by its last entry. The answer is `None`
+/// in every other one.
 pub fn ask(s: &ThreadState) -> Option<Access>
     requires number { s.now.number ≤ MOST_WORKERS }
     requires phase { PhaseFits s.now.phase }

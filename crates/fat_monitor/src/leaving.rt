@@ -4,7 +4,8 @@ ghost use Rattle.std.specs.Prelude.{◌≡◌, ◌≤◌, ◌<◌, true, Some, N
 ghost use Rattle.jvm_types.specs.declared.limits.TheConstants.{MOST_LIMIT, MOST_WORKERS};
 ghost use Rattle.machine_types.specs.Going.{with_phase};
 ghost use Rattle.machine_types.specs.HeldMonitors.{held_at};
-ghost use Rattle.machine_types.specs.Monitors.{claim, fattens, grown, grows_not, leave_moves, lets_go, released};
+ghost use Rattle.machine_types.specs.Monitors.{claim, fattens, grown, grows_not, leave_moves};
+ghost use Rattle.machine_types.specs.Monitors.{lets_go, released};
 ghost use Rattle.machine_types.specs.declared.phase.Phase.TheVariants.{Own};
 ghost use Rattle.fat_monitor.specs.Asking.{is_last_exit};
 ghost use Rattle.fat_monitor.specs.Answering.{CanGoOn};
@@ -27,7 +28,8 @@ pub fn let_go(s: &mut ThreadState, p: &Checked, monitor: u32, after: After)
     go_after(s, p, after);
 }
 
-/// By the word that the release found: a flat lock that is not as the thread left it has been flagged, and is made fat.
+/// By the word that the release found: a flat lock that is not as the thread left it has been
+/// flagged, and is made fat.
 fn release(s: &mut ThreadState, p: &Checked, monitor: u32, after: After, kept: Kept, found: u64)
     requires program { p.now ≡ s.old.program }
     requires onward { CanGoOn p.now s.old after }
@@ -60,7 +62,8 @@ pub fn exit_last(s: &mut ThreadState, p: &Checked, monitor: u32, after: After, f
     }
 }
 
-/// There is no record left: a lock that was to be left is freed, and a thread that was to wait ends by Records.
+/// There is no record left: a lock that was to be left is freed, and a thread that was to wait ends
+/// by Records.
 fn grow_not(s: &mut ThreadState, monitor: u32, toward: Toward)
     ensures { s.new ≡ grows_not s.old monitor toward }
 {
@@ -72,7 +75,8 @@ fn grow_not(s: &mut ThreadState, monitor: u32, toward: Toward)
 
 /// By the number of the record that was drawn.
 pub fn grow(s: &mut ThreadState, monitor: u32, toward: Toward, number: u64)
-    ensures { s.new ≡ (if nat_lt number MONITOR_RECORDS then with_phase s.old (Own monitor number toward) else grows_not s.old monitor toward) }
+    ensures { s.new ≡ (if nat_lt number MONITOR_RECORDS then with_phase s.old
+        (Own monitor number toward) else grows_not s.old monitor toward) }
 {
     if number < MONITOR_RECORDS as u64 {
         s.set_phase(Phase::Own(monitor, number as u32, toward));

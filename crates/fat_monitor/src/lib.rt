@@ -1,5 +1,6 @@
-//! The monitor of an object where a thread takes its lock, leaves it, makes the lock fat, waits or notifies (JVMS 2.11.10, and
-//! JLS 17.1 and 17.2 in the edition of its time). The flat lock with its count is that of the PLDI 2010 publication.
+//! The monitor of an object where a thread takes its lock, leaves it, makes the lock fat, waits or
+//! notifies (JVMS 2.11.10, and JLS 17.1 and 17.2 in the edition of its time). The flat lock with
+//! its count is that of the PLDI 2010 publication.
 #![tactic(auto)]
 
 mod again;

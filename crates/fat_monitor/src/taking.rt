@@ -36,8 +36,9 @@ fn acquire_by(s: &mut ThreadState, monitor: u32, lock: LockWord)
     }
 }
 
-/// How a thread goes on that has looked at the word of a lock to take it: a free lock is taken next, a held one costs a
-/// failed turn and is flagged from the 64th on, and of a fat one the record is.
+/// How a thread goes on that has looked at the word of a lock to take it: a free lock is taken
+/// next, a held one costs a failed turn and is flagged from the 64th on, and of a fat one the
+/// record is.
 pub fn acquire(s: &mut ThreadState, monitor: u32, found: u64)
     requires turn { HasTurn s.old }
     requires word { is_lock_word found ≡ true }
@@ -65,7 +66,8 @@ pub fn take(s: &mut ThreadState, monitor: u32, kept: Kept)
 pub fn take_flat(s: &mut ThreadState, monitor: u32, count: u64, found: u64)
     requires can { CanTake s.old monitor }
     requires count { count < 2 ^ 62 }
-    ensures { s.new ≡ (if found == word_of_lock (Free count) then takes s.old monitor (Flat count) else failed_turn s.old (Acquire monitor)) }
+    ensures { s.new ≡ (if found == word_of_lock (Free count) then takes s.old monitor (Flat count)
+        else failed_turn s.old (Acquire monitor)) }
 {
     if found == word(LockWord::Free(count)) {
         take(s, monitor, Kept::Flat(count));
@@ -77,7 +79,8 @@ pub fn take_flat(s: &mut ThreadState, monitor: u32, count: u64, found: u64)
 /// A fat lock, by the owner that its record had.
 pub fn take_fat(s: &mut ThreadState, monitor: u32, number: u32, owner: u64)
     requires { CanTake s.old monitor }
-    ensures { s.new ≡ (if owner == 0 then takes s.old monitor (Fat number) else failed_turn s.old (TakeFat monitor number)) }
+    ensures { s.new ≡ (if owner == 0 then takes s.old monitor (Fat number) else failed_turn s.old
+        (TakeFat monitor number)) }
 {
     if owner == 0 {
         take(s, monitor, Kept::Fat(number));

@@ -27,7 +27,9 @@ pub fn give_up(s: &mut ThreadState, monitor: u32, number: u32)
 pub fn look(s: &mut ThreadState, monitor: u32, number: u32, depth: u64, bits: u64)
     requires number { s.old.number ≤ MOST_WORKERS }
     requires turn { HasTurn s.old }
-    ensures { s.new ≡ (if has_flag (bit_of s.old.number) bits then failed_turn s.old (WaitLook monitor number depth) else with_phase s.old (Retake monitor number depth)) }
+    ensures { s.new ≡ (if has_flag (bit_of s.old.number) bits then failed_turn s.old
+        (WaitLook monitor number depth) else with_phase s.old
+        (Retake monitor number depth)) }
 {
     if has_bit(s.number(), bits) {
         fail_turn(s, Phase::WaitLook(monitor, number, depth));
@@ -40,7 +42,8 @@ pub fn look(s: &mut ThreadState, monitor: u32, number: u32, depth: u64, bits: u6
 pub fn retake(s: &mut ThreadState, monitor: u32, number: u32, depth: u64, owner: u64)
     requires turn { HasTurn s.old }
     requires place { HasPlaceFor s.old monitor }
-    ensures { s.new ≡ (if owner == 0 then retakes s.old monitor number depth else failed_turn s.old (Retake monitor number depth)) }
+    ensures { s.new ≡ (if owner == 0 then retakes s.old monitor number depth else failed_turn s.old
+        (Retake monitor number depth)) }
 {
     if owner == 0 {
         s.put_held(Held {
@@ -56,7 +59,8 @@ pub fn retake(s: &mut ThreadState, monitor: u32, number: u32, depth: u64, owner:
 
 /// The lowest of the threads that wait is notified, where one does.
 pub fn choose(s: &mut ThreadState, monitor: u32, number: u32, bits: u64)
-    ensures { s.new ≡ (if bits == 0 then runs s.old else with_phase s.old (NotifyOne monitor number (lowest_of bits))) }
+    ensures { s.new ≡ (if bits == 0 then runs s.old else with_phase s.old
+        (NotifyOne monitor number (lowest_of bits))) }
 {
     if bits == 0 {
         runs(s);

@@ -10,7 +10,8 @@ use jvm_types::Counts;
 #[inline(always)]
 pub fn count_instruction(s: &mut ThreadState)
     requires { s.old.counts.instructions < MOST_LIMIT }
-    ensures { s.new ≡ record s.old { counts = record s.old.counts { instructions = s.old.counts.instructions + 1 } } }
+    ensures { s.new ≡ record s.old
+        { counts = record s.old.counts { instructions = s.old.counts.instructions + 1 } } }
 {
     let counts = s.counts();
     s.set_counts(Counts {
@@ -22,7 +23,8 @@ pub fn count_instruction(s: &mut ThreadState)
 /// One more section ran without its lock.
 pub fn count_elided(s: &mut ThreadState)
     requires { s.old.counts.elided < MOST_LIMIT }
-    ensures { s.new ≡ record s.old { counts = record s.old.counts { elided = s.old.counts.elided + 1 } } }
+    ensures { s.new
+        ≡ record s.old { counts = record s.old.counts { elided = s.old.counts.elided + 1 } } }
 {
     let counts = s.counts();
     s.set_counts(Counts {
@@ -34,7 +36,8 @@ pub fn count_elided(s: &mut ThreadState)
 /// One more attempt failed.
 pub fn count_failed(s: &mut ThreadState)
     requires { s.old.counts.failed < MOST_LIMIT }
-    ensures { s.new ≡ record s.old { counts = record s.old.counts { failed = s.old.counts.failed + 1 } } }
+    ensures { s.new
+        ≡ record s.old { counts = record s.old.counts { failed = s.old.counts.failed + 1 } } }
 {
     let counts = s.counts();
     s.set_counts(Counts {
@@ -46,7 +49,8 @@ pub fn count_failed(s: &mut ThreadState)
 /// One more lock is taken.
 pub fn count_locked(s: &mut ThreadState)
     requires { s.old.counts.locked < MOST_LIMIT }
-    ensures { s.new ≡ record s.old { counts = record s.old.counts { locked = s.old.counts.locked + 1 } } }
+    ensures { s.new
+        ≡ record s.old { counts = record s.old.counts { locked = s.old.counts.locked + 1 } } }
 {
     let counts = s.counts();
     s.set_counts(Counts {
@@ -58,7 +62,8 @@ pub fn count_locked(s: &mut ThreadState)
 /// One more lock is made fat.
 pub fn count_inflated(s: &mut ThreadState)
     requires { s.old.counts.inflated < MOST_LIMIT }
-    ensures { s.new ≡ record s.old { counts = record s.old.counts { inflated = s.old.counts.inflated + 1 } } }
+    ensures { s.new
+        ≡ record s.old { counts = record s.old.counts { inflated = s.old.counts.inflated + 1 } } }
 {
     let counts = s.counts();
     s.set_counts(Counts {

@@ -1,6 +1,7 @@
 //! The frames of a thread in one array of slots.
 
-ghost use Rattle.std.specs.Prelude.{◌≡◌, ◌+◌, ◌-◌, ◌≤◌, ◌<◌, [], ◌∷◌, length, take, drop, slice_index, slice_set, IfOk};
+ghost use Rattle.std.specs.Prelude.{◌≡◌, ◌+◌, ◌-◌, ◌≤◌, ◌<◌, [], ◌∷◌, length, take, drop};
+ghost use Rattle.std.specs.Prelude.{slice_index, slice_set, IfOk};
 ghost use Rattle.frames.specs.FrameLists.{top, below, with_top, max_stack};
 ghost use Rattle.jvm_types.specs.declared.limits.TheConstants.{MOST_SLOTS};
 
@@ -16,8 +17,9 @@ use std::marker::Model;
 
 /// The frames of methods of one program, which contracts see as a list with the top frame first.
 ///
-/// The heads of the frames and their slots fill two arrays from the end down; the head of the top frame stands apart, so that
-/// a loop which has the frames by value keeps it at hand. Only `new` takes memory.
+/// The heads of the frames and their slots fill two arrays from the end down; the head of the top
+/// frame stands apart, so that a loop which has the frames by value keeps it at hand. Only `new`
+/// takes memory.
 #[derive(Drop)]
 pub struct FrameStack {
     program: Told<Program>,
@@ -111,7 +113,8 @@ impl FrameStack {
     #[inline(always)]
     pub fn set_pc(&mut self, pc: u32)
         requires { 0 < length self.old.frames }
-        ensures { self.new ≡ record self.old { frames = with_top (record (top self.old.frames) { pc = pc }) self.old.frames } }
+        ensures { self.new ≡ record self.old
+            { frames = with_top (record (top self.old.frames) { pc = pc }) self.old.frames } }
     {
         self.top.pc = pc;
     }
@@ -159,8 +162,10 @@ impl FrameStack {
     #[inline(always)]
     pub fn push_value(&mut self, value: u64)
         requires frame { 0 < length self.old.frames }
-        requires room { length (top self.old.frames).stack < max_stack self.old.program (top self.old.frames).method }
-        ensures { self.new ≡ record self.old { frames = with_top (record (top self.old.frames) { stack = value ∷ (top self.old.frames).stack }) self.old.frames } }
+        requires room { length (top self.old.frames).stack
+            < max_stack self.old.program (top self.old.frames).method }
+        ensures { self.new ≡ record self.old
+            { frames = with_top (record (top self.old.frames) { stack = value ∷ (top self.old.frames).stack }) self.old.frames } }
     {
         let left = self.top.gap - 1;
         self.slots[self.free + left] = value;
@@ -172,7 +177,8 @@ impl FrameStack {
         requires frame { 0 < length self.old.frames }
         requires value { 0 < length (top self.old.frames).stack }
         ensures value { result ≡ slice_index (top self.old.frames).stack 0 }
-        ensures rest { self.new ≡ record self.old { frames = with_top (record (top self.old.frames) { stack = drop 1 (top self.old.frames).stack }) self.old.frames } }
+        ensures rest { self.new ≡ record self.old
+            { frames = with_top (record (top self.old.frames) { stack = drop 1 (top self.old.frames).stack }) self.old.frames } }
     {
         let gap = self.top.gap;
         self.top.gap = gap + 1;
@@ -184,7 +190,8 @@ impl FrameStack {
     pub fn drop_values(&mut self, count: u16)
         requires frame { 0 < length self.old.frames }
         requires values { count ≤ length (top self.old.frames).stack }
-        ensures { self.new ≡ record self.old { frames = with_top (record (top self.old.frames) { stack = drop count (top self.old.frames).stack }) self.old.frames } }
+        ensures { self.new ≡ record self.old
+            { frames = with_top (record (top self.old.frames) { stack = drop count (top self.old.frames).stack }) self.old.frames } }
     {
         let gap = self.top.gap;
         self.top.gap = gap + count as usize;
@@ -194,7 +201,8 @@ impl FrameStack {
     #[inline(always)]
     pub fn clear_values(&mut self)
         requires { 0 < length self.old.frames }
-        ensures { self.new ≡ record self.old { frames = with_top (record (top self.old.frames) { stack = [] }) self.old.frames } }
+        ensures { self.new ≡ record self.old
+            { frames = with_top (record (top self.old.frames) { stack = [] }) self.old.frames } }
     {
         let room = self.top.room;
         self.top.gap = room;
@@ -214,7 +222,8 @@ impl FrameStack {
     pub fn set_local(&mut self, i: u16, value: u64)
         requires frame { 0 < length self.old.frames }
         requires local { i < length (top self.old.frames).locals }
-        ensures { self.new ≡ record self.old { frames = with_top (record (top self.old.frames) { locals = slice_set (top self.old.frames).locals i value }) self.old.frames } }
+        ensures { self.new ≡ record self.old
+            { frames = with_top (record (top self.old.frames) { locals = slice_set (top self.old.frames).locals i value }) self.old.frames } }
     {
         let at = self.free + self.top.room + i as usize;
         self.slots[at] = value;
@@ -235,7 +244,8 @@ impl FrameStack {
 impl FrameStack {
     ghost use Rattle.std.specs.Prelude.{slice_get, Some, true, false, OnOk, OnErr};
     ghost use Rattle.machine_types.specs.Frames.{has_room};
-    ghost use Rattle.frames.specs.FrameLists.{argument_count, frames_of_call, frames_of_root, frames_entered, HasArguments};
+    ghost use Rattle.frames.specs.FrameLists.{argument_count, frames_of_call, frames_of_root};
+    ghost use Rattle.frames.specs.FrameLists.{frames_entered, HasArguments};
 
     /// Whether a frame of the method fits on those that are there.
     #[inline(always)]
@@ -253,7 +263,8 @@ impl FrameStack {
         requires room { has_room self.old.program self.old.frames m.now ≡ true }
         requires frame { 0 < length self.old.frames }
         requires given { argument_count m.now ≤ length (top self.old.frames).stack }
-        ensures { self.new ≡ record self.old { frames = frames_of_call number m.now (top self.old.frames) (below self.old.frames) } }
+        ensures { self.new ≡ record self.old
+            { frames = frames_of_call number m.now (top self.old.frames) (below self.old.frames) } }
     {
         let stack = m.max_stack as usize;
         let locals = m.max_locals as usize;
@@ -307,7 +318,8 @@ impl FrameStack {
         requires method { slice_get self.old.program.methods number ≡ Some m.now }
         requires fits { argument_count m.now ≤ m.now.max_locals }
         requires given { HasArguments m.now self.old.frames }
-        ensures ok { OnOk result (self.new ≡ record self.old { frames = frames_entered t number m.now self.old.frames }) }
+        ensures ok { OnOk result (self.new
+            ≡ record self.old { frames = frames_entered t number m.now self.old.frames }) }
         ensures room { OnOk result (has_room self.old.program self.old.frames m.now ≡ true) }
         ensures err { OnErr result (self.new ≡ self.old) }
         ensures full { OnErr result (has_room self.old.program self.old.frames m.now ≡ false) }
@@ -348,7 +360,8 @@ impl FrameStack {
         requires room { length kept.now.items ≡ MOST_SLOTS }
         requires fits { HeadFits self.old.program head }
         requires alike { head.method ≡ (top self.old.frames).method }
-        ensures { self.new ≡ record self.old { frames = with_top (frame_of head kept.now.items) self.old.frames } }
+        ensures { self.new
+            ≡ record self.old { frames = with_top (frame_of head kept.now.items) self.old.frames } }
     {
         copy_slots(kept.as_slice(), 0, &mut self.slots, self.free, head.size);
         self.top = head;

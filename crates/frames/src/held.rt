@@ -1,8 +1,10 @@
 //! The list of held monitors.
 
-ghost use Rattle.std.specs.Prelude.{◌≡◌, ◌<◌, ◌*◌, ◌+◌, length, slice_set, Some, None, IfSome, IfOk};
+ghost use Rattle.std.specs.Prelude.{◌≡◌, ◌<◌, ◌*◌, ◌+◌, length, slice_set, Some, None, IfSome};
+ghost use Rattle.std.specs.Prelude.{IfOk};
 ghost use Rattle.std.specs.List.{remove};
-ghost use Rattle.machine_types.specs.HeldMonitors.{held_at, with_held, without_held, held_in_frame, most_in, most_held};
+ghost use Rattle.machine_types.specs.HeldMonitors.{held_at, with_held, without_held, held_in_frame};
+ghost use Rattle.machine_types.specs.HeldMonitors.{most_in, most_held};
 ghost use Rattle.machine_types.specs.declared.lock.Held.{Held};
 
 use checked_program::{TagFrame, Tags};
@@ -15,7 +17,10 @@ use std::alloc::AllocError;
 pub fn place_of(held: &[Held], monitor: u32) -> Option<usize>
     ensures none { result ≡ None → held_at held.now monitor ≡ None }
     ensures stays { result ≡ None → without_held monitor held.now ≡ held.now }
-    ensures some { IfSome result (λ i. (i < length held.now) × (without_held monitor held.now ≡ remove held.now i) × ((e : Held) → e.monitor ≡ monitor → with_held e held.now ≡ slice_set held.now i e)) }
+    ensures some { IfSome result (λ i.
+        (i < length held.now) × (without_held monitor held.now ≡ remove held.now i) × ((e :
+        Held) → e.monitor ≡ monitor
+        → with_held e held.now ≡ slice_set held.now i e)) }
 {
     for i in 0..held.len() {
         if held[i].monitor == monitor {

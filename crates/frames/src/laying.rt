@@ -1,6 +1,7 @@
 //! Laying the arguments of a call in the slots of its frame.
 
-ghost use Rattle.std.specs.Prelude.{◌≡◌, ◌+◌, ◌-◌, ◌≤◌, ◌<◌, ◌++◌, [], ◌∷◌, length, take, drop, reverse, replicate, nat_lt, slice_index, false, if◌then◌else◌};
+ghost use Rattle.std.specs.Prelude.{◌≡◌, ◌+◌, ◌-◌, ◌≤◌, ◌<◌, ◌++◌, [], ◌∷◌, length, take, drop};
+ghost use Rattle.std.specs.Prelude.{reverse, replicate, nat_lt, slice_index, false, if◌then◌else◌};
 
 /// 0 in the places from `to` on, but for the first ones, up to `limit` of them.
 pub fn zero_behind(slots: &mut Vec<u64>, to: usize, first: usize, limit: usize)
@@ -8,20 +9,24 @@ pub fn zero_behind(slots: &mut Vec<u64>, to: usize, first: usize, limit: usize)
     requires within { first ≤ limit }
     ensures length { length slots.new.items ≡ length slots.old.items }
     ensures above { drop (to + limit) slots.new.items ≡ drop (to + limit) slots.old.items }
-    ensures laid { take limit (drop to slots.new.items) ≡ take first (drop to slots.old.items) ++ replicate (limit - first) 0 }
+    ensures laid { take limit (drop to slots.new.items)
+        ≡ take first (drop to slots.old.items) ++ replicate (limit - first) 0 }
 {
     for i in first..limit {
         slots[to + i] = 0;
     }
 }
 
-/// The number of its thread, where a root takes an argument, and 0 in the places behind it, up to `limit` of them.
+/// The number of its thread, where a root takes an argument, and 0 in the places behind it, up to
+/// `limit` of them.
 pub fn lay_root(slots: &mut Vec<u64>, number: u8, args: usize, to: usize, limit: usize)
     requires inside { to + limit ≤ length slots.old.items }
     requires fits { args ≤ limit }
     ensures length { length slots.new.items ≡ length slots.old.items }
     ensures above { drop (to + limit) slots.new.items ≡ drop (to + limit) slots.old.items }
-    ensures laid { take limit (drop to slots.new.items) ≡ (if nat_lt 0 args then number ∷ [] else []) ++ replicate (limit - length (if nat_lt 0 args then number ∷ [] else [])) 0 }
+    ensures laid { take limit (drop to slots.new.items) ≡
+        (if nat_lt 0 args then number ∷ [] else [])
+        ++ replicate (limit - length (if nat_lt 0 args then number ∷ [] else [])) 0 }
 {
     if args > 0 {
         slots[to] = number as u64;
@@ -31,14 +36,16 @@ pub fn lay_root(slots: &mut Vec<u64>, number: u8, args: usize, to: usize, limit:
     }
 }
 
-/// The `count` places from `from` on are copied in reverse order to those from `to` on, and 0s behind them up to `limit`.
+/// The `count` places from `from` on are copied in reverse order to those from `to` on, and 0s
+/// behind them up to `limit`.
 pub fn lay(slots: &mut Vec<u64>, from: usize, count: usize, to: usize, limit: usize)
     requires below { to + limit ≤ from }
     requires inside { from + count ≤ length slots.old.items }
     requires fits { count ≤ limit }
     ensures length { length slots.new.items ≡ length slots.old.items }
     ensures above { drop (to + limit) slots.new.items ≡ drop (to + limit) slots.old.items }
-    ensures laid { take limit (drop to slots.new.items) ≡ reverse (take count (drop from slots.old.items)) ++ replicate (limit - count) 0 }
+    ensures laid { take limit (drop to slots.new.items)
+        ≡ reverse (take count (drop from slots.old.items)) ++ replicate (limit - count) 0 }
 {
     for i in 0..count {
         slots[to + i] = slots[from + (count - 1 - i)];

@@ -7,7 +7,8 @@ use crate::ThreadState;
 use jvm_types::End;
 use machine_types::Phase;
 
-/// The thread goes on to its next instruction, or ends by Steps where it has made as many as it may.
+/// The thread goes on to its next instruction, or ends by Steps where it has made as many as it
+/// may.
 #[inline(always)]
 pub fn runs(s: &mut ThreadState)
     ensures { s.new ≡ runs s.old }
@@ -19,7 +20,8 @@ pub fn runs(s: &mut ThreadState)
     }
 }
 
-/// One more failed turn. The thread goes on to `phase`, or ends by Turns where that was the last turn that it has.
+/// One more failed turn. The thread goes on to `phase`, or ends by Turns where that was the last
+/// turn that it has.
 pub fn fail_turn(s: &mut ThreadState, phase: Phase)
     requires { s.old.turns < s.old.cfg.turns }
     ensures { s.new ≡ failed_turn s.old phase }

@@ -1,6 +1,7 @@
 //! The methods that the parts of a thread begin with.
 
-ghost use Rattle.std.specs.Prelude.{◌≡◌, ◌≤◌, ◌<◌, ◌++◌, length, take, drop, slice_get, [], ◌∷◌, if◌then◌else◌, OnOk, IfOk};
+ghost use Rattle.std.specs.Prelude.{◌≡◌, ◌≤◌, ◌<◌, ◌++◌, length, take, drop, slice_get, [], ◌∷◌};
+ghost use Rattle.std.specs.Prelude.{if◌then◌else◌, OnOk, IfOk};
 ghost use Rattle.machine_types.specs.Parts.{numbers_of, is_entry_named};
 ghost use Rattle.frames.specs.RootLists.{is_root};
 
@@ -62,7 +63,8 @@ fn is_root(root: Root, m: &MethodInfo) -> bool
 }
 
 fn add_if(numbers: &mut Rows<u32>, test: bool, number: u32) -> Result<(), AllocError>
-    ensures { OnOk result (numbers.new ≡ (if test then numbers.old ++ number ∷ [] else numbers.old)) }
+    ensures { OnOk result
+        (numbers.new ≡ (if test then numbers.old ++ number ∷ [] else numbers.old)) }
 {
     if test {
         numbers.push(number)?;
@@ -111,7 +113,8 @@ impl Roots {
     /// Those of `init` and `done`.
     fn of_first(alloc: Global, p: &Program) -> Result<Roots, AllocError>
         requires { length p.now.methods ≤ MOST_INSTRUCTIONS }
-        ensures { IfOk result (λ r. r ≡ record { left = first_roots p.now 0; later = later_roots p.now 0 }) }
+        ensures { IfOk result
+            (λ r. r ≡ record { left = first_roots p.now 0; later = later_roots p.now 0 }) }
     {
         let mut numbers = Rows::new(alloc);
         add_roots(&mut numbers, &p.methods, Root::ClassInit)?;
@@ -125,7 +128,8 @@ impl Roots {
     fn of_worker(alloc: Global, p: &Program, number: u8) -> Result<Roots, AllocError>
         requires worker { 0 < number }
         requires few { length p.now.methods ≤ MOST_INSTRUCTIONS }
-        ensures { IfOk result (λ r. r ≡ record { left = first_roots p.now number; later = later_roots p.now number }) }
+        ensures { IfOk result (λ r.
+            r ≡ record { left = first_roots p.now number; later = later_roots p.now number }) }
     {
         let mut numbers = Rows::new(alloc);
         add_roots(&mut numbers, &p.methods, Root::Run)?;
@@ -135,7 +139,8 @@ impl Roots {
     /// Those of a thread.
     pub fn of(alloc: Global, p: &Program, number: u8) -> Result<Roots, AllocError>
         requires { length p.now.methods ≤ MOST_INSTRUCTIONS }
-        ensures { IfOk result (λ r. r ≡ record { left = first_roots p.now number; later = later_roots p.now number }) }
+        ensures { IfOk result (λ r.
+            r ≡ record { left = first_roots p.now number; later = later_roots p.now number }) }
     {
         if number == 0 {
             Roots::of_first(alloc, p)

@@ -1,13 +1,17 @@
 //! The state of a thread (JVMS 2.5, 2.6).
 
-ghost use Rattle.std.specs.Prelude.{◌≡◌, ◌+◌, ◌-◌, ◌≤◌, ◌<◌, [], ◌∷◌, ◌++◌, length, take, drop, slice_get, slice_index, slice_set, option_map, IfOk, IfSome, IsSome, Some, None, OnOk, OnErr, true, false};
+ghost use Rattle.std.specs.Prelude.{◌≡◌, ◌+◌, ◌-◌, ◌≤◌, ◌<◌, [], ◌∷◌, ◌++◌, length, take, drop};
+ghost use Rattle.std.specs.Prelude.{slice_get, slice_index, slice_set, option_map, IfOk, IfSome};
+ghost use Rattle.std.specs.Prelude.{IsSome, Some, None, OnOk, OnErr, true, false};
 ghost use Rattle.checked_program.specs.MarkedProgram.{MarkedProgram};
-ghost use Rattle.machine_types.specs.Core.{start_thread, part_phase, is_live, how_ended, reported_end, report_of, with_roots};
+ghost use Rattle.machine_types.specs.Core.{start_thread, part_phase, is_live, how_ended};
+ghost use Rattle.machine_types.specs.Core.{reported_end, report_of, with_roots};
 ghost use Rattle.machine_types.specs.Frames.{has_room};
 ghost use Rattle.jvm_types.specs.declared.limits.TheConstants.{MOST_FRAMES};
 ghost use Rattle.machine_types.specs.HeldMonitors.{held_at, with_held, without_held, places_of};
 ghost use Rattle.machine_types.specs.Threads.{Frame, Attempt, head_of};
-ghost use Rattle.frames.specs.FrameLists.{top, below, with_top, max_stack, frames_entered, HasArguments};
+ghost use Rattle.frames.specs.FrameLists.{top, below, with_top, max_stack, frames_entered};
+ghost use Rattle.frames.specs.FrameLists.{HasArguments};
 ghost use Rattle.frames.specs.KeptAttempts.{IsBased, restored, with_inner};
 ghost use Rattle.frames.specs.RootLists.{later_roots};
 ghost use Rattle.frames.specs.ThreadParts.{start_phase, part_begun};
@@ -25,8 +29,8 @@ use std::alloc::{AllocError, Global};
 use std::marker::Model;
 use std::mem::replace;
 
-/// The state of a thread of one program. Contracts see its parts by themselves, its frames as a list with the top
-/// frame first and each stack with its top first.
+/// The state of a thread of one program. Contracts see its parts by themselves, its frames as a
+/// list with the top frame first and each stack with its top first.
 ///
 /// Only `start` takes memory. That of prints and held monitors is not touched before it is used.
 #[derive(Drop)]
@@ -155,14 +159,15 @@ impl ThreadState {
 
     /// The roots of its later part are left, and its phase is that of their begin.
     fn begin_roots(&mut self)
-        ensures { self.new ≡ with_roots (later_roots self.old.program.program self.old.number) self.old }
+        ensures { self.new
+            ≡ with_roots (later_roots self.old.program.program self.old.number) self.old }
     {
         self.roots.begin_later();
         self.phase = part_phase(&self.roots);
     }
 
-    /// The thread's share of the begin of a part: a worker is given the roots of `run`, and thread 0 those of `done`
-    /// when it has seen the workers' part begin, where it keeps how `init` ended.
+    /// The thread's share of the begin of a part: a worker is given the roots of `run`, and thread
+    /// 0 those of `done` when it has seen the workers' part begin, where it keeps how `init` ended.
     pub fn begin_part(&mut self)
         ensures { self.new ≡ part_begun self.old.program.program self.old }
     {
@@ -177,7 +182,8 @@ impl ThreadState {
         }
     }
 
-    /// The report of the thread. Its end is that of the part, and of thread 0 that of `init`, once another part began.
+    /// The report of the thread. Its end is that of the part, and of thread 0 that of `init`, once
+    /// another part began.
     pub fn into_report(self) -> ThreadReport
         ensures { result ≡ report_of self }
     {
@@ -318,7 +324,8 @@ impl ThreadState {
 
     /// The entry of the monitor becomes this one, or this one is added.
     pub fn put_held(&mut self, held: Held)
-        requires { held_at self.old.held held.monitor ≡ None → length self.old.held < places_of self.old.program }
+        requires { held_at self.old.held held.monitor ≡ None
+            → length self.old.held < places_of self.old.program }
         ensures { self.new ≡ record self.old { held = with_held held self.old.held } }
     {
         match place_of(self.held.as_slice(), held.monitor) {
@@ -378,7 +385,8 @@ impl ThreadState {
     #[inline(always)]
     pub fn set_pc(&mut self, pc: u32)
         requires { 0 < length self.old.frames }
-        ensures { self.new ≡ record self.old { frames = with_top (record (top self.old.frames) { pc = pc }) self.old.frames } }
+        ensures { self.new ≡ record self.old
+            { frames = with_top (record (top self.old.frames) { pc = pc }) self.old.frames } }
     {
         self.frames.set_pc(pc);
     }
@@ -397,7 +405,8 @@ impl ThreadState {
     pub fn set_local(&mut self, i: u16, value: u64)
         requires frame { 0 < length self.old.frames }
         requires local { i < length (top self.old.frames).locals }
-        ensures { self.new ≡ record self.old { frames = with_top (record (top self.old.frames) { locals = slice_set (top self.old.frames).locals i value }) self.old.frames } }
+        ensures { self.new ≡ record self.old
+            { frames = with_top (record (top self.old.frames) { locals = slice_set (top self.old.frames).locals i value }) self.old.frames } }
     {
         self.frames.set_local(i, value);
     }
@@ -442,8 +451,10 @@ impl ThreadState {
     #[inline(always)]
     pub fn push_value(&mut self, value: u64)
         requires frame { 0 < length self.old.frames }
-        requires room { length (top self.old.frames).stack < max_stack self.old.program.program (top self.old.frames).method }
-        ensures { self.new ≡ record self.old { frames = with_top (record (top self.old.frames) { stack = value ∷ (top self.old.frames).stack }) self.old.frames } }
+        requires room { length (top self.old.frames).stack
+            < max_stack self.old.program.program (top self.old.frames).method }
+        ensures { self.new ≡ record self.old
+            { frames = with_top (record (top self.old.frames) { stack = value ∷ (top self.old.frames).stack }) self.old.frames } }
     {
         self.frames.push_value(value);
     }
@@ -453,7 +464,8 @@ impl ThreadState {
         requires frame { 0 < length self.old.frames }
         requires value { 0 < length (top self.old.frames).stack }
         ensures value { result ≡ slice_index (top self.old.frames).stack 0 }
-        ensures rest { self.new ≡ record self.old { frames = with_top (record (top self.old.frames) { stack = drop 1 (top self.old.frames).stack }) self.old.frames } }
+        ensures rest { self.new ≡ record self.old
+            { frames = with_top (record (top self.old.frames) { stack = drop 1 (top self.old.frames).stack }) self.old.frames } }
     {
         self.frames.pop_value()
     }
@@ -463,7 +475,8 @@ impl ThreadState {
     pub fn drop_values(&mut self, count: u16)
         requires frame { 0 < length self.old.frames }
         requires values { count ≤ length (top self.old.frames).stack }
-        ensures { self.new ≡ record self.old { frames = with_top (record (top self.old.frames) { stack = drop count (top self.old.frames).stack }) self.old.frames } }
+        ensures { self.new ≡ record self.old
+            { frames = with_top (record (top self.old.frames) { stack = drop count (top self.old.frames).stack }) self.old.frames } }
     {
         self.frames.drop_values(count);
     }
@@ -472,22 +485,28 @@ impl ThreadState {
     #[inline(always)]
     pub fn clear_values(&mut self)
         requires { 0 < length self.old.frames }
-        ensures { self.new ≡ record self.old { frames = with_top (record (top self.old.frames) { stack = [] }) self.old.frames } }
+        ensures { self.new ≡ record self.old
+            { frames = with_top (record (top self.old.frames) { stack = [] }) self.old.frames } }
     {
         self.frames.clear_values();
     }
 
-    /// A frame of this method of the program: of a root where there is no frame, else of a call, which takes its
-    /// arguments from the stack of the top frame. Where there are 256 frames, or its slots and theirs are more than
-    /// 16,384, it answers `StackOverflow`, and nothing changes.
+    /// A frame of this method of the program: of a root where there is no frame, else of a call,
+    /// which takes its arguments from the stack of the top frame. Where there are 256 frames, or
+    /// its slots and theirs are more than 16,384, it answers `StackOverflow`, and nothing changes.
     pub fn push_frame(&mut self, p: &Checked, method: u32) -> Result<(), StackOverflow>
         requires program { p.now ≡ self.old.program }
         requires method { method < length p.now.program.methods }
-        requires given { IfSome (slice_get p.now.program.methods method) (λ m. HasArguments m self.old.frames) }
-        ensures ok { OnOk result (IfSome (slice_get p.now.program.methods method) (λ m. self.new ≡ record self.old { frames = frames_entered self.old.number method m self.old.frames })) }
-        ensures room { OnOk result (IfSome (slice_get p.now.program.methods method) (λ m. has_room p.now.program self.old.frames m ≡ true)) }
+        requires given { IfSome (slice_get p.now.program.methods method)
+            (λ m. HasArguments m self.old.frames) }
+        ensures ok { OnOk result (IfSome (slice_get p.now.program.methods method) (λ m.
+            self.new ≡ record self.old
+            { frames = frames_entered self.old.number method m self.old.frames })) }
+        ensures room { OnOk result (IfSome (slice_get p.now.program.methods method)
+            (λ m. has_room p.now.program self.old.frames m ≡ true)) }
         ensures err { OnErr result (self.new ≡ self.old) }
-        ensures full { OnErr result (IfSome (slice_get p.now.program.methods method) (λ m. has_room p.now.program self.old.frames m ≡ false)) }
+        ensures full { OnErr result (IfSome (slice_get p.now.program.methods method)
+            (λ m. has_room p.now.program self.old.frames m ≡ false)) }
     {
         let number = self.number;
         match p.program().methods.get(method as usize) {
@@ -505,9 +524,11 @@ impl ThreadState {
         self.frames.pop_frame();
     }
 
-    /// Hands out the frames, where they are not out already. Until they are put back others stand in their place.
+    /// Hands out the frames, where they are not out already. Until they are put back others stand
+    /// in their place.
     pub fn take_frames(&mut self) -> Option<FrameStack>
-        ensures frames { IfSome result (λ f. f ≡ record { program = self.old.program.program; frames = self.old.frames }) }
+        ensures frames { IfSome result
+            (λ f. f ≡ record { program = self.old.program.program; frames = self.old.frames }) }
         ensures rest { self.new ≡ record self.old { frames = self.new.frames } }
         ensures none { result ≡ None → self.new ≡ self.old }
     {
@@ -542,7 +563,8 @@ impl ThreadState {
     /// Begins an attempt, and keeps a copy of the top frame.
     pub fn checkpoint(&mut self, monitor: u32, noted: u64, number: u8)
         requires { 0 < length self.old.frames }
-        ensures { self.new ≡ record self.old { attempt = Some (record { monitor = monitor; noted = noted; base = length (below self.old.frames); number = number; inner = 0; entry = top self.old.frames }) } }
+        ensures { self.new ≡ record self.old
+            { attempt = Some (record { monitor = monitor; noted = noted; base = length (below self.old.frames); number = number; inner = 0; entry = top self.old.frames }) } }
     {
         let base = self.frames.depth() as u32 - 1;
         let frame = self.frames.copy_top(&mut self.kept);
@@ -563,7 +585,8 @@ impl ThreadState {
     pub fn checkpoint_of(&mut self, frames: &FrameStack, monitor: u32, noted: u64, number: u8)
         requires program { frames.now.program ≡ self.old.program.program }
         requires frame { 0 < length frames.now.frames }
-        ensures { self.new ≡ record self.old { attempt = Some (record { monitor = monitor; noted = noted; base = length (below frames.now.frames); number = number; inner = 0; entry = top frames.now.frames }) } }
+        ensures { self.new ≡ record self.old
+            { attempt = Some (record { monitor = monitor; noted = noted; base = length (below frames.now.frames); number = number; inner = 0; entry = top frames.now.frames }) } }
     {
         let base = frames.depth() as u32 - 1;
         let frame = frames.copy_top(&mut self.kept);
@@ -579,11 +602,13 @@ impl ThreadState {
         });
     }
 
-    /// Puts the copy back in the place of the frame that entered the section, and drops those above. The attempt stays.
+    /// Puts the copy back in the place of the frame that entered the section, and drops those
+    /// above. The attempt stays.
     pub fn restore(&mut self)
         requires some { IsSome self.old.attempt }
         requires based { IfSome self.old.attempt (IsBased self.old.frames) }
-        ensures { self.new ≡ record self.old { frames = restored self.old.attempt self.old.frames } }
+        ensures { self.new
+            ≡ record self.old { frames = restored self.old.attempt self.old.frames } }
     {
         match self.attempt {
             Some(entry) => {

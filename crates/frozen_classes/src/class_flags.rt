@@ -37,7 +37,8 @@ fn leak_at(
     u: usize,
 ) -> Result<Option<u16>, AllocError>
     requires program { IsProgram p.now }
-    ensures { IfOk result (λ c. c ≡ leak_of p.now (slice_get p.now.methods u) (slice_get tags.now u)) }
+    ensures { IfOk result
+        (λ c. c ≡ leak_of p.now (slice_get p.now.methods u) (slice_get tags.now u)) }
 {
     match p.methods.get(u) {
         Some(m) => match tags.get(u) {
@@ -82,9 +83,9 @@ fn frozen_upto(
     Ok(flags)
 }
 
-/// For the class of each file, in order, whether it is frozen: no `<init>` of it lets its object out, loses sight of
-/// it, or writes a final field on another object. `tags` has the lock tags of each method. It fails only where memory
-/// is refused.
+/// For the class of each file, in order, whether it is frozen: no `<init>` of it lets its object
+/// out, loses sight of it, or writes a final field on another object. `tags` has the lock tags of
+/// each method. It fails only where memory is refused.
 pub fn frozen_classes(
     alloc: Global,
     p: &Program,
@@ -128,8 +129,8 @@ fn lets_out(
     }
 }
 
-/// The number of the first `<init>` of a class that lets its object out; `None` where the class is frozen. `tags` has the
-/// lock tags of each method. It fails only where memory is refused.
+/// The number of the first `<init>` of a class that lets its object out; `None` where the class is
+/// frozen. `tags` has the lock tags of each method. It fails only where memory is refused.
 pub fn first_out(
     alloc: Global,
     p: &Program,

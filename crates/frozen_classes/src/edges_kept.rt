@@ -1,10 +1,13 @@
-//! The edges of an instruction, to each of which what has `this` is compared with what stands there.
+//! The edges of an instruction, to each of which what has `this` is compared with what stands
+//! there.
 
 ghost use Rattle.std.specs.Prelude.{◌≡◌, IfOk};
 ghost use Rattle.std.specs.Option.{option_copied};
 ghost use Rattle.jvm_types.specs.Verifying.{covers, edges};
 ghost use Rattle.code_table.specs.PcTables.{number_at};
-ghost use Rattle.frozen_classes.specs.KeptThis.{catches_well, caught_well, reached_frame_at, joins_all, keeps_after, keeps_caught, passes_test, passes_at};
+ghost use Rattle.frozen_classes.specs.KeptThis.{catches_well, caught_well, reached_frame_at};
+ghost use Rattle.frozen_classes.specs.KeptThis.{joins_all, keeps_after, keeps_caught, passes_test};
+ghost use Rattle.frozen_classes.specs.KeptThis.{passes_at};
 
 use crate::places::{keeps_after, keeps_caught};
 use checked_program::{TagFrame, Tags};
@@ -30,7 +33,8 @@ pub(crate) fn reached_tags<'a>(m: &MethodInfo, t: &'a Tags, j: usize) -> Option<
 }
 
 fn joins_one(row: &OpRow, f: &TagFrame, m: &MethodInfo, t: &Tags, j: usize) -> bool
-    ensures { result ≡ passes_test (keeps_after row.now f.now) (reached_frame_at m.now t.now.frames j) }
+    ensures { result
+        ≡ passes_test (keeps_after row.now f.now) (reached_frame_at m.now t.now.frames j) }
 {
     match reached_tags(m, t, j) {
         Some(g) => keeps_after(row, f, g),
@@ -48,7 +52,8 @@ fn catches_one(f: &TagFrame, m: &MethodInfo, t: &Tags, j: usize) -> bool
 }
 
 fn joins_pc(row: &OpRow, f: &TagFrame, m: &IndexedMethod<'_>, t: &Tags, pc: u32) -> bool
-    ensures { result ≡ passes_at m.now t.now.frames (keeps_after row.now f.now) (number_at m.now.code pc) }
+    ensures { result
+        ≡ passes_at m.now t.now.frames (keeps_after row.now f.now) (number_at m.now.code pc) }
 {
     match m.find(pc) {
         Some(j) => joins_one(row, f, m.method(), t, j),

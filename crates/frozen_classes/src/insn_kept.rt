@@ -2,7 +2,9 @@
 
 ghost use Rattle.std.specs.Prelude.{◌≡◌, ◌&&◌, length, slice_get, IfOk};
 ghost use Rattle.checked_program.specs.FrozenPlaces.{is_field_of, is_final_of, may_take};
-ghost use Rattle.frozen_classes.specs.KeptThis.{all_before, begins_well, reached_frame_at, keeps_all, keeps_at, keeps_here, puts_well, takes_well};
+ghost use Rattle.frozen_classes.specs.KeptThis.{all_before, begins_well, reached_frame_at};
+ghost use Rattle.frozen_classes.specs.KeptThis.{keeps_all, keeps_at, keeps_here, puts_well};
+ghost use Rattle.frozen_classes.specs.KeptThis.{takes_well};
 
 use crate::edges_kept::{caught_well, joins_all, reached_tags};
 use crate::places::{local_this, stack_this};
@@ -31,7 +33,8 @@ fn is_final_of(p: &Program, class: u16, field: u32) -> bool
     }
 }
 
-/// Whether an instruction of an `<init>` of the class may take `this` at a place counted from the top of the stack.
+/// Whether an instruction of an `<init>` of the class may take `this` at a place counted from the
+/// top of the stack.
 fn may_take(p: &Program, class: u16, op: &Op, target: Target, k: usize) -> bool
     ensures { result ≡ may_take p.now class op.now target k }
 {
@@ -93,7 +96,8 @@ fn keeps_here(
     row: &OpRow,
     f: &TagFrame,
 ) -> Result<bool, AllocError>
-    ensures { IfOk result (λ b. b ≡ keeps_here p.now m.now t.now.frames insn.now target row.now f.now) }
+    ensures { IfOk result
+        (λ b. b ≡ keeps_here p.now m.now t.now.frames insn.now target row.now f.now) }
 {
     let method = m.method();
     let takes = takes_well(p, method.class, &insn.op, target, f, row.takes.len());
@@ -111,7 +115,9 @@ fn keeps_at(
     t: &Tags,
     i: usize,
 ) -> Result<bool, AllocError>
-    ensures { IfOk result (λ b. b ≡ keeps_at p.now m.now t.now.frames (slice_get m.now.code i) (slice_get m.now.targets i) (slice_get t.now.frames i)) }
+    ensures { IfOk result (λ b.
+        b ≡ keeps_at p.now m.now t.now.frames (slice_get m.now.code i)
+        (slice_get m.now.targets i) (slice_get t.now.frames i)) }
 {
     let method = m.method();
     match method.code.get(i) {
@@ -152,7 +158,10 @@ fn keeps_each(
     t: &Tags,
     len: usize,
 ) -> Result<bool, AllocError>
-    ensures { IfOk result (λ b. b ≡ all_before (λ i. keeps_at p.now m.now t.now.frames (slice_get m.now.code i) (slice_get m.now.targets i) (slice_get t.now.frames i)) len) }
+    ensures { IfOk result (λ b.
+        b ≡ all_before (λ i.
+        keeps_at p.now m.now t.now.frames (slice_get m.now.code i)
+        (slice_get m.now.targets i) (slice_get t.now.frames i)) len) }
 {
     let mut keeps = true;
     for i in 0..len {

@@ -1,5 +1,5 @@
-//! Frozen classes: those of which no `<init>` lets its object out (JVMS 2.9.1; on final fields of objects that are not
-//! let out while they are made, JLS 17.5).
+//! Frozen classes: those of which no `<init>` lets its object out (JVMS 2.9.1; on final fields of
+//! objects that are not let out while they are made, JLS 17.5).
 #![tactic(auto)]
 
 mod class_flags;

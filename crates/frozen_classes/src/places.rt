@@ -3,7 +3,9 @@
 ghost use Rattle.std.specs.Prelude.{◌≡◌, ◌<◌, ◌+◌, length, slice_get, slice_index_or};
 ghost use Rattle.checked_program.specs.LockTags.{is_this};
 ghost use Rattle.checked_program.specs.declared.tag.Tag.TheVariants.{Untagged as untagged};
-ghost use Rattle.frozen_classes.specs.KeptThis.{given_this, keeps_after, keeps_before, keeps_caught, local_this_after, stack_this_after, this_at};
+ghost use Rattle.frozen_classes.specs.KeptThis.{given_this, keeps_after, keeps_before};
+ghost use Rattle.frozen_classes.specs.KeptThis.{keeps_caught, local_this_after, stack_this_after};
+ghost use Rattle.frozen_classes.specs.KeptThis.{this_at};
 
 use checked_program::{Tag, TagFrame};
 use jvm_types::{Given, OpRow, Want};
@@ -125,7 +127,8 @@ fn local_this_after(writes: Option<(u16, Given)>, f: &TagFrame, k: usize) -> boo
 }
 
 fn keeps_stack(row: &OpRow, f: &TagFrame, g: &TagFrame) -> bool
-    ensures { result ≡ keeps_before (stack_this_after row.now f.now) g.now.stack (length row.now.gives + length f.now.stack) }
+    ensures { result ≡ keeps_before (stack_this_after row.now f.now) g.now.stack
+        (length row.now.gives + length f.now.stack) }
 {
     let count = places_after(row, f);
     let mut keeps = true;
@@ -137,7 +140,8 @@ fn keeps_stack(row: &OpRow, f: &TagFrame, g: &TagFrame) -> bool
 }
 
 fn keeps_locals(writes: Option<(u16, Given)>, f: &TagFrame, g: &TagFrame) -> bool
-    ensures { result ≡ keeps_before (local_this_after writes f.now) g.now.locals (length f.now.locals) }
+    ensures { result
+        ≡ keeps_before (local_this_after writes f.now) g.now.locals (length f.now.locals) }
 {
     let mut keeps = true;
     for k in 0..f.locals().len() {

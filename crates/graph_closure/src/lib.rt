@@ -1,10 +1,12 @@
-//! The least set of nodes of a graph that is closed under a rule, in time linear in its edges. It finds the nodes
-//! that lead into a set, and those that lead to a cycle.
+//! The least set of nodes of a graph that is closed under a rule, in time linear in its edges. It
+//! finds the nodes that lead into a set, and those that lead to a cycle.
 #![tactic(auto)]
 
 mod walks;
 
-ghost use Rattle.std.specs.Prelude.{◌≡◌, ℕ, suc, ◌+◌, ◌-◌, ◌<◌, ◌≤◌, true, false, slice_index_or, ◌==◌, if◌then◌else◌, List, [], ◌∷◌, ◌++◌, length, slice_index, slice_set, OnOk, IfOk, EachIndex, MatchOption};
+ghost use Rattle.std.specs.Prelude.{◌≡◌, ℕ, suc, ◌+◌, ◌-◌, ◌<◌, ◌≤◌, true, false, slice_index_or};
+ghost use Rattle.std.specs.Prelude.{◌==◌, if◌then◌else◌, List, [], ◌∷◌, ◌++◌, length, slice_index};
+ghost use Rattle.std.specs.Prelude.{slice_set, OnOk, IfOk, EachIndex, MatchOption};
 ghost use Rattle.graph_closure.specs.Walks.{FindsLeading, FindsRecurring};
 ghost use Rattle.graph_closure.specs.LeastSet.{IsSpread, IsGraph};
 ghost use Rattle.graph_closure.specs.Chains.{IsChained, Going, latest, weight, zeros};
@@ -12,8 +14,8 @@ ghost use Rattle.graph_closure.specs.Chains.{IsChained, Going, latest, weight, z
 use std::alloc::{AllocError, Global};
 pub use walks::{leading, recurring};
 
-/// For each node the last edge to it, and for each edge the one before it to the same node; each as a number plus 1,
-/// with 0 for none.
+/// For each node the last edge to it, and for each edge the one before it to the same node; each as
+/// a number plus 1, with 0 for none.
 #[derive(Debug, Drop)]
 struct Chains {
     last: Vec<u32>,
@@ -40,7 +42,8 @@ fn meet(need: &mut [u32], work: &mut Vec<u32>, a: u32) -> Result<(), AllocError>
     requires { a < length need.old }
     ensures need { OnOk result (need.new ≡ slice_set need.old a (slice_index need.old a - 1)) }
     ensures less { OnOk result (weight work.new.items need.new ≤ weight work.old.items need.old) }
-    ensures work { OnOk result (work.new.items ≡ (if slice_index need.old a == 1 then work.old.items ++ a ∷ [] else work.old.items)) }
+    ensures work { OnOk result (work.new.items
+        ≡ (if slice_index need.old a == 1 then work.old.items ++ a ∷ [] else work.old.items)) }
 {
     let left = need[a as usize];
     if left == 1 {
@@ -68,7 +71,8 @@ fn ready(alloc: Global, need: &[u32]) -> Result<Vec<u32>, AllocError>
 
 /// Takes one that waits.
 fn next(work: &mut Vec<u32>) -> Option<u32>
-    ensures { MatchOption result (work.old.items ≡ []) (λ b. work.old.items ≡ work.new.items ++ b ∷ []) }
+    ensures { MatchOption result (work.old.items ≡ [])
+        (λ b. work.old.items ≡ work.new.items ++ b ∷ []) }
 {
     work.pop()
 }
@@ -76,8 +80,10 @@ fn next(work: &mut Vec<u32>) -> Option<u32>
 /// Whether b is not done yet; it is then noted as done.
 fn begin(done: &mut Vec<bool>, b: u32) -> bool
     requires { b < length done.old.items }
-    ensures yes { result ≡ true → (slice_index_or done.old.items b false ≡ false) × (done.new.items ≡ slice_set done.old.items b true) }
-    ensures not { result ≡ false → (slice_index_or done.old.items b false ≡ true) × (done.new.items ≡ done.old.items) }
+    ensures yes { result ≡ true → (slice_index_or done.old.items b false ≡ false)
+        × (done.new.items ≡ slice_set done.old.items b true) }
+    ensures not { result ≡ false
+        → (slice_index_or done.old.items b false ≡ true) × (done.new.items ≡ done.old.items) }
 {
     if done[b as usize] {
         return false;
@@ -102,7 +108,9 @@ fn release(
     requires inside { b < length need.old }
     requires done { slice_index_or done.now b false ≡ true }
     ensures less { OnOk result (weight work.new.items need.new ≤ weight work.old.items need.old) }
-    ensures goes { OnOk result ((start : List ℕ) → length start ≡ length need.old → Going from.now to.now start need.old work.old.items done.now b (latest to.now b (length to.now)) → Going from.now to.now start need.new work.new.items done.now b 0) }
+    ensures goes { OnOk result ((start : List ℕ) → length start ≡ length need.old → Going from.now
+        to.now start need.old work.old.items done.now b (latest to.now b (length to.now))
+        → Going from.now to.now start need.new work.new.items done.now b 0) }
 {
     let mut at = lasts[b as usize];
     while at > 0 {
@@ -113,9 +121,9 @@ fn release(
     Ok(())
 }
 
-/// Counts for each node its edges into the least closed set. The edge of number e goes from `from[e]` to `to[e]`, and
-/// `need` has for each node how many of its edges have to lead into the set. What is left of the need is 0 exactly at
-/// the nodes of the set.
+/// Counts for each node its edges into the least closed set. The edge of number e goes from
+/// `from[e]` to `to[e]`, and `need` has for each node how many of its edges have to lead into the
+/// set. What is left of the need is 0 exactly at the nodes of the set.
 pub fn spread(alloc: Global, from: &[u32], to: &[u32], need: &mut [u32]) -> Result<(), AllocError>
     requires graph { IsGraph (length need.old) from.now to.now }
     requires nodes { length need.old < 4294967296 }

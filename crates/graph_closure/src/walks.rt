@@ -62,8 +62,9 @@ fn degrees(alloc: Global, from: &[u32], to: &[u32], nodes: usize) -> Result<Vec<
     Ok(counts)
 }
 
-/// Of each node, whether some edges lead from it to a node of the set, or it is itself in the set. The edge of number
-/// e goes from `from[e]` to `to[e]`, and `into` has for each node whether it is in the set.
+/// Of each node, whether some edges lead from it to a node of the set, or it is itself in the set.
+/// The edge of number e goes from `from[e]` to `to[e]`, and `into` has for each node whether it is
+/// in the set.
 pub fn leading(
     alloc: Global,
     from: &[u32],
@@ -79,8 +80,8 @@ pub fn leading(
     without_need(alloc, need.as_slice())
 }
 
-/// Of each of so many nodes, whether it leads to a node that leads back to itself. The edge of number e goes from
-/// `from[e]` to `to[e]`.
+/// Of each of so many nodes, whether it leads to a node that leads back to itself. The edge of
+/// number e goes from `from[e]` to `to[e]`.
 pub fn recurring(
     alloc: Global,
     from: &[u32],

@@ -29,8 +29,10 @@ fn run_to_end<R: Threads + Sync, G: Gate + Sync>(
 ) -> Result<(), AllocError>
     requires some { (0 < workers) × (0 < turn) }
     requires program { p.now ≡ table.now.shared.key.program.told }
-    requires start { AtStart table.now.shared.table_id table.now.shared.key.program.told table.now.shared.key.cfg hands.old }
-    ensures here { OnOk result (RunsHere table.now.shared.table_id table.now.shared.key.program.told table.now.shared.key.cfg hands.new) }
+    requires start { AtStart table.now.shared.table_id table.now.shared.key.program.told
+        table.now.shared.key.cfg hands.old }
+    ensures here { OnOk result (RunsHere table.now.shared.table_id table.now.shared.key.program.told
+        table.now.shared.key.cfg hands.new) }
     ensures ended { OnOk result (HaveEnded hands.new.threads) }
 {
     if !run_init(table, hands, p) {
@@ -60,14 +62,16 @@ fn run_shared<R: Threads + Sync, G: Gate + Sync>(
     Ok(end_run(hands, table))
 }
 
-/// Runs a program to its end, its threads on so many workers, each of which gives the threads that it has turns of `turn` events, in
-/// order of numbers, over and over. `init` and `done` run on the caller's thread. Its error is want of memory.
+/// Runs a program to its end, its threads on so many workers, each of which gives the threads that
+/// it has turns of `turn` events, in order of numbers, over and over. `init` and `done` run on the
+/// caller's thread. Its error is want of memory.
 ///
-/// With one worker that is the caller's thread, and the outcome is that of the events in just these turns. With two or more of
-/// them, each on a thread of its own, it is the outcome of a state that some run reaches, in which no thread is live and no part may
-/// begin; nothing is promised of the order, nor of how many workers there are beside each other. Worker `k`, from 1, calls
-/// `gate.pass(k)` once, before its first event; where there are more workers than threads the rest have no part in it. One worker
-/// alone passes no gate.
+/// With one worker that is the caller's thread, and the outcome is that of the events in just these
+/// turns. With two or more of them, each on a thread of its own, it is the outcome of a state that
+/// some run reaches, in which no thread is live and no part may begin; nothing is promised of the
+/// order, nor of how many workers there are beside each other. Worker `k`, from 1, calls
+/// `gate.pass(k)` once, before its first event; where there are more workers than threads the rest
+/// have no part in it. One worker alone passes no gate.
 pub fn run_green<R: Threads + Sync, G: Gate + Sync>(
     rt: &R,
     alloc: Global,

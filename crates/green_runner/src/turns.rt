@@ -54,7 +54,8 @@ fn take_round(machine: &mut Machine, p: &Checked, turn: u32) -> bool
 fn run_rounds(machine: &mut Machine, p: &Checked, turn: u32)
     requires program { p.now ≡ machine.old.program }
     requires some { 0 < turn }
-    ensures gives { (n : ℕ) × IsLedByOrder machine.old (rounds turn p.now.program.workers n) machine.new }
+    ensures gives { (n : ℕ)
+        × IsLedByOrder machine.old (rounds turn p.now.program.workers n) machine.new }
     ensures dead { NoWorkerLives machine.new.core }
 {
     while take_round(machine, p, turn) {}
@@ -75,7 +76,8 @@ fn run_done(machine: &mut Machine, p: &Checked)
 fn run_workers(machine: &mut Machine, p: &Checked, turn: u32)
     requires program { p.now ≡ machine.old.program }
     requires some { 0 < turn }
-    ensures { (n : ℕ) × IsRunFinished machine.old (λ rest. Ordered (rounds turn p.now.program.workers n ++ rest)) machine.new }
+    ensures { (n : ℕ) × IsRunFinished machine.old
+        (λ rest. Ordered (rounds turn p.now.program.workers n ++ rest)) machine.new }
 {
     run_rounds(machine, p, turn);
     run_done(machine, p);
@@ -85,7 +87,8 @@ fn run_workers(machine: &mut Machine, p: &Checked, turn: u32)
 fn run_parts(machine: &mut Machine, p: &Checked, turn: u32)
     requires program { p.now ≡ machine.old.program }
     requires some { 0 < turn }
-    ensures { (n : ℕ) × IsRunFinished machine.old (λ rest. First (rounds turn p.now.program.workers n ++ rest)) machine.new }
+    ensures { (n : ℕ) × IsRunFinished machine.old
+        (λ rest. First (rounds turn p.now.program.workers n ++ rest)) machine.new }
 {
     machine.run_alone(p, 0);
     if machine.next(p) {
@@ -93,7 +96,8 @@ fn run_parts(machine: &mut Machine, p: &Checked, turn: u32)
     }
 }
 
-/// Runs a program to its end on the caller's thread, its workers in turns of so many events. Its error is want of memory.
+/// Runs a program to its end on the caller's thread, its workers in turns of so many events. Its
+/// error is want of memory.
 pub(crate) fn run_in_turns(
     alloc: Global,
     p: &Checked,

@@ -1,18 +1,21 @@
 //! The own instructions of a block, in one walk along the edges from its start.
 
-ghost use Rattle.std.specs.Prelude.{◌≡◌, ◌<◌, ◌≤◌, ◌==◌, ℕ, [], ◌++◌, length, map, slice_get, slice_index, IfOk, OnOk};
+ghost use Rattle.std.specs.Prelude.{◌≡◌, ◌<◌, ◌≤◌, ◌==◌, ℕ, [], ◌++◌, length, map, slice_get};
+ghost use Rattle.std.specs.Prelude.{slice_index, IfOk, OnOk};
 ghost use Rattle.std.specs.List.{filter_map};
 ghost use Rattle.jvm_types.specs.Verifying.{covers};
 ghost use Rattle.code_table.specs.PcTables.{number_at};
-ghost use Rattle.guard_analysis.specs.BlockWalks.{all_visited, catch_pcs, deep_at, is_deep, handler_pcs, way_pcs, ways_at, ways_from, walk_visited, IsExplored, Walked};
+ghost use Rattle.guard_analysis.specs.BlockWalks.{all_visited, catch_pcs, deep_at, is_deep};
+ghost use Rattle.guard_analysis.specs.BlockWalks.{handler_pcs, way_pcs, ways_at, ways_from};
+ghost use Rattle.guard_analysis.specs.BlockWalks.{walk_visited, IsExplored, Walked};
 
 use checked_program::Tags;
 use code_table::{IndexedMethod, can_throw, edges};
 use jvm_types::{Insn, MethodInfo, Row, Rows};
 use std::alloc::{AllocError, Global};
 
-/// The own instructions that a walk has found, in the order in which it found them, and for each instruction of the
-/// method the stamp of the last walk that came to it.
+/// The own instructions that a walk has found, in the order in which it found them, and for each
+/// instruction of the method the stamp of the last walk that came to it.
 #[derive(Debug, Drop)]
 pub struct Walk {
     pub seen: Rows<usize>,
@@ -133,7 +136,8 @@ fn visit_each(
     stamp: usize,
     ways: &[usize],
 ) -> Result<(), AllocError>
-    ensures { OnOk result (walk.new ≡ all_visited m.now tags.now.frames depth stamp ways.now walk.old) }
+    ensures { OnOk result
+        (walk.new ≡ all_visited m.now tags.now.frames depth stamp ways.now walk.old) }
 {
     for j in ways {
         visit(walk, is_deep(m, tags, depth, *j), stamp, *j)?;
@@ -151,7 +155,8 @@ fn visit_ways(
     stamp: usize,
     i: usize,
 ) -> Result<(), AllocError>
-    ensures { OnOk result (walk.new ≡ all_visited m.now tags.now.frames depth stamp (ways_from m.now i) walk.old) }
+    ensures { OnOk result
+        (walk.new ≡ all_visited m.now tags.now.frames depth stamp (ways_from m.now i) walk.old) }
 {
     let ways = ways_from(alloc, m, i)?;
     visit_each(walk, m.method(), tags, depth, stamp, ways.as_slice())
@@ -167,8 +172,8 @@ fn found_at(own: &Rows<usize>, k: usize) -> usize
     }
 }
 
-/// Finds the own instructions of the block whose `monitorenter` has this number and stands where so many monitors
-/// are held. No walk before had this stamp.
+/// Finds the own instructions of the block whose `monitorenter` has this number and stands where so
+/// many monitors are held. No walk before had this stamp.
 pub fn explore(
     alloc: Global,
     walk: &mut Walk,

@@ -1,5 +1,5 @@
-//! The graph of calls: which method calls which, on the section's object or off it. Node 2 u is the method u as it is called on
-//! the section's object, node 2 u + 1 as it is called off it.
+//! The graph of calls: which method calls which, on the section's object or off it. Node 2 u is the
+//! method u as it is called on the section's object, node 2 u + 1 as it is called off it.
 
 ghost use Rattle.std.specs.Prelude.{◌≡◌, ◌*◌, ◌/◌, ◌≤◌, ◌<◌, length, slice_get, OnOk, IfOk};
 ghost use Rattle.jvm_types.specs.declared.limits.TheConstants.{MOST_INSTRUCTIONS as most};
@@ -25,7 +25,8 @@ fn add_calls(
     graph: &mut Graph,
 ) -> Result<(), AllocError>
     requires few { length p.now.methods ≤ most }
-    ensures { OnOk result (graph.new ≡ edges_before p.now m.now tags.now.frames a graph.old (length m.now.code)) }
+    ensures { OnOk result
+        (graph.new ≡ edges_before p.now m.now tags.now.frames a graph.old (length m.now.code)) }
 {
     for i in 0..m.code.len() {
         graph.add(a, call_at(p, mode_at(a as usize), m, tags, i))?;
@@ -35,7 +36,8 @@ fn add_calls(
 
 fn add_node(p: &Program, tags: &Rows<Tags>, a: u32, graph: &mut Graph) -> Result<(), AllocError>
     requires few { length p.now.methods ≤ most }
-    ensures { OnOk result (graph.new ≡ node_edges p.now (slice_get p.now.methods (a / 2)) (slice_get tags.now (a / 2)) a graph.old) }
+    ensures { OnOk result (graph.new ≡ node_edges p.now (slice_get p.now.methods (a / 2))
+        (slice_get tags.now (a / 2)) a graph.old) }
 {
     match p.methods.get(a as usize / 2) {
         Some(m) => match tags.get(a as usize / 2) {

@@ -1,11 +1,13 @@
 //! What the methods break that others call, and which of them call themselves.
 
-ghost use Rattle.std.specs.Prelude.{◌≡◌, ◌*◌, ◌≤◌, ◌<◌, length, slice_get, slice_index_or, false, IfOk};
+ghost use Rattle.std.specs.Prelude.{◌≡◌, ◌*◌, ◌≤◌, ◌<◌, length, slice_get, slice_index_or, false};
+ghost use Rattle.std.specs.Prelude.{IfOk};
 ghost use Rattle.jvm_types.specs.ProgramInvariant.{IsProgram};
 ghost use Rattle.jvm_types.specs.declared.limits.TheConstants.{MOST_INSTRUCTIONS as most};
 ghost use Rattle.checked_program.specs.TaggedCode.{tagged_by};
 ghost use Rattle.guard_analysis.specs.CallGraph.{call_graph};
-ghost use Rattle.guard_analysis.specs.Faults.{AreCallees, breaking_nodes, grade_at, grade_of, grades_before};
+ghost use Rattle.guard_analysis.specs.Faults.{AreCallees, breaking_nodes, grade_at, grade_of};
+ghost use Rattle.guard_analysis.specs.Faults.{grades_before};
 ghost use Rattle.graph_closure.specs.LeastSet.{IsGraph};
 
 use crate::call_graph::{call_graph, mode_at};
@@ -16,8 +18,8 @@ use graph_closure::{leading, recurring};
 use jvm_types::{MethodInfo, Program, Rows};
 use std::alloc::{AllocError, Global};
 
-/// Of each node of the graph of calls: whether calls lead from it to a method that breaks a rule, and whether they
-/// lead to one that calls itself.
+/// Of each node of the graph of calls: whether calls lead from it to a method that breaks a rule,
+/// and whether they lead to one that calls itself.
 #[derive(Debug, Drop)]
 pub(crate) struct Callees {
     pub(crate) breaks: Vec<bool>,
@@ -31,7 +33,8 @@ fn breaking_nodes(
     tags: &Rows<Tags>,
 ) -> Result<Vec<bool>, AllocError>
     requires few { length p.now.methods ≤ most }
-    ensures { IfOk result (λ v. v.items ≡ breaking_nodes p.now uses.now tags.now (2 * length p.now.methods)) }
+    ensures { IfOk result
+        (λ v. v.items ≡ breaking_nodes p.now uses.now tags.now (2 * length p.now.methods)) }
 {
     let mut breaking = Vec::new(alloc);
     for a in 0..2 * p.methods.len() {
@@ -56,8 +59,10 @@ impl Callees {
     ) -> Result<Callees, AllocError>
         requires program { IsProgram p.now }
         requires few { length p.now.methods ≤ most }
-        requires graph { IsGraph (2 * length p.now.methods) (call_graph p.now tags.now).from (call_graph p.now tags.now).to }
-        ensures { IfOk result (λ c. AreCallees p.now (tagged_by tags.now) uses.now c.breaks.items c.recurs.items) }
+        requires graph { IsGraph (2 * length p.now.methods) (call_graph p.now tags.now).from
+            (call_graph p.now tags.now).to }
+        ensures { IfOk result
+            (λ c. AreCallees p.now (tagged_by tags.now) uses.now c.breaks.items c.recurs.items) }
     {
         let graph = call_graph(alloc, p, tags)?;
         let breaking = breaking_nodes(alloc, p, uses, tags)?;
@@ -76,7 +81,8 @@ impl Callees {
         Ok(Callees { breaks, recurs })
     }
 
-    /// The first rule that forbids a section an instruction which breaks this rule itself and calls this node.
+    /// The first rule that forbids a section an instruction which breaks this rule itself and calls
+    /// this node.
     fn grade_of(&self, fault: u8, call: Option<u32>) -> u8
         ensures { result ≡ grade_of fault call self.now.breaks.items self.now.recurs.items }
     {
@@ -107,7 +113,9 @@ impl Callees {
         tags: &Tags,
     ) -> Result<Vec<u8>, AllocError>
         requires few { length p.now.methods ≤ most }
-        ensures { IfOk result (λ v. v.items ≡ grades_before p.now uses.now self.now.breaks.items self.now.recurs.items m.now tags.now.frames (length m.now.code)) }
+        ensures { IfOk result (λ v.
+            v.items ≡ grades_before p.now uses.now self.now.breaks.items self.now.recurs.items
+            m.now tags.now.frames (length m.now.code)) }
     {
         let mut grades = Vec::new(alloc);
         for i in 0..m.code.len() {

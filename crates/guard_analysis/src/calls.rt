@@ -78,7 +78,8 @@ fn call_node(p: &Program, mode: Mode, op: &Op, target: Target, frame: &TagFrame)
 /// The node that the instruction of a number calls, where it is reached.
 pub fn call_at(p: &Program, mode: Mode, m: &MethodInfo, tags: &Tags, i: usize) -> Option<u32>
     requires few { length p.now.methods ≤ most }
-    ensures { result ≡ call_at p.now mode (slice_get m.now.code i) (slice_get m.now.targets i) (slice_get tags.now.frames i) }
+    ensures { result ≡ call_at p.now mode (slice_get m.now.code i) (slice_get m.now.targets i)
+        (slice_get tags.now.frames i) }
 {
     match m.code.get(i) {
         Some(insn) => match m.targets.get(i) {

@@ -2,7 +2,8 @@
 
 ghost use Rattle.std.specs.Prelude.{◌≡◌, length, slice_get, slice_index_or};
 ghost use Rattle.checked_program.specs.FrozenPlaces.{locks_this};
-ghost use Rattle.checked_program.specs.Marks.{call_fault, enter_fault, section_fault, is_locking, use_fault};
+ghost use Rattle.checked_program.specs.Marks.{call_fault, enter_fault, section_fault, is_locking};
+ghost use Rattle.checked_program.specs.Marks.{use_fault};
 ghost use Rattle.checked_program.specs.declared.section.FieldUse.TheVariants.{Open as open_use};
 ghost use Rattle.guard_analysis.specs.Faults.{breaks_before, fault_at, node_breaks};
 
@@ -64,8 +65,8 @@ fn read_fault(field_use: FieldUse, own: bool) -> u8
     }
 }
 
-/// The number of the rule that an instruction breaks in a method called on the section's object, or off it; 0 for
-/// none.
+/// The number of the rule that an instruction breaks in a method called on the section's object, or
+/// off it; 0 for none.
 fn fault(
     p: &Program,
     uses: &Rows<FieldUse>,
@@ -126,7 +127,8 @@ pub fn fault_at(
     tags: &Tags,
     i: usize,
 ) -> u8
-    ensures { result ≡ fault_at p.now uses.now mode (slice_get m.now.code i) (slice_get m.now.targets i) (slice_get tags.now.frames i) }
+    ensures { result ≡ fault_at p.now uses.now mode (slice_get m.now.code i)
+        (slice_get m.now.targets i) (slice_get tags.now.frames i) }
 {
     match m.code.get(i) {
         Some(insn) => match m.targets.get(i) {
@@ -161,7 +163,8 @@ pub(crate) fn node_breaks(
     method: usize,
     mode: Mode,
 ) -> bool
-    ensures { result ≡ node_breaks p.now uses.now (slice_get p.now.methods method) (slice_get tags.now method) mode }
+    ensures { result ≡ node_breaks p.now uses.now (slice_get p.now.methods method)
+        (slice_get tags.now method) mode }
 {
     match p.methods.get(method) {
         Some(m) => match tags.get(method) {

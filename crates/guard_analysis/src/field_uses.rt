@@ -1,6 +1,7 @@
 //! How each field may be read by a section that runs without its lock.
 
-ghost use Rattle.std.specs.Prelude.{◌≡◌, ◌<◌, false, length, replicate, slice_get, slice_index_or, IfOk};
+ghost use Rattle.std.specs.Prelude.{◌≡◌, ◌<◌, false, length, replicate, slice_get, slice_index_or};
+ghost use Rattle.std.specs.Prelude.{IfOk};
 ghost use Rattle.std.specs.List.{list_any};
 ghost use Rattle.jvm_types.specs.ProgramInvariant.{IsProgram};
 ghost use Rattle.checked_program.specs.LockTags.{is_this};
@@ -8,7 +9,9 @@ ghost use Rattle.checked_program.specs.declared.tag.Tag.TheVariants.{Untagged as
 ghost use Rattle.checked_program.specs.TaggedCode.{tagged_by};
 ghost use Rattle.checked_program.specs.FrozenPlaces.{AreUses};
 ghost use Rattle.frozen_classes.specs.FrozenClasses.{AreFrozenClasses};
-ghost use Rattle.guard_analysis.specs.FieldUses.{class_flag, field_noted, noted_before, noted_in, unguarded_at, unguarded_before, unguarded_write, use_at, use_by, uses_before, writes_guarded};
+ghost use Rattle.guard_analysis.specs.FieldUses.{class_flag, field_noted, noted_before, noted_in};
+ghost use Rattle.guard_analysis.specs.FieldUses.{unguarded_at, unguarded_before, unguarded_write};
+ghost use Rattle.guard_analysis.specs.FieldUses.{use_at, use_by, uses_before, writes_guarded};
 
 use crate::callees::flag_at;
 use crate::faults::locks_this;
@@ -70,7 +73,8 @@ fn unguarded_write(m: &MethodInfo, op: &Op, target: Target, frame: &TagFrame) ->
 
 /// The same of the instruction of a number, where it is reached.
 pub fn unguarded_at(m: &MethodInfo, tags: &Tags, i: usize) -> Option<u32>
-    ensures { result ≡ unguarded_at m.now (slice_get m.now.code i) (slice_get m.now.targets i) (slice_get tags.now.frames i) }
+    ensures { result ≡ unguarded_at m.now (slice_get m.now.code i) (slice_get m.now.targets i)
+        (slice_get tags.now.frames i) }
 {
     match m.code.get(i) {
         Some(insn) => match m.targets.get(i) {
@@ -109,7 +113,8 @@ fn note_writes(m: &MethodInfo, tags: &Tags, flags: &mut Rows<bool>)
 
 /// Notes those of the method of a number.
 fn note_method(p: &Program, tags: &Rows<Tags>, method: usize, flags: &mut Rows<bool>)
-    ensures { flags.new ≡ noted_in (slice_get p.now.methods method) (slice_get tags.now method) flags.old }
+    ensures { flags.new
+        ≡ noted_in (slice_get p.now.methods method) (slice_get tags.now method) flags.old }
 {
     match p.methods.get(method) {
         Some(m) => match tags.get(method) {
@@ -128,7 +133,8 @@ fn no_flags(alloc: Global, len: usize) -> Result<Rows<bool>, AllocError>
 
 /// Of each field whether some reached instruction writes it without its guard.
 fn unguarded_fields(alloc: Global, p: &Program, tags: &Rows<Tags>) -> Result<Rows<bool>, AllocError>
-    ensures { IfOk result (λ flags. flags ≡ unguarded_before p.now tags.now (length p.now.methods)) }
+    ensures { IfOk result
+        (λ flags. flags ≡ unguarded_before p.now tags.now (length p.now.methods)) }
 {
     let mut flags = no_flags(alloc, p.fields.len())?;
     for u in 0..p.methods.len() {
@@ -162,7 +168,8 @@ fn class_flag(flags: &[bool], class: u16) -> bool
 }
 
 fn use_at(p: &Program, frozen: &[bool], unguarded: &[bool], field: usize) -> FieldUse
-    ensures { result ≡ use_at (slice_get p.now.fields field) frozen.now (slice_index_or unguarded.now field false) }
+    ensures { result ≡ use_at (slice_get p.now.fields field) frozen.now
+        (slice_index_or unguarded.now field false) }
 {
     match p.fields.get(field) {
         Some(info) => use_by(
@@ -180,7 +187,8 @@ fn all_uses(
     frozen: &[bool],
     unguarded: &[bool],
 ) -> Result<Rows<FieldUse>, AllocError>
-    ensures { IfOk result (λ uses. uses ≡ uses_before p.now.fields frozen.now unguarded.now (length p.now.fields)) }
+    ensures { IfOk result
+        (λ uses. uses ≡ uses_before p.now.fields frozen.now unguarded.now (length p.now.fields)) }
 {
     let mut uses = Rows::new(alloc);
     for field in 0..p.fields.len() {
@@ -189,8 +197,8 @@ fn all_uses(
     Ok(uses)
 }
 
-/// How each field may be read, in order of the fields. `frozen` has a flag for the class of each file. The error is that
-/// memory was refused.
+/// How each field may be read, in order of the fields. `frozen` has a flag for the class of each
+/// file. The error is that memory was refused.
 pub fn uses(
     alloc: Global,
     p: &Program,

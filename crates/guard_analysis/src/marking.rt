@@ -1,6 +1,8 @@
 //! The mark of each section, from the rules that forbid the instructions that it covers.
 
-ghost use Rattle.std.specs.Prelude.{◌≡◌, ◌<◌, ◌*◌, replicate, ◌≤◌, ◌+◌, ℕ, Some, None, if◌then◌else◌, length, map, slice_get, slice_index, slice_index_or, IfOk, OnOk};
+ghost use Rattle.std.specs.Prelude.{◌≡◌, ◌<◌, ◌*◌, replicate, ◌≤◌, ◌+◌, ℕ, Some, None};
+ghost use Rattle.std.specs.Prelude.{if◌then◌else◌, length, map, slice_get, slice_index};
+ghost use Rattle.std.specs.Prelude.{slice_index_or, IfOk, OnOk};
 ghost use Rattle.checked_program.specs.LockTags.{is_this};
 ghost use Rattle.checked_program.specs.declared.tag.Tag.TheVariants.{Untagged as untagged};
 ghost use Rattle.std.specs.List.{AllZip, filter_map};
@@ -15,7 +17,9 @@ ghost use Rattle.graph_closure.specs.LeastSet.{IsGraph};
 ghost use Rattle.guard_analysis.specs.CallGraph.{call_graph};
 ghost use Rattle.guard_analysis.specs.BlockWalks.{IsExplored};
 ghost use Rattle.guard_analysis.specs.Faults.{AreCallees, grades_before};
-ghost use Rattle.guard_analysis.specs.SectionGrades.{entry_depth_at, earlier, whole_of, earliest_before, section_in, sections_at, AreGrades, IsBlockMark, IsFreshWalk, Marks};
+ghost use Rattle.guard_analysis.specs.SectionGrades.{entry_depth_at, earlier, whole_of};
+ghost use Rattle.guard_analysis.specs.SectionGrades.{earliest_before, section_in, sections_at};
+ghost use Rattle.guard_analysis.specs.SectionGrades.{AreGrades, IsBlockMark, IsFreshWalk, Marks};
 
 use crate::block_walk::{Walk, explore};
 use crate::callees::Callees;
@@ -62,7 +66,8 @@ fn earliest(rules: &[u8]) -> u8
 
 /// The first of the rules of these instructions.
 fn earliest_of(rules: &[u8], own: &[usize]) -> u8
-    ensures { result ≡ earliest_before (λ t. slice_index rules.now (slice_index own.now t)) (length own.now) }
+    ensures { result
+        ≡ earliest_before (λ t. slice_index rules.now (slice_index own.now t)) (length own.now) }
 {
     let mut first = 0;
     for t in 0..own.len() {
@@ -73,7 +78,8 @@ fn earliest_of(rules: &[u8], own: &[usize]) -> u8
 
 /// How many monitors are held where a block would begin, where it would be on this.
 fn depth_of(frame: &TagFrame) -> Option<usize>
-    ensures { result ≡ (if is_this (slice_index_or frame.now.stack 0 untagged) then Some (length frame.now.held) else None) }
+    ensures { result ≡ (if is_this (slice_index_or frame.now.stack 0 untagged) then Some
+        (length frame.now.held) else None) }
 {
     if is_this(stack_tag(frame, 0)) {
         Some(frame.held().len())
@@ -110,7 +116,8 @@ fn mark_block(
 ) -> Result<u8, AllocError>
     requires stamp { stamp ≡ i + 1 }
     requires fresh { IsFreshWalk m.now i walk.old }
-    ensures mark { IfOk result (IsBlockMark m.now tags.now.frames grades.now i (entry_depth_at m.now tags.now.frames i)) }
+    ensures mark { IfOk result
+        (IsBlockMark m.now tags.now.frames grades.now i (entry_depth_at m.now tags.now.frames i)) }
     ensures fresh { OnOk result (IsFreshWalk m.now (i + 1) walk.new) }
 {
     match depth_at(m.method(), tags, i) {
@@ -143,7 +150,8 @@ fn mark_at(
     requires grades { AreGrades p.now (tagged_by tags.now) uses.now method m.now grades.now }
     requires stamp { stamp ≡ i + 1 }
     requires fresh { IsFreshWalk m.now i walk.old }
-    ensures marks { OnOk result (Marks p.now (tagged_by tags.now) uses.now (sections_at method (slice_get m.now.code i)) marks.old marks.new) }
+    ensures marks { OnOk result (Marks p.now (tagged_by tags.now) uses.now
+        (sections_at method (slice_get m.now.code i)) marks.old marks.new) }
     ensures fresh { OnOk result (IsFreshWalk m.now (i + 1) walk.new) }
 {
     match m.method().code.get(i) {
@@ -189,7 +197,9 @@ fn mark_blocks(
     requires there { slice_get p.now.methods method ≡ Some m.now }
     requires tagged { slice_get tags.now method ≡ Some t.now }
     requires grades { AreGrades p.now (tagged_by tags.now) uses.now method m.now grades.now }
-    ensures { OnOk result (Marks p.now (tagged_by tags.now) uses.now (map (section_in method) (filter_map (λ insn. block_at insn.pc insn.op) m.now.code)) marks.old marks.new) }
+    ensures { OnOk result (Marks p.now (tagged_by tags.now) uses.now
+        (map (section_in method) (filter_map (λ insn. block_at insn.pc insn.op) m.now.code))
+        marks.old marks.new) }
 {
     let len = m.method().code.len();
     let mut walk = fresh_walk(alloc, len)?;
@@ -226,7 +236,8 @@ fn mark_whole(
     requires there { slice_get p.now.methods method ≡ Some m.now }
     requires tagged { slice_get tags.now method ≡ Some t.now }
     requires grades { AreGrades p.now (tagged_by tags.now) uses.now method m.now grades.now }
-    ensures { OnOk result (Marks p.now (tagged_by tags.now) uses.now (map (section_in method) (whole_of m.now)) marks.old marks.new) }
+    ensures { OnOk result (Marks p.now (tagged_by tags.now) uses.now
+        (map (section_in method) (whole_of m.now)) marks.old marks.new) }
 {
     if locks_this(m) {
         marks.push(SectionMark {
@@ -255,8 +266,10 @@ fn mark_method(
     requires there { slice_get p.now.methods method ≡ Some m.now }
     requires laid { IsLaidOut m.now }
     requires tagged { slice_get tags.now method ≡ Some t.now }
-    requires callees { AreCallees p.now (tagged_by tags.now) uses.now callees.now.breaks.items callees.now.recurs.items }
-    ensures { OnOk result (Marks p.now (tagged_by tags.now) uses.now (map (section_in method) (spots_of m.now)) marks.old marks.new) }
+    requires callees { AreCallees p.now (tagged_by tags.now) uses.now callees.now.breaks.items
+        callees.now.recurs.items }
+    ensures { OnOk result (Marks p.now (tagged_by tags.now) uses.now
+        (map (section_in method) (spots_of m.now)) marks.old marks.new) }
 {
     let grades = callees.grades(alloc, p, uses, m, t)?;
     let indexed = IndexedMethod::of(alloc, m)?;
@@ -282,7 +295,8 @@ fn mark_all(
 ) -> Result<Rows<SectionMark>, AllocError>
     requires program { IsProgram p.now }
     requires few { length p.now.methods ≤ most }
-    requires graph { IsGraph (2 * length p.now.methods) (call_graph p.now tags.now).from (call_graph p.now tags.now).to }
+    requires graph { IsGraph (2 * length p.now.methods) (call_graph p.now tags.now).from
+        (call_graph p.now tags.now).to }
     requires tags { length p.now.methods ≤ length tags.now }
     ensures { IfOk result (AllZip (IsMarkOf p.now (tagged_by tags.now) uses.now) (sections p.now)) }
 {
@@ -296,8 +310,9 @@ fn mark_all(
     Ok(marks)
 }
 
-/// The mark of each section of a program, in order of its methods: 0 where it may run without its lock, else the first
-/// rule that forbids that. `uses` has how each field may be read, `tags` the lock tags of each method.
+/// The mark of each section of a program, in order of its methods: 0 where it may run without its
+/// lock, else the first rule that forbids that. `uses` has how each field may be read, `tags` the
+/// lock tags of each method.
 pub fn mark_by_uses(
     alloc: Global,
     p: &Program,
@@ -311,8 +326,9 @@ pub fn mark_by_uses(
     mark_all(alloc, p, uses, tags)
 }
 
-/// The mark of each section of a program, in order of its methods: 0 where it may run without its lock, else the first
-/// rule that forbids that. `tags` has the lock tags of each method. The error is that memory was refused.
+/// The mark of each section of a program, in order of its methods: 0 where it may run without its
+/// lock, else the first rule that forbids that. `tags` has the lock tags of each method. The error
+/// is that memory was refused.
 pub fn mark(alloc: Global, p: &Program, tags: &Rows<Tags>) -> Result<Rows<SectionMark>, AllocError>
     requires program { IsProgram p.now }
     requires tagged { AreTaggings p.now p.now.methods tags.now }

@@ -14,8 +14,8 @@ use jvm_types::{MethodInfo, Row};
 use std::alloc::{AllocError, Global};
 use std::marker::Model;
 
-/// A method whose instructions follow one another, with the number of the instruction at each pc, and bounds on its
-/// handler rows. Contracts see the method.
+/// A method whose instructions follow one another, with the number of the instruction at each pc,
+/// and bounds on its handler rows. Contracts see the method.
 #[derive(Debug, Drop)]
 pub struct HandledMethod<'a> {
     indexed: IndexedMethod<'a>,
@@ -82,7 +82,8 @@ impl<'a> HandledMethod<'a> {
         hull_of_number(&self.hulls, k)
     }
 
-    /// How many rows from this number on do not cover the pc, or begin before `from`: 0 where this one does both.
+    /// How many rows from this number on do not cover the pc, or begin before `from`: 0 where this
+    /// one does both.
     fn passed(&self, k: usize, pc: u32, from: u32) -> usize
         requires { k < length self.now.rows }
         ensures { AreRowsPassed pc from (drop k self.now.rows) result }
@@ -98,11 +99,12 @@ impl<'a> HandledMethod<'a> {
         }
     }
 
-    /// The first row, from this number on, that covers a pc and begins at `from` or behind it, with the number of the
-    /// row behind it. Rows far from the pc are passed by sixty-four.
+    /// The first row, from this number on, that covers a pc and begins at `from` or behind it, with
+    /// the number of the row behind it. Rows far from the pc are passed by sixty-four.
     pub fn next_row(&self, first: usize, pc: u32, from: u32) -> Option<(usize, &'a Row)>
         ensures none { IfNone result (picked pc from (drop first self.now.rows) ≡ []) }
-        ensures some { IfSome result (λ found. IsNextPicked pc from self.now.rows first found.0 found.1.now) }
+        ensures some { IfSome result
+            (λ found. IsNextPicked pc from self.now.rows first found.0 found.1.now) }
     {
         let rows = self.method().rows.as_slice();
         let mut k = first;

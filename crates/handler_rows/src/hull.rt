@@ -12,7 +12,8 @@ use std::alloc::{AllocError, Global};
 /// How many rows one hull bounds at most.
 const TOGETHER: usize = 64;
 
-/// Bounds on so many rows that follow one another: the least and the greatest pc at which one begins, and the greatest end.
+/// Bounds on so many rows that follow one another: the least and the greatest pc at which one
+/// begins, and the greatest end.
 #[derive(Clone, Copy, Debug)]
 pub struct Hull {
     count: usize,

@@ -1,4 +1,5 @@
-//! Headers of objects: a class in the low 16 bits, and above them the length of an array, which is 0 for every other object.
+//! Headers of objects: a class in the low 16 bits, and above them the length of an array, which is
+//! 0 for every other object.
 
 ghost use Rattle.std.specs.Prelude.{◌≡◌, ◌<◌, ◌^◌};
 ghost use Rattle.machine_types.specs.Words.{header, header_class, header_length};

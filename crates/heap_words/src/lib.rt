@@ -1,5 +1,5 @@
-//! The words that threads share, as numbers: where a thing stands, how many words it takes, and what its header says. The
-//! standard leaves this open (JVMS 2.7).
+//! The words that threads share, as numbers: where a thing stands, how many words it takes, and
+//! what its header says. The standard leaves this open (JVMS 2.7).
 #![tactic(auto)]
 
 mod headers;

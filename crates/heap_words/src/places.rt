@@ -1,7 +1,8 @@
 //! The numbers of words. Each answer is below 2^32, as the caller has to know.
 
 ghost use Rattle.std.specs.Prelude.{◌≡◌, ◌+◌, ◌<◌, ◌^◌};
-ghost use Rattle.machine_types.specs.Words.{bits_word, header_word, owner_word, value_word, variable_word};
+ghost use Rattle.machine_types.specs.Words.{bits_word, header_word, owner_word, value_word};
+ghost use Rattle.machine_types.specs.Words.{variable_word};
 ghost use Rattle.jvm_types.specs.declared.fixed_words.TheConstants.{MONITOR_RECORDS};
 
 use jvm_types::fixed_words::{FIRST_RECORD_WORD, OBJECT_HEAD_WORDS};

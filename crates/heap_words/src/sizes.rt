@@ -32,7 +32,8 @@ pub fn object_size(p: &Program, class: u16) -> u32
     OBJECT_HEAD_WORDS + instances(p.fields.as_slice(), class)
 }
 
-/// How many words an array of int takes: two, and one for each of its elements, which are no more than a heap has words.
+/// How many words an array of int takes: two, and one for each of its elements, which are no more
+/// than a heap has words.
 #[inline(always)]
 pub fn array_size(length: u32) -> u32
     requires { length ≤ MOST_HEAP }

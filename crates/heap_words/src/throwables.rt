@@ -1,5 +1,5 @@
-//! The built-in throwables by the numbers of their classes, and the objects that are there from the start on: one of each
-//! class that the machine throws by itself, and `System.out`.
+//! The built-in throwables by the numbers of their classes, and the objects that are there from the
+//! start on: one of each class that the machine throws by itself, and `System.out`.
 
 ghost use Rattle.std.specs.Prelude.{◌≡◌};
 ghost use Rattle.machine_types.specs.ReadyObjects.{class_of, out_object, ready, thrown_of};

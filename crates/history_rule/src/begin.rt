@@ -35,7 +35,9 @@ impl PlainState {
         mut roots: Stack<u32>,
     ) -> Result<bool, AllocError>
         requires { t < length self.old.threads }
-        ensures { (x : PlainThread) → slice_get self.old.threads t ≡ Some x → IsStep (option_map (with_thread self.old t) (plain_begun p.now.program t x roots)) self.old self.new result }
+        ensures { (x : PlainThread) → slice_get self.old.threads t ≡ Some x → IsStep
+            (option_map (with_thread self.old t) (plain_begun p.now.program t x roots)) self.old
+            self.new result }
     {
         match roots.pop() {
             Some(number) => match p.program().methods.get(number as usize) {
@@ -59,7 +61,10 @@ impl PlainState {
         status: Status,
     ) -> Result<bool, AllocError>
         requires { t < length self.old.threads }
-        ensures { (x : PlainThread) → slice_get self.old.threads t ≡ Some x → IsStep (option_map (with_thread self.old t) (plain_begins p.now.program t x (plain_status_of status))) self.old self.new result }
+        ensures { (x : PlainThread) → slice_get self.old.threads t ≡ Some x → IsStep (option_map
+            (with_thread self.old t)
+            (plain_begins p.now.program t x (plain_status_of status))) self.old self.new
+            result }
     {
         let roots = match status {
             Status::Ready => self.threads.at(t).roots().copy(alloc)?,
@@ -79,7 +84,9 @@ impl PlainState {
         status: Status,
     ) -> Result<bool, AllocError>
         requires { t < length self.old.threads }
-        ensures { (x : PlainThread) → slice_get self.old.threads t ≡ Some x → IsStep (step_at p.now.program self.old t x acts.Begin (plain_status_of status)) self.old self.new result }
+        ensures { (x : PlainThread) → slice_get self.old.threads t ≡ Some x → IsStep
+            (step_at p.now.program self.old t x acts.Begin (plain_status_of status)) self.old
+            self.new result }
     {
         if !self.threads.is_due(t, self.threads.at(t).ended()) {
             return Ok(false);

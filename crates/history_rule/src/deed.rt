@@ -3,7 +3,8 @@
 use plain_frames::{Frame, Onward};
 use plain_threads::Status;
 
-/// What an instruction does, planned before anything changes. The frame that it has goes into the place of the top one.
+/// What an instruction does, planned before anything changes. The frame that it has goes into the
+/// place of the top one.
 #[derive(Debug, Drop)]
 pub enum Deed {
     /// There is no step.

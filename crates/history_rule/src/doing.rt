@@ -23,7 +23,8 @@ impl PlainState {
     /// Does what was planned for a thread.
     fn do_deed(&mut self, alloc: Global, t: u8, deed: Deed) -> Result<bool, AllocError>
         requires { t < length self.old.threads }
-        ensures { (x : PlainThread) → slice_get self.old.threads t ≡ Some x → IsStep (deed_done self.old t x x.frames deed) self.old self.new result }
+        ensures { (x : PlainThread) → slice_get self.old.threads t ≡ Some x
+            → IsStep (deed_done self.old t x x.frames deed) self.old self.new result }
     {
         match deed {
             Deed::Stuck => return Ok(false),
@@ -61,7 +62,9 @@ impl PlainState {
         class: Thrown,
     ) -> Result<bool, AllocError>
         requires { t < length self.old.threads }
-        ensures { (x : PlainThread) → slice_get self.old.threads t ≡ Some x → IsStep (step_at p.now.program self.old t x acts.Do (plain.Throw object class)) self.old self.new result }
+        ensures { (x : PlainThread) → slice_get self.old.threads t ≡ Some x → IsStep
+            (step_at p.now.program self.old t x acts.Do (plain.Throw object class)) self.old
+            self.new result }
     {
         let onward = dispatched(alloc, p, object, class, self.threads.at(t).frames())?;
         match onward {
@@ -77,7 +80,8 @@ impl PlainState {
     pub fn instruct(&mut self, alloc: Global, p: &Checked, t: u8) -> Result<bool, AllocError>
         requires thread { t < length self.old.threads }
         requires room { HasRoomForStep self.old }
-        ensures { (x : PlainThread) → slice_get self.old.threads t ≡ Some x → IsStep (step_at p.now.program self.old t x acts.Do plain.Run) self.old self.new result }
+        ensures { (x : PlainThread) → slice_get self.old.threads t ≡ Some x → IsStep
+            (step_at p.now.program self.old t x acts.Do plain.Run) self.old self.new result }
     {
         let deed = self.plan(alloc, p, t)?;
         self.do_deed(alloc, t, deed)

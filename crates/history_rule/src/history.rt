@@ -11,9 +11,10 @@ use machine_types::PlainStep;
 use std::alloc::{AllocError, Global};
 
 impl Plain {
-    /// Makes steps in their order, up to the first that there is not. `Ok(true)`: all of them are made, so they are a history of
-    /// the plain machine from here on. `Ok(false)`: they are none. In each case, and after an error, the state is that behind
-    /// some of the steps, from the first on.
+    /// Makes steps in their order, up to the first that there is not. `Ok(true)`: all of them are
+    /// made, so they are a history of the plain machine from here on. `Ok(false)`: they are none.
+    /// In each case, and after an error, the state is that behind some of the steps, from the first
+    /// on.
     pub fn run(
         &mut self,
         alloc: Global,
@@ -22,7 +23,8 @@ impl Plain {
     ) -> Result<bool, AllocError>
         requires program { p.now ≡ self.old.program }
         requires few { self.old.steps + length steps.now ≤ MOST_STEPS }
-        ensures run { IsRunMade (plain_run p.now.program self.old.state steps.now) self.new.state result }
+        ensures run { IsRunMade (plain_run p.now.program self.old.state steps.now) self.new.state
+            result }
         ensures reached { (n : ℕ) × IsPlayedOn self.old (take n steps.now) n self.new }
     {
         for step in steps {

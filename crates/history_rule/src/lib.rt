@@ -1,5 +1,5 @@
-//! The rule of plain steps: the machine with ordinary monitors, one step of which a caller chooses at a time (JVMS 2.11.10;
-//! JLS 17.1, 17.2).
+//! The rule of plain steps: the machine with ordinary monitors, one step of which a caller chooses
+//! at a time (JVMS 2.11.10; JLS 17.1, 17.2).
 #![tactic(auto)]
 
 mod begin;

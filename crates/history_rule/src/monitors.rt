@@ -1,8 +1,10 @@
 //! The steps of monitors (JVMS 2.11.10; JLS 17.1, 17.2).
 
 ghost use Rattle.std.specs.Prelude.{◌≡◌, ◌<◌, length, slice_get, Some, None, OnOk, OnErr};
-ghost use Rattle.machine_types.specs.PlainState.{PlainThread, Run, held_by, holding_at, is_holder, with_status, with_thread};
-ghost use Rattle.machine_types.specs.PlainSteps.{all_notified, plain_entered, exited, notified, retaken, waited};
+ghost use Rattle.machine_types.specs.PlainState.{PlainThread, Run, held_by, holding_at, is_holder};
+ghost use Rattle.machine_types.specs.PlainState.{with_status, with_thread};
+ghost use Rattle.machine_types.specs.PlainSteps.{all_notified, plain_entered, exited, notified};
+ghost use Rattle.machine_types.specs.PlainSteps.{retaken, waited};
 ghost use Rattle.plain_frames.specs.Changes.{after_of};
 ghost use Rattle.history_rule.specs.Small.{HasRoomForStep};
 ghost use Rattle.history_rule.specs.Steps.{IsStep};
@@ -27,7 +29,8 @@ impl PlainState {
     /// A thread holds a monitor at this depth, and runs.
     fn take(&mut self, t: u8, m: u64, depth: u64) -> Result<(), AllocError>
         requires { t < length self.old.threads }
-        ensures ok { OnOk result ((x : PlainThread) → slice_get self.old.threads t ≡ Some x → self.new ≡ with_thread (held_by self.old m t depth) t (with_status x Run)) }
+        ensures ok { OnOk result ((x : PlainThread) → slice_get self.old.threads t ≡ Some x
+            → self.new ≡ with_thread (held_by self.old m t depth) t (with_status x Run)) }
         ensures err { OnErr result (self.new ≡ self.old) }
     {
         self.holdings.put(t, m, depth)?;
@@ -39,7 +42,9 @@ impl PlainState {
     pub fn enter(&mut self, t: u8, m: u64) -> Result<bool, AllocError>
         requires thread { t < length self.old.threads }
         requires room { HasRoomForStep self.old }
-        ensures { (x : PlainThread) → slice_get self.old.threads t ≡ Some x → IsStep (plain_entered self.old t m x (holding_at self.old.holdings m)) self.old self.new result }
+        ensures { (x : PlainThread) → slice_get self.old.threads t ≡ Some x → IsStep
+            (plain_entered self.old t m x (holding_at self.old.holdings m)) self.old self.new
+            result }
     {
         let depth = match self.holdings.at(m) {
             None => 1,
@@ -53,7 +58,9 @@ impl PlainState {
     /// A thread that was woken takes back a monitor that is free.
     pub fn retake(&mut self, t: u8, m: u64, depth: u64) -> Result<bool, AllocError>
         requires { t < length self.old.threads }
-        ensures { (x : PlainThread) → slice_get self.old.threads t ≡ Some x → IsStep (retaken self.old t m depth x (holding_at self.old.holdings m)) self.old self.new result }
+        ensures { (x : PlainThread) → slice_get self.old.threads t ≡ Some x → IsStep
+            (retaken self.old t m depth x (holding_at self.old.holdings m)) self.old self.new
+            result }
     {
         if self.holdings.at(m).is_some() {
             return Ok(false);
@@ -72,7 +79,9 @@ impl PlainState {
         then: Then,
     ) -> Result<bool, AllocError>
         requires { t < length self.old.threads }
-        ensures { (x : PlainThread) → slice_get self.old.threads t ≡ Some x → IsStep (exited p.now.program self.old t m (after_of then) x (holding_at self.old.holdings m)) self.old self.new result }
+        ensures { (x : PlainThread) → slice_get self.old.threads t ≡ Some x → IsStep (exited
+            p.now.program self.old t m (after_of then) x (holding_at self.old.holdings m))
+            self.old self.new result }
     {
         let depth = match self.holdings.at(m) {
             Some(h) if h.holder() == t => h.depth(),
@@ -92,7 +101,8 @@ impl PlainState {
     /// A thread gives up a monitor that it holds, and waits.
     pub fn wait(&mut self, t: u8, m: u64) -> Result<bool, AllocError>
         requires { t < length self.old.threads }
-        ensures { (x : PlainThread) → slice_get self.old.threads t ≡ Some x → IsStep (waited self.old t m x (holding_at self.old.holdings m)) self.old self.new result }
+        ensures { (x : PlainThread) → slice_get self.old.threads t ≡ Some x → IsStep
+            (waited self.old t m x (holding_at self.old.holdings m)) self.old self.new result }
     {
         let depth = match self.holdings.at(m) {
             Some(h) if h.holder() == t => h.depth(),
@@ -106,7 +116,8 @@ impl PlainState {
     /// A thread notifies nobody, where nobody waits.
     fn notify_none(&mut self, t: u8, m: u64) -> Result<bool, AllocError>
         requires { t < length self.old.threads }
-        ensures { (x : PlainThread) → slice_get self.old.threads t ≡ Some x → IsStep (notified self.old t m x None) self.old self.new result }
+        ensures { (x : PlainThread) → slice_get self.old.threads t ≡ Some x
+            → IsStep (notified self.old t m x None) self.old self.new result }
     {
         if self.threads.any_waits(m) {
             return Ok(false);
@@ -118,7 +129,8 @@ impl PlainState {
     /// A thread notifies one that waits.
     fn notify_one(&mut self, t: u8, m: u64, u: u8) -> Result<bool, AllocError>
         requires { t < length self.old.threads }
-        ensures { (x : PlainThread) → slice_get self.old.threads t ≡ Some x → IsStep (notified self.old t m x (Some u)) self.old self.new result }
+        ensures { (x : PlainThread) → slice_get self.old.threads t ≡ Some x
+            → IsStep (notified self.old t m x (Some u)) self.old self.new result }
     {
         match self.threads.get(u) {
             Some(x) => {
@@ -136,7 +148,8 @@ impl PlainState {
     /// A thread notifies one that waits, or nobody, where nobody waits.
     pub fn notify(&mut self, t: u8, m: u64, one: Option<u8>) -> Result<bool, AllocError>
         requires { t < length self.old.threads }
-        ensures { (x : PlainThread) → slice_get self.old.threads t ≡ Some x → IsStep (notified self.old t m x one) self.old self.new result }
+        ensures { (x : PlainThread) → slice_get self.old.threads t ≡ Some x
+            → IsStep (notified self.old t m x one) self.old self.new result }
     {
         match one {
             Some(u) => self.notify_one(t, m, u),
@@ -147,7 +160,8 @@ impl PlainState {
     /// A thread notifies each that waits.
     pub fn notify_all(&mut self, t: u8, m: u64)
         requires { t < length self.old.threads }
-        ensures { (x : PlainThread) → slice_get self.old.threads t ≡ Some x → self.new ≡ all_notified self.old t m x }
+        ensures { (x : PlainThread) → slice_get self.old.threads t ≡ Some x
+            → self.new ≡ all_notified self.old t m x }
     {
         self.threads.wake_all(m);
         self.threads.set_status(t, Status::Run);

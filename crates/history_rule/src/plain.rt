@@ -21,8 +21,8 @@ use std::marker::Model;
 /// The most steps of one plain machine: 2^40, so that its numbers fit 64 bits.
 pub const MOST_STEPS: u64 = 1_099_511_627_776;
 
-/// The plain machine (JVMS 2.5, 2.6, 2.11.10; JLS 17.1, 17.2). Contracts see the program that it was made for, its state, and how
-/// many steps were made.
+/// The plain machine (JVMS 2.5, 2.6, 2.11.10; JLS 17.1, 17.2). Contracts see the program that it
+/// was made for, its state, and how many steps were made.
 #[derive(Drop)]
 pub struct Plain {
     program: Told<Checked>,
@@ -43,7 +43,8 @@ impl Model for Plain {
 
 /// The plain machine at the start of a run of a program.
 pub fn plain_start(alloc: Global, p: &Checked) -> Result<Plain, AllocError>
-    ensures { IfOk result (λ q. q ≡ record { program = p.now; state = plain_start p.now.program; steps = 0 }) }
+    ensures { IfOk result
+        (λ q. q ≡ record { program = p.now; state = plain_start p.now.program; steps = 0 }) }
 {
     let _checked = p.program();
     Ok(Plain {
@@ -53,8 +54,8 @@ pub fn plain_start(alloc: Global, p: &Checked) -> Result<Plain, AllocError>
     })
 }
 
-/// Makes one step of the plain machine of this program. `Ok(false)`: it has no such step, and nothing has changed. It answers
-/// `AllocError` where memory is wanted, and nothing has changed.
+/// Makes one step of the plain machine of this program. `Ok(false)`: it has no such step, and
+/// nothing has changed. It answers `AllocError` where memory is wanted, and nothing has changed.
 pub fn plain_step(
     alloc: Global,
     q: &mut Plain,
@@ -82,7 +83,8 @@ impl Plain {
         self.steps
     }
 
-    /// The number that was printed at a place among all prints, or `None` where there are not so many.
+    /// The number that was printed at a place among all prints, or `None` where there are not so
+    /// many.
     pub fn print(&self, i: usize) -> Option<i32>
         ensures { result ≡ option_map (λ x. x.value) (slice_get self.now.state.prints i) }
     {
@@ -101,7 +103,8 @@ impl Plain {
 
     /// What a thread does next, or `None` where there is no such thread.
     pub fn status(&self, t: u8) -> Option<Status>
-        ensures { option_map plain_status_of result ≡ option_map (λ x. x.status) (slice_get self.now.state.threads t) }
+        ensures { option_map plain_status_of result
+            ≡ option_map (λ x. x.status) (slice_get self.now.state.threads t) }
     {
         self.state.status(t)
     }
@@ -113,7 +116,8 @@ impl Plain {
         self.state.end_at(part, t)
     }
 
-    /// How `done` ended, or `None` where it has not. Where the program has none, it has returned as soon as it is due.
+    /// How `done` ended, or `None` where it has not. Where the program has none, it has returned as
+    /// soon as it is due.
     pub fn done_end(&self, alloc: Global, p: &Checked) -> Result<Option<End>, AllocError>
         requires { p.now ≡ self.now.program }
         ensures { IfOk result (λ e. e ≡ plain_done_end p.now.program self.now.state) }

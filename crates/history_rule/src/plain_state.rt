@@ -14,8 +14,8 @@ use plain_threads::{Holdings, Status, Threads, done_roots};
 use std::alloc::{AllocError, Global};
 use std::marker::Model;
 
-/// The state of the plain machine: threads, objects and ordinary monitors (JVMS 2.5, 2.6, 2.11.10). Contracts see it as the
-/// definitions do.
+/// The state of the plain machine: threads, objects and ordinary monitors (JVMS 2.5, 2.6, 2.11.10).
+/// Contracts see it as the definitions do.
 #[derive(Debug, Drop)]
 pub(crate) struct PlainState {
     pub(crate) memory: Memory,
@@ -54,7 +54,8 @@ impl PlainState {
 
     /// What a thread does next, or `None` where there is no such thread.
     pub fn status(&self, t: u8) -> Option<Status>
-        ensures { option_map plain_status_of result ≡ option_map (λ x. x.status) (slice_get self.now.threads t) }
+        ensures { option_map plain_status_of result
+            ≡ option_map (λ x. x.status) (slice_get self.now.threads t) }
     {
         match self.threads.get(t) {
             Some(x) => Some(x.status()),
@@ -72,7 +73,8 @@ impl PlainState {
         }
     }
 
-    /// How `done` ended, or `None` where it has not. Where the program has none, it has returned as soon as it is due.
+    /// How `done` ended, or `None` where it has not. Where the program has none, it has returned as
+    /// soon as it is due.
     pub fn done_end(&self, alloc: Global, p: &Checked) -> Result<Option<End>, AllocError>
         ensures { IfOk result (λ e. e ≡ plain_done_end p.now.program self.now) }
     {

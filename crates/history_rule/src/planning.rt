@@ -9,8 +9,12 @@ ghost use Rattle.machine_types.specs.Frames.{effect_at, frames_of, top_of, went_
 ghost use Rattle.machine_types.specs.Words.{variable_word};
 ghost use Rattle.machine_types.specs.Ints.{int_of, low};
 ghost use Rattle.machine_types.specs.Onward.{done, Running};
-ghost use Rattle.machine_types.specs.PlainInstructions.{plain_did, got_by, if_plain_held, if_left, plain_indexed, indexed_in, plain_instructed, instructed_by, plain_leaves, plain_leaving, plain_made};
-ghost use Rattle.machine_types.specs.PlainState.{Plain as State, PlainThread, plain_goes_on, value_at, with_thread, written};
+ghost use Rattle.machine_types.specs.PlainInstructions.{plain_did, got_by, if_plain_held, if_left};
+ghost use Rattle.machine_types.specs.PlainInstructions.{plain_indexed, indexed_in};
+ghost use Rattle.machine_types.specs.PlainInstructions.{plain_instructed, instructed_by};
+ghost use Rattle.machine_types.specs.PlainInstructions.{plain_leaves, plain_leaving, plain_made};
+ghost use Rattle.machine_types.specs.PlainState.{Plain as State, PlainThread, plain_goes_on};
+ghost use Rattle.machine_types.specs.PlainState.{value_at, with_thread, written};
 ghost use Rattle.plain_frames.specs.Changes.{onward_of};
 ghost use Rattle.history_rule.specs.Deeds.{deed_done};
 ghost use Rattle.history_rule.specs.Small.{HasRoomForStep, MakesSmall};
@@ -62,7 +66,10 @@ fn plain_deed(
     effect: Effect,
     got: u64,
 ) -> Result<Deed, AllocError>
-    ensures { IfOk result (λ d. (q : State) (t : ℕ) (x : PlainThread) → deed_done q t x (frames_of at.now) d ≡ option_map (λ o. with_thread q t (plain_goes_on x o)) (done p.now.program at.now effect got)) }
+    ensures { IfOk result (λ d.
+        (q : State) (t : ℕ) (x : PlainThread) → deed_done q t x (frames_of at.now) d ≡
+        option_map (λ o. with_thread q t (plain_goes_on x o))
+        (done p.now.program at.now effect got)) }
 {
     match done(alloc, p, at, effect, got)? {
         Some(onward) => Ok(Deed::Goes(onward)),
@@ -96,7 +103,12 @@ impl PlainState {
         variable: Variable,
         word: u64,
     ) -> Result<Deed, AllocError>
-        ensures { IfOk result (λ d. (t : ℕ) (x : PlainThread) → deed_done self.now t x (frames_of at.now) d ≡ option_map (λ was. with_thread (written self.now (variable_word variable) word) t (plain_goes_on x (Running (went_on p.now.program at.now 0)))) (value_at self.now (variable_word variable))) }
+        ensures { IfOk result (λ d.
+            (t : ℕ) (x : PlainThread) → deed_done self.now t x (frames_of at.now) d ≡ option_map
+            (λ was.
+            with_thread (written self.now (variable_word variable) word) t
+            (plain_goes_on x (Running (went_on p.now.program at.now 0))))
+            (value_at self.now (variable_word variable))) }
     {
         let place = variable_place(variable);
         match self.value_at(place) {
@@ -115,7 +127,9 @@ impl PlainState {
         stored: Option<u64>,
         value: u64,
     ) -> Result<Deed, AllocError>
-        ensures { IfOk result (λ d. (t : ℕ) (x : PlainThread) → deed_done self.now t x (frames_of at.now) d ≡ Some (indexed_in p.now.program self.now t x at.now place stored value)) }
+        ensures { IfOk result (λ d.
+            (t : ℕ) (x : PlainThread) → deed_done self.now t x (frames_of at.now) d
+            ≡ Some (indexed_in p.now.program self.now t x at.now place stored value)) }
     {
         match stored {
             None => Ok(Deed::Goes(Onward::Running(Change::Top(went_on(alloc, p, at, value)?)))),
@@ -133,7 +147,10 @@ impl PlainState {
         stored: Option<u64>,
         count: u64,
     ) -> Result<Deed, AllocError>
-        ensures { IfOk result (λ d. (t : ℕ) (x : PlainThread) → deed_done self.now t x (frames_of at.now) d ≡ plain_indexed p.now.program self.now t x at.now array index stored count) }
+        ensures { IfOk result (λ d.
+            (t : ℕ) (x : PlainThread) → deed_done self.now t x (frames_of at.now) d ≡
+            plain_indexed p.now.program self.now t x at.now array index stored
+            count) }
     {
         if index >= count {
             return Ok(Deed::Goes(threw(Thrown::ArrayIndexOutOfBoundsException, at)));
@@ -155,7 +172,9 @@ impl PlainState {
     ) -> Result<Deed, AllocError>
         requires room { HasRoomForStep self.now }
         requires small { size ≤ MOST_HEAP + OBJECT_HEAD_WORDS }
-        ensures { IfOk result (λ d. (t : ℕ) (x : PlainThread) → deed_done self.now t x (frames_of at.now) d ≡ Some (plain_made p.now.program self.now t x at.now header size)) }
+        ensures { IfOk result (λ d.
+            (t : ℕ) (x : PlainThread) → deed_done self.now t x (frames_of at.now) d
+            ≡ Some (plain_made p.now.program self.now t x at.now header size)) }
     {
         let next = self.memory.next_behind(size);
         let heap = p.heap();
@@ -169,7 +188,8 @@ impl PlainState {
 
     /// A thread goes on by leaving a monitor only where it holds that.
     fn if_left(&self, t: u8, at: &At, onward: Onward) -> Onward
-        ensures { (x : PlainThread) → plain_goes_on x (onward_of (frames_of at.now) result) ≡ if_left self.now t x at.now (onward_of (frames_of at.now) onward) }
+        ensures { (x : PlainThread) → plain_goes_on x (onward_of (frames_of at.now) result)
+            ≡ if_left self.now t x at.now (onward_of (frames_of at.now) onward) }
     {
         match onward {
             Onward::Leaving(m, after, change) => {
@@ -195,7 +215,9 @@ impl PlainState {
         at: &At,
         m: u64,
     ) -> Result<Onward, AllocError>
-        ensures { IfOk result (λ o. (x : PlainThread) → plain_goes_on x (onward_of (frames_of at.now) o) ≡ plain_leaves p.now.program self.now t x at.now m) }
+        ensures { IfOk result (λ o.
+            (x : PlainThread) → plain_goes_on x (onward_of (frames_of at.now) o)
+            ≡ plain_leaves p.now.program self.now t x at.now m) }
     {
         if m == 0 {
             return Ok(threw(Thrown::NullPointerException, at));
@@ -213,7 +235,10 @@ impl PlainState {
         m: u64,
         status: Status,
     ) -> Result<Deed, AllocError>
-        ensures { IfOk result (λ d. (x : PlainThread) → deed_done self.now t x (frames_of at.now) d ≡ Some (with_thread self.now t (if_plain_held self.now t m x at.now (plain_leaving p.now.program x at.now (plain_status_of status))))) }
+        ensures { IfOk result (λ d.
+            (x : PlainThread) → deed_done self.now t x (frames_of at.now) d ≡ Some (with_thread
+            self.now t (if_plain_held self.now t m x at.now (plain_leaving
+            p.now.program x at.now (plain_status_of status))))) }
     {
         if self.holds(t, m) {
             Ok(Deed::Asks(status, went_on(alloc, p, at, 0)?))
@@ -233,7 +258,9 @@ impl PlainState {
     ) -> Result<Deed, AllocError>
         requires room { HasRoomForStep self.now }
         requires small { MakesSmall effect }
-        ensures { IfOk result (λ d. (x : PlainThread) → deed_done self.now t x (frames_of at.now) d ≡ plain_did p.now.program self.now t x at.now effect got) }
+        ensures { IfOk result (λ d.
+            (x : PlainThread) → deed_done self.now t x (frames_of at.now) d
+            ≡ plain_did p.now.program self.now t x at.now effect got) }
     {
         match effect {
             Effect::Writes(variable, word) => self.writes(alloc, p, at, variable, word),
@@ -267,7 +294,9 @@ impl PlainState {
     /// By the effect of the instruction.
     fn instructed_by(&self, alloc: Global, p: &Checked, t: u8, at: &At) -> Result<Deed, AllocError>
         requires { HasRoomForStep self.now }
-        ensures { IfOk result (λ d. (x : PlainThread) → deed_done self.now t x (frames_of at.now) d ≡ instructed_by p.now.program self.now t x at.now (effect_at p.now.program at.now)) }
+        ensures { IfOk result (λ d.
+            (x : PlainThread) → deed_done self.now t x (frames_of at.now) d ≡ instructed_by
+            p.now.program self.now t x at.now (effect_at p.now.program at.now)) }
     {
         let _checked = p.program();
         let effect = effect_at(p, at);
@@ -281,7 +310,10 @@ impl PlainState {
     pub fn plan(&self, alloc: Global, p: &Checked, t: u8) -> Result<Deed, AllocError>
         requires thread { t < length self.now.threads }
         requires room { HasRoomForStep self.now }
-        ensures { IfOk result (λ d. (x : PlainThread) → slice_get self.now.threads t ≡ Some x → deed_done self.now t x x.frames d ≡ plain_instructed p.now.program self.now t x (top_of p.now.program x.frames)) }
+        ensures { IfOk result (λ d.
+            (x : PlainThread) → slice_get self.now.threads t ≡ Some x → deed_done self.now t x
+            x.frames d ≡ plain_instructed p.now.program self.now t x
+            (top_of p.now.program x.frames)) }
     {
         match top_of(p, self.threads.at(t).frames()) {
             Some(at) => self.instructed_by(alloc, p, t, &at),

@@ -20,7 +20,9 @@ impl PlainState {
     fn enter_step(&mut self, t: u8, status: Status) -> Result<bool, AllocError>
         requires thread { t < length self.old.threads }
         requires room { HasRoomForStep self.old }
-        ensures { (p : Program) (x : PlainThread) → slice_get self.old.threads t ≡ Some x → IsStep (step_at p self.old t x acts.Enter (plain_status_of status)) self.old self.new result }
+        ensures { (p : Program) (x : PlainThread) → slice_get self.old.threads t ≡ Some x → IsStep
+            (step_at p self.old t x acts.Enter (plain_status_of status)) self.old self.new
+            result }
     {
         match status {
             Status::Enter(m) => self.enter(t, m),
@@ -37,7 +39,9 @@ impl PlainState {
         status: Status,
     ) -> Result<bool, AllocError>
         requires { t < length self.old.threads }
-        ensures { (x : PlainThread) → slice_get self.old.threads t ≡ Some x → IsStep (step_at p.now.program self.old t x acts.Exit (plain_status_of status)) self.old self.new result }
+        ensures { (x : PlainThread) → slice_get self.old.threads t ≡ Some x → IsStep
+            (step_at p.now.program self.old t x acts.Exit (plain_status_of status)) self.old
+            self.new result }
     {
         match status {
             Status::Leave(m, after) => self.exit(alloc, p, t, m, after),
@@ -48,7 +52,9 @@ impl PlainState {
     /// A thread that is to wait does so.
     fn wait_step(&mut self, t: u8, status: Status) -> Result<bool, AllocError>
         requires { t < length self.old.threads }
-        ensures { (p : Program) (x : PlainThread) → slice_get self.old.threads t ≡ Some x → IsStep (step_at p self.old t x acts.Wait (plain_status_of status)) self.old self.new result }
+        ensures { (p : Program) (x : PlainThread) → slice_get self.old.threads t ≡ Some x → IsStep
+            (step_at p self.old t x acts.Wait (plain_status_of status)) self.old self.new
+            result }
     {
         match status {
             Status::Wait(m) => self.wait(t, m),
@@ -59,7 +65,9 @@ impl PlainState {
     /// A thread that is to notify does so.
     fn notify_step(&mut self, t: u8, one: Option<u8>, status: Status) -> Result<bool, AllocError>
         requires { t < length self.old.threads }
-        ensures { (p : Program) (x : PlainThread) → slice_get self.old.threads t ≡ Some x → IsStep (step_at p self.old t x (acts.Notify one) (plain_status_of status)) self.old self.new result }
+        ensures { (p : Program) (x : PlainThread) → slice_get self.old.threads t ≡ Some x → IsStep
+            (step_at p self.old t x (acts.Notify one) (plain_status_of status)) self.old
+            self.new result }
     {
         match status {
             Status::Notify(m) => self.notify(t, m, one),
@@ -70,7 +78,9 @@ impl PlainState {
     /// A thread that is to notify all does so.
     fn notify_all_step(&mut self, t: u8, status: Status) -> Result<bool, AllocError>
         requires { t < length self.old.threads }
-        ensures { (p : Program) (x : PlainThread) → slice_get self.old.threads t ≡ Some x → IsStep (step_at p self.old t x acts.NotifyAll (plain_status_of status)) self.old self.new result }
+        ensures { (p : Program) (x : PlainThread) → slice_get self.old.threads t ≡ Some x → IsStep
+            (step_at p self.old t x acts.NotifyAll (plain_status_of status)) self.old self.new
+            result }
     {
         match status {
             Status::NotifyAll(m) => {
@@ -84,7 +94,9 @@ impl PlainState {
     /// A thread that was woken takes its monitor back.
     fn retake_step(&mut self, t: u8, status: Status) -> Result<bool, AllocError>
         requires { t < length self.old.threads }
-        ensures { (p : Program) (x : PlainThread) → slice_get self.old.threads t ≡ Some x → IsStep (step_at p self.old t x acts.Retake (plain_status_of status)) self.old self.new result }
+        ensures { (p : Program) (x : PlainThread) → slice_get self.old.threads t ≡ Some x → IsStep
+            (step_at p self.old t x acts.Retake (plain_status_of status)) self.old self.new
+            result }
     {
         match status {
             Status::Woken(m, depth) => self.retake(t, m, depth),
@@ -102,7 +114,9 @@ impl PlainState {
     ) -> Result<bool, AllocError>
         requires thread { t < length self.old.threads }
         requires room { HasRoomForStep self.old }
-        ensures { (x : PlainThread) → slice_get self.old.threads t ≡ Some x → IsStep (step_at p.now.program self.old t x acts.Do (plain_status_of status)) self.old self.new result }
+        ensures { (x : PlainThread) → slice_get self.old.threads t ≡ Some x → IsStep
+            (step_at p.now.program self.old t x acts.Do (plain_status_of status)) self.old
+            self.new result }
     {
         match status {
             Status::Run => self.instruct(alloc, p, t),
@@ -122,7 +136,9 @@ impl PlainState {
     ) -> Result<bool, AllocError>
         requires thread { t < length self.old.threads }
         requires room { HasRoomForStep self.old }
-        ensures { (x : PlainThread) → slice_get self.old.threads t ≡ Some x → IsStep (step_at p.now.program self.old t x act (plain_status_of status)) self.old self.new result }
+        ensures { (x : PlainThread) → slice_get self.old.threads t ≡ Some x → IsStep
+            (step_at p.now.program self.old t x act (plain_status_of status)) self.old self.new
+            result }
     {
         match act {
             Act::Begin => self.begin(alloc, p, t, status),
@@ -136,8 +152,8 @@ impl PlainState {
         }
     }
 
-    /// Makes one step (JVMS 2.11.10; JLS 17.1, 17.2). `Ok(false)`: there is no such step, and nothing has changed. An error:
-    /// there was no memory, and nothing has changed.
+    /// Makes one step (JVMS 2.11.10; JLS 17.1, 17.2). `Ok(false)`: there is no such step, and
+    /// nothing has changed. An error: there was no memory, and nothing has changed.
     pub fn step(&mut self, alloc: Global, p: &Checked, step: PlainStep) -> Result<bool, AllocError>
         requires { HasRoomForStep self.old }
         ensures { IsStep (plain_step p.now.program self.old step) self.old self.new result }

@@ -1,5 +1,5 @@
-//! Tests of the rule of plain steps over class files. They stand here so that the crates below are not proved a second time for
-//! them.
+//! Tests of the rule of plain steps over class files. They stand here so that the crates below are
+//! not proved a second time for them.
 #![tactic(auto)]
 
 #[cfg(test)]

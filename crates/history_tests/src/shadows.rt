@@ -1,4 +1,5 @@
-//! The shadows of worked runs: the plain steps that each run stands for, in their order, and what they print.
+//! The shadows of worked runs: the plain steps that each run stands for, in their order, and what
+//! they print.
 
 ghost use Rattle.std.specs.Prelude.{◌≤◌};
 ghost use Rattle.jvm_types.specs.declared.limits.TheConstants.{MOST_WORKERS};
@@ -17,8 +18,9 @@ use test_classes::{DIVIDES_AT_REST, INDEXES_AND_THROWS, SHARED, WAITS};
 /// A part, a thread, and how that part of it ended.
 type Ended = (usize, u8, End);
 
-/// Two attempts at a section whose first one sees one field set and the other not: it leaves no step, and the section stands as a
-/// whole where the second one is done, behind the thread that set both.
+/// Two attempts at a section whose first one sees one field set and the other not: it leaves no
+/// step, and the section stands as a whole where the second one is done, behind the thread that set
+/// both.
 const TORN_ONCE: [Steps; 15] = [
     (0, Act::Begin, 1, true),
     (0, Act::Do, 8, true),
@@ -37,7 +39,8 @@ const TORN_ONCE: [Steps; 15] = [
     (0, Act::Begin, 1, false),
 ];
 
-/// Two attempts that fail, each behind a thread that set both fields, leave no step; then the lock is taken.
+/// Two attempts that fail, each behind a thread that set both fields, leave no step; then the lock
+/// is taken.
 const TORN_TWICE: [Steps; 20] = [
     (0, Act::Begin, 1, true),
     (0, Act::Do, 8, true),
@@ -61,7 +64,8 @@ const TORN_TWICE: [Steps; 20] = [
     (1, Act::Do, 3, true),
 ];
 
-/// With locks in the order of the first run, the reader comes first, and the other thread enters when it has left.
+/// With locks in the order of the first run, the reader comes first, and the other thread enters
+/// when it has left.
 const LOCKED: [Steps; 17] = [
     (0, Act::Begin, 1, true),
     (0, Act::Do, 8, true),
@@ -82,8 +86,8 @@ const LOCKED: [Steps; 17] = [
     (2, Act::Exit, 1, true),
 ];
 
-/// Two threads wait on one object, whose lock is made fat, and a third one wakes them one by one. `done` notifies without the
-/// monitor, which throws.
+/// Two threads wait on one object, whose lock is made fat, and a third one wakes them one by one.
+/// `done` notifies without the monitor, which throws.
 const WAITERS_WAKE: [Steps; 41] = [
     (0, Act::Begin, 1, true),
     (0, Act::Do, 8, true),
@@ -146,7 +150,8 @@ const SECTION_THROWS: [Steps; 9] = [
     (1, Act::Do, 1, false),
 ];
 
-/// An index out of range is caught, and an exception that the program made is not: 24 instructions and what two exceptions do.
+/// An index out of range is caught, and an exception that the program made is not: 24 instructions
+/// and what two exceptions do.
 const ELEMENTS_THROW: [Steps; 3] = [
     (0, Act::Begin, 1, true),
     (0, Act::Do, 26, true),

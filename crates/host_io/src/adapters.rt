@@ -12,7 +12,8 @@ use std::rt::Files;
 /// How many bytes of a file are read at once, at most.
 const CHUNK: usize = 4096;
 
-/// The files of the system, by their paths. It does not tell them, and counts each error as a fault.
+/// The files of the system, by their paths. It does not tell them, and counts each error as a
+/// fault.
 #[derive(Drop)]
 pub struct FileShelf<'a, R: Files> {
     rt: &'a R,
@@ -53,7 +54,8 @@ fn read_path<R: Files>(rt: &R, alloc: Global, path: &str, limit: u64) -> Result<
     }
 }
 
-// All that is left to read, where that is at most `limit` bytes. Of more, no more than a chunk is read.
+// All that is left to read, where that is at most `limit` bytes. Of more, no more than a chunk is
+// read.
 fn read_within<F: Read>(file: &mut F, alloc: Global, limit: u64) -> Result<Bytes, ShelfError>
     ensures within { IfOk result (λ content. length content ≤ limit) }
     ensures whole { IfOk result (λ content.
@@ -76,8 +78,8 @@ fn read_within<F: Read>(file: &mut F, alloc: Global, limit: u64) -> Result<Bytes
     }
 }
 
-/// The standard output. It does not tell its text, and counts each error and each write of no bytes as
-/// a fault.
+/// The standard output. It does not tell its text, and counts each error and each write of no bytes
+/// as a fault.
 #[derive(Drop)]
 pub struct OutputSink<'a, P: Print> {
     output: &'a P,

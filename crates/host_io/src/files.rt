@@ -16,8 +16,8 @@ pub struct Unread {
     pub error: ShelfError,
 }
 
-/// The contents of the files of these names, in order, or the first that is not read: the shelf fails, the
-/// file is too long, or memory runs out.
+/// The contents of the files of these names, in order, or the first that is not read: the shelf
+/// fails, the file is too long, or memory runs out.
 pub fn read_files<S: Shelf>(
     alloc: Global,
     names: &[String],

@@ -1,4 +1,5 @@
-ghost use Rattle.std.specs.Prelude.{◌≡◌, ◌≢◌, ◌↔◌, ◌<◌, ◌≤◌, ℕ, Bool, false, List, Option, Some, None, IsTrue, IfOk, IfSome, length};
+ghost use Rattle.std.specs.Prelude.{◌≡◌, ◌≢◌, ◌↔◌, ◌<◌, ◌≤◌, ℕ, Bool, false, List, Option, Some};
+ghost use Rattle.std.specs.Prelude.{None, IsTrue, IfOk, IfSome, length};
 ghost use Rattle.std.specs.Option.{option_copied};
 ghost use Rattle.host_io.specs.Shelf.{FailsBy, IsRead, file_of, content_of};
 ghost use Rattle.host_io.specs.ListShelf.{is_failing, after_reading, unreadable_of};
@@ -125,7 +126,8 @@ impl Shelf for ListShelf {
         ensures unreadable { self.new.failing ≡ self.old.failing }
         ensures answer { IsRead (Some self.old.files) name.now limit
             self.old.faults self.new.faults result }
-        ensures fails { IfSome (unreadable_of self.old.files self.old.failing) (λ test. FailsBy (test name.now) result) }
+        ensures fails { IfSome (unreadable_of self.old.files self.old.failing)
+            (λ test. FailsBy (test name.now) result) }
         // Which calls fail, and what they leave.
         ensures failed { (result ≡ Err ShelfError.Failed) ↔ IsTrue (is_failing self.old name.now) }
         ensures after { self.new ≡ after_reading self.old name.now }

@@ -1,4 +1,5 @@
-ghost use Rattle.std.specs.Prelude.{◌≡◌, ◌<◌, ◌++◌, ℕ, List, [], Option, Some, None, length, take, OnErr, IfOk};
+ghost use Rattle.std.specs.Prelude.{◌≡◌, ◌<◌, ◌++◌, ℕ, List, [], Option, Some, None, length, take};
+ghost use Rattle.std.specs.Prelude.{OnErr, IfOk};
 ghost use Rattle.host_io.specs.Faults.{risen};
 ghost use Rattle.host_io.specs.Sink.{IsTaken};
 ghost use Rattle.host_io.specs.ListSink.{accepted};

@@ -138,8 +138,8 @@ fn found_of(answer: &Result<Bytes, ShelfError>) -> Found {
     }
 }
 
-/// A file (how many fives, how many a read gives, how many are left where one fails), the limit that it is read with,
-/// and what is answered.
+/// A file (how many fives, how many a read gives, how many are left where one fails), the limit
+/// that it is read with, and what is answered.
 type Reading = (usize, usize, Option<usize>, u64, Found);
 
 const READ: [Reading; 9] = [

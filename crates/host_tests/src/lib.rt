@@ -1,4 +1,5 @@
-//! Tests of what the program sees of the outside, by public calls alone, above the crate that has them.
+//! Tests of what the program sees of the outside, by public calls alone, above the crate that has
+//! them.
 #![tactic(auto)]
 
 #[cfg(test)]

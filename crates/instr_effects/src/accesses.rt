@@ -15,7 +15,8 @@ use jvm_types::Rows;
 use jvm_types::fixed_words::{NEXT_FREE_WORD, NEXT_TICKET_WORD};
 use machine_types::{Access, Effect};
 
-/// Whether an attempt looks at its lock word first: at a jump to the instruction's own pc or one before, and at a call.
+/// Whether an attempt looks at its lock word first: at a jump to the instruction's own pc or one
+/// before, and at a call.
 #[inline(always)]
 pub fn is_checked(pc: u32, effect: Effect) -> bool
     ensures { result ≡ is_checked pc effect }
@@ -42,12 +43,13 @@ pub fn read_by(effect: Effect) -> Option<u32>
     }
 }
 
-/// The access that the instruction at `pc` wants, by its effect. The lock word of an attempt, where the thread has one, is at
-/// `monitor`; `prints` says whether the thread may print once more.
+/// The access that the instruction at `pc` wants, by its effect. The lock word of an attempt, where
+/// the thread has one, is at `monitor`; `prints` says whether the thread may print once more.
 #[inline(always)]
 pub fn wants(pc: u32, effect: Effect, monitor: Option<u32>, prints: bool) -> Option<Access>
     requires { HasPlace effect }
-    ensures { (s : Thread) → looks s.attempt ≡ option_map Load monitor → has_print_left s ≡ prints → result ≡ effect_wants s pc effect }
+    ensures { (s : Thread) → looks s.attempt ≡ option_map Load monitor → has_print_left s ≡ prints
+        → result ≡ effect_wants s pc effect }
 {
     match effect {
         Effect::Goes(_, _) | Effect::Calls(_) => match monitor {
@@ -103,7 +105,8 @@ fn accessed(access: Access) -> u32
     }
 }
 
-/// Makes an access to a word that there is, and answers what it found there. The sum of an `Add` fits 64 bits.
+/// Makes an access to a word that there is, and answers what it found there. The sum of an `Add`
+/// fits 64 bits.
 #[inline(always)]
 pub fn perform(words: &mut Rows<u64>, access: Access) -> u64
     requires word { accessed access < length words.old }

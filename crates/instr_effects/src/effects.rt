@@ -39,7 +39,8 @@ fn rest(next: u32, a: u64, b: u64) -> Effect
 
 #[inline(always)]
 fn increment(next: u32, i: u16, n: i32, locals: &[u64]) -> Effect
-    ensures { result ≡ at_local i locals.now (Goes next (added (slice_index locals.now i) (word_of n))) }
+    ensures { result
+        ≡ at_local i locals.now (Goes next (added (slice_index locals.now i) (word_of n))) }
 {
     let i = usize::from(i);
     if i < locals.len() {
@@ -49,8 +50,9 @@ fn increment(next: u32, i: u16, n: i32, locals: &[u64]) -> Effect
     }
 }
 
-/// What the instruction does whose constant names `target`, where the pc of the following one is `next`. The stack is given
-/// with its top first, and the answer is `Stuck` where it or the locals are those of no verified method.
+/// What the instruction does whose constant names `target`, where the pc of the following one is
+/// `next`. The stack is given with its top first, and the answer is `Stuck` where it or the locals
+/// are those of no verified method.
 pub fn effect(
     p: &Program,
     next: u32,

@@ -3,7 +3,9 @@
 ghost use Rattle.std.specs.Prelude.{◌≡◌, Some};
 ghost use Rattle.jvm_types.specs.ProgramInvariant.{IsProgram};
 ghost use Rattle.jvm_types.specs.declared.program.Target.TheVariants as targets;
-ghost use Rattle.machine_types.specs.Effects.{kept, variable_of, gets_static, puts_static, gets, puts, calls_on, calls_instance, calls_static, makes_array, named};
+ghost use Rattle.machine_types.specs.Effects.{kept, variable_of, gets_static, puts_static, gets};
+ghost use Rattle.machine_types.specs.Effects.{puts, calls_on, calls_instance, calls_static};
+ghost use Rattle.machine_types.specs.Effects.{makes_array, named};
 
 use crate::before::unless_null;
 use crate::ints::{int_of, low, word_of};

@@ -7,7 +7,8 @@ ghost use Rattle.instr_steps.specs.Effecting.{CanFail, passes};
 use elided_section::{Checkup, check, fail};
 use frames::ThreadState;
 
-/// Whether the lock word that was found is as the attempt noted it, where there is one. Where it is not, the attempt fails.
+/// Whether the lock word that was found is as the attempt noted it, where there is one. Where it is
+/// not, the attempt fails.
 #[inline(always)]
 pub fn passes(s: &mut ThreadState, got: u64) -> bool
     requires { CanFail s.old }

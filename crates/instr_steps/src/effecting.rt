@@ -31,7 +31,8 @@ use machine_types::Effect;
 /// The effect of a `lookupswitch` whose keys ascend.
 fn look_up(otherwise: u32, cases: &[Case], stack: &[u64]) -> Effect
     requires { AreKeys cases.now }
-    ensures { (p : Program) (next : ℕ) (target : Named) (locals : List ℕ) → result ≡ effect p next target (Lookupswitch otherwise cases.now) locals stack.now }
+    ensures { (p : Program) (next : ℕ) (target : Named) (locals : List ℕ)
+        → result ≡ effect p next target (Lookupswitch otherwise cases.now) locals stack.now }
 {
     match stack {
         [key, ..] => Effect::Goes(case_by_halves(otherwise, cases, *key), 0),
@@ -66,7 +67,8 @@ pub fn do_effect(s: &mut ThreadState, p: &Checked, place: &Place, effect: Effect
     requires stands { IsTopAt p.now.program s.old.frames place.now }
     requires row { CanGo p.now.program s.old.frames place.now }
     requires allowed { IsAllowed p.now.program (at_place s.old.frames place.now) effect }
-    requires fits { WordFits p.now.program (effect_content p.now.program place.now.target effect) got }
+    requires fits { WordFits p.now.program (effect_content p.now.program place.now.target effect)
+        got }
     requires receiver { (top s.old.frames).receiver < 4294967296 }
     requires caller { CallerFitsAfter p.now.program s.old.frames place.now effect }
     ensures { s.new ≡ did p.now.program s.old (at_place s.old.frames place.now) effect got }
@@ -100,12 +102,14 @@ pub fn instruct(s: &mut ThreadState, p: &Checked, place: &Place, effect: Effect,
     requires stands { IsTopAt p.now.program s.old.frames place.now }
     requires row { CanGo p.now.program s.old.frames place.now }
     requires allowed { IsAllowed p.now.program (at_place s.old.frames place.now) effect }
-    requires fits { WordFits p.now.program (effect_content p.now.program place.now.target effect) got }
+    requires fits { WordFits p.now.program (effect_content p.now.program place.now.target effect)
+        got }
     requires receiver { (top s.old.frames).receiver < 4294967296 }
     requires caller { CallerFitsAfter p.now.program s.old.frames place.now effect }
     requires count { s.old.counts.instructions < s.old.cfg.steps }
     requires attempt { CanFail s.old }
-    ensures { s.new ≡ instructed p.now.program (begun s.old) (at_place s.old.frames place.now) effect got }
+    ensures { s.new
+        ≡ instructed p.now.program (begun s.old) (at_place s.old.frames place.now) effect got }
 {
     let _most = s.config().steps;
     count_instruction(s);

@@ -42,7 +42,8 @@ fn go_to_handler(s: &mut ThreadState, p: &Checked, place: &Place, x: u32, to: u3
     requires program { p.now ≡ s.old.program }
     requires stands { IsTopAt p.now.program s.old.frames place.now }
     requires room { 0 < place.now.method.max_stack }
-    ensures { s.new ≡ goes_on s.old (Running (with_top (record (top s.old.frames) { pc = to; stack = x ∷ [] }) s.old.frames)) }
+    ensures { s.new ≡ goes_on s.old (Running
+        (with_top (record (top s.old.frames) { pc = to; stack = x ∷ [] }) s.old.frames)) }
 {
     let _checked = p.program();
     let _method = place.method();
@@ -66,14 +67,16 @@ pub fn unwind(s: &mut ThreadState, x: u32, class: Thrown)
     }
 }
 
-/// The exception is handed to the top frame: a handler catches it, or the frame ends by it, a synchronized method's when it
-/// has left its monitor.
+/// The exception is handed to the top frame: a handler catches it, or the frame ends by it, a
+/// synchronized method's when it has left its monitor.
 pub fn hand(s: &mut ThreadState, p: &Checked, place: &Place, x: u32, class: Thrown)
     requires program { p.now ≡ s.old.program }
     requires stands { IsTopAt p.now.program s.old.frames place.now }
     requires receiver { (top s.old.frames).receiver < 4294967296 }
-    requires room { IsSome (handler_at (class_of class) (at_place s.old.frames place.now)) → 0 < place.now.method.max_stack }
-    ensures { s.new ≡ goes_on s.old (handed x class (at_place s.old.frames place.now) (handler_at (class_of class) (at_place s.old.frames place.now))) }
+    requires room { IsSome (handler_at (class_of class) (at_place s.old.frames place.now))
+        → 0 < place.now.method.max_stack }
+    ensures { s.new ≡ goes_on s.old (handed x class (at_place s.old.frames place.now)
+        (handler_at (class_of class) (at_place s.old.frames place.now))) }
 {
     let m = place.method();
     match handler(s.pc(), class_of(class), m.rows.as_slice()) {

@@ -26,7 +26,8 @@ fn take(s: &mut ThreadState, count: u16, to: u32)
 fn replace(s: &mut ThreadState, count: u16, made: u64, to: u32)
     requires frame { 0 < length s.old.frames }
     requires values { count ≤ length (top s.old.frames).stack }
-    requires room { length (top s.old.frames).stack - count + 1 ≤ max_stack s.old.program.program (top s.old.frames).method }
+    requires room { length (top s.old.frames).stack - count + 1
+        ≤ max_stack s.old.program.program (top s.old.frames).method }
     ensures { s.new ≡ stack_went to (made ∷ drop count (top s.old.frames).stack) s.old }
 {
     s.drop_values(count);
@@ -46,9 +47,12 @@ fn went_with_field(
     made: u64,
 )
     requires frame { 0 < length s.old.frames }
-    requires taken { HasTaken (constant_row p.now pc (targets.Field number) op.now) (top s.old.frames) }
-    requires room { HasRoom (constant_row p.now pc (targets.Field number) op.now) (top s.old.frames) (max_stack s.old.program.program (top s.old.frames).method) }
-    ensures { s.new ≡ frame_went (constant_row p.now pc (targets.Field number) op.now) to made s.old }
+    requires taken { HasTaken (constant_row p.now pc (targets.Field number) op.now)
+        (top s.old.frames) }
+    requires room { HasRoom (constant_row p.now pc (targets.Field number) op.now) (top s.old.frames)
+        (max_stack s.old.program.program (top s.old.frames).method) }
+    ensures { s.new
+        ≡ frame_went (constant_row p.now pc (targets.Field number) op.now) to made s.old }
 {
     if p.fields.get(number as usize).is_none() {
         s.set_pc(to);
@@ -76,8 +80,11 @@ fn argument_count(called: &MethodInfo) -> u16
 fn went_past(s: &mut ThreadState, count: u16, called: &MethodInfo, to: u32, made: u64)
     requires frame { 0 < length s.old.frames }
     requires values { count ≤ length (top s.old.frames).stack }
-    requires room { length (top s.old.frames).stack - count + length (result_of called.now) ≤ max_stack s.old.program.program (top s.old.frames).method }
-    ensures { s.new ≡ stack_went to (map (value_of 0 (λ type. made) (top s.old.frames).stack (top s.old.frames).locals) (result_of called.now) ++ drop count (top s.old.frames).stack) s.old }
+    requires room { length (top s.old.frames).stack - count + length (result_of called.now)
+        ≤ max_stack s.old.program.program (top s.old.frames).method }
+    ensures { s.new ≡ stack_went to (map
+        (value_of 0 (λ type. made) (top s.old.frames).stack (top s.old.frames).locals)
+        (result_of called.now) ++ drop count (top s.old.frames).stack) s.old }
 {
     if called.result.is_some() {
         replace(s, count, made, to);
@@ -98,9 +105,12 @@ fn went_with_method(
 )
     requires frame { 0 < length s.old.frames }
     requires short { length (top s.old.frames).stack < 65536 }
-    requires taken { HasTaken (constant_row p.now pc (targets.Method number) op.now) (top s.old.frames) }
-    requires room { HasRoom (constant_row p.now pc (targets.Method number) op.now) (top s.old.frames) (max_stack s.old.program.program (top s.old.frames).method) }
-    ensures { s.new ≡ frame_went (constant_row p.now pc (targets.Method number) op.now) to made s.old }
+    requires taken { HasTaken (constant_row p.now pc (targets.Method number) op.now)
+        (top s.old.frames) }
+    requires room { HasRoom (constant_row p.now pc (targets.Method number) op.now)
+        (top s.old.frames) (max_stack s.old.program.program (top s.old.frames).method) }
+    ensures { s.new
+        ≡ frame_went (constant_row p.now pc (targets.Method number) op.now) to made s.old }
 {
     let Some(called) = p.methods.get(number as usize) else {
         s.set_pc(to);
@@ -132,7 +142,8 @@ fn went_with_constant(
     requires frame { 0 < length s.old.frames }
     requires short { length (top s.old.frames).stack < 65536 }
     requires taken { HasTaken (constant_row p.now pc target op.now) (top s.old.frames) }
-    requires room { HasRoom (constant_row p.now pc target op.now) (top s.old.frames) (max_stack s.old.program.program (top s.old.frames).method) }
+    requires room { HasRoom (constant_row p.now pc target op.now) (top s.old.frames)
+        (max_stack s.old.program.program (top s.old.frames).method) }
     ensures { s.new ≡ frame_went (constant_row p.now pc target op.now) to made s.old }
 {
     match target {
@@ -159,7 +170,8 @@ pub fn went(
 )
     requires frame { 0 < length s.old.frames }
     requires taken { HasTaken (row p.now m.now pc target op.now) (top s.old.frames) }
-    requires room { HasRoom (row p.now m.now pc target op.now) (top s.old.frames) (max_stack s.old.program.program (top s.old.frames).method) }
+    requires room { HasRoom (row p.now m.now pc target op.now) (top s.old.frames)
+        (max_stack s.old.program.program (top s.old.frames).method) }
     requires reads { HasLocal (row p.now m.now pc target op.now).reads (top s.old.frames).locals }
     requires writes { HasLocal (row p.now m.now pc target op.now).writes (top s.old.frames).locals }
     requires short { length (top s.old.frames).stack < 65536 }

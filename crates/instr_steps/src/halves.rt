@@ -1,5 +1,5 @@
-//! The next instruction in two halves: what it wants, and what it makes of the thread by the word that its access found. Its
-//! effect is told in between, so that it is looked for once.
+//! The next instruction in two halves: what it wants, and what it makes of the thread by the word
+//! that its access found. Its effect is told in between, so that it is looked for once.
 
 ghost use Rattle.std.specs.Prelude.{◌≡◌, is_some, if◌then◌else◌, IfSome, option_map};
 ghost use Rattle.machine_types.specs.Events.{moved, wanted};
@@ -24,7 +24,8 @@ pub struct InsnWant {
     pub effect: Effect,
 }
 
-/// The next instruction at once, where it wants no access; else what it wants is answered, and nothing changes.
+/// The next instruction at once, where it wants no access; else what it wants is answered, and
+/// nothing changes.
 #[inline(always)]
 pub fn run_or_want(s: &mut ThreadState, p: &Checked) -> Option<InsnWant>
     requires program { p.now ≡ s.old.program }

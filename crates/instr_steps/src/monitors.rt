@@ -7,7 +7,8 @@ ghost use Rattle.machine_types.specs.HeldMonitors.{held_at};
 ghost use Rattle.machine_types.specs.Instructions.{did};
 ghost use Rattle.machine_types.specs.Onward.{Entering, Leaving};
 ghost use Rattle.machine_types.specs.declared.phase.After.TheVariants.{Next};
-ghost use Rattle.machine_types.specs.declared.effect.Effect.TheVariants.{Waits, Notifies, NotifiesAll};
+ghost use Rattle.machine_types.specs.declared.effect.Effect.TheVariants.{Waits, Notifies};
+ghost use Rattle.machine_types.specs.declared.effect.Effect.TheVariants.{NotifiesAll};
 ghost use Rattle.instr_steps.specs.Places.{CanGo, IsTopAt, at_place};
 
 use crate::moves::{move_on, throw};
@@ -23,7 +24,8 @@ pub fn enter(s: &mut ThreadState, p: &Checked, place: &Place, monitor: u64)
     requires stands { IsTopAt p.now.program s.old.frames place.now }
     requires row { CanGo p.now.program s.old.frames place.now }
     requires reference { monitor < p.now.program.heap }
-    ensures { s.new ≡ goes_on s.old (Entering monitor (went_on p.now.program (at_place s.old.frames place.now) 0)) }
+    ensures { s.new ≡ goes_on s.old
+        (Entering monitor (went_on p.now.program (at_place s.old.frames place.now) 0)) }
 {
     let _heap = p.heap();
     move_on(s, p, place, 0);
@@ -37,7 +39,8 @@ pub fn leave(s: &mut ThreadState, p: &Checked, place: &Place, monitor: u64)
     requires stands { IsTopAt p.now.program s.old.frames place.now }
     requires row { CanGo p.now.program s.old.frames place.now }
     requires reference { monitor < p.now.program.heap }
-    ensures { s.new ≡ goes_on s.old (Leaving monitor Next (went_on p.now.program (at_place s.old.frames place.now) 0)) }
+    ensures { s.new ≡ goes_on s.old
+        (Leaving monitor Next (went_on p.now.program (at_place s.old.frames place.now) 0)) }
 {
     let _heap = p.heap();
     move_on(s, p, place, 0);
@@ -73,7 +76,8 @@ pub fn notify(s: &mut ThreadState, p: &Checked, place: &Place, monitor: u64)
     requires stands { IsTopAt p.now.program s.old.frames place.now }
     requires row { CanGo p.now.program s.old.frames place.now }
     requires reference { monitor < p.now.program.heap }
-    ensures { s.new ≡ did p.now.program s.old (at_place s.old.frames place.now) (Notifies monitor) 0 }
+    ensures { s.new
+        ≡ did p.now.program s.old (at_place s.old.frames place.now) (Notifies monitor) 0 }
 {
     let _heap = p.heap();
     let m = monitor as u32;
@@ -95,7 +99,8 @@ pub fn notify_all(s: &mut ThreadState, p: &Checked, place: &Place, monitor: u64)
     requires stands { IsTopAt p.now.program s.old.frames place.now }
     requires row { CanGo p.now.program s.old.frames place.now }
     requires reference { monitor < p.now.program.heap }
-    ensures { s.new ≡ did p.now.program s.old (at_place s.old.frames place.now) (NotifiesAll monitor) 0 }
+    ensures { s.new
+        ≡ did p.now.program s.old (at_place s.old.frames place.now) (NotifiesAll monitor) 0 }
 {
     let _heap = p.heap();
     let m = monitor as u32;

@@ -22,7 +22,8 @@ pub fn move_to(s: &mut ThreadState, p: &Checked, place: &Place, to: u32, made: u
     requires program { p.now ≡ s.old.program }
     requires stands { IsTopAt p.now.program s.old.frames place.now }
     requires row { CanGo p.now.program s.old.frames place.now }
-    ensures { s.new ≡ record s.old { frames = went p.now.program (at_place s.old.frames place.now) to made } }
+    ensures { s.new
+        ≡ record s.old { frames = went p.now.program (at_place s.old.frames place.now) to made } }
 {
     let m = place.method();
     let insn = place.insn();
@@ -46,7 +47,8 @@ pub fn move_on(s: &mut ThreadState, p: &Checked, place: &Place, made: u64)
     requires program { p.now ≡ s.old.program }
     requires stands { IsTopAt p.now.program s.old.frames place.now }
     requires row { CanGo p.now.program s.old.frames place.now }
-    ensures { s.new ≡ record s.old { frames = went_on p.now.program (at_place s.old.frames place.now) made } }
+    ensures { s.new
+        ≡ record s.old { frames = went_on p.now.program (at_place s.old.frames place.now) made } }
 {
     move_to(s, p, place, place.insn().next, made);
 }
@@ -57,7 +59,8 @@ pub fn go_to(s: &mut ThreadState, p: &Checked, place: &Place, to: u32, made: u64
     requires program { p.now ≡ s.old.program }
     requires stands { IsTopAt p.now.program s.old.frames place.now }
     requires row { CanGo p.now.program s.old.frames place.now }
-    ensures { s.new ≡ goes_on s.old (Running (went p.now.program (at_place s.old.frames place.now) to made)) }
+    ensures { s.new
+        ≡ goes_on s.old (Running (went p.now.program (at_place s.old.frames place.now) to made)) }
 {
     move_to(s, p, place, to, made);
     runs(s);
@@ -69,7 +72,8 @@ pub fn go_on(s: &mut ThreadState, p: &Checked, place: &Place, made: u64)
     requires program { p.now ≡ s.old.program }
     requires stands { IsTopAt p.now.program s.old.frames place.now }
     requires row { CanGo p.now.program s.old.frames place.now }
-    ensures { s.new ≡ goes_on s.old (Running (went_on p.now.program (at_place s.old.frames place.now) made)) }
+    ensures { s.new
+        ≡ goes_on s.old (Running (went_on p.now.program (at_place s.old.frames place.now) made)) }
 {
     go_to(s, p, place, place.insn().next, made);
 }
@@ -92,7 +96,8 @@ pub fn run_to(s: &mut ThreadState, p: &Checked, place: &Place, to: u32, made: u6
     requires program { p.now ≡ s.old.program }
     requires stands { IsTopAt p.now.program s.old.frames place.now }
     requires row { CanGo p.now.program s.old.frames place.now }
-    ensures { s.new ≡ goes_on s.old (Running (went p.now.program (at_place s.old.frames place.now) to made)) }
+    ensures { s.new
+        ≡ goes_on s.old (Running (went p.now.program (at_place s.old.frames place.now) to made)) }
 {
     move_to(s, p, place, to, made);
     keep_running(s);
@@ -105,7 +110,8 @@ pub fn run_on(s: &mut ThreadState, p: &Checked, place: &Place, made: u64)
     requires program { p.now ≡ s.old.program }
     requires stands { IsTopAt p.now.program s.old.frames place.now }
     requires row { CanGo p.now.program s.old.frames place.now }
-    ensures { s.new ≡ goes_on s.old (Running (went_on p.now.program (at_place s.old.frames place.now) made)) }
+    ensures { s.new
+        ≡ goes_on s.old (Running (went_on p.now.program (at_place s.old.frames place.now) made)) }
 {
     run_to(s, p, place, place.insn().next, made);
 }

@@ -49,7 +49,8 @@ pub fn index(
     requires stands { IsTopAt p.now.program s.old.frames place.now }
     requires array { array < p.now.program.heap }
     requires count { header_length got ≤ p.now.program.heap }
-    ensures { s.new ≡ indexed s.old (at_place s.old.frames place.now) array (low index) stored (header_length got) }
+    ensures { s.new ≡ indexed s.old (at_place s.old.frames place.now) array (low index) stored
+        (header_length got) }
 {
     let _most = p.heap();
     let i = low(index);
@@ -66,7 +67,8 @@ pub fn measure(s: &mut ThreadState, p: &Checked, place: &Place, got: u64)
     requires stands { IsTopAt p.now.program s.old.frames place.now }
     requires row { CanGo p.now.program s.old.frames place.now }
     requires count { header_length got ≤ p.now.program.heap }
-    ensures { s.new ≡ goes_on s.old (Running (went_on p.now.program (at_place s.old.frames place.now) (header_length got))) }
+    ensures { s.new ≡ goes_on s.old (Running
+        (went_on p.now.program (at_place s.old.frames place.now) (header_length got))) }
 {
     let _heap = p.heap();
     go_on(s, p, place, header_length(got) as u64);
@@ -76,7 +78,9 @@ pub fn measure(s: &mut ThreadState, p: &Checked, place: &Place, got: u64)
 pub fn raise(s: &mut ThreadState, p: &Checked, place: &Place, x: u64, got: u64)
     requires stands { IsTopAt p.now.program s.old.frames place.now }
     requires reference { x < p.now.program.heap }
-    ensures { s.new ≡ goes_on_if s.old (option_map (λ class. Throwing x class (frames_of (at_place s.old.frames place.now))) (thrown_of (header_class got))) }
+    ensures { s.new ≡ goes_on_if s.old (option_map
+        (λ class. Throwing x class (frames_of (at_place s.old.frames place.now)))
+        (thrown_of (header_class got))) }
 {
     let _insn = place.insn();
     let _heap = p.heap();
@@ -116,7 +120,8 @@ pub fn print(s: &mut ThreadState, p: &Checked, place: &Place, value: u64, ticket
     requires program { p.now ≡ s.old.program }
     requires stands { IsTopAt p.now.program s.old.frames place.now }
     requires row { CanGo p.now.program s.old.frames place.now }
-    ensures { s.new ≡ did p.now.program s.old (at_place s.old.frames place.now) (Prints value) ticket }
+    ensures { s.new
+        ≡ did p.now.program s.old (at_place s.old.frames place.now) (Prints value) ticket }
 {
     if has_print_left(s) {
         s.add_print(Print {

@@ -1,5 +1,5 @@
-//! What follows an instruction, or precedes the first one: a root, an element, a new object, an exception, and what is done when
-//! a monitor was left.
+//! What follows an instruction, or precedes the first one: a root, an element, a new object, an
+//! exception, and what is done when a monitor was left.
 
 ghost use Rattle.std.specs.Prelude.{◌≡◌, ℕ};
 ghost use Rattle.jvm_types.specs.declared.outcome.Thrown.{Thrown as Class};
@@ -71,7 +71,8 @@ pub fn dispatch(s: &mut ThreadState, p: &Checked) -> Did
     requires program { p.now ≡ s.old.program }
     requires lawful { IsLawful p.now s.old }
     requires phase { IsThrow s.old.phase }
-    ensures state { (x : ℕ) (class : Class) → s.old.phase ≡ Throw x class → s.new ≡ goes_on_if s.old (dispatched p.now.program x class s.old.frames) }
+    ensures state { (x : ℕ) (class : Class) → s.old.phase ≡ Throw x class
+        → s.new ≡ goes_on_if s.old (dispatched p.now.program x class s.old.frames) }
     ensures did { result ≡ did_in s.new.phase }
 {
     let _checked = p.program();

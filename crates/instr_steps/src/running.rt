@@ -48,8 +48,8 @@ pub(crate) fn want_of(s: &ThreadState, effect: Effect) -> Option<Access>
     wants(s.pc(), effect, tried_monitor(s), has_print_left(s))
 }
 
-/// An instruction that only goes on, outside an attempt, where it wants no access. Its count comes last, so that nothing is
-/// written between the looks at the instruction.
+/// An instruction that only goes on, outside an attempt, where it wants no access. Its count comes
+/// last, so that nothing is written between the looks at the instruction.
 #[inline(always)]
 pub(crate) fn go_alone(s: &mut ThreadState, p: &Checked, place: &Place, to: u32, made: u64)
     requires phase { s.old.phase ≡ Run }
@@ -59,7 +59,8 @@ pub(crate) fn go_alone(s: &mut ThreadState, p: &Checked, place: &Place, to: u32,
     requires count { s.old.counts.instructions < s.old.cfg.steps }
     requires alone { s.old.attempt ≡ None }
     ensures wants { (pc : ℕ) → effect_wants s.old pc (Goes to made) ≡ None }
-    ensures state { s.new ≡ instructed p.now.program (begun s.old) (at_place s.old.frames place.now) (Goes to made) 0 }
+    ensures state { s.new ≡ instructed p.now.program (begun s.old) (at_place s.old.frames place.now)
+        (Goes to made) 0 }
 {
     let _most = s.config().steps;
     move_to(s, p, place, to, made);
@@ -92,14 +93,16 @@ pub fn run(s: &mut ThreadState, p: &Checked, got: u64)
     instruct(s, p, &place, effect, got);
 }
 
-/// The next instruction with its access to the words that threads share, which is there, and whose sum fits 64 bits.
+/// The next instruction with its access to the words that threads share, which is there, and whose
+/// sum fits 64 bits.
 #[inline(always)]
 pub fn run_with(s: &mut ThreadState, p: &Checked, words: &mut Rows<u64>)
     requires program { p.now ≡ s.old.program }
     requires lawful { IsLawful p.now s.old }
     requires phase { s.old.phase ≡ Run }
     requires word { IfSome (wanted p.now s.old Run) (λ a. accessed a < length words.old) }
-    requires sum { IfSome (wanted p.now s.old Run) (λ a. left_by a (slice_index words.old (accessed a)) < 2 ^ 64) }
+    requires sum { IfSome (wanted p.now s.old Run)
+        (λ a. left_by a (slice_index words.old (accessed a)) < 2 ^ 64) }
     requires fits { Fits p.now s.old (found_by words.old (wanted p.now s.old Run)) }
     ensures state { s.new ≡ moved p.now s.old Run (found_by words.old (wanted p.now s.old Run)) }
     ensures words { words.new ≡ words_after words.old (wanted p.now s.old Run) }

@@ -1,7 +1,9 @@
 //! The characters of a text, one after the other.
 
 ghost use Rattle.std.specs.Prelude.{◌≡◌, ◌<◌};
-ghost use Rattle.json_lines.specs.Json.{is_continuation as byte_goes_on, with_bits as more_bits, of_two as the_one_of_two, of_three as the_one_of_three, of_four as the_one_of_four, character as the_character};
+ghost use Rattle.json_lines.specs.Json.{is_continuation as byte_goes_on, with_bits as more_bits};
+ghost use Rattle.json_lines.specs.Json.{of_two as the_one_of_two, of_three as the_one_of_three};
+ghost use Rattle.json_lines.specs.Json.{of_four as the_one_of_four, character as the_character};
 
 /// The number that stands for bytes that are no character.
 pub const UNKNOWN: u32 = 0xFFFD;

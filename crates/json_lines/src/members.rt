@@ -2,7 +2,10 @@
 
 ghost use Rattle.std.specs.Prelude.{◌≡◌, ◌<◌, ◌≤◌, ◌++◌, drop, length, IfOk, OnOk};
 ghost use Rattle.std.specs.Fmt.{decimal};
-ghost use Rattle.json_lines.specs.Json.{skip_behind, character as the_character, character_shown, hex_digit as the_digit, unit_text, pair_text, character_text, escaped, json_text, text_member, number_member, text_behind, number_behind};
+ghost use Rattle.json_lines.specs.Json.{skip_behind, character as the_character, character_shown};
+ghost use Rattle.json_lines.specs.Json.{hex_digit as the_digit, unit_text, pair_text};
+ghost use Rattle.json_lines.specs.Json.{character_text, escaped, json_text, text_member};
+ghost use Rattle.json_lines.specs.Json.{number_member, text_behind, number_behind};
 
 use crate::characters::{UNKNOWN, front_character};
 use std::alloc::{AllocError, Global};
@@ -58,10 +61,12 @@ fn after(n: usize, text: &[u8]) -> &[u8]
     &text[n..]
 }
 
-// The character that begins with a byte, unless that is one of those to be skipped; answers how many of those behind it are.
+// The character that begins with a byte, unless that is one of those to be skipped; answers how
+// many of those behind it are.
 fn write_next(out: &mut Vec<u8>, skip: usize, first: u8, rest: &[u8]) -> Result<usize, AllocError>
     ensures skip { IfOk result (λ n. n ≡ skip_behind skip (the_character first rest.now)) }
-    ensures text { OnOk result (out.new.items ≡ out.old.items ++ character_shown skip (the_character first rest.now)) }
+    ensures text { OnOk result
+        (out.new.items ≡ out.old.items ++ character_shown skip (the_character first rest.now)) }
 {
     if skip > 0 {
         return Ok(skip - 1);
@@ -81,8 +86,9 @@ fn write_escaped(out: &mut Vec<u8>, text: &[u8]) -> Result<(), AllocError>
     Ok(())
 }
 
-/// A string of JSON, in quotes: what is no ASCII is written as `\uXXXX`, a character beyond 16 bits as two of them, and a byte that is
-/// part of no character as `\ufffd`. The text is UTF-8, or the modified UTF-8 of class files (JVMS 4.4.7).
+/// A string of JSON, in quotes: what is no ASCII is written as `\uXXXX`, a character beyond 16 bits
+/// as two of them, and a byte that is part of no character as `\ufffd`. The text is UTF-8, or the
+/// modified UTF-8 of class files (JVMS 4.4.7).
 #[tactic(auto, unfolding(crate::specs::Json::json_text))]
 pub fn write_json_text(out: &mut Vec<u8>, text: &[u8]) -> Result<(), AllocError>
     ensures { OnOk result (out.new.items ≡ out.old.items ++ json_text text.now) }

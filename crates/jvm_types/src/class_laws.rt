@@ -1,6 +1,8 @@
 //! Laws of the class grammar: `Spells bytes c` says that the bytes are a spelling of the class `c`.
 
-ghost use Rattle.jvm_types.specs.ClassLaws.{HasAtMostOneSpelling, SpellsAtMostOneClass, IsSpelledOrFaulty, ReadsWhatIsSpelled, ClassesFit, FaultsLieInside};
+ghost use Rattle.jvm_types.specs.ClassLaws.{HasAtMostOneSpelling, SpellsAtMostOneClass};
+ghost use Rattle.jvm_types.specs.ClassLaws.{IsSpelledOrFaulty, ReadsWhatIsSpelled, ClassesFit};
+ghost use Rattle.jvm_types.specs.ClassLaws.{FaultsLieInside};
 
 /// No class has two spellings.
 #[tactic(auto, using(crate::proofs::ClassLawProofs::one_spelling))]

@@ -5,7 +5,8 @@ ghost use Rattle.jvm_types.specs.ClassNames.{file_class};
 
 use crate::limits::MOST_FILES;
 
-/// What stands for `java/lang/System`, which has no objects and so no number, where a constant names a class.
+/// What stands for `java/lang/System`, which has no objects and so no number, where a constant
+/// names a class.
 pub const SYSTEM_CLASS: u16 = 0;
 
 /// `java/lang/Object`.

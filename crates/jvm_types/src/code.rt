@@ -21,8 +21,9 @@ pub struct Case {
     pub target: u32,
 }
 
-/// An instruction without its place. Targets are pcs; other numbers `u16` are locals or indices of the
-/// constant pool. `iload u1` and `iload_0` share a variant, as do the forms of the other loads and stores.
+/// An instruction without its place. Targets are pcs; other numbers `u16` are locals or indices of
+/// the constant pool. `iload u1` and `iload_0` share a variant, as do the forms of the other loads
+/// and stores.
 #[derive(Debug, Drop)]
 pub enum Op {
     Nop,

@@ -6,9 +6,11 @@ ghost use Rattle.jvm_types.specs.Linked.{no_code, code_of};
 
 use crate::class_file::{Code, MemberAttr};
 
-/// The first Code among some attributes; the only one among those of a method of a class that was read.
+/// The first Code among some attributes; the only one among those of a method of a class that was
+/// read.
 pub fn code_of(attrs: &[MemberAttr]) -> Option<&Code>
-    ensures { MatchOption result ((codes_of attrs.now ≡ []) × (code_of attrs.now ≡ no_code)) (λ code. code.now ≡ code_of attrs.now) }
+    ensures { MatchOption result ((codes_of attrs.now ≡ []) × (code_of attrs.now ≡ no_code))
+        (λ code. code.now ≡ code_of attrs.now) }
 {
     for attr in attrs {
         if let MemberAttr::Code(code) = attr {

@@ -1,5 +1,6 @@
-//! The fixed words of the machine, in order: null's; the next free word; the next ticket; the next monitor record; the monitor
-//! records; the ready objects; then of each class of the files a lock word, a header and its static fields.
+//! The fixed words of the machine, in order: null's; the next free word; the next ticket; the next
+//! monitor record; the monitor records; the ready objects; then of each class of the files a lock
+//! word, a header and its static fields.
 
 /// The number of the next free word.
 pub const NEXT_FREE_WORD: u32 = 1;

@@ -1,4 +1,5 @@
-//! The flags of classes, fields and methods that count (JVMS 4.1, 4.5, 4.6); every other flag has no effect.
+//! The flags of classes, fields and methods that count (JVMS 4.1, 4.5, 4.6); every other flag has
+//! no effect.
 
 ghost use Rattle.std.specs.Prelude.{◌≡◌};
 ghost use Rattle.jvm_types.specs.Numbers.{has_flag};

@@ -1,5 +1,5 @@
-//! The data that the crates of the machine share: class files, outcomes of a run, and the definitions
-//! that their contracts cite.
+//! The data that the crates of the machine share: class files, outcomes of a run, and the
+//! definitions that their contracts cite.
 #![tactic(auto)]
 
 pub mod call;

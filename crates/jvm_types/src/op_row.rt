@@ -1,4 +1,5 @@
-//! Rows of the table of instructions: what an instruction takes, leaves, reads and writes (JVMS 6.5).
+//! Rows of the table of instructions: what an instruction takes, leaves, reads and writes (JVMS
+//! 6.5).
 
 use crate::typing::VType;
 use lists::Rows;
@@ -13,8 +14,8 @@ pub enum Want {
     AnObject(u16),
     /// A reference of any kind, initialised or not.
     AnyReference,
-    /// The receiver of a store to a field of the class: besides an object of it, where it is the own class,
-    /// `this` before it is initialised.
+    /// The receiver of a store to a field of the class: besides an object of it, where it is the
+    /// own class, `this` before it is initialised.
     AHolder(u16),
     /// The receiver of an `<init>` of the class: an object that is not initialised yet.
     ToStart(u16),
@@ -31,8 +32,8 @@ pub enum Given {
     Local(u16),
 }
 
-/// What an instruction takes from the stack and leaves there, each with the top first, and the local that it
-/// reads or writes, with what is asked of it or written to it.
+/// What an instruction takes from the stack and leaves there, each with the top first, and the
+/// local that it reads or writes, with what is asked of it or written to it.
 #[derive(Debug, Drop)]
 pub struct OpRow {
     pub takes: Rows<Want>,

@@ -1,7 +1,7 @@
 //! The linked program: names are resolved to numbers, and each place of the fixed words is known.
 //!
-//! Classes are given by numbers: 1 `Object`, 2 `int[]`, 3 `PrintStream`, 4 to 15 the throwables in the
-//! order of `Thrown`, 16 a class itself, and 17 and up the classes of the files in order.
+//! Classes are given by numbers: 1 `Object`, 2 `int[]`, 3 `PrintStream`, 4 to 15 the throwables in
+//! the order of `Thrown`, 16 a class itself, and 17 and up the classes of the files in order.
 
 use crate::code::Insn;
 use lists::{Bytes, Rows};
@@ -57,8 +57,8 @@ pub struct Row {
     pub catch_class: u16,
 }
 
-/// A method of a class of the program. `args` is without the receiver, and `targets` has one entry for
-/// each instruction.
+/// A method of a class of the program. `args` is without the receiver, and `targets` has one entry
+/// for each instruction.
 #[derive(Debug, Drop)]
 pub struct MethodInfo {
     pub class: u16,

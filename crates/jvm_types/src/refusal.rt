@@ -14,8 +14,8 @@ pub enum CRule {
     C3,
     /// The tag of a constant is not 1 or 3 to 12: at the tag.
     C4,
-    /// An index is out of range, or names an entry of another kind: at the index. Or a `Long` or a `Double` has
-    /// the last index: at its tag.
+    /// An index is out of range, or names an entry of another kind: at the index. Or a `Long` or a
+    /// `Double` has the last index: at its tag.
     C5,
     /// A byte of a text is 0 or from 0xF0 on: at the byte.
     C6,
@@ -38,31 +38,32 @@ pub enum KRule {
     K2,
     /// A branch or switch leads to no start of an instruction: at the pc of the branch.
     K3,
-    /// A handler row is empty, its start or handler is no start of an instruction, or its end is neither such a
-    /// start nor the end of the code: at the number of the row.
+    /// A handler row is empty, its start or handler is no start of an instruction, or its end is
+    /// neither such a start nor the end of the code: at the number of the row.
     K4,
     /// The code has no byte, or more than 65,535: at 0.
     K5,
-    /// A `tableswitch` has low above high, or a `lookupswitch` a negative number of pairs or keys that do not
-    /// ascend: at its pc.
+    /// A `tableswitch` has low above high, or a `lookupswitch` a negative number of pairs or keys
+    /// that do not ascend: at its pc.
     K6,
 }
 
 /// Linking the files.
 #[derive(Clone, Copy, Debug, PartialEq, Eq)]
 pub enum LRule {
-    /// A class that is not there, or a type or constant that this machine does not have: of a field at its number
-    /// in its class, of a method at 0, of an instruction at its pc, of a handler row at its start.
+    /// A class that is not there, or a type or constant that this machine does not have: of a field
+    /// at its number in its class, of a method at 0, of an instruction at its pc, of a handler row
+    /// at its start.
     L1,
     /// No such member, or a constant or member that does not fit the instruction: at its pc.
     L2,
     /// A private member of another class: at the pc of the instruction.
     L3,
-    /// A `<clinit>` that is not static or has not `()V`; an `init`, `run` or `done` of the first class that is not
-    /// static; or no `run` where there are workers: in file 0, at 0.
+    /// A `<clinit>` that is not static or has not `()V`; an `init`, `run` or `done` of the first
+    /// class that is not static; or no `run` where there are workers: in file 0, at 0.
     L4,
-    /// A class with the name of an earlier or a built-in one: at 0. A member with the name and descriptor of an
-    /// earlier one: of a field at its number in its class, of a method at 0.
+    /// A class with the name of an earlier or a built-in one: at 0. A member with the name and
+    /// descriptor of an earlier one: of a field at its number in its class, of a method at 0.
     L5,
     /// A superclass other than `Object`, an interface, or an INTERFACE or ABSTRACT class: at 0.
     L6,
@@ -104,15 +105,16 @@ pub enum SRule {
     S2,
     /// Two edges with different lists of what is held: at the pc where they meet.
     S3,
-    /// A return, or an instruction that can throw with no handler for all, while something is held: at its pc.
+    /// A return, or an instruction that can throw with no handler for all, while something is held:
+    /// at its pc.
     S4,
 }
 
 /// Assembling a class from its listing.
 #[derive(Clone, Copy, Debug, PartialEq, Eq)]
 pub enum ARule {
-    /// A line without a form at its place, or with a number outside its field: at the number of the line, counted from 1. A
-    /// text that stops too early: at the number of its lines plus 1.
+    /// A line without a form at its place, or with a number outside its field: at the number of the
+    /// line, counted from 1. A text that stops too early: at the number of its lines plus 1.
     A1,
     /// Lines that have their forms, where no class is listed so: at 0.
     A2,
@@ -132,8 +134,8 @@ pub enum Rule {
 /// The method of a place that is in no method.
 pub const NO_METHOD: u16 = 65535;
 
-/// Where a refusal is: the file and the method, both counted from 0, and an offset, pc or row as the
-/// rule has it.
+/// Where a refusal is: the file and the method, both counted from 0, and an offset, pc or row as
+/// the rule has it.
 #[derive(Clone, Copy, Debug, PartialEq, Eq)]
 pub struct Place {
     pub file: u16,

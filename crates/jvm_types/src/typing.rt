@@ -26,8 +26,9 @@ pub enum VType {
 
 /// The types of the locals before one instruction, which contracts see as the list of them.
 ///
-/// Only the first are kept, up to the last that is known: no more than the arguments, and the locals that
-/// instructions write, which are below 256 (JVMS 6.5: an index has one byte without `wide`).
+/// Only the first are kept, up to the last that is known: no more than the arguments, and the
+/// locals that instructions write, which are below 256 (JVMS 6.5: an index has one byte without
+/// `wide`).
 #[derive(Debug, Drop)]
 struct TypeLocals {
     first: Rows<VType>,
@@ -73,8 +74,8 @@ impl TypeLocals {
     }
 }
 
-/// The types before one instruction: of the stack, of the locals, and in an `<init>` whether `this` is
-/// initialised, which outside one it always is.
+/// The types before one instruction: of the stack, of the locals, and in an `<init>` whether `this`
+/// is initialised, which outside one it always is.
 ///
 /// Frames of the same locals can share them in memory.
 #[derive(Debug, Drop)]
@@ -105,8 +106,8 @@ fn unshared(alloc: Global, locals: Arc<TypeLocals>) -> Result<Rows<VType>, Alloc
 }
 
 impl TypeFrame {
-    /// A frame of so many locals, or of as many as are given where these are more. Nothing is known of those that
-    /// are not given.
+    /// A frame of so many locals, or of as many as are given where these are more. Nothing is known
+    /// of those that are not given.
     pub fn new(
         alloc: Global,
         stack: Stack<VType>,
@@ -114,7 +115,9 @@ impl TypeFrame {
         local_count: usize,
         ready: bool,
     ) -> Result<Self, AllocError>
-        ensures { IfOk result (λ f. f ≡ record { stack = stack; locals = filled local_count first_locals; ready = ready }) }
+        ensures { IfOk result (λ f.
+            f ≡ record
+            { stack = stack; locals = filled local_count first_locals; ready = ready }) }
     {
         let locals = TypeLocals {
             first: first_locals,
@@ -171,7 +174,8 @@ impl TypeFrame {
         self.ready
     }
 
-    /// The stack, the locals but for last ones of which nothing is known, and whether `this` is initialised.
+    /// The stack, the locals but for last ones of which nothing is known, and whether `this` is
+    /// initialised.
     pub fn into_parts(self, alloc: Global) -> Result<(Stack<VType>, Rows<VType>, bool), AllocError>
         ensures stack { IfOk result (λ parts. parts.0 ≡ self.stack) }
         ensures locals { IfOk result (λ parts. filled (length self.locals) parts.1 ≡ self.locals) }

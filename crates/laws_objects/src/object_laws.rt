@@ -1,6 +1,7 @@
 //! Objects that are not finished yet.
 
-ghost use Rattle.laws_objects.specs.ConstructionLaws.{EventsKeepConstruction, NextKeepsConstruction, StartHasConstruction};
+ghost use Rattle.laws_objects.specs.ConstructionLaws.{EventsKeepConstruction};
+ghost use Rattle.laws_objects.specs.ConstructionLaws.{NextKeepsConstruction, StartHasConstruction};
 
 use laws_states::start_has_heap;
 use laws_threads::{next_keeps_structure, structure_is_kept};
@@ -13,8 +14,8 @@ pub fn start_has_construction()
     start_has_heap();
 }
 
-/// Whatever event happens, there is a world behind it, to which its thread alone may have changed the one before, in
-/// which each unfinished object stays with the frame that builds it.
+/// Whatever event happens, there is a world behind it, to which its thread alone may have changed
+/// the one before, in which each unfinished object stays with the frame that builds it.
 pub fn events_keep_construction()
     ensures { EventsKeepConstruction }
 {

@@ -9,8 +9,8 @@ use laws_states::{
 use laws_threads::{next_keeps_structure, structure_is_kept};
 use machine_types::{frozen_classes_are_told, start_lies_apart};
 
-/// Once the `<init>` of a frozen class has thrown, of a thread in no attempt, no place has its object and no instruction
-/// finds it, in no state that follows (JVMS 2.9).
+/// Once the `<init>` of a frozen class has thrown, of a thread in no attempt, no place has its
+/// object and no instruction finds it, in no state that follows (JVMS 2.9).
 pub fn thrown_inits_leave_no_use()
     ensures { ThrownInitsLeaveNoUse }
 {
@@ -26,8 +26,8 @@ pub fn thrown_inits_leave_no_use()
     frozen_classes_are_told();
 }
 
-/// As long as the `<init>` of a frozen class that a thread runs on an object has not returned, whatever happens, no place and
-/// no other thread has the object.
+/// As long as the `<init>` of a frozen class that a thread runs on an object has not returned,
+/// whatever happens, no place and no other thread has the object.
 pub fn finished_by_own_return()
     ensures { FinishedByOwnReturn }
 {

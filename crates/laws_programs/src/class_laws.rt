@@ -1,6 +1,7 @@
 //! Laws of the tree of classes: each function only states one.
 
-ghost use Rattle.laws_programs.specs.ClassLaws.{FileClassesStandAlone, LeavesStandAlone, ThrowablesAreBelow};
+ghost use Rattle.laws_programs.specs.ClassLaws.{FileClassesStandAlone, LeavesStandAlone};
+ghost use Rattle.laws_programs.specs.ClassLaws.{ThrowablesAreBelow};
 
 /// Only the class itself is below a class that is just above none, as `int[]` and PrintStream.
 #[tactic(auto, using(crate::proofs::ClassTreeLaws::leaves_alone))]

@@ -1,6 +1,9 @@
 //! Laws of the code of a method: each function only states one.
 
-ghost use Rattle.laws_programs.specs.CodeLaws.{BranchesBegin, ClassOfNew, CodeStarts, HandlersBegin, InsnsHaveTargets, MethodsAreLaidOut, NextFollows, OneInsn, PcsAreShort, PcsAscend, StartsBegin};
+ghost use Rattle.laws_programs.specs.CodeLaws.{BranchesBegin, ClassOfNew, CodeStarts};
+ghost use Rattle.laws_programs.specs.CodeLaws.{HandlersBegin, InsnsHaveTargets, MethodsAreLaidOut};
+ghost use Rattle.laws_programs.specs.CodeLaws.{NextFollows, OneInsn, PcsAreShort, PcsAscend};
+ghost use Rattle.laws_programs.specs.CodeLaws.{StartsBegin};
 
 /// Each method of a program is laid out.
 #[tactic(auto, using(crate::proofs::CodeOrder::methods_laid_out))]

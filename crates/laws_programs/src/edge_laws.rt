@@ -2,7 +2,8 @@
 
 ghost use Rattle.laws_programs.specs.EdgeLaws.{EdgesLand, FramesAreFound, FramesAreNumbered};
 
-/// An edge that fits leads to an instruction with a frame that the one that is brought is at or below.
+/// An edge that fits leads to an instruction with a frame that the one that is brought is at or
+/// below.
 #[tactic(auto, using(crate::proofs::EdgeTargets::lands))]
 pub fn edges_land()
     ensures { EdgesLand }

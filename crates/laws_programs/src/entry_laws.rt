@@ -1,6 +1,7 @@
 //! Laws of the frame that a method begins with (JVMS 4.10.2.2): each function only states one.
 
-ghost use Rattle.laws_programs.specs.EntryLaws.{ArgumentsFit, EntryFramesFit, EntryHasArguments, EntryHasNoMore, EntryHasReceiver};
+ghost use Rattle.laws_programs.specs.EntryLaws.{ArgumentsFit, EntryFramesFit, EntryHasArguments};
+ghost use Rattle.laws_programs.specs.EntryLaws.{EntryHasNoMore, EntryHasReceiver};
 
 /// Receiver and arguments of a typed method fit in its locals.
 pub fn arguments_fit()

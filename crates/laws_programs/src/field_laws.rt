@@ -1,6 +1,7 @@
 //! Laws of the places of fields: each function only states one.
 
-ghost use Rattle.laws_programs.specs.FieldLaws.{InstancesAreApart, InstancesLieInside, OneInstance, OneStatic, StaticsAreApart, StaticsLieInside};
+ghost use Rattle.laws_programs.specs.FieldLaws.{InstancesAreApart, InstancesLieInside, OneInstance};
+ghost use Rattle.laws_programs.specs.FieldLaws.{OneStatic, StaticsAreApart, StaticsLieInside};
 
 /// The word of a static field is one of those that the program has from the start on.
 #[tactic(auto, using(crate::proofs::FieldOrder::statics_inside))]

@@ -2,8 +2,8 @@
 
 ghost use Rattle.jvm_types.specs.Verifying.{LeastLaw, RefusalLaw};
 
-/// A typing is at or below every assignment of frames under which no instruction breaks a rule and each
-/// edge fits the frame at its target.
+/// A typing is at or below every assignment of frames under which no instruction breaks a rule and
+/// each edge fits the frame at its target.
 pub fn typing_is_least()
     ensures { LeastLaw }
 {}

@@ -1,5 +1,6 @@
-//! Laws of linked programs, of the order of types, and of verification by inferred types (JVMS 4.10.2): what a machine that
-//! runs a program may rely on; each the contract of a function that does nothing.
+//! Laws of linked programs, of the order of types, and of verification by inferred types (JVMS
+//! 4.10.2): what a machine that runs a program may rely on; each the contract of a function that
+//! does nothing.
 #![tactic(auto)]
 
 pub mod class_laws;

@@ -1,4 +1,5 @@
-//! Laws of values that a `new` made and no `<init>` was called on (JVMS 4.10.2.4): each function only states one.
+//! Laws of values that a `new` made and no `<init>` was called on (JVMS 4.10.2.4): each function
+//! only states one.
 
 ghost use Rattle.laws_programs.specs.NewLaws.{BehindRises, NewIsBehind, NewStaysBehind};
 

@@ -1,6 +1,8 @@
 //! Laws of the orders of classes, types and frames (JVMS 4.10.2.2): each function only states one.
 
-ghost use Rattle.laws_programs.specs.OrderLaws.{ClassesAreOrdered, CommonAncestorIsLeast, FramesAreOrdered, FramesMeet, MeetIsLeast, TypesAreOrdered};
+ghost use Rattle.laws_programs.specs.OrderLaws.{ClassesAreOrdered, CommonAncestorIsLeast};
+ghost use Rattle.laws_programs.specs.OrderLaws.{FramesAreOrdered, FramesMeet, MeetIsLeast};
+ghost use Rattle.laws_programs.specs.OrderLaws.{TypesAreOrdered};
 
 /// Being a subclass is an order.
 #[tactic(auto, using(crate::proofs::Orders::classes_ordered))]

@@ -1,7 +1,8 @@
-//! Laws of the methods that a part of a run begins with (JVMS 2.9, 5.5; `init`, `run` and `done` are the machine's own):
-//! each function only states one.
+//! Laws of the methods that a part of a run begins with (JVMS 2.9, 5.5; `init`, `run` and `done`
+//! are the machine's own): each function only states one.
 
-ghost use Rattle.laws_programs.specs.RootLaws.{ClassInitsAreRoots, EntriesAreRoots, OneMethod, RunIsRoot, RunIsThere};
+ghost use Rattle.laws_programs.specs.RootLaws.{ClassInitsAreRoots, EntriesAreRoots, OneMethod};
+ghost use Rattle.laws_programs.specs.RootLaws.{RunIsRoot, RunIsThere};
 
 /// A `<clinit>` is static, without a monitor, takes nothing and returns nothing.
 pub fn class_inits_are_roots()

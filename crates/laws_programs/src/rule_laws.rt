@@ -1,6 +1,7 @@
 //! Laws of an instruction at which no rule is broken: each function only states one.
 
-ghost use Rattle.laws_programs.specs.RuleLaws.{ArgumentsSuit, ReadIsGood, ReceiverIsGood, ReturnsSuit, TakenAreGood, UnbrokenHold};
+ghost use Rattle.laws_programs.specs.RuleLaws.{ArgumentsSuit, ReadIsGood, ReceiverIsGood};
+ghost use Rattle.laws_programs.specs.RuleLaws.{ReturnsSuit, TakenAreGood, UnbrokenHold};
 
 /// Where no rule is broken each of the five that are tested first holds.
 #[tactic(auto, using(crate::proofs::RuleUses::hold))]
@@ -31,7 +32,8 @@ pub fn receiver_is_good()
     ensures { ReceiverIsGood }
 {}
 
-/// A returned value is of the type of the descriptor, and `return` returns from a method without one.
+/// A returned value is of the type of the descriptor, and `return` returns from a method without
+/// one.
 #[tactic(auto, using(crate::proofs::RuleUses::returns_suit_all))]
 pub fn returns_suit()
     ensures { ReturnsSuit }

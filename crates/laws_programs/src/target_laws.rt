@@ -2,7 +2,8 @@
 
 ghost use Rattle.laws_programs.specs.TargetLaws.{TargetsHaveRows};
 
-/// What a target that fits its instruction names is there, and the row of the instruction is the one of that.
+/// What a target that fits its instruction names is there, and the row of the instruction is the
+/// one of that.
 pub fn targets_have_rows()
     ensures { TargetsHaveRows }
 {}

@@ -1,6 +1,7 @@
 //! Laws of the visits of a method, for all programs: each function only states one.
 
-ghost use Rattle.laws_programs.specs.VisitLaws.{OneRefusal, OneTyping, OneTypingOf, TypedNotRefused, TypedOrRefused};
+ghost use Rattle.laws_programs.specs.VisitLaws.{OneRefusal, OneTyping, OneTypingOf};
+ghost use Rattle.laws_programs.specs.VisitLaws.{TypedNotRefused, TypedOrRefused};
 
 /// A method has at most one list of frames.
 pub fn one_typing()

@@ -15,8 +15,8 @@ pub fn attempts_are_silent()
     no_element_inside();
 }
 
-/// Where it does not end its section, it stands for no plain step: its thread is still about to enter, with its frames as they
-/// were.
+/// Where it does not end its section, it stands for no plain step: its thread is still about to
+/// enter, with its frames as they were.
 pub fn attempts_stand_beside()
     ensures { AttemptsStandBeside }
 {

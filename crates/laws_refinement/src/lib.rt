@@ -1,6 +1,7 @@
-//! Every run of the machine stands for a run of the plain machine, where sections run without their lock, too: what the
-//! events of attempts are to the plain machine, where attempts begin and end, where the events of an order end, and of whole
-//! runs; laws, each the contract of a function that does nothing.
+//! Every run of the machine stands for a run of the plain machine, where sections run without their
+//! lock, too: what the events of attempts are to the plain machine, where attempts begin and end,
+//! where the events of an order end, and of whole runs; laws, each the contract of a function that
+//! does nothing.
 #![tactic(auto)]
 
 pub mod entry_laws;

@@ -1,6 +1,8 @@
 //! Whole runs.
 
-ghost use Rattle.laws_refinement.specs.FaithfulRuns.{AreElidedLaws, AreEventLaws, LockedRunsAreFaithful, LockedRunsFollow, RunsAreFaithful, RunsFollow};
+ghost use Rattle.laws_refinement.specs.FaithfulRuns.{AreElidedLaws, AreEventLaws};
+ghost use Rattle.laws_refinement.specs.FaithfulRuns.{LockedRunsAreFaithful, LockedRunsFollow};
+ghost use Rattle.laws_refinement.specs.FaithfulRuns.{RunsAreFaithful, RunsFollow};
 ghost use Rattle.laws_refinement.specs.RunsStand.{RunsStand};
 
 use crate::{
@@ -21,9 +23,10 @@ use laws_states::{
 use laws_threads::given_is_kept;
 use machine_types::{frozen_classes_are_told, instructions_change_memory};
 
-/// Where each event outside attempts stands for plain steps, and each one inside for none but where its section is done, every
-/// run is faithful: its shadow is a plain run, whose steps its counts count, whose prints are its own, and whose parts ended as
-/// its own; and no event inside an attempt changes a word.
+/// Where each event outside attempts stands for plain steps, and each one inside for none but where
+/// its section is done, every run is faithful: its shadow is a plain run, whose steps its counts
+/// count, whose prints are its own, and whose parts ended as its own; and no event inside an
+/// attempt changes a word.
 pub fn runs_follow()
     ensures { RunsFollow }
 {
@@ -31,8 +34,9 @@ pub fn runs_follow()
     instructions_change_memory();
 }
 
-/// Every run of the machine is faithful to a run of the plain machine with ordinary monitors, event by event, where sections run
-/// without their lock, too (PLDI 2010 publication; JVMS 2.11.10; JLS 17.1, 17.2).
+/// Every run of the machine is faithful to a run of the plain machine with ordinary monitors, event
+/// by event, where sections run without their lock, too (PLDI 2010 publication; JVMS 2.11.10; JLS
+/// 17.1, 17.2).
 pub fn runs_are_faithful()
     ensures { RunsAreFaithful }
 {
@@ -40,23 +44,24 @@ pub fn runs_are_faithful()
     event_laws();
 }
 
-/// Where each event stands for plain steps, a run with its attempts turned off is faithful, as every run is.
+/// Where each event stands for plain steps, a run with its attempts turned off is faithful, as
+/// every run is.
 pub fn locked_runs_follow()
     ensures { LockedRunsFollow }
 {
     locked_runs_are_faithful();
 }
 
-/// With attempts turned off, every run of the machine is faithful to a run of the plain machine with ordinary monitors, event by
-/// event, as every run is (JVMS 2.11.10; JLS 17.1, 17.2).
+/// With attempts turned off, every run of the machine is faithful to a run of the plain machine
+/// with ordinary monitors, event by event, as every run is (JVMS 2.11.10; JLS 17.1, 17.2).
 pub fn locked_runs_are_faithful()
     ensures { LockedRunsAreFaithful }
 {
     runs_are_faithful();
 }
 
-/// After every list of events all facts hold: those on the state, on objects under construction and on attempts, beside the
-/// plain state that the list stands for.
+/// After every list of events all facts hold: those on the state, on objects under construction and
+/// on attempts, beside the plain state that the list stands for.
 pub fn runs_stand()
     ensures { RunsStand }
 {

@@ -1,12 +1,14 @@
 //! What an event inside an attempt counts and prints.
 
-ghost use Rattle.laws_refinement.specs.ElidedSteps.{AttemptsAreCounted, AttemptsPrintNothing, FinishesAreCounted};
+ghost use Rattle.laws_refinement.specs.ElidedSteps.{AttemptsAreCounted, AttemptsPrintNothing};
+ghost use Rattle.laws_refinement.specs.ElidedSteps.{FinishesAreCounted};
 
 use laws_threads::{
     inside_may_do, leaves_keep_entry, no_element_inside, steps_keep_entry, throws_keep_entry,
 };
 
-/// Where the section is not done, an instruction that is begun is pending, or in vain where the attempt fails.
+/// Where the section is not done, an instruction that is begun is pending, or in vain where the
+/// attempt fails.
 pub fn attempts_are_counted()
     ensures { AttemptsAreCounted }
 {

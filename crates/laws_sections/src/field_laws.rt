@@ -2,7 +2,8 @@
 
 ghost use Rattle.checked_program.specs.SectionLaws.{FinalLaw, WriteLaw};
 
-/// A guarded field is written on `this` alone, in an `<init>`, or with the monitor of `this` entered.
+/// A guarded field is written on `this` alone, in an `<init>`, or with the monitor of `this`
+/// entered.
 pub fn guarded_written_locked()
     ensures { WriteLaw }
 {}

@@ -1,15 +1,17 @@
 //! The frames of a section that may run without its lock, and what they may do.
 
 ghost use Rattle.checked_program.specs.SectionLaws.{ApartLaw, ExitLaw, MoveLaw, OwnLaw, ReadLaw};
-ghost use Rattle.laws_sections.specs.FrameLaws.{BeginLaw, BlockLaw, HeldLaw, InvokeLaw, ResumeLaw, ReturnLaw};
+ghost use Rattle.laws_sections.specs.FrameLaws.{BeginLaw, BlockLaw, HeldLaw, InvokeLaw, ResumeLaw};
+ghost use Rattle.laws_sections.specs.FrameLaws.{ReturnLaw};
 
-/// What an instruction of such a section may do: it writes nothing, and reads no place but a frozen one, or a
-/// guarded one of the section's object.
+/// What an instruction of such a section may do: it writes nothing, and reads no place but a frozen
+/// one, or a guarded one of the section's object.
 pub fn sections_read()
     ensures { ReadLaw }
 {}
 
-/// A `monitorexit` of such a section leaves the section's monitor, in a method that is called on its object.
+/// A `monitorexit` of such a section leaves the section's monitor, in a method that is called on
+/// its object.
 pub fn own_monitor_is_left()
     ensures { ExitLaw }
 {}
@@ -29,7 +31,8 @@ pub fn own_goes_on()
     ensures { OwnLaw }
 {}
 
-/// The frames of a section stay such as the top one moves within its method, but at the exit of the block.
+/// The frames of a section stay such as the top one moves within its method, but at the exit of the
+/// block.
 pub fn frames_move()
     ensures { MoveLaw }
 {}
@@ -44,12 +47,14 @@ pub fn blocks_are_on_this()
     ensures { BlockLaw }
 {}
 
-/// Where the top frame of a section calls a method, the called one is a frame of the section (JVMS 2.6).
+/// Where the top frame of a section calls a method, the called one is a frame of the section (JVMS
+/// 2.6).
 pub fn frames_invoke()
     ensures { InvokeLaw }
 {}
 
-/// Where the top frame of a section is left, by a return or an exception, those below stay frames of the section.
+/// Where the top frame of a section is left, by a return or an exception, those below stay frames
+/// of the section.
 pub fn frames_return()
     ensures { ReturnLaw }
 {}

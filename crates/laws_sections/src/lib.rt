@@ -1,5 +1,5 @@
-//! Laws of lock tagging, most of them from laws of visits for frames of any kind, and of sections that run without their
-//! lock; each the contract of a function that does nothing.
+//! Laws of lock tagging, most of them from laws of visits for frames of any kind, and of sections
+//! that run without their lock; each the contract of a function that does nothing.
 #![tactic(auto)]
 
 pub mod field_laws;

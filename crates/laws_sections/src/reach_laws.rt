@@ -7,7 +7,8 @@ pub fn tagged_is_typed()
     ensures { TaggedIsTyped }
 {}
 
-/// No instruction holds the tag that a `dup` there would make. So no tag is made again while it is held.
+/// No instruction holds the tag that a `dup` there would make. So no tag is made again while it is
+/// held.
 pub fn own_tag_is_free()
     ensures { OwnTagIsFree }
 {}

@@ -1,6 +1,7 @@
 //! Laws of the visits that tag a method: each function only states one.
 
-ghost use Rattle.checked_program.specs.TagLaws.{OneTagging, OneTagRefusal, TaggedNotRefused, TaggedOrRefused};
+ghost use Rattle.checked_program.specs.TagLaws.{OneTagging, OneTagRefusal, TaggedNotRefused};
+ghost use Rattle.checked_program.specs.TagLaws.{TaggedOrRefused};
 
 /// A method has at most one tagging.
 pub fn one_tagging()

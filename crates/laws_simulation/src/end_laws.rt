@@ -1,6 +1,7 @@
 //! How the parts of a run ended.
 
-ghost use Rattle.laws_simulation.specs.OutcomeLaws.{EndsAreThose, EventsKeepNone, NextKeepsNone, StartKeepsNone};
+ghost use Rattle.laws_simulation.specs.OutcomeLaws.{EndsAreThose, EventsKeepNone, NextKeepsNone};
+ghost use Rattle.laws_simulation.specs.OutcomeLaws.{StartKeepsNone};
 
 use laws_threads::given_is_kept;
 
@@ -21,7 +22,8 @@ pub fn start_keeps_none()
     ensures { StartKeepsNone }
 {}
 
-/// When a run is over, each of its parts ended as that of the plain state, unless a limit ended it or it never began.
+/// When a run is over, each of its parts ended as that of the plain state, unless a limit ended it
+/// or it never began.
 pub fn ends_are_those()
     ensures { EndsAreThose }
 {}

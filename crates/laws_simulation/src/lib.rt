@@ -1,5 +1,5 @@
-//! Each event of a thread that is in no attempt is a run of the plain machine, and the outcome of a run says of it what it
-//! is: laws, each the contract of a function that does nothing.
+//! Each event of a thread that is in no attempt is a run of the plain machine, and the outcome of a
+//! run says of it what it is: laws, each the contract of a function that does nothing.
 #![tactic(auto)]
 
 pub mod count_laws;

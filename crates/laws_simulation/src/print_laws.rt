@@ -4,8 +4,8 @@ ghost use Rattle.laws_simulation.specs.OutcomeLaws.{NextKeepsPrints, PrintsAreKe
 
 use machine_types::instructions_change_memory;
 
-/// Outside attempts the ticket of a print is the number of prints that the plain state has, and the plain steps of an event
-/// print what the event prints.
+/// Outside attempts the ticket of a print is the number of prints that the plain state has, and the
+/// plain steps of an event print what the event prints.
 pub fn prints_are_kept()
     ensures { PrintsAreKept }
 {

@@ -13,7 +13,8 @@ pub fn start_stands_beside()
     start_lies_apart();
 }
 
-/// Where the workers' part begins or `done`, the plain machine makes no step: its threads may begin by themselves.
+/// Where the workers' part begins or `done`, the plain machine makes no step: its threads may begin
+/// by themselves.
 pub fn next_stands_beside()
     ensures { NextStandsBeside }
 {

@@ -5,8 +5,8 @@ ghost use Rattle.laws_states.specs.HeapLaws.{EventsKeepHeap, NextKeepsHeap, Star
 use laws_threads::structure_is_kept;
 use machine_types::{start_agrees, start_is_typed, start_is_unused, start_lies_apart};
 
-/// At the start the ready objects and the classes are there, with the static fields as they begin, and all words behind
-/// them are 0.
+/// At the start the ready objects and the classes are there, with the static fields as they begin,
+/// and all words behind them are 0.
 pub fn start_has_heap()
     ensures { StartHasHeap }
 {
@@ -16,8 +16,8 @@ pub fn start_has_heap()
     start_is_typed();
 }
 
-/// Whatever an event does, places have values of their types, objects lie apart, and unused words are 0; an object is
-/// there as soon as its header is stored (JVMS 2.3, 2.4, 6.5 `new`).
+/// Whatever an event does, places have values of their types, objects lie apart, and unused words
+/// are 0; an object is there as soon as its header is stored (JVMS 2.3, 2.4, 6.5 `new`).
 pub fn events_keep_heap()
     ensures { EventsKeepHeap }
 {

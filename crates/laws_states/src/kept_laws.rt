@@ -1,6 +1,9 @@
 //! What stands in the words for locking, and how far the counters have come.
 
-ghost use Rattle.laws_states.specs.KeptWords.{EventsKeepCounters, EventsKeepLocks, EventsKeepRecords, NextKeepsCounters, StartCountersFit, StartLocksFit, StartRecordsFit, SumsFit};
+ghost use Rattle.laws_states.specs.KeptWords.{EventsKeepCounters, EventsKeepLocks};
+ghost use Rattle.laws_states.specs.KeptWords.{EventsKeepRecords, NextKeepsCounters};
+ghost use Rattle.laws_states.specs.KeptWords.{StartCountersFit, StartLocksFit, StartRecordsFit};
+ghost use Rattle.laws_states.specs.KeptWords.{SumsFit};
 
 use crate::left_laws::left_words_may_stand;
 use crate::{events_reach_sites, sites_differ, sites_lie_inside};
@@ -10,8 +13,8 @@ pub fn start_locks_fit()
     ensures { StartLocksFit }
 {}
 
-/// The lock word of each object stays one, and where it is free its count is at most the last one; the lock of an object
-/// whose header is stored is free.
+/// The lock word of each object stays one, and where it is free its count is at most the last one;
+/// the lock of an object whose header is stored is free.
 pub fn locks_are_kept()
     ensures { EventsKeepLocks }
 {
@@ -41,8 +44,8 @@ pub fn start_counters_fit()
     ensures { StartCountersFit }
 {}
 
-/// The counters stay within what the threads have done: each instruction makes one object at most and prints once, and one
-/// record at most is drawn for each lock that was taken.
+/// The counters stay within what the threads have done: each instruction makes one object at most
+/// and prints once, and one record at most is drawn for each lock that was taken.
 pub fn counters_are_kept()
     ensures { EventsKeepCounters }
 {

@@ -1,6 +1,7 @@
-//! Laws of the states that a run reaches: of the words that hold objects, of those for locking and those that are counted
-//! up, of who holds and who waits, and of how far the parts have come; that every run is safe, and who may change what in it;
-//! each the contract of a function that does nothing.
+//! Laws of the states that a run reaches: of the words that hold objects, of those for locking and
+//! those that are counted up, of who holds and who waits, and of how far the parts have come; that
+//! every run is safe, and who may change what in it; each the contract of a function that does
+//! nothing.
 #![tactic(auto)]
 
 pub mod change_laws;

@@ -16,8 +16,8 @@ pub fn start_stands_in_parts()
     ensures { StartStandsInParts }
 {}
 
-/// Whatever an event does, a thread that has returned has run all of its roots, and when `done` has begun the workers have
-/// finished.
+/// Whatever an event does, a thread that has returned has run all of its roots, and when `done` has
+/// begun the workers have finished.
 pub fn events_keep_parts()
     ensures { EventsKeepParts }
 {

@@ -1,6 +1,7 @@
 //! All that holds of the threads and the words in every state that a run reaches.
 
-ghost use Rattle.laws_states.specs.StateLaws.{EventsKeepState, NextKeepsState, RunsHaveState, StartHasState, StatesHaveFacts};
+ghost use Rattle.laws_states.specs.StateLaws.{EventsKeepState, NextKeepsState, RunsHaveState};
+ghost use Rattle.laws_states.specs.StateLaws.{StartHasState, StatesHaveFacts};
 
 use crate::part_laws::{events_keep_parts, next_keeps_parts, start_stands_in_parts};
 use crate::{
@@ -12,7 +13,8 @@ use crate::{
 use laws_threads::{events_keep_structure, next_keeps_structure};
 use machine_types::{start_is_structured, start_owns, start_waits};
 
-/// Among the facts on a state are those by which each word that an event finds is what it is read as.
+/// Among the facts on a state are those by which each word that an event finds is what it is read
+/// as.
 pub fn states_have_facts()
     ensures { StatesHaveFacts }
 {}

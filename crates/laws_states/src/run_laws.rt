@@ -1,6 +1,7 @@
 //! What holds of every reached state, so that each word that an event finds is what it is read as.
 
-ghost use Rattle.laws_states.specs.RunLaws.{EventsKeepFacts, EventsKeepThreads, NextKeepsFacts, ReachedFits, RunsReach, StartHasRunFacts};
+ghost use Rattle.laws_states.specs.RunLaws.{EventsKeepFacts, EventsKeepThreads, NextKeepsFacts};
+ghost use Rattle.laws_states.specs.RunLaws.{ReachedFits, RunsReach, StartHasRunFacts};
 
 use crate::kept_laws::{
     counters_are_kept, locks_are_kept, next_keeps_counters, records_are_kept, start_counters_fit,
@@ -46,8 +47,8 @@ pub fn run_facts_next()
     next_keeps_counters();
 }
 
-/// The word that a thread's next event accesses is there and is what the thread reads it as, and what the event leaves of
-/// it fits 64 bits.
+/// The word that a thread's next event accesses is there and is what the thread reads it as, and
+/// what the event leaves of it fits 64 bits.
 pub fn reached_fits()
     ensures { ReachedFits }
 {

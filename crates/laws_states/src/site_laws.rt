@@ -4,7 +4,8 @@ ghost use Rattle.laws_states.specs.SiteLaws.{EventsReachSites, SitesDiffer, Site
 
 use machine_types::start_lies_apart;
 
-/// No word stands for two things: two fields, a field and a lock, a header and an owner of a monitor record.
+/// No word stands for two things: two fields, a field and a lock, a header and an owner of a
+/// monitor record.
 pub fn sites_differ()
     ensures { SitesDiffer }
 {
@@ -18,8 +19,9 @@ pub fn sites_lie_inside()
     start_lies_apart();
 }
 
-/// The event that a thread makes next accesses what its phase says: a lock word, the owner or the waiting bits of a monitor
-/// record, a header, a field or an element that is there, a counter, or the header of the object that it makes.
+/// The event that a thread makes next accesses what its phase says: a lock word, the owner or the
+/// waiting bits of a monitor record, a header, a field or an element that is there, a counter, or
+/// the header of the object that it makes.
 pub fn events_reach_sites()
     ensures { EventsReachSites }
 {}

@@ -1,6 +1,7 @@
 //! Runs in which no section is tried without its lock.
 
-ghost use Rattle.laws_states.specs.PartsLaws.{EventsMakeNoAttempts, NextMakesNoAttempts, NoAttempts, StartHasNoAttempts};
+ghost use Rattle.laws_states.specs.PartsLaws.{EventsMakeNoAttempts, NextMakesNoAttempts};
+ghost use Rattle.laws_states.specs.PartsLaws.{NoAttempts, StartHasNoAttempts};
 
 use crate::reached_laws::{events_keep_state, next_keeps_state, start_has_state};
 

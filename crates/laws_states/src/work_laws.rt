@@ -17,7 +17,8 @@ pub fn events_lessen_all_work()
     events_lessen_work();
 }
 
-/// What a thread has to do is bounded by the limits of instructions and turns, its roots and its frames.
+/// What a thread has to do is bounded by the limits of instructions and turns, its roots and its
+/// frames.
 pub fn work_is_bounded()
     ensures { WorkIsBounded }
 {}

@@ -1,6 +1,8 @@
-//! What frames show when a method is called and when it returns (JVMS 2.6): each function only states a law.
+//! What frames show when a method is called and when it returns (JVMS 2.6): each function only
+//! states a law.
 
-ghost use Rattle.laws_threads.specs.CallLaws.{CalledStand, CallsEnter, CallsShow, ReturnsBehindRelease, ReturnsShow, RootsShow};
+ghost use Rattle.laws_threads.specs.CallLaws.{CalledStand, CallsEnter, CallsShow};
+ghost use Rattle.laws_threads.specs.CallLaws.{ReturnsBehindRelease, ReturnsShow, RootsShow};
 
 /// A called method is one of the program.
 pub fn called_stand()
@@ -22,7 +24,8 @@ pub fn roots_show()
     ensures { RootsShow }
 {}
 
-/// Where a method returns its frame shows its own monitor and no more, and the caller goes on with what it shows.
+/// Where a method returns its frame shows its own monitor and no more, and the caller goes on with
+/// what it shows.
 pub fn returns_show()
     ensures { ReturnsShow }
 {}

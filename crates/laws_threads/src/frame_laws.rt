@@ -1,8 +1,11 @@
-//! Laws of frames whose values have the types of verification (JVMS 4.10.2.2): each function only states one.
+//! Laws of frames whose values have the types of verification (JVMS 4.10.2.2): each function only
+//! states one.
 
-ghost use Rattle.laws_threads.specs.TopFrames.{EffectsAreAllowed, FramesStand, GoingFits, HandlersFit, MadeStand, ReturnsFit, ThrownStand};
+ghost use Rattle.laws_threads.specs.TopFrames.{EffectsAreAllowed, FramesStand, GoingFits};
+ghost use Rattle.laws_threads.specs.TopFrames.{HandlersFit, MadeStand, ReturnsFit, ThrownStand};
 
-/// The top frame stands at an instruction of its method, has what that takes, and has room for what it gives.
+/// The top frame stands at an instruction of its method, has what that takes, and has room for what
+/// it gives.
 pub fn frames_stand()
     ensures { FramesStand }
 {}

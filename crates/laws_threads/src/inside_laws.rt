@@ -1,12 +1,13 @@
 //! What a thread does inside an attempt, and that the attempt stands as it does so.
 
 ghost use Rattle.laws_threads.specs.InsideEffects.{InsideMayDo};
-ghost use Rattle.laws_threads.specs.InsideMoves.{BeginsAttempt, EntersInside, LeavesInside, NoElementInside, StepsInside, ThrowsInside};
+ghost use Rattle.laws_threads.specs.InsideMoves.{BeginsAttempt, EntersInside, LeavesInside};
+ghost use Rattle.laws_threads.specs.InsideMoves.{NoElementInside, StepsInside, ThrowsInside};
 
 use machine_types::marked_has_mark;
 
-/// An instruction inside writes nothing, reads what stays while the monitor is free, and enters and leaves that
-/// monitor alone.
+/// An instruction inside writes nothing, reads what stays while the monitor is free, and enters and
+/// leaves that monitor alone.
 pub fn inside_may_do()
     ensures { InsideMayDo }
 {}

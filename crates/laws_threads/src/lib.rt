@@ -1,6 +1,7 @@
-//! Laws of one thread, whatever an event does: what its frames show of the monitors that it has entered, its attempts to
-//! run sections without their lock, and that locking stays structured; that its values stay of their types; its limits, and its
-//! state as a whole; each the contract of a function that does nothing.
+//! Laws of one thread, whatever an event does: what its frames show of the monitors that it has
+//! entered, its attempts to run sections without their lock, and that locking stays structured;
+//! that its values stay of their types; its limits, and its state as a whole; each the contract of
+//! a function that does nothing.
 #![tactic(auto)]
 
 pub mod base_laws;

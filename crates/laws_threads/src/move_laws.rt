@@ -1,8 +1,11 @@
 //! What frames show when the top one moves within its method: each function only states a law.
 
-ghost use Rattle.laws_threads.specs.MoveLaws.{EffectsFollowEdges, EffectsShow, ElementsShow, EntersShow, LeavesShow, MakingShows, MovesShow, PushedShows};
+ghost use Rattle.laws_threads.specs.MoveLaws.{EffectsFollowEdges, EffectsShow, ElementsShow};
+ghost use Rattle.laws_threads.specs.MoveLaws.{EntersShow, LeavesShow, MakingShows, MovesShow};
+ghost use Rattle.laws_threads.specs.MoveLaws.{PushedShows};
 
-/// An instruction that enters and leaves no monitor shows what it did before, along each of its edges.
+/// An instruction that enters and leaves no monitor shows what it did before, along each of its
+/// edges.
 pub fn moves_show()
     ensures { MovesShow }
 {}

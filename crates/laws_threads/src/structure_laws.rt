@@ -5,7 +5,8 @@ ghost use Rattle.laws_threads.specs.StructureLaws.{StructureIsKept};
 
 use crate::{attempt_begins, enters_inside};
 
-/// Whatever an event makes of a thread, what it holds, its phase and its attempt agree with what its frames show.
+/// Whatever an event makes of a thread, what it holds, its phase and its attempt agree with what
+/// its frames show.
 pub fn structure_is_kept()
     ensures { StructureIsKept }
 {

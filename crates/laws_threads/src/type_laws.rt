@@ -2,7 +2,8 @@
 
 ghost use Rattle.laws_threads.specs.KeptTypes.{TypesAreKept};
 
-/// Where a thread's locking stays structured, its values stay of their types, as far as a thread alone can tell.
+/// Where a thread's locking stays structured, its values stay of their types, as far as a thread
+/// alone can tell.
 pub fn types_are_kept()
     ensures { TypesAreKept }
 {}

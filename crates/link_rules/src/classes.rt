@@ -3,7 +3,8 @@
 ghost use Rattle.std.specs.Prelude.{◌≡◌};
 ghost use Rattle.std.specs.Result.{result_err};
 ghost use Rattle.jvm_types.specs.ClassNames.{class_names};
-ghost use Rattle.jvm_types.specs.LinkFaults.{is_outside, class_link_fault, class_pass as first_pass};
+ghost use Rattle.jvm_types.specs.LinkFaults.{is_outside, class_link_fault};
+ghost use Rattle.jvm_types.specs.LinkFaults.{class_pass as first_pass};
 
 use crate::places::Fault;
 use crate::texts::is_same_text;
@@ -12,7 +13,8 @@ use jvm_types::flags::{ABSTRACT, INTERFACE, has_flag};
 use jvm_types::{ClassFile, LRule, in_file};
 use link_scope::{FileScope, Scope};
 
-/// Whether a class is not right below `Object`, implements an interface, or is an interface or abstract.
+/// Whether a class is not right below `Object`, implements an interface, or is an interface or
+/// abstract.
 fn is_outside(class: &ClassFile) -> bool
     ensures { result ≡ is_outside class.now }
 {
@@ -26,7 +28,8 @@ fn is_outside(class: &ClassFile) -> bool
 
 /// The first rule that refuses the class of a file.
 fn class_fault(file: &FileScope<'_, '_>) -> Result<(), Fault>
-    ensures { result_err result ≡ class_link_fault (class_names file.now.files) file.now.number file.now.class }
+    ensures { result_err result
+        ≡ class_link_fault (class_names file.now.files) file.now.number file.now.class }
 {
     let rule = if is_outside(file.class()) {
         LRule::L6

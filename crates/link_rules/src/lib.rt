@@ -1,4 +1,5 @@
-//! What instructions and handler rows name, and the first rule that refuses some files (JVMS 4, 5.3, 5.4).
+//! What instructions and handler rows name, and the first rule that refuses some files (JVMS 4,
+//! 5.3, 5.4).
 #![tactic(auto)]
 
 pub mod classes;

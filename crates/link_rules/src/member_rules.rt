@@ -44,7 +44,8 @@ fn is_hidden(site: &Site<'_>, found: Found) -> bool
     is_private(found.flags) && found.class != site.class
 }
 
-/// Whether a site may write final fields of a class: static ones in its `<clinit>`, others in its `<init>`.
+/// Whether a site may write final fields of a class: static ones in its `<clinit>`, others in its
+/// `<init>`.
 fn initializes(site: &Site<'_>, of_class: bool, class: u16) -> bool
     ensures { result ≡ initializes site.now of_class class }
 {

@@ -3,7 +3,8 @@
 ghost use Rattle.std.specs.Prelude.{◌≡◌, Some, slice_get};
 ghost use Rattle.std.specs.Result.{result_err};
 ghost use Rattle.jvm_types.specs.ClassNames.{class_names};
-ghost use Rattle.jvm_types.specs.LinkFaults.{first_from, field_fault, method_fault, members_fault, member_pass as second_pass};
+ghost use Rattle.jvm_types.specs.LinkFaults.{first_from, field_fault, method_fault, members_fault};
+ghost use Rattle.jvm_types.specs.LinkFaults.{member_pass as second_pass};
 
 use crate::places::Fault;
 use jvm_types::flags::{is_static, is_synchronized};
@@ -14,7 +15,8 @@ use link_scope::{FileScope, Scope};
 #[tactic(auto, using(crate::proofs::Files::field_number))]
 fn field_fault(file: &FileScope<'_, '_>, number: usize, field: &Member) -> Result<(), Fault>
     requires { slice_get file.now.class.fields number ≡ Some field.now }
-    ensures { result_err result ≡ field_fault (class_names file.now.files) file.now.number file.now.class number field.now }
+    ensures { result_err result
+        ≡ field_fault (class_names file.now.files) file.now.number file.now.class number field.now }
 {
     let rule = if file.field_kind(field.descriptor).is_none() {
         LRule::L1
@@ -30,7 +32,8 @@ fn field_fault(file: &FileScope<'_, '_>, number: usize, field: &Member) -> Resul
 #[tactic(auto, using(crate::proofs::Files::method_number))]
 fn method_fault(file: &FileScope<'_, '_>, number: usize, method: &Member) -> Result<(), Fault>
     requires { slice_get file.now.class.methods number ≡ Some method.now }
-    ensures { result_err result ≡ method_fault (class_names file.now.files) file.now.number file.now.class number method.now }
+    ensures { result_err result ≡ method_fault (class_names file.now.files) file.now.number
+        file.now.class number method.now }
 {
     let rule = if !file.is_method_descriptor(method.descriptor) {
         LRule::L1
@@ -46,7 +49,9 @@ fn method_fault(file: &FileScope<'_, '_>, number: usize, method: &Member) -> Res
 
 /// The first refusal of a field of a file.
 fn first_field_fault(file: &FileScope<'_, '_>) -> Result<(), Fault>
-    ensures { result_err result ≡ first_from (field_fault (class_names file.now.files) file.now.number file.now.class) 0 file.now.class.fields }
+    ensures { result_err result ≡ first_from
+        (field_fault (class_names file.now.files) file.now.number file.now.class) 0
+        file.now.class.fields }
 {
     let fields = file.class().fields.as_slice();
     for (number, field) in fields.iter().enumerate() {
@@ -57,7 +62,9 @@ fn first_field_fault(file: &FileScope<'_, '_>) -> Result<(), Fault>
 
 /// The first refusal of a method of a file.
 fn first_method_fault(file: &FileScope<'_, '_>) -> Result<(), Fault>
-    ensures { result_err result ≡ first_from (method_fault (class_names file.now.files) file.now.number file.now.class) 0 file.now.class.methods }
+    ensures { result_err result ≡ first_from
+        (method_fault (class_names file.now.files) file.now.number file.now.class) 0
+        file.now.class.methods }
 {
     let methods = file.class().methods.as_slice();
     for (number, method) in methods.iter().enumerate() {
@@ -68,7 +75,8 @@ fn first_method_fault(file: &FileScope<'_, '_>) -> Result<(), Fault>
 
 /// The first refusal of a member of a file: of its fields, and then of its methods.
 fn members_fault(file: &FileScope<'_, '_>) -> Result<(), Fault>
-    ensures { result_err result ≡ members_fault (class_names file.now.files) file.now.number file.now.class }
+    ensures { result_err result
+        ≡ members_fault (class_names file.now.files) file.now.number file.now.class }
 {
     first_field_fault(file)?;
     first_method_fault(file)

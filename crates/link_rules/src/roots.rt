@@ -5,7 +5,8 @@ ghost use Rattle.std.specs.Result.{result_err};
 ghost use Rattle.std.specs.List.{list_any};
 ghost use Rattle.jvm_types.specs.ClassNames.{text_at, file_class};
 ghost use Rattle.jvm_types.specs.Members.{declared_from, declared_methods};
-ghost use Rattle.jvm_types.specs.LinkFaults.{is_run, is_entry, is_wrong_root, is_wrong_method, is_run_method, root_pass as fourth_pass};
+ghost use Rattle.jvm_types.specs.LinkFaults.{is_run, is_entry, is_wrong_root, is_wrong_method};
+ghost use Rattle.jvm_types.specs.LinkFaults.{is_run_method, root_pass as fourth_pass};
 
 use crate::places::Fault;
 use crate::texts::{is_class_init_name, is_same_text};
@@ -42,7 +43,9 @@ fn is_wrong_root(class: u16, name: &[u8], descriptor: &[u8], flags: u16) -> bool
 
 /// Whether a method of a file is a wrong one to begin with.
 fn is_wrong_method(file: &FileScope<'_, '_>, method: &Member) -> bool
-    ensures { result ≡ is_wrong_root (file_class file.now.number) (text_at file.now.class.constants method.now.name) (text_at file.now.class.constants method.now.descriptor) method.now.flags }
+    ensures { result ≡ is_wrong_root (file_class file.now.number)
+        (text_at file.now.class.constants method.now.name)
+        (text_at file.now.class.constants method.now.descriptor) method.now.flags }
 {
     is_wrong_root(
         file.own_class(),
@@ -54,7 +57,8 @@ fn is_wrong_method(file: &FileScope<'_, '_>, method: &Member) -> bool
 
 /// Whether a file has a wrong method to begin with.
 fn has_wrong_method(file: &FileScope<'_, '_>) -> bool
-    ensures { result ≡ list_any is_wrong_method (declared_from file.now.number file.now.class.constants 0 file.now.class.methods) }
+    ensures { result ≡ list_any is_wrong_method
+        (declared_from file.now.number file.now.class.constants 0 file.now.class.methods) }
 {
     for method in file.class().methods.as_slice() {
         if is_wrong_method(file, method) {
@@ -78,7 +82,8 @@ fn is_wrong_somewhere(scope: &Scope<'_>) -> bool
 
 /// Whether a class, as the first one, has the part of a worker.
 fn declares_run(class: &ClassFile) -> bool
-    ensures { result ≡ list_any is_run_method (declared_from 0 class.now.constants 0 class.now.methods) }
+    ensures { result
+        ≡ list_any is_run_method (declared_from 0 class.now.constants 0 class.now.methods) }
 {
     for method in class.methods.as_slice() {
         let name = pool_texts::text_at(&class.constants, method.name);

@@ -5,7 +5,9 @@ ghost use Rattle.jvm_types.specs.ClassNames.{can_be_made, class_names, named_cla
 ghost use Rattle.jvm_types.specs.Descriptors.{field_kind, method_signature};
 ghost use Rattle.jvm_types.specs.Members.{Entry, field_rule, call_rule};
 ghost use Rattle.jvm_types.specs.Linked.{scope_of};
-ghost use Rattle.jvm_types.specs.Targets.{target_of as named_target, catch_class as caught_class, found_target, member_target, field_target, method_target, loaded_target, new_target};
+ghost use Rattle.jvm_types.specs.Targets.{target_of as named_target, catch_class as caught_class};
+ghost use Rattle.jvm_types.specs.Targets.{found_target, member_target, field_target, method_target};
+ghost use Rattle.jvm_types.specs.Targets.{loaded_target, new_target};
 ghost use Rattle.jvm_types.specs.ClassGrammar.{IsIndex};
 ghost use Rattle.jvm_types.specs.declared.index_kind.IndexKind.TheVariants as kinds;
 ghost use Rattle.link_scope.specs.Scoping.{IsFound};
@@ -105,7 +107,8 @@ fn field_target(
     usage: FieldUse,
     constant: u16,
 ) -> Result<Target, LRule>
-    ensures { result ≡ field_target (scope_of file.now.files) site.now file.now.class.constants usage.of_class usage.writes (slice_get file.now.class.constants constant) }
+    ensures { result ≡ field_target (scope_of file.now.files) site.now file.now.class.constants
+        usage.of_class usage.writes (slice_get file.now.class.constants constant) }
 {
     let pool = &file.class().constants;
     match pool.get(usize::from(constant)) {
@@ -125,7 +128,8 @@ fn method_target(
     call: Call,
     constant: u16,
 ) -> Result<Target, LRule>
-    ensures { result ≡ method_target (scope_of file.now.files) site.now file.now.class.constants call (slice_get file.now.class.constants constant) }
+    ensures { result ≡ method_target (scope_of file.now.files) site.now file.now.class.constants
+        call (slice_get file.now.class.constants constant) }
 {
     let pool = &file.class().constants;
     match pool.get(usize::from(constant)) {
@@ -164,7 +168,8 @@ fn can_be_made(class: u16) -> bool
 
 /// What a constant is to `new`.
 fn new_target(file: &FileScope<'_, '_>, constant: u16) -> Result<Target, LRule>
-    ensures { result ≡ new_target (scope_of file.now.files) file.now.class.constants (slice_get file.now.class.constants constant) }
+    ensures { result ≡ new_target (scope_of file.now.files) file.now.class.constants
+        (slice_get file.now.class.constants constant) }
 {
     match file.class().constants.get(usize::from(constant)) {
         Some(Constant::Class(name)) => {
@@ -179,9 +184,11 @@ fn new_target(file: &FileScope<'_, '_>, constant: u16) -> Result<Target, LRule>
     }
 }
 
-/// What the constant of an instruction of a file names, or the first rule of L1, L2, L3 and L7 that refuses it.
+/// What the constant of an instruction of a file names, or the first rule of L1, L2, L3 and L7 that
+/// refuses it.
 pub fn target_of(file: &FileScope<'_, '_>, site: &Site<'_>, op: &Op) -> Result<Target, LRule>
-    ensures { result ≡ named_target (scope_of file.now.files) site.now file.now.class.constants op.now }
+    ensures { result
+        ≡ named_target (scope_of file.now.files) site.now file.now.class.constants op.now }
 {
     match op {
         Op::Ldc(index) | Op::LdcW(index) => loaded_target(&file.class().constants, *index),
@@ -197,7 +204,8 @@ pub fn target_of(file: &FileScope<'_, '_>, site: &Site<'_>, op: &Op) -> Result<T
     }
 }
 
-/// The class that a handler row catches, 0 for every one (JVMS 4.7.3); L1 where there is no such class.
+/// The class that a handler row catches, 0 for every one (JVMS 4.7.3); L1 where there is no such
+/// class.
 pub fn catch_class(file: &FileScope<'_, '_>, catch_type: u16) -> Result<u16, LRule>
     requires { IsIndex kinds.CatchType file.now.class.constants catch_type }
     ensures { result ≡ caught_class (scope_of file.now.files) file.now.class.constants catch_type }

@@ -1,4 +1,5 @@
-//! Constants and their texts (JVMS 4.4), and the names of methods that have a meaning of their own (JVMS 2.9).
+//! Constants and their texts (JVMS 4.4), and the names of methods that have a meaning of their own
+//! (JVMS 2.9).
 
 ghost use Rattle.std.specs.Prelude.{◌≡◌, bytes_eq, slice_get};
 ghost use Rattle.jvm_types.specs.ClassNames.{text_at, class_text_at};
@@ -33,7 +34,8 @@ pub fn member_texts(pool: &Rows<Constant>, class: u16, member: u16) -> MemberTex
     requires member { NamesNameAndType pool.now member }
     ensures class { text_at pool.now result.class ≡ class_text_at pool.now class }
     ensures name { text_at pool.now result.name ≡ member_name pool.now (slice_get pool.now member) }
-    ensures descriptor { text_at pool.now result.descriptor ≡ member_descriptor pool.now (slice_get pool.now member) }
+    ensures descriptor { text_at pool.now result.descriptor
+        ≡ member_descriptor pool.now (slice_get pool.now member) }
 {
     let class = class_text(pool, class);
     match pool.get(usize::from(member)) {

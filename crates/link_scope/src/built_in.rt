@@ -1,7 +1,9 @@
 //! The members of the built-in classes.
 
 ghost use Rattle.std.specs.Prelude.{◌≡◌, ◌∷◌, [], OnOk};
-ghost use Rattle.jvm_types.specs.Members.{built_in_fields, built_in_methods, public_method as public_method_of, init_of as init_of_class};
+ghost use Rattle.jvm_types.specs.Members.{built_in_fields, built_in_methods};
+ghost use Rattle.jvm_types.specs.Members.{public_method as public_method_of};
+ghost use Rattle.jvm_types.specs.Members.{init_of as init_of_class};
 ghost use Rattle.link_scope.specs.MemberTables.{Adds};
 ghost use Rattle.link_scope.specs.BuiltIn.{entry_of, first_methods};
 

@@ -1,6 +1,7 @@
 //! The texts of the constant pools of some files, by numbers.
 
-ghost use Rattle.std.specs.Prelude.{◌≡◌, ℕ, ◌+◌, ◌*◌, ◌<◌, ◌≤◌, ◌^◌, [], length, slice_get, IfOk, OnOk, IsSomeAnd};
+ghost use Rattle.std.specs.Prelude.{◌≡◌, ℕ, ◌+◌, ◌*◌, ◌<◌, ◌≤◌, ◌^◌, [], length, slice_get, IfOk};
+ghost use Rattle.std.specs.Prelude.{OnOk, IsSomeAnd};
 ghost use Rattle.std.specs.Option.{option_map};
 ghost use Rattle.jvm_types.specs.ClassNames.{class_names};
 ghost use Rattle.jvm_types.specs.Descriptors.{method_signature};
@@ -19,7 +20,8 @@ use jvm_types::{ClassFile, Constant, Rows};
 use std::alloc::{AllocError, Global};
 use std::marker::Model;
 
-/// Some files, with the number of each text of their pools. Contracts see the files and the numbers.
+/// Some files, with the number of each text of their pools. Contracts see the files and the
+/// numbers.
 #[derive(Drop)]
 pub struct FileTexts<'a> {
     files: &'a Rows<ClassFile>,
@@ -132,14 +134,16 @@ impl<'a> FileTexts<'a> {
 
     /// What the text at an index of the pool of a file says.
     pub fn meaning(&self, file: usize, index: u16) -> Option<Meaning>
-        ensures { IsSomeAnd result (IsMeaning (class_names self.now.files) (file_text self.now.files file index)) }
+        ensures { IsSomeAnd result
+            (IsMeaning (class_names self.now.files) (file_text self.now.files file index)) }
     {
         self.texts.meaning(self.number(file, index))
     }
 
     /// What a text says as a method descriptor, read anew.
     pub fn signature(&self, alloc: Global, text: &[u8]) -> Result<Option<Signature>, AllocError>
-        ensures { IfOk result (λ found. option_map meaning found ≡ method_signature (class_names self.now.files) text.now) }
+        ensures { IfOk result (λ found.
+            option_map meaning found ≡ method_signature (class_names self.now.files) text.now) }
     {
         self.texts.signature(alloc, text)
     }

@@ -1,10 +1,13 @@
 //! The fields or the methods of some files and the built-in ones, by the numbers of their names.
 
-ghost use Rattle.std.specs.Prelude.{◌≡◌, ◌+◌, ◌<◌, ◌^◌, List, [], ◌∷◌, length, is_some, slice_get, Some, IfOk, OnOk};
+ghost use Rattle.std.specs.Prelude.{◌≡◌, ◌+◌, ◌<◌, ◌^◌, List, [], ◌∷◌, length, is_some, slice_get};
+ghost use Rattle.std.specs.Prelude.{Some, IfOk, OnOk};
 ghost use Rattle.jvm_types.specs.ClassNames.{file_class as class_of_file};
 ghost use Rattle.jvm_types.specs.Members.{Entry, member_in};
 ghost use Rattle.link_scope.specs.Scoping.{file_text, pool_of_file, AreFiles};
-ghost use Rattle.link_scope.specs.MemberTables.{members_of, target_of_sort, built_in, HasEntries, Adds, AreRepeats, member_entry, class_entries, AreBelow, AreMembers, found_in, in_flag_rows};
+ghost use Rattle.link_scope.specs.MemberTables.{members_of, target_of_sort, built_in, HasEntries};
+ghost use Rattle.link_scope.specs.MemberTables.{Adds, AreRepeats, member_entry, class_entries};
+ghost use Rattle.link_scope.specs.MemberTables.{AreBelow, AreMembers, found_in, in_flag_rows};
 
 use crate::built_in;
 use crate::file_texts::FileTexts;
@@ -22,8 +25,8 @@ pub enum Sort {
     Methods,
 }
 
-/// The members of one sort, with a row for each file: whether each of its members has the name and the descriptor
-/// of one before it.
+/// The members of one sort, with a row for each file: whether each of its members has the name and
+/// the descriptor of one before it.
 #[derive(Drop)]
 pub struct Members {
     table: Table,
@@ -62,8 +65,8 @@ impl Sort {
     }
 }
 
-/// Adds a member of the class of a file, and answers whether the table had one of this class with its name and
-/// descriptor.
+/// Adds a member of the class of a file, and answers whether the table had one of this class with
+/// its name and descriptor.
 fn add_member(
     table: &mut Table,
     texts: &FileTexts,
@@ -72,7 +75,8 @@ fn add_member(
     target: Target,
 ) -> Result<bool, AllocError>
     requires { file < MOST_FILES }
-    ensures added { OnOk result (Adds texts.now.numbers table.old table.new (member_entry (pool_of_file texts.now.files file) file member.now target ∷ [])) }
+    ensures added { OnOk result (Adds texts.now.numbers table.old table.new
+        (member_entry (pool_of_file texts.now.files file) file member.now target ∷ [])) }
     ensures had { IfOk result (λ had. (entries : List Entry) → HasEntries texts.now.numbers entries table.old
         → had ≡ is_some (member_in entries (class_of_file file) (file_text texts.now.files file member.now.name) (file_text texts.now.files file member.now.descriptor))) }
 {
@@ -92,8 +96,8 @@ fn add_member(
     Ok(had)
 }
 
-/// Adds the members of the class of a file, numbered from one on, and answers for each whether it has the name and
-/// the descriptor of one before it.
+/// Adds the members of the class of a file, numbered from one on, and answers for each whether it
+/// has the name and the descriptor of one before it.
 fn add_members(
     alloc: Global,
     table: &mut Table,
@@ -106,7 +110,8 @@ fn add_members(
     requires file { slice_get texts.now.files file ≡ Some class.now }
     requires few { file < MOST_FILES }
     requires fits { first + length (members_of sort class.now) < 2 ^ 32 }
-    ensures added { OnOk result (Adds texts.now.numbers table.old table.new (class_entries sort file class.now first)) }
+    ensures added { OnOk result
+        (Adds texts.now.numbers table.old table.new (class_entries sort file class.now first)) }
     ensures repeats { IfOk result (λ flags. (entries : List Entry) → HasEntries texts.now.numbers entries table.old → AreBelow (class_of_file file) entries
         → AreRepeats class.now.constants (members_of sort class.now) flags) }
 {
@@ -138,7 +143,8 @@ impl Members {
         Ok(Members { table, repeated })
     }
 
-    /// The member with a key, or else that of `Object` with its name and descriptor, which no `<init>` is looked for in.
+    /// The member with a key, or else that of `Object` with its name and descriptor, which no
+    /// `<init>` is looked for in.
     pub fn find(&self, key: Key, is_init: bool) -> Option<Found>
         ensures { result ≡ found_in self.now.table key is_init }
     {

@@ -14,7 +14,8 @@ use jvm_types::{ClassFile, Rows, Target};
 use std::alloc::{AllocError, Global};
 use std::marker::Model;
 
-/// A field or method that a name names: the class that declares it, its flags, and what it is to an instruction.
+/// A field or method that a name names: the class that declares it, its flags, and what it is to an
+/// instruction.
 #[derive(Clone, Copy, Debug, PartialEq, Eq)]
 pub struct Found {
     pub class: u16,
@@ -22,8 +23,8 @@ pub struct Found {
     pub target: Target,
 }
 
-/// The classes, fields and methods of some files and the built-in ones, by their names. Contracts see it as the
-/// files, which are at most 64 classes.
+/// The classes, fields and methods of some files and the built-in ones, by their names. Contracts
+/// see it as the files, which are at most 64 classes.
 #[derive(Drop)]
 pub struct Scope<'a> {
     pub(crate) texts: FileTexts<'a>,
@@ -44,7 +45,8 @@ impl<'a> Model for Scope<'a> {
     ghost invariant = { λ s. AreScoped s.texts.files s.texts.numbers s.fields s.methods };
 }
 
-/// The member of a class, or else of `Object`, with the name and the descriptor at two indices of the pool of a file.
+/// The member of a class, or else of `Object`, with the name and the descriptor at two indices of
+/// the pool of a file.
 fn look_up(
     texts: &FileTexts,
     members: &Members,
@@ -65,8 +67,8 @@ fn look_up(
 }
 
 impl<'a> Scope<'a> {
-    /// Reads the names of the files. It takes time in proportion to the size of the files, times the logarithm of
-    /// their number of names.
+    /// Reads the names of the files. It takes time in proportion to the size of the files, times
+    /// the logarithm of their number of names.
     pub fn of(alloc: Global, files: &'a Rows<ClassFile>) -> Result<Scope<'a>, AllocError>
         requires { AreFiles files.now }
         ensures { IfOk result (λ s. s ≡ files.now) }

@@ -8,7 +8,8 @@ use std::alloc::{AllocError, Global};
 use std::collections::BTreeMap;
 use std::marker::Model;
 
-/// What a member is looked up by: the number of a class, and the numbers of a name and of a descriptor.
+/// What a member is looked up by: the number of a class, and the numbers of a name and of a
+/// descriptor.
 #[derive(Clone, Copy, Debug, PartialEq, Eq, PartialOrd, Ord)]
 pub struct Key {
     pub class: u16,
@@ -16,7 +17,8 @@ pub struct Key {
     pub descriptor: u32,
 }
 
-/// Members by their keys, of several with one key the first. Contracts see the keys with their members.
+/// Members by their keys, of several with one key the first. Contracts see the keys with their
+/// members.
 #[derive(Drop)]
 pub struct Table {
     members: BTreeMap<Key, Found>,
@@ -55,7 +57,8 @@ impl Table {
     /// Adds a member where there is none with its key, and answers whether there is one.
     pub fn add(&mut self, key: Key, found: Found) -> Result<bool, AllocError>
         ensures was { IfOk result (λ b. b ≡ is_some (found_at self.old key)) }
-        ensures added { OnOk result ((q : Key) → found_at self.new q ≡ option_or (found_at self.old q) (if is_key key q then Some found else None)) }
+        ensures added { OnOk result ((q : Key) → found_at self.new q
+            ≡ option_or (found_at self.old q) (if is_key key q then Some found else None)) }
     {
         if self.members.contains_key(&key) {
             return Ok(true);

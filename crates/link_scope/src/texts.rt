@@ -1,6 +1,8 @@
-//! Texts by numbers, with what each means, so that a text is compared and read once, however many constants name it.
+//! Texts by numbers, with what each means, so that a text is compared and read once, however many
+//! constants name it.
 
-ghost use Rattle.std.specs.Prelude.{◌≡◌, ℕ, ◌≤◌, ◌<◌, ◌+◌, ◌^◌, List, [], None, IfOk, OnOk, IsSomeAnd};
+ghost use Rattle.std.specs.Prelude.{◌≡◌, ℕ, ◌≤◌, ◌<◌, ◌+◌, ◌^◌, List, [], None, IfOk, OnOk};
+ghost use Rattle.std.specs.Prelude.{IsSomeAnd};
 ghost use Rattle.std.specs.Option.{option_map};
 ghost use Rattle.jvm_types.specs.ClassNames.{named_class};
 ghost use Rattle.jvm_types.specs.Descriptors.{method_signature as signature_named};
@@ -16,7 +18,8 @@ use std::marker::Model;
 /// The number of the empty text.
 pub const EMPTY: u32 = 0;
 
-/// What a text says where it is the name of a class or a field descriptor, and whether it is a method descriptor.
+/// What a text says where it is the name of a class or a field descriptor, and whether it is a
+/// method descriptor.
 #[derive(Clone, Copy, Debug)]
 pub struct Meaning {
     /// The number of the class.
@@ -27,8 +30,8 @@ pub struct Meaning {
     pub is_method: bool,
 }
 
-/// Texts, each with a number. Contracts see the names of the classes that they may name, the number of each text,
-/// and how many numbers were given.
+/// Texts, each with a number. Contracts see the names of the classes that they may name, the number
+/// of each text, and how many numbers were given.
 #[derive(Drop)]
 pub struct Texts<'a> {
     classes: ClassNumbers<'a>,
@@ -132,14 +135,16 @@ impl<'a> Texts<'a> {
 
     /// What a text says as a method descriptor, read anew.
     pub fn signature(&self, alloc: Global, text: &[u8]) -> Result<Option<Signature>, AllocError>
-        ensures { IfOk result (λ found. option_map meaning found ≡ signature_named self.now.names text.now) }
+        ensures { IfOk result
+            (λ found. option_map meaning found ≡ signature_named self.now.names text.now) }
     {
         method_signature(alloc, &self.classes, text)
     }
 
     /// What the text with a number means; `None` only where no text has the number.
     pub fn meaning(&self, number: u32) -> Option<Meaning>
-        ensures { (text : List ℕ) → IsNumbered self.now.numbers text number → IsSomeAnd result (IsMeaning self.now.names text) }
+        ensures { (text : List ℕ) → IsNumbered self.now.numbers text number
+            → IsSomeAnd result (IsMeaning self.now.names text) }
     {
         self.meanings.get(number as usize).copied()
     }

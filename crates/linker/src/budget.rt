@@ -5,8 +5,9 @@ ghost use Rattle.std.specs.Prelude.{◌≡◌, ◌+◌, ◌*◌, length, IfOk};
 use jvm_types::{Bytes, Kind, Rows};
 use std::alloc::{AllocError, Global};
 
-/// The most bytes that the names, the descriptors and the arguments of all methods of one program have, 128 MiB. Files
-/// of some kilobytes can ask for more, since many methods can share a long descriptor: for these memory runs out.
+/// The most bytes that the names, the descriptors and the arguments of all methods of one program
+/// have, 128 MiB. Files of some kilobytes can ask for more, since many methods can share a long
+/// descriptor: for these memory runs out.
 pub const MOST_COPIED: usize = 134_217_728;
 
 /// The bytes of the type of an argument.

@@ -3,7 +3,8 @@
 ghost use Rattle.std.specs.Prelude.{◌≡◌, ◌+◌, ◌<◌, ◌^◌, ◌++◌, IfOk, OnOk, if◌then◌else◌};
 ghost use Rattle.jvm_types.specs.ClassNames.{class_names};
 ghost use Rattle.jvm_types.specs.Members.{is_static};
-ghost use Rattle.jvm_types.specs.Layout.{first_constant, kept_int, static_start, kind_of, field_info, fields_of, static_count, laid_out_fields};
+ghost use Rattle.jvm_types.specs.Layout.{first_constant, kept_int, static_start, kind_of};
+ghost use Rattle.jvm_types.specs.Layout.{field_info, fields_of, static_count, laid_out_fields};
 
 use jvm_types::fixed_words::{FIRST_CLASS_WORD, OBJECT_HEAD_WORDS};
 use jvm_types::flags::is_static;
@@ -66,7 +67,8 @@ fn kind_of(file: &FileScope<'_, '_>, field: &Member) -> Kind
 
 /// A field of a file at its place.
 fn field_info(file: &FileScope<'_, '_>, index: u32, field: &Member) -> FieldInfo
-    ensures { result ≡ field_info (class_names file.now.files) file.now.number file.now.class.constants index field.now }
+    ensures { result ≡ field_info (class_names file.now.files) file.now.number
+        file.now.class.constants index field.now }
 {
     let kind = kind_of(file, field);
     let start = if is_static(field.flags) {
@@ -88,7 +90,8 @@ fn take_place(free: &mut Free, flags: u16) -> u32
     requires place { free.old.place < 2 ^ 31 }
     requires word { free.old.word < 2 ^ 31 }
     ensures index { result ≡ (if is_static flags then free.old.word else free.old.place) }
-    ensures place { free.new.place ≡ (if is_static flags then free.old.place else free.old.place + 1) }
+    ensures place { free.new.place
+        ≡ (if is_static flags then free.old.place else free.old.place + 1) }
     ensures word { free.new.word ≡ (if is_static flags then free.old.word + 1 else free.old.word) }
 {
     if is_static(flags) {
@@ -102,14 +105,16 @@ fn take_place(free: &mut Free, flags: u16) -> u32
     }
 }
 
-/// Adds the fields of a file, whose static ones have the words from `word` on. Answers the word behind them.
+/// Adds the fields of a file, whose static ones have the words from `word` on. Answers the word
+/// behind them.
 fn lay_out_class(
     file: &FileScope<'_, '_>,
     word: u32,
     fields: &mut Rows<FieldInfo>,
 ) -> Result<u32, AllocError>
     requires { word < 2 ^ 30 }
-    ensures fields { OnOk result (fields.new ≡ fields.old ++ fields_of (class_names file.now.files) file.now.number file.now.class.constants 0 word file.now.class.fields) }
+    ensures fields { OnOk result (fields.new ≡ fields.old ++ fields_of (class_names file.now.files)
+        file.now.number file.now.class.constants 0 word file.now.class.fields) }
     ensures word { IfOk result (λ next. next ≡ word + static_count file.now.class.fields) }
     ensures few { IfOk result (λ next. next < word + 2 ^ 16) }
 {

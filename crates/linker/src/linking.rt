@@ -19,9 +19,9 @@ use link_rules::{class_pass, member_pass, root_pass, word_pass};
 use link_scope::Scope;
 use std::alloc::Global;
 
-/// The program of the files of a scope, or the first rule that refuses them. Five passes go over the files: the classes
-/// (L6, L5), their members (L1, L5, L9), what instructions and handler rows name (L1, L2, L3, L7), the methods that the
-/// machine begins with (L4), and the words (L8).
+/// The program of the files of a scope, or the first rule that refuses them. Five passes go over
+/// the files: the classes (L6, L5), their members (L1, L5, L9), what instructions and handler rows
+/// name (L1, L2, L3, L7), the methods that the machine begins with (L4), and the words (L8).
 fn link_passes(
     alloc: Global,
     scope: &Scope<'_>,
@@ -68,9 +68,9 @@ fn link_scoped(
     Ok(program)
 }
 
-/// The program of some files, whose methods take over the instructions of `code`, in order of files and methods: names are
-/// numbers, and each field has its place (JVMS 5.4). The first rule of L1 to L9 that refuses the files is answered, with its
-/// place.
+/// The program of some files, whose methods take over the instructions of `code`, in order of files
+/// and methods: names are numbers, and each field has its place (JVMS 5.4). The first rule of L1 to
+/// L9 that refuses the files is answered, with its place.
 pub fn link_owned(
     alloc: Global,
     files: &Rows<ClassFile>,
@@ -102,7 +102,8 @@ pub fn link(
     ensures program { IfOk result (λ p. IsProgram p) }
     // What a program copies of texts and types is bounded.
     ensures copied { IfOk result (λ p. sum_by copied_bytes p.methods ≤ MOST_COPIED) }
-    ensures refused { IfErr result (λ e. IsLinkErrorOf (link_fault files.now code.now heap workers) e) }
+    ensures refused { IfErr result
+        (λ e. IsLinkErrorOf (link_fault files.now code.now heap workers) e) }
 {
     let copy = copy_code(alloc, code.as_slice())?;
     link_owned(alloc, files, copy, heap, workers)

@@ -1,16 +1,22 @@
-//! The methods of the program: their names, types and instructions, and what these name (JVMS 4.6, 4.7.3, 5.4.3). This is
-//! the third pass of linking too: it refuses files by what their methods name.
+//! The methods of the program: their names, types and instructions, and what these name (JVMS 4.6,
+//! 4.7.3, 5.4.3). This is the third pass of linking too: it refuses files by what their methods
+//! name.
 
-ghost use Rattle.std.specs.Prelude.{◌≡◌, ◌<◌, ◌≤◌, ◌+◌, ◌∷◌, [], map, drop, length, slice_get, Some, None, IfOk, IfErr, OnOk};
+ghost use Rattle.std.specs.Prelude.{◌≡◌, ◌<◌, ◌≤◌, ◌+◌, ◌∷◌, [], map, drop, length, slice_get};
+ghost use Rattle.std.specs.Prelude.{Some, None, IfOk, IfErr, OnOk};
 ghost use Rattle.std.specs.List.{AllByRecursion, sum_by};
 ghost use Rattle.jvm_types.specs.ClassGrammar.{IsHandler, IsIndex, IsMethod, HasBody};
 ghost use Rattle.jvm_types.specs.declared.index_kind.IndexKind.TheVariants as kinds;
 ghost use Rattle.jvm_types.specs.ClassNames.{text_at};
 ghost use Rattle.jvm_types.specs.Members.{declared_from, declared_methods};
-ghost use Rattle.jvm_types.specs.Linked.{scope_of, code_of, site_of, resolved_target, resolved_row, resolved_signature, linked_method, linked_methods, coded_methods};
-ghost use Rattle.jvm_types.specs.LinkFaults.{first_fault, insn_fault, row_fault, uses_fault, use_pass};
+ghost use Rattle.jvm_types.specs.Linked.{scope_of, code_of, site_of, resolved_target, resolved_row};
+ghost use Rattle.jvm_types.specs.Linked.{resolved_signature, linked_method, linked_methods};
+ghost use Rattle.jvm_types.specs.Linked.{coded_methods};
+ghost use Rattle.jvm_types.specs.LinkFaults.{first_fault, insn_fault, row_fault, uses_fault};
+ghost use Rattle.jvm_types.specs.LinkFaults.{use_pass};
 ghost use Rattle.descriptors.specs.Signatures.{meaning};
-ghost use Rattle.linker.specs.Linking.{IsLinkErrorOf, IsMadeOrRefused, Links, AreLinked, use_faults, method_of, copied_bytes};
+ghost use Rattle.linker.specs.Linking.{IsLinkErrorOf, IsMadeOrRefused, Links, AreLinked};
+ghost use Rattle.linker.specs.Linking.{use_faults, method_of, copied_bytes};
 
 use crate::budget::{Budget, MOST_COPIED};
 use crate::error::LinkError;
@@ -120,7 +126,9 @@ fn signature_of(
     file: &FileScope<'_, '_>,
     method: &Member,
 ) -> Result<Signature, AllocError>
-    ensures { IfOk result (λ types. meaning types ≡ resolved_signature (scope_of file.now.files) (text_at file.now.class.constants method.now.descriptor)) }
+    ensures { IfOk result (λ types.
+        meaning types ≡ resolved_signature (scope_of file.now.files)
+        (text_at file.now.class.constants method.now.descriptor)) }
 {
     match file.signature(alloc, method.descriptor)? {
         Some(types) => Ok(types),
@@ -177,9 +185,12 @@ fn link_member(
     budget: &mut Budget,
 ) -> Result<(), LinkError>
     requires { IsMethod file.now.class.constants method.now }
-    ensures linked { OnOk result (AreLinked (scope_of file.now.files) (method_of file.now number method.now ∷ []) code.old code.new methods.old methods.new) }
-    ensures refused { IfErr result (IsLinkErrorOf (use_faults (scope_of file.now.files) (method_of file.now number method.now ∷ []) code.old)) }
-    ensures copied { OnOk result (sum_by copied_bytes methods.new + budget.new.left ≡ sum_by copied_bytes methods.old + budget.old.left) }
+    ensures linked { OnOk result (AreLinked (scope_of file.now.files)
+        (method_of file.now number method.now ∷ []) code.old code.new methods.old methods.new) }
+    ensures refused { IfErr result (IsLinkErrorOf (use_faults (scope_of file.now.files)
+        (method_of file.now number method.now ∷ []) code.old)) }
+    ensures copied { OnOk result (sum_by copied_bytes methods.new + budget.new.left
+        ≡ sum_by copied_bytes methods.old + budget.old.left) }
 {
     match code.pop() {
         Some(insns) => {
@@ -200,10 +211,13 @@ fn link_class(
     methods: &mut Rows<MethodInfo>,
     budget: &mut Budget,
 ) -> Result<(), LinkError>
-    ensures linked { OnOk result (AreLinked (scope_of file.now.files) (declared_from file.now.number file.now.class.constants 0 file.now.class.methods) code.old code.new methods.old methods.new) }
+    ensures linked { OnOk result (AreLinked (scope_of file.now.files)
+        (declared_from file.now.number file.now.class.constants 0 file.now.class.methods)
+        code.old code.new methods.old methods.new) }
     ensures refused { IfErr result (IsLinkErrorOf (use_faults (scope_of file.now.files)
         (declared_from file.now.number file.now.class.constants 0 file.now.class.methods) code.old)) }
-    ensures copied { OnOk result (sum_by copied_bytes methods.new + budget.new.left ≡ sum_by copied_bytes methods.old + budget.old.left) }
+    ensures copied { OnOk result (sum_by copied_bytes methods.new + budget.new.left
+        ≡ sum_by copied_bytes methods.old + budget.old.left) }
 {
     let members = file.class().methods.as_slice();
     for (number, method) in members.iter().enumerate() {
@@ -212,14 +226,16 @@ fn link_class(
     Ok(())
 }
 
-/// The methods of all classes, in order of the files, with the instructions that `code` has of them. This is the third
-/// pass: the first instruction or handler row that names what it may not refuses the files (L1, L2, L3 and L7).
+/// The methods of all classes, in order of the files, with the instructions that `code` has of
+/// them. This is the third pass: the first instruction or handler row that names what it may not
+/// refuses the files (L1, L2, L3 and L7).
 pub fn link_methods(
     alloc: Global,
     scope: &Scope<'_>,
     code: Rows<Rows<Insn>>,
 ) -> Result<Rows<MethodInfo>, LinkError>
-    ensures linked { Links (use_pass scope.now code) (linked_methods (scope_of scope.now) (coded_methods scope.now code)) result }
+    ensures linked { Links (use_pass scope.now code)
+        (linked_methods (scope_of scope.now) (coded_methods scope.now code)) result }
     ensures copied { IfOk result (λ methods. sum_by copied_bytes methods ≤ MOST_COPIED) }
 {
     let mut methods = Rows::new(alloc);

@@ -1,4 +1,5 @@
-//! Lists: plain ones, stacks, and lists whose memory was taken before; and values that only contracts see.
+//! Lists: plain ones, stacks, and lists whose memory was taken before; and values that only
+//! contracts see.
 #![tactic(auto)]
 
 pub mod room;

@@ -1,13 +1,15 @@
 //! Lists whose memory was taken before.
 
-ghost use Rattle.std.specs.Prelude.{◌≡◌, [], ◌∷◌, ◌++◌, ◌+◌, ◌<◌, ◌≤◌, length, slice_get, slice_set, IfOk, MatchOption, OnSome};
+ghost use Rattle.std.specs.Prelude.{◌≡◌, [], ◌∷◌, ◌++◌, ◌+◌, ◌<◌, ◌≤◌, length, slice_get};
+ghost use Rattle.std.specs.Prelude.{slice_set, IfOk, MatchOption, OnSome};
 ghost use Rattle.std.specs.Option.{option_copied};
 
 use crate::rows::Rows;
 use std::alloc::{AllocError, Global};
 use std::marker::Model;
 
-/// A list whose memory was taken before. Contracts see its `items` and, as `spare`, how many more can be pushed.
+/// A list whose memory was taken before. Contracts see its `items` and, as `spare`, how many more
+/// can be pushed.
 ///
 /// Only `with_room` takes memory; what it takes is not touched before it is used.
 #[derive(Debug, Drop)]
@@ -49,8 +51,10 @@ impl<T> Room<T> {
 
     /// Takes the last item, or answers `None` where there is none. Its memory is spare then.
     pub fn pop(&mut self) -> Option<T>
-        ensures items { MatchOption result ((self.old.items ≡ []) × (self.new.items ≡ [])) (λ last. self.old.items ≡ self.new.items ++ last ∷ []) }
-        ensures spare { MatchOption result (self.new.spare ≡ self.old.spare) (λ _. self.new.spare ≡ self.old.spare + 1) }
+        ensures items { MatchOption result ((self.old.items ≡ []) × (self.new.items ≡ []))
+            (λ last. self.old.items ≡ self.new.items ++ last ∷ []) }
+        ensures spare { MatchOption result (self.new.spare ≡ self.old.spare)
+            (λ _. self.new.spare ≡ self.old.spare + 1) }
     {
         self.items.pop()
     }

@@ -1,13 +1,15 @@
 //! Stacks.
 
-ghost use Rattle.std.specs.Prelude.{◌≡◌, ◌<◌, ◌↔◌, ◌∷◌, [], length, drop, reverse, slice_get, slice_set, IsTrue, IfOk, OnOk, OnErr, OnSome, MatchOption};
+ghost use Rattle.std.specs.Prelude.{◌≡◌, ◌<◌, ◌↔◌, ◌∷◌, [], length, drop, reverse, slice_get};
+ghost use Rattle.std.specs.Prelude.{slice_set, IsTrue, IfOk, OnOk, OnErr, OnSome, MatchOption};
 ghost use Rattle.std.specs.Option.{option_copied};
 
 use crate::rows::Rows;
 use std::alloc::{AllocError, Global};
 use std::marker::Model;
 
-/// A stack, which contracts see as the list of its items with the top first. In memory the top is last.
+/// A stack, which contracts see as the list of its items with the top first. In memory the top is
+/// last.
 ///
 /// Only `push`, `copy` and `without` take memory.
 #[derive(Debug, Drop)]
@@ -72,7 +74,8 @@ impl<T> Stack<T> {
 
     /// Takes the item on the top, or answers `None` where there is none.
     pub fn pop(&mut self) -> Option<T>
-        ensures { MatchOption result ((self.old ≡ []) × (self.new ≡ [])) (λ top. self.old ≡ top ∷ self.new) }
+        ensures { MatchOption result ((self.old ≡ []) × (self.new ≡ []))
+            (λ top. self.old ≡ top ∷ self.new) }
     {
         self.items.pop()
     }

@@ -3,7 +3,8 @@ ghost use Rattle.std.specs.Borrow.{ftrue};
 
 use std::marker::{Model, PhantomData};
 
-/// A value of `T` that contracts see as `told`, as that for which something else was made. It takes no bytes.
+/// A value of `T` that contracts see as `told`, as that for which something else was made. It takes
+/// no bytes.
 #[derive(Drop)]
 pub struct Told<T> {
     of: PhantomData<T>,

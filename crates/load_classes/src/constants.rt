@@ -3,7 +3,8 @@
 ghost use Rattle.std.specs.Prelude.{◌≡◌, ◌≤◌, ◌<◌, ◌+◌, ◌*◌, [], ◌∷◌, ◌++◌, OnOk, IfOk};
 ghost use Rattle.std.specs.List.{flat_map, range_with_len};
 ghost use Rattle.jvm_types.specs.declared.class_file.Constant.TheVariants.{Utf8};
-ghost use Rattle.load_classes.specs.LoadClass.{fixed_constants, name_index, adder_name, adder_constants, load_constants};
+ghost use Rattle.load_classes.specs.LoadClass.{fixed_constants, name_index, adder_name};
+ghost use Rattle.load_classes.specs.LoadClass.{adder_constants, load_constants};
 ghost use Rattle.load_classes.specs.declared.limits.TheConstants.{MOST_METHODS};
 
 use crate::limits::MOST_METHODS;
@@ -113,7 +114,8 @@ pub fn load_constants(alloc: Global, size: u32) -> Result<Rows<Constant>, AllocE
 /// Adds what each method that adds is named by.
 fn add_adders(alloc: Global, pool: &mut Rows<Constant>, size: u32) -> Result<(), AllocError>
     requires { size ≤ MOST_METHODS }
-    ensures { OnOk result (pool.new ≡ pool.old ++ flat_map adder_constants (range_with_len 0 size)) }
+    ensures { OnOk result
+        (pool.new ≡ pool.old ++ flat_map adder_constants (range_with_len 0 size)) }
 {
     for k in 0..size {
         add_adder(alloc, pool, k)?;

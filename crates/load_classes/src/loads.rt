@@ -10,9 +10,9 @@ use crate::methods::{load_fields, load_methods};
 use jvm_types::{ClassFile, Rows};
 use std::alloc::{AllocError, Global};
 
-/// The class `Load`: an object with two counters, and `size` synchronized methods that add to one what
-/// they take from the other, by factors that come from `seed`. Each worker calls each of them once, and
-/// prints 1 behind a call where the sum that it then reads is not 0.
+/// The class `Load`: an object with two counters, and `size` synchronized methods that add to one
+/// what they take from the other, by factors that come from `seed`. Each worker calls each of them
+/// once, and prints 1 behind a call where the sum that it then reads is not 0.
 ///
 /// Time and memory are in proportion to `size`. Errors: where memory runs out.
 pub fn load_class(alloc: Global, size: u32, seed: u32) -> Result<ClassFile, AllocError>

@@ -44,7 +44,8 @@ const CODE: u16 = 12;
 
 /// A method without rows and further attributes.
 fn method(alloc: Global, head: Head, bytes: Bytes) -> Result<Member, AllocError>
-    ensures { IfOk result (λ it. it ≡ method head.flags head.name head.descriptor head.max_stack head.max_locals bytes) }
+    ensures { IfOk result (λ it.
+        it ≡ method head.flags head.name head.descriptor head.max_stack head.max_locals bytes) }
 {
     let code = Code {
         max_stack: head.max_stack,
@@ -66,7 +67,9 @@ fn method(alloc: Global, head: Head, bytes: Bytes) -> Result<Member, AllocError>
 
 /// The method with these bytes.
 fn method_of(alloc: Global, head: Head, bytes: &[u8]) -> Result<Member, AllocError>
-    ensures { IfOk result (λ it. it ≡ method head.flags head.name head.descriptor head.max_stack head.max_locals bytes.now) }
+    ensures { IfOk result (λ it.
+        it ≡ method head.flags head.name head.descriptor head.max_stack head.max_locals
+        bytes.now) }
 {
     let bytes = Bytes::from_slice(alloc, bytes)?;
     method(alloc, head, bytes)

@@ -1,5 +1,5 @@
-//! Tests of loading and of texts that use public calls alone. Each topic is a module. They stand here so that the
-//! crates below are not proved a second time for them.
+//! Tests of loading and of texts that use public calls alone. Each topic is a module. They stand
+//! here so that the crates below are not proved a second time for them.
 #![tactic(auto)]
 
 mod files;

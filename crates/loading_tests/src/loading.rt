@@ -17,7 +17,8 @@ use test_classes::{
     adds, below_exception, changed, constants, pair, peeks, tally, with_statics, work,
 };
 
-/// The line of the rule that refuses the files, with no workers or with one. It is empty where they are loaded.
+/// The line of the rule that refuses the files, with no workers or with one. It is empty where they
+/// are loaded.
 fn line_of(alloc: Global, files: &Rows<Bytes>, worker: bool) -> Result<String, AllocError>
     requires some { 0 < length files.now }
     requires few { length files.now ≤ 64 }

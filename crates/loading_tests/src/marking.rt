@@ -1,4 +1,5 @@
-//! The marks of the sections of compiled classes, by the rules M1 to M8 of the read-only sections of SOLERO (PLDI 2010).
+//! The marks of the sections of compiled classes, by the rules M1 to M8 of the read-only sections
+//! of SOLERO (PLDI 2010).
 
 ghost use Rattle.std.specs.Prelude.{◌<◌, ◌≤◌, length};
 
@@ -13,7 +14,8 @@ use std::process::Abort;
 use std::test::*;
 use test_classes::{calls, changed, marks, pair, stores_this};
 
-/// What `Marks` has: sections that their own instructions mark, blocks in a block, and blocks on another object.
+/// What `Marks` has: sections that their own instructions mark, blocks in a block, and blocks on
+/// another object.
 const OWN: &str = "\
     Marks.reads([I)I method M0\n\
     Marks.nests()I block 3 M0\n\
@@ -37,7 +39,8 @@ const OWN: &str = "\
     Marks.onKey()I block 6 M8\n\
     Marks.printsOnKey()I block 6 M8\n";
 
-/// What `Calls` has: sections that call methods on `this` and off it, some of which call themselves.
+/// What `Calls` has: sections that call methods on `this` and off it, some of which call
+/// themselves.
 const BY_CALLEES: &str = "\
     Calls.block()I block 3 M0\n\
     Calls.onThis()I method M0\n\

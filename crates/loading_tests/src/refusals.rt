@@ -1,6 +1,7 @@
 //! Changes of class files, each with the line of the rule that refuses what they make.
 
-/// Bytes that are changed, each at its place, and the line of the refusal. The line is empty where the class is loaded.
+/// Bytes that are changed, each at its place, and the line of the refusal. The line is empty where
+/// the class is loaded.
 pub struct Refusal {
     pub changes: &'static [(usize, u8)],
     pub line: &'static str,
@@ -255,7 +256,8 @@ pub const OTHER_SUPER: [Refusal; 1] = [Refusal {
     line: "refused L6 file 0 at 0",
 }];
 
-/// Methods whose locking is not structured: changes of the class that adds. Each begins with `aconst_null`.
+/// Methods whose locking is not structured: changes of the class that adds. Each begins with
+/// `aconst_null`.
 pub const UNTAGGED: [Refusal; 4] = [
     // null has no tag where it is entered
     Refusal {
@@ -287,7 +289,8 @@ pub const UNTAGGED: [Refusal; 4] = [
         ],
         line: "refused S2 file 0 method 0 at 1",
     },
-    // `dup, iconst_0, ifeq` to 8, `monitorenter, aconst_null`: at 8 one way has entered, the other has not
+    // `dup, iconst_0, ifeq` to 8, `monitorenter, aconst_null`: at 8 one way has entered, the other
+    // has not
     Refusal {
         changes: &[
             (207, 1),

@@ -8,7 +8,8 @@ use std::process::Abort;
 use std::test::*;
 use test_classes::{changed, marks, pair};
 
-/// The tag of the innermost monitor before an instruction; `None` where none is held, or the instruction is not reached.
+/// The tag of the innermost monitor before an instruction; `None` where none is held, or the
+/// instruction is not reached.
 fn innermost(program: &Checked, method: usize, insn: usize) -> Option<Tag> {
     match program.tags().get(method) {
         Some(tags) => match tags.frames.get(insn) {

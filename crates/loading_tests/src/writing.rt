@@ -1,4 +1,5 @@
-//! Classes that are built and written, and one that a Java compiler wrote, which is read and written back.
+//! Classes that are built and written, and one that a Java compiler wrote, which is read and
+//! written back.
 
 use class_reader::read_class;
 use class_writer::{BuildError, Builder, WriteError, new_builder, write_class};

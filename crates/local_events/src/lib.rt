@@ -1,4 +1,5 @@
-//! Events of one thread, one after the other, none of which wants an access to the words that threads share.
+//! Events of one thread, one after the other, none of which wants an access to the words that
+//! threads share.
 #![tactic(auto)]
 
 ghost use Rattle.local_events.specs.Locals.{FollowsItself, FollowsOn};

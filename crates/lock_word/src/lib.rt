@@ -1,7 +1,7 @@
-//! The lock word of an object, in 64 bits. Free and held flat locks, fat locks and the count are those of the PLDI 2010
-//! publication; the widths are the machine's own. The low two bits are 00 of a free lock, 01 of a fat one, 10 of one that a
-//! thread holds, and 11 of one that is flagged too. The bits above are the count, the record's number, or the thread's
-//! number and 1.
+//! The lock word of an object, in 64 bits. Free and held flat locks, fat locks and the count are
+//! those of the PLDI 2010 publication; the widths are the machine's own. The low two bits are 00 of
+//! a free lock, 01 of a fat one, 10 of one that a thread holds, and 11 of one that is flagged too.
+//! The bits above are the count, the record's number, or the thread's number and 1.
 #![tactic(auto)]
 
 ghost use Rattle.std.specs.Prelude.{◌≡◌, true};
@@ -12,7 +12,8 @@ use jvm_types::fixed_words::MONITOR_RECORDS;
 use jvm_types::limits::MOST_WORKERS;
 pub use machine_types::LockWord;
 
-/// Whether a word is a lock word: that of a free lock, of one of the 1,024 records, or of one of at most 9 threads.
+/// Whether a word is a lock word: that of a free lock, of one of the 1,024 records, or of one of at
+/// most 9 threads.
 #[inline(always)]
 pub fn is_lock_word(word: u64) -> bool
     ensures { result ≡ is_lock_word word }

@@ -1,5 +1,5 @@
-//! Worked runs of the machine, with what each comes to (`specs/WorkedRuns.antt`). `proofs/` plays each by computing with the
-//! definitions alone, with the plain machine beside it.
+//! Worked runs of the machine, with what each comes to (`specs/WorkedRuns.antt`). `proofs/` plays
+//! each by computing with the definitions alone, with the plain machine beside it.
 #![tactic(auto)]
 
 ghost use Rattle.machine_plays.specs.Occurring.{AllInstructionsOccur, AllPhasesOccur};

@@ -1,5 +1,5 @@
-//! Tests of the calls that the machine stands on, above the crates that have them. Each topic is a module. They stand here
-//! so that the crates below are not proved a second time for them.
+//! Tests of the calls that the machine stands on, above the crates that have them. Each topic is a
+//! module. They stand here so that the crates below are not proved a second time for them.
 #![tactic(auto)]
 
 mod programs;

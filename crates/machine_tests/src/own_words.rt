@@ -32,7 +32,8 @@ const SETTINGS: Config = Config {
     range: 4,
 };
 
-/// The bytes by which `init` calls `n` on its new object, in place of keeping that in a field, and `n` notifies.
+/// The bytes by which `init` calls `n` on its new object, in place of keeping that in a field, and
+/// `n` notifies.
 const NOTIFIES: [(usize, u8); 2] = [(374, 0xb6), (376, 0x26)];
 
 /// The same, but that `n` waits.
@@ -190,7 +191,8 @@ fn go_to(rt: &impl Abort, s: &mut ThreadState, p: &Checked, words: &mut Rows<u64
     assert_eq!(rt; s.phase(), phase);
 }
 
-/// How many instructions the thread has begun, how often it has taken a lock, and how often made one fat.
+/// How many instructions the thread has begun, how often it has taken a lock, and how often made
+/// one fat.
 fn check_counts(rt: &impl Abort, s: &ThreadState, instructions: u32, locked: u32, inflated: u32) {
     let counts = s.counts();
     assert_eq!(rt; counts.instructions, instructions);

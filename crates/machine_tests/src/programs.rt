@@ -8,7 +8,9 @@ use std::alloc::{AllocError, Global};
 
 /// A program of one class without members.
 fn one_class(alloc: Global) -> Result<Program, AllocError>
-    ensures { IfOk result (λ p. p ≡ record { names = codes "A" ∷ []; fields = []; methods = []; heap = 4096; workers = 0 }) }
+    ensures { IfOk result (λ p.
+        p ≡ record
+        { names = codes "A" ∷ []; fields = []; methods = []; heap = 4096; workers = 0 }) }
 {
     let mut names = Rows::new(alloc);
     names.push(Rows::from_slice(alloc, b"A")?)?;

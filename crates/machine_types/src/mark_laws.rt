@@ -7,7 +7,8 @@ pub fn frozen_classes_are_told()
     ensures { HasFrozenTest }
 {}
 
-/// A section that the machine takes as marked has the mark 0: no rule forbids that it runs without its lock.
+/// A section that the machine takes as marked has the mark 0: no rule forbids that it runs without
+/// its lock.
 pub fn marked_has_mark()
     ensures { MarkedHasMark }
 {}

@@ -1,6 +1,9 @@
 //! Laws of the facts at the start of a run, each the contract of a function that does nothing.
 
-ghost use Rattle.machine_types.specs.StartLaws.{StartAgrees, StartHasFacts, StartHasThreads, StartIsStructured, StartIsTyped, StartIsUnused, StartKeeps, StartLiesApart, StartOwesNothing, StartOwns, StartStandsBeside, StartWaits};
+ghost use Rattle.machine_types.specs.StartLaws.{StartAgrees, StartHasFacts, StartHasThreads};
+ghost use Rattle.machine_types.specs.StartLaws.{StartIsStructured, StartIsTyped, StartIsUnused};
+ghost use Rattle.machine_types.specs.StartLaws.{StartKeeps, StartLiesApart, StartOwesNothing};
+ghost use Rattle.machine_types.specs.StartLaws.{StartOwns, StartStandsBeside, StartWaits};
 
 /// Each thread has its number and settings, and the roots of its part.
 pub fn start_has_threads()
@@ -37,7 +40,8 @@ pub fn start_owns()
     ensures { StartOwns }
 {}
 
-/// In a linked program no place belongs to two objects or static fields, and each static field has its place.
+/// In a linked program no place belongs to two objects or static fields, and each static field has
+/// its place.
 pub fn start_lies_apart()
     ensures { StartLiesApart }
 {}

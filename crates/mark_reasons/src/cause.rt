@@ -1,15 +1,19 @@
 //! What keeps a section from a place that it reads (M5).
 
-ghost use Rattle.std.specs.Prelude.{◌≡◌, ◌<◌, ◌≤◌, Bool, false, Some, length, slice_get, slice_index_or, IfOk};
+ghost use Rattle.std.specs.Prelude.{◌≡◌, ◌<◌, ◌≤◌, Bool, false, Some, length, slice_get};
+ghost use Rattle.std.specs.Prelude.{slice_index_or, IfOk};
 ghost use Rattle.jvm_types.specs.ProgramInvariant.{IsProgram};
 ghost use Rattle.jvm_types.specs.Members.{is_static};
 ghost use Rattle.jvm_types.specs.declared.limits.TheConstants.{MOST_INSTRUCTIONS as most};
-ghost use Rattle.checked_program.specs.FrozenPlaces.{AreUses, IsFrozenClass, IsFrozenField, IsGuardedField};
+ghost use Rattle.checked_program.specs.FrozenPlaces.{AreUses, IsFrozenClass, IsFrozenField};
+ghost use Rattle.checked_program.specs.FrozenPlaces.{IsGuardedField};
 ghost use Rattle.checked_program.specs.MarkedProgram.{AreTaggings};
 ghost use Rattle.checked_program.specs.Marks.{use_fault, BreaksAt};
 ghost use Rattle.checked_program.specs.TaggedCode.{tagged_by};
 ghost use Rattle.checked_program.specs.declared.section.FieldUse.TheVariants.{Open as open_use};
-ghost use Rattle.mark_reasons.specs.Causes.{is_number, place_at, place_read, site_place, writes_at, Bars, IsCause, IsFirstWriteOf, IsWriteFound, KeepsField};
+ghost use Rattle.mark_reasons.specs.Causes.{is_number, place_at, place_read, site_place, writes_at};
+ghost use Rattle.mark_reasons.specs.Causes.{Bars, IsCause, IsFirstWriteOf, IsWriteFound};
+ghost use Rattle.mark_reasons.specs.Causes.{KeepsField};
 ghost use Rattle.mark_reasons.specs.Reasons.{callee_of};
 ghost use Rattle.mark_reasons.specs.Firsts.{IsFirst};
 
@@ -35,7 +39,8 @@ pub enum Cause {
     Other,
     /// The `<init>` of that number, of the field's class, lets its object out.
     Constructor(u32),
-    /// An instruction of a method writes the field on another object than `this`, or without its lock.
+    /// An instruction of a method writes the field on another object than `this`, or without its
+    /// lock.
     Write { method: u32, at: usize },
 }
 
@@ -122,7 +127,8 @@ fn first_write_at(m: &MethodInfo, t: &Tags, field: u32) -> Option<usize>
 
 /// The same of the method of a number.
 fn first_write_in(p: &Program, tags: &Rows<Tags>, method: usize, field: u32) -> Option<usize>
-    ensures { IsFirstWriteOf field (slice_get p.now.methods method) (slice_get tags.now method) result }
+    ensures { IsFirstWriteOf field (slice_get p.now.methods method) (slice_get tags.now method)
+        result }
 {
     match p.methods.get(method) {
         Some(m) => match tags.get(method) {
@@ -152,7 +158,8 @@ fn first_write(p: &Program, tags: &Rows<Tags>, field: u32) -> Option<Cause>
 
 // ---- fields
 
-/// What keeps an instance field of a frozen class from being read that is neither frozen nor guarded.
+/// What keeps an instance field of a frozen class from being read that is neither frozen nor
+/// guarded.
 fn loose_cause(p: &Program, tags: &Rows<Tags>, field: u32, info: &FieldInfo) -> Cause
     requires program { IsProgram p.now }
     requires few { length p.now.methods ≤ most }
@@ -212,7 +219,9 @@ fn field_cause(
     requires tagged { AreTaggings p.now p.now.methods tags.now }
     requires uses { AreUses p.now (tagged_by tags.now) uses.now }
     requires there { field < length p.now.fields }
-    ensures { IfOk result (λ cause. (own : Bool) → use_fault (slice_index_or uses.now field open_use) own ≡ 5 → KeepsField p.now (tagged_by tags.now) field own cause) }
+    ensures { IfOk result (λ cause.
+        (own : Bool) → use_fault (slice_index_or uses.now field open_use) own ≡ 5
+        → KeepsField p.now (tagged_by tags.now) field own cause) }
 {
     match use_of(uses, field) {
         FieldUse::Open => open_cause(alloc, p, tags, field),

@@ -7,12 +7,14 @@ ghost use Rattle.jvm_types.specs.declared.limits.TheConstants.{MOST_INSTRUCTIONS
 ghost use Rattle.checked_program.specs.FrozenPlaces.{AreUses};
 ghost use Rattle.checked_program.specs.MarkedProgram.{AreTaggings};
 ghost use Rattle.checked_program.specs.TaggedCode.{tagged_by};
-ghost use Rattle.checked_program.specs.Marks.{BreaksAt, CalleeBreaks, CalleeRecurs, HasMark, OwnBreaks};
+ghost use Rattle.checked_program.specs.Marks.{BreaksAt, CalleeBreaks, CalleeRecurs, HasMark};
+ghost use Rattle.checked_program.specs.Marks.{OwnBreaks};
 ghost use Rattle.graph_closure.specs.Walks.{AreRecurring};
 ghost use Rattle.guard_analysis.specs.CallGraph.{call_graph};
 ghost use Rattle.mark_reasons.specs.Firsts.{IsFirst};
 ghost use Rattle.mark_reasons.specs.OwnFlags.{AreOwn};
-ghost use Rattle.mark_reasons.specs.Reasons.{callee_of, marked_section, AreMarked, AreReasons, HasCause, IsExplained, IsReason};
+ghost use Rattle.mark_reasons.specs.Reasons.{callee_of, marked_section, AreMarked, AreReasons};
+ghost use Rattle.mark_reasons.specs.Reasons.{HasCause, IsExplained, IsReason};
 ghost use Rattle.mark_reasons.specs.Searches.{own_breaks, own_call, turns};
 
 use crate::cause::{Cause, cause_of};
@@ -55,7 +57,8 @@ fn first_own(
     own: &[bool],
     rule: u8,
 ) -> Option<usize>
-    ensures { IsFirst (λ i. own_breaks p.now uses.now m.now t.now own.now rule i) (length m.now.code) result }
+    ensures { IsFirst (λ i. own_breaks p.now uses.now m.now t.now own.now rule i)
+        (length m.now.code) result }
 {
     for i in 0..m.code.len() {
         if own_breaks(p, uses, m, t, own, rule, i) {
@@ -74,7 +77,8 @@ fn first_own_turn(
     own: &[bool],
 ) -> Option<usize>
     requires { length p.now.methods ≤ most }
-    ensures { IsFirst (λ i. turns recurs.now (own_call p.now m.now t.now.frames own.now i)) (length m.now.code) result }
+    ensures { IsFirst (λ i. turns recurs.now (own_call p.now m.now t.now.frames own.now i))
+        (length m.now.code) result }
 {
     for i in 0..m.code.len() {
         if turns(recurs, own_call(p, m, t, own, i)) {
@@ -84,7 +88,8 @@ fn first_own_turn(
     None
 }
 
-/// What keeps the place from being read that an instruction reads, if it is M5 that the instruction breaks.
+/// What keeps the place from being read that an instruction reads, if it is M5 that the instruction
+/// breaks.
 fn cause_if(
     alloc: Global,
     p: &Program,
@@ -125,8 +130,10 @@ fn own_reason(
     requires there { slice_get p.now.methods mark.method ≡ Some m.now }
     requires tagged { slice_get tags.now mark.method ≡ Some t.now }
     requires own { AreOwn p.now (tagged_by tags.now) mark.method mark.spot own.now }
-    requires breaks { OwnBreaks p.now (tagged_by tags.now) uses.now (marked_section mark) mark.mark }
-    ensures { IfOk result (IsReason p.now (tagged_by tags.now) uses.now (marked_section mark) mark.mark) }
+    requires breaks { OwnBreaks p.now (tagged_by tags.now) uses.now (marked_section mark)
+        mark.mark }
+    ensures { IfOk result
+        (IsReason p.now (tagged_by tags.now) uses.now (marked_section mark) mark.mark) }
 {
     let Some(at) = first_own(p, uses, m, t, own, mark.mark) else {
         unreachable!()
@@ -192,7 +199,8 @@ fn recurring_reason(
 ) -> Result<Reason, AllocError>
     requires program { IsProgram p.now }
     requires few { length p.now.methods ≤ most }
-    requires recurs { AreRecurring (call_graph p.now tags.now).from (call_graph p.now tags.now).to (2 * length p.now.methods) recurs.now }
+    requires recurs { AreRecurring (call_graph p.now tags.now).from (call_graph p.now tags.now).to
+        (2 * length p.now.methods) recurs.now }
     requires there { slice_get p.now.methods mark.method ≡ Some m.now }
     requires tagged { slice_get tags.now mark.method ≡ Some t.now }
     requires own { AreOwn p.now (tagged_by tags.now) mark.method mark.spot own.now }
@@ -227,13 +235,15 @@ fn rule_reason(
     requires taggings { AreTaggings p.now p.now.methods tags.now }
     requires uses { AreUses p.now (tagged_by tags.now) uses.now }
     requires few { length p.now.methods ≤ most }
-    requires recurs { AreRecurring (call_graph p.now tags.now).from (call_graph p.now tags.now).to (2 * length p.now.methods) recurs.now }
+    requires recurs { AreRecurring (call_graph p.now tags.now).from (call_graph p.now tags.now).to
+        (2 * length p.now.methods) recurs.now }
     requires there { slice_get p.now.methods mark.method ≡ Some m.now }
     requires tagged { slice_get tags.now mark.method ≡ Some t.now }
     requires some { 0 < mark.mark }
     requires low { mark.mark < 8 }
     requires marked { HasMark p.now (tagged_by tags.now) uses.now (marked_section mark) mark.mark }
-    ensures { IfOk result (IsReason p.now (tagged_by tags.now) uses.now (marked_section mark) mark.mark) }
+    ensures { IfOk result
+        (IsReason p.now (tagged_by tags.now) uses.now (marked_section mark) mark.mark) }
 {
     let Some(own) = own_flags(alloc, p, tags, mark.method, m, t, mark.spot)? else {
         unreachable!()
@@ -260,7 +270,8 @@ fn reason_of(
     requires few { length p.now.methods ≤ most }
     requires taggings { AreTaggings p.now p.now.methods tags.now }
     requires uses { AreUses p.now (tagged_by tags.now) uses.now }
-    requires recurs { AreRecurring (call_graph p.now tags.now).from (call_graph p.now tags.now).to (2 * length p.now.methods) recurs.now }
+    requires recurs { AreRecurring (call_graph p.now tags.now).from (call_graph p.now tags.now).to
+        (2 * length p.now.methods) recurs.now }
     requires marked { HasMark p.now (tagged_by tags.now) uses.now (marked_section mark) mark.mark }
     ensures { IfOk result (IsExplained p.now (tagged_by tags.now) uses.now mark) }
 {
@@ -295,7 +306,8 @@ fn reasons_of(
     requires few { length p.now.methods ≤ most }
     requires taggings { AreTaggings p.now p.now.methods tags.now }
     requires uses { AreUses p.now (tagged_by tags.now) uses.now }
-    requires recurs { AreRecurring (call_graph p.now tags.now).from (call_graph p.now tags.now).to (2 * length p.now.methods) recurs.now }
+    requires recurs { AreRecurring (call_graph p.now tags.now).from (call_graph p.now tags.now).to
+        (2 * length p.now.methods) recurs.now }
     requires marked { AreMarked p.now (tagged_by tags.now) uses.now marks.now }
     ensures { IfOk result (AllZip (IsExplained p.now (tagged_by tags.now) uses.now) marks.now) }
 {
@@ -310,7 +322,9 @@ fn reasons_of(
 fn recurring_nodes(alloc: Global, p: &Program, tags: &Rows<Tags>) -> Result<Vec<bool>, AllocError>
     requires program { IsProgram p.now }
     requires few { length p.now.methods ≤ most }
-    ensures { IfOk result (λ v. AreRecurring (call_graph p.now tags.now).from (call_graph p.now tags.now).to (2 * length p.now.methods) v.items) }
+    ensures { IfOk result (λ v.
+        AreRecurring (call_graph p.now tags.now).from (call_graph p.now tags.now).to
+        (2 * length p.now.methods) v.items) }
 {
     let graph = call_graph(alloc, p, tags)?;
     recurring(

@@ -1,4 +1,5 @@
-//! Why a section runs with its lock: the instruction that breaks the rule of its mark, and the calls that lead there.
+//! Why a section runs with its lock: the instruction that breaks the rule of its mark, and the
+//! calls that lead there.
 #![tactic(auto)]
 
 pub mod cause;

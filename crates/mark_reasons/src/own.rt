@@ -4,7 +4,8 @@ ghost use Rattle.std.specs.Prelude.{◌≡◌, Some, [], length, slice_get, IfOk
 ghost use Rattle.jvm_types.specs.ProgramInvariant.{IsProgram};
 ghost use Rattle.jvm_types.specs.Verifying.{IsLaidOut};
 ghost use Rattle.checked_program.specs.TaggedCode.{tagged_by};
-ghost use Rattle.mark_reasons.specs.OwnFlags.{flag_set, flagged, is_reached, reached_before, IsBlockAnswer, IsFlagged, OwnOrElsewhere};
+ghost use Rattle.mark_reasons.specs.OwnFlags.{flag_set, flagged, is_reached, reached_before};
+ghost use Rattle.mark_reasons.specs.OwnFlags.{IsBlockAnswer, IsFlagged, OwnOrElsewhere};
 
 use checked_program::{Spot, Tags};
 use code_table::IndexedMethod;
@@ -66,7 +67,8 @@ fn flagged(alloc: Global, own: &[usize], len: usize) -> Result<Rows<bool>, Alloc
     Ok(flags)
 }
 
-/// The own instructions of the block whose `monitorenter` has this number and stands where so many monitors are held.
+/// The own instructions of the block whose `monitorenter` has this number and stands where so many
+/// monitors are held.
 fn inside(
     alloc: Global,
     m: &IndexedMethod<'_>,
@@ -103,8 +105,8 @@ fn block_at(
     }
 }
 
-/// Of each instruction of a method, whether it is an own one of its section that begins at a spot; `None` where that is no
-/// section on this.
+/// Of each instruction of a method, whether it is an own one of its section that begins at a spot;
+/// `None` where that is no section on this.
 pub fn own_flags(
     alloc: Global,
     p: &Program,

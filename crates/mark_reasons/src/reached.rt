@@ -5,7 +5,8 @@ ghost use Rattle.std.specs.Option.{option_copied};
 ghost use Rattle.jvm_types.specs.ProgramInvariant.{IsProgram};
 ghost use Rattle.checked_program.specs.TaggedCode.{tagged_by};
 ghost use Rattle.mark_reasons.specs.Firsts.{IsFirst};
-ghost use Rattle.mark_reasons.specs.ReachedSpots.{begins_at, block_begins, is_monitorenter, IsFirstBegin, TellsReached};
+ghost use Rattle.mark_reasons.specs.ReachedSpots.{begins_at, block_begins, is_monitorenter};
+ghost use Rattle.mark_reasons.specs.ReachedSpots.{IsFirstBegin, TellsReached};
 
 use crate::own::is_reached;
 use checked_program::{Spot, Tags};
@@ -61,7 +62,8 @@ fn begin_in(p: &Program, tags: &Rows<Tags>, method: u32, pc: u32) -> Option<usiz
     }
 }
 
-/// Whether some path reaches the `monitorenter` of a block; a method's own section begins with its frame.
+/// Whether some path reaches the `monitorenter` of a block; a method's own section begins with its
+/// frame.
 pub fn is_spot_reached(p: &Program, tags: &Rows<Tags>, method: u32, spot: Spot) -> bool
     requires program { IsProgram p.now }
     ensures { TellsReached p.now (tagged_by tags.now) method spot result }

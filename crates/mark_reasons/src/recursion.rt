@@ -1,6 +1,7 @@
 //! The walk from a section to a method that calls itself.
 
-ghost use Rattle.std.specs.Prelude.{◌≡◌, ◌<◌, ◌≤◌, ◌*◌, ◌/◌, Some, true, false, length, map, slice_get, slice_index, slice_index_or, replicate, IfOk};
+ghost use Rattle.std.specs.Prelude.{◌≡◌, ◌<◌, ◌≤◌, ◌*◌, ◌/◌, Some, true, false, length, map};
+ghost use Rattle.std.specs.Prelude.{slice_get, slice_index, slice_index_or, replicate, IfOk};
 ghost use Rattle.jvm_types.specs.ProgramInvariant.{IsProgram};
 ghost use Rattle.jvm_types.specs.declared.limits.TheConstants.{MOST_INSTRUCTIONS as most};
 ghost use Rattle.checked_program.specs.TaggedCode.{tagged_by};
@@ -41,7 +42,8 @@ pub fn turns(recurs: &[bool], called: Option<u32>) -> bool
 /// The first instruction of a method, called so, that calls a node which leads to a cycle.
 fn first_turn(p: &Program, recurs: &[bool], m: &MethodInfo, t: &Tags, mode: Mode) -> Option<usize>
     requires { length p.now.methods ≤ most }
-    ensures { IsFirst (λ i. turns recurs.now (node_call p.now (Some m.now) (Some t.now) mode i)) (length m.now.code) result }
+    ensures { IsFirst (λ i. turns recurs.now (node_call p.now (Some m.now) (Some t.now) mode i))
+        (length m.now.code) result }
 {
     for i in 0..m.code.len() {
         if turns(recurs, call_at(p, mode, m, t, i)) {
@@ -54,7 +56,8 @@ fn first_turn(p: &Program, recurs: &[bool], m: &MethodInfo, t: &Tags, mode: Mode
 /// The same of the method of a node.
 fn node_turn(p: &Program, recurs: &[bool], tags: &Rows<Tags>, node: u32) -> Option<usize>
     requires { length p.now.methods ≤ most }
-    ensures { IsFirstTurn p.now recurs.now (slice_get p.now.methods (node / 2)) (slice_get tags.now (node / 2)) (mode_at node) result }
+    ensures { IsFirstTurn p.now recurs.now (slice_get p.now.methods (node / 2))
+        (slice_get tags.now (node / 2)) (mode_at node) result }
 {
     let place = node as usize / 2;
     match p.methods.get(place) {
@@ -69,7 +72,8 @@ fn node_turn(p: &Program, recurs: &[bool], tags: &Rows<Tags>, node: u32) -> Opti
 /// What the instruction of a number calls in the method of a node.
 fn called_at(p: &Program, tags: &Rows<Tags>, node: u32, i: usize) -> Option<u32>
     requires { length p.now.methods ≤ most }
-    ensures { result ≡ node_call p.now (slice_get p.now.methods (node / 2)) (slice_get tags.now (node / 2)) (mode_at node) i }
+    ensures { result ≡ node_call p.now (slice_get p.now.methods (node / 2))
+        (slice_get tags.now (node / 2)) (mode_at node) i }
 {
     let place = node as usize / 2;
     match p.methods.get(place) {
@@ -97,8 +101,8 @@ fn place_of(places: &Rows<usize>, node: u32) -> usize
     }
 }
 
-/// The way from an own instruction of the section of a mark, which calls a node that leads to a cycle, on along the first
-/// such calls, until it comes back to a method.
+/// The way from an own instruction of the section of a mark, which calls a node that leads to a
+/// cycle, on along the first such calls, until it comes back to a method.
 pub fn come_back(
     alloc: Global,
     p: &Program,
@@ -110,12 +114,15 @@ pub fn come_back(
 ) -> Result<Round, AllocError>
     requires program { IsProgram p.now }
     requires few { length p.now.methods ≤ most }
-    requires recurs { AreRecurring (call_graph p.now tags.now).from (call_graph p.now tags.now).to (2 * length p.now.methods) recurs.now }
+    requires recurs { AreRecurring (call_graph p.now tags.now).from (call_graph p.now tags.now).to
+        (2 * length p.now.methods) recurs.now }
     requires own { IsOwn p.now (tagged_by tags.now) mark.method mark.spot at }
-    requires calls { Calls p.now (tagged_by tags.now) (own_callee (marked_section mark)) at (callee_at first) }
+    requires calls { Calls p.now (tagged_by tags.now) (own_callee (marked_section mark)) at
+        (callee_at first) }
     requires inside { first < 2 * length p.now.methods }
     requires flagged { slice_index_or recurs.now first false ≡ true }
-    ensures { IfOk result (λ round. ComesBack p.now (tagged_by tags.now) (marked_section mark) round.way round.again) }
+    ensures { IfOk result (λ round.
+        ComesBack p.now (tagged_by tags.now) (marked_section mark) round.way round.again) }
 {
     let mut places = no_places(alloc, 2 * p.methods.len())?;
     let mut way = Rows::new(alloc);

@@ -1,6 +1,7 @@
 //! The search through what a section calls.
 
-ghost use Rattle.std.specs.Prelude.{◌≡◌, ◌<◌, ◌≤◌, ◌/◌, Some, false, [], length, nat_lt, replicate, slice_get, OnOk, IfOk};
+ghost use Rattle.std.specs.Prelude.{◌≡◌, ◌<◌, ◌≤◌, ◌/◌, Some, false, [], length, nat_lt, replicate};
+ghost use Rattle.std.specs.Prelude.{slice_get, OnOk, IfOk};
 ghost use Rattle.jvm_types.specs.declared.limits.TheConstants.{MOST_INSTRUCTIONS as most};
 ghost use Rattle.jvm_types.specs.ProgramInvariant.{IsProgram};
 ghost use Rattle.checked_program.specs.TaggedCode.{tagged_by};
@@ -8,7 +9,10 @@ ghost use Rattle.guard_analysis.specs.CallGraph.{mode_at};
 ghost use Rattle.mark_reasons.specs.Firsts.{IsFirst};
 ghost use Rattle.mark_reasons.specs.OwnFlags.{AreOwn};
 ghost use Rattle.mark_reasons.specs.Reasons.{marked_section};
-ghost use Rattle.mark_reasons.specs.Searches.{node_call, node_fault as rule_at, node_visits, own_call, site_at, search_visited, visits, AreCalledBefore, IsBack, IsFaultFound, IsFirstFaultOf};
+ghost use Rattle.mark_reasons.specs.Searches.{node_call, node_fault as rule_at, node_visits};
+ghost use Rattle.mark_reasons.specs.Searches.{own_call, site_at, search_visited, visits};
+ghost use Rattle.mark_reasons.specs.Searches.{AreCalledBefore, IsBack, IsFaultFound};
+ghost use Rattle.mark_reasons.specs.Searches.{IsFirstFaultOf};
 
 use crate::reason::Site;
 use checked_program::{FieldUse, Mode, SectionMark, Tags};
@@ -19,8 +23,9 @@ use guard_analysis::flag_at;
 use jvm_types::{MethodInfo, Program, Rows};
 use std::alloc::{AllocError, Global};
 
-/// A node of the graph of calls that the search came to: by an instruction of the method of the entry before it that
-/// `caller` numbers from 1, or by an own instruction of the section where it is 0.
+/// A node of the graph of calls that the search came to: by an instruction of the method of the
+/// entry before it that `caller` numbers from 1, or by an own instruction of the section where it
+/// is 0.
 #[derive(Clone, Copy, Debug, PartialEq, Eq)]
 pub struct Entry {
     pub node: u32,
@@ -28,7 +33,8 @@ pub struct Entry {
     pub at: usize,
 }
 
-/// The nodes that were found, in the order in which they were, and of each node whether it is among them.
+/// The nodes that were found, in the order in which they were, and of each node whether it is among
+/// them.
 #[derive(Debug, Drop)]
 pub struct Search {
     pub seen: Rows<bool>,
@@ -70,7 +76,8 @@ fn visit_calls(
     caller: usize,
 ) -> Result<(), AllocError>
     requires { length p.now.methods ≤ most }
-    ensures { OnOk result (search.new ≡ visits (node_call p.now (Some m.now) (Some t.now) mode) search.old caller (length m.now.code)) }
+    ensures { OnOk result (search.new ≡ visits (node_call p.now (Some m.now) (Some t.now) mode)
+        search.old caller (length m.now.code)) }
 {
     for i in 0..m.code.len() {
         visit(search, call_at(p, mode, m, t, i), caller, i)?;
@@ -87,7 +94,8 @@ fn visit_node(
     caller: usize,
 ) -> Result<(), AllocError>
     requires { length p.now.methods ≤ most }
-    ensures { OnOk result (search.new ≡ node_visits p.now (slice_get p.now.methods (node / 2)) (slice_get tags.now (node / 2)) (mode_at node) search.old caller) }
+    ensures { OnOk result (search.new ≡ node_visits p.now (slice_get p.now.methods (node / 2))
+        (slice_get tags.now (node / 2)) (mode_at node) search.old caller) }
 {
     let place = node as usize / 2;
     match p.methods.get(place) {
@@ -120,7 +128,8 @@ fn visit_own(
     own: &[bool],
 ) -> Result<(), AllocError>
     requires { length p.now.methods ≤ most }
-    ensures { OnOk result (search.new ≡ visits (own_call p.now m.now t.now.frames own.now) search.old 0 (length m.now.code)) }
+    ensures { OnOk result (search.new
+        ≡ visits (own_call p.now m.now t.now.frames own.now) search.old 0 (length m.now.code)) }
 {
     for i in 0..m.code.len() {
         visit(search, own_call(p, m, t, own, i), 0, i)?;
@@ -136,7 +145,8 @@ fn first_fault(
     t: &Tags,
     mode: Mode,
 ) -> Option<usize>
-    ensures { IsFirst (λ i. nat_lt 0 (rule_at p.now uses.now (Some m.now) (Some t.now) mode i)) (length m.now.code) result }
+    ensures { IsFirst (λ i. nat_lt 0 (rule_at p.now uses.now (Some m.now) (Some t.now) mode i))
+        (length m.now.code) result }
 {
     for i in 0..m.code.len() {
         if fault_at(p, uses, mode, m, t, i) > 0 {
@@ -148,7 +158,8 @@ fn first_fault(
 
 /// The same of the method of a node.
 fn node_fault(p: &Program, uses: &Rows<FieldUse>, tags: &Rows<Tags>, node: u32) -> Option<usize>
-    ensures { IsFirstFaultOf p.now uses.now (slice_get p.now.methods (node / 2)) (slice_get tags.now (node / 2)) (mode_at node) result }
+    ensures { IsFirstFaultOf p.now uses.now (slice_get p.now.methods (node / 2))
+        (slice_get tags.now (node / 2)) (mode_at node) result }
 {
     let place = node as usize / 2;
     match p.methods.get(place) {
@@ -181,7 +192,8 @@ pub fn site_at(node: u32, at: usize) -> Site
     }
 }
 
-/// The instructions by which the search came to an entry, from an own one of the section on, whose method is given.
+/// The instructions by which the search came to an entry, from an own one of the section on, whose
+/// method is given.
 fn way_to(
     alloc: Global,
     queue: &Rows<Entry>,
@@ -229,7 +241,8 @@ pub struct Fault {
 
 /// The rule that an instruction of the method of a node breaks; 0 for none.
 fn rule_at(p: &Program, uses: &Rows<FieldUse>, tags: &Rows<Tags>, node: u32, at: usize) -> u8
-    ensures { result ≡ rule_at p.now uses.now (slice_get p.now.methods (node / 2)) (slice_get tags.now (node / 2)) (mode_at node) at }
+    ensures { result ≡ rule_at p.now uses.now (slice_get p.now.methods (node / 2))
+        (slice_get tags.now (node / 2)) (mode_at node) at }
 {
     let place = node as usize / 2;
     match p.methods.get(place) {
@@ -241,9 +254,9 @@ fn rule_at(p: &Program, uses: &Rows<FieldUse>, tags: &Rows<Tags>, node: u32, at:
     }
 }
 
-/// The nearest method that a section calls which breaks a rule, with its first instruction that does, and the calls that
-/// lead there: the methods that are called by fewest calls first, and of these in the order of the calls. `own` tells the
-/// own instructions of the section.
+/// The nearest method that a section calls which breaks a rule, with its first instruction that
+/// does, and the calls that lead there: the methods that are called by fewest calls first, and of
+/// these in the order of the calls. `own` tells the own instructions of the section.
 pub fn find_fault(
     alloc: Global,
     p: &Program,

@@ -2,7 +2,11 @@
 
 ghost use Rattle.std.specs.Prelude.{◌≡◌, ◌++◌, length, slice_get, OnOk, IfOk};
 ghost use Rattle.std.specs.Option.{option_copied};
-ghost use Rattle.mark_reasons.specs.ReasonTexts.{again_line, call_line, cause_line, cause_words, explained_text, fault_line, insn_place, insn_text, numbered, reason_lines, rule_words, section_lines, site_text, some_reason_lines, way_lines, IsMarksExplained};
+ghost use Rattle.mark_reasons.specs.ReasonTexts.{again_line, call_line, cause_line, cause_words};
+ghost use Rattle.mark_reasons.specs.ReasonTexts.{explained_text, fault_line, insn_place, insn_text};
+ghost use Rattle.mark_reasons.specs.ReasonTexts.{numbered, reason_lines, rule_words, section_lines};
+ghost use Rattle.mark_reasons.specs.ReasonTexts.{site_text, some_reason_lines, way_lines};
+ghost use Rattle.mark_reasons.specs.ReasonTexts.{IsMarksExplained};
 
 use crate::cause::Cause;
 use crate::explain::reasons;
@@ -37,7 +41,8 @@ fn numbered(p: &Program, method: u32, at: usize) -> Option<&Insn>
 }
 
 fn write_insn(text: &mut Vec<u8>, alloc: Global, insn: Option<&Insn>) -> Result<(), AllocError>
-    ensures { OnOk result (text.new.items ≡ text.old.items ++ insn_place (option_copied insn.entry)) }
+    ensures { OnOk result
+        (text.new.items ≡ text.old.items ++ insn_place (option_copied insn.entry)) }
 {
     match insn {
         Some(there) => write_pc(text, alloc, there.pc, Some(there)),
@@ -144,7 +149,8 @@ fn write_cause(
 }
 
 fn write_again(text: &mut Vec<u8>, p: &Program, site: Option<&Site>) -> Result<(), AllocError>
-    ensures { OnOk result (text.new.items ≡ text.old.items ++ again_line p.now (option_copied site.entry)) }
+    ensures { OnOk result
+        (text.new.items ≡ text.old.items ++ again_line p.now (option_copied site.entry)) }
 {
     match site {
         Some(x) => {
@@ -233,10 +239,11 @@ fn lines(
     Ok(text)
 }
 
-/// The marks of a program with their reasons: for each section its line as `run_texts::mark_text` has it, and where the mark
-/// isn't M0 the calls that lead to what breaks its rule, a line `  CLASS.NAMEDESCRIPTOR at PC MNEMONIC calls` for each of
-/// them, and then the instruction with the rule that it breaks, and for M5 what keeps the place from being read, or the method
-/// that is called again (M7), or that the monitor is not `this`, or that no path reaches the block (M8).
+/// The marks of a program with their reasons: for each section its line as `run_texts::mark_text`
+/// has it, and where the mark isn't M0 the calls that lead to what breaks its rule, a line `
+/// CLASS.NAMEDESCRIPTOR at PC MNEMONIC calls` for each of them, and then the instruction with the
+/// rule that it breaks, and for M5 what keeps the place from being read, or the method that is
+/// called again (M7), or that the monitor is not `this`, or that no path reaches the block (M8).
 pub fn marks_explained(alloc: Global, c: &Checked) -> Result<Bytes, AllocError>
     ensures { IfOk result (IsMarksExplained c.now) }
 {

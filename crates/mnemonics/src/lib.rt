@@ -3,7 +3,9 @@
 
 ghost use Rattle.std.specs.Prelude.{◌≡◌, bytes_eq};
 ghost use Rattle.std.specs.Option.{option_copied};
-ghost use Rattle.mnemonics.specs.Mnemonics.{mnemonic_in, mnemonic, opcode_of, constant_names, load_names, store_names, stack_move_names, arithmetic_names, control_names, reference_names};
+ghost use Rattle.mnemonics.specs.Mnemonics.{mnemonic_in, mnemonic, opcode_of, constant_names};
+ghost use Rattle.mnemonics.specs.Mnemonics.{load_names, store_names, stack_move_names};
+ghost use Rattle.mnemonics.specs.Mnemonics.{arithmetic_names, control_names, reference_names};
 
 /// 0x00 to 0x13: a constant is pushed.
 fn constants(opcode: u8) -> Option<&'static str>

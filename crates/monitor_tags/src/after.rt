@@ -30,7 +30,9 @@ fn tag_given(given: Given, f: &TagFrame) -> Tag
 
 /// Pushes what an instruction leaves, the last first.
 fn push_all(stack: &mut Stack<Tag>, gives: &[Given], f: &TagFrame) -> Result<(), AllocError>
-    ensures { OnOk result (stack.new ≡ map (λ given. value_of Untagged (λ type. Untagged) f.now.stack f.now.locals given) gives.now ++ stack.old) }
+    ensures { OnOk result (stack.new ≡ map
+        (λ given. value_of Untagged (λ type. Untagged) f.now.stack f.now.locals given)
+        gives.now ++ stack.old) }
 {
     for i in (0..gives.len()).rev() {
         stack.push(tag_given(gives[i], f))?;
@@ -39,7 +41,8 @@ fn push_all(stack: &mut Stack<Tag>, gives: &[Given], f: &TagFrame) -> Result<(),
 }
 
 fn stack_after(alloc: Global, row: &OpRow, f: &TagFrame) -> Result<Stack<Tag>, AllocError>
-    ensures { IfOk result (λ stack. stack ≡ stack_after Untagged (λ type. Untagged) row.now f.now.stack f.now.locals) }
+    ensures { IfOk result (λ stack.
+        stack ≡ stack_after Untagged (λ type. Untagged) row.now f.now.stack f.now.locals) }
 {
     let mut stack = f
         .stack()
@@ -53,7 +56,8 @@ fn locals_after(
     writes: Option<(u16, Given)>,
     f: &TagFrame,
 ) -> Result<TagLocals, AllocError>
-    ensures { IfOk result (λ locals. locals ≡ locals_after Untagged (λ type. Untagged) writes f.now.stack f.now.locals) }
+    ensures { IfOk result (λ locals.
+        locals ≡ locals_after Untagged (λ type. Untagged) writes f.now.stack f.now.locals) }
 {
     let mut locals = f.locals().copy(alloc)?;
     if let Some((i, given)) = writes {
@@ -64,7 +68,8 @@ fn locals_after(
 
 /// Whether the locals keep their tags where an instruction writes so.
 fn keeps_locals(writes: Option<(u16, Given)>, f: &TagFrame) -> bool
-    ensures { result ≡ true → locals_after Untagged (λ type. Untagged) writes f.now.stack f.now.locals ≡ f.now.locals }
+    ensures { result ≡ true
+        → locals_after Untagged (λ type. Untagged) writes f.now.stack f.now.locals ≡ f.now.locals }
 {
     match writes {
         Some((i, given)) => same_tag(tag_given(Given::Local(i), f), tag_given(given, f)),
@@ -97,9 +102,12 @@ fn moved(alloc: Global, row: &OpRow, f: &TagFrame) -> Result<TagFrame, AllocErro
     moved_with(alloc, row, f, held)
 }
 
-/// A `dup` at a pc of the untagged value on the top: its tag is taken from every place, and given to both copies.
+/// A `dup` at a pc of the untagged value on the top: its tag is taken from every place, and given
+/// to both copies.
 fn tagged_dup(alloc: Global, pc: u32, f: &TagFrame) -> Result<TagFrame, AllocError>
-    ensures { IfOk result (λ after. after ≡ record { stack = At pc ∷ At pc ∷ without pc (drop 1 f.now.stack); locals = without pc f.now.locals; held = f.now.held }) }
+    ensures { IfOk result (λ after.
+        after ≡ record
+        { stack = At pc ∷ At pc ∷ without pc (drop 1 f.now.stack); locals = without pc f.now.locals; held = f.now.held }) }
 {
     let mut stack = f.stack().without_for(alloc, 1, 2)?;
     untag(&mut stack, pc);

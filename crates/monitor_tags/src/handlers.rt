@@ -51,7 +51,8 @@ fn handle(
     f: &TagFrame,
 ) -> Result<(), Stop<SRule>>
     requires level { AreLong m.now nodes.old }
-    ensures left { Leaves (does m.now (to_handlers f.now (until_all (covering m.now pc))) nodes.old) nodes.new result }
+    ensures left { Leaves (does m.now (to_handlers f.now (until_all (covering m.now pc))) nodes.old)
+        nodes.new result }
     ensures level { OnOk result (AreLong m.now nodes.new) }
 {
     let mut k = 0;
@@ -74,7 +75,9 @@ pub fn handle_kept(
     kept: &Option<TagFrame>,
 ) -> Result<(), Stop<SRule>>
     requires level { AreLong m.now nodes.old }
-    ensures left { (f : TagShape) → KeptTagShape m.now insn.now f kept.now → Leaves (does m.now (to_handlers (tags_at_handler f) (catchers m.now insn.now)) nodes.old) nodes.new result }
+    ensures left { (f : TagShape) → KeptTagShape m.now insn.now f kept.now → Leaves
+        (does m.now (to_handlers (tags_at_handler f) (catchers m.now insn.now)) nodes.old)
+        nodes.new result }
     ensures level { OnOk result (AreLong m.now nodes.new) }
 {
     match kept {

@@ -1,5 +1,5 @@
-//! Tags methods: finds which monitors each has entered at each instruction, and refuses one whose locking is not
-//! structured (JVMS 2.11.10).
+//! Tags methods: finds which monitors each has entered at each instruction, and refuses one whose
+//! locking is not structured (JVMS 2.11.10).
 #![tactic(auto)]
 
 mod after;

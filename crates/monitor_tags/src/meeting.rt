@@ -46,7 +46,8 @@ fn locals_stay(locals: &TagLocals, other: &TagLocals) -> bool
     true
 }
 
-/// Whether a frame stays as it is where it meets another. Where there are many locals it may say that it doesn't.
+/// Whether a frame stays as it is where it meets another. Where there are many locals it may say
+/// that it doesn't.
 pub fn stays(frame: &TagFrame, other: &TagFrame) -> bool
     ensures { result ≡ true → tag_meeting.meet frame.now other.now ≡ frame.now }
 {
@@ -60,7 +61,8 @@ pub fn meet_frames(
     other: &TagFrame,
 ) -> Result<(TagFrame, bool), AllocError>
     ensures met { IfOk result (λ r. r.0 ≡ tag_meeting.meet frame other.now) }
-    ensures told { IfOk result (λ r. r.1 ≡ not (tag_meeting.same frame (tag_meeting.meet frame other.now))) }
+    ensures told { IfOk result
+        (λ r. r.1 ≡ not (tag_meeting.same frame (tag_meeting.meet frame other.now))) }
 {
     let (stack, mut locals, held) = frame.into_parts(alloc)?;
     let (met, stack_changed) = meet_stacks(alloc, stack, other.stack())?;

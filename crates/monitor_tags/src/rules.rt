@@ -3,7 +3,8 @@
 ghost use Rattle.std.specs.Prelude.{◌≡◌};
 ghost use Rattle.std.specs.List.{list_any};
 ghost use Rattle.jvm_types.specs.Verifying.{covering, is_return};
-ghost use Rattle.checked_program.specs.Tagging.{catches_all, enters_untagged, is_innermost, exits_other, may_leave, leaves_held};
+ghost use Rattle.checked_program.specs.Tagging.{catches_all, enters_untagged, is_innermost};
+ghost use Rattle.checked_program.specs.Tagging.{exits_other, may_leave, leaves_held};
 
 use checked_program::{Tag, same_tag};
 use code_table::can_throw;

@@ -1,6 +1,7 @@
 //! Stacks of tags.
 
-ghost use Rattle.std.specs.Prelude.{◌≡◌, ◌<◌, ◌≤◌, true, not, if◌then◌else◌, length, take, slice_get, Some, IfOk};
+ghost use Rattle.std.specs.Prelude.{◌≡◌, ◌<◌, ◌≤◌, true, not, if◌then◌else◌, length, take};
+ghost use Rattle.std.specs.Prelude.{slice_get, Some, IfOk};
 ghost use Rattle.checked_program.specs.LockTags.{same_tag, same_tags, meet_tags, without};
 ghost use Rattle.checked_program.specs.declared.tag.Tag.TheVariants.{Untagged};
 
@@ -88,7 +89,8 @@ fn cut(alloc: Global, stack: Stack<Tag>, count: usize) -> Result<Stack<Tag>, All
     }
 }
 
-/// Each place becomes what it and its place in another stack have in common; answers whether that changed one.
+/// Each place becomes what it and its place in another stack have in common; answers whether that
+/// changed one.
 fn meet_places(stack: &mut Stack<Tag>, other: &Stack<Tag>) -> bool
     requires { length stack.old ≤ length other.now }
     ensures met { stack.new ≡ meet_tags stack.old other.now }
@@ -104,7 +106,8 @@ fn meet_places(stack: &mut Stack<Tag>, other: &Stack<Tag>) -> bool
     changed
 }
 
-/// The stack where two meet, which is as high as the lower one; and whether it is another than the first.
+/// The stack where two meet, which is as high as the lower one; and whether it is another than the
+/// first.
 pub fn meet_stacks(
     alloc: Global,
     stack: Stack<Tag>,

@@ -33,9 +33,10 @@ pub(crate) fn tag_method(
     }
 }
 
-/// The tagging of the method of this number, which has a typing: the instruction that is visited next is always the
-/// waiting one of least pc. Where the method has no tagging, the rule and the pc of the first visit that breaks one.
-/// What is kept for the method is taken from the budget; where that is spent, memory is wanting.
+/// The tagging of the method of this number, which has a typing: the instruction that is visited
+/// next is always the waiting one of least pc. Where the method has no tagging, the rule and the pc
+/// of the first visit that breaks one. What is kept for the method is taken from the budget; where
+/// that is spent, memory is wanting.
 pub fn tag_within(
     alloc: Global,
     p: &Program,
@@ -44,10 +45,14 @@ pub fn tag_within(
 ) -> Result<Tags, TagError>
     requires program { IsProgram p.now }
     requires method { method < length p.now.methods }
-    ensures ok { IsSomeAnd (slice_get p.now.methods method) (λ m. IfOk result (λ t. IsTaggingOf p.now m t)) }
-    ensures only { IsSomeAnd (slice_get p.now.methods method) (λ m. (t : MethodTags) → IsTaggingOf p.now m t → IfOk result (λ found. found ≡ t)) }
-    ensures tagged { IsSomeAnd (slice_get p.now.methods method) (λ m. (t : MethodTags) → IsTaggingOf p.now m t → IfErr result (λ e. e ≡ Memory)) }
-    ensures refused { IsSomeAnd (slice_get p.now.methods method) (λ m. IfErr result (λ e. IsTagRefusal p.now m e)) }
+    ensures ok { IsSomeAnd (slice_get p.now.methods method)
+        (λ m. IfOk result (λ t. IsTaggingOf p.now m t)) }
+    ensures only { IsSomeAnd (slice_get p.now.methods method)
+        (λ m. (t : MethodTags) → IsTaggingOf p.now m t → IfOk result (λ found. found ≡ t)) }
+    ensures tagged { IsSomeAnd (slice_get p.now.methods method)
+        (λ m. (t : MethodTags) → IsTaggingOf p.now m t → IfErr result (λ e. e ≡ Memory)) }
+    ensures refused { IsSomeAnd (slice_get p.now.methods method)
+        (λ m. IfErr result (λ e. IsTagRefusal p.now m e)) }
     ensures spent { budget.new ≤ budget.old }
 {
     match p.methods.get(method as usize) {
@@ -56,15 +61,21 @@ pub fn tag_within(
     }
 }
 
-/// `tag_within` a budget that has `MOST_KEPT` bytes for this method alone, of a method that has this typing.
+/// `tag_within` a budget that has `MOST_KEPT` bytes for this method alone, of a method that has
+/// this typing.
 pub fn tag(alloc: Global, p: &Program, method: u32, _types: &Typing) -> Result<Tags, TagError>
     requires program { IsProgram p.now }
     requires method { method < length p.now.methods }
-    requires typed { IsSomeAnd (slice_get p.now.methods method) (λ m. IsTypingOf p.now m _types.now) }
-    ensures ok { IsSomeAnd (slice_get p.now.methods method) (λ m. IfOk result (λ t. IsTaggingOf p.now m t)) }
-    ensures only { IsSomeAnd (slice_get p.now.methods method) (λ m. (t : MethodTags) → IsTaggingOf p.now m t → IfOk result (λ found. found ≡ t)) }
-    ensures tagged { IsSomeAnd (slice_get p.now.methods method) (λ m. (t : MethodTags) → IsTaggingOf p.now m t → IfErr result (λ e. e ≡ Memory)) }
-    ensures refused { IsSomeAnd (slice_get p.now.methods method) (λ m. IfErr result (λ e. IsTagRefusal p.now m e)) }
+    requires typed { IsSomeAnd (slice_get p.now.methods method)
+        (λ m. IsTypingOf p.now m _types.now) }
+    ensures ok { IsSomeAnd (slice_get p.now.methods method)
+        (λ m. IfOk result (λ t. IsTaggingOf p.now m t)) }
+    ensures only { IsSomeAnd (slice_get p.now.methods method)
+        (λ m. (t : MethodTags) → IsTaggingOf p.now m t → IfOk result (λ found. found ≡ t)) }
+    ensures tagged { IsSomeAnd (slice_get p.now.methods method)
+        (λ m. (t : MethodTags) → IsTaggingOf p.now m t → IfErr result (λ e. e ≡ Memory)) }
+    ensures refused { IsSomeAnd (slice_get p.now.methods method)
+        (λ m. IfErr result (λ e. IsTagRefusal p.now m e)) }
 {
     let mut budget = Budget::of(MOST_KEPT);
     tag_within(alloc, p, method, &mut budget)

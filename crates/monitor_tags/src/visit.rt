@@ -20,8 +20,8 @@ use handler_rows::HandledMethod;
 use jvm_types::{Insn, OpRow, Program, SRule};
 use std::alloc::Global;
 
-/// What an instruction does with a frame: the frame that goes along its edges, the one that goes to handlers where
-/// there are some, and whether the instruction breaks S4.
+/// What an instruction does with a frame: the frame that goes along its edges, the one that goes to
+/// handlers where there are some, and whether the instruction breaks S4.
 #[derive(Debug, Drop)]
 struct Going {
     after: TagFrame,
@@ -29,7 +29,8 @@ struct Going {
     leaves: bool,
 }
 
-/// What an instruction that has this row does with a frame; or the first of S1 and S2 that it breaks.
+/// What an instruction that has this row does with a frame; or the first of S1 and S2 that it
+/// breaks.
 fn prepare(
     alloc: Global,
     m: &HandledMethod<'_>,
@@ -61,7 +62,8 @@ fn go_on(
     going: Going,
 ) -> Result<(), Stop<SRule>>
     requires level { AreLong m.now nodes.old }
-    ensures left { (r : OpRow) → (f : TagShape) → IsGoing m.now insn.now r f going → Leaves (does m.now (tag_acts m.now insn.now r f) nodes.old) nodes.new result }
+    ensures left { (r : OpRow) → (f : TagShape) → IsGoing m.now insn.now r f going
+        → Leaves (does m.now (tag_acts m.now insn.now r f) nodes.old) nodes.new result }
     ensures level { OnOk result (AreLong m.now nodes.new) }
 {
     let tos = edges(alloc, insn)?;
@@ -82,7 +84,9 @@ pub fn visit(
     i: usize,
 ) -> Result<(), Stop<SRule>>
     requires level { AreLong m.now nodes.old }
-    ensures left { Leaves (does m.now (acts_on (tag_plan p.now m.now) i (plan_node_at nodes.old i).frame) nodes.old) nodes.new result }
+    ensures left { Leaves
+        (does m.now (acts_on (tag_plan p.now m.now) i (plan_node_at nodes.old i).frame) nodes.old)
+        nodes.new result }
     ensures level { OnOk result (AreLong m.now nodes.new) }
 {
     let method = m.method();

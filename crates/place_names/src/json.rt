@@ -4,7 +4,8 @@ ghost use Rattle.std.specs.Prelude.{◌≡◌, ◌++◌, Some, codes, slice_get,
 ghost use Rattle.std.specs.Option.{option_copied};
 ghost use Rattle.json_lines.specs.Json.{text_behind, text_member};
 ghost use Rattle.run_texts.specs.MarksText.{class_text};
-ghost use Rattle.place_names.specs.PlaceJson.{code_place_members, instruction_member, method_members};
+ghost use Rattle.place_names.specs.PlaceJson.{code_place_members, instruction_member};
+ghost use Rattle.place_names.specs.PlaceJson.{method_members};
 
 use crate::opcodes::op_name;
 use crate::places::insn_at;
@@ -20,7 +21,8 @@ fn write_class_member(
     p: &Program,
     class: u16,
 ) -> Result<(), AllocError>
-    ensures { OnOk result (out.new.items ≡ out.old.items ++ text_member (codes "class") (class_text p.now.names class)) }
+    ensures { OnOk result (out.new.items
+        ≡ out.old.items ++ text_member (codes "class") (class_text p.now.names class)) }
 {
     let mut name = Vec::new(alloc);
     write_class(&mut name, p, class)?;
@@ -28,7 +30,8 @@ fn write_class_member(
 }
 
 fn write_name_member(out: &mut Vec<u8>, alloc: Global, m: &MethodInfo) -> Result<(), AllocError>
-    ensures { OnOk result (out.new.items ≡ out.old.items ++ text_behind (codes "method") (m.now.name ++ m.now.descriptor)) }
+    ensures { OnOk result (out.new.items
+        ≡ out.old.items ++ text_behind (codes "method") (m.now.name ++ m.now.descriptor)) }
 {
     let mut words = Vec::new(alloc);
     words.extend_from_slice(m.name.as_slice())?;
@@ -43,7 +46,8 @@ pub fn write_method_names(
     p: &Program,
     m: &MethodInfo,
 ) -> Result<(), AllocError>
-    ensures { OnOk result (out.new.items ≡ out.old.items ++ method_members p.now.names (Some m.now)) }
+    ensures { OnOk result
+        (out.new.items ≡ out.old.items ++ method_members p.now.names (Some m.now)) }
 {
     write_class_member(out, alloc, p, m.class)?;
     write_name_member(out, alloc, m)
@@ -56,7 +60,8 @@ pub fn write_method_members(
     p: &Program,
     method: u32,
 ) -> Result<(), AllocError>
-    ensures { OnOk result (out.new.items ≡ out.old.items ++ method_members p.now.names (slice_get p.now.methods method)) }
+    ensures { OnOk result (out.new.items
+        ≡ out.old.items ++ method_members p.now.names (slice_get p.now.methods method)) }
 {
     match p.methods.get(method as usize) {
         Some(m) => write_method_names(out, alloc, p, m),
@@ -66,7 +71,8 @@ pub fn write_method_members(
 
 /// Adds `,"instruction":"MNEMONIC"`; nothing where there is no instruction.
 pub fn write_instruction_member(out: &mut Vec<u8>, insn: Option<&Insn>) -> Result<(), AllocError>
-    ensures { OnOk result (out.new.items ≡ out.old.items ++ instruction_member (option_copied insn.entry)) }
+    ensures { OnOk result
+        (out.new.items ≡ out.old.items ++ instruction_member (option_copied insn.entry)) }
 {
     match insn {
         Some(insn) => write_text_behind(out, "instruction", op_name(&insn.op).as_bytes()),
@@ -74,8 +80,9 @@ pub fn write_instruction_member(out: &mut Vec<u8>, insn: Option<&Insn>) -> Resul
     }
 }
 
-/// Adds `"class":"CLASS","method":"NAMEDESCRIPTOR","pc":PC,"instruction":"MNEMONIC"`: the method of that number, a pc of it and
-/// the instruction that begins there; without a mnemonic where none does.
+/// Adds `"class":"CLASS","method":"NAMEDESCRIPTOR","pc":PC,"instruction":"MNEMONIC"`: the method of
+/// that number, a pc of it and the instruction that begins there; without a mnemonic where none
+/// does.
 pub fn write_place_members(
     out: &mut Vec<u8>,
     alloc: Global,
@@ -83,7 +90,8 @@ pub fn write_place_members(
     method: u32,
     pc: u32,
 ) -> Result<(), AllocError>
-    ensures { OnOk result (out.new.items ≡ out.old.items ++ code_place_members c.now.program method pc) }
+    ensures { OnOk result
+        (out.new.items ≡ out.old.items ++ code_place_members c.now.program method pc) }
 {
     write_method_members(out, alloc, c.program(), method)?;
     write_number_behind(out, alloc, "pc", u64::from(pc))?;

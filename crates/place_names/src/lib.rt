@@ -1,4 +1,5 @@
-//! Names of places of a program: methods with their classes, and instructions by their mnemonics, as text and as JSON.
+//! Names of places of a program: methods with their classes, and instructions by their mnemonics,
+//! as text and as JSON.
 #![tactic(auto)]
 
 pub mod json;

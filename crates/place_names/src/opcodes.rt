@@ -1,7 +1,8 @@
 //! The opcodes of instructions, and their mnemonics (JVMS 6.5).
 
 ghost use Rattle.std.specs.Prelude.{◌≡◌};
-ghost use Rattle.place_names.specs.Opcodes.{compare_opcode, iconst_opcode, if_opcode, op_name, opcode};
+ghost use Rattle.place_names.specs.Opcodes.{compare_opcode, iconst_opcode, if_opcode, op_name};
+ghost use Rattle.place_names.specs.Opcodes.{opcode};
 
 use jvm_types::{Cmp, Op};
 use mnemonics::mnemonic;
@@ -53,8 +54,8 @@ fn compare_opcode(c: Cmp) -> u8
     }
 }
 
-/// The opcode of an instruction. The forms that an instruction shares have that of the one whose local stands beside it:
-/// `iload` and `iload_0` are `iload`.
+/// The opcode of an instruction. The forms that an instruction shares have that of the one whose
+/// local stands beside it: `iload` and `iload_0` are `iload`.
 pub fn opcode(op: &Op) -> u8
     ensures { result ≡ opcode op.now }
 {

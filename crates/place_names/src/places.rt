@@ -24,7 +24,8 @@ pub(crate) fn insn_at(c: &Checked, method: u32, pc: u32) -> Option<&Insn>
 }
 
 fn write_insn(text: &mut Vec<u8>, insn: Option<&Insn>) -> Result<(), AllocError>
-    ensures { OnOk result (text.new.items ≡ text.old.items ++ insn_words (option_copied insn.entry)) }
+    ensures { OnOk result
+        (text.new.items ≡ text.old.items ++ insn_words (option_copied insn.entry)) }
 {
     match insn {
         Some(insn) => {
@@ -35,14 +36,16 @@ fn write_insn(text: &mut Vec<u8>, insn: Option<&Insn>) -> Result<(), AllocError>
     }
 }
 
-/// Adds ` at PC MNEMONIC`, of a pc and the instruction that begins there; without a mnemonic where none does.
+/// Adds ` at PC MNEMONIC`, of a pc and the instruction that begins there; without a mnemonic where
+/// none does.
 pub fn write_pc(
     text: &mut Vec<u8>,
     alloc: Global,
     pc: u32,
     insn: Option<&Insn>,
 ) -> Result<(), AllocError>
-    ensures { OnOk result (text.new.items ≡ text.old.items ++ pc_words pc (option_copied insn.entry)) }
+    ensures { OnOk result
+        (text.new.items ≡ text.old.items ++ pc_words pc (option_copied insn.entry)) }
 {
     let mut words = String::new(alloc);
     write!(words, " at {pc}")?;
@@ -50,7 +53,8 @@ pub fn write_pc(
     write_insn(text, insn)
 }
 
-/// Adds `CLASS.NAMEDESCRIPTOR at PC MNEMONIC`: the method of that number, a pc of it and the instruction that begins there.
+/// Adds `CLASS.NAMEDESCRIPTOR at PC MNEMONIC`: the method of that number, a pc of it and the
+/// instruction that begins there.
 pub fn write_place(
     text: &mut Vec<u8>,
     alloc: Global,

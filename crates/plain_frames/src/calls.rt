@@ -1,8 +1,10 @@
 //! Calls of methods (JVMS 2.6).
 
-ghost use Rattle.std.specs.Prelude.{◌≡◌, ◌+◌, ◌*◌, ◌-◌, ◌≤◌, ◌<◌, ℕ, List, ◌∷◌, [], drop, length, replicate, slice_get, ◌++◌, IfOk, OnOk};
+ghost use Rattle.std.specs.Prelude.{◌≡◌, ◌+◌, ◌*◌, ◌-◌, ◌≤◌, ◌<◌, ℕ, List, ◌∷◌, [], drop, length};
+ghost use Rattle.std.specs.Prelude.{replicate, slice_get, ◌++◌, IfOk, OnOk};
 ghost use Rattle.jvm_types.specs.declared.limits.TheConstants.{MOST_FRAMES};
-ghost use Rattle.machine_types.specs.Frames.{entry_frame, first_or_null, frames_of, has_room, slots, slots_of};
+ghost use Rattle.machine_types.specs.Frames.{entry_frame, first_or_null, frames_of, has_room};
+ghost use Rattle.machine_types.specs.Frames.{slots, slots_of};
 ghost use Rattle.machine_types.specs.Onward.{called, entered, root_arguments, rooted};
 ghost use Rattle.jvm_types.specs.declared.program.Program.{Program};
 ghost use Rattle.machine_types.specs.Threads.{Frame as Plain};
@@ -106,7 +108,8 @@ fn add_zeros(values: &mut Rows<u64>, count: usize) -> Result<(), AllocError>
 
 /// It goes on in the frame of a method, when it has entered the monitor of a synchronized one.
 fn entered(m: &MethodInfo, caller: Frame, entry: Frame) -> Onward
-    ensures { (top : Plain) (below : List Plain) → onward_of (top ∷ below) result ≡ entered m.now entry (caller ∷ below) }
+    ensures { (top : Plain) (below : List Plain)
+        → onward_of (top ∷ below) result ≡ entered m.now entry (caller ∷ below) }
 {
     if is_synchronized(m.flags) {
         Onward::Entering(entry.receiver(), Change::Call(caller, entry))
@@ -123,7 +126,8 @@ pub fn called(
     number: u32,
     m: &MethodInfo,
 ) -> Result<Onward, AllocError>
-    ensures { IfOk result (λ o. onward_of (frames_of at.now) o ≡ called p.now.program at.now number m.now) }
+    ensures { IfOk result
+        (λ o. onward_of (frames_of at.now) o ≡ called p.now.program at.now number m.now) }
 {
     if !at.has_room(p, m) {
         return Ok(threw(Thrown::StackOverflowError, at));

@@ -45,7 +45,8 @@ pub fn length_of(header: u64) -> u64
 
 /// It goes on at a pc, with the value that its instruction makes.
 fn runs(alloc: Global, p: &Checked, at: &At, to: u32, made: u64) -> Result<Onward, AllocError>
-    ensures { IfOk result (λ o. onward_of (frames_of at.now) o ≡ Running (went p.now.program at.now to made)) }
+    ensures { IfOk result
+        (λ o. onward_of (frames_of at.now) o ≡ Running (went p.now.program at.now to made)) }
 {
     let f = made_on(alloc, p, at, to, made)?;
     Ok(Onward::Running(Change::Top(f)))
@@ -53,7 +54,8 @@ fn runs(alloc: Global, p: &Checked, at: &At, to: u32, made: u64) -> Result<Onwar
 
 /// It raises an object, by the header of that.
 fn raised(x: u64, header: u64, at: &At) -> Option<Onward>
-    ensures { option_map (onward_of (frames_of at.now)) result ≡ option_map (λ class. Throwing x class (frames_of at.now)) (thrown_of (header_class header)) }
+    ensures { option_map (onward_of (frames_of at.now)) result ≡ option_map
+        (λ class. Throwing x class (frames_of at.now)) (thrown_of (header_class header)) }
 {
     let _ = at;
     match thrown_of(header_class(header)) {
@@ -62,7 +64,8 @@ fn raised(x: u64, header: u64, at: &At) -> Option<Onward>
     }
 }
 
-/// How it goes on by an effect and the word that it found; `None` where the machine has more to say.
+/// How it goes on by an effect and the word that it found; `None` where the machine has more to
+/// say.
 pub fn done(
     alloc: Global,
     p: &Checked,
@@ -70,7 +73,8 @@ pub fn done(
     effect: Effect,
     got: u64,
 ) -> Result<Option<Onward>, AllocError>
-    ensures { IfOk result (λ o. option_map (onward_of (frames_of at.now)) o ≡ done p.now.program at.now effect got) }
+    ensures { IfOk result
+        (λ o. option_map (onward_of (frames_of at.now)) o ≡ done p.now.program at.now effect got) }
 {
     let next = at.insn().next;
     match effect {
@@ -94,7 +98,9 @@ pub fn done(
 
 /// It calls a method by its number.
 fn calls(alloc: Global, p: &Checked, at: &At, number: u32) -> Result<Option<Onward>, AllocError>
-    ensures { IfOk result (λ o. option_map (onward_of (frames_of at.now)) o ≡ option_map (called p.now.program at.now number) (slice_get p.now.program.methods number)) }
+    ensures { IfOk result (λ o.
+        option_map (onward_of (frames_of at.now)) o ≡ option_map
+        (called p.now.program at.now number) (slice_get p.now.program.methods number)) }
 {
     match p.program().methods.get(number as usize) {
         Some(m) => Ok(Some(called(alloc, p, at, number, m)?)),

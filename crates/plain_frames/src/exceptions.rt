@@ -2,7 +2,8 @@
 
 ghost use Rattle.std.specs.Prelude.{◌≡◌, ◌∷◌, ◌++◌, [], drop, ℕ, List, IfOk};
 ghost use Rattle.std.specs.Option.{option_map, option_to_list};
-ghost use Rattle.machine_types.specs.Frames.{catches, caught, frames_of, given_back, handler_at, handler_of, returned, top_of};
+ghost use Rattle.machine_types.specs.Frames.{catches, caught, frames_of, given_back, handler_at};
+ghost use Rattle.machine_types.specs.Frames.{handler_of, returned, top_of};
 ghost use Rattle.machine_types.specs.Onward.{after, back, dispatched, handed, returns, unwound};
 ghost use Rattle.machine_types.specs.ReadyObjects.{class_of};
 ghost use Rattle.plain_frames.specs.Changes.{after_of, onward_of};
@@ -32,7 +33,9 @@ fn given_back(op: &Op, stack: &[u64]) -> Option<u64>
 
 /// The frame that has waited at its call, with what that gives back.
 fn given(alloc: Global, result_of: Option<u64>, at: &At) -> Result<Frame, AllocError>
-    ensures { IfOk result (λ f. f ≡ record at.now.frame { pc = at.now.insn.next; stack = option_to_list result_of ++ at.now.frame.stack }) }
+    ensures { IfOk result (λ f.
+        f ≡ record at.now.frame
+        { pc = at.now.insn.next; stack = option_to_list result_of ++ at.now.frame.stack }) }
 {
     let mut stack = Rows::new(alloc);
     if let Some(value) = result_of {
@@ -44,7 +47,8 @@ fn given(alloc: Global, result_of: Option<u64>, at: &At) -> Result<Frame, AllocE
 
 /// Its top frame has returned.
 fn came_back(alloc: Global, p: &Checked, at: &At) -> Result<Onward, AllocError>
-    ensures { IfOk result (λ o. onward_of (frames_of at.now) o ≡ back (returned p.now.program at.now)) }
+    ensures { IfOk result
+        (λ o. onward_of (frames_of at.now) o ≡ back (returned p.now.program at.now)) }
 {
     match at.caller(p) {
         Some(caller) => {
@@ -114,7 +118,8 @@ fn handed(
     frames: &Stack<Frame>,
 ) -> Result<Onward, AllocError>
     requires { frames_of at.now ≡ frames.now }
-    ensures { IfOk result (λ o. onward_of frames.now o ≡ handed x class at.now (handler_at (class_of class) at.now)) }
+    ensures { IfOk result
+        (λ o. onward_of frames.now o ≡ handed x class at.now (handler_at (class_of class) at.now)) }
 {
     let method = at.method();
     match handler_of(at.frame().pc(), class_of(class), method.rows.as_slice()) {
@@ -128,8 +133,8 @@ fn handed(
     }
 }
 
-/// An exception and one frame: a row catches it, or the frame ends by it, a synchronized method's when it has left its monitor.
-/// `None` where there is no frame that stands at an instruction.
+/// An exception and one frame: a row catches it, or the frame ends by it, a synchronized method's
+/// when it has left its monitor. `None` where there is no frame that stands at an instruction.
 pub fn dispatched(
     alloc: Global,
     p: &Checked,
@@ -137,7 +142,8 @@ pub fn dispatched(
     class: Thrown,
     frames: &Stack<Frame>,
 ) -> Result<Option<Onward>, AllocError>
-    ensures { IfOk result (λ o. option_map (onward_of frames.now) o ≡ dispatched p.now.program x class frames.now) }
+    ensures { IfOk result
+        (λ o. option_map (onward_of frames.now) o ≡ dispatched p.now.program x class frames.now) }
 {
     match top_of(p, frames) {
         Some(at) => Ok(Some(handed(alloc, x, class, &at, frames)?)),
@@ -145,14 +151,16 @@ pub fn dispatched(
     }
 }
 
-/// What follows when a monitor was left. `None` where there is no frame that stands at an instruction, to return from.
+/// What follows when a monitor was left. `None` where there is no frame that stands at an
+/// instruction, to return from.
 pub fn after(
     alloc: Global,
     p: &Checked,
     frames: &Stack<Frame>,
     then: Then,
 ) -> Result<Option<Onward>, AllocError>
-    ensures { IfOk result (λ o. option_map (onward_of frames.now) o ≡ after p.now.program frames.now (after_of then)) }
+    ensures { IfOk result (λ o.
+        option_map (onward_of frames.now) o ≡ after p.now.program frames.now (after_of then)) }
 {
     match then {
         Then::Next => Ok(Some(Onward::Running(Change::Same))),

@@ -6,7 +6,8 @@ use jvm_types::Rows;
 use std::alloc::{AllocError, Global};
 use std::marker::Model;
 
-/// A frame of a method (JVMS 2.6). Contracts see it as the definitions do, its stack with the top first.
+/// A frame of a method (JVMS 2.6). Contracts see it as the definitions do, its stack with the top
+/// first.
 #[derive(Debug, Drop)]
 pub struct Frame {
     method: u32,
@@ -27,7 +28,8 @@ impl Model for Frame {
 
 impl Frame {
     pub fn of(method: u32, pc: u32, receiver: u64, locals: Rows<u64>, stack: Rows<u64>) -> Frame
-        ensures { result ≡ record { method = method; pc = pc; receiver = receiver; locals = locals; stack = stack } }
+        ensures { result ≡ record
+            { method = method; pc = pc; receiver = receiver; locals = locals; stack = stack } }
     {
         Frame {
             method,

@@ -1,5 +1,6 @@
-//! The frames of a thread of the plain machine, and how a thread goes on (JVMS 2.6, 2.10, 6.5): every frame and every value is a
-//! value of its own, and what is to come is made before anything changes.
+//! The frames of a thread of the plain machine, and how a thread goes on (JVMS 2.6, 2.10, 6.5):
+//! every frame and every value is a value of its own, and what is to come is made before anything
+//! changes.
 #![tactic(auto)]
 
 mod at;

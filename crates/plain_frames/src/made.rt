@@ -1,7 +1,8 @@
 //! The frame behind an instruction.
 
 ghost use Rattle.std.specs.Prelude.{◌≡◌, ◌∷◌, drop, length, reverse, take, IfOk};
-ghost use Rattle.machine_types.specs.Frames.{arguments_of, making, pushed, top_row, taken_from, went, went_on};
+ghost use Rattle.machine_types.specs.Frames.{arguments_of, making, pushed, top_row, taken_from};
+ghost use Rattle.machine_types.specs.Frames.{went, went_on};
 
 use crate::at::At;
 use crate::frame::Frame;

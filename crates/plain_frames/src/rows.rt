@@ -1,6 +1,7 @@
 //! What the row of an instruction makes of a frame.
 
-ghost use Rattle.std.specs.Prelude.{◌≡◌, ◌++◌, map, drop, length, slice_index_or, reverse, take, IfOk, OnOk};
+ghost use Rattle.std.specs.Prelude.{◌≡◌, ◌++◌, map, drop, length, slice_index_or, reverse, take};
+ghost use Rattle.std.specs.Prelude.{IfOk, OnOk};
 ghost use Rattle.jvm_types.specs.CodeTable.{value_of, stack_after, locals_after};
 ghost use Rattle.machine_types.specs.Frames.{frame_on};
 
@@ -49,7 +50,8 @@ fn add_given(
     stack: &[u64],
     locals: &[u64],
 ) -> Result<(), AllocError>
-    ensures { OnOk result (after.new ≡ after.old ++ map (value_of 0 (λ type. made) stack.now locals.now) gives.now) }
+    ensures { OnOk result
+        (after.new ≡ after.old ++ map (value_of 0 (λ type. made) stack.now locals.now) gives.now) }
 {
     for given in gives {
         after.push(value_of(made, stack, locals, *given))?;
@@ -64,7 +66,8 @@ fn stack_after(
     stack: &[u64],
     locals: &[u64],
 ) -> Result<Rows<u64>, AllocError>
-    ensures { IfOk result (λ after. after ≡ stack_after 0 (λ type. made) row.now stack.now locals.now) }
+    ensures { IfOk result
+        (λ after. after ≡ stack_after 0 (λ type. made) row.now stack.now locals.now) }
 {
     let mut after = Rows::new(alloc);
     add_given(&mut after, made, row.gives.as_slice(), stack, locals)?;

@@ -1,4 +1,5 @@
-//! The object that has a place: by halves where the objects are known to lie apart, and one after the other where not.
+//! The object that has a place: by halves where the objects are known to lie apart, and one after
+//! the other where not.
 
 ghost use Rattle.std.specs.Prelude.{◌≡◌, true, position};
 ghost use Rattle.machine_types.specs.PlainMemory.{has_value, object_value, object_write};
@@ -6,7 +7,8 @@ ghost use Rattle.plain_memory.specs.Order.{AreInOrder, IsOnlyOne, ObjectsLieApar
 
 use crate::object::Object;
 
-/// Whether each object ends at or before the next one's reference, and the last one before a number.
+/// Whether each object ends at or before the next one's reference, and the last one before a
+/// number.
 #[tactic(auto, using(crate::proofs::OrderLaws::taken_in_order, crate::proofs::OrderLaws::none_in_order, crate::proofs::OrderLaws::number_rises))]
 pub fn are_in_order(objects: &[Object], next: u64) -> bool
     ensures { result ≡ true → AreInOrder objects.now next }

@@ -1,4 +1,5 @@
-//! The memory of the plain machine, which has objects and static fields in place of words (JVMS 2.5.3, 2.7).
+//! The memory of the plain machine, which has objects and static fields in place of words (JVMS
+//! 2.5.3, 2.7).
 #![tactic(auto)]
 
 mod finding;

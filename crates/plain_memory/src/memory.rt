@@ -1,10 +1,12 @@
 //! All objects and all static fields.
 
-ghost use Rattle.std.specs.Prelude.{◌≡◌, ◌==◌, ◌<◌, ◌^◌, ◌+◌, ◌++◌, ◌∷◌, [], ◌-◌, nat_le, position, true, false, IfOk, OnOk, OnErr, OnSome, MatchOption};
+ghost use Rattle.std.specs.Prelude.{◌≡◌, ◌==◌, ◌<◌, ◌^◌, ◌+◌, ◌++◌, ◌∷◌, [], ◌-◌, nat_le, position};
+ghost use Rattle.std.specs.Prelude.{true, false, IfOk, OnOk, OnErr, OnSome, MatchOption};
 ghost use Rattle.std.specs.Option.{option_or};
 ghost use Rattle.jvm_types.specs.ProgramInvariant.{IsProgram};
 ghost use Rattle.plain_memory.specs.Memories.{start_memory};
-ghost use Rattle.machine_types.specs.PlainMemory.{has_value, new_object, object_value, object_write, static_value, static_write};
+ghost use Rattle.machine_types.specs.PlainMemory.{has_value, new_object, object_value};
+ghost use Rattle.machine_types.specs.PlainMemory.{object_write, static_value, static_write};
 
 use crate::finding::{are_in_order, object_value, write_object};
 use crate::object::Object;
@@ -82,7 +84,8 @@ pub struct Memory {
     objects: Vec<Object>,
     statics: Vec<StaticValue>,
     next: u64,
-    /// Whether the objects are known to lie apart and before the next reference, so that a place is found by halves.
+    /// Whether the objects are known to lie apart and before the next reference, so that a place is
+    /// found by halves.
     in_order: bool,
 }
 
@@ -100,7 +103,8 @@ impl Model for Memory {
 }
 
 impl Memory {
-    /// The memory at the start: the ready objects and the classes themselves, and each static field with its first value.
+    /// The memory at the start: the ready objects and the classes themselves, and each static field
+    /// with its first value.
     pub fn start(alloc: Global, p: &Program) -> Result<Memory, AllocError>
         requires { IsProgram p.now }
         ensures { IfOk result (λ m. m ≡ start_memory p.now) }
@@ -116,9 +120,11 @@ impl Memory {
         })
     }
 
-    /// What stands at a place: a header, the value of a field or of an element, or `None` where nothing stands.
+    /// What stands at a place: a header, the value of a field or of an element, or `None` where
+    /// nothing stands.
     pub fn value_at(&self, place: u128) -> Option<u64>
-        ensures { result ≡ option_or (object_value self.now.objects place) (static_value self.now.statics place) }
+        ensures { result ≡ option_or (object_value self.now.objects place)
+            (static_value self.now.statics place) }
     {
         let value = object_value(self.objects.as_slice(), self.in_order, place);
         if value.is_some() {
@@ -129,7 +135,8 @@ impl Memory {
 
     /// Puts a value at a place; nothing changes where nothing stands there.
     pub fn write(&mut self, place: u128, value: u64)
-        ensures { self.new ≡ record self.old { objects = object_write self.old.objects place value; statics = static_write self.old.statics place value } }
+        ensures { self.new ≡ record self.old
+            { objects = object_write self.old.objects place value; statics = static_write self.old.statics place value } }
     {
         write_object(&mut self.objects, self.in_order, place, value);
         write_static(&mut self.statics, place, value);
@@ -166,7 +173,8 @@ impl Memory {
         size: u32,
         next: u64,
     ) -> Result<(), AllocError>
-        ensures ok { OnOk result (self.new ≡ record self.old { objects = self.old.objects ++ new_object self.old.next header size ∷ []; next = next }) }
+        ensures ok { OnOk result (self.new ≡ record self.old
+            { objects = self.old.objects ++ new_object self.old.next header size ∷ []; next = next }) }
         ensures err { OnErr result (self.new ≡ self.old) }
     {
         let object = Object::zeroed(

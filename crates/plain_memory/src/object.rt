@@ -1,7 +1,9 @@
 //! One object.
 
-ghost use Rattle.std.specs.Prelude.{◌≡◌, ◌<◌, ◌≤◌, ◌-◌, ◌^◌, true, [], length, replicate, slice_get, slice_set, IfOk};
-ghost use Rattle.machine_types.specs.PlainMemory.{first_value, has_value, header_of, object_end, value_in};
+ghost use Rattle.std.specs.Prelude.{◌≡◌, ◌<◌, ◌≤◌, ◌-◌, ◌^◌, true, [], length, replicate};
+ghost use Rattle.std.specs.Prelude.{slice_get, slice_set, IfOk};
+ghost use Rattle.machine_types.specs.PlainMemory.{first_value, has_value, header_of, object_end};
+ghost use Rattle.machine_types.specs.PlainMemory.{value_in};
 
 use heap_words::header;
 use jvm_types::Rows;
@@ -9,7 +11,8 @@ use jvm_types::class_numbers::INT_ARRAY_CLASS;
 use std::alloc::{AllocError, Global};
 use std::marker::Model;
 
-/// An object, with the values of its fields in order, or with its elements. Places are given by their numbers.
+/// An object, with the values of its fields in order, or with its elements. Places are given by
+/// their numbers.
 #[derive(Debug, Drop)]
 pub struct Object {
     reference: u64,
@@ -47,7 +50,8 @@ impl Object {
         class: u16,
         count: u32,
     ) -> Result<Object, AllocError>
-        ensures { IfOk result (λ o. o ≡ record { reference = reference; class = class; values = replicate count 0 }) }
+        ensures { IfOk result
+            (λ o. o ≡ record { reference = reference; class = class; values = replicate count 0 }) }
     {
         let values = vec![in alloc; 0u64; count as usize]?;
         Ok(Object {
@@ -126,7 +130,8 @@ impl Object {
     /// Puts a value at a place where it has one.
     pub fn write(&mut self, place: u128, value: u64)
         requires { has_value self.old place ≡ true }
-        ensures { self.new ≡ record self.old { values = slice_set self.old.values (place - first_value self.old) value } }
+        ensures { self.new ≡ record self.old
+            { values = slice_set self.old.values (place - first_value self.old) value } }
     {
         let number = self.number_at(place);
         self.values.set(number, value);

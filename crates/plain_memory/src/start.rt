@@ -1,11 +1,13 @@
 //! The memory at the start.
 
-ghost use Rattle.std.specs.Prelude.{◌≡◌, ◌+◌, ◌*◌, [], ◌∷◌, ◌++◌, ◌<◌, ◌≤◌, map, length, filter, count_by, ◌==◌, ◌&&◌, OnOk, OnErr, IfOk};
+ghost use Rattle.std.specs.Prelude.{◌≡◌, ◌+◌, ◌*◌, [], ◌∷◌, ◌++◌, ◌<◌, ◌≤◌, map, length, filter};
+ghost use Rattle.std.specs.Prelude.{count_by, ◌==◌, ◌&&◌, OnOk, OnErr, IfOk};
 ghost use Rattle.std.specs.List.{range_with_len};
 ghost use Rattle.jvm_types.specs.Members.{is_static};
 ghost use Rattle.jvm_types.specs.ProgramInvariant.{IsProgram, statics_among, words_of};
 ghost use Rattle.machine_types.specs.Ints.{word_of};
-ghost use Rattle.machine_types.specs.PlainMemory.{class_objects, objects_from, start_objects, start_statics};
+ghost use Rattle.machine_types.specs.PlainMemory.{class_objects, objects_from, start_objects};
+ghost use Rattle.machine_types.specs.PlainMemory.{start_statics};
 ghost use Rattle.machine_types.specs.ReadyObjects.{ready_classes};
 ghost use Rattle.machine_types.specs.StartWords.{classes_of, statics_of};
 ghost use Rattle.jvm_types.specs.declared.class_numbers.TheConstants.{FIRST_FILE_CLASS};
@@ -40,7 +42,8 @@ fn add_bare(
     reference: u64,
     class: u16,
 ) -> Result<(), AllocError>
-    ensures { OnOk result (objects.new.items ≡ objects.old.items ++ record { reference = reference; class = class; values = [] } ∷ []) }
+    ensures { OnOk result (objects.new.items ≡ objects.old.items
+        ++ record { reference = reference; class = class; values = [] } ∷ []) }
 {
     objects.push(Object::bare(alloc, reference, class))?;
     Ok(())
@@ -48,7 +51,8 @@ fn add_bare(
 
 /// Adds the objects of the machine.
 fn add_ready(alloc: Global, objects: &mut Vec<Object>) -> Result<(), AllocError>
-    ensures { OnOk result (objects.new.items ≡ objects.old.items ++ objects_from FIRST_READY_WORD ready_classes) }
+    ensures { OnOk result
+        (objects.new.items ≡ objects.old.items ++ objects_from FIRST_READY_WORD ready_classes) }
 {
     for thrown in &READY {
         add_bare(alloc, objects, ready(*thrown) as u64, class_of(*thrown))?;
@@ -80,7 +84,8 @@ fn add_classes(
 ) -> Result<(), AllocError>
     requires files { count ≤ MOST_FILES }
     requires statics { statics_among fields.now ≤ MOST_HEAP }
-    ensures { OnOk result (objects.new.items ≡ objects.old.items ++ class_objects fields.now FIRST_CLASS_WORD (range_with_len FIRST_FILE_CLASS count)) }
+    ensures { OnOk result (objects.new.items ≡ objects.old.items ++ class_objects fields.now
+        FIRST_CLASS_WORD (range_with_len FIRST_FILE_CLASS count)) }
 {
     let mut reference = FIRST_CLASS_WORD as u64;
     for file in 0..count {
@@ -104,7 +109,9 @@ pub fn start_objects(alloc: Global, p: &Program) -> Result<Vec<Object>, AllocErr
 
 /// The static fields at the start.
 pub fn start_statics(alloc: Global, fields: &[FieldInfo]) -> Result<Vec<StaticValue>, AllocError>
-    ensures { IfOk result (λ statics. statics.items ≡ map (λ f. record { word = f.index; value = word_of f.start }) (filter (λ f. is_static f.flags) fields.now)) }
+    ensures { IfOk result (λ statics.
+        statics.items ≡ map (λ f. record { word = f.index; value = word_of f.start })
+        (filter (λ f. is_static f.flags) fields.now)) }
 {
     let mut statics = Vec::new(alloc);
     for field in fields {

@@ -1,6 +1,7 @@
 //! Monitors that are held.
 
-ghost use Rattle.std.specs.Prelude.{◌≡◌, ◌==◌, ◌∷◌, ◌++◌, [], not, filter, position, IsSome, Some, None, OnOk, OnErr};
+ghost use Rattle.std.specs.Prelude.{◌≡◌, ◌==◌, ◌∷◌, ◌++◌, [], not, filter, position, IsSome, Some};
+ghost use Rattle.std.specs.Prelude.{None, OnOk, OnErr};
 ghost use Rattle.machine_types.specs.PlainState.{holding_at, with_holding, without_holding};
 ghost use Rattle.plain_threads.specs.Holdings.{left_once};
 
@@ -101,7 +102,8 @@ impl Holdings {
 
     /// The monitor is held by thread `t` at this depth.
     pub fn put(&mut self, t: u8, m: u64, depth: u64) -> Result<(), AllocError>
-        ensures ok { OnOk result (self.new ≡ with_holding (record { monitor = m; holder = t; depth = depth }) self.old) }
+        ensures ok { OnOk result
+            (self.new ≡ with_holding (record { monitor = m; holder = t; depth = depth }) self.old) }
         ensures err { OnErr result (self.new ≡ self.old) }
     {
         match place_of(self.holdings.as_slice(), m) {
@@ -114,7 +116,8 @@ impl Holdings {
     /// A monitor that is held is held by thread `t` at this depth.
     fn set(&mut self, t: u8, m: u64, depth: u64)
         requires { IsSome (holding_at self.old m) }
-        ensures { self.new ≡ with_holding (record { monitor = m; holder = t; depth = depth }) self.old }
+        ensures { self.new
+            ≡ with_holding (record { monitor = m; holder = t; depth = depth }) self.old }
     {
         match place_of(self.holdings.as_slice(), m) {
             Some(i) => self.holdings[i] = Holding::of(m, t, depth),
@@ -136,7 +139,8 @@ impl Holdings {
         }
     }
 
-    /// Thread `t` leaves a monitor once that it holds at this depth: it is free when its one entry is left.
+    /// Thread `t` leaves a monitor once that it holds at this depth: it is free when its one entry
+    /// is left.
     pub fn leave(&mut self, t: u8, m: u64, depth: u64)
         requires { IsSome (holding_at self.old m) }
         ensures { self.new ≡ left_once t m depth self.old }

@@ -1,7 +1,9 @@
 //! The methods that the parts of a thread begin with.
 
-ghost use Rattle.std.specs.Prelude.{◌≡◌, ◌≤◌, ◌<◌, ◌++◌, length, [], ◌∷◌, if◌then◌else◌, OnOk, IfOk};
-ghost use Rattle.machine_types.specs.Parts.{done_roots, init_roots, numbers_of, is_entry_named, run_roots};
+ghost use Rattle.std.specs.Prelude.{◌≡◌, ◌≤◌, ◌<◌, ◌++◌, length, [], ◌∷◌, if◌then◌else◌, OnOk};
+ghost use Rattle.std.specs.Prelude.{IfOk};
+ghost use Rattle.machine_types.specs.Parts.{done_roots, init_roots, numbers_of, is_entry_named};
+ghost use Rattle.machine_types.specs.Parts.{run_roots};
 ghost use Rattle.plain_threads.specs.Roots.{is_plain_root};
 
 use checked_program::Checked;
@@ -54,7 +56,8 @@ fn add_roots(
     root: Root,
 ) -> Result<(), AllocError>
     requires { length methods.now < 4294967296 }
-    ensures { OnOk result (numbers.new ≡ numbers_of (is_plain_root root) 0 methods.now ++ numbers.old) }
+    ensures { OnOk result
+        (numbers.new ≡ numbers_of (is_plain_root root) 0 methods.now ++ numbers.old) }
 {
     for i in (0..methods.len()).rev() {
         match methods.get(i) {

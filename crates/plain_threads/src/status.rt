@@ -3,7 +3,8 @@
 use jvm_types::{End, Thrown};
 use plain_frames::Then;
 
-/// What a thread of the plain machine does next. The first number is the monitor, but of `Throw`, where it is the object.
+/// What a thread of the plain machine does next. The first number is the monitor, but of `Throw`,
+/// where it is the object.
 #[derive(Clone, Copy, Debug, PartialEq, Eq)]
 pub enum Status {
     /// Its next root may begin, when its part is due.

@@ -1,7 +1,9 @@
 //! One thread.
 
-ghost use Rattle.std.specs.Prelude.{◌≡◌, [], ◌∷◌, ◌++◌, drop, slice_set, slice_get, IfOk, OnOk, OnErr};
-ghost use Rattle.machine_types.specs.PlainState.{Run, Throw, first_thread, plain_goes_on, over, ready_thread, plain_root_over, plain_start_thread};
+ghost use Rattle.std.specs.Prelude.{◌≡◌, [], ◌∷◌, ◌++◌, drop, slice_set, slice_get, IfOk, OnOk};
+ghost use Rattle.std.specs.Prelude.{OnErr};
+ghost use Rattle.machine_types.specs.PlainState.{Run, Throw, first_thread, plain_goes_on, over};
+ghost use Rattle.machine_types.specs.PlainState.{ready_thread, plain_root_over, plain_start_thread};
 ghost use Rattle.machine_types.specs.PlainSteps.{waits_on, wakes};
 ghost use Rattle.plain_frames.specs.Changes.{changed, onward_of, root_begun};
 ghost use Rattle.plain_threads.specs.Statuses.{plain_status_of};
@@ -116,7 +118,8 @@ impl Thread {
 
     /// Another frame takes the place of the top one, and the thread is about something else.
     pub fn goes_to(&mut self, f: Frame, status: Status)
-        ensures { self.new ≡ record self.old { frames = slice_set self.old.frames 0 f; status = plain_status_of status } }
+        ensures { self.new ≡ record self.old
+            { frames = slice_set self.old.frames 0 f; status = plain_status_of status } }
     {
         if self.frames.len() > 0 {
             self.frames.set(0, f);
@@ -126,7 +129,8 @@ impl Thread {
 
     /// A frame and one on top of it take the place of the top one.
     fn call(&mut self, caller: Frame, f: Frame) -> Result<(), AllocError>
-        ensures ok { OnOk result (self.new ≡ record self.old { frames = f ∷ slice_set self.old.frames 0 caller }) }
+        ensures ok { OnOk result
+            (self.new ≡ record self.old { frames = f ∷ slice_set self.old.frames 0 caller }) }
         ensures err { OnErr result (self.new ≡ self.old) }
     {
         let height = self.frames.len();
@@ -139,7 +143,8 @@ impl Thread {
 
     /// Changes the frames.
     fn change(&mut self, change: Change) -> Result<(), AllocError>
-        ensures ok { OnOk result (self.new ≡ record self.old { frames = changed change self.old.frames }) }
+        ensures ok { OnOk result
+            (self.new ≡ record self.old { frames = changed change self.old.frames }) }
         ensures err { OnErr result (self.new ≡ self.old) }
     {
         match change {
@@ -188,7 +193,8 @@ impl Thread {
 
     /// Changes the frames and the status.
     fn turn(&mut self, change: Change, status: Status) -> Result<(), AllocError>
-        ensures ok { OnOk result (self.new ≡ record self.old { frames = changed change self.old.frames; status = plain_status_of status }) }
+        ensures ok { OnOk result (self.new ≡ record self.old
+            { frames = changed change self.old.frames; status = plain_status_of status }) }
         ensures err { OnErr result (self.new ≡ self.old) }
     {
         self.change(change)?;
@@ -198,7 +204,8 @@ impl Thread {
 
     /// The thread goes on.
     pub fn go_on(&mut self, alloc: Global, onward: Onward) -> Result<(), AllocError>
-        ensures ok { OnOk result (self.new ≡ plain_goes_on self.old (onward_of self.old.frames onward)) }
+        ensures ok { OnOk result
+            (self.new ≡ plain_goes_on self.old (onward_of self.old.frames onward)) }
         ensures err { OnErr result (self.new ≡ self.old) }
     {
         match onward {
@@ -218,7 +225,8 @@ impl Thread {
         entry: Option<Frame>,
         roots: Stack<u32>,
     ) -> Result<(), AllocError>
-        ensures ok { OnOk result (self.new ≡ plain_goes_on (record self.old { roots = roots }) (root_begun entry)) }
+        ensures ok { OnOk result
+            (self.new ≡ plain_goes_on (record self.old { roots = roots }) (root_begun entry)) }
         ensures err { OnErr result (self.new ≡ self.old) }
     {
         match entry {

@@ -1,10 +1,13 @@
 //! All threads.
 
-ghost use Rattle.std.specs.Prelude.{◌≡◌, ◌<◌, ◌+◌, drop, length, map, slice_get, slice_set, Some, IfOk, OnOk, OnErr, OnSome};
+ghost use Rattle.std.specs.Prelude.{◌≡◌, ◌<◌, ◌+◌, drop, length, map, slice_get, slice_set, Some};
+ghost use Rattle.std.specs.Prelude.{IfOk, OnOk, OnErr, OnSome};
 ghost use Rattle.std.specs.List.{list_any, list_all, range_with_len};
 ghost use Rattle.std.specs.Option.{option_copied};
-ghost use Rattle.machine_types.specs.PlainState.{PlainThread, plain_goes_on, plain_start_thread, with_status};
-ghost use Rattle.machine_types.specs.PlainSteps.{first_is_return, init_has_returned, is_done_due, is_due, is_over, waits_on, wakes};
+ghost use Rattle.machine_types.specs.PlainState.{PlainThread, plain_goes_on, plain_start_thread};
+ghost use Rattle.machine_types.specs.PlainState.{with_status};
+ghost use Rattle.machine_types.specs.PlainSteps.{first_is_return, init_has_returned, is_done_due};
+ghost use Rattle.machine_types.specs.PlainSteps.{is_due, is_over, waits_on, wakes};
 ghost use Rattle.plain_frames.specs.Changes.{onward_of, root_begun};
 ghost use Rattle.plain_threads.specs.Statuses.{plain_status_of};
 
@@ -66,7 +69,8 @@ fn are_over(workers: &[Thread]) -> bool
     workers.iter().all(|worker| is_over(worker))
 }
 
-/// Whether `done` is due: `init` has returned, and each worker has returned or was ended by an exception.
+/// Whether `done` is due: `init` has returned, and each worker has returned or was ended by an
+/// exception.
 fn is_done_due(threads: &[Thread]) -> bool
     ensures { result ≡ is_done_due threads.now }
 {
@@ -79,7 +83,9 @@ fn is_done_due(threads: &[Thread]) -> bool
 impl Threads {
     /// The threads at the start.
     pub fn start(alloc: Global, p: &Checked) -> Result<Threads, AllocError>
-        ensures { IfOk result (λ s. s ≡ map (plain_start_thread p.now.program) (range_with_len 0 (p.now.program.workers + 1))) }
+        ensures { IfOk result (λ s.
+            s ≡ map (plain_start_thread p.now.program)
+            (range_with_len 0 (p.now.program.workers + 1))) }
     {
         let count = p.workers() as usize + 1;
         let mut threads = Vec::with_capacity(alloc, count)?;
@@ -111,7 +117,8 @@ impl Threads {
         &self.threads[t as usize]
     }
 
-    /// Whether `done` is due: `init` has returned, and each worker has returned or was ended by an exception.
+    /// Whether `done` is due: `init` has returned, and each worker has returned or was ended by an
+    /// exception.
     pub fn is_done_due(&self) -> bool
         ensures { result ≡ is_done_due self.now }
     {
@@ -134,15 +141,19 @@ impl Threads {
 
     pub fn set_status(&mut self, t: u8, status: Status)
         requires { t < length self.old }
-        ensures { (x : PlainThread) → slice_get self.old t ≡ Some x → self.new ≡ slice_set self.old t (with_status x (plain_status_of status)) }
+        ensures { (x : PlainThread) → slice_get self.old t ≡ Some x
+            → self.new ≡ slice_set self.old t (with_status x (plain_status_of status)) }
     {
         self.threads[t as usize].set_status(status);
     }
 
-    /// Another frame takes the place of the top one of a thread, and the thread is about something else.
+    /// Another frame takes the place of the top one of a thread, and the thread is about something
+    /// else.
     pub fn goes_to(&mut self, t: u8, f: Frame, status: Status)
         requires { t < length self.old }
-        ensures { (x : PlainThread) → slice_get self.old t ≡ Some x → self.new ≡ slice_set self.old t (record x { frames = slice_set x.frames 0 f; status = plain_status_of status }) }
+        ensures { (x : PlainThread) → slice_get self.old t ≡ Some x → self.new ≡ slice_set self.old
+            t (record x
+            { frames = slice_set x.frames 0 f; status = plain_status_of status }) }
     {
         self.threads[t as usize].goes_to(f, status);
     }
@@ -150,7 +161,8 @@ impl Threads {
     /// A thread goes on.
     pub fn go_on(&mut self, alloc: Global, t: u8, onward: Onward) -> Result<(), AllocError>
         requires { t < length self.old }
-        ensures ok { OnOk result ((x : PlainThread) → slice_get self.old t ≡ Some x → self.new ≡ slice_set self.old t (plain_goes_on x (onward_of x.frames onward))) }
+        ensures ok { OnOk result ((x : PlainThread) → slice_get self.old t ≡ Some x
+            → self.new ≡ slice_set self.old t (plain_goes_on x (onward_of x.frames onward))) }
         ensures err { OnErr result (self.new ≡ self.old) }
     {
         self.threads[t as usize].go_on(alloc, onward)
@@ -165,7 +177,9 @@ impl Threads {
         roots: Stack<u32>,
     ) -> Result<(), AllocError>
         requires { t < length self.old }
-        ensures ok { OnOk result ((x : PlainThread) → slice_get self.old t ≡ Some x → self.new ≡ slice_set self.old t (plain_goes_on (record x { roots = roots }) (root_begun entry))) }
+        ensures ok { OnOk result ((x : PlainThread) → slice_get self.old t ≡ Some x → self.new ≡
+            slice_set self.old t
+            (plain_goes_on (record x { roots = roots }) (root_begun entry))) }
         ensures err { OnErr result (self.new ≡ self.old) }
     {
         self.threads[t as usize].begin(alloc, entry, roots)
@@ -181,7 +195,8 @@ impl Threads {
     /// Wakes a thread that is in the wait set of a monitor.
     pub fn wake(&mut self, u: u8, m: u64)
         requires { u < length self.old }
-        ensures { (x : PlainThread) → slice_get self.old u ≡ Some x → self.new ≡ slice_set self.old u (wakes m x) }
+        ensures { (x : PlainThread) → slice_get self.old u ≡ Some x
+            → self.new ≡ slice_set self.old u (wakes m x) }
     {
         self.threads[u as usize].wake(m);
     }

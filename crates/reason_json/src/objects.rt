@@ -4,7 +4,8 @@ ghost use Rattle.std.specs.Prelude.{◌≡◌, ◌++◌, length, OnOk, IfOk};
 ghost use Rattle.std.specs.Option.{option_copied};
 ghost use Rattle.reason_json.specs.ReasonJson.{again_object, call_object, cause_kind, cause_member};
 ghost use Rattle.reason_json.specs.ReasonJson.{cause_members, cause_place, constructor_member};
-ghost use Rattle.reason_json.specs.ReasonJson.{insn_members, mark_member, method_object, objects_text};
+ghost use Rattle.reason_json.specs.ReasonJson.{insn_members, mark_member, method_object};
+ghost use Rattle.reason_json.specs.ReasonJson.{objects_text};
 ghost use Rattle.reason_json.specs.ReasonJson.{reason_members, rule_members, section_head};
 ghost use Rattle.reason_json.specs.ReasonJson.{section_method, section_object, site_members};
 ghost use Rattle.reason_json.specs.ReasonJson.{site_object, some_reason_members, spot_member};
@@ -20,7 +21,8 @@ use std::alloc::{AllocError, Global};
 
 /// `,"pc":N,"instruction":MNEMONIC`
 fn write_insn(out: &mut Vec<u8>, alloc: Global, insn: Option<&Insn>) -> Result<(), AllocError>
-    ensures { OnOk result (out.new.items ≡ out.old.items ++ insn_members (option_copied insn.entry)) }
+    ensures { OnOk result
+        (out.new.items ≡ out.old.items ++ insn_members (option_copied insn.entry)) }
 {
     match insn {
         Some(there) => {
@@ -101,7 +103,8 @@ fn write_again(
     p: &Program,
     site: Option<&Site>,
 ) -> Result<(), AllocError>
-    ensures { OnOk result (out.new.items ≡ out.old.items ++ again_object p.now (option_copied site.entry)) }
+    ensures { OnOk result
+        (out.new.items ≡ out.old.items ++ again_object p.now (option_copied site.entry)) }
 {
     match site {
         Some(x) => write_method_object(out, alloc, p, x.method),

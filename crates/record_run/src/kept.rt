@@ -1,6 +1,7 @@
 //! The machine and its order under the lock.
 
-ghost use Rattle.std.specs.Prelude.{◌≡◌, ◌≤◌, ◌<◌, [], ◌∷◌, ◌++◌, ◌+◌, length, nat_le, MatchOption, true};
+ghost use Rattle.std.specs.Prelude.{◌≡◌, ◌≤◌, ◌<◌, [], ◌∷◌, ◌++◌, ◌+◌, length, nat_le, MatchOption};
+ghost use Rattle.std.specs.Prelude.{true};
 ghost use Rattle.jvm_types.specs.declared.limits.TheConstants.{MOST_WORKERS};
 ghost use Rattle.laws_states.specs.WorkLeft.{all_work};
 ghost use Rattle.machine_types.specs.Core.{event};
@@ -13,7 +14,8 @@ use jvm_types::Room;
 use replay_runner::{Machine, Shared, next_live, replay_workers};
 use std::marker::{Brand, Model, PhantomData};
 
-/// Which run it is: its program, its settings, and how many events it keeps. Each call at `Brand` picks it.
+/// Which run it is: its program, its settings, and how many events it keeps. Each call at `Brand`
+/// picks it.
 pub(crate) trait Naming {
     ghost use Rattle.std.specs.Prelude.{Option};
     ghost use Rattle.record_run.specs.Kept.{NamedRecord};
@@ -27,8 +29,9 @@ impl Naming for Brand {
     ghost run = { None };
 }
 
-/// The machine of the run that `J` names, and the order of the workers' events that led it to its state: the first `most` of
-/// them, for which there is room. Contracts see the machine, the order and `most`.
+/// The machine of the run that `J` names, and the order of the workers' events that led it to its
+/// state: the first `most` of them, for which there is room. Contracts see the machine, the order
+/// and `most`.
 #[derive(Drop)]
 pub(crate) struct Recording<J: Naming> {
     machine: Machine,
@@ -51,7 +54,8 @@ impl<J: Naming> Model for Recording<J> {
 impl<J: Naming> Recording<J> {
     /// Keeps a machine whose workers begin, and room for the order of their events.
     pub(crate) fn of(machine: Machine, order: Room<u8>, most: u32) -> Recording<J>
-        requires named { J.run ≡ Some (record { program = machine.program; cfg = machine.cfg; most = most }) }
+        requires named { J.run
+            ≡ Some (record { program = machine.program; cfg = machine.cfg; most = most }) }
         requires begun { HaveBegun machine.program machine.cfg machine.core }
         requires none { order.items ≡ [] }
         requires room { most ≤ order.spare }
@@ -85,7 +89,8 @@ impl<J: Naming> Recording<J> {
         requires live { is_live_worker self.old.machine.core t ≡ true }
         requires room { length self.old.order < self.old.most }
         ensures order { self.new.order ≡ self.old.order ++ t ∷ [] }
-        ensures event { self.new.machine ≡ record self.old.machine { core = event self.old.machine.program self.old.machine.core t } }
+        ensures event { self.new.machine ≡ record self.old.machine
+            { core = event self.old.machine.program self.old.machine.core t } }
         ensures most { self.new.most ≡ self.old.most }
         ensures less { all_work self.new.machine.core < all_work self.old.machine.core }
     {
@@ -93,10 +98,13 @@ impl<J: Naming> Recording<J> {
         self.order.push(t);
     }
 
-    /// Whose event is recorded next: that of the least live worker of a number at or above, or of all where none is.
+    /// Whose event is recorded next: that of the least live worker of a number at or above, or of
+    /// all where none is.
     fn next_turn(&self, from: u8) -> Option<u8>
         requires { 1 ≤ from }
-        ensures { MatchOption result (IsFull self.now) (λ t. (length self.now.order < self.now.most) × (is_live_worker self.now.machine.core t ≡ true) × (t ≤ MOST_WORKERS)) }
+        ensures { MatchOption result (IsFull self.now) (λ t.
+            (length self.now.order < self.now.most)
+            × (is_live_worker self.now.machine.core t ≡ true) × (t ≤ MOST_WORKERS)) }
     {
         if self.is_full() {
             return None;
@@ -104,7 +112,8 @@ impl<J: Naming> Recording<J> {
         next_live(&self.machine, 1, from)
     }
 
-    /// Gives each live worker an event in its turn, in the order of their numbers, and records it, while there is room.
+    /// Gives each live worker an event in its turn, in the order of their numbers, and records it,
+    /// while there is room.
     fn record_rounds(&mut self, p: &Checked)
         requires { IsRecordOfProgram J.run p.now }
         ensures { IsFull self.new }
@@ -116,7 +125,8 @@ impl<J: Naming> Recording<J> {
         }
     }
 
-    /// Runs what is left of the run, which goes as a replay does behind its order, and answers what the run came to.
+    /// Runs what is left of the run, which goes as a replay does behind its order, and answers what
+    /// the run came to.
     pub(crate) fn finish(self, p: &Checked) -> Recorded
         requires program { IsRecordOfProgram J.run p.now }
         requires full { IsFull self }

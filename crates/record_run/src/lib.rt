@@ -1,4 +1,5 @@
-//! A run on threads of the system that keeps the order of its workers' events, so that a replay makes the same run again.
+//! A run on threads of the system that keeps the order of its workers' events, so that a replay
+//! makes the same run again.
 #![tactic(auto)]
 
 mod kept;

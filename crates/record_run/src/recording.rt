@@ -19,7 +19,8 @@ use std::thread::Threads;
 /// How many events a run can keep at most.
 pub const MOST_EVENTS: u32 = 100_000;
 
-/// What a recorded run came to, and the workers whose events were kept, each by its number, in the order of these events.
+/// What a recorded run came to, and the workers whose events were kept, each by its number, in the
+/// order of these events.
 #[derive(Debug, Drop)]
 pub struct Recorded {
     pub outcome: Outcome,
@@ -35,7 +36,8 @@ fn record_named<J: Naming + Send + Sync, R: Threads + Wait + Sync, G: Gate + Syn
     p: &Checked,
     most: u32,
 ) -> Recorded
-    requires named { J.run ≡ Some (record { program = machine.program; cfg = machine.cfg; most = most }) }
+    requires named { J.run
+        ≡ Some (record { program = machine.program; cfg = machine.cfg; most = most }) }
     requires begun { HaveBegun machine.program machine.cfg machine.core }
     requires program { p.now ≡ machine.program }
     requires none { order.items ≡ [] }
@@ -48,15 +50,18 @@ fn record_named<J: Naming + Send + Sync, R: Threads + Wait + Sync, G: Gate + Syn
     recording.finish(p)
 }
 
-/// Runs a program to its end as `replay_runner::run_locked` does, and keeps the order of the workers' events, the first `events`
-/// of them: `init` on the caller's thread, then the workers, each on a thread of its own, of which each event holds the one
-/// lock for itself, then `done`. Worker `t` calls `gate.pass(t)` once, before its first event and while it holds no lock.
+/// Runs a program to its end as `replay_runner::run_locked` does, and keeps the order of the
+/// workers' events, the first `events` of them: `init` on the caller's thread, then the workers,
+/// each on a thread of its own, of which each event holds the one lock for itself, then `done`.
+/// Worker `t` calls `gate.pass(t)` once, before its first event and while it holds no lock.
 ///
-/// The order is one that `replay_runner::replay` takes, and a replay by it comes to this outcome (`recorded_orders_replay`).
-/// Each number in it is that of a worker that was live as its turn came, and it is shorter than `events` only where it has all
-/// events of the workers. What comes behind the last event that is kept goes round by round, as in a replay. Which order it is
-/// depends on the system, and nothing is promised of it, as for `run_locked`. It answers `AllocError` where memory is wanted,
-/// which is taken at the start alone. It may wait for the lock.
+/// The order is one that `replay_runner::replay` takes, and a replay by it comes to this outcome
+/// (`recorded_orders_replay`). Each number in it is that of a worker that was live as its turn
+/// came, and it is shorter than `events` only where it has all events of the workers. What comes
+/// behind the last event that is kept goes round by round, as in a replay. Which order it is
+/// depends on the system, and nothing is promised of it, as for `run_locked`. It answers
+/// `AllocError` where memory is wanted, which is taken at the start alone. It may wait for the
+/// lock.
 pub fn run_recorded<R: Threads + Wait + Sync, G: Gate + Sync>(
     rt: &R,
     alloc: Global,

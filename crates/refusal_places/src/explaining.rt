@@ -3,7 +3,8 @@
 ghost use Rattle.std.specs.Prelude.{◌≡◌, ◌++◌, IfErr, IfOk, OnOk};
 ghost use Rattle.std.specs.Option.{option_copied};
 ghost use Rattle.jvm_types.specs.ClassGrammar.{Spells};
-ghost use Rattle.refusal_places.specs.Explained.{Explains, IsClassSpelled, found_facts, offset_facts, refusal_facts};
+ghost use Rattle.refusal_places.specs.Explained.{Explains, IsClassSpelled, found_facts};
+ghost use Rattle.refusal_places.specs.Explained.{offset_facts, refusal_facts};
 
 use crate::facts::{Fact, Key};
 use crate::naming::{count, say, tell_class};
@@ -75,10 +76,11 @@ fn facts_of(
     Ok(facts)
 }
 
-/// What is said of a refusal by a rule at a place: the line of it, the file by its name, and then, in the class that the content of
-/// the file spells, the class and what the place is of by name, with the line of the source where the class has line numbers
-/// (JVMS 4.7.8); the rule in a sentence, and what to write instead. Where the content spells no class, or was too long to be read
-/// (`None`), the offset stands in place of the names.
+/// What is said of a refusal by a rule at a place: the line of it, the file by its name, and then,
+/// in the class that the content of the file spells, the class and what the place is of by name,
+/// with the line of the source where the class has line numbers (JVMS 4.7.8); the rule in a
+/// sentence, and what to write instead. Where the content spells no class, or was too long to be
+/// read (`None`), the offset stands in place of the names.
 pub fn explained_refusal(
     alloc: Global,
     form: Form,
@@ -87,7 +89,8 @@ pub fn explained_refusal(
     name: &[u8],
     content: Option<&Bytes>,
 ) -> Result<Bytes, AllocError>
-    ensures { IfOk result (λ text. Explains form rule place name.now (option_copied content.entry) text) }
+    ensures { IfOk result
+        (λ text. Explains form rule place name.now (option_copied content.entry) text) }
 {
     let found = class_of(alloc, content)?;
     let facts = facts_of(alloc, rule, place, name, &found)?;

@@ -6,8 +6,17 @@ ghost use Rattle.std.specs.List.{flat_map};
 ghost use Rattle.std.specs.Option.{option_copied};
 ghost use Rattle.jvm_types.specs.ClassNames.{text_at as the_text_at};
 ghost use Rattle.jvm_types.specs.Linked.{code_of as the_code_of};
-ghost use Rattle.refusal_places.specs.Naming.{at_field, at_instruction, at_method, at_row, at_use, begun_fact, begun_facts, catch_facts, class_facts, constant_facts, constant_words as the_constant_words, pool_entry_at as the_entry_at, field_fact, first_byte as the_first_byte, has_index as has_the_index, index_in as the_index_in, instruction_facts, line_facts, member_words, method_fact, pair_words, pc_facts, row_facts, source_facts, spot_facts, words_or_opcode};
-ghost use Rattle.refusal_places.specs.declared.facts.Fact.TheVariants.{Said, Counted as CountedFact};
+ghost use Rattle.refusal_places.specs.Naming.{at_field, at_instruction, at_method, at_row, at_use};
+ghost use Rattle.refusal_places.specs.Naming.{begun_fact, begun_facts, catch_facts, class_facts};
+ghost use Rattle.refusal_places.specs.Naming.{constant_facts, constant_words as the_constant_words};
+ghost use Rattle.refusal_places.specs.Naming.{pool_entry_at as the_entry_at, field_fact};
+ghost use Rattle.refusal_places.specs.Naming.{first_byte as the_first_byte};
+ghost use Rattle.refusal_places.specs.Naming.{has_index as has_the_index, index_in as the_index_in};
+ghost use Rattle.refusal_places.specs.Naming.{instruction_facts, line_facts, member_words};
+ghost use Rattle.refusal_places.specs.Naming.{method_fact, pair_words, pc_facts, row_facts};
+ghost use Rattle.refusal_places.specs.Naming.{source_facts, spot_facts, words_or_opcode};
+ghost use Rattle.refusal_places.specs.declared.facts.Fact.TheVariants.{Said};
+ghost use Rattle.refusal_places.specs.declared.facts.Fact.TheVariants.{Counted as CountedFact};
 
 use crate::facts::{Fact, Key};
 use crate::source_lines::{LineStart, first_index, line_start, source_name};
@@ -40,7 +49,8 @@ fn write_pair(
     between: &[u8],
     member: u16,
 ) -> Result<(), AllocError>
-    ensures { OnOk result (out.new.items ≡ out.old.items ++ pair_words pool.now between.now (slice_get pool.now member)) }
+    ensures { OnOk result (out.new.items
+        ≡ out.old.items ++ pair_words pool.now between.now (slice_get pool.now member)) }
 {
     let Some(Constant::NameAndType(name, descriptor)) = pool.get(usize::from(member)) else {
         return Ok(());
@@ -57,7 +67,8 @@ fn write_member(
     class: u16,
     member: u16,
 ) -> Result<(), AllocError>
-    ensures { OnOk result (out.new.items ≡ out.old.items ++ member_words pool.now between.now class member) }
+    ensures { OnOk result
+        (out.new.items ≡ out.old.items ++ member_words pool.now between.now class member) }
 {
     out.extend_from_slice(class_text_at(pool, class))?;
     out.extend_from_slice(b".")?;
@@ -71,7 +82,8 @@ fn write_name_and_type(
     name: u16,
     descriptor: u16,
 ) -> Result<(), AllocError>
-    ensures { OnOk result (out.new.items ≡ out.old.items ++ (the_text_at pool.now name ++ between.now ++ the_text_at pool.now descriptor)) }
+    ensures { OnOk result (out.new.items ≡ out.old.items
+        ++ (the_text_at pool.now name ++ between.now ++ the_text_at pool.now descriptor)) }
 {
     out.extend_from_slice(text_at(pool, name))?;
     out.extend_from_slice(between)?;
@@ -121,7 +133,8 @@ fn tell_constant(
     pool: &Rows<Constant>,
     entry: Option<&Constant>,
 ) -> Result<(), AllocError>
-    ensures { OnOk result (facts.new ≡ facts.old ++ constant_facts pool.now (option_copied entry.entry)) }
+    ensures { OnOk result
+        (facts.new ≡ facts.old ++ constant_facts pool.now (option_copied entry.entry)) }
 {
     let Some(entry) = entry else {
         return Ok(());
@@ -175,7 +188,9 @@ fn tell_opcode(
     opcode: u8,
     name: Option<&str>,
 ) -> Result<(), AllocError>
-    ensures { OnOk result (facts.new ≡ facts.old ++ Said Key.Instruction (words_or_opcode opcode (option_copied name.entry)) ∷ []) }
+    ensures { OnOk result (facts.new ≡ facts.old
+        ++ Said Key.Instruction (words_or_opcode opcode (option_copied name.entry))
+        ∷ []) }
 {
     match name {
         Some(name) => say(facts, alloc, Key::Instruction, name.as_bytes()),
@@ -327,7 +342,8 @@ fn tell_row(
     number: u32,
     row: Option<&Handler>,
 ) -> Result<(), AllocError>
-    ensures { OnOk result (facts.new ≡ facts.old ++ row_facts pool.now number (option_copied row.entry)) }
+    ensures { OnOk result
+        (facts.new ≡ facts.old ++ row_facts pool.now number (option_copied row.entry)) }
 {
     let Some(row) = row else {
         return Ok(());
@@ -447,7 +463,8 @@ fn tell_spot(
 }
 
 fn tell_source(facts: &mut Rows<Fact>, alloc: Global, name: Option<&[u8]>) -> Result<(), AllocError>
-    ensures { OnOk result (facts.new ≡ facts.old ++ source_facts (option_map (λ s. s.now) name.entry)) }
+    ensures { OnOk result
+        (facts.new ≡ facts.old ++ source_facts (option_map (λ s. s.now) name.entry)) }
 {
     match name {
         Some(name) => say(facts, alloc, Key::Source, name),

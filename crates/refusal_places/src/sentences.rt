@@ -1,7 +1,19 @@
 //! Each rule of refusal in a sentence, and what to write instead.
 
 ghost use Rattle.std.specs.Prelude.{◌≡◌};
-ghost use Rattle.refusal_places.specs.Sentences.{reading_means as the_reading_means, reading_instead as the_reading_instead, decoding_means as the_decoding_means, decoding_instead as the_decoding_instead, linking_means as the_linking_means, linking_instead as the_linking_instead, verifying_means as the_verifying_means, verifying_instead as the_verifying_instead, tagging_means as the_tagging_means, tagging_instead as the_tagging_instead, assembling_means as the_assembling_means, assembling_instead as the_assembling_instead, means as the_means, instead as the_instead};
+ghost use Rattle.refusal_places.specs.Sentences.{reading_means as the_reading_means};
+ghost use Rattle.refusal_places.specs.Sentences.{reading_instead as the_reading_instead};
+ghost use Rattle.refusal_places.specs.Sentences.{decoding_means as the_decoding_means};
+ghost use Rattle.refusal_places.specs.Sentences.{decoding_instead as the_decoding_instead};
+ghost use Rattle.refusal_places.specs.Sentences.{linking_means as the_linking_means};
+ghost use Rattle.refusal_places.specs.Sentences.{linking_instead as the_linking_instead};
+ghost use Rattle.refusal_places.specs.Sentences.{verifying_means as the_verifying_means};
+ghost use Rattle.refusal_places.specs.Sentences.{verifying_instead as the_verifying_instead};
+ghost use Rattle.refusal_places.specs.Sentences.{tagging_means as the_tagging_means};
+ghost use Rattle.refusal_places.specs.Sentences.{tagging_instead as the_tagging_instead};
+ghost use Rattle.refusal_places.specs.Sentences.{assembling_means as the_assembling_means};
+ghost use Rattle.refusal_places.specs.Sentences.{assembling_instead as the_assembling_instead};
+ghost use Rattle.refusal_places.specs.Sentences.{means as the_means, instead as the_instead};
 
 use jvm_types::{ARule, CRule, KRule, LRule, Rule, SRule, VRule};
 

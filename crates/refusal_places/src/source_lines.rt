@@ -1,8 +1,14 @@
-//! The line of the source that an instruction comes from (JVMS 4.7.8), and the name of the source (JVMS 4.7.7).
+//! The line of the source that an instruction comes from (JVMS 4.7.8), and the name of the source
+//! (JVMS 4.7.7).
 
 ghost use Rattle.std.specs.Prelude.{◌≡◌, drop, None, option_map};
 ghost use Rattle.std.specs.Option.{option_copied};
-ghost use Rattle.refusal_places.specs.SourceLines.{first_index as the_first_index, is_named as has_name, later as the_later, latest_start, latest_among, name_at as the_name_at, source_name as the_source_name, start_of, starts_in, starts_of};
+ghost use Rattle.refusal_places.specs.SourceLines.{first_index as the_first_index};
+ghost use Rattle.refusal_places.specs.SourceLines.{is_named as has_name, later as the_later};
+ghost use Rattle.refusal_places.specs.SourceLines.{latest_start, latest_among};
+ghost use Rattle.refusal_places.specs.SourceLines.{name_at as the_name_at};
+ghost use Rattle.refusal_places.specs.SourceLines.{source_name as the_source_name, start_of};
+ghost use Rattle.refusal_places.specs.SourceLines.{starts_in, starts_of};
 
 use constant_pools::pool_texts::text_at;
 use jvm_types::{Attr, Constant, Rows};
@@ -78,7 +84,8 @@ fn latest_of(
     }
 }
 
-/// Where the line of the instruction at a pc begins, by the attributes of its code. None: they have no line numbers for it.
+/// Where the line of the instruction at a pc begins, by the attributes of its code. None: they have
+/// no line numbers for it.
 pub fn line_start(pool: &Rows<Constant>, pc: u32, attrs: &[Attr]) -> Option<LineStart>
     ensures { result ≡ latest_among pool.now pc None attrs.now }
 {

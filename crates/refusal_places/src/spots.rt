@@ -1,11 +1,15 @@
 //! What a place is of.
 
 ghost use Rattle.std.specs.Prelude.{◌≡◌};
-ghost use Rattle.refusal_places.specs.Spots.{class_spot as the_class_spot, code_spot as the_code_spot, link_spot as the_link_spot, method_spot as the_method_spot, spot as the_spot};
+ghost use Rattle.refusal_places.specs.Spots.{class_spot as the_class_spot};
+ghost use Rattle.refusal_places.specs.Spots.{code_spot as the_code_spot};
+ghost use Rattle.refusal_places.specs.Spots.{link_spot as the_link_spot};
+ghost use Rattle.refusal_places.specs.Spots.{method_spot as the_method_spot, spot as the_spot};
 
 use jvm_types::{KRule, LRule, NO_METHOD, Place, Rule};
 
-/// What a place is of. A method, a field and a handler row are told by their numbers, an instruction by its pc.
+/// What a place is of. A method, a field and a handler row are told by their numbers, an
+/// instruction by its pc.
 #[derive(Clone, Copy, Debug, PartialEq, Eq)]
 pub enum Spot {
     /// A byte of a file.

@@ -3,7 +3,9 @@
 ghost use Rattle.std.specs.Prelude.{◌≡◌, ◌++◌, codes, IfOk, OnOk};
 ghost use Rattle.std.specs.List.{flat_map};
 ghost use Rattle.json_lines.specs.Json.{number_behind};
-ghost use Rattle.refusal_places.specs.Facts.{fact_line, fact_member, head_text, lines_text, method_member, refusal_object, place_members, told_text};
+ghost use Rattle.refusal_places.specs.Facts.{fact_line, fact_member, head_text, lines_text};
+ghost use Rattle.refusal_places.specs.Facts.{method_member, refusal_object, place_members};
+ghost use Rattle.refusal_places.specs.Facts.{told_text};
 
 use crate::facts::Fact;
 use json_lines::{
@@ -85,7 +87,8 @@ fn write_numbers(
     method: u16,
     at: u32,
 ) -> Result<(), AllocError>
-    ensures { OnOk result (out.new.items ≡ out.old.items ++ (number_behind (codes "file_number") file ++ method_member method ++ number_behind (codes "at") at)) }
+    ensures { OnOk result (out.new.items ≡ out.old.items ++ (number_behind (codes "file_number")
+        file ++ method_member method ++ number_behind (codes "at") at)) }
 {
     write_counted(out, alloc, "file_number", file)?;
     write_method(out, alloc, method)?;

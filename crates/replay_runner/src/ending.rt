@@ -15,7 +15,8 @@ use laws_threads::given_is_kept;
 /// The least live thread of a number at or above `from`, or where none is, at or above `least`.
 pub fn next_live(machine: &Machine, least: u8, from: u8) -> Option<u8>
     requires { least ≤ from }
-    ensures live { MatchOption result ((t : ℕ) → least ≤ t → lives machine.now.core t ≡ false) (λ t. (lives machine.now.core t ≡ true) × (least ≤ t) × (t ≤ MOST_WORKERS)) }
+    ensures live { MatchOption result ((t : ℕ) → least ≤ t → lives machine.now.core t ≡ false)
+        (λ t. (lives machine.now.core t ≡ true) × (least ≤ t) × (t ≤ MOST_WORKERS)) }
     ensures turn { IfSome result (IsInTurn machine.now.core least from) }
 {
     for t in from..=machine.workers() {
@@ -31,8 +32,8 @@ pub fn next_live(machine: &Machine, least: u8, from: u8) -> Option<u8>
     None
 }
 
-/// Gives each live thread an event in its turn, in the order of their numbers, until none is live. Each event leaves less for
-/// them to do.
+/// Gives each live thread an event in its turn, in the order of their numbers, until none is live.
+/// Each event leaves less for them to do.
 pub(crate) fn run_live<J: Naming>(locked: &mut Locked<J>, p: &Checked)
     requires { IsOfProgram J.run p.now }
     ensures dead { (t : ℕ) → lives locked.new.core t ≡ false }
@@ -46,8 +47,8 @@ pub(crate) fn run_live<J: Naming>(locked: &mut Locked<J>, p: &Checked)
     }
 }
 
-/// Runs what is left of a run: each thread that is still live has its events round by round, and each part that may begin
-/// then begins.
+/// Runs what is left of a run: each thread that is still live has its events round by round, and
+/// each part that may begin then begins.
 pub(crate) fn finish<J: Naming>(locked: &mut Locked<J>, p: &Checked)
     requires { IsOfProgram J.run p.now }
     ensures { IsOver locked.new.core }

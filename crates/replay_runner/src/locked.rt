@@ -1,6 +1,7 @@
 //! The machine under the lock.
 
-ghost use Rattle.std.specs.Prelude.{◌≡◌, ◌≤◌, ◌+◌, ◌<◌, ℕ, true, false, length, IfSome, MatchOption};
+ghost use Rattle.std.specs.Prelude.{◌≡◌, ◌≤◌, ◌+◌, ◌<◌, ℕ, true, false, length, IfSome};
+ghost use Rattle.std.specs.Prelude.{MatchOption};
 ghost use Rattle.jvm_types.specs.declared.limits.TheConstants.{MOST_WORKERS};
 ghost use Rattle.machine_types.specs.Core.{event, lives, may_begin, next};
 ghost use Rattle.machine_types.specs.Faithful.{IsOver};
@@ -30,8 +31,8 @@ impl Naming for Brand {
     ghost run = { None };
 }
 
-/// The machine of the run that `J` names, in a state that this run reaches, whichever thread made the last event. Contracts see
-/// the machine.
+/// The machine of the run that `J` names, in a state that this run reaches, whichever thread made
+/// the last event. Contracts see the machine.
 #[derive(Drop)]
 pub(crate) struct Locked<J: Naming> {
     machine: Machine,
@@ -71,7 +72,8 @@ impl<J: Naming> Locked<J> {
 
     /// The least live thread of a number at or above, or of all where none is.
     pub(crate) fn next_live(&self, from: u8) -> Option<u8>
-        ensures live { MatchOption result ((t : ℕ) → lives self.now.core t ≡ false) (λ t. (lives self.now.core t ≡ true) × (t ≤ MOST_WORKERS)) }
+        ensures live { MatchOption result ((t : ℕ) → lives self.now.core t ≡ false)
+            (λ t. (lives self.now.core t ≡ true) × (t ≤ MOST_WORKERS)) }
         ensures turn { IfSome result (IsInTurn self.now.core 0 from) }
     {
         next_live(&self.machine, 0, from)
@@ -81,9 +83,11 @@ impl<J: Naming> Locked<J> {
     pub(crate) fn event(&mut self, p: &Checked, t: u8) -> bool
         requires { IsOfProgram J.run p.now }
         ensures live { result ≡ lives self.old.core t }
-        ensures event { self.new ≡ record self.old { core = event self.old.program self.old.core t } }
+        ensures event { self.new
+            ≡ record self.old { core = event self.old.program self.old.core t } }
         ensures still { result ≡ false → self.new ≡ self.old }
-        ensures less { lives self.old.core t ≡ true → all_work self.new.core < all_work self.old.core }
+        ensures less { lives self.old.core t ≡ true
+            → all_work self.new.core < all_work self.old.core }
     {
         one_more_happens();
         self.machine.event(p, t)

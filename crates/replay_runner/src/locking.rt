@@ -40,14 +40,16 @@ fn run_named<J: Naming + Send + Sync, R: Threads + Wait + Sync, G: Gate + Sync>(
     locked.outcome()
 }
 
-/// Runs a program to its end, each worker on a thread of its own, and the machine under one lock: `init` on the caller's thread,
-/// then the workers, of which each event holds the lock for itself, then `done`. Worker `t` calls `gate.pass(t)` once, before its
-/// first event and while it holds no lock.
+/// Runs a program to its end, each worker on a thread of its own, and the machine under one lock:
+/// `init` on the caller's thread, then the workers, of which each event holds the lock for itself,
+/// then `done`. Worker `t` calls `gate.pass(t)` once, before its first event and while it holds no
+/// lock.
 ///
-/// What it answers is the outcome of a state that some list of events reaches, and behind which nothing comes. Which list that
-/// is depends on the system, and nothing is promised of it: neither that each worker has its turn, nor how long one waits, nor
-/// that workers run beside each other, since they run one after another where the system gives no thread. It answers
-/// `AllocError` where memory is wanted, which is taken at the start alone. It may wait for the lock.
+/// What it answers is the outcome of a state that some list of events reaches, and behind which
+/// nothing comes. Which list that is depends on the system, and nothing is promised of it: neither
+/// that each worker has its turn, nor how long one waits, nor that workers run beside each other,
+/// since they run one after another where the system gives no thread. It answers `AllocError` where
+/// memory is wanted, which is taken at the start alone. It may wait for the lock.
 pub fn run_locked<R: Threads + Wait + Sync, G: Gate + Sync>(
     rt: &R,
     alloc: Global,

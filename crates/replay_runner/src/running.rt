@@ -1,6 +1,7 @@
 //! The machine: the words that all threads share, and the threads.
 
-ghost use Rattle.std.specs.Prelude.{◌≡◌, ◌+◌, ◌≤◌, ◌<◌, ℕ, true, false, length, map, slice_get, slice_set, unwrap_or, Some, IfOk};
+ghost use Rattle.std.specs.Prelude.{◌≡◌, ◌+◌, ◌≤◌, ◌<◌, ℕ, true, false, length, map, slice_get};
+ghost use Rattle.std.specs.Prelude.{slice_set, unwrap_or, Some, IfOk};
 ghost use Rattle.std.specs.Option.{option_copied};
 ghost use Rattle.machine_types.specs.Core.{event, is_live, lives, may_begin, next, outcome, start};
 ghost use Rattle.machine_types.specs.Settings.{AreSettings};
@@ -60,7 +61,8 @@ fn begin_part(threads: &mut Vec<ThreadState>)
 /// Makes the next event of a thread of a machine.
 fn go(s: &mut ThreadState, p: &Checked, words: &mut Rows<u64>)
     requires { (m : Running) × (t : ℕ) × IsThreadOf m p.now t s.old words.old }
-    ensures { (m : Running) (t : ℕ) → IsThreadOf m p.now t s.old words.old → IsThreadOf (run_on m t 1) p.now t s.new words.new }
+    ensures { (m : Running) (t : ℕ) → IsThreadOf m p.now t s.old words.old
+        → IsThreadOf (run_on m t 1) p.now t s.new words.new }
 {
     reached_fits();
     threads_are_kept();
@@ -68,11 +70,13 @@ fn go(s: &mut ThreadState, p: &Checked, words: &mut Rows<u64>)
     event(s, p, words);
 }
 
-/// Makes events of a live thread of a machine: those that can be made ahead, and one more. They leave less for it to do.
+/// Makes events of a live thread of a machine: those that can be made ahead, and one more. They
+/// leave less for it to do.
 fn go_far(s: &mut ThreadState, p: &Checked, words: &mut Rows<u64>)
     requires thread { (m : Running) × (t : ℕ) × IsThreadOf m p.now t s.old words.old }
     requires live { is_live s.old.phase ≡ true }
-    ensures on { (m : Running) (t : ℕ) → IsThreadOf m p.now t s.old words.old → (n : ℕ) × IsThreadOf (run_on m t n) p.now t s.new words.new }
+    ensures on { (m : Running) (t : ℕ) → IsThreadOf m p.now t s.old words.old
+        → (n : ℕ) × IsThreadOf (run_on m t n) p.now t s.new words.new }
     ensures less { work_left s.new < work_left s.old }
 {
     reached_fits();
@@ -83,10 +87,12 @@ fn go_far(s: &mut ThreadState, p: &Checked, words: &mut Rows<u64>)
     go(s, p, words);
 }
 
-/// Makes the events of a thread of a machine until it is not live. Each of them leaves less for it to do.
+/// Makes the events of a thread of a machine until it is not live. Each of them leaves less for it
+/// to do.
 fn run_far(s: &mut ThreadState, p: &Checked, words: &mut Rows<u64>)
     requires { (m : Running) × (t : ℕ) × IsThreadOf m p.now t s.old words.old }
-    ensures on { (m : Running) (t : ℕ) → IsThreadOf m p.now t s.old words.old → (n : ℕ) × IsThreadOf (run_on m t n) p.now t s.new words.new }
+    ensures on { (m : Running) (t : ℕ) → IsThreadOf m p.now t s.old words.old
+        → (n : ℕ) × IsThreadOf (run_on m t n) p.now t s.new words.new }
     ensures over { is_live s.new.phase ≡ false }
 {
     while s.is_live() {
@@ -95,10 +101,12 @@ fn run_far(s: &mut ThreadState, p: &Checked, words: &mut Rows<u64>)
 }
 
 impl Machine {
-    /// The machine at the start of a run of a program, by these settings. It takes all the memory that the run will use.
+    /// The machine at the start of a run of a program, by these settings. It takes all the memory
+    /// that the run will use.
     pub fn start(alloc: Global, p: &Checked, cfg: &Config) -> Result<Self, AllocError>
         requires { AreSettings cfg.now }
-        ensures { IfOk result (λ m. m ≡ record { program = p.now; cfg = cfg.now; core = start p.now cfg.now }) }
+        ensures { IfOk result
+            (λ m. m ≡ record { program = p.now; cfg = cfg.now; core = start p.now cfg.now }) }
     {
         run_facts_start();
         have_width(*cfg);
@@ -154,7 +162,8 @@ impl Machine {
         }
     }
 
-    /// How many turns thread `t` has failed since its last entry or wait: 0 where there is no such thread.
+    /// How many turns thread `t` has failed since its last entry or wait: 0 where there is no such
+    /// thread.
     #[inline(always)]
     pub fn turns(&self, t: u8) -> u32
         ensures { result ≡ turns_of (slice_get self.now.core.threads t) }
@@ -170,21 +179,25 @@ impl Machine {
     pub(crate) fn live_event(&mut self, p: &Checked, t: u8)
         requires program { p.now ≡ self.old.program }
         requires live { lives self.old.core t ≡ true }
-        ensures event { self.new ≡ record self.old { core = event self.old.program self.old.core t } }
+        ensures event { self.new
+            ≡ record self.old { core = event self.old.program self.old.core t } }
         ensures less { all_work self.new.core < all_work self.old.core }
     {
         events_lessen_all_work();
         go(&mut self.threads[t as usize], p, &mut self.words);
     }
 
-    /// One event of thread `t`: `false` where it is not live or there is none, and then nothing changes.
+    /// One event of thread `t`: `false` where it is not live or there is none, and then nothing
+    /// changes.
     #[inline(always)]
     pub fn event(&mut self, p: &Checked, t: u8) -> bool
         requires { p.now ≡ self.old.program }
         ensures live { result ≡ lives self.old.core t }
-        ensures event { self.new ≡ record self.old { core = event self.old.program self.old.core t } }
+        ensures event { self.new
+            ≡ record self.old { core = event self.old.program self.old.core t } }
         ensures still { result ≡ false → self.new ≡ self.old }
-        ensures less { lives self.old.core t ≡ true → all_work self.new.core < all_work self.old.core }
+        ensures less { lives self.old.core t ≡ true
+            → all_work self.new.core < all_work self.old.core }
     {
         if !self.lives(t) {
             return false;
@@ -198,7 +211,8 @@ impl Machine {
         requires { p.now ≡ self.old.program }
         ensures on { (n : ℕ) × (self.new ≡ run_on self.old t n) }
         ensures over { lives self.new.core t ≡ false }
-        ensures less { lives self.old.core t ≡ true → all_work self.new.core < all_work self.old.core }
+        ensures less { lives self.old.core t ≡ true
+            → all_work self.new.core < all_work self.old.core }
     {
         threads_are_kept();
         run_facts_event();
@@ -208,8 +222,8 @@ impl Machine {
         }
     }
 
-    /// Whether the next part may begin: that of the workers when `init` has returned, or `done` when each worker has returned
-    /// or was ended by an exception.
+    /// Whether the next part may begin: that of the workers when `init` has returned, or `done`
+    /// when each worker has returned or was ended by an exception.
     pub fn may_begin(&self) -> bool
         ensures { result ≡ may_begin self.now.core.threads }
     {

@@ -16,13 +16,15 @@ pub trait Shared {
     /// Whose events they are.
     ghost takes: { MarkedProgram → Type 0 };
 
-    /// What an event of a worker makes of it, by how many turns that has failed then; or that the worker makes no more.
+    /// What an event of a worker makes of it, by how many turns that has failed then; or that the
+    /// worker makes no more.
     ghost makes: { (t : ℕ) → (was now : Self) → Option ℕ → Type 0 };
 
     /// No worker has an event to make.
     ghost over: { Self → Type 0 };
 
-    /// One event of worker `t`, and how many turns it has failed then: `None` where it makes no more.
+    /// One event of worker `t`, and how many turns it has failed then: `None` where it makes no
+    /// more.
     fn make_event(&mut self, p: &Checked, t: u8) -> Option<u32>
         requires { takes p.now }
         ensures { makes t self.old self.new result };
@@ -41,8 +43,8 @@ fn make_event<L: Shared, R: Wait>(rt: &R, shared: &Mutex<L>, p: &Checked, t: u8)
     locked.make_event(p, t)
 }
 
-/// A worker: it passes the gate, and then makes its events until it makes no more. It holds the lock for one event at a time,
-/// and leaves the processor to others behind a turn that failed.
+/// A worker: it passes the gate, and then makes its events until it makes no more. It holds the
+/// lock for one event at a time, and leaves the processor to others behind a turn that failed.
 fn work<L: Shared, R: Wait, G: Gate>(rt: &R, gate: &G, shared: &Mutex<L>, p: &Checked, t: u8)
     requires { L.takes p.now }
 {
@@ -61,8 +63,9 @@ fn work<L: Shared, R: Wait, G: Gate>(rt: &R, gate: &G, shared: &Mutex<L>, p: &Ch
     }
 }
 
-/// Runs so many workers, takes what they share out of the lock when they have returned, and makes the events that they left, so
-/// that no worker has one to make. What else it tells of that is what its type does: not which worker made an event, nor when.
+/// Runs so many workers, takes what they share out of the lock when they have returned, and makes
+/// the events that they left, so that no worker has one to make. What else it tells of that is what
+/// its type does: not which worker made an event, nor when.
 pub fn run_workers<L: Shared + Send, R: Threads + Wait + Sync, G: Gate + Sync>(
     rt: &R,
     gate: &G,

@@ -1,4 +1,5 @@
-//! What every runner needs of a run: the words and the threads at its start, when a part may begin, and how its end is read off.
+//! What every runner needs of a run: the words and the threads at its start, when a part may begin,
+//! and how its end is read off.
 #![tactic(auto)]
 
 mod ending;

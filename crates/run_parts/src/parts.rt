@@ -36,10 +36,12 @@ pub fn have_finished(workers: &[ThreadState]) -> bool
     workers.iter().all(|worker| has_finished(worker))
 }
 
-/// Whether the next part may begin, by thread 0 and by whether all workers have finished: that of the workers when `init` has
-/// returned, or `done` when each worker has returned or was ended by an exception.
+/// Whether the next part may begin, by thread 0 and by whether all workers have finished: that of
+/// the workers when `init` has returned, or `done` when each worker has returned or was ended by an
+/// exception.
 pub fn may_begin(first: &ThreadState, finished: bool) -> bool
-    ensures { (workers : List Thread) → finished ≡ have_finished workers → result ≡ may_begin (first.now ∷ workers) }
+    ensures { (workers : List Thread) → finished ≡ have_finished workers
+        → result ≡ may_begin (first.now ∷ workers) }
 {
     match first.part() {
         0 => has_returned(first),
@@ -48,8 +50,8 @@ pub fn may_begin(first: &ThreadState, finished: bool) -> bool
     }
 }
 
-/// What a part begins with is what each thread's own share makes of it: of every thread where the workers begin, of thread 0
-/// alone where `done` does. `ThreadState::begin_part` takes a share.
+/// What a part begins with is what each thread's own share makes of it: of every thread where the
+/// workers begin, of thread 0 alone where `done` does. `ThreadState::begin_part` takes a share.
 pub fn shares_are_next()
     ensures { SharesAreNext }
 {}

@@ -21,7 +21,9 @@ pub fn start_threads(
     p: &Checked,
     cfg: &Config,
 ) -> Result<Vec<ThreadState>, AllocError>
-    ensures { IfOk result (λ threads. threads.items ≡ map (start_thread p.now cfg.now) (range_with_len 0 (p.now.program.workers + 1))) }
+    ensures { IfOk result (λ threads.
+        threads.items
+        ≡ map (start_thread p.now cfg.now) (range_with_len 0 (p.now.program.workers + 1))) }
 {
     let count = p.workers() as usize + 1;
     let mut threads = Vec::with_capacity(alloc, count)?;

@@ -21,7 +21,8 @@ pub struct CellCounts {
     pub stopped: u8,
 }
 
-/// The report of a run of a cell, in four lines: `cell threads N size S`, `writes W`, `reads R` and `stopped K`.
+/// The report of a run of a cell, in four lines: `cell threads N size S`, `writes W`, `reads R` and
+/// `stopped K`.
 pub fn cell_report(alloc: Global, counts: CellCounts) -> Result<Bytes, AllocError>
     ensures { IfOk result (λ text. text ≡ cell_text counts) }
 {

@@ -1,5 +1,6 @@
-//! Texts: the report of a run, the line of a refusal, that of a file that can't be read, the marks of a program, the summary
-//! of a load, the order of a recorded run, and the report of a run of a cell.
+//! Texts: the report of a run, the line of a refusal, that of a file that can't be read, the marks
+//! of a program, the summary of a load, the order of a recorded run, and the report of a run of a
+//! cell.
 #![tactic(auto)]
 
 pub mod cells;

@@ -7,8 +7,8 @@ use crate::reports::{write_ends, write_prints};
 use jvm_types::{Bytes, Outcome};
 use std::alloc::{AllocError, Global};
 
-/// The summary of a load of that size, made from that number: the line `load size S seed X`, and then the report of its run
-/// without the lines of counts.
+/// The summary of a load of that size, made from that number: the line `load size S seed X`, and
+/// then the report of its run without the lines of counts.
 pub fn summary(alloc: Global, size: u32, seed: u32, outcome: &Outcome) -> Result<Bytes, AllocError>
     requires { 0 < length outcome.now.threads }
     ensures { IfOk result (λ text. text ≡ summary_text size seed outcome.now) }

@@ -1,7 +1,8 @@
 //! The marks of a program as text.
 
 ghost use Rattle.std.specs.Prelude.{◌≡◌, ◌++◌, slice_get, IfOk, OnOk, string_bytes};
-ghost use Rattle.run_texts.specs.MarksText.{class_text, mark_line, marks_text, mark_words, method_words};
+ghost use Rattle.run_texts.specs.MarksText.{class_text, mark_line, marks_text, mark_words};
+ghost use Rattle.run_texts.specs.MarksText.{method_words};
 
 use checked_program::{Checked, SectionMark, Spot};
 use jvm_types::class_numbers::FIRST_FILE_CLASS;
@@ -9,10 +10,10 @@ use jvm_types::{Bytes, Program};
 use std::alloc::{AllocError, Global};
 use std::fmt;
 
-/// The marks of a program: for each synchronized section, in order, a line `CLASS.NAMEDESCRIPTOR SPOT MARK`, where the spot is
-/// `method` for a synchronized method's own section and `block PC` for a block, and the mark is `M0` where the
-/// section may run without its lock, else the first rule that forbids it (the read-only sections of SOLERO, PLDI
-/// 2010).
+/// The marks of a program: for each synchronized section, in order, a line `CLASS.NAMEDESCRIPTOR
+/// SPOT MARK`, where the spot is `method` for a synchronized method's own section and `block PC`
+/// for a block, and the mark is `M0` where the section may run without its lock, else the first
+/// rule that forbids it (the read-only sections of SOLERO, PLDI 2010).
 pub fn mark_text(alloc: Global, c: &Checked) -> Result<Bytes, AllocError>
     ensures { IfOk result (λ text. text ≡ marks_text c.now.program c.now.marks) }
 {
@@ -45,7 +46,8 @@ pub fn write_mark_line(
 
 /// Adds class, name and descriptor of the method of that number.
 pub fn write_method(text: &mut Vec<u8>, p: &Program, method: u32) -> Result<(), AllocError>
-    ensures { OnOk result (text.new.items ≡ text.old.items ++ method_words p.now.names (slice_get p.now.methods method)) }
+    ensures { OnOk result (text.new.items
+        ≡ text.old.items ++ method_words p.now.names (slice_get p.now.methods method)) }
 {
     let Some(m) = p.methods.get(method as usize) else {
         return Ok(());

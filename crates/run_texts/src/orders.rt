@@ -10,8 +10,8 @@ use crate::reports::report;
 use jvm_types::{Bytes, Outcome};
 use std::alloc::{AllocError, Global};
 
-/// The report of a run, and behind it the line `order DIGITS` of the workers that made its events, or `order -` where there are
-/// none.
+/// The report of a run, and behind it the line `order DIGITS` of the workers that made its events,
+/// or `order -` where there are none.
 pub fn recorded_report(alloc: Global, outcome: &Outcome, order: &Bytes) -> Result<Bytes, AllocError>
     requires { 0 < length outcome.now.threads }
     ensures { IfOk result (λ text. text ≡ report_text outcome.now ++ the_order_line order.now) }
@@ -42,7 +42,8 @@ fn write_order(text: &mut String, order: &[u8]) -> Result<(), AllocError>
 }
 
 fn write_numbers(text: &mut String, order: &[u8]) -> Result<(), AllocError>
-    ensures { OnOk result (string_bytes text.new ≡ string_bytes text.old ++ flat_map decimal order.now) }
+    ensures { OnOk result
+        (string_bytes text.new ≡ string_bytes text.old ++ flat_map decimal order.now) }
 {
     for worker in order {
         let number = *worker;

@@ -1,7 +1,8 @@
 //! The line of a refusal.
 
 ghost use Rattle.std.specs.Prelude.{◌≡◌, IfOk};
-ghost use Rattle.run_texts.specs.Refusal.{refusal_text, rule_text, c_number, k_number, l_number, v_number, s_number, a_number};
+ghost use Rattle.run_texts.specs.Refusal.{refusal_text, rule_text, c_number, k_number, l_number};
+ghost use Rattle.run_texts.specs.Refusal.{v_number, s_number, a_number};
 
 use jvm_types::{ARule, Bytes, CRule, KRule, LRule, NO_METHOD, Place, Rule, SRule, VRule};
 use std::alloc::{AllocError, Global};
@@ -27,8 +28,8 @@ pub fn rule_name(alloc: Global, rule: Rule) -> Result<Bytes, AllocError>
     Bytes::from_slice(alloc, name.as_bytes())
 }
 
-/// Displays a refusal by its rule and its place: `refused RULE file I at A`, with ` method J` before ` at` where the place is
-/// in a method.
+/// Displays a refusal by its rule and its place: `refused RULE file I at A`, with ` method J`
+/// before ` at` where the place is in a method.
 #[derive(Clone, Copy)]
 pub struct RefusalText(pub Rule, pub Place);
 

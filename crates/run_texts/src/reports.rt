@@ -2,14 +2,16 @@
 
 ghost use Rattle.std.specs.Prelude.{◌≡◌, ◌<◌, ◌+◌, ◌++◌, IfOk, OnOk, length, string_bytes};
 ghost use Rattle.std.specs.List.{flat_map};
-ghost use Rattle.run_texts.specs.Report.{report_text, by_ticket, print_lines, thrown_name, thread_ends, end_lines, counts_line, counts_lines};
+ghost use Rattle.run_texts.specs.Report.{report_text, by_ticket, print_lines, thrown_name};
+ghost use Rattle.run_texts.specs.Report.{thread_ends, end_lines, counts_line, counts_lines};
 
 use jvm_types::{Bytes, Counts, End, Outcome, Print, ThreadReport, Thrown};
 use std::alloc::{AllocError, Global};
 use std::fmt;
 
-/// The report of a run: the printed numbers in order of their tickets, how each part ended, and what
-/// each thread counted. Prints with one ticket stand in the order of threads, and then of their list.
+/// The report of a run: the printed numbers in order of their tickets, how each part ended, and
+/// what each thread counted. Prints with one ticket stand in the order of threads, and then of
+/// their list.
 pub fn report(alloc: Global, outcome: &Outcome) -> Result<Bytes, AllocError>
     requires { 0 < length outcome.now.threads }
     ensures { IfOk result (λ text. text ≡ report_text outcome.now) }
@@ -24,7 +26,8 @@ pub fn report(alloc: Global, outcome: &Outcome) -> Result<Bytes, AllocError>
 
 /// The prints of all threads in order of their tickets. Those with one ticket stay in their order.
 fn prints_by_ticket(alloc: Global, threads: &[ThreadReport]) -> Result<Vec<Print>, AllocError>
-    ensures { IfOk result (λ prints. prints.items ≡ by_ticket (flat_map (λ t. t.prints) threads.now)) }
+    ensures { IfOk result
+        (λ prints. prints.items ≡ by_ticket (flat_map (λ t. t.prints) threads.now)) }
 {
     let mut prints = prints_by_thread(alloc, threads)?;
     prints.sort_by_key(|print| print.ticket)?;
@@ -47,7 +50,8 @@ pub fn write_prints(
     alloc: Global,
     threads: &[ThreadReport],
 ) -> Result<(), AllocError>
-    ensures { OnOk result (string_bytes text.new ≡ string_bytes text.old ++ print_lines threads.now) }
+    ensures { OnOk result
+        (string_bytes text.new ≡ string_bytes text.old ++ print_lines threads.now) }
 {
     let prints = prints_by_ticket(alloc, threads)?;
     for print in &prints {
@@ -59,7 +63,8 @@ pub fn write_prints(
 
 pub fn write_ends(text: &mut String, threads: &[ThreadReport], done: End) -> Result<(), AllocError>
     requires { 0 < length threads.now }
-    ensures { OnOk result (string_bytes text.new ≡ string_bytes text.old ++ end_lines threads.now done) }
+    ensures { OnOk result
+        (string_bytes text.new ≡ string_bytes text.old ++ end_lines threads.now done) }
 {
     let Some((init, workers)) = threads.split_first() else {
         unreachable!()
@@ -73,7 +78,8 @@ pub fn write_ends(text: &mut String, threads: &[ThreadReport], done: End) -> Res
 
 /// How each worker ended, the first of which has the number 1.
 fn write_workers(text: &mut String, workers: &[ThreadReport]) -> Result<(), AllocError>
-    ensures { OnOk result (string_bytes text.new ≡ string_bytes text.old ++ thread_ends 1 workers.now) }
+    ensures { OnOk result
+        (string_bytes text.new ≡ string_bytes text.old ++ thread_ends 1 workers.now) }
 {
     for (i, thread) in workers.iter().enumerate() {
         let number = i + 1;
@@ -84,7 +90,8 @@ fn write_workers(text: &mut String, workers: &[ThreadReport]) -> Result<(), Allo
 }
 
 pub fn write_counts(text: &mut String, threads: &[ThreadReport]) -> Result<(), AllocError>
-    ensures { OnOk result (string_bytes text.new ≡ string_bytes text.old ++ counts_lines 0 threads.now) }
+    ensures { OnOk result
+        (string_bytes text.new ≡ string_bytes text.old ++ counts_lines 0 threads.now) }
 {
     for (number, thread) in threads.iter().enumerate() {
         write_counts_of(text, number, thread.counts)?;
@@ -93,7 +100,8 @@ pub fn write_counts(text: &mut String, threads: &[ThreadReport]) -> Result<(), A
 }
 
 fn write_counts_of(text: &mut String, number: usize, counts: Counts) -> Result<(), AllocError>
-    ensures { OnOk result (string_bytes text.new ≡ string_bytes text.old ++ counts_line number counts) }
+    ensures { OnOk result
+        (string_bytes text.new ≡ string_bytes text.old ++ counts_line number counts) }
 {
     let Counts {
         instructions,

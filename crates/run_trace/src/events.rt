@@ -7,7 +7,9 @@ ghost use Rattle.laws_states.specs.WorkLeft.{all_work};
 ghost use Rattle.machine_types.specs.Accesses.{found_by};
 ghost use Rattle.std.specs.Fmt.{decimal};
 ghost use Rattle.run_texts.specs.Report.{line};
-ghost use Rattle.run_trace.specs.EventLines.{end_between, event_end, event_line, line_between, line_shown, part_line, part_name, part_object, part_text};
+ghost use Rattle.run_trace.specs.EventLines.{end_between, event_end, event_line, line_between};
+ghost use Rattle.run_trace.specs.EventLines.{line_shown, part_line, part_name, part_object};
+ghost use Rattle.run_trace.specs.EventLines.{part_text};
 ghost use Rattle.run_trace.specs.Owing.{owed_after, owed_at, seen_by};
 
 use checked_program::Checked;
@@ -23,8 +25,8 @@ use std::alloc::{AllocError, Global};
 use std::fmt;
 use step_core::want;
 
-/// Which lines of a run are told: those from a number on, so many at most. The first line has the number 1. And in which form they
-/// are told, with the ends and the report behind them.
+/// Which lines of a run are told: those from a number on, so many at most. The first line has the
+/// number 1. And in which form they are told, with the ends and the report behind them.
 #[derive(Clone, Copy, Debug, PartialEq, Eq)]
 pub struct Part {
     pub from: u64,
@@ -113,8 +115,8 @@ fn settle(owed: &mut Rows<u64>, t: u8, seen: &Option<Seen>)
     }
 }
 
-/// Adds the line of an event by the thread before it, and by the machine behind it; and to the ends that of the end which it leads
-/// to, where that is no return.
+/// Adds the line of an event by the thread before it, and by the machine behind it; and to the ends
+/// that of the end which it leads to, where that is no return.
 fn write_between(
     text: &mut Vec<u8>,
     ends: &mut Vec<u8>,
@@ -127,8 +129,10 @@ fn write_between(
     machine: &Machine,
     t: u8,
 ) -> Result<(), AllocError>
-    ensures end { OnOk result (ends.new.items ≡ ends.old.items ++ end_between p.now form number seen.now (slice_get machine.now.core.threads t)) }
-    ensures line { OnOk result (text.new.items ≡ text.old.items ++ line_between p.now form names.now number machine.now.core.words seen.now (slice_get machine.now.core.threads t)) }
+    ensures end { OnOk result (ends.new.items ≡ ends.old.items
+        ++ end_between p.now form number seen.now (slice_get machine.now.core.threads t)) }
+    ensures line { OnOk result (text.new.items ≡ text.old.items ++ line_between p.now form names.now
+        number machine.now.core.words seen.now (slice_get machine.now.core.threads t)) }
 {
     match (seen, machine.thread(t)) {
         (Some(seen), Some(s)) => {
@@ -150,8 +154,8 @@ fn write_between(
     }
 }
 
-/// Makes the next event of a live thread, and adds its line, and to the ends that of an end which is no return. Behind it the
-/// threads owe what they owe.
+/// Makes the next event of a live thread, and adds its line, and to the ends that of an end which
+/// is no return. Behind it the threads owe what they owe.
 pub fn make_event(
     text: &mut Vec<u8>,
     ends: &mut Vec<u8>,
@@ -166,11 +170,16 @@ pub fn make_event(
 ) -> Result<(), AllocError>
     requires program { p.now ≡ machine.old.program }
     requires live { lives machine.old.core t ≡ true }
-    ensures event { machine.new ≡ record machine.old { core = event machine.old.program machine.old.core t } }
+    ensures event { machine.new
+        ≡ record machine.old { core = event machine.old.program machine.old.core t } }
     ensures less { all_work machine.new.core < all_work machine.old.core }
-    ensures owed { owed.new ≡ owed_after owed.old (Of t) (seen_by p.now machine.old.core owed.old (Of t)) }
-    ensures end { OnOk result (ends.new.items ≡ ends.old.items ++ event_end p.now form number machine.old.core (seen_by p.now machine.old.core owed.old (Of t)) (Of t)) }
-    ensures line { OnOk result (text.new.items ≡ text.old.items ++ event_line p.now form names.now number machine.old.core (seen_by p.now machine.old.core owed.old (Of t)) (Of t)) }
+    ensures owed { owed.new
+        ≡ owed_after owed.old (Of t) (seen_by p.now machine.old.core owed.old (Of t)) }
+    ensures end { OnOk result (ends.new.items ≡ ends.old.items ++ event_end p.now form number
+        machine.old.core (seen_by p.now machine.old.core owed.old (Of t)) (Of t)) }
+    ensures line { OnOk result (text.new.items ≡ text.old.items ++ event_line p.now form names.now
+        number machine.old.core (seen_by p.now machine.old.core owed.old (Of t))
+        (Of t)) }
 {
     let seen = look(machine, p, owed, t);
     machine.event(p, t);
@@ -221,7 +230,8 @@ fn write_part_line(
     number: u64,
     part: u8,
 ) -> Result<(), AllocError>
-    ensures { OnOk result (text.new.items ≡ text.old.items ++ line (decimal number ++ part_text part)) }
+    ensures { OnOk result
+        (text.new.items ≡ text.old.items ++ line (decimal number ++ part_text part)) }
 {
     let part = PartText(part);
     let mut words = String::new(alloc);
@@ -229,8 +239,8 @@ fn write_part_line(
     text.extend_from_slice(words.as_bytes())
 }
 
-/// Adds the object of the begin of a part, on a line. Its members are `what`, which is `part`; its `number`; and which part
-/// `begins`.
+/// Adds the object of the begin of a part, on a line. Its members are `what`, which is `part`; its
+/// `number`; and which part `begins`.
 #[tactic(auto, unfolding(crate::specs::EventLines::part_object))]
 fn write_part_object(
     text: &mut Vec<u8>,
@@ -273,8 +283,10 @@ pub fn make_part(
     number: u64,
 ) -> Result<(), AllocError>
     requires program { p.now ≡ machine.old.program }
-    ensures part { machine.new ≡ record machine.old { core = next machine.old.program machine.old.core } }
-    ensures line { OnOk result (text.new.items ≡ text.old.items ++ part_line form number (option_map (λ x. x.part) (slice_get machine.old.core.threads 0))) }
+    ensures part { machine.new
+        ≡ record machine.old { core = next machine.old.program machine.old.core } }
+    ensures line { OnOk result (text.new.items ≡ text.old.items ++ part_line form number
+        (option_map (λ x. x.part) (slice_get machine.old.core.threads 0))) }
 {
     let written = write_part(text, alloc, form, number, parts_begun(machine));
     machine.next(p);

@@ -1,5 +1,5 @@
-//! The trace of a run in a chosen order of steps: a line for each of its events, or an object of JSON, written as it goes, and then
-//! the report.
+//! The trace of a run in a chosen order of steps: a line for each of its events, or an object of
+//! JSON, written as it goes, and then the report.
 #![tactic(auto)]
 
 pub mod events;

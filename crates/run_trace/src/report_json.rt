@@ -3,7 +3,8 @@
 ghost use Rattle.std.specs.Prelude.{◌≡◌, ◌<◌, ◌++◌, length, IfOk, OnOk};
 ghost use Rattle.std.specs.Fmt.{signed_decimal};
 ghost use Rattle.std.specs.List.{flat_map};
-ghost use Rattle.run_trace.specs.ReportJson.{counts_members, done_object, print_object, report_in, report_objects, thread_object, thread_objects};
+ghost use Rattle.run_trace.specs.ReportJson.{counts_members, done_object, print_object, report_in};
+ghost use Rattle.run_trace.specs.ReportJson.{report_objects, thread_object, thread_objects};
 
 use event_texts::{write_end_member, write_what};
 use json_lines::{Form, write_number_behind};
@@ -43,7 +44,8 @@ fn write_prints(
     thread: usize,
     prints: &[Print],
 ) -> Result<(), AllocError>
-    ensures { OnOk result (out.new.items ≡ out.old.items ++ flat_map (print_object thread) prints.now) }
+    ensures { OnOk result
+        (out.new.items ≡ out.old.items ++ flat_map (print_object thread) prints.now) }
 {
     for print in prints {
         write_print(out, alloc, thread, *print)?;
@@ -110,9 +112,10 @@ fn objects(alloc: Global, outcome: &Outcome) -> Result<Bytes, AllocError>
     Ok(Bytes::from_vec(out))
 }
 
-/// The report of a run: its lines, or objects of JSON, each on a line. Those are of each thread, in order of their numbers, first
-/// its prints, each with the `thread`, its `ticket`, which is its place among the prints of all threads, and its `value`; then with
-/// `what` as `thread` how it came to its `end`, thread 0 in `init`, and what it counted; and last how `done` came to its end.
+/// The report of a run: its lines, or objects of JSON, each on a line. Those are of each thread, in
+/// order of their numbers, first its prints, each with the `thread`, its `ticket`, which is its
+/// place among the prints of all threads, and its `value`; then with `what` as `thread` how it came
+/// to its `end`, thread 0 in `init`, and what it counted; and last how `done` came to its end.
 pub fn report_of(alloc: Global, form: Form, outcome: &Outcome) -> Result<Bytes, AllocError>
     requires { 0 < length outcome.now.threads }
     ensures { IfOk result (λ text. text ≡ report_in form outcome.now) }

@@ -7,7 +7,8 @@ ghost use Rattle.machine_types.specs.Settings.{AreSettings};
 ghost use Rattle.laws_states.specs.WorkLeft.{all_work};
 ghost use Rattle.run_trace.specs.EventLines.{next_line_number};
 ghost use Rattle.run_trace.specs.ReportJson.{report_in};
-ghost use Rattle.run_trace.specs.Traces.{IsPut, IsStarted, IsTraced, IsWalk, IsWalkToEnd, IsHappeningTold};
+ghost use Rattle.run_trace.specs.Traces.{IsPut, IsStarted, IsTraced, IsWalk, IsWalkToEnd};
+ghost use Rattle.run_trace.specs.Traces.{IsHappeningTold};
 ghost use Rattle.run_trace.specs.declared.traces.TraceError.TheVariants.{Memory};
 ghost use Rattle.run_trace.specs.Turns.{IsNoEvent, next_ahead, parts_ahead, stage_of};
 
@@ -82,7 +83,8 @@ fn next_number(number: u64) -> u64
 
 /// Writes a text, or answers why not.
 fn write_text<K: Sink>(sink: &mut K, text: &[u8]) -> Result<(), TraceError>
-    ensures { IsPut (K.text sink.old) (K.text sink.new) (K.faults sink.old) (K.faults sink.new) text.now result }
+    ensures { IsPut (K.text sink.old) (K.text sink.new) (K.faults sink.old) (K.faults sink.new)
+        text.now result }
 {
     match write_whole(sink, text) {
         Ok(()) => Ok(()),
@@ -102,7 +104,8 @@ fn tell_event<K: Sink>(
 ) -> Result<(), TraceError>
     requires program { p.now ≡ trace.old.machine.program }
     requires live { lives trace.old.machine.core t ≡ true }
-    ensures told { IsHappeningTold p.now names.now part (Of t) trace.old trace.new (K.text sink.old) (K.text sink.new) (K.faults sink.old) (K.faults sink.new) result }
+    ensures told { IsHappeningTold p.now names.now part (Of t) trace.old trace.new (K.text sink.old)
+        (K.text sink.new) (K.faults sink.old) (K.faults sink.new) result }
     ensures less { all_work trace.new.machine.core < all_work trace.old.machine.core }
 {
     let mut text = Vec::new(alloc);
@@ -136,7 +139,8 @@ fn tell_part<K: Sink>(
     sink: &mut K,
 ) -> Result<(), TraceError>
     requires program { p.now ≡ trace.old.machine.program }
-    ensures told { IsHappeningTold p.now names.now part NextPart trace.old trace.new (K.text sink.old) (K.text sink.new) (K.faults sink.old) (K.faults sink.new) result }
+    ensures told { IsHappeningTold p.now names.now part NextPart trace.old trace.new
+        (K.text sink.old) (K.text sink.new) (K.faults sink.old) (K.faults sink.new) result }
 {
     let _ = names;
     let mut text = Vec::new(alloc);
@@ -149,7 +153,8 @@ fn tell_part<K: Sink>(
     }
 }
 
-/// Makes the events that come next, with their lines, up to the begin of a part or the end of the run.
+/// Makes the events that come next, with their lines, up to the begin of a part or the end of the
+/// run.
 fn tell_events<K: Sink>(
     alloc: Global,
     trace: &mut Tracing,
@@ -161,7 +166,9 @@ fn tell_events<K: Sink>(
     sink: &mut K,
 ) -> Result<Next, TraceError>
     requires { p.now ≡ trace.old.machine.program }
-    ensures walk { IsWalk p.now order.now names.now part trace.old (turn_at (stage_of order.now from) trace.old.machine.core) (K.text sink.old) (K.faults sink.old) trace.new (K.text sink.new) (K.faults sink.new) result }
+    ensures walk { IsWalk p.now order.now names.now part trace.old
+        (turn_at (stage_of order.now from) trace.old.machine.core) (K.text sink.old)
+        (K.faults sink.old) trace.new (K.text sink.new) (K.faults sink.new) result }
     ensures part { IfOk result IsNoEvent }
     ensures ahead { IfOk result (λ next. next_ahead next ≤ parts_ahead from) }
 {
@@ -184,7 +191,9 @@ fn tell_all<K: Sink>(
     sink: &mut K,
 ) -> Result<(), TraceError>
     requires { p.now ≡ trace.old.machine.program }
-    ensures { IsWalkToEnd p.now order.now names.now part trace.old (turn_at (First order.now) trace.old.machine.core) (K.text sink.old) (K.faults sink.old) trace.new (K.text sink.new) (K.faults sink.new) result }
+    ensures { IsWalkToEnd p.now order.now names.now part trace.old
+        (turn_at (First order.now) trace.old.machine.core) (K.text sink.old) (K.faults sink.old)
+        trace.new (K.text sink.new) (K.faults sink.new) result }
 {
     let mut next = tell_events(alloc, trace, p, names, part, order, Progress::Init, sink)?;
     while let Next::Part(progress) = next {
@@ -202,7 +211,8 @@ fn tell_report<K: Sink>(
     sink: &mut K,
 ) -> Result<(), TraceError>
     requires { 0 < length outcome.now.threads }
-    ensures { IsPut (K.text sink.old) (K.text sink.new) (K.faults sink.old) (K.faults sink.new) (report_in form outcome.now) result }
+    ensures { IsPut (K.text sink.old) (K.text sink.new) (K.faults sink.old) (K.faults sink.new)
+        (report_in form outcome.now) result }
 {
     match report_of(alloc, form, outcome) {
         Ok(text) => write_text(sink, text.as_slice()),
@@ -210,17 +220,20 @@ fn tell_report<K: Sink>(
     }
 }
 
-/// Runs a program to its end as `replay` does, by an order of steps in which each byte is the number of the worker that has the
-/// next event, and writes to the sink a line for each event of the run in order, or for those of a part, as the run goes: its number; the thread, and
-/// the attempt that it is in; the class, method and pc where the thread stands, with the mnemonic; what it does in words, where
-/// that is no instruction; the word that it accesses, with what it found and left there; where an attempt begins, fails or
-/// finishes, a lock is taken or made fat, and how the thread comes to its end; and the steps of the plain machine that it stands
-/// for. Behind them stands a line for each end that is no return, and the report of the run. Each is a line of words, or as JSON
-/// one object on a line, made of the same (`write_event_object` of `event_texts` has its members).
-/// `names` has the names of the fields of the program in their order; a field without a name is told by its number.
+/// Runs a program to its end as `replay` does, by an order of steps in which each byte is the
+/// number of the worker that has the next event, and writes to the sink a line for each event of
+/// the run in order, or for those of a part, as the run goes: its number; the thread, and the
+/// attempt that it is in; the class, method and pc where the thread stands, with the mnemonic; what
+/// it does in words, where that is no instruction; the word that it accesses, with what it found
+/// and left there; where an attempt begins, fails or finishes, a lock is taken or made fat, and how
+/// the thread comes to its end; and the steps of the plain machine that it stands for. Behind them
+/// stands a line for each end that is no return, and the report of the run. Each is a line of
+/// words, or as JSON one object on a line, made of the same (`write_event_object` of `event_texts`
+/// has its members). `names` has the names of the fields of the program in their order; a field
+/// without a name is told by its number.
 ///
-/// It answers the outcome of the run; `Failed` where the sink fails, and `Memory` where there is no memory. The memory that it
-/// takes does not grow with the run.
+/// It answers the outcome of the run; `Failed` where the sink fails, and `Memory` where there is no
+/// memory. The memory that it takes does not grow with the run.
 pub fn explain_run<K: Sink>(
     alloc: Global,
     p: &Checked,
@@ -231,7 +244,8 @@ pub fn explain_run<K: Sink>(
     sink: &mut K,
 ) -> Result<Outcome, TraceError>
     requires { AreSettings cfg.now }
-    ensures { IsTraced p.now cfg.now order.now names.now part (K.text sink.old) (K.text sink.new) (K.faults sink.old) (K.faults sink.new) result }
+    ensures { IsTraced p.now cfg.now order.now names.now part (K.text sink.old) (K.text sink.new)
+        (K.faults sink.old) (K.faults sink.new) result }
 {
     let mut trace = start(alloc, p, cfg)?;
     tell_all(alloc, &mut trace, p, names, part, order.as_slice(), sink)?;

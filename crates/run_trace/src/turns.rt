@@ -2,7 +2,8 @@
 
 ghost use Rattle.std.specs.Prelude.{◌≡◌, ◌≤◌, ◌+◌, List, ℕ, drop, if◌then◌else◌};
 ghost use Rattle.machine_types.specs.Core.{Of, lives};
-ghost use Rattle.machine_types.specs.Schedules.{is_live_worker, ordered, part_turn, round_turn_from, turn_at, turn_of};
+ghost use Rattle.machine_types.specs.Schedules.{is_live_worker, ordered, part_turn};
+ghost use Rattle.machine_types.specs.Schedules.{round_turn_from, turn_at, turn_of};
 ghost use Rattle.run_trace.specs.Turns.{IsMayBe, next_ahead, parts_ahead, stage_of, turn_of_next};
 
 use replay_runner::{Machine, next_worker};
@@ -33,7 +34,8 @@ pub enum Next {
 
 /// The begin of the next part, where it may begin.
 fn next_part(machine: &Machine, progress: Progress) -> Next
-    ensures turn { (order : List ℕ) → turn_of_next order result ≡ part_turn machine.now.core (stage_of order progress) }
+    ensures turn { (order : List ℕ)
+        → turn_of_next order result ≡ part_turn machine.now.core (stage_of order progress) }
     ensures may { IsMayBe machine.now.core result }
     ensures ahead { next_ahead result ≤ parts_ahead progress + 1 }
 {
@@ -46,7 +48,8 @@ fn next_part(machine: &Machine, progress: Progress) -> Next
 
 /// The next event of the workers round by round, or the begin of `done`.
 fn next_in_rounds(machine: &Machine, from: u8) -> Next
-    ensures turn { (order : List ℕ) → turn_of_next order result ≡ round_turn_from machine.now.core from }
+    ensures turn { (order : List ℕ)
+        → turn_of_next order result ≡ round_turn_from machine.now.core from }
     ensures may { IsMayBe machine.now.core result }
     ensures ahead { next_ahead result ≤ 1 }
 {
@@ -63,7 +66,8 @@ fn is_live_worker(machine: &Machine, t: u8) -> bool
     t > 0 && machine.lives(t)
 }
 
-/// The next event of the workers by their order from a place on, where a number of no live worker is skipped.
+/// The next event of the workers by their order from a place on, where a number of no live worker
+/// is skipped.
 fn next_in_order(machine: &Machine, order: &[u8], i: usize) -> Next
     ensures turn { turn_of_next order.now result ≡ ordered machine.now.core (drop i order.now) }
     ensures may { IsMayBe machine.now.core result }
@@ -82,7 +86,8 @@ fn next_in_order(machine: &Machine, order: &[u8], i: usize) -> Next
 fn next_of_first(machine: &Machine, now: Progress, behind: Next) -> Next
     requires may { IsMayBe machine.now.core behind }
     requires ahead { next_ahead behind ≤ parts_ahead now }
-    ensures turn { (order : List ℕ) → turn_of_next order result ≡ (if lives machine.now.core 0 then turn_of (Of 0) (stage_of order now) else turn_of_next order behind) }
+    ensures turn { (order : List ℕ) → turn_of_next order result ≡ (if lives machine.now.core 0 then
+        turn_of (Of 0) (stage_of order now) else turn_of_next order behind) }
     ensures may { IsMayBe machine.now.core result }
     ensures ahead { next_ahead result ≤ parts_ahead now }
 {
@@ -95,7 +100,8 @@ fn next_of_first(machine: &Machine, now: Progress, behind: Next) -> Next
 
 /// What comes next.
 pub fn next_turn(machine: &Machine, order: &[u8], progress: Progress) -> Next
-    ensures turn { turn_of_next order.now result ≡ turn_at (stage_of order.now progress) machine.now.core }
+    ensures turn { turn_of_next order.now result
+        ≡ turn_at (stage_of order.now progress) machine.now.core }
     ensures may { IsMayBe machine.now.core result }
     ensures ahead { next_ahead result ≤ parts_ahead progress }
 {

@@ -14,12 +14,14 @@ const USAGE: &str = "usage: solero [options] FILE...\n";
 
 const OUT_OF_MEMORY: &str = "out of memory\n";
 
-/// What is due: a text, and a status with it. Each text but those that had to be made needs no memory.
+/// What is due: a text, and a status with it. Each text but those that had to be made needs no
+/// memory.
 #[derive(Debug, Drop)]
 pub enum Due {
     /// The report of a run, of a program or of a cell, and how the run finished.
     Report(Finish, Bytes),
-    /// What a mode writes that runs nothing: the marks of a program's sections, a listing, or a class file.
+    /// What a mode writes that runs nothing: the marks of a program's sections, a listing, or a
+    /// class file.
     Output(Bytes),
     /// The words are not read.
     Usage,

@@ -26,7 +26,8 @@ pub fn listed(alloc: Global, files: &Rows<Bytes>) -> Result<Bytes, FileError>
     Ok(listing(alloc, class)?)
 }
 
-/// The bytes that spell the class which the text of the one file lists, or the rule of assembling that refuses the text.
+/// The bytes that spell the class which the text of the one file lists, or the rule of assembling
+/// that refuses the text.
 pub fn assembled(alloc: Global, files: &Rows<Bytes>) -> Result<Bytes, FileError>
     requires one { length files.now ≡ 1 }
     requires short { first_long 0 files.now ≡ None }

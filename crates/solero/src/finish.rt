@@ -1,6 +1,8 @@
 ghost use Rattle.std.specs.Prelude.{◌≡◌};
 ghost use Rattle.std.specs.List.{list_any};
-ghost use Rattle.solero.specs.Finish.{cell_finish as the_cell_finish, finish_of as the_finish, is_limit as ends_at_limit, is_uncaught as ends_uncaught, some_end};
+ghost use Rattle.solero.specs.Finish.{cell_finish as the_cell_finish, finish_of as the_finish};
+ghost use Rattle.solero.specs.Finish.{is_limit as ends_at_limit, is_uncaught as ends_uncaught};
+ghost use Rattle.solero.specs.Finish.{some_end};
 
 use jvm_types::{End, Outcome, ThreadReport};
 

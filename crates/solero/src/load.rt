@@ -18,7 +18,8 @@ use std::alloc::{AllocError, Global};
 use std::sync::Wait;
 use std::thread::Threads;
 
-/// How a run finished of the load that is asked for, and its summary, or the rule that refuses the class of the load.
+/// How a run finished of the load that is asked for, and its summary, or the rule that refuses the
+/// class of the load.
 pub fn ran_load<R: Threads + Wait + Sync, G: Gate + Sync>(
     rt: &R,
     alloc: Global,

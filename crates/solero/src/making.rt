@@ -48,14 +48,15 @@ pub fn made<R: Threads + Wait + Sync, G: Gate + Sync>(
     }
 }
 
-/// Whatever happens in it, a run stands for one of the plain machine, and its report has the prints of
-/// that; at the end of a schedule it is over.
+/// Whatever happens in it, a run stands for one of the plain machine, and its report has the prints
+/// of that; at the end of a schedule it is over.
 pub fn is_plain(checked: &Checked, cfg: &Config)
     requires { AreSettings cfg.now }
     ensures plain { (hs : List Happening) → IsFaithful checked.now cfg.now hs }
     ensures prints { (hs : List Happening) (run : IsPlainRun checked.now cfg.now hs)
         → report_text (outcome_of (core checked.now cfg.now hs)) ≡ text_with_prints run.state.prints (outcome_of (core checked.now cfg.now hs)) }
-    ensures over { (order : List ℕ) (hs : List Happening) → IsScheduleOf checked.now cfg.now order hs → IsOver (core checked.now cfg.now hs) }
+    ensures over { (order : List ℕ) (hs : List Happening)
+        → IsScheduleOf checked.now cfg.now order hs → IsOver (core checked.now cfg.now hs) }
 {
     let _program = checked.program();
     have_width(*cfg);
@@ -112,7 +113,8 @@ fn recorded<R: Threads + Wait + Sync, G: Gate + Sync>(
     Ok(Due::Report(finish_of(&came.outcome), text))
 }
 
-/// What a run on threads of the system comes to: on as many workers as are asked for, or else over the memory that is asked for.
+/// What a run on threads of the system comes to: on as many workers as are asked for, or else over
+/// the memory that is asked for.
 pub fn end_of_run<R: Threads + Wait + Sync, G: Gate + Sync>(
     rt: &R,
     alloc: Global,

@@ -1,4 +1,5 @@
-ghost use Rattle.std.specs.Prelude.{◌≡◌, ◌<◌, ◌≤◌, ◌≢◌, ◌⊎◌, List, Some, None, IfErr, IfOk, length, true};
+ghost use Rattle.std.specs.Prelude.{◌≡◌, ◌<◌, ◌≤◌, ◌≢◌, ◌⊎◌, List, Some, None, IfErr, IfOk, length};
+ghost use Rattle.std.specs.Prelude.{true};
 ghost use Rattle.host_io.specs.Faults.{CountsFault};
 ghost use Rattle.command_words.specs.Command.{Asked, command, takes_files};
 ghost use Rattle.command_words.specs.Words.{texts};
@@ -28,16 +29,18 @@ use std::alloc::{AllocError, Global};
 use std::sync::Wait;
 use std::thread::Threads;
 
-/// Does what the words ask for: reads the files from the shelf, in order; then loads them, and runs the program or finds the
-/// marks of its sections; or lists the class of the one file, or assembles the class that its text lists; or, without a file,
-/// makes the class of a load and runs that, or runs a cell; and writes what came of it to the sink. It answers the status that the
-/// process ends with.
+/// Does what the words ask for: reads the files from the shelf, in order; then loads them, and runs
+/// the program or finds the marks of its sections; or lists the class of the one file, or assembles
+/// the class that its text lists; or, without a file, makes the class of a load and runs that, or
+/// runs a cell; and writes what came of it to the sink. It answers the status that the process ends
+/// with.
 ///
-/// In modes run, record, load and cell each worker runs on a thread of its own, and passes the gate once, before its first event or
-/// round and while it holds no lock. Where the words give workers for a run, these run its threads: of two or more each that has
-/// threads passes the gate once, with its own number, and one alone doesn't. In the other modes nobody passes it. Nothing is promised
-/// of the order, nor that workers run beside each other: where the system gives no thread, they run one after another. A run may wait
-/// for a lock, so the clauses hold where it returns.
+/// In modes run, record, load and cell each worker runs on a thread of its own, and passes the gate
+/// once, before its first event or round and while it holds no lock. Where the words give workers
+/// for a run, these run its threads: of two or more each that has threads passes the gate once,
+/// with its own number, and one alone doesn't. In the other modes nobody passes it. Nothing is
+/// promised of the order, nor that workers run beside each other: where the system gives no thread,
+/// they run one after another. A run may wait for a lock, so the clauses hold where it returns.
 pub fn top<R: Threads + Wait + Sync, S: Shelf, K: Sink, G: Gate + Sync>(
     rt: &R,
     alloc: Global,
@@ -56,7 +59,8 @@ pub fn top<R: Threads + Wait + Sync, S: Shelf, K: Sink, G: Gate + Sync>(
     // Each status comes for its cause, and a fault of the sink goes before all.
     ensures status { result ≤ 7 }
     ensures words_read { result ≡ 2 → command (texts words.now.items) ≡ None }
-    ensures words_not_read { command (texts words.now.items) ≡ None → (result ≡ 2) ⊎ ((result ≡ 5) ⊎ (result ≡ 6)) }
+    ensures words_not_read { command (texts words.now.items) ≡ None
+        → (result ≡ 2) ⊎ ((result ≡ 5) ⊎ (result ≡ 6)) }
     // Files that the mode takes are not refused, and all others are, where the shelf does not fail.
     ensures accepted { (asked : Asked) (files : List File) → command (texts words.now.items) ≡ Some asked
         → S.files shelf.old ≡ Some files → AreAccepted files asked → result ≢ 3 }
@@ -160,8 +164,10 @@ fn made_in_mode<R: Threads + Wait + Sync, G: Gate + Sync>(
 ) -> Result<Due, FileError>
     requires taken { takes_files request.now.mode (length contents.now) ≡ true }
     requires short { first_long 0 contents.now ≡ None }
-    ensures made { IfOk result (λ due. IsMadeIn request.now.mode (asked_by request.now) contents.now due) }
-    ensures refused { IfErr result (λ e. IsNotMadeIn request.now.mode (asked_by request.now) contents.now e) }
+    ensures made { IfOk result
+        (λ due. IsMadeIn request.now.mode (asked_by request.now) contents.now due) }
+    ensures refused { IfErr result
+        (λ e. IsNotMadeIn request.now.mode (asked_by request.now) contents.now e) }
 {
     match request.mode {
         Mode::Program(task) => made_of_program(rt, alloc, task, request, contents, gate),
@@ -188,8 +194,10 @@ fn made_of_program<R: Threads + Wait + Sync, G: Gate + Sync>(
     gate: &G,
 ) -> Result<Due, FileError>
     requires { takes_files (Program task) (length contents.now) ≡ true }
-    ensures made { IfOk result (λ due. IsMadeIn (Program task) (asked_by request.now) contents.now due) }
-    ensures refused { IfErr result (λ e. IsNotMadeIn (Program task) (asked_by request.now) contents.now e) }
+    ensures made { IfOk result
+        (λ due. IsMadeIn (Program task) (asked_by request.now) contents.now due) }
+    ensures refused { IfErr result
+        (λ e. IsNotMadeIn (Program task) (asked_by request.now) contents.now e) }
 {
     let checked = load_program(alloc, contents, request.heap, request.threads)?;
     Ok(made(rt, alloc, gate, task, request, &checked)?)

@@ -1,5 +1,5 @@
-//! Runs of worked classes, each with its whole text and its status. The counts follow from the instructions of the
-//! classes, event by event.
+//! Runs of worked classes, each with its whole text and its status. The counts follow from the
+//! instructions of the classes, event by event.
 
 mod ints;
 mod limits;
@@ -79,7 +79,8 @@ fn shelf(alloc: Global, content: Bytes) -> Result<ListShelf, AllocError> {
     Ok(ListShelf::new(files, Rows::new(alloc)))
 }
 
-/// What the words answer over one file `A.class` with that content: the status, and the text that is written.
+/// What the words answer over one file `A.class` with that content: the status, and the text that
+/// is written.
 pub fn answer<R: Threads + Wait + Sync + AllocGlobal, G: Gate + Sync>(
     rt: &R,
     words: &Vec<String>,

@@ -16,7 +16,8 @@ use lock_word::{LockWord, word};
 #[inline(always)]
 #[tactic(auto, using(crate::proofs::Going::load_on))]
 fn load_values(table: &CellTable, seat: &mut Seat<(), View>, values: &mut [u64])
-    requires seat { IsSeatAt table.now.shared.table_id table.now.shared.key seat.old.table_id seat.old.me.0 }
+    requires seat { IsSeatAt table.now.shared.table_id table.now.shared.key seat.old.table_id
+        seat.old.me.0 }
     requires loading { IsLoading 0 seat.old.me.0 }
     requires long { length values.old ≡ length table.now.shared.key.values }
     ensures seat { (seat.new.table_id ≡ seat.old.table_id) × (seat.new.me.1 ≡ seat.old.me.1) }
@@ -38,7 +39,8 @@ fn attempt_behind<A: Attempt>(
     values: &mut [u64],
     count: u64,
 ) -> CellRead
-    requires seat { IsSeatAt table.now.shared.table_id table.now.shared.key seat.old.table_id seat.old.me.0 }
+    requires seat { IsSeatAt table.now.shared.table_id table.now.shared.key seat.old.table_id
+        seat.old.me.0 }
     requires still { IsStill seat.old.me.0 }
     requires noted { seat.old.me.0.note ≡ Some count }
     requires small { count < 2 ^ 62 }
@@ -60,7 +62,8 @@ fn attempt_behind<A: Attempt>(
 /// One attempt at a read.
 #[inline(always)]
 fn attempt<A: Attempt>(table: &CellTable, seat: &mut Seat<(), View>, values: &mut [u64]) -> CellRead
-    requires seat { IsSeatAt table.now.shared.table_id table.now.shared.key seat.old.table_id seat.old.me.0 }
+    requires seat { IsSeatAt table.now.shared.table_id table.now.shared.key seat.old.table_id
+        seat.old.me.0 }
     requires still { IsStill seat.old.me.0 }
     requires long { length values.old ≡ length table.now.shared.key.values }
     ensures seat { (seat.new.table_id ≡ seat.old.table_id) × (seat.new.me.1 ≡ seat.old.me.1) }
@@ -77,7 +80,8 @@ fn attempt<A: Attempt>(table: &CellTable, seat: &mut Seat<(), View>, values: &mu
 /// A read: an attempt, and a second one where a write came between.
 #[inline(always)]
 pub(crate) fn read(table: &CellTable, seat: &mut Seat<(), View>, values: &mut [u64]) -> CellRead
-    requires seat { IsSeatAt table.now.shared.table_id table.now.shared.key seat.old.table_id seat.old.me.0 }
+    requires seat { IsSeatAt table.now.shared.table_id table.now.shared.key seat.old.table_id
+        seat.old.me.0 }
     requires still { IsStill seat.old.me.0 }
     requires long { length values.old ≡ length table.now.shared.key.values }
     ensures seat { (seat.new.table_id ≡ seat.old.table_id) × (seat.new.me.1 ≡ seat.old.me.1) }

@@ -1,8 +1,10 @@
 //! A seat at a cell: it reads and writes.
 
 ghost use Rattle.std.specs.Prelude.{◌≡◌, ◌<◌, ◌≤◌, ◌*◌, ◌^◌, [], ◌∷◌, length, IfOk};
-ghost use Rattle.solero_cell.specs.Calls.{IsAtEnd, IsCellRead, IsShown, IsTableOfSeat, IsCellWritten};
-ghost use Rattle.solero_cell.specs.CellViews.{first_view, halved, joined_views, newcomer, record_of};
+ghost use Rattle.solero_cell.specs.Calls.{IsAtEnd, IsCellRead, IsShown, IsTableOfSeat};
+ghost use Rattle.solero_cell.specs.Calls.{IsCellWritten};
+ghost use Rattle.solero_cell.specs.CellViews.{first_view, halved, joined_views, newcomer};
+ghost use Rattle.solero_cell.specs.CellViews.{record_of};
 ghost use Rattle.solero_cell.specs.Histories.{AreOfOne};
 
 use crate::answers::{CellRead, CellWrite};
@@ -50,8 +52,11 @@ fn opened(
     opening: &Record,
 ) -> Result<(CellTable, Seat<(), View>), AllocError>
     requires { words.now ≡ 4 * opening.now.count ∷ opening.now.values }
-    ensures table { IfOk result (λ t. (t.0.shared.key ≡ opening.now) × (t.0.shared.table_id.words ≡ length words.now) × (t.0.shared.table_id.slots ≡ 0)) }
-    ensures seat { IfOk result (λ t. (t.1.table_id ≡ t.0.shared.table_id) × (t.1.me ≡ (first_view opening.now, []))) }
+    ensures table { IfOk result (λ t.
+        (t.0.shared.key ≡ opening.now) × (t.0.shared.table_id.words ≡ length words.now)
+        × (t.0.shared.table_id.slots ≡ 0)) }
+    ensures seat { IfOk result
+        (λ t. (t.1.table_id ≡ t.0.shared.table_id) × (t.1.me ≡ (first_view opening.now, []))) }
 {
     CellTable::of_words(alloc, words, opening)
 }
@@ -101,7 +106,8 @@ impl CellSeat {
     pub fn read(&mut self, table: &CellTable, out: &mut [u64]) -> CellRead
         requires table { IsTableOfSeat table.now.shared.table_id table.now.shared.key self.old }
         requires out { length out.old ≡ length self.old.view.opening.values }
-        ensures table { (self.new.table_id ≡ self.old.table_id) × (self.new.view.opening ≡ self.old.view.opening) }
+        ensures table { (self.new.table_id ≡ self.old.table_id)
+            × (self.new.view.opening ≡ self.old.view.opening) }
         ensures read { IsCellRead self.old.view out.old result self.new.view out.new }
     {
         let _count = self.latest;
@@ -118,7 +124,8 @@ impl CellSeat {
         requires table { IsTableOfSeat table.now.shared.table_id table.now.shared.key self.old }
         requires out { length out.old ≡ length self.old.view.opening.values }
         requires room { length out.old ≤ length room.old }
-        ensures table { (self.new.table_id ≡ self.old.table_id) × (self.new.view.opening ≡ self.old.view.opening) }
+        ensures table { (self.new.table_id ≡ self.old.table_id)
+            × (self.new.view.opening ≡ self.old.view.opening) }
         ensures read { IsCellRead self.old.view out.old result self.new.view out.new }
     {
         let values = &mut room[..out.len()];
@@ -137,7 +144,8 @@ impl CellSeat {
     pub fn write(&mut self, table: &CellTable, values: &[u64]) -> CellWrite
         requires table { IsTableOfSeat table.now.shared.table_id table.now.shared.key self.old }
         requires values { length values.now ≡ length self.old.view.opening.values }
-        ensures table { (self.new.table_id ≡ self.old.table_id) × (self.new.view.opening ≡ self.old.view.opening) }
+        ensures table { (self.new.table_id ≡ self.old.table_id)
+            × (self.new.view.opening ≡ self.old.view.opening) }
         ensures written { IsCellWritten self.old.view values.now result self.new.view }
     {
         let answer = write::write(table, &mut self.seat, values);
@@ -151,8 +159,10 @@ impl CellSeat {
     /// and half of its share.
     pub fn split(&mut self, table: &CellTable) -> CellSeat
         requires table { IsTableOfSeat table.now.shared.table_id table.now.shared.key self.old }
-        ensures kept { (self.new.table_id ≡ self.old.table_id) × (self.new.view ≡ halved self.old.view) }
-        ensures made { (result.table_id ≡ self.old.table_id) × (result.view ≡ newcomer self.old.view) }
+        ensures kept { (self.new.table_id ≡ self.old.table_id)
+            × (self.new.view ≡ halved self.old.view) }
+        ensures made { (result.table_id ≡ self.old.table_id)
+            × (result.view ≡ newcomer self.old.view) }
     {
         let seat = steps::cut(table, &mut self.seat);
         CellSeat {
@@ -167,7 +177,8 @@ impl CellSeat {
     pub fn join(&mut self, table: &CellTable, other: CellSeat)
         requires table { IsTableOfSeat table.now.shared.table_id table.now.shared.key self.old }
         requires other { IsTableOfSeat table.now.shared.table_id table.now.shared.key other }
-        ensures joined { (self.new.table_id ≡ self.old.table_id) × (self.new.view ≡ joined_views self.old.view other.view) }
+        ensures joined { (self.new.table_id ≡ self.old.table_id)
+            × (self.new.view ≡ joined_views self.old.view other.view) }
         ensures one { AreOfOne self.old.view other.view }
     {
         let CellSeat { seat, latest } = other;

@@ -80,7 +80,9 @@ fn work_apart<R: Abort + Threads + Sync>(rt: &R, seats: &mut [CellSeat], table: 
         seats,
         2,
         &|i: usize, seat: &mut CellSeat|
-            requires { (i < 2) × IsTableOfSeat table.now.shared.table_id table.now.shared.key seat.now × (length seat.now.view.opening.values ≡ 2) }
+            requires { (i < 2)
+                × IsTableOfSeat table.now.shared.table_id table.now.shared.key seat.now
+                × (length seat.now.view.opening.values ≡ 2) }
             ensures { StaysAtTable seat.entry.now seat.exit.now }
         { work(rt, seat, table, i) },
     );

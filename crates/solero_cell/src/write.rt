@@ -20,12 +20,14 @@ const LAST_COUNT: u64 = (1 << 62) - 1;
 #[inline(always)]
 #[tactic(auto, using(crate::proofs::Going::store_on, crate::proofs::Going::storing_on))]
 fn store_values(table: &CellTable, seat: &mut Seat<(), View>, values: &[u64])
-    requires seat { IsSeatAt table.now.shared.table_id table.now.shared.key seat.old.table_id seat.old.me.0 }
+    requires seat { IsSeatAt table.now.shared.table_id table.now.shared.key seat.old.table_id
+        seat.old.me.0 }
     requires storing { IsStoring 0 seat.old.me.0 }
     requires values { seat.old.me.0.storing ≡ Some (record { stored = []; left = values.now }) }
     requires long { length values.now ≡ length table.now.shared.key.values }
     ensures seat { (seat.new.table_id ≡ seat.old.table_id) × (seat.new.me.1 ≡ seat.old.me.1) }
-    ensures stored { seat.new.me.0 ≡ record seat.old.me.0 { storing = Some (record { stored = values.now; left = [] }) } }
+    ensures stored { seat.new.me.0
+        ≡ record seat.old.me.0 { storing = Some (record { stored = values.now; left = [] }) } }
 {
     let count = values.len();
     for i in 0..count {
@@ -36,7 +38,8 @@ fn store_values(table: &CellTable, seat: &mut Seat<(), View>, values: &[u64])
 /// A write that has taken the lock at `count`.
 #[inline(always)]
 fn fill(table: &CellTable, seat: &mut Seat<(), View>, values: &[u64], count: u64)
-    requires seat { IsSeatAt table.now.shared.table_id table.now.shared.key seat.old.table_id seat.old.me.0 }
+    requires seat { IsSeatAt table.now.shared.table_id table.now.shared.key seat.old.table_id
+        seat.old.me.0 }
     requires taken { IsLockTaken count values.now seat.old.me.0 }
     requires long { length values.now ≡ length table.now.shared.key.values }
     requires small { count + 1 < 2 ^ 62 }
@@ -55,7 +58,8 @@ fn write_behind(
     values: &[u64],
     count: u64,
 ) -> CellWrite
-    requires seat { IsSeatAt table.now.shared.table_id table.now.shared.key seat.old.table_id seat.old.me.0 }
+    requires seat { IsSeatAt table.now.shared.table_id table.now.shared.key seat.old.table_id
+        seat.old.me.0 }
     requires still { IsStill seat.old.me.0 }
     requires noted { seat.old.me.0.note ≡ Some count }
     requires long { length values.now ≡ length table.now.shared.key.values }
@@ -78,7 +82,8 @@ fn write_behind(
 /// A write.
 #[inline(always)]
 pub(crate) fn write(table: &CellTable, seat: &mut Seat<(), View>, values: &[u64]) -> CellWrite
-    requires seat { IsSeatAt table.now.shared.table_id table.now.shared.key seat.old.table_id seat.old.me.0 }
+    requires seat { IsSeatAt table.now.shared.table_id table.now.shared.key seat.old.table_id
+        seat.old.me.0 }
     requires still { IsStill seat.old.me.0 }
     requires long { length values.now ≡ length table.now.shared.key.values }
     ensures seat { (seat.new.table_id ≡ seat.old.table_id) × (seat.new.me.1 ≡ seat.old.me.1) }

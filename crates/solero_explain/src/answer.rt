@@ -7,7 +7,8 @@ const USAGE: &str = "usage: solero_explain --what WHAT [options] FILE...\n";
 
 const OUT_OF_MEMORY: &str = "out of memory\n";
 
-/// What is due: a text, and a status with it. Each text but those that had to be made needs no memory.
+/// What is due: a text, and a status with it. Each text but those that had to be made needs no
+/// memory.
 #[derive(Debug, Drop)]
 pub enum Due {
     /// What is told of a program.

@@ -1,10 +1,13 @@
-//! The words of the command, read by one simple command of `clap`, and then by the rules for the values.
+//! The words of the command, read by one simple command of `clap`, and then by the rules for the
+//! values.
 ghost use Rattle.std.specs.Prelude.{◌≡◌, IfOk, IfSome, [], length, map, option_map, true};
 ghost use Rattle.std.specs.Option.{option_copied, unwrap_or};
 ghost use Rattle.clap.specs.Words.{app_of, found_of, rows_of};
 ghost use Rattle.command_words.specs.RunValues.{are_few as are_few_files};
 ghost use Rattle.command_words.specs.Words.{found_in_words, gives_any as gives_any_of, texts};
-ghost use Rattle.solero_explain.specs.Command.{question, explain_command as command_of, files_of, form_asked as the_form, not_read_with, explain_app, what_of as the_what, with_flag as flag_in};
+ghost use Rattle.solero_explain.specs.Command.{question, explain_command as command_of, files_of};
+ghost use Rattle.solero_explain.specs.Command.{form_asked as the_form, not_read_with, explain_app};
+ghost use Rattle.solero_explain.specs.Command.{what_of as the_what, with_flag as flag_in};
 ghost use Rattle.solero_explain.specs.Requests.{question_by};
 
 use crate::request::{Request, What};
@@ -85,8 +88,11 @@ fn form_of(given: Option<&str>) -> Form
 
 // The names of the files, where there are 1 to 64.
 fn files(alloc: Global, given: Option<&[&str]>) -> Result<Option<Vec<String>>, AllocError>
-    ensures count { IfOk result (λ files. IfSome files (λ x. are_few_files (length x.items) ≡ true)) }
-    ensures names { IfOk result (λ files. option_map (λ x. texts x.items) files ≡ files_of (unwrap_or (option_map (λ s. map (λ v. v.now) s.now) given.entry) [])) }
+    ensures count { IfOk result
+        (λ files. IfSome files (λ x. are_few_files (length x.items) ≡ true)) }
+    ensures names { IfOk result (λ files.
+        option_map (λ x. texts x.items) files
+        ≡ files_of (unwrap_or (option_map (λ s. map (λ v. v.now) s.now) given.entry) [])) }
 {
     let names = given.unwrap_or(&[]);
     if !are_few(names.len()) {
@@ -98,7 +104,8 @@ fn files(alloc: Global, given: Option<&[&str]>) -> Result<Option<Vec<String>>, A
 // What is asked for, where each value follows its rule.
 #[tactic(auto, unfolding(crate::specs::Command::question))]
 fn request(alloc: Global, matches: &ArgMatches<'_>) -> Result<Option<Request>, AllocError>
-    ensures { IfOk result (λ r. option_map question_by r ≡ question (rows_of (found_of matches.now))) }
+    ensures { IfOk result
+        (λ r. option_map question_by r ≡ question (rows_of (found_of matches.now))) }
 {
     let Some(what) = what_of(value(matches, "what")) else {
         return Ok(None);
@@ -146,13 +153,16 @@ fn request(alloc: Global, matches: &ArgMatches<'_>) -> Result<Option<Request>, A
 
 // What is found in the words, where they have no fault.
 fn matches_in<'a>(alloc: Global, words: &'a [String]) -> Result<Option<ArgMatches<'a>>, AllocError>
-    ensures { IfOk result (λ m. option_map (λ x. rows_of (found_of x)) m ≡ found_in_words explain_app (texts words.entry.now)) }
+    ensures { IfOk result (λ m.
+        option_map (λ x. rows_of (found_of x)) m
+        ≡ found_in_words explain_app (texts words.entry.now)) }
 {
     let command = explain_command(alloc)?;
     found_in(command, words)
 }
 
-/// What the words ask for, of which the first is the program's name. `None`: the words are not read.
+/// What the words ask for, of which the first is the program's name. `None`: the words are not
+/// read.
 #[tactic(auto, unfolding(crate::specs::Command::explain_command))]
 pub fn read_words(alloc: Global, words: &[String]) -> Result<Option<Request>, AllocError>
     ensures { IfOk result (λ r. option_map question_by r ≡ command_of (texts words.now)) }

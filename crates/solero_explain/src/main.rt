@@ -1,4 +1,5 @@
-//! The program `solero_explain`: says what a refusal of class files means, why a section is not marked, and what happens in a run.
+//! The program `solero_explain`: says what a refusal of class files means, why a section is not
+//! marked, and what happens in a run.
 #![tactic(auto)]
 
 ghost use Rattle.std.specs.Prelude.{◌≡◌, ◌≢◌};

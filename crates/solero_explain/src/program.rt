@@ -1,4 +1,5 @@
-ghost use Rattle.std.specs.Prelude.{◌≡◌, ◌-◌, ◌^◌, ◌<◌, ◌≤◌, ◌≢◌, ◌⊎◌, List, Some, None, IfOk, length, true};
+ghost use Rattle.std.specs.Prelude.{◌≡◌, ◌-◌, ◌^◌, ◌<◌, ◌≤◌, ◌≢◌, ◌⊎◌, List, Some, None, IfOk};
+ghost use Rattle.std.specs.Prelude.{length, true};
 ghost use Rattle.std.specs.Option.{option_copied};
 ghost use Rattle.command_words.specs.RunValues.{are_few};
 ghost use Rattle.command_words.specs.Words.{texts};
@@ -6,11 +7,14 @@ ghost use Rattle.host_io.specs.Faults.{CountsFault};
 ghost use Rattle.host_io.specs.Reading.{first_long};
 ghost use Rattle.host_io.specs.declared.shelf.NamedFile.{NamedFile as File};
 ghost use Rattle.json_lines.specs.declared.form.Form.TheVariants.{Json};
-ghost use Rattle.solero_explain.specs.Answer.{AreUnrefused, AreMarksTold, IsExplainDue, IsTold, accepted_text as the_accepted_text, file_name_at as the_name_at};
+ghost use Rattle.solero_explain.specs.Answer.{AreUnrefused, AreMarksTold, IsExplainDue, IsTold};
+ghost use Rattle.solero_explain.specs.Answer.{accepted_text as the_accepted_text};
+ghost use Rattle.solero_explain.specs.Answer.{file_name_at as the_name_at};
 ghost use Rattle.solero_explain.specs.Command.{Question, explain_command};
 ghost use Rattle.solero_explain.specs.Delivery.{IsDelivered};
 ghost use Rattle.class_runner.specs.Loading.{IsLoaded};
-ghost use Rattle.solero_explain.specs.Parts.{IsDueOf, IsRefusalExplained, IsFoundInFiles, IsFoundIn, IsRunTold, IsUnreadExplained, IsWork};
+ghost use Rattle.solero_explain.specs.Parts.{IsDueOf, IsRefusalExplained, IsFoundInFiles};
+ghost use Rattle.solero_explain.specs.Parts.{IsFoundIn, IsRunTold, IsUnreadExplained, IsWork};
 ghost use Rattle.solero_explain.specs.Tracing.{IsAnswered};
 ghost use Rattle.solero_explain.specs.Requests.{question_by};
 ghost use Rattle.solero_explain.specs.declared.answer.Due.{Due as TheDue};
@@ -45,10 +49,11 @@ enum Work {
     Run(Request, Checked, Rows<Bytes>),
 }
 
-/// Explains what the words ask for: reads the files from the shelf, in order, loads them, and writes to the sink what is to be
-/// told of them: a refusal, the marks of the sections with their reasons, or a run, event by event, as it goes. Files that `solero`
-/// refuses are refused by the same rule, at the same place, with the names of that place. It answers the status that the process
-/// ends with: of a run that is told that of its report.
+/// Explains what the words ask for: reads the files from the shelf, in order, loads them, and
+/// writes to the sink what is to be told of them: a refusal, the marks of the sections with their
+/// reasons, or a run, event by event, as it goes. Files that `solero` refuses are refused by the
+/// same rule, at the same place, with the names of that place. It answers the status that the
+/// process ends with: of a run that is told that of its report.
 pub fn top_explain<S: Shelf, K: Sink>(
     alloc: Global,
     words: &Vec<String>,
@@ -64,7 +69,8 @@ pub fn top_explain<S: Shelf, K: Sink>(
     // Each status comes for its cause, and a fault of the sink goes before all.
     ensures status { result ≤ 7 }
     ensures words_read { result ≡ 2 → explain_command (texts words.now.items) ≡ None }
-    ensures words_not_read { explain_command (texts words.now.items) ≡ None → (result ≡ 2) ⊎ ((result ≡ 5) ⊎ (result ≡ 6)) }
+    ensures words_not_read { explain_command (texts words.now.items) ≡ None
+        → (result ≡ 2) ⊎ ((result ≡ 5) ⊎ (result ≡ 6)) }
     // Files that all rules let pass are not refused, whatever is to be told of them.
     ensures accepted { (asked : Question) (files : List File) → explain_command (texts words.now.items) ≡ Some asked
         → S.files shelf.old ≡ Some files → AreUnrefused files asked → result ≢ 3 }
@@ -100,7 +106,8 @@ fn traced<K: Sink>(
     names: &Rows<Bytes>,
     sink: &mut K,
 ) -> u8
-    ensures { IsRunTold checked.now (question_by request.now) names.now (K.text sink.old) (K.text sink.new) (K.faults sink.old) (K.faults sink.new) result }
+    ensures { IsRunTold checked.now (question_by request.now) names.now (K.text sink.old)
+        (K.text sink.new) (K.faults sink.old) (K.faults sink.new) result }
 {
     match explain_run(
         alloc,
@@ -202,7 +209,8 @@ fn explained(
     place: Place,
     content: Option<&Bytes>,
 ) -> Due
-    ensures { IsRefusalExplained (question_by request.now) rule place (option_copied content.entry) result }
+    ensures { IsRefusalExplained (question_by request.now) rule place (option_copied content.entry)
+        result }
 {
     let name = name_at(request.files.as_slice(), place.file);
     match explained_refusal(alloc, request.form, rule, place, name, content) {

@@ -1,11 +1,13 @@
 ghost use Rattle.std.specs.Prelude.{◌≡◌};
 ghost use Rattle.std.specs.List.{list_any};
-ghost use Rattle.solero_explain.specs.Tracing.{is_limit as ends_at_limit, is_uncaught as ends_uncaught, some_end, status_of_run as the_status};
+ghost use Rattle.solero_explain.specs.Tracing.{is_limit as ends_at_limit};
+ghost use Rattle.solero_explain.specs.Tracing.{is_uncaught as ends_uncaught, some_end};
+ghost use Rattle.solero_explain.specs.Tracing.{status_of_run as the_status};
 
 use jvm_types::{End, Outcome, ThreadReport};
 
-/// The status of a run that came to this: 7 where some part met a limit, else 1 where some part was ended by an exception that
-/// nothing caught, else 0.
+/// The status of a run that came to this: 7 where some part met a limit, else 1 where some part was
+/// ended by an exception that nothing caught, else 0.
 #[tactic(auto, unfolding(crate::specs::Tracing::status_of_run))]
 pub fn status_of_run(outcome: &Outcome) -> u8
     ensures { result ≡ the_status outcome.now }

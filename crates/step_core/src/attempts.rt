@@ -1,4 +1,5 @@
-//! What an event does to the attempt of a thread: its checks, the entries of its monitor inside the section, and its end.
+//! What an event does to the attempt of a thread: its checks, the entries of its monitor inside the
+//! section, and its end.
 
 ghost use Rattle.std.specs.Prelude.{◌≡◌, ◌<◌, ◌+◌, IfSome, IsSome};
 ghost use Rattle.machine_types.specs.Elision.{if_same, looks};
@@ -47,7 +48,8 @@ pub fn passes(s: &mut ThreadState, found: u64) -> bool
 pub fn enter_inside(s: &mut ThreadState)
     requires some { IsSome s.old.attempt }
     requires inner { IfSome s.old.attempt (λ a. a.inner < 18446744073709551615) }
-    ensures { IfSome s.old.attempt (λ a. s.new ≡ runs (record s.old { attempt = Some (record a { inner = a.inner + 1 }) })) }
+    ensures { IfSome s.old.attempt
+        (λ a. s.new ≡ runs (record s.old { attempt = Some (record a { inner = a.inner + 1 }) })) }
 {
     match s.attempt() {
         Some(a) => {
@@ -76,7 +78,8 @@ pub fn leave_attempt(s: &mut ThreadState, p: &Checked, after: After, found: u64)
     requires some { IsSome s.old.attempt }
     requires program { p.now ≡ s.old.program }
     requires can { CanLeave p.now s.old after }
-    ensures { IfSome s.old.attempt (λ a. s.new ≡ finishes p.now.program s.old after a a.inner found) }
+    ensures { IfSome s.old.attempt
+        (λ a. s.new ≡ finishes p.now.program s.old after a a.inner found) }
 {
     match s.attempt() {
         Some(a) => {

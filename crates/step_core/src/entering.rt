@@ -71,7 +71,8 @@ fn enter_new(s: &mut ThreadState, p: &Checked, monitor: u32, tried: u8, found: u
 /// The entry of a monitor, with the number of attempts that were made at it.
 pub fn enter(s: &mut ThreadState, p: &Checked, monitor: u32, tried: u8, found: u64)
     requires { CanEnter s.old monitor found }
-    ensures { s.new ≡ enter_moves s.old monitor tried (may_try p.now s.old tried) (claim s.old monitor) found }
+    ensures { s.new
+        ≡ enter_moves s.old monitor tried (may_try p.now s.old tried) (claim s.old monitor) found }
 {
     if let Some(held) = s.held(monitor) {
         enter_again(s, monitor, held);

@@ -1,4 +1,5 @@
-//! The next event of a thread in two halves: what it wants, and what it makes of the thread by the word that its access found.
+//! The next event of a thread in two halves: what it wants, and what it makes of the thread by the
+//! word that its access found.
 
 ghost use Rattle.std.specs.Prelude.{◌≡◌};
 ghost use Rattle.machine_types.specs.Events.{moved};
@@ -14,14 +15,16 @@ use instr_steps::{run_by, run_or_want};
 use laws_threads::lawful_is_kept;
 use machine_types::{Access, Effect, Phase};
 
-/// What the next event of a thread wants: an access, and the effect of the instruction that it makes, where it makes one.
+/// What the next event of a thread wants: an access, and the effect of the instruction that it
+/// makes, where it makes one.
 #[derive(Clone, Copy, Debug, PartialEq, Eq)]
 pub struct Want {
     pub access: Access,
     pub effect: Option<Effect>,
 }
 
-/// The next event of the thread at once, where it wants no access; else what it wants is answered, and nothing changes.
+/// The next event of the thread at once, where it wants no access; else what it wants is answered,
+/// and nothing changes.
 #[inline(always)]
 pub fn step_or_want(s: &mut ThreadState, p: &Checked) -> Option<Want>
     requires program { p.now ≡ s.old.program }
@@ -52,7 +55,8 @@ pub fn step_or_want(s: &mut ThreadState, p: &Checked) -> Option<Want>
     }
 }
 
-/// What the thread becomes by the word that the access found which it wanted, with the effect that was told.
+/// What the thread becomes by the word that the access found which it wanted, with the effect that
+/// was told.
 #[inline(always)]
 pub fn apply_effect(s: &mut ThreadState, p: &Checked, effect: Option<Effect>, got: u64)
     requires program { p.now ≡ s.old.program }

@@ -35,7 +35,8 @@ pub fn leave(s: &mut ThreadState, p: &Checked, monitor: u32, after: After, found
     }
 }
 
-/// The access of an exit: none but for the last exit of a monitor that the thread holds, or the end of its attempt.
+/// The access of an exit: none but for the last exit of a monitor that the thread holds, or the end
+/// of its attempt.
 pub fn leave_wants(s: &ThreadState, monitor: u32) -> Option<Access>
     requires number { s.now.number ≤ MOST_WORKERS }
     requires kept { AllByRecursion (λ h. KeptFits h.kept) s.now.held }

@@ -1,4 +1,5 @@
-//! One event of a thread: the access that it wants, and what the thread becomes by the word that the access found.
+//! One event of a thread: the access that it wants, and what the thread becomes by the word that
+//! the access found.
 #![tactic(auto)]
 
 mod ahead;

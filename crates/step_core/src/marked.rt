@@ -1,4 +1,5 @@
-//! Whether a section is marked 0. The marks of a program stand in the order of its methods, and within one of their pcs.
+//! Whether a section is marked 0. The marks of a program stand in the order of its methods, and
+//! within one of their pcs.
 
 ghost use Rattle.std.specs.Prelude.{◌≡◌, ◌==◌, ◌≤◌, ◌&&◌, length, drop};
 ghost use Rattle.machine_types.specs.Sections.{is_marked, is_same_spot};
@@ -49,7 +50,8 @@ fn stands_before(method: u32, rank: u64, other: u32, least: u64) -> bool
 fn marks_before(marks: &[SectionMark], method: u32, spot: Spot) -> usize
     requires { AscendFrom 0 0 marks.now }
     ensures some { result ≤ length marks.now }
-    ensures before { is_marked (drop result marks.now) method spot ≡ is_marked marks.now method spot }
+    ensures before { is_marked (drop result marks.now) method spot
+        ≡ is_marked marks.now method spot }
 {
     let mut low = 0;
     let mut high = marks.len();

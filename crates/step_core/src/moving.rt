@@ -1,6 +1,7 @@
 //! What the next event of a thread makes of it.
 
-ghost use Rattle.std.specs.Prelude.{◌≡◌, ◌≢◌, ◌<◌, ◌^◌, None, true, IfSome, IsSome, length, slice_index};
+ghost use Rattle.std.specs.Prelude.{◌≡◌, ◌≢◌, ◌<◌, ◌^◌, None, true, IfSome, IsSome, length};
+ghost use Rattle.std.specs.Prelude.{slice_index};
 ghost use Rattle.machine_types.specs.Accesses.{accessed, found_by, left_by, words_after};
 ghost use Rattle.machine_types.specs.Core.{is_live};
 ghost use Rattle.machine_types.specs.Events.{moved, wanted};
@@ -36,8 +37,9 @@ fn throw(s: &mut ThreadState, p: &Checked, found: u64)
     }
 }
 
-/// An event that makes no instruction, by the word that its access found, which is 0 where it has none. It stands apart from
-/// `make`, so that an event has one call of the instructions' effects, which the compiler then inlines.
+/// An event that makes no instruction, by the word that its access found, which is 0 where it has
+/// none. It stands apart from `make`, so that an event has one call of the instructions' effects,
+/// which the compiler then inlines.
 pub(crate) fn make_between(s: &mut ThreadState, p: &Checked, got: u64)
     requires program { p.now ≡ s.old.program }
     requires lawful { IsLawful p.now s.old }
@@ -81,11 +83,13 @@ fn make(s: &mut ThreadState, p: &Checked, got: u64)
 #[inline(always)]
 fn make_event(s: &mut ThreadState, p: &Checked, words: &mut Rows<u64>)
     requires word { IfSome (wanted p.now s.old s.old.phase) (λ a. accessed a < length words.old) }
-    requires sum { IfSome (wanted p.now s.old s.old.phase) (λ a. left_by a (slice_index words.old (accessed a)) < 2 ^ 64) }
+    requires sum { IfSome (wanted p.now s.old s.old.phase)
+        (λ a. left_by a (slice_index words.old (accessed a)) < 2 ^ 64) }
     requires program { p.now ≡ s.old.program }
     requires lawful { IsLawful p.now s.old }
     requires fits { Fits p.now s.old (found_by words.old (wanted p.now s.old s.old.phase)) }
-    ensures state { s.new ≡ moved p.now s.old s.old.phase (found_by words.old (wanted p.now s.old s.old.phase)) }
+    ensures state { s.new
+        ≡ moved p.now s.old s.old.phase (found_by words.old (wanted p.now s.old s.old.phase)) }
     ensures words { words.new ≡ words_after words.old (wanted p.now s.old s.old.phase) }
 {
     if s.phase() == Phase::Run {
@@ -129,15 +133,17 @@ pub fn step_local(s: &mut ThreadState, p: &Checked)
     make(s, p, 0);
 }
 
-/// One event of the thread, with its access: nothing changes where the thread is not live. The word of the access is there,
-/// fits what it is read as, and a sum fits 64 bits.
+/// One event of the thread, with its access: nothing changes where the thread is not live. The word
+/// of the access is there, fits what it is read as, and a sum fits 64 bits.
 pub fn event(s: &mut ThreadState, p: &Checked, words: &mut Rows<u64>)
     requires word { IfSome (wanted p.now s.old s.old.phase) (λ a. accessed a < length words.old) }
-    requires sum { IfSome (wanted p.now s.old s.old.phase) (λ a. left_by a (slice_index words.old (accessed a)) < 2 ^ 64) }
+    requires sum { IfSome (wanted p.now s.old s.old.phase)
+        (λ a. left_by a (slice_index words.old (accessed a)) < 2 ^ 64) }
     requires program { p.now ≡ s.old.program }
     requires lawful { IsLawful p.now s.old }
     requires fits { Fits p.now s.old (found_by words.old (wanted p.now s.old s.old.phase)) }
-    ensures state { s.new ≡ moved p.now s.old s.old.phase (found_by words.old (wanted p.now s.old s.old.phase)) }
+    ensures state { s.new
+        ≡ moved p.now s.old s.old.phase (found_by words.old (wanted p.now s.old s.old.phase)) }
     ensures words { words.new ≡ words_after words.old (wanted p.now s.old s.old.phase) }
     ensures lawful { IsLawful p.now s.new }
 {

@@ -40,7 +40,8 @@ pub fn want_between(s: &ThreadState, p: &Checked) -> Option<Access>
     }
 }
 
-/// The access that the next event of the thread wants: `None` exactly where that event is local, or the thread is not live.
+/// The access that the next event of the thread wants: `None` exactly where that event is local, or
+/// the thread is not live.
 pub fn want(s: &ThreadState, p: &Checked) -> Option<Access>
     requires program { p.now ≡ s.now.program }
     requires lawful { IsLawful p.now s.now }

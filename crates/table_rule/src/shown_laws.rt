@@ -2,8 +2,8 @@
 
 ghost use Rattle.table_rule.specs.TableLaws.{EventsShow, LocalsShow};
 
-/// An event of a thread that a view has, behind its events without an access, leads from a state of a run that is shown to the
-/// next one, whatever the other views have.
+/// An event of a thread that a view has, behind its events without an access, leads from a state of
+/// a run that is shown to the next one, whatever the other views have.
 pub fn events_show()
     ensures { EventsShow }
 {}

@@ -21,11 +21,14 @@ fn perform<B: Making>(
     _s: &ThreadState,
     _t: u8,
 ) -> u64
-    requires event { B.event ≡ Some (record { program = _p.now; cfg = table.now.shared.key.cfg; number = _t; state = _s.now }) }
+    requires event { B.event ≡ Some (record
+        { program = _p.now; cfg = table.now.shared.key.cfg; number = _t; state = _s.now }) }
     requires table { seat.old.table_id ≡ table.now.shared.table_id }
-    requires run { IsNextEventOf B.event table.now.shared.key.program.told table.now.shared.key.cfg }
+    requires run { IsNextEventOf B.event table.now.shared.key.program.told
+        table.now.shared.key.cfg }
     requires asks { Asks B.event seat.old.me.0 a table.now.shared.table_id.words }
-    ensures seat { (seat.new.table_id ≡ seat.old.table_id) × (seat.new.id ≡ seat.old.id) × (seat.new.me.1 ≡ seat.old.me.1) }
+    ensures seat { (seat.new.table_id ≡ seat.old.table_id) × (seat.new.id ≡ seat.old.id)
+        × (seat.new.me.1 ≡ seat.old.me.1) }
     ensures tells { Tells B.event seat.old.me.0 result seat.new.me.0 }
 {
     runs_are_safe();
@@ -45,8 +48,8 @@ fn perform<B: Making>(
     }
 }
 
-/// The access that the next event of thread `t` wants, where `s` is its state: it tells what it found, and the seat knows what
-/// the thread becomes by that.
+/// The access that the next event of thread `t` wants, where `s` is its state: it tells what it
+/// found, and the seat knows what the thread becomes by that.
 #[inline(always)]
 pub(crate) fn access(
     table: &CoreTable,
@@ -58,9 +61,14 @@ pub(crate) fn access(
 ) -> u64
     requires table { seat.old.table_id ≡ table.now.shared.table_id }
     requires run { table.now.shared.key.program.told ≡ p.now }
-    requires asks { CanMake (record { program = p.now; cfg = table.now.shared.key.cfg; number = t; state = s.now }) seat.old.me.0 a table.now.shared.table_id.words }
-    ensures seat { (seat.new.table_id ≡ seat.old.table_id) × (seat.new.id ≡ seat.old.id) × (seat.new.me.1 ≡ seat.old.me.1) }
-    ensures made { IsEventMade (record { program = p.now; cfg = table.now.shared.key.cfg; number = t; state = s.now }) seat.old.me.0 result seat.new.me.0 }
+    requires asks { CanMake
+        (record { program = p.now; cfg = table.now.shared.key.cfg; number = t; state = s.now })
+        seat.old.me.0 a table.now.shared.table_id.words }
+    ensures seat { (seat.new.table_id ≡ seat.old.table_id) × (seat.new.id ≡ seat.old.id)
+        × (seat.new.me.1 ≡ seat.old.me.1) }
+    ensures made { IsEventMade
+        (record { program = p.now; cfg = table.now.shared.key.cfg; number = t; state = s.now })
+        seat.old.me.0 result seat.new.me.0 }
 {
     perform::<Brand>(table, seat, a, p, s, t)
 }

@@ -44,7 +44,9 @@ pub(crate) fn reports_of(
 pub(crate) fn end_table(table: CoreTable, seat: Seat<(), View>)
     requires table { seat.table_id ≡ table.shared.table_id }
     requires vacant { table.shared.table_id.slots ≡ 0 }
-    ensures shows { (words : List ℕ) × (views : List (List (Option Thread))) × ShowsRun table.shared.key.program.told table.shared.key.cfg words views × (get_elem? views seat.id ≡ some seat.me.0) }
+    ensures shows { (words : List ℕ) × (views : List (List (Option Thread)))
+        × ShowsRun table.shared.key.program.told table.shared.key.cfg words views
+        × (get_elem? views seat.id ≡ some seat.me.0) }
 {
     table.close_with(seat).free();
 }

@@ -4,7 +4,8 @@ ghost use Rattle.std.specs.Prelude.{◌≡◌, ◌<◌, true, false};
 ghost use Rattle.machine_types.specs.Core.{is_live, is_live_thread};
 ghost use Rattle.laws_states.specs.WorkLeft.{work_left};
 ghost use Rattle.table_runner.specs.Accessing.{CanRun, IsBehindView};
-ghost use Rattle.table_runner.specs.Going.{HasGoneByEvent, GoesAt, IsLaterThread, GoesOnAt, IsBehindViewAt};
+ghost use Rattle.table_runner.specs.Going.{HasGoneByEvent, GoesAt, IsLaterThread, GoesOnAt};
+ghost use Rattle.table_runner.specs.Going.{IsBehindViewAt};
 
 use crate::access::access;
 use crate::rule::{CoreTable, View};
@@ -24,9 +25,14 @@ fn go(s: &mut ThreadState, seat: &mut Seat<(), View>, table: &CoreTable, p: &Che
     requires table { seat.old.table_id ≡ table.now.shared.table_id }
     requires program { table.now.shared.key.program.told ≡ p.now }
     requires run { CanRun p.now table.now.shared.key.cfg table.now.shared.table_id.words }
-    requires stands { IsBehindView (record { program = p.now; cfg = table.now.shared.key.cfg; number = t; state = s.old }) seat.old.me.0 }
-    ensures seat { (seat.new.table_id ≡ seat.old.table_id) × (seat.new.id ≡ seat.old.id) × (seat.new.me.1 ≡ seat.old.me.1) }
-    ensures goes { HasGoneByEvent (record { program = p.now; cfg = table.now.shared.key.cfg; number = t; state = s.old }) seat.old.me.0 s.new seat.new.me.0 }
+    requires stands { IsBehindView
+        (record { program = p.now; cfg = table.now.shared.key.cfg; number = t; state = s.old })
+        seat.old.me.0 }
+    ensures seat { (seat.new.table_id ≡ seat.old.table_id) × (seat.new.id ≡ seat.old.id)
+        × (seat.new.me.1 ≡ seat.old.me.1) }
+    ensures goes { HasGoneByEvent
+        (record { program = p.now; cfg = table.now.shared.key.cfg; number = t; state = s.old })
+        seat.old.me.0 s.new seat.new.me.0 }
 {
     runs_are_safe();
     parts_keep_threads();
@@ -37,7 +43,8 @@ fn go(s: &mut ThreadState, seat: &mut Seat<(), View>, table: &CoreTable, p: &Che
     }
 }
 
-/// The next event of thread `t` where it is here: `false` where it is not, or is not live, and then nothing changes.
+/// The next event of thread `t` where it is here: `false` where it is not, or is not live, and then
+/// nothing changes.
 #[inline(always)]
 pub(crate) fn go_at(
     place: &mut Option<ThreadState>,
@@ -51,9 +58,11 @@ pub(crate) fn go_at(
     requires run { CanRun p.now table.now.shared.key.cfg table.now.shared.table_id.words }
     requires stands { IsBehindViewAt p.now table.now.shared.key.cfg t place.old seat.old.me.0 }
     ensures live { result ≡ is_live_thread place.old }
-    ensures seat { (seat.new.table_id ≡ seat.old.table_id) × (seat.new.id ≡ seat.old.id) × (seat.new.me.1 ≡ seat.old.me.1) }
+    ensures seat { (seat.new.table_id ≡ seat.old.table_id) × (seat.new.id ≡ seat.old.id)
+        × (seat.new.me.1 ≡ seat.old.me.1) }
     ensures still { result ≡ false → (place.new ≡ place.old) × (seat.new.me.0 ≡ seat.old.me.0) }
-    ensures goes { result ≡ true → GoesAt p.now table.now.shared.key.cfg t place.old seat.old.me.0 place.new seat.new.me.0 }
+    ensures goes { result ≡ true
+        → GoesAt p.now table.now.shared.key.cfg t place.old seat.old.me.0 place.new seat.new.me.0 }
 {
     match place {
         Some(s) => {
@@ -70,8 +79,8 @@ pub(crate) fn go_at(
 /// So many failed turns in a row are made without a pause of the thread of the system.
 const SPINS: u32 = 16;
 
-/// Lets another thread of the system go on where the last event was one more failed turn: the monitor is another's, who may need
-/// the processor to let it go.
+/// Lets another thread of the system go on where the last event was one more failed turn: the
+/// monitor is another's, who may need the processor to let it go.
 #[inline(always)]
 fn give_way(before: u32, turns: u32) {
     if turns > before {
@@ -83,16 +92,22 @@ fn give_way(before: u32, turns: u32) {
     }
 }
 
-/// The next event of thread `t`, which is live, and those behind it that want no access: they leave less for it to do.
+/// The next event of thread `t`, which is live, and those behind it that want no access: they leave
+/// less for it to do.
 #[inline(always)]
 fn go_far(s: &mut ThreadState, seat: &mut Seat<(), View>, table: &CoreTable, p: &Checked, t: u8)
     requires live { is_live s.old.phase ≡ true }
     requires table { seat.old.table_id ≡ table.now.shared.table_id }
     requires program { table.now.shared.key.program.told ≡ p.now }
     requires run { CanRun p.now table.now.shared.key.cfg table.now.shared.table_id.words }
-    requires stands { IsBehindView (record { program = p.now; cfg = table.now.shared.key.cfg; number = t; state = s.old }) seat.old.me.0 }
-    ensures seat { (seat.new.table_id ≡ seat.old.table_id) × (seat.new.id ≡ seat.old.id) × (seat.new.me.1 ≡ seat.old.me.1) }
-    ensures goes { IsLaterThread (record { program = p.now; cfg = table.now.shared.key.cfg; number = t; state = s.old }) seat.old.me.0 s.new seat.new.me.0 }
+    requires stands { IsBehindView
+        (record { program = p.now; cfg = table.now.shared.key.cfg; number = t; state = s.old })
+        seat.old.me.0 }
+    ensures seat { (seat.new.table_id ≡ seat.old.table_id) × (seat.new.id ≡ seat.old.id)
+        × (seat.new.me.1 ≡ seat.old.me.1) }
+    ensures goes { IsLaterThread
+        (record { program = p.now; cfg = table.now.shared.key.cfg; number = t; state = s.old })
+        seat.old.me.0 s.new seat.new.me.0 }
     ensures less { work_left s.new < work_left s.old }
 {
     given_is_kept();
@@ -111,10 +126,15 @@ fn go_on(s: &mut ThreadState, seat: &mut Seat<(), View>, table: &CoreTable, p: &
     requires table { seat.old.table_id ≡ table.now.shared.table_id }
     requires program { table.now.shared.key.program.told ≡ p.now }
     requires run { CanRun p.now table.now.shared.key.cfg table.now.shared.table_id.words }
-    requires stands { IsBehindView (record { program = p.now; cfg = table.now.shared.key.cfg; number = t; state = s.old }) seat.old.me.0 }
+    requires stands { IsBehindView
+        (record { program = p.now; cfg = table.now.shared.key.cfg; number = t; state = s.old })
+        seat.old.me.0 }
     ensures over { is_live s.new.phase ≡ false }
-    ensures seat { (seat.new.table_id ≡ seat.old.table_id) × (seat.new.id ≡ seat.old.id) × (seat.new.me.1 ≡ seat.old.me.1) }
-    ensures goes { IsLaterThread (record { program = p.now; cfg = table.now.shared.key.cfg; number = t; state = s.old }) seat.old.me.0 s.new seat.new.me.0 }
+    ensures seat { (seat.new.table_id ≡ seat.old.table_id) × (seat.new.id ≡ seat.old.id)
+        × (seat.new.me.1 ≡ seat.old.me.1) }
+    ensures goes { IsLaterThread
+        (record { program = p.now; cfg = table.now.shared.key.cfg; number = t; state = s.old })
+        seat.old.me.0 s.new seat.new.me.0 }
 {
     while s.is_live() {
         go_far(s, seat, table, p, t);
@@ -134,8 +154,10 @@ pub(crate) fn go_on_at(
     requires run { CanRun p.now table.now.shared.key.cfg table.now.shared.table_id.words }
     requires stands { IsBehindViewAt p.now table.now.shared.key.cfg t place.old seat.old.me.0 }
     ensures over { is_live_thread place.new ≡ false }
-    ensures seat { (seat.new.table_id ≡ seat.old.table_id) × (seat.new.id ≡ seat.old.id) × (seat.new.me.1 ≡ seat.old.me.1) }
-    ensures goes { GoesOnAt p.now table.now.shared.key.cfg t place.old seat.old.me.0 place.new seat.new.me.0 }
+    ensures seat { (seat.new.table_id ≡ seat.old.table_id) × (seat.new.id ≡ seat.old.id)
+        × (seat.new.me.1 ≡ seat.old.me.1) }
+    ensures goes { GoesOnAt p.now table.now.shared.key.cfg t place.old seat.old.me.0 place.new
+        seat.new.me.0 }
 {
     match place {
         Some(s) => go_on(s, seat, table, p, t),

@@ -1,6 +1,7 @@
 //! Some threads of a run, and the seat from which they step.
 
-ghost use Rattle.std.specs.Prelude.{◌≡◌, ◌≢◌, ◌<◌, ◌≤◌, ℕ, [], length, map, IsSome, is_some, None, Some, true, false, replicate, slice_set};
+ghost use Rattle.std.specs.Prelude.{◌≡◌, ◌≢◌, ◌<◌, ◌≤◌, ℕ, [], length, map, IsSome, is_some, None};
+ghost use Rattle.std.specs.Prelude.{Some, true, false, replicate, slice_set};
 ghost use Rattle.std.specs.Option.{option_or};
 ghost use Rattle.machine_types.specs.Core.{is_live_thread, start};
 ghost use Rattle.machine_types.specs.Settings.{AreSettings};
@@ -9,7 +10,8 @@ ghost use Rattle.table_rule.specs.Views.{HasThreads, HoldsAll, held_in};
 ghost use Rattle.table_runner.specs.Ending.{IsOutcome};
 ghost use Rattle.table_runner.specs.Handed.{IsEventOf, IsTableOf};
 ghost use Rattle.table_runner.specs.Running.{AreSame, IsRunOn};
-ghost use Rattle.table_runner.specs.Sharing.{AreJoined, IsNextPart, thread_alone, view_without, without_thread};
+ghost use Rattle.table_runner.specs.Sharing.{AreJoined, IsNextPart, thread_alone, view_without};
+ghost use Rattle.table_runner.specs.Sharing.{without_thread};
 
 use crate::closing::{done_end, end_table, reports_of};
 use crate::events::{go_at, go_on_at};
@@ -26,8 +28,8 @@ use machine_types::Config;
 use run_parts::shares_are_next;
 use std::marker::Model;
 
-/// Some threads of a run on a table, and a seat at it. Contracts see of which run and table, the threads, and what the seat knows
-/// of them: each is a thread of some state that the run reaches.
+/// Some threads of a run on a table, and a seat at it. Contracts see of which run and table, the
+/// threads, and what the seat knows of them: each is a thread of some state that the run reaches.
 ///
 /// None of its methods waits for anyone or takes memory; all of them return.
 #[derive(Drop)]
@@ -61,11 +63,13 @@ impl Hands {
         reports: Room<ThreadReport>,
     ) -> Hands
         requires settings { AreSettings cfg.now × HaveWidth cfg.now }
-        requires words { (seat.table_id.words ≡ length (start p.now cfg.now).words) × (seat.table_id.slots ≡ 0) }
+        requires words { (seat.table_id.words ≡ length (start p.now cfg.now).words)
+            × (seat.table_id.slots ≡ 0) }
         requires seat { seat.me ≡ (map Some (start p.now cfg.now).threads, []) }
         requires threads { HasThreads threads (start p.now cfg.now).threads }
         requires room { (reports.items ≡ []) × (9 ≤ reports.spare) }
-        ensures { result ≡ record { program = p.now; cfg = cfg.now; table_id = seat.table_id; threads = threads; view = seat.me.0 } }
+        ensures { result ≡ record
+            { program = p.now; cfg = cfg.now; table_id = seat.table_id; threads = threads; view = seat.me.0 } }
     {
         let _checked = p.program();
         Hands {
@@ -89,15 +93,18 @@ impl Hands {
 
     /// Tells that they hold no thread that the program doesn't have.
     pub fn hold_no_more(&self)
-        ensures { (t : ℕ) → self.now.program.program.workers < t → held_in self.now.threads t ≡ None }
+        ensures { (t : ℕ) → self.now.program.program.workers < t
+            → held_in self.now.threads t ≡ None }
     {
         let _cfg = self.cfg;
     }
 
-    /// The next event of thread `t`: `false` where it is not live, and then nothing changes. It happens in a state that the run
-    /// reaches; where it wants an access, that is one step on one word, by which the seat knows what the thread becomes.
+    /// The next event of thread `t`: `false` where it is not live, and then nothing changes. It
+    /// happens in a state that the run reaches; where it wants an access, that is one step on one
+    /// word, by which the seat knows what the thread becomes.
     pub fn event(&mut self, table: &CoreTable, p: &Checked, t: u8) -> bool
-        requires table { IsTableOf table.now.shared.table_id table.now.shared.key.program.told table.now.shared.key.cfg self.old }
+        requires table { IsTableOf table.now.shared.table_id table.now.shared.key.program.told
+            table.now.shared.key.cfg self.old }
         requires program { p.now ≡ self.old.program }
         requires held { IsSome (held_in self.old.threads t) }
         ensures live { result ≡ is_live_thread (held_in self.old.threads t) }
@@ -109,7 +116,8 @@ impl Hands {
 
     /// The events of thread `t` until it is not live.
     pub(crate) fn run(&mut self, table: &CoreTable, p: &Checked, t: u8)
-        requires table { IsTableOf table.now.shared.table_id table.now.shared.key.program.told table.now.shared.key.cfg self.old }
+        requires table { IsTableOf table.now.shared.table_id table.now.shared.key.program.told
+            table.now.shared.key.cfg self.old }
         requires program { p.now ≡ self.old.program }
         requires held { IsSome (held_in self.old.threads t) }
         ensures over { is_live_thread (held_in self.new.threads t) ≡ false }
@@ -120,7 +128,8 @@ impl Hands {
 
     /// Hands that hold thread `t` alone, which these no longer hold.
     pub fn split(&mut self, table: &CoreTable, t: u8) -> Hands
-        requires table { IsTableOf table.now.shared.table_id table.now.shared.key.program.told table.now.shared.key.cfg self.old }
+        requires table { IsTableOf table.now.shared.table_id table.now.shared.key.program.told
+            table.now.shared.key.cfg self.old }
         requires held { IsSome (held_in self.old.threads t) }
         requires another { (u : ℕ) × (u ≢ t) × IsSome (held_in self.old.threads u) }
         ensures rest { self.new ≡ without_thread self.old t }
@@ -142,8 +151,10 @@ impl Hands {
 
     /// These hold what the others held.
     pub fn join(&mut self, table: &CoreTable, other: Hands)
-        requires table { IsTableOf table.now.shared.table_id table.now.shared.key.program.told table.now.shared.key.cfg self.old }
-        requires other { IsTableOf table.now.shared.table_id table.now.shared.key.program.told table.now.shared.key.cfg other }
+        requires table { IsTableOf table.now.shared.table_id table.now.shared.key.program.told
+            table.now.shared.key.cfg self.old }
+        requires other { IsTableOf table.now.shared.table_id table.now.shared.key.program.told
+            table.now.shared.key.cfg other }
         ensures { AreJoined self.old other self.new }
     {
         let Hands {
@@ -158,9 +169,11 @@ impl Hands {
         join_room(&mut self.reports, reports);
     }
 
-    /// Begins the next part, where these hands hold all threads: `false` where it may not begin, and then nothing changes.
+    /// Begins the next part, where these hands hold all threads: `false` where it may not begin,
+    /// and then nothing changes.
     pub fn next(&mut self, table: &CoreTable, p: &Checked) -> bool
-        requires table { IsTableOf table.now.shared.table_id table.now.shared.key.program.told table.now.shared.key.cfg self.old }
+        requires table { IsTableOf table.now.shared.table_id table.now.shared.key.program.told
+            table.now.shared.key.cfg self.old }
         requires program { p.now ≡ self.old.program }
         requires all { HoldsAll self.old.program self.old.threads }
         ensures next { IsNextPart self.old self.new result }
@@ -179,10 +192,11 @@ impl Hands {
         true
     }
 
-    /// What the run came to, where these hands hold all of its threads: the outcome of a state that it reaches, whose threads are
-    /// these.
+    /// What the run came to, where these hands hold all of its threads: the outcome of a state that
+    /// it reaches, whose threads are these.
     pub fn close(self, table: CoreTable) -> Outcome
-        requires table { IsTableOf table.shared.table_id table.shared.key.program.told table.shared.key.cfg self }
+        requires table { IsTableOf table.shared.table_id table.shared.key.program.told
+            table.shared.key.cfg self }
         requires all { HoldsAll self.program self.threads }
         ensures { IsOutcome self result }
     {
@@ -256,7 +270,8 @@ fn merge(
     threads: &mut [Option<ThreadState>; MOST_THREADS],
     others: &mut [Option<ThreadState>; MOST_THREADS],
 )
-    ensures { (t : ℕ) → held_in threads.new t ≡ option_or (held_in threads.old t) (held_in others.old t) }
+    ensures { (t : ℕ)
+        → held_in threads.new t ≡ option_or (held_in threads.old t) (held_in others.old t) }
 {
     for i in 0..MOST_THREADS {
         if threads[i].is_none() {

@@ -44,8 +44,13 @@ fn opened(
     words: &[u64],
 ) -> Result<(CoreTable, Seat<(), View>), AllocError>
     requires { words.now ≡ (start p.now cfg.now).words }
-    ensures run { IfOk result (λ t. (t.0.shared.key.program.told ≡ p.now) × (t.0.shared.key.cfg ≡ cfg.now) × (t.0.shared.table_id.words ≡ length words.now) × (t.0.shared.table_id.slots ≡ 0)) }
-    ensures seat { IfOk result (λ t. (t.1.table_id ≡ t.0.shared.table_id) × (t.1.me ≡ (map Some (start p.now cfg.now).threads, []))) }
+    ensures run { IfOk result (λ t.
+        (t.0.shared.key.program.told ≡ p.now) × (t.0.shared.key.cfg ≡ cfg.now)
+        × (t.0.shared.table_id.words ≡ length words.now)
+        × (t.0.shared.table_id.slots ≡ 0)) }
+    ensures seat { IfOk result (λ t.
+        (t.1.table_id ≡ t.0.shared.table_id)
+        × (t.1.me ≡ (map Some (start p.now cfg.now).threads, []))) }
 {
     let about = About {
         program: Told::of(p),
@@ -54,12 +59,14 @@ fn opened(
     CoreTable::of_words(alloc, words, &about)
 }
 
-/// The table of a run at its start, and hands that hold all threads. It takes all the memory that the calls of its hands will
-/// use; its error is want of memory.
+/// The table of a run at its start, and hands that hold all threads. It takes all the memory that
+/// the calls of its hands will use; its error is want of memory.
 pub fn table(alloc: Global, p: &Checked, cfg: &Config) -> Result<(CoreTable, Hands), AllocError>
     requires { AreSettings cfg.now }
-    ensures run { IfOk result (λ t. (t.0.shared.key.program.told ≡ p.now) × (t.0.shared.key.cfg ≡ cfg.now)) }
-    ensures start { IfOk result (λ t. AtStart t.0.shared.table_id t.0.shared.key.program.told t.0.shared.key.cfg t.1) }
+    ensures run { IfOk result
+        (λ t. (t.0.shared.key.program.told ≡ p.now) × (t.0.shared.key.cfg ≡ cfg.now)) }
+    ensures start { IfOk result
+        (λ t. AtStart t.0.shared.table_id t.0.shared.key.program.told t.0.shared.key.cfg t.1) }
 {
     have_width(*cfg);
     let words = start_words(alloc, p.program())?;

@@ -27,7 +27,8 @@ fn are_finished(places: &[Option<ThreadState>]) -> bool
 }
 
 fn may_begin_by(first: &Option<ThreadState>, workers: &[Option<ThreadState>]) -> bool
-    ensures some { (x : Thread) (ts : List Thread) → first.now ≡ Some x → HasThreads workers.now ts → result ≡ may_begin (x ∷ ts) }
+    ensures some { (x : Thread) (ts : List Thread) → first.now ≡ Some x → HasThreads workers.now ts
+        → result ≡ may_begin (x ∷ ts) }
     ensures none { first.now ≡ None → result ≡ false }
 {
     match first {
@@ -72,7 +73,8 @@ fn part_of(place: &Option<ThreadState>) -> u8
     }
 }
 
-/// Each thread takes its share of the begin of a part: all of them where the workers begin, thread 0 alone where `done` does.
+/// Each thread takes its share of the begin of a part: all of them where the workers begin, thread
+/// 0 alone where `done` does.
 pub(crate) fn begin_parts(threads: &mut [Option<ThreadState>; MOST_THREADS])
     requires { IsSome (held_in threads.old 0) }
     ensures { IsPartBegun (held_in threads.old 0) threads.old threads.new }

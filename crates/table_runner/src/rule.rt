@@ -13,7 +13,8 @@ use std::marker::{Brand, PhantomData};
 /// The most threads of a run: thread 0 and the workers.
 pub const MOST_THREADS: usize = 9;
 
-/// What a seat knows: of each thread that its hands hold, the state behind its last access. No value of it is made.
+/// What a seat knows: of each thread that its hands hold, the state behind its last access. No
+/// value of it is made.
 pub type View = [Option<ThreadState>; MOST_THREADS];
 
 /// The program and the settings of a run. Contracts alone see the program.

@@ -6,7 +6,8 @@ ghost use Rattle.machine_types.specs.Settings.{AreSettings};
 ghost use Rattle.run_parts.specs.Ended.{IsEndOfRun};
 ghost use Rattle.table_rule.specs.Views.{held_in};
 ghost use Rattle.table_runner.specs.Ending.{IsOutcome};
-ghost use Rattle.table_runner.specs.Running.{AreDeadBelow, AtStart, HaveEnded, IsAlone, IsRunOn, IsWaiting, NoWorkerLivesIn, RunsHere};
+ghost use Rattle.table_runner.specs.Running.{AreDeadBelow, AtStart, HaveEnded, IsAlone, IsRunOn};
+ghost use Rattle.table_runner.specs.Running.{IsWaiting, NoWorkerLivesIn, RunsHere};
 
 use crate::hands::Hands;
 use crate::opening::table;
@@ -20,22 +21,26 @@ use std::thread::Threads;
 
 /// The events of thread `t` on this thread of the system, until it is not live.
 fn run_here(hands: &mut Hands, table: &CoreTable, p: &Checked, t: u8)
-    requires here { RunsHere table.now.shared.table_id table.now.shared.key.program.told table.now.shared.key.cfg hands.old }
+    requires here { RunsHere table.now.shared.table_id table.now.shared.key.program.told
+        table.now.shared.key.cfg hands.old }
     requires number { t ≤ p.now.program.workers }
     requires program { p.now ≡ table.now.shared.key.program.told }
-    ensures here { RunsHere table.now.shared.table_id table.now.shared.key.program.told table.now.shared.key.cfg hands.new }
+    ensures here { RunsHere table.now.shared.table_id table.now.shared.key.program.told
+        table.now.shared.key.cfg hands.new }
     ensures on { IsRunOn t hands.old hands.new }
     ensures over { is_live_thread (held_in hands.new.threads t) ≡ false }
 {
     hands.run(table, p, t);
 }
 
-/// The events that the workers have left. There are none: each has made all of its own, which the hands that it gave back do not
-/// tell.
+/// The events that the workers have left. There are none: each has made all of its own, which the
+/// hands that it gave back do not tell.
 fn run_left(hands: &mut Hands, table: &CoreTable, p: &Checked)
     requires program { p.now ≡ table.now.shared.key.program.told }
-    requires here { RunsHere table.now.shared.table_id table.now.shared.key.program.told table.now.shared.key.cfg hands.old }
-    ensures here { RunsHere table.now.shared.table_id table.now.shared.key.program.told table.now.shared.key.cfg hands.new }
+    requires here { RunsHere table.now.shared.table_id table.now.shared.key.program.told
+        table.now.shared.key.cfg hands.old }
+    ensures here { RunsHere table.now.shared.table_id table.now.shared.key.program.told
+        table.now.shared.key.cfg hands.new }
     ensures first { held_in hands.new.threads 0 ≡ held_in hands.old.threads 0 }
     ensures over { AreDeadBelow (p.now.program.workers + 1) hands.new.threads }
 {
@@ -48,9 +53,11 @@ fn run_left(hands: &mut Hands, table: &CoreTable, p: &Checked)
 /// The end of the workers' part: what they have left is made.
 fn end_workers(table: &CoreTable, hands: &mut Hands, p: &Checked)
     requires program { p.now ≡ table.now.shared.key.program.told }
-    requires here { RunsHere table.now.shared.table_id table.now.shared.key.program.told table.now.shared.key.cfg hands.old }
+    requires here { RunsHere table.now.shared.table_id table.now.shared.key.program.told
+        table.now.shared.key.cfg hands.old }
     requires waiting { IsWaiting hands.old.threads }
-    ensures here { RunsHere table.now.shared.table_id table.now.shared.key.program.told table.now.shared.key.cfg hands.new }
+    ensures here { RunsHere table.now.shared.table_id table.now.shared.key.program.told
+        table.now.shared.key.cfg hands.new }
     ensures over { IsWaiting hands.new.threads × NoWorkerLivesIn hands.new.threads }
 {
     run_left(hands, table, p);
@@ -60,9 +67,11 @@ fn end_workers(table: &CoreTable, hands: &mut Hands, p: &Checked)
 /// `done`, where it may begin.
 fn run_done(table: &CoreTable, hands: &mut Hands, p: &Checked)
     requires program { p.now ≡ table.now.shared.key.program.told }
-    requires here { RunsHere table.now.shared.table_id table.now.shared.key.program.told table.now.shared.key.cfg hands.old }
+    requires here { RunsHere table.now.shared.table_id table.now.shared.key.program.told
+        table.now.shared.key.cfg hands.old }
     requires waiting { IsWaiting hands.old.threads × NoWorkerLivesIn hands.old.threads }
-    ensures here { RunsHere table.now.shared.table_id table.now.shared.key.program.told table.now.shared.key.cfg hands.new }
+    ensures here { RunsHere table.now.shared.table_id table.now.shared.key.program.told
+        table.now.shared.key.cfg hands.new }
     ensures ended { HaveEnded hands.new.threads }
 {
     if hands.next(table, p) {
@@ -73,9 +82,11 @@ fn run_done(table: &CoreTable, hands: &mut Hands, p: &Checked)
 /// `init`, and the begin of the workers' part: whether it began.
 fn begin_workers(table: &CoreTable, hands: &mut Hands, p: &Checked) -> bool
     requires program { p.now ≡ table.now.shared.key.program.told }
-    requires here { RunsHere table.now.shared.table_id table.now.shared.key.program.told table.now.shared.key.cfg hands.old }
+    requires here { RunsHere table.now.shared.table_id table.now.shared.key.program.told
+        table.now.shared.key.cfg hands.old }
     requires alone { IsAlone 0 hands.old.threads }
-    ensures here { RunsHere table.now.shared.table_id table.now.shared.key.program.told table.now.shared.key.cfg hands.new }
+    ensures here { RunsHere table.now.shared.table_id table.now.shared.key.program.told
+        table.now.shared.key.cfg hands.new }
     ensures waiting { result ≡ true → IsWaiting hands.new.threads }
     ensures ended { result ≡ false → HaveEnded hands.new.threads }
 {
@@ -83,23 +94,29 @@ fn begin_workers(table: &CoreTable, hands: &mut Hands, p: &Checked) -> bool
     hands.next(table, p)
 }
 
-/// Runs `init` of a run at its start, and begins the workers' part: `false` where that may not begin, and then the run has ended.
+/// Runs `init` of a run at its start, and begins the workers' part: `false` where that may not
+/// begin, and then the run has ended.
 pub fn run_init(table: &CoreTable, hands: &mut Hands, p: &Checked) -> bool
     requires program { p.now ≡ table.now.shared.key.program.told }
-    requires start { AtStart table.now.shared.table_id table.now.shared.key.program.told table.now.shared.key.cfg hands.old }
-    ensures here { RunsHere table.now.shared.table_id table.now.shared.key.program.told table.now.shared.key.cfg hands.new }
+    requires start { AtStart table.now.shared.table_id table.now.shared.key.program.told
+        table.now.shared.key.cfg hands.old }
+    ensures here { RunsHere table.now.shared.table_id table.now.shared.key.program.told
+        table.now.shared.key.cfg hands.new }
     ensures waiting { result ≡ true → IsWaiting hands.new.threads }
     ensures ended { result ≡ false → HaveEnded hands.new.threads }
 {
     begin_workers(table, hands, p)
 }
 
-/// Runs what the workers have left of their part, and `done` where it may begin: then the run has ended.
+/// Runs what the workers have left of their part, and `done` where it may begin: then the run has
+/// ended.
 pub fn run_rest(table: &CoreTable, hands: &mut Hands, p: &Checked)
     requires program { p.now ≡ table.now.shared.key.program.told }
-    requires here { RunsHere table.now.shared.table_id table.now.shared.key.program.told table.now.shared.key.cfg hands.old }
+    requires here { RunsHere table.now.shared.table_id table.now.shared.key.program.told
+        table.now.shared.key.cfg hands.old }
     requires waiting { IsWaiting hands.old.threads }
-    ensures here { RunsHere table.now.shared.table_id table.now.shared.key.program.told table.now.shared.key.cfg hands.new }
+    ensures here { RunsHere table.now.shared.table_id table.now.shared.key.program.told
+        table.now.shared.key.cfg hands.new }
     ensures ended { HaveEnded hands.new.threads }
 {
     end_workers(table, hands, p);
@@ -108,7 +125,8 @@ pub fn run_rest(table: &CoreTable, hands: &mut Hands, p: &Checked)
 
 /// The outcome of a run that has ended.
 pub fn end_run(hands: Hands, table: CoreTable) -> Outcome
-    requires here { RunsHere table.shared.table_id table.shared.key.program.told table.shared.key.cfg hands }
+    requires here { RunsHere table.shared.table_id table.shared.key.program.told
+        table.shared.key.cfg hands }
     requires ended { HaveEnded hands.threads }
     ensures { IsEndOfRun hands.program hands.cfg result }
 {
@@ -125,9 +143,11 @@ fn run_workers<R: Threads + Sync, G: Gate + Sync>(
     p: &Checked,
 ) -> Result<(), AllocError>
     requires program { p.now ≡ table.now.shared.key.program.told }
-    requires here { RunsHere table.now.shared.table_id table.now.shared.key.program.told table.now.shared.key.cfg hands.old }
+    requires here { RunsHere table.now.shared.table_id table.now.shared.key.program.told
+        table.now.shared.key.cfg hands.old }
     requires waiting { IsWaiting hands.old.threads }
-    ensures here { OnOk result (RunsHere table.now.shared.table_id table.now.shared.key.program.told table.now.shared.key.cfg hands.new) }
+    ensures here { OnOk result (RunsHere table.now.shared.table_id table.now.shared.key.program.told
+        table.now.shared.key.cfg hands.new) }
     ensures waiting { OnOk result (IsWaiting hands.new.threads) }
 {
     run_apart(rt, alloc, gate, table, hands, p)
@@ -143,8 +163,10 @@ fn run_to_end<R: Threads + Sync, G: Gate + Sync>(
     p: &Checked,
 ) -> Result<(), AllocError>
     requires program { p.now ≡ table.now.shared.key.program.told }
-    requires start { AtStart table.now.shared.table_id table.now.shared.key.program.told table.now.shared.key.cfg hands.old }
-    ensures here { OnOk result (RunsHere table.now.shared.table_id table.now.shared.key.program.told table.now.shared.key.cfg hands.new) }
+    requires start { AtStart table.now.shared.table_id table.now.shared.key.program.told
+        table.now.shared.key.cfg hands.old }
+    ensures here { OnOk result (RunsHere table.now.shared.table_id table.now.shared.key.program.told
+        table.now.shared.key.cfg hands.new) }
     ensures ended { OnOk result (HaveEnded hands.new.threads) }
 {
     if !run_init(table, hands, p) {
@@ -155,11 +177,13 @@ fn run_to_end<R: Threads + Sync, G: Gate + Sync>(
     Ok(())
 }
 
-/// Runs a program to its end, its workers on threads of their own, over words that they share without a lock: the outcome of a
-/// state of some run, in which no thread is live and no part may begin. Its error is want of memory.
+/// Runs a program to its end, its workers on threads of their own, over words that they share
+/// without a lock: the outcome of a state of some run, in which no thread is live and no part may
+/// begin. Its error is want of memory.
 ///
-/// Worker `t` calls `gate.pass(t)` once, before its first event. `init` and `done` run on the caller's thread. Nothing is promised of
-/// the order, nor that workers run beside each other: where the system gives no thread, they run one after another.
+/// Worker `t` calls `gate.pass(t)` once, before its first event. `init` and `done` run on the
+/// caller's thread. Nothing is promised of the order, nor that workers run beside each other: where
+/// the system gives no thread, they run one after another.
 pub fn run_table<R: Threads + Sync, G: Gate + Sync>(
     rt: &R,
     alloc: Global,

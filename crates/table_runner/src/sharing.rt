@@ -15,8 +15,10 @@ fn cut_by<B: Numbering>(table: &CoreTable, seat: &mut Seat<(), View>, _t: u8) ->
     requires table { seat.old.table_id ≡ table.now.shared.table_id }
     requires words { 0 < table.now.shared.table_id.words }
     requires small { _t < 9 }
-    ensures seat { (seat.new.table_id ≡ seat.old.table_id) × (seat.new.id ≡ seat.old.id) × (seat.new.me.0 ≡ view_without _t seat.old.me.0) × (seat.new.me.1 ≡ seat.old.me.1) }
-    ensures other { (result.table_id ≡ seat.old.table_id) × (result.me.0 ≡ only_thread _t seat.old.me.0) × (result.me.1 ≡ []) }
+    ensures seat { (seat.new.table_id ≡ seat.old.table_id) × (seat.new.id ≡ seat.old.id)
+        × (seat.new.me.0 ≡ view_without _t seat.old.me.0) × (seat.new.me.1 ≡ seat.old.me.1) }
+    ensures other { (result.table_id ≡ seat.old.table_id)
+        × (result.me.0 ≡ only_thread _t seat.old.me.0) × (result.me.1 ≡ []) }
 {
     table.shared.split_seat::<Cuts<B>>(seat)
 }
@@ -26,8 +28,10 @@ pub(crate) fn cut(table: &CoreTable, seat: &mut Seat<(), View>, t: u8) -> Seat<(
     requires table { seat.old.table_id ≡ table.now.shared.table_id }
     requires words { 0 < table.now.shared.table_id.words }
     requires small { t < 9 }
-    ensures seat { (seat.new.table_id ≡ seat.old.table_id) × (seat.new.id ≡ seat.old.id) × (seat.new.me.0 ≡ view_without t seat.old.me.0) × (seat.new.me.1 ≡ seat.old.me.1) }
-    ensures other { (result.table_id ≡ seat.old.table_id) × (result.me.0 ≡ only_thread t seat.old.me.0) × (result.me.1 ≡ []) }
+    ensures seat { (seat.new.table_id ≡ seat.old.table_id) × (seat.new.id ≡ seat.old.id)
+        × (seat.new.me.0 ≡ view_without t seat.old.me.0) × (seat.new.me.1 ≡ seat.old.me.1) }
+    ensures other { (result.table_id ≡ seat.old.table_id)
+        × (result.me.0 ≡ only_thread t seat.old.me.0) × (result.me.1 ≡ []) }
 {
     cut_by::<Brand>(table, seat, t)
 }
@@ -37,7 +41,8 @@ pub(crate) fn glue(table: &CoreTable, seat: &mut Seat<(), View>, other: Seat<(),
     requires table { seat.old.table_id ≡ table.now.shared.table_id }
     requires other { (other.table_id ≡ table.now.shared.table_id) × (other.me.1 ≡ []) }
     requires words { 0 < table.now.shared.table_id.words }
-    ensures seat { (seat.new.table_id ≡ seat.old.table_id) × (seat.new.id ≡ seat.old.id) × (seat.new.me.0 ≡ merged seat.old.me.0 other.me.0) × (seat.new.me.1 ≡ seat.old.me.1) }
+    ensures seat { (seat.new.table_id ≡ seat.old.table_id) × (seat.new.id ≡ seat.old.id)
+        × (seat.new.me.0 ≡ merged seat.old.me.0 other.me.0) × (seat.new.me.1 ≡ seat.old.me.1) }
 {
     table.shared.join_seat::<Joins>(seat, other);
 }
@@ -48,12 +53,17 @@ fn begin_by<B: Starting>(
     seat: &mut Seat<(), View>,
     _threads: &[Option<ThreadState>; MOST_THREADS],
 )
-    requires part { B.part ≡ Some (record { program = table.now.shared.key.program.told; cfg = table.now.shared.key.cfg; threads = _threads.now }) }
+    requires part { B.part ≡ Some (record
+        { program = table.now.shared.key.program.told; cfg = table.now.shared.key.cfg; threads = _threads.now }) }
     requires table { seat.old.table_id ≡ table.now.shared.table_id }
     requires words { 0 < table.now.shared.table_id.words }
-    requires begins { CanBegin table.now.shared.key.program.told table.now.shared.key.cfg seat.old.me.0 _threads.now }
-    ensures seat { (seat.new.table_id ≡ seat.old.table_id) × (seat.new.id ≡ seat.old.id) × (seat.new.me.1 ≡ seat.old.me.1) }
-    ensures begins { HasBegun (record { program = table.now.shared.key.program.told; cfg = table.now.shared.key.cfg; threads = _threads.now }) seat.new.me.0 }
+    requires begins { CanBegin table.now.shared.key.program.told table.now.shared.key.cfg
+        seat.old.me.0 _threads.now }
+    ensures seat { (seat.new.table_id ≡ seat.old.table_id) × (seat.new.id ≡ seat.old.id)
+        × (seat.new.me.1 ≡ seat.old.me.1) }
+    ensures begins { HasBegun (record
+        { program = table.now.shared.key.program.told; cfg = table.now.shared.key.cfg; threads = _threads.now })
+        seat.new.me.0 }
 {
     let _nothing = table.shared.load::<Begins<B>>(seat, 0);
 }
@@ -66,9 +76,13 @@ pub(crate) fn begin(
 )
     requires table { seat.old.table_id ≡ table.now.shared.table_id }
     requires words { 0 < table.now.shared.table_id.words }
-    requires begins { CanBegin table.now.shared.key.program.told table.now.shared.key.cfg seat.old.me.0 threads.now }
-    ensures seat { (seat.new.table_id ≡ seat.old.table_id) × (seat.new.id ≡ seat.old.id) × (seat.new.me.1 ≡ seat.old.me.1) }
-    ensures begins { HasBegun (record { program = table.now.shared.key.program.told; cfg = table.now.shared.key.cfg; threads = threads.now }) seat.new.me.0 }
+    requires begins { CanBegin table.now.shared.key.program.told table.now.shared.key.cfg
+        seat.old.me.0 threads.now }
+    ensures seat { (seat.new.table_id ≡ seat.old.table_id) × (seat.new.id ≡ seat.old.id)
+        × (seat.new.me.1 ≡ seat.old.me.1) }
+    ensures begins { HasBegun (record
+        { program = table.now.shared.key.program.told; cfg = table.now.shared.key.cfg; threads = threads.now })
+        seat.new.me.0 }
 {
     begin_by::<Brand>(table, seat, threads);
 }

@@ -13,7 +13,8 @@ use std::thread::{Threads, for_each_mut};
 
 /// A worker: it passes the gate, and makes the events of its thread.
 fn work<G: Gate>(hands: &mut Hands, table: &CoreTable, p: &Checked, gate: &G, t: u8)
-    requires worker { IsWorker table.now.shared.table_id table.now.shared.key.program.told table.now.shared.key.cfg t hands.old }
+    requires worker { IsWorker table.now.shared.table_id table.now.shared.key.program.told
+        table.now.shared.key.cfg t hands.old }
     requires program { p.now ≡ table.now.shared.key.program.told }
     ensures same { AreSame hands.old hands.new }
 {
@@ -30,9 +31,11 @@ fn run_each<R: Threads + Sync, G: Gate + Sync>(
     hands: &mut [Hands],
 )
     requires few { length hands.old ≤ 8 }
-    requires workers { AreWorkers table.now.shared.table_id table.now.shared.key.program.told table.now.shared.key.cfg hands.old }
+    requires workers { AreWorkers table.now.shared.table_id table.now.shared.key.program.told
+        table.now.shared.key.cfg hands.old }
     requires program { p.now ≡ table.now.shared.key.program.told }
-    ensures workers { AreWorkers table.now.shared.table_id table.now.shared.key.program.told table.now.shared.key.cfg hands.new }
+    ensures workers { AreWorkers table.now.shared.table_id table.now.shared.key.program.told
+        table.now.shared.key.cfg hands.new }
     ensures count { length hands.new ≡ length hands.old }
 {
     let count = hands.len();
@@ -44,7 +47,9 @@ fn run_each<R: Threads + Sync, G: Gate + Sync>(
         hands,
         count,
         &|i: usize, h: &mut Hands|
-            requires { (i < 8) × IsWorker table.now.shared.table_id table.now.shared.key.program.told table.now.shared.key.cfg (i + 1) h.now × (p.now ≡ table.now.shared.key.program.told) }
+            requires { (i < 8) × IsWorker table.now.shared.table_id
+                table.now.shared.key.program.told table.now.shared.key.cfg (i + 1) h.now
+                × (p.now ≡ table.now.shared.key.program.told) }
             ensures { AreSame h.entry.now h.exit.now }
         { work(h, table, p, gate, (i + 1) as u8) },
     );
@@ -58,9 +63,14 @@ fn split_workers(
     p: &Checked,
 ) -> Result<Vec<Hands>, AllocError>
     requires program { p.now ≡ table.now.shared.key.program.told }
-    requires here { RunsHere table.now.shared.table_id table.now.shared.key.program.told table.now.shared.key.cfg hands.old }
-    ensures workers { IfOk result (λ ws. AreWorkers table.now.shared.table_id table.now.shared.key.program.told table.now.shared.key.cfg ws.items × (length ws.items ≡ p.now.program.workers)) }
-    ensures rest { OnOk result (RestOf table.now.shared.table_id table.now.shared.key.program.told table.now.shared.key.cfg (p.now.program.workers + 1) (held_in hands.old.threads 0) hands.new) }
+    requires here { RunsHere table.now.shared.table_id table.now.shared.key.program.told
+        table.now.shared.key.cfg hands.old }
+    ensures workers { IfOk result (λ ws.
+        AreWorkers table.now.shared.table_id table.now.shared.key.program.told
+        table.now.shared.key.cfg ws.items × (length ws.items ≡ p.now.program.workers)) }
+    ensures rest { OnOk result (RestOf table.now.shared.table_id table.now.shared.key.program.told
+        table.now.shared.key.cfg (p.now.program.workers + 1) (held_in hands.old.threads 0)
+        hands.new) }
     ensures few { IfOk result (λ ws. length ws.items ≤ 8) }
 {
     let mut workers = Vec::new(alloc);
@@ -73,9 +83,13 @@ fn split_workers(
 
 /// Takes in the hands of all workers.
 fn join_workers(table: &CoreTable, hands: &mut Hands, mut workers: Vec<Hands>)
-    requires workers { AreWorkers table.now.shared.table_id table.now.shared.key.program.told table.now.shared.key.cfg workers.items }
-    requires rest { RestOf table.now.shared.table_id table.now.shared.key.program.told table.now.shared.key.cfg (length workers.items + 1) (held_in hands.old.threads 0) hands.old }
-    ensures { RestOf table.now.shared.table_id table.now.shared.key.program.told table.now.shared.key.cfg 1 (held_in hands.old.threads 0) hands.new }
+    requires workers { AreWorkers table.now.shared.table_id table.now.shared.key.program.told
+        table.now.shared.key.cfg workers.items }
+    requires rest { RestOf table.now.shared.table_id table.now.shared.key.program.told
+        table.now.shared.key.cfg (length workers.items + 1) (held_in hands.old.threads 0)
+        hands.old }
+    ensures { RestOf table.now.shared.table_id table.now.shared.key.program.told
+        table.now.shared.key.cfg 1 (held_in hands.old.threads 0) hands.new }
 {
     while let Some(worker) = workers.pop() {
         hands.join(table, worker);
@@ -92,8 +106,10 @@ pub(crate) fn run_apart<R: Threads + Sync, G: Gate + Sync>(
     p: &Checked,
 ) -> Result<(), AllocError>
     requires program { p.now ≡ table.now.shared.key.program.told }
-    requires here { RunsHere table.now.shared.table_id table.now.shared.key.program.told table.now.shared.key.cfg hands.old }
-    ensures { OnOk result (RestOf table.now.shared.table_id table.now.shared.key.program.told table.now.shared.key.cfg 1 (held_in hands.old.threads 0) hands.new) }
+    requires here { RunsHere table.now.shared.table_id table.now.shared.key.program.told
+        table.now.shared.key.cfg hands.old }
+    ensures { OnOk result (RestOf table.now.shared.table_id table.now.shared.key.program.told
+        table.now.shared.key.cfg 1 (held_in hands.old.threads 0) hands.new) }
 {
     let mut workers = split_workers(alloc, table, hands, p)?;
     run_each(rt, gate, table, p, workers.as_mut_slice());

@@ -1,8 +1,8 @@
-//! Classes A whose `init` puts the instructions of ints, branches and the stack on chosen values, and prints what comes
-//! of it. They are texts of two digits for each byte.
+//! Classes A whose `init` puts the instructions of ints, branches and the stack on chosen values,
+//! and prints what comes of it. They are texts of two digits for each byte.
 
-/// Constants by each instruction: the least and the greatest of each form, and Integer constants by one byte above 127
-/// and by two bytes above 255.
+/// Constants by each instruction: the least and the greatest of each form, and Integer constants by
+/// one byte above 127 and by two bytes above 255.
 pub const LOADS_CONSTANTS: &str = "\
     cafebabe00000032011a010001410700010100106a6176612f6c616e672f4f626a65637407000303000003e8\
     03000003e903000003ea03000003eb03000003ec03000003ed03000003ee03000003ef03000003f003000003\
@@ -43,8 +43,8 @@ pub const LOADS_CONSTANTS: &str = "\
     14118000b60119b20114117fffb60119b2011411ffffb60119b20114001287b60119b201141288b60119b201\
     14130087b60119b2011413010bb60119b1000000000000";
 
-/// Locals 0 to 3 by the short forms, and 4, 127, 128 and 255 by the long ones, with ints and then with arrays of as many
-/// elements.
+/// Locals 0 to 3 by the short forms, and 4, 127, 128 and 255 by the long ones, with ints and then
+/// with arrays of as many elements.
 pub const LOCALS: &str = "\
     cafebabe000000320014010001410700010100106a6176612f6c616e672f4f626a656374070003010004696e\
     6974010003282956010004436f64650100106a6176612f6c616e672f53797374656d0700080100036f757401\
@@ -75,8 +75,8 @@ pub const SUMS: &str = "\
     b60013b2000d12150480b60013b2000d10f8100780b60013b2000d100c100a82b60013b2000d02121582b600\
     13b2000d020282b60013b2000d12140282b60013b1000000000000";
 
-/// `idiv` and then `irem` of fourteen pairs, and four divisions by 0, each of which is caught and prints a number from
-/// 100 on.
+/// `idiv` and then `irem` of fourteen pairs, and four divisions by 0, each of which is caught and
+/// prints a number from 100 on.
 pub const QUOTIENTS: &str = "\
     cafebabe000000320018010001410700010100106a6176612f6c616e672f4f626a656374070003010004696e\
     6974010003282956010004436f64650100106a6176612f6c616e672f53797374656d0700080100036f757401\
@@ -94,7 +94,8 @@ pub const QUOTIENTS: &str = "\
     0003037057a7000c57b2000d1066b60013001214037057a7000c57b2000d1067b6001300b10004011e012201\
     250017012f013401370017014101450148001701520157015a001700000000";
 
-/// `ishl`, `ishr` and `iushr` of 1, -1, the least and the greatest int, each by 0, 1, 31, 32, 33 and -1.
+/// `ishl`, `ishr` and `iushr` of 1, -1, the least and the greatest int, each by 0, 1, 31, 32, 33
+/// and -1.
 pub const SHIFTS: &str = "\
     cafebabe000000320016010001410700010100106a6176612f6c616e672f4f626a656374070003010004696e\
     6974010003282956010004436f64650100106a6176612f6c616e672f53797374656d0700080100036f757401\
@@ -135,8 +136,9 @@ pub const NARROWS: &str = "\
     80b2000d1ab60013033b840080b2000d1ab60013033b84007fb2000d1ab60013083b840000b2000d1ab60013\
     023b840001b2000d1ab60013b1000000000000";
 
-/// For each of eleven instructions of two ints: each pair of eight ints at the edges of the range, folded to one number
-/// as 31 times what there is plus what comes of the pair. A pair with a divisor of 0 is left out.
+/// For each of eleven instructions of two ints: each pair of eight ints at the edges of the range,
+/// folded to one number as 31 times what there is plus what comes of the pair. A pair with a
+/// divisor of 0 is left out.
 pub const EDGES: &str = "\
     cafebabe00000032003e010001410700010100106a6176612f6c616e672f4f626a6563740700030100016501\
     00025b4901000469616464010003282949010004436f64650c00050006090002000a01000469737562010004\
@@ -171,8 +173,9 @@ pub const EDGES: &str = "\
     b20021b80031b60029b20021b80033b60029b20021b80035b60029b20021b80037b60029b20021b80039b600\
     29b20021b8003bb60029b20021b8003db60029b1000000000000";
 
-/// Conditional branches, where a digit 1 says taken and a 2 not: against 0 for the least int, -1, 0, 1 and the greatest;
-/// of two ints; of references; of null. Then `goto` and `goto_w`, forth and back.
+/// Conditional branches, where a digit 1 says taken and a 2 not: against 0 for the least int, -1,
+/// 0, 1 and the greatest; of two ints; of references; of null. Then `goto` and `goto_w`, forth and
+/// back.
 pub const BRANCHES: &str = "\
     cafebabe00000032004e010001410700010100106a6176612f6c616e672f4f626a6563740700030100063c69\
     6e69743e010003282956010004436f64650c000500060a000400080100026571010004284929490100026e65\
@@ -226,9 +229,9 @@ pub const BRANCHES: &str = "\
     0a682bb8004960100a6803bc0ab80049603bb200251ab6002bb20025b8004bb6002bb20025b8004db6002bb1\
     000000000000";
 
-/// `tableswitch` with keys around -1 to 2, at the top and at the bottom of the range and with one row, `lookupswitch`
-/// with four rows and with none, where a digit 4 says that no row has the key. Then both with 0 to 3 bytes between, and
-/// with targets before them.
+/// `tableswitch` with keys around -1 to 2, at the top and at the bottom of the range and with one
+/// row, `lookupswitch` with four rows and with none, where a digit 4 says that no row has the key.
+/// Then both with 0 to 3 bytes between, and with targets before them.
 pub const SWITCHES: &str = "\
     cafebabe000000320048010001410700010100106a6176612f6c616e672f4f626a6563740700030100066d69\
     64646c6501000428492949010004436f6465010003746f70010006626f74746f6d01000673696e676c650100\
@@ -276,8 +279,8 @@ pub const SWITCHES: &str = "\
     0a6803b8004360100a6804b8004360100a6803b8004560100a6804b80045603bb200211ab60027b200211009\
     b80047b60027b2002104b80047b60027b2002108b80047b60027b1000000000000";
 
-/// Each stack instruction over 1, 2, .. on the stack: what it leaves is printed from the top down, and 0 behind it. Then
-/// over arrays, by their lengths.
+/// Each stack instruction over 1, 2, .. on the stack: what it leaves is printed from the top down,
+/// and 0 behind it. Then over arrays, by their lengths.
 pub const STACK_MOVES: &str = "\
     cafebabe000000320014010001410700010100106a6176612f6c616e672f4f626a656374070003010004696e\
     6974010003282956010004436f64650100106a6176612f6c616e672f53797374656d0700080100036f757401\

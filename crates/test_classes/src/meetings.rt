@@ -1,7 +1,7 @@
 //! Classes whose threads wait for each other. They are texts of two digits for each byte.
 
-/// Class W: thread 3 notifies one object twice, each other thread waits for it and prints its own number. `done`
-/// notifies without the monitor.
+/// Class W: thread 3 notifies one object twice, each other thread waits for it and prints its own
+/// number. `done` notifies without the monitor.
 pub const WAITS: &str = "\
     cafebabe00000032002a010001570700010100106a6176612f6c616e672f4f626a6563740700030100017001\
     00034c573b0100063c696e69743e010003282956010004436f64650c000700080a0004000a010004696e6974\
@@ -33,7 +33,8 @@ pub const WAITS_DEEP: &str = "\
     2300080001000900000019000100010000000d2ab600262ab600262ab60029b1000000000008002a00110001\
     00090000002000020001000000141a06a0000ab2000fb6002cb1b2000f1ab6002eb1000000000000";
 
-/// Class X: thread 1 enters the monitors of two objects, and each other thread enters them the other way round.
+/// Class X: thread 1 enters the monitors of two objects, and each other thread enters them the
+/// other way round.
 pub const LOCKS_OUT: &str = "\
     cafebabe000000320014010001580700010100106a6176612f6c616e672f4f626a6563740700030100017801\
     00124c6a6176612f6c616e672f4f626a6563743b010001790100063c696e69743e010003282956010004436f\
@@ -46,8 +47,8 @@ pub const LOCKS_OUT: &str = "\
     000016001900160000000b001d00200000002000240020000000340036003900000039003c00390000002e00\
     4000430000004300470043000000000000";
 
-/// Class H: thread 1 sets a static field and spins until another one is set, which each other thread sets behind the
-/// first.
+/// Class H: thread 1 sets a static field and spins until another one is set, which each other
+/// thread sets behind the first.
 pub const SPINS: &str = "\
     cafebabe000000320013010001480700010100106a6176612f6c616e672f4f626a6563740700030100017801\
     000149010001790100063c696e69743e010003282956010004436f64650c000800090a0004000b0100037275\
@@ -56,8 +57,8 @@ pub const SPINS: &str = "\
     08000d000e0001000a00000027000200010000001b1a04a0000e04b30010b2001299fffdb1b2001099fffd04\
     b30012b1000000000000";
 
-/// Class Bank: each thread adds its number to a total, and reads it in a block, a thousand times. `done` prints the
-/// total.
+/// Class Bank: each thread adds its number to a total, and reads it in a block, a thousand times.
+/// `done` prints the total.
 pub const BANK: &str = "\
     cafebabe00000032002901000442616e6b0700010100106a6176612f6c616e672f4f626a6563740700030100\
     05746f74616c01000149010001620100064c42616e6b3b0100063c696e69743e010003282956010004436f64\
@@ -74,9 +75,9 @@ pub const BANK: &str = "\
     b6001c57840101a7ffe8b1000000000008001d000a0001000b00000019000200000000000db20023b20017b6\
     001cb60028b1000000000000";
 
-/// Class R: thread 1 waits for 1,024 new objects, one behind the other, and thread 2 notifies the newest one until the
-/// first has ended. Then thread 3 holds a monitor for a thousand instructions, and each other thread enters it
-/// meanwhile. The bytes 247 to 250 are the number of objects.
+/// Class R: thread 1 waits for 1,024 new objects, one behind the other, and thread 2 notifies the
+/// newest one until the first has ended. Then thread 3 holds a monitor for a thousand instructions,
+/// and each other thread enters it meanwhile. The bytes 247 to 250 are the number of objects.
 pub const RECORDS: &str = "\
     cafebabe00000032002f010001520700010100106a6176612f6c616e672f4f626a6563740700030100046e65\
     78740100034c523b010003656e64010001490100046c6173740100063c696e69743e01000328295601000443\
@@ -95,8 +96,9 @@ pub const RECORDS: &str = "\
     020001000000491aaa0000000000210000000100000002000000170000001d1228b8002ab1b8002cb1b2001d\
     99fffd1a06a0000ab20012b6002eb1033b1a1014a20009840001a7fff7b20012b60026b1000000000000";
 
-/// A class that `javac` wrote: four threads print by turns, the last one first, three times each. A thread waits until it
-/// is its turn, and notifies all when it has printed. `done` notifies without the monitor.
+/// A class that `javac` wrote: four threads print by turns, the last one first, three times each. A
+/// thread waits until it is its turn, and notifies all when it has printed. `done` notifies without
+/// the monitor.
 pub const ROUNDS: &str = "\
     cafebabe0000003200390a000200030700040c000500060100106a6176612f6c616e672f4f626a6563740100\
     063c696e69743e010003282956070008010006526f756e6473090007000a0c000b000c0100047475726e0100\

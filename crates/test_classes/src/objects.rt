@@ -1,8 +1,9 @@
-//! Classes A whose `init` puts the instructions of arrays, fields, calls, exceptions and monitors on chosen values, and
-//! prints what comes of it. A number from 10 on says which exception was caught. They are texts of two digits for each
-//! byte.
+//! Classes A whose `init` puts the instructions of arrays, fields, calls, exceptions and monitors
+//! on chosen values, and prints what comes of it. A number from 10 on says which exception was
+//! caught. They are texts of two digits for each byte.
 
-/// Elements and lengths, with indices before and behind the elements, null, and lengths below 0 and beyond any heap.
+/// Elements and lengths, with indices before and behind the elements, null, and lengths below 0 and
+/// beyond any heap.
 pub const ARRAYS: &str = "\
     cafebabe00000032001e010001410700010100106a6176612f6c616e672f4f626a656374070003010004696e\
     6974010003282956010004436f64650100106a6176612f6c616e672f53797374656d0700080100036f757401\
@@ -29,7 +30,8 @@ pub const ARRAYS: &str = "\
     0166001901700174017700190181018401870019019101950198001b01a201a701aa001b01b401b901bc001d\
     00000000";
 
-/// Fields and static fields of each type, as they begin and as they are set, of two objects and of null.
+/// Fields and static fields of each type, as they begin and as they are set, of two objects and of
+/// null.
 pub const FIELDS: &str = "\
     cafebabe00000032004e010001410700010100106a6176612f6c616e672f4f626a6563740700030100016901\
     0001490100017a0100015a0100046e6578740100034c413b0100056974656d730100025b49010003616e7901\
@@ -62,8 +64,8 @@ pub const FIELDS: &str = "\
     281066b60030002ab4003eb4003257a7000c57b200281067b60030002c2ab5003ea7000c57b200281068b600\
     3000b1000401cf01d401d7004d01e101e601e9004d01f301fb01fe004d0208020d0210004d00000000";
 
-/// Calls by `invokestatic`, `invokevirtual` and `invokespecial`: the order of the arguments, what is given back,
-/// recursion, and calls on null.
+/// Calls by `invokestatic`, `invokevirtual` and `invokespecial`: the order of the arguments, what
+/// is given back, recursion, and calls on null.
 pub const INVOKES: &str = "\
     cafebabe00000032004e010001410700010100106a6176612f6c616e672f4f626a6563740700030100016e01\
     0001490100063c696e69743e0100052849492956010004436f64650100032829560c0007000a0a0004000b0c\
@@ -100,7 +102,8 @@ pub const INVOKES: &str = "\
     00341067b60039000104b60039a7000c57b200341068b6003900b1000400d900de00e1004d00eb00f200f500\
     4d00ff01060109004d01130118011b004d00000000";
 
-/// Calls whose argument has type Z, and whose result has type I and then type Z, of 0, 1, 2, 3 and -1.
+/// Calls whose argument has type Z, and whose result has type I and then type Z, of 0, 1, 2, 3 and
+/// -1.
 pub const BOOLEANS: &str = "\
     cafebabe00000032001c010001410700010100106a6176612f6c616e672f4f626a6563740700030100047361\
     6d65010004285a295a010004436f646501000661735f696e74010004285a2949010004696e69740100032829\
@@ -113,8 +116,9 @@ pub const BOOLEANS: &str = "\
     19b2001105b80013b60019b2001105b8001bb60019b2001106b80013b60019b2001106b8001bb60019b20011\
     02b80013b60019b2001102b8001bb60019b1000000000000";
 
-/// Each of the twelve throwables and null, thrown under rows for four classes and one for all; then rows that do not
-/// cover or do not take what is thrown, and at the end an exception that is caught and thrown again.
+/// Each of the twelve throwables and null, thrown under rows for four classes and one for all; then
+/// rows that do not cover or do not take what is thrown, and at the end an exception that is caught
+/// and thrown again.
 pub const THROWS: &str = "\
     cafebabe000000320042010001410700010100106a6176612f6c616e672f4f626a6563740700030100046465\
     657001000428492949010004436f64650c000500060a0002000801000574616b656e010018284c6a6176612f\
@@ -147,8 +151,8 @@ pub const THROWS: &str = "\
     003000dc00e000e1000d00dc00e000e1001300dc00e000eb003000dc00e000e1000000fa00fe00ff000000fe\
     00ff010900000116011e011e000f012e013301330011014001470147000000000000";
 
-/// Blocks on an object and an array, one in another, synchronized methods, exceptions that leave both, null, and
-/// `notify`, `notifyAll` and `wait` without the monitor.
+/// Blocks on an object and an array, one in another, synchronized methods, exceptions that leave
+/// both, null, and `notify`, `notifyAll` and `wait` without the monitor.
 pub const MONITORS: &str = "\
     cafebabe000000320036010001410700010100106a6176612f6c616e672f4f626a6563740700030100016e01\
     0001490100063c696e69743e010003282956010004436f64650c000700080a0004000a010004616464730100\

@@ -1,7 +1,8 @@
-//! Classes A whose threads come to the ends of their frames and slots. They are texts of two digits for each byte.
+//! Classes A whose threads come to the ends of their frames and slots. They are texts of two digits
+//! for each byte.
 
-/// `init` calls `down`, which calls itself 254 times; it prints how often, or -1 where a frame had no room. The byte at
-/// 149 is the number.
+/// `init` calls `down`, which calls itself 254 times; it prints how often, or -1 where a frame had
+/// no room. The byte at 149 is the number.
 pub const DESCENDS: &str = "\
     cafebabe00000032001b010001410700010100106a6176612f6c616e672f4f626a656374070003010004646f\
     776e01000428492949010004436f64650c000500060a00020008010004696e69740100032829560100106a61\
@@ -12,8 +13,8 @@ pub const DESCENDS: &str = "\
     00010000000f1a9d000503ac1a0464b800090460ac000000000009000a000b000100070000002c0003000000\
     000018b200111212b80009b60018a7000b57b2001102b6001800b100010000000b000e001a00000000";
 
-/// The same with 14 times, and frames of 1,024 slots. The byte at 149 is the number; `init` has 3 places on its stack
-/// and 1,021 locals, with their last bytes at 304 and 306.
+/// The same with 14 times, and frames of 1,024 slots. The byte at 149 is the number; `init` has 3
+/// places on its stack and 1,021 locals, with their last bytes at 304 and 306.
 pub const DESCENDS_WIDE: &str = "\
     cafebabe00000032001b010001410700010100106a6176612f6c616e672f4f626a656374070003010004646f\
     776e01000428492949010004436f64650c000500060a00020008010004696e69740100032829560100106a61\
@@ -24,7 +25,8 @@ pub const DESCENDS_WIDE: &str = "\
     03fe0000000f1a9d000503ac1a0464b800090460ac000000000009000a000b000100070000002c000303fd00\
     000018b200111212b80009b60018a7000b57b2001102b6001800b100010000000b000e001a00000000";
 
-/// A method counts and calls itself without an end, twice; each time 7 or 8 is printed, and the count.
+/// A method counts and calls itself without an end, twice; each time 7 or 8 is printed, and the
+/// count.
 pub const OVERFLOWS_TWICE: &str = "\
     cafebabe00000032001d010001410700010100106a6176612f6c616e672f4f626a6563740700030100056465\
     70746801000149010004646f776e010003282956010004436f64650c00050006090002000a0c000700080a00\
@@ -48,8 +50,8 @@ pub const CATCHES_DEEPEST: &str = "\
     0a1a0460b80009ac571aac0001000000060007000b00000009000c000d000100070000001700030000000000\
     0bb2001304b80009b60019b1000000000000";
 
-/// The frame of `init` has 16,384 slots, and `init` calls a method without any, which prints 1, and one with one slot,
-/// where an overflow prints 2. The last byte of its locals is at 323.
+/// The frame of `init` has 16,384 slots, and `init` calls a method without any, which prints 1, and
+/// one with one slot, where an overflow prints 2. The last byte of its locals is at 323.
 pub const FILLS_SLOTS: &str = "\
     cafebabe00000032001c010001410700010100106a6176612f6c616e672f4f626a6563740700030100046e6f\
     6e65010003282956010004436f64650100036f6e65010004696e69740c000500060a0002000a0100106a6176\
@@ -61,8 +63,8 @@ pub const FILLS_SLOTS: &str = "\
     00090006000100070000002e00023ffe0000001ab8000bb2001104b60017b80019a7000b57b2001105b60017\
     00b10001000a000d0010001b00000000";
 
-/// Each worker calls a synchronized method of one object that calls itself without an end, and `done` prints 8 under the
-/// same monitor.
+/// Each worker calls a synchronized method of one object that calls itself without an end, and
+/// `done` prints 8 under the same monitor.
 pub const OVERFLOWS_LOCKED: &str = "\
     cafebabe000000320025010001410700010100106a6176612f6c616e672f4f626a6563740700030100017001\
     00034c413b0100063c696e69743e010003282956010004436f64650c000700080a0004000a010004646f776e\
@@ -77,8 +79,9 @@ pub const OVERFLOWS_LOCKED: &str = "\
     14b6000eb1000000000008001700080001000900000019000200000000000db2001db20014b6001fb60024b1\
     000000000000";
 
-/// A section without writes calls a method that calls another; their frames and that of `init` have just 16,384 slots.
-/// It prints 8, or 7 where a frame had no room. The last byte of the locals of the last frame is at 478.
+/// A section without writes calls a method that calls another; their frames and that of `init` have
+/// just 16,384 slots. It prints 8, or 7 where a frame had no room. The last byte of the locals of
+/// the last frame is at 478.
 pub const OVERFLOWS_ATTEMPT: &str = "\
     cafebabe00000032002c010001410700010100106a6176612f6c616e672f4f626a6563740700030100016e01\
     000149010001700100034c413b0100063c696e69743e010003282956010004436f64650c0009000a0a000400\

@@ -1,8 +1,8 @@
-//! Classes P and Q, whose two private fields are set together in a synchronized method and read together in a block.
-//! They are texts of two digits for each byte.
+//! Classes P and Q, whose two private fields are set together in a synchronized method and read
+//! together in a block. They are texts of two digits for each byte.
 
-/// Class P, whose synchronized `twice` adds two sums, each read in a block of its own. `init` prints it once for two
-/// fields of 4.
+/// Class P, whose synchronized `twice` adds two sums, each read in a block of its own. `init`
+/// prints it once for two fields of 4.
 pub const TWICE: &str = "\
     cafebabe00000032002d010001500700010100106a6176612f6c616e672f4f626a6563740700030100016101\
     00014901000162010001700100034c503b0100063c696e69743e010003282956010004436f64650c000a000b\
@@ -33,8 +33,8 @@ pub const UNLOCKED: &str = "\
     420002000000000036bb000259b70018b3001ab2001a07b6001cb20022b2001ab60024b60029b20022b2001a\
     b60024b60029b20022b2001ab60024b60029b1000000000000";
 
-/// Class Q: `init` makes an object that all threads see. Thread 1 prints the sum of its fields, and each other thread
-/// sets both to 4.
+/// Class Q: `init` makes an object that all threads see. Thread 1 prints the sum of its fields, and
+/// each other thread sets both to 4.
 pub const SHARED: &str = "\
     cafebabe00000032002b010001510700010100106a6176612f6c616e672f4f626a6563740700030100016101\
     00014901000162010001700100034c513b0100063c696e69743e010003282956010004436f64650c000a000b\

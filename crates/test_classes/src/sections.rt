@@ -1,5 +1,5 @@
-//! Class files with synchronized sections, as `javac --release 8 -g:none` of a current JDK writes them, with the
-//! major version put to 50. They are texts of two digits for each byte.
+//! Class files with synchronized sections, as `javac --release 8 -g:none` of a current JDK writes
+//! them, with the major version put to 50. They are texts of two digits for each byte.
 
 /// Class Marks, whose sections have each mark that a section's own instructions give. Its source is
 /// java/Marks.java, beside src/.
@@ -96,8 +96,8 @@ pub fn calls() -> &'static str {
     000a2a1bb5000d1bb8001fb1000000000000"
 }
 
-/// Class K, whose constructor stores `this` in a static field, by the bytes 178 to 181, and then 1 in the private
-/// field `a`, which a synchronized method reads.
+/// Class K, whose constructor stores `this` in a static field, by the bytes 178 to 181, and then 1
+/// in the private field `a`, which a synchronized method reads.
 pub const STORES_THIS: &str = "\
     cafebabe0000003200140a000200030700040c000500060100106a6176612f6c616e672f4f626a6563740100\
     063c696e69743e010003282956090008000907000a0c000b000c0100014b0100046c6173740100034c4b3b09\

@@ -23,8 +23,8 @@ pub const LEAVES_BY_EXCEPTION: &str = "\
     010001000000052ab70009b1000000000020000a000b0001000700000010000200010000000404036cac0000\
     00000009000c00060001000700000018000200000000000cbb000259b7000db6000f57b1000000000000";
 
-/// Class A, whose `init` sets and prints an element, catches an index out of range, prints the length, and throws an
-/// `Exception`.
+/// Class A, whose `init` sets and prints an element, catches an index out of range, prints the
+/// length, and throws an `Exception`.
 pub const INDEXES_AND_THROWS: &str = "\
     cafebabe00000032001b010001410700010100106a6176612f6c616e672f4f626a656374070003010004696e\
     6974010003282956010004436f64650100106a6176612f6c616e672f53797374656d0700080100036f757401\
@@ -35,8 +35,8 @@ pub const INDEXES_AND_THROWS: &str = "\
     2000020004000000000001000900050006000100070000003c000400010000002806bc0a4b2a0410074fb200\
     0d2a042eb600132a062e57b157b2000d2abeb60013bb001559b70018bf0001001200160017001a00000000";
 
-/// Class A, whose `init` divides by 0 under a row for `Error`, which prints 5, and one for `RuntimeException`, which
-/// prints 4.
+/// Class A, whose `init` divides by 0 under a row for `Error`, which prints 5, and one for
+/// `RuntimeException`, which prints 4.
 pub const CATCHES_BY_CLASS: &str = "\
     cafebabe000000320018010001410700010100106a6176612f6c616e672f4f626a656374070003010004696e\
     6974010003282956010004436f64650100106a6176612f6c616e672f53797374656d0700080100036f757401\
@@ -73,7 +73,8 @@ pub const KEEPS_LOW_BIT: &str = "\
     04284929560c001400150a001300160020000200040000000100080005000600000001000900070008000100\
     090000001a000200000000000e06b3000bb20011b2000bb60017b1000000000000";
 
-/// Class A, whose `<clinit>` prints 1, `init` 2, and `done` 3 and a static field that starts with -3.
+/// Class A, whose `<clinit>` prints 1, `init` 2, and `done` 3 and a static field that starts with
+/// -3.
 pub const ALL_PARTS: &str = "\
     cafebabe00000032001c010001410700010100106a6176612f6c616e672f4f626a65637407000301000d436f\
     6e7374616e7456616c756503fffffffd0100016e010001490100083c636c696e69743e010003282956010004\
@@ -85,7 +86,8 @@ pub const ALL_PARTS: &str = "\
     000000000008b2001105b60017b10000000000090019000a0001000b0000001d0002000000000011b2001106\
     b60017b20011b2001bb60017b1000000000000";
 
-/// Class A, whose `init` makes an array of 2,024 ints and prints its length. The bytes 122 to 125 are the length.
+/// Class A, whose `init` makes an array of 2,024 ints and prints its length. The bytes 122 to 125
+/// are the length.
 pub const MAKES_ARRAY: &str = "\
     cafebabe000000320015010001410700010100106a6176612f6c616e672f4f626a656374070003010004696e\
     6974010003282956010004436f64650100106a6176612f6c616e672f53797374656d0700080100036f757401\
@@ -106,8 +108,8 @@ pub const COMPUTES: &str = "\
     000d10f8047ab60014b2000d1100c891b60014b2000d0292b60014b2000d121693b60014b2000d120e74b600\
     14b2000d1217121768b60014b2000d040278b60014b1000000000000";
 
-/// Class A, whose `init` goes through stack moves, bits, branches, switches and a call with an array, and prints between
-/// them.
+/// Class A, whose `init` goes through stack moves, bits, branches, switches and a call with an
+/// array, and prints between them.
 pub const MOVES: &str = "\
     cafebabe000000320019010001410700010100106a6176612f6c616e672f4f626a6563740700030100047361\
     6d65010006285b49295b49010004436f6465010004696e69740100032829560100106a6176612f6c616e672f\

@@ -25,8 +25,8 @@ pub fn below_exception() -> &'static str {
     000000000000"
 }
 
-/// Class P: two private fields under a lock, a synchronized setter, a block that reads both, and an `init`
-/// that prints their sum three times.
+/// Class P: two private fields under a lock, a synchronized setter, a block that reads both, and an
+/// `init` that prints their sum three times.
 pub const PAIR: &str = "\
     cafebabe00000032002a010001500700010100106a6176612f6c616e672f4f626a6563740700030100016101\
     00014901000162010001700100034c503b0100063c696e69743e010003282956010004436f64650100037365\
@@ -55,8 +55,8 @@ pub fn peeks() -> &'static str {
     210002000d0000000000010009000a000b000100090000001100010001000000052ab40008ac000000000000"
 }
 
-/// Class A of version 45.3 with each other kind of constant and part: a field with its value and an attribute
-/// that is unread, an interface, and a method whose code has a row and an attribute.
+/// Class A of version 45.3 with each other kind of constant and part: a field with its value and an
+/// attribute that is unread, an interface, and a method whose code has a row and an attribute.
 pub fn kinds() -> &'static str {
     "\
     cafebabe0003002d00150100014107000101000d436f6e7374616e7456616c7565010004436f646503ffffff\
@@ -80,9 +80,9 @@ pub fn constants() -> &'static str {
     0300000009100a1b6cac4d10feac000100000004000500070001001e000000060001450700070000"
 }
 
-/// Class Tally, as `javac --release 8 -g:none` of a current JDK writes it, with the major version put to
-/// 50: two fields, a constructor, a synchronized method and block, a switch, and try with finally. Its
-/// source is java/Tally.java, beside src/.
+/// Class Tally, as `javac --release 8 -g:none` of a current JDK writes it, with the major version
+/// put to 50: two fields, a constructor, a synchronized method and block, a switch, and try with
+/// finally. Its source is java/Tally.java, beside src/.
 pub fn tally() -> &'static str {
     "\
     cafebabe0000003200200a000200030700040c000500060100106a6176612f6c616e672f4f626a6563740100\
@@ -102,8 +102,9 @@ pub fn tally() -> &'static str {
     001b0000000a000524110f0f4e07001c0000"
 }
 
-/// Class Work, as `javac --release 8 -g:none` of a current JDK writes it, with the major version put to
-/// 50: a loop in its constructor; a synchronized block; a loop and a switch in a try with finally.
+/// Class Work, as `javac --release 8 -g:none` of a current JDK writes it, with the major version
+/// put to 50: a loop in its constructor; a synchronized block; a loop and a switch in a try with
+/// finally.
 pub fn work() -> &'static str {
     "\
     cafebabe00000032001e0a000200030700040c000500060100106a6176612f6c616e672f4f626a6563740100\

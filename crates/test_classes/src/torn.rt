@@ -1,8 +1,9 @@
-//! Classes D and L, whose two private fields always differ by 1 once they are set: a section that has read one of them
-//! before and the other behind a set goes wrong. They are texts of two digits for each byte.
+//! Classes D and L, whose two private fields always differ by 1 once they are set: a section that
+//! has read one of them before and the other behind a set goes wrong. They are texts of two digits
+//! for each byte.
 
-/// Class D: `q` divides 10 by the difference of the fields. `init` sets them to 1 and 0, thread 1 prints what `q` gives,
-/// and each other thread sets them to 2 and 1.
+/// Class D: `q` divides 10 by the difference of the fields. `init` sets them to 1 and 0, thread 1
+/// prints what `q` gives, and each other thread sets them to 2 and 1.
 pub const DIVIDES: &str = "\
     cafebabe00000032002b010001440700010100106a6176612f6c616e672f4f626a6563740700030100016101\
     00014901000162010001700100034c443b0100063c696e69743e010003282956010004436f64650c000a000b\
@@ -34,8 +35,8 @@ pub const DIVIDES_AT_REST: &str = "\
     0bbb000259b70018b3001ab1000000000008001b00100001000c00000026000200010000001a1a04a00010b2\
     0021b2001ab60023b60028b1b2001a04b6002ab1000000000000";
 
-/// Class L: `q` counts from one field up to the other, which is right above. `init` sets them to 0 and 1, thread 1
-/// prints what `q` gives, and each other thread sets them to 10 and 11.
+/// Class L: `q` counts from one field up to the other, which is right above. `init` sets them to 0
+/// and 1, thread 1 prints what `q` gives, and each other thread sets them to 10 and 11.
 pub const COUNTS: &str = "\
     cafebabe00000032002b0100014c0700010100106a6176612f6c616e672f4f626a6563740700030100026869\
     010001490100026c6f010001700100034c4c3b0100063c696e69743e010003282956010004436f64650c000a\

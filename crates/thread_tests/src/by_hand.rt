@@ -1,4 +1,5 @@
-//! A run by hand: the parts begin, and the threads of the system make their events, as the test has it.
+//! A run by hand: the parts begin, and the threads of the system make their events, as the test has
+//! it.
 
 ghost use Rattle.std.specs.Prelude.{◌≡◌, ◌<◌, ◌≤◌, ◌+◌, length, true};
 ghost use Rattle.table_rule.specs.Views.{HoldsAll};
@@ -17,7 +18,8 @@ use std::thread::{Threads, for_each_mut};
 use table_runner::{CoreTable, Hands, table};
 use test_classes::{SHARED, bytes_of};
 
-/// No limit is met: a worker may look for the lock for as long as the other one, which has it, waits for a processor.
+/// No limit is met: a worker may look for the lock for as long as the other one, which has it,
+/// waits for a processor.
 const SETTINGS: Config = Config {
     steps: MOST_LIMIT,
     turns: MOST_LIMIT,
@@ -35,7 +37,8 @@ fn load(alloc: Global, class: &str) -> Result<Checked, FileError> {
 
 /// The events of thread `t` until it is not live.
 fn go_on(hands: &mut Hands, table: &CoreTable, p: &Checked, t: u8)
-    requires worker { IsWorker table.now.shared.table_id table.now.shared.key.program.told table.now.shared.key.cfg t hands.old }
+    requires worker { IsWorker table.now.shared.table_id table.now.shared.key.program.told
+        table.now.shared.key.cfg t hands.old }
     requires program { p.now ≡ table.now.shared.key.program.told }
     ensures { AreSame hands.old hands.new }
 {
@@ -48,9 +51,11 @@ fn go_on(hands: &mut Hands, table: &CoreTable, p: &Checked, t: u8)
 
 /// The events of thread 0, which the hands hold.
 fn go_alone(rt: &impl Abort, hands: &mut Hands, table: &CoreTable, p: &Checked)
-    requires table { IsTableOf table.now.shared.table_id table.now.shared.key.program.told table.now.shared.key.cfg hands.old }
+    requires table { IsTableOf table.now.shared.table_id table.now.shared.key.program.told
+        table.now.shared.key.cfg hands.old }
     requires program { p.now ≡ table.now.shared.key.program.told }
-    ensures { IsTableOf table.now.shared.table_id table.now.shared.key.program.told table.now.shared.key.cfg hands.new }
+    ensures { IsTableOf table.now.shared.table_id table.now.shared.key.program.told
+        table.now.shared.key.cfg hands.new }
 {
     assert!(rt; hands.holds(0));
     go_on(hands, table, p, 0);
@@ -59,9 +64,11 @@ fn go_alone(rt: &impl Abort, hands: &mut Hands, table: &CoreTable, p: &Checked)
 /// The events of the workers, each on a thread of its own.
 fn go_apart<R: Threads + Sync>(rt: &R, workers: &mut [Hands], table: &CoreTable, p: &Checked)
     requires few { length workers.old ≤ 8 }
-    requires workers { AreWorkers table.now.shared.table_id table.now.shared.key.program.told table.now.shared.key.cfg workers.old }
+    requires workers { AreWorkers table.now.shared.table_id table.now.shared.key.program.told
+        table.now.shared.key.cfg workers.old }
     requires program { p.now ≡ table.now.shared.key.program.told }
-    ensures workers { AreWorkers table.now.shared.table_id table.now.shared.key.program.told table.now.shared.key.cfg workers.new }
+    ensures workers { AreWorkers table.now.shared.table_id table.now.shared.key.program.told
+        table.now.shared.key.cfg workers.new }
     ensures count { length workers.new ≡ length workers.old }
 {
     for_each_mut(
@@ -69,7 +76,9 @@ fn go_apart<R: Threads + Sync>(rt: &R, workers: &mut [Hands], table: &CoreTable,
         workers,
         2,
         &|i: usize, h: &mut Hands|
-            requires { (i < 8) × IsWorker table.now.shared.table_id table.now.shared.key.program.told table.now.shared.key.cfg (i + 1) h.now × (p.now ≡ table.now.shared.key.program.told) }
+            requires { (i < 8) × IsWorker table.now.shared.table_id
+                table.now.shared.key.program.told table.now.shared.key.cfg (i + 1) h.now
+                × (p.now ≡ table.now.shared.key.program.told) }
             ensures { AreSame h.entry.now h.exit.now }
         { go_on(h, table, p, (i + 1) as u8) },
     );
@@ -85,10 +94,12 @@ fn hold_all(hands: &Hands) -> bool
 
 /// Begins the next part, where the hands hold all threads.
 fn begin(rt: &impl Abort, hands: &mut Hands, table: &CoreTable, p: &Checked) -> bool
-    requires table { IsTableOf table.now.shared.table_id table.now.shared.key.program.told table.now.shared.key.cfg hands.old }
+    requires table { IsTableOf table.now.shared.table_id table.now.shared.key.program.told
+        table.now.shared.key.cfg hands.old }
     requires program { p.now ≡ table.now.shared.key.program.told }
     requires workers { p.now.program.workers ≤ 2 }
-    ensures { IsTableOf table.now.shared.table_id table.now.shared.key.program.told table.now.shared.key.cfg hands.new }
+    ensures { IsTableOf table.now.shared.table_id table.now.shared.key.program.told
+        table.now.shared.key.cfg hands.new }
 {
     assert!(rt; hold_all(hands));
     hands.next(table, p)
@@ -96,9 +107,12 @@ fn begin(rt: &impl Abort, hands: &mut Hands, table: &CoreTable, p: &Checked) -> 
 
 /// Hands of worker `t`, which these held beside thread 0.
 fn split(rt: &impl Abort, hands: &mut Hands, table: &CoreTable, t: u8) -> Hands
-    requires table { IsTableOf table.now.shared.table_id table.now.shared.key.program.told table.now.shared.key.cfg hands.old }
-    ensures table { IsTableOf table.now.shared.table_id table.now.shared.key.program.told table.now.shared.key.cfg hands.new }
-    ensures worker { IsWorker table.now.shared.table_id table.now.shared.key.program.told table.now.shared.key.cfg t result }
+    requires table { IsTableOf table.now.shared.table_id table.now.shared.key.program.told
+        table.now.shared.key.cfg hands.old }
+    ensures table { IsTableOf table.now.shared.table_id table.now.shared.key.program.told
+        table.now.shared.key.cfg hands.new }
+    ensures worker { IsWorker table.now.shared.table_id table.now.shared.key.program.told
+        table.now.shared.key.cfg t result }
 {
     assert!(rt; t != 0 && hands.holds(0) && hands.holds(t));
     let worker = hands.split(table, t);
@@ -108,18 +122,23 @@ fn split(rt: &impl Abort, hands: &mut Hands, table: &CoreTable, t: u8) -> Hands
 
 /// Takes in the hands of a worker.
 fn join(hands: &mut Hands, table: &CoreTable, worker: Hands)
-    requires table { IsTableOf table.now.shared.table_id table.now.shared.key.program.told table.now.shared.key.cfg hands.old }
-    requires worker { IsTableOf table.now.shared.table_id table.now.shared.key.program.told table.now.shared.key.cfg worker }
-    ensures { IsTableOf table.now.shared.table_id table.now.shared.key.program.told table.now.shared.key.cfg hands.new }
+    requires table { IsTableOf table.now.shared.table_id table.now.shared.key.program.told
+        table.now.shared.key.cfg hands.old }
+    requires worker { IsTableOf table.now.shared.table_id table.now.shared.key.program.told
+        table.now.shared.key.cfg worker }
+    ensures { IsTableOf table.now.shared.table_id table.now.shared.key.program.told
+        table.now.shared.key.cfg hands.new }
 {
     hands.join(table, worker);
 }
 
 /// The workers' part, each worker in hands of its own.
 fn go_split<R: Abort + Threads + Sync>(rt: &R, hands: &mut Hands, table: &CoreTable, p: &Checked)
-    requires table { IsTableOf table.now.shared.table_id table.now.shared.key.program.told table.now.shared.key.cfg hands.old }
+    requires table { IsTableOf table.now.shared.table_id table.now.shared.key.program.told
+        table.now.shared.key.cfg hands.old }
     requires program { p.now ≡ table.now.shared.key.program.told }
-    ensures { IsTableOf table.now.shared.table_id table.now.shared.key.program.told table.now.shared.key.cfg hands.new }
+    ensures { IsTableOf table.now.shared.table_id table.now.shared.key.program.told
+        table.now.shared.key.cfg hands.new }
 {
     let mut workers = [split(rt, hands, table, 1), split(rt, hands, table, 2)];
     go_apart(rt, &mut workers, table, p);
@@ -149,7 +168,8 @@ fn check_end(rt: &impl Abort, report: &ThreadReport, prints: usize) {
     assert_eq!(rt; report.prints.len(), prints);
 }
 
-/// Thread 1 prints the sum of two fields from one section, with its lock or without: both fields are 0, or both 4.
+/// Thread 1 prints the sum of two fields from one section, with its lock or without: both fields
+/// are 0, or both 4.
 fn check_reader(rt: &impl Abort, reader: &ThreadReport) {
     check_end(rt, reader, 1);
     for print in reader.prints.as_slice() {

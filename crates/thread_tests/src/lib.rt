@@ -1,5 +1,5 @@
-//! Tests of runs on threads that use public calls alone. They stand here so that the crates below are not proved a second
-//! time for them.
+//! Tests of runs on threads that use public calls alone. They stand here so that the crates below
+//! are not proved a second time for them.
 #![tactic(auto)]
 
 #[cfg(test)]

@@ -26,7 +26,8 @@ fn steps(alloc: Global, by: &[(u8, u8)]) -> Result<Bytes, AllocError> {
     Ok(order)
 }
 
-/// The objects of a run from a number on, so many at most, and those behind them; nothing where the run is not told.
+/// The objects of a run from a number on, so many at most, and those behind them; nothing where the
+/// run is not told.
 fn told(
     alloc: Global,
     class: &str,
@@ -56,7 +57,8 @@ fn told(
     }
 }
 
-/// Thread 1 enters its section without the lock, reads the first of two fields, and finds at the end that thread 2 set both.
+/// Thread 1 enters its section without the lock, reads the first of two fields, and finds at the
+/// end that thread 2 set both.
 const TORN: &str = "\
     {\"what\":\"event\",\"number\":44,\"thread\":2,\"class\":\"Q\",\"method\":\"set(I)V\",\
     \"pc\":10,\"instruction\":\"return\",\"does\":\"leaves 2071\",\

@@ -13,7 +13,8 @@ use std::alloc::{AllocError, Global};
 use std::test::*;
 use test_classes::{SHARED, bytes_of};
 
-/// Thread 1 enters its section without the lock, reads the first of two fields, and finds at the end that thread 2 set both.
+/// Thread 1 enters its section without the lock, reads the first of two fields, and finds at the
+/// end that thread 2 set both.
 const ORDER: &[u8] = &[
     1, 1, 1, 1, 1, 1, 1, 1, 1, 1, 1, 1, 1, 1, 1, 2, 2, 2, 2, 2, 2, 2, 2, 2, 2, 2, 2, 2, 2, 2, 2, 2,
     2, 2, 2,

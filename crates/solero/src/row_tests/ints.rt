@@ -119,7 +119,8 @@ pub const INTS: [Run; 10] = [
             counts 0 instructions 176 elided 0 failed 0 locked 0 inflated 0\n\
         ",
     },
-    // Quotients and remainders: the signs, the least int by -1, and a divisor of 0, which is caught.
+    // Quotients and remainders: the signs, the least int by -1, and a divisor of 0, which is
+    // caught.
     Run {
         options: &[],
         order: &[],
@@ -347,7 +348,8 @@ pub const INTS: [Run; 10] = [
             counts 0 instructions 997 elided 0 failed 0 locked 0 inflated 0\n\
         ",
     },
-    // Keys below, in, between and above those of both switches, at each distance to a multiple of four.
+    // Keys below, in, between and above those of both switches, at each distance to a multiple of
+    // four.
     Run {
         options: &[],
         order: &[],
@@ -371,7 +373,8 @@ pub const INTS: [Run; 10] = [
             counts 0 instructions 579 elided 0 failed 0 locked 0 inflated 0\n\
         ",
     },
-    // What each stack instruction leaves, from the top down, with 0 behind it; then with references.
+    // What each stack instruction leaves, from the top down, with 0 behind it; then with
+    // references.
     Run {
         options: &[],
         order: &[],

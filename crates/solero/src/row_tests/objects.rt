@@ -152,7 +152,8 @@ pub const OBJECTS: [Run; 8] = [
             counts 0 instructions 61 elided 0 failed 0 locked 0 inflated 0\n\
         ",
     },
-    // The row that takes each of the twelve throwables, and what a handler finds; the last one is thrown again.
+    // The row that takes each of the twelve throwables, and what a handler finds; the last one is
+    // thrown again.
     Run {
         options: &[],
         order: &[],

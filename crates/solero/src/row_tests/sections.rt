@@ -123,7 +123,8 @@ pub const SECTIONS: [Run; 15] = [
             counts 1 instructions 22 elided 1 failed 0 locked 0 inflated 0\n\
         ",
     },
-    // One field is read before it is set and the other behind it: the attempt fails at its end, and the second one sees both set.
+    // One field is read before it is set and the other behind it: the attempt fails at its end, and
+    // the second one sees both set.
     Run {
         options: &["--threads", "2"],
         order: &[('1', 13), ('2', 12), ('1', 3), ('2', 7)],

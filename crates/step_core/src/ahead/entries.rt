@@ -1,7 +1,9 @@
-//! The entry of a monitor by a thread alone, whose frames are at hand: again, inside its attempt, by an attempt that begins, or by
-//! taking a flat lock that is free (JVMS 2.11.10; the flat lock and the attempt are those of the PLDI 2010 publication).
+//! The entry of a monitor by a thread alone, whose frames are at hand: again, inside its attempt,
+//! by an attempt that begins, or by taking a flat lock that is free (JVMS 2.11.10; the flat lock
+//! and the attempt are those of the PLDI 2010 publication).
 
-ghost use Rattle.std.specs.Prelude.{◌≡◌, ◌<◌, ◌≤◌, ℕ, length, slice_index, Some, None, IfSome, IsSome, true, false};
+ghost use Rattle.std.specs.Prelude.{◌≡◌, ◌<◌, ◌≤◌, ℕ, length, slice_index, Some, None, IfSome};
+ghost use Rattle.std.specs.Prelude.{IsSome, true, false};
 ghost use Rattle.jvm_types.specs.declared.limits.TheConstants.{MOST_WORKERS};
 ghost use Rattle.machine_types.specs.Elision.{may_try};
 ghost use Rattle.machine_types.specs.Going.{runs};
@@ -42,7 +44,8 @@ fn enter_held(
     requires held { held_at s.old.held monitor ≡ Some held }
     requires depth { held.depth < 18446744073709551615 }
     requires passes { Passes s.old words.now }
-    ensures on { alone (runs (running_at s.new f.now count)) words.now ≡ stepped p.now (alone (entering s.old f.now count monitor) words.now) }
+    ensures on { alone (runs (running_at s.new f.now count)) words.now
+        ≡ stepped p.now (alone (entering s.old f.now count monitor) words.now) }
     ensures passes { Passes s.new words.now }
     ensures of { s.new.program ≡ s.old.program }
     ensures settings { s.new.cfg ≡ s.old.cfg }
@@ -66,7 +69,8 @@ fn enter_section_again(
     requires own { IfSome s.old.attempt (λ a. a.monitor ≡ monitor) }
     requires inner { IfSome s.old.attempt (λ a. a.inner < 18446744073709551615) }
     requires passes { Passes s.old words.now }
-    ensures on { alone (runs (running_at s.new f.now count)) words.now ≡ stepped p.now (alone (entering s.old f.now count monitor) words.now) }
+    ensures on { alone (runs (running_at s.new f.now count)) words.now
+        ≡ stepped p.now (alone (entering s.old f.now count monitor) words.now) }
     ensures passes { Passes s.new words.now }
     ensures of { s.new.program ≡ s.old.program }
     ensures settings { s.new.cfg ≡ s.old.cfg }
@@ -103,7 +107,8 @@ fn begin(
     requires may { may_try p.now (entering s.old f.now count monitor) 0 ≡ true }
     requires word { slice_index words.now monitor ≡ word_of_lock (Free noted) }
     requires few { noted < s.old.cfg.range }
-    ensures on { alone (runs (running_at s.new f.now count)) words.now ≡ stepped p.now (alone (entering s.old f.now count monitor) words.now) }
+    ensures on { alone (runs (running_at s.new f.now count)) words.now
+        ≡ stepped p.now (alone (entering s.old f.now count monitor) words.now) }
     ensures passes { Passes s.new words.now }
     ensures of { s.new.program ≡ s.old.program }
     ensures settings { s.new.cfg ≡ s.old.cfg }
@@ -130,8 +135,10 @@ fn take_flat(
     requires there { monitor < length words.old }
     requires word { slice_index words.old monitor ≡ word_of_lock (Free noted) }
     requires number { s.old.number ≤ MOST_WORKERS }
-    requires fine { IsFine p.now (stepped p.now (alone (entering s.old f.now count monitor) words.old)) }
-    ensures on { alone (runs (running_at s.new f.now count)) words.new ≡ stepped p.now (stepped p.now (alone (entering s.old f.now count monitor) words.old)) }
+    requires fine { IsFine p.now
+        (stepped p.now (alone (entering s.old f.now count monitor) words.old)) }
+    ensures on { alone (runs (running_at s.new f.now count)) words.new
+        ≡ stepped p.now (stepped p.now (alone (entering s.old f.now count monitor) words.old)) }
     ensures passes { Passes s.new words.new }
     ensures of { s.new.program ≡ s.old.program }
     ensures settings { s.new.cfg ≡ s.old.cfg }
@@ -144,7 +151,8 @@ fn take_flat(
     words.set(monitor as usize, word(LockWord::Held(s.number())));
 }
 
-/// An entry of a monitor on which the thread has no claim, by the word that was found: tells how many events it made.
+/// An entry of a monitor on which the thread has no claim, by the word that was found: tells how
+/// many events it made.
 #[inline(always)]
 fn enter_new(
     s: &mut ThreadState,
@@ -163,8 +171,10 @@ fn enter_new(
     requires there { monitor < length words.old }
     requires found { found ≡ slice_index words.old monitor }
     requires number { s.old.number ≤ MOST_WORKERS }
-    requires fine { IsFine p.now (stepped p.now (alone (entering s.old f.now count monitor) words.old)) }
-    ensures on { 0 < result → alone (runs (running_at s.new f.now count)) words.new ≡ stepped_by p.now result (alone (entering s.old f.now count monitor) words.old) }
+    requires fine { IsFine p.now
+        (stepped p.now (alone (entering s.old f.now count monitor) words.old)) }
+    ensures on { 0 < result → alone (runs (running_at s.new f.now count)) words.new
+        ≡ stepped_by p.now result (alone (entering s.old f.now count monitor) words.old) }
     ensures few { result ≤ 2 }
     ensures still { result ≡ 0 → s.new ≡ s.old }
     ensures same { result ≡ 0 → words.new ≡ words.old }
@@ -188,7 +198,8 @@ fn enter_new(
     }
 }
 
-/// An entry of a monitor that the thread does not hold, by its attempt, or by the lock word: tells how many events it made.
+/// An entry of a monitor that the thread does not hold, by its attempt, or by the lock word: tells
+/// how many events it made.
 #[inline(always)]
 fn enter_unheld(
     s: &mut ThreadState,
@@ -202,8 +213,10 @@ fn enter_unheld(
     requires program { f.now.program ≡ p.now.program }
     requires held { held_at s.old.held monitor ≡ None }
     requires passes { Passes s.old words.old }
-    requires fine { (k : ℕ) → IsFine p.now (stepped_by p.now k (alone (entering s.old f.now count monitor) words.old)) }
-    ensures on { 0 < result → alone (runs (running_at s.new f.now count)) words.new ≡ stepped_by p.now result (alone (entering s.old f.now count monitor) words.old) }
+    requires fine { (k : ℕ)
+        → IsFine p.now (stepped_by p.now k (alone (entering s.old f.now count monitor) words.old)) }
+    ensures on { 0 < result → alone (runs (running_at s.new f.now count)) words.new
+        ≡ stepped_by p.now result (alone (entering s.old f.now count monitor) words.old) }
     ensures few { result ≤ 2 }
     ensures still { result ≡ 0 → s.new ≡ s.old }
     ensures same { result ≡ 0 → words.new ≡ words.old }
@@ -229,9 +242,9 @@ fn enter_unheld(
     }
 }
 
-/// The entry of a monitor, behind the instruction that begins it, as long as its events are those of a thread alone that waits
-/// for nobody: tells how many they are. Where there is none, nothing changes. It is inlined with all that has the frames, so that
-/// the loop keeps them at hand.
+/// The entry of a monitor, behind the instruction that begins it, as long as its events are those
+/// of a thread alone that waits for nobody: tells how many they are. Where there is none, nothing
+/// changes. It is inlined with all that has the frames, so that the loop keeps them at hand.
 #[inline(always)]
 pub fn enter_at(
     s: &mut ThreadState,
@@ -244,8 +257,10 @@ pub fn enter_at(
     requires of { s.old.program ≡ p.now }
     requires program { f.now.program ≡ p.now.program }
     requires passes { Passes s.old words.old }
-    requires fine { (k : ℕ) → IsFine p.now (stepped_by p.now k (alone (entering s.old f.now count monitor) words.old)) }
-    ensures on { 0 < result → alone (runs (running_at s.new f.now count)) words.new ≡ stepped_by p.now result (alone (entering s.old f.now count monitor) words.old) }
+    requires fine { (k : ℕ)
+        → IsFine p.now (stepped_by p.now k (alone (entering s.old f.now count monitor) words.old)) }
+    ensures on { 0 < result → alone (runs (running_at s.new f.now count)) words.new
+        ≡ stepped_by p.now result (alone (entering s.old f.now count monitor) words.old) }
     ensures few { result ≤ 2 }
     ensures still { result ≡ 0 → s.new ≡ s.old }
     ensures same { result ≡ 0 → words.new ≡ words.old }

@@ -1,8 +1,9 @@
-//! The exit of a monitor by a thread alone, whose frames are at hand: once, for the last time where its flat lock is as it was
-//! left, inside its attempt, or at the end of it (JVMS 2.11.10; the flat lock and the attempt are those of the PLDI 2010
-//! publication).
+//! The exit of a monitor by a thread alone, whose frames are at hand: once, for the last time where
+//! its flat lock is as it was left, inside its attempt, or at the end of it (JVMS 2.11.10; the flat
+//! lock and the attempt are those of the PLDI 2010 publication).
 
-ghost use Rattle.std.specs.Prelude.{◌≡◌, ◌<◌, ◌≤◌, Some, None, IfSome, IsSome, option_map, true, false};
+ghost use Rattle.std.specs.Prelude.{◌≡◌, ◌<◌, ◌≤◌, Some, None, IfSome, IsSome, option_map, true};
+ghost use Rattle.std.specs.Prelude.{false};
 ghost use Rattle.jvm_types.specs.declared.limits.TheConstants.{MOST_LIMIT, MOST_WORKERS};
 ghost use Rattle.machine_types.specs.HeldMonitors.{held_at};
 ghost use Rattle.machine_types.specs.Threads.{head_of};
@@ -31,7 +32,8 @@ fn leave_once(s: &mut ThreadState, p: &Checked, monitor: u32, held: Held, words:
     put_depth(s, monitor, held, held.depth - 1);
 }
 
-/// A flat lock is freed, where its word is as it was left; else nothing changes, and it answers `false`.
+/// A flat lock is freed, where its word is as it was left; else nothing changes, and it answers
+/// `false`.
 #[inline(always)]
 fn free(
     s: &mut ThreadState,
@@ -127,7 +129,8 @@ fn leave_section(
     true
 }
 
-/// The exit of a monitor that the thread holds, but for the last one of a fat lock, and of a flat one that is not as it was left.
+/// The exit of a monitor that the thread holds, but for the last one of a fat lock, and of a flat
+/// one that is not as it was left.
 #[inline(always)]
 fn leave_held(
     s: &mut ThreadState,
@@ -156,7 +159,8 @@ fn leave_held(
     }
 }
 
-/// The exit of a monitor in one event, as long as it is that of a thread alone; else nothing changes, and it answers `false`.
+/// The exit of a monitor in one event, as long as it is that of a thread alone; else nothing
+/// changes, and it answers `false`.
 pub fn leave(s: &mut ThreadState, p: &Checked, monitor: u32, words: &mut Rows<u64>) -> bool
     requires number { s.old.number ≤ MOST_WORKERS }
     requires passes { Passes s.old words.old }
