@@ -1,24 +1,19 @@
 class ClassLock {
-    static int count;
+    private static int count;
 
-    static synchronized void add() {
+    static synchronized void init() {
+        count++;
+    }
+}
+
+class ClassLockMended {
+    private static int count;
+
+    private static synchronized void add() {
         count++;
     }
 
     static void init() {
         add();
-    }
-}
-
-class ClassLockMended {
-    private static final ClassLockMended counter = new ClassLockMended();
-    private int count;
-
-    synchronized void add() {
-        count++;
-    }
-
-    static void init() {
-        counter.add();
     }
 }

@@ -1,4 +1,5 @@
 pub mod FewFields
+pub mod FewStatics
 mod IndexLaws
 pub mod FilledTags
 pub mod TriedPrograms

@@ -81,9 +81,12 @@ pub record IsFrozenField (p : Program) (tags : Tagged) (fi : ℕ) : Type 0 where
   pub instance : is_static field.flags ≡ false
   pub frozen : IsFrozenClass p tags field.class
 
--- a method whose frames hold the monitor of their receiver (JVMS 2.11.10)
+-- a method whose frames hold the monitor of their receiver, or that of their class (JVMS 2.11.10)
 abbrev pub locks_this : MethodInfo → Bool
 locks_this m = is_synchronized m.flags && not (is_static m.flags)
+
+abbrev pub locks_class : MethodInfo → Bool
+locks_class m = is_synchronized m.flags && is_static m.flags
 
 -- where a field may be written: on `this`, in an `<init>`, in a synchronized method, or with the monitor of `this` held
 abbrev pub WritesGuarded : MethodInfo → TagShape → Type 0

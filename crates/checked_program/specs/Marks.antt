@@ -10,7 +10,7 @@ use Rattle.jvm_types.specs.declared.program.MethodInfo.{MethodInfo}
 use Rattle.jvm_types.specs.declared.program.Program.{Program}
 use Rattle.checked_program.specs.LockTags.{TagShape, is_this}
 use Rattle.checked_program.specs.TaggedCode.{Tagged, IsAt}
-use Rattle.checked_program.specs.FrozenPlaces.{locks_this, AreUses}
+use Rattle.checked_program.specs.FrozenPlaces.{locks_this, locks_class, AreUses}
 use Rattle.checked_program.specs.Sections.{Section, sections, BeginsAt, IsOwn}
 use Rattle.checked_program.specs.declared.tag.Tag.{Tag}
 use Rattle.checked_program.specs.declared.tag.Tag.TheVariants.{Untagged, This}
@@ -104,6 +104,10 @@ abbrev pub is_locking : Option MethodInfo → Bool
 is_locking None = false
 is_locking (Some called) = locks_this called
 
+abbrev pub is_class_locking : Option MethodInfo → Bool
+is_class_locking None = false
+is_class_locking (Some called) = locks_class called
+
 abbrev pub call_fault : Bool → Bool → ℕ
 call_fault true own = enter_fault own
 call_fault false own = 0
@@ -126,6 +130,7 @@ section_fault p uses mode ops.Newarray target stack = 2
 section_fault p uses mode ops.Monitorenter target stack = enter_fault (is_own_object mode (slice_index_or stack 0 Untagged))
 section_fault p uses mode (ops.Invokevirtual i) (targets.Method u) stack = call_fault (is_locking (slice_get p.methods u)) (is_own_object mode (receiver_tag p (ops.Invokevirtual i) (targets.Method u) stack))
 section_fault p uses mode (ops.Invokespecial i) (targets.Method u) stack = call_fault (is_locking (slice_get p.methods u)) (is_own_object mode (receiver_tag p (ops.Invokespecial i) (targets.Method u) stack))
+section_fault p uses mode (ops.Invokestatic i) (targets.Method u) stack = call_fault (is_class_locking (slice_get p.methods u)) false
 section_fault p uses mode (ops.Invokevirtual i) targets.Println stack = 4
 section_fault p uses mode (ops.Invokevirtual i) targets.Wait stack = 4
 section_fault p uses mode (ops.Invokevirtual i) targets.Notify stack = 4

@@ -1,6 +1,6 @@
 -- Laws of sections that run without their lock, and of the fields that they read, over every program and its tags. The running
 -- machine rests on these and not on how marks are found.
-use Rattle.std.specs.Prelude.{◌≡◌, ◌≢◌, ◌⊎◌, ℕ, suc, true, List, [], ◌∷◌, length, Option, Some, slice_get, slice_index, slice_index_or}
+use Rattle.std.specs.Prelude.{◌≡◌, ◌≢◌, ◌⊎◌, ℕ, suc, true, false, List, [], ◌∷◌, length, Option, Some, slice_get, slice_index, slice_index_or}
 use Rattle.std.specs.List.{list_any}
 use Rattle.jvm_types.specs.CodeTable.{is_init}
 use Rattle.jvm_types.specs.ProgramInvariant.{IsProgram}
@@ -16,7 +16,7 @@ use Rattle.checked_program.specs.TaggedCode.{Tagged, IsAt, Goes}
 use Rattle.checked_program.specs.Tagging.{HasTagging}
 use Rattle.checked_program.specs.FrozenPlaces.{AreUses, IsFrozenField, IsGuardedField, locks_this}
 use Rattle.checked_program.specs.Sections.{Section, BeginsAt, IsOwn}
-use Rattle.checked_program.specs.Marks.{callee, Calls, args_of, is_locking, HasMark}
+use Rattle.checked_program.specs.Marks.{callee, Calls, args_of, is_locking, is_class_locking, HasMark}
 use Rattle.checked_program.specs.declared.tag.Tag.{Tag}
 use Rattle.checked_program.specs.declared.tag.Tag.TheVariants.{Untagged, This}
 use Rattle.checked_program.specs.declared.section.Spot.{Spot}
@@ -107,6 +107,7 @@ ReadsOnly p tags o (ops.Getstatic i) (targets.Field fi) stack = ⊥
 ReadsOnly p tags o ops.Monitorenter target stack = slice_index stack 0 ≡ o
 ReadsOnly p tags o (ops.Invokevirtual i) (targets.Method u) stack = is_locking (slice_get p.methods u) ≡ true → slice_index stack (args_of (slice_get p.methods u)) ≡ o
 ReadsOnly p tags o (ops.Invokespecial i) (targets.Method u) stack = is_locking (slice_get p.methods u) ≡ true → slice_index stack (args_of (slice_get p.methods u)) ≡ o
+ReadsOnly p tags o (ops.Invokestatic i) (targets.Method u) stack = is_class_locking (slice_get p.methods u) ≡ false
 ReadsOnly p tags o (ops.Getfield i) (targets.Field fi) stack = IsFrozenField p tags fi ⊎ (IsGuardedField p tags fi × (slice_index stack 0 ≡ o))
 ReadsOnly p tags o op target stack = Unit {0}
 

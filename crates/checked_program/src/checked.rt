@@ -1,10 +1,12 @@
-ghost use Rattle.std.specs.Prelude.{◌≡◌, ◌<◌, length, slice_get, IfOk};
-ghost use Rattle.checked_program.specs.CodeIndex.{number_in, words_of_object, AllAscend};
-ghost use Rattle.checked_program.specs.CodeIndex.{FewInstances};
+ghost use Rattle.std.specs.Prelude.{◌≡◌, ◌<◌, ◌≤◌, length, slice_get, IfOk};
+ghost use Rattle.jvm_types.specs.ProgramInvariant.{statics_among};
+ghost use Rattle.jvm_types.specs.declared.limits.TheConstants.{MOST_HEAP};
+ghost use Rattle.checked_program.specs.CodeIndex.{number_in, word_of_class, words_of_object};
+ghost use Rattle.checked_program.specs.CodeIndex.{AllAscend, FewInstances};
 ghost use Rattle.checked_program.specs.MarkedProgram.{IsMarked};
 ghost use Rattle.checked_program.specs.Reach.{IsReach};
 
-use crate::code_index::{CodeIndex, count_words, search_in};
+use crate::code_index::{CodeIndex, count_words, search_in, word_of_class};
 use crate::reached_code::reach;
 use crate::section::SectionMark;
 use crate::tag::Tags;
@@ -34,7 +36,7 @@ impl Model for Checked {
 
     ghost view = { λ c. record { program = c.program; typings = c.typings; tags = c.tags; marks = c.marks } };
 
-    ghost invariant = { λ c. IsMarked (record { program = c.program; typings = c.typings; tags = c.tags; marks = c.marks }) × IfSome c.index (λ index. IsCodeIndex c.program.methods c.program.fields index.tables.items index.sizes.items) };
+    ghost invariant = { λ c. IsMarked (record { program = c.program; typings = c.typings; tags = c.tags; marks = c.marks }) × IfSome c.index (λ index. IsCodeIndex c.program.methods c.program.fields index.tables.items index.sizes.items index.classes.items) };
 }
 
 impl Checked {
@@ -59,15 +61,17 @@ impl Checked {
         }
     }
 
-    /// Tells that the pcs of each method ascend, and that no class has many fields.
+    /// Tells that the pcs of each method ascend, that no class has many fields, and that there are
+    /// few static ones.
     fn indexable(&self)
         ensures ascend { AllAscend self.now.program.methods }
         ensures few { FewInstances self.now.program.fields }
+        ensures statics { statics_among self.now.program.fields ≤ MOST_HEAP }
     {
         let _ = &self.program;
     }
 
-    /// The same program with tables of its instructions and its objects.
+    /// The same program with tables of its instructions, its objects and its classes.
     pub fn indexed(mut self, alloc: Global) -> Result<Checked, AllocError>
         ensures { IfOk result (λ c. c ≡ self) }
     {
@@ -102,6 +106,22 @@ impl Checked {
         match known {
             Some(words) => *words,
             None => count_words(self.program.fields.as_slice(), class),
+        }
+    }
+
+    /// The word at which the class of the file of this number stands, as an object.
+    #[inline(always)]
+    pub fn class_word(&self, file: u16) -> u32
+        ensures { result ≡ word_of_class self.now.program.fields file }
+    {
+        self.indexable();
+        let known = match &self.index {
+            Some(index) => index.classes.get(usize::from(file)),
+            None => None,
+        };
+        match known {
+            Some(word) => *word,
+            None => word_of_class(self.program.fields.as_slice(), file),
         }
     }
 

@@ -13,6 +13,7 @@ pub mod tag_order;
 
 pub use call_edges::{Graph, called_method};
 pub use checked::Checked;
+pub use code_index::word_of_class;
 pub use laws::{
     called_fit, calls_suit, catchers_are_among, checked_is_sound, frames_have_places, places_hold,
     reach_is_one,

@@ -46,6 +46,7 @@ pub fault_low : (p : Program) (uses : List FieldUse) (mode : Mode) (op : Op) (ta
 fault_low p uses mode ops.Monitorenter target stack = enter_low _
 fault_low p uses mode (ops.Invokevirtual i) (targets.Method u) stack = call_low _ _
 fault_low p uses mode (ops.Invokespecial i) (targets.Method u) stack = call_low _ _
+fault_low p uses mode (ops.Invokestatic i) (targets.Method u) stack = call_low _ _
 fault_low p uses mode (ops.Getfield i) (targets.Field fi) stack = read_low _ _
 fault_low p uses mode (ops.Getstatic i) (targets.Field fi) stack = omega arith
 fault_low p uses mode op target stack = omega arith

@@ -1,9 +1,9 @@
 //! The rule of marking that an instruction breaks by itself.
 
 ghost use Rattle.std.specs.Prelude.{◌≡◌, length, slice_get, slice_index_or};
-ghost use Rattle.checked_program.specs.FrozenPlaces.{locks_this};
-ghost use Rattle.checked_program.specs.Marks.{call_fault, enter_fault, section_fault, is_locking};
-ghost use Rattle.checked_program.specs.Marks.{use_fault};
+ghost use Rattle.checked_program.specs.FrozenPlaces.{locks_class, locks_this};
+ghost use Rattle.checked_program.specs.Marks.{call_fault, enter_fault, section_fault};
+ghost use Rattle.checked_program.specs.Marks.{is_class_locking, is_locking, use_fault};
 ghost use Rattle.checked_program.specs.declared.section.FieldUse.TheVariants.{Open as open_use};
 ghost use Rattle.guard_analysis.specs.Faults.{breaks_before, fault_at, node_breaks};
 
@@ -34,11 +34,27 @@ pub fn locks_this(m: &MethodInfo) -> bool
     is_synchronized(m.flags) && !is_static(m.flags)
 }
 
+/// Whether the frames of a method hold the monitor of their class (JVMS 2.11.10).
+fn locks_class(m: &MethodInfo) -> bool
+    ensures { result ≡ locks_class m.now }
+{
+    is_synchronized(m.flags) && is_static(m.flags)
+}
+
 fn is_locking(p: &Program, u: u32) -> bool
     ensures { result ≡ is_locking (slice_get p.now.methods u) }
 {
     match p.methods.get(u as usize) {
         Some(m) => locks_this(m),
+        None => false,
+    }
+}
+
+fn is_class_locking(p: &Program, u: u32) -> bool
+    ensures { result ≡ is_class_locking (slice_get p.now.methods u) }
+{
+    match p.methods.get(u as usize) {
+        Some(m) => locks_class(m),
         None => false,
     }
 }
@@ -100,6 +116,10 @@ fn fault(
                 is_locking(p, u),
                 is_own_object(mode, receiver_tag(p, op, target, frame)),
             ),
+            _ => 0,
+        },
+        Op::Invokestatic(_) => match target {
+            Target::Method(u) => call_fault(is_class_locking(p, u), false),
             _ => 0,
         },
         Op::Getstatic(_) => match target {

@@ -13,7 +13,7 @@ use machine_types::Act;
 use std::alloc::AllocError;
 use std::process::Abort;
 use std::test::*;
-use test_classes::{DIVIDES_AT_REST, INDEXES_AND_THROWS, SHARED, WAITS};
+use test_classes::{CLASS_LOCKS, DIVIDES_AT_REST, INDEXES_AND_THROWS, SHARED, WAITS};
 
 /// A part, a thread, and how that part of it ended.
 type Ended = (usize, u8, End);
@@ -158,6 +158,53 @@ const ELEMENTS_THROW: [Steps; 3] = [
     (0, Act::Do, 1, false),
 ];
 
+/// The monitor of a class: entered again by the thread that holds it, left by an exception, and
+/// entered by one worker when the other one has left it.
+const CLASS_MONITOR: [Steps; 38] = [
+    (0, Act::Begin, 1, true),
+    (0, Act::Do, 3, true),
+    (0, Act::Enter, 1, true),
+    (0, Act::Do, 2, true),
+    // it is entered again
+    (0, Act::Enter, 1, true),
+    // it divides by 0, and the method catches nothing
+    (0, Act::Do, 4, true),
+    (0, Act::Exit, 1, true),
+    (0, Act::Do, 1, true),
+    (0, Act::Exit, 1, true),
+    // `init` catches it, and calls once more
+    (0, Act::Do, 5, true),
+    (0, Act::Enter, 1, true),
+    (0, Act::Do, 2, true),
+    (0, Act::Enter, 1, true),
+    (0, Act::Do, 4, true),
+    (0, Act::Exit, 1, true),
+    (0, Act::Do, 2, true),
+    (0, Act::Enter, 1, true),
+    (0, Act::Do, 4, true),
+    (0, Act::Exit, 1, true),
+    (0, Act::Do, 2, true),
+    (0, Act::Exit, 1, true),
+    (0, Act::Do, 2, true),
+    (1, Act::Begin, 1, true),
+    (1, Act::Do, 2, true),
+    (1, Act::Enter, 1, true),
+    (2, Act::Begin, 1, true),
+    (2, Act::Do, 2, true),
+    // the monitor is held
+    (2, Act::Enter, 1, false),
+    (1, Act::Do, 5, true),
+    (2, Act::Enter, 1, false),
+    (1, Act::Exit, 1, true),
+    (2, Act::Enter, 1, true),
+    (2, Act::Do, 5, true),
+    (2, Act::Exit, 1, true),
+    (2, Act::Do, 1, true),
+    (1, Act::Do, 1, true),
+    (0, Act::Begin, 1, true),
+    (0, Act::Do, 4, true),
+];
+
 /// Reads how a part of a thread ended.
 fn check_end(rt: &(impl Abort + AllocGlobal), plain: &Plain, ended: &Ended) {
     let (part, thread, end) = *ended;
@@ -222,4 +269,16 @@ fn shadows_with_exceptions_and_waits_do_too(rt: HostRuntime) -> Result<(), FileE
         &THREW,
     )?;
     play(&rt, WAITS, 3, &WAITERS_WAKE, &[(1, 1), (2, 2)], &UNHELD)
+}
+
+#[test]
+fn shadows_with_the_monitor_of_a_class_do_too(rt: HostRuntime) -> Result<(), FileError> {
+    play(
+        &rt,
+        CLASS_LOCKS,
+        2,
+        &CLASS_MONITOR,
+        &[(0, 4), (0, 3)],
+        &RETURNED,
+    )
 }

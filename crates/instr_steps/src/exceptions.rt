@@ -1,6 +1,6 @@
 //! Exceptions (JVMS 2.10): the first handler row that catches, or the frame ends.
 
-ghost use Rattle.std.specs.Prelude.{◌≡◌, ◌<◌, ◌∷◌, [], drop, option_map, IsSome};
+ghost use Rattle.std.specs.Prelude.{◌≡◌, ◌<◌, ◌∷◌, [], drop, option_map, IsSome, None};
 ghost use Rattle.jvm_types.specs.Verifying.{covers};
 ghost use Rattle.machine_types.specs.Frames.{catches, caught, handler_of, handler_at};
 ghost use Rattle.machine_types.specs.Going.{goes_on};
@@ -13,7 +13,7 @@ use crate::places::Place;
 use checked_program::Checked;
 use code_table::is_subclass;
 use frames::{ThreadState, runs};
-use heap_words::class_of;
+use heap_words::{class_of, monitor_of};
 use jvm_types::flags::is_synchronized;
 use jvm_types::{End, Row, Thrown};
 use machine_types::{After, Phase};
@@ -67,24 +67,36 @@ pub fn unwind(s: &mut ThreadState, x: u32, class: Thrown)
     }
 }
 
-/// The exception is handed to the top frame: a handler catches it, or the frame ends by it, a
-/// synchronized method's when it has left its monitor.
+/// The top frame ends by an exception that none of its rows catches, a synchronized method's when
+/// it has left its monitor.
+fn end_by(s: &mut ThreadState, p: &Checked, place: &Place, x: u32, class: Thrown)
+    requires program { p.now ≡ s.old.program }
+    requires stands { IsTopAt p.now.program s.old.frames place.now }
+    requires receiver { (top s.old.frames).receiver < 4294967296 }
+    ensures { s.new ≡ goes_on s.old
+        (handed p.now.program x class (at_place s.old.frames place.now) None) }
+{
+    if is_synchronized(place.method().flags) {
+        let monitor = monitor_of(p, place.method(), u64::from(s.receiver())) as u32;
+        s.set_phase(Phase::Leave(monitor, After::Unwind(x, class)));
+    } else {
+        unwind(s, x, class);
+    }
+}
+
+/// The exception is handed to the top frame: a handler catches it, or the frame ends by it.
 pub fn hand(s: &mut ThreadState, p: &Checked, place: &Place, x: u32, class: Thrown)
     requires program { p.now ≡ s.old.program }
     requires stands { IsTopAt p.now.program s.old.frames place.now }
     requires receiver { (top s.old.frames).receiver < 4294967296 }
     requires room { IsSome (handler_at (class_of class) (at_place s.old.frames place.now))
         → 0 < place.now.method.max_stack }
-    ensures { s.new ≡ goes_on s.old (handed x class (at_place s.old.frames place.now)
+    ensures { s.new ≡ goes_on s.old (handed p.now.program x class (at_place s.old.frames place.now)
         (handler_at (class_of class) (at_place s.old.frames place.now))) }
 {
     let m = place.method();
     match handler(s.pc(), class_of(class), m.rows.as_slice()) {
         Some(to) => go_to_handler(s, p, place, x, to),
-        None if is_synchronized(m.flags) => {
-            let monitor = s.receiver();
-            s.set_phase(Phase::Leave(monitor, After::Unwind(x, class)));
-        }
-        None => unwind(s, x, class),
+        None => end_by(s, p, place, x, class),
     }
 }

@@ -162,7 +162,14 @@ same_field = refl
 long_field : link_fault (class 2 4 0 (field 0 ∷ record { flags = 0; name = 26; descriptor = 47; attrs = [] } ∷ []) [] ∷ []) [] 65536 0 ≡ Some (L1, in_file 0 1)
 long_field = refl
 
-static_synchronized : link_fault (class 2 4 0 [] (coded 0 5 6 [] ∷ coded 40 49 6 [] ∷ []) ∷ []) ([] ∷ [] ∷ []) 65536 0 ≡ Some (L9, in_method 0 1 0)
+synchronized_init : link_fault (class 2 4 0 [] (coded 8 26 6 [] ∷ coded 40 5 6 [] ∷ []) ∷ []) ([] ∷ [] ∷ []) 65536 0 ≡ Some (L9, in_method 0 1 0)
+synchronized_init = refl
+
+synchronized_clinit : link_fault (class 2 4 0 [] (coded 8 5 6 [] ∷ []) ∷ class 32 4 0 [] (coded 40 48 6 [] ∷ []) ∷ []) ([] ∷ [] ∷ []) 65536 0 ≡ Some (L9, in_method 1 0 0)
+synchronized_clinit = refl
+
+-- `run()V`, another method, and the `init()V` of another class begin nothing
+static_synchronized : link_fault (class 2 4 0 [] (coded 8 5 6 [] ∷ coded 40 49 6 [] ∷ coded 40 26 6 [] ∷ []) ∷ class 32 4 0 [] (coded 40 5 6 [] ∷ []) ∷ []) ([] ∷ [] ∷ [] ∷ [] ∷ []) 65536 0 ≡ None
 static_synchronized = refl
 
 -- ---- the fourth and the fifth pass

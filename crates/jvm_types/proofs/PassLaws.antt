@@ -8,8 +8,8 @@ use Rattle.std.proofs.lemmas.Bool.{or_parts, ne_eqb, and_left}
 use Rattle.jvm_types.proofs.EachAfter.{EachAfter, each_append, all_append, all_weaker}
 use Rattle.jvm_types.specs.ClassNames.{text_at, class_name, class_names, file_class}
 use Rattle.jvm_types.specs.Descriptors.{method_signature}
-use Rattle.jvm_types.specs.Members.{is_static, is_synchronized, Declared, class_of_declared, name_of, descriptor_of, declared_from, declared_by, declared_methods, first_rule}
-use Rattle.jvm_types.specs.LinkFaults.{LinkFault, first_fault, first_from, rule_at_place, in_file, in_method, is_outside, is_taken, class_link_fault, class_pass, is_repeated, field_fault, method_fault, members_fault, member_pass}
+use Rattle.jvm_types.specs.Members.{Declared, class_of_declared, name_of, descriptor_of, declared_from, declared_by, declared_methods, first_rule}
+use Rattle.jvm_types.specs.LinkFaults.{LinkFault, first_fault, first_from, rule_at_place, in_file, in_method, is_outside, is_taken, class_link_fault, class_pass, is_repeated, is_synchronized_root, field_fault, method_fault, members_fault, member_pass}
 use Rattle.jvm_types.specs.declared.class_file.Constant.{Constant}
 use Rattle.jvm_types.specs.declared.class_file.Member.{Member as ClassMember}
 use Rattle.jvm_types.specs.declared.class_file.ClassFile.{ClassFile}
@@ -102,7 +102,7 @@ pub record DeclaredFits (names : List (List ℕ)) (before : List Declared) (d : 
   pub ordered : AllByRecursion (λ e. e.file ≤ d.file) before
   pub distinct : AllByRecursion (λ e. is_same_declared e d ≡ false) before
   pub described : is_none (method_signature names (descriptor_of d)) ≡ false
-  pub unsynchronized : is_static d.member.flags && is_synchronized d.member.flags ≡ false
+  pub unsynchronized : is_synchronized_root (class_of_declared d) (name_of d) (descriptor_of d) d.member.flags ≡ false
 
 -- the members of a class are all different
 unrepeated : (pool : List Constant) (file place number : ℕ) (m : ClassMember) (earlier : List ClassMember)
@@ -123,9 +123,9 @@ elsewhere file d f (e ∷ before) h =
     (and_left (class_of_declared e == class_of_declared d) _ (ne_eqb (class_of_declared e) (class_of_declared d) (λ same. omega (arith, same, h.0, f))), elsewhere file d f before h.1)
 
 described_as : (names : List (List ℕ)) (file : ℕ) (c : ClassFile) (number : ℕ) (m : ClassMember) → method_fault names file c number m ≡ None
-    → (is_none (method_signature names (text_at c.constants m.descriptor)) ≡ false) × (is_repeated c.constants (take number c.methods) m ≡ false) × (is_static m.flags && is_synchronized m.flags ≡ false)
+    → (is_none (method_signature names (text_at c.constants m.descriptor)) ≡ false) × (is_repeated c.constants (take number c.methods) m ≡ false) × (is_synchronized_root (file_class file) (text_at c.constants m.name) (text_at c.constants m.descriptor) m.flags ≡ false)
 described_as names file c number m e =
-    three_untested (is_none (method_signature names (text_at c.constants m.descriptor))) (is_repeated c.constants (take number c.methods) m) (is_static m.flags && is_synchronized m.flags) L1 L5 L9 (no_rule (in_method file number 0) _ e)
+    three_untested (is_none (method_signature names (text_at c.constants m.descriptor))) (is_repeated c.constants (take number c.methods) m) (is_synchronized_root (file_class file) (text_at c.constants m.name) (text_at c.constants m.descriptor) m.flags) L1 L5 L9 (no_rule (in_method file number 0) _ e)
 
 same_file : (file : ℕ) (pool : List Constant) (number : ℕ) (ms : List ClassMember) → AllByRecursion (λ d. d.file ≡ file) (declared_from file pool number ms)
 same_file file pool number [] = tt

@@ -1,5 +1,5 @@
 -- The classes of a program by their names (JVMS 4.2, 4.4.1): which names there are, and the number that each class has.
-use Rattle.std.specs.Prelude.{ℕ, bytes_eq, ◌+◌, nat_lt, nat_le, ◌==◌, Bool, ◌&&◌, ◌||◌, not, List, [], ◌∷◌, map, Option, Some, slice_get, codes, if◌then◌else◌}
+use Rattle.std.specs.Prelude.{ℕ, bytes_eq, ◌+◌, ◌-◌, nat_lt, nat_le, ◌==◌, Bool, ◌&&◌, ◌||◌, not, List, [], ◌∷◌, map, Option, Some, slice_get, codes, if◌then◌else◌}
 use Rattle.std.specs.Option.{option_or}
 use Rattle.std.specs.List.{list_any, position_from}
 use Rattle.jvm_types.specs.declared.class_file.Constant.{Constant}
@@ -53,6 +53,10 @@ system_name = codes "java/lang/System"
 -- the class of a file, by the number of the file from 0
 abbrev pub file_class : ℕ → ℕ
 file_class file = FIRST_FILE_CLASS + file
+
+-- the file of such a class
+abbrev pub file_of_class : ℕ → ℕ
+file_of_class class = class - FIRST_FILE_CLASS
 
 -- the number of a class by its name, among the built-in classes and those of the files
 abbrev pub class_number : List (List ℕ) → List ℕ → Option ℕ

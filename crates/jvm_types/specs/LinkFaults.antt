@@ -71,6 +71,16 @@ class_link_fault names file c = rule_at_place (in_file file 0) (first_rule (
 abbrev pub class_pass : List ClassFile → Option LinkFault
 class_pass files = first_from (class_link_fault (class_names files)) 0 files
 
+-- ---- the methods that the machine begins with (JVMS 2.9, 5.5; `init`, `run` and `done` are its own)
+
+-- the methods that start a part of the entry class, which is the class of the first file
+abbrev pub is_run : (name descriptor : List ℕ) → Bool
+is_run name descriptor = bytes_eq name (codes "run") && bytes_eq descriptor (codes "(I)V")
+
+abbrev pub is_entry : (name descriptor : List ℕ) → Bool
+is_entry name descriptor = is_run name descriptor
+    || (bytes_eq descriptor (codes "()V") && (bytes_eq name (codes "init") || bytes_eq name (codes "done")))
+
 -- ---- second pass, file by file: its fields, then its methods (JVMS 4.3, 4.5, 4.6)
 
 -- a member with the name and the descriptor of one before it in its class
@@ -82,12 +92,17 @@ field_fault names file c number m = rule_at_place (in_file file number) (first_r
     (is_none (field_kind names (text_at c.constants m.descriptor)), L1)
     ∷ (is_repeated c.constants (take number c.fields) m, L5) ∷ []))
 
--- a static method may not be synchronized; in the standard it may, on its class
+-- no thread holds the monitor of a class when a part begins: a method that begins one may not be both static and
+-- synchronized; in the standard it may
+abbrev pub is_synchronized_root : (class : ℕ) (name descriptor : List ℕ) (flags : ℕ) → Bool
+is_synchronized_root class name descriptor flags =
+    is_static flags && is_synchronized flags && (is_class_init_name name || ((class == file_class 0) && is_entry name descriptor))
+
 abbrev pub method_fault : List (List ℕ) → (file : ℕ) → ClassFile → (number : ℕ) → ClassMember → Option LinkFault
 method_fault names file c number m = rule_at_place (in_method file number 0) (first_rule (
     (is_none (method_signature names (text_at c.constants m.descriptor)), L1)
     ∷ (is_repeated c.constants (take number c.methods) m, L5)
-    ∷ (is_static m.flags && is_synchronized m.flags, L9) ∷ []))
+    ∷ (is_synchronized_root (file_class file) (text_at c.constants m.name) (text_at c.constants m.descriptor) m.flags, L9) ∷ []))
 
 abbrev pub members_fault : List (List ℕ) → (file : ℕ) → ClassFile → Option LinkFault
 members_fault names file c = option_or (first_from (field_fault names file c) 0 c.fields) (first_from (method_fault names file c) 0 c.methods)
@@ -109,15 +124,7 @@ uses_fault s m = option_or (first_fault (map (insn_fault s m.0) m.1)) (first_fau
 abbrev pub use_pass : List ClassFile → List (List Insn) → Option LinkFault
 use_pass files code = first_fault (map (uses_fault (scope_of files)) (coded_methods files code))
 
--- ---- fourth pass: the methods that the machine begins with (JVMS 2.9, 5.5; `init`, `run` and `done` are its own)
-
--- the methods that start a part of the entry class, which is the class of the first file
-abbrev pub is_run : (name descriptor : List ℕ) → Bool
-is_run name descriptor = bytes_eq name (codes "run") && bytes_eq descriptor (codes "(I)V")
-
-abbrev pub is_entry : (name descriptor : List ℕ) → Bool
-is_entry name descriptor = is_run name descriptor
-    || (bytes_eq descriptor (codes "()V") && (bytes_eq name (codes "init") || bytes_eq name (codes "done")))
+-- ---- fourth pass: the methods that the machine begins with
 
 -- a `<clinit>` that is not the static one without arguments, or an entry of the entry class that is not static; the standard
 -- lets other methods named `<clinit>` stand, of no consequence (JVMS 2.9)

@@ -5,11 +5,11 @@ use Rattle.std.specs.List.{AllByRecursion, AllZip, count_by, sum_by, list_any}
 use Rattle.std.specs.Int.{w32}
 use Rattle.jvm_types.specs.ClassNames.{file_class, is_class, can_be_made, has_built_in_init}
 use Rattle.jvm_types.specs.Descriptors.{method_signature}
-use Rattle.jvm_types.specs.Members.{is_static, is_synchronized, MethodSite, field_rule, call_rule}
+use Rattle.jvm_types.specs.Members.{is_static, MethodSite, field_rule, call_rule}
 use Rattle.jvm_types.specs.declared.call.Call.{Call}
 use Rattle.jvm_types.specs.declared.call.Call.TheVariants.{Virtual, Special, Static}
 use Rattle.jvm_types.specs.Layout.{kept_int}
-use Rattle.jvm_types.specs.LinkFaults.{is_taken, is_run, is_wrong_root}
+use Rattle.jvm_types.specs.LinkFaults.{is_taken, is_run, is_wrong_root, is_synchronized_root}
 use Rattle.jvm_types.specs.CodeGrammar.{IsCode}
 use Rattle.jvm_types.specs.declared.class_file.Handler.{Handler}
 use Rattle.jvm_types.specs.declared.code.Op.{Op}
@@ -154,7 +154,7 @@ pub record IsMethodOf (p : Program) (before : List MethodInfo) (m : MethodInfo) 
   pub targets : AllZip (λ insn target. IsTargetOf p (site_in m) insn.op target) m.code m.targets
   pub caught : AllByRecursion (λ r. IsCaught p r.catch_class) m.rows
   pub root : is_wrong_root m.class m.name m.descriptor m.flags ≡ false
-  pub unsynchronized : is_static m.flags && is_synchronized m.flags ≡ false
+  pub unsynchronized : is_synchronized_root m.class m.name m.descriptor m.flags ≡ false
 
 -- ---- the whole
 

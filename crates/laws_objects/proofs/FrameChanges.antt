@@ -101,11 +101,11 @@ abbrev OnwardGoes : Program → List Frame → Onward → Type 0
 OnwardGoes p fs o = Stay fs (frames_in o) ⊎ IsBack p fs o
 
 module _ (p : Program) (at : Top) where
-  entered_goes : (m : MethodInfo) (g : Frame) (b : Bool) → Stay (frames_of at) (frames_in (if b then Entering (monitor_of m g) (g ∷ waiting p at) else Running (g ∷ waiting p at)))
+  entered_goes : (m : MethodInfo) (g : Frame) (b : Bool) → Stay (frames_of at) (frames_in (if b then Entering (monitor_of p m g) (g ∷ waiting p at) else Running (g ∷ waiting p at)))
   entered_goes m g true = above at.frame (taken_from p at) g at.below (refl, refl)
   entered_goes m g false = above at.frame (taken_from p at) g at.below (refl, refl)
 
-  called_goes : (number : ℕ) (m : MethodInfo) (b : Bool) → Stay (frames_of at) (frames_in (if b then entered m (entry_frame number m (arguments_of p at)) (waiting p at) else threw thrown.StackOverflowError at))
+  called_goes : (number : ℕ) (m : MethodInfo) (b : Bool) → Stay (frames_of at) (frames_in (if b then entered p m (entry_frame number m (arguments_of p at)) (waiting p at) else threw thrown.StackOverflowError at))
   called_goes number m true = entered_goes m (entry_frame number m (arguments_of p at)) (is_synchronized m.flags)
   called_goes number m false = stay_same (frames_of at)
 
@@ -117,7 +117,7 @@ module _ (p : Program) (at : Top) where
   Done None = Unit {0}
   Done (Some o) = OnwardGoes p (frames_of at) o
 
-  returns_goes : (top : top_of p (frames_of at) ≡ Some at) (b : Bool) → OnwardGoes p (frames_of at) (if b then Leaving (monitor_of at.method at.frame) afters.Return (frames_of at) else back (returned p at))
+  returns_goes : (top : top_of p (frames_of at) ≡ Some at) (b : Bool) → OnwardGoes p (frames_of at) (if b then Leaving (monitor_of p at.method at.frame) afters.Return (frames_of at) else back (returned p at))
   returns_goes top true = inl (stay_same (frames_of at))
   returns_goes top false = inr (at, top, refl)
 
@@ -149,12 +149,12 @@ module _ (p : Program) (at : Top) where
   instruction_goes top Stuck got = tt
 
   -- an exception
-  handed_goes : (x : ℕ) (class : Thrown) (o : Option Row) → Stay (frames_of at) (frames_in (handed x class at o)) ⊎ IsAway x class (frames_of at) (handed x class at o)
+  handed_goes : (x : ℕ) (class : Thrown) (o : Option Row) → Stay (frames_of at) (frames_in (handed p x class at o)) ⊎ IsAway x class (frames_of at) (handed p x class at o)
   handed_goes x class (Some r) = inl (in_place at.frame _ at.below (refl, refl))
   handed_goes x class None = by_flag (is_synchronized at.method.flags)
     where
-      by_flag : (b : Bool) → Stay (frames_of at) (frames_in (if b then Leaving (monitor_of at.method at.frame) (afters.Unwind x class) (frames_of at) else unwound x class at.below))
-          ⊎ IsAway x class (frames_of at) (if b then Leaving (monitor_of at.method at.frame) (afters.Unwind x class) (frames_of at) else unwound x class at.below)
+      by_flag : (b : Bool) → Stay (frames_of at) (frames_in (if b then Leaving (monitor_of p at.method at.frame) (afters.Unwind x class) (frames_of at) else unwound x class at.below))
+          ⊎ IsAway x class (frames_of at) (if b then Leaving (monitor_of p at.method at.frame) (afters.Unwind x class) (frames_of at) else unwound x class at.below)
       by_flag true = inl (stay_same (frames_of at))
       by_flag false = inr (at.frame, at.below, refl, refl)
 
@@ -330,14 +330,14 @@ module _ (c : MarkedProgram) (was : Phase) (x : Thread) where
         (subst (λ (fs : List Frame). Stay fs (record f { stack = v ∷ f.stack } ∷ below)) (sym e) (in_place f (record f { stack = v ∷ f.stack }) below (refl, refl)))
         (λ b l m. put_back_top b f (record f { stack = v ∷ f.stack }) below (base_below b f below m) ∙ ap (put_back b) (sym e))
 
-    throws_on : (v : ℕ) (class : Thrown) → Carries was x.frames v → (at : Top) → top_of c.program x.frames ≡ Some at → Go (goes_on s (handed v class at (handler_at (class_of class) at)))
+    throws_on : (v : ℕ) (class : Thrown) → Carries was x.frames v → (at : Top) → top_of c.program x.frames ≡ Some at → Go (goes_on s (handed c.program v class at (handler_at (class_of class) at)))
     throws_on v class carried at top = by_row (handed_goes c.program at v class (handler_at (class_of class) at))
       where
-        entry : (a : Attempt) → KeepsEntry a x.frames (handed v class at (handler_at (class_of class) at))
-        entry a = throws_kept c.program x.frames a v class (handed v class at (handler_at (class_of class) at)) (ap (option_map (λ at. handed v class at (handler_at (class_of class) at))) top)
+        entry : (a : Attempt) → KeepsEntry a x.frames (handed c.program v class at (handler_at (class_of class) at))
+        entry a = throws_kept c.program x.frames a v class (handed c.program v class at (handler_at (class_of class) at)) (ap (option_map (λ at. handed c.program v class at (handler_at (class_of class) at))) top)
 
-        by_row : Stay (frames_of at) (frames_in (handed v class at (handler_at (class_of class) at))) ⊎ IsAway v class (frames_of at) (handed v class at (handler_at (class_of class) at)) → Go (goes_on s (handed v class at (handler_at (class_of class) at)))
-        by_row (inl stay) = onward at top (handed v class at (handler_at (class_of class) at)) (inl stay) entry
+        by_row : Stay (frames_of at) (frames_in (handed c.program v class at (handler_at (class_of class) at))) ⊎ IsAway v class (frames_of at) (handed c.program v class at (handler_at (class_of class) at)) → Go (goes_on s (handed c.program v class at (handler_at (class_of class) at)))
+        by_row (inl stay) = onward at top (handed c.program v class at (handler_at (class_of class) at)) (inl stay) entry
         by_row (inr away) = inr (inr (inl (record {
           frame = away.0;
           below = away.1;
@@ -346,7 +346,7 @@ module _ (c : MarkedProgram) (was : Phase) (x : Thread) where
           thrown = v;
           class = class;
           is = ap (goes_on s) away.3;
-          tries = tries_on s stood (handed v class at (handler_at (class_of class) at)) entry;
+          tries = tries_on s stood (handed c.program v class at (handler_at (class_of class) at)) entry;
           known = λ w next t k. k;
           carries = carried;
         })))

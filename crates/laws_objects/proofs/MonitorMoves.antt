@@ -201,11 +201,11 @@ module _ (c : MarkedProgram) (marked : IsMarked c) (frozen : ℕ → Bool) (are 
     goes_outside : (o : Onward) → x.attempt ≡ None → StaysStructured c was (goes_on s o) → IfKeeps c frozen k.now next t (Some o) → Goal (goes_on s o)
     goes_outside o none stands keeps = goes_if s (Some o) refl refl (from_same x.attempt) held stands (never (Some o) none) keeps
 
-    pub throws_as : (v : ℕ) (class : outcomes.Thrown) (at : Top) → top_of c.program x.frames ≡ Some at → was ≡ phases.Throw v class → StaysStructured c was (goes_on s (handed v class at (handler_at (class_of class) at))) → Goal (goes_on s (handed v class at (handler_at (class_of class) at)))
+    pub throws_as : (v : ℕ) (class : outcomes.Thrown) (at : Top) → top_of c.program x.frames ≡ Some at → was ≡ phases.Throw v class → StaysStructured c was (goes_on s (handed c.program v class at (handler_at (class_of class) at))) → Goal (goes_on s (handed c.program v class at (handler_at (class_of class) at)))
     throws_as v class at top e stands =
-        goes_if s (Some (handed v class at (handler_at (class_of class) at))) refl refl (from_same x.attempt) held stands
-        (λ a onward some f. throws_kept c.program x.frames a v class onward (ap (option_map (λ at. handed v class at (handler_at (class_of class) at))) top ∙ f))
-        (subst (λ o. IfKeeps c frozen k.now next t (option_map (λ at. handed v class at (handler_at (class_of class) at)) o)) top
+        goes_if s (Some (handed c.program v class at (handler_at (class_of class) at))) refl refl (from_same x.attempt) held stands
+        (λ a onward some f. throws_kept c.program x.frames a v class onward (ap (option_map (λ at. handed c.program v class at (handler_at (class_of class) at))) top ∙ f))
+        (subst (λ o. IfKeeps c frozen k.now next t (option_map (λ at. handed c.program v class at (handler_at (class_of class) at)) o)) top
         (dispatches c marked frozen are k.now next t now_is v class x.frames (fits (phases.Throw v class) e).1 (fits (phases.Throw v class) e).0 (at_phase (phases.Throw v class) e).phase_shows))
 
     pub element_as : (word : ℕ) (stored : Option ℕ) (value : ℕ) (at : Top) → top_of c.program x.frames ≡ Some at → was ≡ phases.Element word stored → x.attempt ≡ None → StaysStructured c was (goes_on s (Running (went_on c.program at value))) → Goal (goes_on s (Running (went_on c.program at value)))

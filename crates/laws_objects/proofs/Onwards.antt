@@ -3,8 +3,9 @@ use Rattle.std.proofs.Common.{◌≡◌, ◌≢◌, ℕ, ◌<◌, Bool, true, fa
 use Rattle.std.specs.Prelude.{slice_get, option_map, reverse, take, if◌then◌else◌}
 use Rattle.std.specs.List.{AllByRecursion}
 use Rattle.lists.proofs.ListLaws.{same_some}
+use Rattle.jvm_types.specs.ClassNames.{file_of_class}
 use Rattle.jvm_types.specs.CodeTable.{can_throw, row}
-use Rattle.jvm_types.specs.Members.{MethodSite, is_synchronized}
+use Rattle.jvm_types.specs.Members.{MethodSite, is_static, is_synchronized}
 use Rattle.jvm_types.specs.ProgramInvariant.{words_of, site_in}
 use Rattle.jvm_types.specs.Verifying.{edges, is_return}
 use Rattle.jvm_types.specs.declared.code.Op.{Op}
@@ -36,10 +37,11 @@ use Rattle.machine_types.specs.Standing.{Standing, row_at}
 use Rattle.machine_types.specs.Structure.{TopIs, AfterShows, operands_after}
 use Rattle.machine_types.specs.Threads.{Frame}
 use Rattle.machine_types.specs.Typed.{Classes}
-use Rattle.machine_types.specs.Words.{header_class, header_length}
+use Rattle.machine_types.specs.Words.{header_class, header_length, class_object}
 use Rattle.machine_types.specs.Worlds.{Begun, Builder, builder, World, IsFinished, IsOwnOrFinished, IsWorld, GoesOn}
 use Rattle.machine_types.specs.declared.phase.After.{After}
 use Rattle.machine_types.specs.declared.phase.After.TheVariants.{Next, Return, Unwind}
+use Rattle.machine_types.proofs.ClassObjects.{class_object_below}
 use Rattle.laws_threads.specs.Allowed.{OneOf, IsNamedField, IsByMachine, Allowed}
 use Rattle.laws_threads.proofs.Landing.{stand_top, rules_at}
 use Rattle.laws_threads.proofs.Standings.{top_here}
@@ -111,6 +113,19 @@ module _ (c : MarkedProgram) (marked : IsMarked c) (frozen : ℕ → Bool) (are 
   receiver_known h true v e = (inside v (builder t h Begun) e, λ b g. (let same : builder t h Begun ≡ b = cc in ap (λ (x : Builder). x.thread) (sym same)))
   receiver_known h false v o = finished_known w next t v o
 
+  -- the monitor of a synchronized method: that of its receiver, or of its class
+  class_finished : (number : ℕ) (m : MethodInfo) → slice_get c.program.methods number ≡ Some m → IsFinished w next (class_object c.program (file_of_class m.class))
+  class_finished number m there =
+      let class = (marked.checked.program.methods number m there).class in
+      first_finished w (words_of c.program) next (class_object c.program (file_of_class m.class)) is_world (class_object_below c.program (file_of_class m.class) (omega (arith, class.0, class.1)))
+
+  monitor_known : (h number : ℕ) (own : Bool) (m : MethodInfo) (f : Frame) → slice_get c.program.methods number ≡ Some m → ReceiverIs w next t h own f.receiver → IsOwnOrFinished w next t (monitor_of c.program m f)
+  monitor_known h number own m f there e = by_static (is_static m.flags)
+    where
+      by_static : (b : Bool) → IsOwnOrFinished w next t (if b then class_object c.program (file_of_class m.class) else f.receiver)
+      by_static true = finished_known w next t (class_object c.program (file_of_class m.class)) (class_finished number m there)
+      by_static false = receiver_known h own f.receiver e
+
   -- ---- exceptions
 
   pub ends_above : (x : ℕ) (class : Thrown) (f : Frame) (fs : List Frame) → IsFinished w next x → KeepBelow c frozen w next t f fs → OnwardKeeps c frozen w next t (unwound x class fs)
@@ -118,12 +133,12 @@ module _ (c : MarkedProgram) (marked : IsMarked c) (frozen : ℕ → Bool) (are 
   ends_above x class f (g ∷ gs) old b = (old, frames_unwound c frozen w next t f (g ∷ gs) b)
 
   hands : (x : ℕ) (class : Thrown) (f : Frame) (fs : List Frame) (k : FrameKeeps c frozen w next t (length fs) Loose f) → KeepBelow c frozen w next t f fs → IsFinished w next x → can_throw k.stands.insn.op ≡ true
-      → (o : Option Row) → handler_of f.pc (class_of class) k.stands.method.rows ≡ o → OnwardKeeps c frozen w next t (handed x class (top_here c f fs k.stands) o)
+      → (o : Option Row) → handler_of f.pc (class_of class) k.stands.method.rows ≡ o → OnwardKeeps c frozen w next t (handed c.program x class (top_here c f fs k.stands) o)
   hands x class f fs k b old throws (Some r) e = (handled c marked frozen are w next t (length fs) null f k x (class_of class) r throws old e, below_moved c frozen w next t f r.handler (x ∷ []) f.locals fs b)
   hands x class f fs k b old throws None e = by_flag (is_synchronized k.stands.method.flags)
     where
-      by_flag : (s : Bool) → OnwardKeeps c frozen w next t (if s then Leaving (monitor_of k.stands.method f) (Unwind x class) (f ∷ fs) else unwound x class fs)
-      by_flag true = (receiver_known (length fs) (builds frozen k.stands.method) f.receiver k.receiver, old, (k, b))
+      by_flag : (s : Bool) → OnwardKeeps c frozen w next t (if s then Leaving (monitor_of c.program k.stands.method f) (Unwind x class) (f ∷ fs) else unwound x class fs)
+      by_flag true = (monitor_known (length fs) f.method (builds frozen k.stands.method) k.stands.method f k.stands.at.in_program k.receiver, old, (k, b))
       by_flag false = ends_above x class f fs old b
 
   -- two places of a frame are one
@@ -135,8 +150,8 @@ module _ (c : MarkedProgram) (marked : IsMarked c) (frozen : ℕ → Bool) (are 
   pub dispatches : (x : ℕ) (class : Thrown) (fs : List Frame) → IsFinished w next x → FramesKeep c frozen w next t Loose fs → TopIs c can_throw fs → IfKeeps c frozen w next t (dispatched c.program x class fs)
   dispatches x class [] old k top = absurd top
   dispatches x class (f ∷ fs) old k top =
-      subst (λ o. IfKeeps c frozen w next t (option_map (λ at. handed x class at (handler_at (class_of class) at)) o)) (sym (stand_top c marked f fs k.0.stands))
-      (stays w next t (λ z. OnwardKeeps c frozen z next t (handed x class (top_here c f fs k.0.stands) (handler_of f.pc (class_of class) k.0.stands.method.rows)))
+      subst (λ o. IfKeeps c frozen w next t (option_map (λ at. handed c.program x class at (handler_at (class_of class) at)) o)) (sym (stand_top c marked f fs k.0.stands))
+      (stays w next t (λ z. OnwardKeeps c frozen z next t (handed c.program x class (top_here c f fs k.0.stands) (handler_of f.pc (class_of class) k.0.stands.method.rows)))
       (hands x class f fs k.0 k.1 old (ap can_throw (same_op f k.0.stands top.0) ∙ top.1) (handler_of f.pc (class_of class) k.0.stands.method.rows) refl))
 
   -- ---- returns
@@ -153,8 +168,8 @@ module _ (c : MarkedProgram) (marked : IsMarked c) (frozen : ℕ → Bool) (are 
       → Steps w next t (λ z. OnwardKeeps c frozen z next t (returns c.program (top_here c f fs k.stands)))
   goes_out f fs k b r = by_flag (is_synchronized k.stands.method.flags)
     where
-      by_flag : (s : Bool) → Steps w next t (λ z. OnwardKeeps c frozen z next t (if s then Leaving (monitor_of k.stands.method f) Return (f ∷ fs) else back (returned c.program (top_here c f fs k.stands))))
-      by_flag true = stays w next t (λ z. OnwardKeeps c frozen z next t (Leaving (monitor_of k.stands.method f) Return (f ∷ fs))) (receiver_known (length fs) (builds frozen k.stands.method) f.receiver k.receiver, tt, (k, b))
+      by_flag : (s : Bool) → Steps w next t (λ z. OnwardKeeps c frozen z next t (if s then Leaving (monitor_of c.program k.stands.method f) Return (f ∷ fs) else back (returned c.program (top_here c f fs k.stands))))
+      by_flag true = stays w next t (λ z. OnwardKeeps c frozen z next t (Leaving (monitor_of c.program k.stands.method f) Return (f ∷ fs))) (monitor_known (length fs) f.method (builds frozen k.stands.method) k.stands.method f k.stands.at.in_program k.receiver, tt, (k, b))
       by_flag false = goes_below f fs k b r
 
   -- ---- when a monitor was left
@@ -222,6 +237,9 @@ module _ (c : MarkedProgram) (marked : IsMarked c) (frozen : ℕ → Bool) (are 
         (getfield_names c.program (site_in k.stands.method) k.stands.insn.pc k.stands.target k.stands.insn.op r (rules_at c marked f k.stands).has_row)
         (λ get. takes_old c marked frozen are w next t (length fs) f k null get)
 
+    known_on : (m : ℕ) (z : World) → GoesOn w z next next t 0 → IsFinished w next m → IsOwnOrFinished z next t m
+    known_on m z g old = finished_known z next t m (finished_on w z next next t g m old)
+
     -- a call
     calls_keep : (number : ℕ) (m : MethodInfo) → slice_get c.program.methods number ≡ Some m → called_method k.stands.insn.op k.stands.target ≡ Some number → Steps w next t (λ z. OnwardKeeps c frozen z next t (called c.program at number m))
     calls_keep number m there calls = by_room (has_room c.program (f ∷ fs) m)
@@ -229,14 +247,23 @@ module _ (c : MarkedProgram) (marked : IsMarked c) (frozen : ℕ → Bool) (are 
         args : List ℕ
         args = reverse (take (length r.takes) f.stack)
 
-        by_flag : (s : Bool) → Steps w next t (λ z. OnwardKeeps c frozen z next t (if s then Entering (entry_frame number m (arguments_of c.program at)).receiver (entry_frame number m (arguments_of c.program at) ∷ waiting c.program at)
-            else Running (entry_frame number m (arguments_of c.program at) ∷ waiting c.program at)))
-        by_flag true = steps_map w next t (CallKeeps c marked frozen are w next t null (words_of c.program) is_world f fs k b number m there calls (arguments_of c.program at)) (λ z. OnwardKeeps c frozen z next t (Entering (entry_frame number m (arguments_of c.program at)).receiver (entry_frame number m (arguments_of c.program at) ∷ waiting c.program at)))
-            (λ z g p. (p.1, p.0)) (calls_it c marked frozen are w next t null (words_of c.program) is_world f fs k b number m there calls)
+        entry : Frame
+        entry = entry_frame number m (arguments_of c.program at)
+
+        entry_known : (z : World) → GoesOn w z next next t 0 → IsOwnOrFinished z next t entry.receiver → IsOwnOrFinished z next t (monitor_of c.program m entry)
+        entry_known z g own = by_static (is_static m.flags)
+          where
+            by_static : (b : Bool) → IsOwnOrFinished z next t (if b then class_object c.program (file_of_class m.class) else entry.receiver)
+            by_static true = known_on (class_object c.program (file_of_class m.class)) z g (class_finished number m there)
+            by_static false = own
+
+        by_flag : (s : Bool) → Steps w next t (λ z. OnwardKeeps c frozen z next t (if s then Entering (monitor_of c.program m entry) (entry ∷ waiting c.program at) else Running (entry ∷ waiting c.program at)))
+        by_flag true = steps_map w next t (CallKeeps c marked frozen are w next t null (words_of c.program) is_world f fs k b number m there calls (arguments_of c.program at)) (λ z. OnwardKeeps c frozen z next t (Entering (monitor_of c.program m entry) (entry ∷ waiting c.program at)))
+            (λ z g p. (entry_known z g p.1, p.0)) (calls_it c marked frozen are w next t null (words_of c.program) is_world f fs k b number m there calls)
         by_flag false = steps_map w next t (CallKeeps c marked frozen are w next t null (words_of c.program) is_world f fs k b number m there calls (arguments_of c.program at)) (λ z. OnwardKeeps c frozen z next t (Running (entry_frame number m (arguments_of c.program at) ∷ waiting c.program at)))
             (λ z g p. p.0) (calls_it c marked frozen are w next t null (words_of c.program) is_world f fs k b number m there calls)
 
-        by_room : (room : Bool) → Steps w next t (λ z. OnwardKeeps c frozen z next t (if room then entered m (entry_frame number m (arguments_of c.program at)) (waiting c.program at) else threw thrown.StackOverflowError at))
+        by_room : (room : Bool) → Steps w next t (λ z. OnwardKeeps c frozen z next t (if room then entered c.program m (entry_frame number m (arguments_of c.program at)) (waiting c.program at) else threw thrown.StackOverflowError at))
         by_room true = by_flag (is_synchronized m.flags)
         by_room false = stays w next t (λ z. OnwardKeeps c frozen z next t (threw thrown.StackOverflowError at)) (throws_it thrown.StackOverflowError tt)
 
@@ -255,9 +282,6 @@ module _ (c : MarkedProgram) (marked : IsMarked c) (frozen : ℕ → Bool) (are 
 
     abbrev AllowedAs : Classes → Effect → Type 0
     AllowedAs is e = Allowed c.program k.stands.method is k.stands.insn k.stands.target (row_at c f k.stands) f.stack e
-
-    known_on : (m : ℕ) (z : World) → GoesOn w z next next t 0 → IsFinished w next m → IsOwnOrFinished z next t m
-    known_on m z g old = finished_known z next t m (finished_on w z next next t g m old)
 
     pub does_it : (is : Classes) (e : Effect) (got : ℕ) → AllowedAs is e → Built (IsFinished w next) c.program k.stands.target r e → FoundOld is k.stands.target e got → IfKeeps c frozen w next t (done c.program at e got)
     does_it is (Goes to made) got a built found = runs_on to made a.0 built

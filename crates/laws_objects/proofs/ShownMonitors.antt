@@ -1,11 +1,12 @@
 -- Where an instruction begins outside attempts, the thread holds each monitor that its top frame shows: that of its receiver where
 -- a tag of `this` is held, and where the method is synchronized on it.
 use Rattle.std.proofs.Common.{◌≡◌, ◌⊎◌, inl, inr, ℕ, ◌+◌, ◌<◌, Bool, true, false, not, List, [], ◌∷◌, ◌++◌, map, Option, Some, None, refl, sym, subst, arith}
-use Rattle.std.specs.Prelude.{◌==◌, if◌then◌else◌}
+use Rattle.std.specs.Prelude.{◌==◌, ◌&&◌, if◌then◌else◌}
 use Rattle.std.specs.List.{list_any}
-use Rattle.std.proofs.lemmas.Bool.{and_parts}
+use Rattle.jvm_types.specs.ClassNames.{file_of_class}
 use Rattle.jvm_types.specs.Members.{is_static, is_synchronized}
 use Rattle.jvm_types.specs.declared.program.MethodInfo.{MethodInfo}
+use Rattle.jvm_types.specs.declared.program.Program.{Program}
 use Rattle.checked_program.specs.FrozenPlaces.{locks_this}
 use Rattle.checked_program.specs.LockTags.{TagShape, is_this}
 use Rattle.checked_program.specs.MarkedProgram.{MarkedProgram, IsMarked}
@@ -16,6 +17,7 @@ use Rattle.machine_types.specs.Shown.{tag_value, own_entry, shown_entries, Shows
 use Rattle.machine_types.specs.Standing.{Standing, Whole}
 use Rattle.machine_types.specs.Structure.{Stands, count_in, held_depth}
 use Rattle.machine_types.specs.Threads.{Frame}
+use Rattle.machine_types.specs.Words.{class_object}
 use Rattle.machine_types.specs.declared.lock.Held.{Held}
 use Rattle.machine_types.specs.declared.phase.Phase.TheVariants as phases
 use Rattle.laws_threads.proofs.HeldLists.{depth_none}
@@ -47,16 +49,17 @@ tag_counted choice receiver (This ∷ held) e = once_in receiver (map (tag_value
 tag_counted choice receiver (Untagged ∷ held) e = later_counted receiver 0 (map (tag_value choice receiver) held) (tag_counted choice receiver held e)
 tag_counted choice receiver (At pc ∷ held) e = later_counted receiver (choice pc) (map (tag_value choice receiver) held) (tag_counted choice receiver held e)
 
-method_counted : (m : MethodInfo) (f : Frame) → locks_this m ≡ true → 0 < count_in f.receiver (own_entry m f)
-method_counted m f e = by_flag (is_synchronized m.flags) (and_parts (is_synchronized m.flags) (not (is_static m.flags)) e).0
+method_counted : (p : Program) (m : MethodInfo) (f : Frame) → locks_this m ≡ true → 0 < count_in f.receiver (own_entry p m f)
+method_counted p m f e = by_flags (is_synchronized m.flags) (is_static m.flags) e
   where
-    by_flag : (b : Bool) → b ≡ true → 0 < count_in f.receiver (if b then f.receiver ∷ [] else [])
-    by_flag true e = once_in f.receiver []
-    by_flag false e = absurd (cc)
+    by_flags : (b s : Bool) → (b && not s) ≡ true → 0 < count_in f.receiver (if b then (if s then class_object p (file_of_class m.class) else f.receiver) ∷ [] else [])
+    by_flags true false e = once_in f.receiver []
+    by_flags true true e = absurd (cc)
+    by_flags false s e = absurd (cc)
 
-pub entries_counted : (choice : ℕ → ℕ) (m : MethodInfo) (tags : TagShape) (f : Frame) → (list_any is_this tags.held ≡ true) ⊎ (locks_this m ≡ true) → 0 < count_in f.receiver (shown_entries choice m tags f)
-entries_counted choice m tags f (inl e) = front_counted f.receiver (map (tag_value choice f.receiver) tags.held) (own_entry m f) (tag_counted choice f.receiver tags.held e)
-entries_counted choice m tags f (inr e) = back_counted f.receiver (map (tag_value choice f.receiver) tags.held) (own_entry m f) (method_counted m f e)
+pub entries_counted : (p : Program) (choice : ℕ → ℕ) (m : MethodInfo) (tags : TagShape) (f : Frame) → (list_any is_this tags.held ≡ true) ⊎ (locks_this m ≡ true) → 0 < count_in f.receiver (shown_entries p choice m tags f)
+entries_counted p choice m tags f (inl e) = front_counted f.receiver (map (tag_value choice f.receiver) tags.held) (own_entry p m f) (tag_counted choice f.receiver tags.held e)
+entries_counted p choice m tags f (inr e) = back_counted f.receiver (map (tag_value choice f.receiver) tags.held) (own_entry p m f) (method_counted p m f e)
 
 -- ---- what is shown is held
 
@@ -82,7 +85,7 @@ module _ (c : MarkedProgram) (marked : IsMarked c) where
           (subst (λ (tags : TagShape). (list_any is_this tags.held ≡ true) ⊎ (locks_this k.method ≡ true)) one.tags shows)
 
       own : 0 < count_in f.receiver stands.show.0
-      own = subst (λ (ns : List ℕ). 0 < count_in f.receiver ns) (sym top.shown_are) (entries_counted top.choice top.stands.method top.stands.tags f shows_there)
+      own = subst (λ (ns : List ℕ). 0 < count_in f.receiver ns) (sym top.shown_are) (entries_counted c.program top.choice top.stands.method top.stands.tags f shows_there)
 
       counted : 0 < count_in f.receiver stands.shown
       counted = subst (λ (ns : List ℕ). 0 < count_in f.receiver ns) (sym stands.show.2) (front_counted f.receiver stands.show.0 stands.show.1 own)

@@ -2,7 +2,7 @@
 use Rattle.std.proofs.Common.{◌≡◌, ℕ, suc, ◌<◌, ◌⊎◌, ⊎_elim, Bool, true, false, not, ◌&&◌, ◌||◌, List, [], ◌∷◌, take, Some, None, refl, sym, ap, ◌∙◌}
 use Rattle.std.specs.Prelude.{◌==◌, bytes_eq, codes, slice_get}
 use Rattle.std.specs.List.{list_any}
-use Rattle.std.proofs.lemmas.Bool.{and_from, and_parts, cases_order, eq-eqb, eqb-true, not-false, or_left, or_parts}
+use Rattle.std.proofs.lemmas.Bool.{and_from, and_parts, cases_order, eq-eqb, eqb-true, not-false, or_left, or_right, or_parts}
 use Rattle.std.proofs.lemmas.Slice.Eq.{bytes_eq-Decides}
 use Rattle.jvm_types.specs.ClassNames.{file_class}
 use Rattle.jvm_types.specs.Descriptors.{Signature, method_signature}
@@ -23,6 +23,11 @@ other_side : (a b : Bool) → (a || b) ≡ true → a ≡ false → b ≡ true
 other_side true b e h = absurd (cc)
 other_side false b e h = e
 
+middle_false : (a b c : Bool) → (a && b && c) ≡ false → a ≡ true → c ≡ true → b ≡ false
+middle_false true true c e h k = absurd (cc)
+middle_false true false c e h k = refl
+middle_false false b c e h k = absurd (cc)
+
 -- ---- descriptors
 
 no_arguments : (names : List (List ℕ)) → method_signature names (codes "()V") ≡ Some (record { args = []; result = None })
@@ -34,15 +39,19 @@ one_int names = refl
 signature_is : (s t : Signature) → Some s ≡ Some t → s ≡ t
 signature_is s t e = cc
 
+-- a method that begins a part
+abbrev begins : MethodInfo → Bool
+begins m = is_class_init_name m.name || ((m.class == file_class 0) && is_entry m.name m.descriptor)
+
 -- what a method of this descriptor takes
-root_of : (p : Program) (before : List MethodInfo) (m : MethodInfo) (text : List ℕ) (args : List Kind) → IsMethodOf p before m → is_static m.flags ≡ true → m.descriptor ≡ text
-    → method_signature p.names text ≡ Some (record { args = args; result = None }) → IsRoot m args
-root_of p before m text args is static e s =
+root_of : (p : Program) (before : List MethodInfo) (m : MethodInfo) (text : List ℕ) (args : List Kind) → IsMethodOf p before m → begins m ≡ true → is_static m.flags ≡ true
+    → m.descriptor ≡ text → method_signature p.names text ≡ Some (record { args = args; result = None }) → IsRoot m args
+root_of p before m text args is begin static e s =
     let same : record { args = m.args; result = m.result } ≡ record { args = args; result = None } =
     signature_is (record { args = m.args; result = m.result }) (record { args = args; result = None }) (sym is.described ∙ ap (method_signature p.names) e ∙ s) in
     record {
       static = static;
-      unsynchronized = second_false (is_static m.flags) (is_synchronized m.flags) is.unsynchronized static;
+      unsynchronized = middle_false (is_static m.flags) (is_synchronized m.flags) (begins m) is.unsynchronized static begin;
       args = ap (λ (x : Signature). x.args) same;
       result = ap (λ (x : Signature). x.result) same;
     }
@@ -55,7 +64,7 @@ class_inits p number m is e h =
     let right = second_false (is_class_init_name m.name) (not (is_static m.flags) || not (bytes_eq m.descriptor (codes "()V")))
     (or_parts (is_class_init_name m.name && (not (is_static m.flags) || not (bytes_eq m.descriptor (codes "()V")))) ((m.class == file_class 0) && is_entry m.name m.descriptor && not (is_static m.flags)) of.root).0 h in
     let parts = or_parts (not (is_static m.flags)) (not (bytes_eq m.descriptor (codes "()V"))) right in
-    root_of p (take number p.methods) m (codes "()V") [] of (not-false (is_static m.flags) parts.0) ((bytes_eq-Decides m.descriptor (codes "()V")).0 (not-false (bytes_eq m.descriptor (codes "()V")) parts.1)) (no_arguments p.names)
+    root_of p (take number p.methods) m (codes "()V") [] of (or_left (is_class_init_name m.name) _ h) (not-false (is_static m.flags) parts.0) ((bytes_eq-Decides m.descriptor (codes "()V")).0 (not-false (bytes_eq m.descriptor (codes "()V")) parts.1)) (no_arguments p.names)
 
 -- ---- an entry
 
@@ -70,17 +79,21 @@ entry_static p before m of class h = not-false (is_static m.flags)
     (or_parts (is_class_init_name m.name && (not (is_static m.flags) || not (bytes_eq m.descriptor (codes "()V")))) ((m.class == file_class 0) && is_entry m.name m.descriptor && not (is_static m.flags)) of.root).1
     (eq-eqb m.class (file_class 0) class) h)
 
+entry_begins : (m : MethodInfo) → m.class ≡ file_class 0 → is_entry m.name m.descriptor ≡ true → begins m ≡ true
+entry_begins m class h = or_right (is_class_init_name m.name) _ (and_from (m.class == file_class 0) (is_entry m.name m.descriptor) (eq-eqb m.class (file_class 0) class) h)
+
 pub entries : EntriesAreRoots
 entries p number m is e class h other =
     let of = is.methods number m e in
     let here = other_side (is_run m.name m.descriptor) (bytes_eq m.descriptor (codes "()V") && (bytes_eq m.name (codes "init") || bytes_eq m.name (codes "done"))) h other in
-    root_of p (take number p.methods) m (codes "()V") [] of (entry_static p (take number p.methods) m of class h)
+    root_of p (take number p.methods) m (codes "()V") [] of (entry_begins m class h) (entry_static p (take number p.methods) m of class h)
     ((bytes_eq-Decides m.descriptor (codes "()V")).0 (and_parts (bytes_eq m.descriptor (codes "()V")) (bytes_eq m.name (codes "init") || bytes_eq m.name (codes "done")) here).0) (no_arguments p.names)
 
 pub run_root : RunIsRoot
 run_root p number m is e class h =
     let of = is.methods number m e in
-    root_of p (take number p.methods) m (codes "(I)V") (Int ∷ []) of (entry_static p (take number p.methods) m of class (or_left (is_run m.name m.descriptor) _ h))
+    let begun : is_entry m.name m.descriptor ≡ true = or_left (is_run m.name m.descriptor) _ h in
+    root_of p (take number p.methods) m (codes "(I)V") (Int ∷ []) of (entry_begins m class begun) (entry_static p (take number p.methods) m of class begun)
     ((bytes_eq-Decides m.descriptor (codes "(I)V")).0 (and_parts (bytes_eq m.name (codes "run")) (bytes_eq m.descriptor (codes "(I)V")) h).1) (one_int p.names)
 
 -- ---- `run` is there

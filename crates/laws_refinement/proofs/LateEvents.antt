@@ -126,8 +126,8 @@ module _ (c : MarkedProgram) (marked : IsMarked c) (x : Thread) (a : Attempt) (t
     comes_back [] h = on RootReturned (omega (arith, left_behind))
     comes_back (f ∷ below) h = on (Running (f ∷ below)) h
 
-    gives_back : (b : Bool) → Lessens whole 1 (goes_on (begun x) (if b then Leaving (monitor_of at.method at.frame) Return (frames_of at) else back (returned c.program at)))
-    gives_back true = on (Leaving (monitor_of at.method at.frame) Return (frames_of at)) left_behind
+    gives_back : (b : Bool) → Lessens whole 1 (goes_on (begun x) (if b then Leaving (monitor_of c.program at.method at.frame) Return (frames_of at) else back (returned c.program at)))
+    gives_back true = on (Leaving (monitor_of c.program at.method at.frame) Return (frames_of at)) left_behind
     gives_back false = comes_back (returned c.program at) (omega (arith, returned_on c marked a.base at, left_behind))
 
     does : (e : Effect) (got : ℕ) → is_checked at.frame.pc e ≡ false → MayDo c a.monitor at e → IsAllowed c.program at e → GoesOnBy c.program at e got → Lessens whole 1 (did c.program (begun x) at e got)

@@ -83,11 +83,11 @@ module _ (was : Phase) where
   unwound_comes x class [] = tt
   unwound_comes x class (f ∷ fs) = tt
 
-  handed_comes : (x : ℕ) (class : Thrown) (at : Top) (r : Option Row) → MayCome was (Some (handed x class at r))
-  handed_comes x class at (Some r) = tt
-  handed_comes x class at None = by_flag (is_synchronized at.method.flags)
+  handed_comes : (p : Program) (x : ℕ) (class : Thrown) (at : Top) (r : Option Row) → MayCome was (Some (handed p x class at r))
+  handed_comes p x class at (Some r) = tt
+  handed_comes p x class at None = by_flag (is_synchronized at.method.flags)
     where
-      by_flag : (b : Bool) → MayCome was (Some (if b then Leaving (monitor_of at.method at.frame) (afters.Unwind x class) (frames_of at) else unwound x class at.below))
+      by_flag : (b : Bool) → MayCome was (Some (if b then Leaving (monitor_of p at.method at.frame) (afters.Unwind x class) (frames_of at) else unwound x class at.below))
       by_flag true = tt
       by_flag false = unwound_comes x class at.below
 
@@ -116,7 +116,7 @@ goes_come p s got _ _ (moves.by_machine at class found y) = tt
 goes_come p s got _ _ (moves.by_nobody at m count h found y there l) = tt
 goes_come p s got _ _ (moves.by_element word stored at found) = tt
 goes_come p s got _ _ (moves.by_object a word) = tt
-goes_come p s got _ _ (moves.by_handler z class at found) = handed_comes _ z class at (handler_at (class_of class) at)
+goes_come p s got _ _ (moves.by_handler z class at found) = handed_comes _ p z class at (handler_at (class_of class) at)
 goes_come p s got _ _ (moves.by_none m r t) = tt
 goes_come p s got _ _ (moves.by_one m r u) = tt
 goes_come p s got _ _ (moves.by_all m r) = tt

@@ -158,10 +158,10 @@ module _ (fit : HeapWordsFit) (allowed : EffectsAreAllowed) (c : MarkedProgram) 
     its_top = let k = stands_as (phases.Throw y class) counted in throws_top x.frames y class k.shown k.phase_shows
 
     abbrev its_onward : Onward
-    its_onward = handed y class its_top.0 (handler_at (class_of class) its_top.0)
+    its_onward = handed c.program y class its_top.0 (handler_at (class_of class) its_top.0)
 
     dispatches : dispatched c.program y class x.frames ≡ Some its_onward
-    dispatches = ap (option_map (λ at. handed y class at (handler_at (class_of class) at))) its_top.1
+    dispatches = ap (option_map (λ at. handed c.program y class at (handler_at (class_of class) at))) its_top.1
 
     throw_grows : IsStructured c now (goes_on_if x (dispatched c.program y class x.frames)) → Grown (phases.Throw y class) (goes_on_if x (dispatched c.program y class x.frames)) (acts.Do ∷ [])
     throw_grows k = subst (λ (o : Option Onward). Grown (phases.Throw y class) (goes_on_if x o) (acts.Do ∷ [])) (sym dispatches) grown

@@ -9,11 +9,11 @@ use Rattle.jvm_types.specs.declared.program.Target.{Target}
 use Rattle.jvm_types.specs.declared.program.Target.TheVariants as targets
 use Rattle.jvm_types.specs.declared.program.MethodInfo.{MethodInfo}
 use Rattle.jvm_types.specs.declared.program.Program.{Program}
-use Rattle.checked_program.specs.LockTags.{TagShape, is_this}
+use Rattle.checked_program.specs.LockTags.{TagShape}
 use Rattle.checked_program.specs.TaggedCode.{Tagged, IsAt}
 use Rattle.checked_program.specs.FrozenPlaces.{AreUses, IsUse, IsFrozenField, IsGuardedField}
 use Rattle.checked_program.specs.Sections.{Section, IsOwn}
-use Rattle.checked_program.specs.Marks.{Callee, callee, Calls, CallsThrough, IsCalledBy, HasMark, section_fault, call_fault, enter_fault, use_fault, args_of, is_locking, is_own_object, BreaksAt, OwnBreaks, itself, called}
+use Rattle.checked_program.specs.Marks.{Callee, callee, Calls, CallsThrough, IsCalledBy, HasMark, section_fault, call_fault, enter_fault, use_fault, args_of, is_locking, is_class_locking, is_own_object, BreaksAt, OwnBreaks, itself, called}
 use Rattle.checked_program.specs.SectionLaws.{Part, IsSectionPart, AreParts, HasThis, ReadsOnly, ReadLaw}
 use Rattle.checked_program.specs.declared.tag.Tag.{Tag}
 use Rattle.checked_program.specs.declared.tag.Tag.TheVariants.{Untagged, This}
@@ -52,6 +52,10 @@ module _ (p : Program) (tags : Tagged) (uses : List FieldUse) (a : AreUses p tag
   is_called k true false e z g = absurd (omega (arith, z))
   is_called k false t e z g = absurd (let bad : false ≡ true = g in cc)
 
+  calls_no_class : (locking : Bool) → call_fault locking false ≡ 0 → locking ≡ false
+  calls_no_class true z = absurd (omega (arith, z))
+  calls_no_class false z = refl
+
   read : (fi : ℕ) (x : FieldUse) (t : Bool) → slice_index_or uses fi Open ≡ x → is_own_object mode (slice_index_or ts 0 Untagged) ≡ t → use_fault x t ≡ 0 → IsFrozenField p tags fi ⊎ (IsGuardedField p tags fi × (slice_index vs 0 ≡ o))
   read fi Frozen t e w z = inl (use_at p tags uses fi a Frozen e (λ q. cc))
   read fi Guarded true e w z = inr (use_at p tags uses fi a Guarded e (λ q. cc), own_place 0 w)
@@ -73,6 +77,7 @@ module _ (p : Program) (tags : Tagged) (uses : List FieldUse) (a : AreUses p tag
   reads_only ops.Monitorenter target z = entered (is_own_object mode (slice_index_or ts 0 Untagged)) refl z
   reads_only (ops.Invokevirtual i) (targets.Method u) z = is_called (args_of (slice_get p.methods u)) (is_locking (slice_get p.methods u)) (is_own_object mode (slice_index_or ts (args_of (slice_get p.methods u)) Untagged)) refl z
   reads_only (ops.Invokespecial i) (targets.Method u) z = is_called (args_of (slice_get p.methods u)) (is_locking (slice_get p.methods u)) (is_own_object mode (slice_index_or ts (args_of (slice_get p.methods u)) Untagged)) refl z
+  reads_only (ops.Invokestatic i) (targets.Method u) z = calls_no_class (is_class_locking (slice_get p.methods u)) z
   reads_only (ops.Getfield i) (targets.Field fi) z = read fi (slice_index_or uses fi Open) (is_own_object mode (slice_index_or ts 0 Untagged)) refl refl z
   reads_only op target z = tt
 

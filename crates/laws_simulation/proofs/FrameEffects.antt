@@ -174,10 +174,10 @@ module _ (differ : SitesDiffer) (inside : SitesLieInside) (fit : HeapWordsFit) (
       by_frames [] = refl
       by_frames (g ∷ fs) = refl
 
-      by_flag : (b : Bool) → is_synchronized at.method.flags ≡ b → OnwardShows c (if b then Leaving (monitor_of at.method at.frame) afters.Return (frames_of at) else back (returned c.program at)) stands.shown
-          → plain_instructions.if_left q t plain_thread.plain at (if b then Leaving (monitor_of at.method at.frame) afters.Return (frames_of at) else back (returned c.program at))
-          ≡ plain.plain_goes_on plain_thread.plain (if b then Leaving (monitor_of at.method at.frame) afters.Return (frames_of at) else back (returned c.program at))
-      by_flag true e shows = if_holding (monitor_of at.method at.frame) _ (leaves_held (HasClass objects) c (monitor_of at.method at.frame) (frames_of at) stands.shown x.held marked (depth (monitor_of at.method at.frame)) afters.Return shows holds)
+      by_flag : (b : Bool) → is_synchronized at.method.flags ≡ b → OnwardShows c (if b then Leaving (monitor_of c.program at.method at.frame) afters.Return (frames_of at) else back (returned c.program at)) stands.shown
+          → plain_instructions.if_left q t plain_thread.plain at (if b then Leaving (monitor_of c.program at.method at.frame) afters.Return (frames_of at) else back (returned c.program at))
+          ≡ plain.plain_goes_on plain_thread.plain (if b then Leaving (monitor_of c.program at.method at.frame) afters.Return (frames_of at) else back (returned c.program at))
+      by_flag true e shows = if_holding (monitor_of c.program at.method at.frame) _ (leaves_held (HasClass objects) c (monitor_of c.program at.method at.frame) (frames_of at) stands.shown x.held marked (depth (monitor_of c.program at.method at.frame)) afters.Return shows holds)
       by_flag false e shows = by_frames (returned c.program at)
 
   exiting : (m : ℕ) → effect_at c.program at ≡ Leaves m → plain_instructions.plain_leaves c.program q t plain_thread.plain at m ≡ plain.plain_goes_on plain_thread.plain (Leaving m afters.Next (went_on c.program at 0))

@@ -1,5 +1,5 @@
 -- The header of a new object is stored: it is among the objects then, as it was among the plain ones.
-use Rattle.std.proofs.Common.{◌≡◌, ◌≢◌, ◌⊎◌, inl, inr, ℕ, zero, suc, ◌-◌, List, ◌∷◌, length, Some, refl, sym, ap, subst, ◌∙◌, arith}
+use Rattle.std.proofs.Common.{◌≡◌, ◌≢◌, ◌⊎◌, inl, inr, ℕ, ◌-◌, List, ◌∷◌, length, Some, refl, sym, ap, subst, ◌∙◌, arith}
 use Rattle.std.specs.Prelude.{Contains, slice_get, slice_index, slice_set}
 use Rattle.std.proofs.lemmas.List.{length-replicate}
 use Rattle.lists.proofs.ListLaws.{same_some}
@@ -16,21 +16,13 @@ use Rattle.machine_types.specs.declared.config.Config.{Config}
 use Rattle.machine_types.specs.declared.phase.Phase.{Phase}
 use Rattle.machine_types.specs.declared.phase.Phase.TheVariants as phases
 use Rattle.laws_states.specs.Sites.{NewHeaderOf}
-use Rattle.laws_states.proofs.Lists.{contained_got, contains_first, contains_more, same_or_not, set_here, set_there}
+use Rattle.laws_states.proofs.Lists.{contains_first, contains_more, same_or_not, set_here, set_there}
 use Rattle.laws_simulation.specs.StandsBeside.{IsAmong, IsBeingMade, IsPlainNew}
 use Rattle.laws_simulation.proofs.AssembledObjects.{MakesNone, made_by_others}
 use Rattle.laws_simulation.proofs.PlainPlaces.{value_of_header}
 use Rattle.laws_simulation.proofs.Scene.{Scene, Memory}
 use Rattle.laws_simulation.proofs.MemoryParts.{place_bits, place_counter}
-use Rattle.laws_threads.proofs.MonitorMoves.{contains_got}
-use Rattle.machine_types.proofs.Lists.{got_other}
-
-first_or_more : {X : Type 0} (y : X) (xs : List X) (x : X) → Contains (y ∷ xs) x → (x ≡ y) ⊎ Contains xs x
-first_or_more {X} y xs x k = by_index k.0 (contained_got (y ∷ xs) x k)
-  where
-    by_index : (i : ℕ) → slice_get (y ∷ xs) i ≡ Some x → (x ≡ y) ⊎ Contains xs x
-    by_index zero e = inl (sym (same_some e))
-    by_index (suc i) e = inr (contains_got xs i x e)
+use Rattle.machine_types.proofs.Lists.{first_or_more, got_other}
 
 made_as : (x y : Thread) (a b word other : ℕ) → x ≡ y → x.phase ≡ phases.Made a word → y.phase ≡ phases.Made b other → a ≡ b
 made_as x y a b word other e h k = same (sym h ∙ (ap (λ (z : Thread). z.phase) e ∙ k))

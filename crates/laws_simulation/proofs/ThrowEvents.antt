@@ -59,10 +59,10 @@ module _ (c : MarkedProgram) (cfg : Config) (objects : List Object) (was : ℕ �
       top_found c scene.marked can_throw x.frames shows
 
   abbrev onward : Onward
-  onward = handed e class top.0 (handler_at (class_of class) top.0)
+  onward = handed c.program e class top.0 (handler_at (class_of class) top.0)
 
   dispatches : dispatched c.program e class x.frames ≡ Some onward
-  dispatches = ap (option_map (λ (at : Top). handed e class at (handler_at (class_of class) at))) top.1
+  dispatches = ap (option_map (λ (at : Top). handed c.program e class at (handler_at (class_of class) at))) top.1
 
   abbrev now : Thread
   now = goes_on x onward

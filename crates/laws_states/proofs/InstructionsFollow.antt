@@ -86,11 +86,11 @@ module _ (s : Thread) where
     raises None x = stays
     raises (Some class) x = goes (Throwing x class (frames_of at)) one
 
-    goes_in : (number : ℕ) (m : MethodInfo) (b : Bool) (f : Frame) → Follows (goes_on s (if b then Entering (monitor_of m f) (f ∷ waiting p at) else Running (f ∷ waiting p at)))
-    goes_in number m true f = goes (Entering (monitor_of m f) (f ∷ waiting p at)) two
+    goes_in : (number : ℕ) (m : MethodInfo) (b : Bool) (f : Frame) → Follows (goes_on s (if b then Entering (monitor_of p m f) (f ∷ waiting p at) else Running (f ∷ waiting p at)))
+    goes_in number m true f = goes (Entering (monitor_of p m f) (f ∷ waiting p at)) two
     goes_in number m false f = goes (Running (f ∷ waiting p at)) two
 
-    calls : (number : ℕ) (m : MethodInfo) (b : Bool) → Follows (goes_on s (if b then entered m (entry_frame number m (arguments_of p at)) (waiting p at) else threw StackOverflowError at))
+    calls : (number : ℕ) (m : MethodInfo) (b : Bool) → Follows (goes_on s (if b then entered p m (entry_frame number m (arguments_of p at)) (waiting p at) else threw StackOverflowError at))
     calls number m true = goes_in number m (is_synchronized m.flags) (entry_frame number m (arguments_of p at))
     calls number m false = goes (threw StackOverflowError at) one
 
@@ -102,8 +102,8 @@ module _ (s : Thread) where
     comes_back [] few = goes RootReturned (omega arith)
     comes_back (f ∷ below) few = goes (Running (f ∷ below)) (omega (arith, few, same))
 
-    gives_back : (b : Bool) → Follows (goes_on s (if b then Leaving (monitor_of at.method at.frame) Return (frames_of at) else back (returned p at)))
-    gives_back true = goes (Leaving (monitor_of at.method at.frame) Return (frames_of at)) one
+    gives_back : (b : Bool) → Follows (goes_on s (if b then Leaving (monitor_of p at.method at.frame) Return (frames_of at) else back (returned p at)))
+    gives_back true = goes (Leaving (monitor_of p at.method at.frame) Return (frames_of at)) one
     gives_back false = comes_back (returned p at) (returned_fewer p at)
 
     if_holds : (h : Option Held) (more : Kept → Thread) → ((k : Kept) → Follows (more k)) → Follows (if_held s at h more)

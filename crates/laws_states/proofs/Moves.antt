@@ -1,9 +1,9 @@
 -- A thread that has moved holds values of the types of verification, by the objects that are there then.
-use Rattle.std.proofs.Common.{◌≡◌, ℕ, List, [], Some, refl, subst, ◌∙◌, arith}
+use Rattle.std.proofs.Common.{◌≡◌, ℕ, ◌<◌, List, [], length, Some, refl, subst, ◌∙◌, arith}
 use Rattle.std.specs.Prelude.{Contains, slice_get}
 use Rattle.jvm_types.specs.declared.outcome.Thrown.{Thrown}
 use Rattle.jvm_types.specs.declared.outcome.Thrown.TheVariants as thrown
-use Rattle.jvm_types.specs.declared.class_numbers.TheConstants.{PRINT_STREAM_CLASS}
+use Rattle.jvm_types.specs.declared.class_numbers.TheConstants.{PRINT_STREAM_CLASS, CLASS_ITSELF}
 use Rattle.checked_program.specs.MarkedProgram.{MarkedProgram, IsMarked}
 use Rattle.machine_types.specs.Accesses.{found_by}
 use Rattle.machine_types.specs.Core.{Core}
@@ -15,8 +15,10 @@ use Rattle.machine_types.specs.ReadyObjects.{ready, class_of, out_object}
 use Rattle.machine_types.specs.Structure.{IsAs}
 use Rattle.machine_types.specs.Threads.{Thread}
 use Rattle.machine_types.specs.Typed.{Classes, HasClass, PhaseHolds, ThreadHolds}
+use Rattle.machine_types.specs.Words.{class_object}
 use Rattle.machine_types.specs.declared.phase.Phase.{Phase}
 use Rattle.machine_types.specs.declared.phase.Phase.TheVariants as phases
+use Rattle.machine_types.proofs.ClassObjects.{class_objects_stand}
 use Rattle.laws_threads.specs.StructureLaws.{StructureIsKept, counted_by}
 use Rattle.laws_threads.specs.Allowed.{IsByMachine}
 use Rattle.laws_threads.proofs.KeptPhases.{NeedsShown, PhaseFinds, StartTyped, moved_typed}
@@ -51,10 +53,15 @@ module _ (c : MarkedProgram) (marked : IsMarked c) (objects : List Object) (s : 
   ready_there thrown.OutOfMemoryError own = ready_at thrown.OutOfMemoryError 5 refl
   ready_there thrown.StackOverflowError own = ready_at thrown.StackOverflowError 6 refl
 
+  class_there : (file : ℕ) → file < length c.program.names → HasClass objects CLASS_ITSELF (class_object c.program file)
+  class_there file few =
+      facts.started (record { reference = class_object c.program file; class = CLASS_ITSELF; values = [] }) (class_objects_stand c.program file marked.checked.program few)
+
   pub has_objects : (later : List Object) (next : ℕ) → ((o : Object) → Contains objects o → Contains later o) → LieApart c.program later (start_statics c.program) next → HasObjects c.program (HasClass later)
   has_objects later next up apart = record {
     out = lifted PRINT_STREAM_CLASS out_object (out_there c marked objects s facts);
     ready = λ x own. lifted (class_of x) (ready x) (ready_there x own);
+    classes = λ file few. lifted CLASS_ITSELF (class_object c.program file) (class_there file few);
     inside = λ class v k. omega (arith, apart.inside k.1.0 k.0 (contained_got later k.0 k.1), k.2);
   }
     where

@@ -141,7 +141,7 @@ module _ (c : MarkedProgram) (marked : IsMarked c) where
         there _ _ k.stands.found
     in_phase (phases.Throw r class) live is holds fit roots =
         let k = thrown_stand c x.frames marked holds.1 (some_frames x.frames (has_frame (phases.Throw r class) x.frames x.roots (λ h. h) fit)) in
-        mapped (λ at. handed r class at (handler_at (class_of class) at)) (top_of c.program x.frames) (there _ _ k.1.found)
+        mapped (λ at. handed c.program r class at (handler_at (class_of class) at)) (top_of c.program x.frames) (there _ _ k.1.found)
     in_phase (phases.Enter m tried) live is holds fit roots = has_top x.frames holds.1 (has_frame (phases.Enter m tried) x.frames x.roots (λ h. h) fit)
     in_phase (phases.Leave m a) live is holds fit roots =
         let k = standing (phases.Leave m a) is in

@@ -247,22 +247,22 @@ module _ (p : Program) (x : Thread) (r : ℕ) (class : Thrown) where
   far : 2 < 11 + trying x.attempt
   far = omega arith
 
-  hands : (at : Top) → suc (length at.below) ≡ length x.frames → (o : Option Row) → Throws (goes_on x (handed r class at o))
+  hands : (at : Top) → suc (length at.below) ≡ length x.frames → (o : Option Row) → Throws (goes_on x (handed p r class at o))
   hands at same (Some row) = in_as_many x (phases.Throw r class) x refl (caught row r at) same far
   hands at same None = by_method (is_synchronized at.method.flags)
     where
       fewer : length at.below < length x.frames
       fewer = omega (arith, same)
 
-      near : leaving_held (held_at x.held (monitor_of at.method at.frame)) + trying x.attempt < 11 + trying x.attempt
-      near = omega (arith, leaving_near (held_at x.held (monitor_of at.method at.frame)))
+      near : leaving_held (held_at x.held (monitor_of p at.method at.frame)) + trying x.attempt < 11 + trying x.attempt
+      near = omega (arith, leaving_near (held_at x.held (monitor_of p at.method at.frame)))
 
       rest : ℕ
       rest = (x.cfg.turns + 2) * (x.cfg.steps - x.counts.instructions) + (x.cfg.turns - x.turns) + 2 * length x.roots
 
-      by_method : (b : Bool) → Throws (goes_on x (if b then Leaving (monitor_of at.method at.frame) (afters.Unwind r class) (frames_of at) else unwound r class at.below))
+      by_method : (b : Bool) → Throws (goes_on x (if b then Leaving (monitor_of p at.method at.frame) (afters.Unwind r class) (frames_of at) else unwound r class at.below))
       by_method true =
-          by_place x (phases.Throw r class) (record x { frames = frames_of at; phase = phases.Leave (monitor_of at.method at.frame) (afters.Unwind r class) })
+          by_place x (phases.Throw r class) (record x { frames = frames_of at; phase = phases.Leave (monitor_of p at.method at.frame) (afters.Unwind r class) })
           (as_many rest (length x.frames) (length (frames_of at)) (chains_left x) refl same) near
       by_method false = unwinds x (phases.Throw r class) x refl r class at.below fewer
 
@@ -282,7 +282,7 @@ pub lacks_none : (c : MarkedProgram) (x : Thread) (got : ℕ) (phase : Phase) �
 lacks_none c x got _ moves.idle i has = has
 lacks_none c x got _ (moves.over e) i has = has
 lacks_none c x got _ (moves.no_place word stored e) i has = no_some (top_of c.program x.frames) e has
-lacks_none c x got _ (moves.no_catcher r class e) i has = no_some (dispatched c.program r class x.frames) (ap (option_map (λ at. handed r class at (handler_at (class_of class) at))) e) has
+lacks_none c x got _ (moves.no_catcher r class e) i has = no_some (dispatched c.program r class x.frames) (ap (option_map (λ at. handed c.program r class at (handler_at (class_of class) at))) e) has
 lacks_none c x got _ (moves.no_claim m a e) i has = has.0 e
 lacks_none c x got _ (moves.not_fat m r toward e) i has = no_some (held_at x.held m) e has
 lacks_none c x got _ (moves.not_waiting m r e) i has = no_some (held_at x.held m) e has

@@ -15,7 +15,7 @@ use Rattle.checked_program.specs.Sections.{BeginsAt, IsOwn, IsInBlock}
 use Rattle.checked_program.specs.TaggedCode.{IsAt}
 use Rattle.checked_program.specs.declared.section.Spot.TheVariants.{Block}
 use Rattle.laws_sections.proofs.SectionMoves.{own_deep}
-use Rattle.machine_types.specs.Frames.{monitor_of}
+use Rattle.machine_types.specs.Frames.{monitor_by, monitor_of}
 use Rattle.machine_types.specs.Sections.{entered_at}
 use Rattle.machine_types.specs.Shown.{Shows, Show}
 use Rattle.machine_types.specs.Standing.{Standing, Operands, Whole, tags_of}
@@ -41,7 +41,8 @@ module _ (c : MarkedProgram) (marked : IsMarked c) (a : Attempt) where
   -- the frame of the entry, as it entered the section
   pub record Entry : Type 0 where
     pub stands : Standing c a.entry
-    pub how : ((a.entry.pc ≡ 0) × (is_synchronized stands.method.flags ≡ true)) ⊎ Entered c a.entry stands
+    pub how : ((a.entry.pc ≡ 0) × (is_synchronized stands.method.flags ≡ true) × (monitor_of c.program stands.method a.entry ≡ a.monitor)) ⊎ Entered c a.entry stands
+    pub receiver : a.entry.receiver ≡ a.monitor
 
   pub entry_of : (phase : Phase) (fs : List Frame) (held : List Held) → AttemptStands c phase fs held a → Entry
   entry_of phase fs held k =
@@ -49,9 +50,10 @@ module _ (c : MarkedProgram) (marked : IsMarked c) (a : Attempt) where
       record {
         stands = enters.0;
         how = ⊎_elim
-            (λ (h : (a.entry.pc ≡ 0) × (is_synchronized enters.0.method.flags ≡ true) × (monitor_of enters.0.method a.entry ≡ a.monitor)). inl (h.0, h.1))
+            (λ (h : (a.entry.pc ≡ 0) × (is_synchronized enters.0.method.flags ≡ true) × (monitor_of c.program enters.0.method a.entry ≡ a.monitor)). inl h)
             (λ (h : IsBehindEntry enters.0.method.code a.entry.pc × (enters.0.tags.held ≢ [])). inr (entered_before c marked a.entry enters.0 h.0))
             enters.1;
+        receiver = k.receiver;
       }
 
   -- behind a `monitorenter` the pc is not 0
@@ -83,7 +85,15 @@ module _ (c : MarkedProgram) (marked : IsMarked c) (a : Attempt) where
 
     pub of_synchronized : r.stands.tags.held ≡ [] → is_synchronized r.stands.method.flags ≡ true
     of_synchronized none = ⊎_elim
-        (λ (h : (a.entry.pc ≡ 0) × (is_synchronized entry.stands.method.flags ≡ true)). ap (λ (m : MethodInfo). is_synchronized m.flags) same_method ∙ h.1)
+        (λ (h : (a.entry.pc ≡ 0) × (is_synchronized entry.stands.method.flags ≡ true) × (monitor_of c.program entry.stands.method a.entry ≡ a.monitor)). ap (λ (m : MethodInfo). is_synchronized m.flags) same_method ∙ h.1)
+        (λ (x : Entered c a.entry entry.stands). absurd (not_first entry.stands x (at_method none)))
+        entry.how
+
+    -- and its monitor is that of the attempt
+    pub of_monitor : r.stands.tags.held ≡ [] → monitor_of c.program r.stands.method f ≡ a.monitor
+    of_monitor none = ⊎_elim
+        (λ (h : (a.entry.pc ≡ 0) × (is_synchronized entry.stands.method.flags ≡ true) × (monitor_of c.program entry.stands.method a.entry ≡ a.monitor)).
+        ap (λ (m : MethodInfo). monitor_by c.program m f.receiver) same_method ∙ ap (monitor_by c.program entry.stands.method) (last.receiver ∙ sym entry.receiver) ∙ h.2)
         (λ (x : Entered c a.entry entry.stands). absurd (not_first entry.stands x (at_method none)))
         entry.how
 
@@ -96,7 +106,7 @@ module _ (c : MarkedProgram) (marked : IsMarked c) (a : Attempt) where
     as_many_at_exit x = by_pc a.entry.pc refl
       where
         behind : (pc : ℕ) → a.entry.pc ≡ suc pc → Entered c a.entry entry.stands
-        behind pc e = ⊎_elim (λ (h : (a.entry.pc ≡ 0) × (is_synchronized entry.stands.method.flags ≡ true)). absurd (omega (arith, e, h.0))) (λ (h : Entered c a.entry entry.stands). h) entry.how
+        behind pc e = ⊎_elim (λ (h : (a.entry.pc ≡ 0) × (is_synchronized entry.stands.method.flags ≡ true) × (monitor_of c.program entry.stands.method a.entry ≡ a.monitor)). absurd (omega (arith, e, h.0))) (λ (h : Entered c a.entry entry.stands). h) entry.how
 
         by_depth : (pc : ℕ) → a.entry.pc ≡ suc pc → HasEntryDepth c.program (tags_of c) a.entry.method (Block pc) x.depth → length r.stands.tags.held ≡ length entry.stands.tags.held
         by_depth pc e (enter, g, b, depth) =

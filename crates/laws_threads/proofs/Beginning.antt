@@ -1,12 +1,15 @@
 -- An attempt stands as it begins: its frame is at the first own instruction of a marked section, on its receiver.
-use Rattle.std.proofs.Common.{◌≡◌, ◌≢◌, ◌⊎◌, inl, inr, ⊎_elim, ℕ, zero, suc, true, ◌-◌, List, [], ◌∷◌, ◌++◌, length, map, take, Option, Some, None, refl, sym, ap, ◌∙◌, subst, arith}
+use Rattle.std.proofs.Common.{◌≡◌, ◌≢◌, ◌⊎◌, inl, inr, ⊎_elim, ℕ, zero, suc, Bool, true, false, not, cond, ◌-◌, List, [], ◌∷◌, ◌++◌, length, map, take, Option, Some, None, refl, sym, ap, ◌∙◌, subst, arith}
 use Rattle.std.specs.Prelude.{slice_get, slice_index_or}
-use Rattle.std.proofs.lemmas.Bool.{cases_eq}
+use Rattle.std.proofs.lemmas.Bool.{cases_eq, not-true}
 use Rattle.lists.proofs.ListLaws.{same_some}
-use Rattle.jvm_types.specs.Members.{is_synchronized}
+use Rattle.lists.proofs.TestLaws.{both_are_true}
+use Rattle.jvm_types.specs.ClassNames.{file_of_class}
+use Rattle.jvm_types.specs.Members.{is_static, is_synchronized}
 use Rattle.jvm_types.specs.declared.code.Insn.{Insn}
 use Rattle.jvm_types.specs.declared.program.MethodInfo.{MethodInfo}
 use Rattle.laws_programs.proofs.CodeOrder.{have_targets}
+use Rattle.checked_program.specs.FrozenPlaces.{locks_this}
 use Rattle.checked_program.specs.LockTags.{TagShape}
 use Rattle.checked_program.specs.MarkedProgram.{MarkedProgram, IsMarked}
 use Rattle.checked_program.specs.Marks.{HasMark, IsOnThis, elsewhere}
@@ -20,12 +23,13 @@ use Rattle.checked_program.specs.declared.tag.Tag.{Tag}
 use Rattle.checked_program.specs.declared.tag.Tag.TheVariants.{Untagged, This, At}
 use Rattle.laws_sections.proofs.SectionCalls.{begin_law}
 use Rattle.machine_types.specs.Frames.{monitor_of}
-use Rattle.machine_types.specs.MarkLaws.{MarkedHasMark}
-use Rattle.machine_types.specs.Sections.{entered_at}
+use Rattle.machine_types.specs.MarkLaws.{MarkedHasMark, MarkedLocksThis}
+use Rattle.machine_types.specs.Sections.{entered_at, is_marked}
 use Rattle.machine_types.specs.Shown.{tag_value, own_entry, Shows}
 use Rattle.machine_types.specs.Standing.{Standing, Whole, tags_of}
 use Rattle.machine_types.specs.Structure.{IsBehindEntry, Stands, RunsSection, section_of, frames_inside}
 use Rattle.machine_types.specs.Threads.{Frame, Attempt}
+use Rattle.machine_types.specs.Words.{class_object}
 use Rattle.machine_types.specs.declared.phase.Phase.TheVariants as phases
 use Rattle.laws_threads.specs.InsideMoves.{BeginsAttempt}
 use Rattle.laws_threads.proofs.SectionEntries.{Entered, entered_before, just_before, next_later, Took, took}
@@ -112,7 +116,7 @@ module _ (c : MarkedProgram) (marked : IsMarked c) (f : Frame) (k : Standing c f
 innermost : (c : MarkedProgram) (marked : IsMarked c) (f : Frame) (k : Standing c f) (own rest outer : List ℕ) (m : ℕ) (held : List Tag) → (s : Shows c Whole f own) → k.tags.held ≡ This ∷ held → own ++ rest ≡ m ∷ outer → f.receiver ≡ m
 innermost c marked f k own rest outer m held s h e =
     let tags : s.stands.tags.held ≡ This ∷ held = ap (λ (x : TagShape). x.held) (one_tags c marked f s.stands k) ∙ h in
-    let shown : own ≡ f.receiver ∷ (map (tag_value s.choice f.receiver) held ++ own_entry s.stands.method f) = s.shown_are ∙ ap (λ ts. map (tag_value s.choice f.receiver) ts ++ own_entry s.stands.method f) tags in
+    let shown : own ≡ f.receiver ∷ (map (tag_value s.choice f.receiver) held ++ own_entry c.program s.stands.method f) = s.shown_are ∙ ap (λ ts. map (tag_value s.choice f.receiver) ts ++ own_entry c.program s.stands.method f) tags in
     first (ap (λ xs. xs ++ rest) (sym shown) ∙ e)
   where
     first : {xs : List ℕ} → f.receiver ∷ xs ≡ m ∷ outer → f.receiver ≡ m
@@ -120,8 +124,8 @@ innermost c marked f k own rest outer m held s h e =
 
 -- ---- the law
 
-pub begins : MarkedHasMark → BeginsAttempt
-begins marked_mark c m tried noted number f below held marked stands not_held enters = record {
+pub begins : MarkedHasMark → MarkedLocksThis → BeginsAttempt
+begins marked_mark marked_locks c m tried noted number f below held marked stands not_held enters = record {
   inside = tt;
   not_held = not_held;
   based = omega arith;
@@ -169,8 +173,15 @@ begins marked_mark c m tried noted number f below held marked stands not_held en
         let receiver = receiver_of b.outer b.held in
         (receiver, part (subst (λ s. IsOwn c.program (tags_of c) f.method s k.number) (sym spot) b.own) receiver)
 
+    -- a method that runs so is not static, so its monitor is the receiver's
+    receiver_locked : f.pc ≡ 0 → monitor_of c.program k.method f ≡ m → f.receiver ≡ m
+    receiver_locked first on =
+        let locks : locks_this k.method ≡ true = marked_locks c f.method k.method marked.marks (subst (λ s. is_marked c.marks f.method s ≡ true) (ap entered_at first) enters) k.at.in_program in
+        let instance : is_static k.method.flags ≡ false = not-true (is_static k.method.flags) (both_are_true (is_synchronized k.method.flags) (not (is_static k.method.flags)) locks).1 in
+        sym (ap (λ (b : Bool). cond b (class_object c.program (file_of_class k.method.class)) f.receiver) instance) ∙ on
+
     found : (f.receiver ≡ m) × IsSectionPart c.program (tags_of c) (section_of a) m (part_of f k.number) OnThis
     found = ⊎_elim
-        (λ (h : (f.pc ≡ 0) × (is_synchronized k.method.flags ≡ true) × (monitor_of k.method f ≡ m)). (h.2, part (subst (λ s. IsOwn c.program (tags_of c) f.method s k.number) (sym (ap entered_at h.0)) reached) h.2))
+        (λ (h : (f.pc ≡ 0) × (is_synchronized k.method.flags ≡ true) × (monitor_of c.program k.method f ≡ m)). let receiver = receiver_locked h.0 h.2 in (receiver, part (subst (λ s. IsOwn c.program (tags_of c) f.method s k.number) (sym (ap entered_at h.0)) reached) receiver))
         (λ (h : IsBehindEntry k.method.code f.pc × (k.tags.held ≢ [])). behind (entered_before c marked f k h.0) f.pc refl)
         stands.phase_shows.enters.1

@@ -171,9 +171,9 @@ module _ (p : Program) where
   unwound_enters_none x class [] = tt
   unwound_enters_none x class (f ∷ fs) = tt
 
-  pub handed_enters_none : (x : ℕ) (class : Thrown) (at : Top) (row : Option Row) → EntersNone (handed x class at row)
+  pub handed_enters_none : (x : ℕ) (class : Thrown) (at : Top) (row : Option Row) → EntersNone (handed p x class at row)
   handed_enters_none x class at (Some r) = tt
-  handed_enters_none x class at None = none_by (is_synchronized at.method.flags) (Leaving (monitor_of at.method at.frame) (afters.Unwind x class) (frames_of at)) (unwound x class at.below) tt (unwound_enters_none x class at.below)
+  handed_enters_none x class at None = none_by (is_synchronized at.method.flags) (Leaving (monitor_of p at.method at.frame) (afters.Unwind x class) (frames_of at)) (unwound x class at.below) tt (unwound_enters_none x class at.below)
 
   after_enters_none : (fs : List Frame) (a : After) → IfSome (after p fs a) EntersNone
   after_enters_none fs afters.Next = tt

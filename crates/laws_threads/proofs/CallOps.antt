@@ -1,27 +1,29 @@
--- The frame that a call enters has the receiver that stood below the arguments; a synchronized method's is the section's object.
-use Rattle.std.proofs.Common.{◌≡◌, ℕ, zero, suc, Bool, true, false, not, ◌&&◌, List, [], ◌∷◌, ◌++◌, length, reverse, take, Some, refl, sym, ap, ◌∙◌, subst, arith}
+-- The frame that a call enters has the receiver that stood below the arguments; the monitor of a synchronized method that a
+-- section calls is the section's.
+use Rattle.std.proofs.Common.{◌≡◌, ℕ, zero, suc, Bool, true, false, List, [], ◌∷◌, ◌++◌, length, reverse, take, Some, refl, sym, ap, ◌∙◌, subst}
 use Rattle.std.specs.Prelude.{slice_get, slice_index, if◌then◌else◌}
-use Rattle.std.proofs.lemmas.List.{length-append, length-map, length-reverse, reverse-append}
+use Rattle.std.proofs.lemmas.List.{reverse-append}
 use Rattle.lists.proofs.ListLaws.{same_some}
-use Rattle.jvm_types.specs.CodeTable.{arguments, want_of, virtual_row, special_row, static_row}
+use Rattle.jvm_types.specs.ClassNames.{file_of_class}
+use Rattle.jvm_types.specs.CodeTable.{virtual_row, special_row, static_row}
 use Rattle.jvm_types.specs.Members.{MethodSite, is_static, is_synchronized}
-use Rattle.jvm_types.specs.ProgramInvariant.{IsProgram}
 use Rattle.jvm_types.specs.declared.call.Call.TheVariants.{Virtual, Special, Static}
 use Rattle.jvm_types.specs.declared.code.Op.{Op}
 use Rattle.jvm_types.specs.declared.code.Op.TheVariants as ops
 use Rattle.jvm_types.specs.declared.op_row.OpRow.{OpRow}
-use Rattle.jvm_types.specs.declared.op_row.Want.{Want}
 use Rattle.jvm_types.specs.declared.program.MethodInfo.{MethodInfo}
 use Rattle.jvm_types.specs.declared.program.Program.{Program}
 use Rattle.jvm_types.specs.declared.program.Target.{Target}
 use Rattle.jvm_types.specs.declared.program.Target.TheVariants as targets
 use Rattle.laws_programs.specs.TargetLaws.{NamesMethod, HasRow}
-use Rattle.checked_program.specs.Marks.{args_of, called_method, is_locking}
+use Rattle.checked_program.specs.Marks.{args_of, called_method, is_locking, is_class_locking}
 use Rattle.checked_program.specs.SectionLaws.{ReadsOnly}
 use Rattle.checked_program.specs.TaggedCode.{Tagged}
 use Rattle.laws_sections.specs.FrameLaws.{IsReceiver}
-use Rattle.machine_types.specs.Frames.{first_or_null, entry_frame}
+use Rattle.machine_types.specs.Frames.{first_or_null, entry_frame, monitor_by}
+use Rattle.machine_types.specs.Words.{class_object}
 use Rattle.laws_threads.proofs.EffectOps.{HasReceiver}
+use Rattle.laws_threads.proofs.SectionFrames.{is_locked, is_class_locked}
 use Rattle.laws_sections.proofs.HiddenThis.{with_receiver}
 
 index_is : (s : List ℕ) (n v : ℕ) → slice_get s n ≡ Some v → slice_index s n ≡ v
@@ -82,33 +84,31 @@ module _ (p : Program) (number : ℕ) (called : MethodInfo) (there : slice_get p
   is_receiver site pc target (ops.Invokestatic i) r k call at = tt
   is_receiver site pc target op r k call at = absurd (cc)
 
-  both : (a b : Bool) → a ≡ true → b ≡ false → (a && not b) ≡ true
-  both true false e f = refl
-  both true true e f = cc
-  both false b e f = cc
+  on_receiver : (receiver o : ℕ) → is_static called.flags ≡ false → receiver ≡ o → monitor_by p called receiver ≡ o
+  on_receiver receiver o instance e = ap (λ (b : Bool). if b then class_object p (file_of_class called.class) else receiver) instance ∙ e
 
-  never : (a b : Bool) → (a && b) ≡ false → a ≡ true → b ≡ true → ⊥
-  never true true e f g = cc
-  never true false e f g = cc
-  never false b e f g = cc
-
-  -- a synchronized method is called on the section's object
-  pub called_on : (tags : Tagged) (o : ℕ) (site : MethodSite) (pc : ℕ) (op : Op) (target : Target) (r : OpRow) → IsProgram p → HasRow p site pc target op r → called_method op target ≡ Some number → HasReceiver p op number s → ReadsOnly p tags o op target s
-      → is_synchronized called.flags ≡ true → receiver_by r ≡ o
-  called_on tags o site pc (ops.Invokevirtual i) (targets.Method u) r program k call at h synchronized =
+  -- a synchronized method is called on the section's object, and none is static
+  pub called_on : (tags : Tagged) (o : ℕ) (site : MethodSite) (pc : ℕ) (op : Op) (target : Target) (r : OpRow) → HasRow p site pc target op r → called_method op target ≡ Some number → HasReceiver p op number s → ReadsOnly p tags o op target s
+      → is_synchronized called.flags ≡ true → monitor_by p called (receiver_by r) ≡ o
+  called_on tags o site pc (ops.Invokevirtual i) (targets.Method u) r k call at h synchronized =
       let k' : NamesMethod p site number Virtual false virtual_row r = subst (λ x. NamesMethod p site x Virtual false virtual_row r) (same_some call) k in
       let same : k'.method ≡ called = same_some (sym k'.there ∙ there) in
-      let locking : is_locking (slice_get p.methods number) ≡ true = ap is_locking there ∙ both (is_synchronized called.flags) (is_static called.flags) synchronized (subst (λ (m : MethodInfo). is_static m.flags ≡ false) same k'.sort) in
+      let instance : is_static called.flags ≡ false = subst (λ (m : MethodInfo). is_static m.flags ≡ false) same k'.sort in
+      let locking : is_locking (slice_get p.methods number) ≡ true = is_locked p number called there synchronized instance in
       let on : is_locking (slice_get p.methods number) ≡ true → slice_index s (args_of (slice_get p.methods number)) ≡ o = subst (λ x. is_locking (slice_get p.methods x) ≡ true → slice_index s (args_of (slice_get p.methods x)) ≡ o) (same_some call) h in
-      is_receiver site pc (targets.Method u) (ops.Invokevirtual i) r k call at ∙ on locking
-  called_on tags o site pc (ops.Invokespecial i) (targets.Method u) r program k call at h synchronized =
+      on_receiver (receiver_by r) o instance (is_receiver site pc (targets.Method u) (ops.Invokevirtual i) r k call at ∙ on locking)
+  called_on tags o site pc (ops.Invokespecial i) (targets.Method u) r k call at h synchronized =
       let k' : NamesMethod p site number Special false special_row r = subst (λ x. NamesMethod p site x Special false special_row r) (same_some call) k in
       let same : k'.method ≡ called = same_some (sym k'.there ∙ there) in
-      let locking : is_locking (slice_get p.methods number) ≡ true = ap is_locking there ∙ both (is_synchronized called.flags) (is_static called.flags) synchronized (subst (λ (m : MethodInfo). is_static m.flags ≡ false) same k'.sort) in
+      let instance : is_static called.flags ≡ false = subst (λ (m : MethodInfo). is_static m.flags ≡ false) same k'.sort in
+      let locking : is_locking (slice_get p.methods number) ≡ true = is_locked p number called there synchronized instance in
       let on : is_locking (slice_get p.methods number) ≡ true → slice_index s (args_of (slice_get p.methods number)) ≡ o = subst (λ x. is_locking (slice_get p.methods x) ≡ true → slice_index s (args_of (slice_get p.methods x)) ≡ o) (same_some call) h in
-      is_receiver site pc (targets.Method u) (ops.Invokespecial i) r k call at ∙ on locking
-  called_on tags o site pc (ops.Invokestatic i) (targets.Method u) r program k call at h synchronized =
+      on_receiver (receiver_by r) o instance (is_receiver site pc (targets.Method u) (ops.Invokespecial i) r k call at ∙ on locking)
+  called_on tags o site pc (ops.Invokestatic i) (targets.Method u) r k call at h synchronized =
       let k' : NamesMethod p site number Static true static_row r = subst (λ x. NamesMethod p site x Static true static_row r) (same_some call) k in
       let same : k'.method ≡ called = same_some (sym k'.there ∙ there) in
-      absurd (never (is_static called.flags) (is_synchronized called.flags) (program.methods number called there).unsynchronized (subst (λ (m : MethodInfo). is_static m.flags ≡ true) same k'.sort) synchronized)
-  called_on tags o site pc op target r program k call at h synchronized = absurd (cc)
+      let none : is_class_locking (slice_get p.methods number) ≡ false = subst (λ x. is_class_locking (slice_get p.methods x) ≡ false) (same_some call) h in
+      let static : is_static called.flags ≡ true = subst (λ (m : MethodInfo). is_static m.flags ≡ true) same k'.sort in
+      let bad : true ≡ false = sym (is_class_locked p number called there synchronized static) ∙ none in
+      absurd (cc)
+  called_on tags o site pc op target r k call at h synchronized = absurd (cc)

@@ -1,9 +1,11 @@
 -- What an instruction does keeps the types of its thread's frames, whatever its effect.
-use Rattle.std.proofs.Common.{◌≡◌, ℕ, ◌<◌, inl, Bool, true, false, ◌&&◌, List, ◌∷◌, length, Option, Some, None, refl, sym, subst, ◌∙◌, arith}
+use Rattle.std.proofs.Common.{◌≡◌, ℕ, ◌<◌, inl, Bool, true, false, List, ◌∷◌, length, Option, Some, None, refl, sym, subst, arith}
 use Rattle.std.specs.Prelude.{slice_get, drop, option_map, if◌then◌else◌}
+use Rattle.jvm_types.specs.ClassNames.{file_of_class}
 use Rattle.jvm_types.specs.Members.{is_static, is_synchronized, MethodSite}
 use Rattle.jvm_types.specs.ProgramInvariant.{site_in}
 use Rattle.jvm_types.specs.Verifying.{edges}
+use Rattle.jvm_types.specs.declared.class_numbers.TheConstants.{CLASS_ITSELF}
 use Rattle.jvm_types.specs.declared.code.Op.{Op}
 use Rattle.jvm_types.specs.declared.code.Op.TheVariants as ops
 use Rattle.jvm_types.specs.declared.op_row.OpRow.{OpRow}
@@ -21,12 +23,12 @@ use Rattle.machine_types.specs.declared.effect.Effect.{Effect}
 use Rattle.machine_types.specs.declared.effect.Effect.TheVariants.{Goes, Throws, Reads, Writes, Indexes, Measures, Raises, Makes, Prints, Calls, Returns, Enters, Leaves, Waits, Notifies, NotifiesAll, Stuck}
 use Rattle.machine_types.specs.Effects.{effect}
 use Rattle.jvm_types.specs.Types as types
-use Rattle.machine_types.specs.Frames.{first_or_null, effect_at, frame_on, went, went_on, waiting, has_room, entry_frame, arguments_of}
+use Rattle.machine_types.specs.Frames.{first_or_null, monitor_of, effect_at, frame_on, went, went_on, waiting, has_room, entry_frame, arguments_of}
 use Rattle.machine_types.specs.Onward.{Running, Throwing, Entering, threw, entered, called, done}
 use Rattle.machine_types.specs.ReadyObjects.{class_of, thrown_of}
 use Rattle.machine_types.specs.Threads.{Frame}
 use Rattle.machine_types.specs.Typed.{Classes, FrameHolds, HoldBelow, FramesHold, IsObject}
-use Rattle.machine_types.specs.Words.{header_class, header_length}
+use Rattle.machine_types.specs.Words.{class_object, header_class, header_length}
 use Rattle.laws_threads.specs.Allowed.{OneOf, HasRowTypes, IsByMachine, Allowed}
 use Rattle.laws_threads.proofs.Values.{ValuesHold}
 use Rattle.laws_threads.proofs.Landing.{rules_at}
@@ -85,6 +87,19 @@ module _ (c : MarkedProgram) (marked : IsMarked c) (is : Classes) (has : HasObje
         by_flag true s = subst (λ b. (if b then 0 else first_or_null (arguments_of c.program (top_here c f fs h.stands))) < c.program.heap) (sym s) (omega (arith, marked.checked.program.heap_from))
         by_flag false s = has.inside m.class _ (entry_values.receiver s)
 
+    -- the monitor of the new frame, where its method is synchronized, is an object that is there
+    entry_object : IsObject is (monitor_of c.program m (entry_frame number m (arguments_of c.program (top_here c f fs h.stands))))
+    entry_object = by_flag (is_static m.flags) refl
+      where
+        at : (s : Bool) → ℕ
+        at s = if s then class_object c.program (file_of_class m.class) else (entry_frame number m (arguments_of c.program (top_here c f fs h.stands))).receiver
+
+        by_flag : (s : Bool) → is_static m.flags ≡ s → IsObject is (at (is_static m.flags))
+        by_flag true s =
+            let class = (marked.checked.program.methods number m e).class in
+            subst (λ b. IsObject is (at b)) (sym s) (CLASS_ITSELF, has.classes (file_of_class m.class) (omega (arith, class)))
+        by_flag false s = subst (λ b. IsObject is (at b)) (sym s) (m.class, entry_values.receiver s)
+
     calls_it : Onwards c is (f ∷ fs) (called c.program (top_here c f fs h.stands) number m)
     calls_it = by_room (has_room c.program (f ∷ fs) m)
       where
@@ -92,24 +107,20 @@ module _ (c : MarkedProgram) (marked : IsMarked c) (is : Classes) (has : HasObje
         typed = (enters c marked is number m (arguments_of c.program (top_here c f fs h.stands)) e entry_values, (waits c marked is f h number call_names, b))
 
         by_flag : (s : Bool) → is_synchronized m.flags ≡ s
-            → Onwards c is (f ∷ fs) (if s then Entering (entry_frame number m (arguments_of c.program (top_here c f fs h.stands))).receiver (entry_frame number m (arguments_of c.program (top_here c f fs h.stands)) ∷ waiting c.program (top_here c f fs h.stands))
+            → Onwards c is (f ∷ fs) (if s then Entering (monitor_of c.program m (entry_frame number m (arguments_of c.program (top_here c f fs h.stands)))) (entry_frame number m (arguments_of c.program (top_here c f fs h.stands)) ∷ waiting c.program (top_here c f fs h.stands))
             else Running (entry_frame number m (arguments_of c.program (top_here c f fs h.stands)) ∷ waiting c.program (top_here c f fs h.stands)))
         by_flag true s = record {
-          holds = ((m.class, entry_values.receiver (not_static (is_static m.flags) (is_synchronized m.flags) (marked.checked.program.methods number m e).unsynchronized s)), typed);
+          holds = (entry_object, typed);
           keeps = keeps_push f (entry_frame number m (arguments_of c.program (top_here c f fs h.stands))) (record f { stack = drop (length (row_of c.program h.stands.method h.stands.insn h.stands.target).takes) f.stack }) fs;
           inside = λ all. (entry_inside, all);
         }
-          where
-            not_static : (a b : Bool) → (a && b) ≡ false → b ≡ true → a ≡ false
-            not_static true b u s = absurd (let bad : true ≡ false = sym s ∙ u in cc)
-            not_static false b u s = refl
         by_flag false s = record {
           holds = typed;
           keeps = keeps_push f (entry_frame number m (arguments_of c.program (top_here c f fs h.stands))) (record f { stack = drop (length (row_of c.program h.stands.method h.stands.insn h.stands.target).takes) f.stack }) fs;
           inside = λ all. (entry_inside, all);
         }
 
-        by_room : (room : Bool) → Onwards c is (f ∷ fs) (if room then entered m (entry_frame number m (arguments_of c.program (top_here c f fs h.stands))) (waiting c.program (top_here c f fs h.stands)) else threw thrown.StackOverflowError (top_here c f fs h.stands))
+        by_room : (room : Bool) → Onwards c is (f ∷ fs) (if room then entered c.program m (entry_frame number m (arguments_of c.program (top_here c f fs h.stands))) (waiting c.program (top_here c f fs h.stands)) else threw thrown.StackOverflowError (top_here c f fs h.stands))
         by_room true = by_flag (is_synchronized m.flags) refl
         by_room false = throws_it thrown.StackOverflowError tt
 

@@ -75,16 +75,16 @@ module _ (p : Program) (a : Attempt) where
     in_same : (o : Onward) → frames_in o ≡ frames_of at → Keeps o
     in_same o e l m = ap (put_back a) e
 
-    entered_keeps : (m : MethodInfo) (g : Frame) (b : Bool) → Keeps (if b then Entering (monitor_of m g) (g ∷ waiting p at) else Running (g ∷ waiting p at))
+    entered_keeps : (m : MethodInfo) (g : Frame) (b : Bool) → Keeps (if b then Entering (monitor_of p m g) (g ∷ waiting p at) else Running (g ∷ waiting p at))
     entered_keeps m g true l n = above at.frame (taken_from p at) g at.below l
     entered_keeps m g false l n = above at.frame (taken_from p at) g at.below l
 
-    called_keeps : (number : ℕ) (m : MethodInfo) (b : Bool) → Keeps (if b then entered m (entry_frame number m (arguments_of p at)) (waiting p at) else threw StackOverflowError at)
+    called_keeps : (number : ℕ) (m : MethodInfo) (b : Bool) → Keeps (if b then entered p m (entry_frame number m (arguments_of p at)) (waiting p at) else threw StackOverflowError at)
     called_keeps number m true = entered_keeps m (entry_frame number m (arguments_of p at)) (is_synchronized m.flags)
     called_keeps number m false = in_same (threw StackOverflowError at) refl
 
-    returned_keeps : (b : Bool) → Keeps (if b then Leaving (monitor_of at.method at.frame) afters.Return (frames_of at) else back (returned p at))
-    returned_keeps true = in_same (Leaving (monitor_of at.method at.frame) afters.Return (frames_of at)) refl
+    returned_keeps : (b : Bool) → Keeps (if b then Leaving (monitor_of p at.method at.frame) afters.Return (frames_of at) else back (returned p at))
+    returned_keeps true = in_same (Leaving (monitor_of p at.method at.frame) afters.Return (frames_of at)) refl
     returned_keeps false = given_to at.frame at.below (given_back at.insn.op at.frame.stack) (top_of p at.below) refl
 
     went_keeps : (to made : ℕ) → Keeps (Running (went p at to made))
@@ -121,11 +121,11 @@ module _ (p : Program) (a : Attempt) where
     steps Stuck got onward e = absurd (cc)
 
     -- an exception
-    not_caught : (x : ℕ) (class : Thrown) (b : Bool) → Keeps (if b then Leaving (monitor_of at.method at.frame) (afters.Unwind x class) (frames_of at) else unwound x class at.below)
-    not_caught x class true = in_same (Leaving (monitor_of at.method at.frame) (afters.Unwind x class) (frames_of at)) refl
+    not_caught : (x : ℕ) (class : Thrown) (b : Bool) → Keeps (if b then Leaving (monitor_of p at.method at.frame) (afters.Unwind x class) (frames_of at) else unwound x class at.below)
+    not_caught x class true = in_same (Leaving (monitor_of p at.method at.frame) (afters.Unwind x class) (frames_of at)) refl
     not_caught x class false = unwound_to at.frame at.below x class
 
-    thrown : (x : ℕ) (class : Thrown) (o : Option Row) → Keeps (handed x class at o)
+    thrown : (x : ℕ) (class : Thrown) (o : Option Row) → Keeps (handed p x class at o)
     thrown x class (Some r) = λ l m. in_place at.frame _ at.below l
     thrown x class None = not_caught x class (is_synchronized at.method.flags)
 
@@ -142,7 +142,7 @@ pub steps_kept : StepsKeepEntry
 steps_kept p fs a at e got onward t d = of_top p a fs at onward t (steps p a at e got onward d)
 
 pub throws_kept : ThrowsKeepEntry
-throws_kept p fs a x class onward e = mapped p a fs (λ at. handed x class at (handler_at (class_of class) at)) (λ at. thrown p a at x class (handler_at (class_of class) at)) (top_of p fs) refl onward e
+throws_kept p fs a x class onward e = mapped p a fs (λ at. handed p x class at (handler_at (class_of class) at)) (λ at. thrown p a at x class (handler_at (class_of class) at)) (top_of p fs) refl onward e
 
 pub leaves_kept : LeavesKeepEntry
 leaves_kept p fs a afters.Next onward e = λ l m. ap (λ (o : Onward). put_back a (frames_in o)) (sym (same_some e))

@@ -1,5 +1,5 @@
 -- A call: the caller waits, and the called method begins.
-use Rattle.std.proofs.Common.{◌≡◌, ℕ, zero, suc, ◌-◌, ◌≤◌, Bool, true, false, cond, ◌&&◌, List, [], ◌∷◌, ◌++◌, drop, take, reverse, length, replicate, Some, inl, refl, sym, ap, ◌∙◌, subst, arith}
+use Rattle.std.proofs.Common.{◌≡◌, ℕ, zero, suc, ◌-◌, ◌≤◌, Bool, true, false, cond, List, [], ◌∷◌, ◌++◌, drop, take, reverse, length, replicate, Some, inl, refl, sym, ap, ◌∙◌, subst, arith}
 use Rattle.std.specs.Prelude.{slice_get}
 use Rattle.std.proofs.lemmas.List.{length-append, length-replicate}
 use Rattle.jvm_types.specs.CodeTable.{arguments}
@@ -32,7 +32,6 @@ use Rattle.laws_threads.proofs.FramePlaces.{Lands, lands, top_by}
 use Rattle.laws_threads.proofs.MarkedMethods.{MethodAt, method_at}
 use Rattle.laws_threads.proofs.ShownFrames.{by_top, fits_at, holds_at, whole_landed}
 use Rattle.laws_threads.proofs.TagValues.{dropped}
-use Rattle.laws_programs.proofs.LocalEdges.{second_false}
 
 -- ---- the locals that a method begins with
 
@@ -79,7 +78,7 @@ module _ (c : MarkedProgram) (is : IsMarked c) where
   entry_lands number m args e a = lands c is (entry_frame number m args) m a.tags (entry_tags m) e a.its_tags a.holds.sound.entry
 
   entry_shows : (number : ℕ) (m : MethodInfo) (args : List ℕ) → slice_get c.program.methods number ≡ Some m → (is_static m.flags ≡ false → HasTop args)
-      → Shows c Whole (entry_frame number m args) (own_entry m (entry_frame number m args))
+      → Shows c Whole (entry_frame number m args) (own_entry c.program m (entry_frame number m args))
   entry_shows number m args e some =
       let a = method_at c is number m e in
       whole_landed c is (entry_frame number m args) m a.tags (entry_tags m) (λ pc. 0) (entry_lands number m args e a) (entry_values (λ pc. 0) (is_static m.flags) m.max_locals args some) tt
@@ -109,7 +108,7 @@ module _ (c : MarkedProgram) (is : IsMarked c) where
 
   pub called_frames : (f : Frame) (below : List Frame) (own rest : List ℕ) (top : Shows c Whole f own) → ShowBelow c f.method below rest → (number : ℕ) (called : MethodInfo) → IsCalling c.program top.stands.insn top.stands.target f.stack number
       → slice_get c.program.methods number ≡ Some called
-      → Show c Whole (callee_frame c.program (top_by c is f below top.stands) number called ∷ waiting c.program (top_by c is f below top.stands)) (own_entry called (callee_frame c.program (top_by c is f below top.stands) number called) ++ (own ++ rest))
+      → Show c Whole (callee_frame c.program (top_by c is f below top.stands) number called ∷ waiting c.program (top_by c is f below top.stands)) (own_entry c.program called (callee_frame c.program (top_by c is f below top.stands) number called) ++ (own ++ rest))
   called_frames f below own rest top b number called a d =
       let k = top.stands in
       let same : a.called ≡ called = same_some (sym a.there ∙ d) in
@@ -117,7 +116,7 @@ module _ (c : MarkedProgram) (is : IsMarked c) where
       (λ s.
       let n = takes_some c.program (site_in k.method) k.insn.pc k.insn.op k.target (row_at c f k) number called a.names d s (holds_at c is f k).has_row in
       some_taken n.0 (row_at c f k).takes f.stack n.1 (a.receiver (ap (λ (m : MethodInfo). is_static m.flags) same ∙ s))) in
-      (own_entry called (callee_frame c.program (top_by c is f below k) number called), own ++ rest, refl, entry_shows number called (reverse (take (length (row_at c f k).takes) f.stack)) d some, (own, rest, refl, waits f own top number a.names, b))
+      (own_entry c.program called (callee_frame c.program (top_by c is f below k) number called), own ++ rest, refl, entry_shows number called (reverse (take (length (row_at c f k).takes) f.stack)) d some, (own, rest, refl, waits f own top number a.names, b))
 
 -- ---- the laws
 
@@ -129,20 +128,19 @@ called_law c fs shown at number is e s g =
 pub calls_law : CallsShow
 calls_law c fs shown at number called is e s g d =
     by_top c is Whole (λ fs shown (at : Top). effect_at c.program at ≡ Calls number
-    → Show c Whole (callee_frame c.program at number called ∷ waiting c.program at) (own_entry called (callee_frame c.program at number called) ++ shown))
+    → Show c Whole (callee_frame c.program at number called ∷ waiting c.program at) (own_entry c.program called (callee_frame c.program at number called) ++ shown))
     (λ f below own rest top b g. called_frames c is f below own rest top b number called (calling c is f below top.stands number g) d) fs shown at e s g
 
 pub call_enters_law : CallsEnter
 call_enters_law c fs at number called is e d y =
     let a = method_at c is number called d in
     let l = entry_lands c is number called (arguments_of c.program at) d a in
-    (l.stands, inl (refl, ap (λ (m : MethodInfo). is_synchronized m.flags) l.method ∙ y, refl))
+    (l.stands, inl (refl, ap (λ (m : MethodInfo). is_synchronized m.flags) l.method ∙ y, ap (λ (m : MethodInfo). monitor_of c.program m (callee_frame c.program at number called)) l.method))
 
-no_own : (m : MethodInfo) (f : Frame) → is_synchronized m.flags ≡ false → own_entry m f ≡ []
-no_own m f e = ap (λ (b : Bool). cond b (monitor_of m f ∷ []) []) e
+no_own : (p : Program) (m : MethodInfo) (f : Frame) → is_synchronized m.flags ≡ false → own_entry p m f ≡ []
+no_own p m f e = ap (λ (b : Bool). cond b (monitor_of p m f ∷ []) []) e
 
 pub roots_law : RootsShow
-roots_law c t number m is e s =
-    let free : is_synchronized m.flags ≡ false = second_false (is_static m.flags) (is_synchronized m.flags) (is.checked.program.methods number m e).unsynchronized s in
-    let own : own_entry m (entry_frame number m (root_arguments t m)) ≡ [] = no_own m (entry_frame number m (root_arguments t m)) free in
-    (own_entry m (entry_frame number m (root_arguments t m)), [], ap (λ (xs : List ℕ). xs ++ []) (sym own), entry_shows c is number m (root_arguments t m) e (λ q. absurd (let bad : true ≡ false = sym s ∙ q in cc)), refl)
+roots_law c t number m is e s free =
+    let own : own_entry c.program m (entry_frame number m (root_arguments t m)) ≡ [] = no_own c.program m (entry_frame number m (root_arguments t m)) free in
+    (own_entry c.program m (entry_frame number m (root_arguments t m)), [], ap (λ (xs : List ℕ). xs ++ []) (sym own), entry_shows c is number m (root_arguments t m) e (λ q. absurd (let bad : true ≡ false = sym s ∙ q in cc)), refl)

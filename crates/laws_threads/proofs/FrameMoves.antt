@@ -64,7 +64,7 @@ module _ (c : MarkedProgram) (is : IsMarked c) where
       → HaveValues choice f.receiver brought.locals locals → HaveValues choice f.receiver brought.stack stack → map (tag_value choice f.receiver) brought.held ≡ map (tag_value top.choice f.receiver) top.stands.tags.held
       → Shows c Whole (record f { pc = to; locals = locals; stack = stack }) own
   again f own top brought choice to locals stack fits hl hs same =
-      subst (λ (xs : List ℕ). Shows c Whole (record f { pc = to; locals = locals; stack = stack }) xs) (ap (λ (xs : List ℕ). xs ++ own_entry top.stands.method f) same ∙ sym top.shown_are)
+      subst (λ (xs : List ℕ). Shows c Whole (record f { pc = to; locals = locals; stack = stack }) xs) (ap (λ (xs : List ℕ). xs ++ own_entry c.program top.stands.method f) same ∙ sym top.shown_are)
       (whole_landed c is (record f { pc = to; locals = locals; stack = stack }) top.stands.method top.stands.at.frames brought choice (landed c is f top.stands brought to locals stack fits) hl hs)
 
   -- by its row alone

@@ -130,24 +130,24 @@ none_held : (m : MethodInfo) (insn : Insn) (held : List Tag) → leaves_held m i
 none_held m insn [] e h = refl
 none_held m insn (t ∷ held) e h = absurd (let bad : true ≡ false = sym h ∙ e in cc)
 
-pub one_entry : (m : MethodInfo) (f : Frame) (n : ℕ) → is_synchronized m.flags ≡ true → monitor_of m f ≡ n → own_entry m f ≡ n ∷ []
-one_entry m f n e k = ap (λ (b : Bool). cond b (monitor_of m f ∷ []) []) e ∙ ap (λ (i : ℕ). i ∷ []) k
+pub one_entry : (p : Program) (m : MethodInfo) (f : Frame) (n : ℕ) → is_synchronized m.flags ≡ true → monitor_of p m f ≡ n → own_entry p m f ≡ n ∷ []
+one_entry p m f n e k = ap (λ (b : Bool). cond b (monitor_of p m f ∷ []) []) e ∙ ap (λ (i : ℕ). i ∷ []) k
 
 module _ (c : MarkedProgram) (is : IsMarked c) where
   pub leaves_none : (f : Frame) (k : Standing c f) → may_leave k.method k.insn ≡ true → k.tags.held ≡ []
   leaves_none f k h = none_held k.method k.insn k.tags.held (sound_at c is f k).leaves h
 
   -- a frame with no held tag shows its own entry alone
-  pub shows_own : (operands : Operands) (f : Frame) (own : List ℕ) (top : Shows c operands f own) → top.stands.tags.held ≡ [] → own ≡ own_entry top.stands.method f
-  shows_own operands f own top none = top.shown_are ∙ ap (λ (ts : List Tag). map (tag_value top.choice f.receiver) ts ++ own_entry top.stands.method f) none
+  pub shows_own : (operands : Operands) (f : Frame) (own : List ℕ) (top : Shows c operands f own) → top.stands.tags.held ≡ [] → own ≡ own_entry c.program top.stands.method f
+  shows_own operands f own top none = top.shown_are ∙ ap (λ (ts : List Tag). map (tag_value top.choice f.receiver) ts ++ own_entry c.program top.stands.method f) none
 
   -- one that leaves a monitor shows that alone
   pub leaves_one : (operands : Operands) (m : ℕ) (f : Frame) (own : List ℕ) → Shows c operands f own → (k : Standing c f) → IsLeaving c m f k → own ≡ m ∷ []
   leaves_one operands m f own top k l =
       let same = one_standing c is f top.stands k in
       shows_own operands f own top (ap (λ (t : TagShape). t.held) same.tags ∙ l.none)
-      ∙ ap (λ (x : MethodInfo). own_entry x f) same.method
-      ∙ one_entry k.method f m l.synchronized l.monitor
+      ∙ ap (λ (x : MethodInfo). own_entry c.program x f) same.method
+      ∙ one_entry c.program k.method f m l.synchronized l.monitor
 
   -- the top frame is left by an instruction that may leave it
   pub left : (operands now_has : Operands) (test : Op → Bool) (f : Frame) (below : List Frame) (own rest : List ℕ) (top : Shows c operands f own) (now : List Frame) → may_leave top.stands.method top.stands.insn ≡ true

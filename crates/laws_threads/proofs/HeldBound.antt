@@ -12,6 +12,7 @@ use Rattle.checked_program.specs.TaggedCode.{tagged_by}
 use Rattle.checked_program.specs.declared.tag.Tags.{Tags}
 use Rattle.jvm_types.specs.declared.limits.TheConstants.{MOST_FRAMES}
 use Rattle.machine_types.specs.HeldMonitors.{held_at, held_in_frame, most_in, most_held, places_of}
+use Rattle.machine_types.specs.Frames.{monitor_of}
 use Rattle.machine_types.specs.Shown.{Shows, ShowBelow, Show, own_entry, tag_value}
 use Rattle.machine_types.specs.Standing.{Operands, Whole}
 use Rattle.machine_types.specs.Structure.{AreHeldOnce, Stands, IsAs, count_in, held_depth, once_at}
@@ -89,18 +90,18 @@ module _ (c : MarkedProgram) where
   abbrev most : ℕ
   most = most_held c.tags
 
-  own_few : (m : MethodInfo) (f : Frame) → length (own_entry m f) ≤ 1
+  own_few : (m : MethodInfo) (f : Frame) → length (own_entry c.program m f) ≤ 1
   own_few m f = by_test (is_synchronized m.flags)
     where
-      by_test : (b : Bool) → length (cond b (f.receiver ∷ []) []) ≤ 1
+      by_test : (b : Bool) → length (cond b (monitor_of c.program m f ∷ []) []) ≤ 1
       by_test true = omega arith
       by_test false = omega arith
 
   frame_few : (operands : Operands) (f : Frame) (own : List ℕ) → Shows c operands f own → length own ≤ 1 + most
   frame_few operands f own s =
       let held : length s.stands.tags.held ≤ most = in_tags f.method s.stands.number c.tags s.stands.at.frames s.stands.tags s.stands.at.of_method s.stands.at.frame in
-      let one : length (own_entry s.stands.method f) ≤ 1 = own_few s.stands.method f in
-      let long : length own ≡ length (map (tag_value s.choice f.receiver) s.stands.tags.held) + length (own_entry s.stands.method f) = ap (length {A = ℕ}) s.shown_are ∙ length-append (map (tag_value s.choice f.receiver) s.stands.tags.held) (own_entry s.stands.method f) in
+      let one : length (own_entry c.program s.stands.method f) ≤ 1 = own_few s.stands.method f in
+      let long : length own ≡ length (map (tag_value s.choice f.receiver) s.stands.tags.held) + length (own_entry c.program s.stands.method f) = ap (length {A = ℕ}) s.shown_are ∙ length-append (map (tag_value s.choice f.receiver) s.stands.tags.held) (own_entry c.program s.stands.method f) in
       let mapped : length (map (tag_value s.choice f.receiver) s.stands.tags.held) ≡ length s.stands.tags.held = length-map s.stands.tags.held (tag_value s.choice f.receiver) in
       omega arith
 

@@ -1,12 +1,14 @@
 -- A thread inside an attempt: its top frame, what that may do, and what stays as frames come and go.
 use Rattle.std.proofs.Common.{◌≡◌, ◌⊎◌, inr, ⊎_elim, ℕ, ◌<◌, ◌≤◌, true, List, [], ◌∷◌, length, None, refl, sym, ◌∙◌, subst, arith}
+use Rattle.lists.proofs.TestLaws.{first_true}
 use Rattle.jvm_types.specs.Members.{is_synchronized}
 use Rattle.jvm_types.specs.ProgramInvariant.{site_in}
+use Rattle.jvm_types.specs.Verifying.{is_return}
 use Rattle.checked_program.specs.LockTags.{TagShape}
 use Rattle.checked_program.specs.MarkedProgram.{MarkedProgram, IsMarked}
 use Rattle.checked_program.specs.SectionLaws.{HasThis}
 use Rattle.machine_types.specs.Elision.{put_back}
-use Rattle.machine_types.specs.Frames.{Top, effect_at, top_row}
+use Rattle.machine_types.specs.Frames.{Top, effect_at, monitor_of, top_row}
 use Rattle.machine_types.specs.Shown.{Shows, Show}
 use Rattle.machine_types.specs.Standing.{Standing, Operands, Whole, tags_of}
 use Rattle.machine_types.specs.Structure.{IsPhaseInside, Stands, AttemptStands, Finishes, RunsSection, frames_inside}
@@ -17,8 +19,10 @@ use Rattle.machine_types.specs.declared.lock.Held.{Held}
 use Rattle.machine_types.specs.declared.phase.Phase.{Phase}
 use Rattle.machine_types.specs.declared.phase.Phase.TheVariants as phases
 use Rattle.laws_threads.specs.InsideEffects.{MayDo, InsideMayDo}
+use Rattle.laws_threads.proofs.Base.{entry_of, of_monitor}
 use Rattle.laws_threads.proofs.CallOps.{called_on}
 use Rattle.laws_threads.proofs.EffectOps.{Does, does}
+use Rattle.laws_threads.proofs.FrameReturns.{leaves_none}
 use Rattle.laws_threads.proofs.FramesInside.{one_more}
 use Rattle.laws_threads.proofs.SectionFrames.{have_this, Runs, runs_of, row_stands, reads, exits, locking_on}
 use Rattle.laws_threads.proofs.Standings.{top_here, top_at_standing, one_tags}
@@ -60,6 +64,12 @@ module _ (c : MarkedProgram) (marked : IsMarked c) where
   pub top_shows : (o : Operands) (f : Frame) (below : List Frame) (shown : List ℕ) → Show c o (f ∷ below) shown → (own : List ℕ) × Shows c o f own
   top_shows o f below shown s = (s.0, s.3)
 
+  -- where it holds no tag, the frame of a synchronized method has the section's monitor
+  pub locking : (phase : Phase) (f : Frame) (below : List Frame) (held : List Held) (a : Attempt) → AttemptStands c phase (f ∷ below) held a → (rest : List Frame) (r : Runs c a f rest) → r.stands.tags.held ≡ []
+      → is_synchronized r.stands.method.flags ≡ true → monitor_of c.program r.stands.method f ≡ a.monitor
+  locking phase f below held a k [] r none synchronized = of_monitor c marked a f r (entry_of c marked a phase (f ∷ below) held k) none
+  locking phase f below held a k (b ∷ rest) r none synchronized = locking_on c marked a k.uses k.are_uses k.marked f b rest r synchronized
+
   module _ (phase : Phase) (f : Frame) (below : List Frame) (held : List Held) (a : Attempt) (k : AttemptStands c phase (f ∷ below) held a) (r : Runs c a f (frames_inside a below)) (this : HasThis f.receiver r.stands.tags.stack f.stack) where
     abbrev top : Top
     top = top_here c f below r.stands
@@ -70,13 +80,10 @@ module _ (c : MarkedProgram) (marked : IsMarked c) where
         does c a.monitor s.method s.insn.pc s.insn.next (top_row c.program top) s.target s.insn.op f.locals f.stack (row_stands c marked f.method s.number s.method s.insn s.target s.tags s.at)
         (reads c marked a k.uses k.are_uses k.marked f (frames_inside a below) r f.stack this)
 
-    pub locking : is_synchronized r.stands.method.flags ≡ true → f.receiver ≡ a.monitor
-    locking = locking_on c marked a k.uses k.are_uses k.marked f (frames_inside a below) r
-
     pub calls_on : (number : ℕ) → Does c a.monitor r.stands.insn.op r.stands.target f.stack (Calls number) → MayDo c a.monitor top (Calls number)
     calls_on number d called there synchronized =
         let s = r.stands in
-        called_on c.program number called there f.stack (tags_of c) a.monitor (site_in s.method) s.insn.pc s.insn.op s.target (top_row c.program top) marked.checked.program (row_stands c marked f.method s.number s.method s.insn s.target s.tags s.at) d.0 d.1
+        called_on c.program number called there f.stack (tags_of c) a.monitor (site_in s.method) s.insn.pc s.insn.op s.target (top_row c.program top) (row_stands c marked f.method s.number s.method s.insn s.target s.tags s.at) d.0 d.1
         (reads c marked a k.uses k.are_uses k.marked f (frames_inside a below) r f.stack this) synchronized
 
     pub leaves_on : (n : ℕ) → Does c a.monitor r.stands.insn.op r.stands.target f.stack (Leaves n) → n ≡ a.monitor
@@ -93,7 +100,7 @@ module _ (c : MarkedProgram) (marked : IsMarked c) where
     may (Makes word size) d = d
     may (Prints n) d = d
     may (Calls number) d = calls_on number d
-    may Returns d = locking
+    may Returns d = locking phase f below held a k (frames_inside a below) r (leaves_none c marked f r.stands (first_true (is_return r.stands.insn.op) _ d))
     may (Enters n) d = d
     may (Leaves n) d = leaves_on n d
     may (Waits n) d = d

@@ -88,15 +88,15 @@ module _ (c : MarkedProgram) (marked : IsMarked c) (fs : List Frame) (shown : Li
       frame : Frame
       frame = callee_frame c.program at number m
 
-      all_shown : Show c Whole (frame ∷ waiting c.program at) (own_entry m frame ++ shown)
+      all_shown : Show c Whole (frame ∷ waiting c.program at) (own_entry c.program m frame ++ shown)
       all_shown = calls_law c fs shown at number m marked t show f g
 
-      by_flag : (b : Bool) → is_synchronized m.flags ≡ b → Show c Whole (frame ∷ waiting c.program at) (cond b (monitor_of m frame ∷ []) [] ++ shown)
-          → OnwardShows c (cond b (Entering (monitor_of m frame) (frame ∷ waiting c.program at)) (Running (frame ∷ waiting c.program at))) shown
+      by_flag : (b : Bool) → is_synchronized m.flags ≡ b → Show c Whole (frame ∷ waiting c.program at) (cond b (monitor_of c.program m frame ∷ []) [] ++ shown)
+          → OnwardShows c (cond b (Entering (monitor_of c.program m frame) (frame ∷ waiting c.program at)) (Running (frame ∷ waiting c.program at))) shown
       by_flag true e k = (call_enters_law c fs at number m marked t g e, k)
       by_flag false e k = (tt, k)
 
-      by_room : (room : Bool) → OnwardShows c (cond room (entered m frame (waiting c.program at)) (threw StackOverflowError at)) shown
+      by_room : (room : Bool) → OnwardShows c (cond room (entered c.program m frame (waiting c.program at)) (threw StackOverflowError at)) shown
       by_room true = by_flag (is_synchronized m.flags) refl all_shown
       by_room false = threw_shows StackOverflowError (effects.Calls number) f refl
 
@@ -110,8 +110,8 @@ module _ (c : MarkedProgram) (marked : IsMarked c) (fs : List Frame) (shown : Li
       left : IsLeft c at is_return Whole (returned c.program at) shown
       left = returns_law c fs shown at marked t show f
 
-      by_flag : (b : Bool) → is_synchronized at.method.flags ≡ b → shown ≡ cond b (monitor_of at.method at.frame ∷ []) [] ++ left.rest
-          → OnwardShows c (cond b (Leaving (monitor_of at.method at.frame) afters.Return (frames_of at)) (back (returned c.program at))) shown
+      by_flag : (b : Bool) → is_synchronized at.method.flags ≡ b → shown ≡ cond b (monitor_of c.program at.method at.frame ∷ []) [] ++ left.rest
+          → OnwardShows c (cond b (Leaving (monitor_of c.program at.method at.frame) afters.Return (frames_of at)) (back (returned c.program at))) shown
       by_flag true e own = record { leaves = left.leaves e; now = shown; counts = λ n. omega arith; show = subst (λ (gs : List Frame). Show c Whole gs shown) is_top show }
       by_flag false e own = subst (λ (ns : List ℕ). OnwardShows c (back (returned c.program at)) ns) (sym own) (back_shows (returned c.program at) left.rest left.show)
 

@@ -186,7 +186,7 @@ module _ (c : MarkedProgram) (s : Thread) (got : ℕ) where
   goes_bounded _ _ (moves.by_element word stored at found) b = goes c.program s (Running (went_on c.program at (element_made stored got))) tt (fit (phases.Element word stored) tt b) (spent (phases.Element word stored) tt b)
   goes_bounded _ _ (moves.by_object a word) b = goes c.program s (Running (pushed a s.frames)) tt (fit (phases.Made a word) tt b) (spent (phases.Made a word) tt b)
   goes_bounded _ _ (moves.by_handler x class at found) b =
-      goes c.program s (handed x class at (handler_at (class_of class) at)) (handed_enters_none c.program x class at (handler_at (class_of class) at)) (fit (phases.Throw x class) tt b) (spent (phases.Throw x class) tt b)
+      goes c.program s (handed c.program x class at (handler_at (class_of class) at)) (handed_enters_none c.program x class at (handler_at (class_of class) at)) (fit (phases.Throw x class) tt b) (spent (phases.Throw x class) tt b)
   goes_bounded _ _ (moves.by_none m r t) b = goes c.program s (Running s.frames) tt (fit (phases.NotifyLook m r) tt b) (spent (phases.NotifyLook m r) tt b)
   goes_bounded _ _ (moves.by_one m r u) b = goes c.program s (Running s.frames) tt (fit (phases.NotifyOne m r u) tt b) (spent (phases.NotifyOne m r u) tt b)
   goes_bounded _ _ (moves.by_all m r) b = goes c.program s (Running s.frames) tt (fit (phases.NotifyAll m r) tt b) (spent (phases.NotifyAll m r) tt b)

@@ -127,7 +127,7 @@ module _ (c : MarkedProgram) (marked : IsMarked c) (is : Classes) (has : HasObje
     goes_holds _ _ (moves.by_nobody at m count h found y there l) t = notifies_at c marked is has m s.frames at t.holds found y
     goes_holds _ o (moves.by_element word stored at found) t = subst (λ w. IfOnwards c is s.frames (option_map (λ at. Running (went_on c.program at (element_made stored got))) w)) found (element_kept word stored s.frames got t.holds.1 t.shows t.finds)
     goes_holds _ _ (moves.by_object a word) t = made_kept a word s.frames t.finds t.holds
-    goes_holds _ o (moves.by_handler x class at found) t = subst (λ w. IfOnwards c is s.frames (option_map (λ at. handed x class at (handler_at (class_of class) at)) w)) found (thrown_kept x class s.frames t.holds.0 t.holds.1 t.shows)
+    goes_holds _ o (moves.by_handler x class at found) t = subst (λ w. IfOnwards c is s.frames (option_map (λ at. handed c.program x class at (handler_at (class_of class) at)) w)) found (thrown_kept x class s.frames t.holds.0 t.holds.1 t.shows)
     goes_holds _ _ (moves.by_none m r e) t = runs_still s.frames t.holds
     goes_holds _ _ (moves.by_one m r u) t = runs_still s.frames t.holds
     goes_holds _ _ (moves.by_all m r) t = runs_still s.frames t.holds

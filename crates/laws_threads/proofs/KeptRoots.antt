@@ -118,8 +118,8 @@ module _ (p : Program) where
   onward_by false x y f g = g
 
   calls : (at : Top) (number : ℕ) (m : MethodInfo) → OnwardFits (called p at number m)
-  calls at number m = onward_by (has_room p (frames_of at) m) (entered m (entry_frame number m (arguments_of p at)) (waiting p at)) (threw StackOverflowError at)
-      (onward_by (is_synchronized m.flags) (Entering (monitor_of m (entry_frame number m (arguments_of p at))) (entry_frame number m (arguments_of p at) ∷ waiting p at)) (Running (entry_frame number m (arguments_of p at) ∷ waiting p at)) tt tt)
+  calls at number m = onward_by (has_room p (frames_of at) m) (entered p m (entry_frame number m (arguments_of p at)) (waiting p at)) (threw StackOverflowError at)
+      (onward_by (is_synchronized m.flags) (Entering (monitor_of p m (entry_frame number m (arguments_of p at))) (entry_frame number m (arguments_of p at) ∷ waiting p at)) (Running (entry_frame number m (arguments_of p at) ∷ waiting p at)) tt tt)
       tt
 
   goes_back : (fs : List Frame) → OnwardFits (back fs)
@@ -131,11 +131,11 @@ module _ (p : Program) where
   goes_out x class (f ∷ fs) = tt
 
   gives_back : (at : Top) → OnwardFits (returns p at)
-  gives_back at = onward_by (is_synchronized at.method.flags) (Leaving (monitor_of at.method at.frame) afters.Return (frames_of at)) (back (returned p at)) tt (goes_back (returned p at))
+  gives_back at = onward_by (is_synchronized at.method.flags) (Leaving (monitor_of p at.method at.frame) afters.Return (frames_of at)) (back (returned p at)) tt (goes_back (returned p at))
 
-  hands : (x : ℕ) (class : Thrown) (at : Top) (row : Option Row) → OnwardFits (handed x class at row)
+  hands : (x : ℕ) (class : Thrown) (at : Top) (row : Option Row) → OnwardFits (handed p x class at row)
   hands x class at (Some r) = tt
-  hands x class at None = onward_by (is_synchronized at.method.flags) (Leaving (monitor_of at.method at.frame) (afters.Unwind x class) (frames_of at)) (unwound x class at.below) tt (goes_out x class at.below)
+  hands x class at None = onward_by (is_synchronized at.method.flags) (Leaving (monitor_of p at.method at.frame) (afters.Unwind x class) (frames_of at)) (unwound x class at.below) tt (goes_out x class at.below)
 
   goes_behind : (fs : List Frame) (a : After) → HasFrame fs → IfSome (after p fs a) OnwardFits
   goes_behind fs afters.Next h = h

@@ -23,6 +23,7 @@ use Rattle.machine_types.specs.Typed.{KindHolds, PhaseHolds}
 use Rattle.machine_types.specs.declared.lock.Held.{Held}
 use Rattle.machine_types.specs.declared.phase.Phase.{Phase}
 use Rattle.machine_types.specs.declared.phase.Phase.TheVariants as phases
+use Rattle.machine_types.proofs.ClassObjects.{class_object_below}
 use Rattle.laws_threads.specs.Allowed.{IsByMachine}
 use Rattle.laws_threads.specs.KeptTypes.{TypesAreKept}
 use Rattle.laws_threads.specs.TopFrames.{IsAllowed}
@@ -35,7 +36,7 @@ use Rattle.laws_threads.proofs.Roots.{starts_typed}
 -- ---- objects, as words of the heap
 
 heap_objects : (p : Program) → IsProgram p → HasObjects p (within p)
-heap_objects p is = record { out = omega (arith, is.heap_from); ready = ready_inside; inside = λ class v h. h }
+heap_objects p is = record { out = omega (arith, is.heap_from); ready = ready_inside; classes = λ file few. omega (arith, class_object_below p file few, is.words); inside = λ class v h. h }
   where
     ready_inside : (x : Thrown) → IsByMachine x → ready x < p.heap
     ready_inside thrown.Throwable own = absurd own

@@ -36,7 +36,6 @@ pub mod GoingOn
 pub mod Releases
 pub mod ElementEffects
 pub mod Instructions
-pub mod StaticRoots
 pub mod ThreadSteps
 pub mod StateSteps
 pub mod PartSteps

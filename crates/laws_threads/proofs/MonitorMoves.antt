@@ -61,7 +61,7 @@ module _ (c : MarkedProgram) (is : IsMarked c) (f : Frame) (own : List ℕ) (top
   lands_with : (held : List Tag) → EdgeFits IsShapeBelow k.method.code k.at.frames (behind held) k.insn.next → Lands c is next_frame k.method k.at.frames (behind held)
   lands_with held fits = landed c is f k (behind held) k.insn.next (locals_after 0 (λ type. 0) r.writes f.stack f.locals) (stack_after 0 (λ type. 0) r f.stack f.locals) fits
 
-  shows_with : (held : List Tag) → Lands c is next_frame k.method k.at.frames (behind held) → Shows c Whole next_frame (map (tag_value top.choice f.receiver) held ++ own_entry k.method f)
+  shows_with : (held : List Tag) → Lands c is next_frame k.method k.at.frames (behind held) → Shows c Whole next_frame (map (tag_value top.choice f.receiver) held ++ own_entry c.program k.method f)
   shows_with held l = whole_landed c is next_frame k.method k.at.frames (behind held) top.choice l
       (row_locals top.choice f.receiver 0 (λ type. 0) k.tags.stack k.tags.locals f.stack f.locals top.stack top.locals r.writes)
       (row_stack top.choice f.receiver 0 (λ type. 0) k.tags.stack k.tags.locals f.stack f.locals top.stack top.locals r)
@@ -82,7 +82,7 @@ module _ (c : MarkedProgram) (is : IsMarked c) (f : Frame) (own : List ℕ) (top
           let fits : EdgeFits IsShapeBelow k.method.code k.at.frames (behind (t ∷ k.tags.held)) k.insn.next =
           subst (λ (us : List Tag). EdgeFits IsShapeBelow k.method.code k.at.frames (tags_by_op k.insn.pc r ops.Monitorenter us k.tags) k.insn.next) q (edge ops.Monitorenter e refl) in
           let l : Lands c is next_frame k.method k.at.frames (behind (t ∷ k.tags.held)) = lands_with (t ∷ k.tags.held) fits in
-          let same : tag_value top.choice f.receiver t ∷ (map (tag_value top.choice f.receiver) k.tags.held ++ own_entry k.method f) ≡ m ∷ own = let s = top.shown_are in cc in
+          let same : tag_value top.choice f.receiver t ∷ (map (tag_value top.choice f.receiver) k.tags.held ++ own_entry c.program k.method f) ≡ m ∷ own = let s = top.shown_are in cc in
           record {
             shows = subst (λ (xs : List ℕ). Shows c Whole next_frame xs) same (shows_with (t ∷ k.tags.held) l);
             stands = l.stands;
@@ -112,8 +112,8 @@ module _ (c : MarkedProgram) (is : IsMarked c) (f : Frame) (own : List ℕ) (top
       finished t ts hs q h v =
           let fits : EdgeFits IsShapeBelow k.method.code k.at.frames (behind (drop 1 k.tags.held)) k.insn.next = edge ops.Monitorexit e refl in
           let fits : EdgeFits IsShapeBelow k.method.code k.at.frames (behind hs) k.insn.next = subst (λ (us : List Tag). EdgeFits IsShapeBelow k.method.code k.at.frames (behind (drop 1 us)) k.insn.next) h fits in
-          let less : List ℕ = map (tag_value top.choice f.receiver) hs ++ own_entry k.method f in
-          let same : own ≡ m ∷ less = top.shown_are ∙ ap (λ (us : List Tag). map (tag_value top.choice f.receiver) us ++ own_entry k.method f) h ∙ ap (λ (n : ℕ). n ∷ less) (sym v) in
+          let less : List ℕ = map (tag_value top.choice f.receiver) hs ++ own_entry c.program k.method f in
+          let same : own ≡ m ∷ less = top.shown_are ∙ ap (λ (us : List Tag). map (tag_value top.choice f.receiver) us ++ own_entry c.program k.method f) h ∙ ap (λ (n : ℕ). n ∷ less) (sym v) in
           (less, same, shows_with hs (lands_with hs fits))
 
       top_value : (t : Tag) (ts : List Tag) → k.tags.stack ≡ t ∷ ts → HaveValues top.choice f.receiver (t ∷ ts) (m ∷ on.0)

@@ -7,7 +7,7 @@ use Rattle.jvm_types.specs.ClassTree.{is_subclass}
 use Rattle.jvm_types.specs.CodeTable.{can_throw}
 use Rattle.jvm_types.specs.Members.{is_synchronized}
 use Rattle.jvm_types.specs.Verifying.{is_return}
-use Rattle.jvm_types.specs.declared.class_numbers.TheConstants.{PRINT_STREAM_CLASS, THROWABLE_CLASS}
+use Rattle.jvm_types.specs.declared.class_numbers.TheConstants.{CLASS_ITSELF, PRINT_STREAM_CLASS, THROWABLE_CLASS}
 use Rattle.jvm_types.specs.declared.outcome.Thrown.{Thrown}
 use Rattle.jvm_types.specs.declared.outcome.Thrown.TheVariants as thrown
 use Rattle.jvm_types.specs.declared.program.FieldInfo.{FieldInfo}
@@ -27,7 +27,7 @@ use Rattle.machine_types.specs.Threads.{Frame}
 use Rattle.machine_types.specs.Typed.{Classes, KindHolds, FrameHolds, WaitHolds, HoldBelow, FramesHold, ThrownHolds, FramesThrown, IsException, AfterHolds, IsObject}
 use Rattle.machine_types.specs.declared.phase.After.{After}
 use Rattle.machine_types.specs.declared.phase.After.TheVariants.{Next, Return, Unwind}
-use Rattle.machine_types.specs.Words.{header_class, header_length}
+use Rattle.machine_types.specs.Words.{class_object, header_class, header_length}
 use Rattle.laws_threads.specs.Allowed.{IsNamedField, IsByMachine}
 use Rattle.laws_threads.proofs.Landing.{stand_top, rules_at}
 use Rattle.laws_threads.proofs.TypedMoves.{given_holds, resumes, catches}
@@ -67,6 +67,7 @@ keeps_pop f g h fs base a b = ap (λ n. drop n (h ∷ fs)) (one_less (length fs)
 pub record HasObjects (p : Program) (is : Classes) : Type 0 where
   pub out : is PRINT_STREAM_CLASS out_object
   pub ready : (x : Thrown) → IsByMachine x → is (class_of x) (ready x)
+  pub classes : (file : ℕ) → file < length p.names → is CLASS_ITSELF (class_object p file)
   pub inside : (class v : ℕ) → is class v → v < p.heap
 
 -- the word that an instruction finds is one of what it reads
@@ -135,7 +136,7 @@ module _ (c : MarkedProgram) (marked : IsMarked c) (is : Classes) where
       ap (λ (at : Top). at.insn.op) same
 
   module _ (x : ℕ) (class : Thrown) (f : Frame) (fs : List Frame) (k : IsException is x class) (thrown : ThrownHolds c is f) (b : HoldBelow c is f.method fs) where
-    hands : (count : ℕ) (h : FrameHolds c is count f) → can_throw h.stands.insn.op ≡ true → (o : Option Row) → handler_of f.pc (class_of class) h.stands.method.rows ≡ o → Onwards c is (f ∷ fs) (handed x class (top_here c f fs h.stands) o)
+    hands : (count : ℕ) (h : FrameHolds c is count f) → can_throw h.stands.insn.op ≡ true → (o : Option Row) → handler_of f.pc (class_of class) h.stands.method.rows ≡ o → Onwards c is (f ∷ fs) (handed c.program x class (top_here c f fs h.stands) o)
     hands count h throws (Some r) e = record {
       holds = (catches c marked is f count h x (class_of class) r throws k (below_throwable class) e, b);
       keeps = keeps_top f (record f { pc = r.handler; stack = x ∷ [] }) fs;
@@ -143,13 +144,13 @@ module _ (c : MarkedProgram) (marked : IsMarked c) (is : Classes) where
     }
     hands count h throws None e = by_flag (is_synchronized h.stands.method.flags)
       where
-        by_flag : (s : Bool) → Onwards c is (f ∷ fs) (if s then Leaving (monitor_of h.stands.method f) (Unwind x class) (f ∷ fs) else unwound x class fs)
+        by_flag : (s : Bool) → Onwards c is (f ∷ fs) (if s then Leaving (monitor_of c.program h.stands.method f) (Unwind x class) (f ∷ fs) else unwound x class fs)
         by_flag true = record { holds = (k, (thrown, b)); keeps = keeps_all (f ∷ fs); inside = λ all. all }
         by_flag false = ends_above x class f fs k b
 
     dispatches_at : (count : ℕ) (h : FrameHolds c is count f) → can_throw h.stands.insn.op ≡ true → IfOnwards c is (f ∷ fs) (dispatched c.program x class (f ∷ fs))
     dispatches_at count h throws =
-        subst (λ o. IfOnwards c is (f ∷ fs) (option_map (λ at. handed x class at (handler_at (class_of class) at)) o)) (sym (stand_top c marked f fs h.stands))
+        subst (λ o. IfOnwards c is (f ∷ fs) (option_map (λ at. handed c.program x class at (handler_at (class_of class) at)) o)) (sym (stand_top c marked f fs h.stands))
         (hands count h throws (handler_of f.pc (class_of class) h.stands.method.rows) refl)
 
   pub dispatches : (x : ℕ) (class : Thrown) (f : Frame) (fs : List Frame) → IsException is x class → ThrownHolds c is f → HoldBelow c is f.method fs → TopIs c can_throw (f ∷ fs) → IfOnwards c is (f ∷ fs) (dispatched c.program x class (f ∷ fs))
@@ -185,7 +186,7 @@ module _ (c : MarkedProgram) (marked : IsMarked c) (is : Classes) where
     pub goes_out : is_return h.stands.insn.op ≡ true → HoldBelow c is f.method fs → Onwards c is (f ∷ fs) (returns c.program (top_here c f fs h.stands))
     goes_out r b = by_flag (is_synchronized h.stands.method.flags)
       where
-        by_flag : (s : Bool) → Onwards c is (f ∷ fs) (if s then Leaving (monitor_of h.stands.method f) Return (f ∷ fs) else back (returned c.program (top_here c f fs h.stands)))
+        by_flag : (s : Bool) → Onwards c is (f ∷ fs) (if s then Leaving (monitor_of c.program h.stands.method f) Return (f ∷ fs) else back (returned c.program (top_here c f fs h.stands)))
         by_flag true = record { holds = (h, b); keeps = keeps_all (f ∷ fs); inside = λ all. all }
         by_flag false = goes_below r b
 

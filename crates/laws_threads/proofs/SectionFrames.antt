@@ -1,8 +1,11 @@
 -- The frames of a section as their top one moves, calls, returns and ends, and what a mark says of the top one.
-use Rattle.std.proofs.Common.{◌≡◌, ◌⊎◌, inl, inr, ⊎_elim, ℕ, zero, suc, Bool, true, false, not, ◌&&◌, List, [], ◌∷◌, Some, refl, sym, ap, ◌∙◌, subst, arith}
+use Rattle.std.proofs.Common.{◌≡◌, ◌⊎◌, inl, inr, ⊎_elim, ℕ, zero, suc, Bool, true, false, not, cond, List, [], ◌∷◌, Some, refl, sym, ap, ◌∙◌, subst, arith}
 use Rattle.std.specs.Prelude.{slice_get, slice_index}
 use Rattle.std.specs.List.{AllZip}
+use Rattle.std.proofs.lemmas.Bool.{not_from_false}
 use Rattle.lists.proofs.ListLaws.{same_some}
+use Rattle.lists.proofs.TestLaws.{both_true}
+use Rattle.jvm_types.specs.ClassNames.{file_of_class}
 use Rattle.jvm_types.specs.Members.{is_static, is_synchronized}
 use Rattle.jvm_types.specs.ProgramInvariant.{IsTargetOf, site_in}
 use Rattle.jvm_types.specs.declared.code.Insn.{Insn}
@@ -10,6 +13,7 @@ use Rattle.jvm_types.specs.declared.code.Op.{Op}
 use Rattle.jvm_types.specs.declared.code.Op.TheVariants as ops
 use Rattle.jvm_types.specs.declared.op_row.OpRow.{OpRow}
 use Rattle.jvm_types.specs.declared.program.MethodInfo.{MethodInfo}
+use Rattle.jvm_types.specs.declared.program.Program.{Program}
 use Rattle.jvm_types.specs.declared.program.Target.{Target}
 use Rattle.jvm_types.specs.declared.program.Target.TheVariants as targets
 use Rattle.laws_programs.specs.TargetLaws.{HasRow}
@@ -18,7 +22,7 @@ use Rattle.laws_programs.proofs.TargetRows.{targets_rows}
 use Rattle.checked_program.specs.FrozenPlaces.{AreUses}
 use Rattle.checked_program.specs.LockTags.{TagShape}
 use Rattle.checked_program.specs.MarkedProgram.{MarkedProgram, IsMarked}
-use Rattle.checked_program.specs.Marks.{HasMark, Calls, callee, called_method, is_locking, is_own_object, receiver_tag, mode_if, section_fault, call_fault, enter_fault}
+use Rattle.checked_program.specs.Marks.{HasMark, Calls, callee, called_method, is_locking, is_class_locking, is_own_object, receiver_tag, mode_if, section_fault, call_fault, enter_fault}
 use Rattle.checked_program.specs.SectionLaws.{Part, AreParts, IsSectionPart, IsExit, HasThis, ReadsOnly}
 use Rattle.checked_program.specs.TaggedCode.{IsAt, Goes, row_of}
 use Rattle.checked_program.specs.declared.section.FieldUse.{FieldUse}
@@ -31,10 +35,12 @@ use Rattle.laws_sections.proofs.MonitorExits.{held_law, exit_law}
 use Rattle.laws_sections.proofs.SectionCalls.{invoke_law}
 use Rattle.laws_sections.proofs.SectionMoves.{move_law}
 use Rattle.laws_sections.specs.FrameLaws.{IsReceiver, mode_of_call}
+use Rattle.machine_types.specs.Frames.{monitor_of}
 use Rattle.machine_types.specs.Shown.{HasValue, HaveValues}
 use Rattle.machine_types.specs.Standing.{Standing, tags_of}
 use Rattle.machine_types.specs.Structure.{IsPart, RunsSection, section_of}
 use Rattle.machine_types.specs.Threads.{Frame, Attempt}
+use Rattle.machine_types.specs.Words.{class_object}
 use Rattle.laws_threads.proofs.Standings.{are_tagged, at_of}
 
 -- ---- values of tags
@@ -48,22 +54,11 @@ have_this choice receiver (t ∷ ts) (v ∷ vs) h (suc k) e = have_this choice r
 
 -- ---- methods and instructions of a program
 
--- no synchronized method is static
-pub not_static : (c : MarkedProgram) → IsMarked c → (u : ℕ) (m : MethodInfo) → slice_get c.program.methods u ≡ Some m → is_synchronized m.flags ≡ true → is_static m.flags ≡ true → ⊥
-not_static c marked u m there synchronized static = never (is_static m.flags) (is_synchronized m.flags) (marked.checked.program.methods u m there).unsynchronized static synchronized
-  where
-    never : (a b : Bool) → (a && b) ≡ false → a ≡ true → b ≡ true → ⊥
-    never true true e f g = cc
-    never true false e f g = cc
-    never false b e f g = cc
+pub is_locked : (p : Program) (u : ℕ) (m : MethodInfo) → slice_get p.methods u ≡ Some m → is_synchronized m.flags ≡ true → is_static m.flags ≡ false → is_locking (slice_get p.methods u) ≡ true
+is_locked p u m there synchronized instance = ap is_locking there ∙ both_true (is_synchronized m.flags) (not (is_static m.flags)) synchronized (not_from_false (is_static m.flags) instance)
 
-is_locked : (c : MarkedProgram) → IsMarked c → (u : ℕ) (m : MethodInfo) → slice_get c.program.methods u ≡ Some m → is_synchronized m.flags ≡ true → is_locking (slice_get c.program.methods u) ≡ true
-is_locked c marked u m there synchronized = ap is_locking there ∙ both (is_synchronized m.flags) (is_static m.flags) synchronized (not_static c marked u m there synchronized)
-  where
-    both : (a b : Bool) → a ≡ true → (b ≡ true → ⊥) → (a && not b) ≡ true
-    both true false e f = refl
-    both true true e f = absurd (f refl)
-    both false b e f = absurd (cc)
+pub is_class_locked : (p : Program) (u : ℕ) (m : MethodInfo) → slice_get p.methods u ≡ Some m → is_synchronized m.flags ≡ true → is_static m.flags ≡ true → is_class_locking (slice_get p.methods u) ≡ true
+is_class_locked p u m there synchronized static = ap is_class_locking there ∙ both_true (is_synchronized m.flags) (is_static m.flags) synchronized static
 
 pub row_stands : (c : MarkedProgram) → IsMarked c → (mi i : ℕ) (m : MethodInfo) (insn : Insn) (target : Target) (u : TagShape) → IsAt c.program (tags_of c) mi i m insn target u → HasRow c.program (site_in m) insn.pc target insn.op (row_of c.program m insn target)
 row_stands c marked mi i m insn target u at =
@@ -185,26 +180,30 @@ module _ (c : MarkedProgram) (marked : IsMarked c) (a : Attempt) where
     called_own true b e z = own_true b z
     called_own false b e z = absurd (cc)
 
+    -- a synchronized method is called on the section's object, and none is static
+    record IsOwnCall (called : MethodInfo) (mode : Mode) (op : Op) (target : Target) (ts : List Tag) : Type 0 where
+      own : is_own_object mode (receiver_tag c.program op target ts) ≡ true
+      instance : is_static called.flags ≡ false
+
     own_call : (u : ℕ) (called : MethodInfo) (mi : MethodInfo) (pc : ℕ) (op : Op) (target : Target) (row : OpRow) (mode : Mode) (ts : List Tag) → slice_get c.program.methods u ≡ Some called → is_synchronized called.flags ≡ true
-        → called_method op target ≡ Some u → HasRow c.program (site_in mi) pc target op row → section_fault c.program uses mode op target ts ≡ 0 → is_own_object mode (receiver_tag c.program op target ts) ≡ true
+        → called_method op target ≡ Some u → HasRow c.program (site_in mi) pc target op row → section_fault c.program uses mode op target ts ≡ 0 → IsOwnCall called mode op target ts
     own_call u called mi pc (ops.Invokevirtual i) (targets.Method v) row mode ts there synchronized call k z =
-        called_own (is_locking (slice_get c.program.methods v)) _ (ap (λ x. is_locking (slice_get c.program.methods x)) (same_some call) ∙ is_locked c marked u called there synchronized) z
+        let instance : is_static called.flags ≡ false = subst (λ (m : MethodInfo). is_static m.flags ≡ false) (same_some (sym k.there ∙ ap (λ x. slice_get c.program.methods x) (same_some call) ∙ there)) k.sort in
+        record { own = called_own (is_locking (slice_get c.program.methods v)) _ (ap (λ x. is_locking (slice_get c.program.methods x)) (same_some call) ∙ is_locked c.program u called there synchronized instance) z; instance = instance }
     own_call u called mi pc (ops.Invokespecial i) (targets.Method v) row mode ts there synchronized call k z =
-        called_own (is_locking (slice_get c.program.methods v)) _ (ap (λ x. is_locking (slice_get c.program.methods x)) (same_some call) ∙ is_locked c marked u called there synchronized) z
+        let instance : is_static called.flags ≡ false = subst (λ (m : MethodInfo). is_static m.flags ≡ false) (same_some (sym k.there ∙ ap (λ x. slice_get c.program.methods x) (same_some call) ∙ there)) k.sort in
+        record { own = called_own (is_locking (slice_get c.program.methods v)) _ (ap (λ x. is_locking (slice_get c.program.methods x)) (same_some call) ∙ is_locked c.program u called there synchronized instance) z; instance = instance }
     own_call u called mi pc (ops.Invokestatic i) (targets.Method v) row mode ts there synchronized call k z =
-        absurd (not_static c marked u called there synchronized (subst (λ (m : MethodInfo). is_static m.flags ≡ true) (same_some (sym k.there ∙ ap (λ x. slice_get c.program.methods x) (same_some call) ∙ there)) k.sort))
+        let static : is_static called.flags ≡ true = subst (λ (m : MethodInfo). is_static m.flags ≡ true) (same_some (sym k.there ∙ ap (λ x. slice_get c.program.methods x) (same_some call) ∙ there)) k.sort in
+        let bad : false ≡ true = called_own (is_class_locking (slice_get c.program.methods v)) false (ap (λ x. is_class_locking (slice_get c.program.methods x)) (same_some call) ∙ is_class_locked c.program u called there synchronized static) z in
+        absurd (cc)
     own_call u called mi pc op target row mode ts there synchronized call k z = absurd (cc)
 
-    -- the frame of a synchronized method is on the section's object
-    pub locking_on : (f : Frame) (rest : List Frame) (r : Runs c a f rest) → is_synchronized r.stands.method.flags ≡ true → f.receiver ≡ a.monitor
-    locking_on f [] r synchronized = on_mode f [] r (only r.parts r.others r.are)
-      where
-        only : (parts : List Part) → AllZip (IsPart c) [] parts → AreParts c.program (tags_of c) (section_of a) a.monitor (part_of f r.stands.number ∷ parts) r.mode → r.mode ≡ OnThis
-        only [] zip are = let last : IsSectionPart c.program (tags_of c) (section_of a) a.monitor (part_of f r.stands.number) r.mode = are in last.mode_is
-        only (b ∷ parts) zip are = absurd zip
-    locking_on f (b ∷ rest) r synchronized =
+    -- the frame of a synchronized method that is called has the section's monitor
+    pub locking_on : (f b : Frame) (rest : List Frame) (r : Runs c a f (b ∷ rest)) → is_synchronized r.stands.method.flags ≡ true → monitor_of c.program r.stands.method f ≡ a.monitor
+    locking_on f b rest r synchronized =
         let x = caller f b rest r in
         let z = no_fault b rest x.runs x.call.m x.call.insn x.call.target x.call.f x.call.at in
         let own = own_call f.method r.stands.method x.call.m x.call.insn.pc x.call.insn.op x.call.target (row_of c.program x.call.m x.call.insn x.call.target) x.runs.mode x.call.f.stack r.stands.at.in_program synchronized x.call.called
         (row_stands c marked b.method x.runs.stands.number x.call.m x.call.insn x.call.target x.call.f x.call.at) z in
-        x.on (x.call.mode_is ∙ ap mode_if own)
+        ap (λ (s : Bool). cond s (class_object c.program (file_of_class r.stands.method.class)) f.receiver) own.instance ∙ x.on (x.call.mode_is ∙ ap mode_if own.own)

@@ -22,14 +22,14 @@ module _ (c : MarkedProgram) (is : IsMarked c) where
   -- ---- where an edge leads
 
   pub shows_landed : (operands : Operands) (f : Frame) (m : MethodInfo) (tags : List (Option TagShape)) (brought : TagShape) (choice : ℕ → ℕ) → Lands c is f m tags brought → HaveValues choice f.receiver brought.locals f.locals
-      → ((ts : List Tag) → AreTagsBelow brought.stack ts → StackShows operands choice f.receiver ts f.stack) → Shows c operands f (shown_entries choice m brought f)
+      → ((ts : List Tag) → AreTagsBelow brought.stack ts → StackShows operands choice f.receiver ts f.stack) → Shows c operands f (shown_entries c.program choice m brought f)
   shows_landed operands f m tags brought choice l locals stack = record {
     stands = l.stands;
     made = are_made c.program l.stands.method l.stands.at.frames l.stands.frames (of_standing c is f l.stands) l.stands.tags;
     choice = choice;
     locals = weaker choice f.receiver brought.locals l.stands.tags.locals f.locals l.below.locals locals;
     stack = stack l.stands.tags.stack l.below.stack;
-    shown_are = ap (λ (ts : List Tag). map (tag_value choice f.receiver) ts ++ own_entry m f) l.below.held ∙ ap (λ (x : MethodInfo). map (tag_value choice f.receiver) l.stands.tags.held ++ own_entry x f) (sym l.method);
+    shown_are = ap (λ (ts : List Tag). map (tag_value choice f.receiver) ts ++ own_entry c.program m f) l.below.held ∙ ap (λ (x : MethodInfo). map (tag_value choice f.receiver) l.stands.tags.held ++ own_entry c.program x f) (sym l.method);
   }
 
   -- the frame f goes on at a pc
@@ -38,7 +38,7 @@ module _ (c : MarkedProgram) (is : IsMarked c) where
   landed f k brought to locals stack fits = lands c is (record f { pc = to; locals = locals; stack = stack }) k.method k.at.frames brought k.at.in_program k.at.of_method fits
 
   pub whole_landed : (f : Frame) (m : MethodInfo) (tags : List (Option TagShape)) (brought : TagShape) (choice : ℕ → ℕ) → Lands c is f m tags brought → HaveValues choice f.receiver brought.locals f.locals
-      → HaveValues choice f.receiver brought.stack f.stack → Shows c Whole f (shown_entries choice m brought f)
+      → HaveValues choice f.receiver brought.stack f.stack → Shows c Whole f (shown_entries c.program choice m brought f)
   whole_landed f m tags brought choice l locals stack = shows_landed Whole f m tags brought choice l locals (λ ts below. weaker choice f.receiver brought.stack ts f.stack below stack)
 
   -- ---- the top frame

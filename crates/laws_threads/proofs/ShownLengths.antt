@@ -4,8 +4,10 @@ use Rattle.std.specs.Prelude.{◌==◌, if◌then◌else◌}
 use Rattle.std.proofs.lemmas.List.{length-append, length-map}
 use Rattle.jvm_types.specs.Members.{is_synchronized}
 use Rattle.jvm_types.specs.declared.program.MethodInfo.{MethodInfo}
+use Rattle.jvm_types.specs.declared.program.Program.{Program}
 use Rattle.checked_program.specs.LockTags.{TagShape}
 use Rattle.checked_program.specs.MarkedProgram.{MarkedProgram, IsMarked}
+use Rattle.machine_types.specs.Frames.{monitor_of}
 use Rattle.machine_types.specs.Shown.{tag_value, own_entry, Shows, ShowBelow, Show}
 use Rattle.machine_types.specs.Standing.{Operands, Whole}
 use Rattle.machine_types.specs.Structure.{count_in, once_at, held_depth, tried_depth}
@@ -17,18 +19,18 @@ use Rattle.laws_threads.proofs.Standings.{one_method, one_tags}
 abbrev pub own_count : MethodInfo → ℕ
 own_count m = if is_synchronized m.flags then 1 else 0
 
-own_length : (m : MethodInfo) (f : Frame) → length (own_entry m f) ≡ own_count m
-own_length m f = by_test (is_synchronized m.flags)
+own_length : (p : Program) (m : MethodInfo) (f : Frame) → length (own_entry p m f) ≡ own_count m
+own_length p m f = by_test (is_synchronized m.flags)
   where
-    by_test : (b : Bool) → length (if b then f.receiver ∷ [] else []) ≡ (if b then 1 else 0)
+    by_test : (b : Bool) → length (if b then monitor_of p m f ∷ [] else []) ≡ (if b then 1 else 0)
     by_test true = refl
     by_test false = refl
 
 pub shown_length : (c : MarkedProgram) (o : Operands) (f : Frame) (own : List ℕ) (s : Shows c o f own) → length own ≡ length s.stands.tags.held + own_count s.stands.method
 shown_length c o f own s =
     let held = s.stands.tags.held in
-    ap length s.shown_are ∙ length-append (map (tag_value s.choice f.receiver) held) (own_entry s.stands.method f)
-    ∙ ap (λ n. n + length (own_entry s.stands.method f)) (length-map held (tag_value s.choice f.receiver)) ∙ ap (λ n. length held + n) (own_length s.stands.method f)
+    ap length s.shown_are ∙ length-append (map (tag_value s.choice f.receiver) held) (own_entry c.program s.stands.method f)
+    ∙ ap (λ n. n + length (own_entry c.program s.stands.method f)) (length-map held (tag_value s.choice f.receiver)) ∙ ap (λ n. length held + n) (own_length c.program s.stands.method f)
 
 module _ (c : MarkedProgram) (marked : IsMarked c) where
   -- two lists that one frame may show

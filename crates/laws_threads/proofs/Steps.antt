@@ -143,11 +143,11 @@ module _ (c : MarkedProgram) (marked : IsMarked c) (f : Frame) (below : List Fra
         let frames : frames_inside a (g ∷ caller ∷ below) ≡ g ∷ caller ∷ frames_inside a below = one_more a g (caller ∷ below) over ∙ ap (λ fs. g ∷ fs) (one_more a caller below low) in
         stands_inner c phases.Run other (f ∷ below) (g ∷ caller ∷ below) held a a.inner k inside (omega (arith, low)) (put_back_over a g (caller ∷ below) over ∙ put_back_top a f caller below low) (subst (RunsSection c a) (sym frames) runs)
 
-    entering : (b : Bool) → is_synchronized callee.flags ≡ b → OnwardStands c (if b then Entering (monitor_of callee g) (g ∷ caller ∷ below) else Running (g ∷ caller ∷ below)) → GoesOnInside c (if b then Entering (monitor_of callee g) (g ∷ caller ∷ below) else Running (g ∷ caller ∷ below)) held a
-    entering true q l = calls (phases.Enter (monitor_of callee g) 0) l (calls_on c marked phases.Run f below held a k r this number d callee there q)
+    entering : (b : Bool) → is_synchronized callee.flags ≡ b → OnwardStands c (if b then Entering (monitor_of c.program callee g) (g ∷ caller ∷ below) else Running (g ∷ caller ∷ below)) → GoesOnInside c (if b then Entering (monitor_of c.program callee g) (g ∷ caller ∷ below) else Running (g ∷ caller ∷ below)) held a
+    entering true q l = calls (phases.Enter (monitor_of c.program callee g) 0) l (calls_on c marked phases.Run f below held a k r this number d callee there q)
     entering false q l = calls phases.Run l tt
 
-    invokes : (b : Bool) → OnwardStands c (if b then entered callee g (waiting c.program top) else threw StackOverflowError top) → GoesOnInside c (if b then entered callee g (waiting c.program top) else threw StackOverflowError top) held a
+    invokes : (b : Bool) → OnwardStands c (if b then entered c.program callee g (waiting c.program top) else threw StackOverflowError top) → GoesOnInside c (if b then entered c.program callee g (waiting c.program top) else threw StackOverflowError top) held a
     invokes true l = entering (is_synchronized callee.flags) refl l
     invokes false l = throws (ready StackOverflowError) StackOverflowError
 
@@ -167,9 +167,9 @@ module _ (c : MarkedProgram) (marked : IsMarked c) (f : Frame) (below : List Fra
       alone [] q e h = of_synchronized c marked a f q (entry_of c marked a phases.Run (f ∷ below) held k) h
       alone (b ∷ rest) q e h = absurd (cc)
 
-  returns_by : (b : Bool) → is_synchronized r.stands.method.flags ≡ b → DoesIt Returns → OnwardStands c (if b then Leaving (monitor_of r.stands.method f) afters.Return (f ∷ below) else back (returned c.program top))
-      → GoesOnInside c (if b then Leaving (monitor_of r.stands.method f) afters.Return (f ∷ below) else back (returned c.program top)) held a
-  returns_by true q d l = stays c phases.Run (phases.Leave f.receiver afters.Return) f below held a k (locking c marked phases.Run f below held a k r this q) (not_finished a (frames_inside a (f ∷ below)))
+  returns_by : (b : Bool) → is_synchronized r.stands.method.flags ≡ b → DoesIt Returns → OnwardStands c (if b then Leaving (monitor_of c.program r.stands.method f) afters.Return (f ∷ below) else back (returned c.program top))
+      → GoesOnInside c (if b then Leaving (monitor_of c.program r.stands.method f) afters.Return (f ∷ below) else back (returned c.program top)) held a
+  returns_by true q d l = stays c phases.Run (phases.Leave (monitor_of c.program r.stands.method f) afters.Return) f below held a k (locking c marked phases.Run f below held a k (frames_inside a below) r (none_held d) q) (not_finished a (frames_inside a (f ∷ below)))
   returns_by false q d l = returned_on c marked phases.Run f held a below a.inner (given_back r.stands.insn.op f.stack) k r (not_alone (none_held d) q) l
 
   -- ---- all effects

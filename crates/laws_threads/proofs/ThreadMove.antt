@@ -88,7 +88,7 @@ pub data GoesBy (p : Program) (s : Thread) (got : ℕ) : Phase → Onward → Ty
   by_nobody : (at : Top) (m count : ℕ) (h : Held) → top_of p s.frames ≡ Some at → IsNotify p at m → held_at s.held m ≡ Some h → h.kept ≡ keeps.Flat count → GoesBy p s got phases.Run (Running (went_on p at 0))
   by_element : (word : ℕ) (stored : Option ℕ) (at : Top) → top_of p s.frames ≡ Some at → GoesBy p s got (phases.Element word stored) (Running (went_on p at (element_made stored got)))
   by_object : (a word : ℕ) → GoesBy p s got (phases.Made a word) (Running (pushed a s.frames))
-  by_handler : (x : ℕ) (class : Thrown) (at : Top) → top_of p s.frames ≡ Some at → GoesBy p s got (phases.Throw x class) (handed x class at (handler_at (class_of class) at))
+  by_handler : (x : ℕ) (class : Thrown) (at : Top) → top_of p s.frames ≡ Some at → GoesBy p s got (phases.Throw x class) (handed p x class at (handler_at (class_of class) at))
   by_none : (m r : ℕ) → (got == 0) ≡ true → GoesBy p s got (phases.NotifyLook m r) (Running s.frames)
   by_one : (m r u : ℕ) → GoesBy p s got (phases.NotifyOne m r u) (Running s.frames)
   by_all : (m r : ℕ) → GoesBy p s got (phases.NotifyAll m r) (Running s.frames)
@@ -391,9 +391,9 @@ module _ (c : MarkedProgram) (s : Thread) (got : ℕ) where
   element_at word stored None e = record { move = stays (no_place word stored e); is = refl }
   element_at word stored (Some at) e = record { move = goes (Running (went_on c.program at (element_made stored got))) (by_element word stored at e); is = refl }
 
-  thrown_at : (x : ℕ) (class : Thrown) (o : Option Top) → top_of c.program s.frames ≡ o → Made (phases.Throw x class) (goes_on_if s (option_map (λ at. handed x class at (handler_at (class_of class) at)) o))
+  thrown_at : (x : ℕ) (class : Thrown) (o : Option Top) → top_of c.program s.frames ≡ o → Made (phases.Throw x class) (goes_on_if s (option_map (λ at. handed c.program x class at (handler_at (class_of class) at)) o))
   thrown_at x class None e = record { move = stays (no_catcher x class e); is = refl }
-  thrown_at x class (Some at) e = record { move = goes (handed x class at (handler_at (class_of class) at)) (by_handler x class at e); is = refl }
+  thrown_at x class (Some at) e = record { move = goes (handed c.program x class at (handler_at (class_of class) at)) (by_handler x class at e); is = refl }
 
   started_made : (roots : List ℕ) → s.roots ≡ roots → Made phases.Start (thread_started c.program s roots)
   started_made [] e = record { move = stays (no_root e); is = refl }

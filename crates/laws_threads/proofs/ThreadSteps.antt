@@ -1,9 +1,9 @@
 -- Each event of a thread keeps its locking structured.
-use Rattle.std.proofs.Common.{◌≡◌, ℕ, ◌<◌, Bool, true, false, cond, List, [], ◌∷◌, ◌++◌, length, Option, Some, None, refl, sym, ap, ◌∙◌, subst, arith, ◌+◌}
+use Rattle.std.proofs.Common.{◌≡◌, inl, inr, ℕ, ◌<◌, Bool, true, false, cond, List, [], ◌∷◌, ◌++◌, length, Option, Some, None, refl, sym, ap, ◌∙◌, subst, arith, ◌+◌}
 use Rattle.std.specs.Prelude.{nat_lt, slice_get, option_map, ◌&&◌, IsTrue}
 use Rattle.std.specs.List.{AllByRecursion}
 use Rattle.jvm_types.specs.CodeTable.{can_throw}
-use Rattle.jvm_types.specs.Members.{is_static, is_synchronized}
+use Rattle.jvm_types.specs.Members.{is_synchronized}
 use Rattle.jvm_types.specs.Numbers.{has_number}
 use Rattle.jvm_types.specs.declared.outcome.End.{End}
 use Rattle.jvm_types.specs.declared.outcome.End.TheVariants as ends
@@ -52,7 +52,7 @@ use Rattle.laws_threads.proofs.Instructions as instruction
 use Rattle.laws_threads.proofs.ThreadMove.{Looks, Lacks, GoesBy, Checks, LeadsTo, TurnsTo, Takes, GivesUp, Move, becomes, mover, by_move, of_mover, not_held, tried_attempt, tried_monitor}
 use Rattle.laws_threads.proofs.ThreadMove as moves
 use Rattle.laws_threads.proofs.Releases.{left_with, left_deeper, left_last, grows_first, left_elided, left_inside}
-use Rattle.laws_threads.proofs.StaticRoots.{roots_static}
+use Rattle.laws_threads.proofs.Roots.{IsSomeRoot, part_root}
 use Rattle.laws_threads.proofs.Turns.{failing, no_attempt, outside}
 use Rattle.laws_threads.proofs.Waits.{to_own, not_grown, to_fat_in, fattened, to_wait_out, given_up, waits_on, to_retake, retakes_not, retaken, notified, to_notify_one, notified_one, notified_all}
 
@@ -63,7 +63,7 @@ module _ (c : MarkedProgram) (marked : IsMarked c) (fs : List Frame) (shown : Li
   unwound_onward [] rest k on = k
   unwound_onward (f ∷ below) rest k on = (on, k)
 
-  handed_shows : (r : Option Row) → handler_at (class_of class) at ≡ r → OnwardShows c (handed x class at r) shown
+  handed_shows : (r : Option Row) → handler_at (class_of class) at ≡ r → OnwardShows c (handed c.program x class at r) shown
   handed_shows (Some r) e = (tt, caught_law c fs shown at (class_of class) x r marked t show throws e)
   handed_shows None e = by_flag (is_synchronized at.method.flags) refl left.0.own
     where
@@ -73,23 +73,23 @@ module _ (c : MarkedProgram) (marked : IsMarked c) (fs : List Frame) (shown : Li
       is_top : fs ≡ frames_of at
       is_top = (tops_stand_law c fs Thrown shown at marked show t).1.frames
 
-      by_flag : (b : Bool) → is_synchronized at.method.flags ≡ b → shown ≡ cond b (monitor_of at.method at.frame ∷ []) [] ++ left.0.rest
-          → OnwardShows c (cond b (Leaving (monitor_of at.method at.frame) (afters.Unwind x class) (frames_of at)) (unwound x class at.below)) shown
+      by_flag : (b : Bool) → is_synchronized at.method.flags ≡ b → shown ≡ cond b (monitor_of c.program at.method at.frame ∷ []) [] ++ left.0.rest
+          → OnwardShows c (cond b (Leaving (monitor_of c.program at.method at.frame) (afters.Unwind x class) (frames_of at)) (unwound x class at.below)) shown
       by_flag true f own = record { leaves = left.0.leaves f; now = shown; counts = λ n. omega arith; show = subst (λ (gs : List Frame). Show c Thrown gs shown) is_top show }
       by_flag false f own = subst (λ (ns : List ℕ). OnwardShows c (unwound x class at.below) ns) (sym own) (unwound_onward at.below left.0.rest left.0.show left.1)
 
 module _ (c : MarkedProgram) (marked : IsMarked c) (was : Phase) (s : Thread) where
   throw_keeps : (x : ℕ) (class : outcomes.Thrown) → Stands c (phases.Throw x class) s.frames s.held s.attempt → AttemptStandsIn c (phases.Throw x class) s.frames s.held s.attempt → (at : Top) → top_of c.program s.frames ≡ Some at
-      → StaysStructured c was (goes_on s (handed x class at (handler_at (class_of class) at)))
-  throw_keeps x class k inside at t = going c was s k.once (handed x class at (handler_at (class_of class) at)) k.shown shows (λ m. let d = k.depths m in omega arith) (by_attempt s.attempt refl)
+      → StaysStructured c was (goes_on s (handed c.program x class at (handler_at (class_of class) at)))
+  throw_keeps x class k inside at t = going c was s k.once (handed c.program x class at (handler_at (class_of class) at)) k.shown shows (λ m. let d = k.depths m in omega arith) (by_attempt s.attempt refl)
     where
-      shows : OnwardShows c (handed x class at (handler_at (class_of class) at)) k.shown
+      shows : OnwardShows c (handed c.program x class at (handler_at (class_of class) at)) k.shown
       shows = handed_shows c marked s.frames k.shown at t k.show k.phase_shows x class (handler_at (class_of class) at) refl
 
-      by_attempt : (o : Option Attempt) → s.attempt ≡ o → AttemptGoesOn c (handed x class at (handler_at (class_of class) at)) s.held o
+      by_attempt : (o : Option Attempt) → s.attempt ≡ o → AttemptGoesOn c (handed c.program x class at (handler_at (class_of class) at)) s.held o
       by_attempt None e = tt
       by_attempt (Some a) e = throws_inside c x class s.frames s.held a at marked (subst (λ (o : Option Attempt). AttemptStandsIn c (phases.Throw x class) s.frames s.held o) e inside)
-          (subst (λ (o : Option Attempt). Stands c (phases.Throw x class) s.frames s.held o) e k) t (onward_stands c (handed x class at (handler_at (class_of class) at)) k.shown shows)
+          (subst (λ (o : Option Attempt). Stands c (phases.Throw x class) s.frames s.held o) e k) t (onward_stands c (handed c.program x class at (handler_at (class_of class) at)) k.shown shows)
 
   -- ---- an element, and a new object
 
@@ -112,16 +112,20 @@ module _ (c : MarkedProgram) (marked : IsMarked c) (was : Phase) (s : Thread) wh
 
   -- ---- the next root
 
-  root_keeps : (number : ℕ) (m : MethodInfo) → slice_get c.program.methods number ≡ Some m → is_static m.flags ≡ true → Stands c phases.Start s.frames s.held s.attempt → s.attempt ≡ None → (roots : List ℕ)
+  root_keeps : (number : ℕ) (m : MethodInfo) → slice_get c.program.methods number ≡ Some m → IsSomeRoot m → Stands c phases.Start s.frames s.held s.attempt → s.attempt ≡ None → (roots : List ℕ)
       → StaysStructured c was (goes_on (record s { roots = roots }) (rooted c.program s.number number m))
-  root_keeps number m e static k none roots = going c was (record s { roots = roots }) k.once (rooted c.program s.number number m) [] (by_room (has_room c.program [] m)) (λ n. let d = k.depths n in let z = nothing n in omega arith)
+  root_keeps number m e root k none roots = going c was (record s { roots = roots }) k.once (rooted c.program s.number number m) [] (by_room (has_room c.program [] m)) (λ n. let d = k.depths n in let z = nothing n in omega arith)
       (none_goes_on c (rooted c.program s.number number m) s.held s.attempt none)
     where
       nothing : (n : ℕ) → count_in n k.shown ≡ 0
       nothing n = ap (count_in n) (subst (λ (fs : List Frame). Show c Whole fs k.shown) k.phase_shows k.show)
 
+      show : IsSomeRoot m → Show c Whole (entry_frame number m (root_arguments s.number m) ∷ []) []
+      show (inl r) = roots_law c s.number number m marked e r.static r.unsynchronized
+      show (inr r) = roots_law c s.number number m marked e r.static r.unsynchronized
+
       by_room : (b : Bool) → OnwardShows c (cond b (Running (entry_frame number m (root_arguments s.number m) ∷ [])) (Uncaught StackOverflowError)) []
-      by_room true = (tt, roots_law c s.number number m marked e static)
+      by_room true = (tt, show root)
       by_room false = refl
 
   start_keeps : StaysStructured c was s → (roots : List ℕ) → AllByRecursion (λ (number : ℕ). IsTrue (has_number (part_roots c.program s.number s.part) number)) roots → Stands c phases.Start s.frames s.held s.attempt → s.attempt ≡ None → StaysStructured c was (thread_started c.program s roots)
@@ -130,7 +134,7 @@ module _ (c : MarkedProgram) (marked : IsMarked c) (was : Phase) (s : Thread) wh
     where
       by_method : (o : Option MethodInfo) → slice_get c.program.methods number ≡ o → StaysStructured c was (goes_on_if (record s { roots = roots }) (option_map (rooted c.program s.number number) o))
       by_method None e = record { is_as = same.is_as; stands = same.stands; attempt = same.attempt }
-      by_method (Some m) e = root_keeps number m e (roots_static c.program marked.checked.program s.number s.part number m all.0 e) k none roots
+      by_method (Some m) e = root_keeps number m e (part_root c.program marked.checked.program s.number s.part number m all.0 e) k none roots
 
 -- ---- the end of a part
 

@@ -27,9 +27,9 @@ use Rattle.machine_types.specs.declared.phase.Phase.TheVariants as phases
 use Rattle.laws_threads.specs.InsideMoves.{GoesOnInside, OnwardStands, ThrowsInside}
 use Rattle.laws_threads.proofs.Base.{entry_of, of_synchronized}
 use Rattle.laws_threads.proofs.FrameReturns.{leaves_none}
-use Rattle.laws_threads.proofs.Inside.{runs_inside, stays}
+use Rattle.laws_threads.proofs.Inside.{locking, runs_inside, stays}
 use Rattle.laws_threads.proofs.AttemptMoves.{only_entry, along, unwound_on}
-use Rattle.laws_threads.proofs.SectionFrames.{Runs, locking_on}
+use Rattle.laws_threads.proofs.SectionFrames.{Runs}
 use Rattle.laws_threads.proofs.Standings.{top_here, top_at_standing, one_insn}
 use Rattle.laws_threads.proofs.FrameThrows.{none_catches}
 
@@ -98,7 +98,7 @@ module _ (c : MarkedProgram) (marked : IsMarked c) (x : ℕ) (class : Thrown) (f
   no_exit : r.stands.insn.op ≡ ops.Monitorexit → ⊥
   no_exit e = let bad : false ≡ true = sym (ap can_throw e) ∙ throws in cc
 
-  by_row : (row : Row) → handler_of f.pc (class_of class) r.stands.method.rows ≡ Some row → OnwardStands c (handed x class top (Some row)) → GoesOnInside c (handed x class top (Some row)) held a
+  by_row : (row : Row) → handler_of f.pc (class_of class) r.stands.method.rows ≡ Some row → OnwardStands c (handed c.program x class top (Some row)) → GoesOnInside c (handed c.program x class top (Some row)) held a
   by_row row e l =
       let m = r.stands.method in
       let insn = r.stands.insn in
@@ -123,17 +123,17 @@ module _ (c : MarkedProgram) (marked : IsMarked c) (x : ℕ) (class : Thrown) (f
       alone [] q e h = of_synchronized c marked a f q (entry_of c marked a (phases.Throw x class) (f ∷ below) held k) h
       alone (b ∷ rest) q e h = absurd (cc)
 
-  by_none : handler_of f.pc (class_of class) r.stands.method.rows ≡ None → GoesOnInside c (handed x class top None) held a
+  by_none : handler_of f.pc (class_of class) r.stands.method.rows ≡ None → GoesOnInside c (handed c.program x class top None) held a
   by_none e = by_flag (is_synchronized r.stands.method.flags) refl
     where
       none : r.stands.tags.held ≡ []
       none = none_held e
 
-      by_flag : (b : Bool) → is_synchronized r.stands.method.flags ≡ b → GoesOnInside c (if b then Leaving (monitor_of r.stands.method f) (afters.Unwind x class) (f ∷ below) else unwound x class below) held a
-      by_flag true q = stays c (phases.Throw x class) (phases.Leave f.receiver (afters.Unwind x class)) f below held a k (locking_on c marked a k.uses k.are_uses k.marked f (frames_inside a below) r q) never_finished
+      by_flag : (b : Bool) → is_synchronized r.stands.method.flags ≡ b → GoesOnInside c (if b then Leaving (monitor_of c.program r.stands.method f) (afters.Unwind x class) (f ∷ below) else unwound x class below) held a
+      by_flag true q = stays c (phases.Throw x class) (phases.Leave (monitor_of c.program r.stands.method f) (afters.Unwind x class)) f below held a k (locking c marked (phases.Throw x class) f below held a k (frames_inside a below) r none q) never_finished
       by_flag false q = unwound_on c marked (phases.Throw x class) f held a below a.inner x class k r (not_alone none q)
 
-  by_handler : (o : Option Row) → handler_of f.pc (class_of class) r.stands.method.rows ≡ o → OnwardStands c (handed x class top o) → GoesOnInside c (handed x class top o) held a
+  by_handler : (o : Option Row) → handler_of f.pc (class_of class) r.stands.method.rows ≡ o → OnwardStands c (handed c.program x class top o) → GoesOnInside c (handed c.program x class top o) held a
   by_handler (Some row) e l = by_row row e l
   by_handler None e l = by_none e
 
@@ -142,4 +142,4 @@ throws_inside c x class [] held a at marked k s e l = absurd (cc)
 throws_inside c x class (f ∷ below) held a at marked k s e l =
     let r' = r c marked x class f below held a k s in
     let same = top_at_standing c marked f below r'.stands at e in
-    subst (λ t. OnwardStands c (handed x class t (handler_at (class_of class) t)) → GoesOnInside c (handed x class t (handler_at (class_of class) t)) held a) same (by_handler c marked x class f below held a k s (handler_of f.pc (class_of class) r'.stands.method.rows) refl) l
+    subst (λ t. OnwardStands c (handed c.program x class t (handler_at (class_of class) t)) → GoesOnInside c (handed c.program x class t (handler_at (class_of class) t)) held a) same (by_handler c marked x class f below held a k s (handler_of f.pc (class_of class) r'.stands.method.rows) refl) l

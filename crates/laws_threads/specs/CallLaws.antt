@@ -1,5 +1,5 @@
 -- What the frames of a thread show when a method is called and when it returns, in a marked program (JVMS 2.6).
-use Rattle.std.specs.Prelude.{◌≡◌, ℕ, Bool, true, List, [], ◌∷◌, ◌++◌, length, Some, slice_get}
+use Rattle.std.specs.Prelude.{◌≡◌, ℕ, Bool, true, false, List, [], ◌∷◌, ◌++◌, length, Some, slice_get}
 use Rattle.jvm_types.specs.Members.{is_static, is_synchronized}
 use Rattle.jvm_types.specs.Verifying.{is_return}
 use Rattle.jvm_types.specs.declared.code.Op.{Op}
@@ -28,16 +28,16 @@ CalledStand = (c : MarkedProgram) (fs : List Frame) (shown : List ℕ) (at : Top
 abbrev pub CallsShow : Type 0
 CallsShow = (c : MarkedProgram) (fs : List Frame) (shown : List ℕ) (at : Top) (number : ℕ) (called : MethodInfo) → IsMarked c → top_of c.program fs ≡ Some at → Show c Whole fs shown
     → effect_at c.program at ≡ Calls number → slice_get c.program.methods number ≡ Some called
-    → Show c Whole (callee_frame c.program at number called ∷ waiting c.program at) (own_entry called (callee_frame c.program at number called) ++ shown)
+    → Show c Whole (callee_frame c.program at number called ∷ waiting c.program at) (own_entry c.program called (callee_frame c.program at number called) ++ shown)
 
 abbrev pub CallsEnter : Type 0
 CallsEnter = (c : MarkedProgram) (fs : List Frame) (at : Top) (number : ℕ) (called : MethodInfo) → IsMarked c → top_of c.program fs ≡ Some at
     → slice_get c.program.methods number ≡ Some called → is_synchronized called.flags ≡ true
-    → TopEnters c (monitor_of called (callee_frame c.program at number called)) (callee_frame c.program at number called ∷ waiting c.program at)
+    → TopEnters c (monitor_of c.program called (callee_frame c.program at number called)) (callee_frame c.program at number called ∷ waiting c.program at)
 
--- the frame of a root shows nothing: it is static, and so it is not synchronized
+-- the frame of a root, a static method without a monitor, shows nothing
 abbrev pub RootsShow : Type 0
-RootsShow = (c : MarkedProgram) (t number : ℕ) (m : MethodInfo) → IsMarked c → slice_get c.program.methods number ≡ Some m → is_static m.flags ≡ true
+RootsShow = (c : MarkedProgram) (t number : ℕ) (m : MethodInfo) → IsMarked c → slice_get c.program.methods number ≡ Some m → is_static m.flags ≡ true → is_synchronized m.flags ≡ false
     → Show c Whole (entry_frame number m (root_arguments t m) ∷ []) []
 
 -- ---- the end of a frame
@@ -46,9 +46,9 @@ RootsShow = (c : MarkedProgram) (t number : ℕ) (m : MethodInfo) → IsMarked c
 -- frames below go on with what they show.
 pub record IsLeft (c : MarkedProgram) (at : Top) (test : Op → Bool) (operands : Operands) (now : List Frame) (shown : List ℕ) : Type 0 where
   pub none : (k : Standing c at.frame) → k.tags.held ≡ []
-  pub leaves : is_synchronized at.method.flags ≡ true → TopLeaves c (monitor_of at.method at.frame) test (frames_of at)
+  pub leaves : is_synchronized at.method.flags ≡ true → TopLeaves c (monitor_of c.program at.method at.frame) test (frames_of at)
   pub rest : List ℕ
-  pub own : shown ≡ own_entry at.method at.frame ++ rest
+  pub own : shown ≡ own_entry c.program at.method at.frame ++ rest
   pub show : Show c operands now rest
 
 -- a return gives the caller what its call is to give

@@ -29,15 +29,15 @@ abbrev pub MayRead : MarkedProgram → (m : ℕ) → Variable → Type 0
 MayRead c m (Instance reference index) = IsStayingField c m reference index
 MayRead c m (Static word) = ⊥
 
--- a synchronized method that is called, or that returns, is on the object m (JVMS 2.11.10)
+-- a synchronized method that is called, or that returns, has the monitor m (JVMS 2.11.10)
 abbrev pub MayDo : MarkedProgram → (m : ℕ) → Top → Effect → Type 0
 MayDo c m at (Reads v) = MayRead c m v
 MayDo c m at (Writes v word) = ⊥
 MayDo c m at (Indexes array index stored) = ⊥
 MayDo c m at (Makes word size) = ⊥
 MayDo c m at (Prints n) = ⊥
-MayDo c m at (Calls number) = (called : MethodInfo) → slice_get c.program.methods number ≡ Some called → is_synchronized called.flags ≡ true → monitor_of called (entry_frame number called (arguments_of c.program at)) ≡ m
-MayDo c m at Returns = is_synchronized at.method.flags ≡ true → monitor_of at.method at.frame ≡ m
+MayDo c m at (Calls number) = (called : MethodInfo) → slice_get c.program.methods number ≡ Some called → is_synchronized called.flags ≡ true → monitor_of c.program called (entry_frame number called (arguments_of c.program at)) ≡ m
+MayDo c m at Returns = is_synchronized at.method.flags ≡ true → monitor_of c.program at.method at.frame ≡ m
 MayDo c m at (Enters n) = n ≡ m
 MayDo c m at (Leaves n) = n ≡ m
 MayDo c m at (Waits n) = ⊥

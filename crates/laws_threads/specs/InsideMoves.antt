@@ -61,7 +61,7 @@ NoElementInside = (c : MarkedProgram) (word : ℕ) (stored : Option ℕ) (fs : L
 -- an exception and one frame
 abbrev pub ThrowsInside : Type 0
 ThrowsInside = (c : MarkedProgram) (x : ℕ) (class : Thrown) (fs : List Frame) (held : List Held) (a : Attempt) (at : Top) → IsMarked c → AttemptStands c (phases.Throw x class) fs held a → Stands c (phases.Throw x class) fs held (Some a)
-    → top_of c.program fs ≡ Some at → OnwardStands c (handed x class at (handler_at (class_of class) at)) → GoesOnInside c (handed x class at (handler_at (class_of class) at)) held a
+    → top_of c.program fs ≡ Some at → OnwardStands c (handed c.program x class at (handler_at (class_of class) at)) → GoesOnInside c (handed c.program x class at (handler_at (class_of class) at)) held a
 
 -- an exit that is not the last one
 abbrev pub LeavesInside : Type 0

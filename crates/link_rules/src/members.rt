@@ -7,7 +7,7 @@ ghost use Rattle.jvm_types.specs.LinkFaults.{first_from, field_fault, method_fau
 ghost use Rattle.jvm_types.specs.LinkFaults.{member_pass as second_pass};
 
 use crate::places::Fault;
-use jvm_types::flags::{is_static, is_synchronized};
+use crate::roots::is_synchronized_root;
 use jvm_types::{LRule, Member, in_file, in_method};
 use link_scope::{FileScope, Scope};
 
@@ -39,7 +39,12 @@ fn method_fault(file: &FileScope<'_, '_>, number: usize, method: &Member) -> Res
         LRule::L1
     } else if file.repeats_method(number) {
         LRule::L5
-    } else if is_static(method.flags) && is_synchronized(method.flags) {
+    } else if is_synchronized_root(
+        file.own_class(),
+        file.text(method.name),
+        file.text(method.descriptor),
+        method.flags,
+    ) {
         LRule::L9
     } else {
         return Ok(());

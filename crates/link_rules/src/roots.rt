@@ -5,14 +5,15 @@ ghost use Rattle.std.specs.Result.{result_err};
 ghost use Rattle.std.specs.List.{list_any};
 ghost use Rattle.jvm_types.specs.ClassNames.{text_at, file_class};
 ghost use Rattle.jvm_types.specs.Members.{declared_from, declared_methods};
-ghost use Rattle.jvm_types.specs.LinkFaults.{is_run, is_entry, is_wrong_root, is_wrong_method};
-ghost use Rattle.jvm_types.specs.LinkFaults.{is_run_method, root_pass as fourth_pass};
+ghost use Rattle.jvm_types.specs.LinkFaults.{is_run, is_entry, is_synchronized_root, is_wrong_root};
+ghost use Rattle.jvm_types.specs.LinkFaults.{is_wrong_method, is_run_method};
+ghost use Rattle.jvm_types.specs.LinkFaults.{root_pass as fourth_pass};
 
 use crate::places::Fault;
 use crate::texts::{is_class_init_name, is_same_text};
 use constant_pools::pool_texts;
 use jvm_types::class_numbers::FIRST_FILE_CLASS;
-use jvm_types::flags::is_static;
+use jvm_types::flags::{is_static, is_synchronized};
 use jvm_types::{ClassFile, LRule, Member, in_file};
 use link_scope::{FileScope, Scope};
 
@@ -29,6 +30,15 @@ fn is_entry(name: &[u8], descriptor: &[u8]) -> bool
 {
     let is_first_or_last = is_same_text(name, b"init") || is_same_text(name, b"done");
     is_run(name, descriptor) || is_same_text(descriptor, b"()V") && is_first_or_last
+}
+
+/// Whether a method is a `<clinit>` or a part, and has the monitor of its class.
+pub fn is_synchronized_root(class: u16, name: &[u8], descriptor: &[u8], flags: u16) -> bool
+    ensures { result ≡ is_synchronized_root class name.now descriptor.now flags }
+{
+    let begins = is_class_init_name(name)
+        || class == FIRST_FILE_CLASS && is_entry(name, descriptor);
+    is_static(flags) && is_synchronized(flags) && begins
 }
 
 /// Whether a method is a `<clinit>` or a part, and not as the machine begins with it.

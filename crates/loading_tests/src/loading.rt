@@ -4,8 +4,9 @@ ghost use Rattle.std.specs.Prelude.{◌<◌, ◌≤◌, length};
 
 use crate::files::{one, two};
 use crate::refusals::{
-    FINAL_FIELD, LOADED, MISUSED, OTHER_SUPER, PairRefusal, Refusal, TWO_FILES, UNDECODABLE,
-    UNDECODABLE_ROWS, UNLINKED, UNREADABLE, UNTAGGED, UNTYPED, VERSIONS, WIDE,
+    FINAL_FIELD, LOADED, MISUSED, OTHER_SUPER, PairRefusal, Refusal, SYNCHRONIZED_CLINIT,
+    SYNCHRONIZED_OTHERS, SYNCHRONIZED_PARTS, TWO_FILES, UNDECODABLE, UNDECODABLE_ROWS, UNLINKED,
+    UNREADABLE, UNTAGGED, UNTYPED, VERSIONS, WIDE,
 };
 use class_runner::load_program;
 use jvm_types::limits::LEAST_HEAP;
@@ -14,7 +15,8 @@ use std::alloc::{AllocError, Global};
 use std::process::Abort;
 use std::test::*;
 use test_classes::{
-    adds, below_exception, changed, constants, pair, peeks, tally, with_statics, work,
+    ALL_PARTS, SETS_AND_SUMS, adds, below_exception, changed, constants, pair, peeks, tally,
+    with_statics, work,
 };
 
 /// The line of the rule that refuses the files, with no workers or with one. It is empty where they
@@ -109,6 +111,21 @@ fn refuses_by_each_rule_of_programs(rt: HostRuntime) -> Result<(), Fail> {
     check_all(&rt, adds(), &UNTYPED)?;
     check_all(&rt, pair(), &MISUSED)?;
     check_all(&rt, adds(), &UNTAGGED)?;
+    Ok(())
+}
+
+#[test]
+fn refuses_synchronized_parts(rt: HostRuntime) -> Result<(), Fail> {
+    check_all(&rt, SETS_AND_SUMS, &SYNCHRONIZED_PARTS)?;
+    check_all(&rt, ALL_PARTS, &SYNCHRONIZED_CLINIT)?;
+    check_all(&rt, SETS_AND_SUMS, &SYNCHRONIZED_OTHERS)?;
+    // the `init` of a second class begins nothing, and its `<clinit>` does
+    let adding = changed(rt.alloc(), adds(), &[])?;
+    let summing = changed(rt.alloc(), SETS_AND_SUMS, &[(341, 0x28)])?;
+    check_lines(&rt, adding, summing, "")?;
+    let sums = changed(rt.alloc(), SETS_AND_SUMS, &[])?;
+    let parts = changed(rt.alloc(), ALL_PARTS, &[(259, 0x28)])?;
+    check_lines(&rt, sums, parts, "refused L9 file 1 method 0 at 0")?;
     Ok(())
 }
 

@@ -12,7 +12,7 @@ use jvm_types::limits::LEAST_HEAP;
 use std::alloc::Global;
 use std::process::Abort;
 use std::test::*;
-use test_classes::{calls, changed, marks, pair, stores_this};
+use test_classes::{calls, changed, marks, pair, stores_this, ticks};
 
 /// What `Marks` has: sections that their own instructions mark, blocks in a block, and blocks on
 /// another object.
@@ -58,6 +58,11 @@ const BY_CALLEES: &str = "\
     Calls.offThisRecurses(I)I method M7\n\
     Calls.storesAndPrints(I)V method M1\n";
 
+/// What `Ticks` has: sections that call a static synchronized method, and enter another monitor so.
+const BY_CLASSES: &str = "\
+    Ticks.calls()I method M3\n\
+    Ticks.callsLater()I method M6\n";
+
 /// The checked program of some files.
 pub fn load(alloc: Global, files: &[Bytes]) -> Result<Checked, FileError>
     requires some { 0 < length files.now }
@@ -92,6 +97,7 @@ fn sections_are_marked(rt: HostRuntime) -> Result<(), Fail> {
     let wanted = "P.set(I)V method M1\nP.sum()I block 3 M0\n";
     check_marks(&rt, pair(), &[], wanted)?;
     check_marks(&rt, calls(), &[], BY_CALLEES)?;
+    check_marks(&rt, ticks(), &[], BY_CLASSES)?;
     // a class that stores `this` is not frozen
     check_marks(&rt, stores_this(), &[], "K.get()I method M5\n")?;
     // the store becomes four times nop

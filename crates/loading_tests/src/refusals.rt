@@ -238,6 +238,50 @@ pub const UNLINKED: [Refusal; 4] = [
     },
 ];
 
+/// Static synchronized methods that begin a part: changes of the class that sets and sums.
+pub const SYNCHRONIZED_PARTS: [Refusal; 3] = [
+    // `init`
+    Refusal {
+        changes: &[(341, 0x28)],
+        line: "refused L9 file 0 method 2 at 0",
+    },
+    // the same with the name `done`
+    Refusal {
+        changes: &[
+            (233, b'd'),
+            (234, b'o'),
+            (235, b'n'),
+            (236, b'e'),
+            (341, 0x28),
+        ],
+        line: "refused L9 file 0 method 2 at 0",
+    },
+    // `set` has the name `run`
+    Refusal {
+        changes: &[(81, b'r'), (82, b'u'), (83, b'n')],
+        line: "refused L9 file 0 method 0 at 0",
+    },
+];
+
+/// A static synchronized `<clinit>`: a change of the class with all parts.
+pub const SYNCHRONIZED_CLINIT: [Refusal; 1] = [Refusal {
+    changes: &[(259, 0x28)],
+    line: "refused L9 file 0 method 0 at 0",
+}];
+
+/// Static synchronized methods that begin nothing: changes of the class that sets and sums.
+pub const SYNCHRONIZED_OTHERS: [Refusal; 2] = [
+    Refusal {
+        changes: &[],
+        line: "",
+    },
+    // `set` has the name `init`, and its own descriptor
+    Refusal {
+        changes: &[(105, 32), (274, 32)],
+        line: "",
+    },
+];
+
 /// In the class with two private fields, the first of them is final.
 pub const FINAL_FIELD: [Refusal; 1] = [Refusal {
     changes: &[(298, 0x12)],

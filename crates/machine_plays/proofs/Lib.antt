@@ -7,6 +7,7 @@ mod PlaysTorn
 mod PlaysFought
 mod PlaysWaited
 mod PlaysThrown
+mod PlaysClasses
 mod PlaysLimits
 mod PlaysTurns
 mod PlaysInstructions

@@ -1,6 +1,6 @@
 -- Items of lists: one that is set, each where all pass a test, and where one is.
-use Rattle.std.proofs.Common.{◌≡◌, ◌≢◌, ℕ, zero, suc, ◌<◌, Bool, true, List, [], ◌∷◌, length, Some, refl, sym, ap, subst, arith}
-use Rattle.std.specs.Prelude.{slice_get, slice_set, slice_index_or}
+use Rattle.std.proofs.Common.{◌≡◌, ◌≢◌, ◌⊎◌, inl, inr, ℕ, zero, suc, ◌<◌, Bool, true, List, [], ◌∷◌, length, Some, refl, sym, ap, subst, arith}
+use Rattle.std.specs.Prelude.{Contains, slice_get, slice_set, slice_index_or}
 use Rattle.std.specs.List.{list_all}
 use Rattle.lists.proofs.TestLaws.{both_are_true}
 
@@ -36,3 +36,7 @@ pub got_contained : {X : Type 0} (xs : List X) (i : ℕ) (x : X) → i < length 
 got_contained [] i x lt e = absurd (omega (arith, lt))
 got_contained (y ∷ xs) zero x lt e = ap Some e
 got_contained (y ∷ xs) (suc i) x lt e = got_contained xs i x (omega (arith, lt)) e
+
+pub first_or_more : {X : Type 0} (y : X) (xs : List X) (x : X) → Contains (y ∷ xs) x → (x ≡ y) ⊎ Contains xs x
+first_or_more y xs x (zero, l, e) = inl (sym e)
+first_or_more y xs x (suc i, l, e) = inr (i, omega (arith, l), e)

@@ -14,6 +14,7 @@ use Rattle.jvm_types.specs.ProgramInvariant.{IsProgram, instances_among, statics
 use Rattle.jvm_types.specs.declared.program.FieldInfo.{FieldInfo}
 use Rattle.jvm_types.specs.declared.program.Program.{Program}
 use Rattle.jvm_types.proofs.EachAfter.{sum_first}
+use Rattle.checked_program.specs.CodeIndex.{statics_below}
 use Rattle.laws_programs.proofs.FieldOrder.{before_at, statics_inside, statics_apart}
 use Rattle.machine_types.specs.Ints.{word_of}
 use Rattle.machine_types.specs.ObjectsApart.{IsBeside, IsOutside}
@@ -31,9 +32,6 @@ one_static f = cond (is_static f.flags) 1 0
 
 abbrev pub one_below : (class : ℕ) → FieldInfo → ℕ
 one_below class f = cond (nat_lt f.class class && is_static f.flags) 1 0
-
-abbrev pub statics_below : (class : ℕ) → List FieldInfo → ℕ
-statics_below class fields = sum_by (one_below class) fields
 
 one_at_most : (class : ℕ) (f : FieldInfo) → one_below class f ≤ one_static f
 one_at_most class f = by_tests (nat_lt f.class class) (is_static f.flags)
@@ -55,7 +53,7 @@ none_of class f h = ap (λ (b : Bool). cond {A = ℕ} (b && is_static f.flags) 1
 pub all_of : (class : ℕ) (f : FieldInfo) → f.class < class → one_below class f ≡ one_static f
 all_of class f h = ap (λ (b : Bool). cond {A = ℕ} (b && is_static f.flags) 1 0) (is_below class f.class h)
 
-below_at_most : (class : ℕ) (fields : List FieldInfo) → statics_below class fields ≤ sum_by one_static fields
+pub below_at_most : (class : ℕ) (fields : List FieldInfo) → statics_below class fields ≤ sum_by one_static fields
 below_at_most class [] = omega arith
 below_at_most class (f ∷ fs) = omega (arith, one_at_most class f, below_at_most class fs, sum_first (one_below class) f fs, sum_first one_static f fs)
 

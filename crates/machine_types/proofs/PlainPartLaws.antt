@@ -351,23 +351,23 @@ frames_are p [] at e = cc
 frames_are p (f ∷ below) at e = of_method f below (slice_get p.methods f.method) at e
 
 dispatched_is : (p : Program) (q r : Plain) (t e : ℕ) (class : Thrown) (x : PlainThread) (at : Top) → slice_get q.threads t ≡ Some x → top_of p x.frames ≡ Some at
-    → option_map (λ o. with_thread q t (plain_goes_on x o)) (dispatched p e class x.frames) ≡ Some r → slice_get r.threads t ≡ Some (plain_goes_on x (handed e class at (handler_at (class_of class) at)))
+    → option_map (λ o. with_thread q t (plain_goes_on x o)) (dispatched p e class x.frames) ≡ Some r → slice_get r.threads t ≡ Some (plain_goes_on x (handed p e class at (handler_at (class_of class) at)))
 dispatched_is p q r t e class x at g top s =
-    let now : PlainThread = plain_goes_on x (handed e class at (handler_at (class_of class) at)) in
-    let is : Some (with_thread q t now) ≡ Some r = sym (ap (λ (o : Option Top). option_map (λ o. with_thread q t (plain_goes_on x o)) (option_map (λ a. handed e class a (handler_at (class_of class) a)) o)) top) ∙ s in
+    let now : PlainThread = plain_goes_on x (handed p e class at (handler_at (class_of class) at)) in
+    let is : Some (with_thread q t now) ≡ Some r = sym (ap (λ (o : Option Top). option_map (λ o. with_thread q t (plain_goes_on x o)) (option_map (λ a. handed p e class a (handler_at (class_of class) a)) o)) top) ∙ s in
     subst (λ (w : Plain). slice_get w.threads t ≡ Some now) (same_some is) (got_when_set q.threads t x now g)
 
-goes : (r : Plain) (t e : ℕ) (class : Thrown) (x : PlainThread) (at : Top) (handler : Option Row) → frames_of at ≡ x.frames → slice_get r.threads t ≡ Some (plain_goes_on x (handed e class at handler)) → ExceptionGoes r t e class x at handler
-goes r t e class x at handler frames is = record {
-  handled = λ row k. is ∙ ap (λ (h : Option Row). Some (plain_goes_on x (handed e class at h))) k;
-  leaves = λ k l. is ∙ ap (λ (h : Option Row). Some (plain_goes_on x (handed e class at h))) k ∙ ap none l ∙ ap (λ (fs : List Frame). Some (record x { frames = fs; status = plain.Leave (monitor_of at.method at.frame) (afters.Unwind e class) })) frames;
-  pops = λ k l f fs b. is ∙ ap (λ (h : Option Row). Some (plain_goes_on x (handed e class at h))) k ∙ ap none l ∙ ap (λ (gs : List Frame). Some (plain_goes_on x (unwound e class gs))) b;
-  uncaught = λ k l b. is ∙ ap (λ (h : Option Row). Some (plain_goes_on x (handed e class at h))) k ∙ ap none l ∙ ap (λ (gs : List Frame). Some (plain_goes_on x (unwound e class gs))) b;
+goes : (p : Program) (r : Plain) (t e : ℕ) (class : Thrown) (x : PlainThread) (at : Top) (handler : Option Row) → frames_of at ≡ x.frames → slice_get r.threads t ≡ Some (plain_goes_on x (handed p e class at handler)) → ExceptionGoes p r t e class x at handler
+goes p r t e class x at handler frames is = record {
+  handled = λ row k. is ∙ ap (λ (h : Option Row). Some (plain_goes_on x (handed p e class at h))) k;
+  leaves = λ k l. is ∙ ap (λ (h : Option Row). Some (plain_goes_on x (handed p e class at h))) k ∙ ap none l ∙ ap (λ (fs : List Frame). Some (record x { frames = fs; status = plain.Leave (monitor_of p at.method at.frame) (afters.Unwind e class) })) frames;
+  pops = λ k l f fs b. is ∙ ap (λ (h : Option Row). Some (plain_goes_on x (handed p e class at h))) k ∙ ap none l ∙ ap (λ (gs : List Frame). Some (plain_goes_on x (unwound e class gs))) b;
+  uncaught = λ k l b. is ∙ ap (λ (h : Option Row). Some (plain_goes_on x (handed p e class at h))) k ∙ ap none l ∙ ap (λ (gs : List Frame). Some (plain_goes_on x (unwound e class gs))) b;
 }
   where
     none : Bool → Option PlainThread
-    none b = Some (plain_goes_on x (cond b (Leaving (monitor_of at.method at.frame) (afters.Unwind e class) (frames_of at)) (unwound e class at.below)))
+    none b = Some (plain_goes_on x (cond b (Leaving (monitor_of p at.method at.frame) (afters.Unwind e class) (frames_of at)) (unwound e class at.below)))
 
 pub exceptions_go : ExceptionsGo
 exceptions_go p q r t e class x at h s top =
-    goes r t e class x at (handler_at (class_of class) at) (frames_are p x.frames at top) (dispatched_is p q r t e class x at h.thread top (by_status p q r t x acts.Do (plain.Throw e class) h s))
+    goes p r t e class x at (handler_at (class_of class) at) (frames_are p x.frames at top) (dispatched_is p q r t e class x at h.thread top (by_status p q r t x acts.Do (plain.Throw e class) h s))

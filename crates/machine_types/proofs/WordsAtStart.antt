@@ -14,13 +14,14 @@ use Rattle.jvm_types.specs.ProgramInvariant.{IsProgram, words_of}
 use Rattle.jvm_types.specs.declared.program.FieldInfo.{FieldInfo}
 use Rattle.jvm_types.specs.declared.program.Program.{Program}
 use Rattle.jvm_types.proofs.EachAfter.{sum_first}
+use Rattle.checked_program.specs.CodeIndex.{statics_below}
 use Rattle.machine_types.specs.Ints.{word_of}
 use Rattle.machine_types.specs.PlainMemory.{Object, header_of, start_objects}
 use Rattle.machine_types.specs.ReadyObjects.{ready_classes}
 use Rattle.machine_types.specs.StartWords.{object_words, statics_of, class_words, classes_of, start_words}
 use Rattle.machine_types.specs.Words.{header, header_word}
 use Rattle.machine_types.proofs.Lists.{every, got_below}
-use Rattle.machine_types.proofs.PlacesAtStart.{one_static, one_below, none_of, all_of, statics_below, none_below, one_class_more, rises, before_at_least, class_from, class_to, earlier_class, static_word, ready_objects, ready_placed, Stands, is_ready, is_class, stands, front}
+use Rattle.machine_types.proofs.PlacesAtStart.{one_static, one_below, none_of, all_of, none_below, one_class_more, rises, before_at_least, class_from, class_to, earlier_class, static_word, ready_objects, ready_placed, Stands, is_ready, is_class, stands, front}
 
 -- ---- lists of words
 

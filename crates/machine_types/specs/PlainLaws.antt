@@ -180,13 +180,13 @@ InstructionsChangeMemory = (p : Program) (q r : Plain) (t : ℕ) (x : PlainThrea
 
 -- An exception that comes to a frame goes to the handler of the first row that catches it. Where none does, the frame leaves its
 -- monitor first if its method is synchronized; then it is gone, and the exception comes to its caller, or ends the part.
-pub record ExceptionGoes (r : Plain) (t e : ℕ) (class : Thrown) (x : PlainThread) (at : Top) (handler : Option Row) : Type 0 where
+pub record ExceptionGoes (p : Program) (r : Plain) (t e : ℕ) (class : Thrown) (x : PlainThread) (at : Top) (handler : Option Row) : Type 0 where
   pub handled : (row : Row) → handler ≡ Some row → slice_get r.threads t ≡ Some (record x { frames = caught row e at; status = plain.Run })
-  pub leaves : handler ≡ None → is_synchronized at.method.flags ≡ true → slice_get r.threads t ≡ Some (record x { status = plain.Leave (monitor_of at.method at.frame) (afters.Unwind e class) })
+  pub leaves : handler ≡ None → is_synchronized at.method.flags ≡ true → slice_get r.threads t ≡ Some (record x { status = plain.Leave (monitor_of p at.method at.frame) (afters.Unwind e class) })
   pub pops : handler ≡ None → is_synchronized at.method.flags ≡ false → (f : Frame) (below : List Frame) → at.below ≡ f ∷ below
       → slice_get r.threads t ≡ Some (record x { frames = f ∷ below; status = plain.Throw e class })
   pub uncaught : handler ≡ None → is_synchronized at.method.flags ≡ false → at.below ≡ [] → slice_get r.threads t ≡ Some (over x (ends.Uncaught class))
 
 abbrev pub ExceptionsGo : Type 0
 ExceptionsGo = (p : Program) (q r : Plain) (t e : ℕ) (class : Thrown) (x : PlainThread) (at : Top) → Steps p q r t x acts.Do → x.status ≡ plain.Throw e class → top_of p x.frames ≡ Some at
-    → ExceptionGoes r t e class x at (handler_at (class_of class) at)
+    → ExceptionGoes p r t e class x at (handler_at (class_of class) at)

@@ -4,6 +4,7 @@ use Rattle.std.specs.List.{AllByRecursion}
 use Rattle.jvm_types.specs.Members.{is_synchronized}
 use Rattle.jvm_types.specs.declared.code.Insn.{Insn}
 use Rattle.jvm_types.specs.declared.program.MethodInfo.{MethodInfo}
+use Rattle.jvm_types.specs.declared.program.Program.{Program}
 use Rattle.checked_program.specs.Visits.{frame_at_pc}
 use Rattle.checked_program.specs.LockTags.{TagShape, same_tag}
 use Rattle.checked_program.specs.MarkedProgram.{MarkedProgram}
@@ -57,12 +58,12 @@ pub record AreMade (code : List Insn) (frames : List (Option TagShape)) (tags : 
 -- ---- one frame
 
 -- an entry of the monitor of a synchronized method
-abbrev pub own_entry : MethodInfo → Frame → List ℕ
-own_entry m f = if is_synchronized m.flags then monitor_of m f ∷ [] else []
+abbrev pub own_entry : Program → MethodInfo → Frame → List ℕ
+own_entry p m f = if is_synchronized m.flags then monitor_of p m f ∷ [] else []
 
 -- an entry for each held tag, innermost first, and then the method's own
-abbrev pub shown_entries : (choice : ℕ → ℕ) → MethodInfo → TagShape → Frame → List ℕ
-shown_entries choice m tags f = map (tag_value choice f.receiver) tags.held ++ own_entry m f
+abbrev pub shown_entries : Program → (choice : ℕ → ℕ) → MethodInfo → TagShape → Frame → List ℕ
+shown_entries p choice m tags f = map (tag_value choice f.receiver) tags.held ++ own_entry p m f
 
 -- a frame shows these entries, with some choice of a value for each tag
 pub record Shows (c : MarkedProgram) (operands : Operands) (f : Frame) (shown : List ℕ) : Type 0 where
@@ -71,7 +72,7 @@ pub record Shows (c : MarkedProgram) (operands : Operands) (f : Frame) (shown : 
   pub choice : ℕ → ℕ
   pub locals : HaveValues choice f.receiver stands.tags.locals f.locals
   pub stack : StackShows operands choice f.receiver stands.tags.stack f.stack
-  pub shown_are : shown ≡ shown_entries choice stands.method stands.tags f
+  pub shown_are : shown ≡ shown_entries c.program choice stands.method stands.tags f
 
 -- ---- all frames of a thread
 

@@ -1,6 +1,7 @@
 -- Laws of the facts at the start of a run.
-use Rattle.std.specs.Prelude.{◌≡◌, ℕ, Bool, List, Some, slice_get}
+use Rattle.std.specs.Prelude.{◌≡◌, ◌<◌, ℕ, Bool, Contains, List, [], length, Some, slice_get}
 use Rattle.jvm_types.specs.ProgramInvariant.{IsProgram, words_of}
+use Rattle.jvm_types.specs.declared.class_numbers.TheConstants.{CLASS_ITSELF}
 use Rattle.jvm_types.specs.declared.program.Program.{Program}
 use Rattle.checked_program.specs.MarkedProgram.{MarkedProgram}
 use Rattle.machine_types.specs.Core.{start, start_thread}
@@ -20,6 +21,7 @@ use Rattle.machine_types.specs.Structure.{Structure}
 use Rattle.machine_types.specs.Typed.{HasClass, ThreadHolds}
 use Rattle.machine_types.specs.UnusedWords.{AreUnused}
 use Rattle.machine_types.specs.Waiting.{Waiting}
+use Rattle.machine_types.specs.Words.{class_object}
 use Rattle.machine_types.specs.Worlds.{World}
 
 -- the phase of each thread, which is the one that counts
@@ -51,6 +53,10 @@ StartOwns = (c : MarkedProgram) (cfg : Config) → IsProgram c.program → Owner
 -- the objects and static fields that are there lie apart, where linking has laid out the program
 abbrev pub StartLiesApart : Type 0
 StartLiesApart = (p : Program) → IsProgram p → LieApart p (start_objects p) (start_statics p) (words_of p)
+
+-- the class of a file is one of these objects, of the class of classes and without values
+abbrev pub ClassObjectsStand : Type 0
+ClassObjectsStand = (p : Program) (file : ℕ) → IsProgram p → file < length p.names → Contains (start_objects p) (record { reference = class_object p file; class = CLASS_ITSELF; values = [] })
 
 -- and the rest of the heap is unused
 abbrev pub StartIsUnused : Type 0

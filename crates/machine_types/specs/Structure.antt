@@ -116,7 +116,7 @@ is_element_op stored op = false
 -- of a synchronized method whose monitor is m, at an instruction with no held tag
 pub record IsLeaving (c : MarkedProgram) (m : ℕ) (f : Frame) (k : Standing c f) : Type 0 where
   pub synchronized : is_synchronized k.method.flags ≡ true
-  pub monitor : monitor_of k.method f ≡ m
+  pub monitor : monitor_of c.program k.method f ≡ m
   pub none : k.tags.held ≡ []
 
 abbrev pub any_op : Op → Bool
@@ -142,7 +142,7 @@ IsBehindEntry code pc = (insn : Insn) × (Contains code insn) × (insn.op ≡ op
 -- at pc 0 of a synchronized method whose monitor is m, or right behind a `monitorenter`
 abbrev pub TopEnters : MarkedProgram → (m : ℕ) → List Frame → Type 0
 TopEnters c m [] = ⊥
-TopEnters c m (f ∷ fs) = (k : Standing c f) × (((f.pc ≡ 0) × (is_synchronized k.method.flags ≡ true) × (monitor_of k.method f ≡ m)) ⊎ (IsBehindEntry k.method.code f.pc × (k.tags.held ≢ [])))
+TopEnters c m (f ∷ fs) = (k : Standing c f) × (((f.pc ≡ 0) × (is_synchronized k.method.flags ≡ true) × (monitor_of c.program k.method f ≡ m)) ⊎ (IsBehindEntry k.method.code f.pc × (k.tags.held ≢ [])))
 
 -- ---- how the monitor of the phase is held
 

@@ -1,6 +1,7 @@
 //! Laws of the facts at the start of a run, each the contract of a function that does nothing.
 
-ghost use Rattle.machine_types.specs.StartLaws.{StartAgrees, StartHasFacts, StartHasThreads};
+ghost use Rattle.machine_types.specs.StartLaws.{ClassObjectsStand, StartAgrees, StartHasFacts};
+ghost use Rattle.machine_types.specs.StartLaws.{StartHasThreads};
 ghost use Rattle.machine_types.specs.StartLaws.{StartIsStructured, StartIsTyped, StartIsUnused};
 ghost use Rattle.machine_types.specs.StartLaws.{StartKeeps, StartLiesApart, StartOwesNothing};
 ghost use Rattle.machine_types.specs.StartLaws.{StartOwns, StartStandsBeside, StartWaits};
@@ -44,6 +45,11 @@ pub fn start_owns()
 /// its place.
 pub fn start_lies_apart()
     ensures { StartLiesApart }
+{}
+
+/// The class of each file is one of the objects that are there, with a lock of its own.
+pub fn class_objects_stand()
+    ensures { ClassObjectsStand }
 {}
 
 /// The words behind them are 0.

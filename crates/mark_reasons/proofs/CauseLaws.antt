@@ -15,7 +15,7 @@ use Rattle.jvm_types.specs.declared.program.Program.{Program}
 use Rattle.jvm_types.specs.declared.program.Target.{Target}
 use Rattle.jvm_types.specs.declared.program.Target.TheVariants as targets
 use Rattle.checked_program.specs.FrozenPlaces.{AreUses, IsFrozenClass, IsFrozenField, IsGuardedField, IsUse, PutsGuarded}
-use Rattle.checked_program.specs.Marks.{Callee, BreaksAt, call_fault, enter_fault, section_fault, is_locking, is_own_object, use_fault, receiver_tag}
+use Rattle.checked_program.specs.Marks.{Callee, BreaksAt, call_fault, enter_fault, section_fault, is_locking, is_class_locking, is_own_object, use_fault, receiver_tag}
 use Rattle.checked_program.specs.TaggedCode.{Tagged, tagged_by}
 use Rattle.checked_program.specs.declared.section.FieldUse.{FieldUse}
 use Rattle.checked_program.specs.declared.section.FieldUse.TheVariants.{Frozen, Guarded, Open}
@@ -190,6 +190,7 @@ reads p uses mode (ops.Getfield i) (targets.Field fi) stack five none = cc
 reads p uses mode ops.Monitorenter target stack five none = enter_low (is_own_object mode (slice_index_or stack 0 Untagged)) five
 reads p uses mode (ops.Invokevirtual i) (targets.Method u) stack five none = call_low (is_locking (slice_get p.methods u)) (is_own_object mode (receiver_tag p (ops.Invokevirtual i) (targets.Method u) stack)) five
 reads p uses mode (ops.Invokespecial i) (targets.Method u) stack five none = call_low (is_locking (slice_get p.methods u)) (is_own_object mode (receiver_tag p (ops.Invokespecial i) (targets.Method u) stack)) five
+reads p uses mode (ops.Invokestatic i) (targets.Method u) stack five none = call_low (is_class_locking (slice_get p.methods u)) false five
 reads p uses mode op target stack five none = omega (arith, five)
 
 field_number : Option Place → ℕ

@@ -15,6 +15,7 @@ use crate::frame::Frame;
 use crate::made::{arguments_of, taken_from};
 use crate::onward::{Change, Onward, threw};
 use checked_program::Checked;
+use heap_words::monitor_of;
 use jvm_types::flags::{is_static, is_synchronized};
 use jvm_types::limits::{MOST_FRAMES, MOST_SLOTS};
 use jvm_types::{MethodInfo, Rows, Stack, Thrown};
@@ -107,12 +108,13 @@ fn add_zeros(values: &mut Rows<u64>, count: usize) -> Result<(), AllocError>
 }
 
 /// It goes on in the frame of a method, when it has entered the monitor of a synchronized one.
-fn entered(m: &MethodInfo, caller: Frame, entry: Frame) -> Onward
+fn entered(p: &Checked, m: &MethodInfo, caller: Frame, entry: Frame) -> Onward
     ensures { (top : Plain) (below : List Plain)
-        → onward_of (top ∷ below) result ≡ entered m.now entry (caller ∷ below) }
+        → onward_of (top ∷ below) result ≡ entered p.now.program m.now entry (caller ∷ below) }
 {
     if is_synchronized(m.flags) {
-        Onward::Entering(entry.receiver(), Change::Call(caller, entry))
+        let monitor = monitor_of(p, m, entry.receiver());
+        Onward::Entering(monitor, Change::Call(caller, entry))
     } else {
         Onward::Running(Change::Call(caller, entry))
     }
@@ -134,7 +136,7 @@ pub fn called(
     }
     let caller = taken_from(alloc, p, at)?;
     let entry = entry_frame(alloc, number, m, arguments_of(alloc, p, at)?)?;
-    Ok(entered(m, caller, entry))
+    Ok(entered(p, m, caller, entry))
 }
 
 /// A root takes the number of its thread, where it takes an argument.

@@ -1,6 +1,6 @@
 //! Exceptions and returns (JVMS 2.10, 2.6.4).
 
-ghost use Rattle.std.specs.Prelude.{◌≡◌, ◌∷◌, ◌++◌, [], drop, ℕ, List, IfOk};
+ghost use Rattle.std.specs.Prelude.{◌≡◌, ◌∷◌, ◌++◌, [], drop, ℕ, List, None, IfOk};
 ghost use Rattle.std.specs.Option.{option_map, option_to_list};
 ghost use Rattle.machine_types.specs.Frames.{catches, caught, frames_of, given_back, handler_at};
 ghost use Rattle.machine_types.specs.Frames.{handler_of, returned, top_of};
@@ -13,7 +13,7 @@ use crate::frame::Frame;
 use crate::onward::{Change, Onward, Then};
 use checked_program::Checked;
 use code_table::is_subclass;
-use heap_words::class_of;
+use heap_words::{class_of, monitor_of};
 use jvm_types::flags::is_synchronized;
 use jvm_types::{Op, Row, Rows, Stack, Thrown};
 use std::alloc::{AllocError, Global};
@@ -64,7 +64,8 @@ pub fn returns(alloc: Global, p: &Checked, at: &At) -> Result<Onward, AllocError
     ensures { IfOk result (λ o. onward_of (frames_of at.now) o ≡ returns p.now.program at.now) }
 {
     if is_synchronized(at.method().flags) {
-        return Ok(Onward::Leaving(at.frame().receiver(), Then::Return, Change::Same));
+        let monitor = monitor_of(p, at.method(), at.frame().receiver());
+        return Ok(Onward::Leaving(monitor, Then::Return, Change::Same));
     }
     came_back(alloc, p, at)
 }
@@ -109,27 +110,36 @@ fn caught(alloc: Global, row: Row, x: u64, at: &At) -> Result<Frame, AllocError>
     Ok(f)
 }
 
+/// The top frame ends by an exception, a synchronized method's when it has left its monitor.
+fn ended(p: &Checked, x: u64, class: Thrown, at: &At, frames: &Stack<Frame>) -> Onward
+    requires { frames_of at.now ≡ frames.now }
+    ensures { onward_of frames.now result ≡ handed p.now.program x class at.now None }
+{
+    if is_synchronized(at.method().flags) {
+        let monitor = monitor_of(p, at.method(), at.frame().receiver());
+        return Onward::Leaving(monitor, Then::Unwind(x, class), Change::Same);
+    }
+    unwound(x, class, frames)
+}
+
 /// An exception is handed to the top frame.
 fn handed(
     alloc: Global,
+    p: &Checked,
     x: u64,
     class: Thrown,
     at: &At,
     frames: &Stack<Frame>,
 ) -> Result<Onward, AllocError>
     requires { frames_of at.now ≡ frames.now }
-    ensures { IfOk result
-        (λ o. onward_of frames.now o ≡ handed x class at.now (handler_at (class_of class) at.now)) }
+    ensures { IfOk result (λ o.
+        onward_of frames.now o
+        ≡ handed p.now.program x class at.now (handler_at (class_of class) at.now)) }
 {
-    let method = at.method();
-    match handler_of(at.frame().pc(), class_of(class), method.rows.as_slice()) {
+    let rows = at.method().rows.as_slice();
+    match handler_of(at.frame().pc(), class_of(class), rows) {
         Some(row) => Ok(Onward::Running(Change::Top(caught(alloc, row, x, at)?))),
-        None if is_synchronized(method.flags) => Ok(Onward::Leaving(
-            at.frame().receiver(),
-            Then::Unwind(x, class),
-            Change::Same,
-        )),
-        None => Ok(unwound(x, class, frames)),
+        None => Ok(ended(p, x, class, at, frames)),
     }
 }
 
@@ -146,7 +156,7 @@ pub fn dispatched(
         (λ o. option_map (onward_of frames.now) o ≡ dispatched p.now.program x class frames.now) }
 {
     match top_of(p, frames) {
-        Some(at) => Ok(Some(handed(alloc, x, class, &at, frames)?)),
+        Some(at) => Ok(Some(handed(alloc, p, x, class, &at, frames)?)),
         None => Ok(None),
     }
 }

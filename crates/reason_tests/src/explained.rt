@@ -8,7 +8,7 @@ use mark_reasons::marks_explained;
 use std::alloc::Global;
 use std::process::Abort;
 use std::test::*;
-use test_classes::{calls, changed, marks};
+use test_classes::{calls, changed, marks, ticks};
 
 /// Sections that their own instructions mark, blocks in a block, and blocks on another object.
 const OWN: &str = "\
@@ -102,6 +102,14 @@ const BY_CALLEES: &str = "\
     Calls.storesAndPrints(I)V method M1\n\
     \x20 Calls.storesAndPrints(I)V at 2 putfield M1: it writes a field, a static field or an element\n";
 
+/// Sections that call a static synchronized method.
+const BY_CLASSES: &str = "\
+    Ticks.calls()I method M3\n\
+    \x20 Ticks.calls()I at 0 invokestatic M3: it enters a monitor that is not the section's\n\
+    Ticks.callsLater()I method M6\n\
+    \x20 Ticks.callsLater()I at 0 invokestatic calls\n\
+    \x20 Ticks.later()I at 0 invokestatic M3: it enters a monitor that is not the section's\n";
+
 /// `Marks.onKey` returns before its block.
 const RETURNS_FIRST: [(usize, u8); 4] = [(1700, 0x03), (1701, 0xac), (1702, 0), (1703, 0)];
 
@@ -151,5 +159,6 @@ fn no_path_reaches_a_block(rt: HostRuntime) -> Result<(), Fail> {
 #[test]
 fn calls_lead_to_reasons(rt: HostRuntime) -> Result<(), Fail> {
     check_reasons(&rt, calls(), BY_CALLEES)?;
+    check_reasons(&rt, ticks(), BY_CLASSES)?;
     Ok(())
 }

@@ -58,7 +58,7 @@ linking_means L5 = codes "the name of a class or of a member that is there alrea
 linking_means L6 = codes "a superclass other than Object, an interface, or an abstract class"
 linking_means L7 = codes "a final field is written outside of its constructor or initializer"
 linking_means L8 = codes "the classes and static fields need more words than the heap has"
-linking_means L9 = codes "a static method is synchronized"
+linking_means L9 = codes "a <clinit>, init, run or done that is synchronized"
 
 abbrev pub verifying_means : VRule → List ℕ
 verifying_means V1 = codes "the stack has too few values"
@@ -119,7 +119,7 @@ linking_instead L5 = codes "each class once, under a name of its own"
 linking_instead L6 = codes "a field that holds the other object; one of the twelve throwables; the class itself as the type"
 linking_instead L7 = codes "the field without final"
 linking_instead L8 = codes "a larger --heap"
-linking_instead L9 = codes "a synchronized instance method of one object that a static final field holds"
+linking_instead L9 = codes "a static synchronized method that it calls"
 
 abbrev pub verifying_instead : VRule → List ℕ
 verifying_instead V1 = again

@@ -103,7 +103,7 @@ fn linking_means(rule: LRule) -> &'static str
         LRule::L6 => "a superclass other than Object, an interface, or an abstract class",
         LRule::L7 => "a final field is written outside of its constructor or initializer",
         LRule::L8 => "the classes and static fields need more words than the heap has",
-        LRule::L9 => "a static method is synchronized",
+        LRule::L9 => "a <clinit>, init, run or done that is synchronized",
     }
 }
 
@@ -129,7 +129,7 @@ fn linking_instead(rule: LRule) -> &'static str
         }
         LRule::L7 => "the field without final",
         LRule::L8 => "a larger --heap",
-        LRule::L9 => "a synchronized instance method of one object that a static final field holds",
+        LRule::L9 => "a static synchronized method that it calls",
     }
 }
 

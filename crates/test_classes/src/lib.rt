@@ -25,11 +25,11 @@ pub use overflows::{
     OVERFLOWS_TWICE,
 };
 pub use pairs::{SHARED, SHARED_AND_DONE, TWICE, UNLOCKED};
-pub use sections::{STORES_THIS, calls, counts_up, marks, stores_this};
+pub use sections::{CLASS_LOCKS, STORES_THIS, calls, counts_up, marks, stores_this, ticks};
 pub use single::{
     ADDS_TWICE, ALL_PARTS, CALLS_ITSELF, CATCHES_BY_CLASS, COMPUTES, DIVIDES_BY_ZERO,
     INDEXES_AND_THROWS, KEEPS_LOW_BIT, LEAVES_BY_EXCEPTION, MAKES_ARRAY, MEASURES_NULL, MOVES,
-    NEEDS_SLOTS,
+    NEEDS_SLOTS, SETS_AND_SUMS,
 };
 pub use statics::with_statics;
 pub use texts::{ADDS, PAIR, adds, below_exception, constants, kinds, pair, peeks, tally, work};

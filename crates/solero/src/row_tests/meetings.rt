@@ -1,9 +1,31 @@
 //! Threads that fight for a lock, make it fat, wait and notify.
 
 use super::Run;
-use test_classes::{BANK, LOCKS_OUT, RECORDS, SHARED_AND_DONE, SPINS, WAITS, WAITS_DEEP};
+use test_classes::{
+    BANK, CLASS_LOCKS, LOCKS_OUT, RECORDS, SHARED_AND_DONE, SPINS, WAITS, WAITS_DEEP,
+};
 
-pub const MEETINGS: [Run; 15] = [
+pub const MEETINGS: [Run; 16] = [
+    // The monitor of a class: left by an exception, entered again, and flagged by thread 1, so that
+    // thread 2 makes it fat as it returns.
+    Run {
+        options: &["--threads", "2"],
+        order: &[('2', 6), ('1', 80)],
+        class: CLASS_LOCKS,
+        changes: &[],
+        status: 0,
+        text: "\
+            4\n\
+            3\n\
+            init returned\n\
+            thread 1 returned\n\
+            thread 2 returned\n\
+            done returned\n\
+            counts 0 instructions 32 elided 0 failed 0 locked 2 inflated 0\n\
+            counts 1 instructions 8 elided 0 failed 0 locked 1 inflated 0\n\
+            counts 2 instructions 8 elided 0 failed 0 locked 1 inflated 1\n\
+        ",
+    },
     // Thread 1 fails so many turns that it flags the lock, which is made fat when it is left.
     Run {
         options: &["--threads", "2"],

@@ -18,7 +18,8 @@ leave-requires-clause-number c =
 
 pub returns-clause-on : goal.returns-clause-on
 returns-clause-on c = λ yes.
-    returns_whole c.args.p.now c.args.s.now c.leave.new.s c.args.f.now c.give_back.new.f c.args.count c.receiver-monitor.result c.args.place.now
+    let own = rw (c.method-2.ensures, c.receiver.ensures) at c.monitor_of-monitor.ensures.monitor in
+    returns_whole c.args.p.now c.args.s.now c.leave.new.s c.args.f.now c.give_back.new.f c.args.count c.monitor_of-monitor.result c.args.place.now
     c.args.words.now c.leave.new.words c.requires.next c.requires.returns
     (ap (λ (m : MethodInfo). is_synchronized m.flags) (sym c.method.ensures) ∙ sym c.is_synchronized.ensures ∙ c.if-not-is_synchronized.false)
-    c.receiver-monitor.ensures c.give_back.ensures.back (c.leave.ensures.on c.if-not-leave.false)
+    own c.give_back.ensures.back (c.leave.ensures.on c.if-not-leave.false)
