@@ -7,11 +7,11 @@ Run it by hand from the top of the repository, after `./run --proved examples/A.
     python3 bench/machine.py [--program PATH] [name..]
 
 With names, only those programs. Each line is of one program of bench/programs: first the six by which the loop of
-instructions was formed, then six others, to which nothing was fitted. Times are processor time, of the user and of the
-system, and the least of several rounds, in each of which both machines run one after the other; the least time of a program
-that does nothing, on the same machine, is taken off. A time is told for one instruction, by the instructions that the
-report counts, and the ratio is that of solero's time to the other's. `doubled` is how the least times grow where the work
-of the program is doubled.
+instructions was formed, then six others, to which nothing was fitted, then one that holds two hundred locks. Times are
+processor time, of the user and of the system, and the least of several rounds, in each of which both machines run one
+after the other; the least time of a program that does nothing, on the same machine, is taken off. A time is told for
+one instruction, by the instructions that the report counts, and the ratio is that of solero's time to the other's.
+`doubled` is how the least times grow where the work of the program is doubled.
 
 `machine` is how many instructions of the processor one instruction of the class file takes: what `perf stat` counts, or else
 callgrind, between a run that ends after 500,000 instructions and one that ends after 1,500,000. Where neither counts, the
@@ -38,6 +38,7 @@ HARNESS = os.path.join(measure.TOP, "examples", "programs", "Hotspot.java")
 LISTS = (
     ("by which the loop was formed", ("Arithmetic", "Calls", "Fields", "Sieve", "Locks", "Reads")),
     ("others", ("Matrix", "Tree", "Chain", "Transfers", "Automaton", "Failures")),
+    ("many locks held", ("Nested",)),
 )
 MOST_STEPS = 2**32 - 1
 SOME_STEPS = (500_000, 1_500_000)

@@ -15,4 +15,4 @@ pub use again::{enter_again, exit_once, put_depth};
 pub use answers::answer;
 pub use asking::{ask, ask_last_exit, freed};
 pub use leaving::exit_last;
-pub use taking::{acquire, take};
+pub use taking::{acquire, take, take_unheld};

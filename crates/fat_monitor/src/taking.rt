@@ -1,8 +1,9 @@
 //! How a lock is taken.
 
-ghost use Rattle.std.specs.Prelude.{◌≡◌, ◌<◌, ◌^◌, true, if◌then◌else◌, ◌==◌};
+ghost use Rattle.std.specs.Prelude.{◌≡◌, ◌<◌, ◌^◌, None, length, true, if◌then◌else◌, ◌==◌};
 ghost use Rattle.jvm_types.specs.declared.limits.TheConstants.{MOST_LIMIT, MOST_WORKERS};
 ghost use Rattle.machine_types.specs.Going.{failed_turn};
+ghost use Rattle.machine_types.specs.HeldMonitors.{held_at, places_of};
 ghost use Rattle.machine_types.specs.LockWords.{is_lock_word, lock_of, word_of_lock};
 ghost use Rattle.machine_types.specs.Monitors.{acquires, takes};
 ghost use Rattle.machine_types.specs.declared.lock.Kept.TheVariants.{Fat, Flat};
@@ -54,6 +55,23 @@ pub fn take(s: &mut ThreadState, monitor: u32, kept: Kept)
     ensures { s.new ≡ takes s.old monitor kept }
 {
     s.put_held(Held {
+        monitor,
+        kept,
+        depth: 1,
+    });
+    count_locked(s);
+    runs(s);
+}
+
+/// The lock of a monitor that the thread does not hold is taken.
+#[inline(always)]
+pub fn take_unheld(s: &mut ThreadState, monitor: u32, kept: Kept)
+    requires none { held_at s.old.held monitor ≡ None }
+    requires place { length s.old.held < places_of s.old.program }
+    requires count { s.old.counts.locked < MOST_LIMIT }
+    ensures { s.new ≡ takes s.old monitor kept }
+{
+    s.add_held(Held {
         monitor,
         kept,
         depth: 1,

@@ -3,3 +3,4 @@ pub mod Laid
 pub mod RootLists
 pub mod KeptAttempts
 pub mod ThreadParts
+pub mod HeldLists

@@ -19,7 +19,7 @@ ghost use Rattle.frames.specs.ThreadParts.{start_phase, part_begun};
 use crate::attempt_entry::AttemptEntry;
 use crate::frame_stack::FrameStack;
 use crate::head::{SLOTS, StackOverflow};
-use crate::held::{entry_of, place_of, places};
+use crate::held::{HeldList, places};
 use crate::roots::Roots;
 use checked_program::{Checked, SectionMark, Tags};
 use jvm_types::{Counts, End, Print, Room, Rows, ThreadReport, Typing};
@@ -44,7 +44,7 @@ pub struct ThreadState {
     frames: FrameStack,
     /// What stands in the place of the frames while a loop has them.
     spare: Option<FrameStack>,
-    held: Vec<Held>,
+    held: HeldList,
     attempt: Option<AttemptEntry>,
     kept: Vec<u64>,
     roots: Roots,
@@ -57,7 +57,6 @@ pub struct ThreadState {
 
 impl Model for ThreadState {
     ghost use Rattle.std.specs.Prelude.{◌≡◌, ◌≤◌, ◌+◌, ◌*◌, length, option_map, IfSome};
-    ghost use Rattle.std.specs.Vec.{vec_capacity};
     ghost use Rattle.jvm_types.specs.declared.limits.TheConstants.{MOST_FRAMES};
     ghost use Rattle.machine_types.specs.HeldMonitors.{most_held};
     ghost use Rattle.machine_types.specs.Threads.{Thread};
@@ -66,9 +65,9 @@ impl Model for ThreadState {
 
     ghost Value = { Thread };
 
-    ghost view = { λ s. record { program = record { program = s.frames.program; typings = s.typings.told; tags = s.tags.told; marks = s.marks.told }; cfg = s.cfg; number = s.number; phase = s.phase; frames = s.frames.frames; held = s.held.items; attempt = option_map (attempt_of s.kept.items) s.attempt; roots = s.roots.left; turns = s.turns; counts = s.counts; prints = s.prints.items; part = s.part; first = s.first } };
+    ghost view = { λ s. record { program = record { program = s.frames.program; typings = s.typings.told; tags = s.tags.told; marks = s.marks.told }; cfg = s.cfg; number = s.number; phase = s.phase; frames = s.frames.frames; held = s.held.entries; attempt = option_map (attempt_of s.kept.items) s.attempt; roots = s.roots.left; turns = s.turns; counts = s.counts; prints = s.prints.items; part = s.part; first = s.first } };
 
-    ghost invariant = { λ s. IsKept s.frames.program s.kept.items s.attempt × (MOST_FRAMES * (1 + most_held s.tags.told) ≤ vec_capacity s.held) × IfSome s.spare (λ f. f.program ≡ s.frames.program) × (s.cfg.prints ≤ length s.prints.items + s.prints.spare) × (length s.prints.items ≤ s.cfg.prints) × (s.roots.later ≡ later_roots s.frames.program s.number) };
+    ghost invariant = { λ s. IsKept s.frames.program s.kept.items s.attempt × (MOST_FRAMES * (1 + most_held s.tags.told) ≤ s.held.places) × IfSome s.spare (λ f. f.program ≡ s.frames.program) × (s.cfg.prints ≤ length s.prints.items + s.prints.spare) × (length s.prints.items ≤ s.cfg.prints) × (s.roots.later ≡ later_roots s.frames.program s.number) };
 }
 
 /// The phase of a thread whose part begins with these roots.
@@ -139,7 +138,7 @@ impl ThreadState {
             phase,
             frames: FrameStack::new(alloc, p.program())?,
             spare: Some(FrameStack::new(alloc, p.program())?),
-            held: Vec::with_capacity(alloc, places(p.tags())?)?,
+            held: HeldList::with_places(alloc, places(p.tags())?)?,
             attempt: None,
             kept: vec![in alloc; 0u64; SLOTS]?,
             roots,
@@ -316,10 +315,11 @@ impl ThreadState {
 // What it holds.
 impl ThreadState {
     /// The entry of a monitor that it holds.
+    #[inline(always)]
     pub fn held(&self, monitor: u32) -> Option<Held>
         ensures { result ≡ held_at self.now.held monitor }
     {
-        entry_of(self.held.as_slice(), monitor)
+        self.held.at(monitor)
     }
 
     /// The entry of the monitor becomes this one, or this one is added.
@@ -328,19 +328,24 @@ impl ThreadState {
             → length self.old.held < places_of self.old.program }
         ensures { self.new ≡ record self.old { held = with_held held self.old.held } }
     {
-        match place_of(self.held.as_slice(), held.monitor) {
-            Some(i) => self.held[i] = held,
-            None => self.held.push_reserved(held),
-        }
+        self.held.put(held);
+    }
+
+    /// The entry of a monitor that it did not hold is added.
+    #[inline(always)]
+    pub fn add_held(&mut self, held: Held)
+        requires none { held_at self.old.held held.monitor ≡ None }
+        requires room { length self.old.held < places_of self.old.program }
+        ensures { self.new ≡ record self.old { held = with_held held self.old.held } }
+    {
+        self.held.add(held);
     }
 
     /// Drops the entry of a monitor, where it has one.
     pub fn drop_held(&mut self, monitor: u32)
         ensures { self.new ≡ record self.old { held = without_held monitor self.old.held } }
     {
-        if let Some(i) = place_of(self.held.as_slice(), monitor) {
-            let _gone = self.held.remove(i);
-        }
+        self.held.remove(monitor);
     }
 }
 

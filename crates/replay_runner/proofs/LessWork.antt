@@ -10,7 +10,7 @@ use Rattle.machine_types.specs.Events.{moved, wanted}
 use Rattle.machine_types.specs.Threads.{Thread}
 use Rattle.machine_types.proofs.OnlyLive.{only_live_change}
 use Rattle.laws_threads.specs.GivenThread.{Given, GivenIsKept}
-use Rattle.laws_states.specs.RunLaws.{EventsKeepFacts, EventsKeepThreads}
+use Rattle.laws_states.specs.StateLaws.{EventsKeepState}
 use Rattle.laws_states.specs.WorkLeft.{EventsLessenAllWork, all_work}
 use Rattle.replay_runner.specs.Running.{Running, AreRunning, events, parts_left, run_on}
 use Rattle.replay_runner.proofs.MachineEvents.{event_runs}
@@ -21,31 +21,31 @@ pub event_lessens : EventsLessenAllWork → (m old new : Running) (t : ℕ) → 
     → all_work new.core < all_work old.core
 event_lessens lessen m old new t runs same is live =
     let k : AreRunning old = subst AreRunning same runs in
-    subst (λ (r : Running). all_work r.core < all_work old.core) (sym is) (lessen old.program old.cfg old.core t k.marked k.threads live)
+    subst (λ (r : Running). all_work r.core < all_work old.core) (sym is) (lessen old.program old.cfg old.core t k.marked k.state.facts.threads live)
 
 -- ---- and so do many
 
-runs_on : EventsKeepThreads → EventsKeepFacts → (m : Running) (t n : ℕ) → AreRunning m → AreRunning (run_on m t n)
-runs_on threads facts m t zero k = k
-runs_on threads facts m t (suc n) k = event_runs (run_on m t n) t (runs_on threads facts m t n k) threads facts
+runs_on : EventsKeepState → (m : Running) (t n : ℕ) → AreRunning m → AreRunning (run_on m t n)
+runs_on keep m t zero k = k
+runs_on keep m t (suc n) k = event_runs (run_on m t n) t (runs_on keep m t n k) keep
 
-falls : EventsLessenAllWork → EventsKeepThreads → EventsKeepFacts → (m : Running) (t n : ℕ) → AreRunning m → lives m.core t ≡ true
+falls : EventsLessenAllWork → EventsKeepState → (m : Running) (t n : ℕ) → AreRunning m → lives m.core t ≡ true
     → all_work (events m.program m.core t (suc n)) < all_work m.core
-falls lessen threads facts m t zero k live = lessen m.program m.cfg m.core t k.marked k.threads live
-falls lessen threads facts m t (suc n) k live = by_live (lives s t) refl (falls lessen threads facts m t n k live)
+falls lessen keep m t zero k live = lessen m.program m.cfg m.core t k.marked k.state.facts.threads live
+falls lessen keep m t (suc n) k live = by_live (lives s t) refl (falls lessen keep m t n k live)
   where
     s : Core
     s = events m.program m.core t (suc n)
 
     by_live : (on : Bool) → lives s t ≡ on → all_work s < all_work m.core → all_work (event m.program s t) < all_work m.core
-    by_live true e before = omega (arith, before, lessen m.program m.cfg s t k.marked (runs_on threads facts m t (suc n) k).threads e)
+    by_live true e before = omega (arith, before, lessen m.program m.cfg s t k.marked (runs_on keep m t (suc n) k).state.facts.threads e)
     by_live false e before = subst (λ (r : Core). all_work r < all_work m.core) (sym (only_live_change m.program s t e)) before
 
-pub alone_lessens : EventsLessenAllWork → EventsKeepThreads → EventsKeepFacts → (m old new : Running) (t n : ℕ) → AreRunning m → m ≡ old → new ≡ run_on old t n → lives new.core t ≡ false → lives old.core t ≡ true
+pub alone_lessens : EventsLessenAllWork → EventsKeepState → (m old new : Running) (t n : ℕ) → AreRunning m → m ≡ old → new ≡ run_on old t n → lives new.core t ≡ false → lives old.core t ≡ true
     → all_work new.core < all_work old.core
-alone_lessens lessen threads facts m old new t zero runs same is over live = let no : false ≡ true = sym over ∙ ap (λ (r : Running). lives r.core t) is ∙ live in cc
-alone_lessens lessen threads facts m old new t (suc n) runs same is over live =
-    subst (λ (r : Running). all_work r.core < all_work old.core) (sym is) (falls lessen threads facts old t n (subst AreRunning same runs) live)
+alone_lessens lessen keep m old new t zero runs same is over live = let no : false ≡ true = sym over ∙ ap (λ (r : Running). lives r.core t) is ∙ live in cc
+alone_lessens lessen keep m old new t (suc n) runs same is over live =
+    subst (λ (r : Running). all_work r.core < all_work old.core) (sym is) (falls lessen keep old t n (subst AreRunning same runs) live)
 
 -- ---- events leave the parts as they are
 

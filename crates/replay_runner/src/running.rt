@@ -14,8 +14,8 @@ use checked_program::Checked;
 use frames::ThreadState;
 use jvm_types::{Outcome, Room, Rows, ThreadReport};
 use laws_states::{
-    events_lessen_all_work, events_lessen_work, reached_fits, run_facts_event, run_facts_next,
-    run_facts_start, threads_are_kept,
+    events_keep_state, events_lessen_all_work, events_lessen_work, next_keeps_state,
+    parts_keep_threads, reached_fits, start_has_state, states_have_facts,
 };
 use lists::Told;
 use machine_types::Config;
@@ -65,8 +65,8 @@ fn go(s: &mut ThreadState, p: &Checked, words: &mut Rows<u64>)
         → IsThreadOf (run_on m t 1) p.now t s.new words.new }
 {
     reached_fits();
-    threads_are_kept();
-    run_facts_event();
+    states_have_facts();
+    events_keep_state();
     event(s, p, words);
 }
 
@@ -80,8 +80,8 @@ fn go_far(s: &mut ThreadState, p: &Checked, words: &mut Rows<u64>)
     ensures less { work_left s.new < work_left s.old }
 {
     reached_fits();
-    threads_are_kept();
-    run_facts_event();
+    states_have_facts();
+    events_keep_state();
     events_lessen_work();
     let _ahead = run_ahead(s, p, words);
     go(s, p, words);
@@ -108,7 +108,8 @@ impl Machine {
         ensures { IfOk result
             (λ m. m ≡ record { program = p.now; cfg = cfg.now; core = start p.now cfg.now }) }
     {
-        run_facts_start();
+        parts_keep_threads();
+        start_has_state();
         have_width(*cfg);
         let words = start_words(alloc, p.program())?;
         let threads = start_threads(alloc, p, cfg)?;
@@ -214,8 +215,7 @@ impl Machine {
         ensures less { lives self.old.core t ≡ true
             → all_work self.new.core < all_work self.old.core }
     {
-        threads_are_kept();
-        run_facts_event();
+        events_keep_state();
         events_lessen_all_work();
         if self.lives(t) {
             run_far(&mut self.threads[t as usize], p, &mut self.words);
@@ -241,7 +241,8 @@ impl Machine {
         ensures still { result ≡ false → self.new ≡ self.old }
     {
         let _ = p;
-        run_facts_next();
+        parts_keep_threads();
+        next_keeps_state();
         shares_are_next();
         if !self.may_begin() {
             return false;

@@ -1,7 +1,6 @@
 -- The events of a monitor that a thread alone enters or leaves.
 use Rattle.std.proofs.Common.{◌≡◌, ◌<◌, ◌≤◌, ◌+◌, ◌-◌, ◌*◌, ℕ, suc, List, [], ◌∷◌, true, false, length, Option, Some, None, refl, sym, ap, ◌∙◌, subst, arith}
-use Rattle.std.specs.Prelude.{◌==◌, ◌/◌, ◌%◌, nat_lt, IfSome, IsSome, option_map, slice_index, slice_set}
-use Rattle.std.proofs.lemmas.Bool.Decides.{nat_tests}
+use Rattle.std.specs.Prelude.{◌/◌, ◌%◌, IfSome, IsSome, slice_index, slice_set}
 use Rattle.std.proofs.lemmas.Bool.{eq-eqb, lt-ltb, le-ltb}
 use Rattle.jvm_types.specs.declared.limits.TheConstants.{MOST_FRAMES, MOST_LIMIT}
 use Rattle.checked_program.specs.MarkedProgram.{MarkedProgram}
@@ -13,7 +12,7 @@ use Rattle.machine_types.specs.Lawful.{IsLawful}
 use Rattle.machine_types.specs.LockWords.{word_of_lock, lock_of}
 use Rattle.machine_types.specs.declared.lock.LockWord.TheVariants.{Free, Held}
 use Rattle.machine_types.specs.Monitors.{freed, takes}
-use Rattle.machine_types.specs.Threads.{Attempt, Frame, Thread, head_of}
+use Rattle.machine_types.specs.Threads.{Attempt, Frame, Thread}
 use Rattle.machine_types.specs.declared.lock.Held.{Held as Entry}
 use Rattle.machine_types.specs.declared.lock.Kept.TheVariants as keeps
 use Rattle.machine_types.specs.declared.phase.Phase.TheVariants.{Take}
@@ -208,11 +207,6 @@ few_taken c s first f count m noted words most begun held none locks word fine =
     subst (λ (t : Thread). t.counts.locked < MOST_LIMIT) (sym begun)
     (omega (arith, take_is_under_way s.attempt m noted, lawful.bounded.sections, lawful.bounded.steps, most))
 
--- the word of a monitor on which the thread has no claim is there
-pub word_there : (c : MarkedProgram) (s : Thread) (f : Frames) (count m : ℕ) (words : List ℕ)
-    → held_at s.held m ≡ None → s.attempt ≡ None → IsFine c (alone (entering s f count m) words) → m < length words
-word_there c s f count m words held none fine = rw (held, none) at fine.inside
-
 -- ---- what the calls leave that make an exit
 
 pub once_made : (c : MarkedProgram) (m : ℕ) (s now : Thread) (words : List ℕ) (h : Entry)
@@ -254,7 +248,3 @@ inside_left c m inner s now words (Some t) is some own deep more held made =
     made ∙ ap (λ (o : Option Attempt). record s { attempt = with_inner (inner - 1) o }) is in
     subst (λ (u : Thread). IsExitMade c m s u words words) (sym made_so)
     (leaves_inside c m s words t (inner - 1) is held own next)
-
-pub no_attempt : (o : Option Attempt) → option_map head_of o ≡ None → o ≡ None
-no_attempt None is = refl
-no_attempt (Some a) is = absurd (cc)

@@ -15,12 +15,11 @@ ghost use Rattle.step_core.specs.Passing.{Passes};
 ghost use Rattle.step_core.specs.Running.{running_at};
 ghost use Rattle.step_core.specs.Sections.{entering};
 
-use crate::ahead::fields::load;
 use crate::attempts::enter_inside;
 use crate::entering::entered_at;
 use crate::marked::is_marked;
 use checked_program::Checked;
-use fat_monitor::{enter_again, take};
+use fat_monitor::{enter_again, take_unheld};
 use frames::{FrameStack, ThreadState};
 use jvm_types::Rows;
 use laws_threads::held_has_room;
@@ -147,11 +146,11 @@ fn take_flat(
     let _limits = s.config();
     let _depth = f.depth();
     s.set_turns(0);
-    take(s, monitor, Kept::Flat(noted));
+    take_unheld(s, monitor, Kept::Flat(noted));
     words.set(monitor as usize, word(LockWord::Held(s.number())));
 }
 
-/// An entry of a monitor on which the thread has no claim, by the word that was found: tells how
+/// An entry of a monitor on which the thread has no claim, and whose lock word is free: tells how
 /// many events it made.
 #[inline(always)]
 fn enter_new(
@@ -159,7 +158,7 @@ fn enter_new(
     f: &FrameStack,
     p: &Checked,
     monitor: u32,
-    found: u64,
+    noted: u64,
     words: &mut Rows<u64>,
     count: u32,
 ) -> u8
@@ -169,7 +168,7 @@ fn enter_new(
     requires held { held_at s.old.held monitor ≡ None }
     requires alone { s.old.attempt ≡ None }
     requires there { monitor < length words.old }
-    requires found { found ≡ slice_index words.old monitor }
+    requires word { slice_index words.old monitor ≡ word_of_lock (Free noted) }
     requires number { s.old.number ≤ MOST_WORKERS }
     requires fine { IsFine p.now
         (stepped p.now (alone (entering s.old f.now count monitor) words.old)) }
@@ -182,10 +181,6 @@ fn enter_new(
     ensures of { s.new.program ≡ s.old.program }
     ensures settings { s.new.cfg ≡ s.old.cfg }
 {
-    let noted = found / 4;
-    if noted >= COUNTS || found != word(LockWord::Free(noted)) {
-        return 0;
-    }
     if may_try(s, f, p, monitor, count) {
         if noted >= s.config().range as u64 {
             return 0;
@@ -198,20 +193,22 @@ fn enter_new(
     }
 }
 
-/// An entry of a monitor that the thread does not hold, by its attempt, or by the lock word: tells
-/// how many events it made.
+/// An entry of a monitor whose lock word is free, so that the thread does not hold it, by its
+/// attempt, or by that word: tells how many events it made.
 #[inline(always)]
-fn enter_unheld(
+fn enter_free(
     s: &mut ThreadState,
     f: &FrameStack,
     p: &Checked,
     monitor: u32,
+    noted: u64,
     words: &mut Rows<u64>,
     count: u32,
 ) -> u8
     requires of { s.old.program ≡ p.now }
     requires program { f.now.program ≡ p.now.program }
-    requires held { held_at s.old.held monitor ≡ None }
+    requires there { monitor < length words.old }
+    requires word { slice_index words.old monitor ≡ word_of_lock (Free noted) }
     requires passes { Passes s.old words.old }
     requires fine { (k : ℕ)
         → IsFine p.now (stepped_by p.now k (alone (entering s.old f.now count monitor) words.old)) }
@@ -235,10 +232,27 @@ fn enter_unheld(
             enter_section_again(s, f, p, monitor, words, count);
             1
         }
-        None => {
-            let found = load(words, monitor);
-            enter_new(s, f, p, monitor, found, words, count)
-        }
+        None => enter_new(s, f, p, monitor, noted, words, count),
+    }
+}
+
+/// The count of a lock word that is there and is free.
+#[inline(always)]
+fn free_count(words: &Rows<u64>, monitor: u32) -> Option<u64>
+    ensures there { IsSome result → monitor < length words.now }
+    ensures free { IfSome result
+        (λ noted. slice_index words.now monitor ≡ word_of_lock (Free noted)) }
+{
+    let at = monitor as usize;
+    if at >= words.len() {
+        return None;
+    }
+    let found = words.as_slice()[at];
+    let noted = found / 4;
+    if noted < COUNTS && found == word(LockWord::Free(noted)) {
+        Some(noted)
+    } else {
+        None
     }
 }
 
@@ -270,11 +284,14 @@ pub fn enter_at(
 {
     // its limits are `u32`s
     let _limits = s.config();
+    if let Some(noted) = free_count(words, monitor) {
+        return enter_free(s, f, p, monitor, noted, words, count);
+    }
     match s.held(monitor) {
         Some(held) => {
             enter_held(s, f, p, monitor, held, words, count);
             1
         }
-        None => enter_unheld(s, f, p, monitor, words, count),
+        None => 0,
     }
 }

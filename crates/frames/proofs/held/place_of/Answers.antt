@@ -1,7 +1,10 @@
+use Rattle.std.proofs.Common.{length, ◌-◌, ◌<◌, arith}
 use Rattle.frames.proofs.HeldLaws.{placed}
 use Rattle.frames.proofs.held.place_of.Goals as goal
 
-pub returns-then-held-i-clause-some : goal.returns-then-held-i-clause-some
-returns-then-held-i-clause-some c =
-    let p = placed c.args.monitor c.args.held.now c.loop-i.i _ c.loop-i-test.true c.if-held-i.true c.loop-i.invariant.rest c.loop-i.invariant.other in
-    (c.loop-i-test.true, p.0, p.1)
+pub returns-then-held-count-clause-some : goal.returns-then-held-count-clause-some
+returns-then-held-count-clause-some c =
+    let held = c.args.held.now in
+    let inside : length held - 1 < length held = omega (arith, c.if-count-eq0.false) in
+    let p = placed c.args.monitor held (length held - 1) _ c.requires inside c.if-held-count.true in
+    (inside, p.0, p.1, p.2)

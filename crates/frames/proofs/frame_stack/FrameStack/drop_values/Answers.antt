@@ -1,6 +1,5 @@
 use Rattle.std.proofs.Common.{ap, set, ◌+◌, List}
 use Rattle.machine_types.specs.Threads.{Frame}
-use Rattle.frames.specs.declared.head.Head.{Head}
 use Rattle.frames.proofs.FrameLaws.{held_top, set_again, values_dropped}
 use Rattle.frames.proofs.frame_stack.FrameStack.drop_values.Goals as goal
 

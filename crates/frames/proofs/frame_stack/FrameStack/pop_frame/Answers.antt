@@ -1,4 +1,4 @@
-use Rattle.std.proofs.Common.{ap, drop, List}
+use Rattle.std.proofs.Common.{ap, List}
 use Rattle.machine_types.specs.Threads.{Frame}
 use Rattle.frames.proofs.FrameLaws.{popped_frames, popped_laid}
 use Rattle.frames.proofs.frame_stack.FrameStack.pop_frame.Goals as goal

@@ -1,4 +1,4 @@
-use Rattle.std.proofs.Common.{ap, set, List, subst, sym}
+use Rattle.std.proofs.Common.{ap, set, List}
 use Rattle.machine_types.specs.Threads.{Frame}
 use Rattle.frames.proofs.CallLaws.{no_top, room_left, Rooted, root_frames, root_laid}
 use Rattle.frames.proofs.frame_stack.FrameStack.push_root.Goals as goal

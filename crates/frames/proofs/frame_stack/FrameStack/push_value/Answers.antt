@@ -1,7 +1,5 @@
-use Rattle.std.proofs.Common.{ap, set, ◌-◌, List, sym, ◌∙◌, drop}
+use Rattle.std.proofs.Common.{ap, set, ◌-◌, List}
 use Rattle.machine_types.specs.Threads.{Frame}
-use Rattle.frames.specs.Laid.{laid_frames}
-use Rattle.frames.specs.declared.head.Head.{Head}
 use Rattle.frames.proofs.FrameLaws.{held_top, set_again, pushed_laid}
 use Rattle.frames.proofs.frame_stack.FrameStack.push_value.Goals as goal
 

@@ -17,9 +17,9 @@ returns c =
     let here : RootLists = record { left = take (r.until - r.begun) (drop r.begun r.numbers); later = drop r.later r.numbers } in
     let same : here ≡ c.in_ok-roots.roots = c.roots.view_is in
     started p c.args.cfg.now number
-    c.of-2.result.told c.of-3.result.told c.of-4.result.told c.in_ok-new.field-0 c.in_ok-with_capacity.field-0.items c.in_ok-with_room.field-0.items here c.start_phase-phase.result
+    c.of-2.result.told c.of-3.result.told c.of-4.result.told c.in_ok-new.field-0 c.in_ok-with_places.field-0.entries c.in_ok-with_room.field-0.items here c.start_phase-phase.result
     (c.of-2.ensures ∙ c.typings.ensures.typings) (c.of-3.ensures ∙ c.tags.ensures.tags) (c.of-4.ensures ∙ c.marks.ensures.marks)
     (c.in_ok-new.ensures ∙ ap (λ (q : Program). record { program = q; frames = [] }) c.program-2.ensures.program)
-    c.in_ok-with_capacity.ensures.items c.in_ok-with_room.ensures.items
+    c.in_ok-with_places.ensures.0 c.in_ok-with_room.ensures.items
     (same ∙ c.in_ok-roots.ensures ∙ ap (λ (q : Program). record { left = first_roots q number; later = later_roots q number }) c.program.ensures.program)
     (c.start_phase-phase.ensures ∙ ap (λ (x : RootLists). start_phase number x.left) (sym same))

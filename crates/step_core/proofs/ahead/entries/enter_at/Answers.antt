@@ -8,4 +8,4 @@ pub enter_held-requires-clause-depth : goal.enter_held-requires-clause-depth
 enter_held-requires-clause-depth c =
     let most : c.args.s.now.cfg.steps ≤ 4294967295 = omega (arith, ap (λ (x : Config). x.steps) c.config-limits.ensures) in
     let all = few_entries c.args.p.now (entering c.args.s.now c.args.f.now c.args.count c.args.monitor) c.args.monitor 0 refl most (c.requires.fine 0).lawful in
-    rw (sym c.held.ensures ∙ c.in-Some.is) at all
+    rw (sym c.held.ensures ∙ c.in-Some-held.is) at all

@@ -1,24 +1,19 @@
-use Rattle.std.proofs.Common.{◌≤◌, ap, sym, ◌∙◌, arith}
+use Rattle.std.proofs.Common.{◌≤◌, ap, arith}
 use Rattle.machine_types.specs.declared.config.Config.{Config}
 use Rattle.step_core.specs.Sections.{entering}
 use Rattle.step_core.proofs.LawfulSteps.{few_inside, has_frame, number_fits}
-use Rattle.step_core.proofs.SectionEvents.{no_attempt, word_there}
-use Rattle.step_core.proofs.ahead.entries.enter_unheld.Goals as goal
+use Rattle.step_core.proofs.ahead.entries.enter_free.Goals as goal
+
+pub enter_section_again-requires-clause-none : goal.enter_section_again-requires-clause-none
+enter_section_again-requires-clause-none c = (c.requires.fine 0).unheld c.args.monitor c.args.noted c.requires.word
 
 pub enter_section_again-requires-clause-inner : goal.enter_section_again-requires-clause-inner
 enter_section_again-requires-clause-inner c =
     let most : c.args.s.now.cfg.steps ≤ 4294967295 = omega (arith, ap (λ (x : Config). x.steps) c.config-limits.ensures) in
     few_inside c.args.p.now (entering c.args.s.now c.args.f.now c.args.count c.args.monitor) most (c.requires.fine 0).lawful
 
-pub load-found-requires : goal.load-found-requires
-load-found-requires c =
-    word_there c.args.p.now c.args.s.now c.args.f.now c.args.count c.args.monitor c.args.words.now
-    c.requires.held (no_attempt c.args.s.now.attempt (sym c.attempt.ensures ∙ c.in-None.is)) (c.requires.fine 0)
-
-pub enter_new-requires-clause-there : goal.enter_new-requires-clause-there
-enter_new-requires-clause-there c =
-    word_there c.args.p.now c.args.s.now c.args.f.now c.args.count c.args.monitor c.args.words.now
-    c.requires.held (no_attempt c.args.s.now.attempt (sym c.attempt.ensures ∙ c.in-None.is)) (c.requires.fine 0)
+pub enter_new-requires-clause-held : goal.enter_new-requires-clause-held
+enter_new-requires-clause-held c = (c.requires.fine 0).unheld c.args.monitor c.args.noted c.requires.word
 
 pub enter_new-requires-clause-frame : goal.enter_new-requires-clause-frame
 enter_new-requires-clause-frame c =
