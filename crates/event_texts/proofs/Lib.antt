@@ -1,2 +1,4 @@
 mod DoingActs
 mod TopByNumber
+mod ElementStands
+mod NamingWords

@@ -1,5 +1,6 @@
 pub mod Doings
 pub mod SharedWords
+pub mod NamedWords
 pub mod PhaseTexts
 pub mod ValueTexts
 pub mod Sights

@@ -13,5 +13,5 @@ mod planning;
 mod printed;
 mod step;
 
-pub use plain::{MOST_STEPS, Plain, plain_start, plain_step};
+pub use plain::{MOST_STEPS, Plain, plain_start, plain_step, steps_are_stated};
 pub use printed::Printed;

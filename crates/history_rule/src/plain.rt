@@ -1,6 +1,6 @@
 //! The plain machine: a program, its state, and how many steps were made.
 
-ghost use Rattle.std.specs.Prelude.{◌≡◌, ◌<◌, slice_get, IfOk};
+ghost use Rattle.std.specs.Prelude.{◌≡◌, ◌<◌, ◌^◌, slice_get, IfOk};
 ghost use Rattle.std.specs.Option.{option_map};
 ghost use Rattle.machine_types.specs.PlainState.{plain_start};
 ghost use Rattle.machine_types.specs.PlainSteps.{plain_done_end, end_at, plain_step};
@@ -20,6 +20,11 @@ use std::marker::Model;
 
 /// The most steps of one plain machine: 2^40, so that its numbers fit 64 bits.
 pub const MOST_STEPS: u64 = 1_099_511_627_776;
+
+/// The most steps, which the clauses of the plain machine name as the code does, by number.
+pub fn steps_are_stated()
+    ensures { MOST_STEPS ≡ 2 ^ 40 }
+{}
 
 /// The plain machine (JVMS 2.5, 2.6, 2.11.10; JLS 17.1, 17.2). Contracts see the program that it
 /// was made for, its state, and how many steps were made.

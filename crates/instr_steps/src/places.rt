@@ -87,14 +87,6 @@ impl<'a> Place<'a> {
         }
     }
 
-    /// The number of the instruction in the code of its method.
-    #[inline(always)]
-    pub fn number(&self) -> usize
-        ensures { result < length self.now.method.targets }
-    {
-        self.number
-    }
-
     #[inline(always)]
     pub fn target(&self) -> Target
         ensures { result ≡ self.now.target }

@@ -2,7 +2,6 @@
 use Rattle.std.specs.Prelude.{ℕ, ◌+◌, ◌-◌, ◌*◌, ◌/◌, ◌%◌, ◌==◌, nat_lt, nat_le, Bool, ◌&&◌, ◌||◌, List, [], ◌∷◌, ◌++◌, codes, if◌then◌else◌}
 use Rattle.std.specs.Fmt.{decimal}
 use Rattle.json_lines.specs.declared.characters.Character.{Character}
-use Rattle.json_lines.specs.declared.characters.TheConstants.{UNKNOWN}
 
 -- ---- the characters of a text
 -- A text is UTF-8 (RFC 3629), or what class files have in its place (JVMS 4.4.7): there a character beyond 16 bits is two of three
@@ -22,7 +21,7 @@ going_on number more = record { number = number; more = more }
 
 -- a byte that is no character stands for itself alone
 abbrev pub no_character : Character
-no_character = going_on UNKNOWN 0
+no_character = going_on 0xFFFD 0
 
 -- the character of a first byte and of those behind it, where one, two or three go on with it
 abbrev pub of_two : ℕ → List ℕ → Character
@@ -66,7 +65,7 @@ character_text n =
     else if nat_le 32 n && nat_lt n 127 then n ∷ []
     else if nat_lt n 0x10000 then unit_text n
     else if nat_lt n 0x110000 then pair_text n
-    else unit_text UNKNOWN
+    else unit_text 0xFFFD
 
 -- ---- strings and members
 

@@ -4,7 +4,7 @@ use Rattle.std.specs.Prelude.{◌≡◌}
 use Rattle.cell_runner.specs.declared.running.TheConstants.{MOST_ROUNDS}
 use Rattle.command_words.specs.Limits.{AreOptionsStated}
 use Rattle.jvm_types.specs.declared.class_file.TheConstants.{MAGIC, TEXT_BYTES_END}
-use Rattle.jvm_types.specs.declared.class_numbers.TheConstants.{CLASS_ITSELF, FIRST_FILE_CLASS, INT_ARRAY_CLASS, OBJECT_CLASS, PRINT_STREAM_CLASS, THROWABLES, THROWABLE_CLASS}
+use Rattle.jvm_types.specs.declared.class_numbers.TheConstants.{CLASS_ITSELF, FIRST_FILE_CLASS, INT_ARRAY_CLASS, OBJECT_CLASS, PRINT_STREAM_CLASS, SYSTEM_CLASS, THROWABLES, THROWABLE_CLASS}
 use Rattle.jvm_types.specs.declared.fixed_words.TheConstants.{FIRST_CLASS_WORD, FIRST_READY_WORD, FIRST_RECORD_WORD, HEADER_CLASSES, MONITOR_RECORDS, NEXT_FREE_WORD, NEXT_RECORD_WORD, NEXT_TICKET_WORD, OBJECT_HEAD_WORDS, READY_OBJECTS}
 use Rattle.jvm_types.specs.declared.flags.TheConstants.{ABSTRACT, FINAL, INTERFACE, NATIVE, PRIVATE, PUBLIC, STATIC, SYNCHRONIZED}
 use Rattle.jvm_types.specs.declared.limits.TheConstants.{FIRST_VERSION, FLAG_FROM, LAST_VERSION, LEAST_HEAP, MOST_ATTEMPTS, MOST_CODE_BYTES, MOST_COUNTED, MOST_FILES, MOST_FILE_BYTES, MOST_FRAMES, MOST_HEAP, MOST_INSTRUCTIONS, MOST_LIMIT, MOST_METHODS, MOST_PRINTS, MOST_SLOTS, MOST_WORKERS}
@@ -64,6 +64,7 @@ pub record WordNumbers : Type 0 where
   pub first_class : FIRST_CLASS_WORD ≡ 2068
   pub head : OBJECT_HEAD_WORDS ≡ 2
   pub header_classes : HEADER_CLASSES ≡ 65536
+  pub system : SYSTEM_CLASS ≡ 0
   pub object : OBJECT_CLASS ≡ 1
   pub int_array : INT_ARRAY_CLASS ≡ 2
   pub print_stream : PRINT_STREAM_CLASS ≡ 3

@@ -1,5 +1,5 @@
 -- Workers, and the whole of a run.
-use Rattle.std.specs.Prelude.{◌≡◌, ◌≢◌, ℕ, ◌+◌, ◌<◌, ◌≤◌, suc, false, Option, Some, List, [], length, option_map, IsSome, is_some, slice_index_or}
+use Rattle.std.specs.Prelude.{◌≡◌, ◌≢◌, ℕ, ◌+◌, ◌<◌, ◌≤◌, suc, Bool, false, Option, Some, List, [], length, option_map, IsSome, is_some, slice_index_or}
 use Rattle.atomic_table.specs.Seated.{TableId}
 use Rattle.checked_program.specs.MarkedProgram.{MarkedProgram}
 use Rattle.laws_threads.specs.GivenThread.{given_of}
@@ -8,6 +8,7 @@ use Rattle.machine_types.specs.Threads.{Thread}
 use Rattle.machine_types.specs.declared.config.Config.{Config}
 use Rattle.table_rule.specs.Views.{View, HasThreads, HoldsAll, held_in}
 use Rattle.table_runner.specs.Handed.{Handed, IsTableOf}
+use Rattle.table_runner.specs.Sharing.{IsNextPart}
 
 -- the hands of the start of a run
 pub record AtStart (table : TableId) (c : MarkedProgram) (cfg : Config) (h : Handed) : Type 0 where
@@ -27,6 +28,14 @@ pub record IsRunOn (t : ℕ) (h after : Handed) : Type 0 where
   pub same : AreSame h after
   pub others : (u : ℕ) → u ≢ t → held_in after.threads u ≡ held_in h.threads u
   pub given : option_map given_of (held_in after.threads t) ≡ option_map given_of (held_in h.threads t)
+
+-- Thread 0 alone has made events until it was not live, and then the next part has begun, or may not. So no worker has made any of
+-- that part.
+pub record HasRunFirst (h after : Handed) (begun : Bool) : Type 0 where
+  pub behind : Handed
+  pub events : IsRunOn 0 h behind
+  pub over : is_live_thread (held_in behind.threads 0) ≡ false
+  pub next : IsNextPart behind after begun
 
 -- ---- how far a run is
 

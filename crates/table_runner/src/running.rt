@@ -6,8 +6,8 @@ ghost use Rattle.machine_types.specs.Settings.{AreSettings};
 ghost use Rattle.run_parts.specs.Ended.{IsEndOfRun};
 ghost use Rattle.table_rule.specs.Views.{held_in};
 ghost use Rattle.table_runner.specs.Ending.{IsOutcome};
-ghost use Rattle.table_runner.specs.Running.{AreDeadBelow, AtStart, HaveEnded, IsAlone, IsRunOn};
-ghost use Rattle.table_runner.specs.Running.{IsWaiting, NoWorkerLivesIn, RunsHere};
+ghost use Rattle.table_runner.specs.Running.{AreDeadBelow, AtStart, HasRunFirst, HaveEnded};
+ghost use Rattle.table_runner.specs.Running.{IsAlone, IsRunOn, IsWaiting, NoWorkerLivesIn, RunsHere};
 
 use crate::hands::Hands;
 use crate::opening::table;
@@ -87,6 +87,7 @@ fn begin_workers(table: &CoreTable, hands: &mut Hands, p: &Checked) -> bool
     requires alone { IsAlone 0 hands.old.threads }
     ensures here { RunsHere table.now.shared.table_id table.now.shared.key.program.told
         table.now.shared.key.cfg hands.new }
+    ensures first { HasRunFirst hands.old hands.new result }
     ensures waiting { result ≡ true → IsWaiting hands.new.threads }
     ensures ended { result ≡ false → HaveEnded hands.new.threads }
 {
@@ -102,6 +103,7 @@ pub fn run_init(table: &CoreTable, hands: &mut Hands, p: &Checked) -> bool
         table.now.shared.key.cfg hands.old }
     ensures here { RunsHere table.now.shared.table_id table.now.shared.key.program.told
         table.now.shared.key.cfg hands.new }
+    ensures first { HasRunFirst hands.old hands.new result }
     ensures waiting { result ≡ true → IsWaiting hands.new.threads }
     ensures ended { result ≡ false → HaveEnded hands.new.threads }
 {
@@ -123,12 +125,13 @@ pub fn run_rest(table: &CoreTable, hands: &mut Hands, p: &Checked)
     run_done(table, hands, p);
 }
 
-/// The outcome of a run that has ended.
+/// The outcome of a run that has ended: of these threads.
 pub fn end_run(hands: Hands, table: CoreTable) -> Outcome
     requires here { RunsHere table.shared.table_id table.shared.key.program.told
         table.shared.key.cfg hands }
     requires ended { HaveEnded hands.threads }
-    ensures { IsEndOfRun hands.program hands.cfg result }
+    ensures end { IsEndOfRun hands.program hands.cfg result }
+    ensures outcome { IsOutcome hands result }
 {
     hands.close(table)
 }
