@@ -6,13 +6,13 @@ use Rattle.std.proofs.lemmas.List.{length-append}
 use Rattle.lists.proofs.ListLaws.{same_some}
 use Rattle.jvm_types.specs.declared.outcome.Outcome.{Outcome}
 use Rattle.checked_program.specs.MarkedProgram.{MarkedProgram}
-use Rattle.machine_types.specs.Core.{Core, event, lives, outcome, start}
+use Rattle.machine_types.specs.Core.{Core, event, lives, next, outcome, start}
 use Rattle.machine_types.specs.Schedules.{First, Ordered, is_live_worker}
 use Rattle.machine_types.specs.declared.config.Config.{Config}
 use Rattle.replay_runner.specs.Replays.{GoesToEnd, HasLedTo}
 use Rattle.replay_runner.specs.Running.{Running, events}
 use Rattle.replay_runner.proofs.ManyEvents.{goes_in_init}
-use Rattle.replay_runner.proofs.Turns.{at_start, ordered_turn, replayed, workers_turn}
+use Rattle.replay_runner.proofs.Turns.{led_both, led_itself, ordered_turn, replayed, workers_turn}
 use Rattle.record_run.specs.Recordings.{AreLiveWorkers, IsRecorded, after_order}
 use Rattle.record_run.specs.Kept.{HaveBegun, IsFull, IsKeptOf, IsRecordOfProgram, IsRecordOf, Kept, NamedRecord}
 
@@ -66,16 +66,18 @@ next_is k (Some t) room h = (room, worker_lives k.machine.core t h.0 h.1, h.2)
 -- ---- a replay by the order
 
 -- it comes to the begin of the workers
-begin_at : (c : MarkedProgram) (cfg : Config) (s : Core) (order : List ℕ) → HaveBegun c cfg s → HasLedTo c cfg order (Ordered order) s
+begin_at : (c : MarkedProgram) (cfg : Config) (s : Core) (order : List ℕ) → HaveBegun c cfg s → HasLedTo c (First order) (start c cfg) (Ordered order) s
 begin_at c cfg s order b =
     let m : Running = record { program = c; cfg = cfg; core = start c cfg } in
-    let over : HasLedTo c cfg order (First order) (events c (start c cfg) 0 b.begin.count) = (goes_in_init m order b.begin.count).leads cfg order (at_start c cfg order) in
-    subst (λ (z : Core). HasLedTo c cfg order (Ordered order) z) (sym b.begin.begun) (workers_turn c (events c (start c cfg) 0 b.begin.count) order b.begin.init_over b.returned cfg order over)
+    let behind : Core = events c (start c cfg) 0 b.begin.count in
+    let begun : HasLedTo c (First order) (start c cfg) (Ordered order) (next c behind) =
+    led_both c (First order) (First order) (Ordered order) (start c cfg) behind (next c behind) (goes_in_init m order b.begin.count).leads (workers_turn c behind order b.begin.init_over b.returned) in
+    subst (λ (z : Core). HasLedTo c (First order) (start c cfg) (Ordered order) z) (sym b.begin.begun) begun
 
 -- and makes the events of the order
-order_made : (c : MarkedProgram) (cfg : Config) (whole : List ℕ) (s : Core) (order : List ℕ) → HasLedTo c cfg whole (Ordered order) s → AreLiveWorkers c s order → HasLedTo c cfg whole (Ordered []) (after_order c s order)
-order_made c cfg whole s [] at live = at
-order_made c cfg whole s (t ∷ order) at live = order_made c cfg whole (event c s t) order (ordered_turn c s t order live.0 cfg whole at) live.1
+order_made : (c : MarkedProgram) (s : Core) (order : List ℕ) → AreLiveWorkers c s order → HasLedTo c (Ordered order) s (Ordered []) (after_order c s order)
+order_made c s [] live = led_itself c (Ordered []) s
+order_made c s (t ∷ order) live = led_both c (Ordered (t ∷ order)) (Ordered order) (Ordered []) s (event c s t) (after_order c (event c s t) order) (ordered_turn c s t order live.0) (order_made c (event c s t) order live.1)
 
 pub finishes : (run : Option NamedRecord) (k : Kept) (n : Running) (o : Outcome) → IsKeptOf run k → IsFull k → GoesToEnd k.machine (Ordered []) n → o ≡ outcome n.core → IsRecordOf run (record { outcome = o; order = k.order })
 finishes run k n o h full goes is = subst (λ (z : Option NamedRecord). IsRecordOf z (record { outcome = o; order = k.order })) (sym h.named) made
@@ -86,8 +88,8 @@ finishes run k n o h full goes is = subst (λ (z : Option NamedRecord). IsRecord
     cfg : Config
     cfg = k.machine.cfg
 
-    there : HasLedTo c cfg k.order (Ordered []) k.machine.core
-    there = subst (λ (z : Core). HasLedTo c cfg k.order (Ordered []) z) (sym h.led) (order_made c cfg k.order h.at k.order (begin_at c cfg h.at k.order h.begin) h.live)
+    there : HasLedTo c (First k.order) (start c cfg) (Ordered []) k.machine.core
+    there = subst (λ (z : Core). HasLedTo c (First k.order) (start c cfg) (Ordered []) z) (sym h.led) (led_both c (First k.order) (Ordered k.order) (Ordered []) (start c cfg) h.at (after_order c h.at k.order) (begin_at c cfg h.at k.order h.begin) (order_made c h.at k.order h.live))
 
     whole : IsFull k → length k.order < k.most → (t : ℕ) → is_live_worker (after_order c h.at k.order) t ≡ false
     whole (inl many) fewer t = absurd (omega (arith, many, fewer))
@@ -95,7 +97,7 @@ finishes run k n o h full goes is = subst (λ (z : Option NamedRecord). IsRecord
 
     made : IsRecorded c cfg k.most k.order o
     made = record {
-      replayed = replayed c cfg k.order goes.0 n.core o (goes.1.leads cfg k.order there) goes.2 is;
+      replayed = replayed c cfg k.order goes.0 n.core o (led_both c (First k.order) (Ordered []) goes.0 (start c cfg) k.machine.core n.core there goes.1.leads) goes.2 is;
       few = h.few;
       at = h.at;
       begin = h.begin.begin;

@@ -11,7 +11,7 @@ use Rattle.machine_types.specs.declared.config.Config.{Config}
 use Rattle.replay_runner.specs.Running.{Running, events}
 use Rattle.replay_runner.proofs.LoneWorker.{other_lives}
 use Rattle.replay_runner.proofs.ManyEvents.{goes_in_init}
-use Rattle.replay_runner.proofs.Turns.{at_start, next_same, no_workers_turn, replayed}
+use Rattle.replay_runner.proofs.Turns.{next_same, no_workers_turn, replayed}
 use Rattle.record_run.specs.Recordings.{IsRecorded}
 
 -- ---- no worker is live at the start
@@ -42,7 +42,7 @@ ends_at_init c cfg most count o over may is =
     let s : Core = events c (start c cfg) 0 count in
     let same : record m { core = next c s } ≡ record m { core = s } = next_same (record m { core = s }) (record m { core = next c s }) may refl in
     record {
-      replayed = replayed c cfg [] (First []) s o ((goes_in_init m [] count).leads cfg [] (at_start c cfg [])) (no_workers_turn c s [] over may) is;
+      replayed = replayed c cfg [] (First []) s o (goes_in_init m [] count).leads (no_workers_turn c s [] over may) is;
       few = omega arith;
       at = s;
       begin = record { count = count; init_over = over; begun = sym (ap (λ (r : Running). r.core) same) };
