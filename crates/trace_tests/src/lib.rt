@@ -2,6 +2,4 @@
 #![tactic(auto)]
 
 #[cfg(test)]
-mod in_json;
-#[cfg(test)]
 mod traces;

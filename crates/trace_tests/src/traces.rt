@@ -25,7 +25,7 @@ const LOCKS_FIRST: &[u8] = &[
     2, 2, 2, 2, 2, 2, 2, 2, 2, 1, 1, 1, 1, 1, 1, 1, 1, 1, 1, 1, 1, 1, 1, 1,
 ];
 
-pub(crate) const CONFIG: Config = Config {
+const CONFIG: Config = Config {
     steps: 1000,
     turns: 1000,
     prints: 100,
@@ -104,7 +104,7 @@ counts 2 instructions 14 elided 0 failed 0 locked 1 inflated 0
 ";
 
 /// One file.
-pub(crate) fn one(alloc: Global, file: Bytes) -> Result<Rows<Bytes>, AllocError>
+fn one(alloc: Global, file: Bytes) -> Result<Rows<Bytes>, AllocError>
     ensures { IfOk result (λ files. files ≡ file ∷ []) }
 {
     let mut files = Rows::new(alloc);
