@@ -12,6 +12,7 @@ use Rattle.machine_types.specs.Ints.{word_of}
 use Rattle.machine_types.specs.PlainMemory.{Object, StaticValue, header_of, start_statics}
 use Rattle.machine_types.specs.PlainState.{Plain, value_at}
 use Rattle.machine_types.specs.Words.{header_word, value_word}
+use Rattle.machine_types.proofs.PlacesAtStart.{statics_in}
 use Rattle.laws_states.specs.HeapFacts.{HeapFacts}
 use Rattle.laws_states.specs.SiteLaws.{SitesDiffer}
 use Rattle.laws_states.specs.Sites.{Site, Counter, OwnerOf, BitsOf, LockOf, HeaderOf, ValueOf, NewHeaderOf, StaticAt, site_word, HasStatic, IsThere}
@@ -28,22 +29,19 @@ pub record IsStaticField (fields : List FieldInfo) (word : ℕ) : Type 0 where
   pub static : is_static field.flags ≡ true
   pub word_is : field.index ≡ word
 
-abbrev statics_among : List FieldInfo → List StaticValue
-statics_among fields = map (λ f. record { word = f.index; value = word_of f.start }) (filter (λ f. is_static f.flags) fields)
-
-one_field : (fields : List FieldInfo) (i : ℕ) (v : StaticValue) → slice_get (statics_among fields) i ≡ Some v → IsStaticField fields v.word
+one_field : (fields : List FieldInfo) (i : ℕ) (v : StaticValue) → slice_get (statics_in fields) i ≡ Some v → IsStaticField fields v.word
 one_field [] i v e = absurd (cc)
 one_field (f ∷ fields) i v e = by_flag (is_static f.flags) refl i e (λ j g. one_field fields j v g)
   where
     more : IsStaticField fields v.word → IsStaticField (f ∷ fields) v.word
     more k = record { number = suc k.number; field = k.field; there = k.there; static = k.static; word_is = k.word_is }
 
-    by_index : (i : ℕ) → is_static f.flags ≡ true → slice_get (record { word = f.index; value = word_of f.start } ∷ statics_among fields) i ≡ Some v → ((j : ℕ) → slice_get (statics_among fields) j ≡ Some v → IsStaticField fields v.word) → IsStaticField (f ∷ fields) v.word
+    by_index : (i : ℕ) → is_static f.flags ≡ true → slice_get (record { word = f.index; value = word_of f.start } ∷ statics_in fields) i ≡ Some v → ((j : ℕ) → slice_get (statics_in fields) j ≡ Some v → IsStaticField fields v.word) → IsStaticField (f ∷ fields) v.word
     by_index zero g e next = record { number = 0; field = f; there = refl; static = g; word_is = ap (λ (s : StaticValue). s.word) (same_some e) }
     by_index (suc j) g e next = more (next j e)
 
     by_flag : (b : Bool) → is_static f.flags ≡ b → (i : ℕ) → slice_get (map (λ f. record { word = f.index; value = word_of f.start }) (cond b (f ∷ filter (λ f. is_static f.flags) fields) (filter (λ f. is_static f.flags) fields))) i ≡ Some v
-        → ((j : ℕ) → slice_get (statics_among fields) j ≡ Some v → IsStaticField fields v.word) → IsStaticField (f ∷ fields) v.word
+        → ((j : ℕ) → slice_get (statics_in fields) j ≡ Some v → IsStaticField fields v.word) → IsStaticField (f ∷ fields) v.word
     by_flag true g i e next = by_index i g e next
     by_flag false g i e next = more (next i e)
 

@@ -16,7 +16,7 @@ use Rattle.machine_types.specs.StartWords.{statics_of, classes_of}
 use Rattle.machine_types.specs.Words.{class_object}
 use Rattle.machine_types.proofs.PlacesAtStart.{below_at_most, none_below, one_class_more, class_from, ready_objects}
 
-abbrev at_reference : (reference : ℕ) → Object
+abbrev pub at_reference : (reference : ℕ) → Object
 at_reference reference = record { reference = reference; class = CLASS_ITSELF; values = [] }
 
 -- the class with a number, among those from a class on whose words begin at a reference

@@ -145,10 +145,10 @@ no_instances class (f ∷ fs) all =
 
 -- ---- the static fields of the plain machine are those of the program, in order
 
-abbrev value_of : FieldInfo → StaticValue
+abbrev pub value_of : FieldInfo → StaticValue
 value_of f = record { word = f.index; value = word_of f.start }
 
-abbrev statics_in : List FieldInfo → List StaticValue
+abbrev pub statics_in : List FieldInfo → List StaticValue
 statics_in fields = map value_of (filter (λ f. is_static f.flags) fields)
 
 -- the static value is that of this field

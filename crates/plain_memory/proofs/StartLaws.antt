@@ -9,15 +9,13 @@ use Rattle.machine_types.specs.Ints.{word_of}
 use Rattle.machine_types.specs.PlainMemory.{Object, StaticValue, class_objects}
 use Rattle.machine_types.specs.ReadyObjects.{class_of, ready}
 use Rattle.machine_types.specs.StartWords.{statics_of}
+use Rattle.machine_types.proofs.ClassObjects.{at_reference}
 
 abbrev pub ready_object : Thrown → Object
 ready_object x = record { reference = ready x; class = class_of x; values = [] }
 
 abbrev pub start_static : FieldInfo → StaticValue
 start_static f = record { word = f.index; value = word_of f.start }
-
-abbrev pub itself : (reference : ℕ) → Object
-itself reference = record { reference = reference; class = CLASS_ITSELF; values = [] }
 
 range_step : (first i count : ℕ) → i < count → range_with_len (first + i) (count - i) ≡ (first + i) ∷ range_with_len (first + (i + 1)) (count - (i + 1))
 range_step first i count l =
@@ -27,9 +25,9 @@ range_step first i count l =
 
 -- one class more
 pub classes_step : (fields : List FieldInfo) (before : List Object) (reference first i count : ℕ) → i < count
-    → (before ++ itself reference ∷ []) ++ class_objects fields (reference + (OBJECT_HEAD_WORDS + length (statics_of fields (first + i)))) (range_with_len (first + (i + 1)) (count - (i + 1)))
+    → (before ++ at_reference reference ∷ []) ++ class_objects fields (reference + (OBJECT_HEAD_WORDS + length (statics_of fields (first + i)))) (range_with_len (first + (i + 1)) (count - (i + 1)))
     ≡ before ++ class_objects fields reference (range_with_len (first + i) (count - i))
 classes_step fields before reference first i count l =
     let n = length (statics_of fields (first + i)) in
     let next : reference + (OBJECT_HEAD_WORDS + n) ≡ reference + OBJECT_HEAD_WORDS + n = omega arith in
-    rw (range_step first i count l, next) (append_assoc before (itself reference ∷ []) _)
+    rw (range_step first i count l, next) (append_assoc before (at_reference reference ∷ []) _)
