@@ -100,8 +100,8 @@ def fields_of(rows):
             fields.append((row.thread, attempts.pop(row.thread), at, COLORS[ended]))
         if "attempt_begins" in event.told:
             attempts[row.thread] = at
-        took = re.fullmatch(r"takes the lock of (\d+)", event.does)
-        left = re.fullmatch(r"leaves (\d+)", event.does)
+        took = re.fullmatch(r"takes the lock of (\d+|class .+)", event.does)
+        left = re.fullmatch(r"leaves (\d+|class .+)", event.does)
         if took:
             locks[row.thread, took[1]] = at
         if left and (row.thread, left[1]) in locks:

@@ -2,3 +2,4 @@ mod DoingActs
 mod TopByNumber
 mod ElementStands
 mod NamingWords
+mod ClassesTold

@@ -36,4 +36,4 @@ holder_text zero = codes ""
 holder_text (suc t) = codes ", held by thread " ++ decimal t
 
 abbrev pub stop_line : Program → (number : ℕ) → Before → End → List ℕ
-stop_line p number b end = end_text end ++ codes ": " ++ event_head_text number b ++ event_spot_text p b.spot ++ phase_text b.phase ++ line (holder_text (holder end b))
+stop_line p number b end = end_text end ++ codes ": " ++ event_head_text number b ++ event_spot_text p b.spot ++ phase_text p b.phase ++ line (holder_text (holder end b))

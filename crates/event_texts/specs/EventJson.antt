@@ -42,7 +42,7 @@ does_member [] = []
 does_member words = text_behind (codes "does") (drop 2 words)
 
 abbrev pub event_head_members : Program → (number : ℕ) → Before → List ℕ
-event_head_members p number b = number_behind (codes "number") number ++ number_behind (codes "thread") b.thread ++ inside_member b.attempt ++ event_spot_members p b.spot ++ does_member (phase_text b.phase)
+event_head_members p number b = number_behind (codes "number") number ++ number_behind (codes "thread") b.thread ++ inside_member b.attempt ++ event_spot_members p b.spot ++ does_member (phase_text p b.phase)
 
 -- ---- the word that it accesses, what it found there, and what it left there where it is no load
 

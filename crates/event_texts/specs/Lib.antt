@@ -1,6 +1,7 @@
 pub mod Doings
 pub mod SharedWords
 pub mod NamedWords
+pub mod MonitorTexts
 pub mod PhaseTexts
 pub mod ValueTexts
 pub mod Sights

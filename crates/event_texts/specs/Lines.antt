@@ -42,4 +42,4 @@ access_text p names b a (Some (Load w)) = accessed_text p names b a true
 access_text p names b a (Some access) = accessed_text p names b a false
 
 abbrev pub event_line_text : Program → (names : List (List ℕ)) → (number : ℕ) → Before → Share → After → List ℕ
-event_line_text p names number b share a = event_head_text number b ++ event_spot_text p b.spot ++ phase_text b.phase ++ access_text p names b a b.access ++ line (event_marks_text b a ++ share_text share)
+event_line_text p names number b share a = event_head_text number b ++ event_spot_text p b.spot ++ phase_text p b.phase ++ access_text p names b a b.access ++ line (event_marks_text b a ++ share_text share)

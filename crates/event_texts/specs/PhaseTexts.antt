@@ -1,34 +1,46 @@
 -- What a thread does, in words behind a comma, where it is no instruction.
 use Rattle.std.specs.Prelude.{ℕ, List, ◌++◌, codes, Some, None}
 use Rattle.std.specs.Fmt.{decimal}
+use Rattle.jvm_types.specs.declared.program.Program.{Program}
 use Rattle.machine_types.specs.declared.phase.Phase.{Phase}
 use Rattle.machine_types.specs.declared.phase.Phase.TheVariants as phases
 use Rattle.run_texts.specs.Report.{thrown_name, end_text}
+use Rattle.event_texts.specs.MonitorTexts.{monitor_behind}
 
-abbrev pub phase_text : Phase → List ℕ
-phase_text phases.Idle = codes ", idle"
-phase_text phases.Start = codes ", begins its next method"
-phase_text phases.Run = codes ""
-phase_text (phases.Element word None) = codes ", loads the element"
-phase_text (phases.Element word (Some v)) = codes ", stores the element"
-phase_text (phases.Made a word) = codes ", stores the header"
-phase_text (phases.Throw x class) = codes ", throws " ++ thrown_name class
-phase_text (phases.Enter m tried) = codes ", enters " ++ decimal m
-phase_text (phases.Acquire m) = codes ", looks at the lock of " ++ decimal m
-phase_text (phases.Take m count) = codes ", takes the lock of " ++ decimal m
-phase_text (phases.Flag m u) = codes ", flags the lock of " ++ decimal m
-phase_text (phases.TakeFat m r) = codes ", takes the fat lock of " ++ decimal m
-phase_text (phases.Leave m a) = codes ", leaves " ++ decimal m
-phase_text (phases.Grow m toward) = codes ", draws a record for " ++ decimal m
-phase_text (phases.FlatOut m a) = codes ", frees the lock of " ++ decimal m
-phase_text (phases.Own m r toward) = codes ", owns the record for " ++ decimal m
-phase_text (phases.FatIn m r toward) = codes ", makes the lock of " ++ decimal m ++ codes " fat"
-phase_text (phases.WaitBit m r) = codes ", begins to wait on " ++ decimal m
-phase_text (phases.WaitOut m r) = codes ", gives up " ++ decimal m
-phase_text (phases.WaitLook m r depth) = codes ", waits on " ++ decimal m
-phase_text (phases.Retake m r depth) = codes ", takes back " ++ decimal m
-phase_text (phases.NotifyLook m r) = codes ", looks who waits on " ++ decimal m
-phase_text (phases.NotifyOne m r u) = codes ", wakes thread " ++ decimal u ++ codes " from " ++ decimal m
-phase_text (phases.NotifyAll m r) = codes ", wakes all from " ++ decimal m
-phase_text (phases.Ending e) = codes ", ends: " ++ end_text e
-phase_text (phases.Ended e) = codes ", ended: " ++ end_text e
+-- in a phase of no monitor
+abbrev pub plain_phase_text : Phase → List ℕ
+plain_phase_text phases.Idle = codes ", idle"
+plain_phase_text phases.Start = codes ", begins its next method"
+plain_phase_text (phases.Element word None) = codes ", loads the element"
+plain_phase_text (phases.Element word (Some v)) = codes ", stores the element"
+plain_phase_text (phases.Made a word) = codes ", stores the header"
+plain_phase_text (phases.Throw x class) = codes ", throws " ++ thrown_name class
+plain_phase_text (phases.Ending e) = codes ", ends: " ++ end_text e
+plain_phase_text (phases.Ended e) = codes ", ended: " ++ end_text e
+plain_phase_text phase = codes ""
+
+abbrev pub wakes_text : (thread : ℕ) → List ℕ
+wakes_text t = codes ", wakes thread " ++ decimal t ++ codes " from "
+
+unfoldable pub fat_in_text : Program → (m : ℕ) → List ℕ
+fat_in_text p m = monitor_behind (codes ", makes the lock of ") p m ++ codes " fat"
+
+abbrev pub phase_text : Program → Phase → List ℕ
+phase_text p (phases.Enter m tried) = monitor_behind (codes ", enters ") p m
+phase_text p (phases.Acquire m) = monitor_behind (codes ", looks at the lock of ") p m
+phase_text p (phases.Take m count) = monitor_behind (codes ", takes the lock of ") p m
+phase_text p (phases.Flag m u) = monitor_behind (codes ", flags the lock of ") p m
+phase_text p (phases.TakeFat m r) = monitor_behind (codes ", takes the fat lock of ") p m
+phase_text p (phases.Leave m a) = monitor_behind (codes ", leaves ") p m
+phase_text p (phases.Grow m toward) = monitor_behind (codes ", draws a record for ") p m
+phase_text p (phases.FlatOut m a) = monitor_behind (codes ", frees the lock of ") p m
+phase_text p (phases.Own m r toward) = monitor_behind (codes ", owns the record for ") p m
+phase_text p (phases.FatIn m r toward) = fat_in_text p m
+phase_text p (phases.WaitBit m r) = monitor_behind (codes ", begins to wait on ") p m
+phase_text p (phases.WaitOut m r) = monitor_behind (codes ", gives up ") p m
+phase_text p (phases.WaitLook m r depth) = monitor_behind (codes ", waits on ") p m
+phase_text p (phases.Retake m r depth) = monitor_behind (codes ", takes back ") p m
+phase_text p (phases.NotifyLook m r) = monitor_behind (codes ", looks who waits on ") p m
+phase_text p (phases.NotifyOne m r u) = monitor_behind (wakes_text u) p m
+phase_text p (phases.NotifyAll m r) = monitor_behind (codes ", wakes all from ") p m
+phase_text p phase = plain_phase_text phase

@@ -7,6 +7,7 @@ use Rattle.jvm_types.specs.declared.program.Kind.TheVariants as kinds
 use Rattle.jvm_types.specs.declared.program.Program.{Program}
 use Rattle.machine_types.specs.Ints.{int_of}
 use Rattle.run_texts.specs.MarksText.{class_text}
+use Rattle.event_texts.specs.MonitorTexts.{monitor_behind}
 use Rattle.event_texts.specs.SharedWords.{SharedWord, NextFree, NextTicket, NextRecord, Owner, Waiting, Lock, Header, Field, StaticField, Element}
 
 -- ---- which word: a field by its class, the object and its name, as `P@2081.a`; its number stands where no name is given
@@ -25,14 +26,13 @@ field_name names number = codes "." ++ name_or_number number (slice_get names nu
 abbrev pub object_text : ℕ → List ℕ
 object_text a = codes "@" ++ decimal a
 
--- a word that is no field
+-- a word that is neither a field nor a lock word
 abbrev pub plain_word : SharedWord → List ℕ
 plain_word NextFree = codes "next free word"
 plain_word NextTicket = codes "next ticket"
 plain_word NextRecord = codes "next record"
 plain_word (Owner r) = codes "owner of record " ++ decimal r
 plain_word (Waiting r) = codes "waiting bits of record " ++ decimal r
-plain_word (Lock m) = codes "lock word of " ++ decimal m
 plain_word (Header a) = codes "header of " ++ decimal a
 plain_word (Element a index) = codes "[I@" ++ decimal a ++ codes "[" ++ decimal index ++ codes "]"
 plain_word word = codes "null"
@@ -40,6 +40,7 @@ plain_word word = codes "null"
 abbrev pub word_text : Program → (names : List (List ℕ)) → SharedWord → List ℕ
 word_text p names (Field a number) = field_class p (slice_get p.fields number) ++ object_text a ++ field_name names number
 word_text p names (StaticField number) = field_class p (slice_get p.fields number) ++ field_name names number
+word_text p names (Lock m) = monitor_behind (codes "lock word of ") p m
 word_text p names word = plain_word word
 
 -- ---- what stands there

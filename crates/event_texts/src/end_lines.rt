@@ -4,7 +4,8 @@ ghost use Rattle.std.specs.Prelude.{◌≡◌, ◌++◌, ◌%◌, ◌/◌, codes
 ghost use Rattle.event_texts.specs.EndLines.{holder, holder_text, lock_owner, stop_line};
 ghost use Rattle.run_texts.specs.Report.{end_text, line};
 
-use crate::lines::{write_head, write_phase, write_spot};
+use crate::lines::{write_head, write_spot};
+use crate::phases::write_phase_text;
 use crate::sights::Before;
 use crate::words::SharedWord;
 use checked_program::Checked;
@@ -89,6 +90,6 @@ pub fn write_stop_line(
     write_end(text, alloc, end)?;
     write_head(text, alloc, number, before)?;
     write_spot(text, alloc, c, before.spot)?;
-    write_phase(text, alloc, before)?;
+    write_phase_text(text, alloc, c, before.phase)?;
     write_holder(text, alloc, holder(end, before))
 }

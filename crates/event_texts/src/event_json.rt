@@ -18,7 +18,7 @@ ghost use Rattle.run_texts.specs.Report.{end_text};
 
 use crate::acts::Acts;
 use crate::end_lines::holder;
-use crate::phases::PhaseText;
+use crate::phases::write_phase_text;
 use crate::share_texts::ActText;
 use crate::shares::Share;
 use crate::sights::{After, Before, Spot};
@@ -85,13 +85,18 @@ fn write_does(out: &mut Vec<u8>, words: &[u8]) -> Result<(), AllocError>
 }
 
 /// Adds what the thread does where it is no instruction.
-fn write_phase(out: &mut Vec<u8>, alloc: Global, phase: Phase) -> Result<(), AllocError>
-    ensures { OnOk result (out.new.items ≡ out.old.items ++ does_member (phase_text phase)) }
+fn write_phase(
+    out: &mut Vec<u8>,
+    alloc: Global,
+    c: &Checked,
+    phase: Phase,
+) -> Result<(), AllocError>
+    ensures { OnOk result
+        (out.new.items ≡ out.old.items ++ does_member (phase_text c.now.program phase)) }
 {
-    let does = PhaseText(phase);
-    let mut words = String::new(alloc);
-    write!(words, "{does}")?;
-    write_does(out, words.as_bytes())
+    let mut words = Vec::new(alloc);
+    write_phase_text(&mut words, alloc, c, phase)?;
+    write_does(out, words.as_slice())
 }
 
 /// Adds the number of the event, its thread, the attempt that it is in, where it stands, and what
@@ -110,7 +115,7 @@ fn write_head(
     write_number_behind(out, alloc, "thread", u64::from(before.thread))?;
     write_inside(out, alloc, before.attempt)?;
     write_spot(out, alloc, c, before.spot)?;
-    write_phase(out, alloc, before.phase)
+    write_phase(out, alloc, c, before.phase)
 }
 
 /// Adds what stands in a word.
@@ -154,14 +159,15 @@ fn write_values(
 fn write_word_member(
     out: &mut Vec<u8>,
     alloc: Global,
-    p: &Program,
+    c: &Checked,
     names: &Rows<Bytes>,
     word: SharedWord,
 ) -> Result<(), AllocError>
-    ensures { OnOk result (out.new.items ≡ out.old.items ++ word_member p.now names.now word) }
+    ensures { OnOk result
+        (out.new.items ≡ out.old.items ++ word_member c.now.program names.now word) }
 {
     let mut text = Vec::new(alloc);
-    write_word(&mut text, alloc, p, names, word)?;
+    write_word(&mut text, alloc, c, names, word)?;
     write_text_member(out, "word", text.as_slice())
 }
 
@@ -170,34 +176,34 @@ fn write_word_member(
 fn write_accessed_members(
     out: &mut Vec<u8>,
     alloc: Global,
-    p: &Program,
+    c: &Checked,
     names: &Rows<Bytes>,
     before: &Before,
     after: &After,
     loads: bool,
 ) -> Result<(), AllocError>
     ensures { OnOk result (out.new.items
-        ≡ out.old.items ++ accessed_members p.now names.now before.now after.now loads) }
+        ≡ out.old.items ++ accessed_members c.now.program names.now before.now after.now loads) }
 {
-    write_word_member(out, alloc, p, names, before.word)?;
-    write_values(out, alloc, p, before, after, loads)
+    write_word_member(out, alloc, c, names, before.word)?;
+    write_values(out, alloc, c.program(), before, after, loads)
 }
 
 #[tactic(auto, unfolding(crate::specs::EventJson::accessed_member))]
 fn write_accessed(
     out: &mut Vec<u8>,
     alloc: Global,
-    p: &Program,
+    c: &Checked,
     names: &Rows<Bytes>,
     before: &Before,
     after: &After,
     loads: bool,
 ) -> Result<(), AllocError>
     ensures { OnOk result (out.new.items
-        ≡ out.old.items ++ accessed_member p.now names.now before.now after.now loads) }
+        ≡ out.old.items ++ accessed_member c.now.program names.now before.now after.now loads) }
 {
     out.extend_from_slice(b",\"access\":{")?;
-    write_accessed_members(out, alloc, p, names, before, after, loads)?;
+    write_accessed_members(out, alloc, c, names, before, after, loads)?;
     out.extend_from_slice(b"}")
 }
 
@@ -205,20 +211,20 @@ fn write_accessed(
 fn write_access(
     out: &mut Vec<u8>,
     alloc: Global,
-    p: &Program,
+    c: &Checked,
     names: &Rows<Bytes>,
     before: &Before,
     after: &After,
 ) -> Result<(), AllocError>
     ensures { OnOk result (out.new.items ≡ out.old.items
-        ++ access_member p.now names.now before.now after.now before.now.access) }
+        ++ access_member c.now.program names.now before.now after.now before.now.access) }
 {
     let loads = match before.access {
         None | Some(Access::Rest) => return Ok(()),
         Some(Access::Load(_)) => true,
         Some(_) => false,
     };
-    write_accessed(out, alloc, p, names, before, after, loads)
+    write_accessed(out, alloc, c, names, before, after, loads)
 }
 
 /// Adds the number of an attempt, and the count of the free lock that it noted.
@@ -398,7 +404,7 @@ pub fn write_event_object(
 {
     write_what(out, "event")?;
     write_head(out, alloc, c, number, before)?;
-    write_access(out, alloc, c.program(), names, before, after)?;
+    write_access(out, alloc, c, names, before, after)?;
     write_marks(out, alloc, before, after)?;
     write_share(out, alloc, share)?;
     out.extend_from_slice(b"}\n")

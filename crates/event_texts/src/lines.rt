@@ -5,11 +5,10 @@ ghost use Rattle.run_texts.specs.Report.{line};
 ghost use Rattle.event_texts.specs.Lines.{access_text, event_head_text, event_line_text};
 ghost use Rattle.event_texts.specs.Lines.{event_spot_text, value_words};
 ghost use Rattle.event_texts.specs.MarkTexts.{event_marks_text};
-ghost use Rattle.event_texts.specs.PhaseTexts.{phase_text};
 ghost use Rattle.event_texts.specs.Shares.{share_text};
 
 use crate::marks::MarksText;
-use crate::phases::PhaseText;
+use crate::phases::write_phase_text;
 use crate::shares::Share;
 use crate::sights::{After, Before, Spot};
 use crate::values::{write_value, write_word};
@@ -75,20 +74,6 @@ pub(crate) fn write_spot(
     }
 }
 
-/// Adds what the thread does where it is no instruction.
-pub(crate) fn write_phase(
-    text: &mut Vec<u8>,
-    alloc: Global,
-    before: &Before,
-) -> Result<(), AllocError>
-    ensures { OnOk result (text.new.items ≡ text.old.items ++ phase_text before.now.phase) }
-{
-    let phase = PhaseText(before.phase);
-    let mut words = String::new(alloc);
-    write!(words, "{phase}")?;
-    text.extend_from_slice(words.as_bytes())
-}
-
 /// Adds what stood in a word, and behind an arrow what an access left there that is no load.
 fn write_values(
     text: &mut Vec<u8>,
@@ -114,13 +99,13 @@ fn write_values(
 fn write_access(
     text: &mut Vec<u8>,
     alloc: Global,
-    p: &Program,
+    c: &Checked,
     names: &Rows<Bytes>,
     before: &Before,
     after: &After,
 ) -> Result<(), AllocError>
     ensures { OnOk result (text.new.items ≡ text.old.items
-        ++ access_text p.now names.now before.now after.now before.now.access) }
+        ++ access_text c.now.program names.now before.now after.now before.now.access) }
 {
     let loads = match before.access {
         None | Some(Access::Rest) => return Ok(()),
@@ -128,8 +113,8 @@ fn write_access(
         Some(_) => false,
     };
     text.extend_from_slice(b", ")?;
-    write_word(text, alloc, p, names, before.word)?;
-    write_values(text, alloc, p, before, after, loads)
+    write_word(text, alloc, c, names, before.word)?;
+    write_values(text, alloc, c.program(), before, after, loads)
 }
 
 /// Adds what becomes of attempts, locks and the part, what the event stands for, and the end of the
@@ -169,7 +154,7 @@ pub fn write_line(
 {
     write_head(text, alloc, number, before)?;
     write_spot(text, alloc, c, before.spot)?;
-    write_phase(text, alloc, before)?;
-    write_access(text, alloc, c.program(), names, before, after)?;
+    write_phase_text(text, alloc, c, before.phase)?;
+    write_access(text, alloc, c, names, before, after)?;
     write_marks(text, alloc, before, share, after)
 }

@@ -4,7 +4,9 @@ ghost use Rattle.std.specs.Prelude.{◌≡◌, ◌++◌, slice_get, OnOk};
 ghost use Rattle.event_texts.specs.ValueTexts.{field_class, field_name, field_value, object_text};
 ghost use Rattle.event_texts.specs.ValueTexts.{shared_value_text, word_text};
 
+use crate::monitors::write_on_monitor;
 use crate::words::SharedWord;
+use checked_program::Checked;
 use instr_effects::ints::int_of;
 use jvm_types::{Bytes, FieldInfo, Kind, Program, Rows};
 use run_texts::write_class;
@@ -196,7 +198,7 @@ fn write_field_name(
     }
 }
 
-/// Displays a word that is no field.
+/// Displays a word that is neither a field nor a lock word.
 #[derive(Clone, Copy)]
 struct PlainWord(SharedWord);
 
@@ -213,7 +215,6 @@ impl fmt::Display for PlainWord {
             SharedWord::NextRecord => f.write_str("next record"),
             SharedWord::Owner(record) => write!(f, "owner of record {record}"),
             SharedWord::Waiting(record) => write!(f, "waiting bits of record {record}"),
-            SharedWord::Lock(monitor) => write!(f, "lock word of {monitor}"),
             SharedWord::Header(object) => write!(f, "header of {object}"),
             SharedWord::Element(array, index) => write!(f, "[I@{array}[{index}]"),
             _ => f.write_str("null"),
@@ -225,12 +226,14 @@ impl fmt::Display for PlainWord {
 pub fn write_word(
     text: &mut Vec<u8>,
     alloc: Global,
-    p: &Program,
+    c: &Checked,
     names: &Rows<Bytes>,
     word: SharedWord,
 ) -> Result<(), AllocError>
-    ensures { OnOk result (text.new.items ≡ text.old.items ++ word_text p.now names.now word) }
+    ensures { OnOk result
+        (text.new.items ≡ text.old.items ++ word_text c.now.program names.now word) }
 {
+    let p = c.program();
     match word {
         SharedWord::Field(object, number) => {
             write_field_class(text, p, field_of(p, number))?;
@@ -241,6 +244,7 @@ pub fn write_word(
             write_field_class(text, p, field_of(p, number))?;
             write_field_name(text, alloc, names, number)
         }
+        SharedWord::Lock(m) => write_on_monitor(text, alloc, c, b"lock word of ", m),
         _ => {
             let word = PlainWord(word);
             let mut words = String::new(alloc);
